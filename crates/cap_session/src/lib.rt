@@ -1,0 +1,2 @@
+//! Made next.
+#![tactic(auto)]

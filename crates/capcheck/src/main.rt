@@ -1,0 +1,4 @@
+//! The program: checks a trace of system calls.
+#![tactic(auto)]
+
+fn main() {}
