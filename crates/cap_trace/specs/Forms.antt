@@ -1,5 +1,5 @@
 -- The form of each name: the arguments that it asks for, and the call that they make.
-use Rattle.std.specs.Prelude.{ℕ, ◌==◌, ◌||◌, List, [], ◌∷◌, codes, Result, Ok, Err, length, if◌then◌else◌}
+use Rattle.std.specs.Prelude.{ℕ, List, [], ◌∷◌, codes, Result, Ok, Err, if◌then◌else◌}
 use Rattle.std.specs.Str.{bytes_eq}
 use Rattle.cap_trace.specs.declared.fault.ReadFault.{ReadFault}
 use Rattle.cap_trace.specs.declared.fault.ReadFault.TheVariants as faults
@@ -35,7 +35,7 @@ send_shape [] = fd ∷ []
 send_shape (a ∷ []) = fd ∷ []
 send_shape (a ∷ b ∷ more) = fd ∷ word dest ∷ []
 
--- the command decides what fcntl asks for
+-- a third argument is told by the command
 abbrev pub command_shape : List ℕ → List Slot
 command_shape w =
     if bytes_eq w (codes "F_SETFD") then fd ∷ word set_fd ∷ flags ∷ []
@@ -46,7 +46,8 @@ command_shape w =
 abbrev pub fcntl_shape : List (List ℕ) → List Slot
 fcntl_shape [] = fd ∷ command ∷ []
 fcntl_shape (a ∷ []) = fd ∷ command ∷ []
-fcntl_shape (a ∷ w ∷ more) = command_shape w
+fcntl_shape (a ∷ w ∷ []) = fd ∷ command ∷ []
+fcntl_shape (a ∷ w ∷ b ∷ more) = command_shape w
 
 abbrev pub form_shape : Form → List (List ℕ) → Shape
 form_shape (forms.OnFd c) ts = these (fd ∷ [])

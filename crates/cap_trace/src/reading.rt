@@ -141,3 +141,38 @@ pub(crate) fn three_parts(args: &[u8]) -> Result<(&[u8], &[u8], &[u8]), ReadFaul
         _ => Err(ReadFault::Argument),
     }
 }
+
+/// The four arguments.
+pub(crate) fn four_parts(args: &[u8]) -> Result<(&[u8], &[u8], &[u8], &[u8]), ReadFault>
+    ensures { MatchResult result (λ p. pieces args.now ≡ p.0.now ∷ p.1.now ∷ p.2.now ∷ p.3.now ∷ []) (λ e. (e ≡ Argument) × ((length (pieces args.now) == 4) ≡ false)) }
+{
+    let mut parts = Parts::of(args);
+    match (
+        parts.next(),
+        parts.next(),
+        parts.next(),
+        parts.next(),
+        parts.next(),
+    ) {
+        (Some(a), Some(b), Some(c), Some(d), None) => Ok((a, b, c, d)),
+        _ => Err(ReadFault::Argument),
+    }
+}
+
+/// The five arguments.
+pub(crate) fn five_parts(args: &[u8]) -> Result<(&[u8], &[u8], &[u8], &[u8], &[u8]), ReadFault>
+    ensures { MatchResult result (λ p. pieces args.now ≡ p.0.now ∷ p.1.now ∷ p.2.now ∷ p.3.now ∷ p.4.now ∷ []) (λ e. (e ≡ Argument) × ((length (pieces args.now) == 5) ≡ false)) }
+{
+    let mut parts = Parts::of(args);
+    match (
+        parts.next(),
+        parts.next(),
+        parts.next(),
+        parts.next(),
+        parts.next(),
+        parts.next(),
+    ) {
+        (Some(a), Some(b), Some(c), Some(d), Some(e), None) => Ok((a, b, c, d, e)),
+        _ => Err(ReadFault::Argument),
+    }
+}
