@@ -120,14 +120,14 @@ said_at h ts = shaped h (shape_of h ts) ts
 
 -- ---- steps 6 and 7: what stands behind the arguments
 
-abbrev pub made : Option ℕ → Result Answer ReadFault
-made None = Err faults.Answer
-made (Some n) = Ok (answers.Made n)
+abbrev pub number_at : Option ℕ → Result Answer ReadFault
+number_at None = Err faults.Answer
+number_at (Some n) = Ok (answers.Made n)
 
 -- a descriptor, but not the one that was told
-abbrev pub made_same : ℕ → Option ℕ → Result Answer ReadFault
-made_same g None = Err faults.Answer
-made_same g (Some n) = if n == g then Ok (answers.Made n) else Err faults.Argument
+abbrev pub same_at : ℕ → Option ℕ → Result Answer ReadFault
+same_at g None = Err faults.Answer
+same_at g (Some n) = if n == g then Ok (answers.Made n) else Err faults.Argument
 
 -- two numbers with a comma between them
 abbrev pub pair_at : ℕ → ℕ → Option (List ℕ × List ℕ) → Result Answer ReadFault
@@ -138,16 +138,16 @@ pair_at n m (Some c) = do
   Ok (answers.Pair x y)
 
 abbrev pub any_at : List ℕ → Option (List ℕ × List ℕ) → Result Answer ReadFault
-any_at t None = made (num_at (2 ^ 64 - 1) t)
+any_at t None = number_at (num_at (2 ^ 64 - 1) t)
 any_at t (Some c) = pair_at (2 ^ 64 - 1) (2 ^ 64 - 1) (Some c)
 
 unfoldable pub made_at : Kind → List ℕ → Result Answer ReadFault
-made_at Count t = made (num_at (2 ^ 64 - 1) t)
-made_at Zero t = made (num_at 0 t)
-made_at Fd t = made (num_at 1048575 t)
-made_at (Same g) t = made_same g (num_at 1048575 t)
+made_at Count t = number_at (num_at (2 ^ 64 - 1) t)
+made_at Zero t = number_at (num_at 0 t)
+made_at Fd t = number_at (num_at 1048575 t)
+made_at (Same g) t = same_at g (num_at 1048575 t)
 made_at FdPair t = pair_at 1048575 1048575 (cut_at_byte 44 t)
-made_at Child t = made (num_at 99999 t)
+made_at Child t = number_at (num_at 99999 t)
 made_at ChildAndFd t = pair_at 99999 1048575 (cut_at_byte 44 t)
 made_at Any t = any_at t (cut_at_byte 44 t)
 
@@ -173,14 +173,19 @@ abbrev pub between : Head → List ℕ → Option (List (List ℕ) × List ℕ)
 between (listed f) text = option_map (λ c. (pieces c.0, c.1)) (cut_outside 41 text)
 between (unlisted n) text = option_map (λ c. (c.0 ∷ [], c.1)) (cut_at_byte 41 text)
 
--- steps 3 to 7: the name before the bracket that opens, and what follows it
+-- steps 4 to 7: what stands behind the bracket that opens
+abbrev pub behind_head : Head → List ℕ → Result Item ReadFault
+behind_head h text = do
+  args ← need faults.Shape (between h text)
+  said ← said_at h args.0
+  ended said args.1
+
+-- step 3: the name before that bracket
 unfoldable pub item_at : List ℕ → Result Item ReadFault
 item_at text = do
   cut ← need faults.Shape (cut_at_byte 40 text)
   head ← need faults.Shape (head_named cut.0)
-  args ← need faults.Shape (between head cut.1)
-  said ← said_at head args.0
-  ended said args.1
+  behind_head head cut.1
 
 -- step 2: pid, space, and the rest
 unfoldable pub entry_at : List ℕ → Option (List ℕ × List ℕ) → Result Entry ReadFault

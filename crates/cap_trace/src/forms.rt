@@ -238,7 +238,7 @@ fn rising(args: &[u8]) -> Result<(), ReadFault>
 
 /// The arguments of a call that has no form of its own.
 #[tactic(auto, unfolding(crate::specs::Reading::said_at, crate::specs::Reading::args_at, crate::specs::Reading::arg_at))]
-fn other<'a>(name: &'a [u8], args: &'a [u8]) -> Result<CallSeen<'a>, ReadFault>
+pub(crate) fn other<'a>(name: &'a [u8], args: &'a [u8]) -> Result<CallSeen<'a>, ReadFault>
     ensures { Gives (λ c. a_call (call_seen c)) result (said_at (unlisted name.now) (args.now ∷ [])) }
 {
     Ok(CallSeen::Other(name, free_of(args)?))
@@ -246,7 +246,7 @@ fn other<'a>(name: &'a [u8], args: &'a [u8]) -> Result<CallSeen<'a>, ReadFault>
 
 /// What a call or a marker that has a form of its own says, without its answer.
 #[tactic(auto, unfolding(crate::specs::Reading::said_at, crate::specs::Reading::args_at, crate::specs::Reading::arg_at))]
-pub(crate) fn listed<'a>(form: Form, args: &'a [u8]) -> Result<SaidSeen<'a>, ReadFault>
+pub(crate) fn said<'a>(form: Form, args: &'a [u8]) -> Result<SaidSeen<'a>, ReadFault>
     ensures { Gives said_seen result (said_at (listed form) (pieces args.now)) }
 {
     let call = match form {
