@@ -1,0 +1,94 @@
+-- A field that is read is spelled so, and what spells it is read.
+use Rattle.std.proofs.Common.{◌≡◌, ℕ, zero, suc, ◌^◌, ◌<◌, ◌≤◌, ◌≢◌, ◌&&◌, ◌||◌, Bool, true, false, cond, not, eqb, ltb, leb, List, length, get_or, Option, Some, None, Result, Ok, Err, refl, sym, ap, ◌∙◌, arith, tests}
+use Rattle.std.specs.Str.{all_ascii_digits}
+use Rattle.std.specs.Str.Parse.{digits_value}
+use Rattle.std.specs.Fmt.{decimal}
+use Rattle.std.proofs.lemmas.Str.Parse.{IsNumeralModel, numerals_by_value, tells_all_ascii_digits}
+use Rattle.std.proofs.lemmas.Fmt.{decimal-digits_value, digits_decimal, digits_value-decimal, decimal_nonempty, first_decimal, decimal_digit}
+use Rattle.std.proofs.lemmas.Bool.{eqb-true, lt-ltb, le-leb}
+use borrow.Author.Tests.{ltb-true, leb-true}
+use Rattle.cap_trace.specs.declared.fault.ReadFault.{ReadFault}
+use Rattle.cap_trace.specs.Number.{num_at, digits_at, is_odd}
+use Rattle.cap_trace.specs.Reading.{◌>>=◌, need, positive}
+use Rattle.cap_trace.proofs.Cuts.{kept_some, both}
+
+pub own : IsNumeralModel (λ ds. all_ascii_digits ds ≡ true) (digits_value 10)
+own = numerals_by_value _ tells_all_ascii_digits
+
+-- ---- steps
+
+pub bind_ok : {A B : Type 0} (r : Result A ReadFault) (f : A → Result B ReadFault) (y : B) → (r >>= f) ≡ Ok y → (x : A) × (r ≡ Ok x) × (f x ≡ Ok y)
+bind_ok (Ok x) f y e = (x, refl, e)
+bind_ok (Err d) f y e = absurd cc
+
+pub need_ok : {A : Type 0} (d : ReadFault) (o : Option A) (x : A) → need d o ≡ Ok x → o ≡ Some x
+need_ok d None x e = absurd cc
+need_ok d (Some y) x e = (let e2 = e in cc)
+
+positive_step : (d : ReadFault) (n m : ℕ) (b : Bool) → (b ≡ false → n ≢ 0) → ◌≡◌ {A = Result ℕ ReadFault} (cond b (Err d) (Ok n)) (Ok m) → (n ≡ m) × (0 < n)
+positive_step d n m true h e = absurd cc
+positive_step d n m false h e = ((let e2 = e in cc), (let ne = h refl in omega arith))
+
+pub positive_ok : (d : ReadFault) (o : Option ℕ) (n : ℕ) → positive d o ≡ Ok n → (o ≡ Some n) × (0 < n)
+positive_ok d None n e = absurd cc
+positive_ok d (Some m) n e = let p = positive_step d m n (eqb m 0) (grind (arith, tests)) e in (ap Some p.0, omega (arith, p.0, p.1))
+
+pub positive_again : (d : ReadFault) (n : ℕ) → 0 < n → positive d (Some n) ≡ Ok n
+positive_again d n lt = let e : eqb n 0 ≡ false = grind (arith, tests) in rw e refl
+
+-- ---- numbers
+
+unless_some : {A : Type 0} (b : Bool) (o : Option A) (x : A) → cond b None o ≡ Some x → (b ≡ false) × (o ≡ Some x)
+unless_some true o x e = absurd cc
+unless_some false o x e = (refl, e)
+
+below : (most : ℕ) (o : Option ℕ) (n : ℕ) → (elim o as (λ _. Option ℕ) [ None ↦ None | Some m ↦ cond (leb m most) (Some m) None ]) ≡ Some n → (o ≡ Some n) × (n ≤ most)
+below most None n e = absurd cc
+below most (Some m) n e = let k = kept_some (leb m most) m n e in (ap Some k.1, (let l : leb m most ≡ true = k.0 in omega (arith, k.1, leb-true m most l)))
+
+odd_parts : (a b c : Bool) → (a || (b && not c)) ≡ false → (a ≡ false) × (b ≡ true → c ≡ true)
+odd_parts true b c e = absurd cc
+odd_parts false true true e = (refl, λ _. refl)
+odd_parts false true false e = absurd cc
+odd_parts false false c e = (refl, λ f. absurd cc)
+
+plain_number : (t : List ℕ) → is_odd t ≡ false → (0 < length t) × (get_or t 0 0 ≡ 48 → length t ≡ 1)
+plain_number t e =
+    let p = odd_parts (eqb (length t) 0) (eqb (get_or t 0 0) 48) (eqb (length t) 1) e in
+    let some : eqb (length t) 0 ≡ false = p.0 in
+    (grind (arith, tests), λ nought. eqb-true _ _ (p.1 (rw nought refl)))
+
+not_odd : (a b c : Bool) → a ≡ false → (b ≡ true → c ≡ true) → (a || (b && not c)) ≡ false
+not_odd true b c e f = absurd cc
+not_odd false true true e f = refl
+not_odd false true false e f = absurd (let g = f refl in cc)
+not_odd false false c e f = refl
+
+number_plain : (t : List ℕ) → 0 < length t → (get_or t 0 0 ≡ 48 → length t ≡ 1) → is_odd t ≡ false
+number_plain t some nought =
+    let there : eqb (length t) 0 ≡ false = grind (arith, tests) in
+    not_odd (eqb (length t) 0) (eqb (get_or t 0 0) 48) (eqb (length t) 1) there (λ e. let one = nought (eqb-true _ _ e) in rw one refl)
+
+pub num_takes : (most : ℕ) (t : List ℕ) (n : ℕ) → num_at most t ≡ Some n → (t ≡ decimal n) × (n ≤ most)
+unfolding num_at digits_at
+num_takes most t n e =
+    let a = unless_some (is_odd t) (elim (digits_at t) as (λ _. Option ℕ) [ None ↦ None | Some m ↦ cond (leb m most) (Some m) None ]) n e in
+    let b = below most (digits_at t) n a.1 in
+    let d = kept_some (all_ascii_digits t && ltb (digits_value 10 t) (2 ^ 64)) (digits_value 10 t) n b.0 in
+    let f = both (all_ascii_digits t) (ltb (digits_value 10 t) (2 ^ 64)) d.0 in
+    let p = plain_number t a.0 in
+    (sym (decimal-digits_value own t f.0 p.0 p.1 (ltb-true _ _ f.1)) ∙ ap decimal d.1, b.1)
+
+decimal_first : (n : ℕ) → n < 2 ^ 64 → get_or (decimal n) 0 0 ≡ 48 → length (decimal n) ≡ 1
+decimal_first zero lt e = ap length (decimal_digit 0 (omega arith))
+decimal_first (suc n) lt e = absurd (omega (arith, first_decimal (suc n) (omega arith) lt))
+
+pub num_again : (most n : ℕ) → n ≤ most → n < 2 ^ 64 → num_at most (decimal n) ≡ Some n
+unfolding num_at digits_at
+num_again most n le lt =
+    let odd = number_plain (decimal n) (decimal_nonempty n lt) (decimal_first n lt) in
+    let all = digits_decimal own n lt in
+    let value = digits_value-decimal own n lt in
+    let fits : ltb n (2 ^ 64) ≡ true = lt-ltb _ _ lt in
+    let small : leb n most ≡ true = le-leb n most le in
+    rw (odd, all, value, fits, small) refl
