@@ -124,7 +124,7 @@ arg_takes (word w) t a e = word_ok t w a (bytes_eq t (word_text w)) refl e
 arg_takes free t a e = made_arg t (λ x. free_text x) (free_at t) a (λ x. kept_takes (λ y. list_all is_free y) faults.Shape t x) e
 
 -- the kind of an argument
-pub slot_of : Arg → Slot
+unfoldable pub slot_of : Arg → Slot
 slot_of (an_fd f) = fd
 slot_of (a_dir d) = dir
 slot_of (some_flags w) = flags
@@ -205,7 +205,7 @@ decimal_part n lt = quiet_part (decimal n) (decimal_nonempty n lt) (digits_quiet
     digits_quiet : (t : List ℕ) → all_ascii_digits t ≡ true → list_all is_quiet t ≡ true
     digits_quiet t h = weaken is_ascii_digit is_quiet digit_quiet t h
 
-pub is_closed : Arg → Bool
+unfoldable pub is_closed : Arg → Bool
 is_closed (free_text a) = false
 is_closed a = true
 
