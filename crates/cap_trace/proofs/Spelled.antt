@@ -90,11 +90,10 @@ unfolding path_at
 path_takes t p e =
     let o = bind_ok (need faults.Argument (behind (34 ∷ []) t)) (λ o. need faults.Argument (before (34 ∷ []) o) >>= λ i. kept are_items faults.Argument i) p e in
     let i = bind_ok (need faults.Argument (before (34 ∷ []) o.0)) (λ i. kept are_items faults.Argument i) p o.2 in
-    let k = kept_takes are_items faults.Argument i.0 p i.2 in
-    (
+    let k = kept_takes are_items faults.Argument i.0 p i.2 in (
       behind_takes (34 ∷ []) t o.0 (need_ok faults.Argument (behind (34 ∷ []) t) o.0 o.1)
-      ∙ ap (λ (r : List ℕ). 34 ∷ r) (before_takes (34 ∷ []) o.0 i.0 (need_ok faults.Argument (before (34 ∷ []) o.0) i.0 i.1))
-      ∙ ap (λ (r : List ℕ). 34 ∷ (r ++ 34 ∷ [])) k.0,
+          ∙ ap (λ (r : List ℕ). 34 ∷ r) (before_takes (34 ∷ []) o.0 i.0 (need_ok faults.Argument (before (34 ∷ []) o.0) i.0 i.1))
+          ∙ ap (λ (r : List ℕ). 34 ∷ (r ++ 34 ∷ [])) k.0,
       k.1,
     )
 

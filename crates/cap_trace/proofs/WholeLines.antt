@@ -210,8 +210,7 @@ pub line_takes : (bytes : List ℕ) (e : Entry) → line_of bytes ≡ Ok e → S
 unfolding line_of
 line_takes bytes e h =
     let g = long_ok (ltb 1024 (length bytes)) faults.TooLong (entry_at bytes (cut_at_byte 32 bytes)) e h in
-    let p = entry_takes bytes (cut_at_byte 32 bytes) e refl g.1 in
-    (
+    let p = entry_takes bytes (cut_at_byte 32 bytes) e refl g.1 in (
       p.item.texts,
       record {
         short = ltb-false _ _ g.0;
