@@ -2,6 +2,9 @@
 use Rattle.std.proofs.Common.{◌≡◌, ℕ, ◌+◌, ◌-◌, ◌<◌, ◌≤◌, List, [], ◌∷◌, ◌++◌, length, get_or, take, drop, map, Result, Ok, Err, OnOk, OnErr, refl, sym, ap, ◌∙◌, append_assoc, arith}
 use Rattle.std.specs.List.{join_with_byte}
 use Rattle.std.proofs.lemmas.List.{take_at, take_more, drop_more, take-append-drop, take_all, length-drop, append-nil}
+use Rattle.std.specs.Fmt.{decimal}
+use Rattle.cap_trace.specs.Entry.{fds}
+use Rattle.cap_trace.specs.Spelling.{arg_text}
 use Rattle.cap_trace.specs.Writing.{with_commas}
 
 pub on_err : {A E : Type 0} (r : Result A E) (P : Type 0) → P → OnErr r P
@@ -56,3 +59,15 @@ on_ok (Err e) P Q f p = tt
 -- the rest of a list, as a pattern takes it
 pub rest_is : {X : Type 0} (xs : List X) → take (length xs - 1) (drop 1 xs) ≡ drop 1 xs
 rest_is xs = take_all (length xs - 1) (drop 1 xs) (simp length-drop (omega arith))
+
+pub err_kept : {A E : Type 0} (r : Result A E) (old mid new x : List ℕ) → mid ≡ old ++ x → OnErr r (take (length mid) new ≡ mid) → OnErr r (take (length old) new ≡ old)
+err_kept (Ok v) old mid new x h g = tt
+err_kept (Err e) old mid new x h g = front_kept old mid new x h g
+
+-- descriptors as arguments
+pub fds_text : (fs : List ℕ) → map decimal fs ≡ map arg_text (fds fs)
+fds_text [] = refl
+fds_text (f ∷ fs) = ap (λ (s : List (List ℕ)). decimal f ∷ s) (fds_text fs)
+
+pub three_more : (old m1 m2 m3 h a x : List ℕ) → m1 ≡ old ++ h → m2 ≡ m1 ++ a → m3 ≡ m2 ++ x → m3 ≡ old ++ ((h ++ a) ++ x)
+three_more old m1 m2 m3 h a x e f g = g ∙ ap (λ (s : List ℕ). s ++ x) (f ∙ ap (λ (s : List ℕ). s ++ a) e ∙ append_assoc old h a) ∙ append_assoc old (h ++ a) x

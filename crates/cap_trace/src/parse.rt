@@ -5,7 +5,7 @@ ghost use Rattle.cap_trace.specs.declared.fault.LineFault.TheVariants.{Memory};
 ghost use Rattle.cap_trace.specs.Quotes.{pieces};
 ghost use Rattle.cap_trace.specs.Seen.{fds_in, call_seen, line_seen};
 ghost use Rattle.cap_trace.specs.Spelling.{Spells, IsProper};
-ghost use Rattle.cap_trace.specs.Parsing.{SpellsSome, TellsFaults, ReadsOnly, TellsReading, OneLine, ReadingIsSpelling};
+ghost use Rattle.cap_trace.specs.Parsing.{SpellsSome, TellsFaults, ReadsOnly, TellsReading, OneLine, ReadingIsSpelling, WrittenIsRead};
 
 use crate::fault::LineFault;
 use crate::line::{Args, Call, Command, Fds, Flags, Item, Line, Name, Path};
@@ -161,4 +161,9 @@ pub fn one_line()
 /// Reading from the left finds exactly the line that the bytes spell.
 pub fn reading_is_spelling()
     ensures { ReadingIsSpelling }
+{}
+
+/// Of each line that bytes spell, the canonical text is read as that line again.
+pub fn written_is_read()
+    ensures { WrittenIsRead }
 {}

@@ -175,3 +175,115 @@ fn put_call(call: &Call, out: &mut Vec<u8>) -> Result<(), AllocError>
         Call::Other { args, .. } => out.extend_from_slice(args.as_bytes()),
     }
 }
+
+/// Each descriptor behind a comma.
+fn put_other_fds(others: &[Fd], out: &mut Vec<u8>) -> Result<(), AllocError>
+    ensures ok { OnOk result (out.new.items ≡ out.old.items ++ with_commas (map decimal others.now)) }
+    ensures err { OnErr result (take (length out.old.items) out.new.items ≡ out.old.items) }
+{
+    for other in others {
+        out.extend_from_slice(b",")?;
+        put_number(u64::from(*other), out)?;
+    }
+    Ok(())
+}
+
+/// Descriptors, with commas between them.
+fn put_fds(fds: &[Fd], out: &mut Vec<u8>) -> Result<(), AllocError>
+    ensures ok { OnOk result (out.new.items ≡ out.old.items ++ join_with_byte 44 (map arg_text (fd_args fds.now))) }
+    ensures err { OnErr result (take (length out.old.items) out.new.items ≡ out.old.items) }
+{
+    match fds {
+        [] => Ok(()),
+        [first, others @ ..] => {
+            put_number(u64::from(*first), out)?;
+            put_other_fds(others, out)
+        }
+    }
+}
+
+/// What stands between the brackets.
+fn put_between(item: &Item, out: &mut Vec<u8>) -> Result<(), AllocError>
+    ensures ok { OnOk result (out.new.items ≡ out.old.items ++ join_with_byte 44 (map arg_text (args_of item.now))) }
+    ensures err { OnErr result (take (length out.old.items) out.new.items ≡ out.old.items) }
+{
+    match item {
+        Item::Call { call, .. } => put_call(call, out),
+        Item::Start(fds) => put_fds(fds.as_slice(), out),
+        Item::Exit => Ok(()),
+        Item::Foreign(fd) => put_number(u64::from(*fd), out),
+    }
+}
+
+fn put_answer(answer: &Answer, out: &mut Vec<u8>) -> Result<(), AllocError>
+    ensures ok { OnOk result (out.new.items ≡ out.old.items ++ answer_text answer.now) }
+    ensures err { OnErr result (take (length out.old.items) out.new.items ≡ out.old.items) }
+{
+    match answer {
+        Answer::Made(number) => put_number(*number, out),
+        Answer::Pair(first, second) => {
+            put_number(*first, out)?;
+            out.extend_from_slice(b",")?;
+            put_number(*second, out)
+        }
+        Answer::Fault(errno) => {
+            out.extend_from_slice(b"-1 errno ")?;
+            put_number(u64::from(*errno), out)
+        }
+    }
+}
+
+/// What stands behind the bracket that closes.
+fn put_tail(item: &Item, out: &mut Vec<u8>) -> Result<(), AllocError>
+    ensures ok { OnOk result (out.new.items ≡ out.old.items ++ tail_text item.now) }
+    ensures err { OnErr result (take (length out.old.items) out.new.items ≡ out.old.items) }
+{
+    match item {
+        Item::Call { answer, .. } => {
+            out.extend_from_slice(b" RET ")?;
+            put_answer(answer, out)
+        }
+        _ => Ok(()),
+    }
+}
+
+/// What stands before the arguments.
+fn put_head(line: &Line, out: &mut Vec<u8>) -> Result<(), AllocError>
+    ensures ok { OnOk result (out.new.items ≡ out.old.items ++ (decimal line.now.pid ++ (32 ∷ (name_of (head_of line.now.item) ++ 40 ∷ [])))) }
+    ensures err { OnErr result (take (length out.old.items) out.new.items ≡ out.old.items) }
+{
+    put_number(u64::from(line.pid), out)?;
+    out.extend_from_slice(b" ")?;
+    out.extend_from_slice(line.name())?;
+    out.extend_from_slice(b"(")
+}
+
+fn put_line(line: &Line, out: &mut Vec<u8>) -> Result<(), AllocError>
+    ensures ok { OnOk result (out.new.items ≡ out.old.items ++ canon line.now) }
+    ensures spelled { Spells (canon line.now) line.now }
+    ensures err { OnErr result (take (length out.old.items) out.new.items ≡ out.old.items) }
+{
+    let item = &line.item;
+    put_head(line, out)?;
+    put_between(item, out)?;
+    out.extend_from_slice(b")")?;
+    put_tail(item, out)
+}
+
+/// Appends the one canonical text of a line.
+///
+/// It spells the line, so it has at most 1,024 bytes. Where memory runs out the vector is as before.
+pub fn write_line(line: &Line, out: &mut Vec<u8>) -> Result<(), NoMemory>
+    ensures ok { OnOk result (out.new.items ≡ out.old.items ++ canon line.now) }
+    ensures spelled { Spells (canon line.now) line.now }
+    ensures err { OnErr result (out.new.items ≡ out.old.items) }
+{
+    let start = out.len();
+    match put_line(line, out) {
+        Ok(()) => Ok(()),
+        Err(_) => {
+            out.truncate(start);
+            Err(NoMemory)
+        }
+    }
+}
