@@ -18,36 +18,36 @@ use std::alloc::{AllocError, Global};
 fn path(alloc: Global, text: &[u8]) -> Result<Path, AllocError>
     ensures { IfOk result (λ p. p ≡ text.now) }
 {
-    let text = Vec::from_slice(alloc, text)?;
-    Ok(Path { text })
+    let items = Vec::from_slice(alloc, text)?;
+    Ok(Path { items })
 }
 
 fn flags(alloc: Global, text: &[u8]) -> Result<Flags, AllocError>
     ensures { IfOk result (λ f. f ≡ text.now) }
 {
-    let text = Vec::from_slice(alloc, text)?;
-    Ok(Flags { text })
+    let names = Vec::from_slice(alloc, text)?;
+    Ok(Flags { names })
 }
 
 fn command(alloc: Global, text: &[u8]) -> Result<Command, AllocError>
     ensures { IfOk result (λ c. c ≡ text.now) }
 {
-    let text = Vec::from_slice(alloc, text)?;
-    Ok(Command { text })
+    let word = Vec::from_slice(alloc, text)?;
+    Ok(Command { word })
 }
 
 fn name(alloc: Global, text: &[u8]) -> Result<Name, AllocError>
     ensures { IfOk result (λ n. n ≡ text.now) }
 {
-    let text = Vec::from_slice(alloc, text)?;
-    Ok(Name { text })
+    let name = Vec::from_slice(alloc, text)?;
+    Ok(Name { name })
 }
 
 fn args(alloc: Global, text: &[u8]) -> Result<Args, AllocError>
     ensures { IfOk result (λ a. a ≡ text.now) }
 {
-    let text = Vec::from_slice(alloc, text)?;
-    Ok(Args { text })
+    let args = Vec::from_slice(alloc, text)?;
+    Ok(Args { args })
 }
 
 /// The descriptors among the arguments.
@@ -64,7 +64,7 @@ fn fds_of(alloc: Global, args: &[u8]) -> Result<Fds, AllocError>
     Ok(Fds { fds })
 }
 
-/// A call at a directory, or by path, in memory of its own.
+/// A call, in memory of its own.
 fn call_of(alloc: Global, seen: &CallSeen<'_>) -> Result<Call, AllocError>
     ensures { IfOk result (λ c. c ≡ call_seen seen.now) }
 {
