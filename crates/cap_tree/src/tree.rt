@@ -120,7 +120,7 @@ impl<S: Segment> Tree<S> {
         ensures joins { meter.new ≤ meter.old + bound (length self.now + 1) }
     {
         let root = match &self.root {
-            Root::Empty(_) => Node::leaf(alloc, item)?,
+            Root::Empty(_) => Node::single(alloc, meter, item)?,
             Root::Full(node) => {
                 let _height = node.height();
                 Node::insert(node, alloc, meter, at, item)?
