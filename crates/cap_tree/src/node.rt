@@ -3,7 +3,7 @@
 //! A leaf holds a run of items and one summary of them, since a summary of each single item would take far more memory
 //! than the items. A node's height is 0 for a leaf, else that of the higher part and one, and two parts are at most one
 //! apart. An edit makes anew the leaf that holds its place and the nodes above it, and shares all others.
-ghost use Rattle.std.specs.Prelude.{◌≡◌, ℕ, ◌+◌, ◌*◌, ◌/◌, ◌^◌, ◌<◌, ◌≤◌, min, max, List, [], ◌∷◌, ◌++◌, length, vec_len, insert, remove, slice_get, slice_set, Some, IfOk, MatchOption};
+ghost use Rattle.std.specs.Prelude.{◌≡◌, ℕ, ◌+◌, ◌*◌, ◌/◌, ◌^◌, ◌<◌, ◌≤◌, min, max, List, [], ◌∷◌, ◌++◌, length, vec_len, insert, remove, slice_get, slice_set, Some, IfOk, OnOk, MatchOption};
 ghost use Rattle.cap_tree.specs.Heights.{DifferByAtMost, SettlesAt, HaveLostOne, IsLeastHeight};
 ghost use Rattle.cap_tree.specs.Run.{values};
 
@@ -82,6 +82,7 @@ impl<S: Segment> Node<S> {
         requires few { length run.now ≤ 2 ^ 30 }
         requires room { meter.old + length run.now < 2 ^ 64 }
         ensures stands { IfOk result (λ s. S.stands s (values run.now)) }
+        ensures counted { OnOk result (meter.new + 1 ≡ meter.old + length run.now) }
         ensures not_less { meter.old ≤ meter.new }
         ensures joins { meter.new < meter.old + length run.now }
     {
@@ -104,6 +105,7 @@ impl<S: Segment> Node<S> {
         requires fits { vec_len run ≤ LEAF_ITEMS }
         requires room { meter.old + vec_len run < 2 ^ 64 }
         ensures ok { IfOk result (λ n. n.value ≡ (values run.items, 0)) }
+        ensures counted { OnOk result (meter.new + 1 ≡ meter.old + vec_len run) }
         ensures not_less { meter.old ≤ meter.new }
         ensures joins { meter.new < meter.old + vec_len run }
     {
@@ -141,6 +143,7 @@ impl<S: Segment> Node<S> {
         requires few { length left.value.0 + length right.value.0 ≤ 2 ^ 30 }
         requires room { meter.old + 1 < 2 ^ 64 }
         ensures ok { IfOk result (λ n. n.value ≡ (left.value.0 ++ right.value.0, max left.value.1 right.value.1 + 1)) }
+        ensures counted { OnOk result (meter.new ≡ meter.old + 1) }
         ensures not_less { meter.old ≤ meter.new }
         ensures joins { meter.new ≤ meter.old + 1 }
     {
@@ -282,6 +285,7 @@ impl<S: Segment> Node<S> {
         requires fits { length left.now.0 + length right.now.0 ≤ LEAF_ITEMS }
         requires room { meter.old + 1 < 2 ^ 64 }
         ensures ok { IfOk result (λ n. n.value ≡ (left.now.0 ++ right.now.0, 0)) }
+        ensures counted { OnOk result (meter.new ≡ meter.old + 1) }
         ensures not_less { meter.old ≤ meter.new }
         ensures joins { meter.new ≤ meter.old + 1 }
     {
@@ -526,6 +530,7 @@ impl<S: Segment> Node<S> {
         requires room { meter.old + length list.now < 2 ^ 64 }
         ensures items { IfOk result (λ n. n.value.0 ≡ values list.now) }
         ensures height { IfOk result (λ n. IsLeastHeight LEAF_ITEMS n.value.1 (length list.now)) }
+        ensures counted { OnOk result (meter.new + 1 ≡ meter.old + length list.now) }
         ensures not_less { meter.old ≤ meter.new }
         ensures joins { meter.new < meter.old + length list.now }
     {
