@@ -1,2 +1,18 @@
-//! Made next.
+//! Traces from a reader, checked as they come, with the report to a writer.
 #![tactic(auto)]
+
+mod check;
+mod counted;
+mod devices;
+mod held;
+mod outcome;
+mod read;
+mod reading;
+mod refusal;
+mod stand_in;
+mod write;
+
+pub use check::check_stream;
+pub use counted::Counted;
+pub use devices::{Failed, Sink, Source};
+pub use outcome::Outcome;
