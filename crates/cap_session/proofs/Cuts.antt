@@ -67,3 +67,23 @@ pub no_cut : (held bytes : List ℕ) → IsFirstByte (is_byte 10) bytes None →
 no_cut held bytes found =
     let both = no_cut_from held bytes (λ j h. found j (omega arith) h) in
     record { whole = both.0; last = both.1 }
+
+front_from : (held bytes : List ℕ) (k : ℕ) → k < length bytes → ((j : ℕ) → j < k → (get_or bytes j 0 == 10) ≡ true → ⊥) → (get_or bytes k 0 == 10) ≡ true →
+    (whole_lines held (take (suc k) bytes) ≡ (held ++ take k bytes) ∷ []) × (last_piece held (take (suc k) bytes) ≡ [])
+unfolding whole_lines last_piece
+front_from held [] k within before here = absurd (omega arith)
+front_from held (b ∷ bytes) zero within before here = (rw here (ap (λ l. l ∷ []) (sym (append-nil held))), rw here refl)
+front_from held (b ∷ bytes) (suc k) within before here =
+    let none : (b == 10) ≡ false = false_unless (b == 10) (before 0 (omega arith)) in
+    let rest = front_from (held ++ b ∷ []) bytes k (omega arith) (λ j h. before (suc j) (omega arith)) here in
+    (rw none (rest.0 ∙ ap (λ l. l ∷ []) (append_assoc held (b ∷ []) (take k bytes))), rw none rest.1)
+
+-- up to its first LF, the bytes are one line
+pub record Front (held bytes : List ℕ) (k : ℕ) : Type 0 where
+  pub whole : whole_lines held (take (k + 1) bytes) ≡ (held ++ take k bytes) ∷ []
+  pub last : last_piece held (take (k + 1) bytes) ≡ []
+
+pub front_at : (held bytes : List ℕ) (k : ℕ) → IsFirstByte (is_byte 10) bytes (Some k) → Front held bytes k
+front_at held bytes k found =
+    let both = front_from held bytes k found.0.high (λ j h. found.0.before j (omega arith) h) found.1 in
+    record { whole = rw add-one both.0; last = rw add-one both.1 }

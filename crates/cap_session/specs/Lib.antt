@@ -1,12 +1,12 @@
 pub mod Devices
 pub mod Feeds
+pub mod Laws
 pub mod Lines
 pub mod Outcomes
 pub mod Reads
 pub mod Refusals
 pub mod StandIn
 pub mod Streams
-pub mod Tells
 pub mod Texts
 pub mod Trace
 pub mod Works

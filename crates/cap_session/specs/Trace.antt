@@ -3,8 +3,7 @@ use Rattle.std.specs.Prelude.{ℕ, ◌==◌, Bool, true, nat_le, List, [], ◌�
 use Rattle.cap_trace.specs.declared.fault.ReadFault.{ReadFault}
 use Rattle.cap_trace.specs.Entry.{Entry}
 use Rattle.cap_trace.specs.Reading.{line_of}
-use Rattle.cap_trace.specs.Fault.{line_fault}
-use Rattle.cap_session.specs.Tells.{code_of}
+use Rattle.cap_trace.specs.Fault.{line_fault, code_of}
 use Rattle.cap_session.specs.Texts.{whole_text, refused_so_far}
 use Rattle.cap_session.specs.declared.refusal.Refusal.{Refusal}
 

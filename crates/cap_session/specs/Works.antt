@@ -4,7 +4,6 @@ use Rattle.cap_trace.specs.Entry.{Entry}
 use Rattle.cap_trace.specs.declared.fault.LineFault.{LineFault}
 use Rattle.cap_trace.specs.declared.fault.LineFault.TheVariants as told
 use Rattle.cap_session.specs.StandIn.{usual, check, report}
-use Rattle.cap_session.specs.Tells.{code_of}
 use Rattle.cap_session.specs.Devices.{SinkState}
 use Rattle.cap_session.specs.Writes.{Wrote, WroteFront}
 use Rattle.cap_session.specs.Refusals.{refusal_text}

@@ -11,9 +11,9 @@ use crate::outcome::Outcome;
 use crate::read::{Ending, read_text};
 use crate::reading::{Lines, Stop};
 use crate::refusal::{Refusal, RefusalText};
-use crate::stand_in::{Checker, NoMemory, code, parse_line};
+use crate::stand_in::{Checker, NoMemory};
 use crate::write::write_text;
-use cap_trace::LineFault;
+use cap_trace::{LineFault, parse_line};
 use std::alloc::Global;
 
 /// A trace has at most so many lines, those that are skipped not counted.
@@ -45,13 +45,15 @@ impl From<LineFault> for Stop {
     fn from(fault: LineFault) -> Stop {
         match fault {
             LineFault::Memory => Stop::NoMemory,
-            _ => Stop::Refused(code(fault)),
+            _ => Stop::Refused(fault.code()),
         }
     }
 }
 
 impl From<NoMemory> for Stop {
-    ghost from_gives = { λ _ stop. stop ≡ Stop.NoMemory };
+    ghost use Rattle.cap_session.specs.declared.reading.Stop.TheVariants as stops;
+
+    ghost from_gives = { λ _ stop. stop ≡ stops.NoMemory };
 
     fn from(_: NoMemory) -> Stop {
         Stop::NoMemory

@@ -1,10 +1,9 @@
 //! This stands for the checker of cap_machine, and what parse_line will say.
 ghost use Rattle.std.specs.Prelude.{◌≡◌, ◌+◌, ◌^◌, ◌<◌, ◌≤◌, ◌↔◌, List, ℕ, [], ◌∷◌, ◌++◌, IfOk, OnOk, IsTrue};
 ghost use Rattle.cap_trace.specs.Entry.{Entry};
-ghost use Rattle.cap_session.specs.Tells.{TellsReading, code_of};
 ghost use Rattle.cap_session.specs.StandIn.{State, usual, HasChecked, lines_of, check, report};
 
-use cap_trace::{Line, LineFault, parse_line as parse};
+use cap_trace::Line;
 use std::alloc::{AllocError, Global};
 
 #[derive(Drop)]
@@ -17,12 +16,14 @@ pub struct Checker {
 pub struct NoMemory;
 
 impl Checker {
+    #[tactic(auto, unfolding(crate::specs::StandIn::Has, crate::specs::StandIn::lines_of, crate::specs::StandIn::check, crate::specs::StandIn::report))]
     pub fn new(alloc: Global) -> Checker
         ensures { HasChecked result usual [] }
     {
         Checker { count: 0, alloc }
     }
 
+    #[tactic(auto, unfolding(crate::specs::StandIn::Has, crate::specs::StandIn::lines_of, crate::specs::StandIn::check, crate::specs::StandIn::report))]
     pub fn line(&mut self, line: &Line) -> Result<(), NoMemory>
         requires { lines_of self.old + 1 < 2 ^ 63 }
         ensures { (s : State) (t : List Entry) → HasChecked self.old s t → OnOk result (HasChecked self.new s (t ++ line.now ∷ [])) }
@@ -35,41 +36,24 @@ impl Checker {
         Ok(())
     }
 
+    #[tactic(auto, unfolding(crate::specs::StandIn::Has, crate::specs::StandIn::lines_of, crate::specs::StandIn::check, crate::specs::StandIn::report))]
     pub fn count(&self) -> usize
         ensures { result ≡ lines_of self.now }
     {
         self.count
     }
 
+    #[tactic(auto, unfolding(crate::specs::StandIn::Has, crate::specs::StandIn::lines_of, crate::specs::StandIn::check, crate::specs::StandIn::report))]
     pub fn is_clean(&self) -> bool
         ensures { (s : State) (t : List Entry) → HasChecked self.now s t → (IsTrue result ↔ (check s t ≡ [])) }
     {
         true
     }
 
+    #[tactic(auto, unfolding(crate::specs::StandIn::Has, crate::specs::StandIn::lines_of, crate::specs::StandIn::check, crate::specs::StandIn::report))]
     pub fn report(self) -> Result<Vec<u8>, NoMemory>
         ensures { (s : State) (t : List Entry) → HasChecked self s t → IfOk result (λ text. text.items ≡ report s t) }
     {
         Ok(Vec::new(self.alloc))
-    }
-}
-
-pub fn parse_line(alloc: Global, bytes: &[u8]) -> Result<Line, LineFault>
-    ensures reads { TellsReading bytes.now result }
-{
-    parse(alloc, bytes)
-}
-
-pub fn code(fault: LineFault) -> u8
-    ensures { result ≡ code_of fault }
-{
-    match fault {
-        LineFault::TooLong => 1,
-        LineFault::Shape => 2,
-        LineFault::Pid => 3,
-        LineFault::Argument => 4,
-        LineFault::Right => 5,
-        LineFault::Answer => 6,
-        LineFault::Memory => 9,
     }
 }
