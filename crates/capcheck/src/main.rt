@@ -1,4 +1,11 @@
-//! The program: checks a trace of system calls.
+//! `capcheck`: checks a recorded trace of system calls against the rights that its descriptors held and
+//! against capability mode, and prints the report on standard output.
 #![tactic(auto)]
 
-fn main() {}
+mod run;
+
+use std::process::ExitCode;
+
+fn main(rt: HostRuntime) -> ExitCode {
+    ExitCode::from(run::run(&rt))
+}

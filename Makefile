@@ -1,0 +1,39 @@
+# The checker of Capsicum traces: build, run, test.
+#
+#   make            proves every crate and leaves the program as ./capcheck
+#   make run        the same, and checks an example trace with it
+#   make test       the gate: the examples, and then every proof, test, stored run and wrong body from nothing
+#   make bench      times the program on a trace of a million lines beside `wc -l`
+#   make install    puts the program under PREFIX (default /usr/local)
+
+RT ?= rt
+PREFIX ?= /usr/local
+SOURCES = $(shell find crates -path '*/out' -prune -o -type f -name '*.rt' -print -o -type f -name '*.antt' -print) crates.txt HANDLES
+
+.PHONY: all run test examples bench install clean
+all: capcheck
+
+# `rt run` proves the program and all that it stands on, builds it and runs it, here on an empty trace.
+capcheck: $(SOURCES)
+	cd crates/capcheck && $(RT) run </dev/null >/dev/null
+	cp crates/capcheck/out/capcheck $@
+
+# Findings end the program with status 1, which is what this example is to show.
+run: capcheck
+	./capcheck <examples/filter.trace || test $$? -eq 1
+
+examples: capcheck
+	examples/check ./capcheck
+
+test: examples
+	$(RT) ci
+
+bench: capcheck
+	bench/run ./capcheck
+
+install: capcheck
+	install -d $(DESTDIR)$(PREFIX)/bin
+	install -m 755 capcheck $(DESTDIR)$(PREFIX)/bin/capcheck
+
+clean:
+	rm -rf capcheck crates/*/out

@@ -1,0 +1,47 @@
+//! What can sum up a list of items.
+ghost use Rattle.std.specs.Prelude.{◌≡◌, ℕ, ◌+◌, ◌^◌, ◌<◌, ◌≤◌, List, [], ◌∷◌, ◌++◌, length, IfOk, OnOk};
+
+use crate::meter::Meter;
+use crate::no_memory::NoMemory;
+use std::alloc::Global;
+
+/// A summary of a list of items. Two summaries join to that of the one list followed by the other.
+///
+/// The clauses below are the laws that every segment keeps; the tree knows nothing else of it.
+pub trait Segment: Drop {
+    type Item: Drop;
+
+    /// The value sums up the list.
+    ghost stands: { Self → List Self.Item → Type 0 };
+
+    /// The length of the list that the value sums up.
+    ghost size: { Self → ℕ };
+
+    /// The summary of no items.
+    fn empty(alloc: Global) -> Result<Self, NoMemory>
+        ensures { IfOk result (λ s. stands s []) };
+
+    /// The summary of one item.
+    fn one(alloc: Global, item: &Self::Item) -> Result<Self, NoMemory>
+        ensures { IfOk result (λ s. stands s (item.now ∷ [])) };
+
+    /// How many items are summed up. Takes no memory.
+    fn len(&self) -> usize
+        ensures { result ≡ size self.now };
+
+    /// The summary of the left items followed by the right ones.
+    ///
+    /// The caller owes two lengths of at most `2 ^ 30` together, and a meter with room for one more. A join that
+    /// succeeds counts one; one that fails counts at most one, and both parts are as before.
+    fn join(alloc: Global, meter: &mut Meter, left: &Self, right: &Self) -> Result<Self, NoMemory>
+        requires few { size left.now + size right.now ≤ 2 ^ 30 }
+        requires room { meter.old + 1 < 2 ^ 64 }
+        ensures joined { IfOk result
+            (λ s. (t u : List Self.Item) → stands left.now t → stands right.now u → stands s (t ++ u)) }
+        ensures counted { OnOk result (meter.new ≡ meter.old + 1) }
+        ensures not_less { meter.old ≤ meter.new }
+        ensures at_most_one { meter.new ≤ meter.old + 1 };
+
+    /// All lists that one value sums up have its length.
+    ghost sized: { (s : Self) (t : List Self.Item) → stands s t → size s ≡ length t };
+}
