@@ -1,18 +1,18 @@
 -- The outcome is that of the text.
-use Rattle.std.proofs.Common.{◌≡◌, ℕ, ◌+◌, List, [], ◌++◌, refl, sym, ◌∙◌, ap, inl, inr, subst, arith}
+use Rattle.std.proofs.Common.{◌≡◌, ℕ, List, [], ◌++◌, sym, ◌∙◌, ap, inl, inr, subst, arith}
 use Rattle.std.specs.Prelude.{Result, Ok, Err, Option, Some, None, ◌⊎◌}
 use Rattle.std.specs.Io.KnownBytes.{Consumes, IsAtEnd}
 use Rattle.std.proofs.lemmas.List.{append-nil}
 use Rattle.cap_trace.specs.Entry.{Entry}
-use Rattle.cap_session.specs.StandIn.{usual, check, report}
-use Rattle.cap_session.specs.Devices.{SourceState, SinkState}
+use Rattle.cap_machine.specs.State.{usual}
+use Rattle.cap_machine.specs.Report.{report}
+use Rattle.cap_session.specs.Devices.{SourceState}
 use Rattle.cap_session.specs.Trace.{trace, soon, next_entry}
 use Rattle.cap_session.specs.Reads.{Told}
 use Rattle.cap_session.specs.Refusals.{refusal_text}
-use Rattle.cap_session.specs.Streams.{Streams, IsFront}
-use Rattle.cap_session.specs.Laws.{BeginningDecides, Reports, Tells, GoodIsReported, BadIsRefused, IsAnswer, PiecesAgree}
+use Rattle.cap_session.specs.Streams.{IsFront}
+use Rattle.cap_session.specs.Laws.{BeginningDecides, GoodIsReported, BadIsRefused, PiecesAgree}
 use Rattle.cap_session.specs.declared.refusal.Refusal.{Refusal}
-use Rattle.cap_session.specs.declared.outcome.Outcome.{Outcome}
 use Rattle.cap_session.specs.declared.outcome.Outcome.TheVariants.{Clean, Findings, Refused, Memory, ReadFault, WriteFault, TooLong}
 use Rattle.cap_session.proofs.Soon.{soon_after, whole_after, whole_too}
 

@@ -1,15 +1,16 @@
 -- What is read and what is written, together.
-use Rattle.std.proofs.Common.{◌≡◌, ℕ, ◌+◌, ◌≤◌, List, [], refl, sym, ◌∙◌, ap, inl, inr, subst, arith}
-use Rattle.std.specs.Prelude.{Ok, Err}
+use Rattle.std.proofs.Common.{◌≡◌, ℕ, ◌+◌, ◌≤◌, List, [], refl, sym, ap, inl, inr, subst, arith}
+use Rattle.std.specs.Prelude.{Ok}
 use Rattle.std.specs.Io.KnownBytes.{Consumes}
 use Rattle.std.proofs.lemmas.List.{append-nil}
 use Rattle.cap_trace.specs.Entry.{Entry}
-use Rattle.cap_session.specs.StandIn.{usual, check, report}
+use Rattle.cap_machine.specs.State.{usual}
+use Rattle.cap_machine.specs.Report.{report}
 use Rattle.cap_session.specs.Devices.{SourceState, SinkState}
 use Rattle.cap_session.specs.Trace.{trace, soon, next_entry}
 use Rattle.cap_session.specs.Reads.{Told, IsRefused}
 use Rattle.cap_session.specs.Refusals.{refusal_text}
-use Rattle.cap_session.specs.Streams.{Streams, TellsRefusal}
+use Rattle.cap_session.specs.Streams.{Streams}
 use Rattle.cap_session.specs.Works.{WritesReport, WritesRefusal}
 use Rattle.cap_session.specs.declared.refusal.Refusal.{Refusal}
 use Rattle.cap_session.specs.declared.outcome.Outcome.{Outcome}

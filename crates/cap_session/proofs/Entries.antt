@@ -1,6 +1,6 @@
 -- What the next line of a trace does.
-use Rattle.std.proofs.Common.{◌≡◌, ℕ, ◌+◌, ◌<◌, ◌≤◌, List, length, refl, sym, ◌∙◌, ap, subst, arith, Bool, true, false, inl, inr, ◌∷◌, [], ◌++◌}
-use Rattle.std.specs.Prelude.{Result, Ok, Err, nat_le}
+use Rattle.std.proofs.Common.{◌≡◌, ℕ, ◌<◌, ◌≤◌, List, length, refl, arith, true, false, inl, inr, ◌∷◌, [], ◌++◌}
+use Rattle.std.specs.Prelude.{Ok, Err, nat_le}
 use Rattle.cap_trace.specs.declared.fault.ReadFault.{ReadFault}
 use Rattle.cap_trace.specs.declared.fault.ReadFault.TheVariants as faults
 use Rattle.cap_trace.specs.declared.fault.LineFault.{LineFault}
@@ -11,7 +11,7 @@ use Rattle.cap_trace.specs.Parsing.{TellsReading}
 use Rattle.cap_session.specs.Trace.{is_skipped, next_entry, with_entry}
 use Rattle.cap_session.specs.Feeds.{Does}
 use Rattle.cap_session.specs.Works.{stop_of}
-use Rattle.cap_session.specs.declared.reading.Stop.TheVariants.{Refused, NoMemory}
+use Rattle.cap_session.specs.declared.reading.Stop.TheVariants.{Refused}
 
 pub skipped_line : (known : List Entry) (line : List ℕ) → is_skipped line ≡ true → next_entry known line ≡ Ok known
 unfolding next_entry

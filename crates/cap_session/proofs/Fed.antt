@@ -37,9 +37,9 @@ fed_line next start before now after number0 held0 piece number held rest at fed
       cut = fed.cut ∙ ap (λ l. fed.front ++ l) (sym (take-append-drop (at + 1) rest)) ∙ sym (append_assoc fed.front (take (at + 1) rest) (drop (at + 1) rest));
       count = simp length-drop (omega arith);
       reached = λ given r0.
-        let r = fed.reached given r0 in
-        let k = does r.known r.does in
-        subst (λ (g : List ℕ). Reached next start after g (number + 1) []) (append_assoc given fed.front (take (at + 1) rest)) (reached_line next start now after (given ++ fed.front) held rest number at r found k.0 k.1 k.2);
+          let r = fed.reached given r0 in
+          let k = does r.known r.does in
+          subst (λ (g : List ℕ). Reached next start after g (number + 1) []) (append_assoc given fed.front (take (at + 1) rest)) (reached_line next start now after (given ++ fed.front) held rest number at r found k.0 k.1 k.2);
     }
 
 -- a line stopped it

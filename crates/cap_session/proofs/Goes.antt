@@ -1,12 +1,12 @@
 -- What the loop over reads keeps.
-use Rattle.std.proofs.Common.{◌≡◌, ℕ, ◌+◌, ◌*◌, ◌<◌, ◌≤◌, List, [], ◌++◌, length, refl, sym, ◌∙◌, ap, inl, inr, arith}
+use Rattle.std.proofs.Common.{◌≡◌, ℕ, ◌+◌, ◌*◌, ◌<◌, ◌≤◌, List, [], ◌++◌, length, refl, sym, inl, inr, arith}
 use Rattle.std.specs.Prelude.{Result, Ok, Err}
 use Rattle.std.specs.Io.KnownBytes.{Consumes, Keeps, IsAtEnd}
 use Rattle.std.proofs.lemmas.List.{append-nil}
 use Rattle.cap_session.specs.Devices.{SourceState}
 use Rattle.cap_session.specs.Texts.{whole_text, refused_so_far}
 use Rattle.cap_session.specs.Feeds.{Reached, Feeds, Ends}
-use Rattle.cap_session.specs.Reads.{Reads, IsNear, ending_of}
+use Rattle.cap_session.specs.Reads.{Reads, ending_of}
 use Rattle.cap_session.specs.declared.reading.Stop.{Stop}
 use Rattle.cap_session.specs.declared.reading.Stop.TheVariants as stop
 use Rattle.cap_session.specs.declared.read.Ending.TheVariants.{Memory, ReadFault, TooLong}

@@ -1,16 +1,15 @@
 -- How far a text was worked through.
-use Rattle.std.proofs.Common.{◌≡◌, ℕ, zero, suc, ◌+◌, ◌<◌, ◌≤◌, List, [], ◌∷◌, ◌++◌, length, take, drop, refl, sym, ◌∙◌, ap, subst, append_assoc, arith, Bool, true, false}
-use Rattle.std.specs.Prelude.{Result, Ok, Err, Option, Some, None, nat_lt}
+use Rattle.std.proofs.Common.{◌≡◌, ℕ, ◌+◌, ◌<◌, ◌≤◌, List, [], ◌∷◌, ◌++◌, length, take, drop, refl, sym, ◌∙◌, ap, append_assoc, arith, true, false}
+use Rattle.std.specs.Prelude.{Result, Ok, Err, Some, None, nat_lt}
 use Rattle.std.proofs.lemmas.List.{length-append, append-nil}
 use Rattle.memchr.specs.Find.{IsFirstByte, is_byte}
-use Rattle.cap_session.specs.Lines.{whole_lines, last_piece, line_if_any, line_if_long, lines, lines_so_far}
+use Rattle.cap_session.specs.Lines.{whole_lines, last_piece, line_if_long, lines, lines_so_far}
 use Rattle.cap_session.specs.Texts.{with_line, with_lines, whole_text, refusal_of, refused_so_far}
-use Rattle.cap_session.specs.Feeds.{Does, Reached, Feeds, Ends}
-use Rattle.cap_session.specs.declared.refusal.Refusal.{Refusal}
+use Rattle.cap_session.specs.Feeds.{Does, Reached, Ends}
 use Rattle.cap_session.specs.declared.reading.Stop.{Stop}
 use Rattle.cap_session.specs.declared.reading.Stop.TheVariants.{Refused, NoMemory}
 use Rattle.cap_session.proofs.Cuts.{whole_lines-append, last_piece-append, front_at, cut_at, no_cut}
-use Rattle.cap_session.proofs.Lined.{long_refused, after_good, after_refused, line_good, line_bad, no_line}
+use Rattle.cap_session.proofs.Lined.{long_refused, after_good, line_good, line_bad, no_line}
 
 whole_none : whole_lines [] [] ≡ []
 unfolding whole_lines
@@ -64,10 +63,10 @@ refused_line next start holds given held rest number at code r found is =
     let more : List (List ℕ) = whole_lines [] (drop (at + 1) rest) in
     let long : List (List ℕ) = line_if_long (last_piece [] (given ++ rest)) in
     let all : lines_so_far (given ++ rest) ≡ whole_lines [] given ++ (line ∷ (more ++ long)) =
-        ap (λ l. l ++ long) (lines_after given rest held r.begun ∙ ap (λ l. whole_lines [] given ++ l) cut.whole) ∙ append_assoc (whole_lines [] given) (line ∷ more) long in
+    ap (λ l. l ++ long) (lines_after given rest held r.begun ∙ ap (λ l. whole_lines [] given ++ l) cut.whole) ∙ append_assoc (whole_lines [] given) (line ∷ more) long in
     let count : 0 + length (whole_lines [] given) ≡ number = let c = r.count in omega arith in
     let bad : with_lines next start 0 (lines_so_far (given ++ rest)) ≡ Err (record { code = code; line = number + 1 }) =
-        ap (with_lines next start 0) all ∙ after_good next start r.known 0 (whole_lines [] given) (line ∷ (more ++ long)) r.lines ∙ rw count (line_bad next r.known number code line (more ++ long) is) in
+    ap (with_lines next start 0) all ∙ after_good next start r.known 0 (whole_lines [] given) (line ∷ (more ++ long)) r.lines ∙ rw count (line_bad next r.known number code line (more ++ long) is) in
     ap refusal_of bad
 
 -- the last piece is too long
@@ -81,10 +80,10 @@ long_piece next start holds given held rest number r found long =
     let last : last_piece [] (given ++ rest) ≡ held ++ rest = last_after given rest held r.begun ∙ cut.last in
     let piece : line_if_long (last_piece [] (given ++ rest)) ≡ (held ++ rest) ∷ [] = rw (last, is) refl in
     let all : lines_so_far (given ++ rest) ≡ whole_lines [] given ++ ((held ++ rest) ∷ []) =
-        ap (λ l. l ++ line_if_long (last_piece [] (given ++ rest))) (lines_after given rest held r.begun ∙ ap (λ l. whole_lines [] given ++ l) cut.whole ∙ append-nil (whole_lines [] given)) ∙ ap (λ l. whole_lines [] given ++ l) piece in
+    ap (λ l. l ++ line_if_long (last_piece [] (given ++ rest))) (lines_after given rest held r.begun ∙ ap (λ l. whole_lines [] given ++ l) cut.whole ∙ append-nil (whole_lines [] given)) ∙ ap (λ l. whole_lines [] given ++ l) piece in
     let count : 0 + length (whole_lines [] given) ≡ number = let c = r.count in omega arith in
     let bad : with_lines next start 0 (lines_so_far (given ++ rest)) ≡ Err (record { code = 1; line = number + 1 }) =
-        ap (with_lines next start 0) all ∙ after_good next start r.known 0 (whole_lines [] given) ((held ++ rest) ∷ []) r.lines ∙ rw count (line_bad next r.known number 1 (held ++ rest) [] (long_refused next r.known (held ++ rest) over)) in
+    ap (with_lines next start 0) all ∙ after_good next start r.known 0 (whole_lines [] given) ((held ++ rest) ∷ []) r.lines ∙ rw count (line_bad next r.known number 1 (held ++ rest) [] (long_refused next r.known (held ++ rest) over)) in
     ap refusal_of bad
 
 -- the last piece is short enough

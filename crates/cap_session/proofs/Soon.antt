@@ -1,9 +1,9 @@
 -- A refused line of a beginning is that of the whole.
-use Rattle.std.proofs.Common.{◌≡◌, ℕ, zero, suc, ◌+◌, ◌<◌, ◌≤◌, List, [], ◌∷◌, ◌++◌, length, refl, sym, ◌∙◌, ap, subst, append_assoc, arith, Bool, true, false, cond, inl, inr}
+use Rattle.std.proofs.Common.{◌≡◌, ℕ, ◌+◌, ◌<◌, ◌≤◌, List, [], ◌∷◌, ◌++◌, length, refl, sym, ◌∙◌, ap, append_assoc, arith, true, false, cond, inl, inr}
 use Rattle.std.specs.Prelude.{Result, Ok, Err, Option, Some, None, nat_lt, ◌==◌, ◌⊎◌}
 use Rattle.std.proofs.lemmas.List.{length-append, append-nil}
 use Rattle.std.proofs.lemmas.Bool.{cases_lt}
-use Rattle.cap_session.specs.Lines.{whole_lines, last_piece, line_if_any, line_if_long, lines, lines_so_far}
+use Rattle.cap_session.specs.Lines.{whole_lines, last_piece, line_if_any, line_if_long}
 use Rattle.cap_session.specs.Texts.{with_lines, whole_text, refusal_of, refused_so_far}
 use Rattle.cap_session.specs.declared.refusal.Refusal.{Refusal}
 use Rattle.cap_session.proofs.Cuts.{whole_lines-append, last_piece-append}
@@ -83,7 +83,7 @@ refused_after next start last is begin rest e tells =
     let front : List (List ℕ) = whole_lines [] begin in
     let held : List ℕ = last_piece [] begin in
     let all : whole_lines [] (begin ++ rest) ++ last (last_piece [] (begin ++ rest)) ≡ front ++ (whole_lines held rest ++ last (last_piece held rest)) =
-        rw (whole_lines-append [] begin rest, last_piece-append [] begin rest) (append_assoc front (whole_lines held rest) (last (last_piece held rest))) in
+    rw (whole_lines-append [] begin rest, last_piece-append [] begin rest) (append_assoc front (whole_lines held rest) (last (last_piece held rest))) in
     elim (why_at next start begin e (with_lines next start 0 front) refl tells) [
       | inl bad ↦ ap (with_lines next start 0) all ∙ after_refused next start e 0 front (whole_lines held rest ++ last (last_piece held rest)) bad
       | inr long ↦

@@ -1,7 +1,9 @@
 -- What holds of a text and its pieces.
-use Rattle.std.specs.Prelude.{◌≡◌, ◌≢◌, ◌⊎◌, ℕ, List, [], ◌++◌, Result, Ok, Err, Some, ⊤}
+use Rattle.std.specs.Prelude.{◌≡◌, ◌≢◌, ◌⊎◌, ℕ, List, [], ◌++◌, Ok, Err, Some, ⊤}
 use Rattle.cap_trace.specs.Entry.{Entry}
-use Rattle.cap_session.specs.StandIn.{usual, check, report}
+use Rattle.cap_machine.specs.State.{usual}
+use Rattle.cap_machine.specs.Check.{check}
+use Rattle.cap_machine.specs.Report.{report}
 use Rattle.cap_session.specs.Devices.{SourceState, SinkState}
 use Rattle.cap_session.specs.Trace.{trace, soon}
 use Rattle.cap_session.specs.Reads.{Told}

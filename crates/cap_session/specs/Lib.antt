@@ -5,7 +5,6 @@ pub mod Lines
 pub mod Outcomes
 pub mod Reads
 pub mod Refusals
-pub mod StandIn
 pub mod Streams
 pub mod Texts
 pub mod Trace

@@ -2,10 +2,8 @@
 use Rattle.std.specs.Prelude.{◌≡◌, ℕ, ◌+◌, ◌≤◌, ◌⊎◌, List, ◌++◌, length, Result, Ok, Err, Option, None, Some}
 use Rattle.std.specs.Io.KnownBytes.{Consumes, IsAtEnd}
 use Rattle.cap_session.specs.Devices.{SourceState}
-use Rattle.cap_session.specs.Texts.{whole_text, refused_so_far}
 use Rattle.cap_session.specs.declared.refusal.Refusal.{Refusal}
 use Rattle.cap_session.specs.declared.reading.Stop.{Stop}
-use Rattle.cap_session.specs.declared.reading.Stop.TheVariants as Stop
 use Rattle.cap_session.specs.declared.read.Ending.{Ending}
 use Rattle.cap_session.specs.declared.read.Ending.TheVariants.{Refused, Memory, ReadFault, TooLong}
 

@@ -2,9 +2,10 @@
 use Rattle.std.specs.Prelude.{◌≡◌, ◌≢◌, ℕ, ◌+◌, ◌≤◌, ◌⊎◌, List, [], ◌++◌, None, Ok}
 use Rattle.std.specs.Io.KnownBytes.{Consumes, Appends}
 use Rattle.cap_trace.specs.Entry.{Entry}
-use Rattle.cap_session.specs.StandIn.{usual, check, report}
+use Rattle.cap_machine.specs.State.{usual}
+use Rattle.cap_machine.specs.Check.{check}
+use Rattle.cap_machine.specs.Report.{report}
 use Rattle.cap_session.specs.Devices.{SourceState, SinkState}
-use Rattle.cap_session.specs.Writes.{Wrote, WroteFront}
 use Rattle.cap_session.specs.Trace.{soon, trace}
 use Rattle.cap_session.specs.Reads.{Told, NotTold, UsedUp, IsNear, IsRefused}
 use Rattle.cap_session.specs.Refusals.{refusal_text}

@@ -1,14 +1,15 @@
 -- What the parts of a stream call do.
-use Rattle.std.specs.Prelude.{◌≡◌, ◌≢◌, ℕ, List, []}
+use Rattle.std.specs.Prelude.{◌≡◌, ◌≢◌, List, []}
 use Rattle.cap_trace.specs.Entry.{Entry}
 use Rattle.cap_trace.specs.declared.fault.LineFault.{LineFault}
 use Rattle.cap_trace.specs.declared.fault.LineFault.TheVariants as told
-use Rattle.cap_session.specs.StandIn.{usual, check, report}
+use Rattle.cap_machine.specs.State.{usual}
+use Rattle.cap_machine.specs.Check.{check}
+use Rattle.cap_machine.specs.Report.{report}
 use Rattle.cap_session.specs.Devices.{SinkState}
 use Rattle.cap_session.specs.Writes.{Wrote, WroteFront}
 use Rattle.cap_session.specs.Refusals.{refusal_text}
 use Rattle.cap_session.specs.declared.reading.Stop.{Stop}
-use Rattle.cap_session.specs.declared.reading.Stop.TheVariants as Stop
 use Rattle.cap_session.specs.declared.refusal.Refusal.{Refusal}
 use Rattle.cap_session.specs.declared.outcome.Outcome.{Outcome}
 use Rattle.cap_session.specs.declared.outcome.Outcome.TheVariants.{Clean, Findings, Refused, Memory, ReadFault, WriteFault, TooLong}

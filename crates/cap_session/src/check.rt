@@ -1,7 +1,8 @@
 //! A trace is checked as it comes: no line is kept, and only findings are.
 ghost use Rattle.std.specs.Prelude.{◌≡◌, ◌+◌, ◌^◌, ◌<◌, ◌≤◌, List, []};
 ghost use Rattle.cap_trace.specs.Entry.{Entry};
-ghost use Rattle.cap_session.specs.StandIn.{usual, HasChecked};
+ghost use Rattle.cap_machine.specs.State.{usual};
+ghost use Rattle.cap_machine.specs.Checked.{HasChecked};
 ghost use Rattle.cap_session.specs.Trace.{is_skipped, next_entry};
 ghost use Rattle.cap_session.specs.Streams.{Streams};
 ghost use Rattle.cap_session.specs.Works.{WritesReport, WritesRefusal, stop_of};
@@ -11,8 +12,8 @@ use crate::outcome::Outcome;
 use crate::read::{Ending, read_text};
 use crate::reading::{Lines, Stop};
 use crate::refusal::{Refusal, RefusalText};
-use crate::stand_in::{Checker, NoMemory};
 use crate::write::write_text;
+use cap_machine::{Checker, NoMemory};
 use cap_trace::{LineFault, parse_line};
 use std::alloc::Global;
 

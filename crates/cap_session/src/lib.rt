@@ -10,7 +10,6 @@ mod outcome;
 mod read;
 mod reading;
 mod refusal;
-mod stand_in;
 mod write;
 
 pub use check::check_stream;

@@ -1,4 +1,4 @@
-use Rattle.std.proofs.Common.{◌≡◌, [], refl}
+use Rattle.std.proofs.Common.{refl}
 use Rattle.cap_session.proofs.Reach.{ends_whole, ends_with}
 use Rattle.cap_session.proofs.reading.Reading.end.Goals as goal
 
