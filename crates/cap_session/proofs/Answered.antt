@@ -9,7 +9,7 @@ use Rattle.cap_machine.specs.Report.{report}
 use Rattle.cap_session.specs.Devices.{SourceState, SinkState}
 use Rattle.cap_session.specs.Trace.{trace, soon, next_entry}
 use Rattle.cap_session.specs.Reads.{Told, IsRefused}
-use Rattle.cap_session.specs.Refusals.{refusal_text}
+use Rattle.cap_session.specs.Refusal.{refusal_text}
 use Rattle.cap_session.specs.Streams.{Streams}
 use Rattle.cap_session.specs.Works.{WritesReport, WritesRefusal}
 use Rattle.cap_session.specs.declared.refusal.Refusal.{Refusal}

@@ -7,7 +7,7 @@ use Rattle.cap_machine.specs.Report.{report}
 use Rattle.cap_session.specs.Devices.{SourceState, SinkState}
 use Rattle.cap_session.specs.Trace.{trace, soon}
 use Rattle.cap_session.specs.Reads.{Told}
-use Rattle.cap_session.specs.Refusals.{refusal_text}
+use Rattle.cap_session.specs.Refusal.{refusal_text}
 use Rattle.cap_session.specs.Streams.{Streams, IsFront}
 use Rattle.cap_session.specs.declared.refusal.Refusal.{Refusal}
 use Rattle.cap_session.specs.declared.outcome.Outcome.{Outcome}

@@ -2,9 +2,9 @@ pub mod Devices
 pub mod Feeds
 pub mod Laws
 pub mod Lines
-pub mod Outcomes
+pub mod Outcome
 pub mod Reads
-pub mod Refusals
+pub mod Refusal
 pub mod Streams
 pub mod Texts
 pub mod Trace

@@ -8,8 +8,8 @@ use Rattle.cap_machine.specs.Report.{report}
 use Rattle.cap_session.specs.Devices.{SourceState, SinkState}
 use Rattle.cap_session.specs.Trace.{soon, trace}
 use Rattle.cap_session.specs.Reads.{Told, NotTold, UsedUp, IsNear, IsRefused}
-use Rattle.cap_session.specs.Refusals.{refusal_text}
-use Rattle.cap_session.specs.Outcomes.{read_faults, write_faults}
+use Rattle.cap_session.specs.Refusal.{refusal_text}
+use Rattle.cap_session.specs.Outcome.{read_faults, write_faults}
 use Rattle.cap_session.specs.declared.refusal.Refusal.{Refusal}
 use Rattle.cap_session.specs.declared.outcome.Outcome.{Outcome}
 use Rattle.cap_session.specs.declared.outcome.Outcome.TheVariants.{Clean, Findings, Refused, Memory, ReadFault, WriteFault, TooLong}

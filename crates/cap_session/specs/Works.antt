@@ -8,7 +8,7 @@ use Rattle.cap_machine.specs.Check.{check}
 use Rattle.cap_machine.specs.Report.{report}
 use Rattle.cap_session.specs.Devices.{SinkState}
 use Rattle.cap_session.specs.Writes.{Wrote, WroteFront}
-use Rattle.cap_session.specs.Refusals.{refusal_text}
+use Rattle.cap_session.specs.Refusal.{refusal_text}
 use Rattle.cap_session.specs.declared.reading.Stop.{Stop}
 use Rattle.cap_session.specs.declared.refusal.Refusal.{Refusal}
 use Rattle.cap_session.specs.declared.outcome.Outcome.{Outcome}

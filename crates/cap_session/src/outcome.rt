@@ -1,6 +1,6 @@
 //! How a stream call ends.
 ghost use Rattle.std.specs.Prelude.{◌≡◌};
-ghost use Rattle.cap_session.specs.Outcomes.{status_of};
+ghost use Rattle.cap_session.specs.Outcome.{status_of};
 
 /// How a stream call ends.
 #[derive(Clone, Copy, Debug, PartialEq, Eq)]

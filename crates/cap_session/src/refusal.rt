@@ -1,6 +1,6 @@
 //! A refused line, and the text that tells it.
 ghost use Rattle.std.specs.Prelude.{◌≡◌, ◌+◌, ◌≤◌, List, ℕ, [], ◌++◌, length, take};
-ghost use Rattle.cap_session.specs.Refusals.{refusal_text};
+ghost use Rattle.cap_session.specs.Refusal.{refusal_text};
 
 use itoa::Buffer;
 use std::marker::Model;
@@ -51,7 +51,7 @@ impl RefusalText {
     }
 
     /// The text of a refusal.
-    #[tactic(auto, unfolding(crate::specs::Refusals::refusal_text))]
+    #[tactic(auto, unfolding(crate::specs::Refusal::refusal_text))]
     pub fn of(refusal: Refusal) -> RefusalText
         ensures { result ≡ refusal_text refusal }
     {
