@@ -1,12 +1,12 @@
 -- The two laws: what is read is spelled so, and what is spelled so is read.
-use Rattle.std.proofs.Common.{◌≡◌, ℕ, zero, suc, ◌+◌, ◌-◌, ◌^◌, ◌<◌, ◌≤◌, ◌&&◌, Bool, true, false, cond, not, eqb, ltb, leb, List, [], ◌∷◌, ◌++◌, length, get_or, take, drop, Option, Some, None, Result, Ok, Err, refl, sym, ap, subst, ◌∙◌, arith, ◌⊎◌, inl, inr, append_assoc, tests, rules}
-use Rattle.std.specs.Prelude.{option_map, codes, find, nat_eq}
+use Rattle.std.proofs.Common.{◌≡◌, ℕ, ◌+◌, ◌-◌, ◌^◌, ◌<◌, Bool, true, false, cond, eqb, ltb, List, [], ◌∷◌, ◌++◌, length, Option, Some, None, Result, Ok, Err, refl, sym, ap, subst, ◌∙◌, arith, ◌⊎◌, inl, inr, tests}
+use Rattle.std.specs.Prelude.{option_map, codes, find}
 use Rattle.std.specs.List.{list_all, join_with_byte}
 use Rattle.std.specs.Str.{all_ascii_digits, bytes_eq}
 use Rattle.std.specs.Char.{is_ascii_digit}
 use Rattle.std.specs.Fmt.{decimal}
-use Rattle.std.proofs.lemmas.Fmt.{digits_decimal, decimal_nonempty, first_decimal}
-use Rattle.std.proofs.lemmas.Bool.{eqb-true, ltb-false, le-ltb, lt-ltb}
+use Rattle.std.proofs.lemmas.Fmt.{digits_decimal, decimal_nonempty}
+use Rattle.std.proofs.lemmas.Bool.{eqb-true, ltb-false, le-ltb}
 use Rattle.std.proofs.lemmas.Slice.Eq.{bytes_eq-Decides}
 use Rattle.std.proofs.lemmas.List.{nil_from_length}
 use Rattle.cap_rights.specs.Text.{names}
@@ -15,24 +15,22 @@ use Rattle.cap_trace.specs.declared.fault.ReadFault.{ReadFault}
 use Rattle.cap_trace.specs.declared.fault.ReadFault.TheVariants as faults
 use Rattle.cap_trace.specs.declared.line.Item.{Item}
 use Rattle.cap_trace.specs.declared.line.Item.TheVariants as items
-use Rattle.cap_trace.specs.declared.line.Call.{Call}
 use Rattle.cap_trace.specs.declared.line.Call.TheVariants as calls
 use Rattle.cap_trace.specs.declared.line.Answer.{Answer}
 use Rattle.cap_trace.specs.declared.line.Answer.TheVariants as answers
 use Rattle.cap_trace.specs.declared.line.Head.{Head}
 use Rattle.cap_trace.specs.declared.line.Head.TheVariants as heads
-use Rattle.cap_trace.specs.declared.line.FdCall.{FdCall}
 use Rattle.cap_trace.specs.declared.line.FdCall.TheVariants.{Read, Write, Close}
 use Rattle.cap_trace.specs.declared.line.Kind.{Kind}
 use Rattle.cap_trace.specs.declared.line.Kind.TheVariants.{Count, Zero}
 use Rattle.cap_trace.specs.declared.quotes.Quoting.TheVariants.{Outside}
-use Rattle.cap_trace.specs.Entry.{Entry, Arg, an_fd, some_rights, fds, args_of, args_of_call, head_of, head_of_call, kind_of, IsPid, IsFd, IsWhole, IsAnswer, RisesFrom}
+use Rattle.cap_trace.specs.Entry.{Entry, Arg, an_fd, some_rights, fds, args_of, head_of, kind_of, IsPid, IsWhole, IsAnswer, RisesFrom}
 use Rattle.cap_trace.specs.Names.{name_of, all_heads, head_named}
 use Rattle.cap_trace.specs.Number.{num_at}
 use Rattle.cap_trace.specs.Quotes.{pieces, cut_at_byte, cut_outside}
-use Rattle.cap_trace.specs.Spelling.{Spells, SpellsBy, SpellsArg, SpellsArgs, joined, answer_text, tail_text}
+use Rattle.cap_trace.specs.Spelling.{Spells, SpellsArg, SpellsArgs, answer_text, tail_text}
 use Rattle.cap_trace.specs.Reading.{◌>>=◌, need, positive, behind, pid_at, fd_at, rights_at, one, two, fds_from, answer_of, answer_at, call_at, head_at, item_at, entry_at, line_of}
-use Rattle.cap_trace.proofs.Cuts.{kept_some, both, both_true, lacks, closes, IsPart, AreParts, behind_takes, behind_again, cut_takes, cut_again, outside_takes, outside_again, pieces_takes, pieces_again, closes-append}
+use Rattle.cap_trace.proofs.Cuts.{both, lacks, closes, IsPart, AreParts, behind_takes, behind_again, cut_takes, cut_again, outside_takes, outside_again, pieces_takes, pieces_again, closes-append}
 use Rattle.cap_trace.proofs.Fields.{own, bind_ok, need_ok, positive_ok, positive_again, num_takes, num_again}
 
 -- ---- texts of digits
@@ -190,6 +188,8 @@ answer_again k (answers.Fault e) h =
 answer_again Count (answers.Made n) h =
     answer_is Count (decimal n) None (no_errno (decimal n) (digits_decimal own n h))
     ∙ rw (num_again (2 ^ 64 - 1) n (omega (arith, h)) h) refl
+answer_again Count (answers.Pair n m) h = absurd h
+answer_again Zero (answers.Pair n m) h = absurd h
 answer_again Zero (answers.Made n) h =
     answer_is Zero (decimal n) None (no_errno (decimal n) (digits_decimal own n (omega (arith, h))))
     ∙ rw (num_again 0 n (omega (arith, h)) (omega (arith, h))) refl

@@ -1,15 +1,14 @@
 -- From what reading gives to what a caller is promised.
-use Rattle.std.proofs.Common.{◌≡◌, ℕ, List, Option, Some, None, Result, Ok, Err, refl, sym, ap, subst, ◌∙◌, ◌⊎◌, inl, inr}
+use Rattle.std.proofs.Common.{◌≡◌, ℕ, List, Option, Some, None, Result, Ok, Err, refl, sym, ap, ◌∙◌, inl}
 use Rattle.cap_trace.specs.declared.fault.ReadFault.{ReadFault}
 use Rattle.cap_trace.specs.declared.fault.ReadFault.TheVariants as faults
 use Rattle.cap_trace.specs.declared.fault.LineFault.{LineFault}
 use Rattle.cap_trace.specs.declared.fault.LineFault.TheVariants as told
 use Rattle.cap_trace.specs.Entry.{Entry}
-use Rattle.cap_trace.specs.Spelling.{Spells}
 use Rattle.cap_trace.specs.Reading.{line_of, fault}
 use Rattle.cap_trace.specs.Fault.{line_fault}
-use Rattle.cap_trace.specs.Parsing.{SpellsNone, SpellsSome, TellsFaults, ReadsOnly}
-use Rattle.cap_trace.proofs.Lines.{line_takes, line_again}
+use Rattle.cap_trace.specs.Parsing.{SpellsNone, TellsFaults, ReadsOnly}
+use Rattle.cap_trace.proofs.Lines.{line_again}
 use Rattle.cap_trace.proofs.Rising.{ok_same}
 
 fault_told : LineFault → Option ReadFault

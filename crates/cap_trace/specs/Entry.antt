@@ -1,7 +1,5 @@
 -- What a line says, and when it is proper.
 use Rattle.std.specs.Prelude.{◌≡◌, ℕ, ◌+◌, ◌^◌, ◌<◌, ◌≤◌, List, [], ◌∷◌}
-use Rattle.std.specs.List.{AllByRecursion}
-use Rattle.cap_rights.specs.Rights.{IsRightSet}
 use Rattle.cap_trace.specs.declared.line.Item.{Item}
 use Rattle.cap_trace.specs.declared.line.Item.TheVariants as items
 use Rattle.cap_trace.specs.declared.line.Call.{Call}
@@ -10,7 +8,6 @@ use Rattle.cap_trace.specs.declared.line.Answer.{Answer}
 use Rattle.cap_trace.specs.declared.line.Answer.TheVariants as answers
 use Rattle.cap_trace.specs.declared.line.Head.{Head}
 use Rattle.cap_trace.specs.declared.line.Head.TheVariants as heads
-use Rattle.cap_trace.specs.declared.line.FdCall.{FdCall}
 use Rattle.cap_trace.specs.declared.line.FdCall.TheVariants.{Read, Write, Close}
 use Rattle.cap_trace.specs.declared.line.Kind.{Kind}
 use Rattle.cap_trace.specs.declared.line.Kind.TheVariants.{Count, Zero}
@@ -70,7 +67,9 @@ RisesFrom low (f ∷ fs) = (low ≤ f) × RisesFrom (f + 1) fs
 abbrev pub IsAnswer : Kind → Answer → Type 0
 IsAnswer k (answers.Fault e) = (0 < e) × (e < 65536)
 IsAnswer Count (answers.Made n) = n < 2 ^ 64
+IsAnswer Count (answers.Pair n m) = ⊥
 IsAnswer Zero (answers.Made n) = n ≡ 0
+IsAnswer Zero (answers.Pair n m) = ⊥
 
 -- what goes beyond the single arguments
 abbrev pub IsWhole : Item → Type 0

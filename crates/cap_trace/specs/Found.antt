@@ -1,5 +1,4 @@
 -- What a line says, over its bytes.
-use Rattle.std.specs.Prelude.{ℕ, List}
 use Rattle.cap_trace.specs.declared.line.Item.{Item}
 use Rattle.cap_trace.specs.declared.line.Item.TheVariants as items
 use Rattle.cap_trace.specs.declared.reading.Found.{Found}

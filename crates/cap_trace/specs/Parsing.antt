@@ -1,11 +1,11 @@
 -- What reading a line promises.
-use Rattle.std.specs.Prelude.{◌≡◌, ◌⊎◌, ◌↔◌, ℕ, List, Result, Ok, Err, Option, Some}
+use Rattle.std.specs.Prelude.{◌≡◌, ◌⊎◌, ◌↔◌, ℕ, List, Result, Ok, Err, Some}
 use Rattle.cap_trace.specs.declared.fault.ReadFault.{ReadFault}
 use Rattle.cap_trace.specs.declared.fault.LineFault.{LineFault}
 use Rattle.cap_trace.specs.declared.fault.LineFault.TheVariants as told
 use Rattle.cap_trace.specs.Entry.{Entry}
 use Rattle.cap_trace.specs.Spelling.{Spells}
-use Rattle.cap_trace.specs.Reading.{fault}
+use Rattle.cap_trace.specs.Reading.{fault, line_of}
 use Rattle.cap_trace.specs.Fault.{line_fault}
 
 abbrev pub SpellsNone : List ℕ → Type 0
@@ -22,6 +22,15 @@ TellsFaults bytes r = (f : ReadFault) → (r ≡ Err (line_fault f)) ↔ (Spells
 abbrev pub ReadsOnly : List ℕ → Result Entry LineFault → Type 0
 ReadsOnly bytes r = (e : Entry) → Spells bytes e → (r ≡ Ok e) ⊎ (r ≡ Err told.Memory)
 
+-- what is told is what reading gives: the line, its first fault, or want of memory for a line
+abbrev pub TellsReading : List ℕ → Result Entry LineFault → Type 0
+TellsReading bytes (Ok e) = line_of bytes ≡ Ok e
+TellsReading bytes (Err t) = ((f : ReadFault) × (line_of bytes ≡ Err f) × (t ≡ line_fault f)) ⊎ ((t ≡ told.Memory) × ((e : Entry) × (line_of bytes ≡ Ok e)))
+
 -- bytes spell at most one line
 abbrev pub OneLine : Type 0
 OneLine = (bytes : List ℕ) (d e : Entry) → Spells bytes d → Spells bytes e → d ≡ e
+
+-- reading from the left finds exactly what the bytes spell
+abbrev pub ReadingIsSpelling : Type 0
+ReadingIsSpelling = (bytes : List ℕ) (e : Entry) → Spells bytes e ↔ (line_of bytes ≡ Ok e)

@@ -1,5 +1,5 @@
 -- How a line is spelled.
-use Rattle.std.specs.Prelude.{◌≡◌, ℕ, ◌^◌, ◌<◌, ◌≤◌, List, [], ◌∷◌, ◌++◌, length, Option, Some, codes, map}
+use Rattle.std.specs.Prelude.{◌≡◌, ℕ, ◌≤◌, List, [], ◌∷◌, ◌++◌, length, Some, codes, map}
 use Rattle.std.specs.List.{join_with_byte}
 use Rattle.std.specs.Fmt.{decimal}
 use Rattle.cap_rights.specs.Text.{names, text}
@@ -28,6 +28,7 @@ arg_text (some_rights r) = text r
 
 abbrev pub answer_text : Answer → List ℕ
 answer_text (answers.Made n) = decimal n
+answer_text (answers.Pair n m) = decimal n ++ (44 ∷ decimal m)
 answer_text (answers.Fault e) = codes "-1 errno " ++ decimal e
 
 -- what stands behind the arguments

@@ -1,5 +1,7 @@
 //! Why a line could not be read.
 
+use thiserror::Error;
+
 /// The first thing that is wrong with a line, from the left.
 #[derive(Clone, Copy, Debug, PartialEq, Eq)]
 pub enum ReadFault {
@@ -17,21 +19,35 @@ pub enum ReadFault {
     Answer,
 }
 
-/// Why a line was not read: what is wrong with it, or want of memory.
-#[derive(Clone, Copy, Debug, PartialEq, Eq)]
+/// Why a line was not read: the first thing that is wrong with it, or want of memory.
+#[derive(Clone, Copy, Debug, PartialEq, Eq, Error)]
 pub enum LineFault {
+    /// The line has more than 1,024 bytes.
+    #[error("the line is longer than 1,024 bytes")]
     TooLong,
+    /// The line isn't of the shape `PID NAME(ARGUMENTS) RET RESULT` or `PID @NAME(ARGUMENTS)`.
+    #[error("the line has no known shape")]
     Shape,
+    /// The pid is no number from 1 to 99,999.
+    #[error("the pid is no number from 1 to 99,999")]
     Pid,
+    /// An argument is not of its kind, or there is another number of them.
+    #[error("an argument is not of its kind")]
     Argument,
+    /// A right has no such name.
+    #[error("a right has no such name")]
     Right,
+    /// The result is none that the call can have.
+    #[error("the result is none that the call can have")]
     Answer,
+    /// The line is good, and there was no memory to keep it.
+    #[error("out of memory")]
     Memory,
 }
 
 impl LineFault {
     ghost use Rattle.std.specs.Prelude.{◌≡◌};
-    ghost use Rattle.cap_trace.specs.Fault.{line_fault};
+    ghost use Rattle.cap_trace.specs.Fault.{line_fault, code_of};
 
     /// The fault of a line, as a caller sees it.
     pub(crate) fn of(fault: ReadFault) -> LineFault
@@ -44,6 +60,22 @@ impl LineFault {
             ReadFault::Argument => LineFault::Argument,
             ReadFault::Right => LineFault::Right,
             ReadFault::Answer => LineFault::Answer,
+        }
+    }
+
+    /// The number by which reports tell the fault: 1 to 6 from the left of the line to its right,
+    /// and 9 for want of memory.
+    pub fn code(self) -> u8
+        ensures { result ≡ code_of self }
+    {
+        match self {
+            LineFault::TooLong => 1,
+            LineFault::Shape => 2,
+            LineFault::Pid => 3,
+            LineFault::Argument => 4,
+            LineFault::Right => 5,
+            LineFault::Answer => 6,
+            LineFault::Memory => 9,
         }
     }
 }

@@ -21,6 +21,17 @@ impl Model for Fds {
     ghost view = { λ f. f.fds.items };
 }
 
+impl Fds {
+    ghost use Rattle.std.specs.Prelude.{◌≡◌};
+
+    /// The descriptors, from the lowest up.
+    pub fn as_slice(&self) -> &[Fd]
+        ensures { result.now ≡ self.now }
+    {
+        self.fds.as_slice()
+    }
+}
+
 /// A call whose one argument is a descriptor.
 #[derive(Clone, Copy, Debug, PartialEq, Eq)]
 pub enum FdCall {
@@ -54,7 +65,11 @@ pub enum Call {
 
 #[derive(Clone, Copy, Debug, PartialEq, Eq)]
 pub enum Answer {
+    /// A number that is no errno.
     Made(u64),
+    /// Two of them.
+    Pair(u64, u64),
+    /// The errno of a call that failed.
     Fault(u16),
 }
 
@@ -62,6 +77,28 @@ pub enum Answer {
 pub enum Item {
     Call { call: Call, answer: Answer },
     Start(Fds),
+}
+
+impl Item {
+    ghost use Rattle.std.specs.Prelude.{◌≡◌};
+    ghost use Rattle.cap_trace.specs.Entry.{head_of};
+
+    /// What the name of the line tells.
+    pub(crate) fn head(&self) -> Head
+        ensures { result ≡ head_of self.now }
+    {
+        match self {
+            Item::Call {
+                call: Call::OnFd(name, _),
+                ..
+            } => Head::OnFd(*name),
+            Item::Call {
+                call: Call::RightsLimit(_, _),
+                ..
+            } => Head::RightsLimit,
+            Item::Start(_) => Head::Start,
+        }
+    }
 }
 
 /// A line of a trace.
@@ -81,4 +118,17 @@ impl Model for Line {
     ghost view = { λ l. record { pid = l.pid; item = l.item } };
 
     ghost invariant = { λ l. IsProper (record { pid = l.pid; item = l.item }) };
+}
+
+impl Line {
+    ghost use Rattle.std.specs.Prelude.{◌≡◌};
+    ghost use Rattle.cap_trace.specs.Entry.{head_of};
+    ghost use Rattle.cap_trace.specs.Names.{name_of};
+
+    /// The name of the line's call; of a marker its word with the `@`.
+    pub fn name(&self) -> &[u8]
+        ensures { result.now ≡ name_of (head_of self.now.item) }
+    {
+        self.item.head().name()
+    }
 }

@@ -6,7 +6,7 @@ ghost use Rattle.cap_trace.specs.Quotes.{pieces};
 ghost use Rattle.cap_trace.specs.Reading.{listed};
 ghost use Rattle.cap_trace.specs.Found.{line_seen};
 ghost use Rattle.cap_trace.specs.Spelling.{Spells, IsProper};
-ghost use Rattle.cap_trace.specs.Parsing.{SpellsSome, TellsFaults, ReadsOnly, OneLine};
+ghost use Rattle.cap_trace.specs.Parsing.{SpellsSome, TellsFaults, ReadsOnly, TellsReading, OneLine, ReadingIsSpelling};
 
 use crate::fault::LineFault;
 use crate::line::{Fds, Item, Line};
@@ -62,6 +62,8 @@ pub fn parse_line(alloc: Global, bytes: &[u8]) -> Result<Line, LineFault>
     ensures memory { result ≡ Err Memory → SpellsSome bytes.now }
     // What is spelled so is read, unless memory runs out.
     ensures only { ReadsOnly bytes.now result }
+    // The same by the function that reads from the left.
+    ensures reads { TellsReading bytes.now result }
 {
     match line(bytes) {
         Err(fault) => Err(LineFault::of(fault)),
@@ -75,4 +77,9 @@ pub fn parse_line(alloc: Global, bytes: &[u8]) -> Result<Line, LineFault>
 /// Bytes spell at most one line.
 pub fn one_line()
     ensures { OneLine }
+{}
+
+/// Reading from the left finds exactly the line that the bytes spell.
+pub fn reading_is_spelling()
+    ensures { ReadingIsSpelling }
 {}

@@ -1,4 +1,4 @@
-use Rattle.std.proofs.Common.{◌≡◌, Result, Ok, sym, ◌∙◌}
+use Rattle.std.proofs.Common.{sym, ◌∙◌}
 use Rattle.cap_trace.proofs.Lines.{line_again}
 use Rattle.cap_trace.proofs.Rising.{ok_same}
 use Rattle.cap_trace.proofs.parse.one_line.Goals as goal

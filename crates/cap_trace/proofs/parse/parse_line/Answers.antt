@@ -1,7 +1,6 @@
-use Rattle.std.proofs.Common.{◌≡◌, Ok, Err, sym, ap, subst, ◌∙◌}
+use Rattle.std.proofs.Common.{Ok, Err, sym, ap, subst, ◌∙◌}
 use Rattle.cap_trace.specs.Entry.{Entry}
 use Rattle.cap_trace.specs.Found.{line_seen}
-use Rattle.cap_trace.specs.Reading.{line_of}
 use Rattle.cap_trace.specs.Spelling.{Spells}
 use Rattle.cap_trace.proofs.Lines.{line_takes}
 use Rattle.cap_trace.proofs.Told.{tells_fault, only_none, only_this}

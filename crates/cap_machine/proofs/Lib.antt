@@ -1,0 +1,6 @@
+pub mod Needs
+pub mod Turns
+pub mod Tables
+pub mod Spoken
+pub mod Told
+pub mod Checking

@@ -1,0 +1,12 @@
+pub mod State
+pub mod Op
+pub mod Touch
+pub mod History
+pub mod Rule
+pub mod Judge
+pub mod Check
+pub mod Report
+pub mod Laws
+pub mod Effect
+pub mod Table
+pub mod Checked

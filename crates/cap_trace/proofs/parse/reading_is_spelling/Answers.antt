@@ -1,0 +1,5 @@
+use Rattle.cap_trace.proofs.Lines.{line_takes, line_again}
+use Rattle.cap_trace.proofs.parse.reading_is_spelling.Goals as goal
+
+pub returns : goal.returns
+returns c = λ bytes e. (λ h. line_again bytes e h, λ h. line_takes bytes e h)
