@@ -1,4 +1,4 @@
-use Rattle.std.proofs.Common.{◌<◌, length, [], sym, ap, ◌∙◌, arith, rules, refl}
+use Rattle.std.proofs.Common.{true, ◌<◌, length, [], sym, ap, ◌∙◌, arith, rules, refl}
 use Rattle.std.proofs.lemmas.List.{length-map}
 use Rattle.std.proofs.lemmas.Grind.{put_three}
 use Rattle.cap_rights.specs.Names.{table}
@@ -31,8 +31,8 @@ rights-preserved g c =
             text = rw w.separator-is (search rules);
             written = λ plain. rw w.f-is (
                 let before = c.rights.invariant.written plain in
-                let one = w.in_ok-write_str.ensures.writes before.plain refl in
-                let two = w.in_ok-write_str-2.ensures.writes one.plain refl in
+                let one = w.in_ok-write_str.ensures.writes before.plain (refl {a = true}) in
+                let two = w.in_ok-write_str-2.ensures.writes one.plain (refl {a = true}) in
                 put_three _ _ _ _ _ _ _ _ _ before one two m.0);
             next = rw w.separator-is m.1;
           }
