@@ -3,6 +3,7 @@
 ghost use Rattle.std.specs.Prelude.{◌≡◌, ◌≤◌, ◌*◌, [], ◌∷◌, ◌++◌, ◌<◌, ◌^◌, ◌↔◌, List, IsTrue, IfOk, OnOk};
 
 use crate::rule::rule_of;
+use crate::start::Start;
 use crate::table::Table;
 use crate::words::{put_count, put_verdict};
 use cap_rights::NoMemory;
@@ -25,6 +26,7 @@ impl Checker {
     ghost use Rattle.cap_machine.specs.State.{State, usual};
     ghost use Rattle.cap_machine.specs.Check.{check};
     ghost use Rattle.cap_machine.specs.Report.{report};
+    ghost use Rattle.cap_machine.specs.Table.{start_state};
     ghost use Rattle.cap_machine.specs.Checked.{HasChecked, lines_of};
 
     /// A checker that was given no line, from the usual start. It grows nothing.
@@ -37,6 +39,18 @@ impl Checker {
             findings: 0,
             text: Vec::new(alloc),
         }
+    }
+
+    /// A checker that was given no line, from another start.
+    pub fn from_start(alloc: Global, start: &Start) -> Result<Checker, NoMemory>
+        ensures { IfOk result (λ checker. HasChecked checker (start_state start.now) []) }
+    {
+        Ok(Checker {
+            table: start.table.copy(alloc)?,
+            lines: 0,
+            findings: 0,
+            text: Vec::new(alloc),
+        })
     }
 
     /// How many lines it was given.
