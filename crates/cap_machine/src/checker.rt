@@ -26,31 +26,33 @@ impl Checker {
     ghost use Rattle.cap_machine.specs.State.{State, usual};
     ghost use Rattle.cap_machine.specs.Check.{check};
     ghost use Rattle.cap_machine.specs.Report.{report};
-    ghost use Rattle.cap_machine.specs.Table.{start_state};
+    ghost use Rattle.cap_machine.specs.Table.{start_state, Keeps};
     ghost use Rattle.cap_machine.specs.Checked.{HasChecked, lines_of};
 
     /// A checker that was given no line, from the usual start. It grows nothing.
     pub fn new(alloc: Global) -> Checker
         ensures { HasChecked result usual [] }
     {
-        Checker {
-            table: Table::unknown(alloc),
-            lines: 0,
-            findings: 0,
-            text: Vec::new(alloc),
-        }
+        Checker::over(alloc, Table::unknown(alloc))
     }
 
     /// A checker that was given no line, from another start.
     pub fn from_start(alloc: Global, start: &Start) -> Result<Checker, NoMemory>
         ensures { IfOk result (λ checker. HasChecked checker (start_state start.now) []) }
     {
-        Ok(Checker {
-            table: start.table.copy(alloc)?,
+        let table = start.table.copy(alloc)?;
+        Ok(Checker::over(alloc, table))
+    }
+
+    fn over(alloc: Global, table: Table) -> Checker
+        ensures { (s : State) → Keeps table s → HasChecked result s [] }
+    {
+        Checker {
+            table,
             lines: 0,
             findings: 0,
             text: Vec::new(alloc),
-        })
+        }
     }
 
     /// How many lines it was given.

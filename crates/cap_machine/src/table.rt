@@ -2,7 +2,7 @@
 
 ghost use Rattle.std.specs.Prelude.{◌≡◌, ℕ, IfOk, OnOk, OnErr, ◌==◌, if◌then◌else◌};
 ghost use Rattle.std.specs.Option.{option_copied, option_map_or};
-ghost use Rattle.cap_machine.specs.State.{listed_cell, with_listed};
+ghost use Rattle.cap_machine.specs.State.{usual, listed_cell, with_listed};
 ghost use Rattle.cap_machine.specs.Touch.{started};
 ghost use Rattle.cap_machine.specs.Check.{said_of};
 ghost use Rattle.cap_machine.specs.Judge.{findings_in};
@@ -141,8 +141,7 @@ pub(crate) struct Table {
 impl Table {
     /// The table in which nothing is known. It grows nothing.
     pub(crate) fn unknown(alloc: Global) -> Table
-        ensures cells { (p f : ℕ) → cell_of result p f ≡ Cell.Unknown }
-        ensures modes { (p : ℕ) → mode_of result p ≡ Mode.Unsure }
+        ensures { Keeps result usual }
     {
         Table {
             alloc,
