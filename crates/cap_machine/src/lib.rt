@@ -11,6 +11,8 @@ mod laws;
 mod rule;
 mod start;
 mod table;
+#[cfg(test)]
+mod tests;
 mod trace;
 mod verdict;
 mod words;
