@@ -7,7 +7,12 @@
 
 mod cell;
 mod checker;
+mod demands;
+mod effects;
+mod flags;
 mod laws;
+mod needs;
+mod parts;
 mod rule;
 mod start;
 mod table;

@@ -2,7 +2,7 @@ use Rattle.std.proofs.Common.{◌≡◌, None, sym, ap, ◌∙◌}
 use Rattle.cap_trace.specs.Quotes.{pieces}
 use Rattle.cap_trace.specs.Reading.{fds_from}
 use Rattle.cap_trace.proofs.Rising.{failure, rising_listed}
-use Rattle.cap_trace.proofs.reading.rising.Goals as goal
+use Rattle.cap_trace.proofs.forms.rising.Goals as goal
 
 pub returns : goal.returns
 unfolding fds_from
