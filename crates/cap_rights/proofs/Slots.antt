@@ -1,17 +1,16 @@
 -- Each name of the table falls on a slot of its own, which holds its row.
-use Rattle.std.proofs.Common.{◌≡◌, ℕ, zero, suc, ◌+◌, ◌-◌, ◌*◌, ◌/◌, ◌%◌, ◌<◌, ◌≤◌, ◌&&◌, Bool, true, false, eqb, List, [], ◌∷◌, length, Option, Some, None, refl, sym, ap, subst, ◌∙◌, inl, inr, arith, slice_index_or, map}
+use Rattle.std.proofs.Common.{◌≡◌, ℕ, zero, suc, ◌+◌, ◌-◌, ◌*◌, ◌/◌, ◌%◌, ◌<◌, ◌≤◌, ◌&&◌, Bool, true, eqb, List, [], ◌∷◌, length, Option, Some, None, refl, sym, ap, subst, ◌∙◌, inl, inr, arith, slice_index_or, map}
 use Rattle.std.specs.Prelude.{nat_eq, nat_lt, nat_le}
 use Rattle.std.specs.List.{list_all}
 use Rattle.std.specs.Cmp.Lexicographic.{pointwise}
-use Rattle.std.proofs.lemmas.Bool.{eqb-true, ltb-true, leb-true, true_from_ne_false}
-use Rattle.std.proofs.lemmas.List.Folds.{list_all_at}
+use Rattle.std.proofs.lemmas.Bool.{eqb-true, ltb-true, leb-true}
 use Rattle.std.proofs.lemmas.Slice.Eq.{bytes_eq-Decides}
 use Rattle.bitflags.specs.Sets.{Row, find_row}
 use Rattle.cap_rights.specs.declared.lookup.TheConstants.{ROW_AT}
 use Rattle.cap_rights.specs.Names.{table, name_at}
-use Rattle.cap_rights.proofs.OnLiterals.{rights_on_literals}
 use Rattle.std.proofs.lemmas.List.{length-map, get_or_default}
 use Rattle.cap_rights.proofs.Rows.{both, chosen, table_row}
+use Rattle.cap_rights.proofs.Table.{passes_at, names_apart}
 
 -- the slot of a word
 abbrev pub slot : List ℕ → ℕ
@@ -57,11 +56,7 @@ slots_small : list_all (λ (row : ℕ). nat_lt row 79) ROW_AT ≡ true
 slots_small = refl
 
 pub slot_small : (i : ℕ) → i < 256 → slice_index_or ROW_AT i 0 < 79
-slot_small i lt =
-    ltb-true _ _ (true_from_ne_false (nat_lt (slice_index_or ROW_AT i 0) 79) (λ (e : nat_lt (slice_index_or ROW_AT i 0) 79 ≡ false).
-    let fails = list_all_at (λ (row : ℕ). nat_lt row 79) ROW_AT i 0 lt e in
-    let holds = slots_small in
-    cc))
+slot_small i lt = ltb-true (slice_index_or ROW_AT i 0) 79 (passes_at (λ (row : ℕ). nat_lt row 79) ROW_AT i 0 slots_small lt)
 
 -- A row that is found, by its place.
 found_at : (rows : List Row) (w : List ℕ) (r : ℕ) → find_row rows w ≡ Some r → (i : ℕ) × (i < length rows) × ((slice_index_or rows i ([], 0)).0 ≡ w)
@@ -82,25 +77,6 @@ no_name_by w (Some r) none e = absurd (let f = found_at table w r e in none f.0 
 pub no_name : (w : List ℕ) → ((i : ℕ) → i < 79 → name_at i ≡ w → ⊥) → find_row table w ≡ None
 no_name w none = no_name_by w (find_row table w) none refl
 
--- the name of a row finds that row
-abbrev pub finds_itself : Row → Bool
-finds_itself row = elim (find_row table row.0) [ None ↦ false | Some r ↦ eqb r row.1 ]
-
-rows_find : list_all finds_itself table ≡ true
-unfolding rights_on_literals
-rows_find = refl
-
-pub found_itself : (row : Row) (o : Option ℕ) → (elim o as (λ _. Bool) [ None ↦ false | Some r ↦ eqb r row.1 ]) ≡ true → o ≡ Some row.1
-found_itself row None e = absurd cc
-found_itself row (Some r) e = ap Some (eqb-true r row.1 e)
-
-row_finds : (i : ℕ) → i < 79 → finds_itself (slice_index_or table i ([], 0)) ≡ true
-unfolding table
-row_finds i lt = true_from_ne_false (finds_itself (slice_index_or table i ([], 0))) (λ (e : finds_itself (slice_index_or table i ([], 0)) ≡ false).
-    let fails = list_all_at finds_itself table i ([], 0) lt e in
-    let holds = rows_find in
-    cc)
-
 -- a row of the code's table, and what its name finds
 pub flag_found : {X : Type 0} (view : X → Row) (flags : List X) (i : ℕ) (d : X) → map view flags ≡ table → i < 79
     → (name_at i ≡ (view (slice_index_or flags i d)).0) × (find_row table (view (slice_index_or flags i d)).0 ≡ Some (view (slice_index_or flags i d)).1)
@@ -110,5 +86,5 @@ flag_found view flags i d e lt =
     let at = table_row view flags table i d e (omega arith) in
     let same : slice_index_or table i ([], 0) ≡ view (slice_index_or flags i d) = get_or_default table i ([], 0) (view (slice_index_or flags i d)) lt ∙ at.1 in (
       ap (λ (row : Row). row.0) same,
-      ap (λ (row : Row). find_row table row.0) (sym same) ∙ found_itself (slice_index_or table i ([], 0)) (find_row table (name_at i)) (row_finds i lt) ∙ ap (λ (row : Row). Some row.1) same,
+      ap (λ (row : Row). find_row table row.0) (sym same) ∙ names_apart i lt ∙ ap (λ (row : Row). Some row.1) same,
     )

@@ -5,12 +5,22 @@ ghost use Rattle.std.specs.Prelude.{⊤};
 use std::alloc::{AllocError, AllocFailed};
 use thiserror::Error;
 
-/// The text names no set of rights.
+/// A text that names no set of rights.
+///
+/// ```
+/// assert_eq!(parse_rights(b"CAP_SEEK_TELL"), Err(BadRight));
+/// ```
 #[derive(Clone, Copy, Debug, PartialEq, Eq, Error)]
 #[error("no set of rights")]
 pub struct BadRight;
 
-/// Memory ran out. What was to be made wasn't made.
+/// Memory ran out: the allocator refused to give as much as was needed. `?` makes one of what an allocation answers.
+///
+/// ```
+/// fn copied(alloc: Global, text: &[u8]) -> Result<Vec<u8>, NoMemory> {
+///     Ok(text.to_vec(alloc)?)
+/// }
+/// ```
 #[derive(Clone, Copy, Debug, PartialEq, Eq, Error)]
 #[error("out of memory")]
 pub struct NoMemory;

@@ -12,6 +12,7 @@
 mod meter;
 mod no_memory;
 mod node;
+mod run;
 mod segment;
 mod tree;
 

@@ -1,13 +1,22 @@
-//! The nodes of the tree. A contract sees a node as its items and its height.
-ghost use Rattle.std.specs.Prelude.{◌≡◌, ℕ, ◌+◌, ◌*◌, ◌/◌, ◌^◌, ◌<◌, ◌≤◌, max, List, [], ◌∷◌, ◌++◌, length, map, insert, remove, slice_get, slice_set, Some, IfOk, IfSome, IfNone, MatchOption};
-ghost use Rattle.cap_tree.specs.Heights.{DifferByAtMost, SettlesAt, IsLeastPower};
+//! The nodes of a tree. A contract sees a node as its items and its height.
+//!
+//! A leaf holds a run of items and one summary of them, since a summary of each single item would take far more memory
+//! than the items. A node's height is 0 for a leaf, else that of the higher part and one, and two parts are at most one
+//! apart. An edit makes anew the leaf that holds its place and the nodes above it, and shares all others.
+ghost use Rattle.std.specs.Prelude.{◌≡◌, ℕ, ◌+◌, ◌*◌, ◌/◌, ◌^◌, ◌<◌, ◌≤◌, min, max, List, [], ◌∷◌, ◌++◌, length, vec_len, insert, remove, slice_get, slice_set, Some, IfOk, OnOk, MatchOption};
+ghost use Rattle.cap_tree.specs.Heights.{DifferByAtMost, SettlesAt, HaveLostOne, IsLeastHeight};
+ghost use Rattle.cap_tree.specs.Run.{values};
 
 use crate::meter::Meter;
 use crate::no_memory::NoMemory;
+use crate::run;
 use crate::segment::Segment;
 use std::alloc::Global;
 use std::marker::Model;
 use std::rc::Rc;
+
+/// The most items that a leaf holds.
+const LEAF_ITEMS: usize = 32;
 
 #[cycle(node)]
 #[derive(Drop)]
@@ -20,7 +29,7 @@ pub(crate) struct Node<S: Segment> {
 #[cycle(node)]
 #[derive(Drop)]
 enum Shape<S: Segment> {
-    Leaf(Rc<S::Item>),
+    Leaf(Vec<Rc<S::Item>>),
     Branch(Rc<Node<S>>, Rc<Node<S>>),
 }
 
@@ -67,19 +76,64 @@ impl<S: Segment> Node<S> {
         self.height
     }
 
-    pub(crate) fn leaf(alloc: Global, item: Rc<S::Item>) -> Result<Rc<Node<S>>, NoMemory>
-        ensures { IfOk result (λ n. n.value ≡ (item.value ∷ [], 0)) }
+    /// The summary of a run.
+    fn sum_up(alloc: Global, meter: &mut Meter, run: &[Rc<S::Item>]) -> Result<S, NoMemory>
+        requires some { 0 < length run.now }
+        requires few { length run.now ≤ 2 ^ 30 }
+        requires room { meter.old + length run.now < 2 ^ 64 }
+        ensures stands { IfOk result (λ s. S.stands s (values run.now)) }
+        ensures counted { OnOk result (meter.new + 1 ≡ meter.old + length run.now) }
+        ensures not_less { meter.old ≤ meter.new }
+        ensures joins { meter.new < meter.old + length run.now }
     {
-        let summary = S::one(alloc, &item)?;
+        if run.len() == 1 {
+            return S::one(alloc, &run[0]);
+        }
+        let (front, back) = run.split_at(run.len() / 2);
+        let left = Node::sum_up(alloc, meter, front)?;
+        let right = Node::sum_up(alloc, meter, back)?;
+        S::join(alloc, meter, &left, &right)
+    }
+
+    /// The leaf that holds a run.
+    fn leaf(
+        alloc: Global,
+        meter: &mut Meter,
+        run: Vec<Rc<S::Item>>,
+    ) -> Result<Rc<Node<S>>, NoMemory>
+        requires some { 0 < vec_len run }
+        requires fits { vec_len run ≤ LEAF_ITEMS }
+        requires room { meter.old + vec_len run < 2 ^ 64 }
+        ensures ok { IfOk result (λ n. n.value ≡ (values run.items, 0)) }
+        ensures counted { OnOk result (meter.new + 1 ≡ meter.old + vec_len run) }
+        ensures not_less { meter.old ≤ meter.new }
+        ensures joins { meter.new < meter.old + vec_len run }
+    {
+        let summary = Node::sum_up(alloc, meter, run.as_slice())?;
         let node = Node {
             summary,
             height: 0,
-            shape: Shape::Leaf(item),
+            shape: Shape::Leaf(run),
         };
         Ok(Rc::new(alloc, node)?)
     }
 
-    pub(crate) fn branch(
+    /// The leaf of one item. It takes no join.
+    pub(crate) fn single(
+        alloc: Global,
+        meter: &mut Meter,
+        item: Rc<S::Item>,
+    ) -> Result<Rc<Node<S>>, NoMemory>
+        requires room { meter.old + 1 < 2 ^ 64 }
+        ensures ok { IfOk result (λ n. n.value ≡ (item.value ∷ [], 0)) }
+        ensures joins { meter.new ≡ meter.old }
+    {
+        let run = run::single(alloc, item)?;
+        Node::leaf(alloc, meter, run)
+    }
+
+    /// The two in order, whose heights are at most one apart.
+    fn branch(
         alloc: Global,
         meter: &mut Meter,
         left: Rc<Node<S>>,
@@ -89,6 +143,7 @@ impl<S: Segment> Node<S> {
         requires few { length left.value.0 + length right.value.0 ≤ 2 ^ 30 }
         requires room { meter.old + 1 < 2 ^ 64 }
         ensures ok { IfOk result (λ n. n.value ≡ (left.value.0 ++ right.value.0, max left.value.1 right.value.1 + 1)) }
+        ensures counted { OnOk result (meter.new ≡ meter.old + 1) }
         ensures not_less { meter.old ≤ meter.new }
         ensures joins { meter.new ≤ meter.old + 1 }
     {
@@ -196,6 +251,81 @@ impl<S: Segment> Node<S> {
         Node::branch(alloc, meter, front, back)
     }
 
+    /// Two leaves in order: one leaf where it can hold all items, and else a branch.
+    fn pair(
+        alloc: Global,
+        meter: &mut Meter,
+        left: Rc<Node<S>>,
+        right: Rc<Node<S>>,
+    ) -> Result<Rc<Node<S>>, NoMemory>
+        requires left_leaf { left.value.1 ≡ 0 }
+        requires right_leaf { right.value.1 ≡ 0 }
+        requires few { length left.value.0 + length right.value.0 ≤ 2 ^ 30 }
+        requires room { meter.old + 1 < 2 ^ 64 }
+        ensures items { IfOk result (λ n. n.value.0 ≡ left.value.0 ++ right.value.0) }
+        ensures height { IfOk result (λ n. n.value.1 ≤ 1) }
+        ensures not_less { meter.old ≤ meter.new }
+        ensures joins { meter.new ≤ meter.old + 1 }
+    {
+        if left.len() + right.len() > LEAF_ITEMS {
+            return Node::branch(alloc, meter, left, right);
+        }
+        Node::merge(alloc, meter, &left, &right)
+    }
+
+    /// The leaf of the items of two leaves. Their summaries serve, so one join is enough.
+    fn merge(
+        alloc: Global,
+        meter: &mut Meter,
+        left: &Node<S>,
+        right: &Node<S>,
+    ) -> Result<Rc<Node<S>>, NoMemory>
+        requires left_leaf { left.now.1 ≡ 0 }
+        requires right_leaf { right.now.1 ≡ 0 }
+        requires fits { length left.now.0 + length right.now.0 ≤ LEAF_ITEMS }
+        requires room { meter.old + 1 < 2 ^ 64 }
+        ensures ok { IfOk result (λ n. n.value ≡ (left.now.0 ++ right.now.0, 0)) }
+        ensures counted { OnOk result (meter.new ≡ meter.old + 1) }
+        ensures not_less { meter.old ≤ meter.new }
+        ensures joins { meter.new ≤ meter.old + 1 }
+    {
+        let (Shape::Leaf(front), Shape::Leaf(back)) = (&left.shape, &right.shape) else {
+            unreachable!()
+        };
+        let run = run::joined(alloc, front, back)?;
+        let summary = S::join(alloc, meter, &left.summary, &right.summary)?;
+        let node = Node {
+            summary,
+            height: 0,
+            shape: Shape::Leaf(run),
+        };
+        Ok(Rc::new(alloc, node)?)
+    }
+
+    /// The two in order, which were the parts of a node of this height until one of them lost an item.
+    fn shrunk(
+        alloc: Global,
+        meter: &mut Meter,
+        height: usize,
+        left: Rc<Node<S>>,
+        right: Rc<Node<S>>,
+    ) -> Result<Rc<Node<S>>, NoMemory>
+        requires lost { HaveLostOne left.value.1 right.value.1 height }
+        requires few { length left.value.0 + length right.value.0 ≤ 2 ^ 30 }
+        requires room { meter.old + 3 < 2 ^ 64 }
+        ensures items { IfOk result (λ n. n.value.0 ≡ left.value.0 ++ right.value.0) }
+        ensures at_most_one_lower { IfOk result (λ n. height ≤ n.value.1 + 1) }
+        ensures not_higher { IfOk result (λ n. n.value.1 ≤ height) }
+        ensures not_less { meter.old ≤ meter.new }
+        ensures joins { meter.new ≤ meter.old + 3 }
+    {
+        if height == 1 {
+            Node::pair(alloc, meter, left, right)
+        } else {
+            Node::balance(alloc, meter, left, right)
+        }
+    }
+
     /// The node with the item at the place. It is at most one level higher.
     pub(crate) fn insert(
         this: &Rc<Node<S>>,
@@ -211,19 +341,11 @@ impl<S: Segment> Node<S> {
         ensures not_lower { IfOk result (λ n. this.now.value.1 ≤ n.value.1) }
         ensures at_most_one_higher { IfOk result (λ n. n.value.1 ≤ this.now.value.1 + 1) }
         ensures not_less { meter.old ≤ meter.new }
-        ensures joins { meter.new ≤ meter.old + 3 * this.now.value.1 + 1 }
+        ensures joins { meter.new ≤ meter.old + min LEAF_ITEMS (length this.now.value.0) + 3 * this.now.value.1 }
     {
         let node: &Node<S> = this;
         match &node.shape {
-            Shape::Leaf(_) => {
-                let old = this.clone()?;
-                let new = Node::leaf(alloc, item)?;
-                if at == 0 {
-                    Node::branch(alloc, meter, new, old)
-                } else {
-                    Node::branch(alloc, meter, old, new)
-                }
-            }
+            Shape::Leaf(_) => Node::insert_in_leaf(this, alloc, meter, at, item),
             Shape::Branch(left, right) => {
                 let middle = left.len();
                 if at <= middle {
@@ -239,13 +361,68 @@ impl<S: Segment> Node<S> {
         }
     }
 
+    /// The leaf with the item at the place, or a branch over two. At either end the leaf's own summary serves.
+    fn insert_in_leaf(
+        this: &Rc<Node<S>>,
+        alloc: Global,
+        meter: &mut Meter,
+        at: usize,
+        item: Rc<S::Item>,
+    ) -> Result<Rc<Node<S>>, NoMemory>
+        requires leaf { this.now.value.1 ≡ 0 }
+        requires in_range { at ≤ length this.now.value.0 }
+        requires room { meter.old + 2 ^ 32 < 2 ^ 64 }
+        ensures items { IfOk result (λ n. n.value.0 ≡ insert this.now.value.0 at item.value) }
+        ensures height { IfOk result (λ n. n.value.1 ≤ 1) }
+        ensures not_less { meter.old ≤ meter.new }
+        ensures joins { meter.new ≤ meter.old + min LEAF_ITEMS (length this.now.value.0) }
+    {
+        let node: &Node<S> = this;
+        let Shape::Leaf(run) = &node.shape else {
+            unreachable!()
+        };
+        if at == 0 {
+            let old = this.clone()?;
+            let new = Node::single(alloc, meter, item)?;
+            return Node::pair(alloc, meter, new, old);
+        }
+        if at == run.len() {
+            let old = this.clone()?;
+            let new = Node::single(alloc, meter, item)?;
+            return Node::pair(alloc, meter, old, new);
+        }
+        let run = run::inserted(alloc, run, at, item)?;
+        Node::leaves(alloc, meter, run)
+    }
+
+    /// The leaf that holds a run, or a branch over two where the run has an item too many.
+    fn leaves(
+        alloc: Global,
+        meter: &mut Meter,
+        run: Vec<Rc<S::Item>>,
+    ) -> Result<Rc<Node<S>>, NoMemory>
+        requires some { 0 < vec_len run }
+        requires at_most_one_more { vec_len run ≤ LEAF_ITEMS + 1 }
+        requires room { meter.old + vec_len run < 2 ^ 64 }
+        ensures items { IfOk result (λ n. n.value.0 ≡ values run.items) }
+        ensures height { IfOk result (λ n. n.value.1 ≤ 1) }
+        ensures not_less { meter.old ≤ meter.new }
+        ensures joins { meter.new < meter.old + vec_len run }
+    {
+        if run.len() <= LEAF_ITEMS {
+            Node::leaf(alloc, meter, run)
+        } else {
+            Node::build(alloc, meter, run.as_slice())
+        }
+    }
+
     /// The item at the place.
     pub(crate) fn get(&self, at: usize) -> &S::Item
         requires { at < length self.now.0 }
         ensures { slice_get self.now.0 at ≡ Some result.now }
     {
         match &self.shape {
-            Shape::Leaf(item) => item,
+            Shape::Leaf(run) => &run[at],
             Shape::Branch(left, right) => {
                 let middle = left.len();
                 if at < middle {
@@ -270,10 +447,13 @@ impl<S: Segment> Node<S> {
         ensures items { IfOk result (λ n. n.value.0 ≡ slice_set self.now.0 at item.value) }
         ensures height { IfOk result (λ n. n.value.1 ≡ self.now.1) }
         ensures not_less { meter.old ≤ meter.new }
-        ensures joins { meter.new ≤ meter.old + self.now.1 }
+        ensures joins { meter.new ≤ meter.old + min LEAF_ITEMS (length self.now.0) + self.now.1 }
     {
         match &self.shape {
-            Shape::Leaf(_) => Node::leaf(alloc, item),
+            Shape::Leaf(run) => {
+                let run = run::replaced(alloc, run, at, item)?;
+                Node::leaf(alloc, meter, run)
+            }
             Shape::Branch(left, right) => {
                 let middle = left.len();
                 if at < middle {
@@ -301,10 +481,17 @@ impl<S: Segment> Node<S> {
         ensures items { IfOk result (λ o. MatchOption o (remove self.now.0 at ≡ []) (λ n. n.value.0 ≡ remove self.now.0 at)) }
         ensures height { IfOk result (λ o. MatchOption o (self.now.1 ≡ 0) (λ n. (self.now.1 ≤ n.value.1 + 1) × (n.value.1 ≤ self.now.1))) }
         ensures not_less { meter.old ≤ meter.new }
-        ensures joins { meter.new ≤ meter.old + 3 * self.now.1 }
+        ensures joins { meter.new ≤ meter.old + min LEAF_ITEMS (length self.now.0) + 3 * self.now.1 }
     {
         match &self.shape {
-            Shape::Leaf(_) => Ok(None),
+            Shape::Leaf(run) => {
+                if run.len() == 1 {
+                    return Ok(None);
+                }
+                let run = run::removed(alloc, run, at)?;
+                let node = Node::leaf(alloc, meter, run)?;
+                Ok(Some(node))
+            }
             Shape::Branch(left, right) => {
                 let middle = left.len();
                 if at < middle {
@@ -313,7 +500,7 @@ impl<S: Segment> Node<S> {
                     match rest {
                         None => Ok(Some(kept)),
                         Some(changed) => {
-                            let node = Node::balance(alloc, meter, changed, kept)?;
+                            let node = Node::shrunk(alloc, meter, self.height, changed, kept)?;
                             Ok(Some(node))
                         }
                     }
@@ -323,7 +510,7 @@ impl<S: Segment> Node<S> {
                     match rest {
                         None => Ok(Some(kept)),
                         Some(changed) => {
-                            let node = Node::balance(alloc, meter, kept, changed)?;
+                            let node = Node::shrunk(alloc, meter, self.height, kept, changed)?;
                             Ok(Some(node))
                         }
                     }
@@ -332,7 +519,7 @@ impl<S: Segment> Node<S> {
         }
     }
 
-    /// A node of these items.
+    /// A node of these items, whose leaves are at least half full where there are two or more.
     pub(crate) fn build(
         alloc: Global,
         meter: &mut Meter,
@@ -341,14 +528,15 @@ impl<S: Segment> Node<S> {
         requires some { 0 < length list.now }
         requires few { length list.now ≤ 2 ^ 30 }
         requires room { meter.old + length list.now < 2 ^ 64 }
-        ensures items { IfOk result (λ n. n.value.0 ≡ map (λ item. item.value) list.now) }
-        ensures height { IfOk result (λ n. IsLeastPower n.value.1 (length list.now)) }
+        ensures items { IfOk result (λ n. n.value.0 ≡ values list.now) }
+        ensures height { IfOk result (λ n. IsLeastHeight LEAF_ITEMS n.value.1 (length list.now)) }
+        ensures counted { OnOk result (meter.new + 1 ≡ meter.old + length list.now) }
         ensures not_less { meter.old ≤ meter.new }
         ensures joins { meter.new < meter.old + length list.now }
     {
-        if list.len() == 1 {
-            let item = list[0].clone()?;
-            return Node::leaf(alloc, item);
+        if list.len() <= LEAF_ITEMS {
+            let run = run::shared(alloc, list)?;
+            return Node::leaf(alloc, meter, run);
         }
         let (front, back) = list.split_at(list.len() / 2);
         let left = Node::build(alloc, meter, front)?;

@@ -120,8 +120,9 @@ impl<S: Segment> Tree<S> {
         ensures joins { meter.new ≤ meter.old + bound (length self.now + 1) }
     {
         let root = match &self.root {
-            Root::Empty(_) => Node::leaf(alloc, item)?,
+            Root::Empty(_) => Node::single(alloc, meter, item)?,
             Root::Full(node) => {
+                // Tells how high a node of so many items can be.
                 let _height = node.height();
                 Node::insert(node, alloc, meter, at, item)?
             }

@@ -1,0 +1,5 @@
+pub mod Turns
+pub mod Tables
+pub mod Spoken
+pub mod Told
+pub mod Checking

@@ -1,0 +1,8 @@
+use Rattle.cap_machine.proofs.Turns.{ends_in_turn, checks_in_turn}
+use Rattle.cap_machine.proofs.laws.traces_in_turn.Goals as goal
+
+pub returns-clause-ends : goal.returns-clause-ends
+returns-clause-ends c = ends_in_turn
+
+pub returns-clause-checks : goal.returns-clause-checks
+returns-clause-checks c = checks_in_turn

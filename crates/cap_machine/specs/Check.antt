@@ -1,0 +1,32 @@
+-- What is found in a trace: of each line, with the state that stands before it.
+use Rattle.std.specs.Prelude.{ℕ, ◌+◌, List, [], ◌∷◌, ◌++◌, length, map, reverse}
+use Rattle.cap_trace.specs.Entry.{Entry}
+use Rattle.cap_machine.specs.declared.rule.Check.{Check}
+use Rattle.cap_machine.specs.declared.rule.Demand.{Demand}
+use Rattle.cap_machine.specs.declared.verdict.Finding.{Finding}
+use Rattle.cap_machine.specs.declared.verdict.Found.{Found}
+use Rattle.cap_machine.specs.State.{State}
+use Rattle.cap_machine.specs.History.{after}
+use Rattle.cap_machine.specs.Rule.{demand}
+use Rattle.cap_machine.specs.Judge.{listed, judged}
+
+-- what is said of a process's line with this demand, in a state: its mode, and the cell of each check
+abbrev pub said_of : Demand → ℕ → State → List Finding
+said_of d p s = judged d (s.mode p) (map (λ (check : Check). s.cell p check.fd) (listed d.checks))
+
+-- what is said of a line in a state
+abbrev pub said : Entry → State → List Finding
+said line s = said_of (demand line) line.pid s
+
+-- a finding, and the position of its line
+abbrev pub found_at : ℕ → Finding → Found
+found_at position finding = record { at = position; finding = finding }
+
+-- the findings of a history, its newest line first; lines are numbered from 1
+abbrev pub findings : State → List Entry → List Found
+findings s [] = []
+findings s (line ∷ history) = findings s history ++ map (found_at (length history + 1)) (said line (after s history))
+
+-- the findings of a trace, its lines in their order
+abbrev pub check : State → List Entry → List Found
+check s trace = findings s (reverse trace)

@@ -1,0 +1,36 @@
+-- The cell of one descriptor and the mode of one process after a history, its newest line first: one walks back to the last
+-- line that touched it. A line that takes the cell from another sends one on from there.
+use Rattle.std.specs.Prelude.{ℕ, List, [], ◌∷◌, reverse}
+use Rattle.cap_trace.specs.Entry.{Entry}
+use Rattle.cap_machine.specs.declared.cell.Cell.{Cell}
+use Rattle.cap_machine.specs.declared.cell.Mode.{Mode}
+use Rattle.cap_machine.specs.State.{State}
+use Rattle.cap_machine.specs.Op.{applied}
+use Rattle.cap_machine.specs.Touch.{Touch, kept, given, taken, Turn, stays, turns, follows, touch, turn}
+
+-- the cell after a touch, of what the cells were before
+abbrev pub touched : Touch → (ℕ → ℕ → Cell) → ℕ → ℕ → Cell
+touched kept before p f = before p f
+touched (given c) before p f = c
+touched (taken op q g) before p f = applied op (before q g)
+
+abbrev pub turned : Turn → (ℕ → Mode) → ℕ → Mode
+turned stays before p = before p
+turned (turns m) before p = m
+turned (follows q) before p = before q
+
+abbrev pub cell_after : State → List Entry → ℕ → ℕ → Cell
+cell_after s [] p f = s.cell p f
+cell_after s (line ∷ history) p f = touched (touch line p f) (cell_after s history) p f
+
+abbrev pub mode_after : State → List Entry → ℕ → Mode
+mode_after s [] p = s.mode p
+mode_after s (line ∷ history) p = turned (turn line p) (mode_after s history) p
+
+-- both, as a state
+abbrev pub after : State → List Entry → State
+after s history = record { cell = cell_after s history; mode = mode_after s history }
+
+-- the state after a trace, its lines in their order
+abbrev pub ended : State → List Entry → State
+ended s trace = after s (reverse trace)

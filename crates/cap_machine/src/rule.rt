@@ -1,0 +1,156 @@
+//! The rule of a line: what it is judged by, and what it does.
+
+ghost use Rattle.std.specs.Prelude.{◌≡◌, ℕ};
+ghost use Rattle.cap_machine.specs.Rule.{demand, unjudged};
+ghost use Rattle.cap_machine.specs.Touch.{touch, turn};
+ghost use Rattle.cap_machine.specs.Effect.{effect_touch, effect_turn};
+
+use crate::cell::{Cell, Op};
+use crate::demands::demand_of;
+use crate::effects::effect_of;
+use cap_rights::RightSet;
+use cap_trace::{Fd, Item, Line, Pid};
+
+/// How a call stands to capability mode (cap_enter(2)).
+#[derive(Clone, Copy, Debug, PartialEq, Eq)]
+pub enum Class {
+    /// It never succeeds in capability mode.
+    Forbidden,
+    /// Capability mode never refuses it.
+    Allowed,
+    /// It may be refused in capability mode, and may succeed.
+    Either,
+}
+
+/// The kind of answer that a call had.
+#[derive(Clone, Copy, Debug, PartialEq, Eq)]
+pub enum Reply {
+    /// It was no errno.
+    Success,
+    /// Errno 93, ENOTCAPABLE: the descriptor lacks rights.
+    NotCapable,
+    /// Errno 94, ECAPMODE: not permitted in capability mode.
+    NotPermitted,
+    /// Another errno, or the line is a marker.
+    Other,
+}
+
+/// By which word a shortfall is told.
+#[derive(Clone, Copy, Debug, PartialEq, Eq)]
+pub enum Word {
+    /// The call lacked rights.
+    Missing,
+    /// cap_rights_limit(2) gave rights that weren't held.
+    Expanded,
+}
+
+/// What a call needs of one descriptor.
+#[derive(Clone, Copy, Debug, PartialEq, Eq)]
+pub struct Check {
+    /// The descriptor.
+    pub fd: Fd,
+    /// The rights that the call needs.
+    pub needs: RightSet,
+    /// The rights with which errno 93 is wrongful; without any, errno 93 is never judged.
+    pub excuse: Option<RightSet>,
+}
+
+/// At most two checks, in order.
+#[derive(Clone, Copy, Debug, PartialEq, Eq)]
+pub enum Checks {
+    Nothing,
+    One(Check),
+    Two(Check, Check),
+}
+
+/// What a line is judged by.
+#[derive(Clone, Copy, Debug, PartialEq, Eq)]
+pub struct Demand {
+    /// How the call stands to capability mode.
+    pub class: Class,
+    /// What it needs of its descriptors.
+    pub checks: Checks,
+    /// What it answered.
+    pub reply: Reply,
+    /// Whether it is a call at a directory, whose errno 93 may come from a path that leaves the directory.
+    pub at: bool,
+    /// By which word a shortfall is told.
+    pub word: Word,
+}
+
+/// What a line does to the cells and the mode of its process, and to those of a child.
+#[derive(Clone, Copy, Debug)]
+pub enum Effect<'a> {
+    /// Nothing.
+    Keep,
+    /// These descriptors are held and were never limited, all others are closed, and the mode is outside.
+    Start(&'a [Fd]),
+    /// Nothing more is known of the process.
+    Exit,
+    /// Nothing more is known of its cells.
+    Exec,
+    /// The process is in capability mode.
+    Enter,
+    /// The descriptor's cell.
+    Give(Fd, Cell),
+    /// The cell of two descriptors.
+    GiveTwo(Fd, Fd, Cell),
+    /// The first descriptor's cell is what the op makes of the second's.
+    Change(Fd, Op, Fd),
+    /// The child has what the process has.
+    Fork(Pid),
+    /// The same, and of this descriptor of both nothing is known.
+    ForkAs(Pid, Fd),
+}
+
+/// What a line is judged by, and what it does.
+#[derive(Clone, Copy, Debug)]
+pub struct Rule<'a> {
+    /// What the line is judged by.
+    pub demand: Demand,
+    /// What the line does, with the list of `@start` lent from the line.
+    pub effect: Effect<'a>,
+}
+
+/// The rule of a line.
+///
+/// The demand follows rights(4) and cap_enter(2); the effect follows what the line records, close(2) and
+/// cap_rights_limit(2) among others, whatever is said of the line.
+pub fn rule_of(line: &Line) -> Rule<'_>
+    ensures demand { result.demand ≡ demand line.now }
+    // The effect does to each cell and to each mode what the line does.
+    ensures cells { (p f : ℕ) → effect_touch result.effect line.now.pid p f ≡ touch line.now p f }
+    ensures modes { (p : ℕ) → effect_turn result.effect line.now.pid p ≡ turn line.now p }
+{
+    match &line.item {
+        Item::Call { call, answer } => Rule {
+            demand: demand_of(call, answer),
+            effect: effect_of(call, answer),
+        },
+        Item::Start(fds) => Rule {
+            demand: unjudged_demand(),
+            effect: Effect::Start(fds.as_slice()),
+        },
+        Item::Exit => Rule {
+            demand: unjudged_demand(),
+            effect: Effect::Exit,
+        },
+        Item::Foreign(fd) => Rule {
+            demand: unjudged_demand(),
+            effect: Effect::Give(*fd, Cell::Unknown),
+        },
+    }
+}
+
+/// Nothing is said of a marker.
+fn unjudged_demand() -> Demand
+    ensures { result ≡ unjudged }
+{
+    Demand {
+        class: Class::Either,
+        checks: Checks::Nothing,
+        reply: Reply::Other,
+        at: false,
+        word: Word::Missing,
+    }
+}

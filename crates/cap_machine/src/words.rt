@@ -1,0 +1,117 @@
+//! The text of a report.
+
+ghost use Rattle.cap_rights.specs.Text.{text};
+ghost use Rattle.std.specs.Prelude.{◌≡◌, ◌≤◌, [], ◌∷◌, ◌++◌, decimal, length, flat_map, option_to_list, IfOk, OnOk};
+ghost use Rattle.std.specs.List.{join_with_byte};
+ghost use Rattle.cap_machine.specs.Check.{found_at};
+ghost use Rattle.cap_machine.specs.Judge.{findings_in};
+ghost use Rattle.cap_machine.specs.Report.{words, finding_line, last_line};
+
+use crate::verdict::{Finding, Verdict};
+use cap_rights::{NoMemory, RightSet, write_rights};
+use cap_trace::{Fd, Line};
+use itoa::Buffer;
+
+/// Appends a number.
+fn put_number(out: &mut Vec<u8>, number: u64) -> Result<(), NoMemory>
+    ensures { OnOk result (out.new.items ≡ out.old.items ++ decimal number) }
+{
+    let mut buffer = Buffer::new();
+    out.extend_from_slice(buffer.format(number).as_bytes())?;
+    Ok(())
+}
+
+/// Appends a descriptor and rights, with one space between.
+fn put_rights(out: &mut Vec<u8>, fd: Fd, rights: &RightSet) -> Result<(), NoMemory>
+    ensures { OnOk result (out.new.items ≡ out.old.items ++ join_with_byte 32 (decimal fd ∷ text rights.now ∷ [])) }
+{
+    put_number(out, u64::from(fd))?;
+    out.extend_from_slice(b" ")?;
+    write_rights(rights, out)
+}
+
+/// Appends the word of a finding and what belongs to it.
+fn put_words(out: &mut Vec<u8>, finding: &Finding) -> Result<(), NoMemory>
+    ensures { OnOk result (out.new.items ≡ out.old.items ++ join_with_byte 32 (words finding.now)) }
+{
+    match finding {
+        Finding::Forbidden => out.extend_from_slice(b"forbidden")?,
+        Finding::ModeRefusal => out.extend_from_slice(b"moderefusal")?,
+        Finding::Refusal => out.extend_from_slice(b"refusal")?,
+        Finding::Closed(fd) => {
+            out.extend_from_slice(b"closed ")?;
+            put_number(out, u64::from(*fd))?;
+        }
+        Finding::Missing(fd, lacking) => {
+            out.extend_from_slice(b"missing ")?;
+            put_rights(out, *fd, lacking)?;
+        }
+        Finding::Expanded(fd, lacking) => {
+            out.extend_from_slice(b"expanded ")?;
+            put_rights(out, *fd, lacking)?;
+        }
+    }
+    Ok(())
+}
+
+/// Appends the report's line of a finding.
+fn put_finding(out: &mut Vec<u8>, at: usize, line: &Line, finding: &Finding) -> Result<(), NoMemory>
+    ensures { OnOk result (out.new.items ≡ out.old.items ++ finding_line line.now (found_at at finding.now)) }
+{
+    put_number(out, at as u64)?;
+    out.extend_from_slice(b" ")?;
+    put_number(out, u64::from(line.pid))?;
+    out.extend_from_slice(b" ")?;
+    out.extend_from_slice(line.name())?;
+    out.extend_from_slice(b" ")?;
+    put_words(out, finding)?;
+    out.extend_from_slice(b"\n")?;
+    Ok(())
+}
+
+/// Appends the line of a finding, where there is one, and answers how many there are.
+fn put_some(
+    out: &mut Vec<u8>,
+    at: usize,
+    line: &Line,
+    finding: &Option<Finding>,
+) -> Result<usize, NoMemory>
+    ensures text { OnOk result (out.new.items ≡ out.old.items ++ flat_map (λ f. finding_line line.now (found_at at f)) (option_to_list finding.now)) }
+    ensures count { IfOk result (λ n. n ≡ length (option_to_list finding.now)) }
+    ensures few { IfOk result (λ n. n ≤ 1) }
+{
+    match finding {
+        None => Ok(0),
+        Some(finding) => {
+            put_finding(out, at, line, finding)?;
+            Ok(1)
+        }
+    }
+}
+
+/// Appends the lines of what is said of the line at a position, and answers how many they are.
+pub(crate) fn put_verdict(
+    out: &mut Vec<u8>,
+    at: usize,
+    line: &Line,
+    verdict: &Verdict,
+) -> Result<usize, NoMemory>
+    ensures text { OnOk result (out.new.items ≡ out.old.items ++ flat_map (λ f. finding_line line.now (found_at at f)) (findings_in verdict.now)) }
+    ensures count { IfOk result (λ n. n ≡ length (findings_in verdict.now)) }
+    ensures few { IfOk result (λ n. n ≤ 3) }
+{
+    let first = put_some(out, at, line, &verdict.first)?;
+    let second = put_some(out, at, line, &verdict.second)?;
+    let third = put_some(out, at, line, &verdict.third)?;
+    Ok(first + second + third)
+}
+
+/// Appends the last line of a report.
+pub(crate) fn put_count(out: &mut Vec<u8>, count: usize) -> Result<(), NoMemory>
+    ensures { OnOk result (out.new.items ≡ out.old.items ++ last_line count) }
+{
+    out.extend_from_slice(b"findings ")?;
+    put_number(out, count as u64)?;
+    out.extend_from_slice(b"\n")?;
+    Ok(())
+}

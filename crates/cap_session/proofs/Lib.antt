@@ -1,0 +1,10 @@
+pub mod Agree
+pub mod Answered
+pub mod Calls
+pub mod Cuts
+pub mod Entries
+pub mod Fed
+pub mod Goes
+pub mod Lined
+pub mod Reach
+pub mod Soon

@@ -1,0 +1,12 @@
+pub mod Devices
+pub mod Feeds
+pub mod Laws
+pub mod Lines
+pub mod Outcome
+pub mod Reads
+pub mod Refusal
+pub mod Streams
+pub mod Texts
+pub mod Trace
+pub mod Works
+pub mod Writes

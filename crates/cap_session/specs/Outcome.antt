@@ -1,0 +1,33 @@
+-- The exit status of an outcome.
+use Rattle.std.specs.Prelude.{ℕ}
+use Rattle.cap_session.specs.declared.outcome.Outcome.{Outcome}
+use Rattle.cap_session.specs.declared.outcome.Outcome.TheVariants.{Clean, Findings, Refused, Memory, ReadFault, WriteFault, TooLong}
+
+abbrev pub status_of : Outcome → ℕ
+status_of Clean = 0
+status_of Findings = 1
+status_of (Refused code line) = 2
+status_of Memory = 3
+status_of ReadFault = 3
+status_of WriteFault = 3
+status_of TooLong = 3
+
+-- one, where the outcome tells a fault of the reader
+abbrev pub read_faults : Outcome → ℕ
+read_faults ReadFault = 1
+read_faults Clean = 0
+read_faults Findings = 0
+read_faults (Refused code line) = 0
+read_faults Memory = 0
+read_faults WriteFault = 0
+read_faults TooLong = 0
+
+-- one, where it tells a fault of the writer
+abbrev pub write_faults : Outcome → ℕ
+write_faults WriteFault = 1
+write_faults Clean = 0
+write_faults Findings = 0
+write_faults (Refused code line) = 0
+write_faults Memory = 0
+write_faults ReadFault = 0
+write_faults TooLong = 0

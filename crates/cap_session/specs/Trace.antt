@@ -1,0 +1,33 @@
+-- The trace that a text spells: a list of entries, or its first refused line.
+use Rattle.std.specs.Prelude.{ℕ, ◌==◌, Bool, true, nat_le, List, [], ◌∷◌, ◌++◌, length, if◌then◌else◌, Result, Ok, Err, Option}
+use Rattle.cap_trace.specs.declared.fault.ReadFault.{ReadFault}
+use Rattle.cap_trace.specs.Entry.{Entry}
+use Rattle.cap_trace.specs.Reading.{line_of}
+use Rattle.cap_trace.specs.Fault.{line_fault, code_of}
+use Rattle.cap_session.specs.Texts.{whole_text, refused_so_far}
+use Rattle.cap_session.specs.declared.refusal.Refusal.{Refusal}
+
+-- an empty line, or a comment, which begins with `#`
+abbrev pub is_skipped : List ℕ → Bool
+is_skipped [] = true
+is_skipped (b ∷ line) = b == 35
+
+-- the entry of a line comes after the others; a line that spells none is refused with the code of its first fault
+abbrev pub with_entry : List Entry → Result Entry ReadFault → Result (List Entry) ℕ
+with_entry entries (Ok entry) = Ok (entries ++ entry ∷ [])
+with_entry entries (Err fault) = Err (code_of (line_fault fault))
+
+-- A line is skipped; or refused with 8, whatever it holds, where there are 1,000,000 entries; or read.
+unfoldable pub next_entry : List Entry → List ℕ → Result (List Entry) ℕ
+next_entry entries line =
+    if is_skipped line then Ok entries
+    else if nat_le 1000000 (length entries) then Err 8
+    else with_entry entries (line_of line)
+
+-- the entries of a whole text, or its first refused line
+abbrev pub trace : List ℕ → Result (List Entry) Refusal
+trace = whole_text next_entry []
+
+-- the first refused line of a text whose end wasn't told: one with its LF, or a last piece that is too long
+abbrev pub soon : List ℕ → Option Refusal
+soon = refused_so_far next_entry []

@@ -1,0 +1,67 @@
+//! The beginning of a line, in room that is taken before the first read.
+ghost use Rattle.std.specs.Prelude.{◌≡◌, ◌+◌, ◌<◌, ◌≤◌, ◌↔◌, List, ℕ, [], ◌++◌, length, IfOk, OnOk, OnErr, vec_capacity, IsTrue};
+
+use std::alloc::{AllocError, Global};
+use std::marker::Model;
+
+/// A line would pass its limit.
+#[derive(Clone, Copy, Debug, PartialEq, Eq)]
+pub struct TooLong;
+
+/// At most `LIMIT` bytes of a line whose LF hasn't come.
+#[derive(Drop)]
+pub struct Held<const LIMIT: usize> {
+    bytes: Vec<u8>,
+}
+
+impl<const LIMIT: usize> Model for Held<LIMIT> {
+    ghost Value = { List ℕ };
+
+    ghost view = { λ h. h.bytes.items };
+
+    ghost invariant = { λ h. (length h.bytes.items ≤ LIMIT) × (LIMIT ≤ vec_capacity h.bytes) };
+}
+
+impl<const LIMIT: usize> Held<LIMIT> {
+    /// Takes the room.
+    pub fn new(alloc: Global) -> Result<Held<LIMIT>, AllocError>
+        ensures { IfOk result (λ h. h ≡ []) }
+    {
+        Ok(Held {
+            bytes: Vec::with_capacity(alloc, LIMIT)?,
+        })
+    }
+
+    pub fn is_empty(&self) -> bool
+        ensures { IsTrue result ↔ (self.now ≡ []) }
+    {
+        self.bytes.is_empty()
+    }
+
+    pub fn as_slice(&self) -> &[u8]
+        ensures { result.now ≡ self.now }
+    {
+        self.bytes.as_slice()
+    }
+
+    /// Adds bytes, and takes no memory. Bytes that would pass the limit are refused, and nothing is added.
+    pub fn add(&mut self, bytes: &[u8]) -> Result<(), TooLong>
+        ensures ok { OnOk result (self.new ≡ self.old ++ bytes.now) }
+        ensures short { OnOk result (length self.old + length bytes.now ≤ LIMIT) }
+        ensures long { OnErr result (LIMIT < length self.old + length bytes.now) }
+    {
+        if bytes.len() > LIMIT - self.bytes.len() {
+            return Err(TooLong);
+        }
+        match self.bytes.extend_from_slice(bytes) {
+            Ok(()) => Ok(()),
+            Err(_) => unreachable!(),
+        }
+    }
+
+    pub fn clear(&mut self)
+        ensures { self.new ≡ [] }
+    {
+        self.bytes.clear();
+    }
+}

@@ -1,0 +1,24 @@
+//! What holds of a text and its pieces.
+ghost use Rattle.cap_session.specs.Laws.{BeginningDecides, GoodIsReported, BadIsRefused, PiecesAgree};
+
+/// The first refused line of a beginning is that of the text, whatever follows.
+pub fn beginning_decides()
+    ensures { BeginningDecides }
+{}
+
+/// Any pieces give the same: where `check_stream` comes to an answer, it is that of the whole text that its
+/// reader had, however the text was cut and however far it was read.
+pub fn pieces_agree()
+    ensures { PiecesAgree }
+{}
+
+/// Where the end was told and no line is refused, `check_stream` writes the report, unless memory runs out or
+/// the writer fails. So a good trace is never refused.
+pub fn good_is_reported()
+    ensures { GoodIsReported }
+{}
+
+/// Where a line is refused, `check_stream` tells that line, unless memory runs out or the writer fails.
+pub fn bad_is_refused()
+    ensures { BadIsRefused }
+{}

@@ -1,0 +1,51 @@
+//! Edits that have leaves split and merge, and nodes turned about in each of the four ways.
+
+use cap_tree::{Meter, NoMemory, Segment, Tree};
+use std::alloc::Global;
+use std::rc::Rc;
+
+/// How many items a tree begins with: four full leaves.
+pub const FIRST: u32 = 128;
+/// How many edits take such a tree to none.
+pub const TURNS: u32 = 293;
+/// Near an end, and behind the middle of a first leaf: the leaf that splits again is the outer or the inner one.
+pub const PLACES: [usize; 2] = [8, 24];
+
+#[derive(Drop)]
+pub enum Edit {
+    Insert(usize),
+    Replace(usize),
+    Remove(usize),
+}
+
+/// 40 inserts at the place from the left, 40 from the right, 5 replaces, and then removes.
+pub fn edit_at(turn: u32, place: usize, len: usize) -> Edit {
+    if turn < 40 {
+        Edit::Insert(place)
+    } else if turn < 80 {
+        Edit::Insert(len.saturating_sub(place))
+    } else if turn < 85 {
+        Edit::Replace(len / 3 + turn as usize % 7)
+    } else {
+        Edit::Remove(len / 3 * 2)
+    }
+}
+
+/// The tree after an edit. A place out of range is want of memory, which no test takes for an answer.
+pub fn edited<S: Segment>(
+    alloc: Global,
+    meter: &mut Meter,
+    tree: &Tree<S>,
+    edit: &Edit,
+    item: Rc<S::Item>,
+) -> Result<Tree<S>, NoMemory> {
+    if meter.room() < 1 << 33 || tree.len() >= 1_000_000 {
+        return Err(NoMemory);
+    }
+    match edit {
+        Edit::Insert(at) if *at <= tree.len() => tree.insert(alloc, meter, *at, item),
+        Edit::Replace(at) if *at < tree.len() => tree.replace(alloc, meter, *at, item),
+        Edit::Remove(at) if *at < tree.len() => tree.remove(alloc, meter, *at),
+        _ => Err(NoMemory),
+    }
+}

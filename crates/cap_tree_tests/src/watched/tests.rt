@@ -1,0 +1,84 @@
+use super::*;
+use crate::edits::{FIRST, PLACES, TURNS, edit_at, edited};
+use cap_tree::Tree;
+use std::test::Fail;
+
+fn watch(alloc: Global) -> Result<Rc<Watch>, NoMemory> {
+    let watch = Watch {
+        joins: Cell::new(0),
+        refuse: Cell::new(0),
+    };
+    Ok(Rc::new(alloc, watch)?)
+}
+
+fn item(alloc: Global, watch: &Rc<Watch>, number: u32) -> Result<Rc<Item>, NoMemory> {
+    let watch = watch.clone()?;
+    Ok(Rc::new(alloc, Item { number, watch })?)
+}
+
+/// The tree of the numbers below `FIRST`.
+fn first_tree(alloc: Global, watch: &Rc<Watch>) -> Result<Tree<Watched>, NoMemory> {
+    let mut items = Vec::new(alloc);
+    for number in 0..FIRST {
+        let new = item(alloc, watch, number)?;
+        items.push(new)?;
+    }
+    if items.len() >= 1_000_000 {
+        return Err(NoMemory);
+    }
+    let mut meter = Meter::new();
+    Tree::from_list(alloc, &mut meter, items)
+}
+
+/// The tree joins on the meter that it was handed.
+#[test]
+fn joins_are_metered(rt: HostRuntime) -> Result<(), Fail> {
+    let alloc = rt.alloc();
+    let watch = watch(alloc)?;
+    for place in PLACES {
+        let mut tree = first_tree(alloc, &watch)?;
+        for turn in 0..TURNS {
+            let mut meter = Meter::new();
+            watch.joins.set(0);
+            let new = item(alloc, &watch, turn)?;
+            let edit = edit_at(turn, place, tree.len());
+            tree = edited(alloc, &mut meter, &tree, &edit, new)?;
+            assert_eq!(rt; meter.joins(), watch.joins.get(), "at {turn}");
+        }
+        assert_eq!(rt; tree.len(), 0);
+    }
+    Ok(())
+}
+
+/// Each summary of an edit refused in turn: the old tree is whole, and the meter counts what was joined.
+#[test]
+fn each_summary_refused(rt: HostRuntime) -> Result<(), Fail> {
+    let alloc = rt.alloc();
+    let watch = watch(alloc)?;
+    for place in PLACES {
+        let mut tree = first_tree(alloc, &watch)?;
+        for turn in 0..TURNS {
+            let before = tree.summary().list.clone()?;
+            let edit = edit_at(turn, place, tree.len());
+            let mut done = false;
+            for refused in 1..1000u64 {
+                let mut meter = Meter::new();
+                let new = item(alloc, &watch, turn)?;
+                watch.joins.set(0);
+                watch.refuse.set(refused);
+                let answer = edited(alloc, &mut meter, &tree, &edit, new);
+                watch.refuse.set(0);
+                assert_eq!(rt; meter.joins(), watch.joins.get(), "at {turn}");
+                assert_eq!(rt; *tree.summary().list, *before, "at {turn}");
+                if let Ok(next) = answer {
+                    tree = next;
+                    done = true;
+                    break;
+                }
+            }
+            assert!(rt; done, "at {turn}");
+        }
+        assert_eq!(rt; tree.len(), 0);
+    }
+    Ok(())
+}
