@@ -4,16 +4,22 @@
 mod check;
 mod counted;
 mod devices;
+mod edit;
 mod held;
 mod laws;
 mod outcome;
 mod read;
 mod reading;
 mod refusal;
+mod refused;
+mod session;
 mod write;
 
 pub use check::check_stream;
 pub use counted::Counted;
 pub use devices::{Failed, Sink, Source};
+pub use edit::Edit;
 pub use laws::{bad_is_refused, beginning_decides, good_is_reported, pieces_agree};
 pub use outcome::Outcome;
+pub use refused::Refused;
+pub use session::{Edited, Session};
