@@ -219,3 +219,6 @@ impl Session {
         })
     }
 }
+
+#[cfg(test)]
+mod tests;
