@@ -6,7 +6,7 @@ use Rattle.std.proofs.lemmas.List.{length-append}
 use Rattle.bitflags.specs.Sets.{Row}
 use Rattle.cap_rights.specs.Names.{table}
 use Rattle.cap_rights.specs.Rights.{all, none, holds}
-use Rattle.cap_rights.specs.Text.{held_from, held, text}
+use Rattle.cap_rights.specs.Text.{held_names_from, held_names, text}
 use Rattle.cap_rights.specs.Laws.{TextIsShort, LimitFits}
 
 -- the bytes of these names, with a bar behind each
@@ -31,13 +31,13 @@ one_room : (b : Bool) (w : List ℕ) (ws : List (List ℕ)) (n : ℕ) → room w
 one_room true w ws n le = omega arith
 one_room false w ws n le = omega arith
 
-held_room : (k : ℕ) (rows : List Row) (rights : ℕ) → room (held_from k rows rights) ≤ rows_room rows
-unfolding held_from
+held_room : (k : ℕ) (rows : List Row) (rights : ℕ) → room (held_names_from k rows rights) ≤ rows_room rows
+unfolding held_names_from
 held_room k [] rights = omega arith
-held_room k (row ∷ rows) rights = one_room (holds rights k) row.0 (held_from (suc k) rows rights) (rows_room rows) (held_room (suc k) rows rights)
+held_room k (row ∷ rows) rights = one_room (holds rights k) row.0 (held_names_from (suc k) rows rights) (rows_room rows) (held_room (suc k) rows rights)
 
-held_short : (rights : ℕ) → length (join_with_byte 124 (held rights)) ≤ 813
-held_short rights = omega (arith, joined_room (held rights), held_room 0 (take 63 table) rights, table_room)
+held_short : (rights : ℕ) → length (join_with_byte 124 (held_names rights)) ≤ 813
+held_short rights = omega (arith, joined_room (held_names rights), held_room 0 (take 63 table) rights, table_room)
 
 by_case : (a b : Bool) (joined : List ℕ) → length joined ≤ 813 → length (cond a (codes "ALL") (cond b (codes "NONE") joined)) ≤ 813
 by_case true b joined le = omega arith
@@ -46,7 +46,7 @@ by_case false false joined le = le
 
 pub text_is_short : TextIsShort
 unfolding text
-text_is_short rights = by_case (rights == all) (rights == none) (join_with_byte 124 (held rights)) (held_short rights)
+text_is_short rights = by_case (rights == all) (rights == none) (join_with_byte 124 (held_names rights)) (held_short rights)
 
 pub limit_fits : LimitFits
 limit_fits rights =

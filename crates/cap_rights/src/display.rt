@@ -2,7 +2,7 @@
 
 ghost use Rattle.std.specs.Prelude.{Some};
 ghost use Rattle.std.specs.List.{join_with_byte};
-ghost use Rattle.cap_rights.specs.Text.{held, text};
+ghost use Rattle.cap_rights.specs.Text.{bar, held_names, text};
 
 use crate::bits::RightBits;
 use crate::set::RightSet;
@@ -14,7 +14,7 @@ use std::fmt;
 struct Names(RightSet);
 
 impl fmt::Display for Names {
-    ghost output = { λ names. Some (join_with_byte 124 (held names.0)) };
+    ghost output = { λ names. Some (join_with_byte bar (held_names names.0)) };
 
     fn fmt<W: fmt::Write>(&self, f: &mut fmt::Formatter<W>) -> fmt::Result {
         let flags = RightBits::flags();

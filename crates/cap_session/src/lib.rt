@@ -13,6 +13,8 @@ mod reading;
 mod refusal;
 mod refused;
 mod session;
+#[cfg(test)]
+mod tests;
 mod write;
 
 pub use check::check_stream;

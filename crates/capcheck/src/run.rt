@@ -1,7 +1,9 @@
 //! What the program does, over any runtime.
 
 ghost use Rattle.std.specs.Prelude.{◌≡◌};
+ghost use Rattle.std.specs.Option.{option_map};
 ghost use Rattle.cap_session.specs.Outcome.{status_of};
+ghost use Rattle.capcheck.specs.Faults.{fault_code};
 
 use cap_session::{Counted, Outcome, check_stream};
 use std::io;
@@ -18,10 +20,7 @@ const TURNS: u64 = 2_147_483_648;
 pub fn run<R: Input + Print + Eprint + AllocGlobal>(rt: &R) -> u8 {
     let mut trace = Counted::new(rt.reader());
     let mut report = Counted::new(io::writer(rt));
-    ended(
-        rt,
-        check_stream(rt.alloc(), TURNS, &mut trace, &mut report),
-    )
+    ended(rt, check_stream(rt.alloc(), TURNS, &mut trace, &mut report))
 }
 
 /// The exit status of an outcome. What kept the program from an answer is told on standard error; whether
@@ -37,7 +36,9 @@ fn ended<R: Eprint>(rt: &R, outcome: Outcome) -> u8
 
 /// The code that standard error tells: `E9` for memory, `E11` for the reader, `E12` for the writer and `E13`
 /// for a trace with no end.
-fn code_of_fault(outcome: Outcome) -> Option<&'static str> {
+fn code_of_fault(outcome: Outcome) -> Option<&'static str>
+    ensures { option_map (λ code. code.now) result ≡ fault_code outcome }
+{
     match outcome {
         Outcome::Memory => Some("E9"),
         Outcome::ReadFault => Some("E11"),
