@@ -1,5 +1,6 @@
 pub mod Agree
 pub mod Answered
+pub mod Applied
 pub mod Calls
 pub mod Cuts
 pub mod Entries

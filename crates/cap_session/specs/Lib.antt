@@ -1,10 +1,13 @@
 pub mod Devices
+pub mod Edits
 pub mod Feeds
 pub mod Laws
 pub mod Lines
 pub mod Outcome
 pub mod Reads
 pub mod Refusal
+pub mod Refused
+pub mod Session
 pub mod Streams
 pub mod Texts
 pub mod Trace

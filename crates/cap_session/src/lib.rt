@@ -4,12 +4,15 @@
 mod check;
 mod counted;
 mod devices;
+mod edit;
 mod held;
 mod laws;
 mod outcome;
 mod read;
 mod reading;
 mod refusal;
+mod refused;
+mod session;
 #[cfg(test)]
 mod tests;
 mod write;
@@ -17,5 +20,8 @@ mod write;
 pub use check::check_stream;
 pub use counted::Counted;
 pub use devices::{Failed, Sink, Source};
+pub use edit::Edit;
 pub use laws::{bad_is_refused, beginning_decides, good_is_reported, pieces_agree};
 pub use outcome::Outcome;
+pub use refused::Refused;
+pub use session::{Edited, Session};

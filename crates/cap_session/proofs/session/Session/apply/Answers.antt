@@ -1,0 +1,15 @@
+use Rattle.std.proofs.Common.{rules}
+use Rattle.cap_session.proofs.Applied.{does, made_none, made_next}
+use Rattle.cap_session.proofs.session.Session.apply.Goals as goal
+
+pub loop-edit-init : goal.loop-edit-init
+loop-edit-init c = record { made = rw c.in_ok-answered.ensures.items (made_none c.args.self.now); room = search rules }
+
+pub loop-edit-preserved : goal.loop-edit-preserved
+loop-edit-preserved c =
+    let ask = c.edit-answer.ensures in
+    let pushed = rw c.unwrap.ensures at c.push.ensures.items in
+    record {
+      made = rw pushed (made_next _ _ _ _ _ _ _ _ c.loop-edit.invariant.made c.loop-edit-test.true ask.limit (does _ _ _ _ ask.accepted ask.refused ask.memory ask.unchanged));
+      room = search rules;
+    }

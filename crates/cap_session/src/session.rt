@@ -1,0 +1,224 @@
+//! A trace that is edited line by line, and reported when asked.
+//!
+//! Each report checks anew from the first line.
+ghost use Rattle.std.specs.Prelude.{◌≡◌, ◌+◌, ◌≤◌, ◌^◌, ◌<◌, ◌↔◌, [], length, Ok, Err, IsOk, IfOk, OnOk, OnErr, IsOkUnless};
+ghost use Rattle.cap_machine.specs.State.{usual};
+ghost use Rattle.cap_machine.specs.Report.{report};
+ghost use Rattle.cap_session.specs.Edits.{is_position, inserted, deleted, replaced, loaded, edited, after, answers};
+ghost use Rattle.cap_session.specs.Session.{SessionState, TellsRefusals, wanted};
+
+use crate::edit::Edit;
+use crate::refused::Refused;
+use cap_machine::{Checker, NoMemory};
+use cap_trace::{Line, parse_line};
+use std::alloc::Global;
+use std::marker::Model;
+
+/// The lines of a trace, at most as many as a limit.
+#[derive(Drop)]
+pub struct Session {
+    alloc: Global,
+    lines: Vec<Line>,
+    limit: usize,
+}
+
+impl Model for Session {
+    ghost Value = { SessionState };
+
+    ghost view = { λ s. record { trace = s.lines.items; limit = s.limit } };
+
+    ghost invariant = { λ s. (length s.lines.items ≤ s.limit) × (s.limit ≤ 1000000) };
+}
+
+/// What a list of edits gave.
+#[derive(Drop)]
+pub struct Edited {
+    /// What each edit answered, in order.
+    pub answers: Vec<Result<usize, Refused>>,
+    /// The report of the trace that the edits left; `Memory` where there was no memory for it.
+    pub report: Result<Vec<u8>, Refused>,
+}
+
+/// Whether a position is one of 1 to `last`.
+fn is_position(position: usize, last: usize) -> bool
+    ensures { result ≡ is_position position last }
+{
+    1 <= position && position <= last
+}
+
+impl Session {
+    /// A session that holds no lines, and at most `limit` later.
+    ///
+    /// The caller owes a limit of at most 1,000,000. Answers `NoMemory` where there is no memory for a session.
+    pub fn new(alloc: Global, limit: usize) -> Result<Session, NoMemory>
+        requires { limit ≤ 1000000 }
+        ensures { IfOk result (λ s. s ≡ (record { trace = []; limit = limit })) }
+    {
+        Ok(Session {
+            alloc,
+            lines: Vec::new(alloc),
+            limit,
+        })
+    }
+
+    /// How many lines the session holds.
+    pub fn count(&self) -> usize
+        ensures count { result ≡ length self.now.trace }
+        ensures within { result ≤ self.now.limit }
+    {
+        self.lines.len()
+    }
+
+    /// Puts a list in place of the trace, and answers its length.
+    ///
+    /// `Full` where the list is longer than the limit, `Memory` where memory runs out; the list is then dropped.
+    pub fn load(&mut self, lines: Vec<Line>) -> Result<usize, Refused>
+        ensures accepted { IfOk result (λ count. (loaded self.old.limit lines.items ≡ Ok self.new.trace) × (count ≡ length self.new.trace)) }
+        ensures refused { TellsRefusals (loaded self.old.limit lines.items) result }
+        ensures memory { result ≡ Err Refused.Memory → IsOk (loaded self.old.limit lines.items) }
+        ensures done { IsOk (loaded self.old.limit lines.items) → IsOkUnless result Refused.Memory }
+        ensures unchanged { OnErr result (self.new ≡ self.old) }
+        ensures limit { self.new.limit ≡ self.old.limit }
+    {
+        if lines.len() > self.limit {
+            return Err(Refused::Full);
+        }
+        self.lines = lines;
+        Ok(self.lines.len())
+    }
+
+    /// Puts the line that the bytes spell at a position, from 1 to one past the last, and answers the new count.
+    /// The lines from there on move up by one.
+    ///
+    /// It looks for `Position` first, then for `Full`, where the session holds as many lines as its limit, then for
+    /// the first fault of the line, and answers `Memory` only where none of these comes.
+    pub fn insert(&mut self, position: usize, line: &[u8]) -> Result<usize, Refused>
+        ensures accepted { IfOk result (λ count. (inserted self.old.limit self.old.trace position line.now ≡ Ok self.new.trace) × (count ≡ length self.new.trace)) }
+        ensures refused { TellsRefusals (inserted self.old.limit self.old.trace position line.now) result }
+        ensures memory { result ≡ Err Refused.Memory → IsOk (inserted self.old.limit self.old.trace position line.now) }
+        ensures done { IsOk (inserted self.old.limit self.old.trace position line.now) → IsOkUnless result Refused.Memory }
+        ensures unchanged { OnErr result (self.new ≡ self.old) }
+        ensures limit { self.new.limit ≡ self.old.limit }
+    {
+        if !is_position(position, self.lines.len() + 1) {
+            return Err(Refused::Position);
+        }
+        if self.lines.len() >= self.limit {
+            return Err(Refused::Full);
+        }
+        let line = parse_line(self.alloc, line)?;
+        self.lines.insert(position - 1, line)?;
+        Ok(self.lines.len())
+    }
+
+    /// Takes the line at a position out, and answers the new count. Those behind it move down by one.
+    ///
+    /// `Position` where no line stands there, and `Memory` where memory runs out.
+    pub fn delete(&mut self, position: usize) -> Result<usize, Refused>
+        ensures accepted { IfOk result (λ count. (deleted self.old.trace position ≡ Ok self.new.trace) × (count ≡ length self.new.trace)) }
+        ensures refused { TellsRefusals (deleted self.old.trace position) result }
+        ensures memory { result ≡ Err Refused.Memory → IsOk (deleted self.old.trace position) }
+        ensures done { IsOk (deleted self.old.trace position) → IsOkUnless result Refused.Memory }
+        ensures unchanged { OnErr result (self.new ≡ self.old) }
+        ensures limit { self.new.limit ≡ self.old.limit }
+    {
+        if !is_position(position, self.lines.len()) {
+            return Err(Refused::Position);
+        }
+        self.lines.remove(position - 1);
+        Ok(self.lines.len())
+    }
+
+    /// Puts the line that the bytes spell in place of the one at a position, and answers the count.
+    ///
+    /// It looks for `Position` first, then for the first fault of the line, and answers `Memory` only where none of
+    /// these comes.
+    pub fn replace(&mut self, position: usize, line: &[u8]) -> Result<usize, Refused>
+        ensures accepted { IfOk result (λ count. (replaced self.old.trace position line.now ≡ Ok self.new.trace) × (count ≡ length self.new.trace)) }
+        ensures refused { TellsRefusals (replaced self.old.trace position line.now) result }
+        ensures memory { result ≡ Err Refused.Memory → IsOk (replaced self.old.trace position line.now) }
+        ensures done { IsOk (replaced self.old.trace position line.now) → IsOkUnless result Refused.Memory }
+        ensures unchanged { OnErr result (self.new ≡ self.old) }
+        ensures limit { self.new.limit ≡ self.old.limit }
+    {
+        if !is_position(position, self.lines.len()) {
+            return Err(Refused::Position);
+        }
+        self.lines[position - 1] = parse_line(self.alloc, line)?;
+        Ok(self.lines.len())
+    }
+
+    /// The report of the trace, checked from its first line under the usual start. Only want of memory refuses it.
+    pub fn report(&self) -> Result<Vec<u8>, Refused>
+        ensures report { IfOk result (λ text. text.items ≡ report usual self.now.trace) }
+        ensures only { IsOkUnless result Refused.Memory }
+    {
+        let mut checker = Checker::new(self.alloc);
+        for line in &self.lines {
+            checker.line(line)?;
+        }
+        Ok(checker.report()?)
+    }
+
+    /// Makes one edit, as `insert`, `delete` and `replace` do.
+    pub fn edit(&mut self, edit: &Edit<'_>) -> Result<usize, Refused>
+        ensures accepted { IfOk result (λ count. (edited self.old.limit self.old.trace edit.now ≡ Ok self.new.trace) × (count ≡ length self.new.trace)) }
+        ensures refused { TellsRefusals (edited self.old.limit self.old.trace edit.now) result }
+        ensures memory { result ≡ Err Refused.Memory → IsOk (edited self.old.limit self.old.trace edit.now) }
+        ensures done { IsOk (edited self.old.limit self.old.trace edit.now) → IsOkUnless result Refused.Memory }
+        ensures unchanged { OnErr result (self.new ≡ self.old) }
+        ensures limit { self.new.limit ≡ self.old.limit }
+    {
+        match *edit {
+            Edit::Insert { position, line } => self.insert(position, line),
+            Edit::Delete { position } => self.delete(position),
+            Edit::Replace { position, line } => self.replace(position, line),
+        }
+    }
+
+    /// Makes edits one after the other, and answers what each of them answered. One that is refused leaves the
+    /// trace as it was, and the next is made.
+    ///
+    /// `Memory` where there is no memory for the answers. No edit is made then.
+    pub fn apply(&mut self, edits: &[Edit<'_>]) -> Result<Vec<Result<usize, Refused>>, Refused>
+        // Each edit was made and has its answer.
+        ensures each { IfOk result (λ answered. length answered.items ≡ length edits.now) }
+        // The trace is that which the accepted edits give, and each answer is that of its edit.
+        ensures trace { IfOk result (λ answered. self.new.trace ≡ after self.old.limit self.old.trace edits.now (wanted answered.items)) }
+        ensures answers { IfOk result (λ answered. answered.items ≡ answers self.old.limit self.old.trace edits.now (wanted answered.items)) }
+        ensures unchanged { OnErr result (self.new ≡ self.old) }
+        ensures limit { self.new.limit ≡ self.old.limit }
+        ensures only { IsOkUnless result Refused.Memory }
+    {
+        let mut answered = Vec::with_capacity(self.alloc, edits.len())?;
+        for edit in edits {
+            let answer = self.edit(edit);
+            answered.push(answer).unwrap();
+        }
+        Ok(answered)
+    }
+
+    /// Makes edits one after the other, as `apply` does, and reports the trace that they leave.
+    ///
+    /// `Memory` where there is no memory for the answers. No edit is made then.
+    pub fn report_after(&mut self, edits: &[Edit<'_>]) -> Result<Edited, Refused>
+        // After any edits, the report is that of checking anew the trace which the accepted edits give.
+        ensures report { IfOk result (λ r. IfOk r.report (λ text. text.items ≡ report usual (after self.old.limit self.old.trace edits.now (wanted r.answers.items)))) }
+        ensures report_only { IfOk result (λ r. IsOkUnless r.report Refused.Memory) }
+        ensures each { IfOk result (λ r. length r.answers.items ≡ length edits.now) }
+        ensures trace { IfOk result (λ r. self.new.trace ≡ after self.old.limit self.old.trace edits.now (wanted r.answers.items)) }
+        ensures answers { IfOk result (λ r. r.answers.items ≡ answers self.old.limit self.old.trace edits.now (wanted r.answers.items)) }
+        ensures unchanged { OnErr result (self.new ≡ self.old) }
+        ensures limit { self.new.limit ≡ self.old.limit }
+        ensures only { IsOkUnless result Refused.Memory }
+    {
+        let answers = self.apply(edits)?;
+        Ok(Edited {
+            answers,
+            report: self.report(),
+        })
+    }
+}
+
+#[cfg(test)]
+mod tests;
