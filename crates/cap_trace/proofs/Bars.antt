@@ -79,8 +79,7 @@ both_ways : (t : List ℕ) → (takes_all flag_step not false t ≡ going_on (cu
 unfolding takes_all going_on
 both_ways [] = (refl, refl)
 both_ways (c ∷ cs) =
-    let more = both_ways cs in
-    (
+    let more = both_ways cs in (
       one_step false c cs ∙ inside_step c cs (eqb c 124) (is_flag_byte c) refl refl more.0 more.1,
       one_step true c cs ∙ begin_step c cs (eqb c 124) (is_ascii_uppercase c) refl refl more.0,
     )

@@ -1,6 +1,6 @@
 -- Texts without commas, brackets and quotes, and other texts that can be a part.
-use Rattle.std.proofs.Common.{◌≡◌, ℕ, ◌+◌, ◌*◌, ◌-◌, ◌<◌, ◌≤◌, ◌&&◌, ◌||◌, Bool, true, false, cond, not, eqb, leb, List, [], ◌∷◌, ◌++◌, length, Option, Some, None, refl, sym, ap, subst, ◌∙◌, arith, tests, ◌⊎◌, inl, inr}
-use Rattle.std.specs.Prelude.{option_map, nat_le}
+use Rattle.std.proofs.Common.{◌≡◌, ℕ, ◌+◌, ◌*◌, ◌-◌, ◌<◌, ◌&&◌, ◌||◌, Bool, true, false, cond, not, eqb, leb, List, [], ◌∷◌, ◌++◌, length, Option, Some, None, refl, sym, ap, subst, ◌∙◌, arith, tests, ◌⊎◌, inl, inr}
+use Rattle.std.specs.Prelude.{option_map}
 use Rattle.std.specs.List.{list_all, slice_split}
 use Rattle.std.specs.Char.{is_ascii_digit, is_ascii_uppercase}
 use Rattle.std.specs.Str.{bytes_eq}
@@ -10,7 +10,7 @@ use Rattle.cap_trace.specs.declared.quotes.Quoting.{Quoting}
 use Rattle.cap_trace.specs.declared.quotes.Quoting.TheVariants.{Outside, Inside, Skipping}
 use Rattle.cap_trace.specs.declared.fields.Place.{Place}
 use Rattle.cap_trace.specs.declared.fields.Place.TheVariants.{Between, Slash, Digits, OneDigit}
-use Rattle.cap_trace.specs.Quotes.{after, stops}
+use Rattle.cap_trace.specs.Quotes.{after}
 use Rattle.cap_trace.specs.Fields.{is_flag_byte, is_word, is_flags, is_plain, hex_digit, is_escaped, second_digit, item_step, is_between, are_items, quoted}
 use Rattle.cap_trace.specs.Steps.{takes_all}
 use Rattle.cap_trace.specs.FlagSteps.{flag_step}
