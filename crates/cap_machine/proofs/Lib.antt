@@ -1,4 +1,3 @@
-pub mod Needs
 pub mod Turns
 pub mod Tables
 pub mod Spoken

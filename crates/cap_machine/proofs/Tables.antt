@@ -1,11 +1,13 @@
 -- Tables, by look-up.
-use Rattle.std.proofs.Common.{◌≡◌, ℕ, Option, Some, None, ap}
+use Rattle.std.proofs.Common.{◌≡◌, ℕ, [], ◌∷◌, ◌++◌, if◌then◌else◌, ◌==◌, List, Option, Some, None, refl, ap}
 use Rattle.std.specs.Prelude.{MatchOption}
 use Rattle.std.specs.Option.{option_map_or, IsSomeAnd}
 use Rattle.std.specs.Ordering.{nat_cmp}
 use Rattle.std.specs.BTreeMap.{BTreeMap, IsClone, get, is_at}
 use Rattle.std.proofs.lemmas.Map.Entries.{lookup_clone}
 use Rattle.cap_machine.specs.declared.table.Process.{Process}
+use Rattle.cap_machine.specs.declared.cell.Cell.{Cell}
+use Rattle.cap_machine.specs.State.{listed_cell}
 use Rattle.cap_machine.specs.Table.{IsSame}
 
 -- what is asked of a process that may be there is the same of its copy
@@ -19,3 +21,8 @@ pub asked_of_clone : {R : Type 0} (ask : Process → R) (d : R) (es fs : BTreeMa
 asked_of_clone ask d es fs p follows e =
     same_asked ask d (get nat_cmp es p) (get nat_cmp fs p) follows
     (lookup_clone (λ (x y : ℕ). y ≡ x) IsSame (is_at (nat_cmp p)) (λ x y k. ap (is_at (nat_cmp p)) k) es.entries fs.entries e)
+
+-- one more cell in a list of cells
+pub listed-more : (rest : Cell) (cells : List (ℕ × Cell)) (entry : ℕ × Cell) (f : ℕ) → listed_cell rest (cells ++ entry ∷ []) f ≡ (if f == entry.0 then entry.1 else listed_cell rest cells f)
+listed-more rest [] entry f = refl
+listed-more rest (first ∷ cells) entry f = listed-more (if f == first.0 then first.1 else rest) cells entry f

@@ -1,5 +1,7 @@
 -- What an effect does to one cell and to one mode; me is the process of the line.
-use Rattle.std.specs.Prelude.{ℕ, ◌==◌, ◌&&◌, ◌||◌, if◌then◌else◌}
+use Rattle.std.specs.Prelude.{◌≡◌, ℕ, ◌==◌, ◌&&◌, ◌||◌, ◌<◌, ◌^◌, if◌then◌else◌}
+use Rattle.cap_trace.specs.declared.line.Answer.{Answer}
+use Rattle.cap_trace.specs.declared.line.Answer.TheVariants as answers
 use Rattle.cap_machine.specs.declared.cell.Cell.TheVariants.{Unknown}
 use Rattle.cap_machine.specs.declared.cell.Mode.TheVariants.{Inside, Outside, Unsure}
 use Rattle.cap_machine.specs.declared.rule.Effect.{Effect}
@@ -30,3 +32,16 @@ effect_turn Exec me p = stays
 effect_turn (Give g c) me p = stays
 effect_turn (GiveTwo g h c) me p = stays
 effect_turn (Change g op h) me p = stays
+
+-- the effect changes no mode
+abbrev pub OnlyCells : Effect → Type 0
+OnlyCells effect = (me p : ℕ) → effect_turn effect me p ≡ stays
+
+-- what a call made fits a number of 32 bits
+abbrev pub FitsMade : Answer → Type 0
+FitsMade (answers.Made n) = n < 2 ^ 32
+FitsMade _ = Unit {0}
+
+abbrev pub FitsPair : Answer → Type 0
+FitsPair (answers.Pair n m) = (n < 2 ^ 32) × (m < 2 ^ 32)
+FitsPair _ = Unit {0}

@@ -1,7 +1,11 @@
 pub mod State
 pub mod Op
+pub mod Flags
+pub mod Parts
+pub mod PlaceSeen
 pub mod Touch
 pub mod History
+pub mod Needs
 pub mod Rule
 pub mod Judge
 pub mod Check

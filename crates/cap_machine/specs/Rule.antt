@@ -1,75 +1,151 @@
--- What a line is judged by. Which rights a call needs stands in a table of names, to be held against rights(4).
-use Rattle.std.specs.Prelude.{ℕ, ◌==◌, false, if◌then◌else◌, List, [], ◌∷◌, Some, codes, find}
-use Rattle.std.specs.Option.{option_map_or}
-use Rattle.std.specs.Str.{bytes_eq}
-use Rattle.cap_rights.specs.Names.{table}
-use Rattle.cap_rights.specs.Rights.{none, join, without_full}
+-- What a line is judged by.
+use Rattle.std.specs.Prelude.{ℕ, ◌==◌, ◌&&◌, ◌||◌, not, Bool, true, false, if◌then◌else◌, List, [], ◌∷◌, Option, Some, None}
+use Rattle.std.specs.List.{list_any, list_all}
+use Rattle.cap_rights.specs.Rights.{none, all, without_full}
 use Rattle.cap_trace.specs.declared.line.Item.{Item}
 use Rattle.cap_trace.specs.declared.line.Item.TheVariants as items
 use Rattle.cap_trace.specs.declared.line.Call.{Call}
 use Rattle.cap_trace.specs.declared.line.Call.TheVariants as calls
-use Rattle.cap_trace.specs.declared.line.FdCall.{FdCall}
-use Rattle.cap_trace.specs.declared.line.FdCall.TheVariants.{Read, Write, Close}
+use Rattle.cap_trace.specs.declared.line.Dir.{Dir}
 use Rattle.cap_trace.specs.declared.line.Answer.{Answer}
 use Rattle.cap_trace.specs.declared.line.Answer.TheVariants as answers
+use Rattle.cap_trace.specs.declared.calls.FdCall.{FdCall}
+use Rattle.cap_trace.specs.declared.calls.FdCall.TheVariants.{Read, Readv, Pread, Preadv, Write, Writev, Pwrite, Pwritev, Lseek, Fstat, Fsync, Ftruncate, Close, Dup}
+use Rattle.cap_trace.specs.declared.calls.BareCall.{BareCall}
+use Rattle.cap_trace.specs.declared.calls.BareCall.TheVariants.{Fork, CapEnter}
 use Rattle.cap_trace.specs.Entry.{Entry}
 use Rattle.cap_machine.specs.declared.rule.Class.{Class}
-use Rattle.cap_machine.specs.declared.rule.Class.TheVariants.{Allowed, Either}
+use Rattle.cap_machine.specs.declared.rule.Class.TheVariants.{Forbidden, Allowed, Either}
 use Rattle.cap_machine.specs.declared.rule.Reply.{Reply}
 use Rattle.cap_machine.specs.declared.rule.Reply.TheVariants.{Success, NotCapable, NotPermitted, Other}
+use Rattle.cap_machine.specs.declared.rule.Word.{Word}
 use Rattle.cap_machine.specs.declared.rule.Word.TheVariants.{Missing, Expanded}
 use Rattle.cap_machine.specs.declared.rule.Check.{Check}
-use Rattle.cap_machine.specs.declared.rule.Checks.TheVariants.{Nothing, One}
+use Rattle.cap_machine.specs.declared.rule.Checks.{Checks}
+use Rattle.cap_machine.specs.declared.rule.Checks.TheVariants.{Nothing, One, Two}
 use Rattle.cap_machine.specs.declared.rule.Demand.{Demand}
-
--- the rights that a name stands for, in the table of names
-unfoldable pub named : List ℕ → ℕ
-named name = option_map_or (λ row. row.1) (find (λ row. bytes_eq row.0 name) table) none
-
--- the rights that some names stand for together
-unfoldable pub rights : List (List ℕ) → ℕ
-rights [] = none
-rights (name ∷ more) = join (named name) (rights more)
-
--- what a call on one descriptor needs of it
-unfoldable pub needs : FdCall → ℕ
-needs Read = rights (codes "CAP_READ" ∷ [])
-needs Write = rights (codes "CAP_WRITE" ∷ [])
-needs Close = rights []
-
--- capability mode and a call on one descriptor
-abbrev pub fd_class : FdCall → Class
-fd_class Read = Allowed
-fd_class Write = Allowed
-fd_class Close = Allowed
-
--- a refusal is wrongful where the rights held cover what is needed
-abbrev pub fd_check : FdCall → ℕ → Check
-fd_check call f = record { fd = f; needs = needs call; excuse = Some (needs call) }
-
--- a limit needs the rights that it asks for: it can only take away. Asking for ALL of a descriptor that was limited to all of
--- them by name is refused rightly
-abbrev pub limit_check : ℕ → ℕ → Check
-limit_check f asked = record { fd = f; needs = without_full asked; excuse = Some asked }
+use Rattle.cap_machine.specs.Flags.{all_known}
+use Rattle.cap_machine.specs.Parts.{Part, part, is_empty, is_global, below}
+use Rattle.cap_machine.specs.Needs.{fd_needs, fd_excuse, send_needs, send_to_needs, accept_needs, fcntl_needs, mmap_needs, mmap_excuse, at_needs, at_flags_needs, symlink_needs, rename_from_needs, rename_to_needs, link_from_needs, link_to_needs, plain_flags, plain_at_flags}
 
 -- intro(2), errno(2): 93 is ENOTCAPABLE, 94 is ECAPMODE
 abbrev pub reply : Answer → Reply
 reply (answers.Fault e) = if e == 93 then NotCapable else if e == 94 then NotPermitted else Other
 reply _ = Success
 
+abbrev pub check_of : ℕ → ℕ → Option ℕ → Check
+check_of f needs excuse = record { fd = f; needs = needs; excuse = excuse }
+
+-- ---- a call on one descriptor
+
+abbrev pub on_one : Class → Check → Answer → Demand
+on_one class check answer = record { class = class; checks = One check; reply = reply answer; at = false; word = Missing }
+
+-- capsicum(4) allows these on a descriptor in capability mode
+abbrev pub fd_class : FdCall → Class
+fd_class Read = Allowed
+fd_class Readv = Allowed
+fd_class Pread = Allowed
+fd_class Preadv = Allowed
+fd_class Write = Allowed
+fd_class Writev = Allowed
+fd_class Pwrite = Allowed
+fd_class Pwritev = Allowed
+fd_class Lseek = Allowed
+fd_class Fstat = Allowed
+fd_class Fsync = Allowed
+fd_class Ftruncate = Allowed
+fd_class Close = Allowed
+fd_class Dup = Allowed
+fd_class _ = Either
+
+-- where there is nothing to check
+abbrev pub on_none : Class → Answer → Demand
+on_none class answer = record { class = class; checks = Nothing; reply = reply answer; at = false; word = Missing }
+
+abbrev pub fcntl_demand : Option ℕ → ℕ → Answer → Demand
+fcntl_demand None f answer = on_none Either answer
+fcntl_demand (Some needs) f answer = on_one Either (check_of f needs None) answer
+
+-- a limit needs the rights that it asks for, since it can only take away; and what it gives beyond is told by a word of its own.
+-- ALL is refused rightly to a descriptor that was limited to all 63 by name
+abbrev pub limit_demand : ℕ → ℕ → Answer → Demand
+limit_demand f asked answer = record { class = Allowed; checks = One (check_of f (without_full asked) (Some asked)); reply = reply answer; at = false; word = Expanded }
+
+-- ---- a call at a directory
+
+abbrev pub has_global : List Part → Bool
+has_global parts = list_any (λ (x : Part). is_global x.dir x.path) parts
+
+abbrev pub has_empty : List Part → Bool
+has_empty parts = list_any (λ (x : Part). is_empty x.path) parts
+
+-- errno 93 may come from a path that leaves its directory. It is judged where the directories were never limited, and not where an
+-- empty path or flags of unknown meaning stand there
+abbrev pub at_excuse : Bool → List Part → Option ℕ
+at_excuse is_plain parts = if is_plain && not (has_empty parts) then Some all else None
+
+-- the directory of a relative path is checked
+abbrev pub part_check : Option ℕ → Part → Option Check
+part_check excuse x = elim (below x.dir x.path) [ None ↦ None | Some f ↦ Some (check_of f x.needs excuse) ]
+
+abbrev pub both : Option Check → Option Check → Checks
+both None None = Nothing
+both (Some a) None = One a
+both None (Some b) = One b
+both (Some a) (Some b) = Two a b
+
+abbrev pub part_checks : Option ℕ → List Part → Checks
+part_checks excuse [] = Nothing
+part_checks excuse (a ∷ []) = both (part_check excuse a) None
+part_checks excuse (a ∷ b ∷ more) = both (part_check excuse a) (part_check excuse b)
+
+abbrev pub at_demand : Bool → List Part → Answer → Demand
+at_demand is_plain parts answer = record {
+  class = if has_global parts then Forbidden else Either;
+  checks = part_checks (at_excuse is_plain parts) parts;
+  reply = reply answer;
+  at = true;
+  word = Missing;
+}
+
+-- ---- each form of call
+
+abbrev pub bare_class : BareCall → Class
+bare_class Fork = Allowed
+bare_class CapEnter = Allowed
+bare_class _ = Either
+
 abbrev pub call_demand : Call → Answer → Demand
-call_demand (calls.OnFd call f) answer =
-    record { class = fd_class call; checks = One (fd_check call f); reply = reply answer; at = false; word = Missing }
-call_demand (calls.RightsLimit f asked) answer =
-    record { class = Allowed; checks = One (limit_check f asked); reply = reply answer; at = false; word = Expanded }
+call_demand (calls.OnFd call f) answer = on_one (fd_class call) (check_of f (fd_needs call) (fd_excuse call)) answer
+call_demand (calls.Send call f) answer = on_one Either (check_of f send_needs (Some send_needs)) answer
+call_demand (calls.SendTo call f) answer = on_one Either (check_of f send_to_needs (Some send_to_needs)) answer
+call_demand (calls.Accept4 f flags) answer = on_one Either (check_of f accept_needs (Some accept_needs)) answer
+call_demand (calls.Dup2 f g) answer = on_one Allowed (check_of f none (Some none)) answer
+call_demand (calls.Fcntl f command) answer = fcntl_demand (fcntl_needs command) f answer
+call_demand (calls.FcntlDup command f g) answer = fcntl_demand (Some none) f answer
+call_demand (calls.FcntlSetFd f flags) answer = fcntl_demand (Some none) f answer
+call_demand (calls.Mmap f protection kind) answer = on_one Either (check_of f (mmap_needs protection kind) (Some mmap_excuse)) answer
+call_demand (calls.RightsLimit f asked) answer = limit_demand f asked answer
+call_demand (calls.Open path flags) answer = on_none Forbidden answer
+call_demand (calls.OnPath call path) answer = on_none Forbidden answer
+call_demand (calls.OnPaths call path other) answer = on_none Forbidden answer
+call_demand (calls.At call dir path) answer = at_demand true (part dir path (at_needs call) ∷ []) answer
+call_demand (calls.AtFlags call dir path flags) answer = at_demand (all_known (plain_flags call) flags) (part dir path (at_flags_needs call flags) ∷ []) answer
+call_demand (calls.SymlinkAt target dir path) answer = at_demand true (part dir path symlink_needs ∷ []) answer
+call_demand (calls.RenameAt dir path to_dir to_path) answer = at_demand true (part dir path rename_from_needs ∷ part to_dir to_path rename_to_needs ∷ []) answer
+call_demand (calls.LinkAt dir path to_dir to_path flags) answer = at_demand (all_known plain_at_flags flags) (part dir path link_from_needs ∷ part to_dir to_path link_to_needs ∷ []) answer
+call_demand (calls.OnFlags call flags) answer = on_none Either answer
+call_demand (calls.Bare call) answer = on_none (bare_class call) answer
+call_demand (calls.Other name args) answer = on_none Either answer
 
 -- nothing is said of a marker
 abbrev pub unjudged : Demand
 unjudged = record { class = Either; checks = Nothing; reply = Other; at = false; word = Missing }
 
 abbrev pub item_demand : Item → Demand
-item_demand (items.Start fds) = unjudged
 item_demand (items.Call call answer) = call_demand call answer
+item_demand _ = unjudged
 
 -- what a line is judged by
 abbrev pub demand : Entry → Demand

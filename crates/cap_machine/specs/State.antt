@@ -1,5 +1,5 @@
 -- What is known of every process: of each of its descriptors, and whether it is in capability mode (capsicum(4)).
-use Rattle.std.specs.Prelude.{ℕ}
+use Rattle.std.specs.Prelude.{ℕ, ◌==◌, if◌then◌else◌, List, [], ◌∷◌}
 use Rattle.cap_machine.specs.declared.cell.Cell.{Cell}
 use Rattle.cap_machine.specs.declared.cell.Cell.TheVariants.{Unknown}
 use Rattle.cap_machine.specs.declared.cell.Mode.{Mode}
@@ -13,3 +13,15 @@ pub record State : Type 0 where
 -- the usual start: nothing is known of any process
 abbrev pub usual : State
 usual = record { cell = λ p f. Unknown; mode = λ p. Unsure }
+
+-- the cell of descriptor f among these, and else the rest; of a descriptor that is listed twice the last cell counts
+abbrev pub listed_cell : Cell → List (ℕ × Cell) → ℕ → Cell
+listed_cell rest [] f = rest
+listed_cell rest (entry ∷ more) f = listed_cell (if f == entry.0 then entry.1 else rest) more f
+
+-- process p has this mode and these cells, and all else is as before
+abbrev pub with_listed : State → ℕ → Mode → Cell → List (ℕ × Cell) → State
+with_listed s me m rest cells = record {
+  cell = λ p f. if p == me then listed_cell rest cells f else s.cell p f;
+  mode = λ p. if p == me then m else s.mode p;
+}

@@ -2,7 +2,7 @@
 
 ghost use Rattle.std.specs.Prelude.{◌≡◌};
 ghost use Rattle.cap_rights.specs.Rights.{without_full, named as all_named};
-ghost use Rattle.cap_machine.specs.Op.{applied, limit};
+ghost use Rattle.cap_machine.specs.Op.{applied, derive, limit, narrow};
 
 use cap_rights::{RightBits, RightSet};
 
@@ -39,14 +39,43 @@ pub struct Op {
     pub mask: Option<RightSet>,
 }
 
+/// All rights by name, without FULL.
+fn all_by_name() -> RightSet
+    ensures { result ≡ all_named }
+{
+    RightSet::named(RightBits(u64::MAX >> 1))
+}
+
 /// The set without FULL: what is left of it for a descriptor that was limited.
 pub(crate) fn without_full_of(rights: &RightSet) -> RightSet
     ensures { result ≡ without_full rights.now }
 {
-    rights.meet(&RightSet::named(RightBits(u64::MAX >> 1)))
+    rights.meet(&all_by_name())
 }
 
 impl Op {
+    /// What a new descriptor has of the one that it comes from (dup(2), openat(2)).
+    pub fn derive() -> Op
+        ensures { result ≡ derive }
+    {
+        Op {
+            unknown: Cell::Unknown,
+            closed: Cell::Unknown,
+            mask: None,
+        }
+    }
+
+    /// What is left of a cell once its ioctls or fcntls were limited: it isn't one that was never limited.
+    pub fn narrow() -> Op
+        ensures { result ≡ narrow }
+    {
+        Op {
+            unknown: Cell::Unknown,
+            closed: Cell::Unknown,
+            mask: Some(all_by_name()),
+        }
+    }
+
     /// What cap_rights_limit(2) makes of a cell where it was asked for these rights and succeeded.
     pub fn limit(asked: &RightSet) -> Op
         ensures { result ≡ limit asked.now }

@@ -3,6 +3,7 @@
 ghost use Rattle.std.specs.Prelude.{◌≡◌, ◌≤◌, ◌*◌, [], ◌∷◌, ◌++◌, ◌<◌, ◌^◌, ◌↔◌, List, IsTrue, IfOk, OnOk};
 
 use crate::rule::rule_of;
+use crate::start::Start;
 use crate::table::Table;
 use crate::words::{put_count, put_verdict};
 use cap_rights::NoMemory;
@@ -25,14 +26,29 @@ impl Checker {
     ghost use Rattle.cap_machine.specs.State.{State, usual};
     ghost use Rattle.cap_machine.specs.Check.{check};
     ghost use Rattle.cap_machine.specs.Report.{report};
+    ghost use Rattle.cap_machine.specs.Table.{start_state, Keeps};
     ghost use Rattle.cap_machine.specs.Checked.{HasChecked, lines_of};
 
     /// A checker that was given no line, from the usual start. It grows nothing.
     pub fn new(alloc: Global) -> Checker
         ensures { HasChecked result usual [] }
     {
+        Checker::over(alloc, Table::unknown(alloc))
+    }
+
+    /// A checker that was given no line, from another start.
+    pub fn from_start(alloc: Global, start: &Start) -> Result<Checker, NoMemory>
+        ensures { IfOk result (λ checker. HasChecked checker (start_state start.now) []) }
+    {
+        let table = start.table.copy(alloc)?;
+        Ok(Checker::over(alloc, table))
+    }
+
+    fn over(alloc: Global, table: Table) -> Checker
+        ensures { (s : State) → Keeps table s → HasChecked result s [] }
+    {
         Checker {
-            table: Table::unknown(alloc),
+            table,
             lines: 0,
             findings: 0,
             text: Vec::new(alloc),

@@ -7,10 +7,17 @@
 
 mod cell;
 mod checker;
+mod demands;
+mod effects;
+mod flags;
 mod laws;
+mod needs;
+mod parts;
 mod rule;
 mod start;
 mod table;
+#[cfg(test)]
+mod tests;
 mod trace;
 mod verdict;
 mod words;

@@ -1,13 +1,15 @@
 //! The rule of a line: what it is judged by, and what it does.
 
 ghost use Rattle.std.specs.Prelude.{◌≡◌, ℕ};
-ghost use Rattle.cap_machine.specs.Rule.{needs, fd_class, fd_check, limit_check, reply, call_demand, demand};
-ghost use Rattle.cap_machine.specs.Touch.{touch, turn, call_touch, stays};
+ghost use Rattle.cap_machine.specs.Rule.{demand, unjudged};
+ghost use Rattle.cap_machine.specs.Touch.{touch, turn};
 ghost use Rattle.cap_machine.specs.Effect.{effect_touch, effect_turn};
 
-use crate::cell::{Cell, Op, without_full_of};
-use cap_rights::{RightBits, RightSet};
-use cap_trace::{Answer, Call, Fd, FdCall, Item, Line, Pid};
+use crate::cell::{Cell, Op};
+use crate::demands::demand_of;
+use crate::effects::effect_of;
+use cap_rights::RightSet;
+use cap_trace::{Fd, Item, Line, Pid};
 
 /// How a call stands to capability mode (cap_enter(2)).
 #[derive(Clone, Copy, Debug, PartialEq, Eq)]
@@ -110,75 +112,6 @@ pub struct Rule<'a> {
     pub effect: Effect<'a>,
 }
 
-/// The rights that a call on one descriptor needs of it (rights(4)).
-#[tactic(auto, using(crate::proofs::Needs::needs_read, crate::proofs::Needs::needs_write, crate::proofs::Needs::needs_close))]
-fn needs_of(call: FdCall) -> RightSet
-    ensures { result ≡ needs call }
-{
-    match call {
-        FdCall::Read => RightSet::named(RightBits::CAP_READ),
-        FdCall::Write => RightSet::named(RightBits::CAP_WRITE),
-        FdCall::Close => RightSet::none(),
-    }
-}
-
-fn reply_of(answer: &Answer) -> Reply
-    ensures { result ≡ reply answer.now }
-{
-    match answer {
-        Answer::Fault(93) => Reply::NotCapable,
-        Answer::Fault(94) => Reply::NotPermitted,
-        Answer::Fault(_) => Reply::Other,
-        _ => Reply::Success,
-    }
-}
-
-fn demand_of(call: &Call, answer: &Answer) -> Demand
-    ensures { result ≡ call_demand call.now answer.now }
-{
-    let (class, check, word) = match call {
-        Call::OnFd(call, fd) => {
-            let needs = needs_of(*call);
-            let check = Check {
-                fd: *fd,
-                needs,
-                excuse: Some(needs),
-            };
-            (Class::Allowed, check, Word::Missing)
-        }
-        Call::RightsLimit(fd, asked) => {
-            let check = Check {
-                fd: *fd,
-                needs: without_full_of(asked),
-                excuse: Some(*asked),
-            };
-            (Class::Allowed, check, Word::Expanded)
-        }
-    };
-    Demand {
-        class,
-        checks: Checks::One(check),
-        reply: reply_of(answer),
-        at: false,
-        word,
-    }
-}
-
-/// What a call does.
-fn effect_of(call: &Call, answer: &Answer) -> Effect<'static>
-    ensures cells { (me p f : ℕ) → effect_touch result me p f ≡ call_touch call.now answer.now me p f }
-    ensures modes { (me p : ℕ) → effect_turn result me p ≡ stays }
-{
-    match (call, answer) {
-        (Call::OnFd(FdCall::Close, _), Answer::Fault(9)) => Effect::Keep,
-        (Call::OnFd(FdCall::Close, fd), Answer::Fault(_)) => Effect::Give(*fd, Cell::Unknown),
-        (Call::OnFd(FdCall::Close, fd), _) => Effect::Give(*fd, Cell::Closed),
-        (Call::OnFd(_, _), _) => Effect::Keep,
-        (Call::RightsLimit(_, _), Answer::Fault(_)) => Effect::Keep,
-        (Call::RightsLimit(fd, asked), _) => Effect::Change(*fd, Op::limit(asked), *fd),
-    }
-}
-
 /// The rule of a line.
 ///
 /// The demand follows rights(4) and cap_enter(2); the effect follows what the line records, close(2) and
@@ -190,19 +123,34 @@ pub fn rule_of(line: &Line) -> Rule<'_>
     ensures modes { (p : ℕ) → effect_turn result.effect line.now.pid p ≡ turn line.now p }
 {
     match &line.item {
-        Item::Start(fds) => Rule {
-            demand: Demand {
-                class: Class::Either,
-                checks: Checks::Nothing,
-                reply: Reply::Other,
-                at: false,
-                word: Word::Missing,
-            },
-            effect: Effect::Start(fds.as_slice()),
-        },
         Item::Call { call, answer } => Rule {
             demand: demand_of(call, answer),
             effect: effect_of(call, answer),
         },
+        Item::Start(fds) => Rule {
+            demand: unjudged_demand(),
+            effect: Effect::Start(fds.as_slice()),
+        },
+        Item::Exit => Rule {
+            demand: unjudged_demand(),
+            effect: Effect::Exit,
+        },
+        Item::Foreign(fd) => Rule {
+            demand: unjudged_demand(),
+            effect: Effect::Give(*fd, Cell::Unknown),
+        },
+    }
+}
+
+/// Nothing is said of a marker.
+fn unjudged_demand() -> Demand
+    ensures { result ≡ unjudged }
+{
+    Demand {
+        class: Class::Either,
+        checks: Checks::Nothing,
+        reply: Reply::Other,
+        at: false,
+        word: Word::Missing,
     }
 }

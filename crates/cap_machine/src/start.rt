@@ -1,11 +1,12 @@
 //! What is known before the first line of a trace.
 
-ghost use Rattle.std.specs.Prelude.{◌≡◌, ℕ};
-ghost use Rattle.cap_machine.specs.State.{usual};
+ghost use Rattle.std.specs.Prelude.{◌≡◌, OnOk, OnErr};
+ghost use Rattle.cap_machine.specs.State.{usual, with_listed};
 ghost use Rattle.cap_machine.specs.Table.{start_state};
 
 use crate::cell::{Cell, Mode};
 use crate::table::Table;
+use cap_rights::NoMemory;
 use cap_trace::{Fd, Pid};
 use std::alloc::Global;
 
@@ -23,6 +24,24 @@ impl Start {
         Start {
             table: Table::unknown(alloc),
         }
+    }
+
+    /// Adds what is known of a process: its mode, the cells that are listed, and that of all its other descriptors.
+    ///
+    /// Meant for a pid from 1 to 99,999 above all that were added, and strictly rising descriptors of at most 1,048,575.
+    /// Others do no harm: a process that was added before is put in place of what it was, and of a descriptor that is
+    /// listed twice the last cell counts. `NoMemory` leaves the start as it was.
+    pub fn add(
+        &mut self,
+        pid: Pid,
+        mode: Mode,
+        rest: Cell,
+        cells: Vec<(Fd, Cell)>,
+    ) -> Result<(), NoMemory>
+        ensures ok { OnOk result (start_state self.new ≡ with_listed (start_state self.old) pid mode rest cells.items) }
+        ensures err { OnErr result (start_state self.new ≡ start_state self.old) }
+    {
+        self.table.add(pid, mode, rest, &cells)
     }
 
     /// What is known of a descriptor of a process.

@@ -1,7 +1,8 @@
 //! The processes of which something is known, going forward: the meaning of a table is what its look-ups answer.
 
-ghost use Rattle.std.specs.Prelude.{◌≡◌, ℕ, IfOk, OnOk, ◌==◌, if◌then◌else◌};
+ghost use Rattle.std.specs.Prelude.{◌≡◌, ℕ, IfOk, OnOk, OnErr, ◌==◌, if◌then◌else◌};
 ghost use Rattle.std.specs.Option.{option_copied, option_map_or};
+ghost use Rattle.cap_machine.specs.State.{usual, listed_cell, with_listed};
 ghost use Rattle.cap_machine.specs.Touch.{started};
 ghost use Rattle.cap_machine.specs.Check.{said_of};
 ghost use Rattle.cap_machine.specs.Judge.{findings_in};
@@ -51,6 +52,27 @@ impl Process {
         Ok(Process {
             mode: Mode::Outside,
             rest: Cell::Closed,
+            cells: Rc::new(alloc, cells)?,
+        })
+    }
+
+    /// A process with this mode and these cells; of a descriptor that is listed twice the last counts.
+    fn listed(
+        alloc: Global,
+        mode: Mode,
+        rest: Cell,
+        listed: &[(Fd, Cell)],
+    ) -> Result<Process, NoMemory>
+        ensures cells { IfOk result (λ new. (f : ℕ) → cell_in new f ≡ listed_cell rest listed.now f) }
+        ensures mode { IfOk result (λ new. new.mode ≡ mode) }
+    {
+        let mut cells = BTreeMap::new(alloc);
+        for (fd, cell) in listed {
+            cells.insert(*fd, *cell)?;
+        }
+        Ok(Process {
+            mode,
+            rest,
             cells: Rc::new(alloc, cells)?,
         })
     }
@@ -119,8 +141,7 @@ pub(crate) struct Table {
 impl Table {
     /// The table in which nothing is known. It grows nothing.
     pub(crate) fn unknown(alloc: Global) -> Table
-        ensures cells { (p f : ℕ) → cell_of result p f ≡ Cell.Unknown }
-        ensures modes { (p : ℕ) → mode_of result p ≡ Mode.Unsure }
+        ensures { Keeps result usual }
     {
         Table {
             alloc,
@@ -152,10 +173,26 @@ impl Table {
 
     /// Puts a process in place of what was known.
     fn put(&mut self, pid: Pid, process: Process) -> Result<(), NoMemory>
-        ensures { OnOk result (Keeps self.new (with_process (state_of self.old) pid process)) }
+        ensures ok { OnOk result (Keeps self.new (with_process (state_of self.old) pid process)) }
+        ensures err { OnErr result (Keeps self.new (state_of self.old)) }
     {
         self.processes.insert(pid, process)?;
         Ok(())
+    }
+
+    /// Puts a process with this mode and these cells in place of what was known.
+    pub(crate) fn add(
+        &mut self,
+        pid: Pid,
+        mode: Mode,
+        rest: Cell,
+        cells: &[(Fd, Cell)],
+    ) -> Result<(), NoMemory>
+        ensures ok { OnOk result (Keeps self.new (with_listed (state_of self.old) pid mode rest cells.now)) }
+        ensures err { OnErr result (Keeps self.new (state_of self.old)) }
+    {
+        let process = Process::listed(self.alloc, mode, rest, cells)?;
+        self.put(pid, process)
     }
 
     /// Writes one cell.

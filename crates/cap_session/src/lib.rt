@@ -10,6 +10,8 @@ mod outcome;
 mod read;
 mod reading;
 mod refusal;
+#[cfg(test)]
+mod tests;
 mod write;
 
 pub use check::check_stream;

@@ -1,16 +1,16 @@
 -- A text is what was cut from it, and what was joined is cut there again.
-use Rattle.std.proofs.Common.{add-one, ◌≡◌, ℕ, suc, ◌+◌, ◌<◌, ◌&&◌, Bool, true, false, cond, not, eqb, ltb, List, [], ◌∷◌, ◌++◌, length, take, drop, Option, Some, None, refl, ap, subst, ◌∙◌, arith, inl, inr}
+use Rattle.std.proofs.Common.{add-one, ◌≡◌, ℕ, suc, ◌+◌, ◌-◌, ◌<◌, ◌&&◌, Bool, true, false, cond, not, eqb, ltb, List, [], ◌∷◌, ◌++◌, length, take, drop, Option, Some, None, refl, ap, subst, ◌∙◌, arith, inl, inr}
 use Rattle.std.specs.Prelude.{nat_eq}
-use Rattle.std.specs.List.{position_or_len, list_all, starts_with, onto_first, join_with_byte}
+use Rattle.std.specs.List.{position_or_len, list_all, starts_with, ends_with, onto_first, join_with_byte}
 use borrow.Author.Tests.{ltb-true}
 use Rattle.std.proofs.lemmas.List.{take_at, drop_at, length-append}
-use Rattle.std.proofs.lemmas.Bool.{eqb-true, lt-ltb}
+use Rattle.std.proofs.lemmas.Bool.{eqb-true, lt-ltb, le-ltb}
 use Rattle.std.proofs.lemmas.Bool.Decides.{Decides-eqb}
-use Rattle.std.proofs.lemmas.Slice.Eq.{starts_is}
+use Rattle.std.proofs.lemmas.Slice.Eq.{starts_is, ends_is}
 use Rattle.cap_trace.specs.declared.quotes.Quoting.{Quoting}
 use Rattle.cap_trace.specs.declared.quotes.Quoting.TheVariants.{Outside, Inside, Skipping}
 use Rattle.cap_trace.specs.Quotes.{after, stops, place, place_from, pieces, pieces_from, around, cut_at_byte, cut_outside}
-use Rattle.cap_trace.specs.Reading.{behind}
+use Rattle.cap_trace.specs.Reading.{behind, before}
 use Rattle.cap_trace.proofs.Quoted.{behind_one}
 
 -- ---- options and tests
@@ -224,3 +224,27 @@ pub pieces_takes : (t : List ℕ) → join_with_byte 44 (pieces t) ≡ t
 unfolding pieces
 pieces_takes [] = refl
 pieces_takes (c ∷ cs) = pieces_from_joined Outside (c ∷ cs)
+
+-- ---- a suffix
+
+pub before_takes : (p t r : List ℕ) → before p t ≡ Some r → t ≡ r ++ p
+before_takes p t r e =
+    let k = kept_some (ends_with nat_eq t p) (take (length t - length p) t) r e in
+    (ends_is Decides-eqb t p (ends_with nat_eq t p) refl).0 k.0 ∙ ap (λ (s : List ℕ). s ++ p) k.1
+
+pub before_again : (p r : List ℕ) → before p (r ++ p) ≡ Some r
+before_again p r =
+    let ends : ends_with nat_eq (r ++ p) p ≡ true = (ends_is Decides-eqb (r ++ p) p (ends_with nat_eq (r ++ p) p) refl).1 r refl in
+    rw ends (ap Some (take_at r p (length (r ++ p) - length p) (simp length-append (omega arith))))
+
+-- ---- no such byte
+
+none_byte : (c : ℕ) (t : List ℕ) → lacks c t ≡ true → position_or_len (is c) t ≡ length t
+none_byte c [] h = refl
+none_byte c (x ∷ xs) h = let p = both (not (is c x)) (lacks c xs) h in rw (p.0, none_byte c xs p.1) (omega arith)
+
+pub cut_none : (c : ℕ) (t : List ℕ) → lacks c t ≡ true → cut_at_byte c t ≡ None
+cut_none c t h =
+    let at = none_byte c t h in
+    let ge : ltb (length t) (length t) ≡ false = le-ltb _ _ (omega arith) in
+    rw (at, ge) refl

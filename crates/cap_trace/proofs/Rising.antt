@@ -4,7 +4,8 @@ use Rattle.std.proofs.lemmas.List.{append-nil}
 use Rattle.std.proofs.lemmas.Bool.{le-ltb, lt-ltb}
 use Rattle.cap_trace.specs.declared.fault.ReadFault.{ReadFault}
 use Rattle.cap_trace.specs.declared.fault.ReadFault.TheVariants as faults
-use Rattle.cap_trace.specs.Reading.{◌>>=◌, fd_at, fds_from, listed}
+use Rattle.cap_trace.specs.Reading.{◌>>=◌, fd_at, fds_from}
+use Rattle.cap_trace.specs.Seen.{fds_in}
 
 -- what went wrong, if anything did
 abbrev pub failure : {A : Type 0} → Result A ReadFault → Option ReadFault
@@ -46,32 +47,32 @@ tested true e r h = absurd cc
 tested false e r h = (refl, h)
 
 -- descriptors that rise are all that the parts spell
-pub rising_listed : (low : ℕ) (ts : List (List ℕ)) → failure (fds_from low ts) ≡ None → fds_from low ts ≡ Ok (listed ts)
-unfolding fds_from listed
+pub rising_listed : (low : ℕ) (ts : List (List ℕ)) → failure (fds_from low ts) ≡ None → fds_from low ts ≡ Ok (fds_in ts)
+unfolding fds_from fds_in
 rising_listed low [] h = refl
 rising_listed low (t ∷ ts) h =
     let a = not_failed (fd_at t) (λ f. cond (ltb f low) (Err faults.Argument) (fds_from (f + 1) ts) >>= λ fs. Ok (f ∷ fs)) h in
     let b = tested (ltb a.0 low) faults.Argument (fds_from (a.0 + 1) ts) (sym (failure-same (cond (ltb a.0 low) (Err faults.Argument) (fds_from (a.0 + 1) ts)) (λ fs. a.0 ∷ fs)) ∙ a.2) in
-    let all : listed (t ∷ ts) ≡ a.0 ∷ listed ts = ap (λ (r : Result ℕ ReadFault). elim r as (λ _. List ℕ) [ Ok f ↦ f ∷ listed ts | Err e ↦ listed ts ]) a.1 in
+    let all : fds_in (t ∷ ts) ≡ a.0 ∷ fds_in ts = ap (λ (r : Result ℕ ReadFault). elim r as (λ _. List ℕ) [ Ok f ↦ f ∷ fds_in ts | Err e ↦ fds_in ts ]) a.1 in
     rw (a.1, b.0, rising_listed (a.0 + 1) ts b.1) (ap Ok (sym all))
 
 -- ---- the same, as a loop takes them into memory
 
-listed_is : (t : List ℕ) (ts : List (List ℕ)) → listed (t ∷ ts) ≡ (elim (fd_at t) as (λ _. List ℕ) [ Ok f ↦ f ∷ listed ts | Err e ↦ listed ts ])
-unfolding listed
+listed_is : (t : List ℕ) (ts : List (List ℕ)) → fds_in (t ∷ ts) ≡ (elim (fd_at t) as (λ _. List ℕ) [ Ok f ↦ f ∷ fds_in ts | Err e ↦ fds_in ts ])
+unfolding fds_in
 listed_is t ts = refl
 
-pub listed_more : (front : List ℕ) (t : List ℕ) (ts : List (List ℕ)) (f : ℕ) (total : List ℕ) → fd_at t ≡ Ok f → front ++ listed (t ∷ ts) ≡ total → (front ++ f ∷ []) ++ listed ts ≡ total
+pub listed_more : (front : List ℕ) (t : List ℕ) (ts : List (List ℕ)) (f : ℕ) (total : List ℕ) → fd_at t ≡ Ok f → front ++ fds_in (t ∷ ts) ≡ total → (front ++ f ∷ []) ++ fds_in ts ≡ total
 listed_more front t ts f total e h =
-    append_assoc front (f ∷ []) (listed ts) ∙ sym (ap (λ (x : List ℕ). front ++ x) (listed_is t ts ∙ ap (λ (r : Result ℕ ReadFault). elim r as (λ _. List ℕ) [ Ok f ↦ f ∷ listed ts | Err e ↦ listed ts ]) e)) ∙ h
+    append_assoc front (f ∷ []) (fds_in ts) ∙ sym (ap (λ (x : List ℕ). front ++ x) (listed_is t ts ∙ ap (λ (r : Result ℕ ReadFault). elim r as (λ _. List ℕ) [ Ok f ↦ f ∷ fds_in ts | Err e ↦ fds_in ts ]) e)) ∙ h
 
-pub listed_less : (front : List ℕ) (t : List ℕ) (ts : List (List ℕ)) (d : ReadFault) (total : List ℕ) → fd_at t ≡ Err d → front ++ listed (t ∷ ts) ≡ total → front ++ listed ts ≡ total
+pub listed_less : (front : List ℕ) (t : List ℕ) (ts : List (List ℕ)) (d : ReadFault) (total : List ℕ) → fd_at t ≡ Err d → front ++ fds_in (t ∷ ts) ≡ total → front ++ fds_in ts ≡ total
 listed_less front t ts d total e h =
-    sym (ap (λ (x : List ℕ). front ++ x) (listed_is t ts ∙ ap (λ (r : Result ℕ ReadFault). elim r as (λ _. List ℕ) [ Ok f ↦ f ∷ listed ts | Err e ↦ listed ts ]) e)) ∙ h
+    sym (ap (λ (x : List ℕ). front ++ x) (listed_is t ts ∙ ap (λ (r : Result ℕ ReadFault). elim r as (λ _. List ℕ) [ Ok f ↦ f ∷ fds_in ts | Err e ↦ fds_in ts ]) e)) ∙ h
 
-pub listed_end : (front : List ℕ) (ts : List (List ℕ)) (total : List ℕ) → ts ≡ [] → front ++ listed ts ≡ total → front ≡ total
-unfolding listed
-listed_end front ts total e h = sym (append-nil front) ∙ sym (ap (λ (x : List (List ℕ)). front ++ listed x) e) ∙ h
+pub listed_end : (front : List ℕ) (ts : List (List ℕ)) (total : List ℕ) → ts ≡ [] → front ++ fds_in ts ≡ total → front ≡ total
+unfolding fds_in
+listed_end front ts total e h = sym (append-nil front) ∙ sym (ap (λ (x : List (List ℕ)). front ++ fds_in x) e) ∙ h
 
 abbrev done : {A : Type 0} → A → Result A ReadFault
 done x = Ok x

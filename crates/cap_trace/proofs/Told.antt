@@ -8,7 +8,7 @@ use Rattle.cap_trace.specs.Entry.{Entry}
 use Rattle.cap_trace.specs.Reading.{line_of, fault}
 use Rattle.cap_trace.specs.Fault.{line_fault}
 use Rattle.cap_trace.specs.Parsing.{SpellsNone, TellsFaults, ReadsOnly}
-use Rattle.cap_trace.proofs.Lines.{line_again}
+use Rattle.cap_trace.proofs.WholeLines.{line_again}
 use Rattle.cap_trace.proofs.Rising.{ok_same}
 
 fault_told : LineFault → Option ReadFault

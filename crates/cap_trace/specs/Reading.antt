@@ -1,23 +1,26 @@
 -- Reading a line from the left, with the first fault that is met.
-use Rattle.std.specs.Prelude.{◌≡◌, ℕ, ◌+◌, ◌-◌, ◌^◌, ◌==◌, List, [], ◌∷◌, length, drop, Option, Some, None, Result, Ok, Err, nat_lt, codes, option_map, if◌then◌else◌}
-use Rattle.std.specs.List.{starts_with}
+use Rattle.std.specs.Prelude.{◌≡◌, ℕ, ◌+◌, ◌-◌, ◌^◌, ◌==◌, Bool, List, [], ◌∷◌, length, take, drop, Option, Some, None, Result, Ok, Err, nat_lt, codes, option_map, if◌then◌else◌}
+use Rattle.std.specs.Str.{bytes_eq}
+use Rattle.std.specs.List.{starts_with, ends_with, list_all}
 use Rattle.std.specs.Prelude.{nat_eq}
 use Rattle.cap_rights.specs.Text.{names}
 use Rattle.cap_trace.specs.declared.fault.ReadFault.{ReadFault}
 use Rattle.cap_trace.specs.declared.fault.ReadFault.TheVariants as faults
 use Rattle.cap_trace.specs.declared.line.Item.{Item}
 use Rattle.cap_trace.specs.declared.line.Item.TheVariants as items
-use Rattle.cap_trace.specs.declared.line.Call.TheVariants as calls
 use Rattle.cap_trace.specs.declared.line.Answer.{Answer}
 use Rattle.cap_trace.specs.declared.line.Answer.TheVariants as answers
-use Rattle.cap_trace.specs.declared.line.Head.{Head}
-use Rattle.cap_trace.specs.declared.line.Head.TheVariants as heads
-use Rattle.cap_trace.specs.declared.line.Kind.{Kind}
-use Rattle.cap_trace.specs.declared.line.Kind.TheVariants.{Count, Zero}
-use Rattle.cap_trace.specs.Entry.{Entry, kind_of}
+use Rattle.cap_trace.specs.declared.line.Dir.{Dir}
+use Rattle.cap_trace.specs.declared.line.Dir.TheVariants as dirs
+use Rattle.cap_trace.specs.declared.calls.Kind.{Kind}
+use Rattle.cap_trace.specs.declared.calls.Kind.TheVariants.{Count, Zero, Fd, Same, FdPair, Child, ChildAndFd, Any}
+use Rattle.cap_trace.specs.Names.{Head, listed, unlisted, head_named}
 use Rattle.cap_trace.specs.Number.{num_at}
 use Rattle.cap_trace.specs.Quotes.{cut_at_byte, cut_outside, pieces}
-use Rattle.cap_trace.specs.Names.{head_named}
+use Rattle.cap_trace.specs.Fields.{is_flags, are_items, is_free}
+use Rattle.cap_trace.specs.Entry.{Entry, Arg, an_fd, a_dir, some_flags, some_rights, a_path, a_command, a_word, free_text, kind_of}
+use Rattle.cap_trace.specs.Spelling.{word_text, is_command}
+use Rattle.cap_trace.specs.Forms.{Slot, fd, dir, flags, rights, path, command, word, free, Shape, these, rising_fds, shape_of, Said, a_call, a_marker, built}
 
 infixl 10 ◌>>=◌
 abbrev pub ◌>>=◌ : {A B : Type 0} → Result A ReadFault → (A → Result B ReadFault) → Result B ReadFault
@@ -39,9 +42,17 @@ abbrev pub positive : ReadFault → Option ℕ → Result ℕ ReadFault
 positive e None = Err e
 positive e (Some n) = if n == 0 then Err e else Ok n
 
+-- a text that passes a test is kept as it is
+abbrev pub kept : (List ℕ → Bool) → ReadFault → List ℕ → Result (List ℕ) ReadFault
+kept test e t = if test t then Ok t else Err e
+
 -- what follows a prefix
 abbrev pub behind : List ℕ → List ℕ → Option (List ℕ)
-behind p text = if starts_with nat_eq text p then Some (drop (length p) text) else None
+behind p t = if starts_with nat_eq t p then Some (drop (length p) t) else None
+
+-- what stands before a suffix
+abbrev pub before : List ℕ → List ℕ → Option (List ℕ)
+before p t = if ends_with nat_eq t p then Some (take (length t - length p) t) else None
 
 -- ---- fields
 
@@ -54,18 +65,44 @@ fd_at t = need faults.Argument (num_at 1048575 t)
 unfoldable pub rights_at : List ℕ → Result ℕ ReadFault
 rights_at t = need faults.Right (names t)
 
--- ---- arguments: first how many there are, then each from the left
+unfoldable pub dir_at : List ℕ → Result Dir ReadFault
+dir_at t = if bytes_eq t (codes "AT_FDCWD") then Ok dirs.Cwd else (fd_at t >>= λ f. Ok (dirs.Fd f))
 
-unfoldable pub one : List (List ℕ) → Result (List ℕ) ReadFault
-one [] = Err faults.Argument
-one (a ∷ []) = Ok a
-one (a ∷ b ∷ more) = Err faults.Argument
+unfoldable pub flags_at : List ℕ → Result (List ℕ) ReadFault
+flags_at t = kept is_flags faults.Argument t
 
-unfoldable pub two : List (List ℕ) → Result (List ℕ × List ℕ) ReadFault
-two [] = Err faults.Argument
-two (a ∷ []) = Err faults.Argument
-two (a ∷ b ∷ []) = Ok (a, b)
-two (a ∷ b ∷ c ∷ more) = Err faults.Argument
+unfoldable pub command_at : List ℕ → Result (List ℕ) ReadFault
+command_at t = kept is_command faults.Argument t
+
+unfoldable pub path_at : List ℕ → Result (List ℕ) ReadFault
+path_at t = do
+  opened ← need faults.Argument (behind (34 ∷ []) t)
+  inside ← need faults.Argument (before (34 ∷ []) opened)
+  kept are_items faults.Argument inside
+
+unfoldable pub free_at : List ℕ → Result (List ℕ) ReadFault
+free_at t = kept (λ a. list_all is_free a) faults.Shape t
+
+-- ---- step 5: first how many arguments there are, then each from the left
+
+unfoldable pub arg_at : Slot → List ℕ → Result Arg ReadFault
+arg_at fd t = fd_at t >>= λ f. Ok (an_fd f)
+arg_at dir t = dir_at t >>= λ d. Ok (a_dir d)
+arg_at flags t = flags_at t >>= λ f. Ok (some_flags f)
+arg_at rights t = rights_at t >>= λ r. Ok (some_rights r)
+arg_at path t = path_at t >>= λ p. Ok (a_path p)
+arg_at command t = command_at t >>= λ c. Ok (a_command c)
+arg_at (word w) t = if bytes_eq t (word_text w) then Ok (a_word w) else Err faults.Argument
+arg_at free t = free_at t >>= λ a. Ok (free_text a)
+
+unfoldable pub args_at : List Slot → List (List ℕ) → Result (List Arg) ReadFault
+args_at [] [] = Ok []
+args_at [] (t ∷ ts) = Err faults.Argument
+args_at (s ∷ ss) [] = Err faults.Argument
+args_at (s ∷ ss) (t ∷ ts) = do
+  a ← arg_at s t
+  others ← args_at ss ts
+  Ok (a ∷ others)
 
 unfoldable pub fds_from : ℕ → List (List ℕ) → Result (List ℕ) ReadFault
 fds_from low [] = Ok []
@@ -74,58 +111,83 @@ fds_from low (t ∷ ts) = do
   fs ← (if nat_lt f low then Err faults.Argument else fds_from (f + 1) ts)
   Ok (f ∷ fs)
 
--- the descriptors that the parts spell
-unfoldable pub listed : List (List ℕ) → List ℕ
-listed [] = []
-listed (t ∷ ts) = elim (fd_at t) [ Ok f ↦ f ∷ listed ts | Err e ↦ listed ts ]
+abbrev pub shaped : Head → Shape → List (List ℕ) → Result Said ReadFault
+shaped h rising_fds ts = fds_from 0 ts >>= λ fs. Ok (a_marker (items.Start fs))
+shaped h (these slots) ts = if length ts == length slots then (args_at slots ts >>= λ given. built h given) else Err faults.Argument
 
--- ---- the result
+unfoldable pub said_at : Head → List (List ℕ) → Result Said ReadFault
+said_at h ts = shaped h (shape_of h ts) ts
 
-unfoldable pub answer_of : Kind → List ℕ → Option Answer
-answer_of Count t = option_map answers.Made (num_at (2 ^ 64 - 1) t)
-answer_of Zero t = option_map answers.Made (num_at 0 t)
+-- ---- steps 6 and 7: what stands behind the arguments
+
+abbrev pub number_at : Option ℕ → Result Answer ReadFault
+number_at None = Err faults.Answer
+number_at (Some n) = Ok (answers.Made n)
+
+-- a descriptor, but not the one that was told
+abbrev pub same_at : ℕ → Option ℕ → Result Answer ReadFault
+same_at g None = Err faults.Answer
+same_at g (Some n) = if n == g then Ok (answers.Made n) else Err faults.Argument
+
+-- two numbers with a comma between them
+abbrev pub pair_at : ℕ → ℕ → Option (List ℕ × List ℕ) → Result Answer ReadFault
+pair_at n m None = Err faults.Answer
+pair_at n m (Some c) = do
+  x ← need faults.Answer (num_at n c.0)
+  y ← need faults.Answer (num_at m c.1)
+  Ok (answers.Pair x y)
+
+abbrev pub any_at : List ℕ → Option (List ℕ × List ℕ) → Result Answer ReadFault
+any_at t None = number_at (num_at (2 ^ 64 - 1) t)
+any_at t (Some c) = pair_at (2 ^ 64 - 1) (2 ^ 64 - 1) (Some c)
+
+unfoldable pub made_at : Kind → List ℕ → Result Answer ReadFault
+made_at Count t = number_at (num_at (2 ^ 64 - 1) t)
+made_at Zero t = number_at (num_at 0 t)
+made_at Fd t = number_at (num_at 1048575 t)
+made_at (Same g) t = same_at g (num_at 1048575 t)
+made_at FdPair t = pair_at 1048575 1048575 (cut_at_byte 44 t)
+made_at Child t = number_at (num_at 99999 t)
+made_at ChildAndFd t = pair_at 99999 1048575 (cut_at_byte 44 t)
+made_at Any t = any_at t (cut_at_byte 44 t)
+
+-- by the errno that stands there, if one does
+abbrev pub result_at : Kind → List ℕ → Option (List ℕ) → Result Answer ReadFault
+result_at k t None = made_at k t
+result_at k t (Some n) = positive faults.Answer (num_at 65535 n) >>= λ e. Ok (answers.Fault e)
 
 unfoldable pub answer_at : Kind → List ℕ → Result Answer ReadFault
 answer_at k tail = do
   t ← need faults.Shape (behind (codes " RET ") tail)
-  elim (behind (codes "-1 errno ") t) [
-    | None ↦ need faults.Answer (answer_of k t)
-    | Some n ↦ positive faults.Answer (num_at 65535 n) >>= λ e. Ok (answers.Fault e)
-  ]
+  result_at k t (behind (codes "-1 errno ") t)
+
+-- a marker ends behind its bracket
+unfoldable pub ended : Said → List ℕ → Result Item ReadFault
+ended (a_call c) tail = answer_at (kind_of c) tail >>= λ a. Ok (items.Call c a)
+ended (a_marker i) tail = if length tail == 0 then Ok i else Err faults.Shape
 
 -- ---- the line
 
-unfoldable pub call_at : Head → List (List ℕ) → List ℕ → Result Item ReadFault
-call_at (heads.OnFd c) ts tail = do
-  a ← one ts
-  f ← fd_at a
-  answer ← answer_at (kind_of (heads.OnFd c)) tail
-  Ok (items.Call (calls.OnFd c f) answer)
-call_at heads.RightsLimit ts tail = do
-  a ← two ts
-  f ← fd_at a.0
-  r ← rights_at a.1
-  answer ← answer_at Zero tail
-  Ok (items.Call (calls.RightsLimit f r) answer)
-call_at heads.Start ts tail = do
-  fs ← fds_from 0 ts
-  if length tail == 0 then Ok (items.Start fs) else Err faults.Shape
+-- step 4: the arguments, and what stands behind them
+abbrev pub between : Head → List ℕ → Option (List (List ℕ) × List ℕ)
+between (listed f) text = option_map (λ c. (pieces c.0, c.1)) (cut_outside 41 text)
+between (unlisted n) text = option_map (λ c. (c.0 ∷ [], c.1)) (cut_at_byte 41 text)
 
--- the name before the bracket that opens, and what follows it
-unfoldable pub head_at : List ℕ → Result (Head × List ℕ) ReadFault
-head_at text = do
-  cut ← need faults.Shape (cut_at_byte 40 text)
-  h ← need faults.Shape (head_named cut.0)
-  Ok (h, cut.1)
+-- steps 4 to 7: what stands behind the bracket that opens
+abbrev pub behind_head : Head → List ℕ → Result Item ReadFault
+behind_head h text = do
+  args ← need faults.Shape (between h text)
+  said ← said_at h args.0
+  ended said args.1
 
--- name, arguments and result
+-- step 3: the name before that bracket
 unfoldable pub item_at : List ℕ → Result Item ReadFault
 item_at text = do
-  head ← head_at text
-  args ← need faults.Shape (cut_outside 41 head.1)
-  call_at head.0 (pieces args.0) args.1
+  cut ← need faults.Shape (cut_at_byte 40 text)
+  head ← need faults.Shape (head_named cut.0)
+  behind_head head cut.1
 
--- pid, space, and the rest
+-- step 2: pid, space, and the rest
 unfoldable pub entry_at : List ℕ → Option (List ℕ × List ℕ) → Result Entry ReadFault
 entry_at bytes None = pid_at bytes >>= λ _. Err faults.Shape
 entry_at bytes (Some cut) = do

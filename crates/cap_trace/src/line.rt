@@ -1,10 +1,19 @@
 //! What a line says.
 
+ghost use Rattle.std.specs.Prelude.{◌≡◌, List, ℕ};
+
+use crate::calls::{
+    AtCall, AtFlagsCall, BareCall, DupCommand, FdCall, FlagsCall, Form, PathCall, PathsCall,
+    SendCall,
+};
+use crate::names::Head;
 use cap_rights::RightSet;
 use std::marker::Model;
 
+/// The number of a process, from 1 to 99,999.
 pub type Pid = u32;
 
+/// A descriptor, from 0 to 1,048,575.
 pub type Fd = u32;
 
 /// Descriptors, each above the one before it.
@@ -14,16 +23,12 @@ pub struct Fds {
 }
 
 impl Model for Fds {
-    ghost use Rattle.std.specs.Prelude.{List, ℕ};
-
     ghost Value = { List ℕ };
 
     ghost view = { λ f. f.fds.items };
 }
 
 impl Fds {
-    ghost use Rattle.std.specs.Prelude.{◌≡◌};
-
     /// The descriptors, from the lowest up.
     pub fn as_slice(&self) -> &[Fd]
         ensures { result.now ≡ self.now }
@@ -32,37 +37,166 @@ impl Fds {
     }
 }
 
-/// A call whose one argument is a descriptor.
-#[derive(Clone, Copy, Debug, PartialEq, Eq)]
-pub enum FdCall {
-    Read,
-    Write,
-    Close,
+/// A path, as it is spelled between its quotes.
+#[derive(Debug, Drop)]
+pub struct Path {
+    pub(crate) text: Vec<u8>,
 }
 
-/// What a line's name tells of the rest of it.
-#[derive(Clone, Copy, Debug, PartialEq, Eq)]
-pub enum Head {
-    OnFd(FdCall),
-    RightsLimit,
-    Start,
+impl Model for Path {
+    ghost Value = { List ℕ };
+
+    ghost view = { λ x. x.text.items };
 }
 
-/// What a call answers where it doesn't fail.
-#[derive(Clone, Copy, Debug, PartialEq, Eq)]
-pub enum Kind {
-    /// Any number.
-    Count,
-    /// 0.
-    Zero,
+impl Path {
+    /// The bytes between the quotes, escapes as they are spelled.
+    pub fn as_bytes(&self) -> &[u8]
+        ensures { result.now ≡ self.now }
+    {
+        self.text.as_slice()
+    }
 }
 
+/// Flags, as they are spelled: `0`, or names with a bar between them.
+#[derive(Debug, Drop)]
+pub struct Flags {
+    pub(crate) text: Vec<u8>,
+}
+
+impl Model for Flags {
+    ghost Value = { List ℕ };
+
+    ghost view = { λ x. x.text.items };
+}
+
+impl Flags {
+    /// The bytes of the flags.
+    pub fn as_bytes(&self) -> &[u8]
+        ensures { result.now ≡ self.now }
+    {
+        self.text.as_slice()
+    }
+}
+
+/// A command of `fcntl` that asks for no third argument.
+#[derive(Debug, Drop)]
+pub struct Command {
+    pub(crate) text: Vec<u8>,
+}
+
+impl Model for Command {
+    ghost Value = { List ℕ };
+
+    ghost view = { λ x. x.text.items };
+}
+
+impl Command {
+    /// The bytes of the command.
+    pub fn as_bytes(&self) -> &[u8]
+        ensures { result.now ≡ self.now }
+    {
+        self.text.as_slice()
+    }
+}
+
+/// The name of a call that has no form of its own.
+#[derive(Debug, Drop)]
+pub struct Name {
+    pub(crate) text: Vec<u8>,
+}
+
+impl Model for Name {
+    ghost Value = { List ℕ };
+
+    ghost view = { λ x. x.text.items };
+}
+
+impl Name {
+    /// The bytes of the name.
+    pub fn as_bytes(&self) -> &[u8]
+        ensures { result.now ≡ self.now }
+    {
+        self.text.as_slice()
+    }
+}
+
+/// The arguments of a call that has no form of its own, as they are spelled.
+#[derive(Debug, Drop)]
+pub struct Args {
+    pub(crate) text: Vec<u8>,
+}
+
+impl Model for Args {
+    ghost Value = { List ℕ };
+
+    ghost view = { λ x. x.text.items };
+}
+
+impl Args {
+    /// The bytes between the brackets.
+    pub fn as_bytes(&self) -> &[u8]
+        ensures { result.now ≡ self.now }
+    {
+        self.text.as_slice()
+    }
+}
+
+/// Where a path begins: at a directory's descriptor, or (`AT_FDCWD`) where the process stands.
 #[derive(Clone, Copy, Debug, PartialEq, Eq)]
+pub enum Dir {
+    Fd(Fd),
+    Cwd,
+}
+
+/// A call with its arguments, from the left. One variant for each form.
+#[derive(Debug, Drop)]
 pub enum Call {
+    /// `name(fd)`.
     OnFd(FdCall, Fd),
+    /// `sendto(fd)`, `sendmsg(fd)`.
+    Send(SendCall, Fd),
+    /// The same with `DEST`: a destination was given.
+    SendTo(SendCall, Fd),
+    /// `accept4(fd,flags)`.
+    Accept4(Fd, Flags),
+    /// `dup2(fd,fd)`.
+    Dup2(Fd, Fd),
+    /// `fcntl(fd,command)`.
+    Fcntl(Fd, Command),
+    /// `fcntl(fd,F_DUP2FD,fd)`, `fcntl(fd,F_DUP2FD_CLOEXEC,fd)`.
+    FcntlDup(DupCommand, Fd, Fd),
+    /// `fcntl(fd,F_SETFD,flags)`.
+    FcntlSetFd(Fd, Flags),
+    /// `mmap(fd,flags,flags)`: the protection, and the kind of mapping.
+    Mmap(Fd, Flags, Flags),
+    /// `cap_rights_limit(fd,rights)`.
     RightsLimit(Fd, RightSet),
+    /// `open(path,flags)`.
+    Open(Path, Flags),
+    /// `name(path)`.
+    OnPath(PathCall, Path),
+    /// `name(path,path)`.
+    OnPaths(PathsCall, Path, Path),
+    /// `name(dir,path)`.
+    At(AtCall, Dir, Path),
+    /// `name(dir,path,flags)`.
+    AtFlags(AtFlagsCall, Dir, Path, Flags),
+    /// `symlinkat(path,dir,path)`.
+    SymlinkAt(Path, Dir, Path),
+    /// `renameat(dir,path,dir,path)`.
+    RenameAt(Dir, Path, Dir, Path),
+    /// `linkat(dir,path,dir,path,flags)`.
+    LinkAt(Dir, Path, Dir, Path, Flags),
+    /// `name(flags)`.
+    OnFlags(FlagsCall, Flags),
+    /// `name()`.
+    Bare(BareCall),
+    /// Any other name, with any arguments.
+    Other { name: Name, args: Args },
 }
 
+/// What a call answered.
 #[derive(Clone, Copy, Debug, PartialEq, Eq)]
 pub enum Answer {
     /// A number that is no errno.
@@ -73,35 +207,20 @@ pub enum Answer {
     Fault(u16),
 }
 
+/// What a line says of its process.
 #[derive(Debug, Drop)]
 pub enum Item {
+    /// It made a call, which answered.
     Call { call: Call, answer: Answer },
+    /// It begins to be known, with these descriptors alone.
     Start(Fds),
+    /// It is gone.
+    Exit,
+    /// Something that the trace doesn't show was done to this descriptor.
+    Foreign(Fd),
 }
 
-impl Item {
-    ghost use Rattle.std.specs.Prelude.{◌≡◌};
-    ghost use Rattle.cap_trace.specs.Entry.{head_of};
-
-    /// What the name of the line tells.
-    pub(crate) fn head(&self) -> Head
-        ensures { result ≡ head_of self.now }
-    {
-        match self {
-            Item::Call {
-                call: Call::OnFd(name, _),
-                ..
-            } => Head::OnFd(*name),
-            Item::Call {
-                call: Call::RightsLimit(_, _),
-                ..
-            } => Head::RightsLimit,
-            Item::Start(_) => Head::Start,
-        }
-    }
-}
-
-/// A line of a trace.
+/// A line of a trace. Who builds one by hand owes that some text of at most 1,024 bytes spells it.
 #[derive(Debug, Drop)]
 pub struct Line {
     pub pid: Pid,
@@ -120,8 +239,55 @@ impl Model for Line {
     ghost invariant = { λ l. IsProper (record { pid = l.pid; item = l.item }) };
 }
 
+impl Call {
+    ghost use Rattle.cap_trace.specs.Entry.{head_of_call};
+    ghost use Rattle.cap_trace.specs.Rows.{head_seen};
+
+    /// What stands before the arguments.
+    pub(crate) fn head(&self) -> Head<'_>
+        ensures { head_seen result ≡ head_of_call self.now }
+    {
+        Head::Listed(match self {
+            Call::OnFd(call, _) => Form::OnFd(*call),
+            Call::Send(call, _) | Call::SendTo(call, _) => Form::Send(*call),
+            Call::Accept4(_, _) => Form::Accept4,
+            Call::Dup2(_, _) => Form::Dup2,
+            Call::Fcntl(_, _) | Call::FcntlDup(_, _, _) | Call::FcntlSetFd(_, _) => Form::Fcntl,
+            Call::Mmap(_, _, _) => Form::Mmap,
+            Call::RightsLimit(_, _) => Form::RightsLimit,
+            Call::Open(_, _) => Form::Open,
+            Call::OnPath(call, _) => Form::OnPath(*call),
+            Call::OnPaths(call, _, _) => Form::OnPaths(*call),
+            Call::At(call, _, _) => Form::At(*call),
+            Call::AtFlags(call, _, _, _) => Form::AtFlags(*call),
+            Call::SymlinkAt(_, _, _) => Form::SymlinkAt,
+            Call::RenameAt(_, _, _, _) => Form::RenameAt,
+            Call::LinkAt(_, _, _, _, _) => Form::LinkAt,
+            Call::OnFlags(call, _) => Form::OnFlags(*call),
+            Call::Bare(call) => Form::Bare(*call),
+            Call::Other { name, .. } => return Head::Unlisted(name.as_bytes()),
+        })
+    }
+}
+
+impl Item {
+    ghost use Rattle.cap_trace.specs.Entry.{head_of};
+    ghost use Rattle.cap_trace.specs.Rows.{head_seen};
+
+    /// What stands before the arguments.
+    pub(crate) fn head(&self) -> Head<'_>
+        ensures { head_seen result ≡ head_of self.now }
+    {
+        match self {
+            Item::Call { call, .. } => call.head(),
+            Item::Start(_) => Head::Listed(Form::Start),
+            Item::Exit => Head::Listed(Form::Exit),
+            Item::Foreign(_) => Head::Listed(Form::Foreign),
+        }
+    }
+}
+
 impl Line {
-    ghost use Rattle.std.specs.Prelude.{◌≡◌};
     ghost use Rattle.cap_trace.specs.Entry.{head_of};
     ghost use Rattle.cap_trace.specs.Names.{name_of};
 

@@ -1,62 +1,402 @@
-//! The names of calls and markers.
+//! The table of names: each call and marker that has a form of its own, with the kind of its result.
 
 ghost use Rattle.std.specs.Prelude.{◌≡◌, find};
+ghost use Rattle.std.specs.Option.{option_map};
 ghost use Rattle.std.specs.Str.{bytes_eq};
-ghost use Rattle.cap_trace.specs.Entry.{kind_of};
-ghost use Rattle.cap_trace.specs.Names.{name_of, head_named, all_heads};
+ghost use Rattle.std.specs.List.{list_all};
+ghost use Rattle.cap_trace.specs.Names.{row_of, dup_command_name, form_named, all_forms, is_name, is_name_byte, name_of, head_named};
+ghost use Rattle.cap_trace.specs.Names as names;
+ghost use Rattle.cap_trace.specs.Rows.{row_seen, head_seen};
 
-use crate::line::{FdCall, Head, Kind};
+use crate::calls::{
+    AtCall, AtFlagsCall, BareCall, DupCommand, FdCall, FlagsCall, Form, Kind, PathCall, PathsCall,
+    SendCall,
+};
 
-/// Every name that is known.
-static HEADS: [Head; 5] = [
-    Head::OnFd(FdCall::Read),
-    Head::OnFd(FdCall::Write),
-    Head::OnFd(FdCall::Close),
-    Head::RightsLimit,
-    Head::Start,
-];
+/// A row of the table: the name, and the result of a call that doesn't fail.
+#[derive(Clone, Copy)]
+pub(crate) struct Row {
+    pub(crate) name: &'static [u8],
+    pub(crate) kind: Kind,
+}
 
-impl Head {
-    /// What a call of this name answers.
-    pub fn kind(&self) -> Kind
-        ensures { result ≡ kind_of self.now }
+/// A row.
+fn make_row(name: &'static [u8], kind: Kind) -> Row
+    ensures { row_seen result ≡ names.row name.now kind }
+{
+    Row { name, kind }
+}
+
+impl FdCall {
+    fn row(self) -> Row
+        ensures { row_seen result ≡ names.on_fd self }
     {
         match self {
-            Head::OnFd(FdCall::Read | FdCall::Write) => Kind::Count,
-            _ => Kind::Zero,
-        }
-    }
-
-    /// The name of the call, or the marker's word with its `@`.
-    pub fn name(&self) -> &'static [u8]
-        ensures { result.now ≡ name_of self.now }
-    {
-        match self {
-            Head::OnFd(FdCall::Read) => b"read",
-            Head::OnFd(FdCall::Write) => b"write",
-            Head::OnFd(FdCall::Close) => b"close",
-            Head::RightsLimit => b"cap_rights_limit",
-            Head::Start => b"@start",
+            FdCall::Read => make_row(b"read", Kind::Count),
+            FdCall::Readv => make_row(b"readv", Kind::Count),
+            FdCall::Recvfrom => make_row(b"recvfrom", Kind::Count),
+            FdCall::Recvmsg => make_row(b"recvmsg", Kind::Count),
+            FdCall::Pread => make_row(b"pread", Kind::Count),
+            FdCall::Preadv => make_row(b"preadv", Kind::Count),
+            FdCall::Write => make_row(b"write", Kind::Count),
+            FdCall::Writev => make_row(b"writev", Kind::Count),
+            FdCall::Pwrite => make_row(b"pwrite", Kind::Count),
+            FdCall::Pwritev => make_row(b"pwritev", Kind::Count),
+            FdCall::Lseek => make_row(b"lseek", Kind::Count),
+            FdCall::Fstat => make_row(b"fstat", Kind::Count),
+            FdCall::Fstatfs => make_row(b"fstatfs", Kind::Count),
+            FdCall::Fsync => make_row(b"fsync", Kind::Count),
+            FdCall::Fdatasync => make_row(b"fdatasync", Kind::Count),
+            FdCall::Ftruncate => make_row(b"ftruncate", Kind::Count),
+            FdCall::Fchmod => make_row(b"fchmod", Kind::Count),
+            FdCall::Fchown => make_row(b"fchown", Kind::Count),
+            FdCall::Fchflags => make_row(b"fchflags", Kind::Count),
+            FdCall::Fchdir => make_row(b"fchdir", Kind::Count),
+            FdCall::Flock => make_row(b"flock", Kind::Count),
+            FdCall::Fpathconf => make_row(b"fpathconf", Kind::Count),
+            FdCall::Futimes => make_row(b"futimes", Kind::Count),
+            FdCall::Futimens => make_row(b"futimens", Kind::Count),
+            FdCall::Ioctl => make_row(b"ioctl", Kind::Count),
+            FdCall::Accept => make_row(b"accept", Kind::Fd),
+            FdCall::Bind => make_row(b"bind", Kind::Count),
+            FdCall::Connect => make_row(b"connect", Kind::Count),
+            FdCall::Listen => make_row(b"listen", Kind::Count),
+            FdCall::Shutdown => make_row(b"shutdown", Kind::Count),
+            FdCall::Getpeername => make_row(b"getpeername", Kind::Count),
+            FdCall::Getsockname => make_row(b"getsockname", Kind::Count),
+            FdCall::Getsockopt => make_row(b"getsockopt", Kind::Count),
+            FdCall::Setsockopt => make_row(b"setsockopt", Kind::Count),
+            FdCall::Fexecve => make_row(b"fexecve", Kind::Zero),
+            FdCall::Close => make_row(b"close", Kind::Zero),
+            FdCall::Dup => make_row(b"dup", Kind::Fd),
+            FdCall::CapIoctlsLimit => make_row(b"cap_ioctls_limit", Kind::Zero),
+            FdCall::CapFcntlsLimit => make_row(b"cap_fcntls_limit", Kind::Zero),
         }
     }
 }
 
-/// The first of these heads that has the name.
-fn first_named(heads: &[Head], name: &[u8]) -> Option<Head>
-    ensures { result ≡ find (λ h. bytes_eq (name_of h) name.now) heads.now }
+impl SendCall {
+    fn row(self) -> Row
+        ensures { row_seen result ≡ names.sends self }
+    {
+        match self {
+            SendCall::Sendto => make_row(b"sendto", Kind::Count),
+            SendCall::Sendmsg => make_row(b"sendmsg", Kind::Count),
+        }
+    }
+}
+
+impl PathCall {
+    fn row(self) -> Row
+        ensures { row_seen result ≡ names.on_path self }
+    {
+        match self {
+            PathCall::Execve => make_row(b"execve", Kind::Zero),
+            PathCall::Access => make_row(b"access", Kind::Count),
+            PathCall::Chdir => make_row(b"chdir", Kind::Count),
+            PathCall::Chflags => make_row(b"chflags", Kind::Count),
+            PathCall::Chmod => make_row(b"chmod", Kind::Count),
+            PathCall::Chown => make_row(b"chown", Kind::Count),
+            PathCall::Lchown => make_row(b"lchown", Kind::Count),
+            PathCall::Lstat => make_row(b"lstat", Kind::Count),
+            PathCall::Mkdir => make_row(b"mkdir", Kind::Count),
+            PathCall::Mkfifo => make_row(b"mkfifo", Kind::Count),
+            PathCall::Mknod => make_row(b"mknod", Kind::Count),
+            PathCall::Readlink => make_row(b"readlink", Kind::Count),
+            PathCall::Rmdir => make_row(b"rmdir", Kind::Count),
+            PathCall::Stat => make_row(b"stat", Kind::Count),
+            PathCall::Statfs => make_row(b"statfs", Kind::Count),
+            PathCall::Truncate => make_row(b"truncate", Kind::Count),
+            PathCall::Unlink => make_row(b"unlink", Kind::Count),
+        }
+    }
+}
+
+impl PathsCall {
+    fn row(self) -> Row
+        ensures { row_seen result ≡ names.on_paths self }
+    {
+        match self {
+            PathsCall::Link => make_row(b"link", Kind::Count),
+            PathsCall::Rename => make_row(b"rename", Kind::Count),
+            PathsCall::Symlink => make_row(b"symlink", Kind::Count),
+        }
+    }
+}
+
+impl AtCall {
+    fn row(self) -> Row
+        ensures { row_seen result ≡ names.at_dir self }
+    {
+        match self {
+            AtCall::Mkdirat => make_row(b"mkdirat", Kind::Count),
+            AtCall::Mkfifoat => make_row(b"mkfifoat", Kind::Count),
+            AtCall::Mknodat => make_row(b"mknodat", Kind::Count),
+            AtCall::Readlinkat => make_row(b"readlinkat", Kind::Count),
+            AtCall::Futimesat => make_row(b"futimesat", Kind::Count),
+        }
+    }
+}
+
+impl AtFlagsCall {
+    fn row(self) -> Row
+        ensures { row_seen result ≡ names.at_dir_with_flags self }
+    {
+        match self {
+            AtFlagsCall::Openat => make_row(b"openat", Kind::Fd),
+            AtFlagsCall::Unlinkat => make_row(b"unlinkat", Kind::Count),
+            AtFlagsCall::Fstatat => make_row(b"fstatat", Kind::Count),
+            AtFlagsCall::Fchmodat => make_row(b"fchmodat", Kind::Count),
+            AtFlagsCall::Fchownat => make_row(b"fchownat", Kind::Count),
+            AtFlagsCall::Chflagsat => make_row(b"chflagsat", Kind::Count),
+            AtFlagsCall::Utimensat => make_row(b"utimensat", Kind::Count),
+        }
+    }
+}
+
+impl FlagsCall {
+    fn row(self) -> Row
+        ensures { row_seen result ≡ names.on_flags self }
+    {
+        match self {
+            FlagsCall::Socket => make_row(b"socket", Kind::Fd),
+            FlagsCall::Socketpair => make_row(b"socketpair", Kind::FdPair),
+            FlagsCall::Pipe2 => make_row(b"pipe2", Kind::FdPair),
+        }
+    }
+}
+
+impl BareCall {
+    fn row(self) -> Row
+        ensures { row_seen result ≡ names.bare self }
+    {
+        match self {
+            BareCall::Pipe => make_row(b"pipe", Kind::FdPair),
+            BareCall::Kqueue => make_row(b"kqueue", Kind::Fd),
+            BareCall::ShmOpen => make_row(b"shm_open", Kind::Fd),
+            BareCall::MqOpen => make_row(b"mq_open", Kind::Fd),
+            BareCall::Fhopen => make_row(b"fhopen", Kind::Fd),
+            BareCall::Fork => make_row(b"fork", Kind::Child),
+            BareCall::Vfork => make_row(b"vfork", Kind::Child),
+            BareCall::Pdfork => make_row(b"pdfork", Kind::ChildAndFd),
+            BareCall::CapEnter => make_row(b"cap_enter", Kind::Zero),
+        }
+    }
+}
+
+impl Form {
+    /// The row of the table that has this form.
+    pub(crate) fn row(self) -> Row
+        ensures { row_seen result ≡ row_of self }
+    {
+        match self {
+            Form::OnFd(call) => call.row(),
+            Form::Send(call) => call.row(),
+            Form::OnPath(call) => call.row(),
+            Form::OnPaths(call) => call.row(),
+            Form::At(call) => call.row(),
+            Form::AtFlags(call) => call.row(),
+            Form::OnFlags(call) => call.row(),
+            Form::Bare(call) => call.row(),
+            Form::Accept4 => make_row(b"accept4", Kind::Fd),
+            Form::Dup2 => make_row(b"dup2", Kind::Fd),
+            Form::Fcntl => make_row(b"fcntl", Kind::Count),
+            Form::Mmap => make_row(b"mmap", Kind::Count),
+            Form::RightsLimit => make_row(b"cap_rights_limit", Kind::Zero),
+            Form::Open => make_row(b"open", Kind::Fd),
+            Form::SymlinkAt => make_row(b"symlinkat", Kind::Count),
+            Form::RenameAt => make_row(b"renameat", Kind::Count),
+            Form::LinkAt => make_row(b"linkat", Kind::Count),
+            Form::Start => make_row(b"@start", Kind::Zero),
+            Form::Exit => make_row(b"@exit", Kind::Zero),
+            Form::Foreign => make_row(b"@foreign", Kind::Zero),
+        }
+    }
+}
+
+impl DupCommand {
+    /// The word of the command.
+    pub(crate) fn name(self) -> &'static [u8]
+        ensures { result.now ≡ dup_command_name self }
+    {
+        match self {
+            DupCommand::FDup2fd => b"F_DUP2FD",
+            DupCommand::FDup2fdCloexec => b"F_DUP2FD_CLOEXEC",
+        }
+    }
+}
+
+/// Every form.
+static FORMS: [Form; 97] = [
+    Form::OnFd(FdCall::Read),
+    Form::OnFd(FdCall::Readv),
+    Form::OnFd(FdCall::Recvfrom),
+    Form::OnFd(FdCall::Recvmsg),
+    Form::OnFd(FdCall::Pread),
+    Form::OnFd(FdCall::Preadv),
+    Form::OnFd(FdCall::Write),
+    Form::OnFd(FdCall::Writev),
+    Form::OnFd(FdCall::Pwrite),
+    Form::OnFd(FdCall::Pwritev),
+    Form::OnFd(FdCall::Lseek),
+    Form::OnFd(FdCall::Fstat),
+    Form::OnFd(FdCall::Fstatfs),
+    Form::OnFd(FdCall::Fsync),
+    Form::OnFd(FdCall::Fdatasync),
+    Form::OnFd(FdCall::Ftruncate),
+    Form::OnFd(FdCall::Fchmod),
+    Form::OnFd(FdCall::Fchown),
+    Form::OnFd(FdCall::Fchflags),
+    Form::OnFd(FdCall::Fchdir),
+    Form::OnFd(FdCall::Flock),
+    Form::OnFd(FdCall::Fpathconf),
+    Form::OnFd(FdCall::Futimes),
+    Form::OnFd(FdCall::Futimens),
+    Form::OnFd(FdCall::Ioctl),
+    Form::OnFd(FdCall::Accept),
+    Form::OnFd(FdCall::Bind),
+    Form::OnFd(FdCall::Connect),
+    Form::OnFd(FdCall::Listen),
+    Form::OnFd(FdCall::Shutdown),
+    Form::OnFd(FdCall::Getpeername),
+    Form::OnFd(FdCall::Getsockname),
+    Form::OnFd(FdCall::Getsockopt),
+    Form::OnFd(FdCall::Setsockopt),
+    Form::OnFd(FdCall::Fexecve),
+    Form::OnFd(FdCall::Close),
+    Form::OnFd(FdCall::Dup),
+    Form::OnFd(FdCall::CapIoctlsLimit),
+    Form::OnFd(FdCall::CapFcntlsLimit),
+    Form::Send(SendCall::Sendto),
+    Form::Send(SendCall::Sendmsg),
+    Form::OnPath(PathCall::Execve),
+    Form::OnPath(PathCall::Access),
+    Form::OnPath(PathCall::Chdir),
+    Form::OnPath(PathCall::Chflags),
+    Form::OnPath(PathCall::Chmod),
+    Form::OnPath(PathCall::Chown),
+    Form::OnPath(PathCall::Lchown),
+    Form::OnPath(PathCall::Lstat),
+    Form::OnPath(PathCall::Mkdir),
+    Form::OnPath(PathCall::Mkfifo),
+    Form::OnPath(PathCall::Mknod),
+    Form::OnPath(PathCall::Readlink),
+    Form::OnPath(PathCall::Rmdir),
+    Form::OnPath(PathCall::Stat),
+    Form::OnPath(PathCall::Statfs),
+    Form::OnPath(PathCall::Truncate),
+    Form::OnPath(PathCall::Unlink),
+    Form::OnPaths(PathsCall::Link),
+    Form::OnPaths(PathsCall::Rename),
+    Form::OnPaths(PathsCall::Symlink),
+    Form::At(AtCall::Mkdirat),
+    Form::At(AtCall::Mkfifoat),
+    Form::At(AtCall::Mknodat),
+    Form::At(AtCall::Readlinkat),
+    Form::At(AtCall::Futimesat),
+    Form::AtFlags(AtFlagsCall::Openat),
+    Form::AtFlags(AtFlagsCall::Unlinkat),
+    Form::AtFlags(AtFlagsCall::Fstatat),
+    Form::AtFlags(AtFlagsCall::Fchmodat),
+    Form::AtFlags(AtFlagsCall::Fchownat),
+    Form::AtFlags(AtFlagsCall::Chflagsat),
+    Form::AtFlags(AtFlagsCall::Utimensat),
+    Form::OnFlags(FlagsCall::Socket),
+    Form::OnFlags(FlagsCall::Socketpair),
+    Form::OnFlags(FlagsCall::Pipe2),
+    Form::Bare(BareCall::Pipe),
+    Form::Bare(BareCall::Kqueue),
+    Form::Bare(BareCall::ShmOpen),
+    Form::Bare(BareCall::MqOpen),
+    Form::Bare(BareCall::Fhopen),
+    Form::Bare(BareCall::Fork),
+    Form::Bare(BareCall::Vfork),
+    Form::Bare(BareCall::Pdfork),
+    Form::Bare(BareCall::CapEnter),
+    Form::Accept4,
+    Form::Dup2,
+    Form::Fcntl,
+    Form::Mmap,
+    Form::RightsLimit,
+    Form::Open,
+    Form::SymlinkAt,
+    Form::RenameAt,
+    Form::LinkAt,
+    Form::Start,
+    Form::Exit,
+    Form::Foreign,
+];
+
+/// The first of these forms that has the name.
+fn first_named(forms: &[Form], name: &[u8]) -> Option<Form>
+    ensures { result ≡ find (λ f. bytes_eq (row_of f).name name.now) forms.now }
 {
-    for head in heads {
-        if head.name() == name {
-            return Some(*head);
+    for form in forms {
+        if form.row().name == name {
+            return Some(*form);
         }
     }
     None
 }
 
-/// What a name tells of the rest of its line.
-#[tactic(auto, unfolding(crate::specs::Names::all_heads))]
-pub(crate) fn head_of(name: &[u8]) -> Option<Head>
-    ensures { result ≡ head_named name.now }
+/// The form of a name of the table.
+#[tactic(auto, unfolding(crate::specs::Names::all_forms))]
+pub(crate) fn form_of(name: &[u8]) -> Option<Form>
+    ensures { result ≡ form_named name.now }
 {
-    first_named(&HEADS, name)
+    first_named(&FORMS, name)
+}
+
+fn name_byte(byte: u8) -> bool
+    ensures { result ≡ is_name_byte byte }
+{
+    byte.is_ascii_lowercase() || byte.is_ascii_digit() || byte == b'_'
+}
+
+fn all_name_bytes(text: &[u8]) -> bool
+    ensures { result ≡ list_all is_name_byte text.now }
+{
+    text.iter().all(|byte| name_byte(*byte))
+}
+
+/// Whether a text may be the name of a call.
+pub(crate) fn is_call_name(text: &[u8]) -> bool
+    ensures { result ≡ is_name text.now }
+{
+    match text {
+        [] => false,
+        [first, rest @ ..] => {
+            name_byte(*first) && !first.is_ascii_digit() && all_name_bytes(rest)
+        }
+    }
+}
+
+/// What stands before the arguments: a name of the table, or any other.
+#[derive(Clone, Copy)]
+pub(crate) enum Head<'a> {
+    Listed(Form),
+    Unlisted(&'a [u8]),
+}
+
+impl<'a> Head<'a> {
+    /// The name.
+    pub(crate) fn name(self) -> &'a [u8]
+        ensures { result.now ≡ name_of (head_seen self.entry) }
+    {
+        match self {
+            Head::Listed(form) => form.row().name,
+            Head::Unlisted(name) => name,
+        }
+    }
+}
+
+/// What a name tells, where it is one.
+pub(crate) fn head_of(name: &[u8]) -> Option<Head<'_>>
+    ensures { option_map head_seen result ≡ head_named name.now }
+{
+    match form_of(name) {
+        Some(form) => Some(Head::Listed(form)),
+        None if is_call_name(name) => Some(Head::Unlisted(name)),
+        None => None,
+    }
 }

@@ -1,20 +1,19 @@
-//! Reading a line from the left. Nothing here takes memory.
+//! Reading the fields of a line. Nothing here takes memory.
 
-ghost use Rattle.std.specs.Prelude.{◌≡◌, ◌<◌, IfOk};
+ghost use Rattle.std.specs.Prelude.{◌≡◌, ◌≤◌, ◌==◌, ◌∷◌, [], false, length, IfOk, MatchResult};
+ghost use Rattle.cap_trace.specs.declared.fault.ReadFault.TheVariants.{Argument};
 ghost use Rattle.cap_trace.specs.Quotes.{pieces};
-ghost use Rattle.cap_trace.specs.Reading.{Gives, pid_at, fd_at, rights_at, one, two, answer_of, answer_at, fds_from, listed, call_at, head_at, item_at, line_of};
-ghost use Rattle.cap_trace.specs.Found.{item_seen, line_seen};
+ghost use Rattle.cap_trace.specs.Reading.{Gives, pid_at, fd_at, rights_at, dir_at, flags_at, command_at, path_at, free_at};
 
 use crate::fault::ReadFault;
-use crate::line::{Answer, Call, Fd, Head, Kind, Pid};
-use crate::names::head_of;
+use crate::fields::{command, flags, free, items};
+use crate::line::{Dir, Fd, Pid};
 use crate::number::number_of;
 use crate::parts::Parts;
-use crate::quotes::{cut, cut_outside_quotes};
 use cap_rights::{RightSet, parse_rights};
 
 #[tactic(auto, unfolding(crate::specs::Reading::pid_at))]
-fn pid_of(text: &[u8]) -> Result<Pid, ReadFault>
+pub(crate) fn pid_of(text: &[u8]) -> Result<Pid, ReadFault>
     ensures { Gives (λ p. p) result (pid_at text.now) }
 {
     match number_of(99_999, text) {
@@ -26,7 +25,7 @@ fn pid_of(text: &[u8]) -> Result<Pid, ReadFault>
 #[tactic(auto, unfolding(crate::specs::Reading::fd_at))]
 pub(crate) fn fd_of(text: &[u8]) -> Result<Fd, ReadFault>
     ensures value { Gives (λ f. f) result (fd_at text.now) }
-    ensures bound { IfOk result (λ f. f < 1048576) }
+    ensures bound { IfOk result (λ f. f ≤ 1048575) }
 {
     match number_of(1_048_575, text) {
         Some(fd) => Ok(fd as u32),
@@ -35,46 +34,84 @@ pub(crate) fn fd_of(text: &[u8]) -> Result<Fd, ReadFault>
 }
 
 #[tactic(auto, unfolding(crate::specs::Reading::rights_at))]
-fn rights_of(text: &[u8]) -> Result<RightSet, ReadFault>
+pub(crate) fn rights_of(text: &[u8]) -> Result<RightSet, ReadFault>
     ensures { Gives (λ r. r) result (rights_at text.now) }
 {
     parse_rights(text).map_err(|_| ReadFault::Right)
 }
 
-/// The result of a call of this kind, without an errno.
-#[tactic(auto, unfolding(crate::specs::Reading::answer_of))]
-fn made(kind: Kind, text: &[u8]) -> Option<Answer>
-    ensures { result ≡ answer_of kind text.now }
+#[tactic(auto, unfolding(crate::specs::Reading::dir_at))]
+pub(crate) fn dir_of(text: &[u8]) -> Result<Dir, ReadFault>
+    ensures { Gives (λ d. d) result (dir_at text.now) }
 {
-    match kind {
-        Kind::Count => number_of(u64::MAX, text).map(Answer::Made),
-        Kind::Zero => number_of(0, text).map(Answer::Made),
+    if text == b"AT_FDCWD".as_slice() {
+        return Ok(Dir::Cwd);
+    }
+    Ok(Dir::Fd(fd_of(text)?))
+}
+
+#[tactic(auto, unfolding(crate::specs::Reading::flags_at))]
+pub(crate) fn flags_of(text: &[u8]) -> Result<&[u8], ReadFault>
+    ensures { Gives (λ f. f.now) result (flags_at text.now) }
+{
+    if flags(text) {
+        Ok(text)
+    } else {
+        Err(ReadFault::Argument)
     }
 }
 
-/// What stands behind the arguments of a call.
-#[tactic(auto, unfolding(crate::specs::Reading::answer_at))]
-fn answer(kind: Kind, tail: &[u8]) -> Result<Answer, ReadFault>
-    ensures { Gives (λ a. a) result (answer_at kind tail.now) }
+#[tactic(auto, unfolding(crate::specs::Reading::command_at))]
+pub(crate) fn command_of(text: &[u8]) -> Result<&[u8], ReadFault>
+    ensures { Gives (λ c. c.now) result (command_at text.now) }
 {
-    let Some(text) = tail.strip_prefix(b" RET ".as_slice()) else {
-        return Err(ReadFault::Shape);
+    if command(text) {
+        Ok(text)
+    } else {
+        Err(ReadFault::Argument)
+    }
+}
+
+/// What stands between the quotes.
+#[tactic(auto, unfolding(crate::specs::Reading::path_at))]
+pub(crate) fn path_of(text: &[u8]) -> Result<&[u8], ReadFault>
+    ensures { Gives (λ p. p.now) result (path_at text.now) }
+{
+    let Some(opened) = text.strip_prefix(b"\"".as_slice()) else {
+        return Err(ReadFault::Argument);
     };
-    match text.strip_prefix(b"-1 errno ".as_slice()) {
-        None => made(kind, text).ok_or(ReadFault::Answer),
-        Some(number) => match number_of(65_535, number) {
-            Some(errno) if errno != 0 => Ok(Answer::Fault(errno as u16)),
-            _ => Err(ReadFault::Answer),
-        },
+    match opened.strip_suffix(b"\"".as_slice()) {
+        Some(inside) if items(inside) => Ok(inside),
+        _ => Err(ReadFault::Argument),
     }
 }
 
-// ---- arguments
+#[tactic(auto, unfolding(crate::specs::Reading::free_at))]
+pub(crate) fn free_of(text: &[u8]) -> Result<&[u8], ReadFault>
+    ensures { Gives (λ a. a.now) result (free_at text.now) }
+{
+    if free(text) {
+        Ok(text)
+    } else {
+        Err(ReadFault::Shape)
+    }
+}
+
+// ---- how many arguments there are
+
+/// No argument.
+pub(crate) fn no_part(args: &[u8]) -> Result<(), ReadFault>
+    ensures { MatchResult result (λ _. pieces args.now ≡ []) (λ e. (e ≡ Argument) × ((length (pieces args.now) == 0) ≡ false)) }
+{
+    match Parts::of(args).next() {
+        None => Ok(()),
+        Some(_) => Err(ReadFault::Argument),
+    }
+}
 
 /// The one argument.
-#[tactic(auto, unfolding(crate::specs::Reading::one))]
-fn one_part(args: &[u8]) -> Result<&[u8], ReadFault>
-    ensures { Gives (λ a. a.now) result (one (pieces args.now)) }
+pub(crate) fn one_part(args: &[u8]) -> Result<&[u8], ReadFault>
+    ensures { MatchResult result (λ a. pieces args.now ≡ a.now ∷ []) (λ e. (e ≡ Argument) × ((length (pieces args.now) == 1) ≡ false)) }
 {
     let mut parts = Parts::of(args);
     match (parts.next(), parts.next()) {
@@ -84,9 +121,8 @@ fn one_part(args: &[u8]) -> Result<&[u8], ReadFault>
 }
 
 /// The two arguments.
-#[tactic(auto, unfolding(crate::specs::Reading::two))]
-fn two_parts(args: &[u8]) -> Result<(&[u8], &[u8]), ReadFault>
-    ensures { Gives (λ x. (x.0.now, x.1.now)) result (two (pieces args.now)) }
+pub(crate) fn two_parts(args: &[u8]) -> Result<(&[u8], &[u8]), ReadFault>
+    ensures { MatchResult result (λ p. pieces args.now ≡ p.0.now ∷ p.1.now ∷ []) (λ e. (e ≡ Argument) × ((length (pieces args.now) == 2) ≡ false)) }
 {
     let mut parts = Parts::of(args);
     match (parts.next(), parts.next(), parts.next()) {
@@ -95,112 +131,48 @@ fn two_parts(args: &[u8]) -> Result<(&[u8], &[u8]), ReadFault>
     }
 }
 
-/// Whether the arguments are descriptors that rise.
-#[tactic(auto, unfolding(crate::specs::Reading::fds_from))]
-fn rising(args: &[u8]) -> Result<(), ReadFault>
-    ensures { Gives (λ _. listed (pieces args.now)) result (fds_from 0 (pieces args.now)) }
+/// The three arguments.
+pub(crate) fn three_parts(args: &[u8]) -> Result<(&[u8], &[u8], &[u8]), ReadFault>
+    ensures { MatchResult result (λ p. pieces args.now ≡ p.0.now ∷ p.1.now ∷ p.2.now ∷ []) (λ e. (e ≡ Argument) × ((length (pieces args.now) == 3) ≡ false)) }
 {
     let mut parts = Parts::of(args);
-    let mut low = 0;
-    while let Some(part) = parts.next() {
-        let fd = fd_of(part)?;
-        if fd < low {
-            return Err(ReadFault::Argument);
-        }
-        low = fd + 1;
-    }
-    Ok(())
-}
-
-// ---- the line
-
-/// What a line says, over its bytes.
-#[derive(Clone, Copy)]
-pub(crate) enum Found<'a> {
-    Call { call: Call, answer: Answer },
-    Start(&'a [u8]),
-}
-
-#[derive(Clone, Copy)]
-pub(crate) struct FoundLine<'a> {
-    pub(crate) pid: Pid,
-    pub(crate) item: Found<'a>,
-}
-
-#[tactic(auto, unfolding(crate::specs::Reading::call_at))]
-fn call<'a>(head: Head, args: &'a [u8], tail: &[u8]) -> Result<Found<'a>, ReadFault>
-    ensures { Gives item_seen result (call_at head (pieces args.now) tail.now) }
-{
-    match head {
-        Head::OnFd(name) => {
-            let fd = fd_of(one_part(args)?)?;
-            let answer = answer(head.kind(), tail)?;
-            Ok(Found::Call {
-                call: Call::OnFd(name, fd),
-                answer,
-            })
-        }
-        Head::RightsLimit => {
-            let (fd, rights) = two_parts(args)?;
-            let fd = fd_of(fd)?;
-            let rights = rights_of(rights)?;
-            let answer = answer(Kind::Zero, tail)?;
-            Ok(Found::Call {
-                call: Call::RightsLimit(fd, rights),
-                answer,
-            })
-        }
-        Head::Start => {
-            rising(args)?;
-            if !tail.is_empty() {
-                return Err(ReadFault::Shape);
-            }
-            Ok(Found::Start(args))
-        }
+    match (parts.next(), parts.next(), parts.next(), parts.next()) {
+        (Some(a), Some(b), Some(c), None) => Ok((a, b, c)),
+        _ => Err(ReadFault::Argument),
     }
 }
 
-/// The name before the bracket that opens, and what follows it.
-#[tactic(auto, unfolding(crate::specs::Reading::head_at))]
-fn head(text: &[u8]) -> Result<(Head, &[u8]), ReadFault>
-    ensures { Gives (λ x. (x.0, x.1.now)) result (head_at text.now) }
+/// The four arguments.
+pub(crate) fn four_parts(args: &[u8]) -> Result<(&[u8], &[u8], &[u8], &[u8]), ReadFault>
+    ensures { MatchResult result (λ p. pieces args.now ≡ p.0.now ∷ p.1.now ∷ p.2.now ∷ p.3.now ∷ []) (λ e. (e ≡ Argument) × ((length (pieces args.now) == 4) ≡ false)) }
 {
-    let Some((name, rest)) = cut(b'(', text) else {
-        return Err(ReadFault::Shape);
-    };
-    let Some(head) = head_of(name) else {
-        return Err(ReadFault::Shape);
-    };
-    Ok((head, rest))
-}
-
-/// What stands behind the pid.
-#[tactic(auto, unfolding(crate::specs::Reading::item_at))]
-fn item(text: &[u8]) -> Result<Found<'_>, ReadFault>
-    ensures { Gives item_seen result (item_at text.now) }
-{
-    let (head, rest) = head(text)?;
-    let Some((args, tail)) = cut_outside_quotes(b')', rest) else {
-        return Err(ReadFault::Shape);
-    };
-    call(head, args, tail)
-}
-
-/// What a line says, or its first fault.
-#[tactic(auto, unfolding(crate::specs::Reading::line_of, crate::specs::Reading::entry_at))]
-pub(crate) fn line(bytes: &[u8]) -> Result<FoundLine<'_>, ReadFault>
-    ensures { Gives line_seen result (line_of bytes.now) }
-{
-    if bytes.len() > 1024 {
-        return Err(ReadFault::TooLong);
+    let mut parts = Parts::of(args);
+    match (
+        parts.next(),
+        parts.next(),
+        parts.next(),
+        parts.next(),
+        parts.next(),
+    ) {
+        (Some(a), Some(b), Some(c), Some(d), None) => Ok((a, b, c, d)),
+        _ => Err(ReadFault::Argument),
     }
-    let Some((pid, rest)) = cut(b' ', bytes) else {
-        pid_of(bytes)?;
-        return Err(ReadFault::Shape);
-    };
-    let pid = pid_of(pid)?;
-    match item(rest) {
-        Ok(item) => Ok(FoundLine { pid, item }),
-        Err(fault) => Err(fault),
+}
+
+/// The five arguments.
+pub(crate) fn five_parts(args: &[u8]) -> Result<(&[u8], &[u8], &[u8], &[u8], &[u8]), ReadFault>
+    ensures { MatchResult result (λ p. pieces args.now ≡ p.0.now ∷ p.1.now ∷ p.2.now ∷ p.3.now ∷ p.4.now ∷ []) (λ e. (e ≡ Argument) × ((length (pieces args.now) == 5) ≡ false)) }
+{
+    let mut parts = Parts::of(args);
+    match (
+        parts.next(),
+        parts.next(),
+        parts.next(),
+        parts.next(),
+        parts.next(),
+        parts.next(),
+    ) {
+        (Some(a), Some(b), Some(c), Some(d), Some(e), None) => Ok((a, b, c, d, e)),
+        _ => Err(ReadFault::Argument),
     }
 }

@@ -1,5 +1,5 @@
 -- Runs of shared items: what an edit of a run is as a list of the items.
-use Rattle.std.proofs.Common.{◌≡◌, ℕ, suc, ◌+◌, ◌<◌, List, [], ◌∷◌, ◌++◌, length, map, take, drop, insert, remove, slice_set, slice_range, refl, sym, ap, ◌∙◌, add-one, arith}
+use Rattle.std.proofs.Common.{◌≡◌, ℕ, suc, ◌+◌, ◌<◌, List, [], ◌∷◌, ◌++◌, length, take, drop, remove, slice_set, slice_range, refl, sym, ap, ◌∙◌, add-one, arith}
 use Rattle.std.proofs.lemmas.List.{map-append, take-map, drop-map, length-map, set_split}
 use Rattle.std.proofs.lemmas.Slice.{between_to_end}
 use Rattle.std.specs.declared.rc.Rc.{Rc}

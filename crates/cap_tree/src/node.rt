@@ -96,7 +96,7 @@ impl<S: Segment> Node<S> {
     }
 
     /// The leaf that holds a run.
-    pub(crate) fn leaf(
+    fn leaf(
         alloc: Global,
         meter: &mut Meter,
         run: Vec<Rc<S::Item>>,
@@ -133,7 +133,7 @@ impl<S: Segment> Node<S> {
     }
 
     /// The two in order, whose heights are at most one apart.
-    pub(crate) fn branch(
+    fn branch(
         alloc: Global,
         meter: &mut Meter,
         left: Rc<Node<S>>,

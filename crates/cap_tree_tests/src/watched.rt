@@ -14,7 +14,7 @@ mod tests;
 /// What all items share.
 #[derive(Drop)]
 pub struct Watch {
-    /// How many joins were made.
+    /// How many joins succeeded.
     pub joins: Cell<u64>,
     /// Which of the next summaries is refused, from 1; 0 for none.
     pub refuse: Cell<u64>,
@@ -83,13 +83,16 @@ impl Segment for Watched {
         let watch = shared(left, right)?;
         let list = appended(&left.list, right.list.as_slice())?;
         meter.tick();
+        if let Some(watch) = &watch {
+            watch.joins.set(watch.joins.get().wrapping_add(1));
+        }
         Ok(Watched { list, watch })
     }
 
     ghost sized = { λ s t e. length-numbers s.list.items t e };
 }
 
-/// The watch of either, after it counted a join.
+/// The watch of either, if it allows one more summary.
 fn shared(left: &Watched, right: &Watched) -> Result<Option<Rc<Watch>>, NoMemory> {
     let found = match &left.watch {
         Some(watch) => Some(watch),
@@ -99,7 +102,6 @@ fn shared(left: &Watched, right: &Watched) -> Result<Option<Rc<Watch>>, NoMemory
         None => Ok(None),
         Some(watch) => {
             watch.allows()?;
-            watch.joins.set(watch.joins.get().wrapping_add(1));
             let copy = watch.clone()?;
             Ok(Some(copy))
         }

@@ -1,5 +1,5 @@
 use Rattle.std.proofs.Common.{sym, ◌∙◌}
-use Rattle.cap_trace.proofs.Lines.{line_again}
+use Rattle.cap_trace.proofs.WholeLines.{line_again}
 use Rattle.cap_trace.proofs.Rising.{ok_same}
 use Rattle.cap_trace.proofs.parse.one_line.Goals as goal
 

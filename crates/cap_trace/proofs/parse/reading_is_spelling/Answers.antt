@@ -1,4 +1,4 @@
-use Rattle.cap_trace.proofs.Lines.{line_takes, line_again}
+use Rattle.cap_trace.proofs.WholeLines.{line_takes, line_again}
 use Rattle.cap_trace.proofs.parse.reading_is_spelling.Goals as goal
 
 pub returns : goal.returns

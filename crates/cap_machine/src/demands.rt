@@ -1,0 +1,209 @@
+//! What each form of call is judged by.
+
+ghost use Rattle.std.specs.Prelude.{◌≡◌, true};
+ghost use Rattle.cap_machine.specs.Parts.{part};
+ghost use Rattle.cap_machine.specs.PlaceSeen.{place_seen, is_at};
+ghost use Rattle.cap_machine.specs.Rule.{check_of, on_one, on_none, fd_class, fcntl_demand, limit_demand, bare_class, reply, call_demand};
+
+use crate::cell::without_full_of;
+use crate::needs;
+use crate::parts::{Place, at_one, at_two};
+use crate::rule::{Check, Checks, Class, Demand, Reply, Word};
+use cap_rights::RightSet;
+use cap_trace::{Answer, BareCall, Call, Dir, Fd, FdCall, Path};
+
+/// The kind of an answer (errno(2)).
+pub(crate) fn reply_of(answer: &Answer) -> Reply
+    ensures { result ≡ reply answer.now }
+{
+    match answer {
+        Answer::Fault(93) => Reply::NotCapable,
+        Answer::Fault(94) => Reply::NotPermitted,
+        Answer::Fault(_) => Reply::Other,
+        _ => Reply::Success,
+    }
+}
+
+/// How a call on one descriptor stands to capability mode.
+fn fd_class_of(call: FdCall) -> Class
+    ensures { result ≡ fd_class call }
+{
+    match call {
+        FdCall::Read
+        | FdCall::Readv
+        | FdCall::Pread
+        | FdCall::Preadv
+        | FdCall::Write
+        | FdCall::Writev
+        | FdCall::Pwrite
+        | FdCall::Pwritev
+        | FdCall::Lseek
+        | FdCall::Fstat
+        | FdCall::Fsync
+        | FdCall::Ftruncate
+        | FdCall::Close
+        | FdCall::Dup => Class::Allowed,
+        _ => Class::Either,
+    }
+}
+
+/// A call with one check.
+fn one(class: Class, fd: Fd, needs: RightSet, excuse: Option<RightSet>, answer: &Answer) -> Demand
+    ensures { result ≡ on_one class (check_of fd needs excuse) answer.now }
+{
+    Demand {
+        class,
+        checks: Checks::One(Check { fd, needs, excuse }),
+        reply: reply_of(answer),
+        at: false,
+        word: Word::Missing,
+    }
+}
+
+/// A call with nothing to check.
+fn unchecked(class: Class, answer: &Answer) -> Demand
+    ensures { result ≡ on_none class answer.now }
+{
+    Demand {
+        class,
+        checks: Checks::Nothing,
+        reply: reply_of(answer),
+        at: false,
+        word: Word::Missing,
+    }
+}
+
+/// A command of fcntl(2), of which errno 93 is never judged.
+fn fcntl(needs: Option<RightSet>, fd: Fd, answer: &Answer) -> Demand
+    ensures { result ≡ fcntl_demand needs fd answer.now }
+{
+    match needs {
+        None => unchecked(Class::Either, answer),
+        Some(needs) => one(Class::Either, fd, needs, None, answer),
+    }
+}
+
+/// cap_rights_limit(2).
+fn limit(fd: Fd, asked: &RightSet, answer: &Answer) -> Demand
+    ensures { result ≡ limit_demand fd asked.now answer.now }
+{
+    Demand {
+        class: Class::Allowed,
+        checks: Checks::One(Check {
+            fd,
+            needs: without_full_of(asked),
+            excuse: Some(*asked),
+        }),
+        reply: reply_of(answer),
+        at: false,
+        word: Word::Expanded,
+    }
+}
+
+fn bare_class_of(call: BareCall) -> Class
+    ensures { result ≡ bare_class call }
+{
+    match call {
+        BareCall::Fork | BareCall::CapEnter => Class::Allowed,
+        _ => Class::Either,
+    }
+}
+
+/// What a call is judged by.
+pub(crate) fn demand_of(call: &Call, answer: &Answer) -> Demand
+    ensures { result ≡ call_demand call.now answer.now }
+{
+    match call {
+        Call::OnFd(call, fd) => one(
+            fd_class_of(*call),
+            *fd,
+            needs::fd_needs_of(*call),
+            needs::fd_excuse_of(*call),
+            answer,
+        ),
+        Call::Send(_, fd) => {
+            let send = needs::send_needs_of();
+            one(Class::Either, *fd, send, Some(send), answer)
+        }
+        Call::SendTo(_, fd) => {
+            let send = needs::send_to_needs_of();
+            one(Class::Either, *fd, send, Some(send), answer)
+        }
+        Call::Accept4(fd, _) => {
+            let accept = needs::accept_needs_of();
+            one(Class::Either, *fd, accept, Some(accept), answer)
+        }
+        Call::Dup2(fd, _) => {
+            let none = RightSet::none();
+            one(Class::Allowed, *fd, none, Some(none), answer)
+        }
+        Call::Fcntl(fd, command) => fcntl(needs::fcntl_needs_of(command.as_bytes()), *fd, answer),
+        Call::FcntlDup(_, fd, _) => fcntl(Some(RightSet::none()), *fd, answer),
+        Call::FcntlSetFd(fd, _) => fcntl(Some(RightSet::none()), *fd, answer),
+        Call::Mmap(fd, protection, kind) => {
+            let needs = needs::mmap_needs_of(protection.as_bytes(), kind.as_bytes());
+            let excuse = needs::mmap_excuse_of();
+            one(Class::Either, *fd, needs, Some(excuse), answer)
+        }
+        Call::RightsLimit(fd, asked) => limit(*fd, asked, answer),
+        Call::Open(_, _) | Call::OnPath(_, _) | Call::OnPaths(_, _, _) => {
+            unchecked(Class::Forbidden, answer)
+        }
+        Call::Bare(call) => unchecked(bare_class_of(*call), answer),
+        Call::OnFlags(_, _) | Call::Other { .. } => unchecked(Class::Either, answer),
+        Call::At(_, _, _)
+        | Call::AtFlags(_, _, _, _)
+        | Call::SymlinkAt(_, _, _)
+        | Call::RenameAt(_, _, _, _)
+        | Call::LinkAt(_, _, _, _, _) => at_demand_of(call, answer),
+    }
+}
+
+/// A directory, a path there, and what its lookup needs.
+fn place<'a>(dir: Dir, path: &'a Path, needs: RightSet) -> Place<'a>
+    ensures { place_seen result ≡ part dir path.now needs }
+{
+    Place {
+        dir,
+        path: path.as_bytes(),
+        needs,
+    }
+}
+
+/// What a call at a directory is judged by; of another call this isn't asked.
+fn at_demand_of(call: &Call, answer: &Answer) -> Demand
+    requires { is_at call.now ≡ true }
+    ensures { result ≡ call_demand call.now answer.now }
+{
+    match call {
+        Call::At(call, dir, path) => {
+            let place = place(*dir, path, needs::at_needs_of(*call));
+            at_one(true, &place, answer)
+        }
+        Call::AtFlags(call, dir, path, flags) => {
+            let flags = flags.as_bytes();
+            let place = place(*dir, path, needs::at_flags_needs_of(*call, flags));
+            at_one(needs::has_plain_flags(*call, flags), &place, answer)
+        }
+        Call::SymlinkAt(_, dir, path) => {
+            let place = place(*dir, path, needs::symlink_needs_of());
+            at_one(true, &place, answer)
+        }
+        Call::RenameAt(dir, path, to_dir, to_path) => {
+            let from = place(*dir, path, needs::rename_from_needs_of());
+            let to = place(*to_dir, to_path, needs::rename_to_needs_of());
+            at_two(true, &from, &to, answer)
+        }
+        Call::LinkAt(dir, path, to_dir, to_path, flags) => {
+            let from = place(*dir, path, needs::link_from_needs_of());
+            let to = place(*to_dir, to_path, needs::link_to_needs_of());
+            at_two(
+                needs::has_plain_link_flags(flags.as_bytes()),
+                &from,
+                &to,
+                answer,
+            )
+        }
+        _ => unreachable!(),
+    }
+}

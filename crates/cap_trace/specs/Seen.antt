@@ -1,0 +1,60 @@
+-- What a line says, over its bytes.
+use Rattle.std.specs.Prelude.{ℕ, List, [], ◌∷◌, Ok, Err}
+use Rattle.cap_trace.specs.declared.line.Call.{Call}
+use Rattle.cap_trace.specs.declared.line.Call.TheVariants as calls
+use Rattle.cap_trace.specs.declared.line.Item.{Item}
+use Rattle.cap_trace.specs.declared.line.Item.TheVariants as items
+use Rattle.cap_trace.specs.declared.seen.CallSeen.{CallSeen}
+use Rattle.cap_trace.specs.declared.seen.CallSeen.TheVariants as seen
+use Rattle.cap_trace.specs.declared.seen.SaidSeen.{SaidSeen}
+use Rattle.cap_trace.specs.declared.seen.SaidSeen.TheVariants as seen_said
+use Rattle.cap_trace.specs.declared.seen.ItemSeen.{ItemSeen}
+use Rattle.cap_trace.specs.declared.seen.ItemSeen.TheVariants as seen_items
+use Rattle.cap_trace.specs.declared.seen.LineSeen.{LineSeen}
+use Rattle.cap_trace.specs.Entry.{Entry}
+use Rattle.cap_trace.specs.Forms.{Said, a_call, a_marker}
+use Rattle.cap_trace.specs.Quotes.{pieces}
+use Rattle.cap_trace.specs.Reading.{fd_at}
+
+-- the descriptors that the parts spell
+unfoldable pub fds_in : List (List ℕ) → List ℕ
+fds_in [] = []
+fds_in (t ∷ ts) = elim (fd_at t) [ Ok f ↦ f ∷ fds_in ts | Err e ↦ fds_in ts ]
+
+abbrev pub call_seen : CallSeen → Call
+call_seen (seen.OnFd c x) = calls.OnFd c x
+call_seen (seen.Send c x) = calls.Send c x
+call_seen (seen.SendTo c x) = calls.SendTo c x
+call_seen (seen.Accept4 x y) = calls.Accept4 x y.now
+call_seen (seen.Dup2 x y) = calls.Dup2 x y
+call_seen (seen.Fcntl x y) = calls.Fcntl x y.now
+call_seen (seen.FcntlDup c x y) = calls.FcntlDup c x y
+call_seen (seen.FcntlSetFd x y) = calls.FcntlSetFd x y.now
+call_seen (seen.Mmap x y z) = calls.Mmap x y.now z.now
+call_seen (seen.RightsLimit x y) = calls.RightsLimit x y
+call_seen (seen.Open x y) = calls.Open x.now y.now
+call_seen (seen.OnPath c x) = calls.OnPath c x.now
+call_seen (seen.OnPaths c x y) = calls.OnPaths c x.now y.now
+call_seen (seen.At c x y) = calls.At c x y.now
+call_seen (seen.AtFlags c x y z) = calls.AtFlags c x y.now z.now
+call_seen (seen.SymlinkAt x y z) = calls.SymlinkAt x.now y z.now
+call_seen (seen.RenameAt x y z u) = calls.RenameAt x y.now z u.now
+call_seen (seen.LinkAt x y z u v) = calls.LinkAt x y.now z u.now v.now
+call_seen (seen.OnFlags c x) = calls.OnFlags c x.now
+call_seen (seen.Bare c) = calls.Bare c
+call_seen (seen.Other n a) = calls.Other n.now a.now
+
+abbrev pub said_seen : SaidSeen → Said
+said_seen (seen_said.Call c) = a_call (call_seen c)
+said_seen (seen_said.Start args) = a_marker (items.Start (fds_in (pieces args.now)))
+said_seen seen_said.Exit = a_marker items.Exit
+said_seen (seen_said.Foreign f) = a_marker (items.Foreign f)
+
+abbrev pub item_seen : ItemSeen → Item
+item_seen (seen_items.Call c a) = items.Call (call_seen c) a
+item_seen (seen_items.Start args) = items.Start (fds_in (pieces args.now))
+item_seen seen_items.Exit = items.Exit
+item_seen (seen_items.Foreign f) = items.Foreign f
+
+abbrev pub line_seen : LineSeen → Entry
+line_seen l = record { pid = l.pid; item = item_seen l.item }

@@ -1,0 +1,90 @@
+//! Reading the answer of a call. Nothing here takes memory.
+
+ghost use Rattle.std.specs.Prelude.{◌≡◌};
+ghost use Rattle.cap_trace.specs.Number.{num_at};
+ghost use Rattle.cap_trace.specs.Reading.{Gives, number_at, same_at, pair_at, any_at, made_at, answer_at};
+ghost use Rattle.cap_trace.specs.Quotes.{cut_at_byte};
+
+use crate::calls::Kind;
+use crate::fault::ReadFault;
+use crate::line::Answer;
+use crate::number::number_of;
+use crate::quotes::cut;
+
+/// Two numbers with a comma between them, each at most so much.
+fn pair(most: u64, most_second: u64, text: &[u8]) -> Result<Answer, ReadFault>
+    ensures { Gives (λ a. a) result (pair_at most most_second (cut_at_byte 44 text.now)) }
+{
+    let Some((first, second)) = cut(b',', text) else {
+        return Err(ReadFault::Answer);
+    };
+    match (number_of(most, first), number_of(most_second, second)) {
+        (Some(first), Some(second)) => Ok(Answer::Pair(first, second)),
+        _ => Err(ReadFault::Answer),
+    }
+}
+
+/// A number, at most so much.
+fn number(most: u64, text: &[u8]) -> Result<Answer, ReadFault>
+    ensures { Gives (λ a. a) result (number_at (num_at most text.now)) }
+{
+    match number_of(most, text) {
+        Some(number) => Ok(Answer::Made(number)),
+        None => Err(ReadFault::Answer),
+    }
+}
+
+/// The descriptor that was told.
+fn same(fd: u32, text: &[u8]) -> Result<Answer, ReadFault>
+    ensures { Gives (λ a. a) result (same_at fd (num_at 1048575 text.now)) }
+{
+    match number_of(1_048_575, text) {
+        Some(made) if made == u64::from(fd) => Ok(Answer::Made(made)),
+        Some(_) => Err(ReadFault::Argument),
+        None => Err(ReadFault::Answer),
+    }
+}
+
+/// A number or two.
+fn any(text: &[u8]) -> Result<Answer, ReadFault>
+    ensures { Gives (λ a. a) result (any_at text.now (cut_at_byte 44 text.now)) }
+{
+    match cut(b',', text) {
+        None => number(u64::MAX, text),
+        Some(_) => pair(u64::MAX, u64::MAX, text),
+    }
+}
+
+/// The result of a call of this kind, without an errno.
+#[tactic(auto, unfolding(crate::specs::Reading::made_at))]
+fn made(kind: Kind, text: &[u8]) -> Result<Answer, ReadFault>
+    ensures { Gives (λ a. a) result (made_at kind text.now) }
+{
+    match kind {
+        Kind::Count => number(u64::MAX, text),
+        Kind::Zero => number(0, text),
+        Kind::Fd => number(1_048_575, text),
+        Kind::Same(fd) => same(fd, text),
+        Kind::FdPair => pair(1_048_575, 1_048_575, text),
+        Kind::Child => number(99_999, text),
+        Kind::ChildAndFd => pair(99_999, 1_048_575, text),
+        Kind::Any => any(text),
+    }
+}
+
+/// What stands behind the arguments of a call.
+#[tactic(auto, unfolding(crate::specs::Reading::answer_at))]
+pub(crate) fn answer(kind: Kind, tail: &[u8]) -> Result<Answer, ReadFault>
+    ensures { Gives (λ a. a) result (answer_at kind tail.now) }
+{
+    let Some(text) = tail.strip_prefix(b" RET ".as_slice()) else {
+        return Err(ReadFault::Shape);
+    };
+    match text.strip_prefix(b"-1 errno ".as_slice()) {
+        None => made(kind, text),
+        Some(number) => match number_of(65_535, number) {
+            Some(errno) if errno != 0 => Ok(Answer::Fault(errno as u16)),
+            _ => Err(ReadFault::Answer),
+        },
+    }
+}

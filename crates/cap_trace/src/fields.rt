@@ -1,0 +1,162 @@
+//! Flags, commands and paths, byte by byte.
+
+ghost use Rattle.std.specs.Prelude.{◌≡◌, not};
+ghost use Rattle.std.specs.List.{list_all};
+ghost use Rattle.cap_trace.specs.Fields.{is_flag_byte, is_word, flag_step, are_names, is_flags, is_plain, hex_digit, is_escaped, item_step, is_between, are_items, is_free};
+ghost use Rattle.cap_trace.specs.Spelling.{is_command};
+
+fn flag_byte(byte: u8) -> bool
+    ensures { result ≡ is_flag_byte byte }
+{
+    byte.is_ascii_uppercase() || byte.is_ascii_digit() || byte == b'_'
+}
+
+fn all_flag_bytes(text: &[u8]) -> bool
+    ensures { result ≡ list_all is_flag_byte text.now }
+{
+    text.iter().all(|byte| flag_byte(*byte))
+}
+
+/// Whether a text is one name of a flag or a command.
+fn word(text: &[u8]) -> bool
+    ensures { result ≡ is_word text.now }
+{
+    match text {
+        [] => false,
+        [first, rest @ ..] => first.is_ascii_uppercase() && all_flag_bytes(rest),
+    }
+}
+
+/// Whether behind this byte a name has to begin, where the byte may stand there.
+fn after_flag_byte(begins: bool, byte: u8) -> Option<bool>
+    ensures { result ≡ flag_step begins byte }
+{
+    match (begins, byte) {
+        (true, _) if byte.is_ascii_uppercase() => Some(false),
+        (false, b'|') => Some(true),
+        (false, _) if flag_byte(byte) => Some(false),
+        _ => None,
+    }
+}
+
+/// Whether a text is names joined by a bar.
+fn names(text: &[u8]) -> bool
+    ensures { result ≡ are_names text.now }
+{
+    let mut begins = true;
+    for byte in text {
+        match after_flag_byte(begins, *byte) {
+            Some(next) => begins = next,
+            None => return false,
+        }
+    }
+    !begins
+}
+
+/// Whether a text is flags: `0`, or names joined by a bar.
+pub(crate) fn flags(text: &[u8]) -> bool
+    ensures { result ≡ is_flags text.now }
+{
+    text == b"0".as_slice() || names(text)
+}
+
+/// Whether a text is a command of fcntl that has no form of its own.
+pub(crate) fn command(text: &[u8]) -> bool
+    ensures { result ≡ is_command text.now }
+{
+    word(text)
+        && !(text == b"F_SETFD".as_slice()
+            || text == b"F_DUP2FD".as_slice()
+            || text == b"F_DUP2FD_CLOEXEC".as_slice())
+}
+
+/// Where a byte stands in a path.
+#[derive(Clone, Copy, Debug, PartialEq, Eq)]
+enum Place {
+    /// Between two items.
+    Between,
+    /// Behind a backslash.
+    Slash,
+    /// Behind `\x`.
+    Digits,
+    /// Behind `\x` and this digit.
+    OneDigit(u8),
+}
+
+fn plain(byte: u8) -> bool
+    ensures { result ≡ is_plain byte }
+{
+    (32..=126).contains(&byte) && byte != b'"' && byte != b'\\'
+}
+
+/// The value of a hexadecimal digit in lower case.
+fn hex_value(byte: u8) -> Option<u8>
+    ensures { result ≡ hex_digit byte }
+{
+    match byte {
+        b'0'..=b'9' => Some(byte - b'0'),
+        b'a'..=b'f' => Some(byte - b'a' + 10),
+        _ => None,
+    }
+}
+
+/// Whether a byte is written by its number.
+fn escaped(byte: u16) -> bool
+    ensures { result ≡ is_escaped byte }
+{
+    (1..=31).contains(&byte) || (127..=255).contains(&byte)
+}
+
+impl Place {
+    fn is_between(self) -> bool
+        ensures { result ≡ is_between self }
+    {
+        match self {
+            Place::Between => true,
+            _ => false,
+        }
+    }
+
+    /// Where the next byte stands, where this one may stand here.
+    fn after(self, byte: u8) -> Option<Place>
+        ensures { result ≡ item_step self byte }
+    {
+        match self {
+            Place::Between if byte == b'\\' => Some(Place::Slash),
+            Place::Between if plain(byte) => Some(Place::Between),
+            Place::Between => None,
+            Place::Slash if byte == b'"' || byte == b'\\' => Some(Place::Between),
+            Place::Slash if byte == b'x' => Some(Place::Digits),
+            Place::Slash => None,
+            Place::Digits => hex_value(byte).map(Place::OneDigit),
+            Place::OneDigit(first) => match hex_value(byte) {
+                Some(second) if escaped(16 * u16::from(first) + u16::from(second)) => {
+                    Some(Place::Between)
+                }
+                _ => None,
+            },
+        }
+    }
+}
+
+/// Whether a text is the items of a path.
+pub(crate) fn items(text: &[u8]) -> bool
+    ensures { result ≡ are_items text.now }
+{
+    let mut place = Place::Between;
+    for byte in text {
+        match place.after(*byte) {
+            Some(next) => place = next,
+            None => return false,
+        }
+    }
+    place.is_between()
+}
+
+/// Whether a text may be the arguments of a call that has no form of its own.
+pub(crate) fn free(text: &[u8]) -> bool
+    ensures { result ≡ list_all is_free text.now }
+{
+    text.iter()
+        .all(|byte| *byte != b'(' && *byte != b')' && *byte != b'\n')
+}
