@@ -1,5 +1,4 @@
-use Rattle.std.proofs.Common.{◌≡◌, ℕ, ◌/◌, ◌%◌, ap}
-use Rattle.std.specs.declared.rc.Rc.{Rc}
+use Rattle.std.proofs.Common.{◌≡◌, ◌/◌, ◌%◌, ap}
 use Rattle.cap_machine.specs.declared.cells.Page.{Page}
 use Rattle.cap_machine.specs.Cells.{cell_at_place}
 use Rattle.cap_machine.proofs.Tables.{asked_of_clone}
