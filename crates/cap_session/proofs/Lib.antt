@@ -1,3 +1,4 @@
+pub mod Accepted
 pub mod Agree
 pub mod Answered
 pub mod Applied

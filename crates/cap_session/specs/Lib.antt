@@ -1,4 +1,5 @@
 pub mod Devices
+pub mod EditLaws
 pub mod Edits
 pub mod Feeds
 pub mod Laws

@@ -1,4 +1,5 @@
-//! What can be asked of a trace.
+//! What can be asked of a trace, and what holds of it.
+ghost use Rattle.cap_session.specs.EditLaws.{AcceptedEditsGive, NoEditAsksForMemory, InsertedStands};
 
 /// A change of a trace, one line at a time. Positions count from 1.
 #[derive(Clone, Copy, Debug)]
@@ -10,3 +11,18 @@ pub enum Edit<'a> {
     /// Puts a line in place of the one at the position.
     Replace { position: usize, line: &'a [u8] },
 }
+
+/// The trace after edits is the one that the accepted edits give, one after the other, with the others left out.
+pub fn accepted_edits_give()
+    ensures { AcceptedEditsGive }
+{}
+
+/// Want of memory is never what an edit asks for, so it comes only where memory runs out.
+pub fn no_edit_asks_for_memory()
+    ensures { NoEditAsksForMemory }
+{}
+
+/// An inserted line stands at its position, and deleting it there gives the trace back.
+pub fn inserted_stands()
+    ensures { InsertedStands }
+{}

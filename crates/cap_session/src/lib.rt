@@ -20,7 +20,7 @@ mod write;
 pub use check::check_stream;
 pub use counted::Counted;
 pub use devices::{Failed, Sink, Source};
-pub use edit::Edit;
+pub use edit::{Edit, accepted_edits_give, inserted_stands, no_edit_asks_for_memory};
 pub use laws::{bad_is_refused, beginning_decides, good_is_reported, pieces_agree};
 pub use outcome::Outcome;
 pub use refused::Refused;

@@ -2,7 +2,7 @@
 
 ghost use Rattle.std.specs.Prelude.{◌≤◌};
 
-use crate::edit::Edit;
+use crate::edit::{Edit, accepted_edits_give, inserted_stands, no_edit_asks_for_memory};
 use crate::refused::Refused;
 use crate::session::Session;
 use cap_trace::parse_line;
@@ -170,6 +170,9 @@ const MIXED_ANSWERS: [Result<usize, Refused>; 3] = [Ok(2), Err(Refused::Position
 
 #[test]
 fn edits_are_made_one_after_the_other(rt: HostRuntime) {
+    accepted_edits_give();
+    inserted_stands();
+    no_edit_asks_for_memory();
     let Ok(mut session) = session_of(rt.alloc(), 10, &LIMITED) else {
         return;
     };
