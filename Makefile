@@ -4,7 +4,7 @@
 #   make run        the same, and checks an example trace with it
 #   make test       the gate: the examples, and then every proof, test, stored run and wrong body from nothing
 #   make bench      times the program on a trace of a million lines beside `wc -l`
-#   make install    puts the program under PREFIX (default /usr/local)
+#   make install    puts the program and its manual page under PREFIX (default /usr/local)
 
 RT ?= rt
 PREFIX ?= /usr/local
@@ -13,14 +13,14 @@ SOURCES = $(shell find crates -path '*/out' -prune -o -type f -name '*.rt' -prin
 .PHONY: all run test examples bench install clean
 all: capcheck
 
-# `rt run` proves the program and all that it stands on, builds it and runs it, here on an empty trace.
+# `rt run` proves the program and all that it stands on, builds it and runs it, here to tell its version.
 capcheck: $(SOURCES)
-	cd crates/capcheck && $(RT) run </dev/null >/dev/null
+	cd crates/capcheck && $(RT) run -- --version >/dev/null
 	cp crates/capcheck/out/capcheck $@
 
 # Findings end the program with status 1, which is what this example is to show.
 run: capcheck
-	./capcheck <examples/filter.trace || test $$? -eq 1
+	./capcheck check examples/filter.trace || test $$? -eq 1
 
 examples: capcheck
 	examples/check ./capcheck
@@ -34,6 +34,8 @@ bench: capcheck
 install: capcheck
 	install -d $(DESTDIR)$(PREFIX)/bin
 	install -m 755 capcheck $(DESTDIR)$(PREFIX)/bin/capcheck
+	install -d $(DESTDIR)$(PREFIX)/share/man/man1
+	install -m 644 docs/capcheck.1 $(DESTDIR)$(PREFIX)/share/man/man1/capcheck.1
 
 clean:
 	rm -rf capcheck crates/*/out

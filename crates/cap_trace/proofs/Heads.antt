@@ -19,7 +19,7 @@ use Rattle.cap_trace.specs.Spelling.{IsHead}
 use Rattle.cap_trace.proofs.Cuts.{both, lacks, kept_some}
 use Rattle.cap_trace.proofs.Quiet.{weaken}
 
-some_is : {A : Type 0} (x y : A) → ◌≡◌ {A = Option A} (Some x) (Some y) → x ≡ y
+pub some_is : {A : Type 0} (x y : A) → ◌≡◌ {A = Option A} (Some x) (Some y) → x ≡ y
 some_is x y e = cc
 
 find_step : {A : Type 0} (p q : A → Bool) (b : Bool) (y : A) (o : Option A) (x : A) → p y ≡ b → q y ≡ true → cond b (Some y) o ≡ Some x → (o ≡ Some x → (p x ≡ true) × (q x ≡ true)) → (p x ≡ true) × (q x ≡ true)
@@ -27,7 +27,7 @@ find_step p q true y o x at ok e rest = let same = some_is y x e in (ap p (sym s
 find_step p q false y o x at ok e rest = rest e
 
 -- what is found passes the test, and what all pass
-find_takes : {A : Type 0} (p q : A → Bool) (xs : List A) (x : A) → list_all q xs ≡ true → find p xs ≡ Some x → (p x ≡ true) × (q x ≡ true)
+pub find_takes : {A : Type 0} (p q : A → Bool) (xs : List A) (x : A) → list_all q xs ≡ true → find p xs ≡ Some x → (p x ≡ true) × (q x ≡ true)
 find_takes p q [] x h e = absurd cc
 find_takes p q (y ∷ ys) x h e = let k = both (q y) (list_all q ys) h in find_step p q (p y) y (find p ys) x refl k.0 e (λ h. find_takes p q ys x k.1 h)
 
@@ -36,7 +36,7 @@ plain_names : list_all (λ f. lacks 40 (row_of f).name) all_forms ≡ true
 unfolding all_forms
 plain_names = refl
 
-form_takes : (name : List ℕ) (f : Form) → form_named name ≡ Some f → ((row_of f).name ≡ name) × (lacks 40 (row_of f).name ≡ true)
+pub form_takes : (name : List ℕ) (f : Form) → form_named name ≡ Some f → ((row_of f).name ≡ name) × (lacks 40 (row_of f).name ≡ true)
 form_takes name f e =
     let k = find_takes (λ g. bytes_eq (row_of g).name name) (λ g. lacks 40 (row_of g).name) all_forms f plain_names e in
     ((bytes_eq-Decides (row_of f).name name).0 k.0, k.1)

@@ -4,7 +4,7 @@ use Rattle.cap_trace.specs.declared.fault.ReadFault.{ReadFault}
 use Rattle.cap_trace.specs.declared.fault.LineFault.{LineFault}
 use Rattle.cap_trace.specs.declared.fault.LineFault.TheVariants as told
 use Rattle.cap_trace.specs.Entry.{Entry}
-use Rattle.cap_trace.specs.Spelling.{Spells}
+use Rattle.cap_trace.specs.Spelling.{Spells, canon}
 use Rattle.cap_trace.specs.Reading.{fault, line_of}
 use Rattle.cap_trace.specs.Fault.{line_fault}
 
@@ -34,3 +34,7 @@ OneLine = (bytes : List ℕ) (d e : Entry) → Spells bytes d → Spells bytes e
 -- reading from the left finds exactly what the bytes spell
 abbrev pub ReadingIsSpelling : Type 0
 ReadingIsSpelling = (bytes : List ℕ) (e : Entry) → Spells bytes e ↔ (line_of bytes ≡ Ok e)
+
+-- what is written for a line is read as that line, and no other spelling of it is written
+abbrev pub WrittenIsRead : Type 0
+WrittenIsRead = (bytes : List ℕ) (e : Entry) → Spells bytes e → line_of (canon e) ≡ Ok e

@@ -40,13 +40,13 @@ impl Fds {
 /// A path, as it is spelled between its quotes.
 #[derive(Debug, Drop)]
 pub struct Path {
-    pub(crate) text: Vec<u8>,
+    pub(crate) items: Vec<u8>,
 }
 
 impl Model for Path {
     ghost Value = { List ℕ };
 
-    ghost view = { λ x. x.text.items };
+    ghost view = { λ x. x.items.items };
 }
 
 impl Path {
@@ -54,20 +54,20 @@ impl Path {
     pub fn as_bytes(&self) -> &[u8]
         ensures { result.now ≡ self.now }
     {
-        self.text.as_slice()
+        self.items.as_slice()
     }
 }
 
 /// Flags, as they are spelled: `0`, or names with a bar between them.
 #[derive(Debug, Drop)]
 pub struct Flags {
-    pub(crate) text: Vec<u8>,
+    pub(crate) names: Vec<u8>,
 }
 
 impl Model for Flags {
     ghost Value = { List ℕ };
 
-    ghost view = { λ x. x.text.items };
+    ghost view = { λ x. x.names.items };
 }
 
 impl Flags {
@@ -75,20 +75,20 @@ impl Flags {
     pub fn as_bytes(&self) -> &[u8]
         ensures { result.now ≡ self.now }
     {
-        self.text.as_slice()
+        self.names.as_slice()
     }
 }
 
 /// A command of `fcntl` that asks for no third argument.
 #[derive(Debug, Drop)]
 pub struct Command {
-    pub(crate) text: Vec<u8>,
+    pub(crate) word: Vec<u8>,
 }
 
 impl Model for Command {
     ghost Value = { List ℕ };
 
-    ghost view = { λ x. x.text.items };
+    ghost view = { λ x. x.word.items };
 }
 
 impl Command {
@@ -96,20 +96,20 @@ impl Command {
     pub fn as_bytes(&self) -> &[u8]
         ensures { result.now ≡ self.now }
     {
-        self.text.as_slice()
+        self.word.as_slice()
     }
 }
 
 /// The name of a call that has no form of its own.
 #[derive(Debug, Drop)]
 pub struct Name {
-    pub(crate) text: Vec<u8>,
+    pub(crate) name: Vec<u8>,
 }
 
 impl Model for Name {
     ghost Value = { List ℕ };
 
-    ghost view = { λ x. x.text.items };
+    ghost view = { λ x. x.name.items };
 }
 
 impl Name {
@@ -117,20 +117,20 @@ impl Name {
     pub fn as_bytes(&self) -> &[u8]
         ensures { result.now ≡ self.now }
     {
-        self.text.as_slice()
+        self.name.as_slice()
     }
 }
 
 /// The arguments of a call that has no form of its own, as they are spelled.
 #[derive(Debug, Drop)]
 pub struct Args {
-    pub(crate) text: Vec<u8>,
+    pub(crate) args: Vec<u8>,
 }
 
 impl Model for Args {
     ghost Value = { List ℕ };
 
-    ghost view = { λ x. x.text.items };
+    ghost view = { λ x. x.args.items };
 }
 
 impl Args {
@@ -138,7 +138,7 @@ impl Args {
     pub fn as_bytes(&self) -> &[u8]
         ensures { result.now ≡ self.now }
     {
-        self.text.as_slice()
+        self.args.as_slice()
     }
 }
 

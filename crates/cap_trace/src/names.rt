@@ -1,11 +1,11 @@
 //! The table of names: each call and marker that has a form of its own, with the kind of its result.
 
-ghost use Rattle.std.specs.Prelude.{◌≡◌, find};
+ghost use Rattle.std.specs.Prelude.{◌≡◌, ◌<◌, ◌↔◌, length, IfSome, IsNone};
 ghost use Rattle.std.specs.Option.{option_map};
-ghost use Rattle.std.specs.Str.{bytes_eq};
 ghost use Rattle.std.specs.List.{list_all};
-ghost use Rattle.cap_trace.specs.Names.{row_of, dup_command_name, form_named, all_forms, is_name, is_name_byte, name_of, head_named};
+ghost use Rattle.cap_trace.specs.Names.{row_of, dup_command_name, form_named, is_name, is_name_byte, name_of, head_named};
 ghost use Rattle.cap_trace.specs.Names as names;
+ghost use Rattle.cap_trace.specs.Buckets.{bucket_at, first_in};
 ghost use Rattle.cap_trace.specs.Rows.{row_seen, head_seen};
 
 use crate::calls::{
@@ -226,125 +226,224 @@ impl DupCommand {
     }
 }
 
-/// Every form.
-static FORMS: [Form; 97] = [
-    Form::OnFd(FdCall::Read),
-    Form::OnFd(FdCall::Readv),
-    Form::OnFd(FdCall::Recvfrom),
-    Form::OnFd(FdCall::Recvmsg),
-    Form::OnFd(FdCall::Pread),
-    Form::OnFd(FdCall::Preadv),
-    Form::OnFd(FdCall::Write),
-    Form::OnFd(FdCall::Writev),
-    Form::OnFd(FdCall::Pwrite),
-    Form::OnFd(FdCall::Pwritev),
-    Form::OnFd(FdCall::Lseek),
-    Form::OnFd(FdCall::Fstat),
-    Form::OnFd(FdCall::Fstatfs),
-    Form::OnFd(FdCall::Fsync),
-    Form::OnFd(FdCall::Fdatasync),
-    Form::OnFd(FdCall::Ftruncate),
-    Form::OnFd(FdCall::Fchmod),
-    Form::OnFd(FdCall::Fchown),
-    Form::OnFd(FdCall::Fchflags),
-    Form::OnFd(FdCall::Fchdir),
-    Form::OnFd(FdCall::Flock),
-    Form::OnFd(FdCall::Fpathconf),
-    Form::OnFd(FdCall::Futimes),
-    Form::OnFd(FdCall::Futimens),
-    Form::OnFd(FdCall::Ioctl),
-    Form::OnFd(FdCall::Accept),
-    Form::OnFd(FdCall::Bind),
-    Form::OnFd(FdCall::Connect),
-    Form::OnFd(FdCall::Listen),
-    Form::OnFd(FdCall::Shutdown),
-    Form::OnFd(FdCall::Getpeername),
-    Form::OnFd(FdCall::Getsockname),
-    Form::OnFd(FdCall::Getsockopt),
-    Form::OnFd(FdCall::Setsockopt),
-    Form::OnFd(FdCall::Fexecve),
-    Form::OnFd(FdCall::Close),
-    Form::OnFd(FdCall::Dup),
-    Form::OnFd(FdCall::CapIoctlsLimit),
-    Form::OnFd(FdCall::CapFcntlsLimit),
-    Form::Send(SendCall::Sendto),
-    Form::Send(SendCall::Sendmsg),
-    Form::OnPath(PathCall::Execve),
-    Form::OnPath(PathCall::Access),
-    Form::OnPath(PathCall::Chdir),
-    Form::OnPath(PathCall::Chflags),
-    Form::OnPath(PathCall::Chmod),
-    Form::OnPath(PathCall::Chown),
-    Form::OnPath(PathCall::Lchown),
-    Form::OnPath(PathCall::Lstat),
-    Form::OnPath(PathCall::Mkdir),
-    Form::OnPath(PathCall::Mkfifo),
-    Form::OnPath(PathCall::Mknod),
-    Form::OnPath(PathCall::Readlink),
-    Form::OnPath(PathCall::Rmdir),
-    Form::OnPath(PathCall::Stat),
-    Form::OnPath(PathCall::Statfs),
-    Form::OnPath(PathCall::Truncate),
-    Form::OnPath(PathCall::Unlink),
-    Form::OnPaths(PathsCall::Link),
-    Form::OnPaths(PathsCall::Rename),
-    Form::OnPaths(PathsCall::Symlink),
-    Form::At(AtCall::Mkdirat),
-    Form::At(AtCall::Mkfifoat),
-    Form::At(AtCall::Mknodat),
-    Form::At(AtCall::Readlinkat),
-    Form::At(AtCall::Futimesat),
-    Form::AtFlags(AtFlagsCall::Openat),
-    Form::AtFlags(AtFlagsCall::Unlinkat),
-    Form::AtFlags(AtFlagsCall::Fstatat),
-    Form::AtFlags(AtFlagsCall::Fchmodat),
-    Form::AtFlags(AtFlagsCall::Fchownat),
-    Form::AtFlags(AtFlagsCall::Chflagsat),
-    Form::AtFlags(AtFlagsCall::Utimensat),
-    Form::OnFlags(FlagsCall::Socket),
-    Form::OnFlags(FlagsCall::Socketpair),
-    Form::OnFlags(FlagsCall::Pipe2),
-    Form::Bare(BareCall::Pipe),
-    Form::Bare(BareCall::Kqueue),
-    Form::Bare(BareCall::ShmOpen),
-    Form::Bare(BareCall::MqOpen),
-    Form::Bare(BareCall::Fhopen),
-    Form::Bare(BareCall::Fork),
-    Form::Bare(BareCall::Vfork),
-    Form::Bare(BareCall::Pdfork),
-    Form::Bare(BareCall::CapEnter),
-    Form::Accept4,
-    Form::Dup2,
-    Form::Fcntl,
-    Form::Mmap,
-    Form::RightsLimit,
-    Form::Open,
-    Form::SymlinkAt,
-    Form::RenameAt,
-    Form::LinkAt,
-    Form::Start,
-    Form::Exit,
-    Form::Foreign,
+/// The forms, by the bucket of their names.
+static BUCKETS: [[Option<Form>; 3]; 64] = [
+    [Some(Form::AtFlags(AtFlagsCall::Fstatat)), None, None],
+    [
+        Some(Form::OnFd(FdCall::Write)),
+        Some(Form::Bare(BareCall::Fhopen)),
+        None,
+    ],
+    [
+        Some(Form::OnFd(FdCall::Dup)),
+        Some(Form::OnFlags(FlagsCall::Socketpair)),
+        None,
+    ],
+    [Some(Form::OnPath(PathCall::Mkdir)), None, None],
+    [
+        Some(Form::OnFd(FdCall::Bind)),
+        Some(Form::AtFlags(AtFlagsCall::Unlinkat)),
+        None,
+    ],
+    [
+        Some(Form::AtFlags(AtFlagsCall::Fchmodat)),
+        Some(Form::AtFlags(AtFlagsCall::Fchownat)),
+        None,
+    ],
+    [Some(Form::Send(SendCall::Sendmsg)), None, None],
+    [Some(Form::OnPath(PathCall::Mknod)), None, None],
+    [Some(Form::Exit), None, None],
+    [Some(Form::AtFlags(AtFlagsCall::Utimensat)), None, None],
+    [Some(Form::At(AtCall::Futimesat)), None, None],
+    [Some(Form::Foreign), Some(Form::OnFd(FdCall::Futimes)), None],
+    [
+        Some(Form::Send(SendCall::Sendto)),
+        Some(Form::OnFd(FdCall::Fsync)),
+        None,
+    ],
+    [
+        Some(Form::OnFd(FdCall::Readv)),
+        Some(Form::OnFd(FdCall::Getsockopt)),
+        None,
+    ],
+    [
+        Some(Form::OnPath(PathCall::Stat)),
+        Some(Form::OnFd(FdCall::Fstatfs)),
+        None,
+    ],
+    [
+        Some(Form::Bare(BareCall::Pdfork)),
+        Some(Form::OnFd(FdCall::Pwrite)),
+        None,
+    ],
+    [Some(Form::Open), Some(Form::OnFd(FdCall::Pread)), None],
+    [Some(Form::OnFd(FdCall::Fchdir)), Some(Form::RenameAt), None],
+    [
+        Some(Form::RightsLimit),
+        Some(Form::OnFd(FdCall::CapFcntlsLimit)),
+        Some(Form::OnFd(FdCall::CapIoctlsLimit)),
+    ],
+    [
+        Some(Form::OnFd(FdCall::Accept)),
+        Some(Form::OnFd(FdCall::Connect)),
+        None,
+    ],
+    [Some(Form::AtFlags(AtFlagsCall::Openat)), None, None],
+    [Some(Form::OnFd(FdCall::Fchmod)), None, None],
+    [Some(Form::OnFd(FdCall::Fchflags)), None, None],
+    [Some(Form::AtFlags(AtFlagsCall::Chflagsat)), None, None],
+    [
+        Some(Form::OnPath(PathCall::Rmdir)),
+        Some(Form::OnPath(PathCall::Unlink)),
+        None,
+    ],
+    [
+        Some(Form::OnPath(PathCall::Chdir)),
+        Some(Form::OnFd(FdCall::Setsockopt)),
+        None,
+    ],
+    [
+        Some(Form::OnFd(FdCall::Ioctl)),
+        Some(Form::OnPath(PathCall::Execve)),
+        None,
+    ],
+    [
+        Some(Form::Bare(BareCall::Fork)),
+        Some(Form::OnPath(PathCall::Access)),
+        Some(Form::At(AtCall::Readlinkat)),
+    ],
+    [
+        Some(Form::OnPath(PathCall::Lstat)),
+        Some(Form::OnPaths(PathsCall::Rename)),
+        None,
+    ],
+    [
+        Some(Form::OnPath(PathCall::Chmod)),
+        Some(Form::OnPath(PathCall::Lchown)),
+        Some(Form::OnPath(PathCall::Truncate)),
+    ],
+    [
+        Some(Form::OnPath(PathCall::Chflags)),
+        Some(Form::OnFd(FdCall::Shutdown)),
+        None,
+    ],
+    [Some(Form::OnFd(FdCall::Lseek)), None, None],
+    [Some(Form::OnFd(FdCall::Fdatasync)), None, None],
+    [
+        Some(Form::Bare(BareCall::CapEnter)),
+        Some(Form::LinkAt),
+        None,
+    ],
+    [None, None, None],
+    [Some(Form::OnFd(FdCall::Fpathconf)), None, None],
+    [
+        Some(Form::Mmap),
+        Some(Form::OnFlags(FlagsCall::Socket)),
+        Some(Form::Accept4),
+    ],
+    [None, None, None],
+    [Some(Form::OnPath(PathCall::Statfs)), None, None],
+    [
+        Some(Form::Fcntl),
+        Some(Form::OnFd(FdCall::Listen)),
+        Some(Form::SymlinkAt),
+    ],
+    [Some(Form::Start), Some(Form::Bare(BareCall::ShmOpen)), None],
+    [None, None, None],
+    [
+        Some(Form::OnFd(FdCall::Close)),
+        Some(Form::OnFd(FdCall::Writev)),
+        Some(Form::OnFlags(FlagsCall::Pipe2)),
+    ],
+    [Some(Form::OnFd(FdCall::Futimens)), None, None],
+    [None, None, None],
+    [Some(Form::OnFd(FdCall::Read)), None, None],
+    [None, None, None],
+    [Some(Form::OnPath(PathCall::Readlink)), None, None],
+    [
+        Some(Form::OnFd(FdCall::Fexecve)),
+        Some(Form::OnFd(FdCall::Preadv)),
+        Some(Form::Bare(BareCall::Vfork)),
+    ],
+    [None, None, None],
+    [None, None, None],
+    [Some(Form::OnFd(FdCall::Flock)), None, None],
+    [
+        Some(Form::OnFd(FdCall::Recvfrom)),
+        Some(Form::OnFd(FdCall::Ftruncate)),
+        None,
+    ],
+    [
+        Some(Form::OnPaths(PathsCall::Link)),
+        Some(Form::OnFd(FdCall::Recvmsg)),
+        None,
+    ],
+    [Some(Form::OnFd(FdCall::Fstat)), None, None],
+    [
+        Some(Form::OnFd(FdCall::Fchown)),
+        Some(Form::At(AtCall::Mkdirat)),
+        Some(Form::At(AtCall::Mknodat)),
+    ],
+    [Some(Form::OnFd(FdCall::Pwritev)), None, None],
+    [Some(Form::Bare(BareCall::Pipe)), None, None],
+    [
+        Some(Form::Dup2),
+        Some(Form::OnFd(FdCall::Getpeername)),
+        Some(Form::OnFd(FdCall::Getsockname)),
+    ],
+    [Some(Form::OnPaths(PathsCall::Symlink)), None, None],
+    [
+        Some(Form::OnPath(PathCall::Mkfifo)),
+        Some(Form::At(AtCall::Mkfifoat)),
+        None,
+    ],
+    [
+        Some(Form::Bare(BareCall::Kqueue)),
+        Some(Form::Bare(BareCall::MqOpen)),
+        None,
+    ],
+    [None, None, None],
+    [Some(Form::OnPath(PathCall::Chown)), None, None],
 ];
 
-/// The first of these forms that has the name.
-fn first_named(forms: &[Form], name: &[u8]) -> Option<Form>
-    ensures { result ≡ find (λ f. bytes_eq (row_of f).name name.now) forms.now }
+/// The bucket of a name: its length, its first and its last two bytes tell it. No name of the table has fewer than 3.
+fn bucket_of(name: &[u8]) -> Option<usize>
+    ensures some { IfSome result (λ k. (k ≡ bucket_at name.now) × (k < 64)) }
+    ensures none { IsNone result ↔ (length name.now < 3) }
 {
-    for form in forms {
-        if form.row().name == name {
-            return Some(*form);
+    let [first, .., before, last] = name else {
+        return None;
+    };
+    let sum = 5 * (name.len() % 64)
+        + 17 * usize::from(*first)
+        + 3 * usize::from(*before)
+        + usize::from(*last);
+    Some(sum % 64)
+}
+
+/// The first form in a bucket that has the name.
+fn first_named(bucket: &[Option<Form>], name: &[u8]) -> Option<Form>
+    ensures { result ≡ first_in bucket.now name.now }
+{
+    for slot in bucket {
+        if let Some(form) = slot {
+            if form.row().name == name {
+                return Some(*form);
+            }
         }
     }
     None
 }
 
 /// The form of a name of the table.
-#[tactic(auto, unfolding(crate::specs::Names::all_forms))]
+#[tactic(auto, unfolding(crate::specs::Buckets::buckets))]
 pub(crate) fn form_of(name: &[u8]) -> Option<Form>
     ensures { result ≡ form_named name.now }
 {
-    first_named(&FORMS, name)
+    match bucket_of(name) {
+        Some(bucket) => first_named(&BUCKETS[bucket], name),
+        None => None,
+    }
 }
 
 fn name_byte(byte: u8) -> bool

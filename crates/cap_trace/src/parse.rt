@@ -5,7 +5,7 @@ ghost use Rattle.cap_trace.specs.declared.fault.LineFault.TheVariants.{Memory};
 ghost use Rattle.cap_trace.specs.Quotes.{pieces};
 ghost use Rattle.cap_trace.specs.Seen.{fds_in, call_seen, line_seen};
 ghost use Rattle.cap_trace.specs.Spelling.{Spells, IsProper};
-ghost use Rattle.cap_trace.specs.Parsing.{SpellsSome, TellsFaults, ReadsOnly, TellsReading, OneLine, ReadingIsSpelling};
+ghost use Rattle.cap_trace.specs.Parsing.{SpellsSome, TellsFaults, ReadsOnly, TellsReading, OneLine, ReadingIsSpelling, WrittenIsRead};
 
 use crate::fault::LineFault;
 use crate::line::{Args, Call, Command, Fds, Flags, Item, Line, Name, Path};
@@ -18,36 +18,36 @@ use std::alloc::{AllocError, Global};
 fn path(alloc: Global, text: &[u8]) -> Result<Path, AllocError>
     ensures { IfOk result (λ p. p ≡ text.now) }
 {
-    let text = Vec::from_slice(alloc, text)?;
-    Ok(Path { text })
+    let items = Vec::from_slice(alloc, text)?;
+    Ok(Path { items })
 }
 
 fn flags(alloc: Global, text: &[u8]) -> Result<Flags, AllocError>
     ensures { IfOk result (λ f. f ≡ text.now) }
 {
-    let text = Vec::from_slice(alloc, text)?;
-    Ok(Flags { text })
+    let names = Vec::from_slice(alloc, text)?;
+    Ok(Flags { names })
 }
 
 fn command(alloc: Global, text: &[u8]) -> Result<Command, AllocError>
     ensures { IfOk result (λ c. c ≡ text.now) }
 {
-    let text = Vec::from_slice(alloc, text)?;
-    Ok(Command { text })
+    let word = Vec::from_slice(alloc, text)?;
+    Ok(Command { word })
 }
 
 fn name(alloc: Global, text: &[u8]) -> Result<Name, AllocError>
     ensures { IfOk result (λ n. n ≡ text.now) }
 {
-    let text = Vec::from_slice(alloc, text)?;
-    Ok(Name { text })
+    let name = Vec::from_slice(alloc, text)?;
+    Ok(Name { name })
 }
 
 fn args(alloc: Global, text: &[u8]) -> Result<Args, AllocError>
     ensures { IfOk result (λ a. a ≡ text.now) }
 {
-    let text = Vec::from_slice(alloc, text)?;
-    Ok(Args { text })
+    let args = Vec::from_slice(alloc, text)?;
+    Ok(Args { args })
 }
 
 /// The descriptors among the arguments.
@@ -64,7 +64,7 @@ fn fds_of(alloc: Global, args: &[u8]) -> Result<Fds, AllocError>
     Ok(Fds { fds })
 }
 
-/// A call at a directory, or by path, in memory of its own.
+/// A call, in memory of its own.
 fn call_of(alloc: Global, seen: &CallSeen<'_>) -> Result<Call, AllocError>
     ensures { IfOk result (λ c. c ≡ call_seen seen.now) }
 {
@@ -128,10 +128,20 @@ fn owned(alloc: Global, seen: &LineSeen<'_>) -> Result<Line, AllocError>
     Ok(Line { pid, item })
 }
 
-/// The line that the bytes spell.
+/// The line that the bytes spell: at most 1,024 of them, without a line feed at their end.
 ///
-/// Reading takes no memory for a line whose arguments are numbers and names of rights alone. A fault
-/// is the first one from the left, and is told whether or not there is memory.
+/// Reading takes no memory but for what is kept of the text: the descriptors of a start, paths, flags,
+/// commands, and the name and arguments of a call that has no form of its own.
+///
+/// # Errors
+///
+/// The first thing that is wrong with the bytes, from the left. [`LineFault::Memory`] comes only where
+/// the bytes spell a line, and there was no memory to keep it.
+///
+/// ```
+/// let line = parse_line(alloc, b"100 read(3) RET 512")?;
+/// assert_eq!(line.name(), b"read");
+/// ```
 pub fn parse_line(alloc: Global, bytes: &[u8]) -> Result<Line, LineFault>
     // What is read is spelled so.
     ensures found { IfOk result (λ l. Spells bytes.now l) }
@@ -161,4 +171,9 @@ pub fn one_line()
 /// Reading from the left finds exactly the line that the bytes spell.
 pub fn reading_is_spelling()
     ensures { ReadingIsSpelling }
+{}
+
+/// Of each line that bytes spell, the canonical text is read as that line again.
+pub fn written_is_read()
+    ensures { WrittenIsRead }
 {}

@@ -1,8 +1,6 @@
 use Rattle.std.proofs.Common.{◌≡◌, drop}
-use Rattle.std.specs.Prelude.{find}
-use Rattle.std.specs.Str.{bytes_eq}
-use Rattle.cap_trace.specs.Names.{row_of}
+use Rattle.cap_trace.specs.Buckets.{first_in}
 use Rattle.cap_trace.proofs.names.first_named.Given as goal
 
-abbrev pub invariant-loop-form : goal.invariant-loop-form
-invariant-loop-form l = find (λ f. bytes_eq (row_of f).name l.name) (drop l.form-index l.forms) ≡ find (λ f. bytes_eq (row_of f).name l.name) l.forms
+abbrev pub invariant-loop-slot : goal.invariant-loop-slot
+invariant-loop-slot l = first_in (drop l.slot-index l.bucket) l.name ≡ first_in l.bucket l.name

@@ -1,0 +1,292 @@
+//! Writing a line.
+//!
+//! What a function here wrote before memory ran out stays behind what there was; `write_line` takes it off again.
+
+ghost use Rattle.std.specs.Prelude.{◌≡◌, ◌++◌, ◌∷◌, [], codes, length, map, take, OnOk, OnErr, if◌then◌else◌, is_ok};
+ghost use Rattle.std.specs.Fmt.{decimal};
+ghost use Rattle.std.specs.List.{join_with_byte};
+ghost use Rattle.cap_trace.specs.Names.{name_of};
+ghost use Rattle.cap_trace.specs.Fields.{quoted};
+ghost use Rattle.cap_trace.specs.Entry.{args_of_call, args_of, fds as fd_args, head_of};
+ghost use Rattle.cap_trace.specs.Spelling.{Spells, arg_text, answer_text, tail_text, canon};
+ghost use Rattle.cap_trace.specs.Writing.{shown_text, with_commas};
+
+use crate::line::{Answer, Call, Dir, Fd, Item, Line};
+use cap_rights::{NoMemory, RightSet, write_rights};
+use itoa::Buffer;
+use std::alloc::AllocError;
+
+/// An argument, to be written.
+#[derive(Clone, Copy)]
+enum Shown<'a> {
+    Fd(Fd),
+    Dir(Dir),
+    Text(&'a [u8]),
+    Path(&'a [u8]),
+    Rights(&'a RightSet),
+}
+
+fn put_number(number: u64, out: &mut Vec<u8>) -> Result<(), AllocError>
+    ensures { out.new.items ≡ (if is_ok result then out.old.items ++ decimal number else out.old.items) }
+{
+    let mut buffer = Buffer::new();
+    out.extend_from_slice(buffer.format(number).as_bytes())
+}
+
+fn put_path(path: &[u8], out: &mut Vec<u8>) -> Result<(), AllocError>
+    ensures ok { OnOk result (out.new.items ≡ out.old.items ++ quoted path.now) }
+    ensures err { OnErr result (take (length out.old.items) out.new.items ≡ out.old.items) }
+{
+    out.extend_from_slice(b"\"")?;
+    out.extend_from_slice(path)?;
+    out.extend_from_slice(b"\"")
+}
+
+fn put_argument(argument: &Shown<'_>, out: &mut Vec<u8>) -> Result<(), AllocError>
+    ensures ok { OnOk result (out.new.items ≡ out.old.items ++ shown_text argument.now) }
+    ensures err { OnErr result (take (length out.old.items) out.new.items ≡ out.old.items) }
+{
+    match argument {
+        Shown::Fd(fd) | Shown::Dir(Dir::Fd(fd)) => put_number(u64::from(*fd), out),
+        Shown::Dir(Dir::Cwd) => out.extend_from_slice(b"AT_FDCWD"),
+        Shown::Text(text) => out.extend_from_slice(text),
+        Shown::Path(path) => put_path(path, out),
+        Shown::Rights(rights) => write_rights(rights, out).map_err(|_| AllocError),
+    }
+}
+
+/// Each argument behind a comma.
+fn put_others(others: &[Shown<'_>], out: &mut Vec<u8>) -> Result<(), AllocError>
+    ensures ok { OnOk result (out.new.items ≡ out.old.items ++ with_commas (map shown_text others.now)) }
+    ensures err { OnErr result (take (length out.old.items) out.new.items ≡ out.old.items) }
+{
+    for other in others {
+        out.extend_from_slice(b",")?;
+        put_argument(other, out)?;
+    }
+    Ok(())
+}
+
+/// The arguments, with commas between them.
+fn put_arguments(arguments: &[Shown<'_>], out: &mut Vec<u8>) -> Result<(), AllocError>
+    ensures ok { OnOk result (out.new.items ≡ out.old.items ++ join_with_byte 44 (map shown_text arguments.now)) }
+    ensures err { OnErr result (take (length out.old.items) out.new.items ≡ out.old.items) }
+{
+    match arguments {
+        [] => Ok(()),
+        [first, others @ ..] => {
+            put_argument(first, out)?;
+            put_others(others, out)
+        }
+    }
+}
+
+/// The arguments of a call.
+fn put_call(call: &Call, out: &mut Vec<u8>) -> Result<(), AllocError>
+    ensures ok { OnOk result (out.new.items ≡ out.old.items ++ join_with_byte 44 (map arg_text (args_of_call call.now))) }
+    ensures err { OnErr result (take (length out.old.items) out.new.items ≡ out.old.items) }
+{
+    match call {
+        Call::OnFd(_, fd) | Call::Send(_, fd) => put_arguments(&[Shown::Fd(*fd)], out),
+        Call::SendTo(_, fd) => put_arguments(&[Shown::Fd(*fd), Shown::Text(b"DEST")], out),
+        Call::Accept4(fd, flags) => {
+            put_arguments(&[Shown::Fd(*fd), Shown::Text(flags.as_bytes())], out)
+        }
+        Call::Dup2(fd, made) => put_arguments(&[Shown::Fd(*fd), Shown::Fd(*made)], out),
+        Call::Fcntl(fd, command) => {
+            put_arguments(&[Shown::Fd(*fd), Shown::Text(command.as_bytes())], out)
+        }
+        Call::FcntlDup(command, fd, made) => put_arguments(
+            &[
+                Shown::Fd(*fd),
+                Shown::Text(command.name()),
+                Shown::Fd(*made),
+            ],
+            out,
+        ),
+        Call::FcntlSetFd(fd, flags) => put_arguments(
+            &[
+                Shown::Fd(*fd),
+                Shown::Text(b"F_SETFD"),
+                Shown::Text(flags.as_bytes()),
+            ],
+            out,
+        ),
+        Call::Mmap(fd, protection, kind) => put_arguments(
+            &[
+                Shown::Fd(*fd),
+                Shown::Text(protection.as_bytes()),
+                Shown::Text(kind.as_bytes()),
+            ],
+            out,
+        ),
+        Call::RightsLimit(fd, rights) => {
+            put_arguments(&[Shown::Fd(*fd), Shown::Rights(rights)], out)
+        }
+        Call::Open(path, flags) => put_arguments(
+            &[Shown::Path(path.as_bytes()), Shown::Text(flags.as_bytes())],
+            out,
+        ),
+        Call::OnPath(_, path) => put_arguments(&[Shown::Path(path.as_bytes())], out),
+        Call::OnPaths(_, from, to) => put_arguments(
+            &[Shown::Path(from.as_bytes()), Shown::Path(to.as_bytes())],
+            out,
+        ),
+        Call::At(_, dir, path) => {
+            put_arguments(&[Shown::Dir(*dir), Shown::Path(path.as_bytes())], out)
+        }
+        Call::AtFlags(_, dir, path, flags) => put_arguments(
+            &[
+                Shown::Dir(*dir),
+                Shown::Path(path.as_bytes()),
+                Shown::Text(flags.as_bytes()),
+            ],
+            out,
+        ),
+        Call::SymlinkAt(target, dir, path) => put_arguments(
+            &[
+                Shown::Path(target.as_bytes()),
+                Shown::Dir(*dir),
+                Shown::Path(path.as_bytes()),
+            ],
+            out,
+        ),
+        Call::RenameAt(from, old, to, new) => put_arguments(
+            &[
+                Shown::Dir(*from),
+                Shown::Path(old.as_bytes()),
+                Shown::Dir(*to),
+                Shown::Path(new.as_bytes()),
+            ],
+            out,
+        ),
+        Call::LinkAt(from, old, to, new, flags) => put_arguments(
+            &[
+                Shown::Dir(*from),
+                Shown::Path(old.as_bytes()),
+                Shown::Dir(*to),
+                Shown::Path(new.as_bytes()),
+                Shown::Text(flags.as_bytes()),
+            ],
+            out,
+        ),
+        Call::OnFlags(_, flags) => put_arguments(&[Shown::Text(flags.as_bytes())], out),
+        Call::Bare(_) => Ok(()),
+        Call::Other { args, .. } => out.extend_from_slice(args.as_bytes()),
+    }
+}
+
+/// Each descriptor behind a comma.
+fn put_other_fds(others: &[Fd], out: &mut Vec<u8>) -> Result<(), AllocError>
+    ensures ok { OnOk result (out.new.items ≡ out.old.items ++ with_commas (map decimal others.now)) }
+    ensures err { OnErr result (take (length out.old.items) out.new.items ≡ out.old.items) }
+{
+    for other in others {
+        out.extend_from_slice(b",")?;
+        put_number(u64::from(*other), out)?;
+    }
+    Ok(())
+}
+
+/// Descriptors, with commas between them.
+fn put_fds(fds: &[Fd], out: &mut Vec<u8>) -> Result<(), AllocError>
+    ensures ok { OnOk result (out.new.items ≡ out.old.items ++ join_with_byte 44 (map arg_text (fd_args fds.now))) }
+    ensures err { OnErr result (take (length out.old.items) out.new.items ≡ out.old.items) }
+{
+    match fds {
+        [] => Ok(()),
+        [first, others @ ..] => {
+            put_number(u64::from(*first), out)?;
+            put_other_fds(others, out)
+        }
+    }
+}
+
+/// What stands between the brackets.
+fn put_between(item: &Item, out: &mut Vec<u8>) -> Result<(), AllocError>
+    ensures ok { OnOk result (out.new.items ≡ out.old.items ++ join_with_byte 44 (map arg_text (args_of item.now))) }
+    ensures err { OnErr result (take (length out.old.items) out.new.items ≡ out.old.items) }
+{
+    match item {
+        Item::Call { call, .. } => put_call(call, out),
+        Item::Start(fds) => put_fds(fds.as_slice(), out),
+        Item::Exit => Ok(()),
+        Item::Foreign(fd) => put_number(u64::from(*fd), out),
+    }
+}
+
+fn put_answer(answer: &Answer, out: &mut Vec<u8>) -> Result<(), AllocError>
+    ensures ok { OnOk result (out.new.items ≡ out.old.items ++ answer_text answer.now) }
+    ensures err { OnErr result (take (length out.old.items) out.new.items ≡ out.old.items) }
+{
+    match answer {
+        Answer::Made(number) => put_number(*number, out),
+        Answer::Pair(first, second) => {
+            put_number(*first, out)?;
+            out.extend_from_slice(b",")?;
+            put_number(*second, out)
+        }
+        Answer::Fault(errno) => {
+            out.extend_from_slice(b"-1 errno ")?;
+            put_number(u64::from(*errno), out)
+        }
+    }
+}
+
+/// What stands behind the bracket that closes.
+fn put_tail(item: &Item, out: &mut Vec<u8>) -> Result<(), AllocError>
+    ensures ok { OnOk result (out.new.items ≡ out.old.items ++ tail_text item.now) }
+    ensures err { OnErr result (take (length out.old.items) out.new.items ≡ out.old.items) }
+{
+    match item {
+        Item::Call { answer, .. } => {
+            out.extend_from_slice(b" RET ")?;
+            put_answer(answer, out)
+        }
+        _ => Ok(()),
+    }
+}
+
+/// What stands before the arguments.
+fn put_head(line: &Line, out: &mut Vec<u8>) -> Result<(), AllocError>
+    ensures ok { OnOk result (out.new.items ≡ out.old.items ++ (decimal line.now.pid ++ (32 ∷ (name_of (head_of line.now.item) ++ 40 ∷ [])))) }
+    ensures err { OnErr result (take (length out.old.items) out.new.items ≡ out.old.items) }
+{
+    put_number(u64::from(line.pid), out)?;
+    out.extend_from_slice(b" ")?;
+    out.extend_from_slice(line.name())?;
+    out.extend_from_slice(b"(")
+}
+
+fn put_line(line: &Line, out: &mut Vec<u8>) -> Result<(), AllocError>
+    ensures ok { OnOk result (out.new.items ≡ out.old.items ++ canon line.now) }
+    ensures spelled { Spells (canon line.now) line.now }
+    ensures err { OnErr result (take (length out.old.items) out.new.items ≡ out.old.items) }
+{
+    let item = &line.item;
+    put_head(line, out)?;
+    put_between(item, out)?;
+    out.extend_from_slice(b")")?;
+    put_tail(item, out)
+}
+
+/// Appends the one canonical text of a line, without a line feed. It spells the line, so it has at most
+/// 1,024 bytes. But for rights, which are named in the order of their table, it is the text that was read.
+///
+/// # Errors
+///
+/// [`NoMemory`] where memory ran out. The vector is then as before.
+pub fn write_line(line: &Line, out: &mut Vec<u8>) -> Result<(), NoMemory>
+    ensures ok { OnOk result (out.new.items ≡ out.old.items ++ canon line.now) }
+    ensures spelled { Spells (canon line.now) line.now }
+    ensures err { OnErr result (out.new.items ≡ out.old.items) }
+{
+    let start = out.len();
+    match put_line(line, out) {
+        Ok(()) => Ok(()),
+        Err(_) => {
+            out.truncate(start);
+            Err(NoMemory)
+        }
+    }
+}

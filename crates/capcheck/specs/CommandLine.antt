@@ -1,0 +1,24 @@
+-- The command line of the program, as `clap` reads it. Texts that only help shows aren't part of it.
+use Rattle.std.specs.Prelude.{codes, true}
+use Rattle.clap.specs.Words.{App, Rule, new_app, new_rule, with_rule, with_subcommand}
+use Rattle.clap.specs.Simple.{on_top}
+
+-- the name of a file, which may be absent
+abbrev pub trace_rule : Rule
+trace_rule = record (new_rule (codes "trace")) { value_names = 1 }
+
+-- check [FILE]
+abbrev pub check_words : App
+check_words = with_rule (new_app (codes "check")) trace_rule
+
+-- the first word names a command, and there are --help and --version
+abbrev pub bare_words : App
+bare_words = on_top (λ s. record s {
+  no_binary_name = true;
+  disable_help_subcommand = true;
+  subcommand_required = true;
+  has_version = true;
+}) (new_app (codes "capcheck"))
+
+abbrev pub capcheck : App
+capcheck = with_subcommand bare_words check_words.top

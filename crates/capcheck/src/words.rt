@@ -1,0 +1,51 @@
+//! The command line, as `clap` is told of it.
+ghost use Rattle.std.specs.Prelude.{◌≡◌, IfOk, false};
+ghost use Rattle.clap.specs.Words.{app_of, rule_of, shape_of};
+ghost use Rattle.clap.specs.declared.builder.command.Command.TheViews.{out-Command};
+ghost use Rattle.capcheck.specs.CommandLine.{bare_words, capcheck, check_words, trace_rule};
+
+use crate::help;
+use clap::{Arg, Command};
+use std::alloc::{AllocError, Global};
+
+/// The command line of this program: `specs/CommandLine.antt` has it as a value.
+pub fn command<'a>(alloc: Global) -> Result<Command<'a>, AllocError>
+    ensures { IfOk result (λ c. app_of c ≡ capcheck) }
+{
+    bare_command(alloc)?.subcommand(check_command(alloc)?)
+}
+
+/// The program's own settings, with no command yet.
+fn bare_command<'a>(alloc: Global) -> Result<Command<'a>, AllocError>
+    ensures { IfOk result (λ c. app_of c ≡ bare_words) }
+{
+    Command::new(alloc, "capcheck")
+        .about("Checks recorded system calls against the rights that FreeBSD's Capsicum gave")
+        .after_help(help::PROGRAM)
+        .version(help::VERSION)
+        .no_binary_name(true)
+        .disable_help_subcommand(true)
+        .subcommand_required(true)
+        .bin_name("capcheck")
+}
+
+/// `check [FILE]`.
+fn check_command<'a>(alloc: Global) -> Result<Command<'a>, AllocError>
+    ensures shape { IfOk result (λ c. shape_of c ≡ check_words.top) }
+    ensures local { IfOk result (λ c. (out-Command c).has_globals ≡ false) }
+{
+    Command::new(alloc, "check")
+        .about("Checks a trace, and prints its findings")
+        .after_help(help::CHECK)
+        .arg(trace_arg(alloc))
+}
+
+/// The trace of `check`.
+fn trace_arg<'a>(alloc: Global) -> Arg<'a>
+    ensures rule { rule_of result ≡ trace_rule }
+    ensures local { result.global ≡ false }
+{
+    Arg::new(alloc, "trace")
+        .value_name("FILE")
+        .help("The trace; standard input where none is named")
+}
