@@ -1,26 +1,21 @@
 -- What a name says of its arguments has that name and these arguments, and is said of them again.
-use Rattle.std.proofs.Common.{◌≡◌, ℕ, ◌&&◌, ◌||◌, Bool, true, false, cond, not, eqb, List, [], ◌∷◌, length, Option, Some, None, Result, Ok, Err, refl, sym, ap, subst, ◌∙◌, ◌⊎◌, inl, inr}
+use Rattle.std.proofs.Common.{◌≡◌, ℕ, Bool, true, false, cond, eqb, List, [], ◌∷◌, length, Result, Ok, Err, refl, sym, ap, subst, ◌∙◌}
 use Rattle.std.specs.Prelude.{codes}
-use Rattle.std.specs.Str.{bytes_eq}
-use Rattle.std.proofs.lemmas.Bool.{eqb-true}
 use Rattle.cap_trace.specs.declared.fault.ReadFault.{ReadFault}
 use Rattle.cap_trace.specs.declared.fault.ReadFault.TheVariants as faults
-use Rattle.cap_trace.specs.declared.line.Item.{Item}
 use Rattle.cap_trace.specs.declared.line.Item.TheVariants as items
 use Rattle.cap_trace.specs.declared.line.Call.{Call}
 use Rattle.cap_trace.specs.declared.line.Call.TheVariants as calls
-use Rattle.cap_trace.specs.declared.line.Answer.{Answer}
 use Rattle.cap_trace.specs.declared.calls.DupCommand.TheVariants as dup_commands
-use Rattle.cap_trace.specs.declared.calls.Form.{Form}
 use Rattle.cap_trace.specs.declared.calls.Form.TheVariants as forms
 use Rattle.cap_trace.specs.Names.{Head, listed, unlisted}
-use Rattle.cap_trace.specs.Entry.{Arg, an_fd, a_dir, some_flags, some_rights, a_path, a_command, a_word, free_text, Word, dest, set_fd, dup_to, fds, args_of_call, args_of, head_of_call, head_of, RisesFrom}
-use Rattle.cap_trace.specs.Spelling.{SpellsArg, SpellsArgs, word_text}
+use Rattle.cap_trace.specs.Entry.{Arg, an_fd, a_dir, some_flags, some_rights, a_path, a_command, a_word, free_text, dest, set_fd, dup_to, fds, args_of_call, args_of, head_of_call, head_of, RisesFrom}
+use Rattle.cap_trace.specs.Spelling.{SpellsArgs}
 use Rattle.cap_trace.specs.Forms.{Slot, Shape, these, rising_fds, Said, a_call, a_marker, built, shape_of}
 use Rattle.cap_trace.specs.Reading.{◌>>=◌, args_at, fds_from, shaped, said_at}
 use Rattle.cap_trace.proofs.Cuts.{eqb_same}
 use Rattle.cap_trace.proofs.Numerals.{bind_ok}
-use Rattle.cap_trace.proofs.Spelled.{ok_is, bind_made, slot_of, slots_of, args_take, args_again, as_many, fds_take, fds_again, is_closed, are_closed, fds_closed}
+use Rattle.cap_trace.proofs.Spelled.{ok_is, bind_made, slot_of, slots_of, args_take, args_again, as_many, fds_take, fds_again}
 
 abbrev pub said_args : Said → List Arg
 said_args (a_call c) = args_of_call c

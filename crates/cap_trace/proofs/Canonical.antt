@@ -1,10 +1,10 @@
 -- The canonical text of a line spells it.
-use Rattle.std.proofs.Common.{◌≡◌, ℕ, ◌+◌, ◌^◌, ◌<◌, ◌≤◌, ◌&&◌, Bool, true, false, List, [], ◌∷◌, ◌++◌, length, map, Some, refl, sym, ap, subst, ◌∙◌, arith, length-append}
+use Rattle.std.proofs.Common.{◌≡◌, ℕ, ◌+◌, ◌^◌, ◌<◌, ◌≤◌, ◌&&◌, Bool, true, false, List, [], ◌∷◌, ◌++◌, length, map, refl, ap, subst, ◌∙◌, arith, length-append}
 use Rattle.std.specs.Prelude.{codes}
 use Rattle.std.specs.List.{join_with_byte}
 use Rattle.std.specs.Fmt.{decimal}
 use Rattle.std.proofs.lemmas.Fmt.{length-decimal-le}
-use Rattle.cap_rights.specs.Text.{names, text}
+use Rattle.cap_rights.specs.Text.{text}
 use Rattle.cap_rights.proofs.Again.{named_is_read}
 use Rattle.cap_rights.proofs.Short.{text_is_short}
 use Rattle.cap_trace.specs.declared.line.Item.{Item}
@@ -15,7 +15,7 @@ use Rattle.cap_trace.specs.declared.line.Answer.{Answer}
 use Rattle.cap_trace.specs.declared.line.Answer.TheVariants as answers
 use Rattle.cap_trace.specs.declared.line.Dir.TheVariants as dirs
 use Rattle.cap_trace.specs.declared.calls.Kind.TheVariants.{Zero}
-use Rattle.cap_trace.specs.Entry.{Entry, Arg, an_fd, a_dir, some_flags, some_rights, a_path, a_command, a_word, free_text, args_of, args_of_call, fds, IsAnswer, IsWhole}
+use Rattle.cap_trace.specs.Entry.{Entry, Arg, an_fd, a_dir, some_flags, some_rights, a_path, a_command, a_word, free_text, args_of, fds, IsAnswer, IsWhole}
 use Rattle.cap_trace.specs.Spelling.{SpellsArg, SpellsArgs, SpellsBy, Spells, arg_text, answer_text, joined, canon, IsProper}
 use Rattle.cap_trace.proofs.Cuts.{both}
 

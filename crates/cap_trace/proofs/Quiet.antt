@@ -1,7 +1,7 @@
 -- Texts without commas, brackets and quotes, and other texts that can be a part.
-use Rattle.std.proofs.Common.{◌≡◌, ℕ, ◌+◌, ◌*◌, ◌-◌, ◌<◌, ◌≤◌, ◌&&◌, ◌||◌, Bool, true, false, cond, not, eqb, leb, List, [], ◌∷◌, ◌++◌, length, Option, Some, None, refl, sym, ap, subst, ◌∙◌, arith, tests, ◌⊎◌, inl, inr}
-use Rattle.std.specs.Prelude.{option_map, nat_le}
-use Rattle.std.specs.List.{list_all}
+use Rattle.std.proofs.Common.{◌≡◌, ℕ, ◌+◌, ◌*◌, ◌-◌, ◌<◌, ◌&&◌, ◌||◌, Bool, true, false, cond, not, eqb, leb, List, [], ◌∷◌, ◌++◌, length, Option, Some, None, refl, sym, ap, subst, ◌∙◌, arith, tests, ◌⊎◌, inl, inr}
+use Rattle.std.specs.Prelude.{option_map}
+use Rattle.std.specs.List.{list_all, slice_split}
 use Rattle.std.specs.Char.{is_ascii_digit, is_ascii_uppercase}
 use Rattle.std.specs.Str.{bytes_eq}
 use Rattle.std.proofs.lemmas.Slice.Eq.{bytes_eq-Decides}
@@ -10,8 +10,11 @@ use Rattle.cap_trace.specs.declared.quotes.Quoting.{Quoting}
 use Rattle.cap_trace.specs.declared.quotes.Quoting.TheVariants.{Outside, Inside, Skipping}
 use Rattle.cap_trace.specs.declared.fields.Place.{Place}
 use Rattle.cap_trace.specs.declared.fields.Place.TheVariants.{Between, Slash, Digits, OneDigit}
-use Rattle.cap_trace.specs.Quotes.{after, stops}
-use Rattle.cap_trace.specs.Fields.{takes_all, is_flag_byte, is_word, flag_step, are_names, is_flags, is_plain, hex_digit, is_escaped, second_digit, item_step, is_between, are_items, quoted}
+use Rattle.cap_trace.specs.Quotes.{after}
+use Rattle.cap_trace.specs.Fields.{is_flag_byte, is_word, is_flags, is_plain, hex_digit, is_escaped, second_digit, item_step, is_between, are_items, quoted}
+use Rattle.cap_trace.specs.Steps.{takes_all}
+use Rattle.cap_trace.specs.FlagSteps.{flag_step}
+use Rattle.cap_trace.proofs.Bars.{are_words}
 use Rattle.cap_trace.proofs.Cuts.{kept_some, both, both_true, closes, IsPart}
 
 not_true : (b : Bool) → not b ≡ true → b ≡ false
@@ -97,9 +100,9 @@ either false b h = inr h
 
 pub flags_part : (t : List ℕ) → is_flags t ≡ true → IsPart t
 flags_part t h =
-    elim (either (bytes_eq t (48 ∷ [])) (are_names t) h) as (λ _. IsPart t) [
+    elim (either (bytes_eq t (48 ∷ [])) (list_all is_word (slice_split (λ c. eqb c 124) t)) h) as (λ _. IsPart t) [
       | inl e ↦ subst IsPart (sym ((bytes_eq-Decides t (48 ∷ [])).0 e)) (quiet_part (48 ∷ []) (omega arith) refl)
-      | inr e ↦ quiet_part t (names_some t e) (names_quiet true t e)
+      | inr e ↦ let taken = are_words t ∙ e in quiet_part t (names_some t taken) (names_quiet true t taken)
     ]
 
 pub word_part : (t : List ℕ) → is_word t ≡ true → IsPart t

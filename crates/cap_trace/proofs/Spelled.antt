@@ -1,5 +1,5 @@
 -- An argument that is read is spelled so, and what spells it is read; by the kinds of argument.
-use Rattle.std.proofs.Common.{◌≡◌, ℕ, ◌+◌, ◌^◌, ◌<◌, ◌≤◌, ◌&&◌, Bool, true, false, cond, not, eqb, List, [], ◌∷◌, ◌++◌, length, Option, Some, None, Result, Ok, Err, refl, sym, ap, subst, ◌∙◌, arith, ◌⊎◌, inl, inr}
+use Rattle.std.proofs.Common.{◌≡◌, ℕ, ◌+◌, ◌^◌, ◌<◌, ◌&&◌, Bool, true, false, cond, List, [], ◌∷◌, ◌++◌, length, Option, Result, Ok, Err, refl, sym, ap, subst, ◌∙◌, arith}
 use Rattle.std.specs.Prelude.{codes}
 use Rattle.std.specs.List.{list_all}
 use Rattle.std.specs.Str.{all_ascii_digits, bytes_eq}
@@ -15,12 +15,12 @@ use Rattle.cap_trace.specs.declared.line.Dir.{Dir}
 use Rattle.cap_trace.specs.declared.line.Dir.TheVariants as dirs
 use Rattle.cap_trace.specs.declared.calls.DupCommand.TheVariants as dup_commands
 use Rattle.cap_trace.specs.Number.{num_at}
-use Rattle.cap_trace.specs.Fields.{is_flags, is_word, are_items, quoted, is_free}
-use Rattle.cap_trace.specs.Entry.{Arg, an_fd, a_dir, some_flags, some_rights, a_path, a_command, a_word, free_text, Word, dest, set_fd, dup_to, fds, IsPid, IsFd, RisesFrom}
+use Rattle.cap_trace.specs.Fields.{is_flags, is_word, are_items, is_free}
+use Rattle.cap_trace.specs.Entry.{Arg, an_fd, a_dir, some_flags, some_rights, a_path, a_command, a_word, free_text, Word, dest, set_fd, dup_to, fds, IsPid, RisesFrom}
 use Rattle.cap_trace.specs.Spelling.{SpellsArg, SpellsArgs, word_text, is_command}
 use Rattle.cap_trace.specs.Forms.{Slot, fd, dir, flags, rights, path, command, word, free}
-use Rattle.cap_trace.specs.Reading.{◌>>=◌, need, kept, positive, behind, before, pid_at, fd_at, rights_at, dir_at, flags_at, command_at, path_at, free_at, arg_at, args_at, fds_from}
-use Rattle.cap_trace.proofs.Cuts.{both, both_true, IsPart, AreParts, behind_takes, behind_again, before_takes, before_again}
+use Rattle.cap_trace.specs.Reading.{◌>>=◌, need, kept, behind, before, pid_at, fd_at, rights_at, dir_at, flags_at, command_at, path_at, free_at, arg_at, args_at, fds_from}
+use Rattle.cap_trace.proofs.Cuts.{both, IsPart, AreParts, behind_takes, before_takes, before_again}
 use Rattle.cap_trace.proofs.Numerals.{own, bind_ok, need_ok, positive_ok, positive_again, num_takes, num_again}
 use Rattle.cap_trace.proofs.Quiet.{is_quiet, quiet_part, weaken, digit_quiet, right_quiet, flags_part, word_part, path_part}
 use Rattle.std.proofs.lemmas.Bool.{le-ltb, ltb-false}

@@ -1,7 +1,7 @@
 -- A loop over bytes that keeps a state.
-use Rattle.std.proofs.Common.{◌≡◌, ℕ, ◌+◌, ◌<◌, ◌≤◌, Bool, false, List, [], ◌∷◌, length, get_or, drop, Option, Some, None, refl, sym, ap, ◌∙◌}
+use Rattle.std.proofs.Common.{◌≡◌, ℕ, ◌+◌, ◌<◌, ◌≤◌, Bool, false, List, length, get_or, drop, Option, Some, None, sym, ap, ◌∙◌}
 use Rattle.std.proofs.lemmas.List.{drop_more, drop_all}
-use Rattle.cap_trace.specs.Fields.{takes_all}
+use Rattle.cap_trace.specs.Steps.{takes_all}
 
 -- what is left to take, by what one step gives
 from_step : {S : Type 0} (step : S → ℕ → Option S) (ends : S → Bool) (rest : List ℕ) → Option S → Bool

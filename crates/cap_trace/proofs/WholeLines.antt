@@ -1,7 +1,7 @@
 -- The two laws: what is read is spelled so, and what is spelled so is read.
-use Rattle.std.proofs.Common.{◌≡◌, ℕ, ◌<◌, ◌≤◌, ◌&&◌, Bool, true, false, cond, not, eqb, ltb, List, [], ◌∷◌, ◌++◌, length, Option, Some, None, Result, Ok, Err, refl, sym, ap, subst, ◌∙◌, arith, tests, inr}
+use Rattle.std.proofs.Common.{◌≡◌, ℕ, Bool, true, false, cond, not, eqb, ltb, List, [], ◌∷◌, ◌++◌, length, Option, Some, None, Result, Ok, Err, refl, sym, ap, subst, ◌∙◌, arith, tests}
 use Rattle.std.specs.Prelude.{option_map}
-use Rattle.std.specs.List.{list_all, join_with_byte}
+use Rattle.std.specs.List.{join_with_byte}
 use Rattle.std.specs.Str.{all_ascii_digits}
 use Rattle.std.specs.Char.{is_ascii_digit}
 use Rattle.std.specs.Fmt.{decimal}
@@ -21,8 +21,8 @@ use Rattle.cap_trace.specs.declared.quotes.Quoting.TheVariants.{Outside}
 use Rattle.cap_trace.specs.Names.{Head, listed, unlisted, name_of, head_named}
 use Rattle.cap_trace.specs.Fields.{is_free}
 use Rattle.cap_trace.specs.Quotes.{pieces, cut_at_byte, cut_outside}
-use Rattle.cap_trace.specs.Entry.{Entry, Arg, an_fd, free_text, args_of, args_of_call, fds, head_of, head_of_call, kind_of, IsPid, IsWhole}
-use Rattle.cap_trace.specs.Spelling.{Spells, SpellsArgs, IsHead, joined, answer_text, tail_text}
+use Rattle.cap_trace.specs.Entry.{Entry, Arg, an_fd, args_of, args_of_call, fds, head_of, kind_of, IsPid, IsWhole}
+use Rattle.cap_trace.specs.Spelling.{Spells, SpellsArgs, IsHead, tail_text}
 use Rattle.cap_trace.specs.Forms.{Said, a_call, a_marker}
 use Rattle.cap_trace.specs.Reading.{◌>>=◌, need, pid_at, said_at, answer_at, ended, between, behind_head, item_at, entry_at, line_of}
 use Rattle.cap_trace.proofs.Cuts.{both, lacks, closes, AreParts, cut_takes, cut_again, outside_takes, outside_again, pieces_takes, pieces_again, closes-append}
@@ -30,7 +30,7 @@ use Rattle.cap_trace.proofs.Numerals.{own, bind_ok, need_ok}
 use Rattle.cap_trace.proofs.Quiet.{weaken}
 use Rattle.cap_trace.proofs.Heads.{head_takes, head_again, head_lacks}
 use Rattle.cap_trace.proofs.Spelled.{ok_is, bind_made, pid_takes, pid_again, args_parts, is_closed, are_closed, fds_closed}
-use Rattle.cap_trace.proofs.Built.{said_args, said_head, SaidWhole, Spelled, said_takes, call_again, start_again, exit_again, foreign_again}
+use Rattle.cap_trace.proofs.Built.{said_args, said_head, SaidWhole, said_takes, call_again, start_again, exit_again, foreign_again}
 use Rattle.cap_trace.proofs.Answered.{answer_takes, answer_again}
 
 -- ---- what stands behind the arguments
@@ -161,8 +161,8 @@ item_takes text i e =
     let same : head_of i ≡ head.0 = ends.head ∙ spelled.head in
     record {
       texts = args.0.0;
-      head = subst IsHead (sym same) name.1;
-      args = subst (λ (x : List Arg). SpellsArgs args.0.0 x) (sym ends.args) spelled.args;
+      head = subst IsHead {x = head.0} (sym same) name.1;
+      args = subst (λ (x : List Arg). SpellsArgs args.0.0 x) {x = said_args said.0} (sym ends.args) spelled.args;
       whole = ends.whole;
       parts = cut_takes 40 text cut.0 (need_ok faults.Shape (cut_at_byte 40 text) cut.0 cut.1)
           ∙ ap (λ (n : List ℕ). n ++ (40 ∷ cut.0.1)) (sym name.0 ∙ ap name_of (sym same))

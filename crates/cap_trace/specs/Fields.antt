@@ -2,14 +2,10 @@
 use Rattle.std.specs.Prelude.{ℕ, ◌+◌, ◌*◌, ◌-◌, ◌==◌, ◌&&◌, ◌||◌, Bool, true, false, not, List, [], ◌∷◌, ◌++◌, Option, Some, None, option_map, nat_le, codes, if◌then◌else◌}
 use Rattle.std.specs.Str.{bytes_eq}
 use Rattle.std.specs.Char.{is_ascii_uppercase, is_ascii_digit}
-use Rattle.std.specs.List.{list_all}
+use Rattle.std.specs.List.{list_all, slice_split}
+use Rattle.cap_trace.specs.Steps.{takes_all}
 use Rattle.cap_trace.specs.declared.fields.Place.{Place}
 use Rattle.cap_trace.specs.declared.fields.Place.TheVariants.{Between, Slash, Digits, OneDigit}
-
--- whether each byte may stand where it stands, and the text may end where it ends
-unfoldable pub takes_all : {S : Type 0} → (S → ℕ → Option S) → (S → Bool) → S → List ℕ → Bool
-takes_all step ends s [] = ends s
-takes_all step ends s (c ∷ cs) = elim (step s c) [ None ↦ false | Some t ↦ takes_all step ends t cs ]
 
 -- ---- flags: `0`, or names joined by a bar
 
@@ -21,16 +17,8 @@ abbrev pub is_word : List ℕ → Bool
 is_word [] = false
 is_word (c ∷ cs) = is_ascii_uppercase c && list_all is_flag_byte cs
 
--- behind this byte a name goes on, or (true) has to begin
-abbrev pub flag_step : Bool → ℕ → Option Bool
-flag_step true c = if is_ascii_uppercase c then Some false else None
-flag_step false c = if c == 124 then Some true else if is_flag_byte c then Some false else None
-
-abbrev pub are_names : List ℕ → Bool
-are_names t = takes_all flag_step not true t
-
 abbrev pub is_flags : List ℕ → Bool
-is_flags t = bytes_eq t (codes "0") || are_names t
+is_flags t = bytes_eq t (codes "0") || list_all is_word (slice_split (λ c. c == 124) t)
 
 -- ---- paths: items between quotes
 

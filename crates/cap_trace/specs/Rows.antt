@@ -1,5 +1,4 @@
 -- The table of names as the code has it.
-use Rattle.std.specs.Prelude.{ℕ, List}
 use Rattle.cap_trace.specs.declared.names.Row as code
 use Rattle.cap_trace.specs.declared.names.Head as heads
 use Rattle.cap_trace.specs.declared.names.Head.TheVariants as heads_are

@@ -8,7 +8,6 @@ use Rattle.cap_trace.specs.declared.line.Item.{Item}
 use Rattle.cap_trace.specs.declared.line.Item.TheVariants as items
 use Rattle.cap_trace.specs.declared.line.Answer.{Answer}
 use Rattle.cap_trace.specs.declared.line.Answer.TheVariants as answers
-use Rattle.cap_trace.specs.declared.line.Dir.{Dir}
 use Rattle.cap_trace.specs.declared.line.Dir.TheVariants as dirs
 use Rattle.cap_trace.specs.Names.{Head, listed, unlisted, name_of, is_name, form_named, dup_command_name}
 use Rattle.cap_trace.specs.Fields.{is_flags, is_word, are_items, quoted, is_free}

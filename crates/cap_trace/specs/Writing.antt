@@ -4,7 +4,6 @@ use Rattle.std.specs.Fmt.{decimal}
 use Rattle.cap_rights.specs.Text.{text}
 use Rattle.cap_trace.specs.declared.write.Shown.{Shown}
 use Rattle.cap_trace.specs.declared.write.Shown.TheVariants as shown
-use Rattle.cap_trace.specs.declared.line.Dir.{Dir}
 use Rattle.cap_trace.specs.declared.line.Dir.TheVariants as dirs
 use Rattle.cap_trace.specs.Fields.{quoted}
 

@@ -1,8 +1,9 @@
 //! Flags, commands and paths, byte by byte.
 
-ghost use Rattle.std.specs.Prelude.{◌≡◌, not};
-ghost use Rattle.std.specs.List.{list_all};
-ghost use Rattle.cap_trace.specs.Fields.{is_flag_byte, is_word, flag_step, are_names, is_flags, is_plain, hex_digit, is_escaped, item_step, is_between, are_items, is_free};
+ghost use Rattle.std.specs.Prelude.{◌≡◌, ◌==◌};
+ghost use Rattle.std.specs.List.{list_all, slice_split};
+ghost use Rattle.cap_trace.specs.FlagSteps.{flag_step};
+ghost use Rattle.cap_trace.specs.Fields.{is_flag_byte, is_word, is_flags, is_plain, hex_digit, is_escaped, item_step, is_between, are_items, is_free};
 ghost use Rattle.cap_trace.specs.Spelling.{is_command};
 
 fn flag_byte(byte: u8) -> bool
@@ -41,7 +42,7 @@ fn after_flag_byte(begins: bool, byte: u8) -> Option<bool>
 
 /// Whether a text is names joined by a bar.
 fn names(text: &[u8]) -> bool
-    ensures { result ≡ are_names text.now }
+    ensures { result ≡ list_all is_word (slice_split (λ c. c == 124) text.now) }
 {
     let mut begins = true;
     for byte in text {

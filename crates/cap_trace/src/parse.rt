@@ -128,10 +128,20 @@ fn owned(alloc: Global, seen: &LineSeen<'_>) -> Result<Line, AllocError>
     Ok(Line { pid, item })
 }
 
-/// The line that the bytes spell.
+/// The line that the bytes spell: at most 1,024 of them, without a line feed at their end.
 ///
-/// Reading takes no memory for a line whose arguments are numbers and names of rights alone. A fault
-/// is the first one from the left, and is told whether or not there is memory.
+/// Reading takes no memory but for what is kept of the text: the descriptors of a start, paths, flags,
+/// commands, and the name and arguments of a call that has no form of its own.
+///
+/// # Errors
+///
+/// The first thing that is wrong with the bytes, from the left. [`LineFault::Memory`] comes only where
+/// the bytes spell a line, and there was no memory to keep it.
+///
+/// ```
+/// let line = parse_line(alloc, b"100 read(3) RET 512")?;
+/// assert_eq!(line.name(), b"read");
+/// ```
 pub fn parse_line(alloc: Global, bytes: &[u8]) -> Result<Line, LineFault>
     // What is read is spelled so.
     ensures found { IfOk result (λ l. Spells bytes.now l) }

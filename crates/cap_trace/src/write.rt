@@ -270,9 +270,12 @@ fn put_line(line: &Line, out: &mut Vec<u8>) -> Result<(), AllocError>
     put_tail(item, out)
 }
 
-/// Appends the one canonical text of a line.
+/// Appends the one canonical text of a line, without a line feed. It spells the line, so it has at most
+/// 1,024 bytes. But for rights, which are named in the order of their table, it is the text that was read.
 ///
-/// It spells the line, so it has at most 1,024 bytes. Where memory runs out the vector is as before.
+/// # Errors
+///
+/// [`NoMemory`] where memory ran out. The vector is then as before.
 pub fn write_line(line: &Line, out: &mut Vec<u8>) -> Result<(), NoMemory>
     ensures ok { OnOk result (out.new.items ≡ out.old.items ++ canon line.now) }
     ensures spelled { Spells (canon line.now) line.now }

@@ -1,5 +1,4 @@
-use Rattle.std.proofs.Common.{◌≡◌, ◌++◌, ◌∙◌, ap, map, List, ℕ}
-use Rattle.std.specs.List.{join_with_byte}
+use Rattle.std.proofs.Common.{◌++◌, ◌∙◌, ap, map, List}
 use Rattle.cap_trace.specs.declared.write.Shown.{Shown}
 use Rattle.cap_trace.specs.Writing.{shown_text, with_commas}
 use Rattle.cap_trace.proofs.Written.{put_first, on_ok, rest_is}
