@@ -1,5 +1,5 @@
 -- Flags as they are spelled: `0`, or names with a bar between them.
-use Rattle.std.specs.Prelude.{ℕ, ◌==◌, ◌||◌, ◌&&◌, not, Bool, List, codes, [], ◌∷◌}
+use Rattle.std.specs.Prelude.{ℕ, ◌==◌, Bool, List}
 use Rattle.std.specs.List.{slice_split, list_any, list_all}
 use Rattle.std.specs.Str.{bytes_eq}
 

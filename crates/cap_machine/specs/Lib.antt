@@ -12,5 +12,6 @@ pub mod Check
 pub mod Report
 pub mod Laws
 pub mod Effect
+pub mod Cells
 pub mod Table
 pub mod Checked

@@ -1,10 +1,10 @@
 -- The rights that each call needs, by the names that rights(4) has for them. What a name stands for is in the table of names: most
 -- stand for themselves, some for more, as CAP_PREAD for CAP_READ and CAP_SEEK.
-use Rattle.std.specs.Prelude.{ℕ, ◌==◌, ◌&&◌, ◌||◌, Bool, true, false, if◌then◌else◌, List, [], ◌∷◌, Option, Some, None, codes, find}
+use Rattle.std.specs.Prelude.{ℕ, ◌&&◌, ◌||◌, Bool, if◌then◌else◌, List, [], ◌∷◌, Option, Some, None, codes, find}
 use Rattle.std.specs.Option.{option_map_or}
 use Rattle.std.specs.Str.{bytes_eq}
 use Rattle.cap_rights.specs.Names.{table}
-use Rattle.cap_rights.specs.Rights.{none, all, join}
+use Rattle.cap_rights.specs.Rights.{none, join}
 use Rattle.cap_trace.specs.declared.calls.FdCall.{FdCall}
 use Rattle.cap_trace.specs.declared.calls.FdCall.TheVariants.{Read, Readv, Recvfrom, Recvmsg, Pread, Preadv, Write, Writev, Pwrite, Pwritev, Lseek, Fstat, Fstatfs, Fsync, Fdatasync, Ftruncate, Fchmod, Fchown, Fchflags, Fchdir, Flock, Fpathconf, Futimes, Futimens, Ioctl, Accept, Bind, Connect, Listen, Shutdown, Getpeername, Getsockname, Getsockopt, Setsockopt, Fexecve, Close, Dup, CapIoctlsLimit, CapFcntlsLimit}
 use Rattle.cap_trace.specs.declared.calls.AtCall.{AtCall}

@@ -1,5 +1,5 @@
 -- The state that a table of processes keeps, by look-up.
-use Rattle.std.specs.Prelude.{◌≡◌, ℕ, ◌==◌, ◌&&◌, if◌then◌else◌, unwrap_or}
+use Rattle.std.specs.Prelude.{◌≡◌, ℕ, ◌==◌, ◌&&◌, if◌then◌else◌}
 use Rattle.std.specs.Option.{option_map_or}
 use Rattle.std.specs.Ordering.{nat_cmp}
 use Rattle.std.specs.BTreeMap.{get}
@@ -12,14 +12,15 @@ use Rattle.cap_machine.specs.declared.table.Process.{Process}
 use Rattle.cap_machine.specs.declared.table.Table.{Table}
 use Rattle.cap_machine.specs.declared.start.Start.{Start}
 use Rattle.cap_machine.specs.State.{State}
+use Rattle.cap_machine.specs.Cells.{cell_in_cells}
 use Rattle.cap_machine.specs.declared.rule.Effect.{Effect}
 use Rattle.cap_machine.specs.Touch.{touch, turn}
 use Rattle.cap_machine.specs.Effect.{effect_touch, effect_turn}
 use Rattle.cap_machine.specs.History.{touched, turned}
 
--- a descriptor of a process: as listed, or as the rest
+-- a descriptor of a process
 abbrev pub cell_in : Process → ℕ → Cell
-cell_in process f = unwrap_or (get nat_cmp process.cells.value f) process.rest
+cell_in process f = cell_in_cells process.cells.value f
 
 abbrev pub cell_of : Table → ℕ → ℕ → Cell
 cell_of table p f = option_map_or (λ process. cell_in process f) (get nat_cmp table.processes p) Unknown

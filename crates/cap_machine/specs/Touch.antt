@@ -55,8 +55,8 @@ abbrev pub on_fd : ℕ → Touch → ℕ → ℕ → ℕ → Touch
 on_fd g t me p f = if p == me && f == g then t else kept
 
 -- one descriptor, where the call succeeded
-abbrev pub on_limited : ℕ → Answer → Touch → ℕ → ℕ → ℕ → Touch
-on_limited g answer t me p f = if succeeded answer then on_fd g t me p f else kept
+abbrev pub on_success : ℕ → Answer → Touch → ℕ → ℕ → ℕ → Touch
+on_success g answer t me p f = if succeeded answer then on_fd g t me p f else kept
 
 -- the descriptor that the call made
 abbrev pub on_made : Answer → Touch → ℕ → ℕ → ℕ → Touch
@@ -100,8 +100,8 @@ fd_touch Close g answer me p f = on_fd g (closing answer) me p f
 fd_touch Dup g answer me p f = on_made answer (copied g me) me p f
 fd_touch Accept g answer me p f = on_made answer unknown me p f
 fd_touch Fexecve g answer me p f = exec_touch answer me p f
-fd_touch CapIoctlsLimit g answer me p f = on_limited g answer (taken narrow me g) me p f
-fd_touch CapFcntlsLimit g answer me p f = on_limited g answer (taken narrow me g) me p f
+fd_touch CapIoctlsLimit g answer me p f = on_success g answer (taken narrow me g) me p f
+fd_touch CapFcntlsLimit g answer me p f = on_success g answer (taken narrow me g) me p f
 fd_touch _ g answer me p f = kept
 
 -- fcntl(2): two of its commands make a copy that is answered
@@ -116,7 +116,7 @@ abbrev pub plain_fd_flags : List (List ℕ)
 plain_fd_flags = codes "0" ∷ codes "FD_CLOEXEC" ∷ []
 
 abbrev pub set_fd_touch : List ℕ → ℕ → Answer → ℕ → ℕ → ℕ → Touch
-set_fd_touch flags g answer me p f = if all_known plain_fd_flags flags then kept else on_limited g answer (taken narrow me g) me p f
+set_fd_touch flags g answer me p f = if all_known plain_fd_flags flags then kept else on_success g answer (taken narrow me g) me p f
 
 abbrev pub path_touch : PathCall → Answer → ℕ → ℕ → ℕ → Touch
 path_touch Execve answer me p f = exec_touch answer me p f
@@ -171,7 +171,7 @@ call_touch (calls.Dup2 g h) answer me p f = on_made answer (copied g me) me p f
 call_touch (calls.Fcntl g command) answer me p f = fcntl_touch command g answer me p f
 call_touch (calls.FcntlDup command g h) answer me p f = on_made answer (copied g me) me p f
 call_touch (calls.FcntlSetFd g flags) answer me p f = set_fd_touch flags g answer me p f
-call_touch (calls.RightsLimit g asked) answer me p f = on_limited g answer (taken (limit asked) me g) me p f
+call_touch (calls.RightsLimit g asked) answer me p f = on_success g answer (taken (limit asked) me g) me p f
 call_touch (calls.Open path flags) answer me p f = on_made answer whole me p f
 call_touch (calls.OnPath call path) answer me p f = path_touch call answer me p f
 call_touch (calls.AtFlags call dir path flags) answer me p f = at_touch call dir path answer me p f

@@ -3,7 +3,7 @@
 ghost use Rattle.std.specs.Prelude.{◌≡◌, ℕ, ◌<◌, ◌^◌};
 ghost use Rattle.cap_trace.specs.Entry.{IsAnswer, kind_of, fcntl_kind};
 ghost use Rattle.cap_machine.specs.Parts.{below};
-ghost use Rattle.cap_machine.specs.Touch.{kept, given, taken, on_fd, on_made, on_both, on_limited, closing, copied, whole, unknown, exec_touch, fd_touch, fcntl_touch, copies, set_fd_touch, path_touch, at_touch, opened_below, flags_touch, fork_touch, pdfork_touch, bare_touch, call_touch, stays, call_turn, enter_turn, fork_turn, pdfork_turn};
+ghost use Rattle.cap_machine.specs.Touch.{kept, given, taken, on_fd, on_made, on_both, on_success, closing, copied, whole, unknown, exec_touch, fd_touch, fcntl_touch, copies, set_fd_touch, path_touch, at_touch, opened_below, flags_touch, fork_touch, pdfork_touch, bare_touch, call_touch, stays, call_turn, enter_turn, fork_turn, pdfork_turn};
 ghost use Rattle.cap_machine.specs.Effect.{effect_touch, effect_turn, OnlyCells, FitsMade, FitsPair};
 
 use crate::cell::{Cell, Op};
@@ -53,7 +53,7 @@ fn copied_from(fd: Fd, answer: &Answer) -> Effect<'static>
 
 /// A descriptor is changed where the call succeeded.
 fn changed(fd: Fd, op: Op, answer: &Answer) -> Effect<'static>
-    ensures cells { (me p f : ℕ) → effect_touch result me p f ≡ on_limited fd answer.now (taken op me fd) me p f }
+    ensures cells { (me p f : ℕ) → effect_touch result me p f ≡ on_success fd answer.now (taken op me fd) me p f }
     ensures modes { OnlyCells result }
 {
     match answer {

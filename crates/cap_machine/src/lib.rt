@@ -6,6 +6,7 @@
 #![tactic(auto)]
 
 mod cell;
+mod cells;
 mod checker;
 mod demands;
 mod effects;

@@ -9,6 +9,7 @@ ghost use Rattle.cap_machine.specs.Judge.{findings_in};
 ghost use Rattle.cap_machine.specs.Table.{cell_in, cell_of, mode_of, state_of, Keeps, with_cell, with_mode, with_process, with_copy, with_rest, effect_after};
 
 use crate::cell::{Cell, Mode};
+use crate::cells::Cells;
 use crate::rule::{Checks, Demand, Effect};
 use crate::verdict::Verdict;
 use cap_rights::{NoMemory, RightSet};
@@ -17,14 +18,13 @@ use std::alloc::{AllocError, Global};
 use std::collections::BTreeMap;
 use std::rc::Rc;
 
-/// What is known of a process: its mode, the cells that are listed, and that of all other descriptors.
+/// What is known of a process: its mode, and its cells.
 ///
 /// A child shares its parent's cells until one of the two writes one.
 #[derive(Drop)]
 pub(crate) struct Process {
     mode: Mode,
-    rest: Cell,
-    cells: Rc<BTreeMap<Fd, Cell>>,
+    cells: Rc<Cells>,
 }
 
 impl Process {
@@ -35,8 +35,7 @@ impl Process {
     {
         Ok(Process {
             mode: Mode::Unsure,
-            rest: Cell::Unknown,
-            cells: Rc::new(alloc, BTreeMap::new(alloc))?,
+            cells: Rc::new(alloc, Cells::all(alloc, Cell::Unknown))?,
         })
     }
 
@@ -45,13 +44,12 @@ impl Process {
         ensures cells { IfOk result (λ new. (f : ℕ) → cell_in new f ≡ started fds.now f) }
         ensures mode { IfOk result (λ new. new.mode ≡ Mode.Outside) }
     {
-        let mut cells = BTreeMap::new(alloc);
+        let mut cells = Cells::all(alloc, Cell::Closed);
         for fd in fds {
-            cells.insert(*fd, Cell::Held(RightSet::all()))?;
+            cells.write(alloc, *fd, Cell::Held(RightSet::all()))?;
         }
         Ok(Process {
             mode: Mode::Outside,
-            rest: Cell::Closed,
             cells: Rc::new(alloc, cells)?,
         })
     }
@@ -66,13 +64,12 @@ impl Process {
         ensures cells { IfOk result (λ new. (f : ℕ) → cell_in new f ≡ listed_cell rest listed.now f) }
         ensures mode { IfOk result (λ new. new.mode ≡ mode) }
     {
-        let mut cells = BTreeMap::new(alloc);
+        let mut cells = Cells::all(alloc, rest);
         for (fd, cell) in listed {
-            cells.insert(*fd, *cell)?;
+            cells.write(alloc, *fd, *cell)?;
         }
         Ok(Process {
             mode,
-            rest,
             cells: Rc::new(alloc, cells)?,
         })
     }
@@ -80,20 +77,16 @@ impl Process {
     fn cell(&self, fd: Fd) -> Cell
         ensures { result ≡ cell_in self.now fd }
     {
-        match self.cells.get(&fd) {
-            Some(cell) => *cell,
-            None => self.rest,
-        }
+        self.cells.cell(fd)
     }
 
     /// Writes one cell, in a table of its own.
-    fn write(&mut self, fd: Fd, cell: Cell) -> Result<(), NoMemory>
+    fn write(&mut self, alloc: Global, fd: Fd, cell: Cell) -> Result<(), NoMemory>
         ensures cells { OnOk result ((f : ℕ) → cell_in self.new f ≡ (if f == fd then cell else cell_in self.old f)) }
         ensures mode { OnOk result (self.new.mode ≡ self.old.mode) }
     {
         let cells = Rc::make_mut(&mut self.cells)?;
-        cells.insert(fd, cell)?;
-        Ok(())
+        cells.write(alloc, fd, cell)
     }
 }
 
@@ -105,7 +98,6 @@ impl Clone for Process {
     fn clone(&self) -> Result<Process, AllocError> {
         Ok(Process {
             mode: self.mode,
-            rest: self.rest,
             cells: self.cells.clone()?,
         })
     }
@@ -201,12 +193,12 @@ impl Table {
     {
         match self.processes.get_mut(&pid) {
             Some(process) => {
-                process.write(fd, cell)?;
+                process.write(self.alloc, fd, cell)?;
                 Ok(())
             }
             None => {
                 let mut process = Process::unknown(self.alloc)?;
-                process.write(fd, cell)?;
+                process.write(self.alloc, fd, cell)?;
                 self.put(pid, process)
             }
         }

@@ -1,6 +1,6 @@
 -- What the accepted edits give, and what an inserted line becomes.
 use Rattle.std.proofs.Common.{◌≡◌, ◌≢◌, ℕ, zero, suc, ◌+◌, ◌-◌, ◌≤◌, List, [], ◌∷◌, length, get_or, Bool, true, false, refl, ap, ◌∙◌, arith}
-use Rattle.std.specs.Prelude.{Result, Ok, Err, Some, insert, remove, if◌then◌else◌}
+use Rattle.std.specs.Prelude.{nat_le, Result, Ok, Err, Some, insert, remove, if◌then◌else◌}
 use Rattle.std.specs.List.{slice_get}
 use Rattle.std.proofs.lemmas.List.Edits.{length-insert, get_or-insert_at}
 use Rattle.std.proofs.lemmas.Option.{slice_get-get_or}

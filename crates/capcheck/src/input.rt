@@ -1,6 +1,6 @@
 //! Where a text is read from.
 ghost use Rattle.std.specs.Prelude.{◌≡◌, IfOk, is_some};
-ghost use Rattle.capcheck.specs.Inputs.{is_file};
+ghost use Rattle.capcheck.specs.Inputs.{is_file, remaining_of};
 
 use std::fs::File;
 use std::io;
@@ -27,6 +27,8 @@ pub fn open<R: Files + Input>(rt: &R, path: Option<&str>) -> io::Result<Opened<R
 }
 
 impl<F: Read + Drop, S: Read + Drop> Read for Opened<F, S> {
+    ghost remaining = { remaining_of F.remaining S.remaining };
+
     fn read(&mut self, buf: &mut [u8]) -> io::Result<usize> {
         match self {
             Opened::File(file) => file.read(buf),

@@ -1,8 +1,7 @@
-use Rattle.std.proofs.Common.{◌≡◌, ℕ, take, unwrap_or}
-use Rattle.std.specs.Ordering.{nat_cmp}
-use Rattle.std.specs.BTreeMap.{get}
+use Rattle.std.proofs.Common.{◌≡◌, ℕ, take}
+use Rattle.cap_machine.specs.Cells.{cell_in_cells}
 use Rattle.cap_machine.specs.State.{listed_cell}
 use Rattle.cap_machine.proofs.table.Process.listed.Given as goal
 
 abbrev pub invariant-loop-fd : goal.invariant-loop-fd
-invariant-loop-fd l = (f : ℕ) → unwrap_or (get nat_cmp l.cells f) l.rest ≡ listed_cell l.rest (take l.fd-index l.listed) f
+invariant-loop-fd l = (f : ℕ) → cell_in_cells l.cells f ≡ listed_cell l.fn.rest (take l.fd-index l.listed) f
