@@ -2,8 +2,9 @@
 #
 #   make            proves every crate and leaves the program as ./capcheck
 #   make run        the same, and checks an example trace with it
-#   make test       the gate: the examples, and then every proof, test, stored run and wrong body from nothing
-#   make bench      times the program on a trace of a million lines beside `wc -l`
+#   make test       the gate: the examples, random traces beside a second reading of the rules, and then every proof,
+#                   test, stored run and wrong body from nothing
+#   make bench      times the program, and reading alone, on traces of a million lines beside `wc -l`
 #   make install    puts the program and its manual page under PREFIX (default /usr/local)
 
 RT ?= rt
@@ -24,12 +25,14 @@ run: capcheck
 
 examples: capcheck
 	examples/check ./capcheck
+	tests/compare ./capcheck
 
 test: examples
 	$(RT) ci
 
 bench: capcheck
 	bench/run ./capcheck
+	bench/reading
 
 install: capcheck
 	install -d $(DESTDIR)$(PREFIX)/bin

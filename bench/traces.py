@@ -1,0 +1,130 @@
+"""Traces to time the program on, each made anew from a fixed seed."""
+
+import random
+
+
+def quiet(lines):
+    """Sixteen processes that limit their descriptors, then read and write within their rights."""
+    rng = random.Random(1)
+    out = []
+    pids = range(100, 116)
+    for pid in pids:
+        out.append(f"{pid} @start(0,1,2,3,4,5,6,7)")
+        out.append(f"{pid} cap_rights_limit(0,CAP_READ|CAP_FSTAT) RET 0")
+        out.append(f"{pid} cap_rights_limit(1,CAP_WRITE|CAP_FSTAT) RET 0")
+    while len(out) < lines:
+        pid = rng.choice(pids)
+        kind = rng.random()
+        if kind < 0.50:
+            out.append(f"{pid} read({rng.choice((0, 3, 4, 5))}) RET {rng.randrange(65536)}")
+        elif kind < 0.95:
+            out.append(f"{pid} write({rng.choice((1, 3, 4, 5))}) RET {rng.randrange(65536)}")
+        elif kind < 0.98:
+            out.append(f"{pid} read(6) RET -1 errno 35")
+        elif kind < 0.99:
+            out.append(f"{pid} cap_rights_limit(7,CAP_READ|CAP_WRITE|CAP_SEEK) RET 0")
+        else:
+            out.append(f"{pid} close(2) RET -1 errno 9")
+    return out[:lines]
+
+
+def loud(lines):
+    """The same, where each twentieth line is a finding."""
+    rng = random.Random(2)
+    out = quiet(lines)
+    for at in range(64, len(out), 20):
+        out[at] = f"{rng.randrange(100, 116)} write(0) RET 1"
+    return out
+
+
+def wide(lines):
+    """A hundred processes, each with a thousand descriptors."""
+    rng = random.Random(3)
+    out = [f"{pid} @start()" for pid in range(100, 200)]
+    for pid in range(100, 200):
+        for fd in range(1000):
+            out.append(f"{pid} cap_rights_limit({fd},CAP_READ|CAP_WRITE) RET 0")
+    while len(out) < lines:
+        out.append(f"{rng.randrange(100, 200)} read({rng.randrange(1000)}) RET 1")
+    return out[:lines]
+
+
+def forms(lines):
+    """Sixteen processes and calls of every shape: on descriptors, by path, at a directory, forks and exits.
+
+    They keep to their rights, so that little is found: a read of a directory now and then, which it may not give.
+    """
+    rng = random.Random(4)
+    pids = range(100, 116)
+    out = [f"{pid} @start(0,1,2,3)" for pid in pids]
+    out += [f"{pid} socket(PF_INET|SOCK_STREAM) RET 4" for pid in pids]
+    out += [f"{pid} cap_rights_limit(3,CAP_LOOKUP|CAP_READ|CAP_FSTAT|CAP_SEEK|CAP_FCNTL|CAP_MMAP_R) RET 0" for pid in pids]
+    opened = {pid: [] for pid in pids}
+    usual = (
+        lambda: f"read({rng.randrange(5)}) RET {rng.randrange(65536)}",
+        lambda: f"write({rng.randrange(3)}) RET {rng.randrange(65536)}",
+        lambda: f"fstat({rng.randrange(5)}) RET 0",
+        lambda: f"lseek(3) RET {rng.randrange(1 << 30)}",
+        lambda: f"recvfrom(4) RET {rng.randrange(2048)}",
+        lambda: f"sendto(4,DEST) RET {rng.randrange(2048)}",
+        lambda: "ioctl(0) RET -1 errno 25",
+        lambda: "fcntl(3,F_GETFL) RET 2",
+        lambda: "mmap(3,PROT_READ,MAP_PRIVATE) RET 34366103552",
+        lambda: f'fstatat(3,"share/{rng.randrange(100)}",AT_SYMLINK_NOFOLLOW) RET 0',
+        lambda: f'stat("/usr/lib/libc.so.{rng.randrange(10)}") RET 0',
+        lambda: "kevent(5,0,16) RET 3",
+        lambda: "getpid() RET 100",
+        lambda: "fchmod(3) RET 0",
+    )
+    weights = (20, 20, 6, 5, 5, 5, 2, 3, 4, 4, 3, 6, 3, 0.5)
+    child = 1000
+    while len(out) < lines:
+        pid = rng.choice(pids)
+        mine = opened[pid]
+        kind = rng.random()
+        if kind < 0.002:
+            child += 1
+            out += [f"{pid} fork() RET {child}", f"{child} read(0) RET 1", f"{child} @exit()"]
+        elif kind < 0.08 and len(mine) < 30:
+            fd = next(fd for fd in range(5, 64) if fd not in mine)
+            mine.append(fd)
+            path = f"share/locale/{rng.randrange(100)}"
+            out.append(rng.choice((
+                f'{pid} openat(3,"{path}",O_RDONLY|O_CLOEXEC) RET {fd}',
+                f'{pid} open("/{path}",O_RDONLY) RET {fd}',
+                f"{pid} dup2(0,{fd}) RET {fd}",
+            )))
+        elif kind < 0.15 and mine:
+            out.append(f"{pid} close({mine.pop(rng.randrange(len(mine)))}) RET 0")
+        else:
+            out.append(f"{pid} {rng.choices(usual, weights)[0]()}")
+    return out[:lines]
+
+
+def crowd(lines):
+    """A thousand processes that each make a thousand descriptors."""
+    out = []
+    for pid in range(1, 1001):
+        out.append(f"{pid} @start()")
+        out += [f"{pid} socket(0) RET {fd}" for fd in range(lines // 1000 - 1)]
+    return out[:lines]
+
+
+def hostile(lines):
+    """One process makes many descriptors, and then forks and closes one of them in turn."""
+    out = ["100 @start()"]
+    out += [f"100 socket(0) RET {fd}" for fd in range(lines // 2)]
+    child = 1000
+    while len(out) + 2 <= lines:
+        child = child + 1 if child < 99999 else 1001
+        out += [f"100 fork() RET {child}", f"100 close({child}) RET 0"]
+    return out[:lines]
+
+
+TRACES = {make.__name__: make for make in (quiet, loud, wide, forms, crowd, hostile)}
+
+
+def write(name, lines, path):
+    """Writes the trace of this name to a file."""
+    with open(path, "w") as out:
+        out.write("\n".join(TRACES[name](lines)) + "\n")

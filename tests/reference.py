@@ -1,0 +1,472 @@
+"""The rules of capcheck once more, written apart from the definitions that the proofs rest on, as plainly as Python
+allows. `tests/compare` holds the program against it: a proof ties the program to its definitions, and this ties the
+definitions to a second reading of docs/FORMAT.md and docs/RULES.md.
+"""
+
+import re
+
+RIGHTS = """READ WRITE SEEK MMAP MMAP_X CREATE FEXECVE FSYNC FTRUNCATE LOOKUP FCHDIR FCHFLAGS FCHMOD FCHOWN FCNTL FLOCK
+FPATHCONF FSCK FSTAT FSTATFS FUTIMES LINKAT_TARGET MKDIRAT MKFIFOAT MKNODAT RENAMEAT_SOURCE SYMLINKAT UNLINKAT ACCEPT BIND
+CONNECT GETPEERNAME GETSOCKNAME GETSOCKOPT LISTEN PEELOFF SETSOCKOPT SHUTDOWN BINDAT CONNECTAT LINKAT_SOURCE RENAMEAT_TARGET
+MAC_GET MAC_SET SEM_GETVALUE SEM_POST SEM_WAIT EVENT KQUEUE_EVENT IOCTL TTYHOOK PDGETPID PDWAIT PDKILL EXTATTR_DELETE
+EXTATTR_GET EXTATTR_LIST EXTATTR_SET ACL_CHECK ACL_DELETE ACL_GET ACL_SET KQUEUE_CHANGE""".split()
+
+NEVER_LIMITED = "never limited"
+EVERYTHING = frozenset(RIGHTS) | {NEVER_LIMITED}
+
+STANDS_FOR = {name: {name} for name in RIGHTS}
+STANDS_FOR["MMAP_X"] = {"MMAP", "SEEK", "MMAP_X"}
+for name in RIGHTS:
+    if name.endswith(("AT", "AT_SOURCE", "AT_TARGET")) and name != "FSTAT":
+        STANDS_FOR[name] = {name, "LOOKUP"}
+STANDS_FOR |= {
+    "PREAD": {"READ", "SEEK"},
+    "PWRITE": {"WRITE", "SEEK"},
+    "RECV": {"READ"},
+    "SEND": {"WRITE"},
+    "MMAP_R": {"MMAP", "SEEK", "READ"},
+    "MMAP_W": {"MMAP", "SEEK", "WRITE"},
+    "FSTATAT": {"LOOKUP", "FSTAT"},
+    "FCHMODAT": {"LOOKUP", "FCHMOD"},
+    "FCHOWNAT": {"LOOKUP", "FCHOWN"},
+    "CHFLAGSAT": {"LOOKUP", "FCHFLAGS"},
+    "FUTIMESAT": {"LOOKUP", "FUTIMES"},
+    "KQUEUE": {"KQUEUE_CHANGE", "KQUEUE_EVENT"},
+}
+for letters in ("RW", "RX", "WX", "RWX"):
+    STANDS_FOR["MMAP_" + letters] = set().union(*(STANDS_FOR["MMAP_" + letter] for letter in letters))
+
+
+class Refused(Exception):
+    """A line that can't be read, with its code."""
+
+
+# ---- the fields of a line
+
+
+def number(text, most, code):
+    if not re.fullmatch("0|[1-9][0-9]*", text, re.ASCII) or int(text) > most:
+        raise Refused(code)
+    return int(text)
+
+
+def descriptor(text, code=4):
+    return number(text, 1_048_575, code)
+
+
+def directory(text):
+    return text if text == "AT_FDCWD" else descriptor(text)
+
+
+def flags(text):
+    if not re.fullmatch(r"0|[A-Z][A-Z0-9_]*(\|[A-Z][A-Z0-9_]*)*", text):
+        raise Refused(4)
+    return [] if text == "0" else text.split("|")
+
+
+def path(text):
+    escape = r"\\x(?:0[1-9a-f]|1[0-9a-f]|7f|[89a-f][0-9a-f])"
+    if not re.fullmatch(r'"(?:[ !#-\[\]-~]|\\"|\\\\|' + escape + r')*"', text):
+        raise Refused(4)
+    return text[1:-1]
+
+
+def rights(text):
+    if text == "ALL":
+        return EVERYTHING
+    if text == "NONE":
+        return frozenset()
+    held = set()
+    for word in text.split("|"):
+        if not word.startswith("CAP_") or word[4:] not in STANDS_FOR:
+            raise Refused(5)
+        held |= STANDS_FOR[word[4:]]
+    return frozenset(held)
+
+
+def rights_text(held):
+    return "|".join("CAP_" + name for name in RIGHTS if name in held) or "NONE"
+
+
+# ---- the forms of calls: their arguments
+
+ON_DESCRIPTOR = {
+    "READ": "read readv recvfrom recvmsg",
+    "PREAD": "pread preadv",
+    "WRITE": "write writev",
+    "PWRITE": "pwrite pwritev",
+    "SEEK": "lseek",
+    "FSYNC": "fsync fdatasync",
+    "FUTIMES": "futimes futimens",
+}
+for name in """fstat fstatfs ftruncate fchmod fchown fchflags fchdir flock fpathconf ioctl accept bind connect listen
+        shutdown getpeername getsockname getsockopt setsockopt fexecve""".split():
+    ON_DESCRIPTOR[name.upper()] = name
+NEEDS = {call: {right} for right, calls in ON_DESCRIPTOR.items() for call in calls.split()}
+NEEDS |= {call: set() for call in ("close", "dup", "cap_ioctls_limit", "cap_fcntls_limit")}
+
+FORMS = {call: [descriptor] for call in NEEDS}
+BY_PATH = """execve access chdir chflags chmod chown lchown lstat mkdir mkfifo mknod readlink rmdir stat statfs truncate
+unlink""".split()
+FORMS |= {call: [path] for call in BY_PATH}
+FORMS |= {call: [path, path] for call in ("link", "rename", "symlink")}
+FORMS |= {call: [directory, path] for call in "mkdirat mkfifoat mknodat readlinkat futimesat".split()}
+FORMS |= {
+    call: [directory, path, flags]
+    for call in "openat unlinkat fstatat fchmodat fchownat chflagsat utimensat".split()
+}
+FORMS |= {call: [flags] for call in ("socket", "socketpair", "pipe2")}
+FORMS |= {call: [] for call in "pipe kqueue shm_open mq_open fhopen fork vfork pdfork cap_enter @exit".split()}
+FORMS |= {
+    "accept4": [descriptor, flags],
+    "dup2": [descriptor, descriptor],
+    "mmap": [descriptor, flags, flags],
+    "cap_rights_limit": [descriptor, rights],
+    "open": [path, flags],
+    "symlinkat": [path, directory, path],
+    "renameat": [directory, path, directory, path],
+    "linkat": [directory, path, directory, path, flags],
+    "@foreign": [descriptor],
+}
+SPECIAL = ("sendto", "sendmsg", "fcntl", "@start")
+
+
+def destination(text):
+    if text != "DEST":
+        raise Refused(4)
+    return text
+
+
+def command(text):
+    if not re.fullmatch("[A-Z][A-Z0-9_]*", text):
+        raise Refused(4)
+    return text
+
+
+def form(name, words):
+    if name in ("sendto", "sendmsg"):
+        return [descriptor, destination][: max(len(words), 1)] if len(words) < 3 else [descriptor]
+    if name == "fcntl":
+        third = {"F_SETFD": flags, "F_DUP2FD": descriptor, "F_DUP2FD_CLOEXEC": descriptor}
+        more = [third[words[1]]] if len(words) > 1 and words[1] in third else []
+        return [descriptor, command] + more
+    return FORMS[name]
+
+
+def arguments(name, words):
+    if name == "@start":
+        listed = []
+        for word in words:
+            listed.append(descriptor(word))
+            if listed != sorted(set(listed)):
+                raise Refused(4)
+        return [listed]
+    wanted = form(name, words)
+    if len(words) != len(wanted):
+        raise Refused(4)
+    return [read(word) for read, word in zip(wanted, words)]
+
+
+# ---- the answer
+
+ZERO = "close execve fexecve cap_enter cap_rights_limit cap_ioctls_limit cap_fcntls_limit".split()
+MAKES_ONE = "open openat accept accept4 dup socket kqueue shm_open mq_open fhopen".split()
+MAKES_TWO = "pipe pipe2 socketpair".split()
+COPIES_TO = ("F_DUP2FD", "F_DUP2FD_CLOEXEC")
+COPIES = ("F_DUPFD", "F_DUPFD_CLOEXEC")
+MOST = 2**64 - 1
+
+
+def answer(name, given, text):
+    """A list of the numbers that were answered, or an errno as a number alone."""
+    if text.startswith("-1 errno "):
+        errno = number(text[9:], 65_535, 6)
+        if errno == 0:
+            raise Refused(6)
+        return errno
+    if name in MAKES_TWO or name == "pdfork":
+        limits = (1_048_575, 1_048_575) if name in MAKES_TWO else (99_999, 1_048_575)
+    elif name not in FORMS and name not in SPECIAL and "," in text:
+        limits = (MOST, MOST)
+    elif name in ZERO:
+        limits = (0,)
+    elif name in MAKES_ONE or name == "dup2" or (name == "fcntl" and given[1] in COPIES + COPIES_TO):
+        limits = (1_048_575,)
+    elif name in ("fork", "vfork"):
+        limits = (99_999,)
+    else:
+        limits = (MOST,)
+    words = text.split(",")
+    if len(words) != len(limits):
+        raise Refused(6)
+    made = [number(word, limit, 6) for word, limit in zip(words, limits)]
+    told = given[1] if name == "dup2" else given[2] if name == "fcntl" and given[1] in COPIES_TO else made[0]
+    if made[0] != told:
+        raise Refused(4)
+    return made
+
+
+# ---- the line
+
+
+def outside_quotes(text):
+    """Each byte that stands outside quotes, with its place."""
+    quoted = skipped = False
+    for place, byte in enumerate(text):
+        if skipped:
+            skipped = False
+        elif quoted:
+            skipped = byte == "\\"
+            quoted = byte != '"'
+        else:
+            yield place, byte
+            quoted = byte == '"'
+
+
+def pieces(text):
+    commas = [place for place, byte in outside_quotes(text) if byte == ","]
+    ends = zip([-1] + commas, commas + [len(text)])
+    return [text[begin + 1 : end] for begin, end in ends] if text else []
+
+
+def read(line):
+    """The pid, the name, the arguments and the answer, which a marker lacks."""
+    if len(line) > 1024:
+        raise Refused(1)
+    pid, space, rest = line.partition(" ")
+    pid = number(pid, 99_999, 3)
+    if pid == 0:
+        raise Refused(3)
+    name, bracket, rest = rest.partition("(")
+    if not space or not bracket:
+        raise Refused(2)
+    known = name in FORMS or name in SPECIAL
+    if not known and not re.fullmatch("[a-z_][a-z0-9_]*", name):
+        raise Refused(2)
+    if known:
+        ends = [place for place, byte in outside_quotes(rest) if byte == ")"][:1]
+    else:
+        ends = [rest.index(")")] if ")" in rest else []
+    if not ends or (not known and "(" in rest[: ends[0]]):
+        raise Refused(2)
+    between, behind = rest[: ends[0]], rest[ends[0] + 1 :]
+    given = arguments(name, pieces(between)) if known else [between]
+    if name.startswith("@"):
+        if behind:
+            raise Refused(2)
+        return pid, name, given, None
+    if not behind.startswith(" RET "):
+        raise Refused(2)
+    return pid, name, given, answer(name, given, behind[5:])
+
+
+# ---- the rule of a call: whether capability mode forbids or allows it, and its checks, each a descriptor, what the call
+# needs of it, and what makes a refusal wrongful (None: nothing does)
+
+ALWAYS_ALLOWED = """read readv pread preadv write writev pwrite pwritev lseek fstat fsync ftruncate close dup dup2
+cap_rights_limit fork cap_enter""".split()
+AT_CALLS = """mkdirat mkfifoat mknodat readlinkat futimesat openat unlinkat fstatat fchmodat fchownat chflagsat utimensat
+symlinkat renameat linkat""".split()
+PLAIN_OF_OPENAT = """O_RDONLY O_WRONLY O_RDWR O_EXEC O_SEARCH O_PATH O_APPEND O_CREAT O_TRUNC O_EXCL O_SYNC O_FSYNC O_DSYNC
+O_EXLOCK O_SHLOCK O_CLOEXEC O_DIRECTORY O_NOFOLLOW O_NONBLOCK O_NOCTTY""".split()
+PLAIN = ["AT_REMOVEDIR", "AT_SYMLINK_FOLLOW", "AT_SYMLINK_NOFOLLOW"]
+
+
+def all_of(names):
+    return frozenset().union(*(STANDS_FOR[name] for name in names))
+
+
+def needs_of_openat(chosen):
+    names = ["LOOKUP"]
+    if "O_PATH" in chosen or "O_SEARCH" in chosen:
+        return names
+    if "O_EXEC" in chosen:
+        names += ["FEXECVE"]
+    elif "O_RDWR" in chosen:
+        names += ["READ", "WRITE"]
+    else:
+        names += ["WRITE" if "O_WRONLY" in chosen else "READ"]
+    for words, right in (("O_CREAT", "CREATE"), ("O_TRUNC", "FTRUNCATE"), ("O_SYNC O_FSYNC", "FSYNC"), ("O_EXLOCK O_SHLOCK", "FLOCK")):
+        if any(word in chosen for word in words.split()):
+            names += [right]
+    return names
+
+
+def parts(name, given):
+    """The directory, the path and the needs of each part of a call at a directory, and its flags."""
+    if name == "symlinkat":
+        return [(given[1], given[2], ["SYMLINKAT"])], []
+    if name in ("renameat", "linkat"):
+        names = ("RENAMEAT_SOURCE", "RENAMEAT_TARGET") if name == "renameat" else ("LINKAT_SOURCE", "LINKAT_TARGET")
+        return [(given[0], given[1], [names[0]]), (given[2], given[3], [names[1]])], given[4] if name == "linkat" else []
+    chosen = given[2] if len(given) > 2 else []
+    own = {"openat": needs_of_openat(chosen), "readlinkat": ["LOOKUP"], "utimensat": ["FUTIMESAT"]}
+    return [(given[0], given[1], own.get(name, [name.upper()]))], chosen
+
+
+def rule_at_directory(name, given):
+    them, chosen = parts(name, given)
+    plain = PLAIN_OF_OPENAT if name == "openat" else PLAIN
+    unsure = any(text == "" for _, text, _ in them) or any(word not in plain for word in chosen)
+    is_global = any(text and (place == "AT_FDCWD" or text[0] == "/") for place, text, _ in them)
+    checks = [
+        (place, all_of(names), None if unsure else EVERYTHING)
+        for place, text, names in them
+        if place != "AT_FDCWD" and text and text[0] != "/"
+    ]
+    return "forbidden" if is_global else "either", checks
+
+
+def rule(name, given):
+    if name in AT_CALLS:
+        return rule_at_directory(name, given)
+    if name in ("open", "link", "rename", "symlink") or name in BY_PATH:
+        return "forbidden", []
+    if name == "cap_rights_limit":
+        return "allowed", [(given[0], given[1] - {NEVER_LIMITED}, given[1])]
+    excuse = ...
+    if name in NEEDS:
+        needs = all_of(NEEDS[name])
+        if name in ("ioctl", "cap_ioctls_limit", "cap_fcntls_limit"):
+            excuse = None
+        elif name == "fexecve":
+            excuse = all_of(["FEXECVE", "READ"])
+    elif name in ("sendto", "sendmsg"):
+        needs = all_of(["WRITE", "CONNECT"][: len(given)])
+    elif name == "accept4":
+        needs = all_of(["ACCEPT"])
+    elif name == "dup2":
+        needs = frozenset()
+    elif name == "mmap":
+        asked = ["MMAP"] + [right for word, right in (("PROT_READ", "MMAP_R"), ("PROT_EXEC", "MMAP_X")) if word in given[1]]
+        if "PROT_WRITE" in given[1] and "MAP_SHARED" in given[2]:
+            asked += ["MMAP_W"]
+        needs, excuse = all_of(asked), all_of(["MMAP_RWX"])
+    elif name == "fcntl":
+        excuse = None
+        if given[1] in COPIES + COPIES_TO + ("F_GETFD", "F_SETFD"):
+            needs = frozenset()
+        elif given[1] in ("F_GETFL", "F_SETFL", "F_GETOWN", "F_SETOWN"):
+            needs = all_of(["FCNTL"])
+        elif given[1] in ("F_GETLK", "F_SETLK", "F_SETLKW"):
+            needs = all_of(["FLOCK"])
+        else:
+            return "either", []
+    else:
+        return "allowed" if name in ALWAYS_ALLOWED else "either", []
+    kind = "allowed" if name in ALWAYS_ALLOWED else "either"
+    return kind, [(given[0], needs, needs if excuse is ... else excuse)]
+
+
+# ---- the processes
+
+UNKNOWN, CLOSED = "unknown", "closed"
+
+
+class Processes:
+    """What is known: of each process its cells, the cell of all others, and its mode."""
+
+    def __init__(self):
+        self.known = {}
+
+    def of(self, pid):
+        return self.known.setdefault(pid, ({}, UNKNOWN, "unsure"))
+
+    def cell(self, pid, place):
+        cells, others, _ = self.of(pid)
+        return cells.get(place, others)
+
+    def put(self, pid, place, cell):
+        self.of(pid)[0][place] = cell
+
+    def said(self, pid, name, given, told):
+        """The findings of a line, each as its words."""
+        if told is None:
+            return []
+        kind, checks = rule(name, given)
+        mode = self.of(pid)[2]
+        cells = [self.cell(pid, place) for place, _, _ in checks]
+        if told == 94:
+            return ["moderefusal"] if mode == "outside" or kind == "allowed" else []
+        if told == 93:
+            held = [excuse is not None and isinstance(cell, frozenset) and excuse <= cell for (_, _, excuse), cell in zip(checks, cells)]
+            return ["refusal"] if held and all(held) and (name not in AT_CALLS or mode == "outside") else []
+        if isinstance(told, int):
+            return []
+        out = ["forbidden"] if kind == "forbidden" and mode == "inside" else []
+        for (place, needs, _), cell in zip(checks, cells):
+            if cell == CLOSED:
+                out.append(f"closed {place}")
+            elif cell != UNKNOWN and needs - cell:
+                word = "expanded" if name == "cap_rights_limit" else "missing"
+                out.append(f"{word} {place} {rights_text(needs - cell)}")
+        return out
+
+    def forked(self, pid, child):
+        if child not in (0, pid):
+            cells, others, mode = self.of(pid)
+            self.known[child] = (dict(cells), others, mode)
+
+    def copied(self, pid, place):
+        cell = self.cell(pid, place)
+        return UNKNOWN if cell == CLOSED else cell
+
+    def follow(self, pid, name, given, told):
+        """What is known after a line."""
+        if name == "@start":
+            self.known[pid] = ({place: EVERYTHING for place in given[0]}, CLOSED, "outside")
+        elif name == "@exit":
+            self.known[pid] = ({}, UNKNOWN, "unsure")
+        elif name == "@foreign":
+            self.put(pid, given[0], UNKNOWN)
+        elif name == "close":
+            if told != 9:
+                self.put(pid, given[0], UNKNOWN if isinstance(told, int) else CLOSED)
+        elif not isinstance(told, int):
+            self.succeeded(pid, name, given, told)
+
+    def succeeded(self, pid, name, given, told):
+        if name in ("fork", "vfork", "pdfork"):
+            self.forked(pid, told[0])
+            if name == "pdfork" and told[0] != 0:
+                self.put(pid, told[1], UNKNOWN)
+                self.put(told[0], told[1], UNKNOWN)
+        elif name in ("execve", "fexecve"):
+            self.known[pid] = ({}, UNKNOWN, self.of(pid)[2])
+        elif name == "cap_enter":
+            self.known[pid] = self.of(pid)[:2] + ("inside",)
+        elif name == "cap_rights_limit":
+            cell = self.cell(pid, given[0])
+            limited = given[1] & cell if isinstance(cell, frozenset) else given[1] - {NEVER_LIMITED}
+            self.put(pid, given[0], limited)
+        elif name in ("cap_ioctls_limit", "cap_fcntls_limit") or (
+            name == "fcntl" and given[1] == "F_SETFD" and set(given[2]) - {"FD_CLOEXEC"}
+        ):
+            cell = self.cell(pid, given[0])
+            self.put(pid, given[0], cell - {NEVER_LIMITED} if isinstance(cell, frozenset) else UNKNOWN)
+        elif name in ("dup", "dup2") or (name == "fcntl" and given[1] in COPIES + COPIES_TO):
+            self.put(pid, told[0], self.copied(pid, given[0]))
+        elif name == "openat" and given[0] != "AT_FDCWD" and given[1] and given[1][0] != "/":
+            self.put(pid, told[0], self.copied(pid, given[0]))
+        elif name in ("open", "socket") or name in MAKES_TWO or (name == "openat" and given[0] == "AT_FDCWD" and given[1]):
+            for place in told:
+                self.put(pid, place, EVERYTHING)
+        elif name in MAKES_ONE:
+            self.put(pid, told[0], UNKNOWN)
+
+
+def check(text):
+    """What the program writes for a trace, and its exit status."""
+    processes, findings, at = Processes(), [], 0
+    lines = text.split("\n")
+    for place, line in enumerate(lines[:-1] if lines[-1] == "" else lines, 1):
+        if len(line) <= 1024 and (line == "" or line[0] == "#"):
+            continue
+        try:
+            pid, name, given, told = read(line)
+        except Refused as fault:
+            return f"refused E{fault.args[0]} line {place}\n", 2
+        at += 1
+        findings += [f"{at} {pid} {name} {words}\n" for words in processes.said(pid, name, given, told)]
+        processes.follow(pid, name, given, told)
+    return "".join(findings) + f"findings {len(findings)}\n", 1 if findings else 0
