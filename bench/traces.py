@@ -111,20 +111,21 @@ def crowd(lines):
 
 
 def hostile(lines):
-    """One process makes many descriptors, and then forks and closes one of them in turn."""
+    """One process makes many descriptors, half as many as there are lines to be, and then forks and closes one in turn,
+    which copies what the child no longer shares. There are fewer such pairs than lines, for the sake of memory."""
     out = ["100 @start()"]
     out += [f"100 socket(0) RET {fd}" for fd in range(lines // 2)]
-    child = 1000
-    while len(out) + 2 <= lines:
-        child = child + 1 if child < 99999 else 1001
-        out += [f"100 fork() RET {child}", f"100 close({child}) RET 0"]
-    return out[:lines]
+    for pair in range(lines // 200):
+        out += [f"100 fork() RET {1000 + pair}", f"100 close({pair}) RET 0"]
+    return out
 
 
 TRACES = {make.__name__: make for make in (quiet, loud, wide, forms, crowd, hostile)}
 
 
 def write(name, lines, path):
-    """Writes the trace of this name to a file."""
+    """Writes the trace of this name to a file, and answers how many lines it has."""
+    made = TRACES[name](lines)
     with open(path, "w") as out:
-        out.write("\n".join(TRACES[name](lines)) + "\n")
+        out.write("\n".join(made) + "\n")
+    return len(made)
