@@ -1,4 +1,4 @@
-"""The rules of capcheck once more, written apart from the definitions that the proofs rest on, as plainly as Python
+"""The rules of capcheck once more, not made from the definitions that the proofs rest on, as plainly as Python
 allows. `tests/compare` holds the program against it: a proof ties the program to its definitions, and this ties the
 definitions to a second reading of docs/FORMAT.md and docs/RULES.md.
 """
