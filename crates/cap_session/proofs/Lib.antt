@@ -7,6 +7,15 @@ pub mod Cuts
 pub mod Entries
 pub mod Fed
 pub mod Goes
+pub mod Joins
 pub mod Lined
+pub mod Loads
+pub mod Parts
+pub mod Performed
 pub mod Reach
+pub mod Rejecting
+pub mod Replying
+pub mod Runs
 pub mod Soon
+pub mod Spoken
+pub mod Words

@@ -11,14 +11,14 @@ use crate::devices::{Sink, Source};
 use crate::outcome::Outcome;
 use crate::read::{Ending, read_text};
 use crate::reading::{Lines, Stop};
-use crate::refusal::{Refusal, RefusalText};
+use crate::refusal::{Refusal, ShortText};
 use crate::write::write_text;
 use cap_machine::{Checker, NoMemory};
 use cap_trace::{LineFault, parse_line};
 use std::alloc::Global;
 
 /// A trace has at most so many lines, those that are skipped not counted.
-const MOST_LINES: usize = 1_000_000;
+pub const MOST_LINES: usize = 1_000_000;
 
 /// The code of a line that would be one more.
 const TRACE_FULL: u8 = 8;
@@ -31,7 +31,7 @@ struct Checking {
 }
 
 /// Whether a line is empty or a comment.
-fn is_skipped(line: &[u8]) -> bool
+pub fn is_skipped(line: &[u8]) -> bool
     ensures { result ≡ is_skipped line.now }
 {
     match line {
@@ -103,11 +103,11 @@ fn write_report<W: Sink>(checker: Checker, writer: &mut W) -> Outcome
 }
 
 /// Writes the text of a refusal.
-fn write_refusal<W: Sink>(refusal: Refusal, writer: &mut W) -> Outcome
+pub fn write_refusal<W: Sink>(refusal: Refusal, writer: &mut W) -> Outcome
     requires { 1 ≤ (W.state writer.old).room }
     ensures { WritesRefusal refusal (W.state writer.old) (W.state writer.new) result }
 {
-    if write_text(writer, RefusalText::of(refusal).as_slice()).is_err() {
+    if write_text(writer, ShortText::of(refusal).as_slice()).is_err() {
         return Outcome::WriteFault;
     }
     Outcome::Refused {

@@ -1,5 +1,5 @@
 //! The beginning of a line, in room that is taken before the first read.
-ghost use Rattle.std.specs.Prelude.{◌≡◌, ◌+◌, ◌<◌, ◌≤◌, ◌↔◌, List, ℕ, [], ◌++◌, length, IfOk, OnOk, OnErr, vec_capacity, IsTrue};
+ghost use Rattle.std.specs.Prelude.{◌≡◌, ◌+◌, ◌<◌, ◌≤◌, ◌↔◌, List, ℕ, [], ◌++◌, length, take, IfOk, OnOk, OnErr, vec_capacity, IsTrue};
 
 use std::alloc::{AllocError, Global};
 use std::marker::Model;
@@ -38,6 +38,12 @@ impl<const LIMIT: usize> Held<LIMIT> {
         self.bytes.is_empty()
     }
 
+    pub fn len(&self) -> usize
+        ensures { result ≡ length self.now }
+    {
+        self.bytes.len()
+    }
+
     pub fn as_slice(&self) -> &[u8]
         ensures { result.now ≡ self.now }
     {
@@ -63,5 +69,15 @@ impl<const LIMIT: usize> Held<LIMIT> {
         ensures { self.new ≡ [] }
     {
         self.bytes.clear();
+    }
+
+    /// Adds bytes as far as there is room, and drops the others.
+    pub fn add_front(&mut self, bytes: &[u8])
+        ensures { self.new ≡ take LIMIT (self.old ++ bytes.now) }
+    {
+        let n = bytes.len().min(LIMIT - self.bytes.len());
+        if self.bytes.extend_from_slice(&bytes[..n]).is_err() {
+            unreachable!();
+        }
     }
 }

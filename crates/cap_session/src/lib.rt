@@ -2,16 +2,23 @@
 #![tactic(auto)]
 
 mod check;
+mod command;
 mod counted;
 mod devices;
 mod edit;
+mod editing;
+mod finding;
 mod held;
 mod laws;
+mod loading;
+mod number;
 mod outcome;
 mod read;
 mod reading;
 mod refusal;
 mod refused;
+mod replies;
+mod script;
 mod session;
 #[cfg(test)]
 mod tests;
@@ -21,6 +28,7 @@ pub use check::check_stream;
 pub use counted::Counted;
 pub use devices::{Failed, Sink, Source};
 pub use edit::{Edit, accepted_edits_give, inserted_stands, no_edit_asks_for_memory};
+pub use editing::edit_stream;
 pub use laws::{bad_is_refused, beginning_decides, good_is_reported, pieces_agree};
 pub use outcome::Outcome;
 pub use refused::Refused;

@@ -32,7 +32,7 @@ fn stopped(stop: Stop, number: usize) -> Ending
 }
 
 /// How many bytes are read at a time.
-const PIECE: usize = 65_536;
+pub const PIECE: usize = 65_536;
 
 /// Reads a text to its end, or to its first refused line. What is known of its lines is in the answer.
 pub fn read_text<L: Lines, R: Source>(

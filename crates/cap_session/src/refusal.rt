@@ -1,6 +1,7 @@
-//! A refused line, and the text that tells it.
-ghost use Rattle.std.specs.Prelude.{◌≡◌, ◌+◌, ◌≤◌, List, ℕ, [], ◌++◌, length, take};
+//! A refused line, and short texts: what tells it, and replies.
+ghost use Rattle.std.specs.Prelude.{◌≡◌, ◌+◌, ◌≤◌, List, ℕ, [], ◌++◌, length, take, codes, decimal};
 ghost use Rattle.cap_session.specs.Refusal.{refusal_text};
+ghost use Rattle.cap_session.specs.Replies.{refused_text, line_feed};
 
 use itoa::Buffer;
 use std::marker::Model;
@@ -17,12 +18,12 @@ const ROOM: usize = 39;
 
 /// A short text, in room of its own.
 #[derive(Drop)]
-pub struct RefusalText {
+pub struct ShortText {
     bytes: [u8; ROOM],
     len: usize,
 }
 
-impl Model for RefusalText {
+impl Model for ShortText {
     ghost Value = { List ℕ };
 
     ghost view = { λ t. take t.len t.bytes };
@@ -30,11 +31,11 @@ impl Model for RefusalText {
     ghost invariant = { λ t. t.len ≤ 39 };
 }
 
-impl RefusalText {
-    fn new() -> RefusalText
+impl ShortText {
+    fn new() -> ShortText
         ensures { result ≡ [] }
     {
-        RefusalText {
+        ShortText {
             bytes: [0; ROOM],
             len: 0,
         }
@@ -52,15 +53,50 @@ impl RefusalText {
 
     /// The text of a refusal.
     #[tactic(auto, unfolding(crate::specs::Refusal::refusal_text))]
-    pub fn of(refusal: Refusal) -> RefusalText
+    pub fn of(refusal: Refusal) -> ShortText
         ensures { result ≡ refusal_text refusal }
     {
-        let mut text = RefusalText::new();
+        let mut text = ShortText::new();
         let mut digits = Buffer::new();
         text.add(b"refused E");
         text.add(digits.format(refusal.code).as_bytes());
         text.add(b" line ");
         text.add(digits.format(refusal.line).as_bytes());
+        text.add(b"\n");
+        text
+    }
+
+    /// `refused E7` and LF.
+    pub fn refused(code: u8) -> ShortText
+        ensures { result ≡ refused_text code }
+    {
+        let mut text = ShortText::new();
+        let mut digits = Buffer::new();
+        text.add(b"refused E");
+        text.add(digits.format(code).as_bytes());
+        text.add(b"\n");
+        text
+    }
+
+    /// `ok 5` and LF.
+    pub fn accepted(count: usize) -> ShortText
+        ensures { result ≡ codes "ok " ++ decimal count ++ line_feed }
+    {
+        let mut text = ShortText::new();
+        let mut digits = Buffer::new();
+        text.add(b"ok ");
+        text.add(digits.format(count).as_bytes());
+        text.add(b"\n");
+        text
+    }
+
+    /// A number and LF.
+    pub fn number(number: usize) -> ShortText
+        ensures { result ≡ decimal number ++ line_feed }
+    {
+        let mut text = ShortText::new();
+        let mut digits = Buffer::new();
+        text.add(digits.format(number).as_bytes());
         text.add(b"\n");
         text
     }

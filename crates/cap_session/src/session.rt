@@ -1,16 +1,20 @@
 //! A trace that is edited line by line, and reported when asked.
 //!
 //! Each report checks anew from the first line.
-ghost use Rattle.std.specs.Prelude.{◌≡◌, ◌+◌, ◌≤◌, ◌^◌, ◌<◌, ◌↔◌, [], length, Ok, Err, IsOk, IfOk, OnOk, OnErr, IsOkUnless};
+ghost use Rattle.std.specs.Prelude.{◌≡◌, ◌+◌, ◌≤◌, ◌^◌, ◌<◌, ◌↔◌, ◌⊎◌, [], length, Ok, Err, IsOk, IfOk, OnOk, OnErr, IsOkUnless, IsTrue};
 ghost use Rattle.cap_machine.specs.State.{usual};
 ghost use Rattle.cap_machine.specs.Report.{report};
+ghost use Rattle.cap_machine.specs.Check.{check};
+ghost use Rattle.cap_machine.specs.Checked.{HasChecked};
 ghost use Rattle.cap_session.specs.Edits.{is_position, inserted, deleted, replaced, loaded, edited, after, answers};
+ghost use Rattle.cap_session.specs.Replies.{shown, lies_in, is_range, ranged, range_report};
 ghost use Rattle.cap_session.specs.Session.{SessionState, TellsRefusals, wanted};
 
 use crate::edit::Edit;
+use crate::finding::{put_count, put_finding};
 use crate::refused::Refused;
-use cap_machine::{Checker, NoMemory};
-use cap_trace::{Line, parse_line};
+use cap_machine::{Checker, Found, NoMemory, Start, check};
+use cap_trace::{Line, parse_line, write_line};
 use std::alloc::Global;
 use std::marker::Model;
 
@@ -44,6 +48,20 @@ fn is_position(position: usize, last: usize) -> bool
     ensures { result ≡ is_position position last }
 {
     1 <= position && position <= last
+}
+
+/// Whether a range begins at a line, and ends at that line or behind it.
+fn is_range(first: usize, last: usize, count: usize) -> bool
+    ensures { result ≡ is_range count first last }
+{
+    1 <= first && first <= last && last <= count
+}
+
+/// Whether the position of a finding lies in a range.
+fn lies_in(first: usize, last: usize, found: &Found) -> bool
+    ensures { result ≡ lies_in first last found.now }
+{
+    first <= found.at && found.at <= last
 }
 
 impl Session {
@@ -153,11 +171,82 @@ impl Session {
         ensures report { IfOk result (λ text. text.items ≡ report usual self.now.trace) }
         ensures only { IsOkUnless result Refused.Memory }
     {
+        Ok(self.checked()?.report()?)
+    }
+
+    /// Whether the report of the trace has no finding. Only want of memory refuses it.
+    pub(crate) fn is_clean(&self) -> Result<bool, NoMemory>
+        ensures { IfOk result (λ clean. IsTrue clean ↔ (check usual self.now.trace ≡ [])) }
+    {
+        Ok(self.checked()?.is_clean())
+    }
+
+    /// The check of the whole trace.
+    fn checked(&self) -> Result<Checker, NoMemory>
+        ensures { IfOk result (λ checker. HasChecked checker usual self.now.trace) }
+    {
         let mut checker = Checker::new(self.alloc);
         for line in &self.lines {
             checker.line(line)?;
         }
-        Ok(checker.report()?)
+        Ok(checker)
+    }
+
+    /// The canonical text of the line at a position, without a line feed.
+    ///
+    /// `Position` where no line stands there, and `Memory` where memory runs out.
+    pub fn show(&self, position: usize) -> Result<Vec<u8>, Refused>
+        ensures text { IfOk result (λ text. shown self.now.trace position ≡ Ok text.items) }
+        ensures position { (result ≡ Err Refused.Position) ↔ (shown self.now.trace position ≡ Err Refused.Position) }
+        ensures only { OnErr result ((result ≡ Err Refused.Position) ⊎ (result ≡ Err Refused.Memory)) }
+    {
+        if !is_position(position, self.lines.len()) {
+            return Err(Refused::Position);
+        }
+        let mut text = Vec::new(self.alloc);
+        write_line(&self.lines[position - 1], &mut text)?;
+        Ok(text)
+    }
+
+    /// The findings of the whole check whose positions lie in `first` to `last`, a line each, and how many they are.
+    ///
+    /// `Position` unless 1 <= `first` <= `last` <= the number of lines, and `Memory` where memory runs out.
+    pub fn report_range(&self, first: usize, last: usize) -> Result<Vec<u8>, Refused>
+        ensures text { IfOk result (λ text. ranged self.now.trace first last ≡ Ok text.items) }
+        ensures position { (result ≡ Err Refused.Position) ↔ (ranged self.now.trace first last ≡ Err Refused.Position) }
+        ensures only { OnErr result ((result ≡ Err Refused.Position) ⊎ (result ≡ Err Refused.Memory)) }
+    {
+        if !is_range(first, last, self.lines.len()) {
+            return Err(Refused::Position);
+        }
+        match self.part(first, last) {
+            Ok(text) => Ok(text),
+            Err(NoMemory) => Err(Refused::Memory),
+        }
+    }
+
+    /// The report of a part, from the check of the whole.
+    fn part(&self, first: usize, last: usize) -> Result<Vec<u8>, NoMemory>
+        requires first { 1 ≤ first }
+        requires last { last ≤ length self.now.trace }
+        ensures { IfOk result (λ text. text.items ≡ range_report usual self.now.trace first last) }
+    {
+        let all = check(
+            self.alloc,
+            &Start::unknown(self.alloc),
+            self.lines.as_slice(),
+        )?;
+        let mut text = Vec::new(self.alloc);
+        let mut count = 0;
+        for found in &all {
+            if lies_in(first, last, found) {
+                let line = &self.lines[found.at - 1];
+                put_finding(&mut text, found.at, line, &found.finding)?;
+                count += 1;
+            }
+        }
+        put_count(&mut text, count)?;
+        Ok(text)
     }
 
     /// Makes one edit, as `insert`, `delete` and `replace` do.

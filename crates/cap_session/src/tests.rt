@@ -12,11 +12,11 @@ use std::io::{self, ErrorKind, Read, Write};
 
 /// The bytes of a slice, at most `size` a call. One call, counted from 1, fails.
 #[derive(Drop)]
-struct Pieces<'a> {
+pub struct Pieces<'a> {
     rest: &'a [u8],
     size: usize,
     fails_at: u64,
-    calls: u64,
+    pub calls: u64,
     failures: u64,
     ends: u64,
     ghost some: { 0 < size },
@@ -25,7 +25,7 @@ struct Pieces<'a> {
 }
 
 impl<'a> Pieces<'a> {
-    fn new(bytes: &'a [u8], size: usize, fails_at: u64) -> Pieces<'a>
+    pub fn new(bytes: &'a [u8], size: usize, fails_at: u64) -> Pieces<'a>
         requires { 0 < size }
         ensures { result.calls ≡ 0 }
     {
@@ -67,7 +67,7 @@ impl<'a> Source for Pieces<'a> {
 
 /// Keeps what it takes, at most `size` bytes a call, and fails once it has `most`.
 #[derive(Drop)]
-struct Kept {
+pub struct Kept {
     bytes: [u8; 256],
     len: usize,
     size: usize,
@@ -77,7 +77,7 @@ struct Kept {
 }
 
 impl Kept {
-    fn new(size: usize, most: usize) -> Kept
+    pub fn new(size: usize, most: usize) -> Kept
         ensures { result.faults ≡ 0 }
     {
         Kept {
@@ -89,7 +89,7 @@ impl Kept {
         }
     }
 
-    fn text(&self) -> &[u8] {
+    pub fn text(&self) -> &[u8] {
         &self.bytes[..self.len]
     }
 }

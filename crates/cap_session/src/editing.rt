@@ -1,0 +1,102 @@
+//! A trace, and a script of commands on it.
+ghost use Rattle.std.specs.Prelude.{◌≡◌, ◌^◌, ◌<◌, ◌≤◌, [], length};
+ghost use Rattle.cap_session.specs.EditStreams.{EditStreams, Replies};
+
+use crate::check::{MOST_LINES, write_refusal};
+use crate::devices::{Sink, Source};
+use crate::held::Held;
+use crate::loading::Loading;
+use crate::outcome::Outcome;
+use crate::read::{Ending, PIECE, read_text};
+use crate::replies::{Ended, reply_all};
+use crate::script::Script;
+use crate::session::Session;
+use std::alloc::Global;
+
+/// Replies to a script with room for a piece, and ends with the outcome of the trace as it then is.
+fn edit_loaded<S: Source, W: Sink>(
+    turns: u64,
+    reader: &mut S,
+    writer: &mut W,
+    mut script: Script,
+    piece: &mut [u8],
+) -> Outcome
+    requires turns { turns ≤ 2 ^ 32 }
+    requires calls { turns ≤ (S.state reader.old).room }
+    requires failure { 1 ≤ (W.state writer.old).room }
+    requires begins { script.held ≡ [] }
+    requires some { 0 < length piece.old }
+    requires most { length piece.old ≤ 65536 }
+    ensures { Replies turns (S.state reader.old) (S.state reader.new) (W.state writer.old) (W.state writer.new) script.trace result }
+{
+    match reply_all(turns, reader, writer, &mut script, piece) {
+        Ended::AtEnd => match script.session.is_clean() {
+            Ok(true) => Outcome::Clean,
+            Ok(false) => Outcome::Findings,
+            Err(_) => Outcome::Memory,
+        },
+        Ended::ReadFault => Outcome::ReadFault,
+        Ended::WriteFault => Outcome::WriteFault,
+        Ended::TooLong => Outcome::TooLong,
+    }
+}
+
+/// Takes a trace over, and replies to a script of commands on it, line by line.
+///
+/// The trace is read as `check_stream` reads it. Where it isn't taken over, the outcome is told as there: `Refused`,
+/// `Memory`, `ReadFault`, `TooLong`, or `WriteFault` of the refusal, and the script isn't read.
+///
+/// Each line of the script is replied to before the next is worked through. Empty lines and lines that begin with `#`
+/// have no reply. A line of more than 1,056 bytes is replied to with `refused E1` as soon as its 1,057th byte came.
+///
+/// - `insert K LINE`, `replace K LINE` and `delete K` reply `ok N`, where N is the new count.
+/// - `show K` replies the line's canonical text, `count` the number of lines, `report` the report, and `report A B`
+///   the findings of the whole check at the positions A to B.
+/// - A command that is refused replies `refused E7`, by the code of its refusal, and any other line `refused E10`. One
+///   for which memory runs out replies `refused E9`. The script goes on.
+///
+/// - `Clean` and `Findings`: the end of the script was told, and this is the outcome of the trace as it then is.
+/// - `Memory`: that couldn't be found out for want of memory, or there was no room to begin.
+/// - `ReadFault`, `WriteFault`, `TooLong`: of the script, or of the writer, which ends it at once. The replies so far
+///   were written, and at `WriteFault` a front of them.
+///
+/// The caller owes at most 2^32 turns, two readers that can count so many calls, and a writer that can count a failure.
+pub fn edit_stream<T: Source, S: Source, W: Sink>(
+    alloc: Global,
+    turns: u64,
+    trace: &mut T,
+    script: &mut S,
+    writer: &mut W,
+) -> Outcome
+    requires turns { turns ≤ 2 ^ 32 }
+    requires trace_calls { turns ≤ (T.state trace.old).room }
+    requires script_calls { turns ≤ (S.state script.old).room }
+    requires failure { 1 ≤ (W.state writer.old).room }
+    ensures { EditStreams turns (T.state trace.old) (T.state trace.new) (S.state script.old) (S.state script.new) (W.state writer.old) (W.state writer.new) result }
+{
+    let Ok(mut piece) = vec![in alloc; 0u8; PIECE] else {
+        return Outcome::Memory;
+    };
+    let Ok(held) = Held::new(alloc) else {
+        return Outcome::Memory;
+    };
+    let Ok(session) = Session::new(alloc, MOST_LINES) else {
+        return Outcome::Memory;
+    };
+    match read_text(alloc, turns, trace, Loading { session }) {
+        Ok(loading) => {
+            let loaded = Script {
+                session: loading.session,
+                held,
+            };
+            edit_loaded(turns, script, writer, loaded, piece.as_mut_slice())
+        }
+        Err(Ending::Refused(refusal)) => write_refusal(refusal, writer),
+        Err(Ending::Memory) => Outcome::Memory,
+        Err(Ending::ReadFault) => Outcome::ReadFault,
+        Err(Ending::TooLong) => Outcome::TooLong,
+    }
+}
+
+#[cfg(test)]
+mod tests;

@@ -1,0 +1,49 @@
+//! A script is replied to as it comes.
+ghost use Rattle.std.specs.Prelude.{◌≡◌, ◌+◌, ◌^◌, ◌<◌, ◌≤◌, [], length};
+ghost use Rattle.cap_session.specs.EditStreams.{Edits};
+
+use crate::devices::{Failed, Sink, Source};
+use crate::script::Script;
+
+/// Why a script isn't read on.
+#[derive(Clone, Copy, Debug, PartialEq, Eq)]
+pub enum Ended {
+    AtEnd,
+    ReadFault,
+    WriteFault,
+    TooLong,
+}
+
+/// Replies to a script as it comes, with room for a piece.
+pub fn reply_all<R: Source, W: Sink>(
+    turns: u64,
+    reader: &mut R,
+    writer: &mut W,
+    script: &mut Script,
+    piece: &mut [u8],
+) -> Ended
+    requires turns { turns ≤ 2 ^ 32 }
+    requires calls { turns ≤ (R.state reader.old).room }
+    requires failure { 1 ≤ (W.state writer.old).room }
+    requires begins { script.old.held ≡ [] }
+    requires some { 0 < length piece.old }
+    requires most { length piece.old ≤ 65536 }
+    ensures { Edits turns (R.state reader.old) (R.state reader.new) (W.state writer.old) (W.state writer.new) script.old.trace script.new.trace result }
+{
+    for _turn in 0..turns {
+        match reader.read(piece) {
+            Err(Failed) => return Ended::ReadFault,
+            Ok(0) => {
+                return match script.end(writer) {
+                    Ok(()) => Ended::AtEnd,
+                    Err(Failed) => Ended::WriteFault,
+                };
+            }
+            Ok(n) => match script.feed(&piece[..n], writer) {
+                Ok(()) => {}
+                Err(Failed) => return Ended::WriteFault,
+            },
+        }
+    }
+    Ended::TooLong
+}

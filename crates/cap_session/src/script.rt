@@ -1,0 +1,206 @@
+//! A script, each line replied to before the next is worked through.
+ghost use Rattle.std.specs.Prelude.{◌≡◌, ◌<◌, ◌≤◌, [], ◌∷◌, ◌++◌, length, take, OnOk, OnErr};
+ghost use Rattle.cap_session.specs.Lines.{last_piece};
+ghost use Rattle.cap_session.specs.Performs.{asks, Performs, text_of};
+ghost use Rattle.cap_session.specs.Scripts.{Scripting, Replied, Broken, due, due_line, due_piece, due_end};
+
+use crate::check::is_skipped;
+use crate::command::{Command, command_of};
+use crate::devices::{Failed, Sink};
+use crate::edit::Edit;
+use crate::held::Held;
+use crate::refusal::ShortText;
+use crate::refused::Refused;
+use crate::session::Session;
+use crate::write::write_text;
+use memchr::memchr;
+use std::marker::Model;
+
+/// A script line has at most so many bytes, its LF not counted.
+const LINE: usize = 1056;
+
+/// The code of a line that is longer.
+const TOO_LONG: u8 = 1;
+
+/// The code of an unknown command.
+const UNKNOWN: u8 = 10;
+
+/// The text of a reply. A short one takes no memory.
+#[derive(Drop)]
+enum Reply {
+    Short(ShortText),
+    Long(Vec<u8>),
+}
+
+impl Reply {
+    fn as_slice(&self) -> &[u8]
+        ensures { result.now ≡ text_of self.now }
+    {
+        match self {
+            Reply::Short(text) => text.as_slice(),
+            Reply::Long(text) => text.as_slice(),
+        }
+    }
+}
+
+/// Makes an edit, and replies with the new count or the code of its refusal.
+fn perform_edit(session: &mut Session, edit: &Edit<'_>) -> Result<Reply, u8>
+    requires { session.old.limit ≡ 1000000 }
+    ensures performs { Performs session.old.trace (asks (Command.Edit edit.now)) result session.new.trace }
+    ensures limit { session.new.limit ≡ session.old.limit }
+{
+    match session.edit(edit) {
+        Ok(count) => Ok(Reply::Short(ShortText::accepted(count))),
+        Err(refused) => Err(refused.code()),
+    }
+}
+
+/// Replies with the text of a line.
+fn perform_show(session: &Session, position: usize) -> Result<Reply, u8>
+    ensures { Performs session.now.trace (asks (Command.Show position)) result session.now.trace }
+{
+    match session.show(position) {
+        Ok(mut text) => match text.push(b'\n') {
+            Ok(()) => Ok(Reply::Long(text)),
+            Err(_) => Err(Refused::Memory.code()),
+        },
+        Err(refused) => Err(refused.code()),
+    }
+}
+
+/// Replies with the report.
+fn perform_report(session: &Session) -> Result<Reply, u8>
+    ensures { Performs session.now.trace (asks Command.Report) result session.now.trace }
+{
+    match session.report() {
+        Ok(text) => Ok(Reply::Long(text)),
+        Err(refused) => Err(refused.code()),
+    }
+}
+
+/// Replies with the report of a part.
+fn perform_range(session: &Session, first: usize, last: usize) -> Result<Reply, u8>
+    ensures { Performs session.now.trace (asks (Command.ReportRange first last)) result session.now.trace }
+{
+    match session.report_range(first, last) {
+        Ok(text) => Ok(Reply::Long(text)),
+        Err(refused) => Err(refused.code()),
+    }
+}
+
+/// Does a command, and gives its reply or the code of its refusal.
+fn perform(session: &mut Session, command: &Command<'_>) -> Result<Reply, u8>
+    requires { session.old.limit ≡ 1000000 }
+    ensures performs { Performs session.old.trace (asks command.now) result session.new.trace }
+    ensures limit { session.new.limit ≡ session.old.limit }
+{
+    match *command {
+        Command::Edit(edit) => perform_edit(session, &edit),
+        Command::Show(position) => perform_show(session, position),
+        Command::Count => Ok(Reply::Short(ShortText::number(session.count()))),
+        Command::Report => perform_report(session),
+        Command::ReportRange(first, last) => perform_range(session, first, last),
+        Command::Unknown => Err(UNKNOWN),
+    }
+}
+
+/// Replies to a line.
+fn answer<W: Sink>(session: &mut Session, line: &[u8], writer: &mut W) -> Result<(), Failed>
+    requires limit { session.old.limit ≡ 1000000 }
+    requires room { 1 ≤ (W.state writer.old).room }
+    ensures ok { OnOk result (Replied session.old.trace (W.state writer.old) (W.state writer.new) (line.now ∷ []) session.new.trace) }
+    ensures err { OnErr result (Broken session.old.trace (W.state writer.old) (W.state writer.new) (line.now ∷ [])) }
+    ensures limit { session.new.limit ≡ session.old.limit }
+{
+    if line.len() > LINE {
+        return write_text(writer, ShortText::refused(TOO_LONG).as_slice());
+    }
+    if is_skipped(line) {
+        return Ok(());
+    }
+    match perform(session, &command_of(line)) {
+        Ok(reply) => write_text(writer, reply.as_slice()),
+        Err(code) => write_text(writer, ShortText::refused(code).as_slice()),
+    }
+}
+
+/// What is known while a script comes. Of the line that is begun no more than 1,057 bytes are kept: with those
+/// the line is too long, and was replied to.
+#[derive(Drop)]
+pub struct Script {
+    pub session: Session,
+    pub held: Held<1057>,
+}
+
+impl Model for Script {
+    ghost Value = { Scripting };
+
+    ghost view = { λ s. record { trace = s.session.trace; held = s.held } };
+
+    ghost invariant = { λ s. s.session.limit ≡ 1000000 };
+}
+
+impl Script {
+    /// Replies to the line that is begun, which these bytes complete.
+    fn line<W: Sink>(&mut self, bytes: &[u8], writer: &mut W) -> Result<(), Failed>
+        requires { 1 ≤ (W.state writer.old).room }
+        ensures ok { OnOk result (Replied self.old.trace (W.state writer.old) (W.state writer.new) (due_line self.old.held bytes.now) self.new.trace) }
+        ensures held { OnOk result (self.new.held ≡ []) }
+        ensures err { OnErr result (Broken self.old.trace (W.state writer.old) (W.state writer.new) (due_line self.old.held bytes.now)) }
+    {
+        if self.held.len() > LINE {
+            self.held.clear();
+            return Ok(());
+        }
+        if self.held.is_empty() {
+            return answer(&mut self.session, bytes, writer);
+        }
+        self.held.add_front(bytes);
+        let answered = answer(&mut self.session, self.held.as_slice(), writer);
+        self.held.clear();
+        answered
+    }
+
+    /// Begins a line or goes on with it, and replies where it gets too long.
+    fn hold<W: Sink>(&mut self, bytes: &[u8], writer: &mut W) -> Result<(), Failed>
+        requires { 1 ≤ (W.state writer.old).room }
+        ensures ok { OnOk result (Replied self.old.trace (W.state writer.old) (W.state writer.new) (due_piece self.old.held bytes.now) self.new.trace) }
+        ensures held { OnOk result (self.new.held ≡ take 1057 (self.old.held ++ bytes.now)) }
+        ensures err { OnErr result (Broken self.old.trace (W.state writer.old) (W.state writer.new) (due_piece self.old.held bytes.now)) }
+    {
+        let was_long = self.held.len() > LINE;
+        self.held.add_front(bytes);
+        if was_long || self.held.len() <= LINE {
+            return Ok(());
+        }
+        answer(&mut self.session, self.held.as_slice(), writer)
+    }
+
+    /// Works the next piece through, each reply written before the next line.
+    pub fn feed<W: Sink>(&mut self, piece: &[u8], writer: &mut W) -> Result<(), Failed>
+        requires room { 1 ≤ (W.state writer.old).room }
+        requires short { length piece.now ≤ 65536 }
+        ensures ok { OnOk result (Replied self.old.trace (W.state writer.old) (W.state writer.new) (due self.old.held piece.now) self.new.trace) }
+        ensures held { OnOk result (self.new.held ≡ take 1057 (last_piece self.old.held piece.now)) }
+        ensures err { OnErr result (Broken self.old.trace (W.state writer.old) (W.state writer.new) (due self.old.held piece.now)) }
+    {
+        let mut rest = piece;
+        while let Some(at) = memchr(b'\n', rest) {
+            self.line(&rest[..at], writer)?;
+            rest = &rest[at + 1..];
+        }
+        self.hold(rest, writer)
+    }
+
+    /// Replies to the line that is begun, which is the last.
+    pub fn end<W: Sink>(&mut self, writer: &mut W) -> Result<(), Failed>
+        requires { 1 ≤ (W.state writer.old).room }
+        ensures ok { OnOk result (Replied self.old.trace (W.state writer.old) (W.state writer.new) (due_end self.old.held) self.new.trace) }
+        ensures err { OnErr result (Broken self.old.trace (W.state writer.old) (W.state writer.new) (due_end self.old.held)) }
+    {
+        if self.held.is_empty() || self.held.len() > LINE {
+            return Ok(());
+        }
+        answer(&mut self.session, self.held.as_slice(), writer)
+    }
+}
