@@ -7,9 +7,20 @@ use Rattle.clap.specs.Simple.{on_top}
 abbrev pub trace_rule : Rule
 trace_rule = record (new_rule (codes "trace")) { value_names = 1 }
 
+abbrev pub script_rule : Rule
+script_rule = record (new_rule (codes "script")) { value_names = 1 }
+
+-- one that may not be absent
+abbrev pub needed_trace_rule : Rule
+needed_trace_rule = record trace_rule { required = true }
+
 -- check [FILE]
 abbrev pub check_words : App
 check_words = with_rule (new_app (codes "check")) trace_rule
+
+-- edit FILE [SCRIPT]
+abbrev pub edit_words : App
+edit_words = with_rule (with_rule (new_app (codes "edit")) needed_trace_rule) script_rule
 
 -- the first word names a command, and there are --help and --version
 abbrev pub bare_words : App
@@ -21,4 +32,4 @@ bare_words = on_top (λ s. record s {
 }) (new_app (codes "capcheck"))
 
 abbrev pub capcheck : App
-capcheck = with_subcommand bare_words check_words.top
+capcheck = with_subcommand (with_subcommand bare_words check_words.top) edit_words.top

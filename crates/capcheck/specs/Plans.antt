@@ -8,16 +8,24 @@ use Rattle.clap.specs.declared.error.kind.ErrorKind.{ErrorKind}
 use Rattle.clap.specs.declared.error.kind.ErrorKind.TheVariants as kind
 use Rattle.capcheck.specs.CommandLine.{capcheck}
 use Rattle.capcheck.specs.declared.plan.Plan.{Plan}
-use Rattle.capcheck.specs.declared.plan.Plan.TheVariants.{Check, Help, Usage, Memory}
+use Rattle.capcheck.specs.declared.plan.Plan.TheVariants.{Check, Edit, Help, Usage, Memory}
 
 -- a run of the program, with the names that it was given
 pub data Run : Type 0 where
   checks : Option Text → Run
+  edits : Text → Option Text → Run
+
+abbrev pub check_among : List Row → Run
+check_among rows = checks (first_of (codes "trace") rows)
+
+abbrev pub edit_among : List Row → Option Run
+edit_among rows = option_map (λ trace. edits trace (first_of (codes "script") rows))
+    (first_of (codes "trace") rows)
 
 -- the run that a command and the values of its arguments name
 abbrev pub run_in : Text × List Row → Option Run
-run_in found = if bytes_eq found.0 (codes "check")
-    then Some (checks (first_of (codes "trace") found.1)) else None
+run_in found = if bytes_eq found.0 (codes "check") then Some (check_among found.1)
+    else (if bytes_eq found.0 (codes "edit") then edit_among found.1 else None)
 
 -- the run that the words name by `clap`'s matches
 abbrev pub run_asked : List Text → Option Run
@@ -44,6 +52,7 @@ seen = option_map (λ text. text.now)
 -- the plan is what the words ask for; of want of memory nothing is said
 abbrev pub Fits : List Text → Plan → Type 0
 Fits words (Check trace) = Asks words (checks (seen trace))
+Fits words (Edit trace script) = Asks words (edits trace.now (seen script))
 Fits words (Help text) = Requests (fault_of capcheck words)
 Fits words (Usage text) = Mistakes (fault_of capcheck words) ⊎ (run_asked words ≡ None)
 Fits words Memory = Unit {0}
@@ -53,6 +62,7 @@ Fits words Memory = Unit {0}
 -- the run of a plan
 abbrev pub run_of : Plan → Option Run
 run_of (Check trace) = Some (checks (seen trace))
+run_of (Edit trace script) = Some (edits trace.now (seen script))
 run_of (Help text) = None
 run_of (Usage text) = None
 run_of Memory = None
@@ -60,6 +70,7 @@ run_of Memory = None
 -- the answer to words that give no matches, by the kind of the error
 abbrev pub TellsKind : ErrorKind → Plan → Type 0
 TellsKind k (Check trace) = ⊥
+TellsKind k (Edit trace script) = ⊥
 TellsKind k (Help text) = IsRequest k
 TellsKind k (Usage text) = (k ≡ kind.OutOfMemory → ⊥) × (IsRequest k → ⊥)
 TellsKind k Memory = Unit {0}

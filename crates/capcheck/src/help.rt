@@ -15,10 +15,11 @@ Exit status:
      capcheck: E12  writing to standard output failed
      capcheck: E13  the input has no end
 
-Example:
+Examples:
   capcheck check server.trace
+  capcheck edit server.trace session.script
 
-`capcheck check --help` tells more of a command.";
+`capcheck check --help` and `capcheck edit --help` tell more.";
 
 /// The end of `capcheck check --help`.
 pub const CHECK: &str = "\
@@ -47,3 +48,35 @@ Exit status:
 
 Example:
   capcheck check server.trace";
+
+/// The end of `capcheck edit --help`.
+pub const EDIT: &str = "\
+Loads the trace, and answers each line of the script before it looks at the
+next. Empty lines and lines that begin with `#` are skipped. The commands:
+  insert K LINE   puts LINE at position K, 1 to the number of lines and one more
+  replace K LINE  puts LINE in the place of line K
+  delete K        takes line K out
+  show K          prints line K
+  count           prints the number of lines
+  report          prints the findings of the whole trace, and how many
+  report A B      prints the findings at positions A to B, and how many
+
+An edit is answered by `ok` and the number of lines. What can't be done is
+answered by `refused` and a code, and then the trace is as it was:
+  E1 to E6  the line, as in `capcheck check --help`
+  E7        there is no such position
+  E8        the trace has 1,000,000 lines
+  E9        memory ran out
+  E10       there is no such command
+A trace with a line that can't be read is refused as by `check`, and the script
+isn't read. The files are not changed.
+
+Exit status:
+  0  nothing is found in the trace as it is at the end
+  1  something is found in it
+  2  the command line is wrong, or a line of the trace was refused
+  3  no answer: memory ran out (E9), a file can't be opened or read (E11),
+     standard output can't be written (E12), or an input has no end (E13)
+
+Example:
+  printf 'delete 2\\nreport\\n' | capcheck edit server.trace";

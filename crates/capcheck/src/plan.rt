@@ -2,7 +2,7 @@
 ghost use Rattle.std.specs.Prelude.{◌≡◌, IfOk, IsTrue, Some, ◌↔◌, map, option_and_then, option_map};
 ghost use Rattle.clap.specs.Words.{FailsBy, fault_of, first_of, found_of, kind_of, rows_of, subcommand_of, subcommand_rows_of};
 ghost use Rattle.capcheck.specs.CommandLine.{capcheck};
-ghost use Rattle.capcheck.specs.Plans.{Fits, IsRequest, TellsKind, run_in, run_of, seen};
+ghost use Rattle.capcheck.specs.Plans.{Fits, IsRequest, TellsKind, edit_among, run_in, run_of, seen};
 
 use crate::words::command;
 use clap::error::ErrorKind;
@@ -13,7 +13,14 @@ use std::alloc::Global;
 #[derive(Debug, PartialEq, Drop)]
 pub enum Plan<'a> {
     /// Check the trace of this name, or standard input.
-    Check { trace: Option<&'a str> },
+    Check {
+        trace: Option<&'a str>,
+    },
+    /// Load the trace of this name, and work through the script of this name, or standard input.
+    Edit {
+        trace: &'a str,
+        script: Option<&'a str>,
+    },
     /// Print this text, help or the version, which was asked for.
     Help(String),
     /// Say so: the words are a mistake.
@@ -29,8 +36,8 @@ pub fn plan_of<'a>(alloc: Global, words: &'a [&'a str]) -> Plan<'a>
     ensures { Fits (map (λ w. w.now) words.entry.now) result }
 {
     match matches_of(alloc, words) {
-        // The command is required and `check` the only one, so that matches always have a plan; but the
-        // library's contract doesn't say so.
+        // A command is required, and the trace of `edit`, so that matches always have a plan; but the library's
+        // contract doesn't say so.
         Ok(matches) => plan_in(&matches).unwrap_or(Plan::Usage(String::new(alloc))),
         Err(error) => told(alloc, &error),
     }
@@ -61,8 +68,20 @@ fn plan_named<'a>(name: &str, found: &ArgMatches<'a>) -> Option<Plan<'a>>
         "check" => Some(Plan::Check {
             trace: value(found, "trace"),
         }),
+        "edit" => edit_in(found),
         _ => None,
     }
+}
+
+/// The plan of the arguments of `edit`.
+fn edit_in<'a>(found: &ArgMatches<'a>) -> Option<Plan<'a>>
+    ensures { option_map run_of result ≡ option_map Some (edit_among (rows_of (found_of found.now))) }
+{
+    let trace = value(found, "trace")?;
+    Some(Plan::Edit {
+        trace,
+        script: value(found, "script"),
+    })
 }
 
 /// The first value of an argument.

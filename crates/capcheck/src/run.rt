@@ -8,11 +8,11 @@ ghost use Rattle.capcheck.specs.Statuses.{IsStatusOf};
 
 use crate::input::open;
 use crate::plan::{Plan, plan_of};
-use cap_session::{Counted, Outcome, check_stream};
+use cap_session::{Counted, Outcome, check_stream, edit_stream};
 use std::rt::{Env, Files};
 use std::{env, io};
 
-/// How often the trace may be read.
+/// How often the trace may be read, and how often the script.
 const TURNS: u64 = 2_147_483_648;
 
 /// The status of a command line that is a mistake.
@@ -58,6 +58,7 @@ fn carry_out<R: Files + Input + Print + Eprint + AllocGlobal>(rt: &R, plan: Plan
 {
     match plan {
         Plan::Check { trace } => ended(rt, check(rt, trace)),
+        Plan::Edit { trace, script } => ended(rt, edit(rt, trace, script)),
         Plan::Help(text) => match rt.print(text) {
             Ok(()) => 0,
             Err(_) => ended(rt, Outcome::WriteFault),
@@ -78,6 +79,25 @@ fn check<R: Files + Input + Print + AllocGlobal>(rt: &R, trace: Option<&str>) ->
     let mut trace = Counted::new(trace);
     let mut report = Counted::new(io::writer(rt));
     check_stream(rt.alloc(), TURNS, &mut trace, &mut report)
+}
+
+/// Works a script through over a trace, and writes the reply to each of its lines on standard output before
+/// the next is looked at. Both files are opened before either is read.
+fn edit<R: Files + Input + Print + AllocGlobal>(
+    rt: &R,
+    trace: &str,
+    script: Option<&str>,
+) -> Outcome {
+    let Ok(trace) = open(rt, Some(trace)) else {
+        return Outcome::ReadFault;
+    };
+    let Ok(script) = open(rt, script) else {
+        return Outcome::ReadFault;
+    };
+    let mut trace = Counted::new(trace);
+    let mut script = Counted::new(script);
+    let mut replies = Counted::new(io::writer(rt));
+    edit_stream(rt.alloc(), TURNS, &mut trace, &mut script, &mut replies)
 }
 
 /// Tells on standard error what is wrong with the words; whether that can be written doesn't matter.

@@ -2,7 +2,7 @@
 ghost use Rattle.std.specs.Prelude.{◌≡◌, IfOk, false};
 ghost use Rattle.clap.specs.Words.{app_of, rule_of, shape_of};
 ghost use Rattle.clap.specs.declared.builder.command.Command.TheViews.{out-Command};
-ghost use Rattle.capcheck.specs.CommandLine.{bare_words, capcheck, check_words, trace_rule};
+ghost use Rattle.capcheck.specs.CommandLine.{bare_words, capcheck, check_words, edit_words, needed_trace_rule, script_rule, trace_rule};
 
 use crate::help;
 use clap::{Arg, Command};
@@ -12,7 +12,9 @@ use std::alloc::{AllocError, Global};
 pub fn command<'a>(alloc: Global) -> Result<Command<'a>, AllocError>
     ensures { IfOk result (λ c. app_of c ≡ capcheck) }
 {
-    bare_command(alloc)?.subcommand(check_command(alloc)?)
+    bare_command(alloc)?
+        .subcommand(check_command(alloc)?)?
+        .subcommand(edit_command(alloc)?)
 }
 
 /// The program's own settings, with no command yet.
@@ -48,4 +50,37 @@ fn trace_arg<'a>(alloc: Global) -> Arg<'a>
     Arg::new(alloc, "trace")
         .value_name("FILE")
         .help("The trace; standard input where none is named")
+}
+
+/// `edit FILE [SCRIPT]`.
+fn edit_command<'a>(alloc: Global) -> Result<Command<'a>, AllocError>
+    ensures shape { IfOk result (λ c. shape_of c ≡ edit_words.top) }
+    ensures local { IfOk result (λ c. (out-Command c).has_globals ≡ false) }
+{
+    Command::new(alloc, "edit")
+        .about("Works a script of edits through over a trace, and answers each")
+        .after_help(help::EDIT)
+        .arg(needed_trace_arg(alloc))?
+        .arg(script_arg(alloc))
+}
+
+/// The trace of `edit`.
+fn needed_trace_arg<'a>(alloc: Global) -> Arg<'a>
+    ensures rule { rule_of result ≡ needed_trace_rule }
+    ensures local { result.global ≡ false }
+{
+    Arg::new(alloc, "trace")
+        .value_name("FILE")
+        .required(true)
+        .help("The trace; the file itself is not changed")
+}
+
+/// The script of `edit`.
+fn script_arg<'a>(alloc: Global) -> Arg<'a>
+    ensures rule { rule_of result ≡ script_rule }
+    ensures local { result.global ≡ false }
+{
+    Arg::new(alloc, "script")
+        .value_name("SCRIPT")
+        .help("The script; standard input where none is named")
 }

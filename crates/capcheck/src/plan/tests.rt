@@ -4,13 +4,16 @@ use super::*;
 use std::alloc::AllocError;
 use std::test::Fail;
 
-static MISTAKES: [&[&str]; 11] = [
+static MISTAKES: [&[&str]; 14] = [
     &[],
     &[""],
     &["undo"],
     &["help"],
     &["trace"],
     &["check", "a", "b"],
+    &["edit"],
+    &["edit", "-x", "t"],
+    &["edit", "t", "s", "u"],
     &["check", "-x"],
     &["check", "--start"],
     &["check", "--version"],
@@ -18,13 +21,18 @@ static MISTAKES: [&[&str]; 11] = [
     &["--", "check"],
 ];
 
-static REQUESTS: [(&[&str], &str); 6] = [
+static REQUESTS: [(&[&str], &str); 8] = [
     (&["--help"], "Usage: capcheck <COMMAND>"),
     (&["-h", "undo"], "Usage: capcheck <COMMAND>"),
     (&["--version"], "capcheck 0.1.0\n"),
     (&["-V"], "capcheck 0.1.0\n"),
     (&["check", "--help"], "Usage: capcheck check [FILE]"),
     (&["check", "trace", "-h"], "capcheck check server.trace"),
+    (&["edit", "--help"], "Usage: capcheck edit <FILE> [SCRIPT]"),
+    (
+        &["edit", "-h", "t", "s", "u"],
+        "printf 'delete 2\\nreport\\n'",
+    ),
 ];
 
 static CHECKS: [(&[&str], Option<&str>); 6] = [
@@ -34,6 +42,13 @@ static CHECKS: [(&[&str], Option<&str>); 6] = [
     (&["check", "--", "-h"], Some("-h")),
     (&["check", "-"], Some("-")),
     (&["check", ""], Some("")),
+];
+
+static EDITS: [(&[&str], &str, Option<&str>); 4] = [
+    (&["edit", "t"], "t", None),
+    (&["edit", "t", "s"], "t", Some("s")),
+    (&["edit", "check", "edit"], "check", Some("edit")),
+    (&["edit", "t", "--", "--help"], "t", Some("--help")),
 ];
 
 fn planned<'a>(rt: &HostRuntime, words: &'a [&'a str]) -> Result<Plan<'a>, AllocError> {
@@ -73,6 +88,18 @@ fn a_check_has_its_trace(rt: HostRuntime) -> Result<(), Fail> {
             Plan::Check { trace: *trace },
             "{words:?}"
         );
+    }
+    Ok(())
+}
+
+#[test]
+fn an_edit_has_its_trace_and_its_script(rt: HostRuntime) -> Result<(), Fail> {
+    for (words, trace, script) in EDITS.iter() {
+        let plan = Plan::Edit {
+            trace: *trace,
+            script: *script,
+        };
+        assert_eq!(rt; planned(&rt, words)?, plan, "{words:?}");
     }
     Ok(())
 }
