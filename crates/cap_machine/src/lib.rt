@@ -31,3 +31,4 @@ pub use rule::{Check, Checks, Class, Demand, Effect, Reply, Rule, Word, rule_of}
 pub use start::Start;
 pub use trace::check;
 pub use verdict::{Finding, Found, Verdict, judge};
+pub use words::{put_count, put_finding};

@@ -54,8 +54,16 @@ fn put_words(out: &mut Vec<u8>, finding: &Finding) -> Result<(), NoMemory>
     Ok(())
 }
 
-/// Appends the report's line of a finding.
-fn put_finding(out: &mut Vec<u8>, at: usize, line: &Line, finding: &Finding) -> Result<(), NoMemory>
+/// Appends the line of a report that tells a finding about the line at a position: the position, the process, the
+/// name of the call, the finding's word and what belongs to it, with one space between and a line feed at the end.
+///
+/// `NoMemory` where memory runs out.
+pub fn put_finding(
+    out: &mut Vec<u8>,
+    at: usize,
+    line: &Line,
+    finding: &Finding,
+) -> Result<(), NoMemory>
     ensures { OnOk result (out.new.items ≡ out.old.items ++ finding_line line.now (found_at at finding.now)) }
 {
     put_number(out, at as u64)?;
@@ -106,8 +114,10 @@ pub(crate) fn put_verdict(
     Ok(first + second + third)
 }
 
-/// Appends the last line of a report.
-pub(crate) fn put_count(out: &mut Vec<u8>, count: usize) -> Result<(), NoMemory>
+/// Appends the last line of a report, which tells how many findings it has.
+///
+/// `NoMemory` where memory runs out.
+pub fn put_count(out: &mut Vec<u8>, count: usize) -> Result<(), NoMemory>
     ensures { OnOk result (out.new.items ≡ out.old.items ++ last_line count) }
 {
     out.extend_from_slice(b"findings ")?;

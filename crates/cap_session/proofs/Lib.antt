@@ -17,5 +17,4 @@ pub mod Rejecting
 pub mod Replying
 pub mod Runs
 pub mod Soon
-pub mod Spoken
 pub mod Words

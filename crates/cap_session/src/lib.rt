@@ -7,7 +7,6 @@ mod counted;
 mod devices;
 mod edit;
 mod editing;
-mod finding;
 mod held;
 mod laws;
 mod loading;

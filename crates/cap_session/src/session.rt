@@ -11,9 +11,8 @@ ghost use Rattle.cap_session.specs.Replies.{shown, lies_in, is_range, ranged, ra
 ghost use Rattle.cap_session.specs.Session.{SessionState, TellsRefusals, wanted};
 
 use crate::edit::Edit;
-use crate::finding::{put_count, put_finding};
 use crate::refused::Refused;
-use cap_machine::{Checker, Found, NoMemory, Start, check};
+use cap_machine::{Checker, Found, NoMemory, Start, check, put_count, put_finding};
 use cap_trace::{Line, parse_line, write_line};
 use std::alloc::Global;
 use std::marker::Model;

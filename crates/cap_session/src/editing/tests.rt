@@ -94,6 +94,140 @@ fn scripts_are_replied_to_in_pieces_of_any_size(rt: HostRuntime) {
     assert!(rt; wants <= WANTS);
 }
 
+/// A line of a script may hold a line of a trace that has as many bytes as it may.
+#[test]
+fn the_longest_line_is_inserted(rt: HostRuntime) {
+    let mut script: Vec<u8> = Vec::new(rt.alloc());
+    let mut parts: Vec<&[u8]> = Vec::new(rt.alloc());
+    let mut wants = parts.push(b"insert 1 100 foo(").is_err();
+    for _ in 0..1009 {
+        wants |= parts.push(b"x").is_err();
+    }
+    wants |= parts.push(b") RET 0").is_err();
+    for part in &parts {
+        wants |= script.extend_from_slice(part).is_err();
+    }
+    if wants {
+        return;
+    }
+    assert_eq!(rt; script.len(), 9 + 1024);
+    if let Some(is) = replies(
+        rt.alloc(),
+        b"",
+        script.as_slice(),
+        500,
+        Outcome::Clean,
+        b"ok 1\n",
+    ) {
+        assert!(rt; is);
+    }
+}
+
+/// A descriptor that was limited before a fork.
+const FORKED: &[u8] =
+    b"100 @start(0,3)\n100 cap_rights_limit(3,CAP_READ) RET 0\n100 fork() RET 101\n100 close(3) RET 0\n101 write(3) RET 1\n";
+
+const FORKED_SCRIPT: &[u8] = b"delete 2\nreport\n";
+
+const FORKED_REPLIES: &[u8] = b"ok 4\nfindings 0\n";
+
+/// What is replied to so many bytes of that script.
+fn replied(given: u64) -> &'static [u8] {
+    if given < 9 {
+        b""
+    } else if given < 16 {
+        b"ok 4\n"
+    } else {
+        FORKED_REPLIES
+    }
+}
+
+/// Each read of the trace fails in turn, then each read of the script, and then each byte that is written.
+#[test]
+fn each_fault_leaves_the_replies_before_it(rt: HostRuntime) {
+    let mut wants = 0_u32;
+    for failing in 1..FORKED.len() as u64 + 2 {
+        let mut traces = Pieces::new(FORKED, 1, failing);
+        let mut scripts = Pieces::new(FORKED_SCRIPT, 1, 0);
+        let mut writer = Kept::new(1, 256);
+        let told = edit_stream(rt.alloc(), 4096, &mut traces, &mut scripts, &mut writer);
+        if told == Outcome::Memory {
+            wants = wants.saturating_add(1);
+        } else {
+            assert_eq!(rt; told, Outcome::ReadFault, "read {failing} of the trace");
+        }
+        assert!(rt; writer.text().is_empty());
+        assert_eq!(rt; scripts.calls, 0);
+    }
+    for failing in 1..FORKED_SCRIPT.len() as u64 + 2 {
+        let mut traces = Pieces::new(FORKED, 50, 0);
+        let mut scripts = Pieces::new(FORKED_SCRIPT, 1, failing);
+        let mut writer = Kept::new(7, 256);
+        let told = edit_stream(rt.alloc(), 4096, &mut traces, &mut scripts, &mut writer);
+        if told == Outcome::Memory || writer.text().find(b"refused E9").is_some() {
+            wants = wants.saturating_add(1);
+        } else {
+            assert_eq!(rt; told, Outcome::ReadFault, "read {failing} of the script");
+            assert_eq!(rt; writer.text(), replied(failing - 1));
+        }
+    }
+    for most in 0..FORKED_REPLIES.len() {
+        let mut traces = Pieces::new(FORKED, 50, 0);
+        let mut scripts = Pieces::new(FORKED_SCRIPT, 5, 0);
+        let mut writer = Kept::new(3, most);
+        let told = edit_stream(rt.alloc(), 4096, &mut traces, &mut scripts, &mut writer);
+        if told == Outcome::Memory || writer.text().find(b"refused").is_some() {
+            wants = wants.saturating_add(1);
+        } else {
+            assert_eq!(rt; told, Outcome::WriteFault, "byte {most}");
+            assert_eq!(rt; writer.text(), &FORKED_REPLIES[..most]);
+        }
+    }
+    assert!(rt; wants <= WANTS);
+}
+
+/// Where memory runs out for a command, it is refused with `E9`, and the others have the replies that they have
+/// without it.
+#[test]
+fn want_of_memory_leaves_the_trace(rt: HostRuntime) {
+    let mut traces = Pieces::new(FORKED, 50, 0);
+    let mut scripts = Pieces::new(b"delete 2\nreport\ncount\n", 5, 0);
+    let mut writer = Kept::new(99, 256);
+    let told = edit_stream(rt.alloc(), 99, &mut traces, &mut scripts, &mut writer);
+    let text = writer.text();
+    let whole = b"ok 4\nfindings 0\n4\n".as_slice();
+    match told {
+        Outcome::Memory => assert!(rt; text.is_empty() || text == whole),
+        Outcome::Findings => assert_eq!(rt;
+            text,
+            b"refused E9\n5 101 write missing 3 CAP_WRITE\nfindings 1\n5\n".as_slice()
+        ),
+        _ => {
+            assert_eq!(rt; told, Outcome::Clean);
+            assert!(rt; text == whole || text == b"ok 4\nrefused E9\n4\n".as_slice());
+        }
+    }
+}
+
+/// Neither text may be read without an end.
+#[test]
+fn a_text_without_end_is_told(rt: HostRuntime) {
+    for (trace, script, reads) in [
+        ([b'\n'; 200].as_slice(), b"count\n".as_slice(), (99, 0)),
+        (b"".as_slice(), [b'\n'; 200].as_slice(), (1, 99)),
+    ] {
+        let mut traces = Pieces::new(trace, 1, 0);
+        let mut scripts = Pieces::new(script, 1, 0);
+        let mut writer = Kept::new(99, 256);
+        let told = edit_stream(rt.alloc(), 99, &mut traces, &mut scripts, &mut writer);
+        assert!(rt; writer.text().is_empty());
+        if told != Outcome::Memory {
+            assert_eq!(rt; told, Outcome::TooLong);
+            assert_eq!(rt; (traces.calls, scripts.calls), reads);
+        }
+    }
+}
+
 /// A script, the read of it that fails, and how much all writes take: the outcome, what is written, and how many
 /// reads of the script were made.
 static BROKEN: [(&[u8], u64, usize, Outcome, &[u8], u64); 4] = [
