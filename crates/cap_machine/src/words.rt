@@ -1,7 +1,7 @@
 //! The text of a report.
 
 ghost use Rattle.cap_rights.specs.Text.{text};
-ghost use Rattle.std.specs.Prelude.{◌≡◌, ◌≤◌, [], ◌∷◌, ◌++◌, decimal, length, flat_map, option_to_list, IfOk, OnOk};
+ghost use Rattle.std.specs.Prelude.{◌≡◌, ◌≤◌, [], ◌∷◌, ◌++◌, decimal, length, take, flat_map, option_to_list, IfOk, OnOk, OnErr};
 ghost use Rattle.std.specs.List.{join_with_byte};
 ghost use Rattle.cap_machine.specs.Check.{found_at};
 ghost use Rattle.cap_machine.specs.Judge.{findings_in};
@@ -14,7 +14,8 @@ use itoa::Buffer;
 
 /// Appends a number.
 fn put_number(out: &mut Vec<u8>, number: u64) -> Result<(), NoMemory>
-    ensures { OnOk result (out.new.items ≡ out.old.items ++ decimal number) }
+    ensures ok { OnOk result (out.new.items ≡ out.old.items ++ decimal number) }
+    ensures err { OnErr result (take (length out.old.items) out.new.items ≡ out.old.items) }
 {
     let mut buffer = Buffer::new();
     out.extend_from_slice(buffer.format(number).as_bytes())?;
@@ -23,7 +24,8 @@ fn put_number(out: &mut Vec<u8>, number: u64) -> Result<(), NoMemory>
 
 /// Appends a descriptor and rights, with one space between.
 fn put_rights(out: &mut Vec<u8>, fd: Fd, rights: &RightSet) -> Result<(), NoMemory>
-    ensures { OnOk result (out.new.items ≡ out.old.items ++ join_with_byte 32 (decimal fd ∷ text rights.now ∷ [])) }
+    ensures ok { OnOk result (out.new.items ≡ out.old.items ++ join_with_byte 32 (decimal fd ∷ text rights.now ∷ [])) }
+    ensures err { OnErr result (take (length out.old.items) out.new.items ≡ out.old.items) }
 {
     put_number(out, u64::from(fd))?;
     out.extend_from_slice(b" ")?;
@@ -32,7 +34,8 @@ fn put_rights(out: &mut Vec<u8>, fd: Fd, rights: &RightSet) -> Result<(), NoMemo
 
 /// Appends the word of a finding and what belongs to it.
 fn put_words(out: &mut Vec<u8>, finding: &Finding) -> Result<(), NoMemory>
-    ensures { OnOk result (out.new.items ≡ out.old.items ++ join_with_byte 32 (words finding.now)) }
+    ensures ok { OnOk result (out.new.items ≡ out.old.items ++ join_with_byte 32 (words finding.now)) }
+    ensures err { OnErr result (take (length out.old.items) out.new.items ≡ out.old.items) }
 {
     match finding {
         Finding::Forbidden => out.extend_from_slice(b"forbidden")?,
@@ -54,17 +57,11 @@ fn put_words(out: &mut Vec<u8>, finding: &Finding) -> Result<(), NoMemory>
     Ok(())
 }
 
-/// Appends the line of a report that tells a finding about the line at a position: the position, the process, the
-/// name of the call, the finding's word and what belongs to it, with one space between and a line feed at the end.
-///
-/// `NoMemory` where memory runs out.
-pub fn put_finding(
-    out: &mut Vec<u8>,
-    at: usize,
-    line: &Line,
-    finding: &Finding,
-) -> Result<(), NoMemory>
-    ensures { OnOk result (out.new.items ≡ out.old.items ++ finding_line line.now (found_at at finding.now)) }
+/// Appends the position, the process, the name of the call, and what was found. On an `Err` some of it may stand
+/// behind what there was.
+fn put_all(out: &mut Vec<u8>, at: usize, line: &Line, finding: &Finding) -> Result<(), NoMemory>
+    ensures ok { OnOk result (out.new.items ≡ out.old.items ++ finding_line line.now (found_at at finding.now)) }
+    ensures err { OnErr result (take (length out.old.items) out.new.items ≡ out.old.items) }
 {
     put_number(out, at as u64)?;
     out.extend_from_slice(b" ")?;
@@ -75,6 +72,29 @@ pub fn put_finding(
     put_words(out, finding)?;
     out.extend_from_slice(b"\n")?;
     Ok(())
+}
+
+/// Appends the line of a report that tells a finding about the line at a position: the position, the process, the
+/// name of the call, the finding's word and what belongs to it, with one space between and a line feed at the end.
+///
+/// `NoMemory` where memory runs out; the vector is then as before.
+pub fn put_finding(
+    out: &mut Vec<u8>,
+    at: usize,
+    line: &Line,
+    finding: &Finding,
+) -> Result<(), NoMemory>
+    ensures ok { OnOk result (out.new.items ≡ out.old.items ++ finding_line line.now (found_at at finding.now)) }
+    ensures err { OnErr result (out.new.items ≡ out.old.items) }
+{
+    let start = out.len();
+    match put_all(out, at, line, finding) {
+        Ok(()) => Ok(()),
+        Err(NoMemory) => {
+            out.truncate(start);
+            Err(NoMemory)
+        }
+    }
 }
 
 /// Appends the line of a finding, where there is one, and answers how many there are.
@@ -114,14 +134,30 @@ pub(crate) fn put_verdict(
     Ok(first + second + third)
 }
 
-/// Appends the last line of a report, which tells how many findings it has.
-///
-/// `NoMemory` where memory runs out.
-pub fn put_count(out: &mut Vec<u8>, count: usize) -> Result<(), NoMemory>
-    ensures { OnOk result (out.new.items ≡ out.old.items ++ last_line count) }
+/// Appends `findings` and their number. On an `Err` some of it may stand behind what there was.
+fn put_last(out: &mut Vec<u8>, count: usize) -> Result<(), NoMemory>
+    ensures ok { OnOk result (out.new.items ≡ out.old.items ++ last_line count) }
+    ensures err { OnErr result (take (length out.old.items) out.new.items ≡ out.old.items) }
 {
     out.extend_from_slice(b"findings ")?;
     put_number(out, count as u64)?;
     out.extend_from_slice(b"\n")?;
     Ok(())
+}
+
+/// Appends the last line of a report, which tells how many findings it has.
+///
+/// `NoMemory` where memory runs out; the vector is then as before.
+pub fn put_count(out: &mut Vec<u8>, count: usize) -> Result<(), NoMemory>
+    ensures ok { OnOk result (out.new.items ≡ out.old.items ++ last_line count) }
+    ensures err { OnErr result (out.new.items ≡ out.old.items) }
+{
+    let start = out.len();
+    match put_last(out, count) {
+        Ok(()) => Ok(()),
+        Err(NoMemory) => {
+            out.truncate(start);
+            Err(NoMemory)
+        }
+    }
 }
