@@ -17,4 +17,5 @@ pub mod Rejecting
 pub mod Replying
 pub mod Runs
 pub mod Soon
+pub mod Scripted
 pub mod Words

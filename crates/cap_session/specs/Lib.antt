@@ -12,6 +12,7 @@ pub mod Reads
 pub mod Refusal
 pub mod Refused
 pub mod Replies
+pub mod ScriptLaws
 pub mod Scripts
 pub mod Session
 pub mod Streams

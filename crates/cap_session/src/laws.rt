@@ -1,5 +1,6 @@
-//! What holds of a text and its pieces.
+//! What holds of a text and its pieces, and of a script.
 ghost use Rattle.cap_session.specs.Laws.{BeginningDecides, GoodIsReported, BadIsRefused, PiecesAgree};
+ghost use Rattle.cap_session.specs.ScriptLaws.{ScriptReportsWhatEditsGive};
 
 /// The first refused line of a beginning is that of the text, whatever follows.
 pub fn beginning_decides()
@@ -21,4 +22,10 @@ pub fn good_is_reported()
 /// Where a line is refused, `check_stream` tells that line, unless memory runs out or the writer fails.
 pub fn bad_is_refused()
     ensures { BadIsRefused }
+{}
+
+/// After the lines of any edits a script's `report` is replied to with the report of checking anew the trace which the
+/// accepted edits give, unless memory runs out for it; and each edit with what it answers.
+pub fn script_reports_what_edits_give()
+    ensures { ScriptReportsWhatEditsGive }
 {}

@@ -28,7 +28,10 @@ pub use counted::Counted;
 pub use devices::{Failed, Sink, Source};
 pub use edit::{Edit, accepted_edits_give, inserted_stands, no_edit_asks_for_memory};
 pub use editing::edit_stream;
-pub use laws::{bad_is_refused, beginning_decides, good_is_reported, pieces_agree};
+pub use laws::{
+    bad_is_refused, beginning_decides, good_is_reported, pieces_agree,
+    script_reports_what_edits_give,
+};
 pub use outcome::Outcome;
 pub use refused::Refused;
 pub use session::{Edited, Session};

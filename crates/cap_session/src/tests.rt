@@ -5,7 +5,10 @@ ghost use Rattle.std.specs.Prelude.{◌≡◌, ◌+◌, ◌-◌, ◌^◌, ◌<�
 use crate::check::check_stream;
 use crate::counted::Counted;
 use crate::devices::{Failed, Sink, Source};
-use crate::laws::{bad_is_refused, beginning_decides, good_is_reported, pieces_agree};
+use crate::laws::{
+    bad_is_refused, beginning_decides, good_is_reported, pieces_agree,
+    script_reports_what_edits_give,
+};
 use crate::outcome::Outcome;
 use std::alloc::Global;
 use std::io::{self, ErrorKind, Read, Write};
@@ -464,4 +467,5 @@ fn the_laws_are_calls() {
     pieces_agree();
     good_is_reported();
     bad_is_refused();
+    script_reports_what_edits_give();
 }
