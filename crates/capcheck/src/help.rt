@@ -51,8 +51,9 @@ Example:
 
 /// The end of `capcheck edit --help`.
 pub const EDIT: &str = "\
-Loads the trace, and answers each line of the script before it looks at the
-next. Empty lines and lines that begin with `#` are skipped. The commands:
+Takes the trace over, and answers each line of the script before it looks at the
+next. Empty lines and lines that begin with `#` are skipped, and positions count
+the lines of the trace that are not, from 1. The commands:
   insert K LINE   puts LINE at position K, 1 to the number of lines and one more
   replace K LINE  puts LINE in the place of line K
   delete K        takes line K out
@@ -63,7 +64,8 @@ next. Empty lines and lines that begin with `#` are skipped. The commands:
 
 An edit is answered by `ok` and the number of lines. What can't be done is
 answered by `refused` and a code, and then the trace is as it was:
-  E1 to E6  the line, as in `capcheck check --help`
+  E1 to E6  the line, as in `capcheck check --help`; E1 also a command of more
+            than 1,056 bytes
   E7        there is no such position
   E8        the trace has 1,000,000 lines
   E9        memory ran out

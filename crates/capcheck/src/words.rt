@@ -58,7 +58,7 @@ fn edit_command<'a>(alloc: Global) -> Result<Command<'a>, AllocError>
     ensures local { IfOk result (λ c. (out-Command c).has_globals ≡ false) }
 {
     Command::new(alloc, "edit")
-        .about("Works a script of edits through over a trace, and answers each")
+        .about("Replies to a script of commands on a trace")
         .after_help(help::EDIT)
         .arg(needed_trace_arg(alloc))?
         .arg(script_arg(alloc))
