@@ -1,11 +1,11 @@
 //! The cells of a process, in pieces that a child shares with its parent until one of the two writes them.
 //!
-//! A trace may fork and close in turn, with many descriptors. So a write after a fork copies one page and the list of pages,
-//! and not every cell.
+//! A trace may fork and close in turn, with many descriptors. So cells stand in pages of 64, and pages in groups of 128: a
+//! write after a fork copies one page, the list of pages of one group and the list of groups, of which there are at most 128.
 
 ghost use Rattle.std.specs.Prelude.{◌≡◌, ℕ, ◌<◌, OnOk, ◌==◌, if◌then◌else◌};
 ghost use Rattle.std.specs.List.{slice_index_or};
-ghost use Rattle.cap_machine.specs.Cells.{cell_at_place, cell_in_cells, IsSameCells};
+ghost use Rattle.cap_machine.specs.Cells.{cell_at_place, cell_in_group, cell_in_cells, IsSameGroup, IsSameCells};
 
 use crate::cell::Cell;
 use cap_rights::NoMemory;
@@ -64,11 +64,78 @@ fn write_page(page: &mut Rc<Page>, place: usize, cell: Cell) -> Result<(), NoMem
     Ok(())
 }
 
-/// The cells of a process: those in the pages that there are, and one for all other descriptors.
+/// The cells of 8,192 descriptors that stand next to each other: those in the pages that there are.
+#[derive(Drop)]
+pub(crate) struct Group {
+    pages: BTreeMap<u32, Rc<Page>>,
+}
+
+impl Group {
+    /// No page.
+    fn new(alloc: Global) -> Group
+        ensures { (rest : Cell) (f : ℕ) → cell_in_group result rest f ≡ rest }
+    {
+        Group {
+            pages: BTreeMap::new(alloc),
+        }
+    }
+
+    fn cell(&self, rest: Cell, fd: Fd) -> Cell
+        ensures { result ≡ cell_in_group self.now rest fd }
+    {
+        match self.pages.get(&(fd / 64)) {
+            Some(page) => page.cell((fd % 64) as usize),
+            None => rest,
+        }
+    }
+
+    /// Writes one cell, where all that stand in no page are this one.
+    fn write(&mut self, alloc: Global, rest: Cell, fd: Fd, cell: Cell) -> Result<(), NoMemory>
+        ensures { OnOk result ((f : ℕ) → cell_in_group self.new rest f ≡ (if f == fd then cell else cell_in_group self.old rest f)) }
+    {
+        let place = (fd % 64) as usize;
+        match self.pages.get_mut(&(fd / 64)) {
+            Some(page) => write_page(page, place, cell),
+            None => {
+                let mut page = filled(rest);
+                page.write(place, cell);
+                let page = Rc::new(alloc, page)?;
+                self.pages.insert(fd / 64, page)?;
+                Ok(())
+            }
+        }
+    }
+}
+
+impl Clone for Group {
+    ghost is_clone = { IsSameGroup };
+
+    fn clone(&self) -> Result<Group, AllocError> {
+        Ok(Group {
+            pages: self.pages.clone()?,
+        })
+    }
+}
+
+/// Writes one cell of a group, in a group of its own.
+fn write_group(
+    group: &mut Rc<Group>,
+    alloc: Global,
+    rest: Cell,
+    fd: Fd,
+    cell: Cell,
+) -> Result<(), NoMemory>
+    ensures { OnOk result ((f : ℕ) → cell_in_group group.new.value rest f ≡ (if f == fd then cell else cell_in_group group.old.value rest f)) }
+{
+    let group = Rc::make_mut(group)?;
+    group.write(alloc, rest, fd, cell)
+}
+
+/// The cells of a process: those in the groups that there are, and one for all other descriptors.
 #[derive(Drop)]
 pub(crate) struct Cells {
     rest: Cell,
-    pages: BTreeMap<u32, Rc<Page>>,
+    groups: BTreeMap<u32, Rc<Group>>,
 }
 
 impl Cells {
@@ -78,15 +145,15 @@ impl Cells {
     {
         Cells {
             rest,
-            pages: BTreeMap::new(alloc),
+            groups: BTreeMap::new(alloc),
         }
     }
 
     pub(crate) fn cell(&self, fd: Fd) -> Cell
         ensures { result ≡ cell_in_cells self.now fd }
     {
-        match self.pages.get(&(fd / 64)) {
-            Some(page) => page.cell((fd % 64) as usize),
+        match self.groups.get(&(fd / 8192)) {
+            Some(group) => group.cell(self.rest, fd),
             None => self.rest,
         }
     }
@@ -95,14 +162,14 @@ impl Cells {
     pub(crate) fn write(&mut self, alloc: Global, fd: Fd, cell: Cell) -> Result<(), NoMemory>
         ensures { OnOk result ((f : ℕ) → cell_in_cells self.new f ≡ (if f == fd then cell else cell_in_cells self.old f)) }
     {
-        let place = (fd % 64) as usize;
-        match self.pages.get_mut(&(fd / 64)) {
-            Some(page) => write_page(page, place, cell),
+        let rest = self.rest;
+        match self.groups.get_mut(&(fd / 8192)) {
+            Some(group) => write_group(group, alloc, rest, fd, cell),
             None => {
-                let mut page = filled(self.rest);
-                page.write(place, cell);
-                let page = Rc::new(alloc, page)?;
-                self.pages.insert(fd / 64, page)?;
+                let mut group = Group::new(alloc);
+                group.write(alloc, rest, fd, cell)?;
+                let group = Rc::new(alloc, group)?;
+                self.groups.insert(fd / 8192, group)?;
                 Ok(())
             }
         }
@@ -115,7 +182,7 @@ impl Clone for Cells {
     fn clone(&self) -> Result<Cells, AllocError> {
         Ok(Cells {
             rest: self.rest,
-            pages: self.pages.clone()?,
+            groups: self.groups.clone()?,
         })
     }
 }
