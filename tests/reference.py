@@ -1,6 +1,6 @@
 """The rules of capcheck once more, not made from the definitions that the proofs rest on, as plainly as Python
 allows. `tests/compare` holds the program against it: a proof ties the program to its definitions, and this ties the
-definitions to a second reading of docs/FORMAT.md and docs/RULES.md.
+definitions to a second reading of docs/FORMAT.md, docs/RULES.md and docs/SCRIPTS.md.
 """
 
 import re
@@ -85,6 +85,8 @@ def rights(text):
 
 
 def rights_text(held):
+    if NEVER_LIMITED in held:
+        return "ALL"
     return "|".join("CAP_" + name for name in RIGHTS if name in held) or "NONE"
 
 
@@ -258,6 +260,15 @@ def read(line):
     if not behind.startswith(" RET "):
         raise Refused(2)
     return pid, name, given, answer(name, given, behind[5:])
+
+
+def written(line):
+    """A line written out again: rights are named in the order of the table, and all else has one spelling."""
+    _, name, given, _ = read(line)
+    if name != "cap_rights_limit":
+        return line
+    before, behind = line.split(",")[0], line.split(")")[1]
+    return f"{before},{rights_text(given[1])}){behind}"
 
 
 # ---- the rule of a call: whether capability mode forbids or allows it, and its checks, each a descriptor, what the call
@@ -455,18 +466,106 @@ class Processes:
             self.put(pid, told[0], UNKNOWN)
 
 
-def check(text):
-    """What the program writes for a trace, and its exit status."""
-    processes, findings, at = Processes(), [], 0
+def findings(trace):
+    """The findings of a trace, each with its position."""
+    processes, found = Processes(), []
+    for at, line in enumerate(trace, 1):
+        pid, name, given, told = read(line)
+        found += [(at, f"{at} {pid} {name} {words}\n") for words in processes.said(pid, name, given, told)]
+        processes.follow(pid, name, given, told)
+    return found
+
+
+def report(found):
+    return "".join(words for _, words in found) + f"findings {len(found)}\n"
+
+
+# ---- texts of lines
+
+FULL = 1_000_000
+
+
+def lines_of(text):
     lines = text.split("\n")
-    for place, line in enumerate(lines[:-1] if lines[-1] == "" else lines, 1):
-        if len(line) <= 1024 and (line == "" or line[0] == "#"):
+    return lines[:-1] if lines[-1] == "" else lines
+
+
+def is_skipped(line):
+    return line == "" or line[0] == "#"
+
+
+def load(text):
+    """The lines of a trace that aren't skipped, up to the first that is refused, and that refusal."""
+    trace = []
+    for place, line in enumerate(lines_of(text), 1):
+        if len(line) <= 1024 and is_skipped(line):
             continue
         try:
-            pid, name, given, told = read(line)
+            if len(line) <= 1024 and len(trace) == FULL:
+                raise Refused(8)
+            read(line)
         except Refused as fault:
-            return f"refused E{fault.args[0]} line {place}\n", 2
-        at += 1
-        findings += [f"{at} {pid} {name} {words}\n" for words in processes.said(pid, name, given, told)]
-        processes.follow(pid, name, given, told)
-    return "".join(findings) + f"findings {len(findings)}\n", 1 if findings else 0
+            return trace, f"refused E{fault.args[0]} line {place}\n"
+        trace.append(line)
+    return trace, None
+
+
+def check(text):
+    """What the program writes for a trace, and its exit status."""
+    trace, refusal = load(text)
+    if refusal:
+        return refusal, 2
+    found = findings(trace)
+    return report(found), 1 if found else 0
+
+
+# ---- scripts
+
+NUMBER = "(0|[1-9][0-9]{0,18})"
+
+
+def reply(trace, line):
+    """The reply to a line of a script. The trace is a list, which edits change."""
+    if len(line) > 1056:
+        raise Refused(1)
+    if line == "count":
+        return f"{len(trace)}\n"
+    if line == "report":
+        return report(findings(trace))
+    if words := re.fullmatch(f"report {NUMBER} {NUMBER}", line):
+        first, last = int(words[1]), int(words[2])
+        if not 1 <= first <= last <= len(trace):
+            raise Refused(7)
+        return report([(at, told) for at, told in findings(trace) if first <= at <= last])
+    words = re.fullmatch(f"(show|delete) {NUMBER}", line) or re.fullmatch(f"(insert|replace) {NUMBER} (.*)", line)
+    if not words:
+        raise Refused(10)
+    asked, at = words[1], int(words[2])
+    if not 1 <= at <= len(trace) + (asked == "insert"):
+        raise Refused(7)
+    if asked == "show":
+        return written(trace[at - 1]) + "\n"
+    if asked == "delete":
+        del trace[at - 1]
+        return f"ok {len(trace)}\n"
+    if asked == "insert" and len(trace) == FULL:
+        raise Refused(8)
+    read(words[3])
+    trace[at - 1 : at if asked == "replace" else at - 1] = [words[3]]
+    return f"ok {len(trace)}\n"
+
+
+def replies(text, script):
+    """What the program writes for a trace and a script, and its exit status."""
+    trace, refusal = load(text)
+    if refusal:
+        return refusal, 2
+    out = []
+    for line in lines_of(script):
+        if len(line) <= 1056 and is_skipped(line):
+            continue
+        try:
+            out.append(reply(trace, line))
+        except Refused as fault:
+            out.append(f"refused E{fault.args[0]}\n")
+    return "".join(out), 1 if findings(trace) else 0
