@@ -2,9 +2,9 @@
 #
 #   make            proves every crate and leaves the program as ./capcheck
 #   make run        the same, and checks an example trace with it
-#   make test       the gate: the examples, random traces beside a second reading of the rules, and then every proof,
-#                   test, stored run and wrong body from nothing
-#   make bench      times the program, and reading alone, on traces of a million lines beside `wc -l`
+#   make test       the gate: the examples, worked traces and scripts, random ones beside a second reading of the rules, each
+#                   allocation refused in turn, and then every proof, test, stored run and wrong body from nothing
+#   make bench      times the program, and reading alone, on traces of a million lines beside `wc -l`, and scripts beside a check
 #   make install    puts the program and its manual page under PREFIX (default /usr/local)
 
 RT ?= rt
@@ -25,6 +25,9 @@ run: capcheck
 
 examples: capcheck
 	examples/check ./capcheck
+	tests/rows ./capcheck
+	tests/talks ./capcheck
+	tests/memory ./capcheck
 	tests/compare ./capcheck
 
 test: examples
@@ -32,6 +35,7 @@ test: examples
 
 bench: capcheck
 	bench/run ./capcheck
+	bench/edits ./capcheck
 	bench/reading
 
 install: capcheck

@@ -1,0 +1,37 @@
+// Refuses one allocation of the program that it is loaded into: the one whose number REFUSE has, counted from 1. It writes a
+// byte to the descriptor REFUSE_TELLS once it did.
+#define _GNU_SOURCE
+#include <dlfcn.h>
+#include <errno.h>
+#include <stdlib.h>
+#include <unistd.h>
+
+static long before = -1;
+
+static int refuses(void) {
+    if (before < 0) {
+        const char *number = getenv("REFUSE");
+        before = number ? atol(number) : 0;
+    }
+    if (before == 0 || --before > 0)
+        return 0;
+    const char *tells = getenv("REFUSE_TELLS");
+    if (tells && write(atoi(tells), "x", 1) < 0)
+        abort();
+    errno = ENOMEM;
+    return 1;
+}
+
+void *malloc(size_t size) {
+    static void *(*next)(size_t);
+    if (!next)
+        next = (void *(*)(size_t))dlsym(RTLD_NEXT, "malloc");
+    return refuses() ? NULL : next(size);
+}
+
+void *realloc(void *old, size_t size) {
+    static void *(*next)(void *, size_t);
+    if (!next)
+        next = (void *(*)(void *, size_t))dlsym(RTLD_NEXT, "realloc");
+    return refuses() ? NULL : next(old, size);
+}
