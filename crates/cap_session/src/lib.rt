@@ -1,4 +1,7 @@
-//! Traces from a reader, checked as they come, with the report to a writer.
+//! Traces: checked as they come from a reader, with the report to a writer ([`check_stream`]); kept, edited line by line and
+//! reported when asked ([`Session`]); and worked on by a script of commands, with a reply to each ([`edit_stream`]).
+//!
+//! After any edits a report is that of checking the edited trace anew ([`Session::report_after`]).
 #![tactic(auto)]
 
 mod check;

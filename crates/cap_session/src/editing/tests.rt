@@ -142,9 +142,9 @@ fn replied(given: u64) -> &'static [u8] {
     }
 }
 
-/// Each read of the trace fails in turn, then each read of the script, and then each byte that is written.
+/// Each read of the trace fails in turn.
 #[test]
-fn each_fault_leaves_the_replies_before_it(rt: HostRuntime) {
+fn a_fault_of_the_trace_leaves_the_script_unread(rt: HostRuntime) {
     let mut wants = 0_u32;
     for failing in 1..FORKED.len() as u64 + 2 {
         let mut traces = Pieces::new(FORKED, 1, failing);
@@ -159,6 +159,13 @@ fn each_fault_leaves_the_replies_before_it(rt: HostRuntime) {
         assert!(rt; writer.text().is_empty());
         assert_eq!(rt; scripts.calls, 0);
     }
+    assert!(rt; wants <= WANTS);
+}
+
+/// Each read of the script fails in turn.
+#[test]
+fn a_fault_of_the_script_leaves_the_replies_before_it(rt: HostRuntime) {
+    let mut wants = 0_u32;
     for failing in 1..FORKED_SCRIPT.len() as u64 + 2 {
         let mut traces = Pieces::new(FORKED, 50, 0);
         let mut scripts = Pieces::new(FORKED_SCRIPT, 1, failing);
@@ -171,6 +178,13 @@ fn each_fault_leaves_the_replies_before_it(rt: HostRuntime) {
             assert_eq!(rt; writer.text(), replied(failing - 1));
         }
     }
+    assert!(rt; wants <= WANTS);
+}
+
+/// Each byte that is written fails in turn.
+#[test]
+fn a_fault_of_the_writer_leaves_a_front(rt: HostRuntime) {
+    let mut wants = 0_u32;
     for most in 0..FORKED_REPLIES.len() {
         let mut traces = Pieces::new(FORKED, 50, 0);
         let mut scripts = Pieces::new(FORKED_SCRIPT, 5, 0);
