@@ -190,8 +190,9 @@ fn a_fault_of_the_writer_leaves_a_front(rt: HostRuntime) {
         let mut scripts = Pieces::new(FORKED_SCRIPT, 5, 0);
         let mut writer = Kept::new(3, most);
         let told = edit_stream(rt.alloc(), 4096, &mut traces, &mut scripts, &mut writer);
-        if told == Outcome::Memory || writer.text().find(b"refused").is_some() {
+        if told == Outcome::Memory || !FORKED_REPLIES.starts_with(writer.text()) {
             wants = wants.saturating_add(1);
+            assert!(rt; b"ok 4\nrefused E9\n".starts_with(writer.text()));
         } else {
             assert_eq!(rt; told, Outcome::WriteFault, "byte {most}");
             assert_eq!(rt; writer.text(), &FORKED_REPLIES[..most]);
