@@ -25,7 +25,7 @@ last_piece-append held (b ∷ xs) ys =
       | false ↦ last_piece-append (held ++ b ∷ []) xs ys
     ]
 
-false_unless : (v : Bool) → (v ≡ true → ⊥) → v ≡ false
+pub false_unless : (v : Bool) → (v ≡ true → ⊥) → v ≡ false
 false_unless true h = absurd (h refl)
 false_unless false h = refl
 

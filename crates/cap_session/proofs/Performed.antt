@@ -18,7 +18,7 @@ use Rattle.cap_session.specs.Edits.{edited}
 use Rattle.cap_session.specs.Performs.{edit_asked}
 
 -- An edit as a command is told by what was asked of the session.
-edit_commanded : (t : List Entry) (e : Edit) → commanded t (edit_asked e) ≡ edit_done (edited 1000000 t e)
+pub edit_commanded : (t : List Entry) (e : Edit) → commanded t (edit_asked e) ≡ edit_done (edited 1000000 t e)
 edit_commanded t (Insert position line) = refl
 edit_commanded t (Delete position) = refl
 edit_commanded t (Replace position line) = refl

@@ -10,6 +10,7 @@ use Rattle.cap_session.specs.Scripts.{Scripting, Replied, Broken, script_lines, 
 use Rattle.cap_session.specs.EditStreams.{Edits}
 use Rattle.cap_session.specs.declared.replies.Ended.TheVariants.{AtEnd, WriteFault}
 use Rattle.cap_session.proofs.Calls.{consumes_more, consumes_none}
+use Rattle.cap_session.proofs.Soon.{any_long}
 use Rattle.cap_session.proofs.Runs.{replied_none, replied_on, broken_on, is_long, is_short}
 use Rattle.cap_session.proofs.Joins.{cut, last_same, pieces_same, replied_same, broken_same}
 
@@ -75,10 +76,6 @@ goes_broken turns old now next w0 w1 w2 turn start s t piece went more read call
       answer = inl (omega arith, broken_same _ _ _ _ _ (pieces_same went.given piece) (broken_on _ _ _ _ _ _ _ went.replied (rw went.held at broke)));
     }
 
-any_long : (l : List ℕ) → 1056 < length l → line_if_any l ≡ l ∷ []
-any_long [] long = absurd (omega arith)
-any_long (b ∷ l) long = refl
-
 end_same : (g : List ℕ) → map cut (script_lines [] g ++ due_end (take 1057 (last_piece [] g))) ≡ map cut (lines g)
 end_same g =
     let before : List (List ℕ) = whole_lines [] g in
@@ -86,7 +83,7 @@ end_same g =
     elim (cases_lt 1056 (length last)) [
       | inl long ↦
           let past : 1056 < length (take 1057 last) = simp length-take (omega arith) in
-          rw (is_long last long, is_long (take 1057 last) past, any_long last long) (ap (map cut) (append-nil (before ++ last ∷ [])))
+          rw (is_long last long, is_long (take 1057 last) past, any_long last (omega arith)) (ap (map cut) (append-nil (before ++ last ∷ [])))
       | inr short ↦ rw (is_short last short, take_all 1057 last (omega arith), is_short last short) (ap (λ ls. map cut (ls ++ line_if_any last)) (append-nil before))
     ]
 

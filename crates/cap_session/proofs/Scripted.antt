@@ -4,13 +4,13 @@ use Rattle.std.specs.Prelude.{flat_map, codes, MatchBool, IsOk, Result, Ok, Err}
 use Rattle.std.proofs.lemmas.List.{append-nil}
 use Rattle.cap_trace.specs.Entry.{Entry}
 use Rattle.cap_session.specs.declared.edit.Edit.{Edit}
-use Rattle.cap_session.specs.declared.edit.Edit.TheVariants.{Insert, Delete, Replace}
 use Rattle.cap_session.specs.declared.refused.Refused.{Refused}
 use Rattle.cap_session.specs.Edits.{edited, trace_after, answer, after, answers}
 use Rattle.cap_session.specs.Commands.{Asked, first_word, after_word}
 use Rattle.cap_session.specs.Performs.{edit_asked}
-use Rattle.cap_session.specs.Replies.{edit_done, commanded, most_lines, refused_text}
+use Rattle.cap_session.specs.Replies.{edit_done, most_lines, refused_text}
 use Rattle.cap_session.specs.Scripts.{Tells, Commands, Answers}
+use Rattle.cap_session.proofs.Performed.{edit_commanded}
 use Rattle.cap_session.specs.ScriptLaws.{Asks, told_answer, ReportOrWant, ScriptReportsWhatEditsGive}
 
 -- the reply to a line that is neither too long nor skipped is that to its command
@@ -18,11 +18,6 @@ commands : (long skipped : Bool) (a b c : Type 0) → long ≡ false → skipped
 commands false false a b c short kept is = is
 commands true skipped a b c short kept is = absurd (cc)
 commands false true a b c short kept is = absurd (cc)
-
-edit_commanded : (t : List Entry) (e : Edit) → commanded t (edit_asked e) ≡ edit_done (edited most_lines t e)
-edit_commanded t (Insert position line) = refl
-edit_commanded t (Delete position) = refl
-edit_commanded t (Replace position line) = refl
 
 -- what an edit's reply says of whether memory was wanted
 abbrev Edited : List Entry → Result (List Entry) Refused → List ℕ → List Entry → Type 0

@@ -1,12 +1,9 @@
 -- How a line is cut at its first space.
-use Rattle.std.proofs.Common.{◌≡◌, ℕ, zero, suc, ◌+◌, ◌<◌, List, [], ◌∷◌, length, take, drop, get_or, refl, ap, add-one, arith, Bool, true, false}
+use Rattle.std.proofs.Common.{◌≡◌, ℕ, zero, suc, ◌+◌, ◌<◌, List, [], ◌∷◌, length, take, drop, get_or, refl, ap, add-one, arith, true, false}
 use Rattle.std.specs.Prelude.{◌==◌, Some, None}
 use Rattle.memchr.specs.Find.{IsFirstByte, is_byte}
 use Rattle.cap_session.specs.Commands.{first_word, after_word}
-
-false_unless : (v : Bool) → (v ≡ true → ⊥) → v ≡ false
-false_unless true h = absurd (h refl)
-false_unless false h = refl
+use Rattle.cap_session.proofs.Cuts.{false_unless}
 
 split_from : (line : List ℕ) (k : ℕ) → k < length line → ((j : ℕ) → j < k → (get_or line j 0 == 32) ≡ true → ⊥) → (get_or line k 0 == 32) ≡ true →
     (first_word line ≡ take k line) × (after_word line ≡ Some (drop (suc k) line))
