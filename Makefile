@@ -3,7 +3,8 @@
 #   make            proves every crate and leaves the program as ./capcheck
 #   make run        the same, and checks an example trace with it
 #   make test       the gate: the examples, worked traces and scripts, random ones beside a second reading of the rules, each
-#                   allocation refused in turn, and then every proof, test, stored run and wrong body from nothing
+#                   allocation refused in turn, the recorder and the annotator, and then every proof, test, stored run and
+#                   wrong body from nothing
 #   make bench      times the program, and reading alone, on traces of a million lines beside `wc -l`, and scripts beside a check
 #   make install    puts the program and its manual page under PREFIX (default /usr/local)
 
@@ -29,6 +30,8 @@ examples: capcheck
 	tests/talks ./capcheck
 	tests/memory ./capcheck
 	tests/compare ./capcheck
+	tests/recorder ./capcheck
+	tests/annotate ./capcheck
 
 test: examples
 	$(RT) ci

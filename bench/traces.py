@@ -120,7 +120,97 @@ def hostile(lines):
     return out
 
 
-TRACES = {make.__name__: make for make in (quiet, loud, wide, forms, crowd, hostile)}
+# The last descriptor that a process can have, and the last pid.
+LAST_FD = 1_048_575
+LAST_PID = 99_999
+
+
+def scattered(count, shift):
+    """As many descriptors, far from one another."""
+    step = LAST_FD // count
+    return [place * step + shift % step for place in range(count)]
+
+
+def pairs(lines):
+    """One process makes many descriptors, half as many as there are lines to be; then it forks and the child closes one, in
+    turn, with pids used again."""
+    out = ["100 @start()"]
+    out += [f"100 socket(0) RET {fd}" for fd in range(lines // 2)]
+    pair = 0
+    while len(out) < lines:
+        child = 1000 + pair % 90_000
+        out += [f"100 fork() RET {child}", f"{child} close({pair * 7 % (lines // 2)}) RET 0"]
+        pair += 1
+    return out[:lines]
+
+
+def spread(lines):
+    """As many processes as there can be; each makes ten descriptors or more, far from one another."""
+    each = -(-lines // LAST_PID)
+    return [f"{pid} socket(0) RET {fd}" for pid in range(1, LAST_PID + 1) for fd in scattered(each, 64 * pid)][:lines]
+
+
+def closes(lines):
+    """One process forks again and again, and each child closes ten descriptors far from one another."""
+    out = ["1 @start()"]
+    child = 2
+    while len(out) < lines:
+        out.append(f"1 fork() RET {child}")
+        out += [f"{child} close({fd}) RET 0" for fd in scattered(10, child)]
+        child = child + 1 if child < LAST_PID else 2
+    return out[:lines]
+
+
+def socketpairs(lines):
+    """One process forks again and again, and each child makes eighteen descriptors far from one another by nine calls."""
+    out = ["1 @start()"]
+    child = 2
+    while len(out) < lines:
+        out.append(f"1 fork() RET {child}")
+        fds = scattered(18, child)
+        out += [f"{child} socketpair(0) RET {a},{b}" for a, b in zip(fds[::2], fds[1::2])]
+        child = child + 1 if child < LAST_PID else 2
+    return out[:lines]
+
+
+def strangers(lines):
+    """As many processes as there can be, of which nothing is known before; each makes twenty descriptors or more far from one
+    another, by ten calls or more. No trace of so many lines was found that takes more memory."""
+    each = -(-lines // LAST_PID)
+    out = []
+    for pid in range(1, LAST_PID + 1):
+        fds = scattered(2 * each, pid)
+        out += [f"{pid} socketpair(0) RET {a},{b}" for a, b in zip(fds[::2], fds[1::2])]
+    return out[:lines]
+
+
+def execs(lines):
+    """One process makes many descriptors, half as many as there are lines to be, and then forks; the child closes one, executes
+    a program, closes those above a number, and another one, in turn. For profile 2."""
+    count = lines // 2
+    out = ["100 @start()"]
+    out += [f"100 socket({'SOCK_CLOEXEC' if fd % 3 == 0 else '0'}) RET {fd}" for fd in range(count)]
+    turn = 0
+    while len(out) < lines:
+        child = 1000 + turn % 90_000
+        fd = turn * 7919 % count
+        out += [
+            f"100 fork() RET {child}",
+            f"{child} close({fd}) RET 0",
+            f'{child} execve("/bin/sh") RET 0',
+            f"{child} closefrom({count - fd}) RET 0",
+            f"{child} close({fd // 2}) RET 0",
+            f'100 execve("/bin/sh") RET 0' if turn % 100 == 0 else f"100 close({fd}) RET 0",
+        ]
+        turn += 1
+    return out[:lines]
+
+
+TRACES = {
+    make.__name__: make
+    for make in (quiet, loud, wide, forms, crowd, hostile, pairs, spread, closes, socketpairs, strangers, execs)
+}
+
 
 
 def write(name, lines, path):

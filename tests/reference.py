@@ -1,9 +1,16 @@
+#!/usr/bin/env python3
 """The rules of capcheck once more, not made from the definitions that the proofs rest on, as plainly as Python
 allows. `tests/compare` holds the program against it: a proof ties the program to its definitions, and this ties the
 definitions to a second reading of docs/FORMAT.md, docs/RULES.md and docs/SCRIPTS.md.
+
+It runs as the program does: tests/reference.py check [FILE] [--start FILE] [--profile N], or edit FILE [SCRIPT] [--profile N].
 """
 
+import argparse
+import functools
 import re
+import sys
+from typing import NamedTuple
 
 RIGHTS = """READ WRITE SEEK MMAP MMAP_X CREATE FEXECVE FSYNC FTRUNCATE LOOKUP FCHDIR FCHFLAGS FCHMOD FCHOWN FCNTL FLOCK
 FPATHCONF FSCK FSTAT FSTATFS FUTIMES LINKAT_TARGET MKDIRAT MKFIFOAT MKNODAT RENAMEAT_SOURCE SYMLINKAT UNLINKAT ACCEPT BIND
@@ -50,8 +57,11 @@ def number(text, most, code):
     return int(text)
 
 
+DESCRIPTORS = 1_048_576
+
+
 def descriptor(text, code=4):
-    return number(text, 1_048_575, code)
+    return number(text, DESCRIPTORS - 1, code)
 
 
 def directory(text):
@@ -107,7 +117,7 @@ for name in """fstat fstatfs ftruncate fchmod fchown fchflags fchdir flock fpath
 NEEDS = {call: {right} for right, calls in ON_DESCRIPTOR.items() for call in calls.split()}
 NEEDS |= {call: set() for call in ("close", "dup", "cap_ioctls_limit", "cap_fcntls_limit")}
 
-FORMS = {call: [descriptor] for call in NEEDS}
+FORMS = {call: [descriptor] for call in list(NEEDS) + ["closefrom"]}
 BY_PATH = """execve access chdir chflags chmod chown lchown lstat mkdir mkfifo mknod readlink rmdir stat statfs truncate
 unlink""".split()
 FORMS |= {call: [path] for call in BY_PATH}
@@ -171,7 +181,7 @@ def arguments(name, words):
 
 # ---- the answer
 
-ZERO = "close execve fexecve cap_enter cap_rights_limit cap_ioctls_limit cap_fcntls_limit".split()
+ZERO = "close closefrom execve fexecve cap_enter cap_rights_limit cap_ioctls_limit cap_fcntls_limit".split()
 MAKES_ONE = "open openat accept accept4 dup socket kqueue shm_open mq_open fhopen".split()
 MAKES_TWO = "pipe pipe2 socketpair".split()
 COPIES_TO = ("F_DUP2FD", "F_DUP2FD_CLOEXEC")
@@ -231,6 +241,7 @@ def pieces(text):
     return [text[begin + 1 : end] for begin, end in ends] if text else []
 
 
+@functools.lru_cache(100_000)
 def read(line):
     """The pid, the name, the arguments and the answer, which a marker lacks."""
     if len(line) > 1024:
@@ -369,38 +380,116 @@ def rule(name, given):
     return kind, [(given[0], needs, needs if excuse is ... else excuse)]
 
 
-# ---- the processes
+# ---- what is known of a process
 
 UNKNOWN, CLOSED = "unknown", "closed"
+SET, CLEAR, UNSURE = "set", "clear", "unsure"
+
+
+class Held(NamedTuple):
+    """The cell of a descriptor that is open: its rights, and its close-on-exec flag."""
+
+    rights: frozenset
+    flag: str = UNSURE
+
+
+class Process:
+    """The cells of some descriptors, the cell of all others, and the mode. From `end` on the others are closed."""
+
+    def __init__(self, cells=(), others=UNKNOWN, mode="unsure", end=DESCRIPTORS):
+        self.cells, self.others, self.mode, self.end = dict(cells), others, mode, end
+
+    def copy(self):
+        return Process(self.cells, self.others, self.mode, self.end)
+
+    def cell(self, place):
+        return self.cells.get(place, CLOSED if place >= self.end else self.others)
+
+    def close_from(self, place):
+        self.cells = {other: cell for other, cell in self.cells.items() if other < place}
+        self.end = min(self.end, place)
+
+    def exec(self):
+        self.cells = {place: after_exec(cell) for place, cell in self.cells.items()}
+        self.others = after_exec(self.others)
+
+
+def after_exec(cell):
+    """The cell after an exec in profile 2."""
+    if isinstance(cell, Held):
+        return {SET: CLOSED, CLEAR: cell, UNSURE: UNKNOWN}[cell.flag]
+    return cell
+
+
+# ---- what a call makes of a cell
+
+
+def flag_of_new(name, given):
+    """The flag of a descriptor that isn't a copy of another one."""
+    word = {"open": "O_CLOEXEC", "openat": "O_CLOEXEC", "pipe2": "O_CLOEXEC", "socket": "SOCK_CLOEXEC", "socketpair": "SOCK_CLOEXEC"}
+    return SET if name in word and word[name] in given[-1] else CLEAR
+
+
+def flag_of_copy(name, given, old):
+    """The flag of a copy of a descriptor that has the flag `old`."""
+    how = given[1] if name == "fcntl" else name
+    if how in ("dup2",) + COPIES_TO and given[-1] == given[0]:
+        return UNSURE if how == "F_DUP2FD_CLOEXEC" else old
+    return SET if how.endswith("_CLOEXEC") else CLEAR
+
+
+def limited(cell, asked):
+    """A cell after a limit."""
+    if isinstance(cell, Held):
+        return Held(cell.rights & asked, cell.flag)
+    return Held(asked - {NEVER_LIMITED}, UNSURE)
+
+
+def narrowed(cell):
+    """A cell after a limit that isn't one of rights."""
+    return Held(cell.rights - {NEVER_LIMITED}, cell.flag) if isinstance(cell, Held) else UNKNOWN
+
+
+def with_flags(cell, words):
+    """A cell after F_SETFD."""
+    if set(words) - {"FD_CLOEXEC"}:
+        cell = narrowed(cell)
+    return Held(cell.rights, SET if "FD_CLOEXEC" in words else CLEAR) if isinstance(cell, Held) else cell
+
+
+# ---- the processes
 
 
 class Processes:
-    """What is known: of each process its cells, the cell of all others, and its mode."""
+    """What is known of each process, in a profile and from a start."""
 
-    def __init__(self):
-        self.known = {}
+    def __init__(self, profile=1, start=None):
+        self.profile = profile
+        self.known = {pid: process.copy() for pid, process in (start or {}).items()}
 
     def of(self, pid):
-        return self.known.setdefault(pid, ({}, UNKNOWN, "unsure"))
+        return self.known.setdefault(pid, Process())
 
     def cell(self, pid, place):
-        cells, others, _ = self.of(pid)
-        return cells.get(place, others)
+        return self.of(pid).cell(place)
 
     def put(self, pid, place, cell):
-        self.of(pid)[0][place] = cell
+        self.of(pid).cells[place] = cell
 
     def said(self, pid, name, given, told):
         """The findings of a line, each as its words."""
         if told is None:
             return []
         kind, checks = rule(name, given)
-        mode = self.of(pid)[2]
+        mode = self.of(pid).mode
         cells = [self.cell(pid, place) for place, _, _ in checks]
         if told == 94:
             return ["moderefusal"] if mode == "outside" or kind == "allowed" else []
         if told == 93:
-            held = [excuse is not None and isinstance(cell, frozenset) and excuse <= cell for (_, _, excuse), cell in zip(checks, cells)]
+            held = [
+                excuse is not None and isinstance(cell, Held) and excuse <= cell.rights
+                for (_, _, excuse), cell in zip(checks, cells)
+            ]
             return ["refusal"] if held and all(held) and (name not in AT_CALLS or mode == "outside") else []
         if isinstance(told, int):
             return []
@@ -408,26 +497,17 @@ class Processes:
         for (place, needs, _), cell in zip(checks, cells):
             if cell == CLOSED:
                 out.append(f"closed {place}")
-            elif cell != UNKNOWN and needs - cell:
+            elif cell != UNKNOWN and needs - cell.rights:
                 word = "expanded" if name == "cap_rights_limit" else "missing"
-                out.append(f"{word} {place} {rights_text(needs - cell)}")
+                out.append(f"{word} {place} {rights_text(needs - cell.rights)}")
         return out
-
-    def forked(self, pid, child):
-        if child not in (0, pid):
-            cells, others, mode = self.of(pid)
-            self.known[child] = (dict(cells), others, mode)
-
-    def copied(self, pid, place):
-        cell = self.cell(pid, place)
-        return UNKNOWN if cell == CLOSED else cell
 
     def follow(self, pid, name, given, told):
         """What is known after a line."""
         if name == "@start":
-            self.known[pid] = ({place: EVERYTHING for place in given[0]}, CLOSED, "outside")
+            self.known[pid] = Process({place: Held(EVERYTHING) for place in given[0]}, CLOSED, "outside")
         elif name == "@exit":
-            self.known[pid] = ({}, UNKNOWN, "unsure")
+            self.known[pid] = Process()
         elif name == "@foreign":
             self.put(pid, given[0], UNKNOWN)
         elif name == "close":
@@ -438,37 +518,56 @@ class Processes:
 
     def succeeded(self, pid, name, given, told):
         if name in ("fork", "vfork", "pdfork"):
-            self.forked(pid, told[0])
-            if name == "pdfork" and told[0] != 0:
-                self.put(pid, told[1], UNKNOWN)
-                self.put(told[0], told[1], UNKNOWN)
+            self.forked(pid, name, told)
         elif name in ("execve", "fexecve"):
-            self.known[pid] = ({}, UNKNOWN, self.of(pid)[2])
+            self.replaced(pid)
+        elif name == "closefrom":
+            if self.profile == 2:
+                self.of(pid).close_from(given[0])
         elif name == "cap_enter":
-            self.known[pid] = self.of(pid)[:2] + ("inside",)
+            self.of(pid).mode = "inside"
         elif name == "cap_rights_limit":
+            self.put(pid, given[0], limited(self.cell(pid, given[0]), given[1]))
+        elif name in ("cap_ioctls_limit", "cap_fcntls_limit"):
+            self.put(pid, given[0], narrowed(self.cell(pid, given[0])))
+        elif name == "fcntl" and given[1] == "F_SETFD":
+            self.put(pid, given[0], with_flags(self.cell(pid, given[0]), given[2]))
+        else:
+            self.made(pid, name, given, told)
+
+    def made(self, pid, name, given, told):
+        """The descriptors that a call made."""
+        if name in ("dup", "dup2") or (name == "fcntl" and given[1] in COPIES + COPIES_TO):
             cell = self.cell(pid, given[0])
-            limited = given[1] & cell if isinstance(cell, frozenset) else given[1] - {NEVER_LIMITED}
-            self.put(pid, given[0], limited)
-        elif name in ("cap_ioctls_limit", "cap_fcntls_limit") or (
-            name == "fcntl" and given[1] == "F_SETFD" and set(given[2]) - {"FD_CLOEXEC"}
-        ):
-            cell = self.cell(pid, given[0])
-            self.put(pid, given[0], cell - {NEVER_LIMITED} if isinstance(cell, frozenset) else UNKNOWN)
-        elif name in ("dup", "dup2") or (name == "fcntl" and given[1] in COPIES + COPIES_TO):
-            self.put(pid, told[0], self.copied(pid, given[0]))
+            self.put(pid, told[0], Held(cell.rights, flag_of_copy(name, given, cell.flag)) if isinstance(cell, Held) else UNKNOWN)
         elif name == "openat" and given[0] != "AT_FDCWD" and given[1] and given[1][0] != "/":
-            self.put(pid, told[0], self.copied(pid, given[0]))
+            cell = self.cell(pid, given[0])
+            self.put(pid, told[0], Held(cell.rights, flag_of_new(name, given)) if isinstance(cell, Held) else UNKNOWN)
         elif name in ("open", "socket") or name in MAKES_TWO or (name == "openat" and given[0] == "AT_FDCWD" and given[1]):
             for place in told:
-                self.put(pid, place, EVERYTHING)
+                self.put(pid, place, Held(EVERYTHING, flag_of_new(name, given)))
         elif name in MAKES_ONE:
             self.put(pid, told[0], UNKNOWN)
 
+    def forked(self, pid, name, told):
+        child = told[0]
+        if child not in (0, pid):
+            self.known[child] = self.of(pid).copy()
+        if name == "pdfork" and child != 0:
+            self.put(pid, told[1], UNKNOWN)
+            self.put(child, told[1], UNKNOWN)
 
-def findings(trace):
+    def replaced(self, pid):
+        """After an exec."""
+        if self.profile == 2:
+            self.of(pid).exec()
+        else:
+            self.known[pid] = Process(mode=self.of(pid).mode)
+
+
+def findings(trace, profile=1, start=None):
     """The findings of a trace, each with its position."""
-    processes, found = Processes(), []
+    processes, found = Processes(profile, start), []
     for at, line in enumerate(trace, 1):
         pid, name, given, told = read(line)
         found += [(at, f"{at} {pid} {name} {words}\n") for words in processes.said(pid, name, given, told)]
@@ -510,12 +609,56 @@ def load(text):
     return trace, None
 
 
-def check(text):
-    """What the program writes for a trace, and its exit status."""
-    trace, refusal = load(text)
+# ---- starts
+
+MODES = {"in": "inside", "out": "outside", "unsure": "unsure"}
+
+
+def start_cell(word):
+    return word if word in (UNKNOWN, CLOSED) else Held(rights(word))
+
+
+def start_line(line, above):
+    """A process of a start, with its pid, which has to be above another one."""
+    if len(line) > 1024:
+        raise Refused(1)
+    words = line.split(" ")
+    pid = number(words[0], 99_999, 3)
+    if pid <= above:
+        raise Refused(3)
+    if len(words) < 2 or words[1] not in MODES or len(words) < 3:
+        raise Refused(4)
+    others, cells, last = start_cell(words[2]), {}, -1
+    for word in words[3:]:
+        place, equals, cell = word.partition("=")
+        if not equals or descriptor(place) <= last:
+            raise Refused(4)
+        last = int(place)
+        cells[last] = start_cell(cell)
+    return pid, Process(cells, others, MODES[words[1]])
+
+
+def load_start(text):
+    """The processes of a start up to the first line that is refused, and that refusal."""
+    start, above = {}, 0
+    for at, line in enumerate(lines_of(text), 1):
+        if len(line) <= 1024 and is_skipped(line):
+            continue
+        try:
+            above, process = start_line(line, above)
+        except Refused as fault:
+            return start, f"refused E{fault.args[0]} start line {at}\n"
+        start[above] = process
+    return start, None
+
+
+def check(text, profile=1, start=""):
+    """What the program writes for a trace, and its exit status. The start is a text."""
+    known, refusal = load_start(start)
+    trace, refusal = (None, refusal) if refusal else load(text)
     if refusal:
         return refusal, 2
-    found = findings(trace)
+    found = findings(trace, profile, known)
     return report(found), 1 if found else 0
 
 
@@ -524,19 +667,19 @@ def check(text):
 NUMBER = "(0|[1-9][0-9]{0,18})"
 
 
-def reply(trace, line):
+def reply(trace, line, profile):
     """The reply to a line of a script. The trace is a list, which edits change."""
     if len(line) > 1056:
         raise Refused(1)
     if line == "count":
         return f"{len(trace)}\n"
     if line == "report":
-        return report(findings(trace))
+        return report(findings(trace, profile))
     if words := re.fullmatch(f"report {NUMBER} {NUMBER}", line):
         first, last = int(words[1]), int(words[2])
         if not 1 <= first <= last <= len(trace):
             raise Refused(7)
-        return report([(at, told) for at, told in findings(trace) if first <= at <= last])
+        return report([(at, told) for at, told in findings(trace, profile) if first <= at <= last])
     words = re.fullmatch(f"(show|delete) {NUMBER}", line) or re.fullmatch(f"(insert|replace) {NUMBER} (.*)", line)
     if not words:
         raise Refused(10)
@@ -555,7 +698,7 @@ def reply(trace, line):
     return f"ok {len(trace)}\n"
 
 
-def replies(text, script):
+def replies(text, script, profile=1):
     """What the program writes for a trace and a script, and its exit status."""
     trace, refusal = load(text)
     if refusal:
@@ -565,7 +708,43 @@ def replies(text, script):
         if len(line) <= 1056 and is_skipped(line):
             continue
         try:
-            out.append(reply(trace, line))
+            out.append(reply(trace, line, profile))
         except Refused as fault:
             out.append(f"refused E{fault.args[0]}\n")
-    return "".join(out), 1 if findings(trace) else 0
+    return "".join(out), 1 if findings(trace, profile) else 0
+
+
+# ---- the command line
+
+
+def text_of(name):
+    """The text of a file, or of standard input where there is no name."""
+    if name is None:
+        return sys.stdin.buffer.read().decode("latin1")
+    with open(name, "rb") as file:
+        return file.read().decode("latin1")
+
+
+def main():
+    parser = argparse.ArgumentParser(description="a second reading of the rules of capcheck")
+    commands = parser.add_subparsers(dest="command", required=True)
+    plain = commands.add_parser("check")
+    plain.add_argument("trace", nargs="?")
+    plain.add_argument("--start")
+    edit = commands.add_parser("edit")
+    edit.add_argument("trace")
+    edit.add_argument("script", nargs="?")
+    for command in (plain, edit):
+        command.add_argument("--profile", type=int, choices=(1, 2), default=1)
+    words = parser.parse_args()
+    if words.command == "check":
+        start = text_of(words.start) if words.start is not None else ""
+        out, status = check(text_of(words.trace), words.profile, start)
+    else:
+        out, status = replies(text_of(words.trace), text_of(words.script), words.profile)
+    sys.stdout.buffer.write(out.encode("latin1"))
+    sys.exit(status)
+
+
+if __name__ == "__main__":
+    main()

@@ -4,18 +4,18 @@ use Rattle.std.proofs.Math.Path.{fun_ext}
 use Rattle.cap_machine.specs.declared.cell.Cell.{Cell}
 use Rattle.cap_machine.specs.declared.cell.Mode.{Mode}
 use Rattle.std.proofs.lemmas.List.{reverse-append, length-reverse, append-nil, map-append}
-use Rattle.cap_trace.specs.Entry.{Entry}
+use Rattle.cap_machine.specs.declared.step.Step.{Step}
 use Rattle.cap_machine.specs.declared.verdict.Found.{Found}
 use Rattle.cap_machine.specs.declared.verdict.Finding.{Finding}
 use Rattle.cap_machine.specs.State.{State}
 use Rattle.cap_machine.specs.History.{after, ended}
-use Rattle.cap_machine.specs.Table.{line_after}
+use Rattle.cap_machine.specs.Table.{step_after}
 use Rattle.cap_machine.specs.Check.{findings, check, said, found_at}
 use Rattle.cap_machine.specs.Laws.{later, EndsInTurn, ChecksInTurn}
 
-pub after-append : (s : State) (u t : List Entry) → after s (u ++ t) ≡ after (after s t) u
+pub after-append : (s : State) (u t : List Step) → after s (u ++ t) ≡ after (after s t) u
 after-append s [] t = refl
-after-append s (l ∷ u) t = ap (line_after l) (after-append s u t)
+after-append s (l ∷ u) t = ap (step_after l) (after-append s u t)
 
 pub ends_in_turn : EndsInTurn
 ends_in_turn s t u = ap (after s) (reverse-append t u) ∙ after-append s (reverse u) (reverse t)
@@ -25,7 +25,7 @@ later-at : (n i : ℕ) (xs : List Finding) → map (later n) (map (found_at i) x
 later-at n i [] = refl
 later-at n i (x ∷ xs) = ap (λ r. found_at (n + i) x ∷ r) (later-at n i xs)
 
-pub findings-append : (s : State) (u t : List Entry) → findings s (u ++ t) ≡ findings s t ++ map (later (length t)) (findings (after s t) u)
+pub findings-append : (s : State) (u t : List Step) → findings s (u ++ t) ≡ findings s t ++ map (later (length t)) (findings (after s t) u)
 findings-append s [] t = sym (append-nil (findings s t))
 findings-append s (l ∷ u) t =
     let here : ℕ → State → List Found = λ i state. map (found_at i) (said l state) in
@@ -42,11 +42,11 @@ checks_in_turn s t u =
     ap (findings s) (reverse-append t u) ∙ findings-append s (reverse u) (reverse t)
     ∙ ap (λ n. check s t ++ map (later n) (check (ended s t) u)) (length-reverse t)
 
--- one more line
-pub ends_more : (s : State) (t : List Entry) (l : Entry) → ended s (t ++ l ∷ []) ≡ line_after l (ended s t)
+-- one more step
+pub ends_more : (s : State) (t : List Step) (l : Step) → ended s (t ++ l ∷ []) ≡ step_after l (ended s t)
 ends_more s t l = ends_in_turn s t (l ∷ [])
 
-pub checks_more : (s : State) (t : List Entry) (l : Entry) → check s (t ++ l ∷ []) ≡ check s t ++ map (found_at (length t + 1)) (said l (ended s t))
+pub checks_more : (s : State) (t : List Step) (l : Step) → check s (t ++ l ∷ []) ≡ check s t ++ map (found_at (length t + 1)) (said l (ended s t))
 checks_more s t l = ap (findings s) (reverse-append t (l ∷ [])) ∙ ap (λ n. check s t ++ map (found_at (n + 1)) (said l (ended s t))) (length-reverse t)
 
 -- two states with the same cells and modes

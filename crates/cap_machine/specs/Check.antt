@@ -1,6 +1,6 @@
--- What is found in a trace: of each line, with the state that stands before it.
+-- What is found in a trace: of each step, with the state that stands before it.
 use Rattle.std.specs.Prelude.{ℕ, ◌+◌, List, [], ◌∷◌, ◌++◌, length, map, reverse}
-use Rattle.cap_trace.specs.Entry.{Entry}
+use Rattle.cap_machine.specs.declared.step.Step.{Step}
 use Rattle.cap_machine.specs.declared.rule.Check.{Check}
 use Rattle.cap_machine.specs.declared.rule.Demand.{Demand}
 use Rattle.cap_machine.specs.declared.verdict.Finding.{Finding}
@@ -14,19 +14,19 @@ use Rattle.cap_machine.specs.Judge.{listed, judged}
 abbrev pub said_of : Demand → ℕ → State → List Finding
 said_of d p s = judged d (s.mode p) (map (λ (check : Check). s.cell p check.fd) (listed d.checks))
 
--- what is said of a line in a state
-abbrev pub said : Entry → State → List Finding
-said line s = said_of (demand line) line.pid s
+-- what is said of a step in a state
+abbrev pub said : Step → State → List Finding
+said step s = said_of (demand step.line) step.line.pid s
 
 -- a finding, and the position of its line
 abbrev pub found_at : ℕ → Finding → Found
 found_at position finding = record { at = position; finding = finding }
 
--- the findings of a history, its newest line first; lines are numbered from 1
-abbrev pub findings : State → List Entry → List Found
+-- the findings of a history, its newest step first; steps are numbered from 1
+abbrev pub findings : State → List Step → List Found
 findings s [] = []
-findings s (line ∷ history) = findings s history ++ map (found_at (length history + 1)) (said line (after s history))
+findings s (step ∷ history) = findings s history ++ map (found_at (length history + 1)) (said step (after s history))
 
--- the findings of a trace, its lines in their order
-abbrev pub check : State → List Entry → List Found
+-- the findings of a trace, its steps in their order
+abbrev pub check : State → List Step → List Found
 check s trace = findings s (reverse trace)

@@ -2,20 +2,23 @@
 -- the text of the findings. It keeps no line.
 use Rattle.std.specs.Prelude.{◌≡◌, ℕ, List, length, flat_map}
 use Rattle.cap_trace.specs.Entry.{Entry}
+use Rattle.cap_machine.specs.declared.cell.Profile.{Profile}
 use Rattle.cap_machine.specs.declared.checker.Checker.{Checker}
+use Rattle.cap_machine.specs.Steps.{steps}
 use Rattle.cap_machine.specs.State.{State}
 use Rattle.cap_machine.specs.History.{ended}
 use Rattle.cap_machine.specs.Check.{check}
-use Rattle.cap_machine.specs.Report.{told}
+use Rattle.cap_machine.specs.Report.{report_line}
 use Rattle.cap_machine.specs.Table.{Keeps}
 
 -- how many lines it was given
 abbrev pub lines_of : Checker → ℕ
 lines_of checker = checker.lines
 
--- the checker was given this trace, from this start
-pub record HasChecked (checker : Checker) (s : State) (trace : List Entry) : Type 0 where
-  pub state : Keeps checker.table (ended s trace)
+-- the checker was given the lines of this trace in this profile, from this start
+pub record HasChecked (checker : Checker) (profile : Profile) (s : State) (trace : List Entry) : Type 0 where
+  pub in_profile : checker.profile ≡ profile
+  pub state : Keeps checker.table (ended s (steps profile trace))
   pub lines : lines_of checker ≡ length trace
-  pub findings : checker.findings ≡ length (check s trace)
-  pub text : checker.text.items ≡ flat_map (told trace) (check s trace)
+  pub findings : checker.findings ≡ length (check s (steps profile trace))
+  pub text : checker.text.items ≡ flat_map (report_line (steps profile trace)) (check s (steps profile trace))

@@ -1,7 +1,7 @@
--- The cell of one descriptor and the mode of one process after a history, its newest line first: one walks back to the last
--- line that touched it. A line that takes the cell from another sends one on from there.
+-- The cell of one descriptor and the mode of one process after a history, its newest step first: one walks back to the last
+-- step that touched it. A step that takes the cell from another sends one on from there.
 use Rattle.std.specs.Prelude.{ℕ, List, [], ◌∷◌, reverse}
-use Rattle.cap_trace.specs.Entry.{Entry}
+use Rattle.cap_machine.specs.declared.step.Step.{Step}
 use Rattle.cap_machine.specs.declared.cell.Cell.{Cell}
 use Rattle.cap_machine.specs.declared.cell.Mode.{Mode}
 use Rattle.cap_machine.specs.State.{State}
@@ -19,18 +19,18 @@ turned stays before p = before p
 turned (turns m) before p = m
 turned (follows q) before p = before q
 
-abbrev pub cell_after : State → List Entry → ℕ → ℕ → Cell
+abbrev pub cell_after : State → List Step → ℕ → ℕ → Cell
 cell_after s [] p f = s.cell p f
-cell_after s (line ∷ history) p f = touched (touch line p f) (cell_after s history) p f
+cell_after s (step ∷ history) p f = touched (touch step p f) (cell_after s history) p f
 
-abbrev pub mode_after : State → List Entry → ℕ → Mode
+abbrev pub mode_after : State → List Step → ℕ → Mode
 mode_after s [] p = s.mode p
-mode_after s (line ∷ history) p = turned (turn line p) (mode_after s history) p
+mode_after s (step ∷ history) p = turned (turn step p) (mode_after s history) p
 
 -- both, as a state
-abbrev pub after : State → List Entry → State
+abbrev pub after : State → List Step → State
 after s history = record { cell = cell_after s history; mode = mode_after s history }
 
--- the state after a trace, its lines in their order
-abbrev pub ended : State → List Entry → State
+-- the state after a trace, its steps in their order
+abbrev pub ended : State → List Step → State
 ended s trace = after s (reverse trace)

@@ -1,5 +1,5 @@
 -- What is said of a line, of the mode and the cells that stand before it (capsicum(4), cap_enter(2), cap_rights_limit(2)).
-use Rattle.std.specs.Prelude.{ℕ, ◌&&◌, ◌||◌, not, Bool, true, false, if◌then◌else◌, List, [], ◌∷◌, ◌++◌, Option, Some, option_to_list}
+use Rattle.std.specs.Prelude.{ℕ, ◌&&◌, ◌||◌, not, Bool, true, false, if◌then◌else◌, List, [], ◌∷◌, ◌++◌, Option, Some}
 use Rattle.cap_rights.specs.Rights.{has_all, minus}
 use Rattle.cap_machine.specs.declared.cell.Cell.{Cell}
 use Rattle.cap_machine.specs.declared.cell.Cell.TheVariants.{Unknown, Closed, Held}
@@ -17,7 +17,6 @@ use Rattle.cap_machine.specs.declared.rule.Checks.TheVariants.{Nothing, One, Two
 use Rattle.cap_machine.specs.declared.rule.Demand.{Demand}
 use Rattle.cap_machine.specs.declared.verdict.Finding.{Finding}
 use Rattle.cap_machine.specs.declared.verdict.Finding.TheVariants as say
-use Rattle.cap_machine.specs.declared.verdict.Verdict.{Verdict}
 
 -- the checks, in order
 abbrev pub listed : Checks → List Check
@@ -50,7 +49,7 @@ shortfall Expanded f lacking = say.Expanded f lacking
 abbrev pub fault : Word → Check → Cell → List Finding
 fault word check Unknown = []
 fault word check Closed = say.Closed check.fd ∷ []
-fault word check (Held held) = if has_all held check.needs then [] else shortfall word check.fd (minus check.needs held) ∷ []
+fault word check (Held held flag) = if has_all held check.needs then [] else shortfall word check.fd (minus check.needs held) ∷ []
 
 -- the same of each check, with its cell
 abbrev pub faults : Word → List Check → List Cell → List Finding
@@ -59,7 +58,7 @@ faults word _ _ = []
 
 -- rights that make a refusal wrongful are held
 abbrev pub is_excused : Option ℕ → Cell → Bool
-is_excused (Some excuse) (Held held) = has_all held excuse
+is_excused (Some excuse) (Held held flag) = has_all held excuse
 is_excused _ _ = false
 
 abbrev pub all_excused : List Check → List Cell → Bool
@@ -71,12 +70,16 @@ abbrev pub has_check : Checks → Bool
 has_check Nothing = false
 has_check _ = true
 
+-- capability mode forbids a call of this class that succeeded
+abbrev pub forbidden : Class → Mode → List Finding
+forbidden class m = if is_forbidden class && is_inside m then say.Forbidden ∷ [] else []
+
 -- by the kind of answer:
 -- a call that succeeded was forbidden in capability mode, or lacked rights;
--- want of rights was told where they were held, which of a call at a directory is sure only outside capability mode;
--- capability mode was told outside it, or of a call that it allows
+-- a call was refused for lack of rights that were held, which of a call at a directory is sure only outside capability mode;
+-- a call was refused for capability mode outside it, or one that capability mode allows
 abbrev pub judged_by : Reply → Demand → Mode → List Cell → List Finding
-judged_by Success d m cells = (if is_forbidden d.class && is_inside m then say.Forbidden ∷ [] else []) ++ faults d.word (listed d.checks) cells
+judged_by Success d m cells = forbidden d.class m ++ faults d.word (listed d.checks) cells
 judged_by NotCapable d m cells = if has_check d.checks && (all_excused (listed d.checks) cells && (not d.at || is_outside m)) then say.Refusal ∷ [] else []
 judged_by NotPermitted d m cells = if is_outside m || is_allowed d.class then say.ModeRefusal ∷ [] else []
 judged_by Other d m cells = []
@@ -84,7 +87,3 @@ judged_by Other d m cells = []
 -- what is said of a call in this mode, with the cell of each of its checks
 abbrev pub judged : Demand → Mode → List Cell → List Finding
 judged d m cells = judged_by d.reply d m cells
-
--- a verdict's findings, in order
-abbrev pub findings_in : Verdict → List Finding
-findings_in verdict = option_to_list verdict.first ++ (option_to_list verdict.second ++ option_to_list verdict.third)

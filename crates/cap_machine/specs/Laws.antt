@@ -1,6 +1,6 @@
 -- Laws of a trace that follows another.
 use Rattle.std.specs.Prelude.{◌≡◌, ℕ, ◌+◌, List, ◌++◌, length, map}
-use Rattle.cap_trace.specs.Entry.{Entry}
+use Rattle.cap_machine.specs.declared.step.Step.{Step}
 use Rattle.cap_machine.specs.declared.verdict.Found.{Found}
 use Rattle.cap_machine.specs.State.{State}
 use Rattle.cap_machine.specs.History.{ended}
@@ -12,8 +12,8 @@ later n found = record { at = n + found.at; finding = found.finding }
 
 -- the state after t followed by u is that after u, from the state after t
 abbrev pub EndsInTurn : Type 0
-EndsInTurn = (s : State) (t u : List Entry) → ended s (t ++ u) ≡ ended (ended s t) u
+EndsInTurn = (s : State) (t u : List Step) → ended s (t ++ u) ≡ ended (ended s t) u
 
 -- the findings of t followed by u are those of t, and those of u from the state after t
 abbrev pub ChecksInTurn : Type 0
-ChecksInTurn = (s : State) (t u : List Entry) → check s (t ++ u) ≡ check s t ++ map (later (length t)) (check (ended s t) u)
+ChecksInTurn = (s : State) (t u : List Step) → check s (t ++ u) ≡ check s t ++ map (later (length t)) (check (ended s t) u)

@@ -1,7 +1,8 @@
 pub mod State
 pub mod Op
+pub mod Steps
 pub mod Flags
-pub mod Parts
+pub mod Places
 pub mod PlaceSeen
 pub mod Touch
 pub mod History
@@ -11,7 +12,11 @@ pub mod Judge
 pub mod Check
 pub mod Report
 pub mod Laws
+pub mod ProfileLaws
+pub mod Composed
+pub mod Named
 pub mod Effect
 pub mod Cells
+pub mod Index
 pub mod Table
 pub mod Checked

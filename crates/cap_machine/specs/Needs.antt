@@ -6,7 +6,7 @@ use Rattle.std.specs.Str.{bytes_eq}
 use Rattle.cap_rights.specs.Names.{table}
 use Rattle.cap_rights.specs.Rights.{none, join}
 use Rattle.cap_trace.specs.declared.calls.FdCall.{FdCall}
-use Rattle.cap_trace.specs.declared.calls.FdCall.TheVariants.{Read, Readv, Recvfrom, Recvmsg, Pread, Preadv, Write, Writev, Pwrite, Pwritev, Lseek, Fstat, Fstatfs, Fsync, Fdatasync, Ftruncate, Fchmod, Fchown, Fchflags, Fchdir, Flock, Fpathconf, Futimes, Futimens, Ioctl, Accept, Bind, Connect, Listen, Shutdown, Getpeername, Getsockname, Getsockopt, Setsockopt, Fexecve, Close, Dup, CapIoctlsLimit, CapFcntlsLimit}
+use Rattle.cap_trace.specs.declared.calls.FdCall.TheVariants.{Read, Readv, Recvfrom, Recvmsg, Pread, Preadv, Write, Writev, Pwrite, Pwritev, Lseek, Fstat, Fstatfs, Fsync, Fdatasync, Ftruncate, Fchmod, Fchown, Fchflags, Fchdir, Flock, Fpathconf, Futimes, Futimens, Ioctl, Accept, Bind, Connect, Listen, Shutdown, Getpeername, Getsockname, Getsockopt, Setsockopt, Fexecve, Close, Closefrom, Dup, CapIoctlsLimit, CapFcntlsLimit}
 use Rattle.cap_trace.specs.declared.calls.AtCall.{AtCall}
 use Rattle.cap_trace.specs.declared.calls.AtCall.TheVariants.{Mkdirat, Mkfifoat, Mknodat, Readlinkat, Futimesat}
 use Rattle.cap_trace.specs.declared.calls.AtFlagsCall.{AtFlagsCall}
@@ -56,6 +56,7 @@ fd_needs Getsockopt = named (codes "CAP_GETSOCKOPT")
 fd_needs Setsockopt = named (codes "CAP_SETSOCKOPT")
 fd_needs Fexecve = named (codes "CAP_FEXECVE")
 fd_needs Close = none
+fd_needs Closefrom = none
 fd_needs Dup = none
 fd_needs CapIoctlsLimit = none
 fd_needs CapFcntlsLimit = none

@@ -9,7 +9,7 @@ use Rattle.cap_trace.specs.declared.line.Call.TheVariants as calls
 use Rattle.cap_trace.specs.declared.line.Answer.{Answer}
 use Rattle.cap_trace.specs.declared.line.Answer.TheVariants as answers
 use Rattle.cap_trace.specs.declared.calls.FdCall.{FdCall}
-use Rattle.cap_trace.specs.declared.calls.FdCall.TheVariants.{Read, Readv, Pread, Preadv, Write, Writev, Pwrite, Pwritev, Lseek, Fstat, Fsync, Ftruncate, Close, Dup}
+use Rattle.cap_trace.specs.declared.calls.FdCall.TheVariants.{Read, Readv, Pread, Preadv, Write, Writev, Pwrite, Pwritev, Lseek, Fstat, Fsync, Ftruncate, Close, Closefrom, Dup}
 use Rattle.cap_trace.specs.declared.calls.BareCall.{BareCall}
 use Rattle.cap_trace.specs.declared.calls.BareCall.TheVariants.{Fork, CapEnter}
 use Rattle.cap_trace.specs.Entry.{Entry}
@@ -23,7 +23,7 @@ use Rattle.cap_machine.specs.declared.rule.Checks.{Checks}
 use Rattle.cap_machine.specs.declared.rule.Checks.TheVariants.{Nothing, One, Two}
 use Rattle.cap_machine.specs.declared.rule.Demand.{Demand}
 use Rattle.cap_machine.specs.Flags.{all_known}
-use Rattle.cap_machine.specs.Parts.{Part, part, is_empty, is_global, below}
+use Rattle.cap_machine.specs.Places.{Place, place, is_empty, is_global, below}
 use Rattle.cap_machine.specs.Needs.{fd_needs, fd_excuse, send_needs, send_to_needs, accept_needs, fcntl_needs, mmap_needs, mmap_excuse, at_needs, at_flags_needs, symlink_needs, rename_from_needs, rename_to_needs, link_from_needs, link_to_needs, plain_flags, plain_at_flags}
 
 -- intro(2), errno(2): 93 is ENOTCAPABLE, 94 is ECAPMODE
@@ -61,31 +61,36 @@ fd_class _ = Either
 abbrev pub on_none : Class → Answer → Demand
 on_none class answer = record { class = class; checks = Nothing; reply = reply answer; at = false; word = Missing }
 
+-- closefrom(2) needs no descriptor to be open
+abbrev pub fd_demand : FdCall → ℕ → Answer → Demand
+fd_demand Closefrom f answer = on_none Either answer
+fd_demand call f answer = on_one (fd_class call) (check_of f (fd_needs call) (fd_excuse call)) answer
+
 abbrev pub fcntl_demand : Option ℕ → ℕ → Answer → Demand
 fcntl_demand None f answer = on_none Either answer
 fcntl_demand (Some needs) f answer = on_one Either (check_of f needs None) answer
 
--- a limit needs the rights that it asks for, since it can only take away; and what it gives beyond is told by a word of its own.
+-- a limit needs the rights that it asks for, since it can only take away; what it gives beyond them has a word of its own.
 -- ALL is refused rightly to a descriptor that was limited to all 63 by name
 abbrev pub limit_demand : ℕ → ℕ → Answer → Demand
 limit_demand f asked answer = record { class = Allowed; checks = One (check_of f (without_full asked) (Some asked)); reply = reply answer; at = false; word = Expanded }
 
 -- ---- a call at a directory
 
-abbrev pub has_global : List Part → Bool
-has_global parts = list_any (λ (x : Part). is_global x.dir x.path) parts
+abbrev pub has_global : List Place → Bool
+has_global places = list_any (λ (x : Place). is_global x.dir x.path) places
 
-abbrev pub has_empty : List Part → Bool
-has_empty parts = list_any (λ (x : Part). is_empty x.path) parts
+abbrev pub has_empty : List Place → Bool
+has_empty places = list_any (λ (x : Place). is_empty x.path) places
 
 -- errno 93 may come from a path that leaves its directory. It is judged where the directories were never limited, and not where an
 -- empty path or flags of unknown meaning stand there
-abbrev pub at_excuse : Bool → List Part → Option ℕ
-at_excuse is_plain parts = if is_plain && not (has_empty parts) then Some all else None
+abbrev pub at_excuse : Bool → List Place → Option ℕ
+at_excuse is_plain places = if is_plain && not (has_empty places) then Some all else None
 
 -- the directory of a relative path is checked
-abbrev pub part_check : Option ℕ → Part → Option Check
-part_check excuse x = elim (below x.dir x.path) [ None ↦ None | Some f ↦ Some (check_of f x.needs excuse) ]
+abbrev pub place_check : Option ℕ → Place → Option Check
+place_check excuse x = elim (below x.dir x.path) [ None ↦ None | Some f ↦ Some (check_of f x.needs excuse) ]
 
 abbrev pub both : Option Check → Option Check → Checks
 both None None = Nothing
@@ -93,15 +98,15 @@ both (Some a) None = One a
 both None (Some b) = One b
 both (Some a) (Some b) = Two a b
 
-abbrev pub part_checks : Option ℕ → List Part → Checks
-part_checks excuse [] = Nothing
-part_checks excuse (a ∷ []) = both (part_check excuse a) None
-part_checks excuse (a ∷ b ∷ more) = both (part_check excuse a) (part_check excuse b)
+abbrev pub place_checks : Option ℕ → List Place → Checks
+place_checks excuse [] = Nothing
+place_checks excuse (a ∷ []) = both (place_check excuse a) None
+place_checks excuse (a ∷ b ∷ more) = both (place_check excuse a) (place_check excuse b)
 
-abbrev pub at_demand : Bool → List Part → Answer → Demand
-at_demand is_plain parts answer = record {
-  class = if has_global parts then Forbidden else Either;
-  checks = part_checks (at_excuse is_plain parts) parts;
+abbrev pub at_demand : Bool → List Place → Answer → Demand
+at_demand is_plain places answer = record {
+  class = if has_global places then Forbidden else Either;
+  checks = place_checks (at_excuse is_plain places) places;
   reply = reply answer;
   at = true;
   word = Missing;
@@ -115,7 +120,7 @@ bare_class CapEnter = Allowed
 bare_class _ = Either
 
 abbrev pub call_demand : Call → Answer → Demand
-call_demand (calls.OnFd call f) answer = on_one (fd_class call) (check_of f (fd_needs call) (fd_excuse call)) answer
+call_demand (calls.OnFd call f) answer = fd_demand call f answer
 call_demand (calls.Send call f) answer = on_one Either (check_of f send_needs (Some send_needs)) answer
 call_demand (calls.SendTo call f) answer = on_one Either (check_of f send_to_needs (Some send_to_needs)) answer
 call_demand (calls.Accept4 f flags) answer = on_one Either (check_of f accept_needs (Some accept_needs)) answer
@@ -128,11 +133,11 @@ call_demand (calls.RightsLimit f asked) answer = limit_demand f asked answer
 call_demand (calls.Open path flags) answer = on_none Forbidden answer
 call_demand (calls.OnPath call path) answer = on_none Forbidden answer
 call_demand (calls.OnPaths call path other) answer = on_none Forbidden answer
-call_demand (calls.At call dir path) answer = at_demand true (part dir path (at_needs call) ∷ []) answer
-call_demand (calls.AtFlags call dir path flags) answer = at_demand (all_known (plain_flags call) flags) (part dir path (at_flags_needs call flags) ∷ []) answer
-call_demand (calls.SymlinkAt target dir path) answer = at_demand true (part dir path symlink_needs ∷ []) answer
-call_demand (calls.RenameAt dir path to_dir to_path) answer = at_demand true (part dir path rename_from_needs ∷ part to_dir to_path rename_to_needs ∷ []) answer
-call_demand (calls.LinkAt dir path to_dir to_path flags) answer = at_demand (all_known plain_at_flags flags) (part dir path link_from_needs ∷ part to_dir to_path link_to_needs ∷ []) answer
+call_demand (calls.At call dir path) answer = at_demand true (place dir path (at_needs call) ∷ []) answer
+call_demand (calls.AtFlags call dir path flags) answer = at_demand (all_known (plain_flags call) flags) (place dir path (at_flags_needs call flags) ∷ []) answer
+call_demand (calls.SymlinkAt target dir path) answer = at_demand true (place dir path symlink_needs ∷ []) answer
+call_demand (calls.RenameAt dir path to_dir to_path) answer = at_demand true (place dir path rename_from_needs ∷ place to_dir to_path rename_to_needs ∷ []) answer
+call_demand (calls.LinkAt dir path to_dir to_path flags) answer = at_demand (all_known plain_at_flags flags) (place dir path link_from_needs ∷ place to_dir to_path link_to_needs ∷ []) answer
 call_demand (calls.OnFlags call flags) answer = on_none Either answer
 call_demand (calls.Bare call) answer = on_none (bare_class call) answer
 call_demand (calls.Other name args) answer = on_none Either answer

@@ -1,42 +1,63 @@
 -- The state that a table of processes keeps, by look-up.
-use Rattle.std.specs.Prelude.{◌≡◌, ℕ, ◌==◌, ◌&&◌, if◌then◌else◌}
+use Rattle.std.specs.Prelude.{◌≡◌, ℕ, ◌<◌, ◌==◌, ◌&&◌, nat_le, if◌then◌else◌, List, Option, Some, None, slice_get, slice_index_or}
 use Rattle.std.specs.Option.{option_map_or}
-use Rattle.std.specs.Ordering.{nat_cmp}
-use Rattle.std.specs.BTreeMap.{get}
-use Rattle.cap_trace.specs.Entry.{Entry}
+use Rattle.std.specs.Vec.{vec_len}
+use Rattle.cap_machine.specs.declared.step.Step.{Step}
 use Rattle.cap_machine.specs.declared.cell.Cell.{Cell}
-use Rattle.cap_machine.specs.declared.cell.Cell.TheVariants.{Unknown}
+use Rattle.cap_machine.specs.declared.cell.Cell.TheVariants.{Unknown, Closed}
 use Rattle.cap_machine.specs.declared.cell.Mode.{Mode}
-use Rattle.cap_machine.specs.declared.cell.Mode.TheVariants.{Unsure}
+use Rattle.cap_machine.specs.declared.cell.Mode.TheVariants.{Outside, Unsure}
 use Rattle.cap_machine.specs.declared.table.Process.{Process}
 use Rattle.cap_machine.specs.declared.table.Table.{Table}
 use Rattle.cap_machine.specs.declared.start.Start.{Start}
 use Rattle.cap_machine.specs.State.{State}
+use Rattle.cap_machine.specs.declared.cell.Op.{Op}
+use Rattle.cap_machine.specs.Op.{applied}
 use Rattle.cap_machine.specs.Cells.{cell_in_cells}
+use Rattle.cap_machine.specs.Index.{place_in}
 use Rattle.cap_machine.specs.declared.rule.Effect.{Effect}
-use Rattle.cap_machine.specs.Touch.{touch, turn}
+use Rattle.cap_machine.specs.Touch.{touch, turn, started}
 use Rattle.cap_machine.specs.Effect.{effect_touch, effect_turn}
 use Rattle.cap_machine.specs.History.{touched, turned}
 
 -- a descriptor of a process
 abbrev pub cell_in : Process → ℕ → Cell
-cell_in process f = cell_in_cells process.cells.value f
+cell_in process f = cell_in_cells process.cells f
+
+-- a process, if its pid is this one
+abbrev pub own : ℕ → Option Process → Option Process
+own p None = None
+own p (Some process) = if process.pid == p then Some process else None
+
+-- among the processes, the one at a place, if its pid is this one
+abbrev pub own_at : List Process → ℕ → ℕ → Option Process
+own_at processes place p = own p (slice_get processes place)
+
+-- the process with this pid, at the place that the index has for it
+abbrev pub found : Table → ℕ → Option Process
+found table p = own_at table.processes.items (place_in table.index p) p
 
 abbrev pub cell_of : Table → ℕ → ℕ → Cell
-cell_of table p f = option_map_or (λ process. cell_in process f) (get nat_cmp table.processes p) Unknown
+cell_of table p f = option_map_or (λ process. cell_in process f) (found table p) Unknown
 
 abbrev pub mode_of : Table → ℕ → Mode
-mode_of table p = option_map_or (λ (process : Process). process.mode) (get nat_cmp table.processes p) Unsure
+mode_of table p = option_map_or (λ (process : Process). process.mode) (found table p) Unsure
+
+-- the process with this pid stands at this place
+pub record StandsAt (table : Table) (p i : ℕ) : Type 0 where
+  pub place : i ≡ place_in table.index p
+  pub within : i < vec_len table.processes
+  pub owner : (d : Process) → (slice_index_or table.processes.items i d).pid ≡ p
 
 abbrev pub state_of : Table → State
 state_of table = record { cell = cell_of table; mode = mode_of table }
 
--- two processes that have the same cells and the same mode
+-- two processes that have the same cells, the same mode and the same pid
 abbrev pub IsSame : Process → Process → Type 0
-IsSame a b = ((f : ℕ) → cell_in b f ≡ cell_in a f) × (b.mode ≡ a.mode)
+IsSame a b = ((f : ℕ) → cell_in b f ≡ cell_in a f) × (b.mode ≡ a.mode) × (b.pid ≡ a.pid)
 
--- the state that a start says
-abbrev pub start_state : Start → State
+-- the state that a start stands for; how the table keeps it is nobody else's concern
+unfoldable pub start_state : Start → State
 start_state start = state_of start.table
 
 -- the table keeps this state
@@ -56,6 +77,14 @@ with_mode s me m = record { cell = s.cell; mode = λ p. if p == me then m else s
 abbrev pub with_process : State → ℕ → Process → State
 with_process s me process = record { cell = λ p f. if p == me then cell_in process f else s.cell p f; mode = λ p. if p == me then process.mode else s.mode p }
 
+-- a process holds these descriptors and no others
+abbrev pub with_started : State → ℕ → List ℕ → State
+with_started s me fds = record { cell = λ p f. if p == me then started fds f else s.cell p f; mode = λ p. if p == me then Outside else s.mode p }
+
+-- nothing is known of a process
+abbrev pub with_unknown : State → ℕ → State
+with_unknown s me = record { cell = λ p f. if p == me then Unknown else s.cell p f; mode = λ p. if p == me then Unsure else s.mode p }
+
 -- a child has what its parent has
 abbrev pub with_copy : State → ℕ → ℕ → State
 with_copy s parent child = record { cell = λ p f. if p == child then s.cell parent f else s.cell p f; mode = λ p. if p == child then s.mode parent else s.mode p }
@@ -64,9 +93,17 @@ with_copy s parent child = record { cell = λ p f. if p == child then s.cell par
 abbrev pub with_rest : State → ℕ → Cell → State
 with_rest s me c = record { cell = λ p f. if p == me then c else s.cell p f; mode = s.mode }
 
--- the state after an effect of process me, and after a line
+-- every cell of a process is under an op
+abbrev pub with_op : State → ℕ → Op → State
+with_op s me op = record { cell = λ p f. if p == me then applied op (s.cell p f) else s.cell p f; mode = s.mode }
+
+-- every cell of a process at or above a descriptor is closed
+abbrev pub with_closed_from : State → ℕ → ℕ → State
+with_closed_from s me n = record { cell = λ p f. if p == me && nat_le n f then Closed else s.cell p f; mode = s.mode }
+
+-- the state after an effect of process me, and after a step
 abbrev pub effect_after : Effect → ℕ → State → State
 effect_after effect me s = record { cell = λ p f. touched (effect_touch effect me p f) s.cell p f; mode = λ p. turned (effect_turn effect me p) s.mode p }
 
-abbrev pub line_after : Entry → State → State
-line_after line s = record { cell = λ p f. touched (touch line p f) s.cell p f; mode = λ p. turned (turn line p) s.mode p }
+abbrev pub step_after : Step → State → State
+step_after step s = record { cell = λ p f. touched (touch step p f) s.cell p f; mode = λ p. turned (turn step p) s.mode p }

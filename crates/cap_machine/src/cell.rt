@@ -2,9 +2,29 @@
 
 ghost use Rattle.std.specs.Prelude.{◌≡◌};
 ghost use Rattle.cap_rights.specs.Rights.{without_full, named as all_named};
-ghost use Rattle.cap_machine.specs.Op.{applied, derive, limit, narrow};
+ghost use Rattle.cap_machine.specs.Op.{held, held_op, applied, keeping, marking, derive, copy_to_itself, limit, narrow, exec, set_flag, narrow_and_set_flag};
 
 use cap_rights::{RightBits, RightSet};
+
+/// By which rules a trace is checked.
+#[derive(Clone, Copy, Debug, PartialEq, Eq)]
+pub enum Profile {
+    /// Nothing is known of the descriptors after a successful exec, and closefrom(2) changes nothing.
+    One,
+    /// A successful exec closes the descriptors that are closed on exec, and closefrom(2) closes descriptors.
+    Two,
+}
+
+/// Whether a descriptor is closed by a successful exec (fcntl(2), `FD_CLOEXEC`).
+#[derive(Clone, Copy, Debug, PartialEq, Eq)]
+pub enum OnExec {
+    /// It is closed.
+    Set,
+    /// It stays open.
+    Clear,
+    /// Not known.
+    Unsure,
+}
 
 /// What is known of a descriptor of a process.
 #[derive(Clone, Copy, Debug, PartialEq, Eq)]
@@ -13,8 +33,8 @@ pub enum Cell {
     Unknown,
     /// It is no open descriptor.
     Closed,
-    /// It is open and holds these rights (rights(4)).
-    Held(RightSet),
+    /// It is open and holds these rights (rights(4)), and an exec does this with it.
+    Held(RightSet, OnExec),
 }
 
 /// Whether a process is in capability mode (capsicum(4)).
@@ -28,15 +48,51 @@ pub enum Mode {
     Unsure,
 }
 
-/// What becomes of a cell, by its kind: of an unknown one, of a closed one, and which of the rights held are left.
+/// What becomes of a held cell.
+#[derive(Clone, Copy, Debug, PartialEq, Eq)]
+pub enum HeldOp {
+    /// It becomes this cell.
+    Becomes(Cell),
+    /// It stays held, with those of its rights that are in the mask and with this flag; `None` keeps all rights.
+    Keeps(Option<RightSet>, OnExec),
+}
+
+impl HeldOp {
+    /// The cell stays held, with those of its rights that are in the mask and with this flag.
+    fn keeps(mask: &Option<RightSet>, flag: OnExec) -> HeldOp
+        ensures { result ≡ HeldOp.Keeps mask.now flag }
+    {
+        match mask {
+            None => HeldOp::Keeps(None, flag),
+            Some(mask) => HeldOp::Keeps(Some(*mask), flag),
+        }
+    }
+
+    /// What becomes of a cell that holds these rights.
+    fn on(&self, rights: &RightSet) -> Cell
+        ensures { result ≡ held self.now rights.now }
+    {
+        match self {
+            HeldOp::Becomes(cell) => *cell,
+            HeldOp::Keeps(None, flag) => Cell::Held(*rights, *flag),
+            HeldOp::Keeps(Some(mask), flag) => Cell::Held(rights.meet(mask), *flag),
+        }
+    }
+}
+
+/// What becomes of a cell, by its kind.
 #[derive(Clone, Copy, Debug, PartialEq, Eq)]
 pub struct Op {
     /// What an unknown cell becomes.
     pub unknown: Cell,
     /// What a closed cell becomes.
     pub closed: Cell,
-    /// The rights of which those that were held are left; `None` leaves all.
-    pub mask: Option<RightSet>,
+    /// What becomes of a held cell that an exec closes.
+    pub set: HeldOp,
+    /// What becomes of a held cell that an exec leaves open.
+    pub clear: HeldOp,
+    /// What becomes of a held cell of which it isn't known what an exec does.
+    pub unsure: HeldOp,
 }
 
 /// All rights by name, without FULL.
@@ -54,26 +110,51 @@ pub(crate) fn without_full_of(rights: &RightSet) -> RightSet
 }
 
 impl Op {
-    /// What a new descriptor has of the one that it comes from (dup(2), openat(2)).
-    pub fn derive() -> Op
-        ensures { result ≡ derive }
+    /// A held cell stays held and keeps its flag; a mask takes rights away.
+    fn keeping(unknown: Cell, closed: Cell, mask: &Option<RightSet>) -> Op
+        ensures { result ≡ keeping unknown closed mask.now }
     {
         Op {
-            unknown: Cell::Unknown,
-            closed: Cell::Unknown,
-            mask: None,
+            unknown,
+            closed,
+            set: HeldOp::keeps(mask, OnExec::Set),
+            clear: HeldOp::keeps(mask, OnExec::Clear),
+            unsure: HeldOp::keeps(mask, OnExec::Unsure),
         }
+    }
+
+    /// A held cell stays held and gets this flag; a mask takes rights away.
+    fn marking(unknown: Cell, closed: Cell, mask: &Option<RightSet>, flag: OnExec) -> Op
+        ensures { result ≡ marking unknown closed mask.now flag }
+    {
+        Op {
+            unknown,
+            closed,
+            set: HeldOp::keeps(mask, flag),
+            clear: HeldOp::keeps(mask, flag),
+            unsure: HeldOp::keeps(mask, flag),
+        }
+    }
+
+    /// What a new descriptor has of the one that it comes from: its rights, and this flag (dup(2), openat(2)).
+    pub fn derive(flag: OnExec) -> Op
+        ensures { result ≡ derive flag }
+    {
+        Op::marking(Cell::Unknown, Cell::Unknown, &None, flag)
+    }
+
+    /// What a descriptor has after it was copied to itself: its rights and its flag (dup2(2)).
+    pub fn copy_to_itself() -> Op
+        ensures { result ≡ copy_to_itself }
+    {
+        Op::keeping(Cell::Unknown, Cell::Unknown, &None)
     }
 
     /// What is left of a cell once its ioctls or fcntls were limited: it isn't one that was never limited.
     pub fn narrow() -> Op
         ensures { result ≡ narrow }
     {
-        Op {
-            unknown: Cell::Unknown,
-            closed: Cell::Unknown,
-            mask: Some(all_by_name()),
-        }
+        Op::keeping(Cell::Unknown, Cell::Unknown, &Some(all_by_name()))
     }
 
     /// What cap_rights_limit(2) makes of a cell where it was asked for these rights and succeeded.
@@ -81,10 +162,46 @@ impl Op {
         ensures { result ≡ limit asked.now }
     {
         let left = without_full_of(asked);
+        let unknown = Cell::Held(left, OnExec::Unsure);
+        let closed = Cell::Held(left, OnExec::Unsure);
+        Op::keeping(unknown, closed, &Some(*asked))
+    }
+
+    /// What a successful exec makes of a cell in profile 2 (execve(2), fexecve(2)).
+    pub fn exec() -> Op
+        ensures { result ≡ exec }
+    {
         Op {
-            unknown: Cell::Held(left),
-            closed: Cell::Held(left),
-            mask: Some(*asked),
+            unknown: Cell::Unknown,
+            closed: Cell::Closed,
+            set: HeldOp::Becomes(Cell::Closed),
+            clear: HeldOp::Keeps(None, OnExec::Clear),
+            unsure: HeldOp::Becomes(Cell::Unknown),
+        }
+    }
+
+    /// What `F_SETFD` makes of a cell (fcntl(2)): it changes the flag of a held one, and opens none.
+    pub fn set_flag(flag: OnExec) -> Op
+        ensures { result ≡ set_flag flag }
+    {
+        Op::marking(Cell::Unknown, Cell::Closed, &None, flag)
+    }
+
+    /// What `F_SETFD` makes of a cell where other flags than `FD_CLOEXEC` stand: they may limit the descriptor too.
+    pub fn narrow_and_set_flag(flag: OnExec) -> Op
+        ensures { result ≡ narrow_and_set_flag flag }
+    {
+        Op::marking(Cell::Unknown, Cell::Unknown, &Some(all_by_name()), flag)
+    }
+
+    /// What becomes of a held cell with this flag.
+    fn held_op(&self, flag: OnExec) -> HeldOp
+        ensures { result ≡ held_op self.now flag }
+    {
+        match flag {
+            OnExec::Set => self.set,
+            OnExec::Clear => self.clear,
+            OnExec::Unsure => self.unsure,
         }
     }
 
@@ -95,10 +212,7 @@ impl Op {
         match cell {
             Cell::Unknown => self.unknown,
             Cell::Closed => self.closed,
-            Cell::Held(rights) => match &self.mask {
-                None => Cell::Held(rights),
-                Some(mask) => Cell::Held(rights.meet(mask)),
-            },
+            Cell::Held(rights, flag) => self.held_op(flag).on(&rights),
         }
     }
 }

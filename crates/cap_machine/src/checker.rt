@@ -2,18 +2,20 @@
 
 ghost use Rattle.std.specs.Prelude.{◌≡◌, ◌≤◌, ◌*◌, [], ◌∷◌, ◌++◌, ◌<◌, ◌^◌, ◌↔◌, List, IsTrue, IfOk, OnOk};
 
-use crate::rule::rule_of;
+use crate::cell::Profile;
+use crate::checking::take_line;
+use crate::report::{put_count, put_verdict};
 use crate::start::Start;
 use crate::table::Table;
-use crate::words::{put_count, put_verdict};
 use cap_rights::NoMemory;
 use cap_trace::Line;
 use std::alloc::Global;
 
-/// A check that goes on: the state after the lines so far, and the text of what was found in them. It keeps no line, so its
-/// size doesn't grow with a trace in which nothing is found.
+/// A check that goes on line by line: what is known after the lines so far, and the text of what was found in them. It
+/// keeps no line. Its size grows with the processes and descriptors that the lines name, and with the findings.
 #[derive(Drop)]
 pub struct Checker {
+    profile: Profile,
     table: Table,
     lines: usize,
     findings: usize,
@@ -23,31 +25,37 @@ pub struct Checker {
 
 impl Checker {
     ghost use Rattle.cap_trace.specs.Entry.{Entry};
+    ghost use Rattle.cap_machine.specs.declared.cell.Profile.{Profile};
+    ghost use Rattle.cap_machine.specs.Steps.{steps};
     ghost use Rattle.cap_machine.specs.State.{State, usual};
     ghost use Rattle.cap_machine.specs.Check.{check};
     ghost use Rattle.cap_machine.specs.Report.{report};
     ghost use Rattle.cap_machine.specs.Table.{start_state, Keeps};
     ghost use Rattle.cap_machine.specs.Checked.{HasChecked, lines_of};
 
-    /// A checker that was given no line, from the usual start. It grows nothing.
-    pub fn new(alloc: Global) -> Checker
-        ensures { HasChecked result usual [] }
+    /// A checker that was given no line, from the usual start. It takes no memory.
+    pub fn new(alloc: Global, profile: Profile) -> Checker
+        ensures { HasChecked result profile usual [] }
     {
-        Checker::over(alloc, Table::unknown(alloc))
+        Checker::over(alloc, profile, Table::unknown(alloc))
     }
 
     /// A checker that was given no line, from another start.
-    pub fn from_start(alloc: Global, start: &Start) -> Result<Checker, NoMemory>
-        ensures { IfOk result (λ checker. HasChecked checker (start_state start.now) []) }
+    ///
+    /// `NoMemory` when out of memory.
+    #[tactic(auto, unfolding(crate::specs::Table::start_state))]
+    pub fn from_start(alloc: Global, profile: Profile, start: &Start) -> Result<Checker, NoMemory>
+        ensures { IfOk result (λ checker. HasChecked checker profile (start_state start.now) []) }
     {
         let table = start.table.copy(alloc)?;
-        Ok(Checker::over(alloc, table))
+        Ok(Checker::over(alloc, profile, table))
     }
 
-    fn over(alloc: Global, table: Table) -> Checker
-        ensures { (s : State) → Keeps table s → HasChecked result s [] }
+    fn over(alloc: Global, profile: Profile, table: Table) -> Checker
+        ensures { (s : State) → Keeps table s → HasChecked result profile s [] }
     {
         Checker {
+            profile,
             table,
             lines: 0,
             findings: 0,
@@ -62,16 +70,16 @@ impl Checker {
         self.lines
     }
 
-    /// Checks the next line. After `NoMemory` the checker is of no more use.
+    /// Checks the next line.
+    ///
+    /// `NoMemory` when out of memory. What the checker then answers isn't promised: drop it.
     pub fn line(&mut self, line: &Line) -> Result<(), NoMemory>
         requires room { lines_of self.old < 2 ^ 60 }
-        ensures checked { (s : State) (trace : List Entry) → HasChecked self.old s trace → OnOk result (HasChecked self.new s (trace ++ line.now ∷ [])) }
+        ensures checked { (profile : Profile) (s : State) (trace : List Entry) → HasChecked self.old profile s trace → OnOk result (HasChecked self.new profile s (trace ++ line.now ∷ [])) }
     {
         let at = self.lines + 1;
-        let rule = rule_of(line);
-        let verdict = self.table.said(line.pid, &rule.demand);
+        let verdict = take_line(&mut self.table, self.profile, line)?;
         let more = put_verdict(&mut self.text, at, line, &verdict)?;
-        self.table.apply(line.pid, &rule.effect)?;
         self.lines = at;
         self.findings += more;
         Ok(())
@@ -79,14 +87,16 @@ impl Checker {
 
     /// Whether nothing was found.
     pub fn is_clean(&self) -> bool
-        ensures { (s : State) (trace : List Entry) → HasChecked self.now s trace → (IsTrue result ↔ (check s trace ≡ [])) }
+        ensures { (profile : Profile) (s : State) (trace : List Entry) → HasChecked self.now profile s trace → (IsTrue result ↔ (check s (steps profile trace) ≡ [])) }
     {
         self.findings == 0
     }
 
-    /// The report of the lines that it was given. Only want of memory refuses it.
+    /// The report of the lines that it was given.
+    ///
+    /// `NoMemory` when out of memory.
     pub fn report(self) -> Result<Vec<u8>, NoMemory>
-        ensures { (s : State) (trace : List Entry) → HasChecked self s trace → IfOk result (λ text. text.items ≡ report s trace) }
+        ensures { (profile : Profile) (s : State) (trace : List Entry) → HasChecked self profile s trace → IfOk result (λ text. text.items ≡ report s (steps profile trace)) }
     {
         let mut text = self.text;
         put_count(&mut text, self.findings)?;

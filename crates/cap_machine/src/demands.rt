@@ -1,16 +1,18 @@
 //! What each form of call is judged by.
 
-ghost use Rattle.std.specs.Prelude.{◌≡◌, true};
-ghost use Rattle.cap_machine.specs.Parts.{part};
-ghost use Rattle.cap_machine.specs.PlaceSeen.{place_seen, is_at};
-ghost use Rattle.cap_machine.specs.Rule.{check_of, on_one, on_none, fd_class, fcntl_demand, limit_demand, bare_class, reply, call_demand};
+ghost use Rattle.std.specs.Prelude.{◌≡◌, [], ◌∷◌, true};
+ghost use Rattle.cap_machine.specs.Flags.{all_known};
+ghost use Rattle.cap_machine.specs.Needs.{at_flags_needs, plain_flags, plain_at_flags, rename_from_needs, rename_to_needs, link_from_needs, link_to_needs};
+ghost use Rattle.cap_machine.specs.Places.{place};
+ghost use Rattle.cap_machine.specs.PlaceSeen.{place_seen};
+ghost use Rattle.cap_machine.specs.Rule.{check_of, on_one, on_none, fd_class, fd_demand, fcntl_demand, limit_demand, bare_class, reply, at_demand, call_demand};
 
 use crate::cell::without_full_of;
 use crate::needs;
-use crate::parts::{Place, at_one, at_two};
+use crate::places::{Place, at_one, at_two};
 use crate::rule::{Check, Checks, Class, Demand, Reply, Word};
 use cap_rights::RightSet;
-use cap_trace::{Answer, BareCall, Call, Dir, Fd, FdCall, Path};
+use cap_trace::{Answer, AtFlagsCall, BareCall, Call, Dir, Fd, FdCall, Path};
 
 /// The kind of an answer (errno(2)).
 pub(crate) fn reply_of(answer: &Answer) -> Reply
@@ -73,6 +75,25 @@ fn unchecked(class: Class, answer: &Answer) -> Demand
     }
 }
 
+/// A call whose one argument is a descriptor.
+fn on_fd(call: FdCall, fd: Fd, answer: &Answer) -> Demand
+    ensures { result ≡ fd_demand call fd answer.now }
+{
+    match call {
+        FdCall::Closefrom => unchecked(Class::Either, answer),
+        _ => {
+            let needs = needs::fd_needs_of(call);
+            one(
+                fd_class_of(call),
+                fd,
+                needs,
+                needs::fd_excuse_of(call),
+                answer,
+            )
+        }
+    }
+}
+
 /// A command of fcntl(2), of which errno 93 is never judged.
 fn fcntl(needs: Option<RightSet>, fd: Fd, answer: &Answer) -> Demand
     ensures { result ≡ fcntl_demand needs fd answer.now }
@@ -114,13 +135,7 @@ pub(crate) fn demand_of(call: &Call, answer: &Answer) -> Demand
     ensures { result ≡ call_demand call.now answer.now }
 {
     match call {
-        Call::OnFd(call, fd) => one(
-            fd_class_of(*call),
-            *fd,
-            needs::fd_needs_of(*call),
-            needs::fd_excuse_of(*call),
-            answer,
-        ),
+        Call::OnFd(call, fd) => on_fd(*call, *fd, answer),
         Call::Send(_, fd) => {
             let send = needs::send_needs_of();
             one(Class::Either, *fd, send, Some(send), answer)
@@ -151,17 +166,25 @@ pub(crate) fn demand_of(call: &Call, answer: &Answer) -> Demand
         }
         Call::Bare(call) => unchecked(bare_class_of(*call), answer),
         Call::OnFlags(_, _) | Call::Other { .. } => unchecked(Class::Either, answer),
-        Call::At(_, _, _)
-        | Call::AtFlags(_, _, _, _)
-        | Call::SymlinkAt(_, _, _)
-        | Call::RenameAt(_, _, _, _)
-        | Call::LinkAt(_, _, _, _, _) => at_demand_of(call, answer),
+        Call::At(call, dir, path) => {
+            at_one(true, &place(*dir, path, needs::at_needs_of(*call)), answer)
+        }
+        Call::AtFlags(call, dir, path, flags) => {
+            at_flags(*call, *dir, path, flags.as_bytes(), answer)
+        }
+        Call::SymlinkAt(_, dir, path) => {
+            at_one(true, &place(*dir, path, needs::symlink_needs_of()), answer)
+        }
+        Call::RenameAt(dir, path, to, to_path) => rename_at(*dir, path, *to, to_path, answer),
+        Call::LinkAt(dir, path, to, to_path, flags) => {
+            link_at(*dir, path, *to, to_path, flags.as_bytes(), answer)
+        }
     }
 }
 
 /// A directory, a path there, and what its lookup needs.
 fn place<'a>(dir: Dir, path: &'a Path, needs: RightSet) -> Place<'a>
-    ensures { place_seen result ≡ part dir path.now needs }
+    ensures { place_seen result ≡ place dir path.now needs }
 {
     Place {
         dir,
@@ -170,40 +193,28 @@ fn place<'a>(dir: Dir, path: &'a Path, needs: RightSet) -> Place<'a>
     }
 }
 
-/// What a call at a directory is judged by; of another call this isn't asked.
-fn at_demand_of(call: &Call, answer: &Answer) -> Demand
-    requires { is_at call.now ≡ true }
-    ensures { result ≡ call_demand call.now answer.now }
+/// A call at a directory, with flags.
+fn at_flags(call: AtFlagsCall, dir: Dir, path: &Path, flags: &[u8], answer: &Answer) -> Demand
+    ensures { result ≡ at_demand (all_known (plain_flags call) flags.now) (place dir path.now (at_flags_needs call flags.now) ∷ []) answer.now }
 {
-    match call {
-        Call::At(call, dir, path) => {
-            let place = place(*dir, path, needs::at_needs_of(*call));
-            at_one(true, &place, answer)
-        }
-        Call::AtFlags(call, dir, path, flags) => {
-            let flags = flags.as_bytes();
-            let place = place(*dir, path, needs::at_flags_needs_of(*call, flags));
-            at_one(needs::has_plain_flags(*call, flags), &place, answer)
-        }
-        Call::SymlinkAt(_, dir, path) => {
-            let place = place(*dir, path, needs::symlink_needs_of());
-            at_one(true, &place, answer)
-        }
-        Call::RenameAt(dir, path, to_dir, to_path) => {
-            let from = place(*dir, path, needs::rename_from_needs_of());
-            let to = place(*to_dir, to_path, needs::rename_to_needs_of());
-            at_two(true, &from, &to, answer)
-        }
-        Call::LinkAt(dir, path, to_dir, to_path, flags) => {
-            let from = place(*dir, path, needs::link_from_needs_of());
-            let to = place(*to_dir, to_path, needs::link_to_needs_of());
-            at_two(
-                needs::has_plain_link_flags(flags.as_bytes()),
-                &from,
-                &to,
-                answer,
-            )
-        }
-        _ => unreachable!(),
-    }
+    let place = place(dir, path, needs::at_flags_needs_of(call, flags));
+    at_one(needs::has_plain_flags(call, flags), &place, answer)
+}
+
+/// renameat(2).
+fn rename_at(dir: Dir, path: &Path, to: Dir, to_path: &Path, answer: &Answer) -> Demand
+    ensures { result ≡ at_demand true (place dir path.now rename_from_needs ∷ place to to_path.now rename_to_needs ∷ []) answer.now }
+{
+    let from = place(dir, path, needs::rename_from_needs_of());
+    let to = place(to, to_path, needs::rename_to_needs_of());
+    at_two(true, &from, &to, answer)
+}
+
+/// linkat(2).
+fn link_at(dir: Dir, path: &Path, to: Dir, to_path: &Path, flags: &[u8], answer: &Answer) -> Demand
+    ensures { result ≡ at_demand (all_known plain_at_flags flags.now) (place dir path.now link_from_needs ∷ place to to_path.now link_to_needs ∷ []) answer.now }
+{
+    let from = place(dir, path, needs::link_from_needs_of());
+    let to = place(to, to_path, needs::link_to_needs_of());
+    at_two(needs::has_plain_link_flags(flags), &from, &to, answer)
 }

@@ -1,17 +1,47 @@
 //! What each form of call does.
 
-ghost use Rattle.std.specs.Prelude.{◌≡◌, ℕ, ◌<◌, ◌^◌};
+ghost use Rattle.std.specs.Prelude.{◌≡◌, ℕ, ◌<◌, ◌^◌, if◌then◌else◌};
 ghost use Rattle.cap_trace.specs.Entry.{IsAnswer, kind_of, fcntl_kind};
-ghost use Rattle.cap_machine.specs.Parts.{below};
-ghost use Rattle.cap_machine.specs.Touch.{kept, given, taken, on_fd, on_made, on_both, on_success, closing, copied, whole, unknown, exec_touch, fd_touch, fcntl_touch, copies, set_fd_touch, path_touch, at_touch, opened_below, flags_touch, fork_touch, pdfork_touch, bare_touch, call_touch, stays, call_turn, enter_turn, fork_turn, pdfork_turn};
+ghost use Rattle.cap_machine.specs.Places.{below};
+ghost use Rattle.cap_machine.specs.Touch.{kept, given, taken, on_fd, on_made, on_both, on_success, closing, copied, copied_to, whole, unknown, exec_touch, closefrom_touch, open_flag, socket_flag, fd_flag, fd_touch, fcntl_touch, fcntl_copied_to, set_fd_op, set_fd_touch, path_touch, at_touch, opened_below, flags_touch, fork_touch, pdfork_touch, bare_touch, call_touch, stays, call_turn, enter_turn, fork_turn, pdfork_turn};
 ghost use Rattle.cap_machine.specs.Effect.{effect_touch, effect_turn, OnlyCells, FitsMade, FitsPair};
 
-use crate::cell::{Cell, Op};
-use crate::flags::all_known_of;
-use crate::parts::below_of;
+use crate::cell::{Cell, OnExec, Op, Profile};
+use crate::flags::{all_known_of, has_flag_of};
+use crate::places::below_of;
 use crate::rule::Effect;
 use cap_rights::RightSet;
-use cap_trace::{Answer, AtFlagsCall, BareCall, Call, Dir, Fd, FdCall, FlagsCall, PathCall, Pid};
+use cap_trace::{
+    Answer, AtFlagsCall, BareCall, Call, Dir, DupCommand, Fd, FdCall, FlagsCall, PathCall, Pid,
+};
+
+/// The flag of a descriptor, by whether it was asked to be closed on exec.
+fn flag_where(is_asked: bool) -> OnExec
+    ensures { result ≡ (if is_asked then OnExec.Set else OnExec.Clear) }
+{
+    if is_asked { OnExec::Set } else { OnExec::Clear }
+}
+
+/// open(2), openat(2), pipe2(2).
+fn open_flag_of(flags: &[u8]) -> OnExec
+    ensures { result ≡ open_flag flags.now }
+{
+    flag_where(has_flag_of(flags, b"O_CLOEXEC"))
+}
+
+/// socket(2), socketpair(2).
+fn socket_flag_of(flags: &[u8]) -> OnExec
+    ensures { result ≡ socket_flag flags.now }
+{
+    flag_where(has_flag_of(flags, b"SOCK_CLOEXEC"))
+}
+
+/// fcntl(2), `F_SETFD`.
+fn fd_flag_of(flags: &[u8]) -> OnExec
+    ensures { result ≡ fd_flag flags.now }
+{
+    flag_where(has_flag_of(flags, b"FD_CLOEXEC"))
+}
 
 /// The descriptor that a call made gets this cell.
 fn made(answer: &Answer, cell: Cell) -> Effect<'static>
@@ -25,29 +55,74 @@ fn made(answer: &Answer, cell: Cell) -> Effect<'static>
     }
 }
 
+/// The descriptor that a call made holds all rights.
+fn made_whole(flag: OnExec, answer: &Answer) -> Effect<'static>
+    requires { FitsMade answer.now }
+    ensures cells { (me p f : ℕ) → effect_touch result me p f ≡ on_made answer.now (whole flag) me p f }
+    ensures modes { OnlyCells result }
+{
+    made(answer, Cell::Held(RightSet::all(), flag))
+}
+
 /// The two descriptors that a call made hold all rights.
-fn made_both(answer: &Answer) -> Effect<'static>
+fn made_both(flag: OnExec, answer: &Answer) -> Effect<'static>
     requires { FitsPair answer.now }
-    ensures cells { (me p f : ℕ) → effect_touch result me p f ≡ on_both answer.now whole me p f }
+    ensures cells { (me p f : ℕ) → effect_touch result me p f ≡ on_both answer.now (whole flag) me p f }
     ensures modes { OnlyCells result }
 {
     match answer {
         Answer::Pair(first, second) => {
-            Effect::GiveTwo(*first as Fd, *second as Fd, Cell::Held(RightSet::all()))
+            let cell = Cell::Held(RightSet::all(), flag);
+            Effect::GiveTwo(*first as Fd, *second as Fd, cell)
         }
         _ => Effect::Keep,
     }
 }
 
-/// The descriptor that a call made has the rights of this one.
-fn copied_from(fd: Fd, answer: &Answer) -> Effect<'static>
+/// The descriptor that a call made is what an op makes of this one.
+fn made_from(fd: Fd, op: Op, answer: &Answer) -> Effect<'static>
     requires { FitsMade answer.now }
-    ensures cells { (me p f : ℕ) → effect_touch result me p f ≡ on_made answer.now (copied fd me) me p f }
+    ensures cells { (me p f : ℕ) → effect_touch result me p f ≡ on_made answer.now (taken op me fd) me p f }
     ensures modes { OnlyCells result }
 {
     match answer {
-        Answer::Made(new) => Effect::Change(*new as Fd, Op::derive(), fd),
+        Answer::Made(new) => Effect::Change(*new as Fd, op, fd),
         _ => Effect::Keep,
+    }
+}
+
+/// The descriptor that a call made has the rights of this one, and this flag.
+fn copied_from(fd: Fd, flag: OnExec, answer: &Answer) -> Effect<'static>
+    requires { FitsMade answer.now }
+    ensures cells { (me p f : ℕ) → effect_touch result me p f ≡ on_made answer.now (copied flag fd me) me p f }
+    ensures modes { OnlyCells result }
+{
+    made_from(fd, Op::derive(flag), answer)
+}
+
+/// A copy to a number that was asked for (dup2(2)): to the same number it is the first op.
+fn copied_to_number(itself: Op, flag: OnExec, fd: Fd, to: Fd, answer: &Answer) -> Effect<'static>
+    requires { FitsMade answer.now }
+    ensures cells { (me p f : ℕ) → effect_touch result me p f ≡ on_made answer.now (copied_to itself flag fd to me) me p f }
+    ensures modes { OnlyCells result }
+{
+    let op = if fd == to { itself } else { Op::derive(flag) };
+    made_from(fd, op, answer)
+}
+
+/// The two commands of fcntl(2) that copy to a number that was asked for.
+fn fcntl_copied(command: DupCommand, fd: Fd, to: Fd, answer: &Answer) -> Effect<'static>
+    requires { FitsMade answer.now }
+    ensures cells { (me p f : ℕ) → effect_touch result me p f ≡ on_made answer.now (fcntl_copied_to command fd to me) me p f }
+    ensures modes { OnlyCells result }
+{
+    match command {
+        DupCommand::FDup2fd => {
+            copied_to_number(Op::copy_to_itself(), OnExec::Clear, fd, to, answer)
+        }
+        DupCommand::FDup2fdCloexec => {
+            copied_to_number(Op::derive(OnExec::Unsure), OnExec::Set, fd, to, answer)
+        }
     }
 }
 
@@ -75,27 +150,40 @@ fn closed(fd: Fd, answer: &Answer) -> Effect<'static>
 }
 
 /// execve(2), fexecve(2).
-fn executed(answer: &Answer) -> Effect<'static>
-    ensures cells { (me p f : ℕ) → effect_touch result me p f ≡ exec_touch answer.now me p f }
+fn executed(profile: Profile, answer: &Answer) -> Effect<'static>
+    ensures cells { (me p f : ℕ) → effect_touch result me p f ≡ exec_touch profile answer.now me p f }
     ensures modes { OnlyCells result }
 {
-    match answer {
-        Answer::Fault(_) => Effect::Keep,
-        _ => Effect::Exec,
+    match (answer, profile) {
+        (Answer::Fault(_), _) => Effect::Keep,
+        (_, Profile::One) => Effect::Forget,
+        (_, Profile::Two) => Effect::Exec,
+    }
+}
+
+/// closefrom(2).
+fn closed_from(profile: Profile, fd: Fd, answer: &Answer) -> Effect<'static>
+    ensures cells { (me p f : ℕ) → effect_touch result me p f ≡ closefrom_touch profile fd answer.now me p f }
+    ensures modes { OnlyCells result }
+{
+    match (answer, profile) {
+        (Answer::Fault(_), _) | (_, Profile::One) => Effect::Keep,
+        (_, Profile::Two) => Effect::CloseFrom(fd),
     }
 }
 
 /// A call whose one argument is a descriptor.
-fn fd_effect(call: FdCall, fd: Fd, answer: &Answer) -> Effect<'static>
+fn fd_effect(profile: Profile, call: FdCall, fd: Fd, answer: &Answer) -> Effect<'static>
     requires { IsAnswer (kind_of (Call.OnFd call fd)) answer.now }
-    ensures cells { (me p f : ℕ) → effect_touch result me p f ≡ fd_touch call fd answer.now me p f }
+    ensures cells { (me p f : ℕ) → effect_touch result me p f ≡ fd_touch profile call fd answer.now me p f }
     ensures modes { OnlyCells result }
 {
     match call {
         FdCall::Close => closed(fd, answer),
-        FdCall::Dup => copied_from(fd, answer),
+        FdCall::Closefrom => closed_from(profile, fd, answer),
+        FdCall::Dup => copied_from(fd, OnExec::Clear, answer),
         FdCall::Accept => made(answer, Cell::Unknown),
-        FdCall::Fexecve => executed(answer),
+        FdCall::Fexecve => executed(profile, answer),
         FdCall::CapIoctlsLimit | FdCall::CapFcntlsLimit => changed(fd, Op::narrow(), answer),
         _ => Effect::Keep,
     }
@@ -107,8 +195,10 @@ fn fcntl_effect(fd: Fd, command: &[u8], answer: &Answer) -> Effect<'static>
     ensures cells { (me p f : ℕ) → effect_touch result me p f ≡ fcntl_touch command.now fd answer.now me p f }
     ensures modes { OnlyCells result }
 {
-    if command == b"F_DUPFD".as_slice() || command == b"F_DUPFD_CLOEXEC".as_slice() {
-        copied_from(fd, answer)
+    if command == b"F_DUPFD".as_slice() {
+        copied_from(fd, OnExec::Clear, answer)
+    } else if command == b"F_DUPFD_CLOEXEC".as_slice() {
+        copied_from(fd, OnExec::Set, answer)
     } else {
         Effect::Keep
     }
@@ -117,29 +207,30 @@ fn fcntl_effect(fd: Fd, command: &[u8], answer: &Answer) -> Effect<'static>
 /// Flags of `F_SETFD` that limit nothing.
 static PLAIN_FD_FLAGS: [&[u8]; 2] = [b"0", b"FD_CLOEXEC"];
 
-/// The command `F_SETFD` of fcntl(2).
-fn set_fd_effect(fd: Fd, flags: &[u8], answer: &Answer) -> Effect<'static>
-    ensures cells { (me p f : ℕ) → effect_touch result me p f ≡ set_fd_touch flags.now fd answer.now me p f }
-    ensures modes { OnlyCells result }
+/// What `F_SETFD` makes of a descriptor (fcntl(2)).
+fn set_fd_op_of(flags: &[u8]) -> Op
+    ensures { result ≡ set_fd_op flags.now }
 {
+    let flag = fd_flag_of(flags);
     if all_known_of(&PLAIN_FD_FLAGS, flags) {
-        Effect::Keep
+        Op::set_flag(flag)
     } else {
-        changed(fd, Op::narrow(), answer)
+        Op::narrow_and_set_flag(flag)
     }
 }
 
 /// openat(2).
-fn openat_effect(dir: Dir, path: &[u8], answer: &Answer) -> Effect<'static>
+fn openat_effect(dir: Dir, path: &[u8], flags: &[u8], answer: &Answer) -> Effect<'static>
     requires { FitsMade answer.now }
-    ensures cells { (me p f : ℕ) → effect_touch result me p f ≡ on_made answer.now (opened_below (below dir path.now) dir path.now me) me p f }
+    ensures cells { (me p f : ℕ) → effect_touch result me p f ≡ on_made answer.now (opened_below (below dir path.now) dir path.now (open_flag flags.now) me) me p f }
     ensures modes { OnlyCells result }
 {
+    let flag = open_flag_of(flags);
     match below_of(dir, path) {
-        Some(fd) => copied_from(fd, answer),
+        Some(fd) => copied_from(fd, flag, answer),
         None => {
             if dir == Dir::Cwd && !path.is_empty() {
-                made(answer, Cell::Held(RightSet::all()))
+                made_whole(flag, answer)
             } else {
                 made(answer, Cell::Unknown)
             }
@@ -191,7 +282,7 @@ fn bare_effect(call: BareCall, answer: &Answer) -> Effect<'static>
     ensures modes { (me p : ℕ) → effect_turn result me p ≡ call_turn (Call.Bare call) answer.now me p }
 {
     match call {
-        BareCall::Pipe => made_both(answer),
+        BareCall::Pipe => made_both(OnExec::Clear, answer),
         BareCall::Kqueue | BareCall::ShmOpen | BareCall::MqOpen | BareCall::Fhopen => {
             made(answer, Cell::Unknown)
         }
@@ -201,26 +292,41 @@ fn bare_effect(call: BareCall, answer: &Answer) -> Effect<'static>
     }
 }
 
+/// A call whose one argument is flags.
+fn flags_effect(call: FlagsCall, flags: &[u8], answer: &Answer) -> Effect<'static>
+    requires { IsAnswer (kind_of (Call.OnFlags call flags.now)) answer.now }
+    ensures cells { (me p f : ℕ) → effect_touch result me p f ≡ flags_touch call flags.now answer.now me p f }
+    ensures modes { OnlyCells result }
+{
+    match call {
+        FlagsCall::Socket => made_whole(socket_flag_of(flags), answer),
+        FlagsCall::Socketpair => made_both(socket_flag_of(flags), answer),
+        FlagsCall::Pipe2 => made_both(open_flag_of(flags), answer),
+    }
+}
+
 /// What a call does.
-pub(crate) fn effect_of(call: &Call, answer: &Answer) -> Effect<'static>
+pub(crate) fn effect_of(profile: Profile, call: &Call, answer: &Answer) -> Effect<'static>
     requires { IsAnswer (kind_of call.now) answer.now }
-    ensures cells { (me p f : ℕ) → effect_touch result me p f ≡ call_touch call.now answer.now me p f }
+    ensures cells { (me p f : ℕ) → effect_touch result me p f ≡ call_touch profile call.now answer.now me p f }
     ensures modes { (me p : ℕ) → effect_turn result me p ≡ call_turn call.now answer.now me p }
 {
     match call {
-        Call::OnFd(call, fd) => fd_effect(*call, *fd, answer),
+        Call::OnFd(call, fd) => fd_effect(profile, *call, *fd, answer),
         Call::Accept4(_, _) => made(answer, Cell::Unknown),
-        Call::Dup2(fd, _) | Call::FcntlDup(_, fd, _) => copied_from(*fd, answer),
-        Call::Fcntl(fd, command) => fcntl_effect(*fd, command.as_bytes(), answer),
-        Call::FcntlSetFd(fd, flags) => set_fd_effect(*fd, flags.as_bytes(), answer),
-        Call::RightsLimit(fd, asked) => changed(*fd, Op::limit(asked), answer),
-        Call::Open(_, _) => made(answer, Cell::Held(RightSet::all())),
-        Call::OnPath(PathCall::Execve, _) => executed(answer),
-        Call::AtFlags(AtFlagsCall::Openat, dir, path, _) => {
-            openat_effect(*dir, path.as_bytes(), answer)
+        Call::Dup2(fd, to) => {
+            copied_to_number(Op::copy_to_itself(), OnExec::Clear, *fd, *to, answer)
         }
-        Call::OnFlags(FlagsCall::Socket, _) => made(answer, Cell::Held(RightSet::all())),
-        Call::OnFlags(FlagsCall::Socketpair | FlagsCall::Pipe2, _) => made_both(answer),
+        Call::FcntlDup(command, fd, to) => fcntl_copied(*command, *fd, *to, answer),
+        Call::Fcntl(fd, command) => fcntl_effect(*fd, command.as_bytes(), answer),
+        Call::FcntlSetFd(fd, flags) => changed(*fd, set_fd_op_of(flags.as_bytes()), answer),
+        Call::RightsLimit(fd, asked) => changed(*fd, Op::limit(asked), answer),
+        Call::Open(_, flags) => made_whole(open_flag_of(flags.as_bytes()), answer),
+        Call::OnPath(PathCall::Execve, _) => executed(profile, answer),
+        Call::AtFlags(AtFlagsCall::Openat, dir, path, flags) => {
+            openat_effect(*dir, path.as_bytes(), flags.as_bytes(), answer)
+        }
+        Call::OnFlags(call, flags) => flags_effect(*call, flags.as_bytes(), answer),
         Call::Bare(call) => bare_effect(*call, answer),
         _ => Effect::Keep,
     }

@@ -1,34 +1,56 @@
 //! The machine: what is known of the descriptors and modes of each process after the lines of a trace, and what is said
 //! of each line.
 //!
-//! A line is judged by its rule, with the mode and the cells that stand before it, and then moves the state on by what it
-//! records. What a trace doesn't show is unknown, and nothing is said against it.
+//! A line is judged by its rule ([`rule_of`], [`judge`]), with the mode and the cells that are known before it, and then
+//! changes what is known by what it records. What a trace doesn't show is unknown, and nothing is said against it.
+//!
+//! [`check`] answers what is found in a whole trace; a [`Checker`] takes its lines one by one and answers the report.
+//! Both begin from a start, which says what is known of each process before the first line ([`Start`]).
+//!
+//! ```
+//! let mut checker = Checker::new(alloc, Profile::One);
+//! for text in ["100 @start(0)", "100 cap_rights_limit(0,CAP_READ) RET 0", "100 write(0) RET 5"] {
+//!     checker.line(&parse_line(alloc, text.as_bytes())?)?;
+//! }
+//! assert!(!checker.is_clean());
+//! let report = checker.report()?;
+//! assert_eq!(report.as_slice(), b"3 100 write missing 0 CAP_WRITE\nfindings 1\n");
+//! ```
+//!
+//! There are two profiles. In profile 1 nothing is known of a process's descriptors after a successful exec. Profile 2
+//! follows each descriptor's close-on-exec flag ([`OnExec`]): an exec closes those with the flag and keeps those without
+//! it, and closefrom(2) closes the descriptors from its argument up.
 #![tactic(auto)]
 
 mod cell;
 mod cells;
 mod checker;
+mod checking;
+mod composed;
 mod demands;
 mod effects;
 mod flags;
 mod laws;
 mod needs;
-mod parts;
+mod places;
+mod report;
 mod rule;
 mod start;
+mod step;
 mod table;
 #[cfg(test)]
 mod tests;
-mod trace;
 mod verdict;
-mod words;
 
 pub use cap_rights::NoMemory;
-pub use cell::{Cell, Mode, Op};
+pub use cell::{Cell, HeldOp, Mode, OnExec, Op, Profile};
 pub use checker::Checker;
-pub use laws::traces_in_turn;
+pub use checking::check;
+pub use laws::{
+    no_alarm_lost, positions_are_within, profiles_agree, touches_what_it_names, traces_in_turn,
+};
+pub use report::{put_count, put_finding};
 pub use rule::{Check, Checks, Class, Demand, Effect, Reply, Rule, Word, rule_of};
 pub use start::Start;
-pub use trace::check;
+pub use step::Step;
 pub use verdict::{Finding, Found, Verdict, judge};
-pub use words::{put_count, put_finding};

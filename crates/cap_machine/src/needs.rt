@@ -41,9 +41,11 @@ pub(crate) fn fd_needs_of(call: FdCall) -> RightSet
         FdCall::Getsockopt => RightBits::CAP_GETSOCKOPT,
         FdCall::Setsockopt => RightBits::CAP_SETSOCKOPT,
         FdCall::Fexecve => RightBits::CAP_FEXECVE,
-        FdCall::Close | FdCall::Dup | FdCall::CapIoctlsLimit | FdCall::CapFcntlsLimit => {
-            RightBits(0)
-        }
+        FdCall::Close
+        | FdCall::Closefrom
+        | FdCall::Dup
+        | FdCall::CapIoctlsLimit
+        | FdCall::CapFcntlsLimit => { RightBits(0) }
     })
 }
 

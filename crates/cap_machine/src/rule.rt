@@ -2,10 +2,11 @@
 
 ghost use Rattle.std.specs.Prelude.{◌≡◌, ℕ};
 ghost use Rattle.cap_machine.specs.Rule.{demand, unjudged};
+ghost use Rattle.cap_machine.specs.Steps.{step};
 ghost use Rattle.cap_machine.specs.Touch.{touch, turn};
 ghost use Rattle.cap_machine.specs.Effect.{effect_touch, effect_turn};
 
-use crate::cell::{Cell, Op};
+use crate::cell::{Cell, Op, Profile};
 use crate::demands::demand_of;
 use crate::effects::effect_of;
 use cap_rights::RightSet;
@@ -35,7 +36,7 @@ pub enum Reply {
     Other,
 }
 
-/// By which word a shortfall is told.
+/// By which word lacking rights are reported.
 #[derive(Clone, Copy, Debug, PartialEq, Eq)]
 pub enum Word {
     /// The call lacked rights.
@@ -74,7 +75,7 @@ pub struct Demand {
     pub reply: Reply,
     /// Whether it is a call at a directory, whose errno 93 may come from a path that leaves the directory.
     pub at: bool,
-    /// By which word a shortfall is told.
+    /// By which word lacking rights are reported.
     pub word: Word,
 }
 
@@ -88,7 +89,11 @@ pub enum Effect<'a> {
     /// Nothing more is known of the process.
     Exit,
     /// Nothing more is known of its cells.
+    Forget,
+    /// Each of its cells is what an exec makes of it in profile 2.
     Exec,
+    /// Each of its cells from this descriptor up is closed.
+    CloseFrom(Fd),
     /// The process is in capability mode.
     Enter,
     /// The descriptor's cell.
@@ -112,20 +117,20 @@ pub struct Rule<'a> {
     pub effect: Effect<'a>,
 }
 
-/// The rule of a line.
+/// The rule of a line in a profile.
 ///
 /// The demand follows rights(4) and cap_enter(2); the effect follows what the line records, close(2) and
 /// cap_rights_limit(2) among others, whatever is said of the line.
-pub fn rule_of(line: &Line) -> Rule<'_>
+pub fn rule_of(profile: Profile, line: &Line) -> Rule<'_>
     ensures demand { result.demand ≡ demand line.now }
     // The effect does to each cell and to each mode what the line does.
-    ensures cells { (p f : ℕ) → effect_touch result.effect line.now.pid p f ≡ touch line.now p f }
-    ensures modes { (p : ℕ) → effect_turn result.effect line.now.pid p ≡ turn line.now p }
+    ensures cells { (p f : ℕ) → effect_touch result.effect line.now.pid p f ≡ touch (step profile line.now) p f }
+    ensures modes { (p : ℕ) → effect_turn result.effect line.now.pid p ≡ turn (step profile line.now) p }
 {
     match &line.item {
         Item::Call { call, answer } => Rule {
             demand: demand_of(call, answer),
-            effect: effect_of(call, answer),
+            effect: effect_of(profile, call, answer),
         },
         Item::Start(fds) => Rule {
             demand: unjudged_demand(),

@@ -17,7 +17,8 @@ pub struct Start {
 }
 
 impl Start {
-    /// The usual start, in which nothing is known of any process. It grows nothing.
+    /// The usual start, in which nothing is known of any process. It takes no memory.
+    #[tactic(auto, unfolding(crate::specs::Table::start_state))]
     pub fn unknown(alloc: Global) -> Start
         ensures { start_state result ≡ usual }
     {
@@ -29,8 +30,11 @@ impl Start {
     /// Adds what is known of a process: its mode, the cells that are listed, and that of all its other descriptors.
     ///
     /// Meant for a pid from 1 to 99,999 above all that were added, and strictly rising descriptors of at most 1,048,575.
-    /// Others do no harm: a process that was added before is put in place of what it was, and of a descriptor that is
-    /// listed twice the last cell counts. `NoMemory` leaves the start as it was.
+    /// Others do no harm: a process that was added before is replaced, and of a descriptor that is listed twice the last
+    /// cell counts.
+    ///
+    /// `NoMemory` when out of memory; the start is then as before.
+    #[tactic(auto, unfolding(crate::specs::Table::start_state))]
     pub fn add(
         &mut self,
         pid: Pid,
@@ -45,6 +49,7 @@ impl Start {
     }
 
     /// What is known of a descriptor of a process.
+    #[tactic(auto, unfolding(crate::specs::Table::start_state))]
     pub fn cell(&self, pid: Pid, fd: Fd) -> Cell
         ensures { result ≡ (start_state self.now).cell pid fd }
     {
@@ -52,6 +57,7 @@ impl Start {
     }
 
     /// What is known of the mode of a process.
+    #[tactic(auto, unfolding(crate::specs::Table::start_state))]
     pub fn mode(&self, pid: Pid) -> Mode
         ensures { result ≡ (start_state self.now).mode pid }
     {

@@ -1,77 +1,85 @@
 //! The processes of which something is known, going forward: the meaning of a table is what its look-ups answer.
 
-ghost use Rattle.std.specs.Prelude.{◌≡◌, ℕ, IfOk, OnOk, OnErr, ◌==◌, if◌then◌else◌};
+ghost use Rattle.std.specs.Prelude.{◌≡◌, ℕ, None, IfOk, OnOk, OnErr, ◌==◌, nat_le, if◌then◌else◌};
 ghost use Rattle.std.specs.Option.{option_copied, option_map_or};
+ghost use Rattle.std.specs.Vec.{vec_len};
 ghost use Rattle.cap_machine.specs.State.{usual, listed_cell, with_listed};
 ghost use Rattle.cap_machine.specs.Touch.{started};
 ghost use Rattle.cap_machine.specs.Check.{said_of};
-ghost use Rattle.cap_machine.specs.Judge.{findings_in};
-ghost use Rattle.cap_machine.specs.Table.{cell_in, cell_of, mode_of, state_of, Keeps, with_cell, with_mode, with_process, with_copy, with_rest, effect_after};
+ghost use Rattle.cap_machine.specs.Table.{cell_in, found, cell_of, mode_of, state_of, Keeps, StandsAt, with_cell, with_mode, with_process, with_started, with_unknown, with_copy, with_rest, with_op, with_closed_from, effect_after};
+ghost use Rattle.cap_machine.specs.Op.{exec};
+ghost use Rattle.cap_machine.specs.Cells.Pending.{settled};
 
-use crate::cell::{Cell, Mode};
-use crate::cells::Cells;
+mod index;
+
+use crate::cell::{Cell, Mode, OnExec};
+use crate::cells::{Cells, Pending};
 use crate::rule::{Checks, Demand, Effect};
+use crate::table::index::Index;
 use crate::verdict::Verdict;
 use cap_rights::{NoMemory, RightSet};
 use cap_trace::{Fd, Pid};
 use std::alloc::{AllocError, Global};
-use std::collections::BTreeMap;
-use std::rc::Rc;
 
-/// What is known of a process: its mode, and its cells.
-///
-/// A child shares its parent's cells until one of the two writes one.
+/// What is known of a process: its mode, and its cells. A clone shares the cells until one of the two writes one.
 #[derive(Drop)]
 pub(crate) struct Process {
+    pid: Pid,
     mode: Mode,
-    cells: Rc<Cells>,
+    cells: Cells,
 }
 
 impl Process {
-    /// A process of which nothing is known.
-    fn unknown(alloc: Global) -> Result<Process, NoMemory>
+    /// A process of which nothing is known, with any cells to begin from.
+    fn unknown(pid: Pid, cells: Cells) -> Result<Process, NoMemory>
         ensures cells { IfOk result (λ new. (f : ℕ) → cell_in new f ≡ Cell.Unknown) }
         ensures mode { IfOk result (λ new. new.mode ≡ Mode.Unsure) }
+        ensures pid { IfOk result (λ new. new.pid ≡ pid) }
     {
+        let mut cells = cells;
+        cells.settle(Pending::Forget)?;
         Ok(Process {
+            pid,
             mode: Mode::Unsure,
-            cells: Rc::new(alloc, Cells::all(alloc, Cell::Unknown))?,
+            cells,
         })
     }
 
-    /// A process that holds these descriptors and no others.
-    fn started(alloc: Global, fds: &[Fd]) -> Result<Process, NoMemory>
+    /// A process that holds these descriptors and no others, with any cells to begin from.
+    fn started(pid: Pid, cells: Cells, fds: &[Fd]) -> Result<Process, NoMemory>
         ensures cells { IfOk result (λ new. (f : ℕ) → cell_in new f ≡ started fds.now f) }
         ensures mode { IfOk result (λ new. new.mode ≡ Mode.Outside) }
+        ensures pid { IfOk result (λ new. new.pid ≡ pid) }
     {
-        let mut cells = Cells::all(alloc, Cell::Closed);
+        let mut cells = cells;
+        cells.settle(Pending::Close)?;
         for fd in fds {
-            cells.write(alloc, *fd, Cell::Held(RightSet::all()))?;
+            cells.write(*fd, Cell::Held(RightSet::all(), OnExec::Unsure))?;
         }
         Ok(Process {
+            pid,
             mode: Mode::Outside,
-            cells: Rc::new(alloc, cells)?,
+            cells,
         })
     }
 
     /// A process with this mode and these cells; of a descriptor that is listed twice the last counts.
     fn listed(
         alloc: Global,
+        pid: Pid,
         mode: Mode,
         rest: Cell,
         listed: &[(Fd, Cell)],
     ) -> Result<Process, NoMemory>
         ensures cells { IfOk result (λ new. (f : ℕ) → cell_in new f ≡ listed_cell rest listed.now f) }
         ensures mode { IfOk result (λ new. new.mode ≡ mode) }
+        ensures pid { IfOk result (λ new. new.pid ≡ pid) }
     {
-        let mut cells = Cells::all(alloc, rest);
+        let mut cells = Cells::all(alloc, rest)?;
         for (fd, cell) in listed {
-            cells.write(alloc, *fd, *cell)?;
+            cells.write(*fd, *cell)?;
         }
-        Ok(Process {
-            mode,
-            cells: Rc::new(alloc, cells)?,
-        })
+        Ok(Process { pid, mode, cells })
     }
 
     fn cell(&self, fd: Fd) -> Cell
@@ -80,13 +88,31 @@ impl Process {
         self.cells.cell(fd)
     }
 
-    /// Writes one cell, in a table of its own.
-    fn write(&mut self, alloc: Global, fd: Fd, cell: Cell) -> Result<(), NoMemory>
+    /// Writes one cell.
+    fn write(&mut self, fd: Fd, cell: Cell) -> Result<(), NoMemory>
         ensures cells { OnOk result ((f : ℕ) → cell_in self.new f ≡ (if f == fd then cell else cell_in self.old f)) }
         ensures mode { OnOk result (self.new.mode ≡ self.old.mode) }
+        ensures pid { OnOk result (self.new.pid ≡ self.old.pid) }
     {
-        let cells = Rc::make_mut(&mut self.cells)?;
-        cells.write(alloc, fd, cell)
+        self.cells.write(fd, cell)
+    }
+
+    /// Does this to each cell.
+    fn settle(&mut self, pending: Pending) -> Result<(), NoMemory>
+        ensures cells { OnOk result ((f : ℕ) → cell_in self.new f ≡ settled pending (cell_in self.old f)) }
+        ensures mode { OnOk result (self.new.mode ≡ self.old.mode) }
+        ensures pid { OnOk result (self.new.pid ≡ self.old.pid) }
+    {
+        self.cells.settle(pending)
+    }
+
+    /// Closes the descriptors from one on.
+    fn close_from(&mut self, fd: Fd) -> Result<(), NoMemory>
+        ensures cells { OnOk result ((f : ℕ) → cell_in self.new f ≡ (if nat_le fd f then Cell.Closed else cell_in self.old f)) }
+        ensures mode { OnOk result (self.new.mode ≡ self.old.mode) }
+        ensures pid { OnOk result (self.new.pid ≡ self.old.pid) }
+    {
+        self.cells.close_from(fd)
     }
 }
 
@@ -97,6 +123,7 @@ impl Clone for Process {
 
     fn clone(&self) -> Result<Process, AllocError> {
         Ok(Process {
+            pid: self.pid,
             mode: self.mode,
             cells: self.cells.clone()?,
         })
@@ -123,21 +150,28 @@ fn cell_at(process: Option<&Process>, fd: Fd) -> Cell
     }
 }
 
-/// Each process of which something is known.
+/// Each process of which something is known, and where it stands among them.
+///
+/// A new process begins from a clone of the cells in `blank`, whatever they are, with all of them pending to be forgotten or
+/// closed: so it shares them, and takes memory only for what is written.
 #[derive(Drop)]
 pub(crate) struct Table {
     alloc: Global,
-    processes: BTreeMap<Pid, Process>,
+    index: Index,
+    processes: Vec<Process>,
+    blank: Option<Cells>,
 }
 
 impl Table {
-    /// The table in which nothing is known. It grows nothing.
+    /// The table in which nothing is known. It takes no memory.
     pub(crate) fn unknown(alloc: Global) -> Table
         ensures { Keeps result usual }
     {
         Table {
             alloc,
-            processes: BTreeMap::new(alloc),
+            index: Index::new(alloc),
+            processes: Vec::new(alloc),
+            blank: None,
         }
     }
 
@@ -147,29 +181,108 @@ impl Table {
     {
         Ok(Table {
             alloc,
+            index: self.index.clone()?,
             processes: self.processes.clone()?,
+            blank: None,
         })
+    }
+
+    /// What is known of a process.
+    fn find(&self, pid: Pid) -> Option<&Process>
+        ensures { option_copied result ≡ found self.now pid }
+    {
+        match self.processes.get(self.index.place(pid)) {
+            Some(process) if process.pid == pid => Some(process),
+            _ => None,
+        }
     }
 
     pub(crate) fn cell(&self, pid: Pid, fd: Fd) -> Cell
         ensures { result ≡ cell_of self.now pid fd }
     {
-        cell_at(self.processes.get(&pid), fd)
+        cell_at(self.find(pid), fd)
     }
 
     pub(crate) fn mode(&self, pid: Pid) -> Mode
         ensures { result ≡ mode_of self.now pid }
     {
-        mode_in(self.processes.get(&pid))
+        mode_in(self.find(pid))
+    }
+
+    /// Any cells for a process to begin from.
+    fn begin(&mut self) -> Result<Cells, NoMemory>
+        ensures index { self.new.index ≡ self.old.index }
+        ensures processes { self.new.processes ≡ self.old.processes }
+    {
+        match &self.blank {
+            Some(cells) => Ok(cells.clone()?),
+            None => {
+                let cells = Cells::all(self.alloc, Cell::Unknown)?;
+                self.blank = Some(cells.clone()?);
+                Ok(cells)
+            }
+        }
+    }
+
+    /// Adds a process of which nothing was known.
+    fn append(&mut self, process: Process) -> Result<(), NoMemory>
+        requires { found self.old process.pid ≡ None }
+        ensures ok { OnOk result ((r : ℕ) → found self.new r ≡ (if r == process.pid then Some process else found self.old r)) }
+        ensures place { OnOk result (StandsAt self.new process.pid (vec_len self.old.processes)) }
+        ensures err { OnErr result ((r : ℕ) → found self.new r ≡ found self.old r) }
+    {
+        self.index.set(process.pid, self.processes.len())?;
+        self.processes.push(process)?;
+        Ok(())
+    }
+
+    /// Stores a process in place of what was known.
+    fn store(&mut self, process: Process) -> Result<(), NoMemory>
+        ensures ok { OnOk result ((r : ℕ) → found self.new r ≡ (if r == process.pid then Some process else found self.old r)) }
+        ensures err { OnErr result ((r : ℕ) → found self.new r ≡ found self.old r) }
+    {
+        let place = self.index.place(process.pid);
+        match self.processes.get_mut(place) {
+            Some(old) if old.pid == process.pid => {
+                *old = process;
+                Ok(())
+            }
+            _ => self.append(process),
+        }
     }
 
     /// Puts a process in place of what was known.
-    fn put(&mut self, pid: Pid, process: Process) -> Result<(), NoMemory>
-        ensures ok { OnOk result (Keeps self.new (with_process (state_of self.old) pid process)) }
+    fn put(&mut self, process: Process) -> Result<(), NoMemory>
+        ensures ok { OnOk result (Keeps self.new (with_process (state_of self.old) process.pid process)) }
         ensures err { OnErr result (Keeps self.new (state_of self.old)) }
     {
-        self.processes.insert(pid, process)?;
+        self.store(process)?;
         Ok(())
+    }
+
+    /// Adds a process of which nothing was known, and nothing is; where it stands.
+    fn enter_new(&mut self, pid: Pid) -> Result<usize, NoMemory>
+        requires { found self.old pid ≡ None }
+        ensures kept { OnOk result (Keeps self.new (state_of self.old)) }
+        ensures place { IfOk result (λ place. StandsAt self.new pid place) }
+    {
+        let cells = self.begin()?;
+        let process = Process::unknown(pid, cells)?;
+        let place = self.processes.len();
+        self.append(process)?;
+        Ok(place)
+    }
+
+    /// Where a process stands; one of which nothing was known is added.
+    fn enter(&mut self, pid: Pid) -> Result<usize, NoMemory>
+        ensures kept { OnOk result (Keeps self.new (state_of self.old)) }
+        ensures place { IfOk result (λ place. StandsAt self.new pid place) }
+    {
+        let place = self.index.place(pid);
+        match self.processes.get(place) {
+            Some(process) if process.pid == pid => Ok(place),
+            _ => self.enter_new(pid),
+        }
     }
 
     /// Puts a process with this mode and these cells in place of what was known.
@@ -183,40 +296,77 @@ impl Table {
         ensures ok { OnOk result (Keeps self.new (with_listed (state_of self.old) pid mode rest cells.now)) }
         ensures err { OnErr result (Keeps self.new (state_of self.old)) }
     {
-        let process = Process::listed(self.alloc, mode, rest, cells)?;
-        self.put(pid, process)
+        let process = Process::listed(self.alloc, pid, mode, rest, cells)?;
+        self.put(process)
     }
 
     /// Writes one cell.
     fn write(&mut self, pid: Pid, fd: Fd, cell: Cell) -> Result<(), NoMemory>
         ensures { OnOk result (Keeps self.new (with_cell (state_of self.old) pid fd cell)) }
     {
-        match self.processes.get_mut(&pid) {
-            Some(process) => {
-                process.write(self.alloc, fd, cell)?;
-                Ok(())
-            }
-            None => {
-                let mut process = Process::unknown(self.alloc)?;
-                process.write(self.alloc, fd, cell)?;
-                self.put(pid, process)
-            }
-        }
+        let place = self.enter(pid)?;
+        let process = &mut self.processes[place];
+        process.write(fd, cell)?;
+        Ok(())
     }
 
     /// Writes one mode.
     fn set_mode(&mut self, pid: Pid, mode: Mode) -> Result<(), NoMemory>
         ensures { OnOk result (Keeps self.new (with_mode (state_of self.old) pid mode)) }
     {
-        match self.processes.get_mut(&pid) {
+        let place = self.enter(pid)?;
+        let process = &mut self.processes[place];
+        process.mode = mode;
+        Ok(())
+    }
+
+    /// Forgets the cells of a process, and keeps its mode.
+    fn forget(&mut self, pid: Pid) -> Result<(), NoMemory>
+        ensures { OnOk result (Keeps self.new (with_rest (state_of self.old) pid Cell.Unknown)) }
+    {
+        let cells = self.begin()?;
+        let mut process = Process::unknown(pid, cells)?;
+        process.mode = self.mode(pid);
+        self.put(process)
+    }
+
+    /// Does what an exec does with the cells of a process in profile 2.
+    fn exec(&mut self, pid: Pid) -> Result<(), NoMemory>
+        ensures { OnOk result (Keeps self.new (with_op (state_of self.old) pid exec)) }
+    {
+        let place = self.enter(pid)?;
+        let process = &mut self.processes[place];
+        process.settle(Pending::Exec)?;
+        Ok(())
+    }
+
+    /// Closes the descriptors of a process from one on.
+    fn close_from(&mut self, pid: Pid, fd: Fd) -> Result<(), NoMemory>
+        ensures { OnOk result (Keeps self.new (with_closed_from (state_of self.old) pid fd)) }
+    {
+        let place = self.enter(pid)?;
+        let process = &mut self.processes[place];
+        process.close_from(fd)?;
+        Ok(())
+    }
+
+    /// A process that has what another one has.
+    fn like(&mut self, parent: Pid, pid: Pid) -> Result<Process, NoMemory>
+        ensures index { self.new.index ≡ self.old.index }
+        ensures processes { self.new.processes ≡ self.old.processes }
+        ensures cells { IfOk result (λ new. (f : ℕ) → cell_in new f ≡ cell_of self.old parent f) }
+        ensures mode { IfOk result (λ new. new.mode ≡ mode_of self.old parent) }
+        ensures pid { IfOk result (λ new. new.pid ≡ pid) }
+    {
+        match self.find(parent) {
             Some(process) => {
-                process.mode = mode;
-                Ok(())
+                let mut copy = process.clone()?;
+                copy.pid = pid;
+                Ok(copy)
             }
             None => {
-                let mut process = Process::unknown(self.alloc)?;
-                process.mode = mode;
-                self.put(pid, process)
+                let cells = self.begin()?;
+                Process::unknown(pid, cells)
             }
         }
     }
@@ -225,27 +375,33 @@ impl Table {
     fn fork(&mut self, parent: Pid, child: Pid) -> Result<(), NoMemory>
         ensures { OnOk result (Keeps self.new (with_copy (state_of self.old) parent child)) }
     {
-        let copy = match self.processes.get(&parent) {
-            Some(process) => process.clone()?,
-            None => Process::unknown(self.alloc)?,
-        };
-        self.put(child, copy)
+        let copy = self.like(parent, child)?;
+        self.put(copy)
     }
 
-    /// Forgets the cells of a process, and keeps its mode.
-    fn exec(&mut self, pid: Pid) -> Result<(), NoMemory>
-        ensures { OnOk result (Keeps self.new (with_rest (state_of self.old) pid Cell.Unknown)) }
+    /// A process begins, and holds these descriptors and no others.
+    fn start(&mut self, pid: Pid, fds: &[Fd]) -> Result<(), NoMemory>
+        ensures { OnOk result (Keeps self.new (with_started (state_of self.old) pid fds.now)) }
     {
-        let mut process = Process::unknown(self.alloc)?;
-        process.mode = self.mode(pid);
-        self.put(pid, process)
+        let cells = self.begin()?;
+        let process = Process::started(pid, cells, fds)?;
+        self.put(process)
+    }
+
+    /// A process ends.
+    fn exit(&mut self, pid: Pid) -> Result<(), NoMemory>
+        ensures { OnOk result (Keeps self.new (with_unknown (state_of self.old) pid)) }
+    {
+        let cells = self.begin()?;
+        let process = Process::unknown(pid, cells)?;
+        self.put(process)
     }
 
     /// What is said of a line of a process with this demand.
     pub(crate) fn said(&self, pid: Pid, demand: &Demand) -> Verdict
-        ensures { findings_in result ≡ said_of demand.now pid (state_of self.now) }
+        ensures { result ≡ said_of demand.now pid (state_of self.now) }
     {
-        let process = self.processes.get(&pid);
+        let process = self.find(pid);
         let mode = mode_in(process);
         match &demand.checks {
             Checks::Nothing => demand.judge(mode, &[]),
@@ -263,15 +419,11 @@ impl Table {
         match effect {
             Effect::Keep => Ok(()),
             Effect::Enter => self.set_mode(pid, Mode::Inside),
-            Effect::Start(fds) => {
-                let process = Process::started(self.alloc, fds)?;
-                self.put(pid, process)
-            }
-            Effect::Exit => {
-                let process = Process::unknown(self.alloc)?;
-                self.put(pid, process)
-            }
+            Effect::Start(fds) => self.start(pid, fds),
+            Effect::Exit => self.exit(pid),
+            Effect::Forget => self.forget(pid),
             Effect::Exec => self.exec(pid),
+            Effect::CloseFrom(fd) => self.close_from(pid, *fd),
             Effect::Give(fd, cell) => self.write(pid, *fd, *cell),
             Effect::GiveTwo(first, second, cell) => {
                 self.write(pid, *first, *cell)?;

@@ -1,12 +1,14 @@
 //! What is said of a line.
 
-ghost use Rattle.std.specs.Prelude.{◌≡◌, [], ◌∷◌, length, option_to_list};
-ghost use Rattle.cap_machine.specs.Judge.{listed, fault, judged, findings_in, is_excused};
+ghost use Rattle.std.specs.Prelude.{◌≡◌, ◌≤◌, ◌<◌, ◌+◌, ◌++◌, [], ◌∷◌, length, option_to_list};
+ghost use Rattle.cap_machine.specs.Judge.{listed, forbidden, fault, judged, is_excused};
 
 use crate::cell::{Cell, Mode};
 use crate::rule::{Check, Checks, Class, Demand, Reply, Rule, Word};
 use cap_rights::RightSet;
 use cap_trace::Fd;
+use std::fmt;
+use std::marker::Model;
 
 /// What is wrong with a line.
 #[derive(Clone, Copy, Debug, PartialEq, Eq)]
@@ -21,7 +23,7 @@ pub enum Finding {
     Expanded(Fd, RightSet),
     /// A call succeeded on this descriptor, which is closed.
     Closed(Fd),
-    /// A call was refused for want of rights that its descriptors hold.
+    /// A call was refused for lack of rights that its descriptors hold.
     Refusal,
 }
 
@@ -34,30 +36,94 @@ pub struct Found {
     pub finding: Finding,
 }
 
-/// What is said of one line: at most three findings, in order.
-#[derive(Clone, Copy, Debug, PartialEq, Eq)]
+/// What is said of one line: a list of at most three findings, in the order in which a report has them.
+#[derive(Drop)]
 pub struct Verdict {
-    pub first: Option<Finding>,
-    pub second: Option<Finding>,
-    pub third: Option<Finding>,
+    findings: [Finding; 3],
+    count: usize,
+}
+
+impl Model for Verdict {
+    ghost use Rattle.std.specs.Prelude.{◌≤◌, List, take};
+    ghost use Rattle.cap_machine.specs.declared.verdict.Finding.{Finding};
+
+    ghost Value = { List Finding };
+
+    ghost view = { λ v. take v.count v.findings };
+
+    ghost invariant = { λ v. v.count ≤ 3 };
 }
 
 impl Verdict {
     /// Nothing is said.
-    pub const SILENT: Verdict = Verdict {
-        first: None,
-        second: None,
-        third: None,
-    };
-
-    fn only(finding: Finding) -> Verdict
-        ensures { findings_in result ≡ finding ∷ [] }
+    pub fn silent() -> Verdict
+        ensures { result ≡ [] }
     {
         Verdict {
-            first: Some(finding),
-            second: None,
-            third: None,
+            findings: [Finding::Forbidden; 3],
+            count: 0,
         }
+    }
+
+    /// The findings, in order.
+    pub fn as_slice(&self) -> &[Finding]
+        ensures findings { result.now ≡ self.now }
+        ensures few { length self.now ≤ 3 }
+    {
+        &self.findings[..self.count]
+    }
+
+    /// How many findings there are: at most three.
+    pub fn len(&self) -> usize
+        ensures count { result ≡ length self.now }
+        ensures few { result ≤ 3 }
+    {
+        self.as_slice().len()
+    }
+
+    /// Adds a finding at the end.
+    fn push(&mut self, finding: Finding)
+        requires room { length self.old < 3 }
+        ensures { self.new ≡ self.old ++ finding ∷ [] }
+    {
+        self.findings[self.count] = finding;
+        self.count += 1;
+    }
+
+    /// Adds a finding at the end, where there is one.
+    fn add(&mut self, finding: Option<Finding>)
+        requires room { length self.old < 3 }
+        ensures added { self.new ≡ self.old ++ option_to_list finding }
+        ensures one { length self.new ≤ length self.old + 1 }
+    {
+        if let Some(finding) = finding {
+            self.push(finding);
+        }
+    }
+
+    fn only(finding: Finding) -> Verdict
+        ensures { result ≡ finding ∷ [] }
+    {
+        let mut verdict = Verdict::silent();
+        verdict.push(finding);
+        verdict
+    }
+}
+
+/// The list of its findings.
+impl fmt::Debug for Verdict {
+    fn fmt<W: fmt::Write>(&self, f: &mut fmt::Formatter<W>) -> fmt::Result {
+        write!(f, "{:?}", self.as_slice())
+    }
+}
+
+/// What is said of a call that succeeded, by its class.
+fn forbidden_of(class: Class, mode: Mode) -> Option<Finding>
+    ensures { option_to_list result ≡ forbidden class mode }
+{
+    match (class, mode) {
+        (Class::Forbidden, Mode::Inside) => Some(Finding::Forbidden),
+        _ => None,
     }
 }
 
@@ -68,7 +134,7 @@ fn fault_of(word: Word, check: &Check, cell: Cell) -> Option<Finding>
     match cell {
         Cell::Unknown => None,
         Cell::Closed => Some(Finding::Closed(check.fd)),
-        Cell::Held(held) => {
+        Cell::Held(held, _) => {
             if held.has_all(&check.needs) {
                 None
             } else {
@@ -86,7 +152,7 @@ fn is_excused_by(excuse: Option<RightSet>, cell: Cell) -> bool
     ensures { result ≡ is_excused excuse cell }
 {
     match (excuse, cell) {
-        (Some(excuse), Cell::Held(held)) => held.has_all(&excuse),
+        (Some(excuse), Cell::Held(held, _)) => held.has_all(&excuse),
         _ => false,
     }
 }
@@ -94,29 +160,25 @@ fn is_excused_by(excuse: Option<RightSet>, cell: Cell) -> bool
 fn judge_success(demand: &Demand, mode: Mode, cells: &[Cell]) -> Verdict
     requires one_each { length cells.now ≡ length (listed demand.now.checks) }
     requires success { demand.now.reply ≡ Reply.Success }
-    ensures { findings_in result ≡ judged demand.now mode cells.now }
+    ensures { result ≡ judged demand.now mode cells.now }
 {
-    let first = match (demand.class, mode) {
-        (Class::Forbidden, Mode::Inside) => Some(Finding::Forbidden),
-        _ => None,
-    };
-    let word = demand.word;
-    let (second, third) = match &demand.checks {
-        Checks::Nothing => (None, None),
-        Checks::One(a) => (fault_of(word, a, cells[0]), None),
-        Checks::Two(a, b) => (fault_of(word, a, cells[0]), fault_of(word, b, cells[1])),
-    };
-    Verdict {
-        first,
-        second,
-        third,
+    let mut verdict = Verdict::silent();
+    verdict.add(forbidden_of(demand.class, mode));
+    match &demand.checks {
+        Checks::Nothing => {}
+        Checks::One(a) => verdict.add(fault_of(demand.word, a, cells[0])),
+        Checks::Two(a, b) => {
+            verdict.add(fault_of(demand.word, a, cells[0]));
+            verdict.add(fault_of(demand.word, b, cells[1]));
+        }
     }
+    verdict
 }
 
 fn judge_refusal(demand: &Demand, mode: Mode, cells: &[Cell]) -> Verdict
     requires one_each { length cells.now ≡ length (listed demand.now.checks) }
     requires refused { demand.now.reply ≡ Reply.NotCapable }
-    ensures { findings_in result ≡ judged demand.now mode cells.now }
+    ensures { result ≡ judged demand.now mode cells.now }
 {
     let excused = match &demand.checks {
         Checks::Nothing => false,
@@ -128,7 +190,7 @@ fn judge_refusal(demand: &Demand, mode: Mode, cells: &[Cell]) -> Verdict
     if excused && (!demand.at || mode == Mode::Outside) {
         Verdict::only(Finding::Refusal)
     } else {
-        Verdict::SILENT
+        Verdict::silent()
     }
 }
 
@@ -136,7 +198,7 @@ impl Demand {
     /// What is said of a line with this demand, in this mode and with the cell of each check in order. It takes no memory.
     pub fn judge(&self, mode: Mode, cells: &[Cell]) -> Verdict
         requires one_each { length cells.now ≡ length (listed self.now.checks) }
-        ensures { findings_in result ≡ judged self.now mode cells.now }
+        ensures { result ≡ judged self.now mode cells.now }
     {
         match self.reply {
             Reply::Success => judge_success(self, mode, cells),
@@ -145,18 +207,20 @@ impl Demand {
                 if mode == Mode::Outside || self.class == Class::Allowed {
                     Verdict::only(Finding::ModeRefusal)
                 } else {
-                    Verdict::SILENT
+                    Verdict::silent()
                 }
             }
-            Reply::Other => Verdict::SILENT,
+            Reply::Other => Verdict::silent(),
         }
     }
 }
 
 /// What is said of a line with this rule, in this mode and with the cell of each check in order. It takes no memory.
+///
+/// What is known of a descriptor's close-on-exec flag makes no difference.
 pub fn judge(rule: &Rule<'_>, mode: Mode, cells: &[Cell]) -> Verdict
     requires one_each { length cells.now ≡ length (listed rule.now.demand.checks) }
-    ensures { findings_in result ≡ judged rule.now.demand mode cells.now }
+    ensures { result ≡ judged rule.now.demand mode cells.now }
 {
     rule.demand.judge(mode, cells)
 }

@@ -9,7 +9,7 @@ use Rattle.cap_rights.specs.Rights.{all, none, holds}
 use Rattle.cap_rights.specs.Text.{held_names_from, held_names, text}
 use Rattle.cap_rights.specs.Laws.{TextIsShort, LimitFits}
 
--- the bytes of these names, with a bar behind each
+-- the bytes of these names, with a bar after each
 abbrev room : List (List ℕ) → ℕ
 room [] = 0
 room (w ∷ ws) = suc (length w) + room ws

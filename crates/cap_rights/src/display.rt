@@ -1,6 +1,6 @@
 //! How a set of rights is printed: as its text, so that `println!` and a failed test name the rights.
 
-ghost use Rattle.std.specs.Prelude.{Some};
+ghost use Rattle.std.specs.Prelude.{Some, ◌++◌, codes};
 ghost use Rattle.std.specs.List.{join_with_byte};
 ghost use Rattle.cap_rights.specs.Text.{bar, held_names, text};
 
@@ -48,6 +48,8 @@ impl fmt::Display for RightSet {
 
 /// The text in brackets, as `RightSet(CAP_READ|CAP_SEEK)`.
 impl fmt::Debug for RightSet {
+    ghost debug_output = { λ rights. Some (codes "RightSet(" ++ text rights ++ codes ")") };
+
     fn fmt<W: fmt::Write>(&self, f: &mut fmt::Formatter<W>) -> fmt::Result {
         write!(f, "RightSet({self})")
     }

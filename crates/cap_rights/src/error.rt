@@ -1,20 +1,20 @@
-//! What can go wrong with rights: a text that names none, and want of memory.
+//! What can go wrong with rights: a text that is not a set of rights, and no memory left.
 
 ghost use Rattle.std.specs.Prelude.{⊤};
 
 use std::alloc::{AllocError, AllocFailed};
 use thiserror::Error;
 
-/// A text that names no set of rights.
+/// The text is not a set of rights.
 ///
 /// ```
 /// assert_eq!(parse_rights(b"CAP_SEEK_TELL"), Err(BadRight));
 /// ```
 #[derive(Clone, Copy, Debug, PartialEq, Eq, Error)]
-#[error("no set of rights")]
+#[error("not a set of rights")]
 pub struct BadRight;
 
-/// Memory ran out: the allocator refused to give as much as was needed. `?` makes one of what an allocation answers.
+/// Out of memory: the allocator refused a request. `?` converts the error of an allocation to this one.
 ///
 /// ```
 /// fn copied(alloc: Global, text: &[u8]) -> Result<Vec<u8>, NoMemory> {
@@ -26,7 +26,7 @@ pub struct BadRight;
 pub struct NoMemory;
 
 impl From<AllocError> for NoMemory {
-    // There is one `NoMemory`.
+    // There is only one `NoMemory`, so there is nothing to say of it.
     ghost from_gives = { λ _ _. ⊤ };
 
     fn from(_error: AllocError) -> NoMemory {

@@ -1,7 +1,8 @@
-//! Worked rows: texts of rights with what is written for them again, and sets of rights.
+//! Worked rows: texts of rights with what is written for them again, and sets of rights. Out of memory fails each test,
+//! except where an allocation is refused on purpose.
 
 use crate::{BadRight, NoMemory, RightBits, RightSet, parse_rights, write_rights};
-use std::alloc::AllocError;
+use std::alloc::{AllocError, AllocFailed, Global};
 use std::test::Fail;
 
 /// All 63 rights by name, which is not FULL.
@@ -42,10 +43,22 @@ fn texts_are_read_and_written_again(rt: HostRuntime) -> Result<(), Fail> {
 }
 
 #[test]
-fn other_texts_name_no_set(rt: HostRuntime) {
+fn other_texts_are_refused(rt: HostRuntime) -> Result<(), Fail> {
     for text in ["", "ALL|CAP_READ", "CAP_READ|", "cap_read", "CAP_SEEK_TELL"] {
         assert_eq!(rt; parse_rights(text.as_bytes()), Err(BadRight), "of {text}");
     }
+    let shown = format!(in rt.alloc(); "{BadRight} {NoMemory}")?;
+    assert_eq!(rt; shown.as_str(), "not a set of rights out of memory");
+    Ok(())
+}
+
+#[test]
+fn the_example_of_the_crate(rt: HostRuntime) -> Result<(), Fail> {
+    let rights = parse_rights(b"CAP_READ|CAP_SEEK")?;
+    let need = RightSet::named(RightBits::CAP_PWRITE);
+    assert!(rt; !rights.has_all(&need));
+    assert_eq!(rt; need.minus(&rights), RightSet::named(RightBits::CAP_WRITE));
+    Ok(())
 }
 
 #[test]
@@ -58,12 +71,33 @@ fn sets_hold_what_they_should(rt: HostRuntime) -> Result<(), Fail> {
     let read = RightSet::named(RightBits::CAP_READ);
     let seek = RightSet::named(RightBits::CAP_SEEK);
     assert_eq!(rt; read.join(&seek), RightSet::named(RightBits::CAP_PREAD));
-    let shown = format!(in rt.alloc(); "{seek} {read:?}")?;
-    assert_eq!(rt; shown.as_str(), "CAP_SEEK RightSet(CAP_READ)");
     Ok(())
 }
 
 #[test]
-fn want_of_memory_is_one_error(rt: HostRuntime) {
+fn sets_are_printed_as_their_text(rt: HostRuntime) -> Result<(), Fail> {
+    let pread = RightSet::named(RightBits::CAP_PREAD);
+    let shown = format!(in rt.alloc();
+        "{pread} {pread:?} {} {}",
+        RightSet::all(),
+        RightSet::none()
+    )?;
+    assert_eq!(rt;
+        shown.as_str(),
+        "CAP_READ|CAP_SEEK RightSet(CAP_READ|CAP_SEEK) ALL NONE"
+    );
+    Ok(())
+}
+
+/// Asks for more than there can be.
+fn too_much(alloc: Global) -> Result<Vec<u8>, NoMemory> {
+    Ok(Vec::with_capacity(alloc, 1 << 62)?)
+}
+
+#[test]
+fn a_refused_allocation_is_no_memory(rt: HostRuntime) -> Result<(), Fail> {
+    assert_eq!(rt; too_much(rt.alloc()).err(), Some(NoMemory));
     assert_eq!(rt; NoMemory::from(AllocError), NoMemory);
+    assert_eq!(rt; NoMemory::from(AllocFailed { value: 1 }), NoMemory);
+    Ok(())
 }

@@ -1,19 +1,21 @@
 -- The outcome is that of the text.
 use Rattle.std.proofs.Common.{◌≡◌, ℕ, List, [], ◌++◌, sym, ◌∙◌, ap, inl, inr, subst, arith}
-use Rattle.std.specs.Prelude.{Result, Ok, Err, Option, Some, None, ◌⊎◌}
+use Rattle.std.specs.Prelude.{Result, Ok, Err, IsOk, Option, Some, None, ◌⊎◌}
 use Rattle.std.specs.Io.KnownBytes.{Consumes, IsAtEnd}
 use Rattle.std.proofs.lemmas.List.{append-nil}
 use Rattle.cap_trace.specs.Entry.{Entry}
-use Rattle.cap_machine.specs.State.{usual}
+use Rattle.cap_machine.specs.Steps.{steps}
+use Rattle.cap_machine.specs.State.{State}
 use Rattle.cap_machine.specs.Report.{report}
 use Rattle.cap_session.specs.Devices.{SourceState}
 use Rattle.cap_session.specs.Trace.{trace, soon, next_entry}
-use Rattle.cap_session.specs.Reads.{Told}
+use Rattle.cap_session.specs.Reads.{IsEnded, IsGood}
+use Rattle.cap_session.specs.Refused.{code_of}
 use Rattle.cap_session.specs.Refusal.{refusal_text}
-use Rattle.cap_session.specs.Streams.{IsFront}
+use Rattle.cap_session.specs.Streams.{IsPrefix}
 use Rattle.cap_session.specs.Laws.{BeginningDecides, GoodIsReported, BadIsRefused, PiecesAgree}
-use Rattle.cap_session.specs.declared.refusal.Refusal.{Refusal}
-use Rattle.cap_session.specs.declared.outcome.Outcome.TheVariants.{Clean, Findings, Refused, Memory, ReadFault, WriteFault, TooLong}
+use Rattle.cap_session.specs.declared.refused.Refusal.{Refusal}
+use Rattle.cap_session.specs.declared.outcome.Outcome.TheVariants.{Clean, Findings, Refused, StartRefused, Memory, ReadFault, WriteFault, TooLong}
 use Rattle.cap_session.proofs.Soon.{soon_after, whole_after, whole_too}
 
 pub beginning_decides : BeginningDecides
@@ -43,32 +45,33 @@ same_line r d e one two =
     cc
 
 pub good_is_reported : GoodIsReported
-good_is_reported turns r0 r1 w0 w1 Clean entries call told good =
+good_is_reported profile start turns r0 r1 w0 w1 Clean entries call told good =
     let same = same_entries _ call.answer.0 entries call.answer.1.good good in
     rw (← same) (call.answer.2, call.answer.1.is)
-good_is_reported turns r0 r1 w0 w1 Findings entries call told good =
+good_is_reported profile start turns r0 r1 w0 w1 Findings entries call told good =
     let same = same_entries _ call.answer.0 entries call.answer.1.good good in
     rw (← same) (call.answer.2, call.answer.1.is)
-good_is_reported turns r0 r1 w0 w1 (Refused code line) entries call told good =
-    not_both _ entries _ good (refused_whole _ call.given _ call.answer.line.line)
-good_is_reported turns r0 r1 w0 w1 Memory entries call told good = call.answer.1
-good_is_reported turns r0 r1 w0 w1 ReadFault entries call told good =
+good_is_reported profile start turns r0 r1 w0 w1 (Refused code line) entries call told good =
+    not_both _ entries _ good (refused_whole _ call.given _ call.answer.tells.line.line)
+good_is_reported profile start turns r0 r1 w0 w1 (StartRefused code line) entries call told good = absurd call.answer
+good_is_reported profile start turns r0 r1 w0 w1 Memory entries call told good = call.answer.silent
+good_is_reported profile start turns r0 r1 w0 w1 ReadFault entries call told good =
     let going = call.answer.going in
     let ended = told.0 in
     omega arith
-good_is_reported turns r0 r1 w0 w1 TooLong entries call told good =
+good_is_reported profile start turns r0 r1 w0 w1 TooLong entries call told good =
     let going = call.answer.0.going in
     let ended = told.0 in
     omega arith
-good_is_reported turns r0 r1 w0 w1 WriteFault entries call told good =
+good_is_reported profile start turns r0 r1 w0 w1 WriteFault entries call told good =
     elim call.answer.1 [
       | inl is ↦
           let same = same_entries _ is.0 entries is.1.good good in
-          subst (λ (text : List ℕ). IsFront call.written text) (is.1.is ∙ ap (report usual) same) call.answer.2
+          subst (λ (text : List ℕ). IsPrefix call.written text) (is.1.is ∙ ap (λ (t : List Entry). report start (steps profile t)) same) call.answer.2
       | inr is ↦ absurd (not_both _ entries _ good (refused_whole _ call.given _ is.1.line.line))
     ]
 
-not_open : (r0 r1 : SourceState) (given : List ℕ) (e : Refusal) → r1.ends ≡ r0.ends → soon given ≡ None → Line (Told r0 r1) given e → ⊥
+not_open : (r0 r1 : SourceState) (given : List ℕ) (e : Refusal) → r1.ends ≡ r0.ends → soon given ≡ None → Line (IsEnded r0 r1) given e → ⊥
 not_open r0 r1 given e going good (inl is) =
     let no = sym good ∙ is in
     cc
@@ -76,21 +79,34 @@ not_open r0 r1 given e going good (inr is) =
     let ended = is.0.0 in
     omega arith
 
+bad_is_not_ok : (r : Result (List Entry) Refusal) (e : Refusal) → r ≡ Err e → IsOk r → ⊥
+bad_is_not_ok (Ok entries) e is ok = cc
+bad_is_not_ok (Err f) e is ok = cc
+
+-- no line is refused where none is
+not_good : (told : Type 0) (given : List ℕ) (e : Refusal) → IsGood trace soon told given → Line told given e → ⊥
+not_good told given e good (inl is) =
+    let no = sym good.before ∙ is in
+    cc
+not_good told given e good (inr is) =
+    bad_is_not_ok (trace given) e is.1 (good.at_end is.0)
+
 pub bad_is_refused : BadIsRefused
-bad_is_refused turns r0 r1 w0 w1 Clean e call bad = not_both _ call.answer.0 e call.answer.1.good (refused_whole _ call.given e bad)
-bad_is_refused turns r0 r1 w0 w1 Findings e call bad = not_both _ call.answer.0 e call.answer.1.good (refused_whole _ call.given e bad)
-bad_is_refused turns r0 r1 w0 w1 (Refused code line) e call bad =
-    let same = same_line _ e _ (refused_whole _ call.given e bad) (refused_whole _ call.given _ call.answer.line.line) in
-    (same, call.answer.is ∙ ap refusal_text (sym same))
-bad_is_refused turns r0 r1 w0 w1 Memory e call bad = call.answer.1
-bad_is_refused turns r0 r1 w0 w1 ReadFault e call bad = not_open r0 r1 call.given e call.answer.going call.answer.good bad
-bad_is_refused turns r0 r1 w0 w1 TooLong e call bad = not_open r0 r1 call.given e call.answer.0.going call.answer.0.good bad
-bad_is_refused turns r0 r1 w0 w1 WriteFault e call bad =
+bad_is_refused profile start turns r0 r1 w0 w1 Clean e call bad = not_both _ call.answer.0 e call.answer.1.good (refused_whole _ call.given e bad)
+bad_is_refused profile start turns r0 r1 w0 w1 Findings e call bad = not_both _ call.answer.0 e call.answer.1.good (refused_whole _ call.given e bad)
+bad_is_refused profile start turns r0 r1 w0 w1 (Refused code line) e call bad =
+    let same : call.answer.refusal ≡ e = same_line _ _ e (refused_whole _ call.given _ call.answer.tells.line.line) (refused_whole _ call.given e bad) in
+    (call.answer.code_is ∙ ap (λ (x : Refusal). code_of x.reason) same, call.answer.line_is ∙ ap (λ (x : Refusal). x.line) same, call.answer.tells.is ∙ ap refusal_text same)
+bad_is_refused profile start turns r0 r1 w0 w1 (StartRefused code line) e call bad = absurd call.answer
+bad_is_refused profile start turns r0 r1 w0 w1 Memory e call bad = not_good (IsEnded r0 r1) call.given e call.answer.good bad
+bad_is_refused profile start turns r0 r1 w0 w1 ReadFault e call bad = not_open r0 r1 call.given e call.answer.going call.answer.good bad
+bad_is_refused profile start turns r0 r1 w0 w1 TooLong e call bad = not_open r0 r1 call.given e call.answer.0.going call.answer.0.good bad
+bad_is_refused profile start turns r0 r1 w0 w1 WriteFault e call bad =
     elim call.answer.1 [
       | inl is ↦ absurd (not_both _ is.0 e is.1.good (refused_whole _ call.given e bad))
       | inr is ↦
           let same = same_line _ is.0 e (refused_whole _ call.given _ is.1.line.line) (refused_whole _ call.given e bad) in
-          subst (λ (text : List ℕ). IsFront call.written text) (is.1.is ∙ ap refusal_text same) call.answer.2
+          subst (λ (text : List ℕ). IsPrefix call.written text) (is.1.is ∙ ap refusal_text same) call.answer.2
     ]
 
 -- at the end, what was given is the whole text
@@ -104,16 +120,18 @@ refused_text told text given (Some rest) e read end (inl is) = ap trace read ∙
 refused_text told text given (Some rest) e read end (inr is) = ap trace (all_given text given (Some rest) read (end is.0)) ∙ is.1
 
 pub pieces_agree : PiecesAgree
-pieces_agree turns r0 r1 w0 w1 Clean text call known =
+pieces_agree profile start turns r0 r1 w0 w1 Clean text call known =
     let read = subst (λ (b : Option (List ℕ)). Consumes b r1.bytes call.given) known call.read in
     (call.answer.0, ap trace (all_given text call.given r1.bytes read call.answer.1.end.1) ∙ call.answer.1.good, call.answer.2, call.answer.1.is)
-pieces_agree turns r0 r1 w0 w1 Findings text call known =
+pieces_agree profile start turns r0 r1 w0 w1 Findings text call known =
     let read = subst (λ (b : Option (List ℕ)). Consumes b r1.bytes call.given) known call.read in
     (call.answer.0, ap trace (all_given text call.given r1.bytes read call.answer.1.end.1) ∙ call.answer.1.good, call.answer.2, call.answer.1.is)
-pieces_agree turns r0 r1 w0 w1 (Refused code line) text call known =
+pieces_agree profile start turns r0 r1 w0 w1 (Refused code line) text call known =
     let read = subst (λ (b : Option (List ℕ)). Consumes b r1.bytes call.given) known call.read in
-    (refused_text (Told r0 r1) text call.given r1.bytes _ read (λ told. told.1) call.answer.line.line, call.answer.is)
-pieces_agree turns r0 r1 w0 w1 Memory text call known = tt
-pieces_agree turns r0 r1 w0 w1 ReadFault text call known = tt
-pieces_agree turns r0 r1 w0 w1 WriteFault text call known = tt
-pieces_agree turns r0 r1 w0 w1 TooLong text call known = tt
+    let told = call.answer in
+    (told.refusal, refused_text (IsEnded r0 r1) text call.given r1.bytes _ read (λ told. told.1) told.tells.line.line, told.code_is, told.line_is, told.tells.is)
+pieces_agree profile start turns r0 r1 w0 w1 (StartRefused code line) text call known = absurd call.answer
+pieces_agree profile start turns r0 r1 w0 w1 Memory text call known = tt
+pieces_agree profile start turns r0 r1 w0 w1 ReadFault text call known = tt
+pieces_agree profile start turns r0 r1 w0 w1 WriteFault text call known = tt
+pieces_agree profile start turns r0 r1 w0 w1 TooLong text call known = tt

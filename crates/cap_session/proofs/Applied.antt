@@ -4,10 +4,10 @@ use Rattle.std.specs.Prelude.{Result, Ok, Err}
 use Rattle.std.proofs.lemmas.List.{map-append, length-map, length-append, take_more}
 use Rattle.cap_trace.specs.Entry.{Entry}
 use Rattle.cap_session.specs.declared.refused.Refused.{Refused}
-use Rattle.cap_session.specs.declared.refused.Refused.TheVariants.{TooLong, Shape, Pid, Argument, Right, Answer, Position, Full, Memory}
+use Rattle.cap_session.specs.declared.refused.Refused.TheVariants.{LongLine, Shape, Pid, Argument, Right, Answer, Position, Full, Memory}
 use Rattle.cap_session.specs.declared.edit.Edit.{Edit}
 use Rattle.cap_session.specs.Edits.{edited, trace_after, answer, after, answers}
-use Rattle.cap_session.specs.Session.{SessionState, TellsRefusals, is_wanted, wanted}
+use Rattle.cap_session.specs.Session.{SessionState, RefusesExactly, is_wanted, wanted}
 
 -- an edit answers, and leaves, what memory that was wanted or not makes of what was asked
 pub record Does (old new : SessionState) (asked : Result (List Entry) Refused) (a : Result ℕ Refused) : Type 0 where
@@ -25,10 +25,10 @@ made : (old new : SessionState) (asked : Result (List Entry) Refused) (n : ℕ) 
 made old new asked n is count = rw (is, count) (record { answers = refl; trace = refl })
 
 pub does : (old new : SessionState) (asked : Result (List Entry) Refused) (a : Result ℕ Refused) →
-    IfOk a (λ n. (asked ≡ Ok new.trace) × (n ≡ length new.trace)) → TellsRefusals asked a → (a ≡ Err Memory → IsOk asked) → OnErr a (new ≡ old) → Does old new asked a
+    IfOk a (λ n. (asked ≡ Ok new.trace) × (n ≡ length new.trace)) → RefusesExactly asked a → (a ≡ Err Memory → IsOk asked) → OnErr a (new ≡ old) → Does old new asked a
 does old new asked (Ok n) accepted refused memory kept = made old new asked n accepted.0 accepted.1
 does old new asked (Err Memory) accepted refused memory kept = wanting old new asked (memory refl) kept
-does old new asked (Err TooLong) accepted refused memory kept = is_refused old new asked TooLong refl ((refused TooLong (λ e. cc)).0 refl) kept
+does old new asked (Err LongLine) accepted refused memory kept = is_refused old new asked LongLine refl ((refused LongLine (λ e. cc)).0 refl) kept
 does old new asked (Err Shape) accepted refused memory kept = is_refused old new asked Shape refl ((refused Shape (λ e. cc)).0 refl) kept
 does old new asked (Err Pid) accepted refused memory kept = is_refused old new asked Pid refl ((refused Pid (λ e. cc)).0 refl) kept
 does old new asked (Err Argument) accepted refused memory kept = is_refused old new asked Argument refl ((refused Argument (λ e. cc)).0 refl) kept
@@ -57,31 +57,33 @@ answers-append limit trace (d ∷ edits) (v ∷ ws) e w same = ap (λ more. answ
 pub record HasMade (old new : SessionState) (edits : List Edit) (answered : List (Result ℕ Refused)) : Type 0 where
   pub each : length answered ≡ length edits
   pub limit : new.limit ≡ old.limit
+  pub profile : new.profile ≡ old.profile
   pub trace : new.trace ≡ after old.limit old.trace edits (wanted answered)
   pub answers : answered ≡ answers old.limit old.trace edits (wanted answered)
 
 pub made_none : (s : SessionState) → HasMade s s [] []
-made_none s = record { each = refl; limit = refl; trace = refl; answers = refl }
+made_none s = record { each = refl; limit = refl; profile = refl; trace = refl; answers = refl }
 
 -- what was wanted for one answer more
 wanted-append : (answered : List (Result ℕ Refused)) (a : Result ℕ Refused) → wanted (answered ++ a ∷ []) ≡ wanted answered ++ is_wanted a ∷ []
 wanted-append answered a = map-append is_wanted answered (a ∷ [])
 
 pub made_more : (old mid new : SessionState) (edits : List Edit) (answered : List (Result ℕ Refused)) (e : Edit) (a : Result ℕ Refused) →
-    HasMade old mid edits answered → new.limit ≡ mid.limit → Does mid new (edited mid.limit mid.trace e) a → HasMade old new (edits ++ e ∷ []) (answered ++ a ∷ [])
-made_more old mid new edits answered e a before limit step =
+    HasMade old mid edits answered → new.limit ≡ mid.limit → new.profile ≡ mid.profile → Does mid new (edited mid.limit mid.trace e) a → HasMade old new (edits ++ e ∷ []) (answered ++ a ∷ [])
+made_more old mid new edits answered e a before limit profile step =
     let same : length (wanted answered) ≡ length edits = length-map answered is_wanted ∙ before.each in
     let trace = rw (before.limit, before.trace) at step.trace in
     let told = rw (before.limit, before.trace) at step.answers in
     record {
       each = omega (arith, before.each, length-append answered (a ∷ []), length-append edits (e ∷ []));
       limit = limit ∙ before.limit;
+      profile = profile ∙ before.profile;
       trace = rw (wanted-append answered a, after-append old.limit old.trace edits (wanted answered) e (is_wanted a) same) trace;
       answers = rw (wanted-append answered a, answers-append old.limit old.trace edits (wanted answered) e (is_wanted a) same) (ap (λ all. all ++ a ∷ []) before.answers ∙ ap (λ b. answers old.limit old.trace edits (wanted answered) ++ b ∷ []) told);
     }
 
 -- the edit at the index is made, after those before it
 pub made_next : (old mid new : SessionState) (edits : List Edit) (i : ℕ) (d : Edit) (answered : List (Result ℕ Refused)) (a : Result ℕ Refused) →
-    HasMade old mid (take i edits) answered → i < length edits → new.limit ≡ mid.limit → Does mid new (edited mid.limit mid.trace (get_or edits i d)) a → HasMade old new (take (i + 1) edits) (answered ++ a ∷ [])
-made_next old mid new edits i d answered a before within limit step =
-    rw (take_more edits i d within) (made_more old mid new (take i edits) answered (get_or edits i d) a before limit step)
+    HasMade old mid (take i edits) answered → i < length edits → new.limit ≡ mid.limit → new.profile ≡ mid.profile → Does mid new (edited mid.limit mid.trace (get_or edits i d)) a → HasMade old new (take (i + 1) edits) (answered ++ a ∷ [])
+made_next old mid new edits i d answered a before within limit profile step =
+    rw (take_more edits i d within) (made_more old mid new (take i edits) answered (get_or edits i d) a before limit profile step)

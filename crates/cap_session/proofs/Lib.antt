@@ -4,12 +4,12 @@ pub mod Answered
 pub mod Applied
 pub mod Calls
 pub mod Cuts
-pub mod Entries
+pub mod NextEntry
 pub mod Fed
 pub mod Goes
 pub mod Joins
 pub mod Lined
-pub mod Loads
+pub mod Listing
 pub mod Parts
 pub mod Performed
 pub mod Reach
@@ -17,5 +17,12 @@ pub mod Rejecting
 pub mod Replying
 pub mod Runs
 pub mod Soon
+pub mod Spelled
 pub mod Scripted
+pub mod Started
+pub mod StartParses
+pub mod StartReads
+pub mod StartRejecting
+pub mod Traces
+pub mod ScriptEdits
 pub mod Words

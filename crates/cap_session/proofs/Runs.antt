@@ -5,11 +5,12 @@ use Rattle.std.proofs.lemmas.List.{append-nil, length-take, length-drop, take_al
 use Rattle.std.proofs.lemmas.Bool.{cases_lt}
 use Rattle.memchr.specs.Find.{IsFirstByte, is_byte}
 use Rattle.cap_session.specs.Devices.{SinkState}
-use Rattle.cap_session.specs.Writes.{Wrote, WroteFront}
+use Rattle.cap_session.specs.Writes.{Wrote, WrotePrefix}
 use Rattle.cap_session.specs.Lines.{whole_lines, last_piece}
 use Rattle.cap_session.specs.Trace.{is_skipped}
 use Rattle.cap_session.specs.Scripts.{Commands, Answers, Run, Replied, Broken, long_piece, script_lines, tail, due, due_line, due_piece, Scripting}
 use Rattle.cap_trace.specs.Entry.{Entry}
+use Rattle.cap_machine.specs.declared.cell.Profile.{Profile}
 use Rattle.cap_session.specs.Commands.{asked}
 use Rattle.cap_session.specs.Replies.{refused_text}
 use Rattle.cap_session.proofs.Cuts.{Cut, NoCut, cut_at, no_cut}
@@ -18,18 +19,18 @@ use Rattle.cap_session.proofs.Calls.{appends_more, appends_none}
 pub is_long : (line : List ℕ) → 1056 < length line → nat_lt 1056 (length line) ≡ true
 is_long line long = grind arith
 
-pub answers_long : (t : List Entry) (line : List ℕ) → 1056 < length line → Answers t line (refused_text 1) t
-answers_long t line long =
+pub answers_long : (profile : Profile) (t : List Entry) (line : List ℕ) → 1056 < length line → Answers profile t line (refused_text 1) t
+answers_long profile t line long =
     rw (is_long line long) (refl, refl)
 
-pub answers_command : (t : List Entry) (line text : List ℕ) (u : List Entry) → length line ≤ 1056 → is_skipped line ≡ false → Commands t (asked line) text u → Answers t line text u
-answers_command t line text u short command is =
+pub answers_command : (profile : Profile) (t : List Entry) (line text : List ℕ) (u : List Entry) → length line ≤ 1056 → is_skipped line ≡ false → Commands profile t (asked line) text u → Answers profile t line text u
+answers_command profile t line text u short command is =
     let no : nat_lt 1056 (length line) ≡ false = grind arith in
     rw (no, command) is
 
 -- the reply to a line that is too long rests on no byte past its 1,057th
-pub answers_cut : (t : List Entry) (line text : List ℕ) (u : List Entry) → Answers t (take 1057 line) text u → Answers t line text u
-answers_cut t line text u is =
+pub answers_cut : (profile : Profile) (t : List Entry) (line text : List ℕ) (u : List Entry) → Answers profile t (take 1057 line) text u → Answers profile t line text u
+answers_cut profile t line text u is =
     elim (cases_lt 1056 (length line)) [
       | inl long ↦
           let cut : 1056 < length (take 1057 line) = simp length-take (omega arith) in
@@ -37,24 +38,24 @@ answers_cut t line text u is =
       | inr short ↦ rw (take_all 1057 line (omega arith)) at is
     ]
 
-pub one_line : (t : List Entry) (w0 w1 : SinkState) (line text : List ℕ) (u : List Entry) → Answers t line text u → Wrote w0 w1 text → Replied t w0 w1 (line ∷ []) u
-one_line t w0 w1 line text u is wrote = record { text = text; run = (text, u, [], is, (refl, refl), sym (append-nil text)); wrote = wrote }
+pub one_line : (profile : Profile) (t : List Entry) (w0 w1 : SinkState) (line text : List ℕ) (u : List Entry) → Answers profile t line text u → Wrote w0 w1 text → Replied profile t w0 w1 (line ∷ []) u
+one_line profile t w0 w1 line text u is wrote = record { text = text; run = (text, u, [], is, (refl, refl), sym (append-nil text)); wrote = wrote }
 
-pub one_broken : (t : List Entry) (w0 w1 : SinkState) (line text : List ℕ) (u : List Entry) → Answers t line text u → WroteFront w0 w1 text → Broken t w0 w1 (line ∷ [])
-one_broken t w0 w1 line text u is wrote = record { first = line ∷ []; others = []; cut = refl; text = text; trace = u; run = (text, u, [], is, (refl, refl), sym (append-nil text)); wrote = wrote }
+pub one_broken : (profile : Profile) (t : List Entry) (w0 w1 : SinkState) (line text : List ℕ) (u : List Entry) → Answers profile t line text u → WrotePrefix w0 w1 text → Broken profile t w0 w1 (line ∷ [])
+one_broken profile t w0 w1 line text u is wrote = record { first = line ∷ []; others = []; cut = refl; text = text; trace = u; run = (text, u, [], is, (refl, refl), sym (append-nil text)); wrote = wrote }
 
-run_on : (t : List Entry) (xs : List (List ℕ)) (text : List ℕ) (u : List Entry) (ys : List (List ℕ)) (more : List ℕ) (v : List Entry) → Run t xs text u → Run u ys more v → Run t (xs ++ ys) (text ++ more) v
-run_on t [] text u ys more v first second = rw first.0 (subst (λ (x : List Entry). Run x ys more v) first.1 second)
-run_on t (line ∷ xs) text u ys more v first second =
-    (first.0, first.1, first.2 ++ more, first.3, run_on first.1 xs first.2 u ys more v first.4 second, ap (λ l. l ++ more) first.5 ∙ append_assoc first.0 first.2 more)
+run_on : (profile : Profile) (t : List Entry) (xs : List (List ℕ)) (text : List ℕ) (u : List Entry) (ys : List (List ℕ)) (more : List ℕ) (v : List Entry) → Run profile t xs text u → Run profile u ys more v → Run profile t (xs ++ ys) (text ++ more) v
+run_on profile t [] text u ys more v first second = rw first.0 (subst (λ (x : List Entry). Run profile x ys more v) first.1 second)
+run_on profile t (line ∷ xs) text u ys more v first second =
+    (first.0, first.1, first.2 ++ more, first.3, run_on profile first.1 xs first.2 u ys more v first.4 second, ap (λ l. l ++ more) first.5 ∙ append_assoc first.0 first.2 more)
 
-pub replied_none : (t : List Entry) (w : SinkState) → Replied t w w [] t
-replied_none t w = record { text = []; run = (refl, refl); wrote = record { taken = appends_none w.taken; failures = refl; room = refl } }
+pub replied_none : (profile : Profile) (t : List Entry) (w : SinkState) → Replied profile t w w [] t
+replied_none profile t w = record { text = []; run = (refl, refl); wrote = record { taken = appends_none w.taken; failures = refl; room = refl } }
 
-pub replied_on : (t : List Entry) (w0 w1 w2 : SinkState) (xs ys : List (List ℕ)) (u v : List Entry) → Replied t w0 w1 xs u → Replied u w1 w2 ys v → Replied t w0 w2 (xs ++ ys) v
-replied_on t w0 w1 w2 xs ys u v first second = record {
+pub replied_on : (profile : Profile) (t : List Entry) (w0 w1 w2 : SinkState) (xs ys : List (List ℕ)) (u v : List Entry) → Replied profile t w0 w1 xs u → Replied profile u w1 w2 ys v → Replied profile t w0 w2 (xs ++ ys) v
+replied_on profile t w0 w1 w2 xs ys u v first second = record {
   text = first.text ++ second.text;
-  run = run_on t xs first.text u ys second.text v first.run second.run;
+  run = run_on profile t xs first.text u ys second.text v first.run second.run;
   wrote = record {
     taken = appends_more _ _ _ _ _ first.wrote.taken second.wrote.taken;
     failures = second.wrote.failures ∙ first.wrote.failures;
@@ -62,14 +63,14 @@ replied_on t w0 w1 w2 xs ys u v first second = record {
   };
 }
 
-pub broken_on : (t : List Entry) (w0 w1 w2 : SinkState) (xs ys : List (List ℕ)) (u : List Entry) → Replied t w0 w1 xs u → Broken u w1 w2 ys → Broken t w0 w2 (xs ++ ys)
-broken_on t w0 w1 w2 xs ys u done broke = record {
+pub broken_on : (profile : Profile) (t : List Entry) (w0 w1 w2 : SinkState) (xs ys : List (List ℕ)) (u : List Entry) → Replied profile t w0 w1 xs u → Broken profile u w1 w2 ys → Broken profile t w0 w2 (xs ++ ys)
+broken_on profile t w0 w1 w2 xs ys u done broke = record {
   first = xs ++ broke.first;
   others = broke.others;
   cut = ap (λ ls. xs ++ ls) broke.cut ∙ sym (append_assoc xs broke.first broke.others);
   text = done.text ++ broke.text;
   trace = broke.trace;
-  run = run_on t xs done.text u broke.first broke.text broke.trace done.run broke.run;
+  run = run_on profile t xs done.text u broke.first broke.text broke.trace done.run broke.run;
   wrote = record {
     front = done.text ++ broke.wrote.front;
     rest = broke.wrote.rest;
@@ -80,8 +81,8 @@ broken_on t w0 w1 w2 xs ys u done broke = record {
   };
 }
 
-pub broken_more : (t : List Entry) (w0 w1 : SinkState) (xs ys : List (List ℕ)) → Broken t w0 w1 xs → Broken t w0 w1 (xs ++ ys)
-broken_more t w0 w1 xs ys broke = record {
+pub broken_more : (profile : Profile) (t : List Entry) (w0 w1 : SinkState) (xs ys : List (List ℕ)) → Broken profile t w0 w1 xs → Broken profile t w0 w1 (xs ++ ys)
+broken_more profile t w0 w1 xs ys broke = record {
   first = broke.first;
   others = broke.others ++ ys;
   cut = ap (λ ls. ls ++ ys) broke.cut ∙ append_assoc broke.first broke.others ys;
@@ -109,23 +110,25 @@ due_rest held bytes found =
 -- What the loop over a piece of a script keeps.
 pub record Scripted (start : Scripting) (w0 : SinkState) (piece : List ℕ) (s : Scripting) (w1 : SinkState) (rest : List ℕ) : Type 0 where
   pub lines : List (List ℕ)
-  pub replied : Replied start.trace w0 w1 lines s.trace
+  pub profile : s.profile ≡ start.profile
+  pub replied : Replied start.profile start.trace w0 w1 lines s.trace
   pub same : due start.held piece ≡ lines ++ due s.held rest
   pub last : take 1057 (last_piece s.held rest) ≡ take 1057 (last_piece start.held piece)
   pub room : w1.room ≡ w0.room
   pub within : length rest ≤ length piece
 
 pub scripted_first : (start : Scripting) (w : SinkState) (piece : List ℕ) → Scripted start w piece start w piece
-scripted_first start w piece = record { lines = []; replied = replied_none start.trace w; same = refl; last = refl; room = refl; within = omega arith }
+scripted_first start w piece = record { lines = []; profile = refl; replied = replied_none start.profile start.trace w; same = refl; last = refl; room = refl; within = omega arith }
 
 -- a line was replied to
 pub scripted_on : (start s t : Scripting) (w0 w1 w2 : SinkState) (piece rest : List ℕ) (k : ℕ) → Scripted start w0 piece s w1 rest →
-    IsFirstByte (is_byte 10) rest (Some k) → Replied s.trace w1 w2 (due_line s.held (take k rest)) t.trace → t.held ≡ [] → Scripted start w0 piece t w2 (drop (k + 1) rest)
-scripted_on start s t w0 w1 w2 piece rest k went found replied empty =
+    IsFirstByte (is_byte 10) rest (Some k) → Replied s.profile s.trace w1 w2 (due_line s.held (take k rest)) t.trace → t.profile ≡ s.profile → t.held ≡ [] → Scripted start w0 piece t w2 (drop (k + 1) rest)
+scripted_on start s t w0 w1 w2 piece rest k went found replied stays empty =
     let cut : Cut s.held rest k = cut_at s.held rest k found in
     record {
       lines = went.lines ++ due_line s.held (take k rest);
-      replied = replied_on _ _ _ _ _ _ _ _ went.replied replied;
+      profile = stays ∙ went.profile;
+      replied = replied_on _ _ _ _ _ _ _ _ _ went.replied (rw went.profile at replied);
       same = went.same ∙ ap (λ ls. went.lines ++ ls) (due_cut s.held rest k found) ∙ sym (append_assoc went.lines (due_line s.held (take k rest)) (due [] (drop (k + 1) rest))) ∙ ap (λ h. (went.lines ++ due_line s.held (take k rest)) ++ due h (drop (k + 1) rest)) (sym empty);
       last = rw empty (sym (ap (λ l. take 1057 l) cut.last) ∙ went.last);
       room = replied.wrote.room ∙ went.room;
@@ -134,20 +137,20 @@ scripted_on start s t w0 w1 w2 piece rest k went found replied empty =
 
 -- the writer failed in a reply
 pub scripted_broken : (start s : Scripting) (w0 w1 w2 : SinkState) (piece rest : List ℕ) (k : ℕ) → Scripted start w0 piece s w1 rest →
-    IsFirstByte (is_byte 10) rest (Some k) → Broken s.trace w1 w2 (due_line s.held (take k rest)) → Broken start.trace w0 w2 (due start.held piece)
+    IsFirstByte (is_byte 10) rest (Some k) → Broken s.profile s.trace w1 w2 (due_line s.held (take k rest)) → Broken start.profile start.trace w0 w2 (due start.held piece)
 scripted_broken start s w0 w1 w2 piece rest k went found broke =
-    rw (went.same, due_cut s.held rest k found) (broken_on _ _ _ _ _ _ _ went.replied (broken_more _ _ _ _ (due [] (drop (k + 1) rest)) broke))
+    rw (went.same, due_cut s.held rest k found) (broken_on _ _ _ _ _ _ _ _ went.replied (broken_more _ _ _ _ _ (due [] (drop (k + 1) rest)) (rw went.profile at broke)))
 
 -- the piece was worked through
 pub scripted_last : (start s t : Scripting) (w0 w1 w2 : SinkState) (piece rest : List ℕ) → Scripted start w0 piece s w1 rest →
-    IsFirstByte (is_byte 10) rest None → Replied s.trace w1 w2 (due_piece s.held rest) t.trace → Replied start.trace w0 w2 (due start.held piece) t.trace
+    IsFirstByte (is_byte 10) rest None → Replied s.profile s.trace w1 w2 (due_piece s.held rest) t.trace → Replied start.profile start.trace w0 w2 (due start.held piece) t.trace
 scripted_last start s t w0 w1 w2 piece rest went none replied =
-    rw (went.same, due_rest s.held rest none) (replied_on _ _ _ _ _ _ _ _ went.replied replied)
+    rw (went.same, due_rest s.held rest none) (replied_on _ _ _ _ _ _ _ _ _ went.replied (rw went.profile at replied))
 
 pub scripted_last_broken : (start s : Scripting) (w0 w1 w2 : SinkState) (piece rest : List ℕ) → Scripted start w0 piece s w1 rest →
-    IsFirstByte (is_byte 10) rest None → Broken s.trace w1 w2 (due_piece s.held rest) → Broken start.trace w0 w2 (due start.held piece)
+    IsFirstByte (is_byte 10) rest None → Broken s.profile s.trace w1 w2 (due_piece s.held rest) → Broken start.profile start.trace w0 w2 (due start.held piece)
 scripted_last_broken start s w0 w1 w2 piece rest went none broke =
-    rw (went.same, due_rest s.held rest none) (broken_on _ _ _ _ _ _ _ went.replied broke)
+    rw (went.same, due_rest s.held rest none) (broken_on _ _ _ _ _ _ _ _ went.replied (rw went.profile at broke))
 
 pub scripted_held : (start s t : Scripting) (w0 w1 : SinkState) (piece rest : List ℕ) → Scripted start w0 piece s w1 rest →
     IsFirstByte (is_byte 10) rest None → t.held ≡ take 1057 (s.held ++ rest) → t.held ≡ take 1057 (last_piece start.held piece)
@@ -174,22 +177,22 @@ due_piece_short held bytes short =
     let within : length (held ++ bytes) ≤ 1056 = let cut = rw length-take at short in omega arith in
     rw (is_short (held ++ bytes) within) (elim (nat_lt 1056 (length held)) as (λ v. cond {A = List (List ℕ)} v [] [] ≡ []) [ true ↦ refl | false ↦ refl ])
 
-pub replied_cut : (t : List Entry) (w0 w1 : SinkState) (line : List ℕ) (u : List Entry) → Replied t w0 w1 (take 1057 line ∷ []) u → Replied t w0 w1 (line ∷ []) u
-replied_cut t w0 w1 line u r = record {
+pub replied_cut : (profile : Profile) (t : List Entry) (w0 w1 : SinkState) (line : List ℕ) (u : List Entry) → Replied profile t w0 w1 (take 1057 line ∷ []) u → Replied profile t w0 w1 (line ∷ []) u
+replied_cut profile t w0 w1 line u r = record {
   text = r.text;
-  run = (r.run.0, r.run.1, r.run.2, answers_cut t line r.run.0 r.run.1 r.run.3, r.run.4, r.run.5);
+  run = (r.run.0, r.run.1, r.run.2, answers_cut profile t line r.run.0 r.run.1 r.run.3, r.run.4, r.run.5);
   wrote = r.wrote;
 }
 
-broken_cut_from : (t : List Entry) (w0 w1 : SinkState) (line : List ℕ) (first others : List (List ℕ)) (text : List ℕ) (u : List Entry) →
-    take 1057 line ∷ [] ≡ first ++ others → Run t first text u → WroteFront w0 w1 text → Broken t w0 w1 (line ∷ [])
-broken_cut_from t w0 w1 line [] others text u cut run wrote =
+broken_cut_from : (profile : Profile) (t : List Entry) (w0 w1 : SinkState) (line : List ℕ) (first others : List (List ℕ)) (text : List ℕ) (u : List Entry) →
+    take 1057 line ∷ [] ≡ first ++ others → Run profile t first text u → WrotePrefix w0 w1 text → Broken profile t w0 w1 (line ∷ [])
+broken_cut_from profile t w0 w1 line [] others text u cut run wrote =
     record { first = []; others = line ∷ []; cut = refl; text = text; trace = u; run = run; wrote = wrote }
-broken_cut_from t w0 w1 line (x ∷ []) others text u cut run wrote =
+broken_cut_from profile t w0 w1 line (x ∷ []) others text u cut run wrote =
     let same : x ≡ take 1057 line = cc in
-    let is = subst (λ (l : List ℕ). Answers t l run.0 run.1) same run.3 in
-    record { first = line ∷ []; others = []; cut = refl; text = text; trace = u; run = (run.0, run.1, run.2, answers_cut t line run.0 run.1 is, run.4, run.5); wrote = wrote }
-broken_cut_from t w0 w1 line (x ∷ y ∷ more) others text u cut run wrote = cc
+    let is = subst (λ (l : List ℕ). Answers profile t l run.0 run.1) same run.3 in
+    record { first = line ∷ []; others = []; cut = refl; text = text; trace = u; run = (run.0, run.1, run.2, answers_cut profile t line run.0 run.1 is, run.4, run.5); wrote = wrote }
+broken_cut_from profile t w0 w1 line (x ∷ y ∷ more) others text u cut run wrote = cc
 
-pub broken_cut : (t : List Entry) (w0 w1 : SinkState) (line : List ℕ) → Broken t w0 w1 (take 1057 line ∷ []) → Broken t w0 w1 (line ∷ [])
-broken_cut t w0 w1 line b = broken_cut_from t w0 w1 line b.first b.others b.text b.trace b.cut b.run b.wrote
+pub broken_cut : (profile : Profile) (t : List Entry) (w0 w1 : SinkState) (line : List ℕ) → Broken profile t w0 w1 (take 1057 line ∷ []) → Broken profile t w0 w1 (line ∷ [])
+broken_cut profile t w0 w1 line b = broken_cut_from profile t w0 w1 line b.first b.others b.text b.trace b.cut b.run b.wrote

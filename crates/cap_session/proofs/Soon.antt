@@ -5,7 +5,9 @@ use Rattle.std.proofs.lemmas.List.{length-append, append-nil}
 use Rattle.std.proofs.lemmas.Bool.{cases_lt}
 use Rattle.cap_session.specs.Lines.{whole_lines, last_piece, line_if_any, line_if_long}
 use Rattle.cap_session.specs.Texts.{with_lines, whole_text, refusal_of, refused_so_far}
-use Rattle.cap_session.specs.declared.refusal.Refusal.{Refusal}
+use Rattle.cap_session.specs.declared.refused.Refusal.{Refusal}
+use Rattle.cap_session.specs.declared.refused.Refused.{Refused}
+use Rattle.cap_session.specs.declared.refused.Refused.TheVariants.{LongLine}
 use Rattle.cap_session.proofs.Cuts.{whole_lines-append, last_piece-append}
 use Rattle.cap_session.proofs.Lined.{long_refused, after_good, after_refused, line_bad, no_line}
 
@@ -44,11 +46,11 @@ long_first last is held (b ∷ rest) long =
     ]
 
 -- why a beginning is refused: one of its lines with LF is, or what follows them is too long
-pub record TooLongAfter {A : Type 0} (next : A → List ℕ → Result A ℕ) (start : A) (begin : List ℕ) (e : Refusal) : Type 0 where
+pub record TooLongAfter {A : Type 0} (next : A → List ℕ → Result A Refused) (start : A) (begin : List ℕ) (e : Refusal) : Type 0 where
   pub known : A
   pub good : with_lines next start 0 (whole_lines [] begin) ≡ Ok known
   pub long : 1024 < length (last_piece [] begin)
-  pub tells : e ≡ (record { code = 1; line = 0 + length (whole_lines [] begin) + 1 })
+  pub tells : e ≡ (record { reason = LongLine; line = 0 + length (whole_lines [] begin) + 1 })
 
 same_refusal : {A : Type 0} (r : Result A Refusal) (e' e : Refusal) → r ≡ Err e' → refusal_of r ≡ Some e → e' ≡ e
 same_refusal r e' e is tells =
@@ -60,7 +62,7 @@ no_refusal r known e is tells =
     let both = sym (ap refusal_of is) ∙ tells in
     cc
 
-why_at : {A : Type 0} (next : A → List ℕ → Result A ℕ) (start : A) (begin : List ℕ) (e : Refusal) (r : Result A Refusal) → with_lines next start 0 (whole_lines [] begin) ≡ r →
+why_at : {A : Type 0} (next : A → List ℕ → Result A Refused) (start : A) (begin : List ℕ) (e : Refusal) (r : Result A Refusal) → with_lines next start 0 (whole_lines [] begin) ≡ r →
     refused_so_far next start begin ≡ Some e → (with_lines next start 0 (whole_lines [] begin) ≡ Err e) ⊎ TooLongAfter next start begin e
 why_at next start begin e (Err e') is tells =
     let all = after_refused next start e' 0 (whole_lines [] begin) (line_if_long (last_piece [] begin)) is in
@@ -69,7 +71,7 @@ why_at next start begin e (Ok known) is tells =
     let all = after_good next start known 0 (whole_lines [] begin) (line_if_long (last_piece [] begin)) is in
     elim (cases_lt 1024 (length (last_piece [] begin))) [
       | inl long ↦
-          let bad = all ∙ ap (with_lines next known (0 + length (whole_lines [] begin))) (is_long (last_piece [] begin) long) ∙ line_bad next known _ 1 (last_piece [] begin) [] (long_refused next known (last_piece [] begin) long) in
+          let bad = all ∙ ap (with_lines next known (0 + length (whole_lines [] begin))) (is_long (last_piece [] begin) long) ∙ line_bad next known _ LongLine (last_piece [] begin) [] (long_refused next known (last_piece [] begin) long) in
           inr (record { known = known; good = is; long = long; tells = sym (same_refusal _ _ e bad tells) })
       | inr short ↦
           let good = all ∙ ap (with_lines next known (0 + length (whole_lines [] begin))) (is_short (last_piece [] begin) short) ∙ no_line next known _ in
@@ -77,7 +79,7 @@ why_at next start begin e (Ok known) is tells =
     ]
 
 -- whatever follows, and whether or not the end was told
-refused_after : {A : Type 0} (next : A → List ℕ → Result A ℕ) (start : A) (last : List ℕ → List (List ℕ)) → ((piece : List ℕ) → 1024 < length piece → last piece ≡ piece ∷ []) →
+refused_after : {A : Type 0} (next : A → List ℕ → Result A Refused) (start : A) (last : List ℕ → List (List ℕ)) → ((piece : List ℕ) → 1024 < length piece → last piece ≡ piece ∷ []) →
     (begin rest : List ℕ) (e : Refusal) → refused_so_far next start begin ≡ Some e → with_lines next start 0 (whole_lines [] (begin ++ rest) ++ last (last_piece [] (begin ++ rest))) ≡ Err e
 refused_after next start last is begin rest e tells =
     let front : List (List ℕ) = whole_lines [] begin in
@@ -89,20 +91,20 @@ refused_after next start last is begin rest e tells =
       | inr long ↦
           let first = long_first last is held rest long.long in
           ap (with_lines next start 0) all ∙ after_good next start long.known 0 front (whole_lines held rest ++ last (last_piece held rest)) long.good
-          ∙ ap (with_lines next long.known (0 + length front)) first.are ∙ line_bad next long.known _ 1 first.line first.more (long_refused next long.known first.line first.long) ∙ ap (λ x. Err x) (sym long.tells)
+          ∙ ap (with_lines next long.known (0 + length front)) first.are ∙ line_bad next long.known _ LongLine first.line first.more (long_refused next long.known first.line first.long) ∙ ap (λ x. Err x) (sym long.tells)
     ]
 
-pub soon_after : {A : Type 0} (next : A → List ℕ → Result A ℕ) (start : A) (begin rest : List ℕ) (e : Refusal) → refused_so_far next start begin ≡ Some e → refused_so_far next start (begin ++ rest) ≡ Some e
+pub soon_after : {A : Type 0} (next : A → List ℕ → Result A Refused) (start : A) (begin rest : List ℕ) (e : Refusal) → refused_so_far next start begin ≡ Some e → refused_so_far next start (begin ++ rest) ≡ Some e
 soon_after next start begin rest e tells = ap refusal_of (refused_after next start line_if_long is_long begin rest e tells)
 
-pub whole_after : {A : Type 0} (next : A → List ℕ → Result A ℕ) (start : A) (begin rest : List ℕ) (e : Refusal) → refused_so_far next start begin ≡ Some e → whole_text next start (begin ++ rest) ≡ Err e
+pub whole_after : {A : Type 0} (next : A → List ℕ → Result A Refused) (start : A) (begin rest : List ℕ) (e : Refusal) → refused_so_far next start begin ≡ Some e → whole_text next start (begin ++ rest) ≡ Err e
 whole_after next start begin rest e tells = refused_after next start line_if_any any_long begin rest e tells
 
-pub whole_too : {A : Type 0} (next : A → List ℕ → Result A ℕ) (start : A) (text : List ℕ) (e : Refusal) → refused_so_far next start text ≡ Some e → whole_text next start text ≡ Err e
+pub whole_too : {A : Type 0} (next : A → List ℕ → Result A Refused) (start : A) (text : List ℕ) (e : Refusal) → refused_so_far next start text ≡ Some e → whole_text next start text ≡ Err e
 whole_too next start text e tells = rw append-nil at (whole_after next start text [] e tells)
 
 -- a good text has no refused line before its end
-pub good_soon : {A : Type 0} (next : A → List ℕ → Result A ℕ) (start known : A) (text : List ℕ) → whole_text next start text ≡ Ok known → refused_so_far next start text ≡ None
+pub good_soon : {A : Type 0} (next : A → List ℕ → Result A Refused) (start known : A) (text : List ℕ) → whole_text next start text ≡ Ok known → refused_so_far next start text ≡ None
 good_soon {A = A} next start known text good = go (refused_so_far next start text) refl
   where
     go : (r : Option Refusal) → refused_so_far next start text ≡ r → refused_so_far next start text ≡ None

@@ -32,14 +32,14 @@ after_word (b ∷ line) = if b == 32 then Some line else after_word line
 abbrev pub position : List ℕ → Option ℕ
 position = num_at 9999999999999999999
 
--- ---- the words behind the first
+-- ---- the words after the first
 
 -- a number alone
 abbrev pub with_number : Option ℕ → (ℕ → Asked) → Asked
 with_number (Some k) ask = ask k
 with_number None ask = unknown
 
--- a number, and what follows the space behind it, whatever that is
+-- a number, and what follows the space after it, whatever that is
 abbrev pub with_line : Option ℕ → Option (List ℕ) → (ℕ → List ℕ → Asked) → Asked
 with_line (Some k) (Some line) ask = ask k line
 with_line (Some k) None ask = unknown
@@ -64,7 +64,7 @@ asked_alone word =
     else if bytes_eq word (codes "report") then report_all
     else unknown
 
--- a word, and what follows the space behind it
+-- a word, and what follows the space after it
 abbrev pub asked_with : List ℕ → List ℕ → Asked
 asked_with word rest =
     if bytes_eq word (codes "insert") then with_line (position (first_word rest)) (after_word rest) insert_line

@@ -7,7 +7,7 @@ use Rattle.std.specs.Io.KnownBytes.{Keeps, Appends}
 pub record SourceState : Type 0 where
   -- the bytes still to come, where they are known
   pub bytes : Option (List ℕ)
-  -- how often it was called, failed, and told its end
+  -- how often it was called, failed, and answered that its end is reached
   pub calls : ℕ
   pub failures : ℕ
   pub ends : ℕ
@@ -28,7 +28,7 @@ abbrev pub failed : {T E : Type 0} → Result T E → ℕ
 failed (Ok n) = 0
 failed (Err e) = 1
 
--- one, where a read told the end
+-- one, where a read answered the end
 abbrev pub ended : {E : Type 0} → Result ℕ E → ℕ
 ended (Ok zero) = 1
 ended (Ok (suc n)) = 0
@@ -38,7 +38,7 @@ ended (Err e) = 0
 abbrev pub Takes : {E : Type 0} → Option (List ℕ) → Option (List ℕ) → Result ℕ E → List ℕ → Type 0
 Takes old new r bytes = MatchResult r (λ n. Appends old new (take n bytes) × (0 < n) × (n ≤ length bytes)) (λ _. Keeps old new)
 
--- What was counted of a device: its reads, those that failed and those that told the end, and its writes that failed.
+-- What was counted of a device: its reads, those that failed and those that answered the end, and its writes that failed.
 pub record Counts : Type 0 where
   pub calls : ℕ
   pub failures : ℕ

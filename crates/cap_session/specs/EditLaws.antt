@@ -25,7 +25,7 @@ abbrev pub AcceptedEditsGive : Type 0
 AcceptedEditsGive = (limit : ℕ) (trace : List Entry) (edits : List Edit) (wanted : List Bool) →
     given limit trace (accepted edits (answers limit trace edits wanted)) ≡ Ok (after limit trace edits wanted)
 
--- No edit asks for want of memory.
+-- No edit is refused with `Memory` by its definition.
 abbrev pub NoEditAsksForMemory : Type 0
 NoEditAsksForMemory = (limit : ℕ) (trace : List Entry) (edit : Edit) → edited limit trace edit ≢ Err Memory
 

@@ -1,54 +1,88 @@
--- What replying to a script does and answers.
-use Rattle.std.specs.Prelude.{◌≡◌, ◌≢◌, ℕ, ◌+◌, ◌≤◌, ◌⊎◌, List, [], Ok, ⊤}
+-- What replying to a script in a profile does and answers.
+use Rattle.std.specs.Prelude.{◌≡◌, ◌≢◌, ℕ, ◌+◌, ◌≤◌, ◌⊎◌, List, [], Result, Ok, Err, ⊤}
 use Rattle.std.specs.Io.KnownBytes.{Consumes, Appends}
 use Rattle.cap_trace.specs.Entry.{Entry}
+use Rattle.cap_machine.specs.declared.cell.Profile.{Profile}
+use Rattle.cap_machine.specs.Steps.{steps}
 use Rattle.cap_machine.specs.State.{usual}
 use Rattle.cap_machine.specs.Check.{check}
 use Rattle.cap_session.specs.Devices.{SourceState, SinkState}
 use Rattle.cap_session.specs.Lines.{lines}
-use Rattle.cap_session.specs.Reads.{Told, NotTold, UsedUp, IsNear}
+use Rattle.cap_session.specs.Reads.{IsEnded, NotAtEnd, UsedUp, faults}
 use Rattle.cap_session.specs.Scripts.{Replied, Broken, script_lines}
-use Rattle.cap_session.specs.Trace.{trace, soon}
-use Rattle.cap_session.specs.Streams.{TellsRefusal, IsOpen, IsFront}
+use Rattle.cap_session.specs.Trace.{trace}
+use Rattle.cap_session.specs.Streams.{IsRefusal, NamesLine, IsSilent, IsOpen, IsPrefix}
 use Rattle.cap_session.specs.Outcome.{read_faults, write_faults}
-use Rattle.cap_session.specs.declared.refusal.Refusal.{Refusal}
+use Rattle.cap_session.specs.declared.refused.Refusal.{Refusal}
+use Rattle.cap_session.specs.declared.lines.Stop.{Stop}
+use Rattle.cap_session.specs.declared.lines.Stop.TheVariants as stops
 use Rattle.cap_session.specs.declared.outcome.Outcome.{Outcome}
-use Rattle.cap_session.specs.declared.outcome.Outcome.TheVariants.{Clean, Findings, Refused, Memory}
-use Rattle.cap_session.specs.declared.outcome.Outcome.TheVariants as outcomes
-use Rattle.cap_session.specs.declared.replies.Ended.{Ended}
-use Rattle.cap_session.specs.declared.replies.Ended.TheVariants.{AtEnd, ReadFault, WriteFault, TooLong}
+use Rattle.cap_session.specs.declared.outcome.Outcome.TheVariants.{Clean, Findings, Refused, StartRefused, Memory, ReadFault, WriteFault, TooLong}
 
--- one, where the ending tells a fault of the reader
-abbrev pub script_faults : Ended → ℕ
-script_faults ReadFault = 1
-script_faults AtEnd = 0
-script_faults WriteFault = 0
-script_faults TooLong = 0
+-- The writer failed in the replies to the lines of a script of which these bytes were given, before its end or at it.
+abbrev pub IsBroken : Profile → SourceState → SourceState → SinkState → SinkState → List ℕ → List Entry → Type 0
+IsBroken profile s0 s1 w0 w1 given t = (NotAtEnd s0 s1 × Broken profile t w0 w1 (script_lines [] given)) ⊎ (IsEnded s0 s1 × Broken profile t w0 w1 (lines given))
 
--- The ending, for the bytes of the script that were given: t is the trace before it, and u the one after the replies.
-abbrev pub Edited : ℕ → SourceState → SourceState → SinkState → SinkState → List ℕ → List Entry → List Entry → Ended → Type 0
-Edited turns r0 r1 w0 w1 given t u AtEnd = Told r0 r1 × Replied t w0 w1 (lines given) u
-Edited turns r0 r1 w0 w1 given t u ReadFault = NotTold r0 r1 × Replied t w0 w1 (script_lines [] given) u
-Edited turns r0 r1 w0 w1 given t u TooLong = NotTold r0 r1 × UsedUp turns r0 r1 × Replied t w0 w1 (script_lines [] given) u
-Edited turns r0 r1 w0 w1 given t u WriteFault = (NotTold r0 r1 × Broken t w0 w1 (script_lines [] given)) ⊎ (Told r0 r1 × Broken t w0 w1 (lines given))
+-- ---- the script: s is its reader, and w the writer
+
+-- What the replies to the lines end with, for the bytes that were given: t is the trace before them, and u the one after them.
+abbrev pub RepliesUntil : {T : Type 0} → Profile → ℕ → SourceState → SourceState → SinkState → SinkState → List ℕ → List Entry → List Entry → Result T Stop → Type 0
+RepliesUntil profile turns s0 s1 w0 w1 given t u (Ok _) = IsEnded s0 s1 × Replied profile t w0 w1 (lines given) u
+RepliesUntil profile turns s0 s1 w0 w1 given t u (Err stops.ReadFault) = NotAtEnd s0 s1 × Replied profile t w0 w1 (script_lines [] given) u
+RepliesUntil profile turns s0 s1 w0 w1 given t u (Err stops.TooLong) = NotAtEnd s0 s1 × UsedUp turns s0 s1 × Replied profile t w0 w1 (script_lines [] given) u
+RepliesUntil profile turns s0 s1 w0 w1 given t u (Err stops.WriteFault) = IsBroken profile s0 s1 w0 w1 given t
+RepliesUntil profile turns s0 s1 w0 w1 given t u (Err (stops.Refused e)) = ⊥
+RepliesUntil profile turns s0 s1 w0 w1 given t u (Err stops.Memory) = ⊥
 
 -- Some bytes were given, and the replies are those to their lines.
-pub record Edits (turns : ℕ) (r0 r1 : SourceState) (w0 w1 : SinkState) (t u : List Entry) (ended : Ended) : Type 0 where
+pub record RepliesToAll {T : Type 0} (profile : Profile) (turns : ℕ) (s0 s1 : SourceState) (w0 w1 : SinkState) (t u : List Entry) (result : Result T Stop) : Type 0 where
   pub given : List ℕ
-  pub read : Consumes r0.bytes r1.bytes given
-  pub calls : r1.calls ≤ r0.calls + turns
-  pub failures : r1.failures ≡ r0.failures + script_faults ended
-  pub answer : Edited turns r0 r1 w0 w1 given t u ended
+  pub read : Consumes s0.bytes s1.bytes given
+  pub calls : s1.calls ≤ s0.calls + turns
+  pub failures : s1.failures ≡ s0.failures + faults result
+  pub answer : RepliesUntil profile turns s0 s1 w0 w1 given t u result
+
+-- The outcome of a trace, unless memory runs out.
+abbrev pub IsOutcome : Profile → List Entry → Outcome → Type 0
+IsOutcome profile u Clean = check usual (steps profile u) ≡ []
+IsOutcome profile u Findings = check usual (steps profile u) ≢ []
+IsOutcome profile u Memory = ⊤
+IsOutcome profile u (Refused code line) = ⊥
+IsOutcome profile u (StartRefused code line) = ⊥
+IsOutcome profile u ReadFault = ⊥
+IsOutcome profile u WriteFault = ⊥
+IsOutcome profile u TooLong = ⊥
+
+-- The outcome, for the bytes of the script that were given. At the end it is that of the trace as it then is, unless memory runs out.
+abbrev pub ScriptHasOutcome : Profile → ℕ → SourceState → SourceState → SinkState → SinkState → List ℕ → List Entry → List Entry → Outcome → Type 0
+ScriptHasOutcome profile turns s0 s1 w0 w1 given t u Clean = IsEnded s0 s1 × Replied profile t w0 w1 (lines given) u × (check usual (steps profile u) ≡ [])
+ScriptHasOutcome profile turns s0 s1 w0 w1 given t u Findings = IsEnded s0 s1 × Replied profile t w0 w1 (lines given) u × (check usual (steps profile u) ≢ [])
+ScriptHasOutcome profile turns s0 s1 w0 w1 given t u Memory = IsEnded s0 s1 × Replied profile t w0 w1 (lines given) u
+ScriptHasOutcome profile turns s0 s1 w0 w1 given t u ReadFault = NotAtEnd s0 s1 × Replied profile t w0 w1 (script_lines [] given) u
+ScriptHasOutcome profile turns s0 s1 w0 w1 given t u TooLong = NotAtEnd s0 s1 × UsedUp turns s0 s1 × Replied profile t w0 w1 (script_lines [] given) u
+ScriptHasOutcome profile turns s0 s1 w0 w1 given t u WriteFault = IsBroken profile s0 s1 w0 w1 given t
+ScriptHasOutcome profile turns s0 s1 w0 w1 given t u (Refused code line) = ⊥
+ScriptHasOutcome profile turns s0 s1 w0 w1 given t u (StartRefused code line) = ⊥
+
+-- What replying to a script on a trace does.
+pub record Replies (profile : Profile) (turns : ℕ) (s0 s1 : SourceState) (w0 w1 : SinkState) (t : List Entry) (outcome : Outcome) : Type 0 where
+  pub given : List ℕ
+  pub read : Consumes s0.bytes s1.bytes given
+  pub calls : s1.calls ≤ s0.calls + turns
+  pub read_fault : s1.failures ≡ s0.failures + read_faults outcome
+  pub after : List Entry
+  pub answer : ScriptHasOutcome profile turns s0 s1 w0 w1 given t after outcome
 
 -- ---- the whole call: r is the reader of the trace, s that of the script, and w the writer
 
 -- The outcome where the trace isn't taken over, for what was given of it and written.
 abbrev pub Rejects : ℕ → SourceState → SourceState → List ℕ → List ℕ → Outcome → Type 0
-Rejects turns r0 r1 given written (Refused code line) = TellsRefusal (Told r0 r1) given written (record { code = code; line = line })
-Rejects turns r0 r1 given written Memory = IsNear soon given × (written ≡ [])
-Rejects turns r0 r1 given written outcomes.ReadFault = IsOpen r0 r1 given written
-Rejects turns r0 r1 given written outcomes.TooLong = IsOpen r0 r1 given written × UsedUp turns r0 r1
-Rejects turns r0 r1 given written outcomes.WriteFault = (e : Refusal) × (text : List ℕ) × TellsRefusal (Told r0 r1) given text e × IsFront written text
+Rejects turns r0 r1 given written (Refused code line) = NamesLine (IsEnded r0 r1) given written code line
+Rejects turns r0 r1 given written (StartRefused code line) = ⊥
+Rejects turns r0 r1 given written Memory = IsSilent (IsEnded r0 r1) given written
+Rejects turns r0 r1 given written ReadFault = IsOpen r0 r1 given written
+Rejects turns r0 r1 given written TooLong = IsOpen r0 r1 given written × UsedUp turns r0 r1
+Rejects turns r0 r1 given written WriteFault = (e : Refusal) × (text : List ℕ) × IsRefusal (IsEnded r0 r1) given text e × IsPrefix written text
 Rejects turns r0 r1 given written Clean = ⊥
 Rejects turns r0 r1 given written Findings = ⊥
 
@@ -64,39 +98,16 @@ pub record Rejected (turns : ℕ) (r0 r1 s0 s1 : SourceState) (w0 w1 : SinkState
   pub answer : Rejects turns r0 r1 given written outcome
   pub unread : s1 ≡ s0
 
--- The outcome at the end of the script is that of the trace as it then is, unless memory runs out; a fault is told as it came.
-abbrev pub Ends : List Entry → Ended → Outcome → Type 0
-Ends u AtEnd Clean = check usual u ≡ []
-Ends u AtEnd Findings = check usual u ≢ []
-Ends u AtEnd Memory = ⊤
-Ends u AtEnd (Refused code line) = ⊥
-Ends u AtEnd outcomes.ReadFault = ⊥
-Ends u AtEnd outcomes.WriteFault = ⊥
-Ends u AtEnd outcomes.TooLong = ⊥
-Ends u ReadFault outcome = outcome ≡ outcomes.ReadFault
-Ends u WriteFault outcome = outcome ≡ outcomes.WriteFault
-Ends u TooLong outcome = outcome ≡ outcomes.TooLong
-
 -- The trace was read to its end, no line of it is refused, and the script was replied to.
-pub record Taken (turns : ℕ) (r0 r1 s0 s1 : SourceState) (w0 w1 : SinkState) (outcome : Outcome) : Type 0 where
+pub record Taken (profile : Profile) (turns : ℕ) (r0 r1 s0 s1 : SourceState) (w0 w1 : SinkState) (outcome : Outcome) : Type 0 where
   pub given : List ℕ
   pub read : Consumes r0.bytes r1.bytes given
   pub calls : r1.calls ≤ r0.calls + turns
   pub failures : r1.failures ≡ r0.failures
-  pub end : Told r0 r1
+  pub end : IsEnded r0 r1
   pub entries : List Entry
   pub good : trace given ≡ Ok entries
-  pub after : List Entry
-  pub ended : Ended
-  pub edits : Edits turns s0 s1 w0 w1 entries after ended
-  pub answer : Ends after ended outcome
+  pub script : Replies profile turns s0 s1 w0 w1 entries outcome
 
-abbrev pub EditStreams : ℕ → SourceState → SourceState → SourceState → SourceState → SinkState → SinkState → Outcome → Type 0
-EditStreams turns r0 r1 s0 s1 w0 w1 outcome = Rejected turns r0 r1 s0 s1 w0 w1 outcome ⊎ Taken turns r0 r1 s0 s1 w0 w1 outcome
-
--- What replying to a script does, from a trace.
-pub record Replies (turns : ℕ) (s0 s1 : SourceState) (w0 w1 : SinkState) (t : List Entry) (outcome : Outcome) : Type 0 where
-  pub after : List Entry
-  pub ended : Ended
-  pub edits : Edits turns s0 s1 w0 w1 t after ended
-  pub answer : Ends after ended outcome
+abbrev pub EditStreams : Profile → ℕ → SourceState → SourceState → SourceState → SourceState → SinkState → SinkState → Outcome → Type 0
+EditStreams profile turns r0 r1 s0 s1 w0 w1 outcome = Rejected turns r0 r1 s0 s1 w0 w1 outcome ⊎ Taken profile turns r0 r1 s0 s1 w0 w1 outcome

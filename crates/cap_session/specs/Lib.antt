@@ -15,8 +15,14 @@ pub mod Replies
 pub mod ScriptLaws
 pub mod Scripts
 pub mod Session
+pub mod StartLines
+pub mod StartParsed
+pub mod StartStreams
+pub mod StartTexts
+pub mod StartWords
 pub mod Streams
 pub mod Texts
 pub mod Trace
+pub mod Traced
 pub mod Works
 pub mod Writes

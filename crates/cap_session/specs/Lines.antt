@@ -24,6 +24,6 @@ lines text = whole_lines [] text ++ line_if_any (last_piece [] text)
 abbrev pub line_if_long : List ℕ → List (List ℕ)
 line_if_long piece = if nat_lt 1024 (length piece) then piece ∷ [] else []
 
--- the lines of a text whose end wasn't told
+-- the lines of a text whose end isn't reached
 abbrev pub lines_so_far : List ℕ → List (List ℕ)
 lines_so_far text = whole_lines [] text ++ line_if_long (last_piece [] text)

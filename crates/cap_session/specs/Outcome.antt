@@ -1,16 +1,28 @@
 -- The exit status of an outcome.
 use Rattle.std.specs.Prelude.{ℕ}
+use Rattle.cap_session.specs.Refused.{code_of}
+use Rattle.cap_session.specs.declared.lines.Stop.{Stop}
+use Rattle.cap_session.specs.declared.lines.Stop.TheVariants as stops
 use Rattle.cap_session.specs.declared.outcome.Outcome.{Outcome}
-use Rattle.cap_session.specs.declared.outcome.Outcome.TheVariants.{Clean, Findings, Refused, Memory, ReadFault, WriteFault, TooLong}
+use Rattle.cap_session.specs.declared.outcome.Outcome.TheVariants.{Clean, Findings, Refused, StartRefused, Memory, ReadFault, WriteFault, TooLong}
 
 abbrev pub status_of : Outcome → ℕ
 status_of Clean = 0
 status_of Findings = 1
 status_of (Refused code line) = 2
+status_of (StartRefused code line) = 2
 status_of Memory = 3
 status_of ReadFault = 3
 status_of WriteFault = 3
 status_of TooLong = 3
+
+-- how a call ends that stopped so
+abbrev pub outcome_of : Stop → Outcome
+outcome_of (stops.Refused e) = Refused (code_of e.reason) e.line
+outcome_of stops.Memory = Memory
+outcome_of stops.ReadFault = ReadFault
+outcome_of stops.WriteFault = WriteFault
+outcome_of stops.TooLong = TooLong
 
 -- one, where the outcome tells a fault of the reader
 abbrev pub read_faults : Outcome → ℕ
@@ -18,6 +30,7 @@ read_faults ReadFault = 1
 read_faults Clean = 0
 read_faults Findings = 0
 read_faults (Refused code line) = 0
+read_faults (StartRefused code line) = 0
 read_faults Memory = 0
 read_faults WriteFault = 0
 read_faults TooLong = 0
@@ -28,6 +41,7 @@ write_faults WriteFault = 1
 write_faults Clean = 0
 write_faults Findings = 0
 write_faults (Refused code line) = 0
+write_faults (StartRefused code line) = 0
 write_faults Memory = 0
 write_faults ReadFault = 0
 write_faults TooLong = 0

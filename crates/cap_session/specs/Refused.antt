@@ -3,11 +3,11 @@ use Rattle.std.specs.Prelude.{ℕ}
 use Rattle.cap_trace.specs.declared.fault.LineFault.{LineFault}
 use Rattle.cap_trace.specs.declared.fault.LineFault.TheVariants as line
 use Rattle.cap_session.specs.declared.refused.Refused.{Refused}
-use Rattle.cap_session.specs.declared.refused.Refused.TheVariants.{TooLong, Shape, Pid, Argument, Right, Answer, Position, Full, Memory}
+use Rattle.cap_session.specs.declared.refused.Refused.TheVariants.{LongLine, Shape, Pid, Argument, Right, Answer, Position, Full, Memory}
 
--- the number by which replies tell it
+-- its number in replies
 abbrev pub code_of : Refused → ℕ
-code_of TooLong = 1
+code_of LongLine = 1
 code_of Shape = 2
 code_of Pid = 3
 code_of Argument = 4
@@ -17,9 +17,9 @@ code_of Position = 7
 code_of Full = 8
 code_of Memory = 9
 
--- the fault of a line, as a session tells it
+-- the fault of a line, as a session answers it
 abbrev pub refused_line : LineFault → Refused
-refused_line line.TooLong = TooLong
+refused_line line.TooLong = LongLine
 refused_line line.Shape = Shape
 refused_line line.Pid = Pid
 refused_line line.Argument = Argument

@@ -1,16 +1,21 @@
--- The reply to a command, and the trace that it leaves.
+-- The reply to a command in a profile, and the trace that it leaves.
 use Rattle.std.specs.Prelude.{ℕ, ◌-◌, ◌&&◌, nat_le, Bool, true, false, List, [], ◌++◌, length, flat_map, filter, codes, decimal, if◌then◌else◌, Result, Ok, Err, Option, None, Some}
 use Rattle.std.specs.List.{slice_get}
 use Rattle.cap_trace.specs.Entry.{Entry}
 use Rattle.cap_trace.specs.Spelling.{canon}
+use Rattle.cap_machine.specs.declared.cell.Profile.{Profile}
+use Rattle.cap_machine.specs.declared.step.Step.{Step}
 use Rattle.cap_machine.specs.declared.verdict.Found.{Found}
+use Rattle.cap_machine.specs.Steps.{steps}
 use Rattle.cap_machine.specs.State.{State, usual}
 use Rattle.cap_machine.specs.Check.{check}
-use Rattle.cap_machine.specs.Report.{told, last_line, report}
+use Rattle.cap_machine.specs.Report.{report_line, last_line, report}
 use Rattle.cap_session.specs.Edits.{is_position, inserted, deleted, replaced}
 use Rattle.cap_session.specs.Refused.{code_of}
 use Rattle.cap_session.specs.Commands.{Asked, insert_line, replace_line, delete_line, show_line, count_lines, report_all, report_lines, unknown}
 use Rattle.cap_session.specs.declared.refused.Refused.{Refused}
+use Rattle.cap_session.specs.declared.script.NotDone.{NotDone}
+use Rattle.cap_session.specs.declared.script.NotDone.TheVariants as NotDone
 use Rattle.cap_session.specs.declared.refused.Refused.TheVariants.{Position}
 
 -- ---- what is asked without a change
@@ -28,21 +33,26 @@ abbrev pub lies_in : ℕ → ℕ → Found → Bool
 lies_in first last found = nat_le first found.at && nat_le found.at last
 
 -- the findings of the whole check whose positions lie in a range
-abbrev pub found_in : State → List Entry → ℕ → ℕ → List Found
+abbrev pub found_in : State → List Step → ℕ → ℕ → List Found
 found_in s trace first last = filter (lies_in first last) (check s trace)
 
 -- their lines, and how many they are
-abbrev pub range_report : State → List Entry → ℕ → ℕ → List ℕ
-range_report s trace first last = flat_map (told trace) (found_in s trace first last) ++ last_line (length (found_in s trace first last))
+abbrev pub range_report : State → List Step → ℕ → ℕ → List ℕ
+range_report s trace first last = flat_map (report_line trace) (found_in s trace first last) ++ last_line (length (found_in s trace first last))
 
--- a range begins at a line, and ends at that line or behind it
+-- a range begins at a line, and ends at that line or after it
 abbrev pub is_range : ℕ → ℕ → ℕ → Bool
 is_range count first last = nat_le 1 first && nat_le first last && nat_le last count
 
-abbrev pub ranged : List Entry → ℕ → ℕ → Result (List ℕ) Refused
-ranged trace first last = if is_range (length trace) first last then Ok (range_report usual trace first last) else Err Position
+abbrev pub ranged : Profile → List Entry → ℕ → ℕ → Result (List ℕ) Refused
+ranged profile trace first last = if is_range (length trace) first last then Ok (range_report usual (steps profile trace) first last) else Err Position
 
 -- ---- commands
+
+-- the number that stands in the reply to a command that isn't done
+abbrev pub not_done_code : NotDone → ℕ
+not_done_code (NotDone.Refused refused) = code_of refused
+not_done_code NotDone.Unknown = 10
 
 -- a reply, and the trace that the command leaves
 pub record Done : Type 0 where
@@ -52,30 +62,30 @@ pub record Done : Type 0 where
 abbrev pub line_feed : List ℕ
 line_feed = codes "\n"
 
--- an edit is told with the new count
-abbrev pub edit_done : Result (List Entry) Refused → Result Done ℕ
+-- an edit is replied to with the new count
+abbrev pub edit_done : Result (List Entry) Refused → Result Done NotDone
 edit_done (Ok next) = Ok (record { text = codes "ok " ++ decimal (length next) ++ line_feed; trace = next })
-edit_done (Err e) = Err (code_of e)
+edit_done (Err e) = Err (NotDone.Refused e)
 
--- what was asked for is told, and the trace stays
-abbrev pub told_done : List Entry → List ℕ → Result (List ℕ) Refused → Result Done ℕ
-told_done trace end (Ok text) = Ok (record { text = text ++ end; trace = trace })
-told_done trace end (Err e) = Err (code_of e)
+-- what was asked for is replied, and the trace stays
+abbrev pub shown_done : List Entry → List ℕ → Result (List ℕ) Refused → Result Done NotDone
+shown_done trace end (Ok text) = Ok (record { text = text ++ end; trace = trace })
+shown_done trace end (Err e) = Err (NotDone.Refused e)
 
 -- A script's session holds at most 1,000,000 lines.
 abbrev pub most_lines : ℕ
 most_lines = 1000000
 
--- what a command does, or the code with which it is refused; 10 is an unknown command
-abbrev pub commanded : List Entry → Asked → Result Done ℕ
-commanded trace (insert_line k line) = edit_done (inserted most_lines trace k line)
-commanded trace (replace_line k line) = edit_done (replaced trace k line)
-commanded trace (delete_line k) = edit_done (deleted trace k)
-commanded trace (show_line k) = told_done trace line_feed (shown trace k)
-commanded trace count_lines = Ok (record { text = decimal (length trace) ++ line_feed; trace = trace })
-commanded trace report_all = Ok (record { text = report usual trace; trace = trace })
-commanded trace (report_lines a b) = told_done trace [] (ranged trace a b)
-commanded trace unknown = Err 10
+-- what a command does, or why it isn't done
+abbrev pub commanded : Profile → List Entry → Asked → Result Done NotDone
+commanded profile trace (insert_line k line) = edit_done (inserted most_lines trace k line)
+commanded profile trace (replace_line k line) = edit_done (replaced trace k line)
+commanded profile trace (delete_line k) = edit_done (deleted trace k)
+commanded profile trace (show_line k) = shown_done trace line_feed (shown trace k)
+commanded profile trace count_lines = Ok (record { text = decimal (length trace) ++ line_feed; trace = trace })
+commanded profile trace report_all = Ok (record { text = report usual (steps profile trace); trace = trace })
+commanded profile trace (report_lines a b) = shown_done trace [] (ranged profile trace a b)
+commanded profile trace unknown = Err NotDone.Unknown
 
 -- Memory may be wanted for every command that isn't refused, but for `count`.
 abbrev pub may_want : Asked → Bool

@@ -1,6 +1,8 @@
--- What holds of scripts.
+-- What holds of scripts, in every profile.
 use Rattle.std.specs.Prelude.{◌≡◌, ◌⊎◌, ℕ, nat_lt, Bool, false, List, [], ◌∷◌, ◌++◌, length, flat_map, codes, decimal, Result, Ok, Err, ⊤}
 use Rattle.cap_trace.specs.Entry.{Entry}
+use Rattle.cap_machine.specs.declared.cell.Profile.{Profile}
+use Rattle.cap_machine.specs.Steps.{steps}
 use Rattle.cap_machine.specs.State.{usual}
 use Rattle.cap_machine.specs.Report.{report}
 use Rattle.cap_session.specs.declared.edit.Edit.{Edit}
@@ -24,19 +26,59 @@ AskAll (line ∷ lines) (edit ∷ edits) = Asks line edit × AskAll lines edits
 AskAll [] (edit ∷ edits) = ⊥
 AskAll (line ∷ lines) [] = ⊥
 
--- how an edit's answer is told
-abbrev pub told_answer : Result ℕ Refused → List ℕ
-told_answer (Ok count) = codes "ok " ++ decimal count ++ line_feed
-told_answer (Err e) = refused_text (code_of e)
+-- the reply to an edit, by its answer
+abbrev pub answer_text : Result ℕ Refused → List ℕ
+answer_text (Ok count) = codes "ok " ++ decimal count ++ line_feed
+answer_text (Err e) = refused_text (code_of e)
 
 -- The report of a trace, or the reply where memory ran out for it.
-abbrev pub ReportOrWant : List Entry → List ℕ → Type 0
-ReportOrWant trace text = (text ≡ report usual trace) ⊎ (text ≡ refused_text 9)
+abbrev pub ReportOrWant : Profile → List Entry → List ℕ → Type 0
+ReportOrWant profile trace text = (text ≡ report usual (steps profile trace)) ⊎ (text ≡ refused_text 9)
 
 -- After the lines of any edits, `report` is replied to with the report of the trace that the edits leave, one after the other, and before it
 -- stands what each edit answers. For which of them memory was wanted is left open.
 abbrev pub ScriptReportsWhatEditsGive : Type 0
-ScriptReportsWhatEditsGive = (trace left : List Entry) (lines : List (List ℕ)) (edits : List Edit) (text : List ℕ) →
-    AskAll lines edits → Run trace (lines ++ codes "report" ∷ []) text left →
+ScriptReportsWhatEditsGive = (profile : Profile) (trace left : List Entry) (lines : List (List ℕ)) (edits : List Edit) (text : List ℕ) →
+    AskAll lines edits → Run profile trace (lines ++ codes "report" ∷ []) text left →
     (wanted : List Bool) × (last : List ℕ) × (length wanted ≡ length edits) × (left ≡ after most_lines trace edits wanted) ×
-    (text ≡ flat_map told_answer (answers most_lines trace edits wanted) ++ last) × ReportOrWant left last
+    (text ≡ flat_map answer_text (answers most_lines trace edits wanted) ++ last) × ReportOrWant profile left last
+
+-- A line asks for no edit.
+abbrev pub AsksNone : List ℕ → Type 0
+AsksNone line = (edit : Edit) → Asks line edit → ⊥
+
+-- These are the edits that the lines ask for, in order. The other lines are passed over.
+abbrev pub AreEditsOf : List (List ℕ) → List Edit → Type 0
+AreEditsOf [] [] = ⊤
+AreEditsOf [] (edit ∷ edits) = ⊥
+AreEditsOf (line ∷ lines) [] = AsksNone line × AreEditsOf lines []
+AreEditsOf (line ∷ lines) (edit ∷ edits) = (AsksNone line × AreEditsOf lines (edit ∷ edits)) ⊎ (Asks line edit × AreEditsOf lines edits)
+
+-- A trace becomes the one that the edits among the lines leave, one after the other. For which of them memory was wanted is left open.
+pub record LeavesEdits (trace : List Entry) (lines : List (List ℕ)) (left : List Entry) : Type 0 where
+  pub edits : List Edit
+  pub asked : AreEditsOf lines edits
+  pub wanted : List Bool
+  pub each : length wanted ≡ length edits
+  pub leaves : left ≡ after most_lines trace edits wanted
+
+-- Whatever the lines of a script are, they leave the trace that the edits among them leave.
+abbrev pub ScriptLeavesWhatEditsGive : Type 0
+ScriptLeavesWhatEditsGive = (profile : Profile) (trace left : List Entry) (lines : List (List ℕ)) (text : List ℕ) → Run profile trace lines text left → LeavesEdits trace lines left
+
+-- `now` is the trace at a line `report`, `reply` is the reply to it, and `first` and `rest` are those to the lines before and after it.
+pub record ReportsThen (profile : Profile) (trace left : List Entry) (before others : List (List ℕ)) (text : List ℕ) : Type 0 where
+  pub now : List Entry
+  pub first : List ℕ
+  pub reply : List ℕ
+  pub rest : List ℕ
+  pub text_is : text ≡ first ++ reply ++ rest
+  pub edits : LeavesEdits trace before now
+  pub lines : Run profile trace before first now
+  pub report : ReportOrWant profile now reply
+  pub more : Run profile now others rest left
+
+-- Each `report` in a script is replied to with the report of the trace that the edits before it leave, whatever else stands before it and after it.
+abbrev pub EachReportIsOfItsTrace : Type 0
+EachReportIsOfItsTrace = (profile : Profile) (trace left : List Entry) (before others : List (List ℕ)) (text : List ℕ) →
+    Run profile trace (before ++ codes "report" ∷ others) text left → ReportsThen profile trace left before others text

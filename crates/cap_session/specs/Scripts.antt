@@ -1,39 +1,41 @@
--- The replies to a script.
+-- The replies to a script in a profile.
 use Rattle.std.specs.Prelude.{◌≡◌, ℕ, nat_lt, ◌⊎◌, List, [], ◌∷◌, ◌++◌, length, if◌then◌else◌, MatchBool, IsTrue, IsOk, Result, Ok, Err}
 use Rattle.cap_trace.specs.Entry.{Entry}
+use Rattle.cap_machine.specs.declared.cell.Profile.{Profile}
 use Rattle.cap_session.specs.Devices.{SinkState}
 use Rattle.cap_session.specs.Lines.{whole_lines, last_piece, line_if_any}
 use Rattle.cap_session.specs.Trace.{is_skipped}
-use Rattle.cap_session.specs.Writes.{Wrote, WroteFront}
+use Rattle.cap_session.specs.Writes.{Wrote, WrotePrefix}
 use Rattle.cap_session.specs.Commands.{Asked, asked}
-use Rattle.cap_session.specs.Replies.{Done, commanded, may_want, refused_text}
+use Rattle.cap_session.specs.Replies.{Done, commanded, may_want, not_done_code, refused_text}
+use Rattle.cap_session.specs.declared.script.NotDone.{NotDone}
 
 -- The command was done, and its reply is this; or it was refused, and left the trace.
-abbrev pub Tells : List Entry → Result Done ℕ → List ℕ → List Entry → Type 0
-Tells t (Ok done) text u = (text ≡ done.text) × (u ≡ done.trace)
-Tells t (Err code) text u = (text ≡ refused_text code) × (u ≡ t)
+abbrev pub RepliesTo : List Entry → Result Done NotDone → List ℕ → List Entry → Type 0
+RepliesTo t (Ok done) text u = (text ≡ done.text) × (u ≡ done.trace)
+RepliesTo t (Err why) text u = (text ≡ refused_text (not_done_code why)) × (u ≡ t)
 
 -- Memory was wanted for a command that isn't refused, and the trace was left.
-abbrev pub Wants : List Entry → Asked → List ℕ → List Entry → Type 0
-Wants t ask text u = IsTrue (may_want ask) × IsOk (commanded t ask) × (text ≡ refused_text 9) × (u ≡ t)
+abbrev pub Wants : Profile → List Entry → Asked → List ℕ → List Entry → Type 0
+Wants profile t ask text u = IsTrue (may_want ask) × IsOk (commanded profile t ask) × (text ≡ refused_text 9) × (u ≡ t)
 
-abbrev pub Commands : List Entry → Asked → List ℕ → List Entry → Type 0
-Commands t ask text u = Tells t (commanded t ask) text u ⊎ Wants t ask text u
+abbrev pub Commands : Profile → List Entry → Asked → List ℕ → List Entry → Type 0
+Commands profile t ask text u = RepliesTo t (commanded profile t ask) text u ⊎ Wants profile t ask text u
 
 -- This may be written of the line, and the trace t becomes u. A line of more than 1,056 bytes is refused with 1, whatever it holds; an
 -- empty line and a comment are skipped.
-abbrev pub Answers : List Entry → List ℕ → List ℕ → List Entry → Type 0
-Answers t line text u =
+abbrev pub Answers : Profile → List Entry → List ℕ → List ℕ → List Entry → Type 0
+Answers profile t line text u =
     MatchBool (nat_lt 1056 (length line)) ((text ≡ refused_text 1) × (u ≡ t))
-    (MatchBool (is_skipped line) ((text ≡ []) × (u ≡ t)) (Commands t (asked line) text u))
+    (MatchBool (is_skipped line) ((text ≡ []) × (u ≡ t)) (Commands profile t (asked line) text u))
 
 -- These may be the replies to the lines, one after the other.
-abbrev pub Run : List Entry → List (List ℕ) → List ℕ → List Entry → Type 0
-Run t [] text u = (text ≡ []) × (u ≡ t)
-Run t (line ∷ more) text u =
-    (first : List ℕ) × (mid : List Entry) × (rest : List ℕ) × Answers t line first mid × Run mid more rest u × (text ≡ first ++ rest)
+abbrev pub Run : Profile → List Entry → List (List ℕ) → List ℕ → List Entry → Type 0
+Run profile t [] text u = (text ≡ []) × (u ≡ t)
+Run profile t (line ∷ more) text u =
+    (first : List ℕ) × (mid : List Entry) × (rest : List ℕ) × Answers profile t line first mid × Run profile mid more rest u × (text ≡ first ++ rest)
 
--- a last piece that is too long is told before its LF
+-- a last piece that is too long is replied to before its LF
 abbrev pub long_piece : List ℕ → List (List ℕ)
 long_piece held = if nat_lt 1056 (length held) then held ∷ [] else []
 
@@ -43,25 +45,26 @@ abbrev pub script_lines : List ℕ → List ℕ → List (List ℕ)
 script_lines held bytes = whole_lines held bytes ++ long_piece (last_piece held bytes)
 
 -- These lines were replied to.
-pub record Replied (t : List Entry) (w0 w1 : SinkState) (lines : List (List ℕ)) (u : List Entry) : Type 0 where
+pub record Replied (profile : Profile) (t : List Entry) (w0 w1 : SinkState) (lines : List (List ℕ)) (u : List Entry) : Type 0 where
   pub text : List ℕ
-  pub run : Run t lines text u
+  pub run : Run profile t lines text u
   pub wrote : Wrote w0 w1 text
 
 -- The writer failed in the replies to the first of these lines.
-pub record Broken (t : List Entry) (w0 w1 : SinkState) (lines : List (List ℕ)) : Type 0 where
+pub record Broken (profile : Profile) (t : List Entry) (w0 w1 : SinkState) (lines : List (List ℕ)) : Type 0 where
   pub first : List (List ℕ)
   pub others : List (List ℕ)
   pub cut : lines ≡ first ++ others
   pub text : List ℕ
   pub trace : List Entry
-  pub run : Run t first text trace
-  pub wrote : WroteFront w0 w1 text
+  pub run : Run profile t first text trace
+  pub wrote : WrotePrefix w0 w1 text
 
 -- ---- while a script comes
 
--- What is known: the trace, and the beginning of the next line, of which no more than 1,057 bytes are kept.
+-- What is known: the profile, the trace, and the beginning of the next line, of which no more than 1,057 bytes are kept.
 pub record Scripting : Type 0 where
+  pub profile : Profile
   pub trace : List Entry
   pub held : List ℕ
 

@@ -3,31 +3,34 @@ use Rattle.std.specs.Prelude.{ℕ, ◌==◌, Bool, true, nat_le, List, [], ◌�
 use Rattle.cap_trace.specs.declared.fault.ReadFault.{ReadFault}
 use Rattle.cap_trace.specs.Entry.{Entry}
 use Rattle.cap_trace.specs.Reading.{line_of}
-use Rattle.cap_trace.specs.Fault.{line_fault, code_of}
+use Rattle.cap_trace.specs.Fault.{line_fault}
 use Rattle.cap_session.specs.Texts.{whole_text, refused_so_far}
-use Rattle.cap_session.specs.declared.refusal.Refusal.{Refusal}
+use Rattle.cap_session.specs.Refused.{refused_line}
+use Rattle.cap_session.specs.declared.refused.Refusal.{Refusal}
+use Rattle.cap_session.specs.declared.refused.Refused.{Refused}
+use Rattle.cap_session.specs.declared.refused.Refused.TheVariants.{Full}
 
 -- an empty line, or a comment, which begins with `#`
 abbrev pub is_skipped : List ℕ → Bool
 is_skipped [] = true
 is_skipped (b ∷ line) = b == 35
 
--- the entry of a line comes after the others; a line that spells none is refused with the code of its first fault
-abbrev pub with_entry : List Entry → Result Entry ReadFault → Result (List Entry) ℕ
+-- the entry of a line comes after the others; a line that spells none is refused with its first fault
+abbrev pub with_entry : List Entry → Result Entry ReadFault → Result (List Entry) Refused
 with_entry entries (Ok entry) = Ok (entries ++ entry ∷ [])
-with_entry entries (Err fault) = Err (code_of (line_fault fault))
+with_entry entries (Err fault) = Err (refused_line (line_fault fault))
 
--- A line is skipped; or refused with 8, whatever it holds, where there are 1,000,000 entries; or read.
-unfoldable pub next_entry : List Entry → List ℕ → Result (List Entry) ℕ
+-- A line is skipped; or refused, whatever it holds, where there are 1,000,000 entries; or read.
+unfoldable pub next_entry : List Entry → List ℕ → Result (List Entry) Refused
 next_entry entries line =
     if is_skipped line then Ok entries
-    else if nat_le 1000000 (length entries) then Err 8
+    else if nat_le 1000000 (length entries) then Err Full
     else with_entry entries (line_of line)
 
 -- the entries of a whole text, or its first refused line
 abbrev pub trace : List ℕ → Result (List Entry) Refusal
 trace = whole_text next_entry []
 
--- the first refused line of a text whose end wasn't told: one with its LF, or a last piece that is too long
+-- the first refused line of a text whose end isn't reached: one with its LF, or a last piece that is too long
 abbrev pub soon : List ℕ → Option Refusal
 soon = refused_so_far next_entry []

@@ -9,8 +9,8 @@ pub record Wrote (old new : SinkState) (text : List ℕ) : Type 0 where
   pub failures : new.failures ≡ old.failures
   pub room : new.room ≡ old.room
 
--- the sink failed, and a front of the text was taken
-pub record WroteFront (old new : SinkState) (text : List ℕ) : Type 0 where
+-- the sink failed, and a prefix of the text was taken
+pub record WrotePrefix (old new : SinkState) (text : List ℕ) : Type 0 where
   pub front : List ℕ
   pub rest : List ℕ
   pub cut : text ≡ front ++ rest

@@ -1,13 +1,13 @@
-//! What a line of a script asks for.
+//! What a line of a script command_asked for.
 ghost use Rattle.std.specs.Prelude.{◌≡◌, MatchOption, None, Some};
 ghost use Rattle.cap_session.specs.Commands.{Asked, asked, asked_alone, asked_with, first_word, after_word, position, with_number, with_line, with_range, insert_line, replace_line, report_lines, unknown};
-ghost use Rattle.cap_session.specs.Performs.{asks};
+ghost use Rattle.cap_session.specs.Performs.{command_asked};
 
 use crate::edit::Edit;
 use crate::number::number_of;
 use bstr::ByteSlice;
 
-/// What a line of a script asks for.
+/// What a line of a script command_asked for.
 #[derive(Clone, Copy, Debug)]
 pub enum Command<'a> {
     Edit(Edit<'a>),
@@ -18,7 +18,7 @@ pub enum Command<'a> {
     Unknown,
 }
 
-/// The bytes before the first space, and those behind it where there is one.
+/// The bytes before the first space, and those after it where there is one.
 fn split_word<'a>(line: &'a [u8]) -> (&'a [u8], Option<&'a [u8]>)
     ensures word { result.0.now ≡ first_word line.now }
     ensures rest { MatchOption result.1 (after_word line.now ≡ None) (λ rest. after_word line.now ≡ Some rest.now) }
@@ -31,7 +31,7 @@ fn split_word<'a>(line: &'a [u8]) -> (&'a [u8], Option<&'a [u8]>)
 
 /// A line of one word.
 fn alone(word: &[u8]) -> Command<'static>
-    ensures { asks result ≡ asked_alone word.now }
+    ensures { command_asked result ≡ asked_alone word.now }
 {
     if word == b"count".as_slice() {
         Command::Count
@@ -44,7 +44,7 @@ fn alone(word: &[u8]) -> Command<'static>
 
 /// `insert` with a position and a line.
 fn insert_of<'a>(rest: &'a [u8]) -> Command<'a>
-    ensures { asks result ≡ with_line (position (first_word rest.now)) (after_word rest.now) insert_line }
+    ensures { command_asked result ≡ with_line (position (first_word rest.now)) (after_word rest.now) insert_line }
 {
     let (word, line) = split_word(rest);
     match (number_of(word), line) {
@@ -55,7 +55,7 @@ fn insert_of<'a>(rest: &'a [u8]) -> Command<'a>
 
 /// `replace` with a position and a line.
 fn replace_of<'a>(rest: &'a [u8]) -> Command<'a>
-    ensures { asks result ≡ with_line (position (first_word rest.now)) (after_word rest.now) replace_line }
+    ensures { command_asked result ≡ with_line (position (first_word rest.now)) (after_word rest.now) replace_line }
 {
     let (word, line) = split_word(rest);
     match (number_of(word), line) {
@@ -66,7 +66,7 @@ fn replace_of<'a>(rest: &'a [u8]) -> Command<'a>
 
 /// `report` with two positions.
 fn range_of(rest: &[u8]) -> Command<'static>
-    ensures { asks result ≡ with_range (position (first_word rest.now)) (after_word rest.now) }
+    ensures { command_asked result ≡ with_range (position (first_word rest.now)) (after_word rest.now) }
 {
     let (word, rest) = split_word(rest);
     let Some(rest) = rest else {
@@ -78,9 +78,9 @@ fn range_of(rest: &[u8]) -> Command<'static>
     }
 }
 
-/// A word, and what follows the space behind it.
+/// A word, and what follows the space after it.
 fn with_rest<'a>(word: &[u8], rest: &'a [u8]) -> Command<'a>
-    ensures { asks result ≡ asked_with word.now rest.now }
+    ensures { command_asked result ≡ asked_with word.now rest.now }
 {
     if word == b"insert".as_slice() {
         insert_of(rest)
@@ -103,9 +103,9 @@ fn with_rest<'a>(word: &[u8], rest: &'a [u8]) -> Command<'a>
     }
 }
 
-/// What a line asks for.
+/// What a line command_asked for.
 pub fn command_of<'a>(line: &'a [u8]) -> Command<'a>
-    ensures { asks result ≡ asked line.now }
+    ensures { command_asked result ≡ asked line.now }
 {
     match split_word(line) {
         (word, None) => alone(word),

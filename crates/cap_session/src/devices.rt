@@ -10,12 +10,12 @@ ghost use Rattle.cap_session.specs.Devices.{SourceState, SinkState, failed, ende
 #[derive(Clone, Copy, Debug, PartialEq, Eq)]
 pub struct Failed;
 
-/// Gives bytes, and counts its calls, its failures and how often it told its end.
+/// Gives bytes, and counts its calls, its failures and how often it answered that its end is reached.
 pub trait Source {
     /// The bytes still to come, the counts, and how many calls can still be counted.
     ghost state: { Self → SourceState };
 
-    /// Gives the next bytes. A failure gives none, and an answer of 0 tells the end.
+    /// Gives the next bytes. A failure gives none, and an answer of 0 means the end.
     fn read(&mut self, buffer: &mut [u8]) -> Result<usize, Failed>
         requires some { 0 < length buffer.old }
         requires room { 0 < (state self.old).room }

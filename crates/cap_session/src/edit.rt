@@ -6,7 +6,7 @@ ghost use Rattle.cap_session.specs.EditLaws.{AcceptedEditsGive, NoEditAsksForMem
 pub enum Edit<'a> {
     /// Puts a line at the position, one past the last line at most. The lines from there on move up by one.
     Insert { position: usize, line: &'a [u8] },
-    /// Takes the line at the position out. Those behind it move down by one.
+    /// Takes the line at the position out. Those after it move down by one.
     Delete { position: usize },
     /// Puts a line in place of the one at the position.
     Replace { position: usize, line: &'a [u8] },
@@ -17,7 +17,7 @@ pub fn accepted_edits_give()
     ensures { AcceptedEditsGive }
 {}
 
-/// Want of memory is never what an edit asks for, so it comes only where memory runs out.
+/// No edit is refused by its definition with `Memory`: that comes only where memory runs out.
 pub fn no_edit_asks_for_memory()
     ensures { NoEditAsksForMemory }
 {}

@@ -1,16 +1,19 @@
 //! A trace, and a script of commands on it.
 ghost use Rattle.std.specs.Prelude.{◌≡◌, ◌^◌, ◌<◌, ◌≤◌, [], length};
-ghost use Rattle.cap_session.specs.EditStreams.{EditStreams, Replies};
+ghost use Rattle.cap_machine.specs.declared.cell.Profile.TheVariants.{One};
+ghost use Rattle.cap_session.specs.EditStreams.{EditStreams, Replies, IsOutcome};
 
-use crate::check::{MOST_LINES, write_refusal};
+use crate::check::write_stop;
 use crate::devices::{Sink, Source};
+use crate::entries::read_trace;
 use crate::held::Held;
 use crate::loading::Loading;
 use crate::outcome::Outcome;
-use crate::read::{Ending, PIECE, read_text};
-use crate::replies::{Ended, reply_all};
+use crate::read::PIECE;
+use crate::replies::reply_all;
 use crate::script::Script;
 use crate::session::Session;
+use cap_machine::Profile;
 use std::alloc::Global;
 
 /// Replies to a script with room for a piece, and ends with the outcome of the trace as it then is.
@@ -27,23 +30,28 @@ fn edit_loaded<S: Source, W: Sink>(
     requires begins { script.held ≡ [] }
     requires some { 0 < length piece.old }
     requires most { length piece.old ≤ 65536 }
-    ensures { Replies turns (S.state reader.old) (S.state reader.new) (W.state writer.old) (W.state writer.new) script.trace result }
+    ensures { Replies script.profile turns (S.state reader.old) (S.state reader.new) (W.state writer.old) (W.state writer.new) script.trace result }
 {
     match reply_all(turns, reader, writer, &mut script, piece) {
-        Ended::AtEnd => match script.session.is_clean() {
-            Ok(true) => Outcome::Clean,
-            Ok(false) => Outcome::Findings,
-            Err(_) => Outcome::Memory,
-        },
-        Ended::ReadFault => Outcome::ReadFault,
-        Ended::WriteFault => Outcome::WriteFault,
-        Ended::TooLong => Outcome::TooLong,
+        Ok(()) => outcome_of(&script.session),
+        Err(stop) => Outcome::from(stop),
     }
 }
 
-/// Takes a trace over, and replies to a script of commands on it, line by line.
+/// The outcome of the trace of a session.
+fn outcome_of(session: &Session) -> Outcome
+    ensures { IsOutcome session.now.profile session.now.trace result }
+{
+    match session.is_clean() {
+        Ok(true) => Outcome::Clean,
+        Ok(false) => Outcome::Findings,
+        Err(_) => Outcome::Memory,
+    }
+}
+
+/// Takes a trace over in a profile, and replies to a script of commands on it, line by line.
 ///
-/// The trace is read as `check_stream` reads it. Where it isn't taken over, the outcome is told as there: `Refused`,
+/// The trace is read as `check_stream` reads it. Where it isn't taken over, the outcome is as there: `Refused`,
 /// `Memory`, `ReadFault`, `TooLong`, or `WriteFault` of the refusal, and the script isn't read.
 ///
 /// Each line of the script is replied to before the next is worked through. Empty lines and lines that begin with `#`
@@ -55,12 +63,49 @@ fn edit_loaded<S: Source, W: Sink>(
 /// - A command that is refused replies `refused E7`, by the code of its refusal, and any other line `refused E10`. One
 ///   for which memory runs out replies `refused E9`. The script goes on.
 ///
-/// - `Clean` and `Findings`: the end of the script was told, and this is the outcome of the trace as it then is.
-/// - `Memory`: that couldn't be found out for want of memory, or there was no room to begin.
+/// - `Clean` and `Findings`: the script was read to its end, and this is the outcome of the trace as it then is.
+/// - `Memory`: memory ran out before that was known, or before the script was read.
 /// - `ReadFault`, `WriteFault`, `TooLong`: of the script, or of the writer, which ends it at once. The replies so far
-///   were written, and at `WriteFault` a front of them.
+///   were written, and at `WriteFault` a prefix of them.
 ///
-/// The caller owes at most 2^32 turns, two readers that can count so many calls, and a writer that can count a failure.
+/// `turns` must be at most 2^32, both readers must be able to count so many calls, and the writer must be able to count
+/// a failure.
+pub fn edit_stream_as<T: Source, S: Source, W: Sink>(
+    alloc: Global,
+    profile: Profile,
+    turns: u64,
+    trace: &mut T,
+    script: &mut S,
+    writer: &mut W,
+) -> Outcome
+    requires turns { turns ≤ 2 ^ 32 }
+    requires trace_calls { turns ≤ (T.state trace.old).room }
+    requires script_calls { turns ≤ (S.state script.old).room }
+    requires failure { 1 ≤ (W.state writer.old).room }
+    ensures { EditStreams profile turns (T.state trace.old) (T.state trace.new) (S.state script.old) (S.state script.new) (W.state writer.old) (W.state writer.new) result }
+{
+    let Ok(mut piece) = vec![in alloc; 0u8; PIECE] else {
+        return Outcome::Memory;
+    };
+    let Ok(held) = Held::new(alloc) else {
+        return Outcome::Memory;
+    };
+    let Ok(loading) = Loading::new(alloc, profile) else {
+        return Outcome::Memory;
+    };
+    match read_trace(alloc, turns, trace, loading) {
+        Ok(loading) => {
+            let loaded = Script {
+                session: loading.session,
+                held,
+            };
+            edit_loaded(turns, script, writer, loaded, piece.as_mut_slice())
+        }
+        Err(stop) => write_stop(stop, writer),
+    }
+}
+
+/// Takes a trace over in profile 1, and replies to a script of commands on it, as [`edit_stream_as`] does.
 pub fn edit_stream<T: Source, S: Source, W: Sink>(
     alloc: Global,
     turns: u64,
@@ -72,30 +117,9 @@ pub fn edit_stream<T: Source, S: Source, W: Sink>(
     requires trace_calls { turns ≤ (T.state trace.old).room }
     requires script_calls { turns ≤ (S.state script.old).room }
     requires failure { 1 ≤ (W.state writer.old).room }
-    ensures { EditStreams turns (T.state trace.old) (T.state trace.new) (S.state script.old) (S.state script.new) (W.state writer.old) (W.state writer.new) result }
+    ensures { EditStreams One turns (T.state trace.old) (T.state trace.new) (S.state script.old) (S.state script.new) (W.state writer.old) (W.state writer.new) result }
 {
-    let Ok(mut piece) = vec![in alloc; 0u8; PIECE] else {
-        return Outcome::Memory;
-    };
-    let Ok(held) = Held::new(alloc) else {
-        return Outcome::Memory;
-    };
-    let Ok(session) = Session::new(alloc, MOST_LINES) else {
-        return Outcome::Memory;
-    };
-    match read_text(alloc, turns, trace, Loading { session }) {
-        Ok(loading) => {
-            let loaded = Script {
-                session: loading.session,
-                held,
-            };
-            edit_loaded(turns, script, writer, loaded, piece.as_mut_slice())
-        }
-        Err(Ending::Refused(refusal)) => write_refusal(refusal, writer),
-        Err(Ending::Memory) => Outcome::Memory,
-        Err(Ending::ReadFault) => Outcome::ReadFault,
-        Err(Ending::TooLong) => Outcome::TooLong,
-    }
+    edit_stream_as(alloc, Profile::One, turns, trace, script, writer)
 }
 
 #[cfg(test)]

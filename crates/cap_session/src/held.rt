@@ -4,9 +4,9 @@ ghost use Rattle.std.specs.Prelude.{◌≡◌, ◌+◌, ◌<◌, ◌≤◌, ◌�
 use std::alloc::{AllocError, Global};
 use std::marker::Model;
 
-/// A line would pass its limit.
+/// The bytes would pass the limit.
 #[derive(Clone, Copy, Debug, PartialEq, Eq)]
-pub struct TooLong;
+pub struct NoRoom;
 
 /// At most `LIMIT` bytes of a line whose LF hasn't come.
 #[derive(Drop)]
@@ -51,13 +51,13 @@ impl<const LIMIT: usize> Held<LIMIT> {
     }
 
     /// Adds bytes, and takes no memory. Bytes that would pass the limit are refused, and nothing is added.
-    pub fn add(&mut self, bytes: &[u8]) -> Result<(), TooLong>
+    pub fn add(&mut self, bytes: &[u8]) -> Result<(), NoRoom>
         ensures ok { OnOk result (self.new ≡ self.old ++ bytes.now) }
         ensures short { OnOk result (length self.old + length bytes.now ≤ LIMIT) }
         ensures long { OnErr result (LIMIT < length self.old + length bytes.now) }
     {
         if bytes.len() > LIMIT - self.bytes.len() {
-            return Err(TooLong);
+            return Err(NoRoom);
         }
         match self.bytes.extend_from_slice(bytes) {
             Ok(()) => Ok(()),

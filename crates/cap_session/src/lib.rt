@@ -2,6 +2,16 @@
 //! reported when asked ([`Session`]); and worked on by a script of commands, with a reply to each ([`edit_stream`]).
 //!
 //! After any edits a report is that of checking the edited trace anew ([`Session::report_after`]).
+//!
+//! ```
+//! let mut session = Session::new(alloc, 10)?;
+//! session.insert(1, b"100 @start(0,3)")?;
+//! session.insert(2, b"100 cap_rights_limit(0,CAP_READ) RET 0")?;
+//! session.insert(3, b"100 write(0) RET 5")?;
+//! assert_eq!(session.report()?, b"3 100 write missing 0 CAP_WRITE\nfindings 1\n");
+//! session.delete(2)?;
+//! assert_eq!(session.report()?, b"findings 0\n");
+//! ```
 #![tactic(auto)]
 
 mod check;
@@ -10,31 +20,41 @@ mod counted;
 mod devices;
 mod edit;
 mod editing;
+mod entries;
+mod from_start;
+#[cfg(test)]
+mod from_start_tests;
 mod held;
 mod laws;
+mod lines;
 mod loading;
 mod number;
 mod outcome;
 mod read;
-mod reading;
-mod refusal;
 mod refused;
 mod replies;
 mod script;
 mod session;
+mod short_text;
+mod start_fields;
+#[cfg(test)]
+mod start_tests;
+mod start_text;
 #[cfg(test)]
 mod tests;
 mod write;
 
-pub use check::check_stream;
+pub use check::{check_stream, check_stream_as};
 pub use counted::Counted;
 pub use devices::{Failed, Sink, Source};
 pub use edit::{Edit, accepted_edits_give, inserted_stands, no_edit_asks_for_memory};
-pub use editing::edit_stream;
+pub use editing::{edit_stream, edit_stream_as};
+pub use from_start::{check_stream_from, check_stream_from_as};
 pub use laws::{
-    bad_is_refused, beginning_decides, good_is_reported, pieces_agree,
-    script_reports_what_edits_give,
+    bad_is_refused, beginning_decides, each_report_is_of_its_trace, good_is_reported, pieces_agree,
+    script_leaves_what_edits_give, script_reports_what_edits_give,
 };
 pub use outcome::Outcome;
 pub use refused::Refused;
 pub use session::{Edited, Session};
+pub use start_text::{StartFault, parse_start};

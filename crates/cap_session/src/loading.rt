@@ -1,48 +1,39 @@
-//! A trace that is taken over, line by line, into a session.
-ghost use Rattle.std.specs.Prelude.{◌≡◌, List, []};
-ghost use Rattle.cap_trace.specs.Entry.{Entry};
-ghost use Rattle.cap_session.specs.Trace.{next_entry};
-ghost use Rattle.cap_session.specs.Performs.{stopped_by};
+//! A trace that is taken over into a session.
+ghost use Rattle.std.specs.Prelude.{◌≡◌, [], length, IfOk};
 
-use crate::check::is_skipped;
-use crate::reading::{Lines, Stop};
-use crate::refused::Refused;
+use crate::entries::{Keep, MOST_LINES};
 use crate::session::Session;
+use cap_machine::{NoMemory, Profile};
+use cap_trace::Line;
+use std::alloc::Global;
 
-/// A session that takes the lines of a trace.
+/// A session that holds as many lines as a trace may have.
 #[derive(Drop)]
 pub struct Loading {
     pub session: Session,
     ghost limit: { session.limit ≡ 1000000 },
 }
 
-/// What stops the trace where a line is refused.
-fn stop_at(refused: Refused) -> Stop
-    ensures { result ≡ stopped_by refused }
-{
-    match refused {
-        Refused::Memory => Stop::NoMemory,
-        _ => Stop::Refused(refused.code()),
+impl Loading {
+    /// One that holds no line, in a profile.
+    pub fn new(alloc: Global, profile: Profile) -> Result<Loading, NoMemory>
+        ensures { IfOk result (λ loading. (loading.session.profile ≡ profile) × (loading.session.trace ≡ [])) }
+    {
+        let session = Session::with_profile(alloc, MOST_LINES, profile)?;
+        Ok(Loading { session })
     }
 }
 
-impl Lines for Loading {
-    ghost Known = { List Entry };
+impl Keep for Loading {
+    ghost keeps = { λ loading setting entries. (loading.session.profile ≡ setting.profile) × (loading.session.trace ≡ entries) };
 
-    ghost start = { [] };
+    ghost lines_of = { λ loading. length loading.session.trace };
 
-    ghost next = { next_entry };
+    fn count(&self) -> usize {
+        self.session.count()
+    }
 
-    ghost holds = { λ l entries. l.session.trace ≡ entries };
-
-    fn line(&mut self, line: &[u8]) -> Result<(), Stop> {
-        if is_skipped(line) {
-            return Ok(());
-        }
-        let last = self.session.count() + 1;
-        match self.session.insert(last, line) {
-            Ok(_) => Ok(()),
-            Err(refused) => Err(stop_at(refused)),
-        }
+    fn keep(&mut self, line: Line) -> Result<(), NoMemory> {
+        self.session.push(line)
     }
 }

@@ -1,6 +1,8 @@
 //! How a stream call ends.
 ghost use Rattle.std.specs.Prelude.{◌≡◌};
-ghost use Rattle.cap_session.specs.Outcome.{status_of};
+ghost use Rattle.cap_session.specs.Outcome.{status_of, outcome_of};
+
+use crate::lines::Stop;
 
 /// How a stream call ends.
 #[derive(Clone, Copy, Debug, PartialEq, Eq)]
@@ -11,26 +13,45 @@ pub enum Outcome {
     Findings,
     /// A line was refused: its code, 1 to 6 or 8, and its number among all lines of the text, from 1.
     Refused { code: u8, line: usize },
+    /// A line of the start was refused: its code, 1 or 3 to 5, and its number among all lines of the start, from 1.
+    StartRefused { code: u8, line: usize },
     /// Memory ran out.
     Memory,
     /// The reader failed in this call.
     ReadFault,
     /// The writer failed in this call, or took no byte.
     WriteFault,
-    /// The reader was called as often as allowed, and told no end.
+    /// The reader was called as often as allowed, and its end wasn't reached.
     TooLong,
+}
+
+impl From<Stop> for Outcome {
+    ghost from_gives = { λ stop outcome. outcome ≡ outcome_of stop };
+
+    fn from(stop: Stop) -> Outcome {
+        match stop {
+            Stop::Refused(refusal) => Outcome::Refused {
+                code: refusal.reason.code(),
+                line: refusal.line,
+            },
+            Stop::Memory => Outcome::Memory,
+            Stop::ReadFault => Outcome::ReadFault,
+            Stop::WriteFault => Outcome::WriteFault,
+            Stop::TooLong => Outcome::TooLong,
+        }
+    }
 }
 
 impl Outcome {
     /// The exit status of a program that ends so: 0 where nothing was found, 1 for findings, 2 for a refused
-    /// line, and 3 for want of memory, a fault of a device or a reader that told no end.
+    /// line, and 3 for out of memory, a fault of a device or a reader whose end wasn't reached.
     pub fn status(&self) -> u8
         ensures { result ≡ status_of self.now }
     {
         match self {
             Outcome::Clean => 0,
             Outcome::Findings => 1,
-            Outcome::Refused { .. } => 2,
+            Outcome::Refused { .. } | Outcome::StartRefused { .. } => 2,
             Outcome::Memory | Outcome::ReadFault | Outcome::WriteFault | Outcome::TooLong => 3,
         }
     }

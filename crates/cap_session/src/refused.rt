@@ -13,7 +13,7 @@ use thiserror::Error;
 pub enum Refused {
     /// The line has more than 1,024 bytes.
     #[error("the line is longer than 1,024 bytes")]
-    TooLong,
+    LongLine,
     /// The line isn't of the shape `PID NAME(ARGUMENTS) RET RESULT` or `PID @NAME(ARGUMENTS)`.
     #[error("the line has no known shape")]
     Shape,
@@ -40,14 +40,21 @@ pub enum Refused {
     Memory,
 }
 
+/// Why a line is refused, and its number among all lines of its text, from 1.
+#[derive(Clone, Copy, Debug, PartialEq, Eq)]
+pub struct Refusal {
+    pub reason: Refused,
+    pub line: usize,
+}
+
 impl Refused {
-    /// The number by which replies tell the refusal: 1 to 6 for the first fault of a line, 7 for the position,
-    /// 8 where the trace is full, and 9 for want of memory.
+    /// The number of the refusal in replies: 1 to 6 for the first fault of a line, 7 for the position,
+    /// 8 where the trace is full, and 9 for out of memory.
     pub fn code(self) -> u8
         ensures { result ≡ code_of self }
     {
         match self {
-            Refused::TooLong => 1,
+            Refused::LongLine => 1,
             Refused::Shape => 2,
             Refused::Pid => 3,
             Refused::Argument => 4,
@@ -65,7 +72,7 @@ impl From<LineFault> for Refused {
 
     fn from(fault: LineFault) -> Refused {
         match fault {
-            LineFault::TooLong => Refused::TooLong,
+            LineFault::TooLong => Refused::LongLine,
             LineFault::Shape => Refused::Shape,
             LineFault::Pid => Refused::Pid,
             LineFault::Argument => Refused::Argument,

@@ -1,18 +1,10 @@
 //! A script is replied to as it comes.
 ghost use Rattle.std.specs.Prelude.{◌≡◌, ◌+◌, ◌^◌, ◌<◌, ◌≤◌, [], length};
-ghost use Rattle.cap_session.specs.EditStreams.{Edits};
+ghost use Rattle.cap_session.specs.EditStreams.{RepliesToAll};
 
 use crate::devices::{Failed, Sink, Source};
+use crate::lines::Stop;
 use crate::script::Script;
-
-/// Why a script isn't read on.
-#[derive(Clone, Copy, Debug, PartialEq, Eq)]
-pub enum Ended {
-    AtEnd,
-    ReadFault,
-    WriteFault,
-    TooLong,
-}
 
 /// Replies to a script as it comes, with room for a piece.
 pub fn reply_all<R: Source, W: Sink>(
@@ -21,29 +13,30 @@ pub fn reply_all<R: Source, W: Sink>(
     writer: &mut W,
     script: &mut Script,
     piece: &mut [u8],
-) -> Ended
+) -> Result<(), Stop>
     requires turns { turns ≤ 2 ^ 32 }
     requires calls { turns ≤ (R.state reader.old).room }
     requires failure { 1 ≤ (W.state writer.old).room }
     requires begins { script.old.held ≡ [] }
     requires some { 0 < length piece.old }
     requires most { length piece.old ≤ 65536 }
-    ensures { Edits turns (R.state reader.old) (R.state reader.new) (W.state writer.old) (W.state writer.new) script.old.trace script.new.trace result }
+    ensures all { RepliesToAll script.old.profile turns (R.state reader.old) (R.state reader.new) (W.state writer.old) (W.state writer.new) script.old.trace script.new.trace result }
+    ensures profile { script.new.profile ≡ script.old.profile }
 {
     for _turn in 0..turns {
         match reader.read(piece) {
-            Err(Failed) => return Ended::ReadFault,
+            Err(Failed) => return Err(Stop::ReadFault),
             Ok(0) => {
                 return match script.end(writer) {
-                    Ok(()) => Ended::AtEnd,
-                    Err(Failed) => Ended::WriteFault,
+                    Ok(()) => Ok(()),
+                    Err(Failed) => Err(Stop::WriteFault),
                 };
             }
             Ok(n) => match script.feed(&piece[..n], writer) {
                 Ok(()) => {}
-                Err(Failed) => return Ended::WriteFault,
+                Err(Failed) => return Err(Stop::WriteFault),
             },
         }
     }
-    Ended::TooLong
+    Err(Stop::TooLong)
 }

@@ -1,17 +1,18 @@
 //! A script, each line replied to before the next is worked through.
 ghost use Rattle.std.specs.Prelude.{◌≡◌, ◌<◌, ◌≤◌, [], ◌∷◌, ◌++◌, length, take, OnOk, OnErr};
 ghost use Rattle.cap_session.specs.Lines.{last_piece};
-ghost use Rattle.cap_session.specs.Performs.{asks, Performs, text_of};
+ghost use Rattle.cap_session.specs.Performs.{command_asked, Performs, text_of};
+ghost use Rattle.cap_session.specs.Replies.{not_done_code};
 ghost use Rattle.cap_session.specs.Scripts.{Scripting, Replied, Broken, due, due_line, due_piece, due_end};
 
-use crate::check::is_skipped;
 use crate::command::{Command, command_of};
 use crate::devices::{Failed, Sink};
 use crate::edit::Edit;
+use crate::entries::is_skipped;
 use crate::held::Held;
-use crate::refusal::ShortText;
 use crate::refused::Refused;
 use crate::session::Session;
+use crate::short_text::ShortText;
 use crate::write::write_text;
 use memchr::memchr;
 use std::marker::Model;
@@ -19,11 +20,26 @@ use std::marker::Model;
 /// A script line has at most so many bytes, its LF not counted.
 const LINE: usize = 1056;
 
-/// The code of a line that is longer.
-const TOO_LONG: u8 = 1;
+/// Why a command isn't done.
+#[derive(Clone, Copy, Debug, PartialEq, Eq)]
+pub enum NotDone {
+    /// The session refuses it.
+    Refused(Refused),
+    /// There is no such command.
+    Unknown,
+}
 
-/// The code of an unknown command.
-const UNKNOWN: u8 = 10;
+impl NotDone {
+    /// The number that stands in the reply.
+    pub fn code(self) -> u8
+        ensures { result ≡ not_done_code self }
+    {
+        match self {
+            NotDone::Refused(refused) => refused.code(),
+            NotDone::Unknown => 10,
+        }
+    }
+}
 
 /// The text of a reply. A short one takes no memory.
 #[derive(Drop)]
@@ -43,56 +59,58 @@ impl Reply {
     }
 }
 
-/// Makes an edit, and replies with the new count or the code of its refusal.
-fn perform_edit(session: &mut Session, edit: &Edit<'_>) -> Result<Reply, u8>
+/// Makes an edit, and replies with the new count.
+fn perform_edit(session: &mut Session, edit: &Edit<'_>) -> Result<Reply, NotDone>
     requires { session.old.limit ≡ 1000000 }
-    ensures performs { Performs session.old.trace (asks (Command.Edit edit.now)) result session.new.trace }
+    ensures performs { Performs session.old.profile session.old.trace (command_asked (Command.Edit edit.now)) result session.new.trace }
     ensures limit { session.new.limit ≡ session.old.limit }
+    ensures profile { session.new.profile ≡ session.old.profile }
 {
     match session.edit(edit) {
         Ok(count) => Ok(Reply::Short(ShortText::accepted(count))),
-        Err(refused) => Err(refused.code()),
+        Err(refused) => Err(NotDone::Refused(refused)),
     }
 }
 
 /// Replies with the text of a line.
-fn perform_show(session: &Session, position: usize) -> Result<Reply, u8>
-    ensures { Performs session.now.trace (asks (Command.Show position)) result session.now.trace }
+fn perform_show(session: &Session, position: usize) -> Result<Reply, NotDone>
+    ensures { Performs session.now.profile session.now.trace (command_asked (Command.Show position)) result session.now.trace }
 {
     match session.show(position) {
         Ok(mut text) => match text.push(b'\n') {
             Ok(()) => Ok(Reply::Long(text)),
-            Err(_) => Err(Refused::Memory.code()),
+            Err(_) => Err(NotDone::Refused(Refused::Memory)),
         },
-        Err(refused) => Err(refused.code()),
+        Err(refused) => Err(NotDone::Refused(refused)),
     }
 }
 
 /// Replies with the report.
-fn perform_report(session: &Session) -> Result<Reply, u8>
-    ensures { Performs session.now.trace (asks Command.Report) result session.now.trace }
+fn perform_report(session: &Session) -> Result<Reply, NotDone>
+    ensures { Performs session.now.profile session.now.trace (command_asked Command.Report) result session.now.trace }
 {
     match session.report() {
         Ok(text) => Ok(Reply::Long(text)),
-        Err(refused) => Err(refused.code()),
+        Err(refused) => Err(NotDone::Refused(refused)),
     }
 }
 
 /// Replies with the report of a part.
-fn perform_range(session: &Session, first: usize, last: usize) -> Result<Reply, u8>
-    ensures { Performs session.now.trace (asks (Command.ReportRange first last)) result session.now.trace }
+fn perform_range(session: &Session, first: usize, last: usize) -> Result<Reply, NotDone>
+    ensures { Performs session.now.profile session.now.trace (command_asked (Command.ReportRange first last)) result session.now.trace }
 {
     match session.report_range(first, last) {
         Ok(text) => Ok(Reply::Long(text)),
-        Err(refused) => Err(refused.code()),
+        Err(refused) => Err(NotDone::Refused(refused)),
     }
 }
 
-/// Does a command, and gives its reply or the code of its refusal.
-fn perform(session: &mut Session, command: &Command<'_>) -> Result<Reply, u8>
+/// Does a command, and gives its reply.
+fn perform(session: &mut Session, command: &Command<'_>) -> Result<Reply, NotDone>
     requires { session.old.limit ≡ 1000000 }
-    ensures performs { Performs session.old.trace (asks command.now) result session.new.trace }
+    ensures performs { Performs session.old.profile session.old.trace (command_asked command.now) result session.new.trace }
     ensures limit { session.new.limit ≡ session.old.limit }
+    ensures profile { session.new.profile ≡ session.old.profile }
 {
     match *command {
         Command::Edit(edit) => perform_edit(session, &edit),
@@ -100,7 +118,7 @@ fn perform(session: &mut Session, command: &Command<'_>) -> Result<Reply, u8>
         Command::Count => Ok(Reply::Short(ShortText::number(session.count()))),
         Command::Report => perform_report(session),
         Command::ReportRange(first, last) => perform_range(session, first, last),
-        Command::Unknown => Err(UNKNOWN),
+        Command::Unknown => Err(NotDone::Unknown),
     }
 }
 
@@ -108,19 +126,23 @@ fn perform(session: &mut Session, command: &Command<'_>) -> Result<Reply, u8>
 fn answer<W: Sink>(session: &mut Session, line: &[u8], writer: &mut W) -> Result<(), Failed>
     requires limit { session.old.limit ≡ 1000000 }
     requires room { 1 ≤ (W.state writer.old).room }
-    ensures ok { OnOk result (Replied session.old.trace (W.state writer.old) (W.state writer.new) (line.now ∷ []) session.new.trace) }
-    ensures err { OnErr result (Broken session.old.trace (W.state writer.old) (W.state writer.new) (line.now ∷ [])) }
+    ensures ok { OnOk result (Replied session.old.profile session.old.trace (W.state writer.old) (W.state writer.new) (line.now ∷ []) session.new.trace) }
+    ensures err { OnErr result (Broken session.old.profile session.old.trace (W.state writer.old) (W.state writer.new) (line.now ∷ [])) }
     ensures limit { session.new.limit ≡ session.old.limit }
+    ensures profile { session.new.profile ≡ session.old.profile }
 {
     if line.len() > LINE {
-        return write_text(writer, ShortText::refused(TOO_LONG).as_slice());
+        return write_text(
+            writer,
+            ShortText::refused(Refused::LongLine.code()).as_slice(),
+        );
     }
     if is_skipped(line) {
         return Ok(());
     }
     match perform(session, &command_of(line)) {
         Ok(reply) => write_text(writer, reply.as_slice()),
-        Err(code) => write_text(writer, ShortText::refused(code).as_slice()),
+        Err(why) => write_text(writer, ShortText::refused(why.code()).as_slice()),
     }
 }
 
@@ -135,7 +157,7 @@ pub struct Script {
 impl Model for Script {
     ghost Value = { Scripting };
 
-    ghost view = { λ s. record { trace = s.session.trace; held = s.held } };
+    ghost view = { λ s. record { profile = s.session.profile; trace = s.session.trace; held = s.held } };
 
     ghost invariant = { λ s. s.session.limit ≡ 1000000 };
 }
@@ -144,9 +166,10 @@ impl Script {
     /// Replies to the line that is begun, which these bytes complete.
     fn line<W: Sink>(&mut self, bytes: &[u8], writer: &mut W) -> Result<(), Failed>
         requires { 1 ≤ (W.state writer.old).room }
-        ensures ok { OnOk result (Replied self.old.trace (W.state writer.old) (W.state writer.new) (due_line self.old.held bytes.now) self.new.trace) }
+        ensures ok { OnOk result (Replied self.old.profile self.old.trace (W.state writer.old) (W.state writer.new) (due_line self.old.held bytes.now) self.new.trace) }
         ensures held { OnOk result (self.new.held ≡ []) }
-        ensures err { OnErr result (Broken self.old.trace (W.state writer.old) (W.state writer.new) (due_line self.old.held bytes.now)) }
+        ensures err { OnErr result (Broken self.old.profile self.old.trace (W.state writer.old) (W.state writer.new) (due_line self.old.held bytes.now)) }
+        ensures profile { self.new.profile ≡ self.old.profile }
     {
         if self.held.len() > LINE {
             self.held.clear();
@@ -164,9 +187,10 @@ impl Script {
     /// Begins a line or goes on with it, and replies where it gets too long.
     fn hold<W: Sink>(&mut self, bytes: &[u8], writer: &mut W) -> Result<(), Failed>
         requires { 1 ≤ (W.state writer.old).room }
-        ensures ok { OnOk result (Replied self.old.trace (W.state writer.old) (W.state writer.new) (due_piece self.old.held bytes.now) self.new.trace) }
+        ensures ok { OnOk result (Replied self.old.profile self.old.trace (W.state writer.old) (W.state writer.new) (due_piece self.old.held bytes.now) self.new.trace) }
         ensures held { OnOk result (self.new.held ≡ take 1057 (self.old.held ++ bytes.now)) }
-        ensures err { OnErr result (Broken self.old.trace (W.state writer.old) (W.state writer.new) (due_piece self.old.held bytes.now)) }
+        ensures err { OnErr result (Broken self.old.profile self.old.trace (W.state writer.old) (W.state writer.new) (due_piece self.old.held bytes.now)) }
+        ensures profile { self.new.profile ≡ self.old.profile }
     {
         let was_long = self.held.len() > LINE;
         self.held.add_front(bytes);
@@ -180,9 +204,10 @@ impl Script {
     pub fn feed<W: Sink>(&mut self, piece: &[u8], writer: &mut W) -> Result<(), Failed>
         requires room { 1 ≤ (W.state writer.old).room }
         requires short { length piece.now ≤ 65536 }
-        ensures ok { OnOk result (Replied self.old.trace (W.state writer.old) (W.state writer.new) (due self.old.held piece.now) self.new.trace) }
+        ensures ok { OnOk result (Replied self.old.profile self.old.trace (W.state writer.old) (W.state writer.new) (due self.old.held piece.now) self.new.trace) }
         ensures held { OnOk result (self.new.held ≡ take 1057 (last_piece self.old.held piece.now)) }
-        ensures err { OnErr result (Broken self.old.trace (W.state writer.old) (W.state writer.new) (due self.old.held piece.now)) }
+        ensures err { OnErr result (Broken self.old.profile self.old.trace (W.state writer.old) (W.state writer.new) (due self.old.held piece.now)) }
+        ensures profile { self.new.profile ≡ self.old.profile }
     {
         let mut rest = piece;
         while let Some(at) = memchr(b'\n', rest) {
@@ -195,8 +220,9 @@ impl Script {
     /// Replies to the line that is begun, which is the last.
     pub fn end<W: Sink>(&mut self, writer: &mut W) -> Result<(), Failed>
         requires { 1 ≤ (W.state writer.old).room }
-        ensures ok { OnOk result (Replied self.old.trace (W.state writer.old) (W.state writer.new) (due_end self.old.held) self.new.trace) }
-        ensures err { OnErr result (Broken self.old.trace (W.state writer.old) (W.state writer.new) (due_end self.old.held)) }
+        ensures ok { OnOk result (Replied self.old.profile self.old.trace (W.state writer.old) (W.state writer.new) (due_end self.old.held) self.new.trace) }
+        ensures err { OnErr result (Broken self.old.profile self.old.trace (W.state writer.old) (W.state writer.new) (due_end self.old.held)) }
+        ensures profile { self.new.profile ≡ self.old.profile }
     {
         if self.held.is_empty() || self.held.len() > LINE {
             return Ok(());

@@ -6,12 +6,13 @@ use crate::check::check_stream;
 use crate::counted::Counted;
 use crate::devices::{Failed, Sink, Source};
 use crate::laws::{
-    bad_is_refused, beginning_decides, good_is_reported, pieces_agree,
-    script_reports_what_edits_give,
+    bad_is_refused, beginning_decides, each_report_is_of_its_trace, good_is_reported, pieces_agree,
+    script_leaves_what_edits_give, script_reports_what_edits_give,
 };
 use crate::outcome::Outcome;
-use std::alloc::Global;
+use cap_machine::NoMemory;
 use std::io::{self, ErrorKind, Read, Write};
+use std::test::Fail;
 
 /// The bytes of a slice, at most `size` a call. One call, counted from 1, fails.
 #[derive(Drop)]
@@ -170,38 +171,26 @@ static TEXTS: [(&[u8], Outcome, &[u8]); 11] = [
     (&[b'#'; 1024], Outcome::Clean, b"findings 0\n"),
 ];
 
-/// Whether the outcome of a text and all that was written are these. Nothing, where memory was wanted and nothing
-/// written.
-fn gives(
-    alloc: Global,
-    text: &[u8],
-    size: usize,
-    outcome: Outcome,
-    written: &[u8],
-) -> Option<bool> {
-    let mut reader = Pieces::new(text, size.max(1), 0);
-    let mut writer = Kept::new(size, 256);
-    match check_stream(alloc, 4096, &mut reader, &mut writer) {
-        Outcome::Memory if writer.text().is_empty() => None,
-        told => Some(told == outcome && writer.text() == written),
+/// An outcome for which memory was there.
+pub fn ample(outcome: Outcome) -> Result<Outcome, NoMemory> {
+    if outcome == Outcome::Memory {
+        return Err(NoMemory);
     }
+    Ok(outcome)
 }
 
-/// Memory is wanted once at most, where one allocation is made to fail.
-const WANTS: u32 = 1;
-
 #[test]
-fn a_text_is_told_in_pieces_of_any_size(rt: HostRuntime) {
-    let mut wants = 0_u32;
+fn a_text_is_reported_in_pieces_of_any_size(rt: HostRuntime) -> Result<(), Fail> {
     for (text, outcome, written) in TEXTS {
         for size in [1_usize, 2, 7, 65_536] {
-            match gives(rt.alloc(), text, size, outcome, written) {
-                Some(is) => assert!(rt; is, "{text:?} by {size}"),
-                None => wants = wants.saturating_add(1),
-            }
+            let mut reader = Pieces::new(text, size.max(1), 0);
+            let mut writer = Kept::new(size, 256);
+            let ended = ample(check_stream(rt.alloc(), 4096, &mut reader, &mut writer))?;
+            assert_eq!(rt; ended, outcome, "{text:?} by {size}");
+            assert_eq!(rt; writer.text(), written, "{text:?} by {size}");
         }
     }
-    assert!(rt; wants <= WANTS);
+    Ok(())
 }
 
 /// A text, how much of it comes with a read, the read that fails, how many reads may be made, and how much a
@@ -323,63 +312,50 @@ static BROKEN: [Broken; 11] = [
 ];
 
 #[test]
-fn a_broken_device_is_told(rt: HostRuntime) {
-    let mut wants = 0_u32;
+fn a_broken_device_ends_the_call(rt: HostRuntime) -> Result<(), Fail> {
     for (text, size, fails_at, turns, takes, most, outcome, written, reads) in BROKEN {
         let mut reader = Pieces::new(text, size.max(1), fails_at);
         let mut writer = Kept::new(takes, most);
-        let told = check_stream(rt.alloc(), turns.min(4096), &mut reader, &mut writer);
-        if told == Outcome::Memory {
-            assert!(rt; writer.text().is_empty());
-            wants = wants.saturating_add(1);
-            continue;
-        }
-        assert_eq!(rt; told, outcome, "{text:?}");
+        let ended = ample(check_stream(rt.alloc(), turns.min(4096), &mut reader, &mut writer))?;
+        assert_eq!(rt; ended, outcome, "{text:?}");
         assert_eq!(rt; writer.text(), written, "{text:?}");
         assert_eq!(rt; reader.calls, reads, "{text:?}");
     }
-    assert!(rt; wants <= WANTS);
+    Ok(())
 }
 
 /// Each read fails in turn, and then each byte that is written.
 #[test]
-fn each_fault_leaves_a_front(rt: HostRuntime) {
-    let mut wants = 0_u32;
+fn each_fault_leaves_a_prefix(rt: HostRuntime) -> Result<(), Fail> {
     for failing in 1..LIMITED.len() as u64 + 2 {
         let mut reader = Pieces::new(LIMITED, 1, failing);
         let mut writer = Kept::new(1, 256);
-        let told = check_stream(rt.alloc(), 4096, &mut reader, &mut writer);
-        if told == Outcome::Memory {
-            wants = wants.saturating_add(1);
-        } else {
-            assert_eq!(rt; told, Outcome::ReadFault, "read {failing}");
-        }
+        let ended = ample(check_stream(rt.alloc(), 4096, &mut reader, &mut writer))?;
+        assert_eq!(rt; ended, Outcome::ReadFault, "read {failing}");
         assert!(rt; writer.text().is_empty());
     }
     for most in 0..LIMITED_REPORT.len() {
         let mut reader = Pieces::new(LIMITED, 20, 0);
         let mut writer = Kept::new(3, most);
-        let told = check_stream(rt.alloc(), 4096, &mut reader, &mut writer);
-        if told == Outcome::Memory {
-            wants = wants.saturating_add(1);
-        } else {
-            assert_eq!(rt; told, Outcome::WriteFault, "byte {most}");
-            assert_eq!(rt; writer.text(), &LIMITED_REPORT[..most]);
-        }
+        let ended = ample(check_stream(rt.alloc(), 4096, &mut reader, &mut writer))?;
+        assert_eq!(rt; ended, Outcome::WriteFault, "byte {most}");
+        assert_eq!(rt; writer.text(), &LIMITED_REPORT[..most]);
     }
-    assert!(rt; wants <= WANTS);
+    Ok(())
 }
 
-/// A reader of std that gives a text at once, and fails at its next read where it is told to.
+/// A reader of std that gives a text at once, but fails at one of its reads, counted from 1.
 #[derive(Drop)]
-struct Given {
-    rest: &'static [u8],
-    fails: bool,
+struct Given<'a> {
+    rest: &'a [u8],
+    fails_at: u64,
+    reads: u64,
 }
 
-impl Read for Given {
+impl<'a> Read for Given<'a> {
     fn read(&mut self, buffer: &mut [u8]) -> io::Result<usize> {
-        if self.rest.is_empty() && self.fails {
+        self.reads = self.reads.saturating_add(1);
+        if self.reads == self.fails_at {
             return Err(io::Error::from(ErrorKind::TimedOut));
         }
         let n = buffer.len().min(self.rest.len());
@@ -394,11 +370,15 @@ impl Read for Given {
 #[derive(Drop)]
 struct Room {
     left: usize,
+    taken: Vec<u8>,
 }
 
 impl Write for Room {
     fn write(&mut self, bytes: &[u8]) -> io::Result<usize> {
         let n = bytes.len().min(self.left);
+        if self.taken.extend_from_slice(&bytes[..n]).is_err() {
+            return Err(io::Error::from(ErrorKind::OutOfMemory));
+        }
         self.left -= n;
         Ok(n)
     }
@@ -408,57 +388,114 @@ impl Write for Room {
     }
 }
 
+/// A device of std is asked no more than the calls that are counted. One that fails once is not asked again, though it
+/// would go on.
 #[test]
-fn devices_of_std_fail_only_where_they_do(rt: HostRuntime) {
+fn devices_of_std_fail_only_where_they_do(rt: HostRuntime) -> Result<(), Fail> {
     let cases = [
-        (false, 256, Outcome::Findings, 1),
-        (false, 10, Outcome::WriteFault, 3),
-        (true, 256, Outcome::ReadFault, 3),
+        (0, 256, Outcome::Findings, 1, 2, LIMITED_REPORT.len()),
+        (0, 10, Outcome::WriteFault, 3, 2, 10),
+        (2, 256, Outcome::ReadFault, 3, 2, 0),
+        (1, 256, Outcome::ReadFault, 3, 1, 0),
     ];
-    let mut wants = 0_u32;
-    for (fails, left, outcome, status) in cases {
-        let mut reader = Counted::new(Given {
+    for (fails_at, left, outcome, status, reads, written) in cases {
+        let mut given = Given {
             rest: LIMITED,
-            fails,
-        });
-        let mut writer = Counted::new(Room { left });
-        let told = check_stream(rt.alloc(), 9, &mut reader, &mut writer);
-        if told == Outcome::Memory {
-            wants = wants.saturating_add(1);
-        } else {
-            assert_eq!(rt; told, outcome);
-            assert_eq!(rt; told.status(), status);
-        }
+            fails_at,
+            reads: 0,
+        };
+        let mut room = Room {
+            left,
+            taken: Vec::new(rt.alloc()),
+        };
+        let mut reader = Counted::new(&mut given);
+        let mut writer = Counted::new(&mut room);
+        let ended = ample(check_stream(rt.alloc(), 9, &mut reader, &mut writer))?;
+        assert_eq!(rt; ended, outcome);
+        assert_eq!(rt; ended.status(), status);
+        assert_eq!(rt; given.reads, reads);
+        assert_eq!(rt; room.taken.as_slice(), &LIMITED_REPORT[..written]);
     }
-    assert!(rt; wants <= WANTS);
+    Ok(())
+}
+
+/// A report of more than 100,000 bytes, to a writer that takes all at once.
+#[test]
+fn a_long_report_is_written_whole(rt: HostRuntime) -> Result<(), Fail> {
+    let mut trace = Vec::new(rt.alloc());
+    let mut report = Vec::new(rt.alloc());
+    trace.extend_from_slice(b"100 @start(0,3)\n100 cap_rights_limit(0,CAP_READ) RET 0\n")?;
+    for position in 3..3203 {
+        trace.extend_from_slice(b"100 write(0) RET 5\n")?;
+        let finding = format!(in rt.alloc(); "{position} 100 write missing 0 CAP_WRITE\n")?;
+        report.extend_from_slice(finding.as_bytes())?;
+    }
+    report.extend_from_slice(b"findings 3200\n")?;
+    assert!(rt; report.len() > 100_000);
+    let mut reader = Counted::new(Given {
+        rest: trace.as_slice(),
+        fails_at: 0,
+        reads: 0,
+    });
+    let mut room = Room {
+        left: 200_000,
+        taken: Vec::new(rt.alloc()),
+    };
+    let mut writer = Counted::new(&mut room);
+    let ended = ample(check_stream(rt.alloc(), 9, &mut reader, &mut writer))?;
+    assert_eq!(rt; ended, Outcome::Findings);
+    assert!(rt; room.taken.as_slice() == report.as_slice());
+    Ok(())
 }
 
 /// A trace has a million lines at most: a comment may follow them, and nothing else.
 #[test]
-fn a_line_past_the_millionth_is_refused(rt: HostRuntime) {
+fn a_line_past_the_millionth_is_refused(rt: HostRuntime) -> Result<(), Fail> {
     let mut thousand = Vec::new(rt.alloc());
     let mut text = Vec::new(rt.alloc());
     for _ in 0..1000 {
-        if thousand.extend_from_slice(b"1 @start()\n").is_err() {
-            return;
-        }
+        thousand.extend_from_slice(b"1 @start()\n")?;
     }
     for _ in 0..1000 {
-        if text.extend_from_slice(thousand.as_slice()).is_err() {
-            return;
-        }
+        text.extend_from_slice(thousand.as_slice())?;
     }
-    if text.extend_from_slice(b"# x\nx").is_err() {
-        return;
-    }
+    text.extend_from_slice(b"# x\nx")?;
     let outcome = Outcome::Refused {
         code: 8,
         line: 1_000_002,
     };
-    let written = b"refused E8 line 1000002\n";
-    if let Some(is) = gives(rt.alloc(), text.as_slice(), 65_536, outcome, written) {
-        assert!(rt; is);
-    }
+    let mut reader = Pieces::new(text.as_slice(), 65_536, 0);
+    let mut writer = Kept::new(256, 256);
+    let ended = ample(check_stream(rt.alloc(), 4096, &mut reader, &mut writer))?;
+    assert_eq!(rt; ended, outcome);
+    assert_eq!(rt; writer.text(), b"refused E8 line 1000002\n".as_slice());
+    Ok(())
+}
+
+/// Each call of a counted device, on its own.
+#[test]
+fn a_counted_device_counts_its_calls(rt: HostRuntime) -> Result<(), Fail> {
+    let mut reader = Counted::new(Given {
+        rest: b"abc",
+        fails_at: 2,
+        reads: 0,
+    });
+    let mut buffer = [0_u8; 2];
+    assert_eq!(rt; Source::room(&reader), u64::MAX);
+    assert_eq!(rt; Source::read(&mut reader, &mut buffer), Ok(2));
+    assert_eq!(rt; Source::read(&mut reader, &mut buffer), Err(Failed));
+    assert_eq!(rt; Source::read(&mut reader, &mut buffer), Ok(1));
+    assert_eq!(rt; Source::read(&mut reader, &mut buffer), Ok(0));
+    assert_eq!(rt; Source::room(&reader), u64::MAX - 4);
+    let mut writer = Counted::new(Room {
+        left: 3,
+        taken: Vec::new(rt.alloc()),
+    });
+    assert_eq!(rt; Sink::write(&mut writer, b"ab"), Ok(2));
+    assert_eq!(rt; Sink::write(&mut writer, b"cd"), Ok(1));
+    assert_eq!(rt; Sink::write(&mut writer, b"d"), Err(Failed));
+    assert_eq!(rt; Sink::room(&writer), u64::MAX - 1);
+    Ok(())
 }
 
 #[test]
@@ -467,5 +504,7 @@ fn the_laws_are_calls() {
     pieces_agree();
     good_is_reported();
     bad_is_refused();
+    script_leaves_what_edits_give();
+    each_report_is_of_its_trace();
     script_reports_what_edits_give();
 }

@@ -104,7 +104,7 @@ digit_no_comma c h = grind (arith, tests)
 digits_lack : (t : List ℕ) → all_ascii_digits t ≡ true → lacks 44 t ≡ true
 digits_lack t h = weaken is_ascii_digit (λ c. not (eqb c 44)) digit_no_comma t h
 
-answer_is : (k : Kind) (t : List ℕ) (o : Option (List ℕ)) → behind (codes "-1 errno ") t ≡ o → answer_at k (codes " RET " ++ t) ≡ result_at k t o
+pub answer_is : (k : Kind) (t : List ℕ) (o : Option (List ℕ)) → behind (codes "-1 errno ") t ≡ o → answer_at k (codes " RET " ++ t) ≡ result_at k t o
 unfolding answer_at
 answer_is k t o e =
     ap (λ (x : Option (List ℕ)). need faults.Shape x >>= λ t. result_at k t (behind (codes "-1 errno ") t)) (behind_again (codes " RET ") t)
@@ -119,10 +119,11 @@ append-none : (t : List ℕ) → t ++ [] ≡ t
 append-none [] = refl
 append-none (c ∷ cs) = ap (λ (s : List ℕ). c ∷ s) (append-none cs)
 
+pub decimal_no_errno : (n : ℕ) → n < 2 ^ 64 → behind (codes "-1 errno ") (decimal n) ≡ None
+decimal_no_errno n lt = ap (behind (codes "-1 errno ")) (sym (append-none (decimal n))) ∙ no_errno (decimal n) [] (decimal_nonempty n lt) (digits_decimal own n lt)
+
 number_result : (k : Kind) (n : ℕ) → n < 2 ^ 64 → answer_at k (codes " RET " ++ decimal n) ≡ made_at k (decimal n)
-number_result k n lt =
-    let none : behind (codes "-1 errno ") (decimal n) ≡ None = ap (behind (codes "-1 errno ")) (sym (append-none (decimal n))) ∙ no_errno (decimal n) [] (decimal_nonempty n lt) (digits_decimal own n lt) in
-    answer_is k (decimal n) None none
+number_result k n lt = answer_is k (decimal n) None (decimal_no_errno n lt)
 
 pair_result : (k : Kind) (n m : ℕ) → n < 2 ^ 64 → answer_at k (codes " RET " ++ (decimal n ++ (44 ∷ decimal m))) ≡ made_at k (decimal n ++ (44 ∷ decimal m))
 pair_result k n m lt = answer_is k (decimal n ++ (44 ∷ decimal m)) None (no_errno (decimal n) (44 ∷ decimal m) (decimal_nonempty n lt) (digits_decimal own n lt))

@@ -91,7 +91,7 @@ start_takes ts s e =
     let p = fds_take 0 ts fs.0 fs.1 in
     subst (λ (x : Said). Spelled (listed forms.Start) ts x) fs.2 (record { args = p.0; head = refl; whole = p.1 })
 
-abbrev slots_in : Shape → List Slot
+abbrev pub slots_in : Shape → List Slot
 slots_in (these ss) = ss
 slots_in rising_fds = []
 

@@ -1,5 +1,5 @@
 -- The canonical text of a line spells it.
-use Rattle.std.proofs.Common.{◌≡◌, ℕ, ◌+◌, ◌^◌, ◌<◌, ◌≤◌, ◌&&◌, Bool, true, false, List, [], ◌∷◌, ◌++◌, length, map, refl, ap, subst, ◌∙◌, arith, length-append}
+use Rattle.std.proofs.Common.{◌≡◌, ℕ, ◌+◌, ◌^◌, ◌<◌, ◌≤◌, ◌&&◌, Bool, true, false, List, [], ◌∷◌, ◌++◌, length, map, refl, sym, ap, subst, ◌∙◌, arith, length-append}
 use Rattle.std.specs.Prelude.{codes}
 use Rattle.std.specs.List.{join_with_byte}
 use Rattle.std.specs.Fmt.{decimal}
@@ -38,7 +38,7 @@ args_written (t ∷ ts) [] h = absurd h
 args_written (t ∷ ts) (a ∷ others) h = (arg_written t a h.0, args_written ts others h.1)
 
 -- but for rights, an argument has one text
-is_settled : Arg → Bool
+unfoldable pub is_settled : Arg → Bool
 is_settled (some_rights r) = false
 is_settled a = true
 
@@ -54,7 +54,7 @@ arg_same t (a_command w) s h = h.0
 arg_same t (a_word w) s h = h
 arg_same t (free_text a) s h = h.0
 
-abbrev are_settled : List Arg → Bool
+abbrev pub are_settled : List Arg → Bool
 are_settled [] = true
 are_settled (a ∷ others) = is_settled a && are_settled others
 
@@ -66,17 +66,19 @@ args_same (t ∷ ts) (a ∷ others) s h =
     let k = both (is_settled a) (are_settled others) s in
     ap (λ (u : List ℕ). u ∷ ts) (arg_same t a k.0 h.0) ∙ ap (λ (us : List (List ℕ)). arg_text a ∷ us) (args_same ts others k.1 h.1)
 
-fds_settled : (fs : List ℕ) → are_settled (fds fs) ≡ true
+pub fds_settled : (fs : List ℕ) → are_settled (fds fs) ≡ true
 unfolding is_settled
 fds_settled [] = refl
 fds_settled (f ∷ fs) = fds_settled fs
 
+-- a line without rights has one text
+pub settled_same : (bytes : List ℕ) (e : Entry) (texts : List (List ℕ)) → are_settled (args_of e.item) ≡ true → SpellsBy bytes e texts → canon e ≡ bytes
+settled_same bytes e texts s h = sym (h.parts ∙ ap (joined e) (args_same texts (args_of e.item) s h.args))
+
 -- ---- how long it is
 
 settled_short : (bytes : List ℕ) (e : Entry) (texts : List (List ℕ)) → are_settled (args_of e.item) ≡ true → SpellsBy bytes e texts → length (canon e) ≤ 1024
-settled_short bytes e texts s h =
-    let same : bytes ≡ canon e = h.parts ∙ ap (joined e) (args_same texts (args_of e.item) s h.args) in
-    subst (λ (b : List ℕ). length b ≤ 1024) same h.short
+settled_short bytes e texts s h = subst (λ (b : List ℕ). length b ≤ 1024) (sym (settled_same bytes e texts s h)) h.short
 
 decimal_short : (n : ℕ) → n < 2 ^ 64 → length (decimal n) ≤ 20
 decimal_short n lt = length-decimal-le 20 n (omega arith) (omega (arith, lt)) lt

@@ -80,6 +80,7 @@ form_again (forms.OnFd on_fd_calls.Getsockopt) = refl
 form_again (forms.OnFd on_fd_calls.Setsockopt) = refl
 form_again (forms.OnFd on_fd_calls.Fexecve) = refl
 form_again (forms.OnFd on_fd_calls.Close) = refl
+form_again (forms.OnFd on_fd_calls.Closefrom) = refl
 form_again (forms.OnFd on_fd_calls.Dup) = refl
 form_again (forms.OnFd on_fd_calls.CapIoctlsLimit) = refl
 form_again (forms.OnFd on_fd_calls.CapFcntlsLimit) = refl

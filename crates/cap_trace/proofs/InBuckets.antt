@@ -61,6 +61,7 @@ bucket_again (forms.OnFd on_fd_calls.Getsockopt) = refl
 bucket_again (forms.OnFd on_fd_calls.Setsockopt) = refl
 bucket_again (forms.OnFd on_fd_calls.Fexecve) = refl
 bucket_again (forms.OnFd on_fd_calls.Close) = refl
+bucket_again (forms.OnFd on_fd_calls.Closefrom) = refl
 bucket_again (forms.OnFd on_fd_calls.Dup) = refl
 bucket_again (forms.OnFd on_fd_calls.CapIoctlsLimit) = refl
 bucket_again (forms.OnFd on_fd_calls.CapFcntlsLimit) = refl

@@ -111,7 +111,7 @@ word_ok t w a false h e = absurd cc
 made_arg : {A : Type 0} (t : List ℕ) (make : A → Arg) (r : Result A ReadFault) (a : Arg) → ((x : A) → r ≡ Ok x → SpellsArg t (make x)) → (r >>= λ x. Ok (make x)) ≡ Ok a → SpellsArg t a
 made_arg t make r a spells e = let x = bind_made r make a e in subst (λ (y : Arg). SpellsArg t y) x.2 (spells x.0 x.1)
 
-arg_takes : (s : Slot) (t : List ℕ) (a : Arg) → arg_at s t ≡ Ok a → SpellsArg t a
+pub arg_takes : (s : Slot) (t : List ℕ) (a : Arg) → arg_at s t ≡ Ok a → SpellsArg t a
 unfolding arg_at flags_at command_at free_at rights_at
 arg_takes fd t a e = made_arg t (λ x. an_fd x) (fd_at t) a (fd_takes t) e
 arg_takes dir t a e = made_arg t (λ x. a_dir x) (dir_at t) a (dir_takes t) e
@@ -133,7 +133,7 @@ slot_of (a_command w) = command
 slot_of (a_word w) = word w
 slot_of (free_text a) = free
 
-arg_again : (t : List ℕ) (a : Arg) → SpellsArg t a → arg_at (slot_of a) t ≡ Ok a
+pub arg_again : (t : List ℕ) (a : Arg) → SpellsArg t a → arg_at (slot_of a) t ≡ Ok a
 unfolding arg_at slot_of flags_at command_at free_at rights_at
 arg_again t (an_fd f) h = rw (fd_again t f h) refl
 arg_again t (a_dir d) h = rw (dir_again t d h) refl
@@ -208,7 +208,7 @@ unfoldable pub is_closed : Arg → Bool
 is_closed (free_text a) = false
 is_closed a = true
 
-arg_part : (t : List ℕ) (a : Arg) → is_closed a ≡ true → SpellsArg t a → IsPart t
+pub arg_part : (t : List ℕ) (a : Arg) → is_closed a ≡ true → SpellsArg t a → IsPart t
 unfolding is_closed
 arg_part t (an_fd f) c h = subst IsPart (sym h.0) (decimal_part f (omega (arith, h.1)))
 arg_part t (a_dir (dirs.Fd f)) c h = subst IsPart (sym h.0) (decimal_part f (omega (arith, h.1)))

@@ -65,7 +65,7 @@ ended_takes (a_marker (items.Call c a)) tail i w e = absurd w
 -- ---- between the brackets
 
 -- the parts, and what stands behind them, make the text again
-between_takes : (h : Head) (text : List ℕ) (x : List (List ℕ) × List ℕ) → between h text ≡ Some x → text ≡ join_with_byte 44 x.0 ++ (41 ∷ x.1)
+pub between_takes : (h : Head) (text : List ℕ) (x : List (List ℕ) × List ℕ) → between h text ≡ Some x → text ≡ join_with_byte 44 x.0 ++ (41 ∷ x.1)
 between_takes (listed f) text x e = listed_cut (cut_outside 41 text) refl e
   where
     listed_cut : (o : Option (List ℕ × List ℕ)) → cut_outside 41 text ≡ o → option_map (λ c. (pieces c.0, c.1)) o ≡ Some x → text ≡ join_with_byte 44 x.0 ++ (41 ∷ x.1)
@@ -82,13 +82,13 @@ between_takes (unlisted n) text x e = free_cut (cut_at_byte 41 text) refl e
         let same : (c.0 ∷ [], c.1) ≡ x = (let e2 = e in cc) in
         subst (λ (y : List (List ℕ) × List ℕ). text ≡ join_with_byte 44 y.0 ++ (41 ∷ y.1)) same (cut_takes 41 text c at)
 
-joined_closes : (ts : List (List ℕ)) → AreParts ts → closes Outside 41 (join_with_byte 44 ts) ≡ true
+pub joined_closes : (ts : List (List ℕ)) → AreParts ts → closes Outside 41 (join_with_byte 44 ts) ≡ true
 joined_closes [] h = refl
 joined_closes (t ∷ []) h = h.0.bracket
 joined_closes (t ∷ u ∷ us) h = closes-append Outside 41 t (44 ∷ join_with_byte 44 (u ∷ us)) h.0.bracket (joined_closes (u ∷ us) h.1)
 
 -- what the arguments of a line are made of stands between its brackets
-Cuts : Item → Type 0
+unfoldable pub Cuts : Item → Type 0
 Cuts i = (ts : List (List ℕ)) → SpellsArgs ts (args_of i) → (tail : List ℕ) → between (head_of i) (join_with_byte 44 ts ++ (41 ∷ tail)) ≡ Some (ts, tail)
 
 listed_again : (f : Form) (ts : List (List ℕ)) (given : List Arg) (tail : List ℕ) → are_closed given ≡ true → SpellsArgs ts given
@@ -132,7 +132,7 @@ call_cuts (calls.LinkAt x y z u v) answer = λ ts h tail. listed_again forms.Exi
 call_cuts (calls.OnFlags c x) answer = λ ts h tail. listed_again forms.Exit ts (args_of_call (calls.OnFlags c x)) tail refl h
 call_cuts (calls.Bare c) answer = λ ts h tail. listed_again forms.Exit ts (args_of_call (calls.Bare c)) tail refl h
 
-between_again : (i : Item) → Cuts i
+pub between_again : (i : Item) → Cuts i
 unfolding Cuts is_closed
 between_again (items.Call c a) = call_cuts c a
 between_again (items.Start fs) = λ ts h tail. listed_again forms.Exit ts (fds fs) tail (fds_closed fs) h
@@ -225,7 +225,7 @@ line_takes bytes e h =
 digit_no_space : (c : ℕ) → is_ascii_digit c ≡ true → not (eqb c 32) ≡ true
 digit_no_space c h = grind (arith, tests)
 
-digits_lack : (t : List ℕ) → all_ascii_digits t ≡ true → lacks 32 t ≡ true
+pub digits_lack : (t : List ℕ) → all_ascii_digits t ≡ true → lacks 32 t ≡ true
 digits_lack t h = weaken is_ascii_digit (λ c. not (eqb c 32)) digit_no_space t h
 
 pub line_again : (bytes : List ℕ) (e : Entry) → Spells bytes e → line_of bytes ≡ Ok e

@@ -119,7 +119,7 @@ abbrev pub head_kind : Head → Kind
 head_kind (listed f) = (row_of f).kind
 head_kind (unlisted n) = Any
 
--- dup2 and the commands of fcntl that do the same answer the descriptor that they were told
+-- dup2 and the commands of fcntl that do the same answer the descriptor that they were given
 abbrev pub kind_of : Call → Kind
 kind_of (calls.Dup2 x y) = Same y
 kind_of (calls.FcntlDup c x y) = Same y

@@ -1,4 +1,4 @@
--- The faults of a line, and what a caller is told.
+-- The faults of a line, as reading finds them and as a caller sees them.
 use Rattle.std.specs.Prelude.{ℕ}
 use Rattle.cap_trace.specs.declared.fault.ReadFault.{ReadFault}
 use Rattle.cap_trace.specs.declared.fault.ReadFault.TheVariants as faults
@@ -14,7 +14,7 @@ line_fault faults.Argument = told.Argument
 line_fault faults.Right = told.Right
 line_fault faults.Answer = told.Answer
 
--- the number by which reports tell it
+-- its number in reports
 abbrev pub code_of : LineFault → ℕ
 code_of told.TooLong = 1
 code_of told.Shape = 2

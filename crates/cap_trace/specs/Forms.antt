@@ -29,13 +29,13 @@ pub data Shape : Type 0 where
   these : List Slot → Shape
   rising_fds : Shape
 
--- a destination is told by a second argument
+-- a second argument says that a destination was given
 abbrev pub send_shape : List (List ℕ) → List Slot
 send_shape [] = fd ∷ []
 send_shape (a ∷ []) = fd ∷ []
 send_shape (a ∷ b ∷ more) = fd ∷ word dest ∷ []
 
--- a third argument is told by the command
+-- the command decides on a third argument
 abbrev pub command_shape : List ℕ → List Slot
 command_shape w =
     if bytes_eq w (codes "F_SETFD") then fd ∷ word set_fd ∷ flags ∷ []

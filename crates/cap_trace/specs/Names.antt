@@ -72,6 +72,7 @@ on_fd on_fd_calls.Getsockopt = row (codes "getsockopt") Count
 on_fd on_fd_calls.Setsockopt = row (codes "setsockopt") Count
 on_fd on_fd_calls.Fexecve = row (codes "fexecve") Zero
 on_fd on_fd_calls.Close = row (codes "close") Zero
+on_fd on_fd_calls.Closefrom = row (codes "closefrom") Zero
 on_fd on_fd_calls.Dup = row (codes "dup") Fd
 on_fd on_fd_calls.CapIoctlsLimit = row (codes "cap_ioctls_limit") Zero
 on_fd on_fd_calls.CapFcntlsLimit = row (codes "cap_fcntls_limit") Zero
@@ -193,7 +194,7 @@ is_name (c ∷ cs) = is_name_byte c && not (is_ascii_digit c) && list_all is_nam
 
 unfoldable pub all_forms : List Form
 all_forms =
-    forms.OnFd on_fd_calls.Read ∷ forms.OnFd on_fd_calls.Readv ∷ forms.OnFd on_fd_calls.Recvfrom ∷ forms.OnFd on_fd_calls.Recvmsg ∷ forms.OnFd on_fd_calls.Pread ∷ forms.OnFd on_fd_calls.Preadv ∷ forms.OnFd on_fd_calls.Write ∷ forms.OnFd on_fd_calls.Writev ∷ forms.OnFd on_fd_calls.Pwrite ∷ forms.OnFd on_fd_calls.Pwritev ∷ forms.OnFd on_fd_calls.Lseek ∷ forms.OnFd on_fd_calls.Fstat ∷ forms.OnFd on_fd_calls.Fstatfs ∷ forms.OnFd on_fd_calls.Fsync ∷ forms.OnFd on_fd_calls.Fdatasync ∷ forms.OnFd on_fd_calls.Ftruncate ∷ forms.OnFd on_fd_calls.Fchmod ∷ forms.OnFd on_fd_calls.Fchown ∷ forms.OnFd on_fd_calls.Fchflags ∷ forms.OnFd on_fd_calls.Fchdir ∷ forms.OnFd on_fd_calls.Flock ∷ forms.OnFd on_fd_calls.Fpathconf ∷ forms.OnFd on_fd_calls.Futimes ∷ forms.OnFd on_fd_calls.Futimens ∷ forms.OnFd on_fd_calls.Ioctl ∷ forms.OnFd on_fd_calls.Accept ∷ forms.OnFd on_fd_calls.Bind ∷ forms.OnFd on_fd_calls.Connect ∷ forms.OnFd on_fd_calls.Listen ∷ forms.OnFd on_fd_calls.Shutdown ∷ forms.OnFd on_fd_calls.Getpeername ∷ forms.OnFd on_fd_calls.Getsockname ∷ forms.OnFd on_fd_calls.Getsockopt ∷ forms.OnFd on_fd_calls.Setsockopt ∷ forms.OnFd on_fd_calls.Fexecve ∷ forms.OnFd on_fd_calls.Close ∷ forms.OnFd on_fd_calls.Dup ∷ forms.OnFd on_fd_calls.CapIoctlsLimit ∷ forms.OnFd on_fd_calls.CapFcntlsLimit ∷
+    forms.OnFd on_fd_calls.Read ∷ forms.OnFd on_fd_calls.Readv ∷ forms.OnFd on_fd_calls.Recvfrom ∷ forms.OnFd on_fd_calls.Recvmsg ∷ forms.OnFd on_fd_calls.Pread ∷ forms.OnFd on_fd_calls.Preadv ∷ forms.OnFd on_fd_calls.Write ∷ forms.OnFd on_fd_calls.Writev ∷ forms.OnFd on_fd_calls.Pwrite ∷ forms.OnFd on_fd_calls.Pwritev ∷ forms.OnFd on_fd_calls.Lseek ∷ forms.OnFd on_fd_calls.Fstat ∷ forms.OnFd on_fd_calls.Fstatfs ∷ forms.OnFd on_fd_calls.Fsync ∷ forms.OnFd on_fd_calls.Fdatasync ∷ forms.OnFd on_fd_calls.Ftruncate ∷ forms.OnFd on_fd_calls.Fchmod ∷ forms.OnFd on_fd_calls.Fchown ∷ forms.OnFd on_fd_calls.Fchflags ∷ forms.OnFd on_fd_calls.Fchdir ∷ forms.OnFd on_fd_calls.Flock ∷ forms.OnFd on_fd_calls.Fpathconf ∷ forms.OnFd on_fd_calls.Futimes ∷ forms.OnFd on_fd_calls.Futimens ∷ forms.OnFd on_fd_calls.Ioctl ∷ forms.OnFd on_fd_calls.Accept ∷ forms.OnFd on_fd_calls.Bind ∷ forms.OnFd on_fd_calls.Connect ∷ forms.OnFd on_fd_calls.Listen ∷ forms.OnFd on_fd_calls.Shutdown ∷ forms.OnFd on_fd_calls.Getpeername ∷ forms.OnFd on_fd_calls.Getsockname ∷ forms.OnFd on_fd_calls.Getsockopt ∷ forms.OnFd on_fd_calls.Setsockopt ∷ forms.OnFd on_fd_calls.Fexecve ∷ forms.OnFd on_fd_calls.Close ∷ forms.OnFd on_fd_calls.Closefrom ∷ forms.OnFd on_fd_calls.Dup ∷ forms.OnFd on_fd_calls.CapIoctlsLimit ∷ forms.OnFd on_fd_calls.CapFcntlsLimit ∷
     forms.Send sends_calls.Sendto ∷ forms.Send sends_calls.Sendmsg ∷
     forms.OnPath on_path_calls.Execve ∷ forms.OnPath on_path_calls.Access ∷ forms.OnPath on_path_calls.Chdir ∷ forms.OnPath on_path_calls.Chflags ∷ forms.OnPath on_path_calls.Chmod ∷ forms.OnPath on_path_calls.Chown ∷ forms.OnPath on_path_calls.Lchown ∷ forms.OnPath on_path_calls.Lstat ∷ forms.OnPath on_path_calls.Mkdir ∷ forms.OnPath on_path_calls.Mkfifo ∷ forms.OnPath on_path_calls.Mknod ∷ forms.OnPath on_path_calls.Readlink ∷ forms.OnPath on_path_calls.Rmdir ∷ forms.OnPath on_path_calls.Stat ∷ forms.OnPath on_path_calls.Statfs ∷ forms.OnPath on_path_calls.Truncate ∷ forms.OnPath on_path_calls.Unlink ∷
     forms.OnPaths on_paths_calls.Link ∷ forms.OnPaths on_paths_calls.Rename ∷ forms.OnPaths on_paths_calls.Symlink ∷
@@ -211,6 +212,6 @@ abbrev pub or_unlisted : List ℕ → Option Form → Option Head
 or_unlisted name (Some f) = Some (listed f)
 or_unlisted name None = if is_name name then Some (unlisted name) else None
 
--- what a name tells, where it is one
+-- the form of a name, or the name, where it is one
 abbrev pub head_named : List ℕ → Option Head
 head_named name = or_unlisted name (form_named name)

@@ -14,7 +14,7 @@ SpellsNone bytes = (e : Entry) → Spells bytes e → ⊥
 abbrev pub SpellsSome : List ℕ → Type 0
 SpellsSome bytes = (e : Entry) × Spells bytes e
 
--- each fault is told exactly where the bytes spell no line and have that fault
+-- each fault is given exactly where the bytes spell no line and have that fault
 abbrev pub TellsFaults : List ℕ → Result Entry LineFault → Type 0
 TellsFaults bytes r = (f : ReadFault) → (r ≡ Err (line_fault f)) ↔ (SpellsNone bytes × (fault bytes ≡ Some f))
 
@@ -22,7 +22,7 @@ TellsFaults bytes r = (f : ReadFault) → (r ≡ Err (line_fault f)) ↔ (Spells
 abbrev pub ReadsOnly : List ℕ → Result Entry LineFault → Type 0
 ReadsOnly bytes r = (e : Entry) → Spells bytes e → (r ≡ Ok e) ⊎ (r ≡ Err told.Memory)
 
--- what is told is what reading gives: the line, its first fault, or want of memory for a line
+-- the result is what reading gives: the line, its first fault, or out of memory for a line
 abbrev pub TellsReading : List ℕ → Result Entry LineFault → Type 0
 TellsReading bytes (Ok e) = line_of bytes ≡ Ok e
 TellsReading bytes (Err t) = ((f : ReadFault) × (line_of bytes ≡ Err f) × (t ≡ line_fault f)) ⊎ ((t ≡ told.Memory) × ((e : Entry) × (line_of bytes ≡ Ok e)))

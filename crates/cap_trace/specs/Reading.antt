@@ -118,13 +118,13 @@ shaped h (these slots) ts = if length ts == length slots then (args_at slots ts 
 unfoldable pub said_at : Head → List (List ℕ) → Result Said ReadFault
 said_at h ts = shaped h (shape_of h ts) ts
 
--- ---- steps 6 and 7: what stands behind the arguments
+-- ---- steps 6 and 7: what follows the arguments
 
 abbrev pub number_at : Option ℕ → Result Answer ReadFault
 number_at None = Err faults.Answer
 number_at (Some n) = Ok (answers.Made n)
 
--- a descriptor, but not the one that was told
+-- a descriptor, but not the one that was given
 abbrev pub same_at : ℕ → Option ℕ → Result Answer ReadFault
 same_at g None = Err faults.Answer
 same_at g (Some n) = if n == g then Ok (answers.Made n) else Err faults.Argument
@@ -161,19 +161,19 @@ answer_at k tail = do
   t ← need faults.Shape (behind (codes " RET ") tail)
   result_at k t (behind (codes "-1 errno ") t)
 
--- a marker ends behind its bracket
+-- a marker ends after its bracket
 unfoldable pub ended : Said → List ℕ → Result Item ReadFault
 ended (a_call c) tail = answer_at (kind_of c) tail >>= λ a. Ok (items.Call c a)
 ended (a_marker i) tail = if length tail == 0 then Ok i else Err faults.Shape
 
 -- ---- the line
 
--- step 4: the arguments, and what stands behind them
+-- step 4: the arguments, and what follows them
 abbrev pub between : Head → List ℕ → Option (List (List ℕ) × List ℕ)
 between (listed f) text = option_map (λ c. (pieces c.0, c.1)) (cut_outside 41 text)
 between (unlisted n) text = option_map (λ c. (c.0 ∷ [], c.1)) (cut_at_byte 41 text)
 
--- steps 4 to 7: what stands behind the bracket that opens
+-- steps 4 to 7: what follows the opening bracket
 abbrev pub behind_head : Head → List ℕ → Result Item ReadFault
 behind_head h text = do
   args ← need faults.Shape (between h text)

@@ -62,7 +62,7 @@ answer_text (answers.Made n) = decimal n
 answer_text (answers.Pair n m) = decimal n ++ (44 ∷ decimal m)
 answer_text (answers.Fault e) = codes "-1 errno " ++ decimal e
 
--- what stands behind the arguments
+-- what follows the arguments
 abbrev pub tail_text : Item → List ℕ
 tail_text (items.Call c a) = codes " RET " ++ answer_text a
 tail_text (items.Start fs) = []

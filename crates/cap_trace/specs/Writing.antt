@@ -15,7 +15,7 @@ shown_text (shown.Text t) = t.now
 shown_text (shown.Path p) = quoted p.now
 shown_text (shown.Rights r) = text r.now
 
--- texts, each behind a comma
+-- texts, each after a comma
 unfoldable pub with_commas : List (List ℕ) → List ℕ
 with_commas [] = []
 with_commas (t ∷ ts) = (44 ∷ t) ++ with_commas ts

@@ -34,7 +34,7 @@ fn number(most: u64, text: &[u8]) -> Result<Answer, ReadFault>
     }
 }
 
-/// The descriptor that was told.
+/// The descriptor that the call was given.
 fn same(fd: u32, text: &[u8]) -> Result<Answer, ReadFault>
     ensures { Gives (λ a. a) result (same_at fd (num_at 1048575 text.now)) }
 {
@@ -72,7 +72,7 @@ fn made(kind: Kind, text: &[u8]) -> Result<Answer, ReadFault>
     }
 }
 
-/// What stands behind the arguments of a call.
+/// What follows the arguments of a call.
 #[tactic(auto, unfolding(crate::specs::Reading::answer_at))]
 pub(crate) fn answer(kind: Kind, tail: &[u8]) -> Result<Answer, ReadFault>
     ensures { Gives (λ a. a) result (answer_at kind tail.now) }

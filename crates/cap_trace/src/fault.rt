@@ -19,7 +19,7 @@ pub enum ReadFault {
     Answer,
 }
 
-/// Why a line was not read: the first thing that is wrong with it, or want of memory.
+/// Why a line was not read: its first fault from the left, or out of memory.
 #[derive(Clone, Copy, Debug, PartialEq, Eq, Error)]
 pub enum LineFault {
     /// The line has more than 1,024 bytes.
@@ -63,8 +63,8 @@ impl LineFault {
         }
     }
 
-    /// The number by which reports tell the fault: 1 to 6 from the left of the line to its right,
-    /// and 9 for want of memory.
+    /// The number of the fault in reports: 1 for too many bytes, 2 for the shape of the line, 3 for the pid, 4 for an
+    /// argument, 5 for a right, 6 for the result, and 9 for out of memory.
     pub fn code(self) -> u8
         ensures { result ≡ code_of self }
     {

@@ -28,7 +28,7 @@ fn word(text: &[u8]) -> bool
     }
 }
 
-/// Whether behind this byte a name has to begin, where the byte may stand there.
+/// Whether after this byte a name has to begin, where the byte may stand there.
 fn after_flag_byte(begins: bool, byte: u8) -> Option<bool>
     ensures { result ≡ flag_step begins byte }
 {
@@ -76,15 +76,15 @@ pub(crate) fn command(text: &[u8]) -> bool
 enum Place {
     /// Between two items.
     Between,
-    /// Behind a backslash.
+    /// After a backslash.
     Slash,
-    /// Behind `\x`.
+    /// After `\x`.
     Digits,
-    /// Behind `\x` and this digit.
+    /// After `\x` and this digit.
     OneDigit(u8),
 }
 
-fn plain(byte: u8) -> bool
+pub(crate) fn plain(byte: u8) -> bool
     ensures { result ≡ is_plain byte }
 {
     (32..=126).contains(&byte) && byte != b'"' && byte != b'\\'

@@ -220,7 +220,8 @@ pub enum Item {
     Foreign(Fd),
 }
 
-/// A line of a trace. Who builds one by hand owes that some text of at most 1,024 bytes spells it.
+/// A line of a trace. Some text of at most 1,024 bytes spells it: [`Line::new`] makes only such lines, and a caller that
+/// writes the struct itself has to prove it.
 #[derive(Debug, Drop)]
 pub struct Line {
     pub pid: Pid,

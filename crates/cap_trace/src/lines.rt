@@ -15,7 +15,7 @@ use crate::quotes::{cut, cut_outside_quotes};
 use crate::reading::pid_of;
 use crate::seen::{ItemSeen, LineSeen, SaidSeen};
 
-/// A marker ends behind its arguments.
+/// A marker ends after its arguments.
 fn marker_ends(tail: &[u8]) -> Result<(), ReadFault>
     ensures { MatchResult result (λ _. (length tail.now == 0) ≡ true) (λ e. (e ≡ Shape) × ((length tail.now == 0) ≡ false)) }
 {
@@ -26,7 +26,7 @@ fn marker_ends(tail: &[u8]) -> Result<(), ReadFault>
     }
 }
 
-/// What stands behind the bracket, where the name has a form of its own.
+/// What follows the opening bracket, where the name has a form of its own.
 #[tactic(auto, unfolding(crate::specs::Reading::ended))]
 fn listed_item<'a>(form: Form, rest: &'a [u8]) -> Result<ItemSeen<'a>, ReadFault>
     ensures { Gives item_seen result (behind_head (listed form) rest.now) }
@@ -55,7 +55,7 @@ fn listed_item<'a>(form: Form, rest: &'a [u8]) -> Result<ItemSeen<'a>, ReadFault
     }
 }
 
-/// What stands behind the bracket, where the name has none.
+/// What follows the opening bracket, where the name has none.
 #[tactic(auto, unfolding(crate::specs::Reading::ended))]
 fn unlisted_item<'a>(name: &'a [u8], rest: &'a [u8]) -> Result<ItemSeen<'a>, ReadFault>
     ensures { Gives item_seen result (behind_head (unlisted name.now) rest.now) }
@@ -72,7 +72,7 @@ fn unlisted_item<'a>(name: &'a [u8], rest: &'a [u8]) -> Result<ItemSeen<'a>, Rea
     }
 }
 
-/// What stands behind the pid.
+/// What follows the pid.
 #[tactic(auto, unfolding(crate::specs::Reading::item_at))]
 fn item(text: &[u8]) -> Result<ItemSeen<'_>, ReadFault>
     ensures { Gives item_seen result (item_at text.now) }

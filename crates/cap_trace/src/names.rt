@@ -68,6 +68,7 @@ impl FdCall {
             FdCall::Setsockopt => make_row(b"setsockopt", Kind::Count),
             FdCall::Fexecve => make_row(b"fexecve", Kind::Zero),
             FdCall::Close => make_row(b"close", Kind::Zero),
+            FdCall::Closefrom => make_row(b"closefrom", Kind::Zero),
             FdCall::Dup => make_row(b"dup", Kind::Fd),
             FdCall::CapIoctlsLimit => make_row(b"cap_ioctls_limit", Kind::Zero),
             FdCall::CapFcntlsLimit => make_row(b"cap_fcntls_limit", Kind::Zero),
@@ -228,185 +229,201 @@ impl DupCommand {
 
 /// The forms, by the bucket of their names.
 static BUCKETS: [[Option<Form>; 3]; 64] = [
-    [Some(Form::AtFlags(AtFlagsCall::Fstatat)), None, None],
+    [
+        Some(Form::OnFd(FdCall::Fsync)),
+        Some(Form::OnFd(FdCall::Bind)),
+        Some(Form::OnPath(PathCall::Statfs)),
+    ],
+    [Some(Form::SymlinkAt), None, None],
+    [
+        Some(Form::OnFd(FdCall::Fstatfs)),
+        Some(Form::Bare(BareCall::ShmOpen)),
+        None,
+    ],
+    [None, None, None],
+    [
+        Some(Form::OnPath(PathCall::Lstat)),
+        Some(Form::Bare(BareCall::Vfork)),
+        None,
+    ],
+    [
+        Some(Form::OnFd(FdCall::Fchdir)),
+        Some(Form::OnPath(PathCall::Lchown)),
+        None,
+    ],
+    [None, None, None],
+    [Some(Form::OnFd(FdCall::Lseek)), None, None],
+    [Some(Form::OnFd(FdCall::Ioctl)), Some(Form::Exit), None],
+    [
+        Some(Form::OnFd(FdCall::Read)),
+        Some(Form::OnFd(FdCall::Fchmod)),
+        Some(Form::LinkAt),
+    ],
+    [
+        Some(Form::OnFd(FdCall::Fchflags)),
+        Some(Form::OnFlags(FlagsCall::Pipe2)),
+        Some(Form::Mmap),
+    ],
+    [
+        Some(Form::OnPath(PathCall::Readlink)),
+        Some(Form::Foreign),
+        None,
+    ],
+    [
+        Some(Form::OnFd(FdCall::CapIoctlsLimit)),
+        Some(Form::OnFd(FdCall::CapFcntlsLimit)),
+        Some(Form::RightsLimit),
+    ],
+    [Some(Form::OnFd(FdCall::Connect)), None, None],
+    [None, None, None],
+    [
+        Some(Form::OnFd(FdCall::Listen)),
+        Some(Form::Bare(BareCall::Fork)),
+        None,
+    ],
+    [
+        Some(Form::OnFd(FdCall::Recvfrom)),
+        Some(Form::OnFd(FdCall::Preadv)),
+        Some(Form::OnPath(PathCall::Execve)),
+    ],
+    [
+        Some(Form::OnFd(FdCall::Recvmsg)),
+        Some(Form::OnFd(FdCall::Accept)),
+        Some(Form::AtFlags(AtFlagsCall::Chflagsat)),
+    ],
+    [None, None, None],
     [
         Some(Form::OnFd(FdCall::Write)),
-        Some(Form::Bare(BareCall::Fhopen)),
+        Some(Form::OnPath(PathCall::Chdir)),
+        None,
+    ],
+    [Some(Form::OnFd(FdCall::Fdatasync)), None, None],
+    [Some(Form::OnPaths(PathsCall::Symlink)), None, None],
+    [None, None, None],
+    [
+        Some(Form::OnFd(FdCall::Fpathconf)),
+        Some(Form::OnPath(PathCall::Chmod)),
         None,
     ],
     [
-        Some(Form::OnFd(FdCall::Dup)),
-        Some(Form::OnFlags(FlagsCall::Socketpair)),
-        None,
-    ],
-    [Some(Form::OnPath(PathCall::Mkdir)), None, None],
-    [
-        Some(Form::OnFd(FdCall::Bind)),
-        Some(Form::AtFlags(AtFlagsCall::Unlinkat)),
+        Some(Form::OnFd(FdCall::Pwritev)),
+        Some(Form::OnPath(PathCall::Chflags)),
         None,
     ],
     [
-        Some(Form::AtFlags(AtFlagsCall::Fchmodat)),
-        Some(Form::AtFlags(AtFlagsCall::Fchownat)),
+        Some(Form::OnPath(PathCall::Access)),
+        Some(Form::Bare(BareCall::Pipe)),
+        None,
+    ],
+    [Some(Form::AtFlags(AtFlagsCall::Unlinkat)), None, None],
+    [
+        Some(Form::Bare(BareCall::CapEnter)),
+        Some(Form::Fcntl),
+        None,
+    ],
+    [Some(Form::OnFlags(FlagsCall::Socketpair)), None, None],
+    [
+        Some(Form::OnPaths(PathsCall::Link)),
+        Some(Form::At(AtCall::Mkdirat)),
+        Some(Form::At(AtCall::Mknodat)),
+    ],
+    [None, None, None],
+    [
+        Some(Form::OnFd(FdCall::Futimens)),
+        Some(Form::AtFlags(AtFlagsCall::Utimensat)),
         None,
     ],
     [Some(Form::Send(SendCall::Sendmsg)), None, None],
-    [Some(Form::OnPath(PathCall::Mknod)), None, None],
-    [Some(Form::Exit), None, None],
-    [Some(Form::AtFlags(AtFlagsCall::Utimensat)), None, None],
-    [Some(Form::At(AtCall::Futimesat)), None, None],
-    [Some(Form::Foreign), Some(Form::OnFd(FdCall::Futimes)), None],
+    [None, None, None],
     [
-        Some(Form::Send(SendCall::Sendto)),
-        Some(Form::OnFd(FdCall::Fsync)),
+        Some(Form::OnPath(PathCall::Mkfifo)),
+        Some(Form::At(AtCall::Mkfifoat)),
+        Some(Form::Accept4),
+    ],
+    [Some(Form::Bare(BareCall::MqOpen)), None, None],
+    [
+        Some(Form::OnFd(FdCall::Fexecve)),
+        Some(Form::OnFd(FdCall::Close)),
         None,
+    ],
+    [None, None, None],
+    [Some(Form::Send(SendCall::Sendto)), None, None],
+    [
+        Some(Form::OnFd(FdCall::Flock)),
+        Some(Form::Bare(BareCall::Kqueue)),
+        None,
+    ],
+    [
+        Some(Form::OnFd(FdCall::Ftruncate)),
+        Some(Form::OnPath(PathCall::Stat)),
+        Some(Form::Start),
     ],
     [
         Some(Form::OnFd(FdCall::Readv)),
-        Some(Form::OnFd(FdCall::Getsockopt)),
+        Some(Form::OnPath(PathCall::Mkdir)),
+        None,
+    ],
+    [Some(Form::OnFd(FdCall::Fstat)), None, None],
+    [Some(Form::OnFd(FdCall::Fchown)), None, None],
+    [
+        Some(Form::OnFd(FdCall::Getpeername)),
+        Some(Form::OnFd(FdCall::Getsockname)),
         None,
     ],
     [
-        Some(Form::OnPath(PathCall::Stat)),
-        Some(Form::OnFd(FdCall::Fstatfs)),
+        Some(Form::OnPath(PathCall::Mknod)),
+        Some(Form::RenameAt),
         None,
     ],
+    [Some(Form::OnPath(PathCall::Unlink)), None, None],
     [
-        Some(Form::Bare(BareCall::Pdfork)),
         Some(Form::OnFd(FdCall::Pwrite)),
+        Some(Form::Bare(BareCall::Pdfork)),
         None,
     ],
-    [Some(Form::Open), Some(Form::OnFd(FdCall::Pread)), None],
-    [Some(Form::OnFd(FdCall::Fchdir)), Some(Form::RenameAt), None],
+    [Some(Form::OnFd(FdCall::Pread)), None, None],
+    [None, None, None],
+    [Some(Form::Dup2), Some(Form::Open), None],
+    [Some(Form::OnFd(FdCall::Setsockopt)), None, None],
     [
-        Some(Form::RightsLimit),
-        Some(Form::OnFd(FdCall::CapFcntlsLimit)),
-        Some(Form::OnFd(FdCall::CapIoctlsLimit)),
+        Some(Form::OnFd(FdCall::Closefrom)),
+        Some(Form::OnPath(PathCall::Rmdir)),
+        Some(Form::AtFlags(AtFlagsCall::Fstatat)),
     ],
     [
-        Some(Form::OnFd(FdCall::Accept)),
-        Some(Form::OnFd(FdCall::Connect)),
+        Some(Form::OnPath(PathCall::Truncate)),
+        Some(Form::Bare(BareCall::Fhopen)),
         None,
     ],
     [Some(Form::AtFlags(AtFlagsCall::Openat)), None, None],
-    [Some(Form::OnFd(FdCall::Fchmod)), None, None],
-    [Some(Form::OnFd(FdCall::Fchflags)), None, None],
-    [Some(Form::AtFlags(AtFlagsCall::Chflagsat)), None, None],
+    [Some(Form::At(AtCall::Readlinkat)), None, None],
     [
-        Some(Form::OnPath(PathCall::Rmdir)),
-        Some(Form::OnPath(PathCall::Unlink)),
-        None,
-    ],
-    [
-        Some(Form::OnPath(PathCall::Chdir)),
-        Some(Form::OnFd(FdCall::Setsockopt)),
-        None,
-    ],
-    [
-        Some(Form::OnFd(FdCall::Ioctl)),
-        Some(Form::OnPath(PathCall::Execve)),
-        None,
-    ],
-    [
-        Some(Form::Bare(BareCall::Fork)),
-        Some(Form::OnPath(PathCall::Access)),
-        Some(Form::At(AtCall::Readlinkat)),
-    ],
-    [
-        Some(Form::OnPath(PathCall::Lstat)),
+        Some(Form::OnFd(FdCall::Shutdown)),
         Some(Form::OnPaths(PathsCall::Rename)),
         None,
     ],
     [
-        Some(Form::OnPath(PathCall::Chmod)),
-        Some(Form::OnPath(PathCall::Lchown)),
-        Some(Form::OnPath(PathCall::Truncate)),
+        Some(Form::OnPath(PathCall::Chown)),
+        Some(Form::AtFlags(AtFlagsCall::Fchmodat)),
+        Some(Form::AtFlags(AtFlagsCall::Fchownat)),
     ],
-    [
-        Some(Form::OnPath(PathCall::Chflags)),
-        Some(Form::OnFd(FdCall::Shutdown)),
-        None,
-    ],
-    [Some(Form::OnFd(FdCall::Lseek)), None, None],
-    [Some(Form::OnFd(FdCall::Fdatasync)), None, None],
-    [
-        Some(Form::Bare(BareCall::CapEnter)),
-        Some(Form::LinkAt),
-        None,
-    ],
+    [Some(Form::OnFd(FdCall::Dup)), None, None],
     [None, None, None],
-    [Some(Form::OnFd(FdCall::Fpathconf)), None, None],
+    [Some(Form::OnFd(FdCall::Writev)), None, None],
+    [None, None, None],
     [
-        Some(Form::Mmap),
+        Some(Form::At(AtCall::Futimesat)),
         Some(Form::OnFlags(FlagsCall::Socket)),
-        Some(Form::Accept4),
-    ],
-    [None, None, None],
-    [Some(Form::OnPath(PathCall::Statfs)), None, None],
-    [
-        Some(Form::Fcntl),
-        Some(Form::OnFd(FdCall::Listen)),
-        Some(Form::SymlinkAt),
-    ],
-    [Some(Form::Start), Some(Form::Bare(BareCall::ShmOpen)), None],
-    [None, None, None],
-    [
-        Some(Form::OnFd(FdCall::Close)),
-        Some(Form::OnFd(FdCall::Writev)),
-        Some(Form::OnFlags(FlagsCall::Pipe2)),
-    ],
-    [Some(Form::OnFd(FdCall::Futimens)), None, None],
-    [None, None, None],
-    [Some(Form::OnFd(FdCall::Read)), None, None],
-    [None, None, None],
-    [Some(Form::OnPath(PathCall::Readlink)), None, None],
-    [
-        Some(Form::OnFd(FdCall::Fexecve)),
-        Some(Form::OnFd(FdCall::Preadv)),
-        Some(Form::Bare(BareCall::Vfork)),
-    ],
-    [None, None, None],
-    [None, None, None],
-    [Some(Form::OnFd(FdCall::Flock)), None, None],
-    [
-        Some(Form::OnFd(FdCall::Recvfrom)),
-        Some(Form::OnFd(FdCall::Ftruncate)),
         None,
     ],
     [
-        Some(Form::OnPaths(PathsCall::Link)),
-        Some(Form::OnFd(FdCall::Recvmsg)),
+        Some(Form::OnFd(FdCall::Futimes)),
+        Some(Form::OnFd(FdCall::Getsockopt)),
         None,
     ],
-    [Some(Form::OnFd(FdCall::Fstat)), None, None],
-    [
-        Some(Form::OnFd(FdCall::Fchown)),
-        Some(Form::At(AtCall::Mkdirat)),
-        Some(Form::At(AtCall::Mknodat)),
-    ],
-    [Some(Form::OnFd(FdCall::Pwritev)), None, None],
-    [Some(Form::Bare(BareCall::Pipe)), None, None],
-    [
-        Some(Form::Dup2),
-        Some(Form::OnFd(FdCall::Getpeername)),
-        Some(Form::OnFd(FdCall::Getsockname)),
-    ],
-    [Some(Form::OnPaths(PathsCall::Symlink)), None, None],
-    [
-        Some(Form::OnPath(PathCall::Mkfifo)),
-        Some(Form::At(AtCall::Mkfifoat)),
-        None,
-    ],
-    [
-        Some(Form::Bare(BareCall::Kqueue)),
-        Some(Form::Bare(BareCall::MqOpen)),
-        None,
-    ],
-    [None, None, None],
-    [Some(Form::OnPath(PathCall::Chown)), None, None],
 ];
 
-/// The bucket of a name: its length, its first and its last two bytes tell it. No name of the table has fewer than 3.
+/// The bucket of a name, by its length, its first and its last two bytes. No name of the table has fewer than 3.
 fn bucket_of(name: &[u8]) -> Option<usize>
     ensures some { IfSome result (λ k. (k ≡ bucket_at name.now) × (k < 64)) }
     ensures none { IsNone result ↔ (length name.now < 3) }
@@ -415,7 +432,7 @@ fn bucket_of(name: &[u8]) -> Option<usize>
         return None;
     };
     let sum = 5 * (name.len() % 64)
-        + 17 * usize::from(*first)
+        + 15 * usize::from(*first)
         + 3 * usize::from(*before)
         + usize::from(*last);
     Some(sum % 64)
@@ -489,7 +506,7 @@ impl<'a> Head<'a> {
     }
 }
 
-/// What a name tells, where it is one.
+/// The form of a name, where it is one.
 pub(crate) fn head_of(name: &[u8]) -> Option<Head<'_>>
     ensures { option_map head_seen result ≡ head_named name.now }
 {

@@ -6,6 +6,7 @@ ghost use Rattle.cap_trace.specs.Quotes.{pieces};
 ghost use Rattle.cap_trace.specs.Seen.{fds_in, call_seen, line_seen};
 ghost use Rattle.cap_trace.specs.Spelling.{Spells, IsProper};
 ghost use Rattle.cap_trace.specs.Parsing.{SpellsSome, TellsFaults, ReadsOnly, TellsReading, OneLine, ReadingIsSpelling, WrittenIsRead};
+ghost use Rattle.cap_trace.specs.Rewriting.{OnlyRightsAreRewritten};
 
 use crate::fault::LineFault;
 use crate::line::{Args, Call, Command, Fds, Flags, Item, Line, Name, Path};
@@ -135,19 +136,14 @@ fn owned(alloc: Global, seen: &LineSeen<'_>) -> Result<Line, AllocError>
 ///
 /// # Errors
 ///
-/// The first thing that is wrong with the bytes, from the left. [`LineFault::Memory`] comes only where
-/// the bytes spell a line, and there was no memory to keep it.
-///
-/// ```
-/// let line = parse_line(alloc, b"100 read(3) RET 512")?;
-/// assert_eq!(line.name(), b"read");
-/// ```
+/// The first fault of the bytes, from the left. [`LineFault::Memory`] comes only where the bytes spell a line, and
+/// memory ran out.
 pub fn parse_line(alloc: Global, bytes: &[u8]) -> Result<Line, LineFault>
     // What is read is spelled so.
     ensures found { IfOk result (λ l. Spells bytes.now l) }
     // Which fault it is.
     ensures faults { TellsFaults bytes.now result }
-    // Memory is wanted only for a line.
+    // Memory runs out only for a line.
     ensures memory { result ≡ Err Memory → SpellsSome bytes.now }
     // What is spelled so is read, unless memory runs out.
     ensures only { ReadsOnly bytes.now result }
@@ -176,4 +172,10 @@ pub fn reading_is_spelling()
 /// Of each line that bytes spell, the canonical text is read as that line again.
 pub fn written_is_read()
     ensures { WrittenIsRead }
+{}
+
+/// The canonical text of a line is the text that was read, byte for byte; only the rights of a `cap_rights_limit`
+/// may be spelled in another way.
+pub fn only_rights_are_rewritten()
+    ensures { OnlyRightsAreRewritten }
 {}

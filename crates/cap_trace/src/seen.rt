@@ -62,7 +62,7 @@ pub(crate) struct LineSeen<'a> {
 }
 
 /// What a command of fcntl answers where it doesn't fail.
-fn fcntl_kind(command: &[u8]) -> Kind
+pub(crate) fn fcntl_kind(command: &[u8]) -> Kind
     ensures { result ≡ kind_of_command command.now }
 {
     if command == b"F_DUPFD".as_slice() || command == b"F_DUPFD_CLOEXEC".as_slice() {

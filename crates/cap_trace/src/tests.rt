@@ -1,15 +1,19 @@
 //! Worked lines: boundaries, refused lines, each name once, and what a line that was read says.
 
-use crate::calls::FdCall;
+use crate::calls::{FdCall, PathCall};
 use crate::fault::LineFault;
-use crate::line::{Answer, Call, Item, Line};
-use crate::parse::{one_line, parse_line, reading_is_spelling, written_is_read};
+use crate::laws::faults_are_of_their_fields;
+use crate::line::{Answer, Args, Call, Command, Fds, Flags, Item, Line, Name, Path};
+use crate::parse::{
+    one_line, only_rights_are_rewritten, parse_line, reading_is_spelling, written_is_read,
+};
 use crate::quotes::cut;
 use crate::write::write_line;
 use std::alloc::Global;
+use std::test::Fail;
 
 /// Lines with the number of their first fault.
-static REFUSED: [(&[u8], u8); 59] = [
+static REFUSED: [(&[u8], u8); 64] = [
     (&[b'1'; 1025], 1),
     (&[b'1'; 1024], 3),
     (b"", 3),
@@ -53,9 +57,14 @@ static REFUSED: [(&[u8], u8); 59] = [
     (b"100 fcntl(3,A|B) RET 0", 4),
     (b"100 sendto(3,dest) RET 0", 4),
     (b"100 dup2(3,4) RET 5", 4),
+    (b"100 closefrom() RET 0", 4),
+    (b"100 closefrom(x) RET 0", 4),
+    (b"100 closefrom(1048576) RET 0", 4),
+    (b"100 closefrom(3,4) RET 0", 4),
     (b"100 fcntl(3,F_DUP2FD,7) RET 8", 4),
     (b"100 cap_rights_limit(3,CAP_SEEK_TELL) RET 0", 5),
     (b"100 close(3) RET 1", 6),
+    (b"100 closefrom(3) RET 1", 6),
     (b"100 read(0) RET 1\r", 6),
     (b"100 read(4) RET 18446744073709551616", 6),
     (b"100 read(4) RET -1 errno 0", 6),
@@ -74,11 +83,11 @@ static REFUSED: [(&[u8], u8); 59] = [
 #[test]
 fn a_refused_line_has_the_number_of_its_first_fault(rt: HostRuntime) {
     for (bytes, code) in REFUSED {
-        let told = match parse_line(rt.alloc(), bytes) {
+        let found = match parse_line(rt.alloc(), bytes) {
             Ok(_) => 0,
             Err(fault) => fault.code(),
         };
-        assert_eq!(rt; told, code, "{bytes:?}");
+        assert_eq!(rt; found, code, "{bytes:?}");
     }
 }
 
@@ -119,6 +128,8 @@ static READ: &[u8] = b"100 read(3) RET 5
 100 setsockopt(3) RET 5
 100 fexecve(3) RET 0
 100 close(3) RET 0
+100 closefrom(3) RET 0
+100 closefrom(3) RET -1 errno 9
 100 dup(3) RET 7
 100 cap_ioctls_limit(3) RET 0
 100 cap_fcntls_limit(3) RET 0
@@ -191,53 +202,44 @@ static READ: &[u8] = b"100 read(3) RET 5
 100 @foreign(9)
 100 foo() RET 4,5
 100 foo(a\"b,-) RET 18446744073709551615
-100 closefrom(3) RET 0
 1 _foo9(x) RET 0,18446744073709551615";
 
 /// The text that is written for a line that is read.
-fn written(alloc: Global, bytes: &[u8]) -> Result<Vec<u8>, LineFault> {
+fn written(alloc: Global, bytes: &[u8]) -> Result<Vec<u8>, Fail> {
     let line = parse_line(alloc, bytes)?;
     let mut out = Vec::new(alloc);
-    match write_line(&line, &mut out) {
-        Ok(()) => Ok(out),
-        Err(_) => Err(LineFault::Memory),
-    }
-}
-
-/// The name of a line that is read.
-fn named(alloc: Global, bytes: &[u8]) -> Result<Vec<u8>, LineFault> {
-    let line = parse_line(alloc, bytes)?;
-    Vec::from_slice(alloc, line.name()).map_err(|_| LineFault::Memory)
+    write_line(&line, &mut out)?;
+    Ok(out)
 }
 
 #[test]
-fn each_name_is_read_and_written(rt: HostRuntime) {
+fn each_name_is_read_and_written(rt: HostRuntime) -> Result<(), Fail> {
     for bytes in READ.split(|byte| *byte == b'\n') {
-        match written(rt.alloc(), bytes) {
-            Ok(text) => assert_eq!(rt; text.as_slice(), bytes),
-            Err(fault) => assert_eq!(rt; fault, LineFault::Memory, "{bytes:?}"),
-        }
+        let text = written(rt.alloc(), bytes)?;
+        assert_eq!(rt; text.as_slice(), bytes);
     }
+    Ok(())
 }
 
 #[test]
-fn each_line_is_named(rt: HostRuntime) {
+fn each_line_is_named(rt: HostRuntime) -> Result<(), Fail> {
     for bytes in READ.split(|byte| *byte == b'\n') {
         let name = cut(b'(', bytes)
             .and_then(|c| cut(b' ', c.0))
             .map_or(bytes, |c| c.1);
-        match named(rt.alloc(), bytes) {
-            Ok(found) => assert_eq!(rt; found.as_slice(), name),
-            Err(fault) => assert_eq!(rt; fault, LineFault::Memory, "{bytes:?}"),
-        }
+        let line = parse_line(rt.alloc(), bytes)?;
+        assert_eq!(rt; line.name(), name, "{bytes:?}");
     }
+    Ok(())
 }
 
 #[test]
-fn the_longest_line_is_read(rt: HostRuntime) {
+fn the_longest_line_is_read(rt: HostRuntime) -> Result<(), Fail> {
     one_line();
     reading_is_spelling();
     written_is_read();
+    only_rights_are_rewritten();
+    faults_are_of_their_fields();
     let mut bytes = [b'x'; 1024];
     for (i, byte) in b"100 foo(".iter().enumerate() {
         bytes[i] = *byte;
@@ -245,22 +247,20 @@ fn the_longest_line_is_read(rt: HostRuntime) {
     for (i, byte) in b") RET 0".iter().enumerate() {
         bytes[1017 + i] = *byte;
     }
-    match parse_line(rt.alloc(), &bytes) {
-        Ok(line) => assert_eq!(rt; line.name(), b"foo".as_slice()),
-        Err(fault) => assert_eq!(rt; fault, LineFault::Memory),
-    }
+    let line = parse_line(rt.alloc(), &bytes)?;
+    assert_eq!(rt; line.name(), b"foo".as_slice());
+    Ok(())
 }
 
 #[test]
-fn rights_are_written_in_order(rt: HostRuntime) {
+fn rights_are_written_in_order(rt: HostRuntime) -> Result<(), Fail> {
     let asked = b"100 cap_rights_limit(3,CAP_WRITE|CAP_PREAD|CAP_READ) RET 0";
-    match written(rt.alloc(), asked) {
-        Ok(text) => assert_eq!(rt;
-            text.as_slice(),
-            b"100 cap_rights_limit(3,CAP_READ|CAP_WRITE|CAP_SEEK) RET 0".as_slice()
-        ),
-        Err(fault) => assert_eq!(rt; fault, LineFault::Memory),
-    }
+    let text = written(rt.alloc(), asked)?;
+    assert_eq!(rt;
+        text.as_slice(),
+        b"100 cap_rights_limit(3,CAP_READ|CAP_WRITE|CAP_SEEK) RET 0".as_slice()
+    );
+    Ok(())
 }
 
 /// The call on a descriptor that a line is, with its pid and its answer.
@@ -275,46 +275,177 @@ fn on_fd(line: &Line) -> Option<(u32, FdCall, u32, Answer)> {
 }
 
 #[test]
-fn a_call_on_a_descriptor_is_read(rt: HostRuntime) {
-    match parse_line(rt.alloc(), b"99999 read(1048575) RET -1 errno 9") {
-        Ok(line) => assert_eq!(rt;
-            on_fd(&line),
-            Some((99_999, FdCall::Read, 1_048_575, Answer::Fault(9)))
-        ),
-        Err(fault) => assert_eq!(rt; fault, LineFault::Memory),
+fn a_call_on_a_descriptor_is_read(rt: HostRuntime) -> Result<(), Fail> {
+    let read = parse_line(rt.alloc(), b"99999 read(1048575) RET -1 errno 9")?;
+    assert_eq!(rt;
+        on_fd(&read),
+        Some((99_999, FdCall::Read, 1_048_575, Answer::Fault(9)))
+    );
+    let closed = parse_line(rt.alloc(), b"100 closefrom(3) RET 0")?;
+    assert_eq!(rt;
+        on_fd(&closed),
+        Some((100, FdCall::Closefrom, 3, Answer::Made(0)))
+    );
+    Ok(())
+}
+
+/// The texts that a line keeps: the path and the flags of an open, the command of an `fcntl`, or the name and the
+/// arguments of a call without a form of its own.
+fn texts(line: &Line) -> Option<(&[u8], &[u8])> {
+    match &line.item {
+        Item::Call { call, .. } => match call {
+            Call::Open(path, flags) => Some((path.as_bytes(), flags.as_bytes())),
+            Call::Fcntl(_, command) => Some((command.as_bytes(), b"")),
+            Call::Other { name, args } => Some((name.as_bytes(), args.as_bytes())),
+            _ => None,
+        },
+        _ => None,
     }
 }
 
-/// The descriptors of a start; of an open the bytes of its path and its flags.
-fn texts(line: &Line) -> Option<(&[u32], &[u8], &[u8])> {
+/// Lines with the texts that they keep.
+static KEPT: [(&[u8], &[u8], &[u8]); 3] = [
+    (b"100 open(\"/a\",O_RDONLY) RET 3", b"/a", b"O_RDONLY"),
+    (b"100 fcntl(3,F_GETFL) RET 2", b"F_GETFL", b""),
+    (b"100 foo(1,\"2) RET 0", b"foo", b"1,\"2"),
+];
+
+#[test]
+fn texts_are_kept_as_they_are_spelled(rt: HostRuntime) -> Result<(), Fail> {
+    for (bytes, first, second) in KEPT {
+        let line = parse_line(rt.alloc(), bytes)?;
+        assert_eq!(rt; texts(&line), Some((first, second)), "{bytes:?}");
+    }
+    Ok(())
+}
+
+/// The descriptors of a start.
+fn started(line: &Line) -> Option<&[u32]> {
     match &line.item {
-        Item::Start(fds) => Some((fds.as_slice(), b"", b"")),
-        Item::Call {
-            call: Call::Open(path, flags),
-            ..
-        } => { Some((&[], path.as_bytes(), flags.as_bytes())) }
+        Item::Start(fds) => Some(fds.as_slice()),
         _ => None,
     }
 }
 
 #[test]
-fn a_start_is_read(rt: HostRuntime) {
-    match parse_line(rt.alloc(), b"100 @start(0,3,1048575)") {
-        Ok(line) => assert_eq!(rt;
-            texts(&line),
-            Some(([0, 3, 1_048_575].as_slice(), b"".as_slice(), b"".as_slice()))
-        ),
-        Err(fault) => assert_eq!(rt; fault, LineFault::Memory),
+fn a_start_is_read(rt: HostRuntime) -> Result<(), Fail> {
+    let line = parse_line(rt.alloc(), b"100 @start(0,3,1048575)")?;
+    assert_eq!(rt; started(&line), Some([0, 3, 1_048_575].as_slice()));
+    Ok(())
+}
+
+/// The example of the crate's documentation.
+#[test]
+fn the_example_runs(rt: HostRuntime) -> Result<(), Fail> {
+    let alloc = rt.alloc();
+    let line = parse_line(alloc, b"100 open(\"/etc/passwd\",O_RDONLY) RET 3")?;
+    assert_eq!(rt; line.name(), b"open".as_slice());
+    let mut text = Vec::new(alloc);
+    write_line(&line, &mut text)?;
+    assert_eq!(rt;
+        text.as_slice(),
+        b"100 open(\"/etc/passwd\",O_RDONLY) RET 3".as_slice()
+    );
+    let path = Path::escape(alloc, b"/tmp/a\nb")?;
+    let call = Call::OnPath(PathCall::Unlink, path);
+    let answer = Answer::Made(0);
+    let made = Line::new(alloc, 100, Item::Call { call, answer })?;
+    assert_eq!(rt; made.is_some(), true);
+    Ok(())
+}
+
+/// The text of a line that is made, or nothing where there is none.
+fn made(alloc: Global, pid: u32, item: Item) -> Result<Vec<u8>, Fail> {
+    let mut text = Vec::new(alloc);
+    if let Some(line) = Line::new(alloc, pid, item)? {
+        write_line(&line, &mut text)?;
+    }
+    Ok(text)
+}
+
+#[test]
+fn parts_and_lines_are_made(rt: HostRuntime) -> Result<(), Fail> {
+    let alloc = rt.alloc();
+    let path = Path::new(alloc, b"a\\x0a")?;
+    let flags = Flags::new(alloc, b"O_RDONLY|O_CLOEXEC")?;
+    let call = Call::Open(path, flags);
+    let answer = Answer::Made(3);
+    let text = made(alloc, 100, Item::Call { call, answer })?;
+    assert_eq!(rt;
+        text.as_slice(),
+        b"100 open(\"a\\x0a\",O_RDONLY|O_CLOEXEC) RET 3".as_slice()
+    );
+    let call = Call::Fcntl(3, Command::new(alloc, b"F_GETFL")?);
+    let text = made(alloc, 100, Item::Call { call, answer })?;
+    assert_eq!(rt; text.as_slice(), b"100 fcntl(3,F_GETFL) RET 3".as_slice());
+    let name = Name::new(alloc, b"kevent")?;
+    let args = Args::new(alloc, b"3,0")?;
+    let call = Call::Other { name, args };
+    let text = made(alloc, 100, Item::Call { call, answer })?;
+    assert_eq!(rt; text.as_slice(), b"100 kevent(3,0) RET 3".as_slice());
+    let text = made(alloc, 7, Item::Start(Fds::new(alloc, &[0, 3])?))?;
+    assert_eq!(rt; text.as_slice(), b"7 @start(0,3)".as_slice());
+    Ok(())
+}
+
+#[test]
+fn what_no_text_spells_is_not_made(rt: HostRuntime) -> Result<(), Fail> {
+    let alloc = rt.alloc();
+    assert_eq!(rt; made(alloc, 0, Item::Exit)?.as_slice(), b"".as_slice());
+    assert_eq!(rt;
+        made(alloc, 1, Item::Foreign(1_048_576))?.as_slice(),
+        b"".as_slice()
+    );
+    let call = Call::OnFd(FdCall::Closefrom, 3);
+    let answer = Answer::Made(1);
+    assert_eq!(rt;
+        made(alloc, 1, Item::Call { call, answer })?.as_slice(),
+        b"".as_slice()
+    );
+    let long = Path::new(alloc, &[b'x'; 1024])?;
+    let call = Call::OnPath(PathCall::Stat, long);
+    assert_eq!(rt;
+        made(alloc, 1, Item::Call { call, answer })?.as_slice(),
+        b"".as_slice()
+    );
+    Ok(())
+}
+
+/// Bytes with the text of their path.
+static ESCAPED: [(&[u8], &[u8]); 4] = [
+    (b"/etc/x y", b"/etc/x y"),
+    (b"a\"b\\c", b"a\\\"b\\\\c"),
+    (b"\n\x7f", b"\\x0a\\x7f"),
+    (&[0xc3, 0xbf, 0x01], b"\\xc3\\xbf\\x01"),
+];
+
+#[test]
+fn paths_are_escaped(rt: HostRuntime) -> Result<(), Fail> {
+    for (bytes, text) in ESCAPED {
+        let path = Path::escape(rt.alloc(), bytes)?;
+        assert_eq!(rt; path.as_bytes(), text);
+        let again = Path::new(rt.alloc(), path.as_bytes())?;
+        assert_eq!(rt; again.as_bytes(), text);
+    }
+    Ok(())
+}
+
+/// The code of the fault with which a part isn't made.
+fn refused<T: Drop>(part: Result<T, LineFault>) -> u8 {
+    match part {
+        Ok(_) => 0,
+        Err(fault) => fault.code(),
     }
 }
 
 #[test]
-fn a_path_is_read(rt: HostRuntime) {
-    match parse_line(rt.alloc(), b"100 open(\"/a\",O_RDONLY) RET 3") {
-        Ok(line) => assert_eq!(rt;
-            texts(&line),
-            Some(([].as_slice(), b"/a".as_slice(), b"O_RDONLY".as_slice()))
-        ),
-        Err(fault) => assert_eq!(rt; fault, LineFault::Memory),
-    }
+fn bad_parts_are_not_made(rt: HostRuntime) {
+    let alloc = rt.alloc();
+    assert_eq!(rt; refused(Path::new(alloc, b"a\"b")), 4);
+    assert_eq!(rt; refused(Path::escape(alloc, b"a\0b")), 4);
+    assert_eq!(rt; refused(Flags::new(alloc, b"O_RDONLY|")), 4);
+    assert_eq!(rt; refused(Command::new(alloc, b"F_SETFD")), 4);
+    assert_eq!(rt; refused(Fds::new(alloc, &[3, 3])), 4);
+    assert_eq!(rt; refused(Name::new(alloc, b"read")), 2);
+    assert_eq!(rt; refused(Args::new(alloc, b"(")), 2);
 }

@@ -1,6 +1,6 @@
 //! Writing a line.
 //!
-//! What a function here wrote before memory ran out stays behind what there was; `write_line` takes it off again.
+//! What a function here wrote before memory ran out stays in the vector; `write_line` takes it off again.
 
 ghost use Rattle.std.specs.Prelude.{◌≡◌, ◌++◌, ◌∷◌, [], codes, length, map, take, OnOk, OnErr, if◌then◌else◌, is_ok};
 ghost use Rattle.std.specs.Fmt.{decimal};
@@ -11,7 +11,7 @@ ghost use Rattle.cap_trace.specs.Entry.{args_of_call, args_of, fds as fd_args, h
 ghost use Rattle.cap_trace.specs.Spelling.{Spells, arg_text, answer_text, tail_text, canon};
 ghost use Rattle.cap_trace.specs.Writing.{shown_text, with_commas};
 
-use crate::line::{Answer, Call, Dir, Fd, Item, Line};
+use crate::line::{Answer, Call, Dir, Fd, Item, Line, Pid};
 use cap_rights::{NoMemory, RightSet, write_rights};
 use itoa::Buffer;
 use std::alloc::AllocError;
@@ -55,7 +55,7 @@ fn put_argument(argument: &Shown<'_>, out: &mut Vec<u8>) -> Result<(), AllocErro
     }
 }
 
-/// Each argument behind a comma.
+/// Each argument after a comma.
 fn put_others(others: &[Shown<'_>], out: &mut Vec<u8>) -> Result<(), AllocError>
     ensures ok { OnOk result (out.new.items ≡ out.old.items ++ with_commas (map shown_text others.now)) }
     ensures err { OnErr result (take (length out.old.items) out.new.items ≡ out.old.items) }
@@ -176,7 +176,7 @@ fn put_call(call: &Call, out: &mut Vec<u8>) -> Result<(), AllocError>
     }
 }
 
-/// Each descriptor behind a comma.
+/// Each descriptor after a comma.
 fn put_other_fds(others: &[Fd], out: &mut Vec<u8>) -> Result<(), AllocError>
     ensures ok { OnOk result (out.new.items ≡ out.old.items ++ with_commas (map decimal others.now)) }
     ensures err { OnErr result (take (length out.old.items) out.new.items ≡ out.old.items) }
@@ -233,7 +233,7 @@ fn put_answer(answer: &Answer, out: &mut Vec<u8>) -> Result<(), AllocError>
     }
 }
 
-/// What stands behind the bracket that closes.
+/// What follows the closing bracket.
 fn put_tail(item: &Item, out: &mut Vec<u8>) -> Result<(), AllocError>
     ensures ok { OnOk result (out.new.items ≡ out.old.items ++ tail_text item.now) }
     ensures err { OnErr result (take (length out.old.items) out.new.items ≡ out.old.items) }
@@ -248,14 +248,25 @@ fn put_tail(item: &Item, out: &mut Vec<u8>) -> Result<(), AllocError>
 }
 
 /// What stands before the arguments.
-fn put_head(line: &Line, out: &mut Vec<u8>) -> Result<(), AllocError>
-    ensures ok { OnOk result (out.new.items ≡ out.old.items ++ (decimal line.now.pid ++ (32 ∷ (name_of (head_of line.now.item) ++ 40 ∷ [])))) }
+fn put_head(pid: Pid, item: &Item, out: &mut Vec<u8>) -> Result<(), AllocError>
+    ensures ok { OnOk result (out.new.items ≡ out.old.items ++ (decimal pid ++ (32 ∷ (name_of (head_of item.now) ++ 40 ∷ [])))) }
     ensures err { OnErr result (take (length out.old.items) out.new.items ≡ out.old.items) }
 {
-    put_number(u64::from(line.pid), out)?;
+    put_number(u64::from(pid), out)?;
     out.extend_from_slice(b" ")?;
-    out.extend_from_slice(line.name())?;
+    out.extend_from_slice(item.head().name())?;
     out.extend_from_slice(b"(")
+}
+
+/// The canonical text of what a line of this process says, whether or not it is a line.
+pub(crate) fn put_text(pid: Pid, item: &Item, out: &mut Vec<u8>) -> Result<(), AllocError>
+    ensures ok { OnOk result (out.new.items ≡ out.old.items ++ canon (record { pid = pid; item = item.now })) }
+    ensures err { OnErr result (take (length out.old.items) out.new.items ≡ out.old.items) }
+{
+    put_head(pid, item, out)?;
+    put_between(item, out)?;
+    out.extend_from_slice(b")")?;
+    put_tail(item, out)
 }
 
 fn put_line(line: &Line, out: &mut Vec<u8>) -> Result<(), AllocError>
@@ -263,11 +274,7 @@ fn put_line(line: &Line, out: &mut Vec<u8>) -> Result<(), AllocError>
     ensures spelled { Spells (canon line.now) line.now }
     ensures err { OnErr result (take (length out.old.items) out.new.items ≡ out.old.items) }
 {
-    let item = &line.item;
-    put_head(line, out)?;
-    put_between(item, out)?;
-    out.extend_from_slice(b")")?;
-    put_tail(item, out)
+    put_text(line.pid, &line.item, out)
 }
 
 /// Appends the one canonical text of a line, without a line feed. It spells the line, so it has at most

@@ -3,7 +3,7 @@ ghost use Rattle.std.specs.Prelude.{◌≡◌, ℕ, ◌+◌, ◌^◌, ◌<◌};
 
 use std::marker::Model;
 
-/// How many joins were made, from 0 to `u64::MAX`. A contract sees the number.
+/// A count of joins, from 0 to `u64::MAX`. A contract sees the number.
 #[derive(Drop)]
 pub struct Meter {
     count: u64,
@@ -39,7 +39,7 @@ impl Meter {
         u64::MAX - self.count
     }
 
-    /// Counts one join. The caller owes room for it.
+    /// Counts one join. There must be room for it.
     pub fn tick(&mut self)
         requires { self.old + 1 < 2 ^ 64 }
         ensures { self.new ≡ self.old + 1 }

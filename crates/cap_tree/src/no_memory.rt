@@ -1,11 +1,11 @@
-//! Want of memory.
+//! Out of memory.
 
 use std::alloc::{AllocError, AllocFailed};
 use thiserror::Error;
 
-/// A growth was refused.
+/// Out of memory: the allocator refused a request. `?` converts the error of an allocation to this one.
 #[derive(Clone, Copy, Debug, Drop, PartialEq, Eq, Error)]
-#[error("no memory")]
+#[error("out of memory")]
 pub struct NoMemory;
 
 impl From<AllocError> for NoMemory {

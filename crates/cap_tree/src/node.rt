@@ -3,7 +3,7 @@
 //! A leaf holds a run of items and one summary of them, since a summary of each single item would take far more memory
 //! than the items. A node's height is 0 for a leaf, else that of the higher part and one, and two parts are at most one
 //! apart. An edit makes anew the leaf that holds its place and the nodes above it, and shares all others.
-ghost use Rattle.std.specs.Prelude.{◌≡◌, ℕ, ◌+◌, ◌*◌, ◌/◌, ◌^◌, ◌<◌, ◌≤◌, min, max, List, [], ◌∷◌, ◌++◌, length, vec_len, insert, remove, slice_get, slice_set, Some, IfOk, OnOk, MatchOption};
+ghost use Rattle.std.specs.Prelude.{◌≡◌, ℕ, ◌+◌, ◌-◌, ◌*◌, ◌/◌, ◌^◌, ◌<◌, ◌≤◌, min, max, List, [], ◌∷◌, ◌++◌, length, vec_len, insert, remove, slice_get, slice_range, slice_set, Some, IfOk, OnOk, MatchOption};
 ghost use Rattle.cap_tree.specs.Heights.{DifferByAtMost, SettlesAt, HaveLostOne, IsLeastHeight};
 ghost use Rattle.cap_tree.specs.Run.{values};
 
@@ -429,6 +429,26 @@ impl<S: Segment> Node<S> {
                     left.get(at)
                 } else {
                     right.get(at - middle)
+                }
+            }
+        }
+    }
+
+    /// The run of the leaf around the place, and where in it the place is.
+    pub(crate) fn leaf_at(&self, at: usize) -> (&[Rc<S::Item>], usize)
+        requires in_range { at < length self.now.0 }
+        ensures not_before { result.1 ≤ at }
+        ensures within { result.1 < length result.0.now }
+        ensures run { values result.0.now ≡ slice_range self.now.0 (at - result.1) (at - result.1 + length result.0.now) }
+    {
+        match &self.shape {
+            Shape::Leaf(run) => (run.as_slice(), at),
+            Shape::Branch(left, right) => {
+                let middle = left.len();
+                if at < middle {
+                    left.leaf_at(at)
+                } else {
+                    right.leaf_at(at - middle)
                 }
             }
         }

@@ -25,14 +25,14 @@ pub trait Segment: Drop {
     fn one(alloc: Global, item: &Self::Item) -> Result<Self, NoMemory>
         ensures { IfOk result (λ s. stands s (item.now ∷ [])) };
 
-    /// How many items are summed up. Takes no memory.
+    /// How many items are summed up. Allocates nothing.
     fn len(&self) -> usize
         ensures { result ≡ size self.now };
 
     /// The summary of the left items followed by the right ones.
     ///
-    /// The caller owes two lengths of at most `2 ^ 30` together, and a meter with room for one more. A join that
-    /// succeeds counts one; one that fails counts at most one, and both parts are as before.
+    /// The two lengths must be at most `2 ^ 30` together, and the meter must have room for one more. A join that
+    /// succeeds counts one; one that fails counts at most one. Both parts stay as they are.
     fn join(alloc: Global, meter: &mut Meter, left: &Self, right: &Self) -> Result<Self, NoMemory>
         requires few { size left.now + size right.now ≤ 2 ^ 30 }
         requires room { meter.old + 1 < 2 ^ 64 }

@@ -1,21 +1,24 @@
 //! A list of items with a summary of it.
-ghost use Rattle.std.specs.Prelude.{◌≡◌, ℕ, ◌+◌, ◌*◌, ◌^◌, ◌<◌, ◌≤◌, [], length, map, insert, remove, slice_get, slice_set, vec_len, Some, IfOk};
+ghost use Rattle.std.specs.Prelude.{◌≡◌, ℕ, ◌+◌, ◌-◌, ◌*◌, ◌^◌, ◌<◌, ◌≤◌, ◌==◌, [], length, map, insert, remove, slice_get, slice_range, slice_set, vec_len, Some, IfOk, OnOk};
 ghost use Rattle.cap_tree.specs.Bits.{bound};
+ghost use Rattle.cap_tree.specs.Run.{values};
 
+use crate::items::Items;
 use crate::meter::Meter;
 use crate::no_memory::NoMemory;
 use crate::node::Node;
 use crate::segment::Segment;
-use std::alloc::Global;
+use std::alloc::{AllocError, Global};
 use std::marker::Model;
+use std::ops::Range;
 use std::rc::Rc;
 
 /// A list of items with a summary of it. A contract sees the list.
 ///
 /// Places count from 0. An edit gives a new tree, which shares with the old one all parts that are the same; the old one
-/// stays as it was, also where the edit answers `NoMemory`, which comes only where a growth was refused. A tree has at
-/// most `2 ^ 30` items. Each call that is handed a meter owes it room for `2 ^ 32` joins, and makes all of its joins on
-/// it: the bound on them holds where it answers `NoMemory` too.
+/// stays as it was, even if the edit answers `NoMemory`, which it does only if an allocation was refused. A tree has at
+/// most `2 ^ 30` items. Each call that takes a meter needs room for `2 ^ 32` joins on it, and counts its joins there: the
+/// bound on them holds after `NoMemory` too.
 #[derive(Drop)]
 pub struct Tree<S: Segment> {
     root: Root<S>,
@@ -23,7 +26,7 @@ pub struct Tree<S: Segment> {
 
 #[derive(Drop)]
 enum Root<S: Segment> {
-    Empty(S),
+    Empty(Rc<S>),
     Full(Rc<Node<S>>),
 }
 
@@ -39,8 +42,22 @@ impl<S: Segment> Model for Tree<S> {
     ghost invariant = { λ t. IsSummedUp S.stands t.root };
 }
 
+/// A clone is the same list. It shares all nodes with the tree, takes constant time and allocates nothing. It fails only if
+/// there are so many clones that they can't be counted.
+impl<S: Segment> Clone for Tree<S> {
+    ghost is_clone = { λ tree copy. copy ≡ tree };
+
+    fn clone(&self) -> Result<Tree<S>, AllocError> {
+        let root = match &self.root {
+            Root::Empty(summary) => Root::Empty(summary.clone()?),
+            Root::Full(node) => Root::Full(node.clone()?),
+        };
+        Ok(Tree { root })
+    }
+}
+
 impl<S: Segment> Tree<S> {
-    /// The tree of these items. It makes at most two joins for each item.
+    /// The tree of these items. It makes exactly one join fewer than there are items, and none for no items.
     pub fn from_list(
         alloc: Global,
         meter: &mut Meter,
@@ -49,8 +66,9 @@ impl<S: Segment> Tree<S> {
         requires few { vec_len items ≤ 2 ^ 30 }
         requires room { meter.old + 2 ^ 32 < 2 ^ 64 }
         ensures list { IfOk result (λ t. t ≡ map (λ item. item.value) items.items) }
+        ensures counted { OnOk result (meter.new ≡ meter.old + (vec_len items - 1)) }
         ensures not_less { meter.old ≤ meter.new }
-        ensures joins { meter.new ≤ meter.old + 2 * vec_len items }
+        ensures joins { meter.new ≤ meter.old + (vec_len items - 1) }
     {
         if items.is_empty() {
             return Tree::empty(alloc);
@@ -66,11 +84,11 @@ impl<S: Segment> Tree<S> {
     {
         let summary = S::empty(alloc)?;
         Ok(Tree {
-            root: Root::Empty(summary),
+            root: Root::Empty(Rc::new(alloc, summary)?),
         })
     }
 
-    /// How many items there are. Takes no memory.
+    /// How many items there are. Allocates nothing.
     pub fn len(&self) -> usize
         ensures { result ≡ length self.now }
     {
@@ -80,7 +98,14 @@ impl<S: Segment> Tree<S> {
         }
     }
 
-    /// The item at a place below the length. Takes no memory.
+    /// Whether there is no item. Allocates nothing.
+    pub fn is_empty(&self) -> bool
+        ensures { result ≡ (length self.now == 0) }
+    {
+        self.len() == 0
+    }
+
+    /// The item at a place below the length. Allocates nothing.
     pub fn get(&self, at: usize) -> &S::Item
         requires { at < length self.now }
         ensures { slice_get self.now at ≡ Some result.now }
@@ -91,7 +116,39 @@ impl<S: Segment> Tree<S> {
         }
     }
 
-    /// The summary of all items. Takes no memory and makes no join.
+    /// The items of the leaf that holds a place below the length, and the offset of the place in it. Allocates nothing.
+    ///
+    /// The next leaf begins at `at - offset + run.len()`, so a walk over the leaves descends the tree once for each.
+    pub fn leaf_at(&self, at: usize) -> (&[Rc<S::Item>], usize)
+        requires in_range { at < length self.now }
+        ensures not_before { result.1 ≤ at }
+        ensures within { result.1 < length result.0.now }
+        ensures run { values result.0.now ≡ slice_range self.now (at - result.1) (at - result.1 + length result.0.now) }
+    {
+        match &self.root {
+            Root::Empty(_) => unreachable!(),
+            Root::Full(node) => node.leaf_at(at),
+        }
+    }
+
+    /// The items at the places of a range, from the left. The range must not end before it starts, nor after the last item.
+    /// Allocates nothing, and descends the tree once for each leaf.
+    pub fn range(&self, range: Range<usize>) -> Items<'_, S>
+        requires in_order { range.start ≤ range.end }
+        requires in_range { range.end ≤ length self.now }
+        ensures items { result ≡ slice_range self.now range.start range.end }
+    {
+        Items::new(self, range)
+    }
+
+    /// All items, from the left. Allocates nothing, and descends the tree once for each leaf.
+    pub fn iter(&self) -> Items<'_, S>
+        ensures items { result ≡ self.now }
+    {
+        self.range(0..self.len())
+    }
+
+    /// The summary of all items. Allocates nothing and makes no join.
     pub fn summary(&self) -> &S
         ensures { S.stands result.now self.now }
     {

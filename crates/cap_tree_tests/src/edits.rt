@@ -1,4 +1,4 @@
-//! Edits that have leaves split and merge, and nodes turned about in each of the four ways.
+//! Edits by which leaves split and merge, and nodes are rotated in each of the four ways.
 
 use cap_tree::{Meter, NoMemory, Segment, Tree};
 use std::alloc::Global;
@@ -8,7 +8,7 @@ use std::rc::Rc;
 pub const FIRST: u32 = 128;
 /// How many edits take such a tree to none.
 pub const TURNS: u32 = 293;
-/// Near an end, and behind the middle of a first leaf: the leaf that splits again is the outer or the inner one.
+/// Near an end, and after the middle of a first leaf: the leaf that splits again is the outer or the inner one.
 pub const PLACES: [usize; 2] = [8, 24];
 
 #[derive(Drop)]
@@ -31,7 +31,7 @@ pub fn edit_at(turn: u32, place: usize, len: usize) -> Edit {
     }
 }
 
-/// The tree after an edit. A place out of range is want of memory, which no test takes for an answer.
+/// The tree after an edit. A place out of range answers `NoMemory`, which fails each test.
 pub fn edited<S: Segment>(
     alloc: Global,
     meter: &mut Meter,

@@ -1,4 +1,4 @@
-//! Tests of the tree over two segments: the one is its list, the other counts joins and refuses growths by cells that its
+//! Tests of the tree over two segments: one is its list, the other counts joins and refuses summaries by cells that its
 //! items share.
 #![tactic(auto)]
 

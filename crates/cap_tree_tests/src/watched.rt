@@ -1,4 +1,4 @@
-//! A segment whose items share cells: one counts the joins, the other refuses a growth when its turn comes.
+//! A segment whose items share two cells: one counts the joins, the other refuses a summary when its turn comes.
 ghost use Rattle.std.specs.Prelude.{◌≡◌, map, length};
 ghost use Rattle.cap_tree_tests.specs.Numbers.{numbers, length-numbers};
 

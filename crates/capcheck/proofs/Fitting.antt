@@ -16,5 +16,5 @@ told_fits words (Help text) e (inr h) t = (kind_of e, h, t)
 told_fits words (Usage text) e (inl h) t = absurd (t.0 h)
 told_fits words (Usage text) e (inr h) t = inl (kind_of e, h, t.1)
 told_fits words Memory e h t = tt
-told_fits words (Check trace) e h t = absurd t
-told_fits words (Edit trace script) e h t = absurd t
+told_fits words (Check trace start profile) e h t = absurd t
+told_fits words (Edit trace script profile) e h t = absurd t

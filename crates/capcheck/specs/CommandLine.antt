@@ -1,5 +1,5 @@
 -- The command line of the program, as `clap` reads it. Texts that only help shows aren't part of it.
-use Rattle.std.specs.Prelude.{codes, true}
+use Rattle.std.specs.Prelude.{codes, true, Some}
 use Rattle.clap.specs.Words.{App, Rule, new_app, new_rule, with_rule, with_subcommand}
 use Rattle.clap.specs.Simple.{on_top}
 
@@ -14,13 +14,24 @@ script_rule = record (new_rule (codes "script")) { value_names = 1 }
 abbrev pub needed_trace_rule : Rule
 needed_trace_rule = record trace_rule { required = true }
 
--- check [FILE]
-abbrev pub check_words : App
-check_words = with_rule (new_app (codes "check")) trace_rule
+-- --start FILE
+abbrev pub start_rule : Rule
+start_rule = record (new_rule (codes "start")) { long = Some (codes "start"); value_names = 1 }
 
--- edit FILE [SCRIPT]
+-- --profile NUMBER
+abbrev pub profile_rule : Rule
+profile_rule =
+    record (new_rule (codes "profile")) { long = Some (codes "profile"); value_names = 1 }
+
+-- check [FILE], with --start and --profile
+abbrev pub check_words : App
+check_words =
+    with_rule (with_rule (with_rule (new_app (codes "check")) trace_rule) start_rule) profile_rule
+
+-- edit FILE [SCRIPT], with --profile
 abbrev pub edit_words : App
-edit_words = with_rule (with_rule (new_app (codes "edit")) needed_trace_rule) script_rule
+edit_words = with_rule (with_rule (with_rule (new_app (codes "edit")) needed_trace_rule) script_rule)
+    profile_rule
 
 -- the first word names a command, and there are --help and --version
 abbrev pub bare_words : App

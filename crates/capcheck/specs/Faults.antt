@@ -1,9 +1,9 @@
--- What standard error tells of an outcome that is no answer to the trace.
+-- What standard error says of an outcome that is no answer to the trace.
 use Rattle.std.specs.Prelude.{ℕ, List, codes, Option, None, Some}
 use Rattle.cap_session.specs.declared.outcome.Outcome.{Outcome}
-use Rattle.cap_session.specs.declared.outcome.Outcome.TheVariants.{Clean, Findings, Refused, Memory, ReadFault, WriteFault, TooLong}
+use Rattle.cap_session.specs.declared.outcome.Outcome.TheVariants.{Clean, Findings, Refused, StartRefused, Memory, ReadFault, WriteFault, TooLong}
 
--- memory ran out; the reader failed; the writer failed; the trace had no end
+-- memory ran out; a reader failed; the writer failed; an input had no end
 abbrev pub fault_code : Outcome → Option (List ℕ)
 fault_code Memory = Some (codes "E9")
 fault_code ReadFault = Some (codes "E11")
@@ -12,3 +12,4 @@ fault_code TooLong = Some (codes "E13")
 fault_code Clean = None
 fault_code Findings = None
 fault_code (Refused code line) = None
+fault_code (StartRefused code line) = None

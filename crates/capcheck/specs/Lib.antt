@@ -1,5 +1,5 @@
 pub mod CommandLine
 pub mod Faults
-pub mod Inputs
 pub mod Plans
-pub mod Statuses
+pub mod Runs
+pub mod Texts

@@ -8,23 +8,40 @@ use Rattle.clap.specs.declared.error.kind.ErrorKind.{ErrorKind}
 use Rattle.clap.specs.declared.error.kind.ErrorKind.TheVariants as kind
 use Rattle.capcheck.specs.CommandLine.{capcheck}
 use Rattle.capcheck.specs.declared.plan.Plan.{Plan}
+use Rattle.cap_machine.specs.declared.cell.Profile.{Profile}
+use Rattle.cap_machine.specs.declared.cell.Profile.TheVariants.{One, Two}
 use Rattle.capcheck.specs.declared.plan.Plan.TheVariants.{Check, Edit, Help, Usage, Memory}
 
--- a run of the program, with the names that it was given
+-- a run of the program, with the names that it was given: a trace, what is known before it, a script
 pub data Run : Type 0 where
-  checks : Option Text → Run
-  edits : Text → Option Text → Run
+  checks : Option Text → Option Text → Profile → Run
+  edits : Text → Option Text → Profile → Run
 
-abbrev pub check_among : List Row → Run
-check_among rows = checks (first_of (codes "trace") rows)
+-- the profile of the value of `--profile`, and 1 where it isn't given
+abbrev pub profile_named : Text → Option Profile
+profile_named name = if bytes_eq name (codes "1") then Some One
+    else (if bytes_eq name (codes "2") then Some Two else None)
+
+abbrev pub profile_of : Option Text → Option Profile
+profile_of None = Some One
+profile_of (Some name) = profile_named name
+
+abbrev pub profile_among : List Row → Option Profile
+profile_among rows = profile_of (first_of (codes "profile") rows)
+
+abbrev pub check_among : List Row → Option Run
+check_among rows = option_map (λ profile.
+    checks (first_of (codes "trace") rows) (first_of (codes "start") rows) profile)
+    (profile_among rows)
 
 abbrev pub edit_among : List Row → Option Run
-edit_among rows = option_map (λ trace. edits trace (first_of (codes "script") rows))
+edit_among rows = option_and_then (λ trace. option_map (λ profile.
+    edits trace (first_of (codes "script") rows) profile) (profile_among rows))
     (first_of (codes "trace") rows)
 
 -- the run that a command and the values of its arguments name
 abbrev pub run_in : Text × List Row → Option Run
-run_in found = if bytes_eq found.0 (codes "check") then Some (check_among found.1)
+run_in found = if bytes_eq found.0 (codes "check") then check_among found.1
     else (if bytes_eq found.0 (codes "edit") then edit_among found.1 else None)
 
 -- the run that the words name by `clap`'s matches
@@ -42,35 +59,49 @@ IsRequest k = (k ≡ kind.DisplayHelp) ⊎ (k ≡ kind.DisplayVersion)
 abbrev pub Requests : Kinds → Type 0
 Requests kinds = (k : ErrorKind) × IsAmong k kinds × IsRequest k
 
--- the words are a mistake
+-- some kind is a mistake
 abbrev pub Mistakes : Kinds → Type 0
 Mistakes kinds = (k : ErrorKind) × IsAmong k kinds × (IsRequest k → ⊥)
+
+-- The words are a mistake: `clap` finds one in them, or it finds no fault and they name no run,
+-- as where the profile is neither 1 nor 2.
+abbrev pub IsMistake : List Text → Type 0
+IsMistake words = Mistakes (fault_of capcheck words)
+    ⊎ ((fault_of capcheck words ≡ []) × (run_asked words ≡ None))
 
 abbrev pub seen : Option (Bor Text) → Option Text
 seen = option_map (λ text. text.now)
 
--- the plan is what the words ask for; of want of memory nothing is said
+-- the plan is what the words ask for; of running out of memory nothing is said
 abbrev pub Fits : List Text → Plan → Type 0
-Fits words (Check trace) = Asks words (checks (seen trace))
-Fits words (Edit trace script) = Asks words (edits trace.now (seen script))
+Fits words (Check trace start profile) = Asks words (checks (seen trace) (seen start) profile)
+Fits words (Edit trace script profile) = Asks words (edits trace.now (seen script) profile)
 Fits words (Help text) = Requests (fault_of capcheck words)
-Fits words (Usage text) = Mistakes (fault_of capcheck words) ⊎ (run_asked words ≡ None)
+Fits words (Usage text) = IsMistake words
 Fits words Memory = Unit {0}
 
 -- below: what the steps of planning say
 
 -- the run of a plan
 abbrev pub run_of : Plan → Option Run
-run_of (Check trace) = Some (checks (seen trace))
-run_of (Edit trace script) = Some (edits trace.now (seen script))
+run_of (Check trace start profile) = Some (checks (seen trace) (seen start) profile)
+run_of (Edit trace script profile) = Some (edits trace.now (seen script) profile)
 run_of (Help text) = None
 run_of (Usage text) = None
 run_of Memory = None
 
 -- the answer to words that give no matches, by the kind of the error
 abbrev pub TellsKind : ErrorKind → Plan → Type 0
-TellsKind k (Check trace) = ⊥
-TellsKind k (Edit trace script) = ⊥
+TellsKind k (Check trace start profile) = ⊥
+TellsKind k (Edit trace script profile) = ⊥
 TellsKind k (Help text) = IsRequest k
 TellsKind k (Usage text) = (k ≡ kind.OutOfMemory → ⊥) × (IsRequest k → ⊥)
 TellsKind k Memory = Unit {0}
+
+-- the answer to words that name no run
+abbrev pub TellsMistake : Plan → Type 0
+TellsMistake (Check trace start profile) = ⊥
+TellsMistake (Edit trace script profile) = ⊥
+TellsMistake (Help text) = ⊥
+TellsMistake (Usage text) = Unit {0}
+TellsMistake Memory = Unit {0}

@@ -1,6 +1,6 @@
 //! What help says beside what `clap` makes of the command line. No contract reads these texts.
 
-/// What `--version` tells.
+/// The version that `--version` prints.
 pub const VERSION: &str = "0.1.0";
 
 /// The end of `capcheck --help`.
@@ -9,7 +9,7 @@ Exit status:
   0  nothing was found; also after help
   1  something was found
   2  the command line is wrong, or a line of the trace was refused
-  3  no answer, for the reason that standard error tells:
+  3  no answer, for the reason on standard error:
      capcheck: E9   memory ran out
      capcheck: E11  a file can't be opened, or reading failed
      capcheck: E12  writing to standard output failed
@@ -19,7 +19,7 @@ Examples:
   capcheck check server.trace
   capcheck edit server.trace session.script
 
-`capcheck check --help` and `capcheck edit --help` tell more.";
+`capcheck check --help` and `capcheck edit --help` say more.";
 
 /// The end of `capcheck check --help`.
 pub const CHECK: &str = "\
@@ -37,22 +37,37 @@ Where a line can't be read, that is printed in place of the report, with the
 line's number in the file:
   refused E2 line 7
 The codes: E1 more than 1,024 bytes, E2 the line's shape, E3 its pid, E4 an
-argument, E5 a right, E6 its result, E8 a line behind the 1,000,000th.
+argument, E5 a right, E6 its result, E8 a line after the 1,000,000th.
+
+The start says what is known of processes before the trace, with a line for each:
+its pid, in ascending order; `in`, `out` or `unsure` for capability mode; what all
+descriptors are that aren't listed; and those that are, in ascending order. A
+descriptor is `unknown`, `closed`, or open with rights:
+  100 out closed 0=ALL 3=CAP_READ|CAP_SEEK 5=unknown
+Of other processes nothing is known. A line that can't be read is printed in
+place of the report, as `refused E4 start line 2`, and the trace isn't read. The
+codes: E1 more than 1,024 bytes, E3 the pid, E4 the mode or a descriptor's number,
+E5 what a descriptor is.
+
+In profile 1 nothing is known of the descriptors of a process after a successful
+exec, and closefrom(2) changes nothing. Profile 2 follows the close-on-exec flags
+and closefrom(2).
 
 Exit status:
   0  nothing was found
   1  something was found
   2  the command line is wrong, or a line was refused
-  3  no answer: memory ran out (E9), the trace can't be opened or read (E11),
-     standard output can't be written (E12), or the input has no end (E13)
+  3  no answer: memory ran out (E9), a file can't be opened or read (E11),
+     standard output can't be written (E12), or an input has no end (E13)
 
-Example:
-  capcheck check server.trace";
+Examples:
+  capcheck check server.trace
+  capcheck check --profile 2 --start server.start server.trace";
 
 /// The end of `capcheck edit --help`.
 pub const EDIT: &str = "\
-Takes the trace over, and answers each line of the script before it looks at the
-next. Empty lines and lines that begin with `#` are skipped, and positions count
+Loads the trace, and replies to each line of the script before it works through
+the next. Empty lines and lines that begin with `#` are skipped, and positions count
 the lines of the trace that are not, from 1. The commands:
   insert K LINE   puts LINE at position K, 1 to the number of lines and one more
   replace K LINE  puts LINE in the place of line K
@@ -62,8 +77,8 @@ the lines of the trace that are not, from 1. The commands:
   report          prints the findings of the whole trace, and how many
   report A B      prints the findings at positions A to B, and how many
 
-An edit is answered by `ok` and the number of lines. What can't be done is
-answered by `refused` and a code, and then the trace is as it was:
+The reply to an edit is `ok` and the number of lines. The reply to what can't be
+done is `refused` and a code, and the trace stays as it was:
   E1 to E6  the line, as in `capcheck check --help`; E1 also a command of more
             than 1,056 bytes
   E7        there is no such position
@@ -71,7 +86,7 @@ answered by `refused` and a code, and then the trace is as it was:
   E9        memory ran out
   E10       there is no such command
 A trace with a line that can't be read is refused as by `check`, and the script
-isn't read. The files are not changed.
+isn't read. The files are not changed. The profiles are those of `check`.
 
 Exit status:
   0  nothing is found in the trace as it is at the end

@@ -1,14 +1,14 @@
 //! `capcheck`: checks a recorded trace of system calls against the rights that its descriptors held and
 //! against capability mode, and prints the report on standard output.
 //!
-//! `words` is the command line as `clap` is told of it, `help` what it says of it to people, `plan` what the
-//! words ask for, `input` where a text is read from, and `run` does what the plan says.
+//! `words` is the command line as `clap` is given it, `help` what it says of it to people, `plan` what the
+//! words ask for, `texts` where a text is read from, and `run` does what the plan says.
 #![tactic(auto)]
 
 mod help;
-mod input;
 mod plan;
 mod run;
+mod texts;
 mod words;
 
 use std::process::ExitCode;

@@ -2,44 +2,55 @@
 ghost use Rattle.std.specs.Prelude.{◌≡◌, IfOk, IsTrue, Some, ◌↔◌, map, option_and_then, option_map};
 ghost use Rattle.clap.specs.Words.{FailsBy, fault_of, first_of, found_of, kind_of, rows_of, subcommand_of, subcommand_rows_of};
 ghost use Rattle.capcheck.specs.CommandLine.{capcheck};
-ghost use Rattle.capcheck.specs.Plans.{Fits, IsRequest, TellsKind, edit_among, run_in, run_of, seen};
+ghost use Rattle.capcheck.specs.Plans.{Fits, IsRequest, TellsKind, TellsMistake, check_among, edit_among, profile_among, profile_named, run_in, run_of, seen};
 
 use crate::words::command;
+use cap_machine::Profile;
 use clap::error::ErrorKind;
 use clap::{ArgMatches, Error};
-use std::alloc::Global;
+use std::alloc::{AllocError, Global};
+
+/// What standard error says of a profile that is neither 1 nor 2.
+const NO_PROFILE: &str = "the profile is 1 or 2";
 
 /// What the program is to do.
 #[derive(Debug, PartialEq, Drop)]
 pub enum Plan<'a> {
-    /// Check the trace of this name, or standard input.
+    /// Check the trace of this name, or standard input, from the start of this name, or the usual one.
     Check {
         trace: Option<&'a str>,
+        start: Option<&'a str>,
+        profile: Profile,
     },
     /// Load the trace of this name, and work through the script of this name, or standard input.
     Edit {
         trace: &'a str,
         script: Option<&'a str>,
+        profile: Profile,
     },
     /// Print this text, help or the version, which was asked for.
     Help(String),
-    /// Say so: the words are a mistake.
+    /// Print this text: the words are a mistake.
     Usage(String),
     /// Memory ran out before the words were understood.
     Memory,
 }
 
-/// What the words after the program's name ask for: a run only where `clap` finds no fault in them, and then
-/// with just the names that its matches give; help only where they ask for help or the version; usage only
-/// where they are a mistake.
+/// What the words after the program's name ask for.
+///
+/// - `Check` and `Edit`: only where `clap` finds no fault in the words, and with just the names, the options and the
+///   profile that its matches give. The profile is 1 where the words name none.
+/// - `Help`: only where they ask for help or for the version.
+/// - `Usage`: only where they are a mistake. `clap` finds it, or the profile is neither 1 nor 2.
 pub fn plan_of<'a>(alloc: Global, words: &'a [&'a str]) -> Plan<'a>
     ensures { Fits (map (λ w. w.now) words.entry.now) result }
 {
     match matches_of(alloc, words) {
-        // A command is required, and the trace of `edit`, so that matches always have a plan; but the library's
-        // contract doesn't say so.
-        Ok(matches) => plan_in(&matches).unwrap_or(Plan::Usage(String::new(alloc))),
-        Err(error) => told(alloc, &error),
+        Ok(matches) => match plan_in(&matches) {
+            Some(plan) => plan,
+            None => no_run(alloc),
+        },
+        Err(error) => answered(alloc, &error),
     }
 }
 
@@ -65,12 +76,22 @@ fn plan_named<'a>(name: &str, found: &ArgMatches<'a>) -> Option<Plan<'a>>
     ensures { option_map run_of result ≡ option_map Some (run_in (name.now, rows_of (found_of found.now))) }
 {
     match name {
-        "check" => Some(Plan::Check {
-            trace: value(found, "trace"),
-        }),
+        "check" => check_in(found),
         "edit" => edit_in(found),
         _ => None,
     }
+}
+
+/// The plan of the arguments of `check`.
+fn check_in<'a>(found: &ArgMatches<'a>) -> Option<Plan<'a>>
+    ensures { option_map run_of result ≡ option_map Some (check_among (rows_of (found_of found.now))) }
+{
+    let profile = profile_in(found)?;
+    Some(Plan::Check {
+        trace: value(found, "trace"),
+        start: value(found, "start"),
+        profile,
+    })
 }
 
 /// The plan of the arguments of `edit`.
@@ -78,10 +99,33 @@ fn edit_in<'a>(found: &ArgMatches<'a>) -> Option<Plan<'a>>
     ensures { option_map run_of result ≡ option_map Some (edit_among (rows_of (found_of found.now))) }
 {
     let trace = value(found, "trace")?;
+    let profile = profile_in(found)?;
     Some(Plan::Edit {
         trace,
         script: value(found, "script"),
+        profile,
     })
+}
+
+/// The profile that the arguments name.
+fn profile_in(found: &ArgMatches<'_>) -> Option<Profile>
+    ensures { result ≡ profile_among (rows_of (found_of found.now)) }
+{
+    match value(found, "profile") {
+        Some(name) => profile_named(name),
+        None => Some(Profile::One),
+    }
+}
+
+/// The profile of this name.
+fn profile_named(name: &str) -> Option<Profile>
+    ensures { result ≡ profile_named name.now }
+{
+    match name {
+        "1" => Some(Profile::One),
+        "2" => Some(Profile::Two),
+        _ => None,
+    }
 }
 
 /// The first value of an argument.
@@ -92,7 +136,7 @@ fn value<'a>(found: &ArgMatches<'a>, id: &str) -> Option<&'a str>
 }
 
 /// The answer to words that give no matches.
-fn told<'a>(alloc: Global, error: &Error) -> Plan<'a>
+fn answered<'a>(alloc: Global, error: &Error) -> Plan<'a>
     ensures { TellsKind (kind_of error.now) result }
 {
     let kind = error.kind();
@@ -104,6 +148,22 @@ fn told<'a>(alloc: Global, error: &Error) -> Plan<'a>
         Ok(text) => Plan::Usage(text),
         Err(_) => Plan::Memory,
     }
+}
+
+/// The answer to words in which `clap` finds no fault, and that name no run: the profile is neither 1 nor 2.
+fn no_run<'a>(alloc: Global) -> Plan<'a>
+    ensures { TellsMistake result }
+{
+    match usage_text(alloc, NO_PROFILE) {
+        Ok(text) => Plan::Usage(text),
+        Err(_) => Plan::Memory,
+    }
+}
+
+/// A mistake, in the form of those that `clap` finds.
+fn usage_text(alloc: Global, mistake: &str) -> Result<String, AllocError> {
+    let error = command(alloc)?.error(ErrorKind::InvalidValue, mistake)?;
+    error.to_string(alloc)
 }
 
 /// Whether an error is no mistake, but an answer that was asked for.

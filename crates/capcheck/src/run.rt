@@ -1,14 +1,17 @@
 //! What the program does, over any runtime.
 
-ghost use Rattle.std.specs.Prelude.{◌≡◌, ◌≤◌};
+ghost use Rattle.std.specs.Prelude.{◌≡◌, ◌≤◌, None, Some, map};
 ghost use Rattle.std.specs.Option.{option_map};
 ghost use Rattle.cap_session.specs.Outcome.{status_of};
 ghost use Rattle.capcheck.specs.Faults.{fault_code};
-ghost use Rattle.capcheck.specs.Statuses.{IsStatusOf};
+ghost use Rattle.capcheck.specs.Plans.{seen};
+ghost use Rattle.capcheck.specs.Runs.{Answers, CarriesOut, ChecksText, EditsText, known_start};
 
-use crate::input::open;
 use crate::plan::{Plan, plan_of};
-use cap_session::{Counted, Outcome, check_stream, edit_stream};
+use crate::texts::{SystemTexts, Texts};
+use cap_machine::Profile;
+use cap_session::{Counted, Outcome, Sink, check_stream_as, check_stream_from_as, edit_stream_as};
+use std::alloc::Global;
 use std::rt::{Env, Files};
 use std::{env, io};
 
@@ -29,7 +32,7 @@ For more information, try '--help'.
 
 /// Does what the words of the command line ask for, and answers the exit status: 0 with no finding and after
 /// help, 1 with findings, 2 for a mistake in the words or a refused line, and 3 where memory ran out, a device
-/// failed or the trace had no end, which standard error then tells.
+/// failed or an input had no end. Standard error then has the reason.
 pub fn run<R: Env + Files + Input + Print + Eprint + AllocGlobal>(rt: &R) -> u8
     ensures { result ≤ 3 }
 {
@@ -44,7 +47,8 @@ pub fn run<R: Env + Files + Input + Print + Eprint + AllocGlobal>(rt: &R) -> u8
         Ok(words) => words,
         Err(_) => return ended(rt, Outcome::Memory),
     };
-    carry_out(rt, plan_of(rt.alloc(), words.as_slice()))
+    let mut output = Counted::new(io::writer(rt));
+    answer(rt, &SystemTexts::new(rt), &mut output, words.as_slice())
 }
 
 /// The words after the program's name.
@@ -52,13 +56,49 @@ fn args_of<R: Env + AllocGlobal>(rt: &R) -> io::Result<Vec<String>> {
     Ok(env::args(rt)?.skip(1).collect(rt.alloc())?)
 }
 
+/// Does what the words ask for over any texts and any output, and answers the exit status.
+///
+/// The output takes what a check or an edit writes. Where the bytes of the named texts are known, the report,
+/// the replies and the status are those of these bytes.
+pub fn answer<T: Texts, W: Sink, R: Print + Eprint + AllocGlobal>(
+    rt: &R,
+    texts: &T,
+    output: &mut W,
+    words: &[&str],
+) -> u8
+    requires { 1 ≤ (W.state output.old).room }
+    ensures { Answers (map (λ w. w.now) words.entry.now) (T.known texts.now) (W.state output.old) (W.state output.new) result }
+{
+    carry_out(rt, texts, output, plan_of(rt.alloc(), words))
+}
+
 /// Does what a plan says, and answers the exit status.
-fn carry_out<R: Files + Input + Print + Eprint + AllocGlobal>(rt: &R, plan: Plan<'_>) -> u8
-    ensures { IsStatusOf plan.entry result }
+fn carry_out<T: Texts, W: Sink, R: Print + Eprint + AllocGlobal>(
+    rt: &R,
+    texts: &T,
+    output: &mut W,
+    plan: Plan<'_>,
+) -> u8
+    requires { 1 ≤ (W.state output.old).room }
+    ensures { CarriesOut (T.known texts.now) (W.state output.old) (W.state output.new) plan.entry result }
 {
     match plan {
-        Plan::Check { trace } => ended(rt, check(rt, trace)),
-        Plan::Edit { trace, script } => ended(rt, edit(rt, trace, script)),
+        Plan::Check {
+            trace,
+            start,
+            profile,
+        } => {
+            let outcome = check(rt.alloc(), texts, output, profile, start, trace);
+            ended(rt, outcome)
+        }
+        Plan::Edit {
+            trace,
+            script,
+            profile,
+        } => {
+            let outcome = edit(rt.alloc(), texts, output, profile, trace, script);
+            ended(rt, outcome)
+        }
         Plan::Help(text) => match rt.print(text) {
             Ok(()) => 0,
             Err(_) => ended(rt, Outcome::WriteFault),
@@ -68,39 +108,89 @@ fn carry_out<R: Files + Input + Print + Eprint + AllocGlobal>(rt: &R, plan: Plan
     }
 }
 
-/// Checks a trace, and writes its report or its first refused line on standard output.
+/// Checks the trace of this name in a profile, from the start of this name or from the usual one, and writes its
+/// report or its first refused line.
 ///
-/// Neither stream is buffered here: a piece is read by one system call, and the report is written by one
-/// where the system takes it whole.
-fn check<R: Files + Input + Print + AllocGlobal>(rt: &R, trace: Option<&str>) -> Outcome {
-    let Ok(trace) = open(rt, trace) else {
-        return Outcome::ReadFault;
-    };
-    let mut trace = Counted::new(trace);
-    let mut report = Counted::new(io::writer(rt));
-    check_stream(rt.alloc(), TURNS, &mut trace, &mut report)
+/// The start is opened first, and both are opened before either is read. Neither stream is buffered here: a piece
+/// is read by one system call, and the report is written by one where the system takes it whole.
+pub fn check<T: Texts, W: Sink>(
+    alloc: Global,
+    texts: &T,
+    report: &mut W,
+    profile: Profile,
+    start: Option<&str>,
+    trace: Option<&str>,
+) -> Outcome
+    requires { 1 ≤ (W.state report.old).room }
+    ensures { ChecksText profile (known_start (T.known texts.now) start.entry) (T.known texts.now (seen trace.entry)) (W.state report.old) (W.state report.new) result }
+{
+    match start {
+        None => check_usual(alloc, texts, report, profile, trace),
+        Some(start) => check_from(alloc, texts, report, profile, start, trace),
+    }
 }
 
-/// Works a script through over a trace, and writes the reply to each of its lines on standard output before
-/// the next is looked at. Both files are opened before either is read.
-fn edit<R: Files + Input + Print + AllocGlobal>(
-    rt: &R,
+/// Checks the trace of this name from the usual start.
+fn check_usual<T: Texts, W: Sink>(
+    alloc: Global,
+    texts: &T,
+    report: &mut W,
+    profile: Profile,
+    trace: Option<&str>,
+) -> Outcome
+    requires { 1 ≤ (W.state report.old).room }
+    ensures { ChecksText profile None (T.known texts.now (seen trace.entry)) (W.state report.old) (W.state report.new) result }
+{
+    let Ok(mut trace) = texts.open(trace) else {
+        return Outcome::ReadFault;
+    };
+    check_stream_as(alloc, profile, TURNS, &mut trace, report)
+}
+
+/// Checks the trace of this name from the start of this name.
+fn check_from<T: Texts, W: Sink>(
+    alloc: Global,
+    texts: &T,
+    report: &mut W,
+    profile: Profile,
+    start: &str,
+    trace: Option<&str>,
+) -> Outcome
+    requires { 1 ≤ (W.state report.old).room }
+    ensures { ChecksText profile (Some (T.known texts.now (Some start.now))) (T.known texts.now (seen trace.entry)) (W.state report.old) (W.state report.new) result }
+{
+    let Ok(mut start) = texts.open(Some(start)) else {
+        return Outcome::ReadFault;
+    };
+    let Ok(mut trace) = texts.open(trace) else {
+        return Outcome::ReadFault;
+    };
+    check_stream_from_as(alloc, profile, TURNS, &mut start, &mut trace, report)
+}
+
+/// Works through the script of this name over the trace of this name in a profile, and writes the reply to each of
+/// its lines before the next is looked at. The trace is opened first, and both are opened before either is read.
+pub fn edit<T: Texts, W: Sink>(
+    alloc: Global,
+    texts: &T,
+    replies: &mut W,
+    profile: Profile,
     trace: &str,
     script: Option<&str>,
-) -> Outcome {
-    let Ok(trace) = open(rt, Some(trace)) else {
+) -> Outcome
+    requires { 1 ≤ (W.state replies.old).room }
+    ensures { EditsText profile (T.known texts.now (Some trace.now)) (T.known texts.now (seen script.entry)) (W.state replies.old) (W.state replies.new) result }
+{
+    let Ok(mut trace) = texts.open(Some(trace)) else {
         return Outcome::ReadFault;
     };
-    let Ok(script) = open(rt, script) else {
+    let Ok(mut script) = texts.open(script) else {
         return Outcome::ReadFault;
     };
-    let mut trace = Counted::new(trace);
-    let mut script = Counted::new(script);
-    let mut replies = Counted::new(io::writer(rt));
-    edit_stream(rt.alloc(), TURNS, &mut trace, &mut script, &mut replies)
+    edit_stream_as(alloc, profile, TURNS, &mut trace, &mut script, replies)
 }
 
-/// Tells on standard error what is wrong with the words; whether that can be written doesn't matter.
+/// Prints on standard error what is wrong with the words; whether that can be written doesn't matter.
 fn mistaken<R: Eprint>(rt: &R, text: &str) -> u8
     ensures { result ≡ 2 }
 {
@@ -108,7 +198,7 @@ fn mistaken<R: Eprint>(rt: &R, text: &str) -> u8
     MISTAKEN
 }
 
-/// The exit status of an outcome. What kept the program from an answer is told on standard error; whether
+/// The exit status of an outcome. What kept the program from an answer is printed on standard error; whether
 /// that can be written doesn't matter.
 fn ended<R: Eprint>(rt: &R, outcome: Outcome) -> u8
     ensures { result ≡ status_of outcome }
@@ -119,8 +209,8 @@ fn ended<R: Eprint>(rt: &R, outcome: Outcome) -> u8
     outcome.status()
 }
 
-/// The code that standard error tells: `E9` for memory, `E11` for the reader, `E12` for the writer and `E13`
-/// for a trace with no end.
+/// The code for standard error: `E9` for memory, `E11` for a reader, `E12` for the writer and `E13` for an input
+/// with no end.
 fn code_of_fault(outcome: Outcome) -> Option<&'static str>
     ensures { option_map (λ code. code.now) result ≡ fault_code outcome }
 {
@@ -129,6 +219,12 @@ fn code_of_fault(outcome: Outcome) -> Option<&'static str>
         Outcome::ReadFault => Some("E11"),
         Outcome::WriteFault => Some("E12"),
         Outcome::TooLong => Some("E13"),
-        Outcome::Clean | Outcome::Findings | Outcome::Refused { .. } => None,
+        Outcome::Clean
+        | Outcome::Findings
+        | Outcome::Refused { .. }
+        | Outcome::StartRefused { .. } => None,
     }
 }
+
+#[cfg(test)]
+mod tests;

@@ -1,8 +1,8 @@
-//! The command line, as `clap` is told of it.
+//! The command line, as `clap` is given it.
 ghost use Rattle.std.specs.Prelude.{◌≡◌, IfOk, false};
 ghost use Rattle.clap.specs.Words.{app_of, rule_of, shape_of};
 ghost use Rattle.clap.specs.declared.builder.command.Command.TheViews.{out-Command};
-ghost use Rattle.capcheck.specs.CommandLine.{bare_words, capcheck, check_words, edit_words, needed_trace_rule, script_rule, trace_rule};
+ghost use Rattle.capcheck.specs.CommandLine.{bare_words, capcheck, check_words, edit_words, needed_trace_rule, profile_rule, script_rule, start_rule, trace_rule};
 
 use crate::help;
 use clap::{Arg, Command};
@@ -31,7 +31,7 @@ fn bare_command<'a>(alloc: Global) -> Result<Command<'a>, AllocError>
         .bin_name("capcheck")
 }
 
-/// `check [FILE]`.
+/// `check [FILE]`, with `--start` and `--profile`.
 fn check_command<'a>(alloc: Global) -> Result<Command<'a>, AllocError>
     ensures shape { IfOk result (λ c. shape_of c ≡ check_words.top) }
     ensures local { IfOk result (λ c. (out-Command c).has_globals ≡ false) }
@@ -39,7 +39,9 @@ fn check_command<'a>(alloc: Global) -> Result<Command<'a>, AllocError>
     Command::new(alloc, "check")
         .about("Checks a trace, and prints its findings")
         .after_help(help::CHECK)
-        .arg(trace_arg(alloc))
+        .arg(trace_arg(alloc))?
+        .arg(start_arg(alloc))?
+        .arg(profile_arg(alloc))
 }
 
 /// The trace of `check`.
@@ -52,7 +54,29 @@ fn trace_arg<'a>(alloc: Global) -> Arg<'a>
         .help("The trace; standard input where none is named")
 }
 
-/// `edit FILE [SCRIPT]`.
+/// `--start FILE`.
+fn start_arg<'a>(alloc: Global) -> Arg<'a>
+    ensures rule { rule_of result ≡ start_rule }
+    ensures local { result.global ≡ false }
+{
+    Arg::new(alloc, "start")
+        .long("start")
+        .value_name("FILE")
+        .help("What is known of processes before the trace; by default nothing")
+}
+
+/// `--profile NUMBER`.
+fn profile_arg<'a>(alloc: Global) -> Arg<'a>
+    ensures rule { rule_of result ≡ profile_rule }
+    ensures local { result.global ≡ false }
+{
+    Arg::new(alloc, "profile")
+        .long("profile")
+        .value_name("NUMBER")
+        .help("1, or 2 to follow close-on-exec flags and closefrom(2); by default 1")
+}
+
+/// `edit FILE [SCRIPT]`, with `--profile`.
 fn edit_command<'a>(alloc: Global) -> Result<Command<'a>, AllocError>
     ensures shape { IfOk result (λ c. shape_of c ≡ edit_words.top) }
     ensures local { IfOk result (λ c. (out-Command c).has_globals ≡ false) }
@@ -61,7 +85,8 @@ fn edit_command<'a>(alloc: Global) -> Result<Command<'a>, AllocError>
         .about("Replies to a script of commands on a trace")
         .after_help(help::EDIT)
         .arg(needed_trace_arg(alloc))?
-        .arg(script_arg(alloc))
+        .arg(script_arg(alloc))?
+        .arg(profile_arg(alloc))
 }
 
 /// The trace of `edit`.

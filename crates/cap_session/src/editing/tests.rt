@@ -1,10 +1,14 @@
 //! Worked scripts, with the replies to them, over devices that are cut and broken at will.
 
-use crate::editing::edit_stream;
+ghost use Rattle.std.specs.Prelude.{◌≡◌, ◌-◌, ◌^◌, ◌≤◌};
+
+use crate::editing::{edit_stream, edit_stream_as};
 use crate::outcome::Outcome;
-use crate::tests::{Kept, Pieces};
+use crate::tests::{Kept, Pieces, ample};
 use bstr::ByteSlice;
+use cap_machine::{NoMemory, Profile};
 use std::alloc::Global;
+use std::test::Fail;
 
 /// A trace that a descriptor was limited in.
 const LIMITED: &[u8] =
@@ -58,69 +62,119 @@ static SCRIPTS: [(&[u8], &[u8], Outcome, &[u8]); 9] = [
     (b"", &[b'#'; 1057], Outcome::Clean, b"refused E1\n"),
 ];
 
-/// At most one call in a run may want memory, as where one allocation is made to fail.
-const WANTS: u32 = 1;
-
-/// Whether the script is replied to so; nothing where memory ran out.
-fn replies(
-    alloc: Global,
-    trace: &[u8],
-    script: &[u8],
-    size: usize,
-    outcome: Outcome,
-    written: &[u8],
-) -> Option<bool> {
-    let mut traces = Pieces::new(trace, size.max(1), 0);
-    let mut scripts = Pieces::new(script, size.max(1), 0);
-    let mut writer = Kept::new(size, 256);
-    let told = edit_stream(alloc, 4096, &mut traces, &mut scripts, &mut writer);
-    if told == Outcome::Memory || writer.text().find(b"refused E9").is_some() {
-        return None;
+/// The outcome of a script, where memory was there for it.
+fn outcome_of(ended: Outcome, writer: &Kept) -> Result<Outcome, NoMemory> {
+    if writer.text().find(b"refused E9").is_some() {
+        return Err(NoMemory);
     }
-    Some(told == outcome && writer.text() == written)
+    ample(ended)
+}
+
+/// Replies to a script, for which memory was there.
+fn reply(
+    alloc: Global,
+    turns: u64,
+    traces: &mut Pieces<'_>,
+    scripts: &mut Pieces<'_>,
+    writer: &mut Kept,
+) -> Result<Outcome, NoMemory>
+    requires turns { turns ≤ 2 ^ 32 }
+    requires traces { turns ≤ 2 ^ 64 - 1 - traces.old.calls }
+    requires scripts { turns ≤ 2 ^ 64 - 1 - scripts.old.calls }
+    requires writer { 1 ≤ 2 ^ 64 - 1 - writer.old.faults }
+{
+    let ended = edit_stream(alloc, turns, traces, scripts, writer);
+    outcome_of(ended, writer)
+}
+
+/// A descriptor that an exec closes is read from after it.
+const EXECUTED: &[u8] =
+    b"100 @start(0,3)\n100 open(\"a\",O_RDONLY|O_CLOEXEC) RET 5\n100 execve(\"/bin/x\") RET 0\n100 read(5) RET 1\n";
+
+/// Profiles and scripts on that trace, the outcome, and the replies.
+static PROFILES: [(Profile, &[u8], Outcome, &[u8]); 4] = [
+    (
+        Profile::Two,
+        b"report\ndelete 3\nreport\n",
+        Outcome::Clean,
+        b"4 100 read closed 5\nfindings 1\nok 3\nfindings 0\n",
+    ),
+    (
+        Profile::Two,
+        b"report 4 4\nreport 1 3\n",
+        Outcome::Findings,
+        b"4 100 read closed 5\nfindings 1\nfindings 0\n",
+    ),
+    (
+        Profile::One,
+        b"report\ndelete 3\nreport\n",
+        Outcome::Clean,
+        b"findings 0\nok 3\nfindings 0\n",
+    ),
+    (
+        Profile::One,
+        b"report 4 4\nreport 1 3\n",
+        Outcome::Clean,
+        b"findings 0\nfindings 0\n",
+    ),
+];
+
+#[test]
+fn a_script_is_replied_to_in_each_profile(rt: HostRuntime) -> Result<(), Fail> {
+    for (profile, script, outcome, written) in PROFILES {
+        let mut traces = Pieces::new(EXECUTED, 64, 0);
+        let mut scripts = Pieces::new(script, 64, 0);
+        let mut writer = Kept::new(64, 256);
+        let ended = edit_stream_as(
+            rt.alloc(),
+            profile,
+            4096,
+            &mut traces,
+            &mut scripts,
+            &mut writer,
+        );
+        assert_eq!(rt;
+            outcome_of(ended, &writer)?,
+            outcome,
+            "{script:?} in {profile:?}"
+        );
+        assert_eq!(rt; writer.text(), written, "{script:?} in {profile:?}");
+    }
+    Ok(())
 }
 
 #[test]
-fn scripts_are_replied_to_in_pieces_of_any_size(rt: HostRuntime) {
-    let mut wants = 0_u32;
+fn scripts_are_replied_to_in_pieces_of_any_size(rt: HostRuntime) -> Result<(), Fail> {
     for (trace, script, outcome, written) in SCRIPTS {
-        for size in [1, 2, 7, 64, 65536] {
-            match replies(rt.alloc(), trace, script, size, outcome, written) {
-                Some(is) => assert!(rt; is, "{script:?} by {size}"),
-                None => wants = wants.saturating_add(1),
-            }
+        for size in [1_usize, 2, 7, 64, 65536] {
+            let mut traces = Pieces::new(trace, size.max(1), 0);
+            let mut scripts = Pieces::new(script, size.max(1), 0);
+            let mut writer = Kept::new(size, 256);
+            let ended = reply(rt.alloc(), 4096, &mut traces, &mut scripts, &mut writer)?;
+            assert_eq!(rt; ended, outcome, "{script:?} by {size}");
+            assert_eq!(rt; writer.text(), written, "{script:?} by {size}");
         }
     }
-    assert!(rt; wants <= WANTS);
+    Ok(())
 }
 
 /// A line of a script may hold a line of a trace that has as many bytes as it may.
 #[test]
-fn the_longest_line_is_inserted(rt: HostRuntime) {
+fn the_longest_line_is_inserted(rt: HostRuntime) -> Result<(), Fail> {
     let mut script: Vec<u8> = Vec::new(rt.alloc());
-    let mut parts: Vec<&[u8]> = Vec::new(rt.alloc());
-    let mut wants = parts.push(b"insert 1 100 foo(").is_err();
+    script.extend_from_slice(b"insert 1 100 foo(")?;
     for _ in 0..1009 {
-        wants |= parts.push(b"x").is_err();
+        script.push(b'x')?;
     }
-    wants |= parts.push(b") RET 0").is_err();
-    for part in &parts {
-        wants |= script.extend_from_slice(part).is_err();
-    }
-    if wants {
-        return;
-    }
+    script.extend_from_slice(b") RET 0")?;
     assert_eq!(rt; script.len(), 9 + 1024);
-    if let Some(is) = replies(
-        rt.alloc(),
-        b"",
-        script.as_slice(),
-        500,
-        Outcome::Clean,
-        b"ok 1\n",
-    ) {
-        assert!(rt; is);
-    }
+    let mut traces = Pieces::new(b"", 500, 0);
+    let mut scripts = Pieces::new(script.as_slice(), 500, 0);
+    let mut writer = Kept::new(500, 256);
+    let ended = reply(rt.alloc(), 4096, &mut traces, &mut scripts, &mut writer)?;
+    assert_eq!(rt; ended, Outcome::Clean);
+    assert_eq!(rt; writer.text(), b"ok 1\n".as_slice());
+    Ok(())
 }
 
 /// A descriptor that was limited before a fork.
@@ -144,89 +198,55 @@ fn replied(given: u64) -> &'static [u8] {
 
 /// Each read of the trace fails in turn.
 #[test]
-fn a_fault_of_the_trace_leaves_the_script_unread(rt: HostRuntime) {
-    let mut wants = 0_u32;
+fn a_fault_of_the_trace_leaves_the_script_unread(rt: HostRuntime) -> Result<(), Fail> {
     for failing in 1..FORKED.len() as u64 + 2 {
         let mut traces = Pieces::new(FORKED, 1, failing);
         let mut scripts = Pieces::new(FORKED_SCRIPT, 1, 0);
         let mut writer = Kept::new(1, 256);
-        let told = edit_stream(rt.alloc(), 4096, &mut traces, &mut scripts, &mut writer);
-        if told == Outcome::Memory {
-            wants = wants.saturating_add(1);
-        } else {
-            assert_eq!(rt; told, Outcome::ReadFault, "read {failing} of the trace");
-        }
+        let ended = reply(rt.alloc(), 4096, &mut traces, &mut scripts, &mut writer)?;
+        assert_eq!(rt; ended, Outcome::ReadFault, "read {failing} of the trace");
         assert!(rt; writer.text().is_empty());
         assert_eq!(rt; scripts.calls, 0);
     }
-    assert!(rt; wants <= WANTS);
+    Ok(())
 }
 
 /// Each read of the script fails in turn.
 #[test]
-fn a_fault_of_the_script_leaves_the_replies_before_it(rt: HostRuntime) {
-    let mut wants = 0_u32;
+fn a_fault_of_the_script_leaves_the_replies_before_it(rt: HostRuntime) -> Result<(), Fail> {
     for failing in 1..FORKED_SCRIPT.len() as u64 + 2 {
         let mut traces = Pieces::new(FORKED, 50, 0);
         let mut scripts = Pieces::new(FORKED_SCRIPT, 1, failing);
         let mut writer = Kept::new(7, 256);
-        let told = edit_stream(rt.alloc(), 4096, &mut traces, &mut scripts, &mut writer);
-        if told == Outcome::Memory || writer.text().find(b"refused E9").is_some() {
-            wants = wants.saturating_add(1);
-        } else {
-            assert_eq!(rt; told, Outcome::ReadFault, "read {failing} of the script");
-            assert_eq!(rt; writer.text(), replied(failing - 1));
-        }
+        let ended = reply(rt.alloc(), 4096, &mut traces, &mut scripts, &mut writer)?;
+        assert_eq!(rt; ended, Outcome::ReadFault, "read {failing} of the script");
+        assert_eq!(rt; writer.text(), replied(failing - 1));
     }
-    assert!(rt; wants <= WANTS);
+    Ok(())
 }
 
 /// Each byte that is written fails in turn.
 #[test]
-fn a_fault_of_the_writer_leaves_a_front(rt: HostRuntime) {
-    let mut wants = 0_u32;
+fn a_fault_of_the_writer_leaves_a_prefix(rt: HostRuntime) -> Result<(), Fail> {
     for most in 0..FORKED_REPLIES.len() {
         let mut traces = Pieces::new(FORKED, 50, 0);
         let mut scripts = Pieces::new(FORKED_SCRIPT, 5, 0);
         let mut writer = Kept::new(3, most);
-        let told = edit_stream(rt.alloc(), 4096, &mut traces, &mut scripts, &mut writer);
-        if told == Outcome::Memory || !FORKED_REPLIES.starts_with(writer.text()) {
-            wants = wants.saturating_add(1);
-            assert!(rt; b"ok 4\nrefused E9\n".starts_with(writer.text()));
-        } else {
-            assert_eq!(rt; told, Outcome::WriteFault, "byte {most}");
-            assert_eq!(rt; writer.text(), &FORKED_REPLIES[..most]);
+        let ended = edit_stream(rt.alloc(), 4096, &mut traces, &mut scripts, &mut writer);
+        if b"ok 4\nrefused E9\n".starts_with(writer.text())
+            && !FORKED_REPLIES.starts_with(writer.text())
+        {
+            return Err(Fail::from(NoMemory));
         }
+        assert_eq!(rt; ample(ended)?, Outcome::WriteFault, "byte {most}");
+        assert_eq!(rt; writer.text(), &FORKED_REPLIES[..most]);
     }
-    assert!(rt; wants <= WANTS);
-}
-
-/// Where memory runs out for a command, it is refused with `E9`, and the others have the replies that they have
-/// without it.
-#[test]
-fn want_of_memory_leaves_the_trace(rt: HostRuntime) {
-    let mut traces = Pieces::new(FORKED, 50, 0);
-    let mut scripts = Pieces::new(b"delete 2\nreport\ncount\n", 5, 0);
-    let mut writer = Kept::new(99, 256);
-    let told = edit_stream(rt.alloc(), 99, &mut traces, &mut scripts, &mut writer);
-    let text = writer.text();
-    let whole = b"ok 4\nfindings 0\n4\n".as_slice();
-    match told {
-        Outcome::Memory => assert!(rt; text.is_empty() || text == whole),
-        Outcome::Findings => assert_eq!(rt;
-            text,
-            b"refused E9\n5 101 write missing 3 CAP_WRITE\nfindings 1\n5\n".as_slice()
-        ),
-        _ => {
-            assert_eq!(rt; told, Outcome::Clean);
-            assert!(rt; text == whole || text == b"ok 4\nrefused E9\n4\n".as_slice());
-        }
-    }
+    Ok(())
 }
 
 /// Neither text may be read without an end.
 #[test]
-fn a_text_without_end_is_told(rt: HostRuntime) {
+fn a_text_without_end_is_left(rt: HostRuntime) -> Result<(), Fail> {
     for (trace, script, reads) in [
         ([b'\n'; 200].as_slice(), b"count\n".as_slice(), (99, 0)),
         (b"".as_slice(), [b'\n'; 200].as_slice(), (1, 99)),
@@ -234,13 +254,12 @@ fn a_text_without_end_is_told(rt: HostRuntime) {
         let mut traces = Pieces::new(trace, 1, 0);
         let mut scripts = Pieces::new(script, 1, 0);
         let mut writer = Kept::new(99, 256);
-        let told = edit_stream(rt.alloc(), 99, &mut traces, &mut scripts, &mut writer);
+        let ended = reply(rt.alloc(), 99, &mut traces, &mut scripts, &mut writer)?;
         assert!(rt; writer.text().is_empty());
-        if told != Outcome::Memory {
-            assert_eq!(rt; told, Outcome::TooLong);
-            assert_eq!(rt; (traces.calls, scripts.calls), reads);
-        }
+        assert_eq!(rt; ended, Outcome::TooLong);
+        assert_eq!(rt; (traces.calls, scripts.calls), reads);
     }
+    Ok(())
 }
 
 /// A script, the read of it that fails, and how much all writes take: the outcome, what is written, and how many
@@ -253,20 +272,15 @@ static BROKEN: [(&[u8], u64, usize, Outcome, &[u8], u64); 4] = [
 ];
 
 #[test]
-fn replies_before_a_fault_stand(rt: HostRuntime) {
-    let mut wants = 0_u32;
+fn replies_before_a_fault_stand(rt: HostRuntime) -> Result<(), Fail> {
     for (script, fails_at, most, outcome, written, reads) in BROKEN {
         let mut traces = Pieces::new(LIMITED, 99, 0);
         let mut scripts = Pieces::new(script, 1, fails_at);
         let mut writer = Kept::new(99, most);
-        let told = edit_stream(rt.alloc(), 99, &mut traces, &mut scripts, &mut writer);
-        if told == Outcome::Memory {
-            wants = wants.saturating_add(1);
-        } else {
-            assert_eq!(rt; told, outcome);
-            assert_eq!(rt; writer.text(), written);
-            assert_eq!(rt; scripts.calls, reads);
-        }
+        let ended = reply(rt.alloc(), 99, &mut traces, &mut scripts, &mut writer)?;
+        assert_eq!(rt; ended, outcome);
+        assert_eq!(rt; writer.text(), written);
+        assert_eq!(rt; scripts.calls, reads);
     }
-    assert!(rt; wants <= WANTS);
+    Ok(())
 }

@@ -16,27 +16,34 @@ fn item(alloc: Global, watch: &Rc<Watch>, number: u32) -> Result<Rc<Item>, NoMem
     Ok(Rc::new(alloc, Item { number, watch })?)
 }
 
-/// The tree of the numbers below `FIRST`.
-fn first_tree(alloc: Global, watch: &Rc<Watch>) -> Result<Tree<Watched>, NoMemory> {
+/// The tree of the numbers below `FIRST`, with its joins on the meter.
+fn first_tree(
+    alloc: Global,
+    meter: &mut Meter,
+    watch: &Rc<Watch>,
+) -> Result<Tree<Watched>, NoMemory> {
     let mut items = Vec::new(alloc);
     for number in 0..FIRST {
         let new = item(alloc, watch, number)?;
         items.push(new)?;
     }
-    if items.len() >= 1_000_000 {
+    if meter.room() < 1 << 33 || items.len() >= 1_000_000 {
         return Err(NoMemory);
     }
-    let mut meter = Meter::new();
-    Tree::from_list(alloc, &mut meter, items)
+    Tree::from_list(alloc, meter, items)
 }
 
-/// The tree joins on the meter that it was handed.
+/// All joins are counted on the meter that the call was handed: it counts as many as were made.
 #[test]
 fn joins_are_metered(rt: HostRuntime) -> Result<(), Fail> {
     let alloc = rt.alloc();
     let watch = watch(alloc)?;
     for place in PLACES {
-        let mut tree = first_tree(alloc, &watch)?;
+        let mut meter = Meter::new();
+        watch.joins.set(0);
+        let mut tree = first_tree(alloc, &mut meter, &watch)?;
+        assert_eq!(rt; watch.joins.get(), u64::from(FIRST) - 1);
+        assert_eq!(rt; meter.joins(), watch.joins.get());
         for turn in 0..TURNS {
             let mut meter = Meter::new();
             watch.joins.set(0);
@@ -56,7 +63,7 @@ fn each_summary_refused(rt: HostRuntime) -> Result<(), Fail> {
     let alloc = rt.alloc();
     let watch = watch(alloc)?;
     for place in PLACES {
-        let mut tree = first_tree(alloc, &watch)?;
+        let mut tree = first_tree(alloc, &mut Meter::new(), &watch)?;
         for turn in 0..TURNS {
             let before = tree.summary().list.clone()?;
             let edit = edit_at(turn, place, tree.len());

@@ -1,10 +1,10 @@
-//! Worked rows: words, and what they ask for. A plan of `Memory` ends a row with want of memory.
+//! Worked rows: words, and what they ask for. A plan of `Memory` fails a row: memory is ample.
 
 use super::*;
 use std::alloc::AllocError;
 use std::test::Fail;
 
-static MISTAKES: [&[&str]; 14] = [
+static MISTAKES: [&[&str]; 25] = [
     &[],
     &[""],
     &["undo"],
@@ -16,39 +16,110 @@ static MISTAKES: [&[&str]; 14] = [
     &["edit", "t", "s", "u"],
     &["check", "-x"],
     &["check", "--start"],
+    &["check", "--start", "a", "--start", "b"],
+    &["check", "--start", "a", "--start=a"],
+    &["edit", "t", "--start", "a"],
+    &["check", "--profile"],
+    &["check", "--profile", "3"],
+    &["check", "--profile", "0"],
+    &["check", "--profile", "01"],
+    &["check", "--profile", "+1"],
+    &["check", "--profile="],
+    &["check", "--profile", "1", "--profile", "1"],
+    &["edit", "t", "--profile", "2", "--profile", "1"],
+    &["--profile", "2", "check"],
     &["check", "--version"],
-    &["-x", "check"],
     &["--", "check"],
 ];
 
-static REQUESTS: [(&[&str], &str); 8] = [
+static REQUESTS: [(&[&str], &str); 10] = [
     (&["--help"], "Usage: capcheck <COMMAND>"),
     (&["-h", "undo"], "Usage: capcheck <COMMAND>"),
     (&["--version"], "capcheck 0.1.0\n"),
     (&["-V"], "capcheck 0.1.0\n"),
-    (&["check", "--help"], "Usage: capcheck check [FILE]"),
+    (&["check", "--help"], "--start <FILE>"),
+    (&["check", "--help"], "--profile <NUMBER>"),
     (&["check", "trace", "-h"], "capcheck check server.trace"),
-    (&["edit", "--help"], "Usage: capcheck edit <FILE> [SCRIPT]"),
+    (&["edit", "--help"], "--profile <NUMBER>"),
+    (&["edit", "--help"], "<FILE> [SCRIPT]"),
     (
         &["edit", "-h", "t", "s", "u"],
         "printf 'delete 2\\nreport\\n'",
     ),
 ];
 
-static CHECKS: [(&[&str], Option<&str>); 6] = [
-    (&["check"], None),
-    (&["check", "trace"], Some("trace")),
-    (&["check", "check"], Some("check")),
-    (&["check", "--", "-h"], Some("-h")),
-    (&["check", "-"], Some("-")),
-    (&["check", ""], Some("")),
+/// Words, the trace, the start, and the profile.
+static CHECKS: [(&[&str], Option<&str>, Option<&str>, Profile); 14] = [
+    (&["check"], None, None, Profile::One),
+    (&["check", "trace"], Some("trace"), None, Profile::One),
+    (&["check", "check"], Some("check"), None, Profile::One),
+    (&["check", "--", "-h"], Some("-h"), None, Profile::One),
+    (&["check", "-"], Some("-"), None, Profile::One),
+    (&["check", ""], Some(""), None, Profile::One),
+    (&["check", "--profile", "1"], None, None, Profile::One),
+    (&["check", "--profile", "2"], None, None, Profile::Two),
+    (
+        &["check", "--profile=2", "t"],
+        Some("t"),
+        None,
+        Profile::Two,
+    ),
+    (
+        &["check", "t", "--profile", "2"],
+        Some("t"),
+        None,
+        Profile::Two,
+    ),
+    (&["check", "--start", "s"], None, Some("s"), Profile::One),
+    (
+        &["check", "t", "--start", "s"],
+        Some("t"),
+        Some("s"),
+        Profile::One,
+    ),
+    (
+        &["check", "--start=s", "t"],
+        Some("t"),
+        Some("s"),
+        Profile::One,
+    ),
+    (
+        &["check", "--profile", "2", "--start", "s", "t"],
+        Some("t"),
+        Some("s"),
+        Profile::Two,
+    ),
 ];
 
-static EDITS: [(&[&str], &str, Option<&str>); 4] = [
-    (&["edit", "t"], "t", None),
-    (&["edit", "t", "s"], "t", Some("s")),
-    (&["edit", "check", "edit"], "check", Some("edit")),
-    (&["edit", "t", "--", "--help"], "t", Some("--help")),
+/// Words, the trace, the script, and the profile.
+static EDITS: [(&[&str], &str, Option<&str>, Profile); 7] = [
+    (&["edit", "t"], "t", None, Profile::One),
+    (&["edit", "t", "s"], "t", Some("s"), Profile::One),
+    (
+        &["edit", "check", "edit"],
+        "check",
+        Some("edit"),
+        Profile::One,
+    ),
+    (
+        &["edit", "t", "--", "--help"],
+        "t",
+        Some("--help"),
+        Profile::One,
+    ),
+    (
+        &["edit", "--profile", "2", "t", "s"],
+        "t",
+        Some("s"),
+        Profile::Two,
+    ),
+    (
+        &["edit", "t", "--profile=1", "s"],
+        "t",
+        Some("s"),
+        Profile::One,
+    ),
+    (&["edit", "t", "--profile", "2"], "t", None, Profile::Two),
 ];
 
 fn planned<'a>(rt: &HostRuntime, words: &'a [&'a str]) -> Result<Plan<'a>, AllocError> {
@@ -59,12 +130,15 @@ fn planned<'a>(rt: &HostRuntime, words: &'a [&'a str]) -> Result<Plan<'a>, Alloc
 }
 
 #[test]
-fn mistakes_are_told(rt: HostRuntime) -> Result<(), Fail> {
+fn mistakes_are_usage(rt: HostRuntime) -> Result<(), Fail> {
     for words in MISTAKES.iter() {
         let Plan::Usage(text) = planned(&rt, words)? else {
             return Err("no usage")?;
         };
-        assert!(rt; text.contains("Usage: capcheck"), "{words:?}");
+        assert!(rt;
+            text.contains("For more information, try '--help'."),
+            "{words:?}"
+        );
     }
     Ok(())
 }
@@ -81,23 +155,25 @@ fn requests_are_answered(rt: HostRuntime) -> Result<(), Fail> {
 }
 
 #[test]
-fn a_check_has_its_trace(rt: HostRuntime) -> Result<(), Fail> {
-    for (words, trace) in CHECKS.iter() {
-        assert_eq!(rt;
-            planned(&rt, words)?,
-            Plan::Check { trace: *trace },
-            "{words:?}"
-        );
+fn a_check_has_its_trace_and_its_options(rt: HostRuntime) -> Result<(), Fail> {
+    for (words, trace, start, profile) in CHECKS.iter() {
+        let plan = Plan::Check {
+            trace: *trace,
+            start: *start,
+            profile: *profile,
+        };
+        assert_eq!(rt; planned(&rt, words)?, plan, "{words:?}");
     }
     Ok(())
 }
 
 #[test]
 fn an_edit_has_its_trace_and_its_script(rt: HostRuntime) -> Result<(), Fail> {
-    for (words, trace, script) in EDITS.iter() {
+    for (words, trace, script, profile) in EDITS.iter() {
         let plan = Plan::Edit {
             trace: *trace,
             script: *script,
+            profile: *profile,
         };
         assert_eq!(rt; planned(&rt, words)?, plan, "{words:?}");
     }

@@ -11,7 +11,7 @@ returns-in_err-line-clause-err g c =
 
 pub loop-at-preserved : goal.loop-at-preserved
 loop-at-preserved g c =
-    rw (take_rest c.loop-at.rest.now (c.in-Some.at + 1)) (scripted_on _ _ _ _ _ _ _ _ c.in-Some.at c.loop-at.invariant c.in-Some.ensures c.in_ok-line.ensures.ok c.in_ok-line.ensures.held)
+    rw (take_rest c.loop-at.rest.now (c.in-Some.at + 1)) (scripted_on _ _ _ _ _ _ _ _ c.in-Some.at c.loop-at.invariant c.in-Some.ensures c.in_ok-line.ensures.ok c.in_ok-line.ensures.profile c.in_ok-line.ensures.held)
 
 pub returns-clause-ok : goal.returns-clause-ok
 returns-clause-ok g c =

@@ -10,10 +10,10 @@ returns-then-was_long-clause-ok g c =
     elim c.then-was_long.branch [
       | then-was_long-via-then-was_long w ↦
           let long : 1056 < length s.held = grind arith in
-          rw (← c.self.view_is, due_piece_was_long s.held c.args.bytes.now long) (replied_none _ _)
+          rw (← c.self.view_is, due_piece_was_long s.held c.args.bytes.now long) (replied_none _ _ _)
       | then-was_long-via-else-was_long+then-len-le-LINE w ↦
           let short : length (take 1057 (s.held ++ c.args.bytes.now)) ≤ 1056 = rw (← c.add_front.ensures) (omega arith) in
-          rw (← c.self.view_is, due_piece_short s.held c.args.bytes.now short) (replied_none _ _)
+          rw (← c.self.view_is, due_piece_short s.held c.args.bytes.now short) (replied_none _ _ _)
     ]
 
 pub returns-clause-ok : goal.returns-clause-ok
@@ -22,7 +22,7 @@ returns-clause-ok g c =
     let short : length s.held ≤ 1056 = grind arith in
     let long : 1056 < length (take 1057 (s.held ++ c.args.bytes.now)) = rw (← c.add_front.ensures) (omega arith) in
     rw (← c.self.view_is, due_piece_long s.held c.args.bytes.now short long)
-    (on_ok_weaker c.answer.result (λ done. replied_cut _ _ _ _ _ done) (rw (c.as_slice.ensures, c.add_front.ensures) at c.answer.ensures.ok))
+    (on_ok_weaker c.answer.result (λ done. replied_cut _ _ _ _ _ _ done) (rw (c.as_slice.ensures, c.add_front.ensures) at c.answer.ensures.ok))
 
 pub returns-clause-err : goal.returns-clause-err
 returns-clause-err g c =
@@ -30,4 +30,4 @@ returns-clause-err g c =
     let short : length s.held ≤ 1056 = grind arith in
     let long : 1056 < length (take 1057 (s.held ++ c.args.bytes.now)) = rw (← c.add_front.ensures) (omega arith) in
     rw (← c.self.view_is, due_piece_long s.held c.args.bytes.now short long)
-    (on_err_weaker c.answer.result (λ done. broken_cut _ _ _ _ done) (rw (c.as_slice.ensures, c.add_front.ensures) at c.answer.ensures.err))
+    (on_err_weaker c.answer.result (λ done. broken_cut _ _ _ _ _ done) (rw (c.as_slice.ensures, c.add_front.ensures) at c.answer.ensures.err))

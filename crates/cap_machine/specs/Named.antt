@@ -1,0 +1,91 @@
+-- What a line can touch: its process and a child, and of single descriptors those that it names.
+use Rattle.std.specs.Prelude.{◌≡◌, ℕ, ◌≤◌, ◌==◌, ◌&&◌, ◌||◌, not, Bool, true, false, List, length}
+use Rattle.std.specs.List.{list_any, All}
+use Rattle.cap_trace.specs.declared.line.Item.{Item}
+use Rattle.cap_trace.specs.declared.line.Item.TheVariants as items
+use Rattle.cap_trace.specs.declared.line.Call.{Call}
+use Rattle.cap_trace.specs.declared.line.Call.TheVariants as calls
+use Rattle.cap_trace.specs.declared.line.Dir.{Dir}
+use Rattle.cap_trace.specs.declared.line.Dir.TheVariants as dirs
+use Rattle.cap_trace.specs.declared.line.Answer.{Answer}
+use Rattle.cap_trace.specs.declared.line.Answer.TheVariants as answers
+use Rattle.cap_trace.specs.declared.calls.FdCall.TheVariants.{Fexecve, Closefrom}
+use Rattle.cap_trace.specs.declared.calls.PathCall.TheVariants.{Execve}
+use Rattle.cap_trace.specs.declared.calls.BareCall.TheVariants.{Fork, Vfork, Pdfork}
+use Rattle.cap_trace.specs.Entry.{Entry, Arg, an_fd, a_dir, args_of}
+use Rattle.cap_machine.specs.declared.step.Step.{Step}
+use Rattle.cap_machine.specs.declared.verdict.Found.{Found}
+use Rattle.cap_machine.specs.State.{State}
+use Rattle.cap_machine.specs.Touch.{kept, stays, touch, turn}
+use Rattle.cap_machine.specs.Check.{check}
+
+-- a descriptor stands in an argument, in the answer, in the line
+abbrev pub dir_names : ℕ → Dir → Bool
+dir_names f (dirs.Fd g) = f == g
+dir_names f dirs.Cwd = false
+
+abbrev pub arg_names : ℕ → Arg → Bool
+arg_names f (an_fd g) = f == g
+arg_names f (a_dir dir) = dir_names f dir
+arg_names f _ = false
+
+abbrev pub answer_names : ℕ → Answer → Bool
+answer_names f (answers.Made n) = f == n
+answer_names f (answers.Pair n m) = f == n || f == m
+answer_names f (answers.Fault e) = false
+
+abbrev pub item_answer_names : ℕ → Item → Bool
+item_answer_names f (items.Call call answer) = answer_names f answer
+item_answer_names f _ = false
+
+abbrev pub names_fd : ℕ → Entry → Bool
+names_fd f line = list_any (arg_names f) (args_of line.item) || item_answer_names f line.item
+
+-- fork(2), vfork(2), pdfork(2)
+abbrev pub is_fork : Call → Bool
+is_fork (calls.Bare Fork) = true
+is_fork (calls.Bare Vfork) = true
+is_fork (calls.Bare Pdfork) = true
+is_fork _ = false
+
+-- the process that a fork made
+abbrev pub answer_makes : ℕ → Answer → Bool
+answer_makes p (answers.Made c) = not (c == 0) && p == c
+answer_makes p (answers.Pair c d) = not (c == 0) && p == c
+answer_makes p (answers.Fault e) = false
+
+abbrev pub item_makes : ℕ → Item → Bool
+item_makes p (items.Call call answer) = is_fork call && answer_makes p answer
+item_makes p _ = false
+
+-- a process is the line's own or its child
+abbrev pub names_pid : ℕ → Entry → Bool
+names_pid p line = p == line.pid || item_makes p line.item
+
+-- a line may change every cell of a process: a start, an exit, a fork, execve(2), fexecve(2) and closefrom(2)
+abbrev pub is_whole_call : Call → Bool
+is_whole_call (calls.OnFd Fexecve g) = true
+is_whole_call (calls.OnFd Closefrom g) = true
+is_whole_call (calls.OnPath Execve path) = true
+is_whole_call call = is_fork call
+
+abbrev pub is_whole_item : Item → Bool
+is_whole_item (items.Call call answer) = is_whole_call call
+is_whole_item (items.Start fds) = true
+is_whole_item items.Exit = true
+is_whole_item (items.Foreign g) = false
+
+-- no step touches another process than its own and its child
+abbrev pub OwnProcesses : Type 0
+OwnProcesses = (step : Step) (p f : ℕ) → names_pid p step.line ≡ false → touch step p f ≡ kept
+
+abbrev pub OwnModes : Type 0
+OwnModes = (step : Step) (p : ℕ) → names_pid p step.line ≡ false → turn step p ≡ stays
+
+-- but for those that may change every cell, none touches a descriptor that it doesn't name
+abbrev pub NamedDescriptors : Type 0
+NamedDescriptors = (step : Step) (p f : ℕ) → is_whole_item step.line.item ≡ false → names_fd f step.line ≡ false → touch step p f ≡ kept
+
+-- each finding stands at a position of the trace, from 1
+abbrev pub PositionsWithin : Type 0
+PositionsWithin = (s : State) (trace : List Step) → All (λ (found : Found). (1 ≤ found.at) × (found.at ≤ length trace)) (check s trace)

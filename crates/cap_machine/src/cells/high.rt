@@ -1,0 +1,61 @@
+//! The cells of 1,048,576 descriptors.
+
+use crate::cell::Cell;
+use crate::cells::node::Node;
+use crate::cells::pending::Pending;
+use crate::cells::region::Region;
+use crate::cells::subtree::Subtree;
+use cap_rights::NoMemory;
+use std::alloc::{AllocError, Global};
+
+/// The cells of 1,048,576 descriptors that stand next to each other. A type of its own keeps what is to be proved small.
+#[derive(Drop)]
+pub(crate) struct High {
+    node: Node<Node<Region, 16384>, 131072>,
+}
+
+impl Clone for High {
+    ghost use Rattle.std.specs.Prelude.{◌≡◌, ℕ};
+    ghost use Rattle.cap_machine.specs.Cells.High.{in_high};
+
+    ghost is_clone = { λ a b. (f : ℕ) → in_high b f ≡ in_high a f };
+
+    fn clone(&self) -> Result<High, AllocError> {
+        Ok(High {
+            node: self.node.clone()?,
+        })
+    }
+}
+
+impl Subtree for High {
+    ghost use Rattle.std.specs.Prelude.{ℕ, ◌<◌};
+    ghost use Rattle.cap_machine.specs.Cells.High.{in_high};
+
+    ghost cell_at = { in_high };
+
+    ghost has = { λ f. f < 1048576 };
+
+    fn all(alloc: Global, cell: Cell) -> Result<High, NoMemory> {
+        Ok(High {
+            node: Node::all(alloc, cell)?,
+        })
+    }
+
+    fn cell(&self, fd: usize) -> Cell {
+        self.node.cell(fd)
+    }
+
+    fn write(&mut self, fd: usize, cell: Cell) -> Result<(), NoMemory> {
+        self.node.write(fd, cell)
+    }
+
+    fn settle(&mut self, pending: Pending) {
+        self.node.settle(pending);
+    }
+
+    fn close_from(&mut self, fd: usize) -> Result<(), NoMemory> {
+        self.node.close_from(fd)
+    }
+
+    ghost same_in_clone = { λ a b same f. same f };
+}

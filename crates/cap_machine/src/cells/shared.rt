@@ -1,0 +1,98 @@
+//! A part that is shared until it is written.
+
+ghost use Rattle.std.specs.Prelude.{◌≡◌, ℕ, OnOk, ◌==◌, nat_le, if◌then◌else◌};
+ghost use Rattle.cap_machine.specs.Cells.Pending.{settled};
+
+use crate::cell::Cell;
+use crate::cells::pending::Pending;
+use crate::cells::subtree::Subtree;
+use cap_rights::NoMemory;
+use std::alloc::{AllocError, Global};
+use std::rc::Rc;
+
+/// Writes one cell of a shared part with something pending, in a part of its own, in which then nothing is pending.
+pub(crate) fn write_part<T: Subtree>(
+    part: &mut Rc<T>,
+    pending: Pending,
+    fd: usize,
+    cell: Cell,
+) -> Result<(), NoMemory>
+    requires { T.has fd }
+    ensures { OnOk result ((f : ℕ) → T.has f → T.cell_at part.new.value f ≡ (if f == fd then cell else settled pending (T.cell_at part.old.value f))) }
+{
+    let below = Rc::make_mut(part)?;
+    below.settle(pending);
+    below.write(fd, cell)
+}
+
+/// Closes the descriptors of a shared part with something pending from one on, in a part of its own, in which then nothing is
+/// pending.
+pub(crate) fn close_part<T: Subtree>(
+    part: &mut Rc<T>,
+    pending: Pending,
+    fd: usize,
+) -> Result<(), NoMemory>
+    requires { T.has fd }
+    ensures { OnOk result ((f : ℕ) → T.has f → T.cell_at part.new.value f ≡ (if nat_le fd f then Cell.Closed else settled pending (T.cell_at part.old.value f))) }
+{
+    let below = Rc::make_mut(part)?;
+    below.settle(pending);
+    below.close_from(fd)
+}
+
+/// A part with something pending. A clone shares it until one of the two writes.
+#[derive(Drop)]
+pub(crate) struct Shared<T> {
+    pending: Pending,
+    part: Rc<T>,
+}
+
+impl<T: Subtree> Clone for Shared<T> {
+    ghost use Rattle.cap_machine.specs.Cells.Parts.{in_shared};
+
+    ghost is_clone = { λ a b. (f : ℕ) → in_shared T.cell_at b f ≡ in_shared T.cell_at a f };
+
+    fn clone(&self) -> Result<Shared<T>, AllocError> {
+        Ok(Shared {
+            pending: self.pending,
+            part: self.part.clone()?,
+        })
+    }
+}
+
+impl<T: Subtree> Subtree for Shared<T> {
+    ghost use Rattle.cap_machine.specs.Cells.Parts.{in_shared};
+
+    ghost cell_at = { in_shared T.cell_at };
+
+    ghost has = { T.has };
+
+    fn all(alloc: Global, cell: Cell) -> Result<Shared<T>, NoMemory> {
+        Ok(Shared {
+            pending: Pending::Nothing,
+            part: Rc::new(alloc, T::all(alloc, cell)?)?,
+        })
+    }
+
+    fn cell(&self, fd: usize) -> Cell {
+        self.pending.on(self.part.cell(fd))
+    }
+
+    fn write(&mut self, fd: usize, cell: Cell) -> Result<(), NoMemory> {
+        write_part(&mut self.part, self.pending, fd, cell)?;
+        self.pending = Pending::Nothing;
+        Ok(())
+    }
+
+    fn settle(&mut self, pending: Pending) {
+        self.pending = pending.after(self.pending);
+    }
+
+    fn close_from(&mut self, fd: usize) -> Result<(), NoMemory> {
+        close_part(&mut self.part, self.pending, fd)?;
+        self.pending = Pending::Nothing;
+        Ok(())
+    }
+
+    ghost same_in_clone = { λ a b same f. same f };
+}

@@ -1,0 +1,64 @@
+//! The plain check of a whole trace.
+
+ghost use Rattle.std.specs.Prelude.{◌≡◌, ◌++◌, map, IfOk, OnOk};
+ghost use Rattle.cap_machine.specs.Steps.{step, steps};
+ghost use Rattle.cap_machine.specs.Check.{check, said, found_at};
+ghost use Rattle.cap_machine.specs.Table.{Keeps, state_of, step_after, start_state};
+
+use crate::cell::Profile;
+use crate::rule::rule_of;
+use crate::start::Start;
+use crate::table::Table;
+use crate::verdict::{Found, Verdict};
+use cap_rights::NoMemory;
+use cap_trace::Line;
+use std::alloc::Global;
+
+/// Judges a line by what is known before it, and moves what is known on.
+pub(crate) fn take_line(
+    table: &mut Table,
+    profile: Profile,
+    line: &Line,
+) -> Result<Verdict, NoMemory>
+    ensures says { IfOk result (λ verdict. verdict ≡ said (step profile line.now) (state_of table.old)) }
+    ensures moved { OnOk result (Keeps table.new (step_after (step profile line.now) (state_of table.old))) }
+{
+    let rule = rule_of(profile, line);
+    let verdict = table.said(line.pid, &rule.demand);
+    table.apply(line.pid, &rule.effect)?;
+    Ok(verdict)
+}
+
+/// Adds what is said of the line at a position.
+fn add_findings(found: &mut Vec<Found>, at: usize, verdict: &Verdict) -> Result<(), NoMemory>
+    ensures { OnOk result (found.new.items ≡ found.old.items ++ map (found_at at) verdict.now) }
+{
+    for finding in verdict.as_slice() {
+        found.push(Found {
+            at,
+            finding: *finding,
+        })?;
+    }
+    Ok(())
+}
+
+/// What is found in a trace from its first line, in order and with positions from 1.
+///
+/// `NoMemory` when out of memory.
+#[tactic(auto, unfolding(crate::specs::Table::start_state))]
+pub fn check(
+    alloc: Global,
+    profile: Profile,
+    start: &Start,
+    lines: &[Line],
+) -> Result<Vec<Found>, NoMemory>
+    ensures { IfOk result (λ found. found.items ≡ check (start_state start.now) (steps profile lines.now)) }
+{
+    let mut table = start.table.copy(alloc)?;
+    let mut found = Vec::new(alloc);
+    for (i, line) in lines.iter().enumerate() {
+        let verdict = take_line(&mut table, profile, line)?;
+        add_findings(&mut found, i + 1, &verdict)?;
+    }
+    Ok(found)
+}

@@ -1,0 +1,149 @@
+//! The lines of a trace, each read and kept.
+ghost use Rattle.std.specs.Prelude.{◌≡◌, ◌<◌, ◌≤◌, ◌^◌, ℕ, ◌++◌, ◌∷◌, [], List, length, OnOk, None, MatchOption};
+ghost use Rattle.std.specs.Option.{ForSome};
+ghost use Rattle.cap_trace.specs.Entry.{Entry};
+ghost use Rattle.cap_session.specs.Trace.{is_skipped, trace, soon};
+ghost use Rattle.cap_session.specs.Traced.{Setting, Traced, one_more, next_traced, Follows, Holds};
+ghost use Rattle.cap_session.specs.Reads.{Reads};
+
+use crate::devices::Source;
+use crate::lines::{Lines, Stop};
+use crate::read::read_text;
+use crate::refused::Refused;
+use cap_machine::NoMemory;
+use cap_trace::{Line, LineFault, parse_line};
+use std::alloc::Global;
+
+/// A trace has at most so many lines, those that are skipped not counted.
+pub const MOST_LINES: usize = 1_000_000;
+
+/// Whether a line is empty or a comment.
+pub fn is_skipped(line: &[u8]) -> bool
+    ensures { result ≡ is_skipped line.now }
+{
+    match line {
+        [] => true,
+        [first, ..] => *first == b'#',
+    }
+}
+
+/// What keeps the lines of a trace.
+pub trait Keep: Drop {
+    /// It keeps these lines of a trace that is checked so.
+    ghost keeps: { Self → Setting → List Entry → Type 0 };
+
+    /// How many lines it keeps.
+    ghost lines_of: { Self → ℕ };
+
+    /// How many lines it keeps.
+    fn count(&self) -> usize
+        ensures count { result ≡ lines_of self.now }
+        ensures lines { (s : Setting) (entries : List Entry) → keeps self.now s entries → result ≡ length entries };
+
+    /// Keeps one line more.
+    fn keep(&mut self, line: Line) -> Result<(), NoMemory>
+        requires { lines_of self.old < 1000000 }
+        ensures { (s : Setting) (entries : List Entry) → keeps self.old s entries → OnOk result (keeps self.new s (entries ++ line ∷ [])) };
+}
+
+/// The lines of a trace so far. They are kept until memory runs out, and counted from then on.
+#[derive(Drop)]
+struct Entries<K: Keep> {
+    alloc: Global,
+    kept: Option<K>,
+    lost: usize,
+}
+
+impl<K: Keep> Entries<K> {
+    /// How many lines there are so far.
+    fn count(&self) -> usize
+        ensures count { MatchOption self.now.kept (result ≡ self.now.lost) (λ k. result ≡ K.lines_of k) }
+        ensures lines { (known : Traced) → Follows K.keeps self.now.kept self.now.lost known → result ≡ length known.entries }
+    {
+        match &self.kept {
+            Some(kept) => kept.count(),
+            None => self.lost,
+        }
+    }
+
+    /// Keeps the next line, which comes after `count` others.
+    fn keep(&mut self, count: usize, line: Line)
+        requires room { ForSome self.old.kept (λ k. K.lines_of k < 1000000) }
+        requires most { count < 1000000 }
+        ensures { (known : Traced) → Follows K.keeps self.old.kept self.old.lost known → count ≡ length known.entries → Follows K.keeps self.new.kept self.new.lost (one_more known line) }
+    {
+        let is_kept = match &mut self.kept {
+            Some(kept) => kept.keep(line).is_ok(),
+            None => false,
+        };
+        if !is_kept {
+            self.lose(count + 1);
+        }
+    }
+
+    /// Memory ran out for the last of so many lines.
+    fn lose(&mut self, count: usize)
+        ensures kept { self.new.kept ≡ None }
+        ensures lost { self.new.lost ≡ count }
+    {
+        self.kept = None;
+        self.lost = count;
+    }
+}
+
+impl<K: Keep> Lines for Entries<K> {
+    ghost Known = { Traced };
+
+    ghost next = { next_traced };
+
+    ghost follows = { λ e known. Follows K.keeps e.kept e.lost known };
+
+    ghost holds = { λ e known. Holds K.keeps e.kept known };
+
+    fn line(&mut self, line: &[u8]) -> Result<(), Refused> {
+        if is_skipped(line) {
+            return Ok(());
+        }
+        let count = self.count();
+        if count >= MOST_LINES {
+            return Err(Refused::Full);
+        }
+        match parse_line(self.alloc, line) {
+            Ok(line) => {
+                self.keep(count, line);
+                Ok(())
+            }
+            Err(fault) => match fault {
+                LineFault::Memory => {
+                    self.lose(count + 1);
+                    Ok(())
+                }
+                _ => Err(Refused::from(fault)),
+            },
+        }
+    }
+
+    fn is_out_of_memory(&self) -> bool {
+        self.kept.is_none()
+    }
+}
+
+/// Reads a trace to its end, or to its first refused line. What keeps its lines is in the answer.
+pub fn read_trace<K: Keep, R: Source>(
+    alloc: Global,
+    turns: u64,
+    reader: &mut R,
+    keep: K,
+) -> Result<K, Stop>
+    requires turns { turns ≤ 2 ^ 32 }
+    requires calls { turns ≤ (R.state reader.old).room }
+    ensures { (s : Setting) → K.keeps keep s [] → Reads trace soon (λ k entries. K.keeps k s entries) turns (R.state reader.old) (R.state reader.new) result }
+{
+    let entries = Entries {
+        alloc,
+        kept: Some(keep),
+        lost: 0,
+    };
+    let entries = read_text(alloc, turns, reader, entries)?;
+    entries.kept.ok_or(Stop::Memory)
+}

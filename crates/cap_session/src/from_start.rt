@@ -1,0 +1,113 @@
+//! A trace is checked as it comes, from a start text that is read first.
+ghost use Rattle.std.specs.Prelude.{◌≡◌, ◌^◌, ◌≤◌};
+ghost use Rattle.cap_machine.specs.Table.{start_state};
+ghost use Rattle.cap_machine.specs.declared.cell.Profile.TheVariants.{One};
+ghost use Rattle.cap_session.specs.Streams.{Streams};
+ghost use Rattle.cap_session.specs.StartStreams.{StartStreams};
+ghost use Rattle.cap_session.specs.Works.{WritesStartRefusal, EndsStart};
+
+use crate::check::check_with;
+use crate::devices::{Sink, Source};
+use crate::lines::Stop;
+use crate::outcome::Outcome;
+use crate::refused::Refusal;
+use crate::short_text::ShortText;
+use crate::start_text::read_start;
+use crate::write::write_text;
+use cap_machine::{Checker, Profile, Start};
+use std::alloc::Global;
+
+/// Writes the text of a refused line of a start.
+fn write_start_refusal<W: Sink>(refusal: Refusal, writer: &mut W) -> Outcome
+    requires { 1 ≤ (W.state writer.old).room }
+    ensures { WritesStartRefusal refusal (W.state writer.old) (W.state writer.new) result }
+{
+    if write_text(writer, ShortText::of_start(refusal).as_slice()).is_err() {
+        return Outcome::WriteFault;
+    }
+    Outcome::StartRefused {
+        code: refusal.reason.code(),
+        line: refusal.line,
+    }
+}
+
+/// Ends a call whose start wasn't taken. A refused line is written, and nothing else.
+fn write_start_stop<W: Sink>(stop: Stop, writer: &mut W) -> Outcome
+    requires { 1 ≤ (W.state writer.old).room }
+    ensures { EndsStart stop (W.state writer.old) (W.state writer.new) result }
+{
+    match stop {
+        Stop::Refused(refusal) => write_start_refusal(refusal, writer),
+        _ => Outcome::from(stop),
+    }
+}
+
+/// Checks a trace as it comes, from a start.
+fn check_from<R: Source, W: Sink>(
+    alloc: Global,
+    profile: Profile,
+    turns: u64,
+    start: &Start,
+    reader: &mut R,
+    writer: &mut W,
+) -> Outcome
+    requires turns { turns ≤ 2 ^ 32 }
+    requires calls { turns ≤ (R.state reader.old).room }
+    requires failure { 1 ≤ (W.state writer.old).room }
+    ensures { Streams profile (start_state start.now) turns (R.state reader.old) (R.state reader.new) (W.state writer.old) (W.state writer.new) result }
+{
+    let Ok(checker) = Checker::from_start(alloc, profile, start) else {
+        return Outcome::Memory;
+    };
+    check_with(alloc, turns, reader, writer, checker)
+}
+
+/// Reads a start text, checks a trace as it comes from that start in a profile, and writes its report or the first refused
+/// line.
+///
+/// Both texts are read as [`check_stream`](crate::check_stream) reads a trace, the start first; `turns` bounds the calls of
+/// each reader by itself. The start is a text as `parse_start` reads it. What follows its refused line isn't looked at.
+///
+/// - `StartRefused`: the code and the number of the first refused line of the start, as `parse_start` has them, written as
+///   `refused E4 start line 2` and LF. The trace isn't read.
+/// - `Memory`, `ReadFault`, `TooLong` and `WriteFault` of the start: as for a trace, and the trace isn't read.
+/// - Else the outcome is that of the trace, as [`check_stream`](crate::check_stream) has it, from this start.
+///
+/// `turns` must be at most 2^32, both readers must be able to count so many calls, and the writer must be able to count a
+/// failure.
+pub fn check_stream_from_as<S: Source, R: Source, W: Sink>(
+    alloc: Global,
+    profile: Profile,
+    turns: u64,
+    start: &mut S,
+    reader: &mut R,
+    writer: &mut W,
+) -> Outcome
+    requires turns { turns ≤ 2 ^ 32 }
+    requires start_calls { turns ≤ (S.state start.old).room }
+    requires calls { turns ≤ (R.state reader.old).room }
+    requires failure { 1 ≤ (W.state writer.old).room }
+    ensures { StartStreams profile turns (S.state start.old) (S.state start.new) (R.state reader.old) (R.state reader.new) (W.state writer.old) (W.state writer.new) result }
+{
+    match read_start(alloc, turns, start) {
+        Ok(known) => check_from(alloc, profile, turns, &known, reader, writer),
+        Err(stop) => write_start_stop(stop, writer),
+    }
+}
+
+/// Does what [`check_stream_from_as`] does, in profile 1.
+pub fn check_stream_from<S: Source, R: Source, W: Sink>(
+    alloc: Global,
+    turns: u64,
+    start: &mut S,
+    reader: &mut R,
+    writer: &mut W,
+) -> Outcome
+    requires turns { turns ≤ 2 ^ 32 }
+    requires start_calls { turns ≤ (S.state start.old).room }
+    requires calls { turns ≤ (R.state reader.old).room }
+    requires failure { 1 ≤ (W.state writer.old).room }
+    ensures { StartStreams One turns (S.state start.old) (S.state start.new) (R.state reader.old) (R.state reader.new) (W.state writer.old) (W.state writer.new) result }
+{
+    check_stream_from_as(alloc, Profile::One, turns, start, reader, writer)
+}

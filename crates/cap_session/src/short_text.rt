@@ -1,0 +1,118 @@
+//! Short texts: that of a refused line, and replies.
+ghost use Rattle.std.specs.Prelude.{◌≡◌, ◌+◌, ◌≤◌, List, ℕ, [], ◌++◌, length, take, codes, decimal};
+ghost use Rattle.cap_session.specs.Refusal.{refusal_text, start_refusal_text};
+ghost use Rattle.cap_session.specs.Replies.{refused_text, line_feed};
+
+use crate::refused::Refusal;
+use itoa::Buffer;
+use std::marker::Model;
+
+/// Room for the longest text: 9 and 12 bytes of words, 3 and 20 digits, and LF.
+const ROOM: usize = 45;
+
+/// A short text, in room of its own.
+#[derive(Drop)]
+pub struct ShortText {
+    bytes: [u8; ROOM],
+    len: usize,
+}
+
+impl Model for ShortText {
+    ghost Value = { List ℕ };
+
+    ghost view = { λ t. take t.len t.bytes };
+
+    ghost invariant = { λ t. t.len ≤ 45 };
+}
+
+impl ShortText {
+    fn new() -> ShortText
+        ensures { result ≡ [] }
+    {
+        ShortText {
+            bytes: [0; ROOM],
+            len: 0,
+        }
+    }
+
+    /// Adds a part.
+    fn add(&mut self, part: &[u8])
+        requires { length self.old + length part.now ≤ 45 }
+        ensures { self.new ≡ self.old ++ part.now }
+    {
+        let end = self.len + part.len();
+        self.bytes[self.len..end].copy_from_slice(part);
+        self.len = end;
+    }
+
+    /// The text of a refusal.
+    #[tactic(auto, unfolding(crate::specs::Refusal::refusal_text))]
+    pub fn of(refusal: Refusal) -> ShortText
+        ensures { result ≡ refusal_text refusal }
+    {
+        let mut text = ShortText::new();
+        let mut digits = Buffer::new();
+        text.add(b"refused E");
+        text.add(digits.format(refusal.reason.code()).as_bytes());
+        text.add(b" line ");
+        text.add(digits.format(refusal.line).as_bytes());
+        text.add(b"\n");
+        text
+    }
+
+    /// The text of a refused line of a start.
+    #[tactic(auto, unfolding(crate::specs::Refusal::start_refusal_text))]
+    pub fn of_start(refusal: Refusal) -> ShortText
+        ensures { result ≡ start_refusal_text refusal }
+    {
+        let mut text = ShortText::new();
+        let mut digits = Buffer::new();
+        text.add(b"refused E");
+        text.add(digits.format(refusal.reason.code()).as_bytes());
+        text.add(b" start line ");
+        text.add(digits.format(refusal.line).as_bytes());
+        text.add(b"\n");
+        text
+    }
+
+    /// `refused E7` and LF.
+    pub fn refused(code: u8) -> ShortText
+        ensures { result ≡ refused_text code }
+    {
+        let mut text = ShortText::new();
+        let mut digits = Buffer::new();
+        text.add(b"refused E");
+        text.add(digits.format(code).as_bytes());
+        text.add(b"\n");
+        text
+    }
+
+    /// `ok 5` and LF.
+    pub fn accepted(count: usize) -> ShortText
+        ensures { result ≡ codes "ok " ++ decimal count ++ line_feed }
+    {
+        let mut text = ShortText::new();
+        let mut digits = Buffer::new();
+        text.add(b"ok ");
+        text.add(digits.format(count).as_bytes());
+        text.add(b"\n");
+        text
+    }
+
+    /// A number and LF.
+    pub fn number(number: usize) -> ShortText
+        ensures { result ≡ decimal number ++ line_feed }
+    {
+        let mut text = ShortText::new();
+        let mut digits = Buffer::new();
+        text.add(digits.format(number).as_bytes());
+        text.add(b"\n");
+        text
+    }
+
+    pub fn as_slice(&self) -> &[u8]
+        ensures { result.now ≡ self.now }
+    {
+        &self.bytes[..self.len]
+    }
+}

@@ -1,0 +1,244 @@
+//! The fields of a line of a start text.
+ghost use Rattle.std.specs.Prelude.{◌≡◌, ◌≤◌, [], ◌∷◌, IfSome, IfOk, IfErr, MatchOption, OnOk, IsOk, position, ◌==◌, length, ◌<◌, option_map, option_and_then, option_copied};
+ghost use Rattle.cap_trace.specs.Quotes.{cut_at_byte};
+ghost use Rattle.cap_session.specs.StartWords.{words};
+ghost use Rattle.cap_session.specs.StartTexts.{held as held_cell, cell_spelled, mode_spelled, number_spelled, need, rest_at as rest_said, listed_at, cells_from, described};
+ghost use Rattle.cap_session.specs.StartLines.{completed};
+
+use crate::number::number_of;
+use crate::refused::Refused;
+use cap_machine::{Cell, Mode, OnExec};
+use cap_rights::{RightSet, parse_rights};
+use cap_trace::{Fd, Pid};
+use std::alloc::Global;
+use std::marker::Model;
+
+/// The largest pid.
+const MOST_PID: u32 = 99_999;
+
+/// The largest descriptor.
+const MOST_FD: u32 = 1_048_575;
+
+/// The place of the first such byte.
+fn first_place(stop: u8, text: &[u8]) -> Option<usize>
+    ensures value { result ≡ position (λ x. x == stop) text.now }
+    ensures bound { IfSome result (λ i. i < length text.now) }
+{
+    text.iter().position(|byte| *byte == stop)
+}
+
+/// What stands before and after the first such byte.
+fn cut(stop: u8, text: &[u8]) -> Option<(&[u8], &[u8])>
+    ensures { option_map (λ p. (p.0.now, p.1.now)) result ≡ cut_at_byte stop text.now }
+{
+    let at = first_place(stop, text)?;
+    Some((&text[..at], &text[at + 1..]))
+}
+
+/// The words of a line that are left.
+#[derive(Drop)]
+pub struct Words<'a> {
+    rest: Option<&'a [u8]>,
+}
+
+impl<'a> Model for Words<'a> {
+    ghost use Rattle.std.specs.Prelude.{List, ℕ};
+    ghost use Rattle.cap_session.specs.StartWords.{left};
+
+    ghost Value = { List (List ℕ) };
+
+    ghost view = { λ w. left w.rest };
+}
+
+impl<'a> Words<'a> {
+    /// The words of a line, with one space between.
+    fn of(line: &'a [u8]) -> Words<'a>
+        ensures { result ≡ words line.now }
+    {
+        Words { rest: Some(line) }
+    }
+
+    /// The next word.
+    fn next(&mut self) -> Option<&'a [u8]>
+        ensures { MatchOption result ((self.old ≡ []) × (self.new ≡ [])) (λ word. self.old ≡ word.now ∷ self.new) }
+    {
+        let text = self.rest?;
+        match first_place(b' ', text) {
+            None => {
+                self.rest = None;
+                Some(text)
+            }
+            Some(space) => {
+                self.rest = Some(&text[space + 1..]);
+                Some(&text[..space])
+            }
+        }
+    }
+}
+
+/// The number that a word spells, from `low` to `high`.
+fn number_from(low: u32, high: u32, word: &[u8]) -> Option<u32>
+    ensures value { result ≡ number_spelled low high word.now }
+    ensures bound { IfSome result (λ n. n ≤ high) }
+{
+    match number_of(word) {
+        Some(number) if low as usize <= number && number <= high as usize => Some(number as u32),
+        _ => None,
+    }
+}
+
+/// A descriptor that is open and holds these rights. Whether an exec closes it isn't known.
+fn held(rights: RightSet) -> Cell
+    ensures { result ≡ held_cell rights }
+{
+    Cell::Held(rights, OnExec::Unsure)
+}
+
+/// The cell that a word spells.
+#[tactic(auto, unfolding(crate::specs::StartTexts::cell_spelled))]
+fn cell_of(word: &[u8]) -> Option<Cell>
+    ensures { result ≡ cell_spelled word.now }
+{
+    if word == b"unknown".as_slice() {
+        Some(Cell::Unknown)
+    } else if word == b"closed".as_slice() {
+        Some(Cell::Closed)
+    } else {
+        match parse_rights(word) {
+            Ok(rights) => Some(held(rights)),
+            Err(_) => None,
+        }
+    }
+}
+
+/// The mode that a word spells.
+#[tactic(auto, unfolding(crate::specs::StartTexts::mode_spelled))]
+fn mode_of(word: &[u8]) -> Option<Mode>
+    ensures { result ≡ mode_spelled word.now }
+{
+    if word == b"in".as_slice() {
+        Some(Mode::Inside)
+    } else if word == b"out".as_slice() {
+        Some(Mode::Outside)
+    } else if word == b"unsure".as_slice() {
+        Some(Mode::Unsure)
+    } else {
+        None
+    }
+}
+
+/// The pid of a line, `low` at least.
+fn pid_at(low: Pid, word: Option<&[u8]>) -> Result<Pid, Refused>
+    ensures value { result ≡ need Refused.Pid (option_and_then (number_spelled low 99999) (option_copied word.entry)) }
+    ensures bound { IfOk result (λ pid. pid ≤ 99999) }
+{
+    let Some(word) = word else {
+        return Err(Refused::Pid);
+    };
+    match number_from(low, MOST_PID, word) {
+        Some(pid) => Ok(pid),
+        None => Err(Refused::Pid),
+    }
+}
+
+/// The mode of a line.
+fn mode_at(word: Option<&[u8]>) -> Result<Mode, Refused>
+    ensures { result ≡ need Refused.Argument (option_and_then mode_spelled (option_copied word.entry)) }
+{
+    let Some(word) = word else {
+        return Err(Refused::Argument);
+    };
+    match mode_of(word) {
+        Some(mode) => Ok(mode),
+        None => Err(Refused::Argument),
+    }
+}
+
+/// The cell of the descriptors that aren't listed.
+fn rest_at(word: Option<&[u8]>) -> Result<Cell, Refused>
+    ensures { result ≡ rest_said (option_copied word.entry) }
+{
+    let Some(word) = word else {
+        return Err(Refused::Argument);
+    };
+    match cell_of(word) {
+        Some(cell) => Ok(cell),
+        None => Err(Refused::Right),
+    }
+}
+
+/// A listed descriptor, `low` at least, with its cell.
+#[tactic(auto, unfolding(crate::specs::StartTexts::listed_at))]
+fn listed_of(low: Fd, word: &[u8]) -> Result<(Fd, Cell), Refused>
+    ensures value { result ≡ listed_at low word.now }
+    ensures bound { IfOk result (λ listed. listed.0 ≤ 1048575) }
+{
+    let Some((fd, cell)) = cut(b'=', word) else {
+        return Err(Refused::Argument);
+    };
+    let Some(fd) = number_from(low, MOST_FD, fd) else {
+        return Err(Refused::Argument);
+    };
+    match cell_of(cell) {
+        Some(cell) => Ok((fd, cell)),
+        None => Err(Refused::Right),
+    }
+}
+
+/// What a line says of a process, with the words of its listed descriptors.
+#[derive(Drop)]
+pub struct Head<'a> {
+    pub pid: Pid,
+    pub mode: Mode,
+    pub rest: Cell,
+    pub listed: Words<'a>,
+}
+
+/// The fields of a line before the listed descriptors.
+pub fn head_of<'a>(low: Pid, line: &'a [u8]) -> Result<Head<'a>, Refused>
+    ensures good { IfOk result (λ head. described low (words line.now) ≡ completed head (cells_from 0 head.listed)) }
+    ensures bad { IfErr result (λ field. described low (words line.now) ≡ Err field) }
+    ensures bound { IfOk result (λ head. head.pid ≤ 99999) }
+{
+    let mut words = Words::of(line);
+    let pid = pid_at(low, words.next())?;
+    let mode = mode_at(words.next())?;
+    let rest = rest_at(words.next())?;
+    Ok(Head {
+        pid,
+        mode,
+        rest,
+        listed: words,
+    })
+}
+
+/// Looks for a bad field among listed descriptors, the first of them `low` at least. Takes no memory.
+pub fn check_cells(low: Fd, mut words: Words<'_>) -> Result<(), Refused>
+    ensures good { OnOk result (IsOk (cells_from low words.entry)) }
+    ensures bad { IfErr result (λ field. cells_from low words.entry ≡ Err field) }
+{
+    let mut least = low;
+    while let Some(word) = words.next() {
+        let (fd, _) = listed_of(least, word)?;
+        least = fd + 1;
+    }
+    Ok(())
+}
+
+/// The listed descriptors with their cells, or `None` where memory ran out for them.
+pub fn cells_of(alloc: Global, mut words: Words<'_>) -> Result<Option<Vec<(Fd, Cell)>>, Refused>
+    ensures good { IfOk result (λ cells. MatchOption cells (IsOk (cells_from 0 words.entry)) (λ cells. cells_from 0 words.entry ≡ Ok cells.items)) }
+    ensures bad { IfErr result (λ field. cells_from 0 words.entry ≡ Err field) }
+{
+    let mut cells = Vec::new(alloc);
+    let mut low: Fd = 0;
+    while let Some(word) = words.next() {
+        let (fd, cell) = listed_of(low, word)?;
+        low = fd + 1;
+        let Ok(()) = cells.push((fd, cell)) else {
+            check_cells(low, words)?;
+            return Ok(None);
+        };
+    }
+    Ok(Some(cells))
+}

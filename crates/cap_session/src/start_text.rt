@@ -1,0 +1,207 @@
+//! Start texts: what was known of each process before a trace.
+ghost use Rattle.std.specs.Prelude.{◌≡◌, ◌↔◌, ◌+◌, ◌^◌, ◌<◌, ◌≤◌, Ok, Err, IfOk, IfErr, OnOk, IsOk, length};
+ghost use Rattle.cap_machine.specs.State.{State, with_listed};
+ghost use Rattle.cap_machine.specs.Table.{start_state};
+ghost use Rattle.cap_session.specs.Reads.{Reads};
+ghost use Rattle.cap_session.specs.StartTexts.{Listed, none_listed, next_process, cells_from, start as start_said, start_soon};
+ghost use Rattle.cap_session.specs.StartLines.{StandsFor, Follows, Holds, Adds, TakesNumbered};
+ghost use Rattle.cap_session.specs.StartParsed.{fault_of, Parses};
+ghost use Rattle.cap_session.specs.Texts.{with_line, whole_text};
+ghost use Rattle.cap_session.specs.declared.refused.Refusal.{Refusal};
+
+use crate::devices::Source;
+use crate::entries::is_skipped;
+use crate::lines::{LINE, Lines, Stop};
+use crate::read::read_text;
+use crate::refused::{Refusal, Refused};
+use crate::start_fields::{Head, cells_of, head_of};
+use cap_machine::{Cell, Mode, NoMemory, Start};
+use cap_trace::{Fd, Pid};
+use memchr::memchr;
+use std::alloc::Global;
+use thiserror::Error;
+
+/// Why a start text wasn't read.
+#[derive(Clone, Copy, Debug, PartialEq, Eq, Error)]
+pub enum StartFault {
+    /// A line was refused: the code of its first bad field, and its number among all lines of the text, from 1.
+    #[error("a line of the start isn't good: E{code}, line {line}")]
+    Bad { code: u8, line: usize },
+    /// Every line is good, and there was no memory to keep them.
+    #[error("out of memory")]
+    Memory,
+}
+
+impl From<Refusal> for StartFault {
+    ghost from_gives = { λ refusal fault. fault ≡ fault_of refusal };
+
+    fn from(refusal: Refusal) -> StartFault {
+        StartFault::Bad {
+            code: refusal.reason.code(),
+            line: refusal.line,
+        }
+    }
+}
+
+/// A start that takes the lines of a text. It is kept until memory runs out.
+#[derive(Drop)]
+pub struct Starting {
+    alloc: Global,
+    kept: Option<Start>,
+    /// The least pid that may come next.
+    low: Pid,
+}
+
+impl Starting {
+    /// Before the first line. It takes no memory.
+    fn new(alloc: Global) -> Starting
+        ensures { Follows result.kept result.low none_listed }
+    {
+        Starting {
+            alloc,
+            kept: Some(Start::unknown(alloc)),
+            low: 1,
+        }
+    }
+
+    /// Adds a process to the start, where it is kept.
+    fn add(
+        &mut self,
+        pid: Pid,
+        mode: Mode,
+        rest: Cell,
+        cells: Vec<(Fd, Cell)>,
+    ) -> Result<(), NoMemory>
+        ensures added { (s : State) → StandsFor self.old.kept s → OnOk result (StandsFor self.new.kept (with_listed s pid mode rest cells.items)) }
+        ensures low { self.new.low ≡ self.old.low }
+    {
+        match &mut self.kept {
+            Some(start) => start.add(pid, mode, rest, cells),
+            None => Err(NoMemory),
+        }
+    }
+
+    /// Adds the process of a line, or lets the start go where memory runs out for it.
+    fn keep(&mut self, head: Head<'_>) -> Result<(), Refused>
+        ensures good { OnOk result (Adds head.entry self.old.kept self.new.kept) }
+        ensures bad { IfErr result (λ field. cells_from 0 head.entry.listed ≡ Err field) }
+        ensures low { self.new.low ≡ self.old.low }
+    {
+        let is_kept = match cells_of(self.alloc, head.listed)? {
+            Some(cells) => self.add(head.pid, head.mode, head.rest, cells).is_ok(),
+            None => false,
+        };
+        if !is_kept {
+            self.kept = None;
+        }
+        Ok(())
+    }
+
+    /// Takes the next line, which has this number.
+    fn numbered(&mut self, number: usize, line: &[u8]) -> Result<(), Refusal>
+        ensures { (known : Listed) → Follows self.old.kept self.old.low known → TakesNumbered (with_line next_process known line.now) (Follows self.new.kept self.new.low) number result }
+    {
+        if line.len() > LINE {
+            return Err(Refusal {
+                reason: Refused::LongLine,
+                line: number,
+            });
+        }
+        match self.line(line) {
+            Ok(()) => Ok(()),
+            Err(reason) => Err(Refusal {
+                reason,
+                line: number,
+            }),
+        }
+    }
+
+    /// Takes the lines of a whole text.
+    fn text(&mut self, bytes: &[u8]) -> Result<(), Refusal>
+        requires first { Follows self.old.kept self.old.low none_listed }
+        ensures good { OnOk result ((known : Listed) × (whole_text next_process none_listed bytes.now ≡ Ok known) × Follows self.new.kept self.new.low known) }
+        ensures bad { IfErr result (λ e. start_said bytes.now ≡ Err e) }
+    {
+        let mut before: usize = 0;
+        let mut rest = bytes;
+        while let Some(at) = memchr(b'\n', rest) {
+            self.numbered(before + 1, &rest[..at])?;
+            before += 1;
+            rest = &rest[at + 1..];
+        }
+        self.numbered(before + 1, rest)
+    }
+}
+
+impl Lines for Starting {
+    ghost Known = { Listed };
+
+    ghost next = { next_process };
+
+    ghost follows = { λ s listed. Follows s.kept s.low listed };
+
+    ghost holds = { λ s listed. Holds s.kept listed };
+
+    fn line(&mut self, line: &[u8]) -> Result<(), Refused> {
+        if is_skipped(line) {
+            return Ok(());
+        }
+        let head = head_of(self.low, line)?;
+        self.low = head.pid + 1;
+        self.keep(head)?;
+        Ok(())
+    }
+
+    fn is_out_of_memory(&self) -> bool {
+        self.kept.is_none()
+    }
+}
+
+/// Reads a start text from its bytes.
+fn read_bytes(alloc: Global, bytes: &[u8]) -> Result<Start, StartFault>
+    ensures { Parses (start_said bytes.now) result }
+{
+    let mut starting = Starting::new(alloc);
+    starting.text(bytes)?;
+    starting.kept.ok_or(StartFault::Memory)
+}
+
+/// Reads a start text from a reader to its end, or to its first refused line.
+pub fn read_start<R: Source>(alloc: Global, turns: u64, reader: &mut R) -> Result<Start, Stop>
+    requires turns { turns ≤ 2 ^ 32 }
+    requires calls { turns ≤ (R.state reader.old).room }
+    ensures { Reads start_said start_soon (λ start s. start_state start ≡ s) turns (R.state reader.old) (R.state reader.new) result }
+{
+    let starting = read_text(alloc, turns, reader, Starting::new(alloc))?;
+    starting.kept.ok_or(Stop::Memory)
+}
+
+/// Reads a start text: what was known of each process before a trace.
+///
+/// A line is about one process, as `100 out closed 0=ALL 3=CAP_READ|CAP_SEEK 5=unknown`: its pid from 1 to 99,999; `in`, `out` or
+/// `unsure`, which say whether it is in capability mode (capsicum(4)); the cell of each descriptor that isn't listed; and then
+/// any number of descriptors from 0 to 1,048,575, each with `=` and its cell. A cell is `unknown`, `closed`, or rights
+/// (rights(4)) as `parse_rights` reads them, of a descriptor that is open and holds them. There is one space between words.
+/// Pids rise from line to line, descriptors within a line. Empty lines and lines that begin with `#` are skipped, and the
+/// last line needs no LF.
+///
+/// # Errors
+///
+/// - [`StartFault::Bad`]: the code of the first refused line, and its number among all lines, from 1. Code 1 is a line of
+///   more than 1,024 bytes. Else the first bad field from the left decides: 3 is the pid, or one that doesn't rise; 4 the
+///   mode, a word without `=`, a descriptor or one that doesn't rise, or a missing field; 5 a cell, also an empty one.
+/// - [`StartFault::Memory`]: out of memory. It comes only where every line is good.
+///
+/// ```
+/// let start = parse_start(alloc, b"100 out closed 0=ALL 3=CAP_READ|CAP_SEEK 5=unknown")?;
+/// assert_eq!(start.cell(100, 5), Cell::Unknown);
+/// assert_eq!(start.cell(100, 6), Cell::Closed);
+/// assert_eq!(start.mode(100), Mode::Outside);
+/// ```
+pub fn parse_start(alloc: Global, bytes: &[u8]) -> Result<Start, StartFault>
+    ensures good { IfOk result (λ start. start_said bytes.now ≡ Ok (start_state start)) }
+    ensures bad { (e : Refusal) → (result ≡ Err (fault_of e)) ↔ (start_said bytes.now ≡ Err e) }
+    ensures memory { result ≡ Err StartFault.Memory → IsOk (start_said bytes.now) }
+{
+    read_bytes(alloc, bytes)
+}

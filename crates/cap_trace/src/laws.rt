@@ -1,0 +1,17 @@
+//! Laws of reading: facts about the definitions, each on a function that does nothing.
+
+ghost use Rattle.cap_trace.specs.Spoiled.{TooLongExactly, PidExactly, RightOnlyOfLimits, SpoiledArgument, SpoiledAnswer};
+
+/// The fault of a line is that of the field that is wrong.
+pub fn faults_are_of_their_fields()
+    // The line is too long exactly where it has more than 1,024 bytes.
+    ensures too_long { TooLongExactly }
+    // The pid is wrong exactly where the bytes before the first space spell none.
+    ensures pid { PidExactly }
+    // A right is wrong only in a limit, in a text that names no rights.
+    ensures right { RightOnlyOfLimits }
+    // A good line with one argument spoiled has the fault of that argument.
+    ensures argument { SpoiledArgument }
+    // A good line of a call with its answer spoiled has the fault of the answer.
+    ensures answer { SpoiledAnswer }
+{}

@@ -1,0 +1,11 @@
+-- What a reader may rely on, beyond the definitions. Each law stands on a public function of the crate.
+use Rattle.std.specs.Prelude.{ℕ, ◌-◌, ◌^◌, ◌<◌, ◌≤◌}
+use Rattle.cap_tree.specs.Bits.{bits}
+
+-- a number has as many binary digits as `bits` says: it is below two to their number ..
+abbrev pub BitsAreEnough : Type 0
+BitsAreEnough = (n : ℕ) → n < 2 ^ bits n
+
+-- .. and the first of them is a one
+abbrev pub BitsAreNeeded : Type 0
+BitsAreNeeded = (n : ℕ) → 0 < n → 2 ^ (bits n - 1) ≤ n

@@ -1,0 +1,94 @@
+-- What a run reads and writes, and the status that it ends with.
+use Rattle.std.specs.Prelude.{◌≡◌, ◌⊎◌, ℕ, List, Option, Some, None}
+use Rattle.std.specs.Option.{option_map}
+use Rattle.std.specs.Borrow.{Bor}
+use Rattle.clap.specs.Words.{Text}
+use Rattle.cap_machine.specs.declared.cell.Profile.{Profile}
+use Rattle.cap_machine.specs.State.{usual}
+use Rattle.cap_session.specs.Devices.{SourceState, SinkState}
+use Rattle.cap_session.specs.Streams.{Streams}
+use Rattle.cap_session.specs.StartStreams.{StartStreams}
+use Rattle.cap_session.specs.EditStreams.{EditStreams}
+use Rattle.cap_session.specs.Outcome.{status_of}
+use Rattle.cap_session.specs.declared.outcome.Outcome.{Outcome}
+use Rattle.cap_session.specs.declared.outcome.Outcome.TheVariants.{ReadFault}
+use Rattle.capcheck.specs.Texts.{Known, Gives, MayFail}
+use Rattle.capcheck.specs.Plans.{Fits, seen}
+use Rattle.capcheck.specs.declared.plan.Plan.{Plan}
+use Rattle.capcheck.specs.declared.plan.Plan.TheVariants.{Check, Edit, Help, Usage, Memory}
+
+-- how often each text may be read
+abbrev pub turns : ℕ
+turns = 2147483648
+
+-- a text can't be opened, and nothing was written
+pub record Unopened (may_fail : Type 0) (w0 w1 : SinkState) (outcome : Outcome) : Type 0 where
+  pub why : may_fail
+  pub silent : w1 ≡ w0
+  pub fault : outcome ≡ ReadFault
+
+-- ---- the runs: r is the reader of the trace, z that of the start, s that of the script
+
+-- a trace was opened and checked as it came, from the usual start
+pub record Checks (profile : Profile) (trace : Known) (w0 w1 : SinkState) (outcome : Outcome) : Type 0 where
+  pub r0 : SourceState
+  pub r1 : SourceState
+  pub text : Gives trace r0.bytes
+  pub stream : Streams profile usual turns r0 r1 w0 w1 outcome
+
+-- a start and a trace were opened, and the trace was checked from that start
+pub record ChecksFrom (profile : Profile) (start trace : Known) (w0 w1 : SinkState) (outcome : Outcome) : Type 0 where
+  pub z0 : SourceState
+  pub z1 : SourceState
+  pub r0 : SourceState
+  pub r1 : SourceState
+  pub start_text : Gives start z0.bytes
+  pub text : Gives trace r0.bytes
+  pub stream : StartStreams profile turns z0 z1 r0 r1 w0 w1 outcome
+
+-- a trace and a script were opened, and the script was replied to
+pub record Edits (profile : Profile) (trace script : Known) (w0 w1 : SinkState) (outcome : Outcome) : Type 0 where
+  pub r0 : SourceState
+  pub r1 : SourceState
+  pub s0 : SourceState
+  pub s1 : SourceState
+  pub trace_text : Gives trace r0.bytes
+  pub script_text : Gives script s0.bytes
+  pub stream : EditStreams profile turns r0 r1 s0 s1 w0 w1 outcome
+
+abbrev pub ChecksText : Profile → Option Known → Known → SinkState → SinkState → Outcome → Type 0
+ChecksText profile None trace w0 w1 outcome =
+    Unopened (MayFail trace) w0 w1 outcome ⊎ Checks profile trace w0 w1 outcome
+ChecksText profile (Some start) trace w0 w1 outcome =
+    Unopened (MayFail start ⊎ MayFail trace) w0 w1 outcome
+    ⊎ ChecksFrom profile start trace w0 w1 outcome
+
+abbrev pub EditsText : Profile → Known → Known → SinkState → SinkState → Outcome → Type 0
+EditsText profile trace script w0 w1 outcome =
+    Unopened (MayFail trace ⊎ MayFail script) w0 w1 outcome
+    ⊎ Edits profile trace script w0 w1 outcome
+
+-- what is known of the start of this name, where one is named
+abbrev pub known_start : (Option Text → Known) → Option (Bor Text) → Option Known
+known_start known = option_map (λ name. known (Some name.now))
+
+-- the status is that of such an outcome
+abbrev pub StatusBy : (Outcome → Type 0) → ℕ → Type 0
+StatusBy P status = (outcome : Outcome) × P outcome × (status ≡ status_of outcome)
+
+-- A plan was carried out, where this is known of the texts of names.
+abbrev pub CarriesOut : (Option Text → Known) → SinkState → SinkState → Plan → ℕ → Type 0
+CarriesOut known w0 w1 (Check trace start profile) status =
+    StatusBy (ChecksText profile (known_start known start) (known (seen trace)) w0 w1) status
+CarriesOut known w0 w1 (Edit trace script profile) status =
+    StatusBy (EditsText profile (known (Some trace.now)) (known (seen script)) w0 w1) status
+-- 3 where it can't be printed
+CarriesOut known w0 w1 (Help text) status = (w1 ≡ w0) × ((status ≡ 0) ⊎ (status ≡ 3))
+CarriesOut known w0 w1 (Usage text) status = (w1 ≡ w0) × (status ≡ 2)
+CarriesOut known w0 w1 Memory status = (w1 ≡ w0) × (status ≡ 3)
+
+-- The words ask for a plan, and it was carried out.
+pub record Answers (words : List Text) (known : Option Text → Known) (w0 w1 : SinkState) (status : ℕ) : Type 0 where
+  pub plan : Plan
+  pub fits : Fits words plan
+  pub done : CarriesOut known w0 w1 plan status

@@ -1,0 +1,33 @@
+-- Where a text is read from, and what is known of it.
+use Rattle.std.specs.Prelude.{◌≡◌, ℕ, Bool, true, false, List, Option, Some}
+use Rattle.capcheck.specs.declared.texts.Opened.{Opened}
+use Rattle.capcheck.specs.declared.texts.Opened.TheVariants.{File, Standard}
+
+-- what is known of the text of a name: nothing, that there is none, or its bytes
+pub data Known : Type 0 where
+  unknown : Known
+  missing : Known
+  holds : List ℕ → Known
+
+-- a reader of such a text has these bytes still to come
+abbrev pub Gives : Known → Option (List ℕ) → Type 0
+Gives unknown bytes = Unit {0}
+Gives missing bytes = ⊥
+Gives (holds text) bytes = bytes ≡ Some text
+
+-- such a text may be one that can't be opened
+abbrev pub MayFail : Known → Type 0
+MayFail unknown = Unit {0}
+MayFail missing = Unit {0}
+MayFail (holds text) = ⊥
+
+module _ {F S : Type 0} where
+  abbrev pub is_file : Opened F S → Bool
+  is_file (File file) = true
+  is_file (Standard input) = false
+
+  -- the bytes still to come, where they are known: those of the device in it
+  abbrev pub remaining_of : (F → Option (List ℕ)) → (S → Option (List ℕ)) → Opened F S
+      → Option (List ℕ)
+  remaining_of of_file of_standard (File file) = of_file file
+  remaining_of of_file of_standard (Standard input) = of_standard input

@@ -1,0 +1,80 @@
+//! The texts that a run reads, by their names.
+ghost use Rattle.std.specs.Prelude.{◌≡◌, ◌^◌, ◌≤◌, List, ℕ, Option, IfErr, IfOk, is_some};
+ghost use Rattle.std.specs.Option.{option_map};
+ghost use Rattle.capcheck.specs.Texts.{Gives, Known, MayFail, is_file, remaining_of, unknown};
+
+use cap_session::{Counted, Failed, Source};
+use std::fs::File;
+use std::io;
+use std::io::Read;
+use std::rt::Files;
+
+/// Opens texts by their names.
+pub trait Texts {
+    /// What gives the bytes of an opened text.
+    type Reader: Source + Drop;
+
+    /// What is known of the text of a name, and without one of standard input.
+    ghost known: { Self → Option (List ℕ) → Known };
+
+    /// Opens the text of this name, or standard input where there is none.
+    fn open(&self, name: Option<&str>) -> Result<Self::Reader, Failed>
+        ensures text { IfOk result (λ r. Gives (known self.now (option_map (λ n. n.now) name.entry)) (Self.Reader.state r).bytes) }
+        ensures room { IfOk result (λ r. 2 ^ 32 ≤ (Self.Reader.state r).room) }
+        ensures fails { IfErr result (λ _. MayFail (known self.now (option_map (λ n. n.now) name.entry))) };
+}
+
+/// The files of the system and standard input. Of their bytes nothing is known.
+#[derive(Drop)]
+pub struct SystemTexts<'a, R> {
+    rt: &'a R,
+}
+
+impl<'a, R> SystemTexts<'a, R> {
+    pub fn new(rt: &'a R) -> SystemTexts<'a, R> {
+        SystemTexts { rt }
+    }
+}
+
+impl<'a, R: Files + Input> Texts for SystemTexts<'a, R> {
+    type Reader = Counted<Opened<R::File, R::Reader>>;
+
+    ghost known = { λ _ _. unknown };
+
+    fn open(&self, name: Option<&str>) -> Result<Counted<Opened<R::File, R::Reader>>, Failed> {
+        match open(self.rt, name) {
+            Ok(opened) => Ok(Counted::new(opened)),
+            Err(_) => Err(Failed),
+        }
+    }
+}
+
+/// A file, or standard input.
+///
+/// Neither is buffered here: each read is one system call into the caller's buffer.
+#[derive(Drop)]
+pub enum Opened<F: Drop, S: Drop> {
+    File(F),
+    Standard(S),
+}
+
+/// Opens the file of this name, or standard input where there is none.
+fn open<R: Files + Input>(rt: &R, name: Option<&str>) -> io::Result<Opened<R::File, R::Reader>>
+    ensures { IfOk result (λ opened. is_file opened ≡ is_some name.entry) }
+{
+    match name {
+        Some(name) => Ok(Opened::File(File::open(rt, name)?)),
+        None => Ok(Opened::Standard(rt.reader())),
+    }
+}
+
+impl<F: Read + Drop, S: Read + Drop> Read for Opened<F, S> {
+    ghost remaining = { remaining_of F.remaining S.remaining };
+
+    fn read(&mut self, buf: &mut [u8]) -> io::Result<usize> {
+        match self {
+            Opened::File(file) => file.read(buf),
+            Opened::Standard(input) => input.read(buf),
+        }
+    }
+}
