@@ -1,0 +1,39 @@
+-- Laws of Booleans.
+use Rattle.std.proofs.Common.{◌≡◌, Bool, true, false, ◌&&◌, ◌||◌, refl, sym, ap, ◌∙◌}
+use Rattle.std.specs.Prelude.{not}
+
+pub and_false : (x : Bool) → (x && false) ≡ false
+and_false true = refl
+and_false false = refl
+
+pub or_false : (x : Bool) → (x || false) ≡ x
+or_false true = refl
+or_false false = refl
+
+pub or_true : (x : Bool) → (x || true) ≡ true
+or_true true = refl
+or_true false = refl
+
+pub or_same : (x : Bool) → (x || x) ≡ x
+or_same true = refl
+or_same false = refl
+
+pub or_assoc : (x y z : Bool) → ((x || y) || z) ≡ (x || (y || z))
+or_assoc true y z = refl
+or_assoc false y z = refl
+
+or_turned : (x y : Bool) → (x || y) ≡ (y || x)
+or_turned true true = refl
+or_turned true false = refl
+or_turned false true = refl
+or_turned false false = refl
+
+pub or_swapped : (a b x : Bool) → ((a || b) || x) ≡ ((a || x) || b)
+or_swapped a b x = or_assoc a b x ∙ ap (λ r. a || r) (or_turned b x) ∙ sym (or_assoc a x b)
+
+pub or_crossed : (a b x y : Bool) → ((a || b) || (x || y)) ≡ ((a || x) || (b || y))
+or_crossed a b x y = sym (or_assoc (a || b) x y) ∙ ap (λ r. r || y) (or_swapped a b x) ∙ or_assoc (a || x) b y
+
+pub not_and : (x y : Bool) → not (x && y) ≡ (not x || not y)
+not_and true y = refl
+not_and false y = refl

@@ -1,0 +1,10 @@
+pub mod Bools
+pub mod Walks
+pub mod Joining
+pub mod Runs
+pub mod Holding
+pub mod Merging
+pub mod Knowing
+pub mod Standing
+pub mod Resolving
+pub mod Doing

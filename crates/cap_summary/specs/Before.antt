@@ -1,0 +1,10 @@
+-- The state behind a start and changes.
+use Rattle.cap_machine.specs.State.{State}
+use Rattle.cap_machine.specs.Table.{start_state}
+use Rattle.cap_summary.specs.Changes.{changed}
+use Rattle.cap_summary.specs.declared.before.Before.{Before}
+use Rattle.cap_summary.specs.declared.before.Before.TheVariants.{At, After'}
+
+abbrev pub state_before : Before → State
+state_before (At start) = start_state start.now
+state_before (After' p before change) = changed change.now (state_before before)

@@ -1,0 +1,202 @@
+//! The state behind a start and changes, and what is found from there.
+
+ghost use Rattle.std.specs.Prelude.{◌≡◌, ℕ, ◌&&◌, nat_le, ◌+◌, ◌^◌, ◌≤◌, ◌<◌, ◌++◌, ◌∷◌, [], List, length, IfOk, OnOk, IfSome, map};
+ghost use Rattle.cap_machine.specs.Check.{check, said_of, found_at};
+ghost use Rattle.cap_machine.specs.Laws.{later};
+ghost use Rattle.cap_summary.specs.Before.{state_before};
+ghost use Rattle.cap_summary.specs.Knows.{finds};
+ghost use Rattle.cap_summary.specs.Steps.{steps_of};
+ghost use Rattle.cap_summary.specs.Positions.{within};
+ghost use Rattle.cap_summary.specs.Conditions.{source_holds, part_holds, outside_holds, refused_holds, holds, any_holds};
+
+use crate::change::Change;
+use crate::conditions::{Condition, Refused, Source};
+use crate::known::Known;
+use crate::step::Step;
+use crate::values::{ModeValue, Value};
+use cap_machine::{Cell, Checks, Demand, Found, Mode, Start, Verdict, rule_of};
+use cap_trace::{Fd, Pid};
+use cap_tree::NoMemory;
+use std::alloc::Global;
+
+/// A start, or what a change makes of one.
+#[derive(Clone, Copy)]
+pub(crate) enum Before<'a> {
+    At(&'a Start),
+    After(&'a Before<'a>, &'a Change),
+}
+
+impl<'a> Before<'a> {
+    fn cell(&self, pid: Pid, fd: Fd) -> Cell
+        ensures { result ≡ (state_before self.now).cell pid fd }
+    {
+        match self {
+            Before::At(start) => start.cell(pid, fd),
+            Before::After(before, change) => match change.value(pid, fd) {
+                Value::Fixed(cell) => cell,
+                Value::Of(source, of, op) => op.on(before.cell(source, of)),
+            },
+        }
+    }
+
+    fn mode(&self, pid: Pid) -> Mode
+        ensures { result ≡ (state_before self.now).mode pid }
+    {
+        match self {
+            Before::At(start) => start.mode(pid),
+            Before::After(before, change) => match change.mode(pid) {
+                ModeValue::Fixed(mode) => mode,
+                ModeValue::Of(source) => before.mode(source),
+            },
+        }
+    }
+
+    fn source_holds(&self, source: &Source) -> bool
+        ensures { result ≡ source_holds (state_before self.now) source.now }
+    {
+        source.test.passes(self.cell(source.pid, source.fd))
+    }
+
+    fn part_holds(&self, part: &Option<Source>) -> bool
+        ensures { result ≡ part_holds (state_before self.now) part.now }
+    {
+        match part {
+            None => true,
+            Some(source) => self.source_holds(source),
+        }
+    }
+
+    fn outside_holds(&self, mode: Option<Pid>) -> bool
+        ensures { result ≡ outside_holds (state_before self.now) mode }
+    {
+        match mode {
+            None => true,
+            Some(pid) => self.mode(pid) == Mode::Outside,
+        }
+    }
+
+    fn refused_holds(&self, refused: &Refused) -> bool
+        ensures { result ≡ refused_holds (state_before self.now) refused.now }
+    {
+        self.outside_holds(refused.mode)
+            && self.part_holds(&refused.first)
+            && self.part_holds(&refused.second)
+    }
+
+    fn holds(&self, condition: &Condition) -> bool
+        ensures { result ≡ holds (state_before self.now) condition.now }
+    {
+        match condition {
+            Condition::Cell(source) => self.source_holds(source),
+            Condition::Inside(pid) => self.mode(*pid) == Mode::Inside,
+            Condition::Outside(pid) => self.mode(*pid) == Mode::Outside,
+            Condition::Refused(refused) => self.refused_holds(refused),
+        }
+    }
+
+    fn any_holds(&self, conditions: &[Condition]) -> bool
+        ensures { result ≡ any_holds (state_before self.now) conditions.now }
+    {
+        for condition in conditions {
+            if self.holds(condition) {
+                return true;
+            }
+        }
+        false
+    }
+
+    /// Whether something is found in a segment that begins in this state.
+    pub(crate) fn finds(&self, known: &Known) -> bool
+        ensures { result ≡ finds known.now (state_before self.now) }
+    {
+        known.always || self.any_holds(&known.conditions)
+    }
+
+    /// What is said of a line of a process with this demand.
+    fn said(&self, pid: Pid, demand: &Demand) -> Verdict
+        ensures { result ≡ said_of demand.now pid (state_before self.now) }
+    {
+        let mode = self.mode(pid);
+        match &demand.checks {
+            Checks::Nothing => demand.judge(mode, &[]),
+            Checks::One(a) => demand.judge(mode, &[self.cell(pid, a.fd)]),
+            Checks::Two(a, b) => {
+                demand.judge(mode, &[self.cell(pid, a.fd), self.cell(pid, b.fd)])
+            }
+        }
+    }
+}
+
+/// Positions of a trace, from one to another with both ends.
+#[derive(Clone, Copy)]
+pub(crate) struct Positions {
+    pub(crate) from: usize,
+    pub(crate) to: usize,
+}
+
+impl Positions {
+    fn has(&self, at: usize) -> bool
+        ensures { result ≡ (nat_le self.now.from at && nat_le at self.now.to) }
+    {
+        self.from <= at && at <= self.to
+    }
+}
+
+/// Notes what is said of the line at a position.
+fn note(found: &mut Vec<Found>, at: usize, verdict: &Verdict) -> Result<(), NoMemory>
+    ensures { OnOk result (found.new.items ≡ found.old.items ++ map (found_at at) verdict.now) }
+{
+    for finding in verdict.as_slice() {
+        found.push(Found {
+            at,
+            finding: *finding,
+        })?;
+    }
+    Ok(())
+}
+
+/// Notes what is said of a line at a position, where that is asked for.
+fn note_line(
+    before: &Before<'_>,
+    pid: Pid,
+    demand: &Demand,
+    at: usize,
+    asked: &Positions,
+    found: &mut Vec<Found>,
+) -> Result<(), NoMemory>
+    ensures { OnOk result (found.new.items ≡ found.old.items ++ within asked.now.from asked.now.to (map (found_at at) (said_of demand.now pid (state_before before.now)))) }
+{
+    if !asked.has(at) {
+        return Ok(());
+    }
+    let verdict = before.said(pid, demand);
+    note(found, at, &verdict)
+}
+
+/// Notes what is found in a run of steps that begins in this state behind so many others, at the positions that are asked
+/// for.
+pub(crate) fn judge_run(
+    alloc: Global,
+    run: &[Step],
+    before: &Before<'_>,
+    at: usize,
+    asked: &Positions,
+    found: &mut Vec<Found>,
+) -> Result<(), NoMemory>
+    requires short { at + length run.now ≤ 2 ^ 31 }
+    ensures { OnOk result (found.new.items ≡ found.old.items ++ within asked.now.from asked.now.to (map (later at) (check (state_before before.now) (steps_of run.now)))) }
+{
+    if run.len() == 0 {
+        return Ok(());
+    }
+    if asked.to <= at {
+        return Ok(());
+    }
+    let step = &run[0];
+    let line = &*step.line;
+    let rule = rule_of(step.profile, line);
+    note_line(before, line.pid, &rule.demand, at + 1, asked, found)?;
+    let change = Change::of_effect(alloc, line.pid, &rule.effect)?;
+    let after = Before::After(&*before, &change);
+    judge_run(alloc, &run[1..], &after, at + 1, asked, found)
+}

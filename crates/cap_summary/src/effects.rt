@@ -1,0 +1,181 @@
+//! What one line does.
+
+ghost use Rattle.std.specs.Prelude.{◌≡◌, ℕ, ◌==◌, ◌&&◌, ◌||◌, if◌then◌else◌, IfOk, OnOk, Some, None};
+ghost use Rattle.cap_rights.specs.Rights.{all};
+ghost use Rattle.cap_machine.specs.Op.{same};
+ghost use Rattle.cap_machine.specs.Touch.{started as started_cell};
+ghost use Rattle.cap_summary.specs.Values.{unlisted};
+ghost use Rattle.cap_summary.specs.Tables.{process_at};
+ghost use Rattle.cap_summary.specs.Changes.{value_in, value_of, mode_of, is_listed};
+ghost use Rattle.cap_summary.specs.Does.{Does};
+
+use crate::change::{Change, Process};
+use crate::tables::{Cells, Processes};
+use crate::values::{Base, ModeValue, Passing, Value};
+use cap_machine::{Cell, Effect, Mode, OnExec, Op};
+use cap_rights::RightSet;
+use cap_trace::{Fd, Pid};
+use cap_tree::NoMemory;
+use std::alloc::Global;
+
+impl Process {
+    /// No cell is listed.
+    fn over(alloc: Global, base: Base, mode: ModeValue) -> Process
+        ensures cells { (f : ℕ) → value_in result f ≡ unlisted base f }
+        ensures mode { result.mode ≡ mode }
+    {
+        Process {
+            base,
+            mode,
+            cells: Cells::new(alloc),
+        }
+    }
+
+    /// A process as it was.
+    fn kept(alloc: Global, pid: Pid) -> Process
+        ensures cells { (f : ℕ) → value_in result f ≡ Value.Of pid f same }
+        ensures mode { result.mode ≡ ModeValue.Of pid }
+    {
+        Process::over(alloc, Base::of(pid, Passing::Same), ModeValue::Of(pid))
+    }
+
+    /// The process with one value written.
+    fn with(self, fd: Fd, value: &Value) -> Result<Process, NoMemory>
+        ensures cells { IfOk result (λ new. (f : ℕ) → value_in new f ≡ (if f == fd then value.now else value_in self f)) }
+        ensures mode { IfOk result (λ new. new.mode ≡ self.mode) }
+    {
+        let mut new = self;
+        new.cells.set(fd, value)?;
+        Ok(new)
+    }
+}
+
+impl Change {
+    /// Nothing changes. It takes no memory.
+    pub(crate) fn nothing(alloc: Global) -> Change
+        ensures { (p : ℕ) → process_at result.processes p ≡ None }
+    {
+        Change {
+            processes: Processes::new(alloc),
+        }
+    }
+
+    /// The change with one process written.
+    fn and(self, alloc: Global, pid: Pid, process: Process) -> Result<Change, NoMemory>
+        ensures { IfOk result (λ new. (p : ℕ) → process_at new.processes p ≡ (if p == pid then Some process else process_at self.processes p)) }
+    {
+        let mut new = self;
+        new.processes.set(alloc, pid, process)?;
+        Ok(new)
+    }
+
+    /// One process changes.
+    fn only(alloc: Global, pid: Pid, process: Process) -> Result<Change, NoMemory>
+        ensures { IfOk result (λ new. (p : ℕ) → process_at new.processes p ≡ (if p == pid then Some process else None)) }
+    {
+        Change::nothing(alloc).and(alloc, pid, process)
+    }
+
+    /// No cell of a process is listed.
+    fn whole(alloc: Global, me: Pid, base: Base, mode: ModeValue) -> Result<Change, NoMemory>
+        ensures cells { IfOk result (λ change. (p f : ℕ) → value_of change p f ≡ (if p == me then unlisted base f else Value.Of p f same)) }
+        ensures modes { IfOk result (λ change. (p : ℕ) → mode_of change p ≡ (if p == me then mode else ModeValue.Of p)) }
+        ensures listed { IfOk result (λ change. (p : ℕ) → is_listed change p ≡ (p == me)) }
+    {
+        let change = Change::only(alloc, me, Process::over(alloc, base, mode))?;
+        Ok(change)
+    }
+
+    /// Two descriptors have this cell.
+    fn given_two(
+        alloc: Global,
+        me: Pid,
+        first: Fd,
+        second: Fd,
+        cell: Cell,
+    ) -> Result<Change, NoMemory>
+        ensures { IfOk result (λ change. Does change (Effect.GiveTwo first second cell) me) }
+    {
+        let value = Value::Fixed(cell);
+        let one = Process::kept(alloc, me).with(first, &value)?;
+        let both = one.with(second, &value)?;
+        let change = Change::only(alloc, me, both)?;
+        Ok(change)
+    }
+
+    /// One descriptor has what an op makes of another.
+    fn taken(alloc: Global, me: Pid, to: Fd, op: &Op, from: Fd) -> Result<Change, NoMemory>
+        ensures { IfOk result (λ change. Does change (Effect.Change to op.now from) me) }
+    {
+        let process = Process::kept(alloc, me).with(to, &Value::Of(me, from, *op))?;
+        let change = Change::only(alloc, me, process)?;
+        Ok(change)
+    }
+
+    /// What an effect of a line of a process does.
+    #[tactic(auto, using(crate::proofs::Joining::applied_same))]
+    pub(crate) fn of_effect(alloc: Global, me: Pid, effect: &Effect<'_>) -> Result<Change, NoMemory>
+        ensures { IfOk result (λ change. Does change effect.now me) }
+    {
+        let kept = Base::of(me, Passing::Same);
+        match effect {
+            Effect::Keep => Ok(Change::nothing(alloc)),
+            Effect::Enter => Change::whole(alloc, me, kept, ModeValue::Fixed(Mode::Inside)),
+            Effect::Start(fds) => {
+                let held = Value::Fixed(Cell::Held(RightSet::all(), OnExec::Unsure));
+                Change::only(alloc, me, started(alloc, fds, &held)?)
+            }
+            Effect::Exit => {
+                let unknown = Base::alike(Cell::Unknown);
+                Change::whole(alloc, me, unknown, ModeValue::Fixed(Mode::Unsure))
+            }
+            Effect::Forget => {
+                Change::whole(alloc, me, Base::alike(Cell::Unknown), ModeValue::Of(me))
+            }
+            Effect::Exec => {
+                let passed = Base::of(me, Passing::Exec);
+                Change::whole(alloc, me, passed, ModeValue::Of(me))
+            }
+            Effect::CloseFrom(fd) => {
+                Change::whole(alloc, me, Base::closed_from(me, *fd), ModeValue::Of(me))
+            }
+            Effect::Give(fd, cell) => {
+                let process = Process::kept(alloc, me).with(*fd, &Value::Fixed(*cell))?;
+                Change::only(alloc, me, process)
+            }
+            Effect::GiveTwo(a, b, cell) => Change::given_two(alloc, me, *a, *b, *cell),
+            Effect::Change(to, op, from) => Change::taken(alloc, me, *to, op, *from),
+            Effect::Fork(child) => Change::only(alloc, *child, Process::kept(alloc, me)),
+            Effect::ForkAs(child, fd) => Change::forked(alloc, me, *child, *fd),
+        }
+    }
+
+    /// A child is as its parent, but for a descriptor of which nothing is known in either.
+    fn forked(alloc: Global, me: Pid, child: Pid, fd: Fd) -> Result<Change, NoMemory>
+        ensures cells { IfOk result (λ change. (p f : ℕ) → value_of change p f ≡ (if (p == me || p == child) && f == fd then Value.Fixed Cell.Unknown else (if p == child then Value.Of me f same else Value.Of p f same))) }
+        ensures modes { IfOk result (λ change. (p : ℕ) → mode_of change p ≡ (if p == child then ModeValue.Of me else ModeValue.Of p)) }
+        ensures listed { IfOk result (λ change. (p : ℕ) → is_listed change p ≡ (p == child || p == me)) }
+    {
+        let unknown = Value::Fixed(Cell::Unknown);
+        let parent = Process::kept(alloc, me).with(fd, &unknown)?;
+        let made = Process::kept(alloc, me).with(fd, &unknown)?;
+        Change::only(alloc, me, parent)?.and(alloc, child, made)
+    }
+}
+
+/// A process that holds these descriptors and no others.
+fn started(alloc: Global, fds: &[Fd], held: &Value) -> Result<Process, NoMemory>
+    requires { held.now ≡ Value.Fixed (Cell.Held all OnExec.Unsure) }
+    ensures cells { IfOk result (λ process. (f : ℕ) → value_in process f ≡ Value.Fixed (started_cell fds.now f)) }
+    ensures mode { IfOk result (λ process. process.mode ≡ ModeValue.Fixed Mode.Outside) }
+{
+    let mut cells = Cells::new(alloc);
+    for fd in fds {
+        cells.set(*fd, held)?;
+    }
+    Ok(Process {
+        base: Base::alike(Cell::Closed),
+        mode: ModeValue::Fixed(Mode::Outside),
+        cells,
+    })
+}

@@ -1,0 +1,80 @@
+//! What is known of a segment, whatever the state before it.
+
+ghost use Rattle.std.specs.Prelude.{◌≡◌, ◌∷◌, [], ◌++◌, ◌||◌, List, IfOk};
+ghost use Rattle.cap_machine.specs.declared.step.Step.{Step};
+ghost use Rattle.cap_summary.specs.Steps.{step_of};
+ghost use Rattle.cap_summary.specs.Knows.{Knows};
+
+use crate::change::Change;
+use crate::conditions::Condition;
+use crate::line_conditions::{always, conditions_of};
+use crate::merge::merged;
+use crate::step::Step as SharedStep;
+use cap_machine::rule_of;
+use cap_tree::NoMemory;
+use std::alloc::Global;
+use std::rc::Rc;
+
+/// Of a segment with more conditions or processes than this, nothing is known of what follows it too.
+const LARGE: usize = 40_000;
+
+/// What a segment does, and under which conditions on the state before it something is found in it.
+#[derive(Drop)]
+pub struct Known {
+    pub(crate) change: Rc<Change>,
+    pub(crate) always: bool,
+    pub(crate) conditions: Rc<Vec<Condition>>,
+}
+
+fn one_of(a: bool, b: bool, c: bool) -> bool
+    ensures { result ≡ (a || (b || c)) }
+{
+    a || b || c
+}
+
+impl Known {
+    /// No step.
+    pub(crate) fn empty(alloc: Global) -> Result<Known, NoMemory>
+        ensures { IfOk result (λ known. Knows known []) }
+    {
+        Ok(Known {
+            change: Rc::new(alloc, Change::nothing(alloc))?,
+            always: false,
+            conditions: Rc::new(alloc, Vec::new(alloc))?,
+        })
+    }
+
+    /// One step.
+    pub(crate) fn of_step(alloc: Global, step: &SharedStep) -> Result<Known, NoMemory>
+        ensures { IfOk result (λ known. Knows known (step_of step.now ∷ [])) }
+    {
+        let line = &*step.line;
+        let rule = rule_of(step.profile, line);
+        let change = Change::of_effect(alloc, line.pid, &rule.effect)?;
+        let conditions = conditions_of(alloc, line.pid, &rule.demand)?;
+        Ok(Known {
+            change: Rc::new(alloc, change)?,
+            always: always(&rule.demand),
+            conditions: Rc::new(alloc, conditions)?,
+        })
+    }
+
+    /// Whether it is too large to be joined to another.
+    pub(crate) fn is_large(&self) -> bool {
+        self.conditions.len() > LARGE || self.change.processes.len() > LARGE
+    }
+
+    /// A segment and then another.
+    pub(crate) fn join(alloc: Global, a: &Known, b: &Known) -> Result<Known, NoMemory>
+        ensures { IfOk result (λ whole. (t u : List Step) → Knows a.now t → Knows b.now u → Knows whole (t ++ u)) }
+    {
+        let change = a.change.join(alloc, &b.change)?;
+        let (met, moved) = a.change.behind(alloc, &b.conditions)?;
+        let conditions = merged(alloc, &a.conditions, &moved)?;
+        Ok(Known {
+            change: Rc::new(alloc, change)?,
+            always: one_of(a.always, b.always, met),
+            conditions: Rc::new(alloc, conditions)?,
+        })
+    }
+}

@@ -1,0 +1,134 @@
+//! The conditions under which something is said of one line.
+
+ghost use Rattle.std.specs.Prelude.{◌≡◌, ◌∷◌, ◌++◌, [], IfOk};
+ghost use Rattle.cap_summary.specs.LineConditions.{need_of, excused_of, success_conditions, refused_of, line_conditions, line_always};
+
+use crate::conditions::{CellTest, Condition, HeldTest, Refused, Source, put};
+use cap_machine::{Check, Checks, Class, Demand, Reply};
+use cap_rights::RightSet;
+use cap_trace::{Fd, Pid};
+use cap_tree::NoMemory;
+use std::alloc::Global;
+
+/// A check of a call that succeeded: something is said where the cell is closed, or lacks the rights.
+fn need(me: Pid, check: &Check) -> Condition
+    ensures { result ≡ need_of me check.now }
+{
+    Condition::Cell(Source {
+        pid: me,
+        fd: check.fd,
+        test: CellTest {
+            unknown: false,
+            closed: true,
+            set: HeldTest::Lacks(check.needs),
+            clear: HeldTest::Lacks(check.needs),
+            unsure: HeldTest::Lacks(check.needs),
+        },
+    })
+}
+
+/// A cell that has the excuse.
+fn excused(me: Pid, fd: Fd, excuse: &RightSet) -> Source
+    ensures { result ≡ excused_of me fd excuse.now }
+{
+    Source {
+        pid: me,
+        fd,
+        test: CellTest {
+            unknown: false,
+            closed: false,
+            set: HeldTest::Has(*excuse),
+            clear: HeldTest::Has(*excuse),
+            unsure: HeldTest::Has(*excuse),
+        },
+    }
+}
+
+/// The conditions of a call that succeeded.
+fn conditions_of_success(
+    alloc: Global,
+    me: Pid,
+    demand: &Demand,
+) -> Result<Vec<Condition>, NoMemory>
+    ensures { IfOk result (λ conditions. conditions.items ≡ success_conditions demand.now me) }
+{
+    let mut conditions = Vec::new(alloc);
+    if demand.class == Class::Forbidden {
+        put(&mut conditions, &Condition::Inside(me))?;
+    }
+    match &demand.checks {
+        Checks::Nothing => {}
+        Checks::One(a) => put(&mut conditions, &need(me, a))?,
+        Checks::Two(a, b) => {
+            put(&mut conditions, &need(me, a))?;
+            put(&mut conditions, &need(me, b))?;
+        }
+    }
+    Ok(conditions)
+}
+
+/// The condition of a call that was refused for lack of rights.
+fn refusal_of(me: Pid, demand: &Demand) -> Option<Refused>
+    ensures { result ≡ refused_of demand.now me }
+{
+    let mode = if demand.at { Some(me) } else { None };
+    match &demand.checks {
+        Checks::Nothing => None,
+        Checks::One(a) => match &a.excuse {
+            None => None,
+            Some(x) => Some(Refused {
+                mode,
+                first: Some(excused(me, a.fd, x)),
+                second: None,
+            }),
+        },
+        Checks::Two(a, b) => match (&a.excuse, &b.excuse) {
+            (Some(x), Some(y)) => Some(Refused {
+                mode,
+                first: Some(excused(me, a.fd, x)),
+                second: Some(excused(me, b.fd, y)),
+            }),
+            _ => None,
+        },
+    }
+}
+
+/// Whether something is said of a line whatever the state.
+pub(crate) fn always(demand: &Demand) -> bool
+    ensures { result ≡ line_always demand.now }
+{
+    match demand.reply {
+        Reply::NotPermitted => demand.class == Class::Allowed,
+        _ => false,
+    }
+}
+
+/// The conditions of a line.
+pub(crate) fn conditions_of(
+    alloc: Global,
+    me: Pid,
+    demand: &Demand,
+) -> Result<Vec<Condition>, NoMemory>
+    ensures { IfOk result (λ conditions. conditions.items ≡ line_conditions demand.now me) }
+{
+    let mut conditions = Vec::new(alloc);
+    match demand.reply {
+        Reply::Success => {
+            let all = conditions_of_success(alloc, me, demand)?;
+            Ok(all)
+        }
+        Reply::NotCapable => {
+            if let Some(refused) = refusal_of(me, demand) {
+                conditions.push(Condition::Refused(refused))?;
+            }
+            Ok(conditions)
+        }
+        Reply::NotPermitted => {
+            if demand.class != Class::Allowed {
+                conditions.push(Condition::Outside(me))?;
+            }
+            Ok(conditions)
+        }
+        Reply::Other => Ok(conditions),
+    }
+}

@@ -1,0 +1,152 @@
+//! What becomes of conditions behind a change.
+
+ghost use Rattle.std.specs.Prelude.{◌≡◌, ◌||◌, ◌++◌, ◌∷◌, [], IfOk, IfSome, IfNone, false};
+ghost use Rattle.cap_machine.specs.State.{State};
+ghost use Rattle.cap_summary.specs.Changes.{changed};
+ghost use Rattle.cap_summary.specs.Conditions.{source_holds, part_holds, outside_holds, refused_holds, holds, any_holds};
+ghost use Rattle.cap_summary.specs.Moved.{moved_holds, moved_source_holds};
+
+use crate::change::Change;
+use crate::conditions::{Condition, Refused, Source, put};
+use crate::values::{ModeValue, Value};
+use cap_machine::Mode;
+use cap_trace::Pid;
+use cap_tree::NoMemory;
+use std::alloc::Global;
+
+/// What has become of a condition behind a change.
+#[derive(Clone, Copy)]
+pub(crate) enum Moved {
+    Never,
+    Always,
+    To(Condition),
+}
+
+/// What has become of a source behind a change.
+#[derive(Clone, Copy)]
+pub(crate) enum MovedSource {
+    Never,
+    Always,
+    To(Source),
+}
+
+impl Change {
+    /// What has become of a source behind this change.
+    #[tactic(auto, using(crate::proofs::Holding::passes_before))]
+    fn moved_source(&self, source: &Source) -> MovedSource
+        ensures { (s : State) → moved_source_holds s result ≡ source_holds (changed self.now s) source.now }
+    {
+        match self.value(source.pid, source.fd) {
+            Value::Fixed(cell) => {
+                if source.test.passes(cell) {
+                    MovedSource::Always
+                } else {
+                    MovedSource::Never
+                }
+            }
+            Value::Of(pid, fd, op) => {
+                let test = source.test.before(&op);
+                if test.is_empty() {
+                    return MovedSource::Never;
+                }
+                MovedSource::To(Source { pid, fd, test })
+            }
+        }
+    }
+
+    /// What is left of a part of a refusal; none where it never holds.
+    fn moved_part(&self, part: &Option<Source>) -> Option<Option<Source>>
+        ensures left { IfSome result (λ new. (s : State) → part_holds s new ≡ part_holds (changed self.now s) part.now) }
+        ensures never { IfNone result ((s : State) → part_holds (changed self.now s) part.now ≡ false) }
+    {
+        let Some(source) = part else {
+            return Some(None);
+        };
+        match self.moved_source(source) {
+            MovedSource::Never => None,
+            MovedSource::Always => Some(None),
+            MovedSource::To(new) => Some(Some(new)),
+        }
+    }
+
+    fn moved_mode(&self, mode: Option<Pid>) -> Option<Option<Pid>>
+        ensures left { IfSome result (λ new. (s : State) → outside_holds s new ≡ outside_holds (changed self.now s) mode) }
+        ensures never { IfNone result ((s : State) → outside_holds (changed self.now s) mode ≡ false) }
+    {
+        let Some(pid) = mode else {
+            return Some(None);
+        };
+        match self.mode(pid) {
+            ModeValue::Fixed(Mode::Outside) => Some(None),
+            ModeValue::Fixed(_) => None,
+            ModeValue::Of(source) => Some(Some(source)),
+        }
+    }
+
+    #[tactic(auto, using(crate::proofs::Bools::and_false))]
+    fn moved_refused(&self, refused: &Refused) -> Moved
+        ensures { (s : State) → moved_holds s result ≡ refused_holds (changed self.now s) refused.now }
+    {
+        let Some(mode) = self.moved_mode(refused.mode) else {
+            return Moved::Never;
+        };
+        let Some(first) = self.moved_part(&refused.first) else {
+            return Moved::Never;
+        };
+        let Some(second) = self.moved_part(&refused.second) else {
+            return Moved::Never;
+        };
+        if mode.is_none() && first.is_none() && second.is_none() {
+            return Moved::Always;
+        }
+        Moved::To(Condition::Refused(Refused {
+            mode,
+            first,
+            second,
+        }))
+    }
+
+    /// What has become of a condition behind this change.
+    fn moved(&self, condition: &Condition) -> Moved
+        ensures { (s : State) → moved_holds s result ≡ holds (changed self.now s) condition.now }
+    {
+        match condition {
+            Condition::Cell(source) => match self.moved_source(source) {
+                MovedSource::Never => Moved::Never,
+                MovedSource::Always => Moved::Always,
+                MovedSource::To(new) => Moved::To(Condition::Cell(new)),
+            },
+            Condition::Inside(pid) => match self.mode(*pid) {
+                ModeValue::Fixed(Mode::Inside) => Moved::Always,
+                ModeValue::Fixed(_) => Moved::Never,
+                ModeValue::Of(source) => Moved::To(Condition::Inside(source)),
+            },
+            Condition::Outside(pid) => match self.mode(*pid) {
+                ModeValue::Fixed(Mode::Outside) => Moved::Always,
+                ModeValue::Fixed(_) => Moved::Never,
+                ModeValue::Of(source) => Moved::To(Condition::Outside(source)),
+            },
+            Condition::Refused(refused) => self.moved_refused(refused),
+        }
+    }
+
+    /// The conditions behind this change, and whether one of them holds in any case.
+    pub(crate) fn behind(
+        &self,
+        alloc: Global,
+        conditions: &[Condition],
+    ) -> Result<(bool, Vec<Condition>), NoMemory>
+        ensures { IfOk result (λ r. (s : State) → (r.0 || any_holds s r.1.items) ≡ any_holds (changed self.now s) conditions.now) }
+    {
+        let mut always = false;
+        let mut left = Vec::new(alloc);
+        for condition in conditions {
+            match self.moved(condition) {
+                Moved::Never => {}
+                Moved::Always => always = true,
+                Moved::To(new) => put(&mut left, &new)?,
+            }
+        }
+        Ok((always, left))
+    }
+}

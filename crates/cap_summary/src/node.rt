@@ -1,0 +1,245 @@
+//! The nodes of a summary. A contract sees a node as its steps.
+
+ghost use Rattle.std.specs.Prelude.{◌≡◌, ℕ, ◌+◌, ◌^◌, ◌<◌, ◌≤◌, ◌++◌, ◌∷◌, [], length, map, IfOk, OnOk, IfSome, IfNone};
+ghost use Rattle.cap_summary.specs.Knows.{Knows};
+ghost use Rattle.cap_machine.specs.Check.{check};
+ghost use Rattle.cap_machine.specs.Laws.{later};
+ghost use Rattle.cap_summary.specs.Before.{state_before};
+ghost use Rattle.cap_summary.specs.Positions.{within};
+ghost use Rattle.cap_summary.specs.Rest.{rest_steps, AllSome};
+ghost use Rattle.cap_summary.specs.Steps.{step_of, steps_of};
+ghost use Rattle.cap_summary.specs.Content.{content_steps, HasParts};
+
+use crate::before::{Before, Positions, judge_run};
+use crate::known::Known;
+use crate::step::Step as SharedStep;
+use cap_machine::Found;
+use cap_tree::NoMemory;
+use std::alloc::Global;
+use std::marker::Model;
+use std::rc::Rc;
+
+/// The most steps that a run holds.
+const RUN_STEPS: usize = 32;
+
+#[cycle(node)]
+#[derive(Drop)]
+pub(crate) struct Node {
+    len: usize,
+    known: Option<Known>,
+    content: Content,
+}
+
+#[cycle(node)]
+#[derive(Drop)]
+pub(crate) enum Content {
+    Run(Vec<SharedStep>),
+    Both(Rc<Node>, Rc<Node>),
+}
+
+impl Model for Node {
+    ghost use Rattle.std.specs.Prelude.{length};
+    ghost use Rattle.std.specs.Prelude.{List};
+    ghost use Rattle.cap_machine.specs.declared.step.Step.{Step};
+
+    ghost Value = { List Step };
+
+    ghost use Rattle.cap_summary.specs.Content.{content_steps, IsGood};
+
+    ghost view = { λ a. content_steps a.content };
+
+    ghost invariant = { λ a. IsGood a.len a.known a.content };
+
+    ghost size = { length };
+
+    ghost use Rattle.cap_summary.specs.Falls.{deep_le_length};
+
+    ghost size_decreases = { λ a h. deep_le_length a.content h.parts };
+}
+
+impl Node {
+    pub(crate) fn len(&self) -> usize
+        ensures count { result ≡ length self.now }
+        ensures few { result ≤ 2 ^ 30 }
+    {
+        self.len
+    }
+
+    /// Adds the same steps, their lines shared.
+    fn share(run: &mut Vec<SharedStep>, more: &[SharedStep]) -> Result<(), NoMemory>
+        ensures { OnOk result (steps_of run.new.items ≡ steps_of run.old.items ++ steps_of more.now) }
+    {
+        run.extend_from_slice(more)?;
+        Ok(())
+    }
+
+    /// The steps of two runs.
+    fn joined(
+        alloc: Global,
+        front: &[SharedStep],
+        back: &[SharedStep],
+    ) -> Result<Vec<SharedStep>, NoMemory>
+        requires { length front.now + length back.now ≤ 2 ^ 30 }
+        ensures { IfOk result (λ run. steps_of run.items ≡ steps_of front.now ++ steps_of back.now) }
+    {
+        let mut run = Vec::with_capacity(alloc, front.len() + back.len())?;
+        Node::share(&mut run, front)?;
+        Node::share(&mut run, back)?;
+        Ok(run)
+    }
+
+    /// The steps of two nodes that aren't empty.
+    fn both(alloc: Global, left: &Rc<Node>, right: &Rc<Node>) -> Result<Content, NoMemory>
+        requires first { 0 < length left.now.value }
+        requires second { 0 < length right.now.value }
+        requires few { length left.now.value + length right.now.value ≤ 2 ^ 30 }
+        ensures steps { IfOk result (λ content. content_steps content ≡ left.now.value ++ right.now.value) }
+        ensures parts { IfOk result (λ content. HasParts content) }
+    {
+        if left.len + right.len <= RUN_STEPS {
+            if let (Content::Run(front), Content::Run(back)) = (&left.content, &right.content) {
+                let run = Node::joined(alloc, front, back)?;
+                return Ok(Content::Run(run));
+            }
+        }
+        Ok(Content::Both(left.clone()?, right.clone()?))
+    }
+
+    /// The steps of the one and then those of the other.
+    pub(crate) fn join(
+        alloc: Global,
+        left: &Rc<Node>,
+        right: &Rc<Node>,
+    ) -> Result<Rc<Node>, NoMemory>
+        requires few { length left.now.value + length right.now.value ≤ 2 ^ 30 }
+        ensures steps { IfOk result (λ n. n.value ≡ left.now.value ++ right.now.value) }
+    {
+        if left.len() == 0 {
+            return Ok(right.clone()?);
+        }
+        if right.len() == 0 {
+            return Ok(left.clone()?);
+        }
+        let known = Node::known_of(alloc, left, right)?;
+        let content = if known.is_some() {
+            Node::both(alloc, left, right)?
+        } else {
+            Content::Both(left.clone()?, right.clone()?)
+        };
+        let node = Node {
+            len: left.len() + right.len(),
+            known,
+            content,
+        };
+        Ok(Rc::new(alloc, node)?)
+    }
+
+    /// What is known of the steps of two nodes; none where that would be too large a table.
+    fn known_of(alloc: Global, left: &Node, right: &Node) -> Result<Option<Known>, NoMemory>
+        ensures { IfOk result (λ known. IfSome known (λ known. Knows known (left.now ++ right.now))) }
+    {
+        let (Some(a), Some(b)) = (&left.known, &right.known) else {
+            return Ok(None);
+        };
+        if a.is_large() || b.is_large() {
+            return Ok(None);
+        }
+        let whole = Known::join(alloc, a, b)?;
+        Ok(Some(whole))
+    }
+
+    /// No step.
+    pub(crate) fn empty(alloc: Global) -> Result<Rc<Node>, NoMemory>
+        ensures { IfOk result (λ n. n.value ≡ []) }
+    {
+        let known = Known::empty(alloc)?;
+        let node = Node {
+            len: 0,
+            known: Some(known),
+            content: Content::Run(Vec::new(alloc)),
+        };
+        Ok(Rc::new(alloc, node)?)
+    }
+
+    /// One step.
+    pub(crate) fn one(alloc: Global, step: &SharedStep) -> Result<Rc<Node>, NoMemory>
+        ensures { IfOk result (λ n. n.value ≡ step_of step.now ∷ []) }
+    {
+        let known = Known::of_step(alloc, step)?;
+        let mut run = Vec::with_capacity(alloc, 1)?;
+        run.push(step.clone()?)?;
+        let node = Node {
+            len: 1,
+            known: Some(known),
+            content: Content::Run(run),
+        };
+        Ok(Rc::new(alloc, node)?)
+    }
+
+    /// What is known of the steps, where it is kept.
+    pub(crate) fn known(&self) -> Option<&Known>
+        ensures { IfSome result (λ known. Knows known.now self.now) }
+    {
+        self.known.as_ref()
+    }
+
+    /// Notes what is found in the steps and then in the rest, which begin in this state behind so many others, at the
+    /// positions that are asked for. It visits only parts that have such positions.
+    pub(crate) fn resolve(
+        &self,
+        alloc: Global,
+        before: &Before<'_>,
+        at: usize,
+        rest: &Rest<'_>,
+        asked: &Positions,
+        found: &mut Vec<Found>,
+    ) -> Result<(), NoMemory>
+        requires short { at + (length self.now + length (rest_steps rest.now)) ≤ 2 ^ 31 }
+        requires some { 0 < length self.now }
+        requires each { AllSome rest.now }
+        ensures { OnOk result (found.new.items ≡ found.old.items ++ within asked.now.from asked.now.to (map (later at) (check (state_before before.now) (self.now ++ rest_steps rest.now)))) }
+    {
+        if asked.to <= at {
+            return Ok(());
+        }
+        if let Some(known) = &self.known {
+            if at + self.len >= asked.from && before.finds(known) {
+                match &self.content {
+                    Content::Run(run) => judge_run(alloc, run, before, at, asked, found)?,
+                    Content::Both(a, b) => {
+                        a.resolve(
+                            alloc,
+                            before,
+                            at,
+                            &Rest::Then(&**b, &Rest::End),
+                            asked,
+                            found,
+                        )?;
+                    }
+                }
+            }
+            return match rest {
+                Rest::End => Ok(()),
+                Rest::Then(node, rest) => node.resolve(
+                    alloc,
+                    &Before::After(&*before, &*known.change),
+                    at + self.len,
+                    rest,
+                    asked,
+                    found,
+                ),
+            };
+        }
+        let Content::Both(a, b) = &self.content else {
+            unreachable!()
+        };
+        a.resolve(alloc, before, at, &Rest::Then(&**b, &*rest), asked, found)
+    }
+}
+
+/// The nodes that follow.
+#[derive(Clone, Copy)]
+pub(crate) enum Rest<'a> {
+    End,
+    Then(&'a Node, &'a Rest<'a>),
+}

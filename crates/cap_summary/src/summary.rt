@@ -1,0 +1,104 @@
+//! The summary of a segment of a trace.
+
+ghost use Rattle.std.specs.Prelude.{◌≡◌, ℕ, ◌+◌, ◌^◌, ◌≤◌, ◌<◌, ◌++◌, ◌∷◌, [], List, length, IfOk, OnOk, IfSome, map};
+ghost use Rattle.cap_machine.specs.Check.{check};
+ghost use Rattle.cap_machine.specs.Table.{start_state};
+ghost use Rattle.cap_summary.specs.Knows.{Knows};
+ghost use Rattle.cap_summary.specs.Positions.{within};
+ghost use Rattle.cap_summary.specs.Stands.{Stands, summed_up};
+
+use crate::before::{Before, Positions};
+use crate::known::Known;
+use crate::node::{Node, Rest};
+use crate::step::Step;
+use cap_machine::{Found, Start};
+use cap_tree::{Meter, NoMemory, Segment};
+use std::alloc::Global;
+use std::rc::Rc;
+
+/// What a segment of a trace does and says, whatever the state before it. A clone shares all of it.
+#[derive(Drop)]
+pub struct Summary {
+    pub(crate) node: Rc<Node>,
+}
+
+impl Summary {
+    /// What is known of the steps, where it is kept.
+    pub fn known(&self) -> Option<&Known>
+        ensures { IfSome result (λ known. Knows known.now (summed_up self.now)) }
+    {
+        self.node.known()
+    }
+}
+
+/// What is found in the steps of a summary from a start, in order and with positions from 1.
+///
+/// `NoMemory` when out of memory; the summary is unchanged.
+pub fn resolve(alloc: Global, summary: &Summary, start: &Start) -> Result<Vec<Found>, NoMemory>
+    ensures { IfOk result (λ found. found.items ≡ check (start_state start.now) (summed_up summary.now)) }
+{
+    let found = resolve_range(alloc, summary, start, 1, summary.node.len())?;
+    Ok(found)
+}
+
+/// The part of what [`resolve`] answers that stands at positions from one to another, both included. It visits only the
+/// parts of the summary that have such positions.
+///
+/// `NoMemory` when out of memory; the summary is unchanged.
+pub fn resolve_range(
+    alloc: Global,
+    summary: &Summary,
+    start: &Start,
+    from: usize,
+    to: usize,
+) -> Result<Vec<Found>, NoMemory>
+    ensures { IfOk result (λ found. found.items ≡ within from to (check (start_state start.now) (summed_up summary.now))) }
+{
+    let mut found = Vec::new(alloc);
+    if summary.node.len() == 0 {
+        return Ok(found);
+    }
+    let before = Before::At(&*start);
+    let asked = Positions { from, to };
+    summary
+        .node
+        .resolve(alloc, &before, 0, &Rest::End, &asked, &mut found)?;
+    Ok(found)
+}
+
+impl Segment for Summary {
+    type Item = Step;
+
+    ghost stands = { Stands };
+
+    ghost size = { λ z. length (summed_up z) };
+
+    ghost use Rattle.cap_summary.specs.Sized.{stands_sized};
+
+    ghost sized = { stands_sized };
+
+    fn empty(alloc: Global) -> Result<Summary, NoMemory> {
+        let node = Node::empty(alloc)?;
+        Ok(Summary { node })
+    }
+
+    fn one(alloc: Global, step: &Step) -> Result<Summary, NoMemory> {
+        let node = Node::one(alloc, step)?;
+        Ok(Summary { node })
+    }
+
+    fn len(&self) -> usize {
+        self.node.len()
+    }
+
+    fn join(
+        alloc: Global,
+        meter: &mut Meter,
+        left: &Summary,
+        right: &Summary,
+    ) -> Result<Summary, NoMemory> {
+        let node = Node::join(alloc, &left.node, &right.node)?;
+        meter.tick();
+        Ok(Summary { node })
+    }
+}
