@@ -29,3 +29,4 @@ pub record IsGood (size : ℕ) (kept : Option Known) (content : Content) : Type 
   pub few : size ≤ 2 ^ 30
   pub known : IfSome kept (λ known. Knows known (content_steps content))
   pub wide : IfNone kept (IsBoth content)
+  pub long : IfNone kept (256 < size)

@@ -22,6 +22,9 @@ use std::rc::Rc;
 /// The most steps that a run holds.
 const RUN_STEPS: usize = 32;
 
+/// Something is known of all that are no more steps than this.
+const KNOWN_STEPS: usize = 256;
+
 #[cycle(node)]
 #[derive(Drop)]
 pub(crate) struct Node {
@@ -134,14 +137,18 @@ impl Node {
         Ok(Rc::new(alloc, node)?)
     }
 
-    /// What is known of the steps of two nodes; none where that would be too large a table.
+    /// What is known of the steps of two nodes; none where there are many and the tables would be too large.
     fn known_of(alloc: Global, left: &Node, right: &Node) -> Result<Option<Known>, NoMemory>
-        ensures { IfOk result (λ known. IfSome known (λ known. Knows known (left.now ++ right.now))) }
+        ensures knows { IfOk result (λ known. IfSome known (λ known. Knows known (left.now ++ right.now))) }
+        ensures short { IfOk result (λ known. IfNone known (256 < length left.now + length right.now)) }
     {
-        let (Some(a), Some(b)) = (&left.known, &right.known) else {
+        let Some(a) = &left.known else {
             return Ok(None);
         };
-        if a.is_large() || b.is_large() {
+        let Some(b) = &right.known else {
+            return Ok(None);
+        };
+        if left.len + right.len > KNOWN_STEPS && (a.is_large() || b.is_large()) {
             return Ok(None);
         }
         let whole = Known::join(alloc, a, b)?;
@@ -178,7 +185,8 @@ impl Node {
 
     /// What is known of the steps, where it is kept.
     pub(crate) fn known(&self) -> Option<&Known>
-        ensures { IfSome result (λ known. Knows known.now self.now) }
+        ensures knows { IfSome result (λ known. Knows known.now self.now) }
+        ensures short { IfNone result (256 < length self.now) }
     {
         self.known.as_ref()
     }

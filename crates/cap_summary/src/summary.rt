@@ -1,6 +1,6 @@
 //! The summary of a segment of a trace.
 
-ghost use Rattle.std.specs.Prelude.{◌≡◌, ℕ, ◌+◌, ◌^◌, ◌≤◌, ◌<◌, ◌++◌, ◌∷◌, [], List, length, IfOk, OnOk, IfSome, map};
+ghost use Rattle.std.specs.Prelude.{◌≡◌, ℕ, ◌+◌, ◌^◌, ◌≤◌, ◌<◌, ◌++◌, ◌∷◌, [], List, length, IfOk, OnOk, IfSome, IfNone, map};
 ghost use Rattle.cap_machine.specs.Check.{check};
 ghost use Rattle.cap_machine.specs.Table.{start_state};
 ghost use Rattle.cap_summary.specs.Knows.{Knows};
@@ -23,9 +23,10 @@ pub struct Summary {
 }
 
 impl Summary {
-    /// What is known of the steps, where it is kept.
+    /// What is known of the steps. Of more than 256 steps nothing may be known, where the tables would be too large.
     pub fn known(&self) -> Option<&Known>
-        ensures { IfSome result (λ known. Knows known.now (summed_up self.now)) }
+        ensures knows { IfSome result (λ known. Knows known.now (summed_up self.now)) }
+        ensures short { IfNone result (256 < length (summed_up self.now)) }
     {
         self.node.known()
     }
