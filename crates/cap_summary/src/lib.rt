@@ -19,6 +19,6 @@ pub use change::{Change, Process};
 pub use conditions::{CellTest, Condition, HeldTest, Refused, Source};
 pub use known::Known;
 pub use step::Step;
-pub use summary::{Summary, resolve};
+pub use summary::{Summary, resolve, resolve_range};
 pub use tables::{Cells, Processes};
 pub use values::{Base, ModeValue, Others, Passing, Value};

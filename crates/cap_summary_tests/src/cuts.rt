@@ -5,8 +5,9 @@ use cap_machine::{Cell, Found, Mode, OnExec, Profile, Start, put_count, put_find
 use cap_rights::{RightSet, parse_rights};
 use cap_summary::{Step, Summary, resolve, resolve_range};
 use cap_trace::parse_line;
-use cap_tree::{Meter, Segment, Tree};
+use cap_tree::{Meter, NoMemory, Segment, Tree};
 use std::alloc::Global;
+use std::process::Abort;
 use std::rc::Rc;
 use std::test::Fail;
 
@@ -22,27 +23,29 @@ fn steps_of(alloc: Global, profile: Profile, trace: &[u8]) -> Result<Vec<Rc<Step
 }
 
 /// The tree of a part.
-fn tree_of(alloc: Global, steps: &[Rc<Step>]) -> Result<Tree<Summary>, Fail> {
+fn tree_of(alloc: Global, steps: &[Rc<Step>]) -> Result<Tree<Summary>, NoMemory> {
     let mut items = Vec::new(alloc);
-    items.extend_from_slice(steps)?;
+    for step in steps {
+        items.push(step.clone()?)?;
+    }
     if items.len() > 1000 {
-        return Err(Fail);
+        return Err(NoMemory);
     }
     let mut meter = Meter::new();
-    Ok(Tree::from_list(alloc, &mut meter, items)?)
+    Tree::from_list(alloc, &mut meter, items)
 }
 
 /// The summary of a trace that is cut in two at a place.
-fn joined_at(alloc: Global, steps: &[Rc<Step>], place: usize) -> Result<Summary, Fail> {
+fn joined_at(alloc: Global, steps: &[Rc<Step>], place: usize) -> Result<Summary, NoMemory> {
     let (front, back) = steps.split_at(place.min(steps.len()));
     let front = tree_of(alloc, front)?;
     let back = tree_of(alloc, back)?;
     let (left, right) = (front.summary(), back.summary());
     if left.len() > 1000 || right.len() > 1000 {
-        return Err(Fail);
+        return Err(NoMemory);
     }
     let mut meter = Meter::new();
-    Ok(Summary::join(alloc, &mut meter, left, right)?)
+    Summary::join(alloc, &mut meter, left, right)
 }
 
 /// The report of these findings.
@@ -58,8 +61,13 @@ fn report_of(alloc: Global, steps: &[Rc<Step>], found: &[Found]) -> Result<Vec<u
 }
 
 /// Cuts a trace at each place, and compares the report of the two parts joined.
-fn cut_each(rt: &HostRuntime, profile: Profile, trace: &[u8], report: &[u8]) -> Result<(), Fail> {
-    let alloc = rt.alloc();
+fn cut_each(
+    rt: &impl Abort,
+    alloc: Global,
+    profile: Profile,
+    trace: &[u8],
+    report: &[u8],
+) -> Result<(), Fail> {
     let start = Start::unknown(alloc);
     let steps = steps_of(alloc, profile, trace)?;
     for place in 0..steps.len() + 1 {
@@ -74,8 +82,8 @@ fn cut_each(rt: &HostRuntime, profile: Profile, trace: &[u8], report: &[u8]) -> 
 #[test]
 fn rows_are_cut_in_both_profiles(rt: HostRuntime) -> Result<(), Fail> {
     for (trace, report) in BOTH {
-        cut_each(&rt, Profile::One, trace, report)?;
-        cut_each(&rt, Profile::Two, trace, report)?;
+        cut_each(&rt, rt.alloc(), Profile::One, trace, report)?;
+        cut_each(&rt, rt.alloc(), Profile::Two, trace, report)?;
     }
     Ok(())
 }
@@ -83,8 +91,8 @@ fn rows_are_cut_in_both_profiles(rt: HostRuntime) -> Result<(), Fail> {
 #[test]
 fn rows_are_cut_in_each_profile(rt: HostRuntime) -> Result<(), Fail> {
     for (trace, one, two) in EACH {
-        cut_each(&rt, Profile::One, trace, one)?;
-        cut_each(&rt, Profile::Two, trace, two)?;
+        cut_each(&rt, rt.alloc(), Profile::One, trace, one)?;
+        cut_each(&rt, rt.alloc(), Profile::Two, trace, two)?;
     }
     Ok(())
 }
@@ -101,18 +109,22 @@ fn start_with(alloc: Global, mode: Mode, fd: u32, cell: Cell) -> Result<Start, F
 #[test]
 fn a_start_decides_what_is_found(rt: HostRuntime) -> Result<(), Fail> {
     let alloc = rt.alloc();
-    let rights = parse_rights(alloc, b"CAP_READ")?;
+    let rights = parse_rights(b"CAP_READ")?;
     let start = start_with(alloc, Mode::Unsure, 0, Cell::Held(rights, OnExec::Unsure))?;
     let steps = steps_of(alloc, Profile::One, b"100 write(0) RET 1")?;
     let whole = joined_at(alloc, &steps, 0)?;
     let found = resolve(alloc, &whole, &start)?;
     let text = report_of(alloc, &steps, &found)?;
-    assert_eq!(rt; text.as_slice(), b"1 100 write missing 0 CAP_WRITE\nfindings 1\n".as_slice());
+    assert_eq!(rt;
+        text.as_slice(),
+        b"1 100 write missing 0 CAP_WRITE\nfindings 1\n".as_slice()
+    );
     Ok(())
 }
 
 /// Two limits and an lseek, in three parts joined from the left.
-static SEEK: &[u8] = b"100 cap_rights_limit(6,CAP_READ|CAP_SEEK) RET 0\n100 cap_rights_limit(6,CAP_READ) RET 0\n100 lseek(6) RET 0";
+static SEEK: &[u8] =
+    b"100 cap_rights_limit(6,CAP_READ|CAP_SEEK) RET 0\n100 cap_rights_limit(6,CAP_READ) RET 0\n100 lseek(6) RET 0";
 
 #[test]
 fn a_descriptor_is_limited_under_each_start(rt: HostRuntime) -> Result<(), Fail> {
@@ -120,7 +132,8 @@ fn a_descriptor_is_limited_under_each_start(rt: HostRuntime) -> Result<(), Fail>
     let steps = steps_of(alloc, Profile::One, SEEK)?;
     let whole = joined_at(alloc, &steps, 2)?;
     let last = b"3 100 lseek missing 6 CAP_SEEK\nfindings 1\n".as_slice();
-    let both = b"1 100 cap_rights_limit closed 6\n3 100 lseek missing 6 CAP_SEEK\nfindings 2\n".as_slice();
+    let both =
+        b"1 100 cap_rights_limit closed 6\n3 100 lseek missing 6 CAP_SEEK\nfindings 2\n".as_slice();
     let all = Cell::Held(RightSet::all(), OnExec::Unsure);
     for (cell, report) in [(Cell::Unknown, last), (Cell::Closed, both), (all, last)] {
         let start = start_with(alloc, Mode::Unsure, 6, cell)?;
@@ -137,7 +150,15 @@ fn a_range_has_its_findings(rt: HostRuntime) -> Result<(), Fail> {
     let steps = steps_of(alloc, Profile::One, SEEK)?;
     let whole = joined_at(alloc, &steps, 1)?;
     let start = start_with(alloc, Mode::Unsure, 6, Cell::Closed)?;
-    for (from, to, count) in [(1, 3, 2), (1, 1, 1), (2, 2, 0), (2, 3, 1), (3, 9, 1), (0, 0, 0), (3, 2, 0)] {
+    for (from, to, count) in [
+        (1, 3, 2),
+        (1, 1, 1),
+        (2, 2, 0),
+        (2, 3, 1),
+        (3, 9, 1),
+        (0, 0, 0),
+        (3, 2, 0),
+    ] {
         let found = resolve_range(alloc, &whole, &start, from, to)?;
         assert_eq!(rt; found.len(), count, "from {from} to {to}");
     }
@@ -147,10 +168,16 @@ fn a_range_has_its_findings(rt: HostRuntime) -> Result<(), Fail> {
 #[test]
 fn many_lines_are_summed_up(rt: HostRuntime) -> Result<(), Fail> {
     let alloc = rt.alloc();
-    let mut steps = steps_of(alloc, Profile::Two, b"100 cap_rights_limit(3,CAP_READ) RET 0")?;
+    let mut steps = steps_of(
+        alloc,
+        Profile::Two,
+        b"100 cap_rights_limit(3,CAP_READ) RET 0",
+    )?;
     for _ in 0..300 {
         let more = steps_of(alloc, Profile::Two, b"100 dup(3) RET 4\n100 write(4) RET 1")?;
-        steps.extend_from_slice(&more)?;
+        for step in more {
+            steps.push(step)?;
+        }
     }
     let whole = joined_at(alloc, &steps, 100)?;
     assert!(&rt; whole.known().is_some());
