@@ -35,6 +35,7 @@ impl Summary {
 /// What is found in the steps of a summary from a start, in order and with positions from 1.
 ///
 /// `NoMemory` when out of memory; the summary is unchanged.
+#[tactic(auto, using(crate::proofs::Resolving::found_whole))]
 pub fn resolve(alloc: Global, summary: &Summary, start: &Start) -> Result<Vec<Found>, NoMemory>
     ensures { IfOk result (λ found. found.items ≡ check (start_state start.now) (summed_up summary.now)) }
 {
@@ -46,6 +47,7 @@ pub fn resolve(alloc: Global, summary: &Summary, start: &Start) -> Result<Vec<Fo
 /// parts of the summary that have such positions.
 ///
 /// `NoMemory` when out of memory; the summary is unchanged.
+#[tactic(auto, using(crate::proofs::Resolving::found_all))]
 pub fn resolve_range(
     alloc: Global,
     summary: &Summary,
