@@ -47,6 +47,22 @@ impl Process {
     }
 }
 
+impl Process {
+    /// How many cells of another process it copies where it stands behind a change.
+    pub(crate) fn copied(&self, pid: Pid, change: &Change) -> usize {
+        let Others::Of(source, _) = self.base.others else {
+            return 0;
+        };
+        if source == pid {
+            return 0;
+        }
+        match change.processes.get(source) {
+            None => 0,
+            Some(process) => process.cells.len(),
+        }
+    }
+}
+
 impl Change {
     /// What has become of a descriptor of a process.
     pub(crate) fn value(&self, pid: Pid, fd: Fd) -> Value

@@ -15,7 +15,7 @@ use cap_tree::NoMemory;
 use std::alloc::Global;
 use std::rc::Rc;
 
-/// Of a segment with more conditions or processes than this, nothing is known of what follows it too.
+/// The most conditions, processes and cells that a segment of many steps lists.
 const LARGE: usize = 40_000;
 
 /// What a segment does, and under which conditions on the state before it something is found in it.
@@ -59,9 +59,16 @@ impl Known {
         })
     }
 
-    /// Whether it is too large to be joined to another.
-    pub(crate) fn is_large(&self) -> bool {
-        self.conditions.len() > LARGE || self.change.processes.len() > LARGE
+    /// How many conditions, processes and cells it lists.
+    fn size(&self) -> usize {
+        self.conditions.len().saturating_add(self.change.processes.size())
+    }
+
+    /// Whether what is known of a segment and then another may be too large a table.
+    pub(crate) fn is_large(a: &Known, b: &Known) -> bool {
+        let copied = b.change.processes.copied(&a.change);
+        let both = a.size().saturating_add(b.size());
+        both.saturating_add(copied) > LARGE
     }
 
     /// A segment and then another.

@@ -148,7 +148,7 @@ impl Node {
         let Some(b) = &right.known else {
             return Ok(None);
         };
-        if left.len + right.len > KNOWN_STEPS && (a.is_large() || b.is_large()) {
+        if left.len + right.len > KNOWN_STEPS && Known::is_large(a, b) {
             return Ok(None);
         }
         let whole = Known::join(alloc, a, b)?;

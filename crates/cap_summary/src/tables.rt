@@ -101,9 +101,22 @@ impl Processes {
         }
     }
 
-    /// How many are listed.
-    pub(crate) fn len(&self) -> usize {
-        self.map.len()
+    /// How many processes and cells are listed.
+    pub(crate) fn size(&self) -> usize {
+        let mut size = self.map.len();
+        for process in self.map.values() {
+            size = size.saturating_add(process.cells.len());
+        }
+        size
+    }
+
+    /// How many cells are listed twice where these processes stand behind a change: those that they have from others.
+    pub(crate) fn copied(&self, change: &Change) -> usize {
+        let mut copied = 0usize;
+        for (pid, process) in &self.map {
+            copied = copied.saturating_add(process.copied(*pid, change));
+        }
+        copied
     }
 
     /// Lists a process.
