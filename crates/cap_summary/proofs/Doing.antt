@@ -4,7 +4,6 @@ use Rattle.std.specs.Prelude.{is_some}
 use Rattle.std.proofs.lemmas.Bool.Decides.{eqb_tells}
 use Rattle.cap_machine.specs.declared.cell.Cell.{Cell}
 use Rattle.cap_machine.specs.declared.cell.Op.{Op}
-use Rattle.cap_machine.specs.declared.rule.Effect.{Effect}
 use Rattle.cap_machine.specs.declared.rule.Effect.TheVariants as effects
 use Rattle.cap_machine.specs.State.{State}
 use Rattle.cap_machine.specs.Op.{same}

@@ -20,7 +20,7 @@ use Rattle.cap_summary.specs.declared.change.Change.{Change}
 use Rattle.cap_summary.specs.declared.tables.Cells.{Cells}
 use Rattle.cap_summary.specs.Values.{read_cell, read_mode, passing_op, rest_value, unlisted, op_on}
 use Rattle.cap_summary.specs.Tables.{listed_value, process_at, or_else}
-use Rattle.cap_summary.specs.Changes.{value_at, value_in, value_of, cell_in, mode_in, mode_of, changed, JoinsProcess, JoinsListed, JoinsTo}
+use Rattle.cap_summary.specs.Changes.{value_at, value_in, value_of, cell_in, mode_in, changed, JoinsListed, JoinsTo}
 use Rattle.cap_summary.specs.Images.{under}
 
 pub applied_same : (c : Cell) → applied same c ≡ c

@@ -8,7 +8,7 @@ use Rattle.cap_machine.specs.declared.rule.Demand.{Demand}
 use Rattle.cap_machine.specs.declared.rule.Effect.{Effect}
 use Rattle.cap_machine.specs.declared.verdict.Found.{Found}
 use Rattle.cap_machine.specs.State.{State}
-use Rattle.cap_machine.specs.Touch.{Touch, Turn, stays, turns, follows, touch, turn}
+use Rattle.cap_machine.specs.Touch.{Touch, Turn, stays, touch, turn}
 use Rattle.cap_machine.specs.Effect.{effect_touch, effect_turn}
 use Rattle.cap_machine.specs.Rule.{demand}
 use Rattle.cap_machine.specs.Named.{names_pid, item_makes}

@@ -1,6 +1,6 @@
 -- Findings of segments, one after the other.
 use Rattle.std.proofs.Common.{◌≡◌, ℕ, ◌+◌, ◌<◌, ◌≤◌, List, [], ◌∷◌, ◌++◌, Bool, true, false, ◌&&◌, cond, length, map, refl, sym, ap, ◌∙◌, add_assoc, append_assoc, arith}
-use Rattle.std.specs.List.{filter, All}
+use Rattle.std.specs.List.{All}
 use Rattle.std.proofs.lemmas.List.{map-append, append-nil}
 use Rattle.std.proofs.lemmas.List.Elements.{filter-append, All-head, All-tail}
 use Rattle.std.proofs.lemmas.Bool.{lt-leb, le-leb}

@@ -1,5 +1,5 @@
 -- What becomes of each cell and mode over a segment, whatever the state before it.
-use Rattle.std.specs.Prelude.{◌≡◌, ℕ, Option, Some, None, unwrap_or, is_some, IsSomeAnd, MatchOption, ◌||◌, ◌==◌, Bool, true, false}
+use Rattle.std.specs.Prelude.{◌≡◌, ℕ, Option, unwrap_or, is_some, IsSomeAnd, MatchOption, ◌||◌, Bool}
 use Rattle.std.specs.Option.{option_map_or}
 use Rattle.cap_machine.specs.State.{State}
 use Rattle.cap_machine.specs.Op.{same}

@@ -1,5 +1,5 @@
 -- What a cell or a mode is after a segment, read under the state before it.
-use Rattle.std.specs.Prelude.{ℕ, Bool, true, false, Option, Some, None, nat_le, if◌then◌else◌}
+use Rattle.std.specs.Prelude.{ℕ, Bool, false, Option, Some, None, nat_le, if◌then◌else◌}
 use Rattle.cap_machine.specs.declared.cell.Cell.{Cell}
 use Rattle.cap_machine.specs.declared.cell.Cell.TheVariants.{Closed}
 use Rattle.cap_machine.specs.declared.cell.Mode.{Mode}

@@ -61,7 +61,9 @@ impl Known {
 
     /// How many conditions, processes and cells it lists.
     fn size(&self) -> usize {
-        self.conditions.len().saturating_add(self.change.processes.size())
+        self.conditions
+            .len()
+            .saturating_add(self.change.processes.size())
     }
 
     /// Whether what is known of a segment and then another may be too large a table.

@@ -1,8 +1,6 @@
-use Rattle.std.proofs.Common.{true}
-use Rattle.std.proofs.lemmas.Result.{on_ok_weaker}
 use Rattle.cap_machine.specs.Check.{said_of}
 use Rattle.cap_summary.specs.Before.{state_before}
-use Rattle.cap_summary.proofs.Resolving.{not_asked, asked_for}
+use Rattle.cap_summary.proofs.Resolving.{not_asked}
 use Rattle.cap_summary.proofs.before.note_line.Goals as goal
 
 pub returns-then-not-has : goal.returns-then-not-has

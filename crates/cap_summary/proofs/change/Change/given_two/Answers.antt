@@ -1,4 +1,4 @@
-use Rattle.std.proofs.Common.{◌≡◌, ℕ, cond, eqb, ap, ◌∙◌}
+use Rattle.std.proofs.Common.{cond, eqb, ap, ◌∙◌}
 use Rattle.cap_summary.specs.declared.values.Value.{Value}
 use Rattle.cap_summary.specs.declared.values.Value.TheVariants as value
 use Rattle.cap_summary.proofs.Doing.{does_two}
