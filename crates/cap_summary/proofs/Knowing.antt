@@ -14,6 +14,7 @@ use Rattle.cap_machine.specs.Rule.{demand}
 use Rattle.cap_machine.specs.Named.{names_pid, item_makes}
 use Rattle.cap_machine.specs.History.{ended, touched, turned}
 use Rattle.cap_machine.specs.Check.{check, said, said_of, found_at}
+use Rattle.cap_machine.specs.Table.{effect_after}
 use Rattle.cap_machine.specs.Laws.{later}
 use Rattle.cap_machine.proofs.Turns.{ends_in_turn, checks_in_turn, same_state}
 use Rattle.cap_machine.proofs.Naming.{own_modes}
@@ -65,12 +66,18 @@ joined_knows a b whole met moved t u joins behind both always left right = recor
 }
 
 -- the state behind one step
-pub effect_ends : (change : Change) (step : Step) (effect : Effect) → Does change effect step.line.pid →
+pub step_ends : (step : Step) (effect : Effect) →
+    ((p f : ℕ) → effect_touch effect step.line.pid p f ≡ touch step p f) → ((p : ℕ) → effect_turn effect step.line.pid p ≡ turn step p) →
+    (s : State) → effect_after effect step.line.pid s ≡ ended s (step ∷ [])
+step_ends step effect cells modes s = same_state (effect_after effect step.line.pid s) (ended s (step ∷ []))
+    (λ p f. ap (λ (r : Touch). touched r s.cell p f) (cells p f))
+    (λ p. ap (λ (r : Turn). turned r s.mode p) (modes p))
+
+effect_ends : (change : Change) (step : Step) (effect : Effect) → Does change effect step.line.pid →
     ((p f : ℕ) → effect_touch effect step.line.pid p f ≡ touch step p f) → ((p : ℕ) → effect_turn effect step.line.pid p ≡ turn step p) →
     (s : State) → changed change s ≡ ended s (step ∷ [])
-effect_ends change step effect does cells modes s = same_state (changed change s) (ended s (step ∷ []))
-    (λ p f. does.cells s p f ∙ ap (λ (r : Touch). touched r s.cell p f) (cells p f))
-    (λ p. does.modes s p ∙ ap (λ (r : Turn). turned r s.mode p) (modes p))
+effect_ends change step effect does cells modes s =
+    same_state (changed change s) (effect_after effect step.line.pid s) (does.cells s) (does.modes s) ∙ step_ends step effect cells modes s
 
 -- a process that the step's line names
 child_named : (step : Step) (p : ℕ) (own makes : Bool) → ((own || makes) ≡ false → turn step p ≡ stays) → (own || is_following (turn step p)) ≡ true → (own || makes) ≡ true

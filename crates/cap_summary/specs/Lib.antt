@@ -4,6 +4,7 @@ pub mod Tables
 pub mod Changes
 pub mod Images
 pub mod Does
+pub mod Touched
 pub mod Conditions
 pub mod Moved
 pub mod LineConditions

@@ -11,19 +11,20 @@ ghost use Rattle.cap_summary.specs.Conditions.{source_holds, part_holds, outside
 
 use crate::change::Change;
 use crate::conditions::{Condition, Refused, Source};
+use crate::effects::{Touched, Turned, touch_of, turn_of};
 use crate::known::Known;
 use crate::step::Step;
 use crate::values::{ModeValue, Value};
-use cap_machine::{Cell, Checks, Demand, Found, Mode, Start, Verdict, rule_of};
+use cap_machine::{Cell, Checks, Demand, Effect, Found, Mode, Start, Verdict, rule_of};
 use cap_trace::{Fd, Pid};
 use cap_tree::NoMemory;
-use std::alloc::Global;
 
-/// A start, or what a change makes of one.
+/// A start, or what a change or a line of a process makes of one.
 #[derive(Clone, Copy)]
 pub(crate) enum Before<'a> {
     At(&'a Start),
     After(&'a Before<'a>, &'a Change),
+    Behind(&'a Before<'a>, Pid, &'a Effect<'a>),
 }
 
 impl<'a> Before<'a> {
@@ -36,6 +37,11 @@ impl<'a> Before<'a> {
                 Value::Fixed(cell) => cell,
                 Value::Of(source, of, op) => op.on(before.cell(source, of)),
             },
+            Before::Behind(before, me, effect) => match touch_of(effect, *me, pid, fd) {
+                Touched::Kept => before.cell(pid, fd),
+                Touched::Given(cell) => cell,
+                Touched::Taken(op, of) => op.on(before.cell(*me, of)),
+            },
         }
     }
 
@@ -47,6 +53,11 @@ impl<'a> Before<'a> {
             Before::After(before, change) => match change.mode(pid) {
                 ModeValue::Fixed(mode) => mode,
                 ModeValue::Of(source) => before.mode(source),
+            },
+            Before::Behind(before, me, effect) => match turn_of(effect, *me, pid) {
+                Turned::Stays => before.mode(pid),
+                Turned::Turns(mode) => mode,
+                Turned::Follows => before.mode(*me),
             },
         }
     }
@@ -176,7 +187,6 @@ fn note_line(
 /// Notes what is found in a run of steps that begins in this state behind so many others, at the positions that are asked
 /// for.
 pub(crate) fn judge_run(
-    alloc: Global,
     run: &[Step],
     before: &Before<'_>,
     at: usize,
@@ -196,7 +206,6 @@ pub(crate) fn judge_run(
     let line = &*step.line;
     let rule = rule_of(step.profile, line);
     note_line(before, line.pid, &rule.demand, at + 1, asked, found)?;
-    let change = Change::of_effect(alloc, line.pid, &rule.effect)?;
-    let after = Before::After(&*before, &change);
-    judge_run(alloc, &run[1..], &after, at + 1, asked, found)
+    let after = Before::Behind(&*before, line.pid, &rule.effect);
+    judge_run(&run[1..], &after, at + 1, asked, found)
 }

@@ -195,7 +195,6 @@ impl Node {
     /// positions that are asked for. It visits only parts that have such positions.
     pub(crate) fn resolve(
         &self,
-        alloc: Global,
         before: &Before<'_>,
         at: usize,
         rest: &Rest<'_>,
@@ -213,23 +212,15 @@ impl Node {
         if let Some(known) = &self.known {
             if at + self.len >= asked.from && before.finds(known) {
                 match &self.content {
-                    Content::Run(run) => judge_run(alloc, run, before, at, asked, found)?,
+                    Content::Run(run) => judge_run(run, before, at, asked, found)?,
                     Content::Both(a, b) => {
-                        a.resolve(
-                            alloc,
-                            before,
-                            at,
-                            &Rest::Then(&**b, &Rest::End),
-                            asked,
-                            found,
-                        )?;
+                        a.resolve(before, at, &Rest::Then(&**b, &Rest::End), asked, found)?;
                     }
                 }
             }
             return match rest {
                 Rest::End => Ok(()),
                 Rest::Then(node, rest) => node.resolve(
-                    alloc,
                     &Before::After(&*before, &*known.change),
                     at + self.len,
                     rest,
@@ -241,7 +232,7 @@ impl Node {
         let Content::Both(a, b) = &self.content else {
             unreachable!()
         };
-        a.resolve(alloc, before, at, &Rest::Then(&**b, &*rest), asked, found)
+        a.resolve(before, at, &Rest::Then(&**b, &*rest), asked, found)
     }
 }
 

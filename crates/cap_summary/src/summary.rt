@@ -65,7 +65,7 @@ pub fn resolve_range(
     let asked = Positions { from, to };
     summary
         .node
-        .resolve(alloc, &before, 0, &Rest::End, &asked, &mut found)?;
+        .resolve(&before, 0, &Rest::End, &asked, &mut found)?;
     Ok(found)
 }
 

@@ -4,14 +4,14 @@ use Rattle.cap_trace.specs.Entry.{Entry}
 use Rattle.cap_machine.specs.declared.step.Step as machine
 use Rattle.cap_machine.specs.State.{State}
 use Rattle.cap_machine.specs.declared.verdict.Found.{Found}
+use Rattle.cap_machine.specs.Table.{effect_after}
 use Rattle.cap_machine.specs.History.{ended}
 use Rattle.cap_machine.specs.Check.{said, found_at}
 use Rattle.cap_summary.specs.declared.step.Step.{Step}
 use Rattle.cap_summary.specs.Before.{state_before}
-use Rattle.cap_summary.specs.Changes.{changed}
 use Rattle.cap_summary.specs.Positions.{within}
 use Rattle.cap_summary.specs.Steps.{step_of, steps_of}
-use Rattle.cap_summary.proofs.Knowing.{effect_ends}
+use Rattle.cap_summary.proofs.Knowing.{step_ends}
 use Rattle.cap_summary.proofs.Runs.{head_tail}
 use Rattle.cap_summary.proofs.Resolving.{found_step, found_behind}
 use Rattle.cap_summary.proofs.before.+judge_run.Goals as goal
@@ -28,10 +28,10 @@ returns t c =
     let at_line : c.deref-line.result.now ≡ step.line = c.deref-line.ensures in
     let me : c.line.inside.pid ≡ step.line.pid = ap (λ (e : Entry). e.pid) (c.line.view_is ∙ at_line) in
     let run : steps_of c.args.run.now ≡ step ∷ steps_of rest = head_tail c.args.run.now c.index-run-0.result (omega arith) c.index-run-0.is in
-    let moved : changed c.in_ok-change.change s ≡ ended s (step ∷ []) =
-    effect_ends c.in_ok-change.change step c.rule_of-rule.result.effect (rw me at c.in_ok-change.ensures) (rw at_line at c.rule_of-rule.ensures.cells) (rw at_line at c.rule_of-rule.ensures.modes) s in
+    let moved : effect_after c.rule_of-rule.result.effect step.line.pid s ≡ ended s (step ∷ []) =
+    step_ends step c.rule_of-rule.result.effect (rw at_line at c.rule_of-rule.ensures.cells) (rw at_line at c.rule_of-rule.ensures.modes) s in
     let first : c.note_line.new.found.items ≡ old ++ within c.args.asked.now.from c.args.asked.now.to (map (found_at (c.args.at + 1)) (said step s)) =
     rw (me, c.rule_of-rule.ensures.demand, at_line) at c.in_ok-note_line.ensures in
     rw run (on_ok_weaker c.judge_run.result (λ last.
     found_step s step (steps_of rest) c.args.at c.args.asked.now.from c.args.asked.now.to old c.note_line.new.found.items c.judge_run.new.found.items first
-    (rw moved at last)) c.judge_run.ensures)
+    (rw (me, moved) at last)) c.judge_run.ensures)
