@@ -28,7 +28,7 @@ pub(crate) enum Before<'a> {
 }
 
 impl<'a> Before<'a> {
-    fn cell(&self, pid: Pid, fd: Fd) -> Cell
+    pub(crate) fn cell(&self, pid: Pid, fd: Fd) -> Cell
         ensures { result ≡ (state_before self.now).cell pid fd }
     {
         match self {
@@ -45,7 +45,7 @@ impl<'a> Before<'a> {
         }
     }
 
-    fn mode(&self, pid: Pid) -> Mode
+    pub(crate) fn mode(&self, pid: Pid) -> Mode
         ensures { result ≡ (state_before self.now).mode pid }
     {
         match self {

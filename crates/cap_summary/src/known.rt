@@ -3,14 +3,17 @@
 ghost use Rattle.std.specs.Prelude.{◌≡◌, ◌∷◌, [], ◌++◌, ◌||◌, List, IfOk};
 ghost use Rattle.cap_machine.specs.declared.step.Step.{Step};
 ghost use Rattle.cap_summary.specs.Steps.{step_of};
-ghost use Rattle.cap_summary.specs.Knows.{Knows};
+ghost use Rattle.cap_machine.specs.Table.{start_state};
+ghost use Rattle.cap_summary.specs.Knows.{Knows, finds, state_after};
 
+use crate::before::Before;
 use crate::change::Change;
 use crate::conditions::Condition;
 use crate::line_conditions::{always, conditions_of};
 use crate::merge::merged;
 use crate::step::Step as SharedStep;
-use cap_machine::rule_of;
+use cap_machine::{Cell, Mode, Start, rule_of};
+use cap_trace::{Fd, Pid};
 use cap_tree::NoMemory;
 use std::alloc::Global;
 use std::rc::Rc;
@@ -85,5 +88,28 @@ impl Known {
             always: one_of(a.always, b.always, met),
             conditions: Rc::new(alloc, conditions)?,
         })
+    }
+
+    /// Whether something is found in the steps from a start.
+    pub fn finds(&self, start: &Start) -> bool
+        ensures { result ≡ finds self.now (start_state start.now) }
+    {
+        Before::At(&*start).finds(self)
+    }
+
+    /// What is known of a descriptor of a process after the steps, from a start.
+    pub fn cell(&self, start: &Start, pid: Pid, fd: Fd) -> Cell
+        ensures { result ≡ (state_after self.now (start_state start.now)).cell pid fd }
+    {
+        let before = Before::At(&*start);
+        Before::After(&before, &*self.change).cell(pid, fd)
+    }
+
+    /// What is known of the mode of a process after the steps, from a start.
+    pub fn mode(&self, start: &Start, pid: Pid) -> Mode
+        ensures { result ≡ (state_after self.now (start_state start.now)).mode pid }
+    {
+        let before = Before::At(&*start);
+        Before::After(&before, &*self.change).mode(pid)
     }
 }
