@@ -16,8 +16,8 @@ use Rattle.cap_trace.specs.Number.{num_at}
 use Rattle.cap_trace.specs.Quotes.{cut_at_byte}
 use Rattle.cap_trace.specs.Entry.{IsAnswer}
 use Rattle.cap_trace.specs.Spelling.{answer_text}
-use Rattle.cap_trace.specs.Reading.{◌>>=◌, need, positive, behind, number_at, same_at, pair_at, any_at, made_at, result_at, answer_at}
-use Rattle.cap_trace.proofs.Cuts.{both, eqb_same, lacks, behind_takes, behind_again, cut_takes, cut_again, cut_none}
+use Rattle.cap_trace.specs.Reading.{◌>>=◌, need, positive, after_prefix, number_at, same_at, pair_at, any_at, made_at, result_at, answer_at}
+use Rattle.cap_trace.proofs.Cuts.{both, eqb_same, lacks, after_prefix_takes, after_prefix_again, cut_takes, cut_again, cut_none}
 use Rattle.cap_trace.proofs.Numerals.{own, bind_ok, need_ok, positive_ok, positive_again, num_takes, num_again}
 use Rattle.cap_trace.proofs.Spelled.{ok_is, bind_made}
 use Rattle.cap_trace.proofs.Quiet.{weaken}
@@ -72,26 +72,26 @@ made_takes Child t a e = number_takes Child 99999 t a (λ n h. h) e
 made_takes ChildAndFd t a e = pair_takes ChildAndFd 99999 1048575 t (cut_at_byte 44 t) a refl (λ x y h g. (h, g)) e
 made_takes Any t a e = any_takes t (cut_at_byte 44 t) a refl e
 
-result_takes : (k : Kind) (t : List ℕ) (o : Option (List ℕ)) (a : Answer) → behind (codes "-1 errno ") t ≡ o → result_at k t o ≡ Ok a → Answers k t a
+result_takes : (k : Kind) (t : List ℕ) (o : Option (List ℕ)) (a : Answer) → after_prefix (codes "-1 errno ") t ≡ o → result_at k t o ≡ Ok a → Answers k t a
 result_takes k t None a at e = made_takes k t a e
 result_takes k t (Some n) a at e =
     let x = bind_made (positive faults.Answer (num_at 65535 n)) (λ e. answers.Fault e) a e in
     let q = positive_ok faults.Answer (num_at 65535 n) x.0 x.1 in
     let p = num_takes 65535 n x.0 q.0 in
     subst (λ (y : Answer). Answers k t y) x.2
-    (behind_takes (codes "-1 errno ") t n at ∙ ap (λ (d : List ℕ). codes "-1 errno " ++ d) p.0, (q.1, p.1))
+    (after_prefix_takes (codes "-1 errno ") t n at ∙ ap (λ (d : List ℕ). codes "-1 errno " ++ d) p.0, (q.1, p.1))
 
 pub answer_takes : (k : Kind) (tail : List ℕ) (a : Answer) → answer_at k tail ≡ Ok a → (tail ≡ codes " RET " ++ answer_text a) × IsAnswer k a
 unfolding answer_at
 answer_takes k tail a e =
-    let t = bind_ok (need faults.Shape (behind (codes " RET ") tail)) (λ t. result_at k t (behind (codes "-1 errno ") t)) a e in
-    let r = result_takes k t.0 (behind (codes "-1 errno ") t.0) a refl t.2 in
-    (behind_takes (codes " RET ") tail t.0 (need_ok faults.Shape (behind (codes " RET ") tail) t.0 t.1) ∙ ap (λ (x : List ℕ). codes " RET " ++ x) r.0, r.1)
+    let t = bind_ok (need faults.Shape (after_prefix (codes " RET ") tail)) (λ t. result_at k t (after_prefix (codes "-1 errno ") t)) a e in
+    let r = result_takes k t.0 (after_prefix (codes "-1 errno ") t.0) a refl t.2 in
+    (after_prefix_takes (codes " RET ") tail t.0 (need_ok faults.Shape (after_prefix (codes " RET ") tail) t.0 t.1) ∙ ap (λ (x : List ℕ). codes " RET " ++ x) r.0, r.1)
 
 -- ---- the other way
 
--- digits don't begin as an errno does, and digits with a comma and more behind them don't either
-no_errno : (t r : List ℕ) → 0 < length t → all_ascii_digits t ≡ true → behind (codes "-1 errno ") (t ++ r) ≡ None
+-- digits don't begin as an errno does, and digits with a comma and more after them don't either
+no_errno : (t r : List ℕ) → 0 < length t → all_ascii_digits t ≡ true → after_prefix (codes "-1 errno ") (t ++ r) ≡ None
 no_errno [] r lt h = absurd (omega arith)
 no_errno (c ∷ cs) r lt h =
     let digit = (both (is_ascii_digit c) (all_ascii_digits cs) h).0 in
@@ -104,23 +104,23 @@ digit_no_comma c h = grind (arith, tests)
 digits_lack : (t : List ℕ) → all_ascii_digits t ≡ true → lacks 44 t ≡ true
 digits_lack t h = weaken is_ascii_digit (λ c. not (eqb c 44)) digit_no_comma t h
 
-pub answer_is : (k : Kind) (t : List ℕ) (o : Option (List ℕ)) → behind (codes "-1 errno ") t ≡ o → answer_at k (codes " RET " ++ t) ≡ result_at k t o
+pub answer_is : (k : Kind) (t : List ℕ) (o : Option (List ℕ)) → after_prefix (codes "-1 errno ") t ≡ o → answer_at k (codes " RET " ++ t) ≡ result_at k t o
 unfolding answer_at
 answer_is k t o e =
-    ap (λ (x : Option (List ℕ)). need faults.Shape x >>= λ t. result_at k t (behind (codes "-1 errno ") t)) (behind_again (codes " RET ") t)
+    ap (λ (x : Option (List ℕ)). need faults.Shape x >>= λ t. result_at k t (after_prefix (codes "-1 errno ") t)) (after_prefix_again (codes " RET ") t)
     ∙ ap (λ (x : Option (List ℕ)). result_at k t x) e
 
 fault_again : (k : Kind) (e : ℕ) → 0 < e → e ≤ 65535 → answer_at k (codes " RET " ++ (codes "-1 errno " ++ decimal e)) ≡ Ok (answers.Fault e)
 fault_again k e lt le =
-    answer_is k (codes "-1 errno " ++ decimal e) (Some (decimal e)) (behind_again (codes "-1 errno ") (decimal e))
+    answer_is k (codes "-1 errno " ++ decimal e) (Some (decimal e)) (after_prefix_again (codes "-1 errno ") (decimal e))
     ∙ rw (num_again 65535 e le (omega (arith, le)), positive_again faults.Answer e lt) refl
 
 append-none : (t : List ℕ) → t ++ [] ≡ t
 append-none [] = refl
 append-none (c ∷ cs) = ap (λ (s : List ℕ). c ∷ s) (append-none cs)
 
-pub decimal_no_errno : (n : ℕ) → n < 2 ^ 64 → behind (codes "-1 errno ") (decimal n) ≡ None
-decimal_no_errno n lt = ap (behind (codes "-1 errno ")) (sym (append-none (decimal n))) ∙ no_errno (decimal n) [] (decimal_nonempty n lt) (digits_decimal own n lt)
+pub decimal_no_errno : (n : ℕ) → n < 2 ^ 64 → after_prefix (codes "-1 errno ") (decimal n) ≡ None
+decimal_no_errno n lt = ap (after_prefix (codes "-1 errno ")) (sym (append-none (decimal n))) ∙ no_errno (decimal n) [] (decimal_nonempty n lt) (digits_decimal own n lt)
 
 number_result : (k : Kind) (n : ℕ) → n < 2 ^ 64 → answer_at k (codes " RET " ++ decimal n) ≡ made_at k (decimal n)
 number_result k n lt = answer_is k (decimal n) None (decimal_no_errno n lt)

@@ -10,7 +10,7 @@ use Rattle.std.proofs.lemmas.Slice.Eq.{starts_is, ends_is}
 use Rattle.cap_trace.specs.declared.quotes.Quoting.{Quoting}
 use Rattle.cap_trace.specs.declared.quotes.Quoting.TheVariants.{Outside, Inside, Skipping}
 use Rattle.cap_trace.specs.Quotes.{after, stops, place, place_from, pieces, pieces_from, around, cut_at_byte, cut_outside}
-use Rattle.cap_trace.specs.Reading.{behind, before}
+use Rattle.cap_trace.specs.Reading.{after_prefix, before_suffix}
 use Rattle.cap_trace.proofs.Quoted.{behind_one}
 
 -- ---- options and tests
@@ -32,13 +32,13 @@ eqb_same n = (Decides-eqb n n).1 refl
 
 -- ---- a prefix
 
-pub behind_takes : (p t r : List ℕ) → behind p t ≡ Some r → t ≡ p ++ r
-behind_takes p t r e =
+pub after_prefix_takes : (p t r : List ℕ) → after_prefix p t ≡ Some r → t ≡ p ++ r
+after_prefix_takes p t r e =
     let k = kept_some (starts_with nat_eq t p) (drop (length p) t) r e in
     (starts_is Decides-eqb t p (starts_with nat_eq t p) refl).0 k.0 ∙ ap (λ (s : List ℕ). p ++ s) k.1
 
-pub behind_again : (p r : List ℕ) → behind p (p ++ r) ≡ Some r
-behind_again p r =
+pub after_prefix_again : (p r : List ℕ) → after_prefix p (p ++ r) ≡ Some r
+after_prefix_again p r =
     let starts : starts_with nat_eq (p ++ r) p ≡ true = (starts_is Decides-eqb (p ++ r) p (starts_with nat_eq (p ++ r) p) refl).1 r refl in
     rw (starts, drop_at p r (length p) refl) refl
 
@@ -227,13 +227,13 @@ pieces_takes (c ∷ cs) = pieces_from_joined Outside (c ∷ cs)
 
 -- ---- a suffix
 
-pub before_takes : (p t r : List ℕ) → before p t ≡ Some r → t ≡ r ++ p
-before_takes p t r e =
+pub before_suffix_takes : (p t r : List ℕ) → before_suffix p t ≡ Some r → t ≡ r ++ p
+before_suffix_takes p t r e =
     let k = kept_some (ends_with nat_eq t p) (take (length t - length p) t) r e in
     (ends_is Decides-eqb t p (ends_with nat_eq t p) refl).0 k.0 ∙ ap (λ (s : List ℕ). s ++ p) k.1
 
-pub before_again : (p r : List ℕ) → before p (r ++ p) ≡ Some r
-before_again p r =
+pub before_suffix_again : (p r : List ℕ) → before_suffix p (r ++ p) ≡ Some r
+before_suffix_again p r =
     let ends : ends_with nat_eq (r ++ p) p ≡ true = (ends_is Decides-eqb (r ++ p) p (ends_with nat_eq (r ++ p) p) refl).1 r refl in
     rw ends (ap Some (take_at r p (length (r ++ p) - length p) (simp length-append (omega arith))))
 

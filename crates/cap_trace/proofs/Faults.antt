@@ -22,7 +22,7 @@ use Rattle.cap_trace.specs.Fields.{is_flags, are_items, is_free}
 use Rattle.cap_trace.specs.Entry.{Arg, an_fd, a_dir, some_flags, some_rights, a_path, a_command, a_word, free_text, Word, dest, set_fd, dup_to, kind_of}
 use Rattle.cap_trace.specs.Spelling.{word_text, is_command}
 use Rattle.cap_trace.specs.Forms.{Slot, fd, dir, flags, rights, path, command, word, free, Shape, these, rising_fds, shape_of, Said, a_call, a_marker, built}
-use Rattle.cap_trace.specs.Reading.{◌>>=◌, need, positive, kept, behind, before, pid_at, fd_at, rights_at, dir_at, flags_at, command_at, path_at, free_at, arg_at, args_at, fds_from, shaped, said_at, number_at, same_at, pair_at, any_at, made_at, result_at, answer_at, ended, between, behind_head, item_at}
+use Rattle.cap_trace.specs.Reading.{◌>>=◌, need, positive, kept, after_prefix, before_suffix, pid_at, fd_at, rights_at, dir_at, flags_at, command_at, path_at, free_at, arg_at, args_at, fds_from, shaped, said_at, number_at, same_at, pair_at, any_at, made_at, result_at, answer_at, ended, args_and_tail, after_bracket, item_at}
 use Rattle.cap_trace.proofs.Built.{slots_in}
 use Rattle.cap_trace.proofs.Cuts.{both}
 
@@ -80,13 +80,13 @@ inside_err : (o : Option (List ℕ)) (d : ReadFault) → (need faults.Argument o
 inside_err None d e = sym (err_is {A = List ℕ} faults.Argument d e)
 inside_err (Some i) d e = kept_err are_items faults.Argument i d e
 
-path_parts : (o : Option (List ℕ)) (d : ReadFault) → (need faults.Argument o >>= λ p. need faults.Argument (before (34 ∷ []) p) >>= λ i. kept are_items faults.Argument i) ≡ Err d → d ≡ faults.Argument
+path_parts : (o : Option (List ℕ)) (d : ReadFault) → (need faults.Argument o >>= λ p. need faults.Argument (before_suffix (34 ∷ []) p) >>= λ i. kept are_items faults.Argument i) ≡ Err d → d ≡ faults.Argument
 path_parts None d e = sym (err_is {A = List ℕ} faults.Argument d e)
-path_parts (Some p) d e = inside_err (before (34 ∷ []) p) d e
+path_parts (Some p) d e = inside_err (before_suffix (34 ∷ []) p) d e
 
 path_err : (t : List ℕ) (d : ReadFault) → path_at t ≡ Err d → d ≡ faults.Argument
 unfolding path_at
-path_err t d e = path_parts (behind (34 ∷ []) t) d e
+path_err t d e = path_parts (after_prefix (34 ∷ []) t) d e
 
 -- the fault of an argument of each kind
 abbrev pub slot_fault : Slot → ReadFault

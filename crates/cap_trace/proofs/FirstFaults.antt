@@ -22,14 +22,14 @@ use Rattle.cap_trace.specs.Number.{num_at}
 use Rattle.cap_trace.specs.Quotes.{cut_at_byte, around}
 use Rattle.cap_trace.specs.Entry.{Entry, Arg, an_fd, some_rights, IsPid, IsFd, kind_of}
 use Rattle.cap_trace.specs.Forms.{Slot, fd, dir, flags, rights, path, command, word, free, Shape, these, rising_fds, shape_of, send_shape, command_shape, fcntl_shape, Said, a_call, a_marker, built}
-use Rattle.cap_trace.specs.Reading.{◌>>=◌, need, behind, pid_at, fd_at, rights_at, arg_at, args_at, shaped, said_at, same_at, result_at, made_at, answer_at, ended, between, behind_head, item_at, entry_at, line_of, fault}
+use Rattle.cap_trace.specs.Reading.{◌>>=◌, need, after_prefix, pid_at, fd_at, rights_at, arg_at, args_at, shaped, said_at, same_at, result_at, made_at, answer_at, ended, args_and_tail, after_bracket, item_at, entry_at, line_of, fault}
 use Rattle.cap_trace.specs.Spoiled.{TooLongExactly, PidExactly, SpellsNoPid, RightOnlyOfLimits, LimitsByNoRights}
 use Rattle.cap_trace.proofs.Built.{slots_in}
 use Rattle.cap_trace.proofs.Cuts.{both, cut_takes}
 use Rattle.cap_trace.proofs.Numerals.{need_ok}
 use Rattle.cap_trace.proofs.Heads.{head_takes}
 use Rattle.cap_trace.proofs.Spelled.{bind_made, pid_takes, pid_again, fd_takes}
-use Rattle.cap_trace.proofs.WholeLines.{between_takes}
+use Rattle.cap_trace.proofs.WholeLines.{args_and_tail_takes}
 use Rattle.cap_trace.proofs.Faults.{err_is, bind_err, made_err, need_err, pid_err, slot_fault, arg_err, passes_slots, built_err, said_err, same_err, is_same, made_fails, errno_err}
 
 pub fault_err : (r : Result Entry ReadFault) (f : ReadFault) → (elim r as (λ _. Option ReadFault) [ Ok e ↦ None | Err d ↦ Some d ]) ≡ Some f → r ≡ Err f
@@ -70,9 +70,9 @@ result_passes q p k t (Some n) d e = ap q (errno_err k t n d e) ∙ p.answer
 answer_passes : (q : ReadFault → Bool) → Passes q → (k : Kind) (tail : List ℕ) (d : ReadFault) → answer_at k tail ≡ Err d → q d ≡ true
 unfolding answer_at
 answer_passes q p k tail d e =
-    elim (bind_err (need faults.Shape (behind (codes " RET ") tail)) (λ t. result_at k t (behind (codes "-1 errno ") t)) d e) as (λ _. q d ≡ true) [
-      | inl h ↦ ap q (need_err faults.Shape (behind (codes " RET ") tail) d h) ∙ p.shape
-      | inr h ↦ result_passes q p k h.0 (behind (codes "-1 errno ") h.0) d h.2
+    elim (bind_err (need faults.Shape (after_prefix (codes " RET ") tail)) (λ t. result_at k t (after_prefix (codes "-1 errno ") t)) d e) as (λ _. q d ≡ true) [
+      | inl h ↦ ap q (need_err faults.Shape (after_prefix (codes " RET ") tail) d h) ∙ p.shape
+      | inr h ↦ result_passes q p k h.0 (after_prefix (codes "-1 errno ") h.0) d h.2
     ]
 
 end_err : (b : Bool) (i : Item) (d : ReadFault) → ◌≡◌ {A = Result Item ReadFault} (cond b (Ok i) (Err faults.Shape)) (Err d) → d ≡ faults.Shape
@@ -95,16 +95,16 @@ pub record OfArguments (text : List ℕ) (d : ReadFault) : Type 0 where
 abbrev PassesOr : (ReadFault → Bool) → List ℕ → ReadFault → Type 0
 PassesOr q text d = (q d ≡ true) ⊎ OfArguments text d
 
-behind_err : (q : ReadFault → Bool) → Passes q → (text name rest : List ℕ) (h : Head) (d : ReadFault) → text ≡ name ++ (40 ∷ rest) → name_of h ≡ name → behind_head h rest ≡ Err d → PassesOr q text d
-behind_err q p text name rest h d at is e =
-    elim (bind_err (need faults.Shape (between h rest)) (λ args. said_at h args.0 >>= λ s. ended s args.1) d e) as (λ _. PassesOr q text d) [
-      | inl g ↦ inl (ap q (need_err faults.Shape (between h rest) d g) ∙ p.shape)
+after_bracket_err : (q : ReadFault → Bool) → Passes q → (text name rest : List ℕ) (h : Head) (d : ReadFault) → text ≡ name ++ (40 ∷ rest) → name_of h ≡ name → after_bracket h rest ≡ Err d → PassesOr q text d
+after_bracket_err q p text name rest h d at is e =
+    elim (bind_err (need faults.Shape (args_and_tail h rest)) (λ args. said_at h args.0 >>= λ s. ended s args.1) d e) as (λ _. PassesOr q text d) [
+      | inl g ↦ inl (ap q (need_err faults.Shape (args_and_tail h rest) d g) ∙ p.shape)
       | inr g ↦ elim (bind_err (said_at h g.0.0) (λ s. ended s g.0.1) d g.2) as (λ _. PassesOr q text d) [
         | inl k ↦ inr (record {
           head = h;
           texts = g.0.0;
           tail = g.0.1;
-          parts = at ∙ ap (λ (n : List ℕ). n ++ (40 ∷ rest)) (sym is) ∙ ap (λ (r : List ℕ). name_of h ++ (40 ∷ r)) (between_takes h rest g.0 (need_ok faults.Shape (between h rest) g.0 g.1));
+          parts = at ∙ ap (λ (n : List ℕ). n ++ (40 ∷ rest)) (sym is) ∙ ap (λ (r : List ℕ). name_of h ++ (40 ∷ r)) (args_and_tail_takes h rest g.0 (need_ok faults.Shape (args_and_tail h rest) g.0 g.1));
           said = k;
         })
         | inr k ↦ inl (ended_passes q p k.0 g.0.1 d k.2)
@@ -114,11 +114,11 @@ behind_err q p text name rest h d at is e =
 item_err : (q : ReadFault → Bool) → Passes q → (text : List ℕ) (d : ReadFault) → item_at text ≡ Err d → PassesOr q text d
 unfolding item_at
 item_err q p text d e =
-    elim (bind_err (need faults.Shape (cut_at_byte 40 text)) (λ cut. need faults.Shape (head_named cut.0) >>= λ h. behind_head h cut.1) d e) as (λ _. PassesOr q text d) [
+    elim (bind_err (need faults.Shape (cut_at_byte 40 text)) (λ cut. need faults.Shape (head_named cut.0) >>= λ h. after_bracket h cut.1) d e) as (λ _. PassesOr q text d) [
       | inl g ↦ inl (ap q (need_err faults.Shape (cut_at_byte 40 text) d g) ∙ p.shape)
-      | inr g ↦ elim (bind_err (need faults.Shape (head_named g.0.0)) (λ h. behind_head h g.0.1) d g.2) as (λ _. PassesOr q text d) [
+      | inr g ↦ elim (bind_err (need faults.Shape (head_named g.0.0)) (λ h. after_bracket h g.0.1) d g.2) as (λ _. PassesOr q text d) [
         | inl k ↦ inl (ap q (need_err faults.Shape (head_named g.0.0) d k) ∙ p.shape)
-        | inr k ↦ behind_err q p text g.0.0 g.0.1 k.0 d (cut_takes 40 text g.0 (need_ok faults.Shape (cut_at_byte 40 text) g.0 g.1)) (head_takes g.0.0 k.0 (need_ok faults.Shape (head_named g.0.0) k.0 k.1)).0 k.2
+        | inr k ↦ after_bracket_err q p text g.0.0 g.0.1 k.0 d (cut_takes 40 text g.0 (need_ok faults.Shape (cut_at_byte 40 text) g.0 g.1)) (head_takes g.0.0 k.0 (need_ok faults.Shape (head_named g.0.0) k.0 k.1)).0 k.2
       ]
     ]
 

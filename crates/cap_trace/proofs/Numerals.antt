@@ -92,3 +92,11 @@ num_again most n le lt =
     let fits : ltb n (2 ^ 64) ≡ true = lt-ltb _ _ lt in
     let small : leb n most ≡ true = le-leb n most le in
     rw (odd, all, value, fits, small) refl
+
+-- ---- what number_of promises of what it finds
+
+pub num_found : (most : ℕ) (t : List ℕ) (n : ℕ) → Some n ≡ num_at most t → t ≡ decimal n
+num_found most t n e = (num_takes most t n (sym e)).0
+
+pub num_only : (most : ℕ) (t : List ℕ) (r : Option ℕ) → r ≡ num_at most t → most < 2 ^ 64 → (n : ℕ) → n ≤ most → t ≡ decimal n → r ≡ Some n
+num_only most t r e fits n le is = e ∙ ap (num_at most) is ∙ num_again most n le (omega (arith, le, fits))

@@ -19,8 +19,8 @@ use Rattle.cap_trace.specs.Fields.{is_flags, is_word, are_items, is_free}
 use Rattle.cap_trace.specs.Entry.{Arg, an_fd, a_dir, some_flags, some_rights, a_path, a_command, a_word, free_text, Word, dest, set_fd, dup_to, fds, IsPid, RisesFrom}
 use Rattle.cap_trace.specs.Spelling.{SpellsArg, SpellsArgs, word_text, is_command}
 use Rattle.cap_trace.specs.Forms.{Slot, fd, dir, flags, rights, path, command, word, free}
-use Rattle.cap_trace.specs.Reading.{◌>>=◌, need, kept, behind, before, pid_at, fd_at, rights_at, dir_at, flags_at, command_at, path_at, free_at, arg_at, args_at, fds_from}
-use Rattle.cap_trace.proofs.Cuts.{both, IsPart, AreParts, behind_takes, before_takes, before_again}
+use Rattle.cap_trace.specs.Reading.{◌>>=◌, need, kept, after_prefix, before_suffix, pid_at, fd_at, rights_at, dir_at, flags_at, command_at, path_at, free_at, arg_at, args_at, fds_from}
+use Rattle.cap_trace.proofs.Cuts.{both, IsPart, AreParts, after_prefix_takes, before_suffix_takes, before_suffix_again}
 use Rattle.cap_trace.proofs.Numerals.{own, bind_ok, need_ok, positive_ok, positive_again, num_takes, num_again}
 use Rattle.cap_trace.proofs.Quiet.{is_quiet, quiet_part, weaken, digit_quiet, right_quiet, flags_part, word_part, path_part}
 use Rattle.std.proofs.lemmas.Bool.{le-ltb, ltb-false}
@@ -88,11 +88,11 @@ dir_again t dirs.Cwd h = rw ((bytes_eq-Decides t (codes "AT_FDCWD")).1 h) refl
 path_takes : (t p : List ℕ) → path_at t ≡ Ok p → SpellsArg t (a_path p)
 unfolding path_at
 path_takes t p e =
-    let o = bind_ok (need faults.Argument (behind (34 ∷ []) t)) (λ o. need faults.Argument (before (34 ∷ []) o) >>= λ i. kept are_items faults.Argument i) p e in
-    let i = bind_ok (need faults.Argument (before (34 ∷ []) o.0)) (λ i. kept are_items faults.Argument i) p o.2 in
+    let o = bind_ok (need faults.Argument (after_prefix (34 ∷ []) t)) (λ o. need faults.Argument (before_suffix (34 ∷ []) o) >>= λ i. kept are_items faults.Argument i) p e in
+    let i = bind_ok (need faults.Argument (before_suffix (34 ∷ []) o.0)) (λ i. kept are_items faults.Argument i) p o.2 in
     let k = kept_takes are_items faults.Argument i.0 p i.2 in (
-      behind_takes (34 ∷ []) t o.0 (need_ok faults.Argument (behind (34 ∷ []) t) o.0 o.1)
-          ∙ ap (λ (r : List ℕ). 34 ∷ r) (before_takes (34 ∷ []) o.0 i.0 (need_ok faults.Argument (before (34 ∷ []) o.0) i.0 i.1))
+      after_prefix_takes (34 ∷ []) t o.0 (need_ok faults.Argument (after_prefix (34 ∷ []) t) o.0 o.1)
+          ∙ ap (λ (r : List ℕ). 34 ∷ r) (before_suffix_takes (34 ∷ []) o.0 i.0 (need_ok faults.Argument (before_suffix (34 ∷ []) o.0) i.0 i.1))
           ∙ ap (λ (r : List ℕ). 34 ∷ (r ++ 34 ∷ [])) k.0,
       k.1,
     )
@@ -100,7 +100,7 @@ path_takes t p e =
 path_again : (t p : List ℕ) → SpellsArg t (a_path p) → path_at t ≡ Ok p
 unfolding path_at
 path_again t p h =
-    ap path_at h.0 ∙ ap (λ (o : Option (List ℕ)). need faults.Argument o >>= λ i. kept are_items faults.Argument i) (before_again (34 ∷ []) p) ∙ kept_again are_items faults.Argument p p refl h.1
+    ap path_at h.0 ∙ ap (λ (o : Option (List ℕ)). need faults.Argument o >>= λ i. kept are_items faults.Argument i) (before_suffix_again (34 ∷ []) p) ∙ kept_again are_items faults.Argument p p refl h.1
 
 -- ---- an argument
 

@@ -25,7 +25,7 @@ use Rattle.cap_trace.specs.Quotes.{after, stops, place, place_from}
 use Rattle.cap_trace.specs.Entry.{Entry, Arg, an_fd, a_dir, some_flags, some_rights, a_path, a_command, a_word, free_text, Word, dest, set_fd, dup_to, args_of, args_of_call, head_of, head_of_call, fds, kind_of, IsPid, IsFd, IsAnswer, IsWhole, RisesFrom}
 use Rattle.cap_trace.specs.Spelling.{SpellsArg, SpellsArgs, SpellsBy, IsHead, IsProper, word_text, answer_text, tail_text, joined}
 use Rattle.cap_trace.specs.Forms.{Slot, fd, dir, flags, rights, path, command, word, free, Shape, these, rising_fds, Said, a_call, built}
-use Rattle.cap_trace.specs.Reading.{◌>>=◌, need, behind, pid_at, fd_at, rights_at, dir_at, flags_at, command_at, path_at, arg_at, args_at, fds_from, shaped, said_at, result_at, made_at, answer_at, ended, between, behind_head, item_at, entry_at, line_of}
+use Rattle.cap_trace.specs.Reading.{◌>>=◌, need, after_prefix, pid_at, fd_at, rights_at, dir_at, flags_at, command_at, path_at, arg_at, args_at, fds_from, shaped, said_at, result_at, made_at, answer_at, ended, args_and_tail, after_bracket, item_at, entry_at, line_of}
 use Rattle.cap_trace.specs.Spoiled.{AreAlike, Spoils, fault_of_arg, SpoilsOne, SpoiledArgument, answered, SpellsNoAnswer, FaultOfAnswer, SpoiledAnswer}
 use Rattle.cap_trace.proofs.Cuts.{both, both_true, closes, IsPart, AreParts, outside_again, pieces_again, cut_again, eqb_same}
 use Rattle.std.proofs.lemmas.Bool.{le-ltb}
@@ -307,17 +307,17 @@ item_listed (items.Start fs) ts f h = (forms.Start, (refl, fds_closed fs))
 item_listed items.Exit ts f h = (forms.Exit, (refl, refl))
 item_listed (items.Foreign g) ts f h = (forms.Foreign, (refl, refl))
 
-listed_between : (g : Form) (ts : List (List ℕ)) (tail : List ℕ) → AreParts ts → between (listed g) (join_with_byte 44 ts ++ (41 ∷ tail)) ≡ Some (ts, tail)
-listed_between g ts tail parts = rw (outside_again 41 (join_with_byte 44 ts) tail (joined_closes ts parts), pieces_again ts parts) refl
+listed_args_and_tail : (g : Form) (ts : List (List ℕ)) (tail : List ℕ) → AreParts ts → args_and_tail (listed g) (join_with_byte 44 ts ++ (41 ∷ tail)) ≡ Some (ts, tail)
+listed_args_and_tail g ts tail parts = rw (outside_again 41 (join_with_byte 44 ts) tail (joined_closes ts parts), pieces_again ts parts) refl
 
-spoiled_behind : (i : Item) (ts : List (List ℕ)) (tail : List ℕ) (f : ReadFault) → SpoilsOne ts (args_of i) f → IsWhole i → behind_head (head_of i) (join_with_byte 44 ts ++ (41 ∷ tail)) ≡ Err f
-spoiled_behind i ts tail f h w =
+spoiled_after_bracket : (i : Item) (ts : List (List ℕ)) (tail : List ℕ) (f : ReadFault) → SpoilsOne ts (args_of i) f → IsWhole i → after_bracket (head_of i) (join_with_byte 44 ts ++ (41 ∷ tail)) ≡ Err f
+spoiled_after_bracket i ts tail f h w =
     let k = item_listed i ts f h in
-    let cut : between (head_of i) (join_with_byte 44 ts ++ (41 ∷ tail)) ≡ Some (ts, tail) = ap (λ (x : Head). between x (join_with_byte 44 ts ++ (41 ∷ tail))) k.1.0 ∙ listed_between k.0 ts tail (spoiled_parts ts (args_of i) f k.1.1 h) in
+    let cut : args_and_tail (head_of i) (join_with_byte 44 ts ++ (41 ∷ tail)) ≡ Some (ts, tail) = ap (λ (x : Head). args_and_tail x (join_with_byte 44 ts ++ (41 ∷ tail))) k.1.0 ∙ listed_args_and_tail k.0 ts tail (spoiled_parts ts (args_of i) f k.1.1 h) in
     rw (cut, said_spoiled i ts f h w) refl
 
 -- the pid and the name of a line are read, whatever follows
-item_from : (h : Head) (rest : List ℕ) → IsHead h → item_at (name_of h ++ (40 ∷ rest)) ≡ behind_head h rest
+item_from : (h : Head) (rest : List ℕ) → IsHead h → item_at (name_of h ++ (40 ∷ rest)) ≡ after_bracket h rest
 unfolding item_at
 item_from h rest is = rw (cut_again 40 (name_of h) rest (head_lacks h is), head_again h is) refl
 
@@ -332,7 +332,7 @@ spoiled_line : (e : Entry) (texts : List (List ℕ)) (f : ReadFault) → IsPrope
 spoiled_line e texts f h le s =
     let by = h.1.1 in
     entry_fails e.pid (name_of (head_of e.item) ++ (40 ∷ (join_with_byte 44 texts ++ (41 ∷ tail_text e.item)))) f by.pid
-    (item_from (head_of e.item) (join_with_byte 44 texts ++ (41 ∷ tail_text e.item)) by.head ∙ spoiled_behind e.item texts (tail_text e.item) f s by.whole) le
+    (item_from (head_of e.item) (join_with_byte 44 texts ++ (41 ∷ tail_text e.item)) by.head ∙ spoiled_after_bracket e.item texts (tail_text e.item) f s by.whole) le
 
 pub spoiled_argument : SpoiledArgument
 spoiled_argument = λ e texts f h le s. err_fault (joined e texts) f (spoiled_line e texts f h le s)
@@ -340,14 +340,14 @@ spoiled_argument = λ e texts f h le s. err_fault (joined e texts) f (spoiled_li
 -- ---- a spoiled answer
 
 -- digits don't begin as an errno does
-fd_no_errno : (n : ℕ) → IsFd n → behind (codes "-1 errno ") (decimal n) ≡ None
+fd_no_errno : (n : ℕ) → IsFd n → after_prefix (codes "-1 errno ") (decimal n) ≡ None
 fd_no_errno n is = decimal_no_errno n (omega (arith, is))
 
 result_fault : (k : Kind) (t : List ℕ) (o : Option (List ℕ)) (d : ReadFault) → is_same k ≡ false → result_at k t o ≡ Err d → d ≡ faults.Answer
 result_fault k t None d s e = made_fails k t d s e
 result_fault k t (Some n) d s e = errno_err k t n d e
 
-same_fault : (g : ℕ) (t : List ℕ) (o : Option (List ℕ)) (d : ReadFault) → behind (codes "-1 errno ") t ≡ o → result_at (Same g) t o ≡ Err d → FaultOfAnswer (Same g) t d
+same_fault : (g : ℕ) (t : List ℕ) (o : Option (List ℕ)) (d : ReadFault) → after_prefix (codes "-1 errno ") t ≡ o → result_at (Same g) t o ≡ Err d → FaultOfAnswer (Same g) t d
 unfolding made_at
 same_fault g t None d at e =
     elim (same_err g (num_at 1048575 t) d e) as (λ _. FaultOfAnswer (Same g) t d) [
@@ -355,9 +355,9 @@ same_fault g t None d at e =
       | inr h ↦ (let p = num_takes 1048575 t h.0 h.1.0 in inl ((h.0, (p.1, p.0)), h.1.1))
     ]
 same_fault g t (Some n) d at e =
-    inr (λ m is same. absurd (let none = ap (behind (codes "-1 errno ")) same ∙ fd_no_errno m is in let some = at in cc), errno_err (Same g) t n d e)
+    inr (λ m is same. absurd (let none = ap (after_prefix (codes "-1 errno ")) same ∙ fd_no_errno m is in let some = at in cc), errno_err (Same g) t n d e)
 
-kind_fault : (k : Kind) (t : List ℕ) (o : Option (List ℕ)) (d : ReadFault) → behind (codes "-1 errno ") t ≡ o → result_at k t o ≡ Err d → FaultOfAnswer k t d
+kind_fault : (k : Kind) (t : List ℕ) (o : Option (List ℕ)) (d : ReadFault) → after_prefix (codes "-1 errno ") t ≡ o → result_at k t o ≡ Err d → FaultOfAnswer k t d
 unfolding is_same
 kind_fault (Same g) t o d at e = same_fault g t o d at e
 kind_fault Count t o d at e = result_fault Count t o d refl e
@@ -386,10 +386,10 @@ answer_spoiled k t f (Ok a) e none h =
     let p = answer_takes k (codes " RET " ++ t) a e in
     let same : t ≡ answer_text a = (let whole = p.0 in cc) in
     absurd (none a p.1 same)
-answer_spoiled k t f (Err d) e none h = ap Err (one_fault k t d f (kind_fault k t (behind (codes "-1 errno ") t) d refl (sym (answer_is k t (behind (codes "-1 errno ") t) refl) ∙ e)) h)
+answer_spoiled k t f (Err d) e none h = ap Err (one_fault k t d f (kind_fault k t (after_prefix (codes "-1 errno ") t) d refl (sym (answer_is k t (after_prefix (codes "-1 errno ") t) refl) ∙ e)) h)
 
 answer_behind : (c : Call) (good : Answer) (texts : List (List ℕ)) (t : List ℕ) (f : ReadFault) → SpellsArgs texts (args_of_call c) → SpellsNoAnswer (kind_of c) t → FaultOfAnswer (kind_of c) t f
-    → behind_head (head_of_call c) (join_with_byte 44 texts ++ (41 ∷ (codes " RET " ++ t))) ≡ Err f
+    → after_bracket (head_of_call c) (join_with_byte 44 texts ++ (41 ∷ (codes " RET " ++ t))) ≡ Err f
 unfolding Cuts ended
 answer_behind c good texts t f h none fo =
     rw (between_again (items.Call c good) texts h (codes " RET " ++ t), call_again c texts h, answer_spoiled (kind_of c) t f (answer_at (kind_of c) (codes " RET " ++ t)) refl none fo) refl

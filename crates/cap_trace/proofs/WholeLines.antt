@@ -24,7 +24,7 @@ use Rattle.cap_trace.specs.Quotes.{pieces, cut_at_byte, cut_outside}
 use Rattle.cap_trace.specs.Entry.{Entry, Arg, an_fd, args_of, args_of_call, fds, head_of, kind_of, IsPid, IsWhole}
 use Rattle.cap_trace.specs.Spelling.{Spells, SpellsArgs, IsHead, tail_text}
 use Rattle.cap_trace.specs.Forms.{Said, a_call, a_marker}
-use Rattle.cap_trace.specs.Reading.{◌>>=◌, need, pid_at, said_at, answer_at, ended, between, behind_head, item_at, entry_at, line_of}
+use Rattle.cap_trace.specs.Reading.{◌>>=◌, need, pid_at, said_at, answer_at, ended, args_and_tail, after_bracket, item_at, entry_at, line_of}
 use Rattle.cap_trace.proofs.Cuts.{both, lacks, closes, AreParts, cut_takes, cut_again, outside_takes, outside_again, pieces_takes, pieces_again, closes-append}
 use Rattle.cap_trace.proofs.Numerals.{own, bind_ok, need_ok}
 use Rattle.cap_trace.proofs.Quiet.{weaken}
@@ -33,7 +33,7 @@ use Rattle.cap_trace.proofs.Spelled.{ok_is, bind_made, pid_takes, pid_again, arg
 use Rattle.cap_trace.proofs.Built.{said_args, said_head, SaidWhole, said_takes, call_again, start_again, exit_again, foreign_again}
 use Rattle.cap_trace.proofs.Answered.{answer_takes, answer_again}
 
--- ---- what stands behind the arguments
+-- ---- what follows the arguments
 
 ended_ok : (b : Bool) (x y : Item) → ◌≡◌ {A = Result Item ReadFault} (cond b (Ok x) (Err faults.Shape)) (Ok y) → (b ≡ true) × (x ≡ y)
 ended_ok true x y e = (refl, ok_is x y e)
@@ -44,19 +44,19 @@ pub record Ends (s : Said) (tail : List ℕ) (i : Item) : Type 0 where
   pub args : args_of i ≡ said_args s
   pub head : head_of i ≡ said_head s
   pub whole : IsWhole i
-  pub behind : tail ≡ tail_text i
+  pub rest : tail ≡ tail_text i
 
 marker_ends : (m : Item) (tail : List ℕ) (i : Item) → IsWhole m → (length tail ≡ 0 → tail ≡ tail_text m) → cond (eqb (length tail) 0) (Ok m) (Err faults.Shape) ≡ Ok i → Ends (a_marker m) tail i
 marker_ends m tail i w b e =
     let k = ended_ok (eqb (length tail) 0) m i e in
-    subst (λ (x : Item). Ends (a_marker m) tail x) k.1 (record { args = refl; head = refl; whole = w; behind = b (eqb-true _ _ k.0) })
+    subst (λ (x : Item). Ends (a_marker m) tail x) k.1 (record { args = refl; head = refl; whole = w; rest = b (eqb-true _ _ k.0) })
 
 ended_takes : (s : Said) (tail : List ℕ) (i : Item) → SaidWhole s → ended s tail ≡ Ok i → Ends s tail i
 unfolding ended
 ended_takes (a_call c) tail i w e =
     let a = bind_made (answer_at (kind_of c) tail) (λ a. items.Call c a) i e in
     let p = answer_takes (kind_of c) tail a.0 a.1 in
-    subst (λ (x : Item). Ends (a_call c) tail x) a.2 (record { args = refl; head = refl; whole = p.1; behind = p.0 })
+    subst (λ (x : Item). Ends (a_call c) tail x) a.2 (record { args = refl; head = refl; whole = p.1; rest = p.0 })
 ended_takes (a_marker (items.Start fs)) tail i w e = marker_ends (items.Start fs) tail i w (nil_from_length tail) e
 ended_takes (a_marker items.Exit) tail i w e = marker_ends items.Exit tail i w (nil_from_length tail) e
 ended_takes (a_marker (items.Foreign f)) tail i w e = marker_ends (items.Foreign f) tail i w (nil_from_length tail) e
@@ -64,9 +64,9 @@ ended_takes (a_marker (items.Call c a)) tail i w e = absurd w
 
 -- ---- between the brackets
 
--- the parts, and what stands behind them, make the text again
-pub between_takes : (h : Head) (text : List ℕ) (x : List (List ℕ) × List ℕ) → between h text ≡ Some x → text ≡ join_with_byte 44 x.0 ++ (41 ∷ x.1)
-between_takes (listed f) text x e = listed_cut (cut_outside 41 text) refl e
+-- the parts, and what follows them, make the text again
+pub args_and_tail_takes : (h : Head) (text : List ℕ) (x : List (List ℕ) × List ℕ) → args_and_tail h text ≡ Some x → text ≡ join_with_byte 44 x.0 ++ (41 ∷ x.1)
+args_and_tail_takes (listed f) text x e = listed_cut (cut_outside 41 text) refl e
   where
     listed_cut : (o : Option (List ℕ × List ℕ)) → cut_outside 41 text ≡ o → option_map (λ c. (pieces c.0, c.1)) o ≡ Some x → text ≡ join_with_byte 44 x.0 ++ (41 ∷ x.1)
     listed_cut None at e = absurd cc
@@ -74,7 +74,7 @@ between_takes (listed f) text x e = listed_cut (cut_outside 41 text) refl e
         let same : (pieces c.0, c.1) ≡ x = (let e2 = e in cc) in
         subst (λ (y : List (List ℕ) × List ℕ). text ≡ join_with_byte 44 y.0 ++ (41 ∷ y.1)) same
         (outside_takes 41 text c at ∙ ap (λ (a : List ℕ). a ++ (41 ∷ c.1)) (sym (pieces_takes c.0)))
-between_takes (unlisted n) text x e = free_cut (cut_at_byte 41 text) refl e
+args_and_tail_takes (unlisted n) text x e = free_cut (cut_at_byte 41 text) refl e
   where
     free_cut : (o : Option (List ℕ × List ℕ)) → cut_at_byte 41 text ≡ o → option_map (λ c. (c.0 ∷ [], c.1)) o ≡ Some x → text ≡ join_with_byte 44 x.0 ++ (41 ∷ x.1)
     free_cut None at e = absurd cc
@@ -89,10 +89,10 @@ joined_closes (t ∷ u ∷ us) h = closes-append Outside 41 t (44 ∷ join_with_
 
 -- what the arguments of a line are made of stands between its brackets
 unfoldable pub Cuts : Item → Type 0
-Cuts i = (ts : List (List ℕ)) → SpellsArgs ts (args_of i) → (tail : List ℕ) → between (head_of i) (join_with_byte 44 ts ++ (41 ∷ tail)) ≡ Some (ts, tail)
+Cuts i = (ts : List (List ℕ)) → SpellsArgs ts (args_of i) → (tail : List ℕ) → args_and_tail (head_of i) (join_with_byte 44 ts ++ (41 ∷ tail)) ≡ Some (ts, tail)
 
 listed_again : (f : Form) (ts : List (List ℕ)) (given : List Arg) (tail : List ℕ) → are_closed given ≡ true → SpellsArgs ts given
-    → between (listed f) (join_with_byte 44 ts ++ (41 ∷ tail)) ≡ Some (ts, tail)
+    → args_and_tail (listed f) (join_with_byte 44 ts ++ (41 ∷ tail)) ≡ Some (ts, tail)
 listed_again f ts given tail c h =
     let parts = args_parts ts given c h in
     rw (outside_again 41 (join_with_byte 44 ts) tail (joined_closes ts parts), pieces_again ts parts) refl
@@ -139,7 +139,7 @@ between_again (items.Start fs) = λ ts h tail. listed_again forms.Exit ts (fds f
 between_again items.Exit = λ ts h tail. listed_again forms.Exit ts [] tail refl h
 between_again (items.Foreign f) = λ ts h tail. listed_again forms.Exit ts (an_fd f ∷ []) tail refl h
 
--- ---- behind the pid
+-- ---- after the pid
 
 pub record SpellsItem (text : List ℕ) (i : Item) : Type 0 where
   pub texts : List (List ℕ)
@@ -151,9 +151,9 @@ pub record SpellsItem (text : List ℕ) (i : Item) : Type 0 where
 item_takes : (text : List ℕ) (i : Item) → item_at text ≡ Ok i → SpellsItem text i
 unfolding item_at
 item_takes text i e =
-    let cut = bind_ok (need faults.Shape (cut_at_byte 40 text)) (λ cut. need faults.Shape (head_named cut.0) >>= λ h. behind_head h cut.1) i e in
-    let head = bind_ok (need faults.Shape (head_named cut.0.0)) (λ h. behind_head h cut.0.1) i cut.2 in
-    let args = bind_ok (need faults.Shape (between head.0 cut.0.1)) (λ args. said_at head.0 args.0 >>= λ s. ended s args.1) i head.2 in
+    let cut = bind_ok (need faults.Shape (cut_at_byte 40 text)) (λ cut. need faults.Shape (head_named cut.0) >>= λ h. after_bracket h cut.1) i e in
+    let head = bind_ok (need faults.Shape (head_named cut.0.0)) (λ h. after_bracket h cut.0.1) i cut.2 in
+    let args = bind_ok (need faults.Shape (args_and_tail head.0 cut.0.1)) (λ args. said_at head.0 args.0 >>= λ s. ended s args.1) i head.2 in
     let said = bind_ok (said_at head.0 args.0.0) (λ s. ended s args.0.1) i args.2 in
     let name = head_takes cut.0.0 head.0 (need_ok faults.Shape (head_named cut.0.0) head.0 head.1) in
     let spelled = said_takes head.0 args.0.0 said.0 said.1 in
@@ -166,8 +166,8 @@ item_takes text i e =
       whole = ends.whole;
       parts = cut_takes 40 text cut.0 (need_ok faults.Shape (cut_at_byte 40 text) cut.0 cut.1)
           ∙ ap (λ (n : List ℕ). n ++ (40 ∷ cut.0.1)) (sym name.0 ∙ ap name_of (sym same))
-          ∙ ap (λ (r : List ℕ). name_of (head_of i) ++ (40 ∷ r)) (between_takes head.0 cut.0.1 args.0 (need_ok faults.Shape (between head.0 cut.0.1) args.0 args.1))
-          ∙ ap (λ (r : List ℕ). name_of (head_of i) ++ (40 ∷ (join_with_byte 44 args.0.0 ++ (41 ∷ r)))) ends.behind;
+          ∙ ap (λ (r : List ℕ). name_of (head_of i) ++ (40 ∷ r)) (args_and_tail_takes head.0 cut.0.1 args.0 (need_ok faults.Shape (args_and_tail head.0 cut.0.1) args.0 args.1))
+          ∙ ap (λ (r : List ℕ). name_of (head_of i) ++ (40 ∷ (join_with_byte 44 args.0.0 ++ (41 ∷ r)))) ends.rest;
     }
 
 said_again : (i : Item) (ts : List (List ℕ)) → SpellsArgs ts (args_of i) → IsWhole i → (said_at (head_of i) ts >>= λ s. ended s (tail_text i)) ≡ Ok i

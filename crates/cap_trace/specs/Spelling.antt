@@ -9,6 +9,7 @@ use Rattle.cap_trace.specs.declared.line.Item.TheVariants as items
 use Rattle.cap_trace.specs.declared.line.Answer.{Answer}
 use Rattle.cap_trace.specs.declared.line.Answer.TheVariants as answers
 use Rattle.cap_trace.specs.declared.line.Dir.TheVariants as dirs
+use Rattle.cap_trace.specs.Limits.{longest_line}
 use Rattle.cap_trace.specs.Names.{Head, listed, unlisted, name_of, is_name, form_named, dup_command_name}
 use Rattle.cap_trace.specs.Fields.{is_flags, is_word, are_items, quoted, is_free}
 use Rattle.cap_trace.specs.Entry.{Entry, Arg, an_fd, a_dir, some_flags, some_rights, a_path, a_command, a_word, free_text, Word, dest, set_fd, dup_to, args_of, head_of, IsPid, IsFd, IsWhole}
@@ -76,7 +77,7 @@ joined e texts = decimal e.pid ++ (32 ∷ (name_of (head_of e.item) ++ (40 ∷ (
 
 -- the bytes spell the line, with these texts for its arguments
 pub record SpellsBy (bytes : List ℕ) (e : Entry) (texts : List (List ℕ)) : Type 0 where
-  pub short : length bytes ≤ 1024
+  pub short : length bytes ≤ longest_line
   pub pid : IsPid e.pid
   pub head : IsHead (head_of e.item)
   pub args : SpellsArgs texts (args_of e.item)

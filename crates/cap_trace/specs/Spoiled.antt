@@ -10,15 +10,12 @@ use Rattle.cap_trace.specs.declared.line.Call.{Call}
 use Rattle.cap_trace.specs.declared.line.Answer.{Answer}
 use Rattle.cap_trace.specs.declared.calls.Kind.{Kind}
 use Rattle.cap_trace.specs.declared.calls.Kind.TheVariants.{Same}
+use Rattle.cap_trace.specs.Limits.{longest_line}
 use Rattle.cap_trace.specs.Names.{name_of}
 use Rattle.cap_trace.specs.Quotes.{place}
 use Rattle.cap_trace.specs.Entry.{Entry, Arg, an_fd, a_dir, some_flags, some_rights, a_path, a_command, a_word, free_text, IsPid, IsFd, IsAnswer, kind_of, args_of, args_of_call, head_of_call}
 use Rattle.cap_trace.specs.Spelling.{SpellsArg, SpellsArgs, answer_text, joined, IsProper}
 use Rattle.cap_trace.specs.Reading.{fault}
-
--- a line has at most so many bytes
-abbrev pub longest_line : ℕ
-longest_line = 1024
 
 -- ---- too many bytes
 

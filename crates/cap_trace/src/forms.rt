@@ -14,7 +14,7 @@ use crate::calls::{
 };
 use crate::fault::ReadFault;
 use crate::parts::Parts;
-use crate::reading::{
+use crate::scan_fields::{
     command_of, dir_of, fd_of, five_parts, flags_of, four_parts, free_of, no_part, one_part,
     path_of, rights_of, three_parts, two_parts,
 };

@@ -1,12 +1,14 @@
-//! Reading the fields of a line. Nothing here takes memory.
+//! Reading the fields of a line over its bytes. Nothing here takes memory.
 
 ghost use Rattle.std.specs.Prelude.{◌≡◌, ◌≤◌, ◌==◌, ◌∷◌, [], false, length, IfOk, MatchResult};
 ghost use Rattle.cap_trace.specs.declared.fault.ReadFault.TheVariants.{Argument};
+ghost use Rattle.cap_trace.specs.Limits.{largest_fd};
 ghost use Rattle.cap_trace.specs.Quotes.{pieces};
 ghost use Rattle.cap_trace.specs.Reading.{Gives, pid_at, fd_at, rights_at, dir_at, flags_at, command_at, path_at, free_at};
 
 use crate::fault::ReadFault;
 use crate::fields::{command, flags, free, items};
+use crate::limits::{LARGEST_FD, LARGEST_PID};
 use crate::line::{Dir, Fd, Pid};
 use crate::number::number_of;
 use crate::parts::Parts;
@@ -16,7 +18,7 @@ use cap_rights::{RightSet, parse_rights};
 pub(crate) fn pid_of(text: &[u8]) -> Result<Pid, ReadFault>
     ensures { Gives (λ p. p) result (pid_at text.now) }
 {
-    match number_of(99_999, text) {
+    match number_of(u64::from(LARGEST_PID), text) {
         Some(pid) if pid != 0 => Ok(pid as u32),
         _ => Err(ReadFault::Pid),
     }
@@ -25,9 +27,9 @@ pub(crate) fn pid_of(text: &[u8]) -> Result<Pid, ReadFault>
 #[tactic(auto, unfolding(crate::specs::Reading::fd_at))]
 pub(crate) fn fd_of(text: &[u8]) -> Result<Fd, ReadFault>
     ensures value { Gives (λ f. f) result (fd_at text.now) }
-    ensures bound { IfOk result (λ f. f ≤ 1048575) }
+    ensures bound { IfOk result (λ f. f ≤ largest_fd) }
 {
-    match number_of(1_048_575, text) {
+    match number_of(u64::from(LARGEST_FD), text) {
         Some(fd) => Ok(fd as u32),
         None => Err(ReadFault::Argument),
     }

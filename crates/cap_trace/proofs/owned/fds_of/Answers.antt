@@ -2,7 +2,7 @@ use Rattle.std.proofs.Common.{◌≡◌, ◌++◌, ◌∷◌}
 use Rattle.cap_trace.specs.Quotes.{pieces}
 use Rattle.cap_trace.specs.Seen.{fds_in}
 use Rattle.cap_trace.proofs.Rising.{listed_more, listed_less, listed_end}
-use Rattle.cap_trace.proofs.parse.fds_of.Goals as goal
+use Rattle.cap_trace.proofs.owned.fds_of.Goals as goal
 
 pub loop-part-preserved-in-Continue-1 : goal.loop-part-preserved-in-Continue-1
 loop-part-preserved-in-Continue-1 c =

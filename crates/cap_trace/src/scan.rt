@@ -1,18 +1,19 @@
-//! Reading a whole line from the left. Nothing here takes memory.
+//! Reading a whole line from the left over its bytes. Nothing here takes memory.
 
 ghost use Rattle.std.specs.Prelude.{◌≡◌, ◌==◌, true, false, length, MatchResult};
 ghost use Rattle.cap_trace.specs.declared.fault.ReadFault.TheVariants.{Shape};
 ghost use Rattle.cap_trace.specs.Names.{listed, unlisted};
-ghost use Rattle.cap_trace.specs.Reading.{Gives, behind_head, item_at, line_of};
+ghost use Rattle.cap_trace.specs.Reading.{Gives, after_bracket, item_at, line_of};
 ghost use Rattle.cap_trace.specs.Seen.{item_seen, line_seen};
 
 use crate::answers::answer;
 use crate::calls::Form;
 use crate::fault::ReadFault;
 use crate::forms::{other, said};
+use crate::limits::LONGEST_LINE;
 use crate::names::{Head, head_of};
 use crate::quotes::{cut, cut_outside_quotes};
-use crate::reading::pid_of;
+use crate::scan_fields::pid_of;
 use crate::seen::{ItemSeen, LineSeen, SaidSeen};
 
 /// A marker ends after its arguments.
@@ -29,7 +30,7 @@ fn marker_ends(tail: &[u8]) -> Result<(), ReadFault>
 /// What follows the opening bracket, where the name has a form of its own.
 #[tactic(auto, unfolding(crate::specs::Reading::ended))]
 fn listed_item<'a>(form: Form, rest: &'a [u8]) -> Result<ItemSeen<'a>, ReadFault>
-    ensures { Gives item_seen result (behind_head (listed form) rest.now) }
+    ensures { Gives item_seen result (after_bracket (listed form) rest.now) }
 {
     let Some((args, tail)) = cut_outside_quotes(b')', rest) else {
         return Err(ReadFault::Shape);
@@ -58,7 +59,7 @@ fn listed_item<'a>(form: Form, rest: &'a [u8]) -> Result<ItemSeen<'a>, ReadFault
 /// What follows the opening bracket, where the name has none.
 #[tactic(auto, unfolding(crate::specs::Reading::ended))]
 fn unlisted_item<'a>(name: &'a [u8], rest: &'a [u8]) -> Result<ItemSeen<'a>, ReadFault>
-    ensures { Gives item_seen result (behind_head (unlisted name.now) rest.now) }
+    ensures { Gives item_seen result (after_bracket (unlisted name.now) rest.now) }
 {
     let Some((args, tail)) = cut(b')', rest) else {
         return Err(ReadFault::Shape);
@@ -92,7 +93,7 @@ fn item(text: &[u8]) -> Result<ItemSeen<'_>, ReadFault>
 pub(crate) fn line(bytes: &[u8]) -> Result<LineSeen<'_>, ReadFault>
     ensures { Gives line_seen result (line_of bytes.now) }
 {
-    if bytes.len() > 1024 {
+    if bytes.len() > LONGEST_LINE {
         return Err(ReadFault::TooLong);
     }
     let Some((pid, rest)) = cut(b' ', bytes) else {

@@ -1,14 +1,10 @@
 //! Worked lines: boundaries, refused lines, each name once, and what a line that was read says.
 
-use crate::calls::{FdCall, PathCall};
-use crate::fault::LineFault;
-use crate::laws::faults_are_of_their_fields;
-use crate::line::{Answer, Args, Call, Command, Fds, Flags, Item, Line, Name, Path};
-use crate::parse::{
-    one_line, only_rights_are_rewritten, parse_line, reading_is_spelling, written_is_read,
+use cap_trace::{
+    Answer, Args, Call, Command, FdCall, Fds, Flags, Item, LARGEST_FD, LONGEST_LINE, Line,
+    LineFault, Name, Path, PathCall, faults_are_of_their_fields, number_of, one_line, one_path,
+    only_rights_are_rewritten, parse_line, reading_is_spelling, write_line, written_is_read,
 };
-use crate::quotes::cut;
-use crate::write::write_line;
 use std::alloc::Global;
 use std::test::Fail;
 
@@ -224,9 +220,9 @@ fn each_name_is_read_and_written(rt: HostRuntime) -> Result<(), Fail> {
 #[test]
 fn each_line_is_named(rt: HostRuntime) -> Result<(), Fail> {
     for bytes in READ.split(|byte| *byte == b'\n') {
-        let name = cut(b'(', bytes)
-            .and_then(|c| cut(b' ', c.0))
-            .map_or(bytes, |c| c.1);
+        let mut words = bytes.split(|byte| *byte == b' ' || *byte == b'(');
+        let _pid = words.next();
+        let name = words.next().unwrap_or(bytes);
         let line = parse_line(rt.alloc(), bytes)?;
         assert_eq!(rt; line.name(), name, "{bytes:?}");
     }
@@ -236,6 +232,7 @@ fn each_line_is_named(rt: HostRuntime) -> Result<(), Fail> {
 #[test]
 fn the_longest_line_is_read(rt: HostRuntime) -> Result<(), Fail> {
     one_line();
+    one_path();
     reading_is_spelling();
     written_is_read();
     only_rights_are_rewritten();
@@ -334,23 +331,17 @@ fn a_start_is_read(rt: HostRuntime) -> Result<(), Fail> {
     Ok(())
 }
 
-/// The example of the crate's documentation.
+/// The example of the crate's documentation: reading and writing.
 #[test]
-fn the_example_runs(rt: HostRuntime) -> Result<(), Fail> {
-    let alloc = rt.alloc();
-    let line = parse_line(alloc, b"100 open(\"/etc/passwd\",O_RDONLY) RET 3")?;
+fn the_example_is_read(rt: HostRuntime) -> Result<(), Fail> {
+    let line = parse_line(rt.alloc(), b"100 open(\"/etc/passwd\",O_RDONLY) RET 3")?;
     assert_eq!(rt; line.name(), b"open".as_slice());
-    let mut text = Vec::new(alloc);
+    let mut text = Vec::new(rt.alloc());
     write_line(&line, &mut text)?;
     assert_eq!(rt;
         text.as_slice(),
         b"100 open(\"/etc/passwd\",O_RDONLY) RET 3".as_slice()
     );
-    let path = Path::escape(alloc, b"/tmp/a\nb")?;
-    let call = Call::OnPath(PathCall::Unlink, path);
-    let answer = Answer::Made(0);
-    let made = Line::new(alloc, 100, Item::Call { call, answer })?;
-    assert_eq!(rt; made.is_some(), true);
     Ok(())
 }
 
@@ -363,29 +354,66 @@ fn made(alloc: Global, pid: u32, item: Item) -> Result<Vec<u8>, Fail> {
     Ok(text)
 }
 
+/// The example of the crate's documentation: making a line.
 #[test]
-fn parts_and_lines_are_made(rt: HostRuntime) -> Result<(), Fail> {
-    let alloc = rt.alloc();
-    let path = Path::new(alloc, b"a\\x0a")?;
-    let flags = Flags::new(alloc, b"O_RDONLY|O_CLOEXEC")?;
+fn the_example_is_made(rt: HostRuntime) -> Result<(), Fail> {
+    let path = Path::escape(rt.alloc(), b"/tmp/a\nb")?;
+    let call = Call::OnPath(PathCall::Unlink, path);
+    let answer = Answer::Made(0);
+    let text = made(rt.alloc(), 100, Item::Call { call, answer })?;
+    assert_eq!(rt;
+        text.as_slice(),
+        b"100 unlink(\"/tmp/a\\x0ab\") RET 0".as_slice()
+    );
+    Ok(())
+}
+
+#[test]
+fn an_open_is_made(rt: HostRuntime) -> Result<(), Fail> {
+    let path = Path::new(rt.alloc(), b"a\\x0a")?;
+    let flags = Flags::new(rt.alloc(), b"O_RDONLY|O_CLOEXEC")?;
     let call = Call::Open(path, flags);
     let answer = Answer::Made(3);
-    let text = made(alloc, 100, Item::Call { call, answer })?;
+    let text = made(rt.alloc(), 100, Item::Call { call, answer })?;
     assert_eq!(rt;
         text.as_slice(),
         b"100 open(\"a\\x0a\",O_RDONLY|O_CLOEXEC) RET 3".as_slice()
     );
-    let call = Call::Fcntl(3, Command::new(alloc, b"F_GETFL")?);
-    let text = made(alloc, 100, Item::Call { call, answer })?;
+    Ok(())
+}
+
+#[test]
+fn a_command_is_made(rt: HostRuntime) -> Result<(), Fail> {
+    let call = Call::Fcntl(3, Command::new(rt.alloc(), b"F_GETFL")?);
+    let answer = Answer::Made(3);
+    let text = made(rt.alloc(), 100, Item::Call { call, answer })?;
     assert_eq!(rt; text.as_slice(), b"100 fcntl(3,F_GETFL) RET 3".as_slice());
-    let name = Name::new(alloc, b"kevent")?;
-    let args = Args::new(alloc, b"3,0")?;
+    Ok(())
+}
+
+#[test]
+fn a_call_without_a_form_is_made(rt: HostRuntime) -> Result<(), Fail> {
+    let name = Name::new(rt.alloc(), b"kevent")?;
+    let args = Args::new(rt.alloc(), b"3,0")?;
     let call = Call::Other { name, args };
-    let text = made(alloc, 100, Item::Call { call, answer })?;
+    let answer = Answer::Made(3);
+    let text = made(rt.alloc(), 100, Item::Call { call, answer })?;
     assert_eq!(rt; text.as_slice(), b"100 kevent(3,0) RET 3".as_slice());
-    let text = made(alloc, 7, Item::Start(Fds::new(alloc, &[0, 3])?))?;
+    Ok(())
+}
+
+#[test]
+fn a_start_is_made(rt: HostRuntime) -> Result<(), Fail> {
+    let fds = Fds::new(rt.alloc(), &[0, 3])?;
+    let text = made(rt.alloc(), 7, Item::Start(fds))?;
     assert_eq!(rt; text.as_slice(), b"7 @start(0,3)".as_slice());
     Ok(())
+}
+
+/// The text of a call that is made, or nothing where there is none.
+fn made_call(alloc: Global, call: Call) -> Result<Vec<u8>, Fail> {
+    let answer = Answer::Made(1);
+    made(alloc, 1, Item::Call { call, answer })
 }
 
 #[test]
@@ -393,21 +421,14 @@ fn what_no_text_spells_is_not_made(rt: HostRuntime) -> Result<(), Fail> {
     let alloc = rt.alloc();
     assert_eq!(rt; made(alloc, 0, Item::Exit)?.as_slice(), b"".as_slice());
     assert_eq!(rt;
-        made(alloc, 1, Item::Foreign(1_048_576))?.as_slice(),
+        made(alloc, 1, Item::Foreign(LARGEST_FD + 1))?.as_slice(),
         b"".as_slice()
     );
-    let call = Call::OnFd(FdCall::Closefrom, 3);
-    let answer = Answer::Made(1);
-    assert_eq!(rt;
-        made(alloc, 1, Item::Call { call, answer })?.as_slice(),
-        b"".as_slice()
-    );
-    let long = Path::new(alloc, &[b'x'; 1024])?;
-    let call = Call::OnPath(PathCall::Stat, long);
-    assert_eq!(rt;
-        made(alloc, 1, Item::Call { call, answer })?.as_slice(),
-        b"".as_slice()
-    );
+    let closed = made_call(alloc, Call::OnFd(FdCall::Closefrom, 3))?;
+    assert_eq!(rt; closed.as_slice(), b"".as_slice());
+    let path = Path::new(alloc, &[b'x'; LONGEST_LINE])?;
+    let long = made_call(alloc, Call::OnPath(PathCall::Stat, path))?;
+    assert_eq!(rt; long.as_slice(), b"".as_slice());
     Ok(())
 }
 
@@ -424,8 +445,7 @@ fn paths_are_escaped(rt: HostRuntime) -> Result<(), Fail> {
     for (bytes, text) in ESCAPED {
         let path = Path::escape(rt.alloc(), bytes)?;
         assert_eq!(rt; path.as_bytes(), text);
-        let again = Path::new(rt.alloc(), path.as_bytes())?;
-        assert_eq!(rt; again.as_bytes(), text);
+        assert_eq!(rt; path.unescape(rt.alloc())?.as_slice(), bytes);
     }
     Ok(())
 }
@@ -448,4 +468,28 @@ fn bad_parts_are_not_made(rt: HostRuntime) {
     assert_eq!(rt; refused(Fds::new(alloc, &[3, 3])), 4);
     assert_eq!(rt; refused(Name::new(alloc, b"read")), 2);
     assert_eq!(rt; refused(Args::new(alloc, b"(")), 2);
+}
+
+/// Texts with the number, of at most 65,535, that they spell.
+static NUMBERS: [(&[u8], Option<u64>); 6] = [
+    (b"0", Some(0)),
+    (b"65535", Some(65_535)),
+    (b"65536", None),
+    (b"007", None),
+    (b"", None),
+    (b"-1", None),
+];
+
+#[test]
+fn numbers_are_read(rt: HostRuntime) {
+    for (text, number) in NUMBERS {
+        assert_eq!(rt; number_of(65_535, text), number, "{text:?}");
+    }
+}
+
+#[test]
+fn a_fault_has_a_text(rt: HostRuntime) -> Result<(), Fail> {
+    let text = format!(in rt.alloc(); "{}", LineFault::Pid)?;
+    assert_eq!(rt; text.as_str(), "the pid is no number from 1 to 99,999");
+    Ok(())
 }
