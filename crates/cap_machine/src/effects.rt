@@ -238,6 +238,24 @@ fn openat_effect(dir: Dir, path: &[u8], flags: &[u8], answer: &Answer) -> Effect
     }
 }
 
+/// A call at a directory, with flags.
+fn at_flags_effect(
+    call: AtFlagsCall,
+    dir: Dir,
+    path: &[u8],
+    flags: &[u8],
+    answer: &Answer,
+) -> Effect<'static>
+    requires { IsAnswer (kind_of (Call.AtFlags call dir path.now flags.now)) answer.now }
+    ensures cells { (me p f : ℕ) → effect_touch result me p f ≡ at_touch call dir path.now flags.now answer.now me p f }
+    ensures modes { OnlyCells result }
+{
+    match call {
+        AtFlagsCall::Openat => openat_effect(dir, path, flags, answer),
+        _ => Effect::Keep,
+    }
+}
+
 /// fork(2), vfork(2).
 fn forked(answer: &Answer) -> Effect<'static>
     requires { FitsMade answer.now }
@@ -323,8 +341,8 @@ pub(crate) fn effect_of(profile: Profile, call: &Call, answer: &Answer) -> Effec
         Call::RightsLimit(fd, asked) => changed(*fd, Op::limit(asked), answer),
         Call::Open(_, flags) => made_whole(open_flag_of(flags.as_bytes()), answer),
         Call::OnPath(PathCall::Execve, _) => executed(profile, answer),
-        Call::AtFlags(AtFlagsCall::Openat, dir, path, flags) => {
-            openat_effect(*dir, path.as_bytes(), flags.as_bytes(), answer)
+        Call::AtFlags(call, dir, path, flags) => {
+            at_flags_effect(*call, *dir, path.as_bytes(), flags.as_bytes(), answer)
         }
         Call::OnFlags(call, flags) => flags_effect(*call, flags.as_bytes(), answer),
         Call::Bare(call) => bare_effect(*call, answer),
