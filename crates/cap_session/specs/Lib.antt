@@ -5,6 +5,7 @@ pub mod EditStreams
 pub mod Edits
 pub mod Feeds
 pub mod Laws
+pub mod Limits
 pub mod Lines
 pub mod Outcome
 pub mod Performs

@@ -1,14 +1,13 @@
 //! Reading a text to its end, piece by piece.
 ghost use Rattle.std.specs.Prelude.{◌≡◌, ◌+◌, ◌^◌, ◌<◌, ◌≤◌, [], length};
+ghost use Rattle.cap_session.specs.Limits.{longest_piece};
 ghost use Rattle.cap_session.specs.Texts.{whole_text, refused_so_far};
 ghost use Rattle.cap_session.specs.Reads.{Reads};
 
 use crate::devices::{Failed, Source};
+use crate::limits::LONGEST_PIECE;
 use crate::lines::{Lines, Reading, Stop};
 use std::alloc::Global;
-
-/// How many bytes are read at a time.
-pub const PIECE: usize = 65_536;
 
 /// Reads a text to its end, or to its first refused line. What is known of its lines is in the answer.
 pub fn read_text<L: Lines, R: Source>(
@@ -21,7 +20,7 @@ pub fn read_text<L: Lines, R: Source>(
     requires calls { turns ≤ (R.state reader.old).room }
     ensures { (start : L.Known) → L.follows lines start → Reads (whole_text L.next start) (refused_so_far L.next start) L.holds turns (R.state reader.old) (R.state reader.new) result }
 {
-    let Ok(mut buffer) = vec![in alloc; 0u8; PIECE] else {
+    let Ok(mut buffer) = vec![in alloc; 0u8; LONGEST_PIECE] else {
         return Err(Stop::Memory);
     };
     let Ok(reading) = Reading::new(alloc, lines) else {
@@ -42,7 +41,7 @@ fn read_pieces<L: Lines, R: Source>(
     requires number { reading.number ≡ 0 }
     requires held { reading.held ≡ [] }
     requires some { 0 < length piece.old }
-    requires most { length piece.old ≤ 65536 }
+    requires most { length piece.old ≤ longest_piece }
     ensures { (start : L.Known) → L.follows reading.lines start → Reads (whole_text L.next start) (refused_so_far L.next start) L.holds turns (R.state reader.old) (R.state reader.new) result }
 {
     for _turn in 0..turns {

@@ -1,6 +1,7 @@
 //! A script is replied to as it comes.
 ghost use Rattle.std.specs.Prelude.{◌≡◌, ◌+◌, ◌^◌, ◌<◌, ◌≤◌, [], length};
 ghost use Rattle.cap_session.specs.EditStreams.{RepliesToAll};
+ghost use Rattle.cap_session.specs.Limits.{longest_piece};
 
 use crate::devices::{Failed, Sink, Source};
 use crate::lines::Stop;
@@ -19,7 +20,7 @@ pub fn reply_all<R: Source, W: Sink>(
     requires failure { 1 ≤ (W.state writer.old).room }
     requires begins { script.old.held ≡ [] }
     requires some { 0 < length piece.old }
-    requires most { length piece.old ≤ 65536 }
+    requires most { length piece.old ≤ longest_piece }
     ensures all { RepliesToAll script.old.profile turns (R.state reader.old) (R.state reader.new) (W.state writer.old) (W.state writer.new) script.old.trace script.new.trace result }
     ensures profile { script.new.profile ≡ script.old.profile }
 {
