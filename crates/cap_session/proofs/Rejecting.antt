@@ -16,7 +16,7 @@ use Rattle.cap_session.specs.declared.lines.Stop.TheVariants as stops
 use Rattle.cap_session.specs.declared.outcome.Outcome.{Outcome}
 use Rattle.cap_session.specs.declared.outcome.Outcome.TheVariants.{Clean, Findings, Refused, StartRefused, Memory, ReadFault, WriteFault, TooLong}
 use Rattle.cap_session.proofs.Calls.{appends_none}
-use Rattle.cap_session.proofs.Goes.{goes_nowhere}
+use Rattle.cap_session.proofs.Texted.{goes_nowhere}
 
 line_refused : {T : Type 0} (profile : Profile) (holds : T → List Entry → Type 0) (turns : ℕ) (r0 r1 s : SourceState) (w0 w1 : SinkState) (e : Refusal) (o : Outcome) → Reads trace soon holds turns r0 r1 (Err (stops.Refused e)) → WritesRefusal e w0 w1 o →
     EditStreams profile turns r0 r1 s s w0 w1 o

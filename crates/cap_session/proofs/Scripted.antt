@@ -9,7 +9,8 @@ use Rattle.cap_session.specs.declared.refused.Refused.{Refused}
 use Rattle.cap_session.specs.Edits.{edited, trace_after, answer, after, answers}
 use Rattle.cap_session.specs.Commands.{Asked, first_word, after_word}
 use Rattle.cap_session.specs.Performs.{edit_asked}
-use Rattle.cap_session.specs.Replies.{Done, edit_done, most_lines, refused_text}
+use Rattle.cap_session.specs.Replies.{Done, edit_done, refused_text}
+use Rattle.cap_session.specs.Limits.{most_lines}
 use Rattle.cap_session.specs.Scripts.{RepliesTo, Commands, Answers}
 use Rattle.cap_session.specs.declared.script.NotDone.{NotDone}
 use Rattle.cap_session.proofs.Performed.{edit_commanded}

@@ -19,7 +19,7 @@ use Rattle.cap_session.specs.declared.outcome.Outcome.{Outcome}
 use Rattle.cap_session.specs.declared.outcome.Outcome.TheVariants.{Clean, Findings, Refused, StartRefused, Memory, ReadFault, WriteFault, TooLong}
 use Rattle.cap_session.proofs.Answered.{with_stop}
 use Rattle.cap_session.proofs.Calls.{appends_none}
-use Rattle.cap_session.proofs.Goes.{goes_nowhere}
+use Rattle.cap_session.proofs.Texted.{goes_nowhere}
 
 line_refused : (profile : Profile) {T : Type 0} (holds : T → State → Type 0) (turns : ℕ) (s0 s1 r : SourceState) (w0 w1 : SinkState) (e : Refusal) (o : Outcome) → Reads start start_soon holds turns s0 s1 (Err (stops.Refused e)) → WritesStartRefusal e w0 w1 o →
     StartStreams profile turns s0 s1 r r w0 w1 o

@@ -1,5 +1,6 @@
 -- What is known while a text comes, piece by piece.
 use Rattle.std.specs.Prelude.{◌≡◌, ℕ, ◌+◌, ◌≤◌, List, [], length, Result, Ok, Err, Option, None, Some}
+use Rattle.cap_session.specs.Limits.{longest_line}
 use Rattle.cap_session.specs.Lines.{whole_lines, last_piece}
 use Rattle.cap_session.specs.Texts.{with_lines, whole_text, refused_so_far}
 use Rattle.cap_session.specs.declared.refused.Refused.{Refused}
@@ -27,7 +28,7 @@ pub record Reached {A : Type 0} (next : A → List ℕ → Result A Refused) (st
   pub lines : with_lines next start 0 (whole_lines [] given) ≡ Ok known
   pub count : number ≡ length (whole_lines [] given)
   pub begun : held ≡ last_piece [] given
-  pub short : length held ≤ 1024
+  pub short : length held ≤ longest_line
 
 -- The bytes were worked through, or one of their lines is refused. Memory runs out only where none is.
 abbrev pub Feeds : {A T : Type 0} → (A → List ℕ → Result A Refused) → A → (A → Type 0) → List ℕ → ℕ → List ℕ → Result T Stop → Type 0

@@ -2,6 +2,7 @@
 use Rattle.std.specs.Prelude.{◌≡◌, ℕ, ◌+◌, ◌≤◌, ◌⊎◌, List, ◌++◌, length, Result, Ok, Err, IsOk, Option, None, Some}
 use Rattle.std.specs.Io.KnownBytes.{Consumes, IsAtEnd}
 use Rattle.cap_session.specs.Devices.{SourceState}
+use Rattle.cap_session.specs.Limits.{longest_piece}
 use Rattle.cap_session.specs.declared.refused.Refusal.{Refusal}
 use Rattle.cap_session.specs.declared.lines.Stop.{Stop}
 use Rattle.cap_session.specs.declared.lines.Stop.TheVariants.{Refused, Memory, ReadFault, WriteFault, TooLong}
@@ -16,12 +17,12 @@ NotAtEnd old new = new.ends ≡ old.ends
 abbrev pub UsedUp : ℕ → SourceState → SourceState → Type 0
 UsedUp turns old new = new.calls ≡ old.calls + turns
 
--- Of what was given, all but a piece of at most 65,536 bytes has no refused line.
+-- Of what was given, all but the last piece has no refused line.
 pub record IsNear (soon : List ℕ → Option Refusal) (given : List ℕ) : Type 0 where
   pub front : List ℕ
   pub piece : List ℕ
   pub cut : given ≡ front ++ piece
-  pub short : length piece ≤ 65536
+  pub short : length piece ≤ longest_piece
   pub good : soon front ≡ None
 
 -- A line of what was given is refused, before the end or at it, and reading went at most a piece past it.

@@ -10,6 +10,7 @@ use Rattle.cap_machine.specs.Steps.{steps}
 use Rattle.cap_machine.specs.State.{State, usual}
 use Rattle.cap_machine.specs.Check.{check}
 use Rattle.cap_machine.specs.Report.{report_line, last_line, report}
+use Rattle.cap_session.specs.Limits.{most_lines}
 use Rattle.cap_session.specs.Edits.{is_position, inserted, deleted, replaced}
 use Rattle.cap_session.specs.Refused.{code_of}
 use Rattle.cap_session.specs.Commands.{Asked, insert_line, replace_line, delete_line, show_line, count_lines, report_all, report_lines, unknown}
@@ -72,11 +73,7 @@ abbrev pub shown_done : List Entry → List ℕ → Result (List ℕ) Refused �
 shown_done trace end (Ok text) = Ok (record { text = text ++ end; trace = trace })
 shown_done trace end (Err e) = Err (NotDone.Refused e)
 
--- A script's session holds at most 1,000,000 lines.
-abbrev pub most_lines : ℕ
-most_lines = 1000000
-
--- what a command does, or why it isn't done
+-- what a command does, or why it isn't done; a script's session holds as many lines as a trace may have
 abbrev pub commanded : Profile → List Entry → Asked → Result Done NotDone
 commanded profile trace (insert_line k line) = edit_done (inserted most_lines trace k line)
 commanded profile trace (replace_line k line) = edit_done (replaced trace k line)

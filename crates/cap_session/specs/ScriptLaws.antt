@@ -7,17 +7,18 @@ use Rattle.cap_machine.specs.State.{usual}
 use Rattle.cap_machine.specs.Report.{report}
 use Rattle.cap_session.specs.declared.edit.Edit.{Edit}
 use Rattle.cap_session.specs.declared.refused.Refused.{Refused}
+use Rattle.cap_session.specs.Limits.{longest_script_line, most_lines}
 use Rattle.cap_session.specs.Trace.{is_skipped}
 use Rattle.cap_session.specs.Refused.{code_of}
 use Rattle.cap_session.specs.Edits.{after, answers}
 use Rattle.cap_session.specs.Commands.{asked}
 use Rattle.cap_session.specs.Performs.{edit_asked}
-use Rattle.cap_session.specs.Replies.{most_lines, refused_text, line_feed}
+use Rattle.cap_session.specs.Replies.{refused_text, line_feed}
 use Rattle.cap_session.specs.Scripts.{Run}
 
 -- A line that is neither too long nor a comment asks for an edit.
 abbrev pub Asks : List ℕ → Edit → Type 0
-Asks line edit = (nat_lt 1056 (length line) ≡ false) × (is_skipped line ≡ false) × (asked line ≡ edit_asked edit)
+Asks line edit = (nat_lt longest_script_line (length line) ≡ false) × (is_skipped line ≡ false) × (asked line ≡ edit_asked edit)
 
 -- The lines ask for the edits, each for one.
 abbrev pub AskAll : List (List ℕ) → List Edit → Type 0

@@ -3,10 +3,12 @@
 //! A line that lies whole in a piece is looked at where it lies. Only one that crosses pieces is copied,
 //! into room that is taken before the first read.
 ghost use Rattle.std.specs.Prelude.{◌≡◌, ℕ, ◌+◌, ◌^◌, ◌<◌, ◌≤◌, List, [], ◌++◌, length, Result, IfOk, OnOk, OnErr, MatchBool, ⊤};
+ghost use Rattle.cap_session.specs.Limits.{longest_line};
 ghost use Rattle.cap_session.specs.Texts.{with_line};
 ghost use Rattle.cap_session.specs.Feeds.{TakesLine, Completes, Reached, Feeds, Finishes, Ends};
 
 use crate::held::Held;
+use crate::limits::LONGEST_LINE;
 use crate::refused::{Refusal, Refused};
 use memchr::memchr;
 use std::alloc::{AllocError, Global};
@@ -42,7 +44,7 @@ pub trait Lines: Drop {
     /// The value stands for what is known.
     ghost holds: { Self → Known → Type 0 };
 
-    /// TakesLine the next line, without its LF. A line for which memory runs out is not refused, and those after it are
+    /// Takes the next line, without its LF. A line for which memory runs out is not refused, and those after it are
     /// still looked at.
     fn line(&mut self, line: &[u8]) -> Result<(), Refused>
         ensures { (known : Known) → follows self.old known → TakesLine (next known line.now) (follows self.new) result };
@@ -52,9 +54,6 @@ pub trait Lines: Drop {
         ensures { (known : Known) → follows self.now known → MatchBool result ⊤ (holds self.now known) };
 }
 
-/// A line has at most so many bytes, its LF not counted.
-pub const LINE: usize = 1024;
-
 /// A text that comes.
 #[derive(Drop)]
 pub struct Reading<L: Lines> {
@@ -62,7 +61,7 @@ pub struct Reading<L: Lines> {
     /// How many lines were taken.
     pub number: usize,
     /// The beginning of the next line.
-    pub held: Held<LINE>,
+    pub held: Held<LONGEST_LINE>,
 }
 
 impl<L: Lines> Reading<L> {
@@ -85,7 +84,7 @@ impl<L: Lines> Reading<L> {
         ensures number { self.new.number ≡ self.old.number }
     {
         if self.held.is_empty() {
-            if bytes.len() > LINE {
+            if bytes.len() > LONGEST_LINE {
                 return Err(Refused::LongLine);
             }
             return self.lines.line(bytes);
@@ -98,7 +97,7 @@ impl<L: Lines> Reading<L> {
         Ok(())
     }
 
-    /// TakesLine the line that is begun, which these bytes complete.
+    /// Takes the line that is begun, which these bytes complete.
     fn complete(&mut self, bytes: &[u8]) -> Result<(), Stop>
         requires { self.old.number + 1 < 2 ^ 64 }
         ensures completes { (known : L.Known) → L.follows self.old.lines known → Completes (with_line L.next known (self.old.held ++ bytes.now)) (L.follows self.new.lines) self.old.number result }
@@ -129,8 +128,8 @@ impl<L: Lines> Reading<L> {
     fn hold(&mut self, bytes: &[u8]) -> Result<(), Stop>
         requires { self.old.number + 1 < 2 ^ 64 }
         ensures held { OnOk result (self.new.held ≡ self.old.held ++ bytes.now) }
-        ensures short { OnOk result (length self.old.held + length bytes.now ≤ 1024) }
-        ensures long { OnErr result (1024 < length self.old.held + length bytes.now) }
+        ensures short { OnOk result (length self.old.held + length bytes.now ≤ longest_line) }
+        ensures long { OnErr result (longest_line < length self.old.held + length bytes.now) }
         ensures stops { OnErr result (result ≡ Err (Stop.Refused (record { reason = Refused.LongLine; line = self.old.number + 1 }))) }
         ensures lines { self.new.lines ≡ self.old.lines }
         ensures number { self.new.number ≡ self.old.number }
@@ -159,7 +158,7 @@ impl<L: Lines> Reading<L> {
         Ok(())
     }
 
-    /// TakesLine the line that is begun, where there is one: it is the last.
+    /// Takes the line that is begun, where there is one: it is the last.
     fn finish(&mut self) -> Result<(), Stop>
         requires { self.old.number + 1 < 2 ^ 64 }
         ensures { (start : L.Known) (given : List ℕ) → Reached L.next start (L.follows self.old.lines) given self.old.number self.old.held → Finishes L.next start (L.follows self.new.lines) given result }

@@ -10,6 +10,7 @@ ghost use Rattle.cap_machine.specs.Steps.{steps};
 ghost use Rattle.cap_machine.specs.Table.{start_state};
 ghost use Rattle.cap_machine.specs.declared.cell.Profile.TheVariants.{One};
 ghost use Rattle.cap_session.specs.Edits.{is_position, inserted, deleted, replaced, loaded, edited, after, answers};
+ghost use Rattle.cap_session.specs.Limits.{most_lines};
 ghost use Rattle.cap_session.specs.Replies.{shown, lies_in, is_range, ranged, range_report};
 ghost use Rattle.cap_session.specs.Session.{SessionState, RefusesExactly, wanted};
 
@@ -34,7 +35,7 @@ impl Model for Session {
 
     ghost view = { λ s. record { profile = s.profile; trace = s.lines.items; limit = s.limit } };
 
-    ghost invariant = { λ s. (length s.lines.items ≤ s.limit) × (s.limit ≤ 1000000) };
+    ghost invariant = { λ s. (length s.lines.items ≤ s.limit) × (s.limit ≤ most_lines) };
 }
 
 /// What a list of edits gave.
@@ -70,9 +71,9 @@ fn lies_in(first: usize, last: usize, found: &Found) -> bool
 impl Session {
     /// A session in profile 1 that holds no lines, and at most `limit` later.
     ///
-    /// The limit must be at most 1,000,000. Answers `NoMemory` where there is no memory for a session.
+    /// The limit must be at most [`MOST_LINES`](crate::MOST_LINES). Answers `NoMemory` where there is no memory for a session.
     pub fn new(alloc: Global, limit: usize) -> Result<Session, NoMemory>
-        requires { limit ≤ 1000000 }
+        requires { limit ≤ most_lines }
         ensures { IfOk result (λ s. s ≡ (record { profile = One; trace = []; limit = limit })) }
     {
         Session::with_profile(alloc, limit, Profile::One)
@@ -80,9 +81,9 @@ impl Session {
 
     /// A session that holds no lines, at most `limit` later, and checks them in a profile.
     ///
-    /// The limit must be at most 1,000,000. Answers `NoMemory` where there is no memory for a session.
+    /// The limit must be at most [`MOST_LINES`](crate::MOST_LINES). Answers `NoMemory` where there is no memory for a session.
     pub fn with_profile(alloc: Global, limit: usize, profile: Profile) -> Result<Session, NoMemory>
-        requires { limit ≤ 1000000 }
+        requires { limit ≤ most_lines }
         ensures { IfOk result (λ s. s ≡ (record { profile = profile; trace = []; limit = limit })) }
     {
         Ok(Session {
@@ -365,6 +366,3 @@ impl Session {
         })
     }
 }
-
-#[cfg(test)]
-mod tests;

@@ -11,7 +11,8 @@ ghost use Rattle.cap_session.specs.declared.refused.Refusal.{Refusal};
 
 use crate::devices::Source;
 use crate::entries::is_skipped;
-use crate::lines::{LINE, Lines, Stop};
+use crate::limits::LONGEST_LINE;
+use crate::lines::{Lines, Stop};
 use crate::read::read_text;
 use crate::refused::{Refusal, Refused};
 use crate::start_fields::{Head, cells_of, head_of};
@@ -101,7 +102,7 @@ impl Starting {
     fn numbered(&mut self, number: usize, line: &[u8]) -> Result<(), Refusal>
         ensures { (known : Listed) → Follows self.old.kept self.old.low known → TakesNumbered (with_line next_process known line.now) (Follows self.new.kept self.new.low) number result }
     {
-        if line.len() > LINE {
+        if line.len() > LONGEST_LINE {
             return Err(Refusal {
                 reason: Refused::LongLine,
                 line: number,

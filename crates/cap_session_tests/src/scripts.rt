@@ -2,11 +2,10 @@
 
 ghost use Rattle.std.specs.Prelude.{◌≡◌, ◌-◌, ◌^◌, ◌≤◌};
 
-use crate::editing::{edit_stream, edit_stream_as};
-use crate::outcome::Outcome;
-use crate::tests::{Kept, Pieces, ample};
+use crate::devices::{Kept, Pieces, ample};
 use bstr::ByteSlice;
 use cap_machine::{NoMemory, Profile};
+use cap_session::{Outcome, edit_stream, edit_stream_as};
 use std::alloc::Global;
 use std::test::Fail;
 

@@ -1,10 +1,10 @@
 //! Worked traces with a start text or in a profile, over readers and writers that are cut and broken at will.
 
-use crate::check::{check_stream, check_stream_as};
-use crate::from_start::{check_stream_from, check_stream_from_as};
-use crate::outcome::Outcome;
-use crate::tests::{Kept, Pieces, ample};
+use crate::devices::{Kept, Pieces, ample};
 use cap_machine::Profile;
+use cap_session::{
+    Outcome, check_stream, check_stream_as, check_stream_from, check_stream_from_as,
+};
 use std::test::Fail;
 
 const READ: &[u8] = b"100 read(3) RET 1";

@@ -2,11 +2,11 @@
 
 ghost use Rattle.std.specs.Prelude.{◌≤◌};
 
-use crate::edit::{Edit, accepted_edits_give, inserted_stands, no_edit_asks_for_memory};
-use crate::refused::Refused;
-use crate::session::Session;
 use cap_machine::{Cell, Mode, OnExec, Profile, Start};
 use cap_rights::parse_rights;
+use cap_session::{
+    Edit, Refused, Session, accepted_edits_give, inserted_stands, no_edit_asks_for_memory,
+};
 use cap_trace::parse_line;
 use std::alloc::Global;
 use std::test::Fail;

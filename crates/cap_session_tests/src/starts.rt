@@ -1,8 +1,8 @@
 //! Worked start texts: what is known of each process, and the fault of each text that isn't good.
 
-use crate::start_text::{StartFault, parse_start};
 use cap_machine::{Cell, Mode, OnExec, Profile, check};
 use cap_rights::parse_rights;
+use cap_session::{StartFault, parse_start};
 use cap_trace::parse_line;
 use std::alloc::Global;
 use std::test::Fail;
