@@ -11,7 +11,7 @@ use Rattle.cap_trace.specs.declared.quotes.Quoting.{Quoting}
 use Rattle.cap_trace.specs.declared.quotes.Quoting.TheVariants.{Outside, Inside, Skipping}
 use Rattle.cap_trace.specs.Quotes.{after, stops, place, place_from, pieces, pieces_from, around, cut_at_byte, cut_outside}
 use Rattle.cap_trace.specs.Reading.{after_prefix, before_suffix}
-use Rattle.cap_trace.proofs.Quoted.{behind_one}
+use Rattle.cap_trace.proofs.Quoted.{after_one}
 
 -- ---- options and tests
 
@@ -75,9 +75,9 @@ cut_takes c t x e =
     let k = around_some t (ltb (position_or_len (is c) t) (length t)) (position_or_len (is c) t) x e in
     subst (λ (y : List ℕ × List ℕ). t ≡ y.0 ++ (c ∷ y.1)) k.1 (rw add-one (found_byte c t (ltb-true _ _ k.0)))
 
-drop_behind : (s : List ℕ) (c : ℕ) (b : List ℕ) → drop (suc (length s)) (s ++ (c ∷ b)) ≡ b
-drop_behind [] c b = refl
-drop_behind (y ∷ s) c b = drop_behind s c b
+drop_after : (s : List ℕ) (c : ℕ) (b : List ℕ) → drop (suc (length s)) (s ++ (c ∷ b)) ≡ b
+drop_after [] c b = refl
+drop_after (y ∷ s) c b = drop_after s c b
 
 not_true : (b : Bool) → not b ≡ true → b ≡ false
 not_true true e = absurd cc
@@ -87,7 +87,7 @@ pub cut_again : (c : ℕ) (a b : List ℕ) → lacks c a ≡ true → cut_at_byt
 cut_again c a b h =
     let at = first_byte c a b h in
     let lt : ltb (length a) (length (a ++ c ∷ b)) ≡ true = lt-ltb _ _ (simp length-append (omega arith)) in
-    rw (at, lt, take_at a (c ∷ b) (length a) refl, add-one) (ap (λ (r : List ℕ). Some (a, r)) (drop_behind a c b))
+    rw (at, lt, take_at a (c ∷ b) (length a) refl, add-one) (ap (λ (r : List ℕ). Some (a, r)) (drop_after a c b))
 
 -- ---- outside quotes
 
@@ -106,14 +106,14 @@ closes-append Outside stop (c ∷ cs) b h g = let p = both (not (stops Outside s
 closes-append Inside stop (c ∷ cs) b h g = let p = both (not (stops Inside stop c)) (closes (after Inside c) stop cs) h in rw (closes-append (after Inside c) stop cs b p.1 g) refl
 closes-append Skipping stop (c ∷ cs) b h g = let p = both (not (stops Skipping stop c)) (closes (after Skipping c) stop cs) h in rw (closes-append (after Skipping c) stop cs b p.1 g) refl
 
-place_behind : (q : Quoting) (stop : ℕ) (a b : List ℕ) → closes q stop a ≡ true → place_from q stop (a ++ (stop ∷ b)) ≡ Some (length a)
+place_after : (q : Quoting) (stop : ℕ) (a b : List ℕ) → closes q stop a ≡ true → place_from q stop (a ++ (stop ∷ b)) ≡ Some (length a)
 unfolding place_from
-place_behind Outside stop [] b h = rw (eqb_same stop) refl
-place_behind Inside stop [] b h = absurd cc
-place_behind Skipping stop [] b h = absurd cc
-place_behind Outside stop (c ∷ cs) b h = let p = both (not (stops Outside stop c)) (closes (after Outside c) stop cs) h in rw (not_true _ p.0, place_behind (after Outside c) stop cs b p.1) refl
-place_behind Inside stop (c ∷ cs) b h = let p = both (not (stops Inside stop c)) (closes (after Inside c) stop cs) h in rw (place_behind (after Inside c) stop cs b p.1) refl
-place_behind Skipping stop (c ∷ cs) b h = let p = both (not (stops Skipping stop c)) (closes (after Skipping c) stop cs) h in rw (place_behind (after Skipping c) stop cs b p.1) refl
+place_after Outside stop [] b h = rw (eqb_same stop) refl
+place_after Inside stop [] b h = absurd cc
+place_after Skipping stop [] b h = absurd cc
+place_after Outside stop (c ∷ cs) b h = let p = both (not (stops Outside stop c)) (closes (after Outside c) stop cs) h in rw (not_true _ p.0, place_after (after Outside c) stop cs b p.1) refl
+place_after Inside stop (c ∷ cs) b h = let p = both (not (stops Inside stop c)) (closes (after Inside c) stop cs) h in rw (place_after (after Inside c) stop cs b p.1) refl
+place_after Skipping stop (c ∷ cs) b h = let p = both (not (stops Skipping stop c)) (closes (after Skipping c) stop cs) h in rw (place_after (after Skipping c) stop cs b p.1) refl
 
 stop_is : (q : Quoting) (stop c : ℕ) → stops q stop c ≡ true → c ≡ stop
 stop_is Outside stop c e = eqb-true c stop e
@@ -124,7 +124,7 @@ place_takes : (q : Quoting) (stop : ℕ) (t : List ℕ) (i : ℕ) → place_from
 unfolding place_from
 place_takes q stop [] i e = absurd cc
 place_takes q stop (c ∷ cs) i e =
-    elim (behind_one (stops q stop c) (place_from (after q c) stop cs) i e) [
+    elim (after_one (stops q stop c) (place_from (after q c) stop cs) i e) [
       | inl h ↦ rw (h.1, ← stop_is q stop c h.0) refl
       | inr h ↦ rw h.1.2 (ap (λ (s : List ℕ). c ∷ s) (place_takes (after q c) stop cs h.1.0 h.1.1))
     ]
@@ -139,18 +139,18 @@ outside_takes stop t x e =
     subst (λ (y : List ℕ × List ℕ). t ≡ y.0 ++ (stop ∷ y.1)) k.2 (rw add-one (place_takes Outside stop t k.0 k.1))
 
 pub outside_again : (stop : ℕ) (a b : List ℕ) → closes Outside stop a ≡ true → cut_outside stop (a ++ (stop ∷ b)) ≡ Some (a, b)
-outside_again stop a b h = rw (place_behind Outside stop a b h, take_at a (stop ∷ b) (length a) refl, add-one) (ap (λ (r : List ℕ). Some (a, r)) (drop_behind a stop b))
+outside_again stop a b h = rw (place_after Outside stop a b h, take_at a (stop ∷ b) (length a) refl, add-one) (ap (λ (r : List ℕ). Some (a, r)) (drop_after a stop b))
 
 -- ---- parts at commas
 
-pieces_behind : (q : Quoting) (a b : List ℕ) → closes q 44 a ≡ true → pieces_from q (a ++ (44 ∷ b)) ≡ a ∷ pieces_from Outside b
+pieces_after : (q : Quoting) (a b : List ℕ) → closes q 44 a ≡ true → pieces_from q (a ++ (44 ∷ b)) ≡ a ∷ pieces_from Outside b
 unfolding pieces_from
-pieces_behind Outside [] b h = refl
-pieces_behind Inside [] b h = absurd cc
-pieces_behind Skipping [] b h = absurd cc
-pieces_behind Outside (c ∷ cs) b h = let p = both (not (stops Outside 44 c)) (closes (after Outside c) 44 cs) h in rw (not_true _ p.0, pieces_behind (after Outside c) cs b p.1) refl
-pieces_behind Inside (c ∷ cs) b h = let p = both (not (stops Inside 44 c)) (closes (after Inside c) 44 cs) h in rw (pieces_behind (after Inside c) cs b p.1) refl
-pieces_behind Skipping (c ∷ cs) b h = let p = both (not (stops Skipping 44 c)) (closes (after Skipping c) 44 cs) h in rw (pieces_behind (after Skipping c) cs b p.1) refl
+pieces_after Outside [] b h = refl
+pieces_after Inside [] b h = absurd cc
+pieces_after Skipping [] b h = absurd cc
+pieces_after Outside (c ∷ cs) b h = let p = both (not (stops Outside 44 c)) (closes (after Outside c) 44 cs) h in rw (not_true _ p.0, pieces_after (after Outside c) cs b p.1) refl
+pieces_after Inside (c ∷ cs) b h = let p = both (not (stops Inside 44 c)) (closes (after Inside c) 44 cs) h in rw (pieces_after (after Inside c) cs b p.1) refl
+pieces_after Skipping (c ∷ cs) b h = let p = both (not (stops Skipping 44 c)) (closes (after Skipping c) 44 cs) h in rw (pieces_after (after Skipping c) cs b p.1) refl
 
 piece_alone : (q : Quoting) (a : List ℕ) → closes q 44 a ≡ true → pieces_from q a ≡ a ∷ []
 unfolding pieces_from
@@ -171,7 +171,7 @@ AreParts (t ∷ ts) = IsPart t × AreParts ts
 
 parts_joined : (t : List ℕ) (ts : List (List ℕ)) → AreParts (t ∷ ts) → pieces_from Outside (join_with_byte 44 (t ∷ ts)) ≡ t ∷ ts
 parts_joined t [] h = piece_alone Outside t h.0.comma
-parts_joined t (u ∷ us) h = pieces_behind Outside t (join_with_byte 44 (u ∷ us)) h.0.comma ∙ ap (λ (r : List (List ℕ)). t ∷ r) (parts_joined u us h.1)
+parts_joined t (u ∷ us) h = pieces_after Outside t (join_with_byte 44 (u ∷ us)) h.0.comma ∙ ap (λ (r : List (List ℕ)). t ∷ r) (parts_joined u us h.1)
 
 pieces_some : (t : List ℕ) → 0 < length t → pieces t ≡ pieces_from Outside t
 unfolding pieces

@@ -1,6 +1,6 @@
 -- A path is escaped byte by byte.
 use Rattle.std.proofs.Common.{◌≡◌, ℕ, ◌+◌, ◌<◌, List, [], ◌∷◌, ◌++◌, length, get_or, drop, refl, sym, ap, ◌∙◌, append_assoc}
-use Rattle.std.proofs.lemmas.List.{drop_more, append-nil, drop_all}
+use Rattle.std.proofs.lemmas.List.{drop_more, append-nil}
 use Rattle.cap_trace.specs.Escaping.{escape_of, escaped}
 
 step : (b : ℕ) (bs : List ℕ) → escaped (b ∷ bs) ≡ escape_of b ++ escaped bs

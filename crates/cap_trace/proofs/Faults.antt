@@ -6,23 +6,21 @@ use Rattle.std.specs.Str.{bytes_eq}
 use Rattle.cap_rights.specs.Text.{names}
 use Rattle.cap_trace.specs.declared.fault.ReadFault.{ReadFault}
 use Rattle.cap_trace.specs.declared.fault.ReadFault.TheVariants as faults
-use Rattle.cap_trace.specs.declared.line.Item.{Item}
 use Rattle.cap_trace.specs.declared.line.Item.TheVariants as items
 use Rattle.cap_trace.specs.declared.line.Answer.{Answer}
 use Rattle.cap_trace.specs.declared.line.Answer.TheVariants as answers
-use Rattle.cap_trace.specs.declared.line.Dir.{Dir}
 use Rattle.cap_trace.specs.declared.line.Dir.TheVariants as dirs
 use Rattle.cap_trace.specs.declared.calls.Kind.{Kind}
 use Rattle.cap_trace.specs.declared.calls.Kind.TheVariants.{Count, Zero, Fd, Same, FdPair, Child, ChildAndFd, Any}
 use Rattle.cap_trace.specs.declared.calls.Form.TheVariants as forms
-use Rattle.cap_trace.specs.Names.{Head, listed, unlisted, head_named}
+use Rattle.cap_trace.specs.Names.{Head, listed, unlisted}
 use Rattle.cap_trace.specs.Number.{num_at}
 use Rattle.cap_trace.specs.Quotes.{cut_at_byte}
 use Rattle.cap_trace.specs.Fields.{is_flags, are_items, is_free}
-use Rattle.cap_trace.specs.Entry.{Arg, an_fd, a_dir, some_flags, some_rights, a_path, a_command, a_word, free_text, Word, dest, set_fd, dup_to, kind_of}
+use Rattle.cap_trace.specs.Entry.{Arg, an_fd, a_dir, some_flags, some_rights, a_path, a_command, a_word, free_text, dest, set_fd, dup_to}
 use Rattle.cap_trace.specs.Spelling.{word_text, is_command}
-use Rattle.cap_trace.specs.Forms.{Slot, fd, dir, flags, rights, path, command, word, free, Shape, these, rising_fds, shape_of, Said, a_call, a_marker, built}
-use Rattle.cap_trace.specs.Reading.{◌>>=◌, need, positive, kept, after_prefix, before_suffix, pid_at, fd_at, rights_at, dir_at, flags_at, command_at, path_at, free_at, arg_at, args_at, fds_from, shaped, said_at, number_at, same_at, pair_at, any_at, made_at, result_at, answer_at, ended, args_and_tail, after_bracket, item_at}
+use Rattle.cap_trace.specs.Forms.{Slot, fd, dir, flags, rights, path, command, word, free, Shape, these, rising_fds, shape_of, Said, a_marker, built}
+use Rattle.cap_trace.specs.Reading.{◌>>=◌, need, positive, kept, after_prefix, before_suffix, pid_at, fd_at, rights_at, dir_at, flags_at, command_at, path_at, free_at, arg_at, args_at, fds_from, shaped, said_at, number_at, same_at, pair_at, any_at, made_at, result_at}
 use Rattle.cap_trace.proofs.Built.{slots_in}
 use Rattle.cap_trace.proofs.Cuts.{both}
 

@@ -1,5 +1,5 @@
 -- Which faults a whole line can have, and those of its length, its pid and its rights.
-use Rattle.std.proofs.Common.{◌≡◌, ℕ, ◌+◌, ◌<◌, ◌≤◌, ◌&&◌, Bool, true, false, cond, eqb, ltb, List, [], ◌∷◌, ◌++◌, length, take, drop, Option, Some, None, Result, Ok, Err, refl, sym, ap, subst, ◌∙◌, ◌⊎◌, inl, inr, arith, append_assoc}
+use Rattle.std.proofs.Common.{◌≡◌, ℕ, ◌<◌, ◌≤◌, Bool, true, false, cond, eqb, ltb, List, [], ◌∷◌, ◌++◌, length, Option, Some, None, Result, Ok, Err, refl, sym, ap, subst, ◌∙◌, ◌⊎◌, inl, inr, arith, append_assoc}
 use Rattle.std.specs.Prelude.{codes}
 use Rattle.std.specs.List.{join_with_byte, before_first, position_or_len}
 use Rattle.std.specs.Str.{bytes_eq}
@@ -12,25 +12,23 @@ use Rattle.cap_trace.specs.declared.fault.ReadFault.{ReadFault}
 use Rattle.cap_trace.specs.declared.fault.ReadFault.TheVariants as faults
 use Rattle.cap_trace.specs.declared.line.Item.{Item}
 use Rattle.cap_trace.specs.declared.line.Item.TheVariants as items
-use Rattle.cap_trace.specs.declared.line.Answer.{Answer}
 use Rattle.cap_trace.specs.declared.calls.Kind.{Kind}
 use Rattle.cap_trace.specs.declared.calls.Kind.TheVariants.{Count, Zero, Fd, Same, FdPair, Child, ChildAndFd, Any}
-use Rattle.cap_trace.specs.declared.calls.Form.{Form}
 use Rattle.cap_trace.specs.declared.calls.Form.TheVariants as forms
 use Rattle.cap_trace.specs.Names.{Head, listed, unlisted, name_of, head_named}
 use Rattle.cap_trace.specs.Number.{num_at}
 use Rattle.cap_trace.specs.Quotes.{cut_at_byte, around}
-use Rattle.cap_trace.specs.Entry.{Entry, Arg, an_fd, some_rights, IsPid, IsFd, kind_of}
-use Rattle.cap_trace.specs.Forms.{Slot, fd, dir, flags, rights, path, command, word, free, Shape, these, rising_fds, shape_of, send_shape, command_shape, fcntl_shape, Said, a_call, a_marker, built}
-use Rattle.cap_trace.specs.Reading.{◌>>=◌, need, after_prefix, pid_at, fd_at, rights_at, arg_at, args_at, shaped, said_at, same_at, result_at, made_at, answer_at, ended, args_and_tail, after_bracket, item_at, entry_at, line_of, fault}
+use Rattle.cap_trace.specs.Entry.{Entry, an_fd, some_rights, IsPid, IsFd, kind_of}
+use Rattle.cap_trace.specs.Forms.{Slot, fd, dir, flags, rights, path, command, word, free, shape_of, send_shape, fcntl_shape, Said, a_call, a_marker, built}
+use Rattle.cap_trace.specs.Reading.{◌>>=◌, need, after_prefix, pid_at, fd_at, rights_at, arg_at, args_at, said_at, same_at, result_at, made_at, answer_at, ended, args_and_tail, after_bracket, item_at, entry_at, line_of, fault}
 use Rattle.cap_trace.specs.Spoiled.{TooLongExactly, PidExactly, SpellsNoPid, RightOnlyOfLimits, LimitsByNoRights}
 use Rattle.cap_trace.proofs.Built.{slots_in}
-use Rattle.cap_trace.proofs.Cuts.{both, cut_takes}
+use Rattle.cap_trace.proofs.Cuts.{cut_takes}
 use Rattle.cap_trace.proofs.Numerals.{need_ok}
 use Rattle.cap_trace.proofs.Heads.{head_takes}
 use Rattle.cap_trace.proofs.Spelled.{bind_made, pid_takes, pid_again, fd_takes}
 use Rattle.cap_trace.proofs.WholeLines.{args_and_tail_takes}
-use Rattle.cap_trace.proofs.Faults.{err_is, bind_err, made_err, need_err, pid_err, slot_fault, arg_err, passes_slots, built_err, said_err, same_err, is_same, made_fails, errno_err}
+use Rattle.cap_trace.proofs.Faults.{err_is, bind_err, made_err, need_err, pid_err, arg_err, passes_slots, built_err, said_err, same_err, is_same, made_fails, errno_err}
 
 pub fault_err : (r : Result Entry ReadFault) (f : ReadFault) → (elim r as (λ _. Option ReadFault) [ Ok e ↦ None | Err d ↦ Some d ]) ≡ Some f → r ≡ Err f
 fault_err (Ok e) f h = absurd cc

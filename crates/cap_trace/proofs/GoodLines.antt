@@ -1,8 +1,6 @@
 -- A line whose fields are good, and whose text isn't too long, is one that some bytes spell, and none else is.
-use Rattle.std.proofs.Common.{◌≡◌, ℕ, ◌+◌, ◌^◌, ◌<◌, ◌≤◌, ◌&&◌, Bool, true, false, cond, not, eqb, ltb, leb, List, [], ◌∷◌, ◌++◌, length, map, Option, Some, None, refl, sym, ap, subst, ◌∙◌, arith, tests}
+use Rattle.std.proofs.Common.{◌≡◌, ℕ, ◌+◌, ◌≤◌, ◌&&◌, Bool, true, false, eqb, ltb, leb, List, [], ◌∷◌, length, map, Option, Some, None, refl, ap}
 use Rattle.std.specs.Prelude.{is_none}
-use Rattle.std.specs.Fmt.{decimal}
-use Rattle.std.specs.List.{list_all}
 use Rattle.std.proofs.lemmas.Bool.{eqb-true, lt-ltb, le-leb}
 use borrow.Author.Tests.{ltb-true, leb-true}
 use Rattle.cap_rights.specs.Text.{names, text}
@@ -18,9 +16,8 @@ use Rattle.cap_trace.specs.declared.calls.Kind.{Kind}
 use Rattle.cap_trace.specs.declared.calls.Kind.TheVariants.{Count, Zero, Fd, Same, FdPair, Child, ChildAndFd, Any}
 use Rattle.cap_trace.specs.declared.calls.Form.{Form}
 use Rattle.cap_trace.specs.Names.{Head, listed, unlisted, is_name, form_named}
-use Rattle.cap_trace.specs.Fields.{is_free}
 use Rattle.cap_trace.specs.Entry.{Entry, Arg, an_fd, a_dir, some_flags, some_rights, a_path, a_command, a_word, free_text, args_of, args_of_call, head_of, head_of_call, fds, kind_of, IsPid, IsFd, IsAnswer, IsWhole, RisesFrom}
-use Rattle.cap_trace.specs.Spelling.{SpellsArg, SpellsArgs, SpellsBy, Spells, IsHead, IsProper, arg_text, canon}
+use Rattle.cap_trace.specs.Spelling.{SpellsArg, SpellsArgs, SpellsBy, IsHead, IsProper, arg_text, canon}
 use Rattle.cap_trace.specs.Making.{is_fd, is_pid, is_good, are_good, is_head, is_answer, all_rise, is_good_item, is_same_set, is_named, has_named_rights, has_text}
 use Rattle.cap_trace.proofs.Cuts.{both, both_true, eqb_same}
 use Rattle.cap_trace.proofs.Canonical.{canon_spells}

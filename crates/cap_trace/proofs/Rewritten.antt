@@ -1,16 +1,16 @@
 -- The canonical text of a line is the text that was read, but for rights.
-use Rattle.std.proofs.Common.{◌≡◌, ℕ, true, List, [], ◌∷◌, ◌++◌, Some, refl, sym, ap, subst, ◌∙◌, append_assoc}
+use Rattle.std.proofs.Common.{◌≡◌, ℕ, List, [], ◌∷◌, ◌++◌, refl, ap, ◌∙◌, append_assoc}
 use Rattle.std.specs.Prelude.{codes}
 use Rattle.std.specs.List.{join_with_byte}
 use Rattle.std.specs.Fmt.{decimal}
-use Rattle.cap_rights.specs.Text.{names, text}
+use Rattle.cap_rights.specs.Text.{text}
 use Rattle.cap_trace.specs.declared.line.Item.{Item}
 use Rattle.cap_trace.specs.declared.line.Item.TheVariants as items
 use Rattle.cap_trace.specs.declared.line.Call.{Call}
 use Rattle.cap_trace.specs.declared.line.Call.TheVariants as calls
 use Rattle.cap_trace.specs.declared.line.Answer.{Answer}
-use Rattle.cap_trace.specs.Entry.{Entry, an_fd, some_rights, args_of}
-use Rattle.cap_trace.specs.Spelling.{SpellsArgs, SpellsBy, Spells, answer_text, joined, canon}
+use Rattle.cap_trace.specs.Entry.{an_fd, some_rights}
+use Rattle.cap_trace.specs.Spelling.{SpellsArgs, SpellsBy, answer_text, joined, canon}
 use Rattle.cap_trace.specs.Rewriting.{limit_text, OnlyRightsDiffer, OnlyRightsAreRewritten}
 use Rattle.cap_trace.proofs.Canonical.{is_settled, settled_same, fds_settled}
 

@@ -1,10 +1,10 @@
 -- A good line with one argument or its answer spoiled has the fault of that field.
-use Rattle.std.proofs.Common.{◌≡◌, ℕ, suc, ◌+◌, ◌<◌, ◌≤◌, ◌&&◌, Bool, true, false, cond, not, eqb, ltb, List, [], ◌∷◌, ◌++◌, length, Option, Some, None, Result, Ok, Err, refl, sym, ap, subst, ◌∙◌, ◌⊎◌, inl, inr, arith}
+use Rattle.std.proofs.Common.{◌≡◌, ℕ, suc, ◌+◌, ◌≤◌, Bool, true, false, cond, eqb, List, [], ◌∷◌, ◌++◌, length, Option, Some, None, Result, Ok, Err, refl, sym, ap, subst, ◌∙◌, ◌⊎◌, inl, inr, arith}
 use Rattle.std.specs.Prelude.{codes, option_map}
 use Rattle.std.specs.List.{join_with_byte}
-use Rattle.std.specs.Str.{bytes_eq, all_ascii_digits}
+use Rattle.std.specs.Str.{bytes_eq}
 use Rattle.std.specs.Fmt.{decimal}
-use Rattle.std.proofs.lemmas.Fmt.{digits_decimal, decimal_nonempty}
+use Rattle.std.proofs.lemmas.Fmt.{digits_decimal}
 use Rattle.std.proofs.lemmas.Slice.Eq.{bytes_eq-Decides}
 use Rattle.cap_trace.specs.declared.fault.ReadFault.{ReadFault}
 use Rattle.cap_trace.specs.declared.fault.ReadFault.TheVariants as faults
@@ -20,14 +20,14 @@ use Rattle.cap_trace.specs.declared.calls.Form.{Form}
 use Rattle.cap_trace.specs.declared.calls.Form.TheVariants as forms
 use Rattle.cap_trace.specs.declared.quotes.Quoting.{Quoting}
 use Rattle.cap_trace.specs.declared.quotes.Quoting.TheVariants.{Outside, Inside, Skipping}
-use Rattle.cap_trace.specs.Names.{Head, listed, unlisted, name_of}
-use Rattle.cap_trace.specs.Quotes.{after, stops, place, place_from}
-use Rattle.cap_trace.specs.Entry.{Entry, Arg, an_fd, a_dir, some_flags, some_rights, a_path, a_command, a_word, free_text, Word, dest, set_fd, dup_to, args_of, args_of_call, head_of, head_of_call, fds, kind_of, IsPid, IsFd, IsAnswer, IsWhole, RisesFrom}
-use Rattle.cap_trace.specs.Spelling.{SpellsArg, SpellsArgs, SpellsBy, IsHead, IsProper, word_text, answer_text, tail_text, joined}
-use Rattle.cap_trace.specs.Forms.{Slot, fd, dir, flags, rights, path, command, word, free, Shape, these, rising_fds, Said, a_call, built}
-use Rattle.cap_trace.specs.Reading.{◌>>=◌, need, after_prefix, pid_at, fd_at, rights_at, dir_at, flags_at, command_at, path_at, arg_at, args_at, fds_from, shaped, said_at, result_at, made_at, answer_at, ended, args_and_tail, after_bracket, item_at, entry_at, line_of}
+use Rattle.cap_trace.specs.Names.{Head, listed, name_of}
+use Rattle.cap_trace.specs.Quotes.{after, stops, place_from}
+use Rattle.cap_trace.specs.Entry.{Entry, Arg, an_fd, a_dir, some_flags, some_rights, a_path, a_command, a_word, free_text, Word, dest, set_fd, dup_to, args_of, args_of_call, head_of, head_of_call, fds, kind_of, IsPid, IsFd, IsWhole, RisesFrom}
+use Rattle.cap_trace.specs.Spelling.{SpellsArg, SpellsArgs, IsHead, IsProper, word_text, answer_text, tail_text, joined}
+use Rattle.cap_trace.specs.Forms.{Slot, these}
+use Rattle.cap_trace.specs.Reading.{◌>>=◌, after_prefix, fd_at, rights_at, dir_at, flags_at, command_at, path_at, arg_at, args_at, fds_from, shaped, said_at, result_at, made_at, answer_at, ended, args_and_tail, after_bracket, item_at, entry_at, line_of}
 use Rattle.cap_trace.specs.Spoiled.{AreAlike, Spoils, fault_of_arg, SpoilsOne, SpoiledArgument, answered, SpellsNoAnswer, FaultOfAnswer, SpoiledAnswer}
-use Rattle.cap_trace.proofs.Cuts.{both, both_true, closes, IsPart, AreParts, outside_again, pieces_again, cut_again, eqb_same}
+use Rattle.cap_trace.proofs.Cuts.{both, closes, IsPart, AreParts, outside_again, pieces_again, cut_again, eqb_same}
 use Rattle.std.proofs.lemmas.Bool.{le-ltb}
 use Rattle.cap_trace.specs.Number.{num_at}
 use Rattle.cap_trace.proofs.Built.{call_again}
@@ -388,10 +388,10 @@ answer_spoiled k t f (Ok a) e none h =
     absurd (none a p.1 same)
 answer_spoiled k t f (Err d) e none h = ap Err (one_fault k t d f (kind_fault k t (after_prefix (codes "-1 errno ") t) d refl (sym (answer_is k t (after_prefix (codes "-1 errno ") t) refl) ∙ e)) h)
 
-answer_behind : (c : Call) (good : Answer) (texts : List (List ℕ)) (t : List ℕ) (f : ReadFault) → SpellsArgs texts (args_of_call c) → SpellsNoAnswer (kind_of c) t → FaultOfAnswer (kind_of c) t f
+answer_after : (c : Call) (good : Answer) (texts : List (List ℕ)) (t : List ℕ) (f : ReadFault) → SpellsArgs texts (args_of_call c) → SpellsNoAnswer (kind_of c) t → FaultOfAnswer (kind_of c) t f
     → after_bracket (head_of_call c) (join_with_byte 44 texts ++ (41 ∷ (codes " RET " ++ t))) ≡ Err f
 unfolding Cuts ended
-answer_behind c good texts t f h none fo =
+answer_after c good texts t f h none fo =
     rw (between_again (items.Call c good) texts h (codes " RET " ++ t), call_again c texts h, answer_spoiled (kind_of c) t f (answer_at (kind_of c) (codes " RET " ++ t)) refl none fo) refl
 
 pub spoiled_answer : SpoiledAnswer
@@ -399,4 +399,4 @@ spoiled_answer = λ pid call good texts t f h args le none fo.
     let by = h.1.1 in
     err_fault (answered pid call texts t) f
     (entry_fails pid (name_of (head_of_call call) ++ (40 ∷ (join_with_byte 44 texts ++ (41 ∷ (codes " RET " ++ t))))) f by.pid
-    (item_from (head_of_call call) (join_with_byte 44 texts ++ (41 ∷ (codes " RET " ++ t))) by.head ∙ answer_behind call good texts t f args none fo) le)
+    (item_from (head_of_call call) (join_with_byte 44 texts ++ (41 ∷ (codes " RET " ++ t))) by.head ∙ answer_after call good texts t f args none fo) le)

@@ -189,13 +189,13 @@ long_ok : {A : Type 0} (b : Bool) (d : ReadFault) (r : Result A ReadFault) (y : 
 long_ok true d r y e = absurd cc
 long_ok false d r y e = (refl, e)
 
-pub record SpellsBehind (bytes : List ℕ) (e : Entry) : Type 0 where
+pub record SpellsAfter (bytes : List ℕ) (e : Entry) : Type 0 where
   pub rest : List ℕ
   pub parts : bytes ≡ decimal e.pid ++ (32 ∷ rest)
   pub pid : IsPid e.pid
   pub item : SpellsItem rest e.item
 
-entry_takes : (bytes : List ℕ) (o : Option (List ℕ × List ℕ)) (e : Entry) → cut_at_byte 32 bytes ≡ o → entry_at bytes o ≡ Ok e → SpellsBehind bytes e
+entry_takes : (bytes : List ℕ) (o : Option (List ℕ × List ℕ)) (e : Entry) → cut_at_byte 32 bytes ≡ o → entry_at bytes o ≡ Ok e → SpellsAfter bytes e
 unfolding entry_at
 entry_takes bytes None e at h = let p = bind_ok (pid_at bytes) (λ _. Err faults.Shape) e h in absurd (let f = p.2 in cc)
 entry_takes bytes (Some x) e at h =
@@ -203,7 +203,7 @@ entry_takes bytes (Some x) e at h =
     let make : Item → Entry = λ item. record { pid = pid.0; item = item } in
     let item = bind_made (item_at x.1) make e pid.2 in
     let p = pid_takes x.0 pid.0 pid.1 in
-    subst (λ (y : Entry). SpellsBehind bytes y) item.2
+    subst (λ (y : Entry). SpellsAfter bytes y) item.2
     (record { rest = x.1; parts = cut_takes 32 bytes x at ∙ ap (λ (d : List ℕ). d ++ (32 ∷ x.1)) p.0; pid = p.1; item = item_takes x.1 item.0 item.1 })
 
 pub line_takes : (bytes : List ℕ) (e : Entry) → line_of bytes ≡ Ok e → Spells bytes e
@@ -233,6 +233,6 @@ unfolding line_of entry_at
 line_again bytes e h =
     let s = h.1 in
     let short : ltb 1024 (length bytes) ≡ false = le-ltb _ _ s.short in
-    let behind_pid = name_of (head_of e.item) ++ (40 ∷ (join_with_byte 44 h.0 ++ (41 ∷ tail_text e.item))) in
-    let cut : cut_at_byte 32 bytes ≡ Some (decimal e.pid, behind_pid) = ap (cut_at_byte 32) s.parts ∙ cut_again 32 (decimal e.pid) behind_pid (digits_lack (decimal e.pid) (digits_decimal own e.pid (omega (arith, s.pid.1)))) in
+    let after_pid = name_of (head_of e.item) ++ (40 ∷ (join_with_byte 44 h.0 ++ (41 ∷ tail_text e.item))) in
+    let cut : cut_at_byte 32 bytes ≡ Some (decimal e.pid, after_pid) = ap (cut_at_byte 32) s.parts ∙ cut_again 32 (decimal e.pid) after_pid (digits_lack (decimal e.pid) (digits_decimal own e.pid (omega (arith, s.pid.1)))) in
     rw (short, cut, pid_again e.pid s.pid, item_again e.item h.0 s.head s.args s.whole) refl

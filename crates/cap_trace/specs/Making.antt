@@ -1,12 +1,11 @@
 -- Making the parts of a line, and a line, of what a producer of traces knows.
-use Rattle.std.specs.Prelude.{◌≡◌, ℕ, ◌+◌, ◌^◌, ◌==◌, ◌&&◌, Bool, true, false, not, List, [], ◌∷◌, Option, Some, None, Result, Ok, Err, nat_le, nat_lt, is_none, length, IsTrue}
+use Rattle.std.specs.Prelude.{◌≡◌, ℕ, ◌+◌, ◌^◌, ◌==◌, ◌&&◌, Bool, true, false, List, [], ◌∷◌, Option, Some, None, Result, Ok, Err, nat_le, nat_lt, is_none, length, IsTrue}
 use Rattle.std.specs.List.{list_all}
 use Rattle.cap_rights.specs.Text.{names, text}
 use Rattle.cap_trace.specs.declared.fault.LineFault.{LineFault}
 use Rattle.cap_trace.specs.declared.fault.LineFault.TheVariants as line_faults
 use Rattle.cap_trace.specs.declared.line.Item.{Item}
 use Rattle.cap_trace.specs.declared.line.Item.TheVariants as items
-use Rattle.cap_trace.specs.declared.line.Call.{Call}
 use Rattle.cap_trace.specs.declared.line.Call.TheVariants as calls
 use Rattle.cap_trace.specs.declared.line.Answer.{Answer}
 use Rattle.cap_trace.specs.declared.line.Answer.TheVariants as answers

@@ -1,5 +1,5 @@
 -- Which fault a line has, by the field that is wrong, and not by how the line is read.
-use Rattle.std.specs.Prelude.{◌≡◌, ◌≤◌, ◌<◌, ◌+◌, ◌==◌, ◌↔◌, ◌⊎◌, ℕ, List, [], ◌∷◌, ◌++◌, length, Some, None, codes}
+use Rattle.std.specs.Prelude.{◌≡◌, ◌≤◌, ◌<◌, ◌==◌, ◌↔◌, ◌⊎◌, ℕ, List, [], ◌∷◌, ◌++◌, length, Some, None, codes}
 use Rattle.std.specs.List.{join_with_byte, before_first}
 use Rattle.std.specs.Fmt.{decimal}
 use Rattle.cap_rights.specs.Text.{names}

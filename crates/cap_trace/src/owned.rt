@@ -68,10 +68,10 @@ fn fds_of(alloc: Global, args: &[u8]) -> Result<Fds, AllocError>
 }
 
 /// `accept4`.
-fn accept4(alloc: Global, fd: Fd, f: &[u8]) -> Result<Call, AllocError>
-    ensures { IfOk result (λ c. c ≡ calls.Accept4 fd f.now) }
+fn accept4(alloc: Global, fd: Fd, flags_text: &[u8]) -> Result<Call, AllocError>
+    ensures { IfOk result (λ c. c ≡ calls.Accept4 fd flags_text.now) }
 {
-    Ok(Call::Accept4(fd, flags(alloc, f)?))
+    Ok(Call::Accept4(fd, flags(alloc, flags_text)?))
 }
 
 /// `fcntl` with a command that asks for no third argument.
@@ -82,34 +82,34 @@ fn fcntl(alloc: Global, fd: Fd, word: &[u8]) -> Result<Call, AllocError>
 }
 
 /// `fcntl` with `F_SETFD`.
-fn fcntl_set_fd(alloc: Global, fd: Fd, f: &[u8]) -> Result<Call, AllocError>
-    ensures { IfOk result (λ c. c ≡ calls.FcntlSetFd fd f.now) }
+fn fcntl_set_fd(alloc: Global, fd: Fd, flags_text: &[u8]) -> Result<Call, AllocError>
+    ensures { IfOk result (λ c. c ≡ calls.FcntlSetFd fd flags_text.now) }
 {
-    Ok(Call::FcntlSetFd(fd, flags(alloc, f)?))
+    Ok(Call::FcntlSetFd(fd, flags(alloc, flags_text)?))
 }
 
 /// `mmap`.
-fn mmap(alloc: Global, fd: Fd, f: &[u8], g: &[u8]) -> Result<Call, AllocError>
-    ensures { IfOk result (λ c. c ≡ calls.Mmap fd f.now g.now) }
+fn mmap(alloc: Global, fd: Fd, protection: &[u8], mapping: &[u8]) -> Result<Call, AllocError>
+    ensures { IfOk result (λ c. c ≡ calls.Mmap fd protection.now mapping.now) }
 {
-    Ok(Call::Mmap(fd, flags(alloc, f)?, flags(alloc, g)?))
+    Ok(Call::Mmap(fd, flags(alloc, protection)?, flags(alloc, mapping)?))
 }
 
 /// `open`.
-fn open(alloc: Global, p: &[u8], f: &[u8]) -> Result<Call, AllocError>
-    requires { IsTrue (are_items p.now) }
-    ensures { IfOk result (λ c. c ≡ calls.Open p.now f.now) }
+fn open(alloc: Global, path_text: &[u8], flags_text: &[u8]) -> Result<Call, AllocError>
+    requires { IsTrue (are_items path_text.now) }
+    ensures { IfOk result (λ c. c ≡ calls.Open path_text.now flags_text.now) }
 {
-    Ok(Call::Open(path(alloc, p)?, flags(alloc, f)?))
+    Ok(Call::Open(path(alloc, path_text)?, flags(alloc, flags_text)?))
 }
 
 /// A call on two paths.
-fn on_paths(alloc: Global, call: PathsCall, p: &[u8], q: &[u8]) -> Result<Call, AllocError>
-    requires p { IsTrue (are_items p.now) }
-    requires q { IsTrue (are_items q.now) }
-    ensures { IfOk result (λ c. c ≡ calls.OnPaths call p.now q.now) }
+fn on_paths(alloc: Global, call: PathsCall, from: &[u8], to: &[u8]) -> Result<Call, AllocError>
+    requires from { IsTrue (are_items from.now) }
+    requires to { IsTrue (are_items to.now) }
+    ensures { IfOk result (λ c. c ≡ calls.OnPaths call from.now to.now) }
 {
-    Ok(Call::OnPaths(call, path(alloc, p)?, path(alloc, q)?))
+    Ok(Call::OnPaths(call, path(alloc, from)?, path(alloc, to)?))
 }
 
 /// A call on a path at a directory, with flags.
@@ -117,80 +117,97 @@ fn at_flags(
     alloc: Global,
     call: AtFlagsCall,
     dir: Dir,
-    p: &[u8],
-    f: &[u8],
+    path_text: &[u8],
+    flags_text: &[u8],
 ) -> Result<Call, AllocError>
-    requires { IsTrue (are_items p.now) }
-    ensures { IfOk result (λ c. c ≡ calls.AtFlags call dir p.now f.now) }
+    requires { IsTrue (are_items path_text.now) }
+    ensures { IfOk result (λ c. c ≡ calls.AtFlags call dir path_text.now flags_text.now) }
 {
-    Ok(Call::AtFlags(call, dir, path(alloc, p)?, flags(alloc, f)?))
+    Ok(Call::AtFlags(
+        call,
+        dir,
+        path(alloc, path_text)?,
+        flags(alloc, flags_text)?,
+    ))
 }
 
 /// `symlinkat`.
-fn symlink_at(alloc: Global, p: &[u8], dir: Dir, q: &[u8]) -> Result<Call, AllocError>
-    requires p { IsTrue (are_items p.now) }
-    requires q { IsTrue (are_items q.now) }
-    ensures { IfOk result (λ c. c ≡ calls.SymlinkAt p.now dir q.now) }
+fn symlink_at(alloc: Global, target: &[u8], dir: Dir, link: &[u8]) -> Result<Call, AllocError>
+    requires target { IsTrue (are_items target.now) }
+    requires link { IsTrue (are_items link.now) }
+    ensures { IfOk result (λ c. c ≡ calls.SymlinkAt target.now dir link.now) }
 {
-    Ok(Call::SymlinkAt(path(alloc, p)?, dir, path(alloc, q)?))
+    Ok(Call::SymlinkAt(path(alloc, target)?, dir, path(alloc, link)?))
 }
 
 /// `renameat`.
-fn rename_at(alloc: Global, dir: Dir, p: &[u8], to: Dir, q: &[u8]) -> Result<Call, AllocError>
-    requires p { IsTrue (are_items p.now) }
-    requires q { IsTrue (are_items q.now) }
-    ensures { IfOk result (λ c. c ≡ calls.RenameAt dir p.now to q.now) }
+fn rename_at(
+    alloc: Global,
+    from_dir: Dir,
+    from: &[u8],
+    to_dir: Dir,
+    to: &[u8],
+) -> Result<Call, AllocError>
+    requires from { IsTrue (are_items from.now) }
+    requires to { IsTrue (are_items to.now) }
+    ensures { IfOk result (λ c. c ≡ calls.RenameAt from_dir from.now to_dir to.now) }
 {
-    Ok(Call::RenameAt(dir, path(alloc, p)?, to, path(alloc, q)?))
+    Ok(Call::RenameAt(from_dir, path(alloc, from)?, to_dir, path(alloc, to)?))
 }
 
 /// `linkat`.
 fn link_at(
     alloc: Global,
-    dir: Dir,
-    p: &[u8],
-    to: Dir,
-    q: &[u8],
-    f: &[u8],
+    from_dir: Dir,
+    from: &[u8],
+    to_dir: Dir,
+    to: &[u8],
+    flags_text: &[u8],
 ) -> Result<Call, AllocError>
-    requires p { IsTrue (are_items p.now) }
-    requires q { IsTrue (are_items q.now) }
-    ensures { IfOk result (λ c. c ≡ calls.LinkAt dir p.now to q.now f.now) }
+    requires from { IsTrue (are_items from.now) }
+    requires to { IsTrue (are_items to.now) }
+    ensures { IfOk result (λ c. c ≡ calls.LinkAt from_dir from.now to_dir to.now flags_text.now) }
 {
-    Ok(Call::LinkAt(dir, path(alloc, p)?, to, path(alloc, q)?, flags(alloc, f)?))
+    Ok(Call::LinkAt(
+        from_dir,
+        path(alloc, from)?,
+        to_dir,
+        path(alloc, to)?,
+        flags(alloc, flags_text)?,
+    ))
 }
 
 /// A call without a form of its own.
-fn other(alloc: Global, n: &[u8], a: &[u8]) -> Result<Call, AllocError>
-    ensures { IfOk result (λ c. c ≡ calls.Other n.now a.now) }
+fn other(alloc: Global, name_text: &[u8], args_text: &[u8]) -> Result<Call, AllocError>
+    ensures { IfOk result (λ c. c ≡ calls.Other name_text.now args_text.now) }
 {
     Ok(Call::Other {
-        name: name(alloc, n)?,
-        args: args(alloc, a)?,
+        name: name(alloc, name_text)?,
+        args: args(alloc, args_text)?,
     })
 }
 
 /// A call on a path.
-fn on_path(alloc: Global, call: PathCall, p: &[u8]) -> Result<Call, AllocError>
-    requires { IsTrue (are_items p.now) }
-    ensures { IfOk result (λ c. c ≡ calls.OnPath call p.now) }
+fn on_path(alloc: Global, call: PathCall, path_text: &[u8]) -> Result<Call, AllocError>
+    requires { IsTrue (are_items path_text.now) }
+    ensures { IfOk result (λ c. c ≡ calls.OnPath call path_text.now) }
 {
-    Ok(Call::OnPath(call, path(alloc, p)?))
+    Ok(Call::OnPath(call, path(alloc, path_text)?))
 }
 
 /// A call on a path at a directory.
-fn at(alloc: Global, call: AtCall, dir: Dir, p: &[u8]) -> Result<Call, AllocError>
-    requires { IsTrue (are_items p.now) }
-    ensures { IfOk result (λ c. c ≡ calls.At call dir p.now) }
+fn at(alloc: Global, call: AtCall, dir: Dir, path_text: &[u8]) -> Result<Call, AllocError>
+    requires { IsTrue (are_items path_text.now) }
+    ensures { IfOk result (λ c. c ≡ calls.At call dir path_text.now) }
 {
-    Ok(Call::At(call, dir, path(alloc, p)?))
+    Ok(Call::At(call, dir, path(alloc, path_text)?))
 }
 
 /// A call on flags.
-fn on_flags(alloc: Global, call: FlagsCall, f: &[u8]) -> Result<Call, AllocError>
-    ensures { IfOk result (λ c. c ≡ calls.OnFlags call f.now) }
+fn on_flags(alloc: Global, call: FlagsCall, flags_text: &[u8]) -> Result<Call, AllocError>
+    ensures { IfOk result (λ c. c ≡ calls.OnFlags call flags_text.now) }
 {
-    Ok(Call::OnFlags(call, flags(alloc, f)?))
+    Ok(Call::OnFlags(call, flags(alloc, flags_text)?))
 }
 
 /// A call, in memory of its own.
@@ -202,24 +219,28 @@ fn call_of(alloc: Global, seen: &CallSeen<'_>) -> Result<Call, AllocError>
         CallSeen::OnFd(call, fd) => Ok(Call::OnFd(*call, *fd)),
         CallSeen::Send(call, fd) => Ok(Call::Send(*call, *fd)),
         CallSeen::SendTo(call, fd) => Ok(Call::SendTo(*call, *fd)),
-        CallSeen::Accept4(fd, f) => accept4(alloc, *fd, f),
+        CallSeen::Accept4(fd, flags) => accept4(alloc, *fd, flags),
         CallSeen::Dup2(fd, made) => Ok(Call::Dup2(*fd, *made)),
         CallSeen::Fcntl(fd, word) => fcntl(alloc, *fd, word),
         CallSeen::FcntlDup(call, fd, made) => Ok(Call::FcntlDup(*call, *fd, *made)),
-        CallSeen::FcntlSetFd(fd, f) => fcntl_set_fd(alloc, *fd, f),
-        CallSeen::Mmap(fd, f, g) => mmap(alloc, *fd, f, g),
+        CallSeen::FcntlSetFd(fd, flags) => fcntl_set_fd(alloc, *fd, flags),
+        CallSeen::Mmap(fd, protection, mapping) => mmap(alloc, *fd, protection, mapping),
         CallSeen::RightsLimit(fd, rights) => Ok(Call::RightsLimit(*fd, *rights)),
-        CallSeen::Open(p, f) => open(alloc, p, f),
-        CallSeen::OnPath(call, p) => on_path(alloc, *call, p),
-        CallSeen::OnPaths(call, p, q) => on_paths(alloc, *call, p, q),
-        CallSeen::At(call, dir, p) => at(alloc, *call, *dir, p),
-        CallSeen::AtFlags(call, dir, p, f) => at_flags(alloc, *call, *dir, p, f),
-        CallSeen::SymlinkAt(p, dir, q) => symlink_at(alloc, p, *dir, q),
-        CallSeen::RenameAt(dir, p, to, q) => rename_at(alloc, *dir, p, *to, q),
-        CallSeen::LinkAt(dir, p, to, q, f) => link_at(alloc, *dir, p, *to, q, f),
-        CallSeen::OnFlags(call, f) => on_flags(alloc, *call, f),
+        CallSeen::Open(path, flags) => open(alloc, path, flags),
+        CallSeen::OnPath(call, path) => on_path(alloc, *call, path),
+        CallSeen::OnPaths(call, from, to) => on_paths(alloc, *call, from, to),
+        CallSeen::At(call, dir, path) => at(alloc, *call, *dir, path),
+        CallSeen::AtFlags(call, dir, path, flags) => at_flags(alloc, *call, *dir, path, flags),
+        CallSeen::SymlinkAt(target, dir, link) => symlink_at(alloc, target, *dir, link),
+        CallSeen::RenameAt(from_dir, from, to_dir, to) => rename_at(
+            alloc, *from_dir, from, *to_dir, to,
+        ),
+        CallSeen::LinkAt(from_dir, from, to_dir, to, flags) => link_at(
+            alloc, *from_dir, from, *to_dir, to, flags,
+        ),
+        CallSeen::OnFlags(call, flags) => on_flags(alloc, *call, flags),
         CallSeen::Bare(call) => Ok(Call::Bare(*call)),
-        CallSeen::Other(n, a) => other(alloc, n, a),
+        CallSeen::Other(name, args) => other(alloc, name, args),
     }
 }
 

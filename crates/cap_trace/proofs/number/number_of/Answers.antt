@@ -1,6 +1,4 @@
-use Rattle.std.proofs.Common.{◌≡◌, ◌≤◌, ℕ, List, Option, Some, None, rules}
-use Rattle.std.proofs.lemmas.Grind.{common_steps}
-use Rattle.std.specs.Fmt.{decimal}
+use Rattle.std.proofs.Common.{◌≡◌, ℕ, Option, Some, None, rules}
 use Rattle.cap_trace.specs.Number.{num_at, digits_at}
 use Rattle.cap_trace.proofs.Numerals.{num_found, num_only}
 use Rattle.cap_trace.proofs.number.number_of.Goals as goal

@@ -1,4 +1,4 @@
-use Rattle.std.proofs.Common.{◌≡◌, sym, ◌∙◌, refl}
+use Rattle.std.proofs.Common.{sym, ◌∙◌, refl}
 use Rattle.cap_trace.proofs.GoodLines.{text_proper, no_text}
 use Rattle.cap_trace.proofs.line.Line.new.Goals as goal
 

@@ -1,4 +1,4 @@
-use Rattle.std.proofs.Common.{◌≡◌, ◌∷◌, [], true, ap, sym, subst, ◌∙◌, List, ℕ, ◌++◌}
+use Rattle.std.proofs.Common.{◌≡◌, [], true, ap, sym, subst, ◌∙◌, List, ℕ, ◌++◌}
 use Rattle.std.proofs.lemmas.List.{append-nil}
 use Rattle.cap_trace.specs.Fields.{are_items}
 use Rattle.cap_trace.specs.Escaping.{escaped}

@@ -1,4 +1,4 @@
-use Rattle.std.proofs.Common.{ℕ, length}
+use Rattle.std.proofs.Common.{length}
 use Rattle.cap_trace.proofs.PathBytes.{Unescaped}
 use Rattle.cap_trace.proofs.line.Path.unescape.Given as goal
 
