@@ -38,8 +38,6 @@ mod rule;
 mod start;
 mod step;
 mod table;
-#[cfg(test)]
-mod tests;
 mod verdict;
 
 pub use cap_rights::NoMemory;
