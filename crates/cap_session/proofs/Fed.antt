@@ -5,7 +5,6 @@ use Rattle.std.proofs.lemmas.List.{append-nil, take-append-drop, length-drop}
 use Rattle.memchr.specs.Find.{IsFirstByte, is_byte}
 use Rattle.cap_session.specs.Texts.{with_line, refused_so_far}
 use Rattle.cap_session.specs.Feeds.{Completes, Reached, Feeds}
-use Rattle.cap_session.specs.declared.refused.Refusal.{Refusal}
 use Rattle.cap_session.specs.declared.refused.Refused.{Refused}
 use Rattle.cap_session.specs.declared.refused.Refused.TheVariants.{LongLine}
 use Rattle.cap_session.specs.declared.lines.Stop.{Stop}

@@ -1,6 +1,6 @@
 -- What the next line of a trace does.
-use Rattle.std.proofs.Common.{◌≡◌, ◌≢◌, ℕ, ◌<◌, ◌≤◌, List, length, refl, sym, ap, ◌∙◌, arith, true, false, inl, inr, ◌∷◌, [], ◌++◌}
-use Rattle.std.specs.Prelude.{Result, Ok, Err, nat_le, ◌+◌, Option, Some, None}
+use Rattle.std.proofs.Common.{◌≡◌, ◌≢◌, ℕ, ◌<◌, ◌≤◌, List, length, refl, sym, ap, ◌∙◌, arith, true, false, inl, inr, ◌∷◌, []}
+use Rattle.std.specs.Prelude.{Ok, Err, nat_le, ◌+◌, Option, Some, None}
 use Rattle.std.proofs.lemmas.List.{length-append}
 use Rattle.cap_trace.specs.declared.fault.ReadFault.{ReadFault}
 use Rattle.cap_trace.specs.declared.fault.ReadFault.TheVariants as read
@@ -13,7 +13,6 @@ use Rattle.cap_trace.specs.Parsing.{TellsReading}
 use Rattle.cap_session.specs.Trace.{is_skipped, next_entry, with_entry}
 use Rattle.cap_session.specs.Refused.{refused_line}
 use Rattle.cap_session.specs.Traced.{Setting, Traced, Follows, one_more, next_traced, with_setting}
-use Rattle.cap_session.specs.declared.refused.Refused.{Refused}
 use Rattle.cap_session.specs.declared.refused.Refused.TheVariants.{Full}
 
 skipped_line : (known : List Entry) (line : List ℕ) → is_skipped line ≡ true → next_entry known line ≡ Ok known

@@ -4,7 +4,6 @@ use Rattle.std.specs.Prelude.{Result, Ok, Err, IsTrue, ◌⊎◌}
 use Rattle.cap_trace.specs.Entry.{Entry}
 use Rattle.cap_machine.specs.declared.cell.Profile.{Profile}
 use Rattle.cap_session.specs.declared.script.NotDone.{NotDone}
-use Rattle.cap_session.specs.declared.script.NotDone.TheVariants as NotDone
 use Rattle.cap_session.specs.declared.refused.Refused.{Refused}
 use Rattle.cap_session.specs.declared.refused.Refused.TheVariants.{LongLine, Shape, Pid, Argument, Right, Answer, Position, Full, Memory}
 use Rattle.cap_session.specs.Session.{SessionState, RefusesExactly}

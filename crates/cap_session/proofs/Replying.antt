@@ -1,12 +1,10 @@
 -- What comes of the pieces of a script, and of its end.
-use Rattle.std.proofs.Common.{◌≡◌, ℕ, ◌+◌, ◌<◌, ◌≤◌, List, [], ◌∷◌, ◌++◌, length, take, map, refl, sym, ◌∙◌, ap, subst, inl, inr, arith}
+use Rattle.std.proofs.Common.{◌≡◌, ℕ, ◌<◌, List, [], ◌∷◌, ◌++◌, length, take, map, refl, sym, ◌∙◌, ap, subst, inl, inr, arith}
 use Rattle.std.specs.Prelude.{Result, Ok, Err}
 use Rattle.std.specs.Io.KnownBytes.{Consumes}
 use Rattle.std.proofs.lemmas.List.{append-nil, length-take, take_all, take-take}
 use Rattle.cap_session.proofs.Cuts.{last_piece-append}
 use Rattle.std.proofs.lemmas.Bool.{cases_lt}
-use Rattle.cap_trace.specs.Entry.{Entry}
-use Rattle.cap_machine.specs.declared.cell.Profile.{Profile}
 use Rattle.cap_session.specs.Devices.{SourceState, SinkState}
 use Rattle.cap_session.specs.Gives.{Gives}
 use Rattle.cap_session.specs.Lines.{whole_lines, last_piece, line_if_any, lines}

@@ -1,6 +1,6 @@
 -- What the lines of any script do, by the edits among them.
 use Rattle.std.proofs.Common.{◌≡◌, ℕ, List, [], ◌∷◌, ◌++◌, length, Bool, true, false, refl, sym, ap, ◌∙◌, append_assoc, subst, inl, inr, suc}
-use Rattle.std.specs.Prelude.{codes, nat_lt, MatchBool, IsOk, Result, Ok, Err, ◌⊎◌}
+use Rattle.std.specs.Prelude.{codes, nat_lt, Result, Ok, Err, ◌⊎◌}
 use Rattle.cap_trace.specs.Entry.{Entry}
 use Rattle.cap_machine.specs.declared.cell.Profile.{Profile}
 use Rattle.cap_session.specs.declared.edit.Edit.{Edit}
@@ -13,7 +13,7 @@ use Rattle.cap_session.specs.Trace.{is_skipped}
 use Rattle.cap_session.specs.Replies.{shown_done, shown, ranged, line_feed}
 use Rattle.cap_session.specs.Limits.{most_lines}
 use Rattle.cap_session.specs.Scripts.{RepliesTo, Commands, Answers, Run}
-use Rattle.cap_session.specs.ScriptLaws.{Asks, AsksNone, AreEditsOf, LeavesEdits, ScriptLeavesWhatEditsGive, ReportsThen, EachReportIsOfItsTrace}
+use Rattle.cap_session.specs.ScriptLaws.{Asks, AsksNone, AreEditsOf, LeavesEdits, ScriptLeavesWhatEditsGive, EachReportIsOfItsTrace}
 use Rattle.cap_session.proofs.Scripted.{edit_replied, reported}
 
 -- what asks for no edit leaves the trace

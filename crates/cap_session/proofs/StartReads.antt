@@ -1,5 +1,5 @@
 -- What reading a start text from a reader gives.
-use Rattle.std.proofs.Common.{◌≡◌, ℕ, List, refl, ◌∙◌, ap, inl, inr, sym}
+use Rattle.std.proofs.Common.{◌≡◌, ℕ, ap, inl, inr}
 use Rattle.std.specs.Prelude.{Result, Ok, Err, IsOk, Option, Some, None}
 use Rattle.std.specs.Option.{ok_or}
 use Rattle.cap_machine.specs.State.{State}

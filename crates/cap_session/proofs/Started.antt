@@ -3,7 +3,7 @@ use Rattle.std.proofs.Common.{rules, ◌≡◌, ℕ, ◌+◌, ◌≤◌, List, [
 use Rattle.std.specs.Prelude.{Result, Ok, Err, Some, None, IsOk, OnOk, IfErr, nat_lt}
 use Rattle.std.proofs.lemmas.List.{take-append-drop, length-drop, append-nil}
 use Rattle.memchr.specs.Find.{IsFirstByte, is_byte}
-use Rattle.cap_machine.specs.State.{State, usual, with_listed}
+use Rattle.cap_machine.specs.State.{with_listed}
 use Rattle.cap_machine.specs.declared.cell.Cell.{Cell}
 use Rattle.cap_session.specs.Lines.{whole_lines, last_piece, line_if_any, lines}
 use Rattle.cap_session.specs.Texts.{with_line, with_lines, whole_text, refused_so_far}

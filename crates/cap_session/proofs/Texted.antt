@@ -7,8 +7,8 @@ use Rattle.cap_session.specs.Devices.{SourceState}
 use Rattle.cap_session.specs.Texts.{whole_text, refused_so_far}
 use Rattle.cap_session.specs.Feeds.{Reached, Feeds, Ends}
 use Rattle.cap_session.specs.Takes.{TookText, StoppedText, EndedText}
-use Rattle.cap_session.specs.Gives.{Gives, IsFailed, IsUsedUp, IsStopped, IsGiven}
-use Rattle.cap_session.specs.Reads.{Reads, IsEnded, IsNear}
+use Rattle.cap_session.specs.Gives.{Gives}
+use Rattle.cap_session.specs.Reads.{Reads, IsEnded}
 use Rattle.cap_session.specs.declared.refused.Refused.{Refused}
 use Rattle.cap_session.specs.declared.refused.Refusal.{Refusal}
 use Rattle.cap_session.specs.declared.lines.Stop.{Stop}

@@ -7,13 +7,13 @@ use Rattle.cap_session.specs.Lines.{lines, lines_so_far}
 use Rattle.cap_session.specs.Texts.{with_line, with_lines, whole_text, refusal_of, refused_so_far}
 use Rattle.cap_session.specs.Trace.{next_entry, trace, soon}
 use Rattle.cap_session.specs.Traced.{Setting, Traced, with_setting, next_traced, Holds}
-use Rattle.cap_session.specs.Reads.{Reads, IsGood, IsRefused, IsNear}
+use Rattle.cap_session.specs.Reads.{Reads, IsNear}
 use Rattle.cap_session.specs.declared.refused.Refusal.{Refusal}
 use Rattle.cap_session.specs.declared.refused.Refused.{Refused}
 use Rattle.cap_session.specs.declared.refused.Refused.TheVariants.{LongLine}
 use Rattle.cap_session.specs.declared.lines.Stop.{Stop}
 use Rattle.cap_session.specs.declared.lines.Stop.TheVariants as stops
-use Rattle.std.specs.Prelude.{nat_lt, length, if◌then◌else◌, Bool, true, false, cond}
+use Rattle.std.specs.Prelude.{nat_lt, length, true, false, cond}
 use Rattle.std.specs.Option.{ok_or}
 use Rattle.cap_session.proofs.Lined.{line_good, line_bad, no_line}
 

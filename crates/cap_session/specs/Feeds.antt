@@ -1,5 +1,5 @@
 -- What is known while a text comes, piece by piece.
-use Rattle.std.specs.Prelude.{◌≡◌, ℕ, ◌+◌, ◌≤◌, List, [], length, Result, Ok, Err, Option, None, Some}
+use Rattle.std.specs.Prelude.{◌≡◌, ℕ, ◌+◌, ◌≤◌, List, [], length, Result, Ok, Err, None, Some}
 use Rattle.cap_session.specs.Limits.{longest_line}
 use Rattle.cap_session.specs.Lines.{whole_lines, last_piece}
 use Rattle.cap_session.specs.Texts.{with_lines, whole_text, refused_so_far}

@@ -8,7 +8,6 @@ use Rattle.cap_session.specs.declared.edit.Edit.{Edit}
 use Rattle.cap_session.specs.declared.edit.Edit.TheVariants.{Insert, Delete, Replace}
 use Rattle.cap_session.specs.declared.refused.Refused.TheVariants.{Memory}
 use Rattle.cap_session.specs.declared.script.NotDone.{NotDone}
-use Rattle.cap_session.specs.declared.script.NotDone.TheVariants as NotDone
 use Rattle.cap_session.specs.declared.script.Reply.{Reply}
 use Rattle.cap_session.specs.declared.script.Reply.TheVariants.{Short, Long}
 use Rattle.cap_session.specs.declared.command.Command.{Command}

@@ -16,7 +16,6 @@ use Rattle.cap_session.specs.Refused.{code_of}
 use Rattle.cap_session.specs.Commands.{Asked, insert_line, replace_line, delete_line, show_line, count_lines, report_all, report_lines, unknown}
 use Rattle.cap_session.specs.declared.refused.Refused.{Refused}
 use Rattle.cap_session.specs.declared.script.NotDone.{NotDone}
-use Rattle.cap_session.specs.declared.script.NotDone.TheVariants as NotDone
 use Rattle.cap_session.specs.declared.refused.Refused.TheVariants.{Position}
 
 -- ---- what is asked without a change

@@ -1,6 +1,5 @@
 use Rattle.std.proofs.Common.{[]}
 use Rattle.std.proofs.lemmas.Result.{err_from_is_err_and}
-use Rattle.cap_session.specs.Traced.{Follows, Holds}
 use Rattle.cap_session.proofs.Traces.{read_stopped, read_kept}
 use Rattle.cap_session.proofs.entries.read_trace.Goals as goal
 
