@@ -1,4 +1,4 @@
--- The cells of a process, by look-up.
+-- The cells of a process, by what a look-up answers. Only the code's contracts use this; State says what is known.
 pub mod Pending
 pub mod Kind
 pub mod Parts

@@ -1,4 +1,4 @@
--- Laws of a trace that follows another.
+-- Laws of a trace that follows another: it is checked from the state that the first one left.
 use Rattle.std.specs.Prelude.{◌≡◌, ℕ, ◌+◌, List, ◌++◌, length, map}
 use Rattle.cap_machine.specs.declared.step.Step.{Step}
 use Rattle.cap_machine.specs.declared.verdict.Found.{Found}

@@ -1,4 +1,4 @@
--- The two profiles side by side.
+-- The two profiles side by side: when they report the same, and when profile 1 finds nothing where profile 2 doesn't.
 use Rattle.std.specs.Prelude.{◌≡◌, Bool, true, false, ◌&&◌, List, []}
 use Rattle.std.specs.List.{list_any}
 use Rattle.cap_trace.specs.declared.line.Item.{Item}

@@ -1,4 +1,5 @@
--- What a line is judged by.
+-- What a line is judged by: for each form of call the descriptors to check, the rights that each needs (Needs), and
+-- whether capability mode allows or forbids the call (capsicum(4), cap_enter(2)).
 use Rattle.std.specs.Prelude.{ℕ, ◌==◌, ◌&&◌, not, Bool, true, false, if◌then◌else◌, List, [], ◌∷◌, Option, Some, None}
 use Rattle.std.specs.List.{list_any}
 use Rattle.cap_rights.specs.Rights.{none, all, without_full}

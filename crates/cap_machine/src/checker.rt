@@ -1,4 +1,5 @@
-//! The checker of a trace that comes line by line.
+//! [`Checker`]: a trace that comes line by line. It keeps a table of processes, two counts and the text of the
+//! findings, and never a line.
 
 ghost use Rattle.std.specs.Prelude.{◌≡◌, ◌≤◌, ◌*◌, [], ◌∷◌, ◌++◌, ◌<◌, ◌^◌, ◌↔◌, List, IsTrue, IfOk, OnOk};
 

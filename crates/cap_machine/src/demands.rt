@@ -1,4 +1,5 @@
-//! What each form of call is judged by.
+//! What each form of call is judged by: the descriptors to check with the rights that each needs, whether capability
+//! mode allows or forbids the call, and how it ended (rights(4), capsicum(4)).
 
 ghost use Rattle.std.specs.Prelude.{◌≡◌, [], ◌∷◌, true};
 ghost use Rattle.cap_machine.specs.Flags.{all_known};

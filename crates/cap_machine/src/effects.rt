@@ -1,4 +1,5 @@
-//! What each form of call does.
+//! What each form of call does to the cells and the mode of its process and of a child, by what the line records. The
+//! tables stand in `docs/RULES.md`.
 
 ghost use Rattle.std.specs.Prelude.{◌≡◌, ℕ, ◌<◌, ◌^◌, if◌then◌else◌};
 ghost use Rattle.cap_trace.specs.Entry.{IsAnswer, kind_of, fcntl_kind};

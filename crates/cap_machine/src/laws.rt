@@ -1,4 +1,5 @@
-//! What holds of a trace that follows another.
+//! Laws of whole traces: one that follows another, the two profiles, what a line touches, where findings stand. Each
+//! function does nothing: its contract is what it says.
 
 ghost use Rattle.cap_machine.specs.Laws.{EndsInTurn, ChecksInTurn};
 ghost use Rattle.cap_machine.specs.ProfileLaws.{ProfilesAgree, NoAlarmLost};

@@ -1,4 +1,4 @@
-//! Calls at a directory, and what they need of it.
+//! Calls at a directory (openat(2)): which descriptor the path is looked up from, and what the call needs of it.
 
 ghost use Rattle.std.specs.Prelude.{◌≡◌, [], ◌∷◌, ◌&&◌, not, if◌then◌else◌};
 ghost use Rattle.cap_rights.specs.Rights.{all};

@@ -1,4 +1,4 @@
-//! What is said of a line.
+//! The findings of one line, by its rule and by what was known before it (capsicum(4), rights(4)).
 
 ghost use Rattle.std.specs.Prelude.{◌≡◌, ◌≤◌, ◌<◌, ◌+◌, ◌++◌, [], ◌∷◌, length, option_to_list};
 ghost use Rattle.cap_machine.specs.Judge.{listed, forbidden, fault, judged, is_excused};

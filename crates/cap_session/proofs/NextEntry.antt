@@ -9,7 +9,7 @@ use Rattle.cap_trace.specs.declared.fault.LineFault.TheVariants as faults
 use Rattle.cap_trace.specs.Entry.{Entry}
 use Rattle.cap_trace.specs.Reading.{line_of}
 use Rattle.cap_trace.specs.Fault.{line_fault}
-use Rattle.cap_trace.specs.Parsing.{TellsReading}
+use Rattle.cap_trace.specs.Parsing.{MatchesReading}
 use Rattle.cap_session.specs.Trace.{is_skipped, next_entry, with_entry}
 use Rattle.cap_session.specs.Refused.{refused_line}
 use Rattle.cap_session.specs.Traced.{Setting, Traced, Follows, one_more, next_traced, with_setting}
@@ -52,13 +52,13 @@ no_memory read.Right is = cc
 no_memory read.Answer is = cc
 
 -- a line that was read, and for which memory ran out
-pub reads_some : (known : Traced) (line : List ℕ) → is_skipped line ≡ false → length known.entries < 1000000 → TellsReading line (Err faults.Memory) →
+pub reads_some : (known : Traced) (line : List ℕ) → is_skipped line ≡ false → length known.entries < 1000000 → MatchesReading line (Err faults.Memory) →
     (e : Entry) × (next_traced known line ≡ Ok (one_more known e))
 reads_some known line counts room (inl (f, first, is)) = absurd (no_memory f is)
 reads_some known line counts room (inr (is, (e, good))) = (e, reads known line e counts room good)
 
 -- a line that is no line of the grammar
-pub is_faulty : (known : Traced) (line : List ℕ) (fault : LineFault) → is_skipped line ≡ false → length known.entries < 1000000 → fault ≢ faults.Memory → TellsReading line (Err fault) →
+pub is_faulty : (known : Traced) (line : List ℕ) (fault : LineFault) → is_skipped line ≡ false → length known.entries < 1000000 → fault ≢ faults.Memory → MatchesReading line (Err fault) →
     next_traced known line ≡ Err (refused_line fault)
 is_faulty known line fault counts room other (inl (f, first, is)) =
     rw is (ap (with_setting known.setting) (line_read known.entries line counts room ∙ ap (with_entry known.entries) first))

@@ -1,4 +1,4 @@
--- What one call of a device counts.
+-- The state of a reader and of a writer as contracts see it, and what one call of each does to it.
 use Rattle.std.specs.Prelude.{ℕ, zero, suc, ◌-◌, ◌^◌, ◌<◌, ◌≤◌, List, length, take, MatchResult}
 use Rattle.std.specs.Prelude.{Option, Result, Ok, Err}
 use Rattle.std.specs.Io.KnownBytes.{Keeps, Appends}

@@ -1,4 +1,5 @@
--- What holds of edits.
+-- Laws of edits: an inserted line stands and its deletion brings the old trace back; the accepted edits alone give the
+-- same trace; no edit is refused by its definition for lack of memory.
 use Rattle.std.specs.Prelude.{◌≡◌, ◌≢◌, ℕ, ◌-◌, Bool, List, [], ◌∷◌, Result, Ok, Err, Some}
 use Rattle.std.specs.List.{slice_get}
 use Rattle.cap_trace.specs.Entry.{Entry}

@@ -1,4 +1,4 @@
--- What replying to a script in a profile does and answers.
+-- The contract of `edit_stream_as`: what a trace and a script in a profile have written, and the outcome.
 use Rattle.std.specs.Prelude.{◌≡◌, ◌≢◌, ℕ, ◌+◌, ◌≤◌, ◌⊎◌, List, [], Result, Ok, Err, ⊤}
 use Rattle.std.specs.Io.KnownBytes.{Consumes, Appends}
 use Rattle.cap_trace.specs.Entry.{Entry}

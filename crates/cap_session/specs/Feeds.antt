@@ -1,4 +1,5 @@
--- What is known while a text comes, piece by piece.
+-- What is known while a text comes, piece by piece: which bytes were worked through, and that none of their lines is
+-- refused. Only the code's contracts use this.
 use Rattle.std.specs.Prelude.{◌≡◌, ℕ, ◌+◌, ◌≤◌, List, [], length, Result, Ok, Err, None, Some}
 use Rattle.cap_session.specs.Limits.{longest_line}
 use Rattle.cap_session.specs.Lines.{whole_lines, last_piece}

@@ -1,4 +1,5 @@
--- What the parts of a script's session do.
+-- What each part of the code of a script's session does. Only the code's contracts use this; Scripts says what a script
+-- is replied to.
 use Rattle.std.specs.Prelude.{◌≡◌, List, ℕ, Result, Ok, Err, IsOk, IsTrue, ◌⊎◌}
 use Rattle.cap_trace.specs.Entry.{Entry}
 use Rattle.cap_machine.specs.declared.cell.Profile.{Profile}

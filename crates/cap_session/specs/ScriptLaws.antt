@@ -1,4 +1,4 @@
--- What holds of scripts, in every profile.
+-- Laws of scripts, in every profile: the trace that a script leaves, and which trace each report is of.
 use Rattle.std.specs.Prelude.{◌≡◌, ◌⊎◌, ℕ, nat_lt, Bool, false, List, [], ◌∷◌, ◌++◌, length, flat_map, codes, decimal, Result, Ok, Err, ⊤}
 use Rattle.cap_trace.specs.Entry.{Entry}
 use Rattle.cap_machine.specs.declared.cell.Profile.{Profile}

@@ -1,4 +1,5 @@
--- What the parts of reading a start text do.
+-- What each part of the code that reads a start text does. Only the code's contracts use this; StartTexts says what a
+-- start text is.
 use Rattle.std.specs.Prelude.{◌≡◌, ℕ, List, Result, Ok, Err, Option, MatchOption, ⊤}
 use Rattle.cap_machine.specs.State.{State, with_listed}
 use Rattle.cap_machine.specs.Table.{start_state}

@@ -1,4 +1,4 @@
--- What a stream call answers, for the bytes that its reader gave.
+-- The contract of `check_stream_as`: for the bytes that its reader gave, what was written, and the outcome.
 use Rattle.std.specs.Prelude.{◌≡◌, ◌≢◌, ℕ, ◌+◌, ◌≤◌, ◌⊎◌, List, [], ◌++◌, None, Ok}
 use Rattle.std.specs.Io.KnownBytes.{Consumes, Appends}
 use Rattle.cap_trace.specs.Entry.{Entry}

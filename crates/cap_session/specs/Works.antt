@@ -1,4 +1,5 @@
--- What the parts of a stream call do.
+-- What each part of the code of a stream call does. Only the code's contracts use this; Streams says what a call
+-- answers.
 use Rattle.std.specs.Prelude.{◌≡◌, ◌≢◌, List, []}
 use Rattle.cap_trace.specs.Entry.{Entry}
 use Rattle.cap_machine.specs.declared.cell.Profile.{Profile}

@@ -1,4 +1,4 @@
-//! A trace, and a script of commands on it.
+//! [`edit_stream_as`]: a trace is loaded, and then a script of commands on it is replied to, line by line.
 ghost use Rattle.std.specs.Prelude.{◌≡◌, ◌^◌, ◌<◌, ◌≤◌, [], length};
 ghost use Rattle.cap_machine.specs.declared.cell.Profile.TheVariants.{One};
 ghost use Rattle.cap_session.specs.EditStreams.{EditStreams, Replies, IsOutcome};

@@ -1,4 +1,4 @@
-//! The lines of a trace, each read and kept.
+//! The lines of a trace, each read and given to what keeps them: a checker, which keeps none, or a session ([`Keep`]).
 ghost use Rattle.std.specs.Prelude.{◌≡◌, ◌<◌, ◌≤◌, ◌^◌, ℕ, ◌++◌, ◌∷◌, [], List, length, OnOk, None, MatchOption};
 ghost use Rattle.std.specs.Option.{ForSome};
 ghost use Rattle.cap_trace.specs.Entry.{Entry};

@@ -1,4 +1,5 @@
-//! What holds of a text and its pieces, and of a script.
+//! Laws of texts and of scripts: how the input is cut never matters, a refused line is refused whatever follows, and a
+//! script's reports are those of its edits. Each function does nothing: its contract is what it says.
 ghost use Rattle.cap_session.specs.Laws.{BeginningDecides, GoodIsReported, BadIsRefused, PiecesAgree};
 ghost use Rattle.cap_session.specs.ScriptLaws.{ScriptReportsWhatEditsGive, ScriptLeavesWhatEditsGive, EachReportIsOfItsTrace};
 

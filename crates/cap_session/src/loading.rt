@@ -1,4 +1,4 @@
-//! A trace that is taken over into a session.
+//! Loading: the lines of a trace are kept in a session, through the same code that reads a trace for a check.
 ghost use Rattle.std.specs.Prelude.{◌≡◌, [], length, IfOk};
 ghost use Rattle.cap_session.specs.Limits.{most_lines};
 

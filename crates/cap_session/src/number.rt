@@ -1,4 +1,4 @@
-//! Numbers of a script.
+//! The numbers of a script: positions, of 1 to 19 digits without a leading zero.
 ghost use Rattle.std.specs.Prelude.{◌≡◌, ◌≤◌, IfSome};
 ghost use Rattle.cap_trace.specs.Number.{digits_at};
 ghost use Rattle.cap_session.specs.Commands.{position};

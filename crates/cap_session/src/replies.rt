@@ -1,4 +1,4 @@
-//! A script is replied to as it comes.
+//! A script is replied to as it comes: each reply is written before the next line is looked at.
 ghost use Rattle.std.specs.Prelude.{◌≡◌, ◌+◌, ◌^◌, ◌<◌, ◌≤◌, [], ◌++◌, length};
 ghost use Rattle.cap_session.specs.EditStreams.{RepliesToAll};
 ghost use Rattle.cap_session.specs.Limits.{longest_piece};

@@ -1,4 +1,4 @@
-//! A script, each line replied to before the next is worked through.
+//! The lines of a script, as they come in pieces: each is performed on the session, and its reply is written.
 ghost use Rattle.std.specs.Prelude.{◌≡◌, ◌<◌, ◌≤◌, [], ◌∷◌, ◌++◌, length, take, OnOk, OnErr};
 ghost use Rattle.cap_session.specs.Limits.{longest_piece, most_held, most_lines};
 ghost use Rattle.cap_session.specs.Lines.{last_piece};

@@ -1,4 +1,4 @@
-//! A trace that is edited line by line, and reported when asked.
+//! [`Session`]: a trace that is edited line by line, and reported when asked.
 //!
 //! Each report checks anew from the first line.
 ghost use Rattle.std.specs.Prelude.{◌≡◌, ◌+◌, ◌≤◌, ◌^◌, ◌<◌, ◌↔◌, ◌⊎◌, [], ◌∷◌, ◌++◌, length, Ok, Err, IsOk, IfOk, OnOk, OnErr, IsOkUnless, IsTrue};

@@ -36,17 +36,21 @@ pub none_spelled : (bytes : List ℕ) (d : ReadFault) → line_of bytes ≡ Err 
 none_spelled bytes d h = λ e s. absurd (let g = sym h ∙ line_again bytes e s in cc)
 
 fault_is : (bytes : List ℕ) (d : ReadFault) → line_of bytes ≡ Err d → fault bytes ≡ Some d
-fault_is bytes d h = ap (λ (r : Result Entry ReadFault). elim r as (λ _. Option ReadFault) [ Ok e ↦ None | Err f ↦ Some f ]) h
+fault_is bytes d h =
+    ap (λ (r : Result Entry ReadFault). elim r as (λ _. Option ReadFault) [ Ok e ↦ None | Err f ↦ Some f ]) h
 
-pub faults_exact : (bytes : List ℕ) (d : ReadFault) (l : LineFault) → line_of bytes ≡ Err d → l ≡ line_fault d → FaultsAreExact bytes (Err l)
+pub faults_exact : (bytes : List ℕ) (d : ReadFault) (l : LineFault) → line_of bytes ≡ Err d → l ≡ line_fault d
+    → FaultsAreExact bytes (Err l)
 faults_exact bytes d l h e f = (
-  λ given. let same : l ≡ line_fault f = (let g = given in cc) in (none_spelled bytes d h, fault_is bytes d h ∙ same_fault d f (sym e ∙ same)),
+  λ given. let same : l ≡ line_fault f = (let g = given in cc) in
+      (none_spelled bytes d h, fault_is bytes d h ∙ same_fault d f (sym e ∙ same)),
   λ p. let same : ◌≡◌ {A = Option ReadFault} (Some d) (Some f) = sym (fault_is bytes d h) ∙ p.1 in
       let one : d ≡ f = (let s = same in cc) in
       ap Err (e ∙ ap line_fault one),
 )
 
-pub only_none : (bytes : List ℕ) (d : ReadFault) (r : Result Entry LineFault) → line_of bytes ≡ Err d → ReadsOnly bytes r
+pub only_none : (bytes : List ℕ) (d : ReadFault) (r : Result Entry LineFault) → line_of bytes ≡ Err d
+    → ReadsOnly bytes r
 only_none bytes d r h = λ e s. absurd (none_spelled bytes d h e s)
 
 pub only_this : (bytes : List ℕ) (x : Entry) → line_of bytes ≡ Ok x → ReadsOnly bytes (Ok x)

@@ -1,5 +1,7 @@
 -- What the text of a path spells.
-use Rattle.std.proofs.Common.{◌≡◌, ℕ, suc, ◌+◌, ◌-◌, ◌*◌, ◌/◌, ◌%◌, ◌<◌, ◌≤◌, ◌&&◌, ◌||◌, Bool, true, false, cond, not, eqb, ltb, leb, List, [], ◌∷◌, ◌++◌, length, get_or, Option, Some, None, refl, sym, ap, subst, ◌∙◌, append_assoc, length-append, arith, tests}
+use Rattle.std.proofs.Common.{◌≡◌, ℕ, suc, ◌+◌, ◌-◌, ◌*◌, ◌/◌, ◌%◌, ◌<◌, ◌≤◌, ◌&&◌, ◌||◌, Bool, true, false, cond, not}
+use Rattle.std.proofs.Common.{eqb, ltb, leb, List, [], ◌∷◌, ◌++◌, length, get_or, Option, Some, None, refl, sym, ap}
+use Rattle.std.proofs.Common.{subst, ◌∙◌, append_assoc, length-append, arith, tests}
 use Rattle.std.specs.Prelude.{option_map}
 use Rattle.std.specs.Char.{is_ascii_digit}
 use Rattle.std.proofs.lemmas.List.{append-nil}
@@ -34,7 +36,8 @@ hex_again d lt = hex_by d (ltb d 10) refl lt
 some_same : (a b : ℕ) → ◌≡◌ {A = Option ℕ} (Some a) (Some b) → a ≡ b
 some_same a b e = (let g = e in cc)
 
-digit_by : (c d : ℕ) (a b : Bool) → is_ascii_digit c ≡ a → (leb 97 c && leb c 102) ≡ b → ◌≡◌ {A = Option ℕ} (cond a (Some (c - 48)) (cond b (Some (c - 87)) None)) (Some d) → (d < 16) × (hex_of d ≡ c)
+digit_by : (c d : ℕ) (a b : Bool) → is_ascii_digit c ≡ a → (leb 97 c && leb c 102) ≡ b
+    → ◌≡◌ {A = Option ℕ} (cond a (Some (c - 48)) (cond b (Some (c - 87)) None)) (Some d) → (d < 16) × (hex_of d ≡ c)
 digit_by c d true b digit letter e =
     let value : c - 48 ≡ d = some_same _ _ e in
     let k = both (leb 48 c) (leb c 57) digit in
@@ -61,11 +64,13 @@ takes_from : List ℕ → Option Place → Bool
 takes_from rest None = false
 takes_from rest (Some p) = takes_all item_step is_between p rest
 
-takes_step : (p : Place) (c : ℕ) (cs : List ℕ) (o : Option Place) → item_step p c ≡ o → takes_all item_step is_between p (c ∷ cs) ≡ takes_from cs o
+takes_step : (p : Place) (c : ℕ) (cs : List ℕ) (o : Option Place) → item_step p c ≡ o
+    → takes_all item_step is_between p (c ∷ cs) ≡ takes_from cs o
 unfolding takes_all takes_from
 takes_step p c cs o e = ap (takes_from cs) e
 
-takes_some : (p q : Place) (c : ℕ) (cs : List ℕ) → item_step p c ≡ Some q → takes_all item_step is_between p (c ∷ cs) ≡ takes_all item_step is_between q cs
+takes_some : (p q : Place) (c : ℕ) (cs : List ℕ) → item_step p c ≡ Some q
+    → takes_all item_step is_between p (c ∷ cs) ≡ takes_all item_step is_between q cs
 unfolding takes_from
 takes_some p q c cs e = takes_step p c cs (Some q) e
 
@@ -79,7 +84,8 @@ whole : (b : ℕ) → 16 * (b / 16) + b % 16 ≡ b
 whole b = omega arith
 
 escaped_by : (b : ℕ) (rest : List ℕ) (p q : Bool) → is_plain b ≡ p → (eqb b 34 || eqb b 92) ≡ q → 0 < b → b < 256
-    → are_items ((cond p (b ∷ []) (cond q (92 ∷ b ∷ []) (92 ∷ 120 ∷ hex_of (b / 16) ∷ hex_of (b % 16) ∷ []))) ++ rest) ≡ are_items rest
+    → are_items ((cond p (b ∷ []) (cond q (92 ∷ b ∷ []) (92 ∷ 120 ∷ hex_of (b / 16) ∷ hex_of (b % 16) ∷ []))) ++ rest)
+    ≡ are_items rest
 escaped_by b rest true q plain quoted some lt =
     let slash : eqb b 92 ≡ false = grind (arith, tests) in
     takes_some Between Between b rest (rw (plain, slash) refl)
@@ -92,7 +98,8 @@ escaped_by b rest false false plain quoted some lt =
     takes_some Between Slash 92 _ refl
     ∙ takes_some Slash Digits 120 _ refl
     ∙ takes_some Digits (OneDigit (b / 16)) (hex_of (b / 16)) _ (ap (option_map OneDigit) first)
-    ∙ takes_some (OneDigit (b / 16)) Between (hex_of (b % 16)) rest (ap (second_digit (b / 16)) second ∙ rw (whole b, number) refl)
+    ∙ takes_some (OneDigit (b / 16)) Between (hex_of (b % 16)) rest
+    (ap (second_digit (b / 16)) second ∙ rw (whole b, number) refl)
 
 -- a list of bytes
 pub record AreBytes (bs : List ℕ) : Type 0 where
@@ -127,21 +134,41 @@ record Item (text : List ℕ) (found : Option (ℕ × List ℕ)) : Type 0 where
   pub some : 0 < byte
   pub items : are_items rest ≡ true
 
-plain_item : (c : ℕ) (cs : List ℕ) (p : Bool) → eqb c 92 ≡ false → is_plain c ≡ p → are_items (c ∷ cs) ≡ true → Item (c ∷ cs) (first_byte (c ∷ cs))
+plain_item : (c : ℕ) (cs : List ℕ) (p : Bool) → eqb c 92 ≡ false → is_plain c ≡ p → are_items (c ∷ cs) ≡ true
+    → Item (c ∷ cs) (first_byte (c ∷ cs))
 unfolding takes_from
 plain_item c cs true slash plain h =
-    record { byte = c; rest = cs; is = rw slash refl; parts = rw plain refl; some = grind (arith, tests); items = sym (takes_some Between Between c cs (rw (plain, slash) refl)) ∙ h }
-plain_item c cs false slash plain h = absurd (let none = sym (takes_step Between c cs None (rw (plain, slash) refl)) ∙ h in cc)
+    record {
+      byte = c;
+      rest = cs;
+      is = rw slash refl;
+      parts = rw plain refl;
+      some = grind (arith, tests);
+      items = sym (takes_some Between Between c cs (rw (plain, slash) refl)) ∙ h;
+    }
+plain_item c cs false slash plain h =
+    absurd (let none = sym (takes_step Between c cs None (rw (plain, slash) refl)) ∙ h in cc)
 
-quoted_item : (c : ℕ) (cs : List ℕ) (q : Bool) → eqb c 120 ≡ false → (eqb c 34 || eqb c 92) ≡ q → takes_all item_step is_between Slash (c ∷ cs) ≡ true → Item (92 ∷ c ∷ cs) (slash_byte (c ∷ cs))
+quoted_item : (c : ℕ) (cs : List ℕ) (q : Bool) → eqb c 120 ≡ false → (eqb c 34 || eqb c 92) ≡ q
+    → takes_all item_step is_between Slash (c ∷ cs) ≡ true → Item (92 ∷ c ∷ cs) (slash_byte (c ∷ cs))
 unfolding takes_from
 quoted_item c cs true hex quoted h =
     let plain : is_plain c ≡ false = grind (arith, tests) in
-    record { byte = c; rest = cs; is = rw hex refl; parts = rw (plain, quoted) refl; some = grind (arith, tests); items = sym (takes_some Slash Between c cs (rw quoted refl)) ∙ h }
-quoted_item c cs false hex quoted h = absurd (let none = sym (takes_step Slash c cs None (rw (quoted, hex) refl)) ∙ h in cc)
+    record {
+      byte = c;
+      rest = cs;
+      is = rw hex refl;
+      parts = rw (plain, quoted) refl;
+      some = grind (arith, tests);
+      items = sym (takes_some Slash Between c cs (rw quoted refl)) ∙ h;
+    }
+quoted_item c cs false hex quoted h =
+    absurd (let none = sym (takes_step Slash c cs None (rw (quoted, hex) refl)) ∙ h in cc)
 
-escaped_item : (high low : ℕ) (rest : List ℕ) (h l b : ℕ) (e : Bool) → hex_digit high ≡ Some h → hex_digit low ≡ Some l → 16 * h + l ≡ b → is_escaped b ≡ e
-    → takes_all item_step is_between (OneDigit h) (low ∷ rest) ≡ true → Item (92 ∷ 120 ∷ high ∷ low ∷ rest) (hex_byte (high ∷ low ∷ rest))
+escaped_item : (high low : ℕ) (rest : List ℕ) (h l b : ℕ) (e : Bool) → hex_digit high ≡ Some h → hex_digit low ≡ Some l
+    → 16 * h + l ≡ b → is_escaped b ≡ e
+    → takes_all item_step is_between (OneDigit h) (low ∷ rest) ≡ true
+    → Item (92 ∷ 120 ∷ high ∷ low ∷ rest) (hex_byte (high ∷ low ∷ rest))
 unfolding takes_from
 escaped_item high low rest h l b true first second number e t =
     let plain : is_plain b ≡ false = grind (arith, tests) in
@@ -159,12 +186,15 @@ escaped_item high low rest h l b true first second number e t =
       items = sym (takes_some (OneDigit h) Between low rest (ap (second_digit h) second ∙ rw (number, e) refl)) ∙ t;
     }
 escaped_item high low rest h l b false first second number e t =
-    absurd (let none = sym (takes_step (OneDigit h) low rest None (ap (second_digit h) second ∙ rw (number, e) refl)) ∙ t in cc)
+    absurd (let none =
+    sym (takes_step (OneDigit h) low rest None (ap (second_digit h) second ∙ rw (number, e) refl)) ∙ t in cc)
 
-hex_item : (high low : ℕ) (rest : List ℕ) (a b : Option ℕ) → hex_digit high ≡ a → hex_digit low ≡ b → takes_all item_step is_between Digits (high ∷ low ∷ rest) ≡ true
+hex_item : (high low : ℕ) (rest : List ℕ) (a b : Option ℕ) → hex_digit high ≡ a → hex_digit low ≡ b
+    → takes_all item_step is_between Digits (high ∷ low ∷ rest) ≡ true
     → Item (92 ∷ 120 ∷ high ∷ low ∷ rest) (hex_byte (high ∷ low ∷ rest))
 unfolding takes_from
-hex_item high low rest None b first second t = absurd (let none = sym (takes_step Digits high (low ∷ rest) None (ap (option_map OneDigit) first)) ∙ t in cc)
+hex_item high low rest None b first second t =
+    absurd (let none = sym (takes_step Digits high (low ∷ rest) None (ap (option_map OneDigit) first)) ∙ t in cc)
 hex_item high low rest (Some h) None first second t =
     let one = sym (takes_some Digits (OneDigit h) high (low ∷ rest) (ap (option_map OneDigit) first)) ∙ t in
     absurd (let none = sym (takes_step (OneDigit h) low rest None (ap (second_digit h) second)) ∙ one in cc)
@@ -178,26 +208,31 @@ digits_item [] h = absurd cc
 digits_item (high ∷ []) h = absurd (one_digit high (hex_digit high) refl h) where
   one_digit : (c : ℕ) (o : Option ℕ) → hex_digit c ≡ o → takes_all item_step is_between Digits (c ∷ []) ≡ true → ⊥
   one_digit c None e t = (let none = sym (takes_step Digits c [] None (ap (option_map OneDigit) e)) ∙ t in cc)
-  one_digit c (Some h) e t = (let none = sym (takes_step Digits c [] (Some (OneDigit h)) (ap (option_map OneDigit) e)) ∙ t in cc)
+  one_digit c (Some h) e t =
+      (let none = sym (takes_step Digits c [] (Some (OneDigit h)) (ap (option_map OneDigit) e)) ∙ t in cc)
 digits_item (high ∷ low ∷ rest) h = hex_item high low rest (hex_digit high) (hex_digit low) refl refl h
 
-slash_by : (c : ℕ) (cs : List ℕ) (x : Bool) → eqb c 120 ≡ x → takes_all item_step is_between Slash (c ∷ cs) ≡ true → Item (92 ∷ c ∷ cs) (slash_byte (c ∷ cs))
+slash_by : (c : ℕ) (cs : List ℕ) (x : Bool) → eqb c 120 ≡ x → takes_all item_step is_between Slash (c ∷ cs) ≡ true
+    → Item (92 ∷ c ∷ cs) (slash_byte (c ∷ cs))
 slash_by c cs false hex h = quoted_item c cs (eqb c 34 || eqb c 92) hex refl h
 slash_by c cs true hex h =
     let is : 120 ≡ c = sym (eqb-true c 120 hex) in
     let step : item_step Slash c ≡ Some Digits = subst (λ (x : ℕ). item_step Slash x ≡ Some Digits) is refl in
-    subst (λ (x : ℕ). Item (92 ∷ x ∷ cs) (slash_byte (x ∷ cs))) is (digits_item cs (sym (takes_some Slash Digits c cs step) ∙ h))
+    subst (λ (x : ℕ). Item (92 ∷ x ∷ cs) (slash_byte (x ∷ cs))) is
+    (digits_item cs (sym (takes_some Slash Digits c cs step) ∙ h))
 
 slash_item : (t : List ℕ) → takes_all item_step is_between Slash t ≡ true → Item (92 ∷ t) (slash_byte t)
 unfolding takes_all
 slash_item [] h = absurd cc
 slash_item (c ∷ cs) h = slash_by c cs (eqb c 120) refl h
 
-item_by : (c : ℕ) (cs : List ℕ) (s : Bool) → eqb c 92 ≡ s → are_items (c ∷ cs) ≡ true → Item (c ∷ cs) (first_byte (c ∷ cs))
+item_by : (c : ℕ) (cs : List ℕ) (s : Bool) → eqb c 92 ≡ s → are_items (c ∷ cs) ≡ true
+    → Item (c ∷ cs) (first_byte (c ∷ cs))
 item_by c cs false slash h = plain_item c cs (is_plain c) slash refl h
 item_by c cs true slash h =
     let is : 92 ≡ c = sym (eqb-true c 92 slash) in
-    subst (λ (x : ℕ). Item (x ∷ cs) (first_byte (x ∷ cs))) is (slash_item cs (sym (takes_some Between Slash c cs (rw slash refl)) ∙ h))
+    subst (λ (x : ℕ). Item (x ∷ cs) (first_byte (x ∷ cs))) is
+    (slash_item cs (sym (takes_some Between Slash c cs (rw slash refl)) ∙ h))
 
 -- the text of a path without a first byte is empty
 pub first_none : (t : List ℕ) → are_items t ≡ true → None ≡ first_byte t → t ≡ []
@@ -221,7 +256,8 @@ pub record Unescaped (bytes text all : List ℕ) : Type 0 where
 escaped_push : (bs : List ℕ) (b : ℕ) → escaped (bs ++ b ∷ []) ≡ escaped bs ++ escape_of b
 unfolding escaped
 escaped_push [] b = append-nil (escape_of b)
-escaped_push (c ∷ bs) b = ap (λ (s : List ℕ). escape_of c ++ s) (escaped_push bs b) ∙ sym (append_assoc (escape_of c) (escaped bs) (escape_of b))
+escaped_push (c ∷ bs) b = ap (λ (s : List ℕ). escape_of c ++ s) (escaped_push bs b)
+    ∙ sym (append_assoc (escape_of c) (escaped bs) (escape_of b))
 
 zero_push : (bs : List ℕ) (b : ℕ) → lacks_zero bs ≡ true → 0 < b → lacks_zero (bs ++ b ∷ []) ≡ true
 zero_push [] b z some = (let e : eqb b 0 ≡ false = grind (arith, tests) in rw e refl)
@@ -229,7 +265,8 @@ zero_push (c ∷ bs) b z some =
     let k = both (not (eqb c 0)) (lacks_zero bs) z in
     both_true (not (eqb c 0)) (lacks_zero (bs ++ b ∷ [])) k.0 (zero_push bs b k.1 some)
 
-length_by : (b : ℕ) (p q : Bool) → 0 < length (cond p (b ∷ []) (cond q (92 ∷ b ∷ []) (92 ∷ 120 ∷ hex_of (b / 16) ∷ hex_of (b % 16) ∷ [])))
+length_by : (b : ℕ) (p q : Bool)
+    → 0 < length (cond p (b ∷ []) (cond q (92 ∷ b ∷ []) (92 ∷ 120 ∷ hex_of (b / 16) ∷ hex_of (b % 16) ∷ [])))
 length_by b true q = omega arith
 length_by b false true = omega arith
 length_by b false false = omega arith
@@ -237,13 +274,15 @@ length_by b false false = omega arith
 item_length : (b : ℕ) → 0 < length (escape_of b)
 item_length b = length_by b (is_plain b) (eqb b 34 || eqb b 92)
 
-pushed : (bytes text all : List ℕ) → Unescaped bytes text all → Item text (first_byte text) → (b : ℕ) (rest : List ℕ) → Some (b, rest) ≡ first_byte text → Unescaped (bytes ++ b ∷ []) rest all × (length rest < length text)
+pushed : (bytes text all : List ℕ) → Unescaped bytes text all → Item text (first_byte text) → (b : ℕ) (rest : List ℕ)
+    → Some (b, rest) ≡ first_byte text → Unescaped (bytes ++ b ∷ []) rest all × (length rest < length text)
 unfolding byte_in rest_in
 pushed bytes text all u i b rest e =
     let same = e ∙ i.is in
     let byte : b ≡ i.byte = ap byte_in same in
     let more : rest ≡ i.rest = ap rest_in same in
-    let parts : text ≡ escape_of b ++ rest = i.parts ∙ ap (λ (x : ℕ). escape_of x ++ i.rest) (sym byte) ∙ ap (λ (s : List ℕ). escape_of b ++ s) (sym more) in (
+    let parts : text ≡ escape_of b ++ rest = i.parts ∙ ap (λ (x : ℕ). escape_of x ++ i.rest) (sym byte)
+    ∙ ap (λ (s : List ℕ). escape_of b ++ s) (sym more) in (
       record {
         items = ap are_items more ∙ i.items;
         whole =
@@ -256,9 +295,11 @@ pushed bytes text all u i b rest e =
       omega (arith, ap length parts, length-append (escape_of b) rest, item_length b),
     )
 
-pub unescaped_more : (bytes text all : List ℕ) → Unescaped bytes text all → (b : ℕ) (rest : List ℕ) → Some (b, rest) ≡ first_byte text → Unescaped (bytes ++ b ∷ []) rest all × (length rest < length text)
+pub unescaped_more : (bytes text all : List ℕ) → Unescaped bytes text all → (b : ℕ) (rest : List ℕ)
+    → Some (b, rest) ≡ first_byte text → Unescaped (bytes ++ b ∷ []) rest all × (length rest < length text)
 unescaped_more bytes [] all u b rest e = absurd cc
-unescaped_more bytes (c ∷ cs) all u b rest e = pushed bytes (c ∷ cs) all u (item_by c cs (eqb c 92) refl u.items) b rest e
+unescaped_more bytes (c ∷ cs) all u b rest e =
+    pushed bytes (c ∷ cs) all u (item_by c cs (eqb c 92) refl u.items) b rest e
 
 -- ---- a text spells the bytes of one path at most
 
@@ -294,7 +335,8 @@ first [] = None
 first (b ∷ rest) = cond (eqb b 92) (slash_first rest) (Some (b, rest))
 
 first_by : (b : ℕ) (rest : List ℕ) (p q : Bool) → is_plain b ≡ p → (eqb b 34 || eqb b 92) ≡ q
-    → first ((cond p (b ∷ []) (cond q (92 ∷ b ∷ []) (92 ∷ 120 ∷ hex_of (b / 16) ∷ hex_of (b % 16) ∷ []))) ++ rest) ≡ Some (b, rest)
+    → first ((cond p (b ∷ []) (cond q (92 ∷ b ∷ []) (92 ∷ 120 ∷ hex_of (b / 16) ∷ hex_of (b % 16) ∷ []))) ++ rest)
+    ≡ Some (b, rest)
 unfolding first slash_first hex_first
 first_by b rest true q plain quoted = let slash : eqb b 92 ≡ false = grind (arith, tests) in rw slash refl
 first_by b rest false true plain quoted = let hex : eqb b 120 ≡ false = grind (arith, tests) in rw hex refl

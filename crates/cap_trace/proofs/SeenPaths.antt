@@ -1,6 +1,7 @@
 -- What stands between the quotes of each path of a line is the items of one.
 use Rattle.std.proofs.Common.{List, ℕ, [], ◌∷◌}
-use Rattle.cap_trace.specs.Entry.{Entry, Arg, an_fd, a_dir, some_flags, some_rights, a_path, a_command, a_word, free_text, args_of}
+use Rattle.cap_trace.specs.Entry.{Entry, Arg, an_fd, a_dir, some_flags, some_rights, a_path, a_command, a_word}
+use Rattle.cap_trace.specs.Entry.{free_text, args_of}
 use Rattle.cap_trace.specs.Spelling.{SpellsArgs, IsProper}
 use Rattle.cap_trace.specs.Seen.{HavePaths}
 

@@ -1,4 +1,5 @@
--- What a line says: a process, and a call with its answer, or a marker.
+-- What a line says: a process, and a call with its answer, or a marker; the arguments of each by kind, and which
+-- answers fit which call.
 use Rattle.std.specs.Prelude.{◌≡◌, ℕ, ◌+◌, ◌^◌, ◌<◌, ◌≤◌, ◌||◌, List, [], ◌∷◌, codes, if◌then◌else◌}
 use Rattle.std.specs.Str.{bytes_eq}
 use Rattle.cap_trace.specs.declared.line.Item.{Item}
@@ -65,8 +66,8 @@ pub data Word : Type 0 where
   set_fd : Word
   dup_to : DupCommand → Word
 
--- an argument: flags, the path between its quotes, other commands of fcntl and the arguments of a call that has no form of
--- its own are kept as they are spelled
+-- an argument: flags, the path between its quotes, other commands of fcntl and the arguments of a call that has no form
+-- of its own are kept as they are spelled
 pub data Arg : Type 0 where
   an_fd : ℕ → Arg
   a_dir : Dir → Arg

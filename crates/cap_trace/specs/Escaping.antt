@@ -1,5 +1,6 @@
 -- A path of any bytes but 0, as it is written between quotes.
-use Rattle.std.specs.Prelude.{◌≡◌, IsTrue, ℕ, ◌+◌, ◌-◌, ◌*◌, ◌/◌, ◌%◌, ◌==◌, ◌||◌, Bool, not, List, [], ◌∷◌, ◌++◌, Option, Some, None, nat_lt, if◌then◌else◌}
+use Rattle.std.specs.Prelude.{◌≡◌, IsTrue, ℕ, ◌+◌, ◌-◌, ◌*◌, ◌/◌, ◌%◌, ◌==◌, ◌||◌, Bool, not, List, [], ◌∷◌, ◌++◌}
+use Rattle.std.specs.Prelude.{Option, Some, None, nat_lt, if◌then◌else◌}
 use Rattle.std.specs.List.{list_all}
 use Rattle.cap_trace.specs.Fields.{is_plain, hex_digit}
 
@@ -9,7 +10,8 @@ hex_of d = if nat_lt d 10 then 48 + d else 97 + (d - 10)
 
 -- a printable byte stands for itself, but for `"` and `\`, which follow a `\`; any other is written by its number
 abbrev pub escape_of : ℕ → List ℕ
-escape_of b = if is_plain b then b ∷ [] else if (b == 34) || (b == 92) then 92 ∷ b ∷ [] else 92 ∷ 120 ∷ hex_of (b / 16) ∷ hex_of (b % 16) ∷ []
+escape_of b = if is_plain b then b ∷ [] else if (b == 34) || (b == 92) then 92 ∷ b ∷ []
+    else 92 ∷ 120 ∷ hex_of (b / 16) ∷ hex_of (b % 16) ∷ []
 
 unfoldable pub escaped : List ℕ → List ℕ
 escaped [] = []

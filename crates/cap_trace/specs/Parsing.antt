@@ -1,4 +1,5 @@
--- What reading a line promises.
+-- What reading a line promises: bytes spell at most one line, reading finds it, and its canonical text is read as that
+-- line. Each is the contract of a public function.
 use Rattle.std.specs.Prelude.{◌≡◌, ◌⊎◌, ◌↔◌, ℕ, List, Result, Ok, Err, Some}
 use Rattle.cap_trace.specs.declared.fault.ReadFault.{ReadFault}
 use Rattle.cap_trace.specs.declared.fault.LineFault.{LineFault}
@@ -25,7 +26,8 @@ ReadsOnly bytes r = (e : Entry) → Spells bytes e → (r ≡ Ok e) ⊎ (r ≡ E
 -- the result is what reading gives: the line, its first fault, or out of memory for a line
 abbrev pub MatchesReading : List ℕ → Result Entry LineFault → Type 0
 MatchesReading bytes (Ok e) = line_of bytes ≡ Ok e
-MatchesReading bytes (Err t) = ((f : ReadFault) × (line_of bytes ≡ Err f) × (t ≡ line_fault f)) ⊎ ((t ≡ line_faults.Memory) × ((e : Entry) × (line_of bytes ≡ Ok e)))
+MatchesReading bytes (Err t) = ((f : ReadFault) × (line_of bytes ≡ Err f) × (t ≡ line_fault f))
+    ⊎ ((t ≡ line_faults.Memory) × ((e : Entry) × (line_of bytes ≡ Ok e)))
 
 -- bytes spell at most one line
 abbrev pub OneLine : Type 0

@@ -1,5 +1,6 @@
 -- Reading a line from the left, with the first fault that is met.
-use Rattle.std.specs.Prelude.{◌≡◌, ℕ, ◌+◌, ◌-◌, ◌^◌, ◌==◌, Bool, List, [], ◌∷◌, length, take, drop, Option, Some, None, Result, Ok, Err, nat_lt, codes, option_map, if◌then◌else◌}
+use Rattle.std.specs.Prelude.{◌≡◌, ℕ, ◌+◌, ◌-◌, ◌^◌, ◌==◌, Bool, List, [], ◌∷◌, length, take, drop, Option, Some, None}
+use Rattle.std.specs.Prelude.{Result, Ok, Err, nat_lt, codes, option_map, if◌then◌else◌}
 use Rattle.std.specs.Str.{bytes_eq}
 use Rattle.std.specs.List.{starts_with, ends_with, list_all}
 use Rattle.std.specs.Prelude.{nat_eq}
@@ -19,9 +20,11 @@ use Rattle.cap_trace.specs.Names.{Head, listed, unlisted, head_named}
 use Rattle.cap_trace.specs.Number.{num_at}
 use Rattle.cap_trace.specs.Quotes.{cut_at_byte, cut_outside, pieces}
 use Rattle.cap_trace.specs.Fields.{is_flags, are_items, is_free}
-use Rattle.cap_trace.specs.Entry.{Entry, Arg, an_fd, a_dir, some_flags, some_rights, a_path, a_command, a_word, free_text, kind_of}
+use Rattle.cap_trace.specs.Entry.{Entry, Arg, an_fd, a_dir, some_flags, some_rights, a_path, a_command, a_word}
+use Rattle.cap_trace.specs.Entry.{free_text, kind_of}
 use Rattle.cap_trace.specs.Spelling.{word_text, is_command}
-use Rattle.cap_trace.specs.Forms.{Slot, fd, dir, flags, rights, path, command, word, free, Shape, these, rising_fds, shape_of, Said, a_call, a_marker, built}
+use Rattle.cap_trace.specs.Forms.{Slot, fd, dir, flags, rights, path, command, word, free, Shape, these, rising_fds}
+use Rattle.cap_trace.specs.Forms.{shape_of, Said, a_call, a_marker, built}
 
 infixl 10 ◌>>=◌
 abbrev pub ◌>>=◌ : {A B : Type 0} → Result A ReadFault → (A → Result B ReadFault) → Result B ReadFault
@@ -114,7 +117,8 @@ fds_from low (t ∷ ts) = do
 
 abbrev pub shaped : Head → Shape → List (List ℕ) → Result Said ReadFault
 shaped h rising_fds ts = fds_from 0 ts >>= λ fs. Ok (a_marker (items.Start fs))
-shaped h (these slots) ts = if length ts == length slots then (args_at slots ts >>= λ given. built h given) else Err faults.Argument
+shaped h (these slots) ts = if length ts == length slots then (args_at slots ts >>= λ given. built h given)
+    else Err faults.Argument
 
 unfoldable pub said_at : Head → List (List ℕ) → Result Said ReadFault
 said_at h ts = shaped h (shape_of h ts) ts

@@ -1,4 +1,4 @@
--- What a line says, over its bytes.
+-- What a line says while its texts still lie in its bytes, seen as the entry of Entry.
 use Rattle.std.specs.Prelude.{ℕ, List, [], ◌∷◌, Ok, Err, IsTrue}
 use Rattle.cap_trace.specs.declared.line.Call.{Call}
 use Rattle.cap_trace.specs.declared.line.Call.TheVariants as calls
@@ -11,7 +11,8 @@ use Rattle.cap_trace.specs.declared.seen.SaidSeen.TheVariants as seen_said
 use Rattle.cap_trace.specs.declared.seen.ItemSeen.{ItemSeen}
 use Rattle.cap_trace.specs.declared.seen.ItemSeen.TheVariants as seen_items
 use Rattle.cap_trace.specs.declared.seen.LineSeen.{LineSeen}
-use Rattle.cap_trace.specs.Entry.{Entry, Arg, an_fd, a_dir, some_flags, some_rights, a_path, a_command, a_word, free_text}
+use Rattle.cap_trace.specs.Entry.{Entry, Arg, an_fd, a_dir, some_flags, some_rights, a_path, a_command, a_word}
+use Rattle.cap_trace.specs.Entry.{free_text}
 use Rattle.cap_trace.specs.Fields.{are_items}
 use Rattle.cap_trace.specs.Forms.{Said, a_call, a_marker}
 use Rattle.cap_trace.specs.Quotes.{pieces}

@@ -1,4 +1,5 @@
-//! Reading the answer of a call. Nothing here takes memory.
+//! Reading the answer of a call: what follows ` RET `, by the kind of result that the call has. Nothing here takes
+//! memory.
 
 ghost use Rattle.std.specs.Prelude.{◌≡◌};
 ghost use Rattle.cap_trace.specs.Limits.{largest_fd};

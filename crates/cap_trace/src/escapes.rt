@@ -1,8 +1,10 @@
-//! Paths of any bytes, as they are written between quotes.
+//! Paths of any bytes, as they are written between quotes: `\"`, `\\`, and `\x` with two digits for a byte that isn't
+//! printable.
 
 ghost use Rattle.std.specs.Prelude.{◌≡◌, ◌++◌, ◌<◌, IfOk, OnOk, option_map};
 ghost use Rattle.cap_trace.specs.declared.fault.LineFault.TheVariants.{Argument};
-ghost use Rattle.cap_trace.specs.Escaping.{hex_of, escape_of, escaped, lacks_zero, hex_byte, first_byte, SpellsBytes, OnePath};
+ghost use Rattle.cap_trace.specs.Escaping.{hex_of, escape_of, escaped, lacks_zero, hex_byte, first_byte, SpellsBytes};
+ghost use Rattle.cap_trace.specs.Escaping.{OnePath};
 ghost use Rattle.cap_trace.specs.Making.{MakesWhere};
 
 use crate::fault::LineFault;
@@ -114,8 +116,8 @@ impl Path {
     }
 }
 
-/// A text spells the bytes of one path at most: what [`Path::unescape`] finds in what [`Path::escape`] wrote of some bytes
-/// is those bytes.
+/// A text spells the bytes of one path at most: what [`Path::unescape`] finds in what [`Path::escape`] wrote of some
+/// bytes is those bytes.
 pub fn one_path()
     ensures { OnePath }
 {}

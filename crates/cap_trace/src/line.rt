@@ -1,4 +1,5 @@
-//! What a line says.
+//! What a line says: its process, and a call with its answer, or a marker. A [`Line`] is always one that some bytes
+//! spell.
 
 ghost use Rattle.std.specs.Prelude.{◌≡◌, List, ℕ};
 
@@ -226,8 +227,8 @@ pub enum Item {
     Foreign(Fd),
 }
 
-/// A line of a trace. Some text of at most 1,024 bytes spells it: [`Line::new`] makes only such lines, and a caller that
-/// writes the struct itself has to prove it.
+/// A line of a trace. Some text of at most 1,024 bytes spells it: [`Line::new`] makes only such lines, and a caller
+/// that writes the struct itself has to prove it.
 #[derive(Debug, Drop)]
 pub struct Line {
     pub pid: Pid,

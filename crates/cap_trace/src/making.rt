@@ -9,7 +9,8 @@ ghost use Rattle.cap_trace.specs.Fields.{is_flags, are_items, is_free};
 ghost use Rattle.cap_trace.specs.Names.{unlisted};
 ghost use Rattle.cap_trace.specs.Entry.{args_of_call, head_of_call, kind_of, a_dir};
 ghost use Rattle.cap_trace.specs.Spelling.{is_command, canon};
-ghost use Rattle.cap_trace.specs.Making.{MakesWhere, IsLineOf, is_fd, is_pid, is_good, are_good, is_head, is_answer, all_rise, is_good_item, is_named, has_named_rights, has_text};
+ghost use Rattle.cap_trace.specs.Making.{MakesWhere, IsLineOf, is_fd, is_pid, is_good, are_good, is_head, is_answer};
+ghost use Rattle.cap_trace.specs.Making.{all_rise, is_good_item, is_named, has_named_rights, has_text};
 
 use crate::calls::{Form, Kind};
 use crate::fault::LineFault;

@@ -3,7 +3,8 @@
 ghost use Rattle.std.specs.Prelude.{◌≡◌, IfOk, Err};
 ghost use Rattle.cap_trace.specs.declared.fault.LineFault.TheVariants.{Memory};
 ghost use Rattle.cap_trace.specs.Spelling.{Spells};
-ghost use Rattle.cap_trace.specs.Parsing.{SpellsSome, FaultsAreExact, ReadsOnly, MatchesReading, OneLine, ReadingIsSpelling, WrittenIsRead};
+ghost use Rattle.cap_trace.specs.Parsing.{SpellsSome, FaultsAreExact, ReadsOnly, MatchesReading, OneLine};
+ghost use Rattle.cap_trace.specs.Parsing.{ReadingIsSpelling, WrittenIsRead};
 ghost use Rattle.cap_trace.specs.Rewriting.{OnlyRightsAreRewritten};
 
 use crate::fault::LineFault;

@@ -18,7 +18,8 @@ use crate::seen::{ItemSeen, LineSeen, SaidSeen};
 
 /// A marker ends after its arguments.
 fn marker_ends(tail: &[u8]) -> Result<(), ReadFault>
-    ensures { MatchResult result (λ _. (length tail.now == 0) ≡ true) (λ e. (e ≡ Shape) × ((length tail.now == 0) ≡ false)) }
+    ensures { MatchResult result (λ _. (length tail.now == 0) ≡ true)
+        (λ e. (e ≡ Shape) × ((length tail.now == 0) ≡ false)) }
 {
     if tail.is_empty() {
         Ok(())

@@ -4,7 +4,8 @@ ghost use Rattle.std.specs.Prelude.{◌≡◌, ◌≤◌, ◌==◌, ◌∷◌, [
 ghost use Rattle.cap_trace.specs.declared.fault.ReadFault.TheVariants.{Argument};
 ghost use Rattle.cap_trace.specs.Limits.{largest_fd};
 ghost use Rattle.cap_trace.specs.Quotes.{pieces};
-ghost use Rattle.cap_trace.specs.Reading.{Gives, pid_at, fd_at, rights_at, dir_at, flags_at, command_at, path_at, free_at};
+ghost use Rattle.cap_trace.specs.Reading.{Gives, pid_at, fd_at, rights_at, dir_at, flags_at, command_at, path_at};
+ghost use Rattle.cap_trace.specs.Reading.{free_at};
 
 use crate::fault::ReadFault;
 use crate::fields::{command, flags, free, items};
@@ -103,7 +104,8 @@ pub(crate) fn free_of(text: &[u8]) -> Result<&[u8], ReadFault>
 
 /// No argument.
 pub(crate) fn no_part(args: &[u8]) -> Result<(), ReadFault>
-    ensures { MatchResult result (λ _. pieces args.now ≡ []) (λ e. (e ≡ Argument) × ((length (pieces args.now) == 0) ≡ false)) }
+    ensures { MatchResult result (λ _. pieces args.now ≡ [])
+        (λ e. (e ≡ Argument) × ((length (pieces args.now) == 0) ≡ false)) }
 {
     match Parts::of(args).next() {
         None => Ok(()),
@@ -113,7 +115,8 @@ pub(crate) fn no_part(args: &[u8]) -> Result<(), ReadFault>
 
 /// The one argument.
 pub(crate) fn one_part(args: &[u8]) -> Result<&[u8], ReadFault>
-    ensures { MatchResult result (λ a. pieces args.now ≡ a.now ∷ []) (λ e. (e ≡ Argument) × ((length (pieces args.now) == 1) ≡ false)) }
+    ensures { MatchResult result (λ a. pieces args.now ≡ a.now ∷ [])
+        (λ e. (e ≡ Argument) × ((length (pieces args.now) == 1) ≡ false)) }
 {
     let mut parts = Parts::of(args);
     match (parts.next(), parts.next()) {
@@ -124,7 +127,8 @@ pub(crate) fn one_part(args: &[u8]) -> Result<&[u8], ReadFault>
 
 /// The two arguments.
 pub(crate) fn two_parts(args: &[u8]) -> Result<(&[u8], &[u8]), ReadFault>
-    ensures { MatchResult result (λ p. pieces args.now ≡ p.0.now ∷ p.1.now ∷ []) (λ e. (e ≡ Argument) × ((length (pieces args.now) == 2) ≡ false)) }
+    ensures { MatchResult result (λ p. pieces args.now ≡ p.0.now ∷ p.1.now ∷ [])
+        (λ e. (e ≡ Argument) × ((length (pieces args.now) == 2) ≡ false)) }
 {
     let mut parts = Parts::of(args);
     match (parts.next(), parts.next(), parts.next()) {
@@ -135,7 +139,8 @@ pub(crate) fn two_parts(args: &[u8]) -> Result<(&[u8], &[u8]), ReadFault>
 
 /// The three arguments.
 pub(crate) fn three_parts(args: &[u8]) -> Result<(&[u8], &[u8], &[u8]), ReadFault>
-    ensures { MatchResult result (λ p. pieces args.now ≡ p.0.now ∷ p.1.now ∷ p.2.now ∷ []) (λ e. (e ≡ Argument) × ((length (pieces args.now) == 3) ≡ false)) }
+    ensures { MatchResult result (λ p. pieces args.now ≡ p.0.now ∷ p.1.now ∷ p.2.now ∷ [])
+        (λ e. (e ≡ Argument) × ((length (pieces args.now) == 3) ≡ false)) }
 {
     let mut parts = Parts::of(args);
     match (parts.next(), parts.next(), parts.next(), parts.next()) {
@@ -146,7 +151,8 @@ pub(crate) fn three_parts(args: &[u8]) -> Result<(&[u8], &[u8], &[u8]), ReadFaul
 
 /// The four arguments.
 pub(crate) fn four_parts(args: &[u8]) -> Result<(&[u8], &[u8], &[u8], &[u8]), ReadFault>
-    ensures { MatchResult result (λ p. pieces args.now ≡ p.0.now ∷ p.1.now ∷ p.2.now ∷ p.3.now ∷ []) (λ e. (e ≡ Argument) × ((length (pieces args.now) == 4) ≡ false)) }
+    ensures { MatchResult result (λ p. pieces args.now ≡ p.0.now ∷ p.1.now ∷ p.2.now ∷ p.3.now ∷ [])
+        (λ e. (e ≡ Argument) × ((length (pieces args.now) == 4) ≡ false)) }
 {
     let mut parts = Parts::of(args);
     match (
@@ -163,7 +169,8 @@ pub(crate) fn four_parts(args: &[u8]) -> Result<(&[u8], &[u8], &[u8], &[u8]), Re
 
 /// The five arguments.
 pub(crate) fn five_parts(args: &[u8]) -> Result<(&[u8], &[u8], &[u8], &[u8], &[u8]), ReadFault>
-    ensures { MatchResult result (λ p. pieces args.now ≡ p.0.now ∷ p.1.now ∷ p.2.now ∷ p.3.now ∷ p.4.now ∷ []) (λ e. (e ≡ Argument) × ((length (pieces args.now) == 5) ≡ false)) }
+    ensures { MatchResult result (λ p. pieces args.now ≡ p.0.now ∷ p.1.now ∷ p.2.now ∷ p.3.now ∷ p.4.now ∷ [])
+        (λ e. (e ≡ Argument) × ((length (pieces args.now) == 5) ≡ false)) }
 {
     let mut parts = Parts::of(args);
     match (

@@ -1,4 +1,4 @@
-//! The cells of 1,048,576 descriptors.
+//! The cells of 1,048,576 descriptors: two more levels of nodes over `region`, under a name of their own.
 
 use crate::cell::Cell;
 use crate::cells::node::Node;

@@ -1,4 +1,4 @@
-//! The cells of a few descriptors.
+//! The lowest part of the tree: the cells of a few descriptors, in an array.
 
 ghost use Rattle.std.specs.Prelude.{◌≡◌, ℕ, ◌<◌, OnOk, ◌==◌, nat_le, if◌then◌else◌};
 ghost use Rattle.std.specs.List.{slice_index_or};

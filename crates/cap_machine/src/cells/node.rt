@@ -1,4 +1,4 @@
-//! Eight parts that stand next to each other.
+//! A node of the tree: eight parts that stand next to each other, each shared, with what is still to be done to it.
 
 ghost use Rattle.std.specs.Prelude.{◌≡◌, ℕ, ◌<◌, ◌/◌, ◌%◌, OnOk, IfOk, ◌==◌, nat_le, if◌then◌else◌, slice_get};
 ghost use Rattle.std.specs.List.{slice_index_or};

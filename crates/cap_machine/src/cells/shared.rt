@@ -1,4 +1,4 @@
-//! A part that is shared until it is written.
+//! A part of the tree that processes share until one of them writes to it.
 
 ghost use Rattle.std.specs.Prelude.{◌≡◌, ℕ, OnOk, ◌==◌, nat_le, if◌then◌else◌};
 ghost use Rattle.cap_machine.specs.Cells.Pending.{settled};

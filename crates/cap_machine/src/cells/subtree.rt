@@ -1,4 +1,5 @@
-//! A part of the cells of a process.
+//! The laws of a part of the cells: what a look-up answers after a write, after closing and after an exec. A leaf, a
+//! node and a shared part keep them.
 
 ghost use Rattle.std.specs.Prelude.{◌≡◌, ℕ, OnOk, IfOk, ◌==◌, nat_le, if◌then◌else◌};
 ghost use Rattle.cap_machine.specs.Cells.Pending.{settled};

@@ -6,4 +6,5 @@ use Rattle.cap_trace.proofs.SeenPaths.{proper_paths}
 use Rattle.cap_trace.proofs.owned.owned.Goals as goal
 
 pub call_of-requires : goal.call_of-requires
-call_of-requires c = subst (λ (i : ItemSeen). HavePaths (args_of (item_seen i))) c.in-Call.is (proper_paths (line_seen c.args.seen.now) c.requires)
+call_of-requires c = subst (λ (i : ItemSeen). HavePaths (args_of (item_seen i))) c.in-Call.is
+    (proper_paths (line_seen c.args.seen.now) c.requires)

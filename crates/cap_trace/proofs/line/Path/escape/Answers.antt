@@ -7,4 +7,5 @@ use Rattle.cap_trace.proofs.line.Path.escape.Goals as goal
 pub invariant_of-result : goal.invariant_of-result
 invariant_of-result c =
     let zero : lacks_zero c.args.bytes.now ≡ true = cc in
-    ap are_items (c.in-Ok.ensures) ∙ escaped_items c.args.bytes.now (record { each = λ k. omega (arith, c.type_inv.bytes k) }) zero
+    ap are_items (c.in-Ok.ensures)
+    ∙ escaped_items c.args.bytes.now (record { each = λ k. omega (arith, c.type_inv.bytes k) }) zero

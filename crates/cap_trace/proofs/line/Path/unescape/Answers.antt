@@ -11,17 +11,24 @@ loop-byte-init c =
     let items : are_items c.as_slice-text.result.now ≡ true = ap are_items text ∙ c.self.invariant in
     let whole : c.as_slice-text.result.now ≡ c.args.self.now = text ∙ c.self.view_is in
     subst (λ (bs : List ℕ). Unescaped bs c.as_slice-text.result.now c.args.self.now) (sym c.new-bytes.ensures.items)
-    (subst (λ (all : List ℕ). Unescaped [] c.as_slice-text.result.now all) whole (unescaped_none c.as_slice-text.result.now items))
+    (subst (λ (all : List ℕ). Unescaped [] c.as_slice-text.result.now all) whole
+    (unescaped_none c.as_slice-text.result.now items))
 
 pub loop-byte-preserved : goal.loop-byte-preserved
 loop-byte-preserved c =
     subst (λ (bs : List ℕ). Unescaped bs c.in-Some.rest.now c.args.self.now) (sym c.in_ok-push.ensures.items)
-    (unescaped_more c.loop-byte.bytes.items c.loop-byte.text.now c.args.self.now c.loop-byte.invariant c.in-Some.byte c.in-Some.rest.now c.in-Some.ensures).0
+    (unescaped_more c.loop-byte.bytes.items c.loop-byte.text.now c.args.self.now c.loop-byte.invariant c.in-Some.byte
+    c.in-Some.rest.now c.in-Some.ensures).0
 
 pub loop-byte-smaller : goal.loop-byte-smaller
-loop-byte-smaller c = (unescaped_more c.loop-byte.bytes.items c.loop-byte.text.now c.args.self.now c.loop-byte.invariant c.in-Some.byte c.in-Some.rest.now c.in-Some.ensures).1
+loop-byte-smaller c = (unescaped_more c.loop-byte.bytes.items c.loop-byte.text.now c.args.self.now c.loop-byte.invariant
+    c.in-Some.byte c.in-Some.rest.now c.in-Some.ensures).1
 
 pub returns : goal.returns
 returns c =
-    let none : c.loop-byte.text.now ≡ [] = first_none c.loop-byte.text.now c.loop-byte.invariant.items c.in_default.ensures in
-    (sym c.loop-byte.invariant.whole ∙ ap (λ (s : List ℕ). escaped c.loop-byte.bytes.items ++ s) none ∙ append-nil (escaped c.loop-byte.bytes.items), c.loop-byte.invariant.some)
+    let none : c.loop-byte.text.now ≡ [] =
+    first_none c.loop-byte.text.now c.loop-byte.invariant.items c.in_default.ensures in (
+      sym c.loop-byte.invariant.whole ∙ ap (λ (s : List ℕ). escaped c.loop-byte.bytes.items ++ s) none
+          ∙ append-nil (escaped c.loop-byte.bytes.items),
+      c.loop-byte.invariant.some,
+    )
