@@ -61,7 +61,8 @@ impl Cells {
     /// Writes one cell.
     #[tactic(auto, unfolding(crate::specs::Cells::cell_in_cells))]
     pub(crate) fn write(&mut self, fd: Fd, cell: Cell) -> Result<(), NoMemory>
-        ensures { OnOk result ((f : ℕ) → cell_in_cells self.new f ≡ (if f == fd then cell else cell_in_cells self.old f)) }
+        ensures { OnOk result
+            ((f : ℕ) → cell_in_cells self.new f ≡ (if f == fd then cell else cell_in_cells self.old f)) }
     {
         self.started.strike(fd);
         self.tree.write(fd, cell)
@@ -79,7 +80,8 @@ impl Cells {
     /// Closes the descriptors from one on.
     #[tactic(auto, unfolding(crate::specs::Cells::cell_in_cells))]
     pub(crate) fn close_from(&mut self, fd: Fd) -> Result<(), NoMemory>
-        ensures { OnOk result ((f : ℕ) → cell_in_cells self.new f ≡ (if nat_le fd f then Cell.Closed else cell_in_cells self.old f)) }
+        ensures { OnOk result
+            ((f : ℕ) → cell_in_cells self.new f ≡ (if nat_le fd f then Cell.Closed else cell_in_cells self.old f)) }
     {
         self.started.strike_from(fd);
         self.tree.close_from(fd)

@@ -4,7 +4,12 @@
 ghost use Rattle.std.specs.Prelude.{◌≡◌, ℕ, ◌<◌, ◌^◌, if◌then◌else◌};
 ghost use Rattle.cap_trace.specs.Entry.{IsAnswer, kind_of, fcntl_kind};
 ghost use Rattle.cap_machine.specs.Places.{below};
-ghost use Rattle.cap_machine.specs.Touch.{kept, given, taken, on_fd, on_made, on_both, on_success, closing, copied, copied_to, whole, unknown, exec_touch, closefrom_touch, open_flag, socket_flag, fd_flag, fd_touch, fcntl_touch, fcntl_copied_to, set_fd_op, set_fd_touch, path_touch, at_touch, opened_below, flags_touch, fork_touch, pdfork_touch, bare_touch, call_touch, stays, call_turn, enter_turn, fork_turn, pdfork_turn};
+ghost use Rattle.cap_machine.specs.Touch.{kept, given, taken, on_fd, on_made, on_both, on_success, closing, copied};
+ghost use Rattle.cap_machine.specs.Touch.{copied_to, whole, unknown, exec_touch, closefrom_touch, open_flag};
+ghost use Rattle.cap_machine.specs.Touch.{socket_flag, fd_flag, fd_touch, fcntl_touch, fcntl_copied_to, set_fd_op};
+ghost use Rattle.cap_machine.specs.Touch.{set_fd_touch, path_touch, at_touch, opened_below, flags_touch, fork_touch};
+ghost use Rattle.cap_machine.specs.Touch.{pdfork_touch, bare_touch, call_touch, stays, call_turn, enter_turn};
+ghost use Rattle.cap_machine.specs.Touch.{fork_turn, pdfork_turn};
 ghost use Rattle.cap_machine.specs.Effect.{effect_touch, effect_turn, OnlyCells, FitsMade, FitsPair};
 
 use crate::cell::{Cell, OnExec, Op, Profile};
@@ -104,7 +109,8 @@ fn copied_from(fd: Fd, flag: OnExec, answer: &Answer) -> Effect<'static>
 /// A copy to a number that was asked for (dup2(2)): to the same number it is the first op.
 fn copied_to_number(itself: Op, flag: OnExec, fd: Fd, to: Fd, answer: &Answer) -> Effect<'static>
     requires { FitsMade answer.now }
-    ensures cells { (me p f : ℕ) → effect_touch result me p f ≡ on_made answer.now (copied_to itself flag fd to me) me p f }
+    ensures cells { (me p f : ℕ)
+        → effect_touch result me p f ≡ on_made answer.now (copied_to itself flag fd to me) me p f }
     ensures modes { OnlyCells result }
 {
     let op = if fd == to { itself } else { Op::derive(flag) };
@@ -114,7 +120,8 @@ fn copied_to_number(itself: Op, flag: OnExec, fd: Fd, to: Fd, answer: &Answer) -
 /// The two commands of fcntl(2) that copy to a number that was asked for.
 fn fcntl_copied(command: DupCommand, fd: Fd, to: Fd, answer: &Answer) -> Effect<'static>
     requires { FitsMade answer.now }
-    ensures cells { (me p f : ℕ) → effect_touch result me p f ≡ on_made answer.now (fcntl_copied_to command fd to me) me p f }
+    ensures cells { (me p f : ℕ)
+        → effect_touch result me p f ≡ on_made answer.now (fcntl_copied_to command fd to me) me p f }
     ensures modes { OnlyCells result }
 {
     match command {
@@ -223,7 +230,8 @@ fn set_fd_op_of(flags: &[u8]) -> Op
 /// openat(2).
 fn openat_effect(dir: Dir, path: &[u8], flags: &[u8], answer: &Answer) -> Effect<'static>
     requires { FitsMade answer.now }
-    ensures cells { (me p f : ℕ) → effect_touch result me p f ≡ on_made answer.now (opened_below (below dir path.now) dir path.now (open_flag flags.now) me) me p f }
+    ensures cells { (me p f : ℕ) → effect_touch result me p f
+        ≡ on_made answer.now (opened_below (below dir path.now) dir path.now (open_flag flags.now) me) me p f }
     ensures modes { OnlyCells result }
 {
     let flag = open_flag_of(flags);

@@ -6,7 +6,9 @@ ghost use Rattle.std.specs.Vec.{vec_len};
 ghost use Rattle.cap_machine.specs.State.{usual, listed_cell, with_listed};
 ghost use Rattle.cap_machine.specs.Touch.{started};
 ghost use Rattle.cap_machine.specs.Check.{said_of};
-ghost use Rattle.cap_machine.specs.Table.{cell_in, found, cell_of, mode_of, state_of, Keeps, StandsAt, with_cell, with_mode, with_process, with_started, with_unknown, with_copy, with_rest, with_op, with_closed_from, effect_after};
+ghost use Rattle.cap_machine.specs.Table.{cell_in, found, cell_of, mode_of, state_of, Keeps, StandsAt, with_cell};
+ghost use Rattle.cap_machine.specs.Table.{with_mode, with_process, with_started, with_unknown, with_copy, with_rest};
+ghost use Rattle.cap_machine.specs.Table.{with_op, with_closed_from, effect_after};
 ghost use Rattle.cap_machine.specs.Op.{exec};
 ghost use Rattle.cap_machine.specs.Cells.Pending.{settled};
 
@@ -90,7 +92,8 @@ impl Process {
 
     /// Closes the descriptors from one on.
     fn close_from(&mut self, fd: Fd) -> Result<(), NoMemory>
-        ensures cells { OnOk result ((f : ℕ) → cell_in self.new f ≡ (if nat_le fd f then Cell.Closed else cell_in self.old f)) }
+        ensures cells { OnOk result
+            ((f : ℕ) → cell_in self.new f ≡ (if nat_le fd f then Cell.Closed else cell_in self.old f)) }
         ensures mode { OnOk result (self.new.mode ≡ self.old.mode) }
         ensures pid { OnOk result (self.new.pid ≡ self.old.pid) }
     {
@@ -154,8 +157,8 @@ fn cell_at(process: Option<&Process>, fd: Fd) -> Cell
 
 /// Each process of which something is known, and where it stands among them.
 ///
-/// A new process begins from a clone of the cells in `blank`, whatever they are, with all of them pending to be forgotten: so
-/// it shares them, and takes memory only for what is written.
+/// A new process begins from a clone of the cells in `blank`, whatever they are, with all of them pending to be
+/// forgotten: so it shares them, and takes memory only for what is written.
 #[derive(Drop)]
 pub(crate) struct Table {
     alloc: Global,
@@ -229,7 +232,8 @@ impl Table {
     /// Adds a process of which nothing was known.
     fn append(&mut self, process: Process) -> Result<(), NoMemory>
         requires { found self.old process.pid ≡ None }
-        ensures ok { OnOk result ((r : ℕ) → found self.new r ≡ (if r == process.pid then Some process else found self.old r)) }
+        ensures ok { OnOk result
+            ((r : ℕ) → found self.new r ≡ (if r == process.pid then Some process else found self.old r)) }
         ensures place { OnOk result (StandsAt self.new process.pid (vec_len self.old.processes)) }
         ensures err { OnErr result ((r : ℕ) → found self.new r ≡ found self.old r) }
     {
@@ -240,7 +244,8 @@ impl Table {
 
     /// Stores a process in place of what was known.
     fn store(&mut self, process: Process) -> Result<(), NoMemory>
-        ensures ok { OnOk result ((r : ℕ) → found self.new r ≡ (if r == process.pid then Some process else found self.old r)) }
+        ensures ok { OnOk result
+            ((r : ℕ) → found self.new r ≡ (if r == process.pid then Some process else found self.old r)) }
         ensures err { OnErr result ((r : ℕ) → found self.new r ≡ found self.old r) }
     {
         let place = self.index.place(process.pid);

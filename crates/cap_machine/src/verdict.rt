@@ -195,7 +195,8 @@ fn judge_refusal(demand: &Demand, mode: Mode, cells: &[Cell]) -> Verdict
 }
 
 impl Demand {
-    /// What is said of a line with this demand, in this mode and with the cell of each check in order. It takes no memory.
+    /// What is said of a line with this demand, in this mode and with the cell of each check in order. It takes no
+    /// memory.
     pub fn judge(&self, mode: Mode, cells: &[Cell]) -> Verdict
         requires one_each { length cells.now ≡ length (listed self.now.checks) }
         ensures { result ≡ judged self.now mode cells.now }

@@ -15,7 +15,8 @@ use Rattle.cap_machine.specs.Cells.Kind.{cell_of_kind}
 
 -- the parts are of w descriptors each: descriptor f stands in part f / w, where it is f % w
 abbrev pub look : {X : Type 0} → (X → ℕ → Cell) → ℕ → List Pending → List X → ℕ → Cell
-look ask w pending parts f = settled (slice_index_or pending (f / w) Nothing) (option_map_or (λ part. ask part (f % w)) (slice_get parts (f / w)) Unknown)
+look ask w pending parts f = settled (slice_index_or pending (f / w) Nothing)
+    (option_map_or (λ part. ask part (f % w)) (slice_get parts (f / w)) Unknown)
 
 abbrev pub in_leaf : {n : ℕ} → Leaf n → ℕ → Cell
 in_leaf leaf f = cell_of_kind (slice_index_or leaf.kinds f kinds.Unknown) (slice_index_or leaf.rights f none)

@@ -13,8 +13,8 @@ use cap_trace::Fd;
 use std::alloc::{AllocError, Global};
 
 /// The descriptors that `@start` listed and that weren't written since, and what was done to all of them since. A line
-/// lists few enough to look through, and many more than a line of another kind could write in the tree. Those that fit two
-/// bytes are kept in two.
+/// lists few enough to look through, and many more than a line of another kind could write in the tree. Those that fit
+/// two bytes are kept in two.
 #[derive(Drop)]
 pub(crate) struct Started {
     small: Vec<u16>,
@@ -48,7 +48,8 @@ impl Started {
 
     /// These are listed, and nothing was done to them.
     pub(crate) fn of(alloc: Global, fds: &[Fd]) -> Result<Started, NoMemory>
-        ensures { IfOk result (λ new. (c : Cell) (f : ℕ) → in_started new c f ≡ (if list_any (λ g. f == g) fds.now then Cell.Held all OnExec.Unsure else c)) }
+        ensures { IfOk result (λ new. (c : Cell) (f : ℕ)
+            → in_started new c f ≡ (if list_any (λ g. f == g) fds.now then Cell.Held all OnExec.Unsure else c)) }
     {
         let small = fds.iter().filter(|fd| **fd < 65_536).count();
         let mut started = Started {
@@ -108,7 +109,8 @@ impl Started {
 
     /// Does this to each.
     pub(crate) fn settle(&mut self, pending: Pending)
-        ensures { (c : Cell) (f : ℕ) → in_started self.new (settled pending c) f ≡ settled pending (in_started self.old c f) }
+        ensures { (c : Cell) (f : ℕ)
+            → in_started self.new (settled pending c) f ≡ settled pending (in_started self.old c f) }
     {
         self.pending = pending.after(self.pending);
     }

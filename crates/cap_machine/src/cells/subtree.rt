@@ -41,7 +41,8 @@ pub(crate) trait Subtree: Clone + Drop {
     /// Closes the descriptors from one on.
     fn close_from(&mut self, fd: usize) -> Result<(), NoMemory>
         requires { has fd }
-        ensures { OnOk result ((f : ℕ) → has f → cell_at self.new f ≡ (if nat_le fd f then Closed else cell_at self.old f)) };
+        ensures { OnOk result
+            ((f : ℕ) → has f → cell_at self.new f ≡ (if nat_le fd f then Closed else cell_at self.old f)) };
 
     /// A clone has the same cells.
     ghost same_in_clone: { (a b : Self) → Self.is_clone a b → (f : ℕ) → cell_at b f ≡ cell_at a f };

@@ -53,7 +53,8 @@ impl Tree {
     /// Writes one cell.
     #[tactic(auto, unfolding(crate::specs::Cells::Tree::cell_in_tree))]
     pub(crate) fn write(&mut self, fd: Fd, cell: Cell) -> Result<(), NoMemory>
-        ensures { OnOk result ((f : ℕ) → cell_in_tree self.new f ≡ (if f == fd then cell else cell_in_tree self.old f)) }
+        ensures { OnOk result
+            ((f : ℕ) → cell_in_tree self.new f ≡ (if f == fd then cell else cell_in_tree self.old f)) }
     {
         if fd < 32 {
             self.low.write(fd as usize, cell)
@@ -77,7 +78,8 @@ impl Tree {
     /// Closes the descriptors from one on.
     #[tactic(auto, unfolding(crate::specs::Cells::Tree::cell_in_tree))]
     pub(crate) fn close_from(&mut self, fd: Fd) -> Result<(), NoMemory>
-        ensures { OnOk result ((f : ℕ) → cell_in_tree self.new f ≡ (if nat_le fd f then Cell.Closed else cell_in_tree self.old f)) }
+        ensures { OnOk result
+            ((f : ℕ) → cell_in_tree self.new f ≡ (if nat_le fd f then Cell.Closed else cell_in_tree self.old f)) }
     {
         if fd < 32 {
             self.low.close_from(fd as usize)?;

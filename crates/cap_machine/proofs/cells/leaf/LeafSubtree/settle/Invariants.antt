@@ -4,4 +4,5 @@ use Rattle.cap_machine.specs.Cells.Pending.{settled}
 use Rattle.cap_machine.proofs.cells.leaf.LeafSubtree.settle.Given as goal
 
 abbrev pub invariant-loop-k : goal.invariant-loop-k
-invariant-loop-k g l = (f : ℕ) → f < g.row.N → in_leaf l.self f ≡ (if nat_lt f l.k then settled l.pending (in_leaf l.initial.self f) else in_leaf l.initial.self f)
+invariant-loop-k g l = (f : ℕ) → f < g.row.N → in_leaf l.self f
+    ≡ (if nat_lt f l.k then settled l.pending (in_leaf l.initial.self f) else in_leaf l.initial.self f)
