@@ -1,5 +1,6 @@
 -- What comes of the pieces of a script, and of its end.
-use Rattle.std.proofs.Common.{◌≡◌, ℕ, ◌<◌, List, [], ◌∷◌, ◌++◌, length, take, map, refl, sym, ◌∙◌, ap, subst, inl, inr, arith}
+use Rattle.std.proofs.Common.{◌≡◌, ℕ, ◌<◌, List, [], ◌∷◌, ◌++◌, length, take, map, refl, sym, ◌∙◌, ap, subst, inl, inr}
+use Rattle.std.proofs.Common.{arith}
 use Rattle.std.specs.Prelude.{Result, Ok, Err}
 use Rattle.std.specs.Io.KnownBytes.{Consumes}
 use Rattle.std.proofs.lemmas.List.{append-nil, length-take, take_all, take-take}
@@ -20,27 +21,39 @@ use Rattle.cap_session.proofs.Joins.{cut, last_same, pieces_same, replied_same, 
 -- a script that nothing was given of
 pub script_begins : (start : Scripting) (w : SinkState) → start.held ≡ [] → TookScript start start w w []
 unfolding whole_lines last_piece
-script_begins start w begins = record { profile = refl; replied = replied_none start.profile start.trace w; held = begins; failure = refl }
+script_begins start w begins = record {
+  profile = refl;
+  replied = replied_none start.profile start.trace w;
+  held = begins;
+  failure = refl;
+}
 
 -- a piece was replied to
 pub script_on : (start s t : Scripting) (w0 w1 w2 : SinkState) (given piece : List ℕ) → TookScript start s w0 w1 given →
-    Replied s.profile s.trace w1 w2 (due s.held piece) t.trace → t.profile ≡ s.profile → t.held ≡ take 1057 (last_piece s.held piece) → TookScript start t w0 w2 (given ++ piece)
+    Replied s.profile s.trace w1 w2 (due s.held piece) t.trace → t.profile ≡ s.profile
+    → t.held ≡ take 1057 (last_piece s.held piece) → TookScript start t w0 w2 (given ++ piece)
 script_on start s t w0 w1 w2 given piece went replied stays held = record {
   profile = stays ∙ went.profile;
-  replied = replied_same _ _ _ _ _ _ _ (pieces_same given piece) (replied_on _ _ _ _ _ _ _ _ _ went.replied (rw (went.profile, went.held) at replied));
+  replied = replied_same _ _ _ _ _ _ _ (pieces_same given piece)
+      (replied_on _ _ _ _ _ _ _ _ _ went.replied (rw (went.profile, went.held) at replied));
   held =
-      let again : take 1057 (take 1057 (last_piece [] given)) ≡ take 1057 (last_piece [] given) = take-take 1057 1057 (last_piece [] given) (omega arith) in
-      held ∙ ap (λ h. take 1057 (last_piece h piece)) went.held ∙ last_same _ _ piece again ∙ ap (λ l. take 1057 l) (sym (last_piece-append [] given piece));
+      let again : take 1057 (take 1057 (last_piece [] given)) ≡ take 1057 (last_piece [] given) =
+      take-take 1057 1057 (last_piece [] given) (omega arith) in
+      held ∙ ap (λ h. take 1057 (last_piece h piece)) went.held ∙ last_same _ _ piece again
+      ∙ ap (λ l. take 1057 l) (sym (last_piece-append [] given piece));
   failure = replied.wrote.room ∙ went.failure;
 }
 
 -- the writer failed in the replies to a piece
-pub script_broken : (start s t : Scripting) (w0 w1 w2 : SinkState) (given piece : List ℕ) → TookScript start s w0 w1 given →
-    Broken s.profile s.trace w1 w2 (due s.held piece) → t.profile ≡ s.profile → StoppedScript start t w0 w2 (given ++ piece) stops.WriteFault
+pub script_broken : (start s t : Scripting) (w0 w1 w2 : SinkState) (given piece : List ℕ)
+    → TookScript start s w0 w1 given →
+    Broken s.profile s.trace w1 w2 (due s.held piece) → t.profile ≡ s.profile
+    → StoppedScript start t w0 w2 (given ++ piece) stops.WriteFault
 script_broken start s t w0 w1 w2 given piece went broke stays = record {
   is = refl;
   profile = stays ∙ went.profile;
-  broken = broken_same _ _ _ _ _ _ (pieces_same given piece) (broken_on _ _ _ _ _ _ _ _ went.replied (rw (went.profile, went.held) at broke));
+  broken = broken_same _ _ _ _ _ _ (pieces_same given piece)
+      (broken_on _ _ _ _ _ _ _ _ went.replied (rw (went.profile, went.held) at broke));
 }
 
 end_same : (g : List ℕ) → map cut (script_lines [] g ++ due_end (take 1057 (last_piece [] g))) ≡ map cut (lines g)
@@ -50,58 +63,106 @@ end_same g =
     elim (cases_lt 1056 (length last)) [
       | inl long ↦
           let past : 1056 < length (take 1057 last) = simp length-take (omega arith) in
-          rw (is_long last long, is_long (take 1057 last) past, any_long last (omega arith)) (ap (map cut) (append-nil (before ++ last ∷ [])))
-      | inr short ↦ rw (is_short last short, take_all 1057 last (omega arith), is_short last short) (ap (λ ls. map cut (ls ++ line_if_any last)) (append-nil before))
+          rw (is_long last long, is_long (take 1057 last) past, any_long last (omega arith))
+          (ap (map cut) (append-nil (before ++ last ∷ [])))
+      | inr short ↦ rw (is_short last short, take_all 1057 last (omega arith), is_short last short)
+          (ap (λ ls. map cut (ls ++ line_if_any last)) (append-nil before))
     ]
 
 -- the end was replied to
 pub script_ends : (start s t : Scripting) (w0 w1 w2 : SinkState) (given : List ℕ) → TookScript start s w0 w1 given →
-    Replied s.profile s.trace w1 w2 (due_end s.held) t.trace → t.profile ≡ s.profile → EndedScript start t w0 w2 given (Ok tt)
+    Replied s.profile s.trace w1 w2 (due_end s.held) t.trace → t.profile ≡ s.profile
+    → EndedScript start t w0 w2 given (Ok tt)
 script_ends start s t w0 w1 w2 given went replied stays = record {
   profile = stays ∙ went.profile;
-  replied = replied_same _ _ _ _ _ _ _ (end_same given) (replied_on _ _ _ _ _ _ _ _ _ went.replied (rw (went.profile, went.held) at replied));
+  replied = replied_same _ _ _ _ _ _ _ (end_same given)
+      (replied_on _ _ _ _ _ _ _ _ _ went.replied (rw (went.profile, went.held) at replied));
   broken = tt;
 }
 
 -- the writer failed in that
-pub script_broken_at_end : (start s t : Scripting) (w0 w1 w2 : SinkState) (given : List ℕ) → TookScript start s w0 w1 given →
-    Broken s.profile s.trace w1 w2 (due_end s.held) → t.profile ≡ s.profile → EndedScript start t w0 w2 given (Err stops.WriteFault)
+pub script_broken_at_end : (start s t : Scripting) (w0 w1 w2 : SinkState) (given : List ℕ)
+    → TookScript start s w0 w1 given →
+    Broken s.profile s.trace w1 w2 (due_end s.held) → t.profile ≡ s.profile
+    → EndedScript start t w0 w2 given (Err stops.WriteFault)
 script_broken_at_end start s t w0 w1 w2 given went broke stays = record {
   profile = stays ∙ went.profile;
   replied = tt;
-  broken = (refl, broken_same _ _ _ _ _ _ (end_same given) (broken_on _ _ _ _ _ _ _ _ went.replied (rw (went.profile, went.held) at broke)));
+  broken = (
+    refl,
+    broken_same _ _ _ _ _ _ (end_same given)
+        (broken_on _ _ _ _ _ _ _ _ went.replied (rw (went.profile, went.held) at broke)),
+  );
 }
 
 -- what was given on to a script was replied to
 module _ (start t : Scripting) (w0 w1 : SinkState) (turns : ℕ) (s0 s1 : SourceState) where
   abbrev GivesScript : Result (Unit {0}) Stop → Type 0
-  GivesScript result = Gives (TookScript start t w0 w1) (λ front piece stop. StoppedScript start t w0 w1 (front ++ piece) stop) (EndedScript start t w0 w1) turns s0 s1 result
+  GivesScript result =
+      Gives (TookScript start t w0 w1) (λ front piece stop. StoppedScript start t w0 w1 (front ++ piece) stop)
+      (EndedScript start t w0 w1) turns s0 s1 result
 
   pub all_stays : (result : Result (Unit {0}) Stop) → GivesScript result → t.profile ≡ start.profile
-  all_stays result gives = elim gives.answer [ inl (inl f) ↦ f.taken.profile | inl (inr u) ↦ u.taken.profile | inr (inl s) ↦ s.why.profile | inr (inr e) ↦ e.what.profile ]
+  all_stays result gives = elim gives.answer [
+    | inl (inl f) ↦ f.taken.profile
+    | inl (inr u) ↦ u.taken.profile
+    | inr (inl s) ↦ s.why.profile
+    | inr (inr e) ↦ e.what.profile
+  ]
 
-  pub all_replied : (result : Result (Unit {0}) Stop) → GivesScript result → RepliesToAll start.profile turns s0 s1 w0 w1 start.trace t.trace result
+  pub all_replied : (result : Result (Unit {0}) Stop) → GivesScript result
+      → RepliesToAll start.profile turns s0 s1 w0 w1 start.trace t.trace result
   all_replied (Ok u) gives = elim gives.answer [
     | inl (inl f) ↦ let no = f.is in absurd cc
     | inl (inr u) ↦ let no = u.is in absurd cc
     | inr (inl s) ↦ let no = s.is in absurd cc
-    | inr (inr e) ↦ let failed = e.failures in record { given = gives.given; read = gives.read; calls = gives.calls; failures = omega arith; answer = (e.end, e.what.replied) }
+    | inr (inr e) ↦ let failed = e.failures in record {
+      given = gives.given;
+      read = gives.read;
+      calls = gives.calls;
+      failures = omega arith;
+      answer = (e.end, e.what.replied);
+    }
   ]
   all_replied (Err stop) gives = elim gives.answer [
     | inl (inl f) ↦
         let is : stop ≡ stops.ReadFault = let same = f.is in cc in
         let failed = f.failures in
-        rw is (record { given = gives.given; read = gives.read; calls = gives.calls; failures = failed; answer = (f.going, f.taken.replied) })
+        rw is (record {
+          given = gives.given;
+          read = gives.read;
+          calls = gives.calls;
+          failures = failed;
+          answer = (f.going, f.taken.replied);
+        })
     | inl (inr u) ↦
         let is : stop ≡ stops.TooLong = let same = u.is in cc in
         let failed = u.failures in
-        rw is (record { given = gives.given; read = gives.read; calls = gives.calls; failures = omega arith; answer = (u.going, u.used, u.taken.replied) })
+        rw is (record {
+          given = gives.given;
+          read = gives.read;
+          calls = gives.calls;
+          failures = omega arith;
+          answer = (u.going, u.used, u.taken.replied);
+        })
     | inr (inl s) ↦
         let is : stop ≡ stops.WriteFault = let same = s.is in let why = s.why.is in cc in
         let failed = s.failures in
-        rw is (record { given = s.front ++ s.piece; read = subst (λ (l : List ℕ). Consumes s0.bytes s1.bytes l) s.cut gives.read; calls = gives.calls; failures = omega arith; answer = inl (s.going, s.why.broken) })
+        rw is (record {
+          given = s.front ++ s.piece;
+          read = subst (λ (l : List ℕ). Consumes s0.bytes s1.bytes l) s.cut gives.read;
+          calls = gives.calls;
+          failures = omega arith;
+          answer = inl (s.going, s.why.broken);
+        })
     | inr (inr e) ↦
         let broken = e.what.broken in
         let failed = e.failures in
-        rw broken.0 (record { given = gives.given; read = gives.read; calls = gives.calls; failures = omega arith; answer = inr (e.end, broken.1) })
+        rw broken.0 (record {
+          given = gives.given;
+          read = gives.read;
+          calls = gives.calls;
+          failures = omega arith;
+          answer = inr (e.end, broken.1);
+        })
   ]

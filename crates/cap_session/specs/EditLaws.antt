@@ -32,5 +32,7 @@ NoEditAsksForMemory = (limit : ℕ) (trace : List Entry) (edit : Edit) → edite
 
 -- An inserted line stands at its position, and the trace comes back where it is deleted there.
 abbrev pub InsertedStands : Type 0
-InsertedStands = (limit : ℕ) (trace next : List Entry) (position : ℕ) (bytes : List ℕ) → inserted limit trace position bytes ≡ Ok next →
-    (line : Entry) × (line_of bytes ≡ Ok line) × (slice_get next (position - 1) ≡ Some line) × (deleted next position ≡ Ok trace)
+InsertedStands = (limit : ℕ) (trace next : List Entry) (position : ℕ) (bytes : List ℕ)
+    → inserted limit trace position bytes ≡ Ok next →
+    (line : Entry) × (line_of bytes ≡ Ok line) × (slice_get next (position - 1) ≡ Some line)
+    × (deleted next position ≡ Ok trace)

@@ -1,5 +1,6 @@
 -- The replies to a script in a profile.
-use Rattle.std.specs.Prelude.{◌≡◌, ℕ, nat_lt, ◌⊎◌, List, [], ◌∷◌, ◌++◌, length, if◌then◌else◌, MatchBool, IsTrue, IsOk, Result, Ok, Err}
+use Rattle.std.specs.Prelude.{◌≡◌, ℕ, nat_lt, ◌⊎◌, List, [], ◌∷◌, ◌++◌, length, if◌then◌else◌, MatchBool, IsTrue, IsOk}
+use Rattle.std.specs.Prelude.{Result, Ok, Err}
 use Rattle.cap_trace.specs.Entry.{Entry}
 use Rattle.cap_machine.specs.declared.cell.Profile.{Profile}
 use Rattle.cap_session.specs.Devices.{SinkState}
@@ -23,8 +24,8 @@ Wants profile t ask text u = IsTrue (may_want ask) × IsOk (commanded profile t 
 abbrev pub Commands : Profile → List Entry → Asked → List ℕ → List Entry → Type 0
 Commands profile t ask text u = RepliesTo t (commanded profile t ask) text u ⊎ Wants profile t ask text u
 
--- This may be written of the line, and the trace t becomes u. A line that is too long is refused with 1, whatever it holds; an empty
--- line and a comment are skipped.
+-- This may be written of the line, and the trace t becomes u. A line that is too long is refused with 1, whatever it
+-- holds; an empty line and a comment are skipped.
 abbrev pub Answers : Profile → List Entry → List ℕ → List ℕ → List Entry → Type 0
 Answers profile t line text u =
     MatchBool (nat_lt longest_script_line (length line)) ((text ≡ refused_text 1) × (u ≡ t))
@@ -34,7 +35,8 @@ Answers profile t line text u =
 abbrev pub Run : Profile → List Entry → List (List ℕ) → List ℕ → List Entry → Type 0
 Run profile t [] text u = (text ≡ []) × (u ≡ t)
 Run profile t (line ∷ more) text u =
-    (first : List ℕ) × (mid : List Entry) × (rest : List ℕ) × Answers profile t line first mid × Run profile mid more rest u × (text ≡ first ++ rest)
+    (first : List ℕ) × (mid : List Entry) × (rest : List ℕ) × Answers profile t line first mid
+    × Run profile mid more rest u × (text ≡ first ++ rest)
 
 -- a last piece that is too long is replied to before its LF
 abbrev pub long_piece : List ℕ → List (List ℕ)
@@ -46,7 +48,8 @@ abbrev pub script_lines : List ℕ → List ℕ → List (List ℕ)
 script_lines held bytes = whole_lines held bytes ++ long_piece (last_piece held bytes)
 
 -- These lines were replied to.
-pub record Replied (profile : Profile) (t : List Entry) (w0 w1 : SinkState) (lines : List (List ℕ)) (u : List Entry) : Type 0 where
+pub record Replied (profile : Profile) (t : List Entry) (w0 w1 : SinkState) (lines : List (List ℕ))
+    (u : List Entry) : Type 0 where
   pub text : List ℕ
   pub run : Run profile t lines text u
   pub wrote : Wrote w0 w1 text
@@ -63,7 +66,8 @@ pub record Broken (profile : Profile) (t : List Entry) (w0 w1 : SinkState) (line
 
 -- ---- while a script comes
 
--- What is known: the profile, the trace, and the beginning of the next line, of which no more than `most_held` bytes are kept.
+-- What is known: the profile, the trace, and the beginning of the next line, of which no more than `most_held` bytes
+-- are kept.
 pub record Scripting : Type 0 where
   pub profile : Profile
   pub trace : List Entry
@@ -75,7 +79,8 @@ tail (line ∷ more) = more
 
 -- what is still to be replied to: a beginning that is too long was replied to
 abbrev pub due : List ℕ → List ℕ → List (List ℕ)
-due held bytes = if nat_lt longest_script_line (length held) then tail (script_lines held bytes) else script_lines held bytes
+due held bytes = if nat_lt longest_script_line (length held) then tail (script_lines held bytes)
+    else script_lines held bytes
 
 -- what completing the begun line leaves to reply to
 abbrev pub due_line : List ℕ → List ℕ → List (List ℕ)

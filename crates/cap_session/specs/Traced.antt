@@ -29,7 +29,8 @@ next_traced known line = with_setting known.setting (next_entry known.entries li
 
 -- The entries are kept, or they were lost and are counted.
 abbrev pub Follows : {K : Type 0} → (K → Setting → List Entry → Type 0) → Option K → ℕ → Traced → Type 0
-Follows keeps kept lost known = MatchOption kept (lost ≡ length known.entries) (λ k. keeps k known.setting known.entries)
+Follows keeps kept lost known =
+    MatchOption kept (lost ≡ length known.entries) (λ k. keeps k known.setting known.entries)
 
 -- The entries are kept.
 abbrev pub Holds : {K : Type 0} → (K → Setting → List Entry → Type 0) → Option K → Traced → Type 0

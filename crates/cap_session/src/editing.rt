@@ -31,7 +31,8 @@ fn edit_loaded<S: Source, W: Sink>(
     requires begins { script.held ≡ [] }
     requires some { 0 < length piece.old }
     requires most { length piece.old ≤ longest_piece }
-    ensures { Replies script.profile turns (S.state reader.old) (S.state reader.new) (W.state writer.old) (W.state writer.new) script.trace result }
+    ensures { Replies script.profile turns (S.state reader.old) (S.state reader.new) (W.state writer.old)
+        (W.state writer.new) script.trace result }
 {
     match reply_all(turns, reader, writer, &mut script, piece) {
         Ok(()) => outcome_of(&script.session),
@@ -83,7 +84,8 @@ pub fn edit_stream_as<T: Source, S: Source, W: Sink>(
     requires trace_calls { turns ≤ (T.state trace.old).room }
     requires script_calls { turns ≤ (S.state script.old).room }
     requires failure { 1 ≤ (W.state writer.old).room }
-    ensures { EditStreams profile turns (T.state trace.old) (T.state trace.new) (S.state script.old) (S.state script.new) (W.state writer.old) (W.state writer.new) result }
+    ensures { EditStreams profile turns (T.state trace.old) (T.state trace.new) (S.state script.old)
+        (S.state script.new) (W.state writer.old) (W.state writer.new) result }
 {
     let Ok(mut piece) = vec![in alloc; 0u8; LONGEST_PIECE] else {
         return Outcome::Memory;
@@ -118,7 +120,8 @@ pub fn edit_stream<T: Source, S: Source, W: Sink>(
     requires trace_calls { turns ≤ (T.state trace.old).room }
     requires script_calls { turns ≤ (S.state script.old).room }
     requires failure { 1 ≤ (W.state writer.old).room }
-    ensures { EditStreams One turns (T.state trace.old) (T.state trace.new) (S.state script.old) (S.state script.new) (W.state writer.old) (W.state writer.new) result }
+    ensures { EditStreams One turns (T.state trace.old) (T.state trace.new) (S.state script.old) (S.state script.new)
+        (W.state writer.old) (W.state writer.new) result }
 {
     edit_stream_as(alloc, Profile::One, turns, trace, script, writer)
 }

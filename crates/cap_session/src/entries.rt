@@ -42,7 +42,8 @@ pub trait Keep: Drop {
     /// Keeps one line more.
     fn keep(&mut self, line: Line) -> Result<(), NoMemory>
         requires { lines_of self.old < most_lines }
-        ensures { (s : Setting) (entries : List Entry) → keeps self.old s entries → OnOk result (keeps self.new s (entries ++ line ∷ [])) };
+        ensures { (s : Setting) (entries : List Entry) → keeps self.old s entries
+            → OnOk result (keeps self.new s (entries ++ line ∷ [])) };
 }
 
 /// The lines of a trace so far. They are kept until memory runs out, and counted from then on.
@@ -57,7 +58,8 @@ impl<K: Keep> Entries<K> {
     /// How many lines there are so far.
     fn count(&self) -> usize
         ensures count { MatchOption self.now.kept (result ≡ self.now.lost) (λ k. result ≡ K.lines_of k) }
-        ensures lines { (known : Traced) → Follows K.keeps self.now.kept self.now.lost known → result ≡ length known.entries }
+        ensures lines { (known : Traced) → Follows K.keeps self.now.kept self.now.lost known
+            → result ≡ length known.entries }
     {
         match &self.kept {
             Some(kept) => kept.count(),
@@ -69,7 +71,8 @@ impl<K: Keep> Entries<K> {
     fn keep(&mut self, count: usize, line: Line)
         requires room { ForSome self.old.kept (λ k. K.lines_of k < most_lines) }
         requires most { count < most_lines }
-        ensures { (known : Traced) → Follows K.keeps self.old.kept self.old.lost known → count ≡ length known.entries → Follows K.keeps self.new.kept self.new.lost (one_more known line) }
+        ensures { (known : Traced) → Follows K.keeps self.old.kept self.old.lost known → count ≡ length known.entries
+            → Follows K.keeps self.new.kept self.new.lost (one_more known line) }
     {
         let is_kept = match &mut self.kept {
             Some(kept) => kept.keep(line).is_ok(),
@@ -136,7 +139,8 @@ pub fn read_trace<K: Keep, R: Source>(
 ) -> Result<K, Stop>
     requires turns { turns ≤ 2 ^ 32 }
     requires calls { turns ≤ (R.state reader.old).room }
-    ensures { (s : Setting) → K.keeps keep s [] → Reads trace soon (λ k entries. K.keeps k s entries) turns (R.state reader.old) (R.state reader.new) result }
+    ensures { (s : Setting) → K.keeps keep s []
+        → Reads trace soon (λ k entries. K.keeps k s entries) turns (R.state reader.old) (R.state reader.new) result }
 {
     let entries = Entries {
         alloc,

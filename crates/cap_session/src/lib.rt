@@ -1,5 +1,6 @@
-//! Traces: checked as they come from a reader, with the report to a writer ([`check_stream`]); kept, edited line by line and
-//! reported when asked ([`Session`]); and worked on by a script of commands, with a reply to each ([`edit_stream`]).
+//! Traces: checked as they come from a reader, with the report to a writer ([`check_stream`]); kept, edited line by
+//! line and reported when asked ([`Session`]); and worked on by a script of commands, with a reply to each
+//! ([`edit_stream`]).
 //!
 //! After any edits a report is that of checking the edited trace anew ([`Session::report_after`]).
 //!

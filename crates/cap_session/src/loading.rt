@@ -27,7 +27,8 @@ impl Loading {
 }
 
 impl Keep for Loading {
-    ghost keeps = { λ loading setting entries. (loading.session.profile ≡ setting.profile) × (loading.session.trace ≡ entries) };
+    ghost keeps = { λ loading setting entries. (loading.session.profile ≡ setting.profile)
+        × (loading.session.trace ≡ entries) };
 
     ghost lines_of = { λ loading. length loading.session.trace };
 

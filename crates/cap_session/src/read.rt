@@ -32,14 +32,18 @@ pub trait Takes<O> {
     fn take_piece(&mut self, piece: &[u8], output: &mut O) -> Result<(), Stop>
         requires short { length piece.now ≤ longest_piece }
         requires fits { (n : ℕ) × (length piece.now ≤ n) × fits self.old output.old n }
-        ensures took { (first : Self) (begun : O) (given : List ℕ) → took first begun self.old output.old given → OnOk result (took first begun self.new output.new (given ++ piece.now)) }
-        ensures stopped { (first : Self) (begun : O) (given : List ℕ) → took first begun self.old output.old given → IfErr result (λ stop. stopped first begun self.new output.new given piece.now stop) }
-        ensures fits { (n more : ℕ) → more + length piece.now ≤ n → fits self.old output.old n → OnOk result (fits self.new output.new more) };
+        ensures took { (first : Self) (begun : O) (given : List ℕ) → took first begun self.old output.old given
+            → OnOk result (took first begun self.new output.new (given ++ piece.now)) }
+        ensures stopped { (first : Self) (begun : O) (given : List ℕ) → took first begun self.old output.old given
+            → IfErr result (λ stop. stopped first begun self.new output.new given piece.now stop) }
+        ensures fits { (n more : ℕ) → more + length piece.now ≤ n → fits self.old output.old n
+            → OnOk result (fits self.new output.new more) };
 
     /// Takes the end.
     fn take_end(&mut self, output: &mut O) -> Result<(), Stop>
         requires { (n : ℕ) × fits self.old output.old n }
-        ensures { (first : Self) (begun : O) (given : List ℕ) → took first begun self.old output.old given → ended first begun self.new output.new given result };
+        ensures { (first : Self) (begun : O) (given : List ℕ) → took first begun self.old output.old given
+            → ended first begun self.new output.new given result };
 }
 
 /// Reads a text to its end and gives it on, with room for a piece.
@@ -55,7 +59,9 @@ pub fn give_all<O, T: Takes<O>, R: Source>(
     requires fits { T.fits taker.old output.old (longest_piece * turns) }
     requires some { 0 < length piece.old }
     requires most { length piece.old ≤ longest_piece }
-    ensures { Gives (T.took taker.old output.old taker.new output.new) (T.stopped taker.old output.old taker.new output.new) (T.ended taker.old output.old taker.new output.new) turns (R.state reader.old) (R.state reader.new) result }
+    ensures { Gives (T.took taker.old output.old taker.new output.new)
+        (T.stopped taker.old output.old taker.new output.new)
+        (T.ended taker.old output.old taker.new output.new) turns (R.state reader.old) (R.state reader.new) result }
 {
     for _turn in 0..turns {
         match reader.read(piece) {
@@ -72,7 +78,8 @@ impl<L: Lines> Takes<()> for Reading<L> {
 
     ghost took = { λ s _ t _ given. TookText L.next (L.follows s.lines) (L.follows t.lines) t.number t.held given };
 
-    ghost stopped = { λ s _ t _ front piece stop. StoppedText L.next (L.follows s.lines) (L.follows t.lines) t.number t.held front piece stop };
+    ghost stopped = { λ s _ t _ front piece stop. StoppedText L.next (L.follows s.lines)
+        (L.follows t.lines) t.number t.held front piece stop };
 
     ghost ended = { λ s _ t _ given result. EndedText L.next (L.follows s.lines) (L.holds t.lines) given result };
 
@@ -94,7 +101,8 @@ pub fn read_text<L: Lines, R: Source>(
 ) -> Result<L, Stop>
     requires turns { turns ≤ 2 ^ 32 }
     requires calls { turns ≤ (R.state reader.old).room }
-    ensures { (start : L.Known) → L.follows lines start → Reads (whole_text L.next start) (refused_so_far L.next start) L.holds turns (R.state reader.old) (R.state reader.new) result }
+    ensures { (start : L.Known) → L.follows lines start → Reads (whole_text L.next start)
+        (refused_so_far L.next start) L.holds turns (R.state reader.old) (R.state reader.new) result }
 {
     let Ok(mut buffer) = vec![in alloc; 0u8; LONGEST_PIECE] else {
         return Err(Stop::Memory);

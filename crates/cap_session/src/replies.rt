@@ -47,7 +47,8 @@ pub fn reply_all<R: Source, W: Sink>(
     requires begins { script.old.held ≡ [] }
     requires some { 0 < length piece.old }
     requires most { length piece.old ≤ longest_piece }
-    ensures all { RepliesToAll script.old.profile turns (R.state reader.old) (R.state reader.new) (W.state writer.old) (W.state writer.new) script.old.trace script.new.trace result }
+    ensures all { RepliesToAll script.old.profile turns (R.state reader.old) (R.state reader.new) (W.state writer.old)
+        (W.state writer.new) script.old.trace script.new.trace result }
     ensures profile { script.new.profile ≡ script.old.profile }
 {
     give_all(turns, reader, script, writer, piece)

@@ -61,7 +61,8 @@ impl Reply {
 /// Makes an edit, and replies with the new count.
 fn perform_edit(session: &mut Session, edit: &Edit<'_>) -> Result<Reply, NotDone>
     requires { session.old.limit ≡ most_lines }
-    ensures performs { Performs session.old.profile session.old.trace (command_asked (Command.Edit edit.now)) result session.new.trace }
+    ensures performs { Performs session.old.profile session.old.trace
+        (command_asked (Command.Edit edit.now)) result session.new.trace }
     ensures limit { session.new.limit ≡ session.old.limit }
     ensures profile { session.new.profile ≡ session.old.profile }
 {
@@ -73,7 +74,8 @@ fn perform_edit(session: &mut Session, edit: &Edit<'_>) -> Result<Reply, NotDone
 
 /// Replies with the text of a line.
 fn perform_show(session: &Session, position: usize) -> Result<Reply, NotDone>
-    ensures { Performs session.now.profile session.now.trace (command_asked (Command.Show position)) result session.now.trace }
+    ensures { Performs session.now.profile session.now.trace
+        (command_asked (Command.Show position)) result session.now.trace }
 {
     match session.show(position) {
         Ok(mut text) => match text.push(b'\n') {
@@ -96,7 +98,8 @@ fn perform_report(session: &Session) -> Result<Reply, NotDone>
 
 /// Replies with the report of a part.
 fn perform_range(session: &Session, first: usize, last: usize) -> Result<Reply, NotDone>
-    ensures { Performs session.now.profile session.now.trace (command_asked (Command.ReportRange first last)) result session.now.trace }
+    ensures { Performs session.now.profile session.now.trace
+        (command_asked (Command.ReportRange first last)) result session.now.trace }
 {
     match session.report_range(first, last) {
         Ok(text) => Ok(Reply::Long(text)),
@@ -107,7 +110,8 @@ fn perform_range(session: &Session, first: usize, last: usize) -> Result<Reply, 
 /// Does a command, and gives its reply.
 fn perform(session: &mut Session, command: &Command<'_>) -> Result<Reply, NotDone>
     requires { session.old.limit ≡ most_lines }
-    ensures performs { Performs session.old.profile session.old.trace (command_asked command.now) result session.new.trace }
+    ensures performs { Performs session.old.profile session.old.trace
+        (command_asked command.now) result session.new.trace }
     ensures limit { session.new.limit ≡ session.old.limit }
     ensures profile { session.new.profile ≡ session.old.profile }
 {
@@ -125,8 +129,10 @@ fn perform(session: &mut Session, command: &Command<'_>) -> Result<Reply, NotDon
 fn answer<W: Sink>(session: &mut Session, line: &[u8], writer: &mut W) -> Result<(), Failed>
     requires limit { session.old.limit ≡ most_lines }
     requires room { 1 ≤ (W.state writer.old).room }
-    ensures ok { OnOk result (Replied session.old.profile session.old.trace (W.state writer.old) (W.state writer.new) (line.now ∷ []) session.new.trace) }
-    ensures err { OnErr result (Broken session.old.profile session.old.trace (W.state writer.old) (W.state writer.new) (line.now ∷ [])) }
+    ensures ok { OnOk result (Replied session.old.profile session.old.trace (W.state writer.old) (W.state writer.new)
+        (line.now ∷ []) session.new.trace) }
+    ensures err { OnErr result
+        (Broken session.old.profile session.old.trace (W.state writer.old) (W.state writer.new) (line.now ∷ [])) }
     ensures limit { session.new.limit ≡ session.old.limit }
     ensures profile { session.new.profile ≡ session.old.profile }
 {
@@ -165,9 +171,11 @@ impl Script {
     /// Replies to the line that is begun, which these bytes complete.
     fn line<W: Sink>(&mut self, bytes: &[u8], writer: &mut W) -> Result<(), Failed>
         requires { 1 ≤ (W.state writer.old).room }
-        ensures ok { OnOk result (Replied self.old.profile self.old.trace (W.state writer.old) (W.state writer.new) (due_line self.old.held bytes.now) self.new.trace) }
+        ensures ok { OnOk result (Replied self.old.profile self.old.trace (W.state writer.old) (W.state writer.new)
+            (due_line self.old.held bytes.now) self.new.trace) }
         ensures held { OnOk result (self.new.held ≡ []) }
-        ensures err { OnErr result (Broken self.old.profile self.old.trace (W.state writer.old) (W.state writer.new) (due_line self.old.held bytes.now)) }
+        ensures err { OnErr result (Broken self.old.profile self.old.trace (W.state writer.old) (W.state writer.new)
+            (due_line self.old.held bytes.now)) }
         ensures profile { self.new.profile ≡ self.old.profile }
     {
         if self.held.len() > LONGEST_SCRIPT_LINE {
@@ -186,9 +194,11 @@ impl Script {
     /// Begins a line or goes on with it, and replies where it gets too long.
     fn hold<W: Sink>(&mut self, bytes: &[u8], writer: &mut W) -> Result<(), Failed>
         requires { 1 ≤ (W.state writer.old).room }
-        ensures ok { OnOk result (Replied self.old.profile self.old.trace (W.state writer.old) (W.state writer.new) (due_piece self.old.held bytes.now) self.new.trace) }
+        ensures ok { OnOk result (Replied self.old.profile self.old.trace (W.state writer.old) (W.state writer.new)
+            (due_piece self.old.held bytes.now) self.new.trace) }
         ensures held { OnOk result (self.new.held ≡ take most_held (self.old.held ++ bytes.now)) }
-        ensures err { OnErr result (Broken self.old.profile self.old.trace (W.state writer.old) (W.state writer.new) (due_piece self.old.held bytes.now)) }
+        ensures err { OnErr result (Broken self.old.profile self.old.trace (W.state writer.old) (W.state writer.new)
+            (due_piece self.old.held bytes.now)) }
         ensures profile { self.new.profile ≡ self.old.profile }
     {
         let was_long = self.held.len() > LONGEST_SCRIPT_LINE;
@@ -203,9 +213,11 @@ impl Script {
     pub fn feed<W: Sink>(&mut self, piece: &[u8], writer: &mut W) -> Result<(), Failed>
         requires room { 1 ≤ (W.state writer.old).room }
         requires short { length piece.now ≤ longest_piece }
-        ensures ok { OnOk result (Replied self.old.profile self.old.trace (W.state writer.old) (W.state writer.new) (due self.old.held piece.now) self.new.trace) }
+        ensures ok { OnOk result (Replied self.old.profile self.old.trace (W.state writer.old) (W.state writer.new)
+            (due self.old.held piece.now) self.new.trace) }
         ensures held { OnOk result (self.new.held ≡ take most_held (last_piece self.old.held piece.now)) }
-        ensures err { OnErr result (Broken self.old.profile self.old.trace (W.state writer.old) (W.state writer.new) (due self.old.held piece.now)) }
+        ensures err { OnErr result (Broken self.old.profile self.old.trace (W.state writer.old) (W.state writer.new)
+            (due self.old.held piece.now)) }
         ensures profile { self.new.profile ≡ self.old.profile }
     {
         let mut rest = piece;
@@ -219,8 +231,10 @@ impl Script {
     /// Replies to the line that is begun, which is the last.
     pub fn end<W: Sink>(&mut self, writer: &mut W) -> Result<(), Failed>
         requires { 1 ≤ (W.state writer.old).room }
-        ensures ok { OnOk result (Replied self.old.profile self.old.trace (W.state writer.old) (W.state writer.new) (due_end self.old.held) self.new.trace) }
-        ensures err { OnErr result (Broken self.old.profile self.old.trace (W.state writer.old) (W.state writer.new) (due_end self.old.held)) }
+        ensures ok { OnOk result (Replied self.old.profile self.old.trace (W.state writer.old) (W.state writer.new)
+            (due_end self.old.held) self.new.trace) }
+        ensures err { OnErr result
+            (Broken self.old.profile self.old.trace (W.state writer.old) (W.state writer.new) (due_end self.old.held)) }
         ensures profile { self.new.profile ≡ self.old.profile }
     {
         if self.held.is_empty() || self.held.len() > LONGEST_SCRIPT_LINE {
