@@ -29,6 +29,7 @@ examples: capcheck
 	tests/rows ./capcheck
 	tests/talks ./capcheck
 	tests/memory ./capcheck
+	tests/faults ./capcheck
 	tests/compare ./capcheck
 	tests/recorder ./capcheck
 	tests/annotate ./capcheck

@@ -174,11 +174,46 @@ def socketpairs(lines):
 
 
 def strangers(lines):
-    """As many processes as there can be, of which nothing is known before; each makes twenty descriptors or more far from one
-    another, by ten calls or more. No trace of so many lines was found that takes more memory."""
-    each = -(-lines // LAST_PID)
+    """As many processes as there can be, of which nothing is known before; each makes twenty descriptors far from one another,
+    by ten calls. No trace of so many lines was found that takes more memory."""
+    each = lines // LAST_PID
     out = []
     for pid in range(1, LAST_PID + 1):
+        fds = scattered(2 * each, pid)
+        out += [f"{pid} socketpair(0) RET {a},{b}" for a, b in zip(fds[::2], fds[1::2])]
+    return out[:lines]
+
+
+# The most bytes that a line can have.
+LINE_LIMIT = 1_024
+
+
+def longest_start(pid, step):
+    """The longest line that starts a process, with descriptors as far from one another."""
+    fds = range(pid % step, LAST_FD + 1, step)
+    room = LINE_LIMIT - len(f"{pid} @start()") + 1
+    count = 0
+    for fd in fds:
+        room -= len(f"{fd},")
+        if room < 0:
+            break
+        count += 1
+    return f"{pid} @start({','.join(map(str, fds[:count]))})"
+
+
+def starts(lines):
+    """As many processes as there can be, which are started again and again with as many descriptors as a line can name, far from
+    one another. There are a tenth as many lines, for the sake of the file."""
+    return [longest_start(1 + turn % LAST_PID, 7_000) for turn in range(lines // 10)]
+
+
+def packed(lines):
+    """As many processes as there can be; each is started with as many descriptors as a line can name, and makes eighteen more
+    far from one another."""
+    each = lines // LAST_PID - 1
+    out = []
+    for pid in range(1, LAST_PID + 1):
+        out.append(longest_start(pid, 1))
         fds = scattered(2 * each, pid)
         out += [f"{pid} socketpair(0) RET {a},{b}" for a, b in zip(fds[::2], fds[1::2])]
     return out[:lines]
@@ -206,16 +241,54 @@ def execs(lines):
     return out[:lines]
 
 
+def turns(lines):
+    """One process makes many descriptors, half as many as there are lines to be; then it and its children fork, execute, close and
+    close from a number in turn, with pids used again."""
+    count = lines // 2
+    out = ["100 @start()"]
+    out += [f"100 socket(0) RET {fd}" for fd in range(count)]
+    turn = 0
+    while len(out) < lines:
+        child = 1000 + turn % 90_000
+        fd = turn * 7919 % count
+        out += [
+            f"100 fork() RET {child}",
+            f'{child} execve("/bin/sh") RET 0',
+            f"{child} closefrom({fd}) RET 0",
+            f"{child} close({fd // 2}) RET 0",
+            f"100 close({fd}) RET 0",
+        ]
+        if turn % 7 == 0:
+            out.append(f"{child} @exit()")
+        turn += 1
+    return out[:lines]
+
+
+def held(count, call, times):
+    """A process makes so many descriptors, and so many times a child of it, which has them all, makes this call and one of its
+    own descriptors, and exits."""
+    out = ["100 @start()"]
+    out += [f"100 socket(0) RET {fd}" for fd in range(count)]
+    for turn in range(times):
+        child = 1000 + turn % 90_000
+        out += [f"100 fork() RET {child}", f"{child} {call} RET 0", f"{child} socket(0) RET {turn % count}", f"{child} @exit()"]
+    return out
+
+
 TRACES = {
     make.__name__: make
-    for make in (quiet, loud, wide, forms, crowd, hostile, pairs, spread, closes, socketpairs, strangers, execs)
+    for make in (quiet, loud, wide, forms, crowd, hostile, pairs, spread, closes, socketpairs, strangers, starts, packed, execs, turns)
 }
 
+
+def put(made, path):
+    """Writes these lines to a file."""
+    with open(path, "w") as out:
+        out.write("\n".join(made) + "\n")
 
 
 def write(name, lines, path):
     """Writes the trace of this name to a file, and answers how many lines it has."""
     made = TRACES[name](lines)
-    with open(path, "w") as out:
-        out.write("\n".join(made) + "\n")
+    put(made, path)
     return len(made)

@@ -1,5 +1,6 @@
 -- What profile 1 knows beside what profile 2 knows of the same trace.
-use Rattle.std.proofs.Common.{◌≡◌, ℕ, ◌==◌, Bool, true, false, ◌&&◌, ◌||◌, not, if◌then◌else◌, List, [], ◌∷◌, ◌++◌, map, Option, Some, None, refl, sym, ap, ◌∙◌}
+use Rattle.std.proofs.Common.{◌≡◌, ℕ, ◌==◌, Bool, true, false, ◌&&◌, ◌||◌, not, if◌then◌else◌, List, [], ◌∷◌, ◌++◌, map}
+use Rattle.std.proofs.Common.{Option, Some, None, refl, sym, ap, ◌∙◌}
 use Rattle.std.specs.Prelude.{codes}
 use Rattle.std.specs.Str.{bytes_eq}
 use Rattle.cap_rights.specs.Rights.{all, named as all_named, has_all, none, without_full}
@@ -11,7 +12,8 @@ use Rattle.cap_trace.specs.declared.line.Dir.{Dir}
 use Rattle.cap_trace.specs.declared.line.Answer.{Answer}
 use Rattle.cap_trace.specs.declared.line.Answer.TheVariants as answers
 use Rattle.cap_trace.specs.declared.calls.FdCall.{FdCall}
-use Rattle.cap_trace.specs.declared.calls.FdCall.TheVariants.{Accept, Fexecve, Close, Closefrom, Dup, CapIoctlsLimit, CapFcntlsLimit}
+use Rattle.cap_trace.specs.declared.calls.FdCall.TheVariants.{Accept, Fexecve, Close, Closefrom, Dup, CapIoctlsLimit}
+use Rattle.cap_trace.specs.declared.calls.FdCall.TheVariants.{CapFcntlsLimit}
 use Rattle.cap_trace.specs.declared.calls.PathCall.{PathCall}
 use Rattle.cap_trace.specs.declared.calls.PathCall.TheVariants.{Execve}
 use Rattle.cap_trace.specs.declared.calls.AtFlagsCall.{AtFlagsCall}
@@ -19,7 +21,8 @@ use Rattle.cap_trace.specs.declared.calls.AtFlagsCall.TheVariants.{Openat}
 use Rattle.cap_trace.specs.declared.calls.FlagsCall.{FlagsCall}
 use Rattle.cap_trace.specs.declared.calls.FlagsCall.TheVariants.{Socket, Socketpair, Pipe2}
 use Rattle.cap_trace.specs.declared.calls.BareCall.{BareCall}
-use Rattle.cap_trace.specs.declared.calls.BareCall.TheVariants.{Pipe, Kqueue, ShmOpen, MqOpen, Fhopen, Fork, Vfork, Pdfork, CapEnter}
+use Rattle.cap_trace.specs.declared.calls.BareCall.TheVariants.{Pipe, Kqueue, ShmOpen, MqOpen, Fhopen, Fork, Vfork}
+use Rattle.cap_trace.specs.declared.calls.BareCall.TheVariants.{Pdfork, CapEnter}
 use Rattle.cap_trace.specs.declared.calls.DupCommand.{DupCommand}
 use Rattle.cap_trace.specs.declared.calls.DupCommand.TheVariants.{FDup2fd, FDup2fdCloexec}
 use Rattle.cap_machine.specs.declared.cell.Cell.{Cell}
@@ -37,7 +40,11 @@ use Rattle.cap_machine.specs.declared.verdict.Finding.{Finding}
 use Rattle.cap_machine.specs.Op.{applied, same, derive, copy_to_itself, limit, narrow, set_flag, narrow_and_set_flag}
 use Rattle.cap_machine.specs.Flags.{all_known}
 use Rattle.cap_machine.specs.Places.{below, is_cwd, is_empty}
-use Rattle.cap_machine.specs.Touch.{Touch, kept, given, taken, started, succeeded, on_fd, on_success, on_made, on_both, closing, whole, copied, copied_to, unknown, left_by_exec, exec_touch, closefrom_touch, open_flag, socket_flag, fd_flag, fd_touch, fcntl_touch, fcntl_copied_to, plain_fd_flags, set_fd_op, path_touch, opened_below, at_touch, flags_touch, fork_touch, pdfork_touch, bare_touch, call_touch, item_touch}
+use Rattle.cap_machine.specs.Touch.{Touch, kept, given, taken, started, succeeded, on_fd, on_success, on_made, on_both}
+use Rattle.cap_machine.specs.Touch.{closing, whole, copied, copied_to, unknown, left_by_exec, exec_touch}
+use Rattle.cap_machine.specs.Touch.{closefrom_touch, open_flag, socket_flag, fd_flag, fd_touch, fcntl_touch}
+use Rattle.cap_machine.specs.Touch.{fcntl_copied_to, plain_fd_flags, set_fd_op, path_touch, opened_below, at_touch}
+use Rattle.cap_machine.specs.Touch.{flags_touch, fork_touch, pdfork_touch, bare_touch, call_touch, item_touch}
 use Rattle.cap_machine.specs.History.{touched}
 use Rattle.cap_machine.specs.Judge.{listed, fault, judged}
 use Rattle.cap_machine.specs.Rule.{limit_demand, call_demand, item_demand, check_of}
@@ -63,9 +70,16 @@ under_same (Held s x) = few_same s
 
 -- an op that leaves a held cell held
 abbrev keeping_held : Cell → Option ℕ → OnExec → OnExec → OnExec → Op
-keeping_held shut mask a b d = record { unknown = Unknown; closed = shut; set = Keeps mask a; clear = Keeps mask b; unsure = Keeps mask d }
+keeping_held shut mask a b d = record {
+  unknown = Unknown;
+  closed = shut;
+  set = Keeps mask a;
+  clear = Keeps mask b;
+  unsure = Keeps mask d;
+}
 
-held_under : (shut : Cell) (mask : Option ℕ) (a b d x y : OnExec) (s t : ℕ) → IsFewer s t → Under (applied (keeping_held shut mask a b d) (Held s x)) (applied (keeping_held shut mask a b d) (Held t y))
+held_under : (shut : Cell) (mask : Option ℕ) (a b d x y : OnExec) (s t : ℕ) → IsFewer s t
+    → Under (applied (keeping_held shut mask a b d) (Held s x)) (applied (keeping_held shut mask a b d) (Held t y))
 held_under shut mask a b d flags.Set flags.Set s t fewer = few_masked mask s t fewer
 held_under shut mask a b d flags.Set flags.Clear s t fewer = few_masked mask s t fewer
 held_under shut mask a b d flags.Set flags.Unsure s t fewer = few_masked mask s t fewer
@@ -76,7 +90,8 @@ held_under shut mask a b d flags.Unsure flags.Set s t fewer = few_masked mask s 
 held_under shut mask a b d flags.Unsure flags.Clear s t fewer = few_masked mask s t fewer
 held_under shut mask a b d flags.Unsure flags.Unsure s t fewer = few_masked mask s t fewer
 
-op_under : (shut : Cell) (mask : Option ℕ) (a b d : OnExec) (c e : Cell) → Under c e → Under (applied (keeping_held shut mask a b d) c) (applied (keeping_held shut mask a b d) e)
+op_under : (shut : Cell) (mask : Option ℕ) (a b d : OnExec) (c e : Cell) → Under c e
+    → Under (applied (keeping_held shut mask a b d) c) (applied (keeping_held shut mask a b d) e)
 op_under shut mask a b d Unknown e u = tt
 op_under shut mask a b d Closed Unknown u = absurd u
 op_under shut mask a b d Closed Closed u = under_same shut
@@ -103,18 +118,23 @@ quiet_of_has true x is = refl
 quiet_of_has false x is = cc
 
 -- a limit that succeeded where nothing was found in profile 2
-limit_held : (asked : ℕ) (word : Word) (check : Check) (x y : OnExec) (s t : ℕ) → IsFewer s t → Under (applied (limit asked) (Held s x)) (applied (limit asked) (Held t y))
-limit_held asked word check x y s t fewer = held_under (Held (without_full asked) flags.Unsure) (Some asked) flags.Set flags.Clear flags.Unsure x y s t fewer
+limit_held : (asked : ℕ) (word : Word) (check : Check) (x y : OnExec) (s t : ℕ) → IsFewer s t
+    → Under (applied (limit asked) (Held s x)) (applied (limit asked) (Held t y))
+limit_held asked word check x y s t fewer =
+    held_under (Held (without_full asked) flags.Unsure) (Some asked) flags.Set flags.Clear flags.Unsure x y s t fewer
 
-limit_unknown : (asked t : ℕ) (y : OnExec) → has_all t (without_full asked) ≡ true → Under (applied (limit asked) Unknown) (applied (limit asked) (Held t y))
+limit_unknown : (asked t : ℕ) (y : OnExec) → has_all t (without_full asked) ≡ true
+    → Under (applied (limit asked) Unknown) (applied (limit asked) (Held t y))
 limit_unknown asked t flags.Set has = few_limited asked t has
 limit_unknown asked t flags.Clear has = few_limited asked t has
 limit_unknown asked t flags.Unsure has = few_limited asked t has
 
-limit_under : (asked : ℕ) (word : Word) (check : Check) (c e : Cell) → check.needs ≡ without_full asked → fault word check e ≡ [] → Under c e → Under (applied (limit asked) c) (applied (limit asked) e)
+limit_under : (asked : ℕ) (word : Word) (check : Check) (c e : Cell) → check.needs ≡ without_full asked
+    → fault word check e ≡ [] → Under c e → Under (applied (limit asked) c) (applied (limit asked) e)
 limit_under asked word check Unknown Unknown needs quiet u = few_same (without_full asked)
 limit_under asked word check Unknown Closed needs quiet u = few_same (without_full asked)
-limit_under asked word check Unknown (Held t y) needs quiet u = limit_unknown asked t y (ap (has_all t) (sym needs) ∙ has_of_quiet (has_all t check.needs) _ quiet)
+limit_under asked word check Unknown (Held t y) needs quiet u =
+    limit_unknown asked t y (ap (has_all t) (sym needs) ∙ has_of_quiet (has_all t check.needs) _ quiet)
 limit_under asked word check Closed Unknown needs quiet u = absurd u
 limit_under asked word check Closed Closed needs quiet u = few_same (without_full asked)
 limit_under asked word check Closed (Held t y) needs quiet u = absurd u
@@ -141,7 +161,8 @@ module _ (one two : ℕ → ℕ → Cell) (under : (p f : ℕ) → Under (one p 
   forgot_fit : (t : Touch) → Fit (given Unknown) t
   forgot_fit t p f = tt
 
-  taken_fit : (shut : Cell) (mask : Option ℕ) (a b d : OnExec) (q g : ℕ) → Fit (taken (keeping_held shut mask a b d) q g) (taken (keeping_held shut mask a b d) q g)
+  taken_fit : (shut : Cell) (mask : Option ℕ) (a b d : OnExec) (q g : ℕ)
+      → Fit (taken (keeping_held shut mask a b d) q g) (taken (keeping_held shut mask a b d) q g)
   taken_fit shut mask a b d q g p f = op_under shut mask a b d (one q g) (two q g) (under q g)
 
   unless : (b : Bool) (t u : Touch) → Fit t u → Fit (if b then t else kept) (if b then u else kept)
@@ -159,10 +180,13 @@ module _ (one two : ℕ → ℕ → Cell) (under : (p f : ℕ) → Under (one p 
   on_fd_fits : (g : ℕ) (t : Touch) → Fit t t → Fits (on_fd g t) (on_fd g t)
   on_fd_fits g t fit me p f = unless (p == me && f == g) t t fit p f
 
-  on_success_fits : (g : ℕ) (answer : Answer) (t : ℕ → Touch) → ((me : ℕ) → Fit (t me) (t me)) → Fits (λ me. on_success g answer (t me) me) (λ me. on_success g answer (t me) me)
-  on_success_fits g answer t fit me p f = unless (succeeded answer) (on_fd g (t me) me p f) (on_fd g (t me) me p f) (λ q h. unless (p == me && f == g) (t me) (t me) (fit me) q h) p f
+  on_success_fits : (g : ℕ) (answer : Answer) (t : ℕ → Touch) → ((me : ℕ) → Fit (t me) (t me))
+      → Fits (λ me. on_success g answer (t me) me) (λ me. on_success g answer (t me) me)
+  on_success_fits g answer t fit me p f = unless (succeeded answer) (on_fd g (t me) me p f) (on_fd g (t me) me p f)
+      (λ q h. unless (p == me && f == g) (t me) (t me) (fit me) q h) p f
 
-  on_made_fits : (answer : Answer) (t : ℕ → Touch) → ((me : ℕ) → Fit (t me) (t me)) → Fits (λ me. on_made answer (t me) me) (λ me. on_made answer (t me) me)
+  on_made_fits : (answer : Answer) (t : ℕ → Touch) → ((me : ℕ) → Fit (t me) (t me))
+      → Fits (λ me. on_made answer (t me) me) (λ me. on_made answer (t me) me)
   on_made_fits (answers.Made d) t fit me p f = on_fd_fits d (t me) (fit me) me p f
   on_made_fits (answers.Pair d e) t fit me p f = kept_fit p f
   on_made_fits (answers.Fault e) t fit me p f = kept_fit p f
@@ -186,25 +210,30 @@ module _ (one two : ℕ → ℕ → Cell) (under : (p f : ℕ) → Under (one p 
   narrow_fit : (g me : ℕ) → Fit (taken narrow me g) (taken narrow me g)
   narrow_fit g me = taken_fit Unknown (Some all_named) flags.Set flags.Clear flags.Unsure me g
 
-  dup2_fit : (g h me : ℕ) → Fit (copied_to copy_to_itself flags.Clear g h me) (copied_to copy_to_itself flags.Clear g h me)
+  dup2_fit : (g h me : ℕ)
+      → Fit (copied_to copy_to_itself flags.Clear g h me) (copied_to copy_to_itself flags.Clear g h me)
   dup2_fit g h me = pick (g == h)
     where
-      pick : (b : Bool) → Fit (taken (if b then copy_to_itself else derive flags.Clear) me g) (taken (if b then copy_to_itself else derive flags.Clear) me g)
+      pick : (b : Bool) → Fit (taken (if b then copy_to_itself else derive flags.Clear) me g)
+          (taken (if b then copy_to_itself else derive flags.Clear) me g)
       pick true = itself_fit g me
       pick false = derived_fit flags.Clear g me
 
-  dup_command_fit : (command : DupCommand) (g h me : ℕ) → Fit (fcntl_copied_to command g h me) (fcntl_copied_to command g h me)
+  dup_command_fit : (command : DupCommand) (g h me : ℕ)
+      → Fit (fcntl_copied_to command g h me) (fcntl_copied_to command g h me)
   dup_command_fit FDup2fd g h me = dup2_fit g h me
   dup_command_fit FDup2fdCloexec g h me = pick (g == h)
     where
-      pick : (b : Bool) → Fit (taken (if b then derive flags.Unsure else derive flags.Set) me g) (taken (if b then derive flags.Unsure else derive flags.Set) me g)
+      pick : (b : Bool) → Fit (taken (if b then derive flags.Unsure else derive flags.Set) me g)
+          (taken (if b then derive flags.Unsure else derive flags.Set) me g)
       pick true = derived_fit flags.Unsure g me
       pick false = derived_fit flags.Set g me
 
   set_fd_fit : (names : List ℕ) (g me : ℕ) → Fit (taken (set_fd_op names) me g) (taken (set_fd_op names) me g)
   set_fd_fit names g me = pick (all_known plain_fd_flags names)
     where
-      pick : (b : Bool) → Fit (taken (if b then set_flag (fd_flag names) else narrow_and_set_flag (fd_flag names)) me g) (taken (if b then set_flag (fd_flag names) else narrow_and_set_flag (fd_flag names)) me g)
+      pick : (b : Bool) → Fit (taken (if b then set_flag (fd_flag names) else narrow_and_set_flag (fd_flag names)) me g)
+          (taken (if b then set_flag (fd_flag names) else narrow_and_set_flag (fd_flag names)) me g)
       pick true = taken_fit Closed None (fd_flag names) (fd_flag names) (fd_flag names) me g
       pick false = taken_fit Unknown (Some all_named) (fd_flag names) (fd_flag names) (fd_flag names) me g
 
@@ -212,57 +241,76 @@ module _ (one two : ℕ → ℕ → Cell) (under : (p f : ℕ) → Under (one p 
   forked_fit me f = taken_fit Closed None flags.Set flags.Clear flags.Unsure me f
 
   exec_fits : (answer : Answer) → Fits (exec_touch One answer) (exec_touch Two answer)
-  exec_fits answer me p f = unless (succeeded answer && p == me) (given Unknown) (left_by_exec Two me f) (forgot_fit (left_by_exec Two me f)) p f
+  exec_fits answer me p f = unless (succeeded answer && p == me) (given Unknown) (left_by_exec Two me f)
+      (forgot_fit (left_by_exec Two me f)) p f
 
   -- ---- each form of call
 
-  closefrom_fits : (answer : Answer) (g : ℕ) → succeeded answer ≡ false → Fits (closefrom_touch One g answer) (closefrom_touch Two g answer)
+  closefrom_fits : (answer : Answer) (g : ℕ) → succeeded answer ≡ false
+      → Fits (closefrom_touch One g answer) (closefrom_touch Two g answer)
   closefrom_fits (answers.Made d) g failed me p f = absurd (cc)
   closefrom_fits (answers.Pair d e) g failed me p f = absurd (cc)
   closefrom_fits (answers.Fault e) g failed me p f = kept_fit p f
 
-  fd_fits : (call : FdCall) (g : ℕ) (answer : Answer) → (is_closefrom (calls.OnFd call g) && succeeded answer) ≡ false → Fits (fd_touch One call g answer) (fd_touch Two call g answer)
+  fd_fits : (call : FdCall) (g : ℕ) (answer : Answer) → (is_closefrom (calls.OnFd call g) && succeeded answer) ≡ false
+      → Fits (fd_touch One call g answer) (fd_touch Two call g answer)
   fd_fits Close g answer never me p f = on_fd_fits g (closing answer) (closing_fit answer) me p f
   fd_fits Closefrom g answer never me p f = closefrom_fits answer g never me p f
   fd_fits Dup g answer never me p f = on_made_fits answer (copied flags.Clear g) (derived_fit flags.Clear g) me p f
   fd_fits Accept g answer never me p f = on_made_fits answer (λ me. unknown) (λ me. given_fit Unknown) me p f
   fd_fits Fexecve g answer never me p f = exec_fits answer me p f
-  fd_fits CapIoctlsLimit g answer never me p f = on_success_fits g answer (λ me. taken narrow me g) (narrow_fit g) me p f
-  fd_fits CapFcntlsLimit g answer never me p f = on_success_fits g answer (λ me. taken narrow me g) (narrow_fit g) me p f
+  fd_fits CapIoctlsLimit g answer never me p f =
+      on_success_fits g answer (λ me. taken narrow me g) (narrow_fit g) me p f
+  fd_fits CapFcntlsLimit g answer never me p f =
+      on_success_fits g answer (λ me. taken narrow me g) (narrow_fit g) me p f
   fd_fits _ g answer never me p f = kept_fit p f
 
-  copied_fits : (flag : OnExec) (g : ℕ) (answer : Answer) (me p f : ℕ) → Fit (on_made answer (copied flag g me) me p f) (on_made answer (copied flag g me) me p f)
-  copied_fits flag g (answers.Made d) me p f = unless (p == me && f == d) (copied flag g me) (copied flag g me) (derived_fit flag g me)
+  copied_fits : (flag : OnExec) (g : ℕ) (answer : Answer) (me p f : ℕ)
+      → Fit (on_made answer (copied flag g me) me p f) (on_made answer (copied flag g me) me p f)
+  copied_fits flag g (answers.Made d) me p f =
+      unless (p == me && f == d) (copied flag g me) (copied flag g me) (derived_fit flag g me)
   copied_fits flag g (answers.Pair d e) me p f = kept_fit
   copied_fits flag g (answers.Fault e) me p f = kept_fit
 
-  fcntl_fits : (command : List ℕ) (g : ℕ) (answer : Answer) → Fits (fcntl_touch command g answer) (fcntl_touch command g answer)
+  fcntl_fits : (command : List ℕ) (g : ℕ) (answer : Answer)
+      → Fits (fcntl_touch command g answer) (fcntl_touch command g answer)
   fcntl_fits command g answer me p f =
       let plain = on_made answer (copied flags.Clear g me) me p f in
       let marked = on_made answer (copied flags.Set g me) me p f in
       let is_marked = bytes_eq command (codes "F_DUPFD_CLOEXEC") in
-      choose (bytes_eq command (codes "F_DUPFD")) plain (if is_marked then marked else kept) (copied_fits flags.Clear g answer me p f)
+      choose (bytes_eq command (codes "F_DUPFD")) plain (if is_marked then marked else kept)
+      (copied_fits flags.Clear g answer me p f)
       (choose is_marked marked kept (copied_fits flags.Set g answer me p f) kept_fit) p f
 
   path_fits : (call : PathCall) (answer : Answer) → Fits (path_touch One call answer) (path_touch Two call answer)
   path_fits Execve answer me p f = exec_fits answer me p f
   path_fits _ answer me p f = kept_fit p f
 
-  opened_fit : (g : Option ℕ) (dir : Dir) (path : List ℕ) (flag : OnExec) (me : ℕ) → Fit (opened_below g dir path flag me) (opened_below g dir path flag me)
+  opened_fit : (g : Option ℕ) (dir : Dir) (path : List ℕ) (flag : OnExec) (me : ℕ)
+      → Fit (opened_below g dir path flag me) (opened_below g dir path flag me)
   opened_fit (Some g) dir path flag me = derived_fit flag g me
-  opened_fit None dir path flag me = choose (is_cwd dir && not (is_empty path)) (whole flag) unknown (whole_fit flag) (given_fit Unknown)
+  opened_fit None dir path flag me =
+      choose (is_cwd dir && not (is_empty path)) (whole flag) unknown (whole_fit flag) (given_fit Unknown)
 
-  at_fits : (call : AtFlagsCall) (dir : Dir) (path names : List ℕ) (answer : Answer) → Fits (at_touch call dir path names answer) (at_touch call dir path names answer)
-  at_fits Openat dir path names answer me p f = on_made_fits answer (opened_below (below dir path) dir path (open_flag names)) (opened_fit (below dir path) dir path (open_flag names)) me p f
+  at_fits : (call : AtFlagsCall) (dir : Dir) (path names : List ℕ) (answer : Answer)
+      → Fits (at_touch call dir path names answer) (at_touch call dir path names answer)
+  at_fits Openat dir path names answer me p f =
+      on_made_fits answer (opened_below (below dir path) dir path (open_flag names))
+      (opened_fit (below dir path) dir path (open_flag names)) me p f
   at_fits _ dir path names answer me p f = kept_fit p f
 
-  flags_fits : (call : FlagsCall) (names : List ℕ) (answer : Answer) → Fits (flags_touch call names answer) (flags_touch call names answer)
-  flags_fits Socket names answer me p f = on_made_fits answer (λ me. whole (socket_flag names)) (λ me. whole_fit (socket_flag names)) me p f
-  flags_fits Socketpair names answer me p f = on_both_fits answer (whole (socket_flag names)) (whole_fit (socket_flag names)) me p f
-  flags_fits Pipe2 names answer me p f = on_both_fits answer (whole (open_flag names)) (whole_fit (open_flag names)) me p f
+  flags_fits : (call : FlagsCall) (names : List ℕ) (answer : Answer)
+      → Fits (flags_touch call names answer) (flags_touch call names answer)
+  flags_fits Socket names answer me p f =
+      on_made_fits answer (λ me. whole (socket_flag names)) (λ me. whole_fit (socket_flag names)) me p f
+  flags_fits Socketpair names answer me p f =
+      on_both_fits answer (whole (socket_flag names)) (whole_fit (socket_flag names)) me p f
+  flags_fits Pipe2 names answer me p f =
+      on_both_fits answer (whole (open_flag names)) (whole_fit (open_flag names)) me p f
 
   fork_fits : (answer : Answer) → Fits (fork_touch answer) (fork_touch answer)
-  fork_fits (answers.Made c) me p f = unless (not (c == 0) && p == c) (taken same me f) (taken same me f) (forked_fit me f) p f
+  fork_fits (answers.Made c) me p f =
+      unless (not (c == 0) && p == c) (taken same me f) (taken same me f) (forked_fit me f) p f
   fork_fits (answers.Pair c d) me p f = kept_fit p f
   fork_fits (answers.Fault e) me p f = kept_fit p f
 
@@ -286,33 +334,50 @@ module _ (one two : ℕ → ℕ → Cell) (under : (p f : ℕ) → Under (one p 
   bare_fits CapEnter answer me p f = kept_fit p f
 
   -- a limit that succeeded, where nothing was found in profile 2
-  limit_fits : (g asked : ℕ) (answer : Answer) (m : Mode) (me : ℕ) → judged (limit_demand g asked answer) m (two me g ∷ []) ≡ [] → (p f : ℕ) → Under (touched (on_success g answer (taken (limit asked) me g) me p f) one p f) (touched (on_success g answer (taken (limit asked) me g) me p f) two p f)
+  limit_fits : (g asked : ℕ) (answer : Answer) (m : Mode) (me : ℕ)
+      → judged (limit_demand g asked answer) m (two me g ∷ []) ≡ []
+      → (p f : ℕ) → Under (touched (on_success g answer (taken (limit asked) me g) me p f) one p f)
+      (touched (on_success g answer (taken (limit asked) me g) me p f) two p f)
   limit_fits g asked (answers.Fault e) m me quiet p f = kept_fit p f
   limit_fits g asked (answers.Made n) m me quiet p f =
-      unless (p == me && f == g) (taken (limit asked) me g) (taken (limit asked) me g) (λ q h. limit_under asked Expanded (check_of g (without_full asked) (Some asked)) (one me g) (two me g) refl (ended_by (fault Expanded (check_of g (without_full asked) (Some asked)) (two me g)) quiet) (under me g)) p f
+      unless (p == me && f == g) (taken (limit asked) me g) (taken (limit asked) me g)
+      (λ q h. limit_under asked Expanded (check_of g (without_full asked) (Some asked)) (one me g) (two me g) refl
+      (ended_by (fault Expanded (check_of g (without_full asked) (Some asked)) (two me g)) quiet) (under me g)) p f
   limit_fits g asked (answers.Pair n k) m me quiet p f =
-      unless (p == me && f == g) (taken (limit asked) me g) (taken (limit asked) me g) (λ q h. limit_under asked Expanded (check_of g (without_full asked) (Some asked)) (one me g) (two me g) refl (ended_by (fault Expanded (check_of g (without_full asked) (Some asked)) (two me g)) quiet) (under me g)) p f
+      unless (p == me && f == g) (taken (limit asked) me g) (taken (limit asked) me g)
+      (λ q h. limit_under asked Expanded (check_of g (without_full asked) (Some asked)) (one me g) (two me g) refl
+      (ended_by (fault Expanded (check_of g (without_full asked) (Some asked)) (two me g)) quiet) (under me g)) p f
 
   -- of a call that isn't a closefrom that succeeded, where nothing was found in profile 2
-  call_fits : (call : Call) (answer : Answer) (m : Mode) (me : ℕ) → (is_closefrom call && succeeded answer) ≡ false → judged (call_demand call answer) m (map (λ (check : Check). two me check.fd) (listed (call_demand call answer).checks)) ≡ []
-      → (p f : ℕ) → Under (touched (call_touch One call answer me p f) one p f) (touched (call_touch Two call answer me p f) two p f)
+  call_fits : (call : Call) (answer : Answer) (m : Mode) (me : ℕ) → (is_closefrom call && succeeded answer) ≡ false
+      → judged (call_demand call answer) m
+      (map (λ (check : Check). two me check.fd) (listed (call_demand call answer).checks)) ≡ []
+      → (p f : ℕ) → Under (touched (call_touch One call answer me p f) one p f)
+      (touched (call_touch Two call answer me p f) two p f)
   call_fits (calls.OnFd call g) answer m me never quiet p f = fd_fits call g answer never me p f
-  call_fits (calls.Accept4 g names) answer m me never quiet p f = on_made_fits answer (λ me. unknown) (λ me. given_fit Unknown) me p f
-  call_fits (calls.Dup2 g h) answer m me never quiet p f = on_made_fits answer (copied_to copy_to_itself flags.Clear g h) (dup2_fit g h) me p f
+  call_fits (calls.Accept4 g names) answer m me never quiet p f =
+      on_made_fits answer (λ me. unknown) (λ me. given_fit Unknown) me p f
+  call_fits (calls.Dup2 g h) answer m me never quiet p f =
+      on_made_fits answer (copied_to copy_to_itself flags.Clear g h) (dup2_fit g h) me p f
   call_fits (calls.Fcntl g command) answer m me never quiet p f = fcntl_fits command g answer me p f
-  call_fits (calls.FcntlDup command g h) answer m me never quiet p f = on_made_fits answer (fcntl_copied_to command g h) (dup_command_fit command g h) me p f
-  call_fits (calls.FcntlSetFd g names) answer m me never quiet p f = on_success_fits g answer (λ me. taken (set_fd_op names) me g) (set_fd_fit names g) me p f
+  call_fits (calls.FcntlDup command g h) answer m me never quiet p f =
+      on_made_fits answer (fcntl_copied_to command g h) (dup_command_fit command g h) me p f
+  call_fits (calls.FcntlSetFd g names) answer m me never quiet p f =
+      on_success_fits g answer (λ me. taken (set_fd_op names) me g) (set_fd_fit names g) me p f
   call_fits (calls.RightsLimit g asked) answer m me never quiet p f = limit_fits g asked answer m me quiet p f
-  call_fits (calls.Open path names) answer m me never quiet p f = on_made_fits answer (λ me. whole (open_flag names)) (λ me. whole_fit (open_flag names)) me p f
+  call_fits (calls.Open path names) answer m me never quiet p f =
+      on_made_fits answer (λ me. whole (open_flag names)) (λ me. whole_fit (open_flag names)) me p f
   call_fits (calls.OnPath call path) answer m me never quiet p f = path_fits call answer me p f
   call_fits (calls.AtFlags call dir path names) answer m me never quiet p f = at_fits call dir path names answer me p f
   call_fits (calls.OnFlags call names) answer m me never quiet p f = flags_fits call names answer me p f
   call_fits (calls.Bare call) answer m me never quiet p f = bare_fits call answer me p f
   call_fits _ answer m me never quiet p f = kept_fit p f
 
-  pub item_fits : (item : Item) (m : Mode) (me : ℕ) → item_did is_closefrom item ≡ false → judged (item_demand item) m (map (λ (check : Check). two me check.fd) (listed (item_demand item).checks)) ≡ []
+  pub item_fits : (item : Item) (m : Mode) (me : ℕ) → item_did is_closefrom item ≡ false
+      → judged (item_demand item) m (map (λ (check : Check). two me check.fd) (listed (item_demand item).checks)) ≡ []
       → (p f : ℕ) → Under (touched (item_touch One item me p f) one p f) (touched (item_touch Two item me p f) two p f)
   item_fits (items.Call call answer) m me never quiet p f = call_fits call answer m me never quiet p f
-  item_fits (items.Start fds) m me never quiet p f = unless (p == me) (given (started fds f)) (given (started fds f)) (given_fit (started fds f)) p f
+  item_fits (items.Start fds) m me never quiet p f =
+      unless (p == me) (given (started fds f)) (given (started fds f)) (given_fit (started fds f)) p f
   item_fits items.Exit m me never quiet p f = unless (p == me) (given Unknown) (given Unknown) (given_fit Unknown) p f
   item_fits (items.Foreign g) m me never quiet p f = on_fd_fits g (given Unknown) (given_fit Unknown) me p f

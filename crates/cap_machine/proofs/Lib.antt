@@ -14,3 +14,5 @@ pub mod OneMore
 pub mod PartsOf
 pub mod FarSteps
 pub mod Owners
+pub mod Leaves
+pub mod StartedLists

@@ -1,5 +1,6 @@
 -- No call needs FULL: each need is a set of named rights.
-use Rattle.std.proofs.Common.{lit<, ltb, refl, ◌≡◌, ℕ, ◌^◌, ◌<◌, Bool, true, false, ◌&&◌, ◌||◌, if◌then◌else◌, List, [], ◌∷◌, Option, Some, None}
+use Rattle.std.proofs.Common.{lit<, ltb, refl, ◌≡◌, ℕ, ◌^◌, ◌<◌, Bool, true, false, ◌&&◌, ◌||◌, if◌then◌else◌, List, []}
+use Rattle.std.proofs.Common.{◌∷◌, Option, Some, None}
 use Rattle.std.specs.Int.Bits.{mask_lt}
 use Rattle.std.specs.Prelude.{codes, find}
 use Rattle.std.specs.Option.{option_map_or}
@@ -14,14 +15,24 @@ use Rattle.cap_trace.specs.declared.line.Call.{Call}
 use Rattle.cap_trace.specs.declared.line.Call.TheVariants as calls
 use Rattle.cap_trace.specs.declared.line.Answer.{Answer}
 use Rattle.cap_trace.specs.declared.calls.FdCall.{FdCall}
-use Rattle.cap_trace.specs.declared.calls.FdCall.TheVariants.{Read, Readv, Recvfrom, Recvmsg, Pread, Preadv, Write, Writev, Pwrite, Pwritev, Lseek, Fstat, Fstatfs, Fsync, Fdatasync, Ftruncate, Fchmod, Fchown, Fchflags, Fchdir, Flock, Fpathconf, Futimes, Futimens, Ioctl, Accept, Bind, Connect, Listen, Shutdown, Getpeername, Getsockname, Getsockopt, Setsockopt, Fexecve, Close, Closefrom, Dup, CapIoctlsLimit, CapFcntlsLimit}
+use Rattle.cap_trace.specs.declared.calls.FdCall.TheVariants.{Read, Readv, Recvfrom, Recvmsg, Pread, Preadv, Write}
+use Rattle.cap_trace.specs.declared.calls.FdCall.TheVariants.{Writev, Pwrite, Pwritev, Lseek, Fstat, Fstatfs, Fsync}
+use Rattle.cap_trace.specs.declared.calls.FdCall.TheVariants.{Fdatasync, Ftruncate, Fchmod, Fchown, Fchflags, Fchdir}
+use Rattle.cap_trace.specs.declared.calls.FdCall.TheVariants.{Flock, Fpathconf, Futimes, Futimens, Ioctl, Accept, Bind}
+use Rattle.cap_trace.specs.declared.calls.FdCall.TheVariants.{Connect, Listen, Shutdown, Getpeername, Getsockname}
+use Rattle.cap_trace.specs.declared.calls.FdCall.TheVariants.{Getsockopt, Setsockopt, Fexecve, Close, Closefrom, Dup}
+use Rattle.cap_trace.specs.declared.calls.FdCall.TheVariants.{CapIoctlsLimit, CapFcntlsLimit}
 use Rattle.cap_trace.specs.declared.calls.AtCall.{AtCall}
 use Rattle.cap_trace.specs.declared.calls.AtCall.TheVariants.{Mkdirat, Mkfifoat, Mknodat, Readlinkat, Futimesat}
 use Rattle.cap_trace.specs.declared.calls.AtFlagsCall.{AtFlagsCall}
-use Rattle.cap_trace.specs.declared.calls.AtFlagsCall.TheVariants.{Openat, Unlinkat, Fstatat, Fchmodat, Fchownat, Chflagsat, Utimensat}
+use Rattle.cap_trace.specs.declared.calls.AtFlagsCall.TheVariants.{Openat, Unlinkat, Fstatat, Fchmodat, Fchownat}
+use Rattle.cap_trace.specs.declared.calls.AtFlagsCall.TheVariants.{Chflagsat, Utimensat}
 use Rattle.cap_machine.specs.declared.rule.Check.{Check}
 use Rattle.cap_machine.specs.Flags.{has_flag, is_one_of}
-use Rattle.cap_machine.specs.Needs.{named, asked, fd_needs, send_needs, send_to_needs, accept_needs, fcntl_needs, descriptor_commands, status_commands, lock_commands, mmap_needs, at_needs, access_needs, opening_needs, openat_needs, at_flags_needs, symlink_needs, rename_from_needs, rename_to_needs, link_from_needs, link_to_needs}
+use Rattle.cap_machine.specs.Needs.{named, asked, fd_needs, send_needs, send_to_needs, accept_needs, fcntl_needs}
+use Rattle.cap_machine.specs.Needs.{descriptor_commands, status_commands, lock_commands, mmap_needs, at_needs}
+use Rattle.cap_machine.specs.Needs.{access_needs, opening_needs, openat_needs, at_flags_needs, symlink_needs}
+use Rattle.cap_machine.specs.Needs.{rename_from_needs, rename_to_needs, link_from_needs, link_to_needs}
 use Rattle.cap_machine.specs.Places.{Place, below}
 use Rattle.cap_machine.specs.Judge.{listed}
 use Rattle.cap_machine.specs.Rule.{fd_demand, fcntl_demand, call_demand, item_demand, place_check, place_checks, both}
@@ -53,12 +64,14 @@ both_true : (a b : Bool) → (a && b) ≡ true → (a ≡ true) × (b ≡ true)
 both_true true b h = (refl, h)
 both_true false b h = absurd (cc)
 
-row_named : (p : (List ℕ × ℕ) → Bool) (rows : List (List ℕ × ℕ)) → below_full rows ≡ true → IsNamed (option_map_or (λ row. row.1) (find p rows) none)
+row_named : (p : (List ℕ × ℕ) → Bool) (rows : List (List ℕ × ℕ)) → below_full rows ≡ true
+    → IsNamed (option_map_or (λ row. row.1) (find p rows) none)
 row_named p [] are = lit< tt
 row_named p (row ∷ rows) are =
     let parts = both_true (ltb row.1 (2 ^ 63)) (below_full rows) are in
     let more = row_named p rows parts.1 in
-    elim (p row) as (λ b. IsNamed (option_map_or (λ (r : List ℕ × ℕ). r.1) (if b then Some row else find p rows) none)) [
+    elim (p row) as (λ b. IsNamed
+    (option_map_or (λ (r : List ℕ × ℕ). r.1) (if b then Some row else find p rows) none)) [
       | true ↦ ltb-true row.1 (2 ^ 63) parts.0
       | false ↦ more
     ]
@@ -129,9 +142,11 @@ IsNamedOption (Some n) = IsNamed n
 
 fcntl_named : (command : List ℕ) → IsNamedOption (fcntl_needs command)
 unfolding fcntl_needs
-fcntl_named command = one (is_one_of descriptor_commands command) (is_one_of status_commands command) (is_one_of lock_commands command)
+fcntl_named command =
+    one (is_one_of descriptor_commands command) (is_one_of status_commands command) (is_one_of lock_commands command)
   where
-    one : (a b c : Bool) → IsNamedOption (if a then Some none else if b then Some (named (codes "CAP_FCNTL")) else if c then Some (named (codes "CAP_FLOCK")) else None)
+    one : (a b c : Bool) → IsNamedOption (if a then Some none else if b then Some (named (codes "CAP_FCNTL")) else if c
+        then Some (named (codes "CAP_FLOCK")) else None)
     one true b c = lit< tt
     one false true c = named_named _
     one false false true = named_named _
@@ -155,9 +170,15 @@ at_named Futimesat = named_named _
 access_named : (flags : List ℕ) → IsNamed (access_needs flags)
 unfolding access_needs
 access_named flags =
-    chosen (has_flag flags (codes "O_EXEC")) (named (codes "CAP_FEXECVE")) (if has_flag flags (codes "O_RDWR") then join (named (codes "CAP_READ")) (named (codes "CAP_WRITE")) else if has_flag flags (codes "O_WRONLY") then named (codes "CAP_WRITE") else named (codes "CAP_READ")) (named_named _)
-    (chosen (has_flag flags (codes "O_RDWR")) (join (named (codes "CAP_READ")) (named (codes "CAP_WRITE"))) (if has_flag flags (codes "O_WRONLY") then named (codes "CAP_WRITE") else named (codes "CAP_READ")) (joined _ _ (named_named _) (named_named _))
-    (chosen (has_flag flags (codes "O_WRONLY")) (named (codes "CAP_WRITE")) (named (codes "CAP_READ")) (named_named _) (named_named _)))
+    chosen (has_flag flags (codes "O_EXEC")) (named (codes "CAP_FEXECVE"))
+    (if has_flag flags (codes "O_RDWR") then join (named (codes "CAP_READ")) (named (codes "CAP_WRITE"))
+    else if has_flag flags (codes "O_WRONLY") then named (codes "CAP_WRITE") else named (codes "CAP_READ"))
+    (named_named _)
+    (chosen (has_flag flags (codes "O_RDWR")) (join (named (codes "CAP_READ")) (named (codes "CAP_WRITE")))
+    (if has_flag flags (codes "O_WRONLY") then named (codes "CAP_WRITE") else named (codes "CAP_READ"))
+    (joined _ _ (named_named _) (named_named _))
+    (chosen (has_flag flags (codes "O_WRONLY")) (named (codes "CAP_WRITE")) (named (codes "CAP_READ")) (named_named _)
+    (named_named _)))
 
 opening_named : (flags : List ℕ) → IsNamed (opening_needs flags)
 unfolding opening_needs
@@ -210,7 +231,10 @@ IsNamedCheck None = Unit {0}
 IsNamedCheck (Some check) = IsNamed check.needs
 
 place_named : (excuse : Option ℕ) (x : Place) → IsNamed x.needs → IsNamedCheck (place_check excuse x)
-place_named excuse x is = elim (below x.dir x.path) as (λ b. IsNamedCheck (elim b [ None ↦ None | Some f ↦ Some (record { fd = f; needs = x.needs; excuse = excuse }) ])) [ None ↦ tt | Some f ↦ is ]
+place_named excuse x is = elim (below x.dir x.path) as (λ b. IsNamedCheck (elim b [
+  | None ↦ None
+  | Some f ↦ Some (record { fd = f; needs = x.needs; excuse = excuse })
+])) [ None ↦ tt | Some f ↦ is ]
 
 both_named : (a b : Option Check) → IsNamedCheck a → IsNamedCheck b → AllNamed (listed (both a b))
 both_named None None first second = tt
@@ -221,8 +245,10 @@ both_named (Some a) (Some b) first second = (first, (second, tt))
 one_place : (excuse : Option ℕ) (x : Place) → IsNamed x.needs → AllNamed (listed (place_checks excuse (x ∷ [])))
 one_place excuse x is = both_named (place_check excuse x) None (place_named excuse x is) tt
 
-two_places : (excuse : Option ℕ) (x y : Place) → IsNamed x.needs → IsNamed y.needs → AllNamed (listed (place_checks excuse (x ∷ y ∷ [])))
-two_places excuse x y first second = both_named (place_check excuse x) (place_check excuse y) (place_named excuse x first) (place_named excuse y second)
+two_places : (excuse : Option ℕ) (x y : Place) → IsNamed x.needs → IsNamed y.needs
+    → AllNamed (listed (place_checks excuse (x ∷ y ∷ [])))
+two_places excuse x y first second =
+    both_named (place_check excuse x) (place_check excuse y) (place_named excuse x first) (place_named excuse y second)
 
 -- ---- each form of call
 
@@ -230,7 +256,8 @@ fd_checks : (call : FdCall) (f : ℕ) (answer : Answer) → AllNamed (listed (fd
 fd_checks Closefrom f answer = tt
 fd_checks call f answer = (fd_named call, tt)
 
-fcntl_checks : (needs : Option ℕ) (f : ℕ) (answer : Answer) → IsNamedOption needs → AllNamed (listed (fcntl_demand needs f answer).checks)
+fcntl_checks : (needs : Option ℕ) (f : ℕ) (answer : Answer) → IsNamedOption needs
+    → AllNamed (listed (fcntl_demand needs f answer).checks)
 fcntl_checks None f answer is = tt
 fcntl_checks (Some n) f answer is = (is, tt)
 
@@ -248,11 +275,18 @@ call_checks (calls.RightsLimit f asked) answer = (mask_lt asked 63, tt)
 call_checks (calls.Open path flags) answer = tt
 call_checks (calls.OnPath call path) answer = tt
 call_checks (calls.OnPaths call path other) answer = tt
-call_checks (calls.At call dir path) answer = one_place _ (record { dir = dir; path = path; needs = at_needs call }) (at_named call)
-call_checks (calls.AtFlags call dir path flags) answer = one_place _ (record { dir = dir; path = path; needs = at_flags_needs call flags }) (at_flags_named call flags)
-call_checks (calls.SymlinkAt target dir path) answer = one_place _ (record { dir = dir; path = path; needs = symlink_needs }) symlink_named
-call_checks (calls.RenameAt dir path to_dir to_path) answer = two_places _ (record { dir = dir; path = path; needs = rename_from_needs }) (record { dir = to_dir; path = to_path; needs = rename_to_needs }) rename_from_named rename_to_named
-call_checks (calls.LinkAt dir path to_dir to_path flags) answer = two_places _ (record { dir = dir; path = path; needs = link_from_needs }) (record { dir = to_dir; path = to_path; needs = link_to_needs }) link_from_named link_to_named
+call_checks (calls.At call dir path) answer =
+    one_place _ (record { dir = dir; path = path; needs = at_needs call }) (at_named call)
+call_checks (calls.AtFlags call dir path flags) answer =
+    one_place _ (record { dir = dir; path = path; needs = at_flags_needs call flags }) (at_flags_named call flags)
+call_checks (calls.SymlinkAt target dir path) answer =
+    one_place _ (record { dir = dir; path = path; needs = symlink_needs }) symlink_named
+call_checks (calls.RenameAt dir path to_dir to_path) answer =
+    two_places _ (record { dir = dir; path = path; needs = rename_from_needs })
+    (record { dir = to_dir; path = to_path; needs = rename_to_needs }) rename_from_named rename_to_named
+call_checks (calls.LinkAt dir path to_dir to_path flags) answer =
+    two_places _ (record { dir = dir; path = path; needs = link_from_needs })
+    (record { dir = to_dir; path = to_path; needs = link_to_needs }) link_from_named link_to_named
 call_checks (calls.OnFlags call flags) answer = tt
 call_checks (calls.Bare call) answer = tt
 call_checks (calls.Other name args) answer = tt

@@ -11,7 +11,8 @@ use Rattle.cap_trace.specs.declared.line.Dir.{Dir}
 use Rattle.cap_trace.specs.declared.line.Answer.{Answer}
 use Rattle.cap_trace.specs.declared.line.Answer.TheVariants as answers
 use Rattle.cap_trace.specs.declared.calls.FdCall.{FdCall}
-use Rattle.cap_trace.specs.declared.calls.FdCall.TheVariants.{Accept, Fexecve, Close, Closefrom, Dup, CapIoctlsLimit, CapFcntlsLimit}
+use Rattle.cap_trace.specs.declared.calls.FdCall.TheVariants.{Accept, Fexecve, Close, Closefrom, Dup, CapIoctlsLimit}
+use Rattle.cap_trace.specs.declared.calls.FdCall.TheVariants.{CapFcntlsLimit}
 use Rattle.cap_trace.specs.declared.calls.PathCall.{PathCall}
 use Rattle.cap_trace.specs.declared.calls.PathCall.TheVariants.{Execve}
 use Rattle.cap_trace.specs.declared.calls.AtFlagsCall.{AtFlagsCall}
@@ -19,12 +20,17 @@ use Rattle.cap_trace.specs.declared.calls.AtFlagsCall.TheVariants.{Openat}
 use Rattle.cap_trace.specs.declared.calls.FlagsCall.{FlagsCall}
 use Rattle.cap_trace.specs.declared.calls.FlagsCall.TheVariants.{Socket, Socketpair, Pipe2}
 use Rattle.cap_trace.specs.declared.calls.BareCall.{BareCall}
-use Rattle.cap_trace.specs.declared.calls.BareCall.TheVariants.{Pipe, Kqueue, ShmOpen, MqOpen, Fhopen, Fork, Vfork, Pdfork, CapEnter}
+use Rattle.cap_trace.specs.declared.calls.BareCall.TheVariants.{Pipe, Kqueue, ShmOpen, MqOpen, Fhopen, Fork, Vfork}
+use Rattle.cap_trace.specs.declared.calls.BareCall.TheVariants.{Pdfork, CapEnter}
 use Rattle.cap_trace.specs.Entry.{args_of}
 use Rattle.cap_machine.specs.declared.cell.Profile.{Profile}
 use Rattle.cap_machine.specs.declared.cell.Profile.TheVariants.{One, Two}
-use Rattle.cap_machine.specs.Touch.{Touch, kept, stays, Turn, succeeded, on_fd, on_success, on_made, on_both, exec_touch, closefrom_touch, left_by_exec, fd_touch, fcntl_touch, path_touch, at_touch, flags_touch, fork_touch, pdfork_touch, bare_touch, call_touch, item_touch, call_turn, item_turn}
-use Rattle.cap_machine.specs.Named.{arg_names, answer_names, item_answer_names, is_fork, answer_makes, item_makes, is_whole_call, is_whole_item, OwnProcesses, OwnModes, NamedDescriptors}
+use Rattle.cap_machine.specs.Touch.{Touch, kept, stays, Turn, succeeded, on_fd, on_success, on_made, on_both}
+use Rattle.cap_machine.specs.Touch.{exec_touch, closefrom_touch, left_by_exec, fd_touch, fcntl_touch, path_touch}
+use Rattle.cap_machine.specs.Touch.{at_touch, flags_touch, fork_touch, pdfork_touch, bare_touch, call_touch, item_touch}
+use Rattle.cap_machine.specs.Touch.{call_turn, item_turn}
+use Rattle.cap_machine.specs.Named.{arg_names, answer_names, item_answer_names, is_fork, answer_makes, item_makes}
+use Rattle.cap_machine.specs.Named.{is_whole_call, is_whole_item, OwnProcesses, OwnModes, NamedDescriptors}
 use Rattle.cap_machine.proofs.Profiles.{neither}
 
 -- ---- another process
@@ -72,7 +78,8 @@ module _ (me p f : ℕ) (other : (p == me) ≡ false) where
   closefrom_other Two g (answers.Made d) = not_mine (p == me) _ _ other
   closefrom_other Two g (answers.Pair d e) = not_mine (p == me) _ _ other
 
-  fd_call_other : (profile : Profile) (call : FdCall) (g : ℕ) (answer : Answer) → fd_touch profile call g answer me p f ≡ kept
+  fd_call_other : (profile : Profile) (call : FdCall) (g : ℕ) (answer : Answer)
+      → fd_touch profile call g answer me p f ≡ kept
   fd_call_other profile Close g answer = fd_other g _
   fd_call_other profile Closefrom g answer = closefrom_other profile g answer
   fd_call_other profile Dup g answer = made_other answer _
@@ -87,13 +94,15 @@ module _ (me p f : ℕ) (other : (p == me) ≡ false) where
   either_kept false t u first second = second
 
   fcntl_other : (command : List ℕ) (g : ℕ) (answer : Answer) → fcntl_touch command g answer me p f ≡ kept
-  fcntl_other command g answer = either_kept (bytes_eq command (codes "F_DUPFD")) _ _ (made_other answer _) (same_kept (bytes_eq command (codes "F_DUPFD_CLOEXEC")) _ (made_other answer _))
+  fcntl_other command g answer = either_kept (bytes_eq command (codes "F_DUPFD")) _ _ (made_other answer _)
+      (same_kept (bytes_eq command (codes "F_DUPFD_CLOEXEC")) _ (made_other answer _))
 
   path_other : (profile : Profile) (call : PathCall) (answer : Answer) → path_touch profile call answer me p f ≡ kept
   path_other profile Execve answer = exec_other profile answer
   path_other profile _ answer = refl
 
-  at_other : (call : AtFlagsCall) (dir : Dir) (path names : List ℕ) (answer : Answer) → at_touch call dir path names answer me p f ≡ kept
+  at_other : (call : AtFlagsCall) (dir : Dir) (path names : List ℕ) (answer : Answer)
+      → at_touch call dir path names answer me p f ≡ kept
   at_other Openat dir path names answer = made_other answer _
   at_other _ dir path names answer = refl
 
@@ -107,7 +116,8 @@ module _ (me p f : ℕ) (other : (p == me) ≡ false) where
   fork_other (answers.Pair c d) no_child = refl
   fork_other (answers.Fault e) no_child = refl
 
-  pdfork_child : (a b c d : Bool) (t u : Touch) → d ≡ false → (not a && b) ≡ false → (if a then kept else if (d || b) && c then t else if b then u else kept) ≡ kept
+  pdfork_child : (a b c d : Bool) (t u : Touch) → d ≡ false → (not a && b) ≡ false
+      → (if a then kept else if (d || b) && c then t else if b then u else kept) ≡ kept
   pdfork_child true b c d t u mine no_child = refl
   pdfork_child false true c d t u mine no_child = absurd (cc)
   pdfork_child false false c true t u mine no_child = absurd (cc)
@@ -118,7 +128,8 @@ module _ (me p f : ℕ) (other : (p == me) ≡ false) where
   pdfork_other (answers.Made c) no_child = refl
   pdfork_other (answers.Fault e) no_child = refl
 
-  bare_other : (call : BareCall) (answer : Answer) → (is_fork (calls.Bare call) && answer_makes p answer) ≡ false → bare_touch call answer me p f ≡ kept
+  bare_other : (call : BareCall) (answer : Answer) → (is_fork (calls.Bare call) && answer_makes p answer) ≡ false
+      → bare_touch call answer me p f ≡ kept
   bare_other Pipe answer no_child = both_other answer _
   bare_other Kqueue answer no_child = made_other answer _
   bare_other ShmOpen answer no_child = made_other answer _
@@ -129,7 +140,8 @@ module _ (me p f : ℕ) (other : (p == me) ≡ false) where
   bare_other Pdfork answer no_child = pdfork_other answer no_child
   bare_other CapEnter answer no_child = refl
 
-  call_other : (profile : Profile) (call : Call) (answer : Answer) → (is_fork call && answer_makes p answer) ≡ false → call_touch profile call answer me p f ≡ kept
+  call_other : (profile : Profile) (call : Call) (answer : Answer) → (is_fork call && answer_makes p answer) ≡ false
+      → call_touch profile call answer me p f ≡ kept
   call_other profile (calls.OnFd call g) answer no_child = fd_call_other profile call g answer
   call_other profile (calls.Accept4 g names) answer no_child = made_other answer _
   call_other profile (calls.Dup2 g h) answer no_child = made_other answer _
@@ -166,7 +178,8 @@ stays_unless_both true b t never = stays_if b t never
 stays_unless_both false b t never = refl
 
 module _ (me p : ℕ) (other : (p == me) ≡ false) where
-  bare_stays : (call : BareCall) (answer : Answer) → (is_fork (calls.Bare call) && answer_makes p answer) ≡ false → call_turn (calls.Bare call) answer me p ≡ stays
+  bare_stays : (call : BareCall) (answer : Answer) → (is_fork (calls.Bare call) && answer_makes p answer) ≡ false
+      → call_turn (calls.Bare call) answer me p ≡ stays
   bare_stays CapEnter answer no_child = stays_unless_both (succeeded answer) (p == me) _ other
   bare_stays Fork (answers.Made c) no_child = stays_if (not (c == 0) && p == c) _ no_child
   bare_stays Fork (answers.Pair c d) no_child = refl
@@ -179,7 +192,8 @@ module _ (me p : ℕ) (other : (p == me) ≡ false) where
   bare_stays Pdfork (answers.Fault e) no_child = refl
   bare_stays _ answer no_child = refl
 
-  call_stays : (call : Call) (answer : Answer) → (is_fork call && answer_makes p answer) ≡ false → call_turn call answer me p ≡ stays
+  call_stays : (call : Call) (answer : Answer) → (is_fork call && answer_makes p answer) ≡ false
+      → call_turn call answer me p ≡ stays
   call_stays (calls.Bare call) answer no_child = bare_stays call answer no_child
   call_stays _ answer no_child = refl
 
@@ -214,7 +228,8 @@ module _ (me p f : ℕ) where
   success_unnamed g answer t unnamed = same_kept (succeeded answer) (on_fd g t me p f) (fd_unnamed g t unnamed)
 
   -- the call has this descriptor as its first argument
-  fd_call_unnamed : (profile : Profile) (call : FdCall) (g : ℕ) (answer : Answer) → is_whole_call (calls.OnFd call g) ≡ false → (f == g) ≡ false → answer_names f answer ≡ false → fd_touch profile call g answer me p f ≡ kept
+  fd_call_unnamed : (profile : Profile) (call : FdCall) (g : ℕ) (answer : Answer) → is_whole_call (calls.OnFd call g)
+      ≡ false → (f == g) ≡ false → answer_names f answer ≡ false → fd_touch profile call g answer me p f ≡ kept
   fd_call_unnamed profile Close g answer part first made = fd_unnamed g _ first
   fd_call_unnamed profile Closefrom g answer part first made = absurd (cc)
   fd_call_unnamed profile Dup g answer part first made = made_unnamed answer _ made
@@ -224,27 +239,33 @@ module _ (me p f : ℕ) where
   fd_call_unnamed profile CapFcntlsLimit g answer part first made = success_unnamed g answer _ first
   fd_call_unnamed profile _ g answer part first made = refl
 
-  fcntl_unnamed : (command : List ℕ) (g : ℕ) (answer : Answer) → answer_names f answer ≡ false → fcntl_touch command g answer me p f ≡ kept
-  fcntl_unnamed command g answer made = pick (bytes_eq command (codes "F_DUPFD")) _ _ (made_unnamed answer _ made) (same_kept (bytes_eq command (codes "F_DUPFD_CLOEXEC")) _ (made_unnamed answer _ made))
+  fcntl_unnamed : (command : List ℕ) (g : ℕ) (answer : Answer) → answer_names f answer ≡ false
+      → fcntl_touch command g answer me p f ≡ kept
+  fcntl_unnamed command g answer made = pick (bytes_eq command (codes "F_DUPFD")) _ _ (made_unnamed answer _ made)
+      (same_kept (bytes_eq command (codes "F_DUPFD_CLOEXEC")) _ (made_unnamed answer _ made))
     where
       pick : (b : Bool) (t u : Touch) → t ≡ kept → u ≡ kept → (if b then t else u) ≡ kept
       pick true t u first second = first
       pick false t u first second = second
 
-  path_unnamed : (profile : Profile) (call : PathCall) (path : List ℕ) (answer : Answer) → is_whole_call (calls.OnPath call path) ≡ false → path_touch profile call answer me p f ≡ kept
+  path_unnamed : (profile : Profile) (call : PathCall) (path : List ℕ) (answer : Answer)
+      → is_whole_call (calls.OnPath call path) ≡ false → path_touch profile call answer me p f ≡ kept
   path_unnamed profile Execve path answer part = absurd (cc)
   path_unnamed profile _ path answer part = refl
 
-  at_unnamed : (call : AtFlagsCall) (dir : Dir) (path names : List ℕ) (answer : Answer) → answer_names f answer ≡ false → at_touch call dir path names answer me p f ≡ kept
+  at_unnamed : (call : AtFlagsCall) (dir : Dir) (path names : List ℕ) (answer : Answer) → answer_names f answer ≡ false
+      → at_touch call dir path names answer me p f ≡ kept
   at_unnamed Openat dir path names answer made = made_unnamed answer _ made
   at_unnamed _ dir path names answer made = refl
 
-  flags_unnamed : (call : FlagsCall) (names : List ℕ) (answer : Answer) → answer_names f answer ≡ false → flags_touch call names answer me p f ≡ kept
+  flags_unnamed : (call : FlagsCall) (names : List ℕ) (answer : Answer) → answer_names f answer ≡ false
+      → flags_touch call names answer me p f ≡ kept
   flags_unnamed Socket names answer made = made_unnamed answer _ made
   flags_unnamed Socketpair names answer made = both_unnamed answer _ made
   flags_unnamed Pipe2 names answer made = both_unnamed answer _ made
 
-  bare_unnamed : (call : BareCall) (answer : Answer) → is_whole_call (calls.Bare call) ≡ false → answer_names f answer ≡ false → bare_touch call answer me p f ≡ kept
+  bare_unnamed : (call : BareCall) (answer : Answer) → is_whole_call (calls.Bare call) ≡ false
+      → answer_names f answer ≡ false → bare_touch call answer me p f ≡ kept
   bare_unnamed Pipe answer part made = both_unnamed answer _ made
   bare_unnamed Kqueue answer part made = made_unnamed answer _ made
   bare_unnamed ShmOpen answer part made = made_unnamed answer _ made
@@ -255,22 +276,29 @@ module _ (me p f : ℕ) where
   bare_unnamed Pdfork answer part made = absurd (cc)
   bare_unnamed CapEnter answer part made = refl
 
-  call_unnamed : (profile : Profile) (call : Call) (answer : Answer) → is_whole_call call ≡ false → list_any (arg_names f) (args_of (items.Call call answer)) ≡ false → answer_names f answer ≡ false → call_touch profile call answer me p f ≡ kept
-  call_unnamed profile (calls.OnFd call g) answer part args made = fd_call_unnamed profile call g answer part (neither (f == g) false args).0 made
+  call_unnamed : (profile : Profile) (call : Call) (answer : Answer) → is_whole_call call ≡ false
+      → list_any (arg_names f) (args_of (items.Call call answer)) ≡ false
+      → answer_names f answer ≡ false → call_touch profile call answer me p f ≡ kept
+  call_unnamed profile (calls.OnFd call g) answer part args made =
+      fd_call_unnamed profile call g answer part (neither (f == g) false args).0 made
   call_unnamed profile (calls.Accept4 g names) answer part args made = made_unnamed answer _ made
   call_unnamed profile (calls.Dup2 g h) answer part args made = made_unnamed answer _ made
   call_unnamed profile (calls.Fcntl g command) answer part args made = fcntl_unnamed command g answer made
   call_unnamed profile (calls.FcntlDup command g h) answer part args made = made_unnamed answer _ made
-  call_unnamed profile (calls.FcntlSetFd g names) answer part args made = success_unnamed g answer _ (neither (f == g) _ args).0
-  call_unnamed profile (calls.RightsLimit g asked) answer part args made = success_unnamed g answer _ (neither (f == g) _ args).0
+  call_unnamed profile (calls.FcntlSetFd g names) answer part args made =
+      success_unnamed g answer _ (neither (f == g) _ args).0
+  call_unnamed profile (calls.RightsLimit g asked) answer part args made =
+      success_unnamed g answer _ (neither (f == g) _ args).0
   call_unnamed profile (calls.Open path names) answer part args made = made_unnamed answer _ made
   call_unnamed profile (calls.OnPath call path) answer part args made = path_unnamed profile call path answer part
-  call_unnamed profile (calls.AtFlags call dir path names) answer part args made = at_unnamed call dir path names answer made
+  call_unnamed profile (calls.AtFlags call dir path names) answer part args made =
+      at_unnamed call dir path names answer made
   call_unnamed profile (calls.OnFlags call names) answer part args made = flags_unnamed call names answer made
   call_unnamed profile (calls.Bare call) answer part args made = bare_unnamed call answer part made
   call_unnamed profile _ answer part args made = refl
 
-  item_unnamed : (profile : Profile) (item : Item) → is_whole_item item ≡ false → list_any (arg_names f) (args_of item) ≡ false → item_answer_names f item ≡ false → item_touch profile item me p f ≡ kept
+  item_unnamed : (profile : Profile) (item : Item) → is_whole_item item ≡ false → list_any (arg_names f) (args_of item)
+      ≡ false → item_answer_names f item ≡ false → item_touch profile item me p f ≡ kept
   item_unnamed profile (items.Call call answer) part args made = call_unnamed profile call answer part args made
   item_unnamed profile (items.Start fds) part args made = absurd (cc)
   item_unnamed profile items.Exit part args made = absurd (cc)
@@ -278,5 +306,6 @@ module _ (me p f : ℕ) where
 
 pub named_descriptors : NamedDescriptors
 named_descriptors step p f part unnamed =
-    let parts = neither (list_any (arg_names f) (args_of step.line.item)) (item_answer_names f step.line.item) unnamed in
+    let parts =
+    neither (list_any (arg_names f) (args_of step.line.item)) (item_answer_names f step.line.item) unnamed in
     item_unnamed step.line.pid p f step.profile step.line.item part parts.0 parts.1

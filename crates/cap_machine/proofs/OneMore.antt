@@ -1,5 +1,6 @@
 -- One more line of a trace that is checked going forward.
-use Rattle.std.proofs.Common.{◌≡◌, ℕ, ◌+◌, List, [], ◌∷◌, ◌++◌, length, map, refl, sym, ap, ◌∙◌, subst, arith, length-append}
+use Rattle.std.proofs.Common.{◌≡◌, ℕ, ◌+◌, List, [], ◌∷◌, ◌++◌, length, map, refl, sym, ap, ◌∙◌, subst, arith}
+use Rattle.std.proofs.Common.{length-append}
 use Rattle.std.specs.Prelude.{flat_map}
 use Rattle.std.proofs.lemmas.List.{length-map, map-append}
 use Rattle.std.proofs.lemmas.List.Concat.{flat_map-append}
@@ -31,26 +32,33 @@ kept_state table s e =
     record { cells = λ p f. ap (λ (r : State). r.cell p f) e; modes = λ p. ap (λ (r : State). r.mode p) e }
 
 -- an effect that does to each cell and mode what the step does
-pub same_step : (effect : Effect) (l : Step) (me : ℕ) (s : State) → ((p f : ℕ) → effect_touch effect me p f ≡ touch l p f) → ((p : ℕ) → effect_turn effect me p ≡ turn l p) → effect_after effect me s ≡ step_after l s
+pub same_step : (effect : Effect) (l : Step) (me : ℕ) (s : State)
+    → ((p f : ℕ) → effect_touch effect me p f ≡ touch l p f)
+    → ((p : ℕ) → effect_turn effect me p ≡ turn l p) → effect_after effect me s ≡ step_after l s
 same_step effect l me s cells modes =
     same_state (effect_after effect me s) (step_after l s)
     (λ p f. ap (λ (r : Touch). touched r s.cell p f) (cells p f))
     (λ p. ap (λ (r : Turn). turned r s.mode p) (modes p))
 
 -- one more line in a profile is one more step
-pub steps-more : (profile : Profile) (trace : List Entry) (line : Entry) → steps profile (trace ++ line ∷ []) ≡ steps profile trace ++ step profile line ∷ []
+pub steps-more : (profile : Profile) (trace : List Entry) (line : Entry)
+    → steps profile (trace ++ line ∷ []) ≡ steps profile trace ++ step profile line ∷ []
 steps-more profile trace line = map-append (step profile) trace (line ∷ [])
 
 -- the state, the number of findings and the text after one more step
-pub kept_more : (a b : Table) (s : State) (t : List Step) (l : Step) → Keeps b (step_after l (state_of a)) → Keeps a (ended s t) → Keeps b (ended s (t ++ l ∷ []))
+pub kept_more : (a b : Table) (s : State) (t : List Step) (l : Step) → Keeps b (step_after l (state_of a))
+    → Keeps a (ended s t) → Keeps b (ended s (t ++ l ∷ []))
 kept_more a b s t l after before =
     kept_state b (ended s (t ++ l ∷ []))
-    (state_kept b (step_after l (state_of a)) after ∙ ap (step_after l) (state_kept a (ended s t) before) ∙ sym (ends_more s t l))
+    (state_kept b (step_after l (state_of a)) after ∙ ap (step_after l) (state_kept a (ended s t) before)
+    ∙ sym (ends_more s t l))
 
-pub said_more : (a : Table) (s : State) (t : List Step) (l : Step) → Keeps a (ended s t) → said l (state_of a) ≡ said l (ended s t)
+pub said_more : (a : Table) (s : State) (t : List Step) (l : Step) → Keeps a (ended s t)
+    → said l (state_of a) ≡ said l (ended s t)
 said_more a s t l before = ap (said l) (state_kept a (ended s t) before)
 
-pub count_more : (s : State) (t : List Step) (l : Step) (old more : ℕ) (fs : List Finding) → old ≡ length (check s t) → more ≡ length fs → fs ≡ said l (ended s t) → old + more ≡ length (check s (t ++ l ∷ []))
+pub count_more : (s : State) (t : List Step) (l : Step) (old more : ℕ) (fs : List Finding) → old ≡ length (check s t)
+    → more ≡ length fs → fs ≡ said l (ended s t) → old + more ≡ length (check s (t ++ l ∷ []))
 count_more s t l old more fs so_far added says =
     let next : List Found = map (found_at (length t + 1)) (said l (ended s t)) in
     let all : length (check s (t ++ l ∷ [])) ≡ length (check s t ++ next) = ap length (checks_more s t l) in
@@ -58,22 +66,28 @@ count_more s t l old more fs so_far added says =
     let same : length fs ≡ length (said l (ended s t)) = ap length says in
     omega (arith, length-append (check s t) next)
 
-pub text_more : (s : State) (t : List Step) (l : Step) (old text : List ℕ) (at : ℕ) (fs : List Finding) → old ≡ flat_map (report_line t) (check s t) → at ≡ length t + 1 → fs ≡ said l (ended s t) → text ≡ old ++ flat_map (λ f. finding_line l.line (found_at at f)) fs → text ≡ flat_map (report_line (t ++ l ∷ [])) (check s (t ++ l ∷ []))
+pub text_more : (s : State) (t : List Step) (l : Step) (old text : List ℕ) (at : ℕ) (fs : List Finding)
+    → old ≡ flat_map (report_line t) (check s t)
+    → at ≡ length t + 1 → fs ≡ said l (ended s t) → text ≡ old ++ flat_map (λ f. finding_line l.line (found_at at f)) fs
+    → text ≡ flat_map (report_line (t ++ l ∷ [])) (check s (t ++ l ∷ []))
 text_more s t l old text at fs so_far place says wrote =
     let here : ℕ → List Finding → List ℕ = λ n gs. flat_map (λ f. finding_line l.line (found_at n f)) gs in
     let next : List Found = map (found_at (length t + 1)) (said l (ended s t)) in
     let more : List Step = t ++ l ∷ [] in
     wrote
     ∙ ap (λ (r : List ℕ). r ++ here at fs) (so_far ∙ sym (lines-check s t (l ∷ [])))
-    ∙ ap (λ (r : List ℕ). flat_map (report_line more) (check s t) ++ r) (ap (λ n. here n fs) place ∙ ap (here (length t + 1)) says ∙ sym (lines-next t l (said l (ended s t))))
+    ∙ ap (λ (r : List ℕ). flat_map (report_line more) (check s t) ++ r)
+    (ap (λ n. here n fs) place ∙ ap (here (length t + 1)) says ∙ sym (lines-next t l (said l (ended s t))))
     ∙ sym (flat_map-append (report_line more) (check s t) next)
     ∙ ap (flat_map (report_line more)) (sym (checks_more s t l))
 
 -- what a checker was given, after one more line
-pub checked_more : (a b : Checker) (line : Entry) (profile : Profile) (s : State) (trace : List Entry) (fs : List Finding) →
+pub checked_more : (a b : Checker) (line : Entry) (profile : Profile) (s : State) (trace : List Entry)
+    (fs : List Finding) →
     b.profile ≡ a.profile → b.lines ≡ a.lines + 1 → b.findings ≡ a.findings + length fs →
     b.text.items ≡ a.text.items ++ flat_map (λ f. finding_line line (found_at (a.lines + 1) f)) fs →
-    fs ≡ said (step a.profile line) (state_of a.table) → Keeps b.table (step_after (step a.profile line) (state_of a.table)) →
+    fs ≡ said (step a.profile line) (state_of a.table)
+    → Keeps b.table (step_after (step a.profile line) (state_of a.table)) →
     HasChecked a profile s trace → HasChecked b profile s (trace ++ line ∷ [])
 checked_more a b line profile s trace fs same lines found text says moved before =
     let t : List Step = steps profile trace in
@@ -81,12 +95,16 @@ checked_more a b line profile s trace fs same lines found text says moved before
     let mine : step a.profile line ≡ l = ap (λ p. step p line) before.in_profile in
     let more : steps profile (trace ++ line ∷ []) ≡ t ++ l ∷ [] = steps-more profile trace line in
     let at : a.lines + 1 ≡ length t + 1 = ap (λ n. n + 1) (before.lines ∙ sym (length-map trace (step profile))) in
-    let said_now : fs ≡ said l (ended s t) = says ∙ ap (λ r. said r (state_of a.table)) mine ∙ said_more a.table s t l before.state in
-    let kept_now : Keeps b.table (step_after l (state_of a.table)) = subst (λ r. Keeps b.table (step_after r (state_of a.table))) mine moved in
+    let said_now : fs ≡ said l (ended s t) = says ∙ ap (λ r. said r (state_of a.table)) mine
+    ∙ said_more a.table s t l before.state in
+    let kept_now : Keeps b.table (step_after l (state_of a.table)) =
+    subst (λ r. Keeps b.table (step_after r (state_of a.table))) mine moved in
     record {
       in_profile = same ∙ before.in_profile;
       state = subst (λ r. Keeps b.table (ended s r)) (sym more) (kept_more a.table b.table s t l kept_now before.state);
       lines = lines ∙ ap (λ n. n + 1) before.lines ∙ sym (length-append trace (line ∷ []));
-      findings = found ∙ count_more s t l a.findings (length fs) fs before.findings refl said_now ∙ ap (λ r. length (check s r)) (sym more);
-      text = text_more s t l a.text.items b.text.items (a.lines + 1) fs before.text at said_now text ∙ ap (λ r. flat_map (report_line r) (check s r)) (sym more);
+      findings = found ∙ count_more s t l a.findings (length fs) fs before.findings refl said_now
+          ∙ ap (λ r. length (check s r)) (sym more);
+      text = text_more s t l a.text.items b.text.items (a.lines + 1) fs before.text at said_now text
+          ∙ ap (λ r. flat_map (report_line r) (check s r)) (sym more);
     }

@@ -1,5 +1,7 @@
 -- Look-ups in parts of the same width.
-use Rattle.std.proofs.Common.{◌≡◌, ℕ, suc, ◌+◌, ◌*◌, ◌/◌, ◌%◌, ◌<◌, ◌≤◌, ◌==◌, nat_le, nat_lt, ◌&&◌, if◌then◌else◌, Bool, true, false, List, length, get_or, set, Some, None, refl, ap, sym, ◌∙◌, arith, ◌⊎◌, cond}
+use Rattle.std.proofs.Common.{◌≡◌, ℕ, suc, ◌+◌, ◌*◌, ◌/◌, ◌%◌, ◌<◌, ◌≤◌, ◌==◌, nat_le, nat_lt, ◌&&◌, if◌then◌else◌}
+use Rattle.std.proofs.Common.{Bool, true, false, List, length, get_or, set, Some, None, refl, ap, sym, ◌∙◌, arith, ◌⊎◌}
+use Rattle.std.proofs.Common.{cond}
 use Rattle.std.specs.Prelude.{slice_get, slice_set, slice_index_or}
 use Rattle.std.specs.Option.{option_map_or}
 use Rattle.std.proofs.lemmas.Option.{slice_get-get_or}
@@ -48,24 +50,33 @@ earlier_part f g w pos lt =
 pub other_part_from : (f g w : ℕ) → 0 < w → (f / w ≡ g / w → ⊥) → nat_le g f ≡ nat_le (g / w + 1) (f / w)
 other_part_from f g w pos ne =
     ⊎_elim (λ e. absurd (ne e))
-    (λ o. ⊎_elim (λ lt. let k : f < g = earlier_part f g w pos lt in grind (arith, nat_tests, k, lt)) (λ gt. let k : g < f = earlier_part g f w pos gt in grind (arith, nat_tests, k, gt)) o)
+    (λ o. ⊎_elim (λ lt. let k : f < g = earlier_part f g w pos lt in grind (arith, nat_tests, k, lt))
+    (λ gt. let k : g < f = earlier_part g f w pos gt in grind (arith, nat_tests, k, gt)) o)
     (cases_order (f / w) (g / w))
 
 -- what is asked of an element
-asked : {X : Type 0} (ask : X → Cell) (xs : List X) (i : ℕ) (d : X) → i < length xs → option_map_or ask (slice_get xs i) Unknown ≡ ask (get_or xs i d)
+asked : {X : Type 0} (ask : X → Cell) (xs : List X) (i : ℕ) (d : X) → i < length xs
+    → option_map_or ask (slice_get xs i) Unknown ≡ ask (get_or xs i d)
 asked ask xs i d lt = ap (λ o. option_map_or ask o Unknown) (slice_get-get_or xs i d lt)
 
-seen : {X : Type 0} (ask : X → ℕ → Cell) (w : ℕ) (marks : List Pending) (parts : List X) (f : ℕ) (d : X) → f / w < length parts → look ask w marks parts f ≡ settled (get_or marks (f / w) Nothing) (ask (get_or parts (f / w) d) (f % w))
-seen ask w marks parts f d lt = ap (settled (get_or marks (f / w) Nothing)) (asked (λ part. ask part (f % w)) parts (f / w) d lt)
+seen : {X : Type 0} (ask : X → ℕ → Cell) (w : ℕ) (marks : List Pending) (parts : List X) (f : ℕ) (d : X)
+    → f / w < length parts
+    → look ask w marks parts f ≡ settled (get_or marks (f / w) Nothing) (ask (get_or parts (f / w) d) (f % w))
+seen ask w marks parts f d lt =
+    ap (settled (get_or marks (f / w) Nothing)) (asked (λ part. ask part (f % w)) parts (f / w) d lt)
 
 -- in the part of another descriptor
-seen_at : {X : Type 0} (ask : X → ℕ → Cell) (w : ℕ) (marks : List Pending) (parts : List X) (f i : ℕ) (d : X) → f / w < length parts → f / w ≡ i → look ask w marks parts f ≡ settled (get_or marks i Nothing) (ask (get_or parts i d) (f % w))
+seen_at : {X : Type 0} (ask : X → ℕ → Cell) (w : ℕ) (marks : List Pending) (parts : List X) (f i : ℕ) (d : X)
+    → f / w < length parts
+    → f / w ≡ i → look ask w marks parts f ≡ settled (get_or marks i Nothing) (ask (get_or parts i d) (f % w))
 seen_at ask w marks parts f i d lt e =
     seen ask w marks parts f d lt
     ∙ ap (λ k. settled (get_or marks k Nothing) (ask (get_or parts k d) (f % w))) e
 
 -- where one part is another now
-seen_new : {X : Type 0} (ask : X → ℕ → Cell) (w : ℕ) (marks : List Pending) (parts : List X) (f i : ℕ) (new : X) → f / w < length parts → f / w ≡ i → look ask w marks (set parts i new) f ≡ settled (get_or marks (f / w) Nothing) (ask new (f % w))
+seen_new : {X : Type 0} (ask : X → ℕ → Cell) (w : ℕ) (marks : List Pending) (parts : List X) (f i : ℕ) (new : X)
+    → f / w < length parts
+    → f / w ≡ i → look ask w marks (set parts i new) f ≡ settled (get_or marks (f / w) Nothing) (ask new (f % w))
 seen_new ask w marks parts f i new lt e =
     let within : f / w < length (set parts i new) = omega (arith, length-set parts i new) in
     let at : i < length parts = omega arith in
@@ -73,7 +84,8 @@ seen_new ask w marks parts f i new lt e =
     ∙ ap (λ x. settled (get_or marks (f / w) Nothing) (ask x (f % w))) (get_or-set_at parts i (f / w) new new e at)
 
 -- and in the other parts
-seen_other : {X : Type 0} (ask : X → ℕ → Cell) (w : ℕ) (marks : List Pending) (parts : List X) (f i : ℕ) (new : X) → f / w < length parts → (f / w ≡ i → ⊥) → look ask w marks (set parts i new) f ≡ look ask w marks parts f
+seen_other : {X : Type 0} (ask : X → ℕ → Cell) (w : ℕ) (marks : List Pending) (parts : List X) (f i : ℕ) (new : X)
+    → f / w < length parts → (f / w ≡ i → ⊥) → look ask w marks (set parts i new) f ≡ look ask w marks parts f
 seen_other ask w marks parts f i new lt ne =
     let within : f / w < length (set parts i new) = omega (arith, length-set parts i new) in
     seen ask w marks (set parts i new) f new within
@@ -81,7 +93,12 @@ seen_other ask w marks parts f i new lt ne =
     ∙ sym (seen ask w marks parts f new lt)
 
 -- one part is written, and nothing is pending there
-pub part_written : {X : Type 0} (ask : X → ℕ → Cell) (w : ℕ) (marks : List Pending) (parts : List X) (fd : ℕ) (cell : Cell) (old new : X) (f : ℕ) → length marks ≡ 8 → length parts ≡ 8 → fd / w < 8 → f / w < 8 → ask new (f % w) ≡ (if f % w == fd % w then cell else settled (slice_index_or marks (fd / w) Nothing) (ask (slice_index_or parts (fd / w) old) (f % w))) → look ask w (slice_set marks (fd / w) Nothing) (slice_set parts (fd / w) new) f ≡ (if f == fd then cell else look ask w marks parts f)
+pub part_written : {X : Type 0} (ask : X → ℕ → Cell) (w : ℕ) (marks : List Pending) (parts : List X) (fd : ℕ)
+    (cell : Cell) (old new : X) (f : ℕ)
+    → length marks ≡ 8 → length parts ≡ 8 → fd / w < 8 → f / w < 8 → ask new (f % w) ≡ (if f % w == fd % w
+    then cell else settled (slice_index_or marks (fd / w) Nothing) (ask (slice_index_or parts (fd / w) old) (f % w)))
+    → look ask w (slice_set marks (fd / w) Nothing) (slice_set parts (fd / w) new) f
+    ≡ (if f == fd then cell else look ask w marks parts f)
 part_written ask w marks parts fd cell old new f m p lt lf wrote =
     let within : f / w < length parts = omega arith in
     let marked : fd / w < length marks = omega arith in
@@ -94,12 +111,19 @@ part_written ask w marks parts fd cell old new f m p lt lf wrote =
     ∙ ap (λ b. if b then cell else look ask w marks parts f) (sym (same_part f fd w e)))
     (λ ne.
     seen_other ask w (set marks (fd / w) Nothing) parts f (fd / w) new within ne
-    ∙ ap (λ k. settled k (option_map_or (λ part. ask part (f % w)) (slice_get parts (f / w)) Unknown)) (get_or-set_other marks (fd / w) (f / w) Nothing Nothing ne)
+    ∙ ap (λ k. settled k (option_map_or (λ part. ask part (f % w)) (slice_get parts (f / w)) Unknown))
+    (get_or-set_other marks (fd / w) (f / w) Nothing Nothing ne)
     ∙ ap (λ b. if b then cell else look ask w marks parts f) (sym (other_part f fd w ne)))
     (cases_eq (f / w) (fd / w))
 
 -- one part is closed from a descriptor on and nothing is pending there, and those after it are closed
-pub part_closed : {X : Type 0} (ask : X → ℕ → Cell) (w : ℕ) (marks later : List Pending) (parts : List X) (fd : ℕ) (d new : X) (f : ℕ) → 0 < w → length marks ≡ 8 → length parts ≡ 8 → fd / w < 8 → f / w < 8 → ask new (f % w) ≡ (if nat_le (fd % w) (f % w) then Closed else settled (slice_index_or marks (fd / w) Nothing) (ask (slice_index_or parts (fd / w) d) (f % w))) → ((i : ℕ) (c : Cell) → i < 8 → settled (slice_index_or later i Nothing) c ≡ (if nat_le (fd / w + 1) i then Closed else settled (slice_index_or (slice_set marks (fd / w) Nothing) i Nothing) c)) → look ask w later (slice_set parts (fd / w) new) f ≡ (if nat_le fd f then Closed else look ask w marks parts f)
+pub part_closed : {X : Type 0} (ask : X → ℕ → Cell) (w : ℕ) (marks later : List Pending) (parts : List X) (fd : ℕ)
+    (d new : X) (f : ℕ) → 0 < w
+    → length marks ≡ 8 → length parts ≡ 8 → fd / w < 8 → f / w < 8 → ask new (f % w) ≡ (if nat_le (fd % w) (f % w)
+    then Closed else settled (slice_index_or marks (fd / w) Nothing) (ask (slice_index_or parts (fd / w) d) (f % w)))
+    → ((i : ℕ) (c : Cell) → i < 8 → settled (slice_index_or later i Nothing) c ≡ (if nat_le (fd / w + 1) i
+    then Closed else settled (slice_index_or (slice_set marks (fd / w) Nothing) i Nothing) c))
+    → look ask w later (slice_set parts (fd / w) new) f ≡ (if nat_le fd f then Closed else look ask w marks parts f)
 part_closed ask w marks later parts fd d new f pos m p lt lf wrote closed =
     let within : f / w < length parts = omega arith in
     let marked : fd / w < length marks = omega arith in
@@ -108,7 +132,8 @@ part_closed ask w marks later parts fd d new f pos m p lt lf wrote closed =
     let before : nat_le (fd / w + 1) (f / w) ≡ false = grind (arith, nat_tests, e) in
     seen_new ask w later parts f (fd / w) new within e
     ∙ closed (f / w) (ask new (f % w)) lf
-    ∙ ap (λ b. if b then Closed else settled (get_or (set marks (fd / w) Nothing) (f / w) Nothing) (ask new (f % w))) before
+    ∙ ap (λ b. if b then Closed else settled (get_or (set marks (fd / w) Nothing) (f / w) Nothing) (ask new (f % w)))
+    before
     ∙ ap (λ k. settled k (ask new (f % w))) (get_or-set_at marks (fd / w) (f / w) Nothing Nothing e marked)
     ∙ wrote
     ∙ ap (λ c. if nat_le (fd % w) (f % w) then Closed else c) (sym (seen_at ask w marks parts f (fd / w) d within e))
@@ -117,7 +142,8 @@ part_closed ask w marks later parts fd d new f pos m p lt lf wrote closed =
     let there : Cell = option_map_or (λ part. ask part (f % w)) (slice_get parts (f / w)) Unknown in
     seen_other ask w later parts f (fd / w) new within ne
     ∙ closed (f / w) there lf
-    ∙ ap (λ k. if nat_le (fd / w + 1) (f / w) then Closed else settled k there) (get_or-set_other marks (fd / w) (f / w) Nothing Nothing ne)
+    ∙ ap (λ k. if nat_le (fd / w + 1) (f / w) then Closed else settled k there)
+    (get_or-set_other marks (fd / w) (f / w) Nothing Nothing ne)
     ∙ ap (λ b. if b then Closed else look ask w marks parts f) (sym (other_part_from f fd w pos ne)))
     (cases_eq (f / w) (fd / w))
 
@@ -126,7 +152,11 @@ more : (i k : ℕ) → (i ≡ k → ⊥) → nat_lt i k ≡ nat_lt i (k + 1)
 more i k ne = grind (arith, nat_tests, ne)
 
 -- one more place is closed
-pub closed_more : (now old : List Pending) (from k i : ℕ) (c : Cell) → length now ≡ 8 → from ≤ k → k < 8 → settled (slice_index_or now i Nothing) c ≡ (if nat_le from i && nat_lt i k then Closed else settled (slice_index_or old i Nothing) c) → settled (slice_index_or (slice_set now k Close) i Nothing) c ≡ (if nat_le from i && nat_lt i (k + 1) then Closed else settled (slice_index_or old i Nothing) c)
+pub closed_more : (now old : List Pending) (from k i : ℕ) (c : Cell) → length now ≡ 8 → from ≤ k → k < 8
+    → settled (slice_index_or now i Nothing) c
+    ≡ (if nat_le from i && nat_lt i k then Closed else settled (slice_index_or old i Nothing) c)
+    → settled (slice_index_or (slice_set now k Close) i Nothing) c
+    ≡ (if nat_le from i && nat_lt i (k + 1) then Closed else settled (slice_index_or old i Nothing) c)
 closed_more now old from k i c n le lt before =
     let at : k < length now = omega arith in
     ⊎_elim
@@ -135,17 +165,24 @@ closed_more now old from k i c n le lt before =
     ap (λ m. settled m c) (get_or-set_at now k i Close Nothing e at)
     ∙ ap (λ b. if b then Closed else settled (get_or old i Nothing) c) (sym yes))
     (λ ne.
-    let same : (nat_le from i && nat_lt i k) ≡ (nat_le from i && nat_lt i (k + 1)) = ap (λ b. nat_le from i && b) (more i k ne) in
+    let same : (nat_le from i && nat_lt i k) ≡ (nat_le from i && nat_lt i (k + 1)) =
+    ap (λ b. nat_le from i && b) (more i k ne) in
     ap (λ m. settled m c) (get_or-set_other now k i Close Nothing ne)
     ∙ before
     ∙ ap (λ b. if b then Closed else settled (get_or old i Nothing) c) same)
     (cases_eq i k)
 
 -- one more place is settled
-pub settled_more : (now old : List Pending) (next m : Pending) (k i : ℕ) → length now ≡ 8 → k < 8 → ((c : Cell) → settled m c ≡ settled next (settled (slice_index_or now k Nothing) c)) → ((i : ℕ) (c : Cell) → i < 8 → settled (slice_index_or now i Nothing) c ≡ (if nat_lt i k then settled next (settled (slice_index_or old i Nothing) c) else settled (slice_index_or old i Nothing) c)) → (c : Cell) → i < 8 → settled (slice_index_or (slice_set now k m) i Nothing) c ≡ (if nat_lt i (k + 1) then settled next (settled (slice_index_or old i Nothing) c) else settled (slice_index_or old i Nothing) c)
+pub settled_more : (now old : List Pending) (next m : Pending) (k i : ℕ) → length now ≡ 8 → k < 8
+    → ((c : Cell) → settled m c ≡ settled next (settled (slice_index_or now k Nothing) c))
+    → ((i : ℕ) (c : Cell) → i < 8 → settled (slice_index_or now i Nothing) c ≡ (if nat_lt i k
+    then settled next (settled (slice_index_or old i Nothing) c) else settled (slice_index_or old i Nothing) c))
+    → (c : Cell) → i < 8 → settled (slice_index_or (slice_set now k m) i Nothing) c ≡ (if nat_lt i (k + 1)
+    then settled next (settled (slice_index_or old i Nothing) c) else settled (slice_index_or old i Nothing) c)
 settled_more now old next m k i n lt gives before c within =
     let at : k < length now = omega arith in
-    let done : Cell → Bool → Cell = λ d b. if b then settled next (settled (get_or old i Nothing) d) else settled (get_or old i Nothing) d in
+    let done : Cell → Bool → Cell = λ d b. if b then settled next (settled (get_or old i Nothing) d)
+    else settled (get_or old i Nothing) d in
     ⊎_elim
     (λ e.
     let yes : nat_lt i (k + 1) ≡ true = grind (arith, nat_tests, e) in

@@ -20,9 +20,12 @@ findings_within : (s : State) (history : List Step) → All (IsWithin (length hi
 findings_within s [] = All-nil (IsWithin 0)
 findings_within s (step ∷ history) =
     let here : All (IsWithin (length history + 1)) (map (found_at (length history + 1)) (said step (after s history))) =
-    All-map (IsWithin (length history + 1)) (found_at (length history + 1)) (said step (after s history)) (λ k d lt. (omega arith, omega arith)) in
+    All-map (IsWithin (length history + 1)) (found_at (length history + 1)) (said step (after s history))
+    (λ k d lt. (omega arith, omega arith)) in
     let both : All (IsWithin (length history + 1)) (findings s (step ∷ history)) =
-    All-append (IsWithin (length history + 1)) (findings s history) (map (found_at (length history + 1)) (said step (after s history))) (one_more (length history) (findings s history) (findings_within s history)) here in
+    All-append (IsWithin (length history + 1)) (findings s history)
+    (map (found_at (length history + 1)) (said step (after s history)))
+    (one_more (length history) (findings s history) (findings_within s history)) here in
     let same : length history + 1 ≡ length (step ∷ history) = omega arith in
     let P : ℕ → Type 0 = λ n. All (IsWithin n) (findings s (step ∷ history)) in
     subst P same both

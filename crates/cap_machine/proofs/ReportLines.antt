@@ -1,5 +1,6 @@
 -- Findings and the steps of a trace that they stand at.
-use Rattle.std.proofs.Common.{◌≡◌, ℕ, ◌+◌, ◌-◌, ◌<◌, ◌≤◌, List, [], ◌∷◌, ◌++◌, length, map, reverse, zero, suc, Option, Some, refl, ap, ◌∙◌, arith}
+use Rattle.std.proofs.Common.{◌≡◌, ℕ, ◌+◌, ◌-◌, ◌<◌, ◌≤◌, List, [], ◌∷◌, ◌++◌, length, map, reverse, zero, suc, Option}
+use Rattle.std.proofs.Common.{Some, refl, ap, ◌∙◌, arith}
 use Rattle.std.specs.Prelude.{flat_map}
 use Rattle.std.specs.List.{slice_get}
 use Rattle.std.proofs.lemmas.List.{length-reverse}
@@ -35,8 +36,10 @@ within-findings : (s : State) (history : List Step) → Within (length history) 
 unfolding Within
 within-findings s [] = tt
 within-findings s (step ∷ history) =
-    within-append (length (step ∷ history)) (findings s history) (map (found_at (length history + 1)) (said step (after s history)))
-    (within-more (length history) (length (step ∷ history)) (findings s history) (omega arith) (within-findings s history))
+    within-append (length (step ∷ history)) (findings s history)
+    (map (found_at (length history + 1)) (said step (after s history)))
+    (within-more (length history) (length (step ∷ history)) (findings s history) (omega arith)
+    (within-findings s history))
     (within-at (length history + 1) (length (step ∷ history)) (said step (after s history)) (omega arith))
 
 get-front : (i : ℕ) (t u : List Step) → i < length t → slice_get (t ++ u) i ≡ slice_get t i
@@ -54,7 +57,8 @@ get-next t step =
     ap (slice_get (t ++ step ∷ [])) place ∙ get-end t step
 
 -- more steps don't change the report's lines on the earlier ones
-lines-front : (t u : List Step) (xs : List Found) → Within (length t) xs → flat_map (report_line (t ++ u)) xs ≡ flat_map (report_line t) xs
+lines-front : (t u : List Step) (xs : List Found) → Within (length t) xs
+    → flat_map (report_line (t ++ u)) xs ≡ flat_map (report_line t) xs
 unfolding Within
 lines-front t u [] h = refl
 lines-front t u (x ∷ xs) h =
@@ -62,14 +66,19 @@ lines-front t u (x ∷ xs) h =
     ap (λ (r : List ℕ). r ++ flat_map (report_line (t ++ u)) xs) (ap P (get-front (x.at - 1) t u h.0))
     ∙ ap (λ (r : List ℕ). report_line t x ++ r) (lines-front t u xs h.1)
 
-pub lines-check : (s : State) (t u : List Step) → flat_map (report_line (t ++ u)) (check s t) ≡ flat_map (report_line t) (check s t)
-lines-check s t u = lines-front t u (check s t) (within-more (length (reverse t)) (length t) (check s t) (omega (arith, length-reverse t)) (within-findings s (reverse t)))
+pub lines-check : (s : State) (t u : List Step)
+    → flat_map (report_line (t ++ u)) (check s t) ≡ flat_map (report_line t) (check s t)
+lines-check s t u = lines-front t u (check s t) (within-more (length (reverse t)) (length t) (check s t)
+    (omega (arith, length-reverse t)) (within-findings s (reverse t)))
 
 -- the report's lines on the next step
-pub lines-next : (t : List Step) (step : Step) (fs : List Finding) → flat_map (report_line (t ++ step ∷ [])) (map (found_at (length t + 1)) fs) ≡ flat_map (λ f. finding_line step.line (found_at (length t + 1) f)) fs
+pub lines-next : (t : List Step) (step : Step) (fs : List Finding)
+    → flat_map (report_line (t ++ step ∷ [])) (map (found_at (length t + 1)) fs)
+    ≡ flat_map (λ f. finding_line step.line (found_at (length t + 1) f)) fs
 lines-next t step [] = refl
 lines-next t step (f ∷ fs) =
     let found : Found = found_at (length t + 1) f in
     let P : Option Step → List ℕ = λ e. line_about e found in
-    ap (λ (r : List ℕ). r ++ flat_map (report_line (t ++ step ∷ [])) (map (found_at (length t + 1)) fs)) (ap P (get-next t step))
+    ap (λ (r : List ℕ). r ++ flat_map (report_line (t ++ step ∷ [])) (map (found_at (length t + 1)) fs))
+    (ap P (get-next t step))
     ∙ ap (λ (r : List ℕ). finding_line step.line found ++ r) (lines-next t step fs)

@@ -23,7 +23,8 @@ own_names n lt = and_mask n 63 ∙ mod-eq_of_lt lt
 -- a named need that t has, s has too
 pub has_need : (s t n : ℕ) → IsFewer s t → n < 2 ^ 63 → has_all t n ≡ true → has_all s n ≡ true
 has_need s t n fewer lt has =
-    let names : (r : ℕ) → bit_and (bit_and r named) n ≡ bit_and r n = λ r. and_assoc n r named ∙ ap (bit_and r) (and_comm named n ∙ own_names n lt) in
+    let names : (r : ℕ) → bit_and (bit_and r named) n ≡ bit_and r n = λ r. and_assoc n r named
+    ∙ ap (bit_and r) (and_comm named n ∙ own_names n lt) in
     eq-eqb (bit_and s n) n (sym (names s) ∙ ap (λ r. bit_and r n) fewer.names ∙ names t ∙ eqb-true (bit_and t n) n has)
 
 -- what s has, t has too
@@ -35,10 +36,13 @@ has_excuse s t x fewer has =
 -- the same mask on both
 pub few_meet : (m s t : ℕ) → IsFewer s t → IsFewer (bit_and s m) (bit_and t m)
 few_meet m s t fewer =
-    let twice : bit_and m (bit_and s m) ≡ bit_and s m = and_comm m (bit_and s m) ∙ and_assoc m s m ∙ ap (bit_and s) (and_self m) in
-    let turned : (r : ℕ) → bit_and (bit_and r m) named ≡ bit_and (bit_and r named) m = λ r. and_assoc named r m ∙ ap (bit_and r) (and_comm m named) ∙ sym (and_assoc m r named) in
+    let twice : bit_and m (bit_and s m) ≡ bit_and s m = and_comm m (bit_and s m) ∙ and_assoc m s m
+    ∙ ap (bit_and s) (and_self m) in
+    let turned : (r : ℕ) → bit_and (bit_and r m) named ≡ bit_and (bit_and r named) m = λ r. and_assoc named r m
+    ∙ ap (bit_and r) (and_comm m named) ∙ sym (and_assoc m r named) in
     record {
-      within = and_assoc (bit_and s m) t m ∙ ap (bit_and t) twice ∙ sym (and_assoc m t s) ∙ ap (λ r. bit_and r m) fewer.within;
+      within = and_assoc (bit_and s m) t m ∙ ap (bit_and t) twice ∙ sym (and_assoc m t s)
+          ∙ ap (λ r. bit_and r m) fewer.within;
       names = turned s ∙ ap (λ r. bit_and r m) fewer.names ∙ sym (turned t);
     }
 
@@ -51,6 +55,7 @@ pub few_limited : (asked t : ℕ) → has_all t (without_full asked) ≡ true �
 few_limited asked t has =
     let e = eqb-true (bit_and t (bit_and asked named)) (bit_and asked named) has in
     record {
-      within = and_assoc (bit_and asked named) t asked ∙ ap (bit_and t) (sym (and_assoc named asked asked) ∙ ap (λ r. bit_and r named) (and_self asked)) ∙ e;
+      within = and_assoc (bit_and asked named) t asked
+          ∙ ap (bit_and t) (sym (and_assoc named asked asked) ∙ ap (λ r. bit_and r named) (and_self asked)) ∙ e;
       names = and_assoc named asked named ∙ ap (bit_and asked) (and_self named) ∙ sym e ∙ sym (and_assoc named t asked);
     }

@@ -1,17 +1,19 @@
--- The cells of a process, by look-up.
+-- The cells of a process, by what a look-up answers. Only the code's contracts use this; State says what is known.
 pub mod Pending
+pub mod Kind
 pub mod Parts
 pub mod Block
 pub mod Region
 pub mod High
 pub mod Far
-use Rattle.std.specs.Prelude.{ℕ, nat_lt, if◌then◌else◌}
+pub mod Tree
+pub mod Started
+use Rattle.std.specs.Prelude.{ℕ}
 use Rattle.cap_machine.specs.declared.cell.Cell.{Cell}
 use Rattle.cap_machine.specs.declared.cells.Cells.{Cells}
-use Rattle.cap_machine.specs.Cells.Parts.{in_leaf, in_shared}
-use Rattle.cap_machine.specs.Cells.High.{in_high}
-use Rattle.cap_machine.specs.Cells.Far.{in_far}
+use Rattle.cap_machine.specs.Cells.Tree.{cell_in_tree}
+use Rattle.cap_machine.specs.Cells.Started.{in_started}
 
--- those of the first 32 descriptors, those of the others below 2 ^ 20, and all others
+-- those that are still as `@start` listed them, and all others
 unfoldable pub cell_in_cells : Cells → ℕ → Cell
-cell_in_cells cells f = if nat_lt f 32 then in_shared in_leaf cells.low f else (if nat_lt f 1048576 then in_shared in_high cells.high f else in_far cells.far f)
+cell_in_cells cells f = in_started cells.started (cell_in_tree cells.tree f) f

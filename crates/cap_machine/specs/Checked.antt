@@ -1,5 +1,5 @@
--- What a checker keeps of a trace that it was given line by line: the state after it, how many lines and findings there were, and
--- the text of the findings. It keeps no line.
+-- What a checker keeps of a trace that it was given line by line: the state after it, how many lines and findings there
+-- were, and the text of the findings. It keeps no line.
 use Rattle.std.specs.Prelude.{◌≡◌, ℕ, List, length, flat_map}
 use Rattle.cap_trace.specs.Entry.{Entry}
 use Rattle.cap_machine.specs.declared.cell.Profile.{Profile}

@@ -5,7 +5,8 @@ use Rattle.cap_trace.specs.declared.line.Answer.TheVariants as answers
 use Rattle.cap_machine.specs.declared.cell.Cell.TheVariants.{Unknown, Closed}
 use Rattle.cap_machine.specs.declared.cell.Mode.TheVariants.{Inside, Outside, Unsure}
 use Rattle.cap_machine.specs.declared.rule.Effect.{Effect}
-use Rattle.cap_machine.specs.declared.rule.Effect.TheVariants.{Keep, Start, Exit, Forget, Exec, CloseFrom, Enter, Give, GiveTwo, Change, Fork, ForkAs}
+use Rattle.cap_machine.specs.declared.rule.Effect.TheVariants.{Keep, Start, Exit, Forget, Exec, CloseFrom, Enter, Give}
+use Rattle.cap_machine.specs.declared.rule.Effect.TheVariants.{GiveTwo, Change, Fork, ForkAs}
 use Rattle.cap_machine.specs.Op.{same, exec}
 use Rattle.cap_machine.specs.Touch.{Touch, kept, given, taken, Turn, stays, turns, follows, started}
 
@@ -21,7 +22,8 @@ effect_touch (Give g c) me p f = if p == me && f == g then given c else kept
 effect_touch (GiveTwo g h c) me p f = if p == me && (f == g || f == h) then given c else kept
 effect_touch (Change g op h) me p f = if p == me && f == g then taken op me h else kept
 effect_touch (Fork child) me p f = if p == child then taken same me f else kept
-effect_touch (ForkAs child g) me p f = if (p == me || p == child) && f == g then given Unknown else (if p == child then taken same me f else kept)
+effect_touch (ForkAs child g) me p f = if (p == me || p == child) && f == g then given Unknown
+    else (if p == child then taken same me f else kept)
 
 abbrev pub effect_turn : Effect → ℕ → ℕ → Turn
 effect_turn (Start fds) me p = if p == me then turns Outside else stays

@@ -1,5 +1,5 @@
--- The cell of one descriptor and the mode of one process after a history, its newest step first: one walks back to the last
--- step that touched it. A step that takes the cell from another sends one on from there.
+-- The cell of one descriptor and the mode of one process after a history, its newest step first: one walks back to the
+-- last step that touched it. A step that takes the cell from another sends one on from there.
 use Rattle.std.specs.Prelude.{ℕ, List, [], ◌∷◌, reverse}
 use Rattle.cap_machine.specs.declared.step.Step.{Step}
 use Rattle.cap_machine.specs.declared.cell.Cell.{Cell}

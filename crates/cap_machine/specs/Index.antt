@@ -6,4 +6,5 @@ use Rattle.std.specs.BTreeMap.{get}
 use Rattle.cap_machine.specs.declared.table.index.Index.{Index}
 
 abbrev pub place_in : Index → ℕ → ℕ
-place_in index p = if nat_lt p 100000 then slice_index_or index.places.items p 0 else option_map_or (λ (i : ℕ). i) (get nat_cmp index.others p) 0
+place_in index p = if nat_lt p 100000 then slice_index_or index.places.items p 0
+    else option_map_or (λ (i : ℕ). i) (get nat_cmp index.others p) 0

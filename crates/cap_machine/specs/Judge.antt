@@ -1,4 +1,5 @@
--- What is said of a line, of the mode and the cells that stand before it (capsicum(4), cap_enter(2), cap_rights_limit(2)).
+-- What is said of a line, of the mode and the cells that stand before it (capsicum(4), cap_enter(2),
+-- cap_rights_limit(2)).
 use Rattle.std.specs.Prelude.{ℕ, ◌&&◌, ◌||◌, not, Bool, true, false, if◌then◌else◌, List, [], ◌∷◌, ◌++◌, Option, Some}
 use Rattle.cap_rights.specs.Rights.{has_all, minus}
 use Rattle.cap_machine.specs.declared.cell.Cell.{Cell}
@@ -49,7 +50,8 @@ shortfall Expanded f lacking = say.Expanded f lacking
 abbrev pub fault : Word → Check → Cell → List Finding
 fault word check Unknown = []
 fault word check Closed = say.Closed check.fd ∷ []
-fault word check (Held held flag) = if has_all held check.needs then [] else shortfall word check.fd (minus check.needs held) ∷ []
+fault word check (Held held flag) = if has_all held check.needs then []
+    else shortfall word check.fd (minus check.needs held) ∷ []
 
 -- the same of each check, with its cell
 abbrev pub faults : Word → List Check → List Cell → List Finding
@@ -76,11 +78,12 @@ forbidden class m = if is_forbidden class && is_inside m then say.Forbidden ∷ 
 
 -- by the kind of answer:
 -- a call that succeeded was forbidden in capability mode, or lacked rights;
--- a call was refused for lack of rights that were held, which of a call at a directory is sure only outside capability mode;
--- a call was refused for capability mode outside it, or one that capability mode allows
+-- a call was refused for lack of rights that were held, which of a call at a directory is sure only outside capability
+-- mode; a call was refused for capability mode outside it, or one that capability mode allows
 abbrev pub judged_by : Reply → Demand → Mode → List Cell → List Finding
 judged_by Success d m cells = forbidden d.class m ++ faults d.word (listed d.checks) cells
-judged_by NotCapable d m cells = if has_check d.checks && (all_excused (listed d.checks) cells && (not d.at || is_outside m)) then say.Refusal ∷ [] else []
+judged_by NotCapable d m cells = if has_check d.checks
+    && (all_excused (listed d.checks) cells && (not d.at || is_outside m)) then say.Refusal ∷ [] else []
 judged_by NotPermitted d m cells = if is_outside m || is_allowed d.class then say.ModeRefusal ∷ [] else []
 judged_by Other d m cells = []
 

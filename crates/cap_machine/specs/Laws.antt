@@ -1,4 +1,4 @@
--- Laws of a trace that follows another.
+-- Laws of a trace that follows another: it is checked from the state that the first one left.
 use Rattle.std.specs.Prelude.{◌≡◌, ℕ, ◌+◌, List, ◌++◌, length, map}
 use Rattle.cap_machine.specs.declared.step.Step.{Step}
 use Rattle.cap_machine.specs.declared.verdict.Found.{Found}
@@ -16,4 +16,5 @@ EndsInTurn = (s : State) (t u : List Step) → ended s (t ++ u) ≡ ended (ended
 
 -- the findings of t followed by u are those of t, and those of u from the state after t
 abbrev pub ChecksInTurn : Type 0
-ChecksInTurn = (s : State) (t u : List Step) → check s (t ++ u) ≡ check s t ++ map (later (length t)) (check (ended s t) u)
+ChecksInTurn = (s : State) (t u : List Step)
+    → check s (t ++ u) ≡ check s t ++ map (later (length t)) (check (ended s t) u)

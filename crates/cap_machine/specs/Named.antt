@@ -84,8 +84,10 @@ OwnModes = (step : Step) (p : ℕ) → names_pid p step.line ≡ false → turn 
 
 -- but for those that may change every cell, none touches a descriptor that it doesn't name
 abbrev pub NamedDescriptors : Type 0
-NamedDescriptors = (step : Step) (p f : ℕ) → is_whole_item step.line.item ≡ false → names_fd f step.line ≡ false → touch step p f ≡ kept
+NamedDescriptors = (step : Step) (p f : ℕ) → is_whole_item step.line.item ≡ false → names_fd f step.line ≡ false
+    → touch step p f ≡ kept
 
 -- each finding stands at a position of the trace, from 1
 abbrev pub PositionsWithin : Type 0
-PositionsWithin = (s : State) (trace : List Step) → All (λ (found : Found). (1 ≤ found.at) × (found.at ≤ length trace)) (check s trace)
+PositionsWithin = (s : State) (trace : List Step)
+    → All (λ (found : Found). (1 ≤ found.at) × (found.at ≤ length trace)) (check s trace)

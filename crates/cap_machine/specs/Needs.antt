@@ -1,16 +1,23 @@
--- The rights that each call needs, by the names that rights(4) has for them. What a name stands for is in the table of names: most
--- stand for themselves, some for more, as CAP_PREAD for CAP_READ and CAP_SEEK.
+-- The rights that each call needs, by the names that rights(4) has for them. What a name stands for is in the table of
+-- names: most stand for themselves, some for more, as CAP_PREAD for CAP_READ and CAP_SEEK.
 use Rattle.std.specs.Prelude.{ℕ, ◌&&◌, ◌||◌, Bool, if◌then◌else◌, List, [], ◌∷◌, Option, Some, None, codes, find}
 use Rattle.std.specs.Option.{option_map_or}
 use Rattle.std.specs.Str.{bytes_eq}
 use Rattle.cap_rights.specs.Names.{table}
 use Rattle.cap_rights.specs.Rights.{none, join}
 use Rattle.cap_trace.specs.declared.calls.FdCall.{FdCall}
-use Rattle.cap_trace.specs.declared.calls.FdCall.TheVariants.{Read, Readv, Recvfrom, Recvmsg, Pread, Preadv, Write, Writev, Pwrite, Pwritev, Lseek, Fstat, Fstatfs, Fsync, Fdatasync, Ftruncate, Fchmod, Fchown, Fchflags, Fchdir, Flock, Fpathconf, Futimes, Futimens, Ioctl, Accept, Bind, Connect, Listen, Shutdown, Getpeername, Getsockname, Getsockopt, Setsockopt, Fexecve, Close, Closefrom, Dup, CapIoctlsLimit, CapFcntlsLimit}
+use Rattle.cap_trace.specs.declared.calls.FdCall.TheVariants.{Read, Readv, Recvfrom, Recvmsg, Pread, Preadv, Write}
+use Rattle.cap_trace.specs.declared.calls.FdCall.TheVariants.{Writev, Pwrite, Pwritev, Lseek, Fstat, Fstatfs, Fsync}
+use Rattle.cap_trace.specs.declared.calls.FdCall.TheVariants.{Fdatasync, Ftruncate, Fchmod, Fchown, Fchflags, Fchdir}
+use Rattle.cap_trace.specs.declared.calls.FdCall.TheVariants.{Flock, Fpathconf, Futimes, Futimens, Ioctl, Accept, Bind}
+use Rattle.cap_trace.specs.declared.calls.FdCall.TheVariants.{Connect, Listen, Shutdown, Getpeername, Getsockname}
+use Rattle.cap_trace.specs.declared.calls.FdCall.TheVariants.{Getsockopt, Setsockopt, Fexecve, Close, Closefrom, Dup}
+use Rattle.cap_trace.specs.declared.calls.FdCall.TheVariants.{CapIoctlsLimit, CapFcntlsLimit}
 use Rattle.cap_trace.specs.declared.calls.AtCall.{AtCall}
 use Rattle.cap_trace.specs.declared.calls.AtCall.TheVariants.{Mkdirat, Mkfifoat, Mknodat, Readlinkat, Futimesat}
 use Rattle.cap_trace.specs.declared.calls.AtFlagsCall.{AtFlagsCall}
-use Rattle.cap_trace.specs.declared.calls.AtFlagsCall.TheVariants.{Openat, Unlinkat, Fstatat, Fchmodat, Fchownat, Chflagsat, Utimensat}
+use Rattle.cap_trace.specs.declared.calls.AtFlagsCall.TheVariants.{Openat, Unlinkat, Fstatat, Fchmodat, Fchownat}
+use Rattle.cap_trace.specs.declared.calls.AtFlagsCall.TheVariants.{Chflagsat, Utimensat}
 use Rattle.cap_machine.specs.Flags.{has_flag, is_one_of}
 
 -- the rights that a name stands for
@@ -61,8 +68,8 @@ fd_needs Dup = none
 fd_needs CapIoctlsLimit = none
 fd_needs CapFcntlsLimit = none
 
--- with these rights errno 93 is wrongful, and of a call without any it isn't judged: other limits exist for ioctl(2) and for the
--- calls that set them; fexecve(2) may have to read the file that it runs
+-- with these rights errno 93 is wrongful, and of a call without any it isn't judged: other limits exist for ioctl(2)
+-- and for the calls that set them; fexecve(2) may have to read the file that it runs
 unfoldable pub fd_excuse : FdCall → Option ℕ
 fd_excuse Ioctl = None
 fd_excuse CapIoctlsLimit = None
@@ -105,7 +112,8 @@ mmap_needs protection kind =
     join (named (codes "CAP_MMAP"))
     (join (asked (has_flag protection (codes "PROT_READ")) (named (codes "CAP_MMAP_R")))
     (join (asked (has_flag protection (codes "PROT_EXEC")) (named (codes "CAP_MMAP_X")))
-    (asked (has_flag protection (codes "PROT_WRITE") && has_flag kind (codes "MAP_SHARED")) (named (codes "CAP_MMAP_W")))))
+    (asked (has_flag protection (codes "PROT_WRITE") && has_flag kind (codes "MAP_SHARED"))
+    (named (codes "CAP_MMAP_W")))))
 
 unfoldable pub mmap_excuse : ℕ
 mmap_excuse = named (codes "CAP_MMAP_RWX")

@@ -1,4 +1,5 @@
--- What becomes of a cell, as a table by its kind: of an unknown one, of a closed one, and of a held one by its close-on-exec flag.
+-- What becomes of a cell, as a table by its kind: of an unknown one, of a closed one, and of a held one by its
+-- close-on-exec flag.
 use Rattle.std.specs.Prelude.{ℕ, Option, Some, None}
 use Rattle.cap_rights.specs.Rights.{meet, named, without_full}
 use Rattle.cap_machine.specs.declared.cell.OnExec.{OnExec}
@@ -32,11 +33,23 @@ applied op (Held rights flag) = held (held_op op flag) rights
 
 -- a held cell stays held and keeps its flag; a mask takes rights away
 abbrev pub keeping : Cell → Cell → Option ℕ → Op
-keeping unknown closed mask = record { unknown = unknown; closed = closed; set = Keeps mask Set; clear = Keeps mask Clear; unsure = Keeps mask Unsure }
+keeping unknown closed mask = record {
+  unknown = unknown;
+  closed = closed;
+  set = Keeps mask Set;
+  clear = Keeps mask Clear;
+  unsure = Keeps mask Unsure;
+}
 
 -- a held cell stays held and gets this flag
 abbrev pub marking : Cell → Cell → Option ℕ → OnExec → Op
-marking unknown closed mask flag = record { unknown = unknown; closed = closed; set = Keeps mask flag; clear = Keeps mask flag; unsure = Keeps mask flag }
+marking unknown closed mask flag = record {
+  unknown = unknown;
+  closed = closed;
+  set = Keeps mask flag;
+  clear = Keeps mask flag;
+  unsure = Keeps mask flag;
+}
 
 -- fork(2): the child has what the parent has
 abbrev pub same : Op
@@ -50,8 +63,8 @@ derive flag = marking Unknown Unknown None flag
 abbrev pub copy_to_itself : Op
 copy_to_itself = keeping Unknown Unknown None
 
--- cap_rights_limit(2): rights are only ever taken away. Of a descriptor of which nothing was known the asked rights are known
--- now; that it was never limited is false now, so FULL is not among them
+-- cap_rights_limit(2): rights are only ever taken away. Of a descriptor of which nothing was known the asked rights are
+-- known now; that it was never limited is false now, so FULL is not among them
 abbrev pub limit : ℕ → Op
 limit asked = keeping (Held (without_full asked) Unsure) (Held (without_full asked) Unsure) (Some asked)
 
@@ -61,7 +74,13 @@ narrow = keeping Unknown Unknown (Some named)
 
 -- execve(2), fexecve(2): a held descriptor is closed or stays open by its flag
 abbrev pub exec : Op
-exec = record { unknown = Unknown; closed = Closed; set = Becomes Closed; clear = Keeps None Clear; unsure = Becomes Unknown }
+exec = record {
+  unknown = Unknown;
+  closed = Closed;
+  set = Becomes Closed;
+  clear = Keeps None Clear;
+  unsure = Becomes Unknown;
+}
 
 -- fcntl(2), F_SETFD: the flag of a held descriptor changes
 abbrev pub set_flag : OnExec → Op

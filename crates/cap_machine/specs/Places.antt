@@ -1,5 +1,6 @@
 -- A call at a directory (openat(2)): where its paths begin.
-use Rattle.std.specs.Prelude.{ℕ, ◌==◌, ◌&&◌, ◌||◌, not, Bool, true, false, List, [], ◌∷◌, Option, Some, None, if◌then◌else◌}
+use Rattle.std.specs.Prelude.{ℕ, ◌==◌, ◌&&◌, ◌||◌, not, Bool, true, false, List, [], ◌∷◌, Option, Some, None}
+use Rattle.std.specs.Prelude.{if◌then◌else◌}
 use Rattle.cap_trace.specs.declared.line.Dir.{Dir}
 use Rattle.cap_trace.specs.declared.line.Dir.TheVariants as dirs
 

@@ -1,4 +1,4 @@
--- The two profiles side by side.
+-- The two profiles side by side: when they report the same, and when profile 1 finds nothing where profile 2 doesn't.
 use Rattle.std.specs.Prelude.{◌≡◌, Bool, true, false, ◌&&◌, List, []}
 use Rattle.std.specs.List.{list_any}
 use Rattle.cap_trace.specs.declared.line.Item.{Item}
@@ -40,8 +40,10 @@ Never such trace = list_any (did such) trace ≡ false
 
 -- a trace without a successful execve, fexecve or closefrom has the same report in both profiles, from every state
 abbrev pub ProfilesAgree : Type 0
-ProfilesAgree = (s : State) (trace : List Entry) → Never is_exec trace → Never is_closefrom trace → report s (steps One trace) ≡ report s (steps Two trace)
+ProfilesAgree = (s : State) (trace : List Entry) → Never is_exec trace → Never is_closefrom trace
+    → report s (steps One trace) ≡ report s (steps Two trace)
 
 -- where a trace without a successful closefrom has no finding in profile 2, it has none in profile 1, from every state
 abbrev pub NoAlarmLost : Type 0
-NoAlarmLost = (s : State) (trace : List Entry) → Never is_closefrom trace → check s (steps Two trace) ≡ [] → check s (steps One trace) ≡ []
+NoAlarmLost = (s : State) (trace : List Entry) → Never is_closefrom trace → check s (steps Two trace) ≡ []
+    → check s (steps One trace) ≡ []

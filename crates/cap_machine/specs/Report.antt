@@ -6,7 +6,8 @@ use Rattle.cap_trace.specs.Entry.{Entry, head_of}
 use Rattle.cap_trace.specs.Names.{name_of}
 use Rattle.cap_machine.specs.declared.step.Step.{Step}
 use Rattle.cap_machine.specs.declared.verdict.Finding.{Finding}
-use Rattle.cap_machine.specs.declared.verdict.Finding.TheVariants.{Forbidden, ModeRefusal, Missing, Expanded, Closed, Refusal}
+use Rattle.cap_machine.specs.declared.verdict.Finding.TheVariants.{Forbidden, ModeRefusal, Missing, Expanded, Closed}
+use Rattle.cap_machine.specs.declared.verdict.Finding.TheVariants.{Refusal}
 use Rattle.cap_machine.specs.declared.verdict.Found.{Found}
 use Rattle.cap_machine.specs.State.{State}
 use Rattle.cap_machine.specs.Check.{check}
@@ -26,7 +27,8 @@ line_of_words line = join_with_byte 32 line ++ 10 ∷ []
 
 -- the position, the pid, the name of the call, and the words of the finding
 abbrev pub finding_line : Entry → Found → List ℕ
-finding_line line found = line_of_words (decimal found.at ∷ decimal line.pid ∷ name_of (head_of line.item) ∷ finding_words found.finding)
+finding_line line found =
+    line_of_words (decimal found.at ∷ decimal line.pid ∷ name_of (head_of line.item) ∷ finding_words found.finding)
 
 -- the report's line on a finding, where there is a step at its position
 abbrev pub line_about : Option Step → Found → List ℕ

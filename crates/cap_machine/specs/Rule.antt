@@ -1,4 +1,5 @@
--- What a line is judged by.
+-- What a line is judged by: for each form of call the descriptors to check, the rights that each needs (Needs), and
+-- whether capability mode allows or forbids the call (capsicum(4), cap_enter(2)).
 use Rattle.std.specs.Prelude.{ℕ, ◌==◌, ◌&&◌, not, Bool, true, false, if◌then◌else◌, List, [], ◌∷◌, Option, Some, None}
 use Rattle.std.specs.List.{list_any}
 use Rattle.cap_rights.specs.Rights.{none, all, without_full}
@@ -9,7 +10,9 @@ use Rattle.cap_trace.specs.declared.line.Call.TheVariants as calls
 use Rattle.cap_trace.specs.declared.line.Answer.{Answer}
 use Rattle.cap_trace.specs.declared.line.Answer.TheVariants as answers
 use Rattle.cap_trace.specs.declared.calls.FdCall.{FdCall}
-use Rattle.cap_trace.specs.declared.calls.FdCall.TheVariants.{Read, Readv, Pread, Preadv, Write, Writev, Pwrite, Pwritev, Lseek, Fstat, Fsync, Ftruncate, Close, Closefrom, Dup}
+use Rattle.cap_trace.specs.declared.calls.FdCall.TheVariants.{Read, Readv, Pread, Preadv, Write, Writev, Pwrite}
+use Rattle.cap_trace.specs.declared.calls.FdCall.TheVariants.{Pwritev, Lseek, Fstat, Fsync, Ftruncate, Close, Closefrom}
+use Rattle.cap_trace.specs.declared.calls.FdCall.TheVariants.{Dup}
 use Rattle.cap_trace.specs.declared.calls.BareCall.{BareCall}
 use Rattle.cap_trace.specs.declared.calls.BareCall.TheVariants.{Fork, CapEnter}
 use Rattle.cap_trace.specs.Entry.{Entry}
@@ -24,7 +27,9 @@ use Rattle.cap_machine.specs.declared.rule.Checks.TheVariants.{Nothing, One, Two
 use Rattle.cap_machine.specs.declared.rule.Demand.{Demand}
 use Rattle.cap_machine.specs.Flags.{all_known}
 use Rattle.cap_machine.specs.Places.{Place, place, is_empty, is_global, below}
-use Rattle.cap_machine.specs.Needs.{fd_needs, fd_excuse, send_needs, send_to_needs, accept_needs, fcntl_needs, mmap_needs, mmap_excuse, at_needs, at_flags_needs, symlink_needs, rename_from_needs, rename_to_needs, link_from_needs, link_to_needs, plain_flags, plain_at_flags}
+use Rattle.cap_machine.specs.Needs.{fd_needs, fd_excuse, send_needs, send_to_needs, accept_needs, fcntl_needs}
+use Rattle.cap_machine.specs.Needs.{mmap_needs, mmap_excuse, at_needs, at_flags_needs, symlink_needs, rename_from_needs}
+use Rattle.cap_machine.specs.Needs.{rename_to_needs, link_from_needs, link_to_needs, plain_flags, plain_at_flags}
 
 -- intro(2), errno(2): 93 is ENOTCAPABLE, 94 is ECAPMODE
 abbrev pub reply : Answer → Reply
@@ -37,7 +42,13 @@ check_of f needs excuse = record { fd = f; needs = needs; excuse = excuse }
 -- ---- a call on one descriptor
 
 abbrev pub on_one : Class → Check → Answer → Demand
-on_one class check answer = record { class = class; checks = One check; reply = reply answer; at = false; word = Missing }
+on_one class check answer = record {
+  class = class;
+  checks = One check;
+  reply = reply answer;
+  at = false;
+  word = Missing;
+}
 
 -- capsicum(4) allows these on a descriptor in capability mode
 abbrev pub fd_class : FdCall → Class
@@ -70,10 +81,16 @@ abbrev pub fcntl_demand : Option ℕ → ℕ → Answer → Demand
 fcntl_demand None f answer = on_none Either answer
 fcntl_demand (Some needs) f answer = on_one Either (check_of f needs None) answer
 
--- a limit needs the rights that it asks for, since it can only take away; what it gives beyond them has a word of its own.
--- ALL is refused rightly to a descriptor that was limited to all 63 by name
+-- a limit needs the rights that it asks for, since it can only take away; what it gives beyond them has a word of its
+-- own. ALL is refused rightly to a descriptor that was limited to all 63 by name
 abbrev pub limit_demand : ℕ → ℕ → Answer → Demand
-limit_demand f asked answer = record { class = Allowed; checks = One (check_of f (without_full asked) (Some asked)); reply = reply answer; at = false; word = Expanded }
+limit_demand f asked answer = record {
+  class = Allowed;
+  checks = One (check_of f (without_full asked) (Some asked));
+  reply = reply answer;
+  at = false;
+  word = Expanded;
+}
 
 -- ---- a call at a directory
 
@@ -83,8 +100,8 @@ has_global places = list_any (λ (x : Place). is_global x.dir x.path) places
 abbrev pub has_empty : List Place → Bool
 has_empty places = list_any (λ (x : Place). is_empty x.path) places
 
--- errno 93 may come from a path that leaves its directory. It is judged where the directories were never limited, and not where an
--- empty path or flags of unknown meaning stand there
+-- errno 93 may come from a path that leaves its directory. It is judged where the directories were never limited, and
+-- not where an empty path or flags of unknown meaning stand there
 abbrev pub at_excuse : Bool → List Place → Option ℕ
 at_excuse is_plain places = if is_plain && not (has_empty places) then Some all else None
 
@@ -128,16 +145,20 @@ call_demand (calls.Dup2 f g) answer = on_one Allowed (check_of f none (Some none
 call_demand (calls.Fcntl f command) answer = fcntl_demand (fcntl_needs command) f answer
 call_demand (calls.FcntlDup command f g) answer = fcntl_demand (Some none) f answer
 call_demand (calls.FcntlSetFd f flags) answer = fcntl_demand (Some none) f answer
-call_demand (calls.Mmap f protection kind) answer = on_one Either (check_of f (mmap_needs protection kind) (Some mmap_excuse)) answer
+call_demand (calls.Mmap f protection kind) answer =
+    on_one Either (check_of f (mmap_needs protection kind) (Some mmap_excuse)) answer
 call_demand (calls.RightsLimit f asked) answer = limit_demand f asked answer
 call_demand (calls.Open path flags) answer = on_none Forbidden answer
 call_demand (calls.OnPath call path) answer = on_none Forbidden answer
 call_demand (calls.OnPaths call path other) answer = on_none Forbidden answer
 call_demand (calls.At call dir path) answer = at_demand true (place dir path (at_needs call) ∷ []) answer
-call_demand (calls.AtFlags call dir path flags) answer = at_demand (all_known (plain_flags call) flags) (place dir path (at_flags_needs call flags) ∷ []) answer
+call_demand (calls.AtFlags call dir path flags) answer =
+    at_demand (all_known (plain_flags call) flags) (place dir path (at_flags_needs call flags) ∷ []) answer
 call_demand (calls.SymlinkAt target dir path) answer = at_demand true (place dir path symlink_needs ∷ []) answer
-call_demand (calls.RenameAt dir path to_dir to_path) answer = at_demand true (place dir path rename_from_needs ∷ place to_dir to_path rename_to_needs ∷ []) answer
-call_demand (calls.LinkAt dir path to_dir to_path flags) answer = at_demand (all_known plain_at_flags flags) (place dir path link_from_needs ∷ place to_dir to_path link_to_needs ∷ []) answer
+call_demand (calls.RenameAt dir path to_dir to_path) answer =
+    at_demand true (place dir path rename_from_needs ∷ place to_dir to_path rename_to_needs ∷ []) answer
+call_demand (calls.LinkAt dir path to_dir to_path flags) answer = at_demand (all_known plain_at_flags flags)
+    (place dir path link_from_needs ∷ place to_dir to_path link_to_needs ∷ []) answer
 call_demand (calls.OnFlags call flags) answer = on_none Either answer
 call_demand (calls.Bare call) answer = on_none (bare_class call) answer
 call_demand (calls.Other name args) answer = on_none Either answer

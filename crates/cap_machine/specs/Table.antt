@@ -1,5 +1,6 @@
 -- The state that a table of processes keeps, by look-up.
-use Rattle.std.specs.Prelude.{◌≡◌, ℕ, ◌<◌, ◌==◌, ◌&&◌, nat_le, if◌then◌else◌, List, Option, Some, None, slice_get, slice_index_or}
+use Rattle.std.specs.Prelude.{◌≡◌, ℕ, ◌<◌, ◌==◌, ◌&&◌, nat_le, if◌then◌else◌, List, Option, Some, None, slice_get}
+use Rattle.std.specs.Prelude.{slice_index_or}
 use Rattle.std.specs.Option.{option_map_or}
 use Rattle.std.specs.Vec.{vec_len}
 use Rattle.cap_machine.specs.declared.step.Step.{Step}
@@ -75,19 +76,31 @@ with_mode s me m = record { cell = s.cell; mode = λ p. if p == me then m else s
 
 -- a process is as given
 abbrev pub with_process : State → ℕ → Process → State
-with_process s me process = record { cell = λ p f. if p == me then cell_in process f else s.cell p f; mode = λ p. if p == me then process.mode else s.mode p }
+with_process s me process = record {
+  cell = λ p f. if p == me then cell_in process f else s.cell p f;
+  mode = λ p. if p == me then process.mode else s.mode p;
+}
 
 -- a process holds these descriptors and no others
 abbrev pub with_started : State → ℕ → List ℕ → State
-with_started s me fds = record { cell = λ p f. if p == me then started fds f else s.cell p f; mode = λ p. if p == me then Outside else s.mode p }
+with_started s me fds = record {
+  cell = λ p f. if p == me then started fds f else s.cell p f;
+  mode = λ p. if p == me then Outside else s.mode p;
+}
 
 -- nothing is known of a process
 abbrev pub with_unknown : State → ℕ → State
-with_unknown s me = record { cell = λ p f. if p == me then Unknown else s.cell p f; mode = λ p. if p == me then Unsure else s.mode p }
+with_unknown s me = record {
+  cell = λ p f. if p == me then Unknown else s.cell p f;
+  mode = λ p. if p == me then Unsure else s.mode p;
+}
 
 -- a child has what its parent has
 abbrev pub with_copy : State → ℕ → ℕ → State
-with_copy s parent child = record { cell = λ p f. if p == child then s.cell parent f else s.cell p f; mode = λ p. if p == child then s.mode parent else s.mode p }
+with_copy s parent child = record {
+  cell = λ p f. if p == child then s.cell parent f else s.cell p f;
+  mode = λ p. if p == child then s.mode parent else s.mode p;
+}
 
 -- every cell of a process is as given
 abbrev pub with_rest : State → ℕ → Cell → State
@@ -103,7 +116,13 @@ with_closed_from s me n = record { cell = λ p f. if p == me && nat_le n f then 
 
 -- the state after an effect of process me, and after a step
 abbrev pub effect_after : Effect → ℕ → State → State
-effect_after effect me s = record { cell = λ p f. touched (effect_touch effect me p f) s.cell p f; mode = λ p. turned (effect_turn effect me p) s.mode p }
+effect_after effect me s = record {
+  cell = λ p f. touched (effect_touch effect me p f) s.cell p f;
+  mode = λ p. turned (effect_turn effect me p) s.mode p;
+}
 
 abbrev pub step_after : Step → State → State
-step_after step s = record { cell = λ p f. touched (touch step p f) s.cell p f; mode = λ p. turned (turn step p) s.mode p }
+step_after step s = record {
+  cell = λ p f. touched (touch step p f) s.cell p f;
+  mode = λ p. turned (turn step p) s.mode p;
+}

@@ -1,6 +1,7 @@
--- What one step, a line in a profile, does to one cell and to one mode. It follows what the line records, whatever is said of the
--- line. No line touches another process than its own and its child.
-use Rattle.std.specs.Prelude.{ℕ, ◌==◌, ◌&&◌, ◌||◌, not, Bool, true, false, if◌then◌else◌, List, [], ◌∷◌, Option, Some, None, codes, nat_le}
+-- What one step, a line in a profile, does to one cell and to one mode. It follows what the line records, whatever is
+-- said of the line. No line touches another process than its own and its child.
+use Rattle.std.specs.Prelude.{ℕ, ◌==◌, ◌&&◌, ◌||◌, not, Bool, true, false, if◌then◌else◌, List, [], ◌∷◌, Option, Some}
+use Rattle.std.specs.Prelude.{None, codes, nat_le}
 use Rattle.std.specs.List.{list_any}
 use Rattle.std.specs.Str.{bytes_eq}
 use Rattle.cap_rights.specs.Rights.{all}
@@ -12,7 +13,8 @@ use Rattle.cap_trace.specs.declared.line.Dir.{Dir}
 use Rattle.cap_trace.specs.declared.line.Answer.{Answer}
 use Rattle.cap_trace.specs.declared.line.Answer.TheVariants as answers
 use Rattle.cap_trace.specs.declared.calls.FdCall.{FdCall}
-use Rattle.cap_trace.specs.declared.calls.FdCall.TheVariants.{Accept, Fexecve, Close, Closefrom, Dup, CapIoctlsLimit, CapFcntlsLimit}
+use Rattle.cap_trace.specs.declared.calls.FdCall.TheVariants.{Accept, Fexecve, Close, Closefrom, Dup, CapIoctlsLimit}
+use Rattle.cap_trace.specs.declared.calls.FdCall.TheVariants.{CapFcntlsLimit}
 use Rattle.cap_trace.specs.declared.calls.DupCommand.{DupCommand}
 use Rattle.cap_trace.specs.declared.calls.DupCommand.TheVariants.{FDup2fd, FDup2fdCloexec}
 use Rattle.cap_trace.specs.declared.calls.PathCall.{PathCall}
@@ -22,7 +24,8 @@ use Rattle.cap_trace.specs.declared.calls.AtFlagsCall.TheVariants.{Openat}
 use Rattle.cap_trace.specs.declared.calls.FlagsCall.{FlagsCall}
 use Rattle.cap_trace.specs.declared.calls.FlagsCall.TheVariants.{Socket, Socketpair, Pipe2}
 use Rattle.cap_trace.specs.declared.calls.BareCall.{BareCall}
-use Rattle.cap_trace.specs.declared.calls.BareCall.TheVariants.{Pipe, Kqueue, ShmOpen, MqOpen, Fhopen, Fork, Vfork, Pdfork, CapEnter}
+use Rattle.cap_trace.specs.declared.calls.BareCall.TheVariants.{Pipe, Kqueue, ShmOpen, MqOpen, Fhopen, Fork, Vfork}
+use Rattle.cap_trace.specs.declared.calls.BareCall.TheVariants.{Pdfork, CapEnter}
 use Rattle.cap_machine.specs.declared.cell.Profile.{Profile}
 use Rattle.cap_machine.specs.declared.cell.Profile.TheVariants.{One, Two}
 use Rattle.cap_machine.specs.declared.cell.OnExec.{OnExec}
@@ -76,8 +79,8 @@ on_both _ t me p f = kept
 
 -- ---- descriptors
 
--- after `@start` the listed descriptors are held and were never limited, and there are no others; what an exec does with them
--- isn't known
+-- after `@start` the listed descriptors are held and were never limited, and there are no others; what an exec does
+-- with them isn't known
 abbrev pub started : List ℕ → ℕ → Cell
 started fds f = if list_any (λ g. f == g) fds then Held all flags.Unsure else Closed
 
@@ -156,7 +159,8 @@ abbrev pub plain_fd_flags : List (List ℕ)
 plain_fd_flags = codes "0" ∷ codes "FD_CLOEXEC" ∷ []
 
 abbrev pub set_fd_op : List ℕ → Op
-set_fd_op names = if all_known plain_fd_flags names then set_flag (fd_flag names) else narrow_and_set_flag (fd_flag names)
+set_fd_op names = if all_known plain_fd_flags names then set_flag (fd_flag names)
+    else narrow_and_set_flag (fd_flag names)
 
 abbrev pub set_fd_touch : List ℕ → ℕ → Answer → ℕ → ℕ → ℕ → Touch
 set_fd_touch names g answer me p f = on_success g answer (taken (set_fd_op names) me g) me p f
@@ -165,14 +169,15 @@ abbrev pub path_touch : Profile → PathCall → Answer → ℕ → ℕ → ℕ 
 path_touch profile Execve answer me p f = exec_touch profile answer me p f
 path_touch profile _ answer me p f = kept
 
--- openat(2): a file below a directory has the rights of the directory's descriptor; one that is looked up from where the process
--- stands has all; of a file that an absolute path or an empty one names nothing is known
+-- openat(2): a file below a directory has the rights of the directory's descriptor; one that is looked up from where
+-- the process stands has all; of a file that an absolute path or an empty one names nothing is known
 abbrev pub opened_below : Option ℕ → Dir → List ℕ → OnExec → ℕ → Touch
 opened_below (Some g) dir path flag me = copied flag g me
 opened_below None dir path flag me = if is_cwd dir && not (is_empty path) then whole flag else unknown
 
 abbrev pub at_touch : AtFlagsCall → Dir → List ℕ → List ℕ → Answer → ℕ → ℕ → ℕ → Touch
-at_touch Openat dir path names answer me p f = on_made answer (opened_below (below dir path) dir path (open_flag names) me) me p f
+at_touch Openat dir path names answer me p f =
+    on_made answer (opened_below (below dir path) dir path (open_flag names) me) me p f
 at_touch _ dir path names answer me p f = kept
 
 -- socket(2), socketpair(2), pipe(2)

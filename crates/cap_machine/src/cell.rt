@@ -2,7 +2,8 @@
 
 ghost use Rattle.std.specs.Prelude.{◌≡◌};
 ghost use Rattle.cap_rights.specs.Rights.{without_full, named as all_named};
-ghost use Rattle.cap_machine.specs.Op.{held, held_op, applied, keeping, marking, derive, copy_to_itself, limit, narrow, exec, set_flag, narrow_and_set_flag};
+ghost use Rattle.cap_machine.specs.Op.{held, held_op, applied, keeping, marking, derive, copy_to_itself, limit, narrow};
+ghost use Rattle.cap_machine.specs.Op.{exec, set_flag, narrow_and_set_flag};
 
 use cap_rights::{RightBits, RightSet};
 

@@ -1,36 +1,37 @@
-//! The cells of a process.
+//! The cells of a process: what is known of each of its descriptors. Those of the first 32 stand in one leaf, the
+//! others in a tree whose parts are shared between processes until they are written.
 
 ghost use Rattle.std.specs.Prelude.{◌≡◌, ℕ, OnOk, IfOk, ◌==◌, nat_le, if◌then◌else◌};
 ghost use Rattle.cap_machine.specs.Cells.Pending.{settled};
 ghost use Rattle.cap_machine.specs.Cells.{cell_in_cells};
+ghost use Rattle.cap_machine.specs.Touch.{started};
 
 mod block;
 mod far;
 mod high;
+mod kind;
 mod leaf;
 mod node;
 mod pending;
 mod region;
 mod shared;
+mod started;
 mod subtree;
+mod tree;
 
 use crate::cell::Cell;
-use crate::cells::far::Far;
-use crate::cells::high::High;
-use crate::cells::leaf::Leaf;
 pub(crate) use crate::cells::pending::Pending;
-use crate::cells::shared::Shared;
-use crate::cells::subtree::Subtree;
+use crate::cells::started::Started;
+use crate::cells::tree::Tree;
 use cap_rights::NoMemory;
 use cap_trace::Fd;
 use std::alloc::{AllocError, Global};
 
-/// The cells of a process: those of the first 32 descriptors stand in one leaf, those of the others below 2 ^ 20 in a tree.
+/// The cells of a process: those that are still as `@start` listed them, and all others.
 #[derive(Drop)]
 pub(crate) struct Cells {
-    low: Shared<Leaf<32>>,
-    high: Shared<High>,
-    far: Far,
+    started: Started,
+    tree: Tree,
 }
 
 impl Cells {
@@ -40,9 +41,8 @@ impl Cells {
         ensures { IfOk result (λ cells. (f : ℕ) → cell_in_cells cells f ≡ cell) }
     {
         Ok(Cells {
-            low: Shared::all(alloc, cell)?,
-            high: Shared::all(alloc, cell)?,
-            far: Far::all(alloc, cell),
+            started: Started::nothing(alloc),
+            tree: Tree::all(alloc, cell)?,
         })
     }
 
@@ -51,27 +51,21 @@ impl Cells {
     pub(crate) fn cell(&self, fd: Fd) -> Cell
         ensures { result ≡ cell_in_cells self.now fd }
     {
-        if fd < 32 {
-            self.low.cell(fd as usize)
-        } else if fd < 1_048_576 {
-            self.high.cell(fd as usize)
+        if self.started.lists(fd) {
+            self.started.cell()
         } else {
-            self.far.cell(fd)
+            self.tree.cell(fd)
         }
     }
 
     /// Writes one cell.
     #[tactic(auto, unfolding(crate::specs::Cells::cell_in_cells))]
     pub(crate) fn write(&mut self, fd: Fd, cell: Cell) -> Result<(), NoMemory>
-        ensures { OnOk result ((f : ℕ) → cell_in_cells self.new f ≡ (if f == fd then cell else cell_in_cells self.old f)) }
+        ensures { OnOk result
+            ((f : ℕ) → cell_in_cells self.new f ≡ (if f == fd then cell else cell_in_cells self.old f)) }
     {
-        if fd < 32 {
-            self.low.write(fd as usize, cell)
-        } else if fd < 1_048_576 {
-            self.high.write(fd as usize, cell)
-        } else {
-            self.far.write(fd, cell)
-        }
+        self.started.strike(fd);
+        self.tree.write(fd, cell)
     }
 
     /// Does this to each cell.
@@ -79,26 +73,27 @@ impl Cells {
     pub(crate) fn settle(&mut self, pending: Pending) -> Result<(), NoMemory>
         ensures { OnOk result ((f : ℕ) → cell_in_cells self.new f ≡ settled pending (cell_in_cells self.old f)) }
     {
-        self.low.settle(pending);
-        self.high.settle(pending);
-        self.far.settle(pending)
+        self.started.settle(pending);
+        self.tree.settle(pending)
     }
 
     /// Closes the descriptors from one on.
     #[tactic(auto, unfolding(crate::specs::Cells::cell_in_cells))]
     pub(crate) fn close_from(&mut self, fd: Fd) -> Result<(), NoMemory>
-        ensures { OnOk result ((f : ℕ) → cell_in_cells self.new f ≡ (if nat_le fd f then Cell.Closed else cell_in_cells self.old f)) }
+        ensures { OnOk result
+            ((f : ℕ) → cell_in_cells self.new f ≡ (if nat_le fd f then Cell.Closed else cell_in_cells self.old f)) }
     {
-        if fd < 32 {
-            self.low.close_from(fd as usize)?;
-            self.high.settle(Pending::Close);
-            self.far.settle(Pending::Close)
-        } else if fd < 1_048_576 {
-            self.high.close_from(fd as usize)?;
-            self.far.settle(Pending::Close)
-        } else {
-            self.far.close_from(fd)
-        }
+        self.started.strike_from(fd);
+        self.tree.close_from(fd)
+    }
+
+    /// Holds these descriptors, which were never limited, and no others.
+    #[tactic(auto, unfolding(crate::specs::Cells::cell_in_cells))]
+    pub(crate) fn start(&mut self, alloc: Global, fds: &[Fd]) -> Result<(), NoMemory>
+        ensures { OnOk result ((f : ℕ) → cell_in_cells self.new f ≡ started fds.now f) }
+    {
+        self.started = Started::of(alloc, fds)?;
+        self.tree.settle(Pending::Close)
     }
 }
 
@@ -108,9 +103,8 @@ impl Clone for Cells {
     #[tactic(auto, unfolding(crate::specs::Cells::cell_in_cells))]
     fn clone(&self) -> Result<Cells, AllocError> {
         Ok(Cells {
-            low: self.low.clone()?,
-            high: self.high.clone()?,
-            far: self.far.clone()?,
+            started: self.started.clone()?,
+            tree: self.tree.clone()?,
         })
     }
 }

@@ -1,4 +1,5 @@
-//! The checker of a trace that comes line by line.
+//! [`Checker`]: a trace that comes line by line. It keeps a table of processes, two counts and the text of the
+//! findings, and never a line.
 
 ghost use Rattle.std.specs.Prelude.{◌≡◌, ◌≤◌, ◌*◌, [], ◌∷◌, ◌++◌, ◌<◌, ◌^◌, ◌↔◌, List, IsTrue, IfOk, OnOk};
 
@@ -75,7 +76,8 @@ impl Checker {
     /// `NoMemory` when out of memory. What the checker then answers isn't promised: drop it.
     pub fn line(&mut self, line: &Line) -> Result<(), NoMemory>
         requires room { lines_of self.old < 2 ^ 60 }
-        ensures checked { (profile : Profile) (s : State) (trace : List Entry) → HasChecked self.old profile s trace → OnOk result (HasChecked self.new profile s (trace ++ line.now ∷ [])) }
+        ensures checked { (profile : Profile) (s : State) (trace : List Entry) → HasChecked self.old profile s trace
+            → OnOk result (HasChecked self.new profile s (trace ++ line.now ∷ [])) }
     {
         let at = self.lines + 1;
         let verdict = take_line(&mut self.table, self.profile, line)?;
@@ -87,7 +89,8 @@ impl Checker {
 
     /// Whether nothing was found.
     pub fn is_clean(&self) -> bool
-        ensures { (profile : Profile) (s : State) (trace : List Entry) → HasChecked self.now profile s trace → (IsTrue result ↔ (check s (steps profile trace) ≡ [])) }
+        ensures { (profile : Profile) (s : State) (trace : List Entry) → HasChecked self.now profile s trace
+            → (IsTrue result ↔ (check s (steps profile trace) ≡ [])) }
     {
         self.findings == 0
     }
@@ -96,7 +99,8 @@ impl Checker {
     ///
     /// `NoMemory` when out of memory.
     pub fn report(self) -> Result<Vec<u8>, NoMemory>
-        ensures { (profile : Profile) (s : State) (trace : List Entry) → HasChecked self profile s trace → IfOk result (λ text. text.items ≡ report s (steps profile trace)) }
+        ensures { (profile : Profile) (s : State) (trace : List Entry) → HasChecked self profile s trace
+            → IfOk result (λ text. text.items ≡ report s (steps profile trace)) }
     {
         let mut text = self.text;
         put_count(&mut text, self.findings)?;

@@ -1,4 +1,4 @@
-//! The plain check of a whole trace.
+//! [`check`]: the findings of a whole trace. One line is judged and then moves the table on, as in the checker.
 
 ghost use Rattle.std.specs.Prelude.{◌≡◌, ◌++◌, map, IfOk, OnOk};
 ghost use Rattle.cap_machine.specs.Steps.{step, steps};

@@ -1,4 +1,4 @@
-//! One op after another.
+//! One op after another is one op (`Op::then`).
 
 ghost use Rattle.std.specs.Prelude.{◌≡◌};
 ghost use Rattle.cap_machine.specs.Op.{applied};

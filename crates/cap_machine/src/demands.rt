@@ -1,11 +1,14 @@
-//! What each form of call is judged by.
+//! What each form of call is judged by: the descriptors to check with the rights that each needs, whether capability
+//! mode allows or forbids the call, and how it ended (rights(4), capsicum(4)).
 
 ghost use Rattle.std.specs.Prelude.{◌≡◌, [], ◌∷◌, true};
 ghost use Rattle.cap_machine.specs.Flags.{all_known};
-ghost use Rattle.cap_machine.specs.Needs.{at_flags_needs, plain_flags, plain_at_flags, rename_from_needs, rename_to_needs, link_from_needs, link_to_needs};
+ghost use Rattle.cap_machine.specs.Needs.{at_flags_needs, plain_flags, plain_at_flags, rename_from_needs};
+ghost use Rattle.cap_machine.specs.Needs.{rename_to_needs, link_from_needs, link_to_needs};
 ghost use Rattle.cap_machine.specs.Places.{place};
 ghost use Rattle.cap_machine.specs.PlaceSeen.{place_seen};
-ghost use Rattle.cap_machine.specs.Rule.{check_of, on_one, on_none, fd_class, fd_demand, fcntl_demand, limit_demand, bare_class, reply, at_demand, call_demand};
+ghost use Rattle.cap_machine.specs.Rule.{check_of, on_one, on_none, fd_class, fd_demand, fcntl_demand, limit_demand};
+ghost use Rattle.cap_machine.specs.Rule.{bare_class, reply, at_demand, call_demand};
 
 use crate::cell::without_full_of;
 use crate::needs;
@@ -195,7 +198,8 @@ fn place<'a>(dir: Dir, path: &'a Path, needs: RightSet) -> Place<'a>
 
 /// A call at a directory, with flags.
 fn at_flags(call: AtFlagsCall, dir: Dir, path: &Path, flags: &[u8], answer: &Answer) -> Demand
-    ensures { result ≡ at_demand (all_known (plain_flags call) flags.now) (place dir path.now (at_flags_needs call flags.now) ∷ []) answer.now }
+    ensures { result ≡ at_demand (all_known (plain_flags call) flags.now)
+        (place dir path.now (at_flags_needs call flags.now) ∷ []) answer.now }
 {
     let place = place(dir, path, needs::at_flags_needs_of(call, flags));
     at_one(needs::has_plain_flags(call, flags), &place, answer)
@@ -203,7 +207,8 @@ fn at_flags(call: AtFlagsCall, dir: Dir, path: &Path, flags: &[u8], answer: &Ans
 
 /// renameat(2).
 fn rename_at(dir: Dir, path: &Path, to: Dir, to_path: &Path, answer: &Answer) -> Demand
-    ensures { result ≡ at_demand true (place dir path.now rename_from_needs ∷ place to to_path.now rename_to_needs ∷ []) answer.now }
+    ensures { result
+        ≡ at_demand true (place dir path.now rename_from_needs ∷ place to to_path.now rename_to_needs ∷ []) answer.now }
 {
     let from = place(dir, path, needs::rename_from_needs_of());
     let to = place(to, to_path, needs::rename_to_needs_of());
@@ -212,7 +217,8 @@ fn rename_at(dir: Dir, path: &Path, to: Dir, to_path: &Path, answer: &Answer) ->
 
 /// linkat(2).
 fn link_at(dir: Dir, path: &Path, to: Dir, to_path: &Path, flags: &[u8], answer: &Answer) -> Demand
-    ensures { result ≡ at_demand (all_known plain_at_flags flags.now) (place dir path.now link_from_needs ∷ place to to_path.now link_to_needs ∷ []) answer.now }
+    ensures { result ≡ at_demand (all_known plain_at_flags flags.now)
+        (place dir path.now link_from_needs ∷ place to to_path.now link_to_needs ∷ []) answer.now }
 {
     let from = place(dir, path, needs::link_from_needs_of());
     let to = place(to, to_path, needs::link_to_needs_of());

@@ -1,9 +1,15 @@
-//! What each form of call does.
+//! What each form of call does to the cells and the mode of its process and of a child, by what the line records. The
+//! tables stand in `docs/RULES.md`.
 
 ghost use Rattle.std.specs.Prelude.{◌≡◌, ℕ, ◌<◌, ◌^◌, if◌then◌else◌};
 ghost use Rattle.cap_trace.specs.Entry.{IsAnswer, kind_of, fcntl_kind};
 ghost use Rattle.cap_machine.specs.Places.{below};
-ghost use Rattle.cap_machine.specs.Touch.{kept, given, taken, on_fd, on_made, on_both, on_success, closing, copied, copied_to, whole, unknown, exec_touch, closefrom_touch, open_flag, socket_flag, fd_flag, fd_touch, fcntl_touch, fcntl_copied_to, set_fd_op, set_fd_touch, path_touch, at_touch, opened_below, flags_touch, fork_touch, pdfork_touch, bare_touch, call_touch, stays, call_turn, enter_turn, fork_turn, pdfork_turn};
+ghost use Rattle.cap_machine.specs.Touch.{kept, given, taken, on_fd, on_made, on_both, on_success, closing, copied};
+ghost use Rattle.cap_machine.specs.Touch.{copied_to, whole, unknown, exec_touch, closefrom_touch, open_flag};
+ghost use Rattle.cap_machine.specs.Touch.{socket_flag, fd_flag, fd_touch, fcntl_touch, fcntl_copied_to, set_fd_op};
+ghost use Rattle.cap_machine.specs.Touch.{set_fd_touch, path_touch, at_touch, opened_below, flags_touch, fork_touch};
+ghost use Rattle.cap_machine.specs.Touch.{pdfork_touch, bare_touch, call_touch, stays, call_turn, enter_turn};
+ghost use Rattle.cap_machine.specs.Touch.{fork_turn, pdfork_turn};
 ghost use Rattle.cap_machine.specs.Effect.{effect_touch, effect_turn, OnlyCells, FitsMade, FitsPair};
 
 use crate::cell::{Cell, OnExec, Op, Profile};
@@ -103,7 +109,8 @@ fn copied_from(fd: Fd, flag: OnExec, answer: &Answer) -> Effect<'static>
 /// A copy to a number that was asked for (dup2(2)): to the same number it is the first op.
 fn copied_to_number(itself: Op, flag: OnExec, fd: Fd, to: Fd, answer: &Answer) -> Effect<'static>
     requires { FitsMade answer.now }
-    ensures cells { (me p f : ℕ) → effect_touch result me p f ≡ on_made answer.now (copied_to itself flag fd to me) me p f }
+    ensures cells { (me p f : ℕ)
+        → effect_touch result me p f ≡ on_made answer.now (copied_to itself flag fd to me) me p f }
     ensures modes { OnlyCells result }
 {
     let op = if fd == to { itself } else { Op::derive(flag) };
@@ -113,7 +120,8 @@ fn copied_to_number(itself: Op, flag: OnExec, fd: Fd, to: Fd, answer: &Answer) -
 /// The two commands of fcntl(2) that copy to a number that was asked for.
 fn fcntl_copied(command: DupCommand, fd: Fd, to: Fd, answer: &Answer) -> Effect<'static>
     requires { FitsMade answer.now }
-    ensures cells { (me p f : ℕ) → effect_touch result me p f ≡ on_made answer.now (fcntl_copied_to command fd to me) me p f }
+    ensures cells { (me p f : ℕ)
+        → effect_touch result me p f ≡ on_made answer.now (fcntl_copied_to command fd to me) me p f }
     ensures modes { OnlyCells result }
 {
     match command {
@@ -222,7 +230,8 @@ fn set_fd_op_of(flags: &[u8]) -> Op
 /// openat(2).
 fn openat_effect(dir: Dir, path: &[u8], flags: &[u8], answer: &Answer) -> Effect<'static>
     requires { FitsMade answer.now }
-    ensures cells { (me p f : ℕ) → effect_touch result me p f ≡ on_made answer.now (opened_below (below dir path.now) dir path.now (open_flag flags.now) me) me p f }
+    ensures cells { (me p f : ℕ) → effect_touch result me p f
+        ≡ on_made answer.now (opened_below (below dir path.now) dir path.now (open_flag flags.now) me) me p f }
     ensures modes { OnlyCells result }
 {
     let flag = open_flag_of(flags);
@@ -235,6 +244,24 @@ fn openat_effect(dir: Dir, path: &[u8], flags: &[u8], answer: &Answer) -> Effect
                 made(answer, Cell::Unknown)
             }
         }
+    }
+}
+
+/// A call at a directory, with flags.
+fn at_flags_effect(
+    call: AtFlagsCall,
+    dir: Dir,
+    path: &[u8],
+    flags: &[u8],
+    answer: &Answer,
+) -> Effect<'static>
+    requires { IsAnswer (kind_of (Call.AtFlags call dir path.now flags.now)) answer.now }
+    ensures cells { (me p f : ℕ) → effect_touch result me p f ≡ at_touch call dir path.now flags.now answer.now me p f }
+    ensures modes { OnlyCells result }
+{
+    match call {
+        AtFlagsCall::Openat => openat_effect(dir, path, flags, answer),
+        _ => Effect::Keep,
     }
 }
 
@@ -323,8 +350,8 @@ pub(crate) fn effect_of(profile: Profile, call: &Call, answer: &Answer) -> Effec
         Call::RightsLimit(fd, asked) => changed(*fd, Op::limit(asked), answer),
         Call::Open(_, flags) => made_whole(open_flag_of(flags.as_bytes()), answer),
         Call::OnPath(PathCall::Execve, _) => executed(profile, answer),
-        Call::AtFlags(AtFlagsCall::Openat, dir, path, flags) => {
-            openat_effect(*dir, path.as_bytes(), flags.as_bytes(), answer)
+        Call::AtFlags(call, dir, path, flags) => {
+            at_flags_effect(*call, *dir, path.as_bytes(), flags.as_bytes(), answer)
         }
         Call::OnFlags(call, flags) => flags_effect(*call, flags.as_bytes(), answer),
         Call::Bare(call) => bare_effect(*call, answer),

@@ -1,4 +1,4 @@
-//! Flags as they are spelled.
+//! Flags as they are spelled: whether a name is among them, and whether all of them are known ones.
 
 ghost use Rattle.std.specs.Prelude.{◌≡◌, map};
 ghost use Rattle.cap_machine.specs.Flags.{has_flag, is_one_of, all_known};

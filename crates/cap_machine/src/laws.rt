@@ -1,28 +1,32 @@
-//! What holds of a trace that follows another.
+//! Laws of whole traces: one that follows another, the two profiles, what a line touches, where findings stand. Each
+//! function does nothing: its contract is what it says.
 
 ghost use Rattle.cap_machine.specs.Laws.{EndsInTurn, ChecksInTurn};
 ghost use Rattle.cap_machine.specs.ProfileLaws.{ProfilesAgree, NoAlarmLost};
 ghost use Rattle.cap_machine.specs.Named.{OwnProcesses, OwnModes, NamedDescriptors, PositionsWithin};
 
-/// A trace that follows another is checked from the state after the first, and its findings stand that many lines later.
+/// A trace that follows another is checked from the state after the first, and its findings stand that many lines
+/// later.
 pub fn traces_in_turn()
     ensures ends { EndsInTurn }
     ensures checks { ChecksInTurn }
 {}
 
-/// A trace without a successful execve(2), fexecve(2) or closefrom(2) has the same report in both profiles, from every state.
+/// A trace without a successful execve(2), fexecve(2) or closefrom(2) has the same report in both profiles, from every
+/// state.
 pub fn profiles_agree()
     ensures { ProfilesAgree }
 {}
 
-/// Where a trace without a successful closefrom(2) has no finding in profile 2, it has none in profile 1, from every state.
+/// Where a trace without a successful closefrom(2) has no finding in profile 2, it has none in profile 1, from every
+/// state.
 pub fn no_alarm_lost()
     ensures { NoAlarmLost }
 {}
 
-/// A line touches no other process than its own and, of a fork, its child. But for lines that may change every cell of a
-/// process (starts, exits, forks, execve(2), fexecve(2), closefrom(2)), it touches only descriptors in its arguments or its
-/// answer.
+/// A line touches no other process than its own and, of a fork, its child. But for lines that may change every cell of
+/// a process (starts, exits, forks, execve(2), fexecve(2), closefrom(2)), it touches only descriptors in its arguments
+/// or its answer.
 pub fn touches_what_it_names()
     ensures processes { OwnProcesses }
     ensures modes { OwnModes }

@@ -1,8 +1,8 @@
 //! The machine: what is known of the descriptors and modes of each process after the lines of a trace, and what is said
 //! of each line.
 //!
-//! A line is judged by its rule ([`rule_of`], [`judge`]), with the mode and the cells that are known before it, and then
-//! changes what is known by what it records. What a trace doesn't show is unknown, and nothing is said against it.
+//! A line is judged by its rule ([`rule_of`], [`judge`]), with the mode and the cells that are known before it, and
+//! then changes what is known by what it records. What a trace doesn't show is unknown, and nothing is said against it.
 //!
 //! [`check`] answers what is found in a whole trace; a [`Checker`] takes its lines one by one and answers the report.
 //! Both begin from a start, which says what is known of each process before the first line ([`Start`]).
@@ -18,8 +18,8 @@
 //! ```
 //!
 //! There are two profiles. In profile 1 nothing is known of a process's descriptors after a successful exec. Profile 2
-//! follows each descriptor's close-on-exec flag ([`OnExec`]): an exec closes those with the flag and keeps those without
-//! it, and closefrom(2) closes the descriptors from its argument up.
+//! follows each descriptor's close-on-exec flag ([`OnExec`]): an exec closes those with the flag and keeps those
+//! without it, and closefrom(2) closes the descriptors from its argument up.
 #![tactic(auto)]
 
 mod cell;
@@ -38,8 +38,6 @@ mod rule;
 mod start;
 mod step;
 mod table;
-#[cfg(test)]
-mod tests;
 mod verdict;
 
 pub use cap_rights::NoMemory;

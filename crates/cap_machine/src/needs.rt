@@ -2,7 +2,10 @@
 
 ghost use Rattle.std.specs.Prelude.{◌≡◌, ◌<◌, ◌^◌, map};
 ghost use Rattle.cap_machine.specs.Flags.{all_known};
-ghost use Rattle.cap_machine.specs.Needs.{fd_needs, fd_excuse, send_needs, send_to_needs, accept_needs, fcntl_needs, asked, mmap_needs, mmap_excuse, at_needs, access_needs, opening_needs, openat_needs, at_flags_needs, plain_flags, plain_at_flags, symlink_needs, rename_from_needs, rename_to_needs, link_from_needs, link_to_needs};
+ghost use Rattle.cap_machine.specs.Needs.{fd_needs, fd_excuse, send_needs, send_to_needs, accept_needs, fcntl_needs};
+ghost use Rattle.cap_machine.specs.Needs.{asked, mmap_needs, mmap_excuse, at_needs, access_needs, opening_needs};
+ghost use Rattle.cap_machine.specs.Needs.{openat_needs, at_flags_needs, plain_flags, plain_at_flags, symlink_needs};
+ghost use Rattle.cap_machine.specs.Needs.{rename_from_needs, rename_to_needs, link_from_needs, link_to_needs};
 
 use crate::flags::{all_known_of, has_flag_of, is_one_of_these};
 use cap_rights::{RightBits, RightSet};

@@ -1,4 +1,4 @@
-//! Calls at a directory, and what they need of it.
+//! Calls at a directory (openat(2)): which descriptor the path is looked up from, and what the call needs of it.
 
 ghost use Rattle.std.specs.Prelude.{◌≡◌, [], ◌∷◌, ◌&&◌, not, if◌then◌else◌};
 ghost use Rattle.cap_rights.specs.Rights.{all};
@@ -126,7 +126,8 @@ fn one_is_global(a: &Place<'_>, b: &Place<'_>) -> bool
 
 /// The checks of two directories.
 fn two_checks(is_plain: bool, a: &Place<'_>, b: &Place<'_>) -> Checks
-    ensures { let places = place_seen a.now ∷ place_seen b.now ∷ [] in result ≡ place_checks (at_excuse is_plain places) places }
+    ensures { let places = place_seen a.now ∷ place_seen b.now ∷ [] in
+        result ≡ place_checks (at_excuse is_plain places) places }
 {
     let is_judged = is_judged(is_plain, a, b);
     let first = place_check(excuse_where(is_judged), a);

@@ -73,8 +73,8 @@ fn put_all(out: &mut Vec<u8>, at: usize, line: &Line, finding: &Finding) -> Resu
     Ok(())
 }
 
-/// Appends the report's line on a finding about the line at a position: the position, the process, the name of the call,
-/// the finding's word and what belongs to it, with one space between and a line feed at the end.
+/// Appends the report's line on a finding about the line at a position: the position, the process, the name of the
+/// call, the finding's word and what belongs to it, with one space between and a line feed at the end.
 ///
 /// `NoMemory` when out of memory; the vector is then as before.
 pub fn put_finding(
@@ -103,7 +103,8 @@ pub(crate) fn put_verdict(
     line: &Line,
     verdict: &Verdict,
 ) -> Result<usize, NoMemory>
-    ensures text { OnOk result (out.new.items ≡ out.old.items ++ flat_map (λ f. finding_line line.now (found_at at f)) verdict.now) }
+    ensures text { OnOk result
+        (out.new.items ≡ out.old.items ++ flat_map (λ f. finding_line line.now (found_at at f)) verdict.now) }
     ensures count { IfOk result (λ n. n ≡ length verdict.now) }
     ensures few { IfOk result (λ n. n ≤ 3) }
 {

@@ -29,9 +29,9 @@ impl Start {
 
     /// Adds what is known of a process: its mode, the cells that are listed, and that of all its other descriptors.
     ///
-    /// Meant for a pid from 1 to 99,999 above all that were added, and strictly rising descriptors of at most 1,048,575.
-    /// Others do no harm: a process that was added before is replaced, and of a descriptor that is listed twice the last
-    /// cell counts.
+    /// Meant for a pid from 1 to 99,999 above all that were added, and strictly rising descriptors of at most
+    /// 1,048,575. Others do no harm: a process that was added before is replaced, and of a descriptor that is listed
+    /// twice the last cell counts.
     ///
     /// `NoMemory` when out of memory; the start is then as before.
     #[tactic(auto, unfolding(crate::specs::Table::start_state))]

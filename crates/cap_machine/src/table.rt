@@ -6,18 +6,20 @@ ghost use Rattle.std.specs.Vec.{vec_len};
 ghost use Rattle.cap_machine.specs.State.{usual, listed_cell, with_listed};
 ghost use Rattle.cap_machine.specs.Touch.{started};
 ghost use Rattle.cap_machine.specs.Check.{said_of};
-ghost use Rattle.cap_machine.specs.Table.{cell_in, found, cell_of, mode_of, state_of, Keeps, StandsAt, with_cell, with_mode, with_process, with_started, with_unknown, with_copy, with_rest, with_op, with_closed_from, effect_after};
+ghost use Rattle.cap_machine.specs.Table.{cell_in, found, cell_of, mode_of, state_of, Keeps, StandsAt, with_cell};
+ghost use Rattle.cap_machine.specs.Table.{with_mode, with_process, with_started, with_unknown, with_copy, with_rest};
+ghost use Rattle.cap_machine.specs.Table.{with_op, with_closed_from, effect_after};
 ghost use Rattle.cap_machine.specs.Op.{exec};
 ghost use Rattle.cap_machine.specs.Cells.Pending.{settled};
 
 mod index;
 
-use crate::cell::{Cell, Mode, OnExec};
+use crate::cell::{Cell, Mode};
 use crate::cells::{Cells, Pending};
 use crate::rule::{Checks, Demand, Effect};
 use crate::table::index::Index;
 use crate::verdict::Verdict;
-use cap_rights::{NoMemory, RightSet};
+use cap_rights::NoMemory;
 use cap_trace::{Fd, Pid};
 use std::alloc::{AllocError, Global};
 
@@ -41,24 +43,6 @@ impl Process {
         Ok(Process {
             pid,
             mode: Mode::Unsure,
-            cells,
-        })
-    }
-
-    /// A process that holds these descriptors and no others, with any cells to begin from.
-    fn started(pid: Pid, cells: Cells, fds: &[Fd]) -> Result<Process, NoMemory>
-        ensures cells { IfOk result (λ new. (f : ℕ) → cell_in new f ≡ started fds.now f) }
-        ensures mode { IfOk result (λ new. new.mode ≡ Mode.Outside) }
-        ensures pid { IfOk result (λ new. new.pid ≡ pid) }
-    {
-        let mut cells = cells;
-        cells.settle(Pending::Close)?;
-        for fd in fds {
-            cells.write(*fd, Cell::Held(RightSet::all(), OnExec::Unsure))?;
-        }
-        Ok(Process {
-            pid,
-            mode: Mode::Outside,
             cells,
         })
     }
@@ -108,11 +92,32 @@ impl Process {
 
     /// Closes the descriptors from one on.
     fn close_from(&mut self, fd: Fd) -> Result<(), NoMemory>
-        ensures cells { OnOk result ((f : ℕ) → cell_in self.new f ≡ (if nat_le fd f then Cell.Closed else cell_in self.old f)) }
+        ensures cells { OnOk result
+            ((f : ℕ) → cell_in self.new f ≡ (if nat_le fd f then Cell.Closed else cell_in self.old f)) }
         ensures mode { OnOk result (self.new.mode ≡ self.old.mode) }
         ensures pid { OnOk result (self.new.pid ≡ self.old.pid) }
     {
         self.cells.close_from(fd)
+    }
+
+    /// Holds these descriptors, which were never limited, and no others, and is outside.
+    fn start(&mut self, alloc: Global, fds: &[Fd]) -> Result<(), NoMemory>
+        ensures cells { OnOk result ((f : ℕ) → cell_in self.new f ≡ started fds.now f) }
+        ensures mode { OnOk result (self.new.mode ≡ Mode.Outside) }
+        ensures pid { OnOk result (self.new.pid ≡ self.old.pid) }
+    {
+        self.mode = Mode::Outside;
+        self.cells.start(alloc, fds)
+    }
+
+    /// Nothing is known of it.
+    fn exit(&mut self) -> Result<(), NoMemory>
+        ensures cells { OnOk result ((f : ℕ) → cell_in self.new f ≡ Cell.Unknown) }
+        ensures mode { OnOk result (self.new.mode ≡ Mode.Unsure) }
+        ensures pid { OnOk result (self.new.pid ≡ self.old.pid) }
+    {
+        self.mode = Mode::Unsure;
+        self.cells.settle(Pending::Forget)
     }
 }
 
@@ -152,8 +157,8 @@ fn cell_at(process: Option<&Process>, fd: Fd) -> Cell
 
 /// Each process of which something is known, and where it stands among them.
 ///
-/// A new process begins from a clone of the cells in `blank`, whatever they are, with all of them pending to be forgotten or
-/// closed: so it shares them, and takes memory only for what is written.
+/// A new process begins from a clone of the cells in `blank`, whatever they are, with all of them pending to be
+/// forgotten: so it shares them, and takes memory only for what is written.
 #[derive(Drop)]
 pub(crate) struct Table {
     alloc: Global,
@@ -227,7 +232,8 @@ impl Table {
     /// Adds a process of which nothing was known.
     fn append(&mut self, process: Process) -> Result<(), NoMemory>
         requires { found self.old process.pid ≡ None }
-        ensures ok { OnOk result ((r : ℕ) → found self.new r ≡ (if r == process.pid then Some process else found self.old r)) }
+        ensures ok { OnOk result
+            ((r : ℕ) → found self.new r ≡ (if r == process.pid then Some process else found self.old r)) }
         ensures place { OnOk result (StandsAt self.new process.pid (vec_len self.old.processes)) }
         ensures err { OnErr result ((r : ℕ) → found self.new r ≡ found self.old r) }
     {
@@ -238,13 +244,14 @@ impl Table {
 
     /// Stores a process in place of what was known.
     fn store(&mut self, process: Process) -> Result<(), NoMemory>
-        ensures ok { OnOk result ((r : ℕ) → found self.new r ≡ (if r == process.pid then Some process else found self.old r)) }
+        ensures ok { OnOk result
+            ((r : ℕ) → found self.new r ≡ (if r == process.pid then Some process else found self.old r)) }
         ensures err { OnErr result ((r : ℕ) → found self.new r ≡ found self.old r) }
     {
         let place = self.index.place(process.pid);
-        match self.processes.get_mut(place) {
+        match self.processes.get(place) {
             Some(old) if old.pid == process.pid => {
-                *old = process;
+                self.processes[place] = process;
                 Ok(())
             }
             _ => self.append(process),
@@ -324,10 +331,10 @@ impl Table {
     fn forget(&mut self, pid: Pid) -> Result<(), NoMemory>
         ensures { OnOk result (Keeps self.new (with_rest (state_of self.old) pid Cell.Unknown)) }
     {
-        let cells = self.begin()?;
-        let mut process = Process::unknown(pid, cells)?;
-        process.mode = self.mode(pid);
-        self.put(process)
+        let place = self.enter(pid)?;
+        let process = &mut self.processes[place];
+        process.settle(Pending::Forget)?;
+        Ok(())
     }
 
     /// Does what an exec does with the cells of a process in profile 2.
@@ -383,18 +390,21 @@ impl Table {
     fn start(&mut self, pid: Pid, fds: &[Fd]) -> Result<(), NoMemory>
         ensures { OnOk result (Keeps self.new (with_started (state_of self.old) pid fds.now)) }
     {
-        let cells = self.begin()?;
-        let process = Process::started(pid, cells, fds)?;
-        self.put(process)
+        let alloc = self.alloc;
+        let place = self.enter(pid)?;
+        let process = &mut self.processes[place];
+        process.start(alloc, fds)?;
+        Ok(())
     }
 
     /// A process ends.
     fn exit(&mut self, pid: Pid) -> Result<(), NoMemory>
         ensures { OnOk result (Keeps self.new (with_unknown (state_of self.old) pid)) }
     {
-        let cells = self.begin()?;
-        let process = Process::unknown(pid, cells)?;
-        self.put(process)
+        let place = self.enter(pid)?;
+        let process = &mut self.processes[place];
+        process.exit()?;
+        Ok(())
     }
 
     /// What is said of a line of a process with this demand.

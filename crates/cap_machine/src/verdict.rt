@@ -1,4 +1,4 @@
-//! What is said of a line.
+//! The findings of one line, by its rule and by what was known before it (capsicum(4), rights(4)).
 
 ghost use Rattle.std.specs.Prelude.{◌≡◌, ◌≤◌, ◌<◌, ◌+◌, ◌++◌, [], ◌∷◌, length, option_to_list};
 ghost use Rattle.cap_machine.specs.Judge.{listed, forbidden, fault, judged, is_excused};
@@ -195,7 +195,8 @@ fn judge_refusal(demand: &Demand, mode: Mode, cells: &[Cell]) -> Verdict
 }
 
 impl Demand {
-    /// What is said of a line with this demand, in this mode and with the cell of each check in order. It takes no memory.
+    /// What is said of a line with this demand, in this mode and with the cell of each check in order. It takes no
+    /// memory.
     pub fn judge(&self, mode: Mode, cells: &[Cell]) -> Verdict
         requires one_each { length cells.now ≡ length (listed self.now.checks) }
         ensures { result ≡ judged self.now mode cells.now }

@@ -1,10 +1,12 @@
 -- What edits do, one after the other.
-use Rattle.std.proofs.Common.{◌≡◌, ℕ, ◌+◌, ◌<◌, List, [], ◌∷◌, ◌++◌, length, take, get_or, Bool, refl, ap, ◌∙◌, arith, IsOk, IfOk, OnErr}
+use Rattle.std.proofs.Common.{◌≡◌, ℕ, ◌+◌, ◌<◌, List, [], ◌∷◌, ◌++◌, length, take, get_or, Bool, refl, ap, ◌∙◌, arith}
+use Rattle.std.proofs.Common.{IsOk, IfOk, OnErr}
 use Rattle.std.specs.Prelude.{Result, Ok, Err}
 use Rattle.std.proofs.lemmas.List.{map-append, length-map, length-append, take_more}
 use Rattle.cap_trace.specs.Entry.{Entry}
 use Rattle.cap_session.specs.declared.refused.Refused.{Refused}
-use Rattle.cap_session.specs.declared.refused.Refused.TheVariants.{LongLine, Shape, Pid, Argument, Right, Answer, Position, Full, Memory}
+use Rattle.cap_session.specs.declared.refused.Refused.TheVariants.{LongLine, Shape, Pid, Argument, Right, Answer}
+use Rattle.cap_session.specs.declared.refused.Refused.TheVariants.{Position, Full, Memory}
 use Rattle.cap_session.specs.declared.edit.Edit.{Edit}
 use Rattle.cap_session.specs.Edits.{edited, trace_after, answer, after, answers}
 use Rattle.cap_session.specs.Session.{SessionState, RefusesExactly, is_wanted, wanted}
@@ -14,44 +16,63 @@ pub record Does (old new : SessionState) (asked : Result (List Entry) Refused) (
   pub answers : a ≡ answer (is_wanted a) asked
   pub trace : new.trace ≡ trace_after old.trace (is_wanted a) asked
 
-is_refused : (old new : SessionState) (asked : Result (List Entry) Refused) (e : Refused) → is_wanted (Err e) ≡ is_wanted (Err e) → asked ≡ Err e → new ≡ old → Does old new asked (Err e)
-is_refused old new asked e same is kept = rw is (record { answers = refl; trace = ap (λ (s : SessionState). s.trace) kept })
+is_refused : (old new : SessionState) (asked : Result (List Entry) Refused) (e : Refused)
+    → is_wanted (Err e) ≡ is_wanted (Err e) → asked ≡ Err e → new ≡ old → Does old new asked (Err e)
+is_refused old new asked e same is kept =
+    rw is (record { answers = refl; trace = ap (λ (s : SessionState). s.trace) kept })
 
-wanting : (old new : SessionState) (asked : Result (List Entry) Refused) → IsOk asked → new ≡ old → Does old new asked (Err Memory)
+wanting : (old new : SessionState) (asked : Result (List Entry) Refused) → IsOk asked → new ≡ old
+    → Does old new asked (Err Memory)
 wanting old new (Ok next) ok kept = record { answers = refl; trace = ap (λ (s : SessionState). s.trace) kept }
 wanting old new (Err e) ok kept = absurd (cc)
 
-made : (old new : SessionState) (asked : Result (List Entry) Refused) (n : ℕ) → asked ≡ Ok new.trace → n ≡ length new.trace → Does old new asked (Ok n)
+made : (old new : SessionState) (asked : Result (List Entry) Refused) (n : ℕ) → asked ≡ Ok new.trace
+    → n ≡ length new.trace → Does old new asked (Ok n)
 made old new asked n is count = rw (is, count) (record { answers = refl; trace = refl })
 
 pub does : (old new : SessionState) (asked : Result (List Entry) Refused) (a : Result ℕ Refused) →
-    IfOk a (λ n. (asked ≡ Ok new.trace) × (n ≡ length new.trace)) → RefusesExactly asked a → (a ≡ Err Memory → IsOk asked) → OnErr a (new ≡ old) → Does old new asked a
+    IfOk a (λ n. (asked ≡ Ok new.trace) × (n ≡ length new.trace)) → RefusesExactly asked a
+    → (a ≡ Err Memory → IsOk asked) → OnErr a (new ≡ old) → Does old new asked a
 does old new asked (Ok n) accepted refused memory kept = made old new asked n accepted.0 accepted.1
 does old new asked (Err Memory) accepted refused memory kept = wanting old new asked (memory refl) kept
-does old new asked (Err LongLine) accepted refused memory kept = is_refused old new asked LongLine refl ((refused LongLine (λ e. cc)).0 refl) kept
-does old new asked (Err Shape) accepted refused memory kept = is_refused old new asked Shape refl ((refused Shape (λ e. cc)).0 refl) kept
-does old new asked (Err Pid) accepted refused memory kept = is_refused old new asked Pid refl ((refused Pid (λ e. cc)).0 refl) kept
-does old new asked (Err Argument) accepted refused memory kept = is_refused old new asked Argument refl ((refused Argument (λ e. cc)).0 refl) kept
-does old new asked (Err Right) accepted refused memory kept = is_refused old new asked Right refl ((refused Right (λ e. cc)).0 refl) kept
-does old new asked (Err Answer) accepted refused memory kept = is_refused old new asked Answer refl ((refused Answer (λ e. cc)).0 refl) kept
-does old new asked (Err Position) accepted refused memory kept = is_refused old new asked Position refl ((refused Position (λ e. cc)).0 refl) kept
-does old new asked (Err Full) accepted refused memory kept = is_refused old new asked Full refl ((refused Full (λ e. cc)).0 refl) kept
+does old new asked (Err LongLine) accepted refused memory kept =
+    is_refused old new asked LongLine refl ((refused LongLine (λ e. cc)).0 refl) kept
+does old new asked (Err Shape) accepted refused memory kept =
+    is_refused old new asked Shape refl ((refused Shape (λ e. cc)).0 refl) kept
+does old new asked (Err Pid) accepted refused memory kept =
+    is_refused old new asked Pid refl ((refused Pid (λ e. cc)).0 refl) kept
+does old new asked (Err Argument) accepted refused memory kept =
+    is_refused old new asked Argument refl ((refused Argument (λ e. cc)).0 refl) kept
+does old new asked (Err Right) accepted refused memory kept =
+    is_refused old new asked Right refl ((refused Right (λ e. cc)).0 refl) kept
+does old new asked (Err Answer) accepted refused memory kept =
+    is_refused old new asked Answer refl ((refused Answer (λ e. cc)).0 refl) kept
+does old new asked (Err Position) accepted refused memory kept =
+    is_refused old new asked Position refl ((refused Position (λ e. cc)).0 refl) kept
+does old new asked (Err Full) accepted refused memory kept =
+    is_refused old new asked Full refl ((refused Full (λ e. cc)).0 refl) kept
 
 -- ---- one edit more
 
-pub after-append : (limit : ℕ) (trace : List Entry) (edits : List Edit) (ws : List Bool) (e : Edit) (w : Bool) → length ws ≡ length edits →
-    after limit trace (edits ++ e ∷ []) (ws ++ w ∷ []) ≡ trace_after (after limit trace edits ws) w (edited limit (after limit trace edits ws) e)
+pub after-append : (limit : ℕ) (trace : List Entry) (edits : List Edit) (ws : List Bool) (e : Edit) (w : Bool)
+    → length ws ≡ length edits →
+    after limit trace (edits ++ e ∷ []) (ws ++ w ∷ [])
+    ≡ trace_after (after limit trace edits ws) w (edited limit (after limit trace edits ws) e)
 after-append limit trace [] [] e w same = refl
 after-append limit trace [] (v ∷ ws) e w same = absurd (omega arith)
 after-append limit trace (d ∷ edits) [] e w same = absurd (omega arith)
-after-append limit trace (d ∷ edits) (v ∷ ws) e w same = after-append limit (trace_after trace v (edited limit trace d)) edits ws e w (omega arith)
+after-append limit trace (d ∷ edits) (v ∷ ws) e w same =
+    after-append limit (trace_after trace v (edited limit trace d)) edits ws e w (omega arith)
 
-pub answers-append : (limit : ℕ) (trace : List Entry) (edits : List Edit) (ws : List Bool) (e : Edit) (w : Bool) → length ws ≡ length edits →
-    answers limit trace (edits ++ e ∷ []) (ws ++ w ∷ []) ≡ answers limit trace edits ws ++ answer w (edited limit (after limit trace edits ws) e) ∷ []
+pub answers-append : (limit : ℕ) (trace : List Entry) (edits : List Edit) (ws : List Bool) (e : Edit) (w : Bool)
+    → length ws ≡ length edits →
+    answers limit trace (edits ++ e ∷ []) (ws ++ w ∷ [])
+    ≡ answers limit trace edits ws ++ answer w (edited limit (after limit trace edits ws) e) ∷ []
 answers-append limit trace [] [] e w same = refl
 answers-append limit trace [] (v ∷ ws) e w same = absurd (omega arith)
 answers-append limit trace (d ∷ edits) [] e w same = absurd (omega arith)
-answers-append limit trace (d ∷ edits) (v ∷ ws) e w same = ap (λ more. answer v (edited limit trace d) ∷ more) (answers-append limit (trace_after trace v (edited limit trace d)) edits ws e w (omega arith))
+answers-append limit trace (d ∷ edits) (v ∷ ws) e w same = ap (λ more. answer v (edited limit trace d) ∷ more)
+    (answers-append limit (trace_after trace v (edited limit trace d)) edits ws e w (omega arith))
 
 -- edits were made, and each was answered
 pub record HasMade (old new : SessionState) (edits : List Edit) (answered : List (Result ℕ Refused)) : Type 0 where
@@ -65,11 +86,14 @@ pub made_none : (s : SessionState) → HasMade s s [] []
 made_none s = record { each = refl; limit = refl; profile = refl; trace = refl; answers = refl }
 
 -- what was wanted for one answer more
-wanted-append : (answered : List (Result ℕ Refused)) (a : Result ℕ Refused) → wanted (answered ++ a ∷ []) ≡ wanted answered ++ is_wanted a ∷ []
+wanted-append : (answered : List (Result ℕ Refused)) (a : Result ℕ Refused)
+    → wanted (answered ++ a ∷ []) ≡ wanted answered ++ is_wanted a ∷ []
 wanted-append answered a = map-append is_wanted answered (a ∷ [])
 
-pub made_more : (old mid new : SessionState) (edits : List Edit) (answered : List (Result ℕ Refused)) (e : Edit) (a : Result ℕ Refused) →
-    HasMade old mid edits answered → new.limit ≡ mid.limit → new.profile ≡ mid.profile → Does mid new (edited mid.limit mid.trace e) a → HasMade old new (edits ++ e ∷ []) (answered ++ a ∷ [])
+pub made_more : (old mid new : SessionState) (edits : List Edit) (answered : List (Result ℕ Refused)) (e : Edit)
+    (a : Result ℕ Refused) →
+    HasMade old mid edits answered → new.limit ≡ mid.limit → new.profile ≡ mid.profile
+    → Does mid new (edited mid.limit mid.trace e) a → HasMade old new (edits ++ e ∷ []) (answered ++ a ∷ [])
 made_more old mid new edits answered e a before limit profile step =
     let same : length (wanted answered) ≡ length edits = length-map answered is_wanted ∙ before.each in
     let trace = rw (before.limit, before.trace) at step.trace in
@@ -78,12 +102,21 @@ made_more old mid new edits answered e a before limit profile step =
       each = omega (arith, before.each, length-append answered (a ∷ []), length-append edits (e ∷ []));
       limit = limit ∙ before.limit;
       profile = profile ∙ before.profile;
-      trace = rw (wanted-append answered a, after-append old.limit old.trace edits (wanted answered) e (is_wanted a) same) trace;
-      answers = rw (wanted-append answered a, answers-append old.limit old.trace edits (wanted answered) e (is_wanted a) same) (ap (λ all. all ++ a ∷ []) before.answers ∙ ap (λ b. answers old.limit old.trace edits (wanted answered) ++ b ∷ []) told);
+      trace =
+          rw (wanted-append answered a, after-append old.limit old.trace edits (wanted answered) e (is_wanted a) same)
+          trace;
+      answers =
+          rw (wanted-append answered a, answers-append old.limit old.trace edits (wanted answered) e (is_wanted a) same)
+          (ap (λ all. all ++ a ∷ []) before.answers
+          ∙ ap (λ b. answers old.limit old.trace edits (wanted answered) ++ b ∷ []) told);
     }
 
 -- the edit at the index is made, after those before it
-pub made_next : (old mid new : SessionState) (edits : List Edit) (i : ℕ) (d : Edit) (answered : List (Result ℕ Refused)) (a : Result ℕ Refused) →
-    HasMade old mid (take i edits) answered → i < length edits → new.limit ≡ mid.limit → new.profile ≡ mid.profile → Does mid new (edited mid.limit mid.trace (get_or edits i d)) a → HasMade old new (take (i + 1) edits) (answered ++ a ∷ [])
+pub made_next : (old mid new : SessionState) (edits : List Edit) (i : ℕ) (d : Edit) (answered : List (Result ℕ Refused))
+    (a : Result ℕ Refused) →
+    HasMade old mid (take i edits) answered → i < length edits → new.limit ≡ mid.limit → new.profile ≡ mid.profile
+    → Does mid new (edited mid.limit mid.trace (get_or edits i d)) a
+    → HasMade old new (take (i + 1) edits) (answered ++ a ∷ [])
 made_next old mid new edits i d answered a before within limit profile step =
-    rw (take_more edits i d within) (made_more old mid new (take i edits) answered (get_or edits i d) a before limit profile step)
+    rw (take_more edits i d within)
+    (made_more old mid new (take i edits) answered (get_or edits i d) a before limit profile step)

@@ -10,7 +10,8 @@ pub consumes_more : (a b c : Option (List ℕ)) (g p : List ℕ) → Consumes a 
 consumes_more None b c g p first second = tt
 consumes_more (Some xs) None c g p first second = absurd first
 consumes_more (Some xs) (Some ys) None g p first second = absurd second
-consumes_more (Some xs) (Some ys) (Some zs) g p first second = first ∙ ap (λ l. g ++ l) second ∙ sym (append_assoc g p zs)
+consumes_more (Some xs) (Some ys) (Some zs) g p first second = first ∙ ap (λ l. g ++ l) second
+    ∙ sym (append_assoc g p zs)
 
 pub consumes_kept : (a b c : Option (List ℕ)) (g : List ℕ) → Consumes a b g → Keeps b c → Consumes a c g
 consumes_kept None b c g first kept = tt
@@ -47,10 +48,12 @@ pub record Writing (old now : SinkState) (text rest : List ℕ) : Type 0 where
   pub room : now.room ≡ old.room
 
 pub writing_on : (old now next : SinkState) (text rest : List ℕ) (n : ℕ) → Writing old now text rest →
-    Appends now.taken next.taken (take n rest) → next.failures ≡ now.failures + 0 → now.room ≡ next.room + 0 → Writing old next text (drop n rest)
+    Appends now.taken next.taken (take n rest) → next.failures ≡ now.failures + 0 → now.room ≡ next.room + 0
+    → Writing old next text (drop n rest)
 writing_on old now next text rest n w taken failures room = record {
   front = w.front ++ take n rest;
-  cut = w.cut ∙ ap (λ l. w.front ++ l) (sym (take-append-drop n rest)) ∙ sym (append_assoc w.front (take n rest) (drop n rest));
+  cut = w.cut ∙ ap (λ l. w.front ++ l) (sym (take-append-drop n rest))
+      ∙ sym (append_assoc w.front (take n rest) (drop n rest));
   taken = appends_more old.taken now.taken next.taken w.front (take n rest) w.taken taken;
   failures = let same = w.failures in omega arith;
   room = let same = w.room in omega arith;

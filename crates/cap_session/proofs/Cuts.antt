@@ -1,17 +1,23 @@
 -- How bytes are cut.
-use Rattle.std.proofs.Common.{◌≡◌, ℕ, zero, suc, ◌+◌, ◌<◌, List, [], ◌∷◌, ◌++◌, length, take, drop, get_or, refl, sym, ◌∙◌, ap, append_assoc, add-one, arith, Bool, true, false, cond}
+use Rattle.std.proofs.Common.{◌≡◌, ℕ, zero, suc, ◌+◌, ◌<◌, List, [], ◌∷◌, ◌++◌, length, take, drop, get_or, refl, sym}
+use Rattle.std.proofs.Common.{◌∙◌, ap, append_assoc, add-one, arith, Bool, true, false, cond}
 use Rattle.std.specs.Prelude.{◌==◌, Some, None}
 use Rattle.std.proofs.lemmas.List.{append-nil}
 use Rattle.memchr.specs.Find.{IsFirstByte, is_byte}
 use Rattle.cap_session.specs.Lines.{whole_lines, last_piece}
 
-pub whole_lines-append : (held xs ys : List ℕ) → whole_lines held (xs ++ ys) ≡ whole_lines held xs ++ whole_lines (last_piece held xs) ys
+pub whole_lines-append : (held xs ys : List ℕ)
+    → whole_lines held (xs ++ ys) ≡ whole_lines held xs ++ whole_lines (last_piece held xs) ys
 unfolding whole_lines last_piece
 whole_lines-append held [] ys = refl
 whole_lines-append held (b ∷ xs) ys =
-    let lf : whole_lines [] (xs ++ ys) ≡ whole_lines [] xs ++ whole_lines (last_piece [] xs) ys = whole_lines-append [] xs ys in
-    let other : whole_lines (held ++ b ∷ []) (xs ++ ys) ≡ whole_lines (held ++ b ∷ []) xs ++ whole_lines (last_piece (held ++ b ∷ []) xs) ys = whole_lines-append (held ++ b ∷ []) xs ys in
-    elim (b == 10) as (λ v. cond v (held ∷ whole_lines [] (xs ++ ys)) (whole_lines (held ++ b ∷ []) (xs ++ ys)) ≡ cond v (held ∷ whole_lines [] xs) (whole_lines (held ++ b ∷ []) xs) ++ whole_lines (cond v (last_piece [] xs) (last_piece (held ++ b ∷ []) xs)) ys) [
+    let lf : whole_lines [] (xs ++ ys) ≡ whole_lines [] xs ++ whole_lines (last_piece [] xs) ys =
+    whole_lines-append [] xs ys in
+    let other : whole_lines (held ++ b ∷ []) (xs ++ ys) ≡ whole_lines (held ++ b ∷ []) xs
+    ++ whole_lines (last_piece (held ++ b ∷ []) xs) ys = whole_lines-append (held ++ b ∷ []) xs ys in
+    elim (b == 10) as (λ v. cond v (held ∷ whole_lines [] (xs ++ ys)) (whole_lines (held ++ b ∷ []) (xs ++ ys))
+    ≡ cond v (held ∷ whole_lines [] xs) (whole_lines (held ++ b ∷ []) xs)
+    ++ whole_lines (cond v (last_piece [] xs) (last_piece (held ++ b ∷ []) xs)) ys) [
       | true ↦ ap (λ ls. held ∷ ls) lf
       | false ↦ other
     ]
@@ -20,7 +26,8 @@ pub last_piece-append : (held xs ys : List ℕ) → last_piece held (xs ++ ys) �
 unfolding last_piece
 last_piece-append held [] ys = refl
 last_piece-append held (b ∷ xs) ys =
-    elim (b == 10) as (λ v. cond v (last_piece [] (xs ++ ys)) (last_piece (held ++ b ∷ []) (xs ++ ys)) ≡ last_piece (cond v (last_piece [] xs) (last_piece (held ++ b ∷ []) xs)) ys) [
+    elim (b == 10) as (λ v. cond v (last_piece [] (xs ++ ys)) (last_piece (held ++ b ∷ []) (xs ++ ys))
+    ≡ last_piece (cond v (last_piece [] xs) (last_piece (held ++ b ∷ []) xs)) ys) [
       | true ↦ last_piece-append [] xs ys
       | false ↦ last_piece-append (held ++ b ∷ []) xs ys
     ]
@@ -39,18 +46,23 @@ pub record NoCut (held bytes : List ℕ) : Type 0 where
   pub whole : whole_lines held bytes ≡ []
   pub last : last_piece held bytes ≡ held ++ bytes
 
-cut_from : (held bytes : List ℕ) (k : ℕ) → k < length bytes → ((j : ℕ) → j < k → (get_or bytes j 0 == 10) ≡ true → ⊥) → (get_or bytes k 0 == 10) ≡ true →
-    (whole_lines held bytes ≡ (held ++ take k bytes) ∷ whole_lines [] (drop (suc k) bytes)) × (last_piece held bytes ≡ last_piece [] (drop (suc k) bytes))
+cut_from : (held bytes : List ℕ) (k : ℕ) → k < length bytes → ((j : ℕ) → j < k → (get_or bytes j 0 == 10) ≡ true → ⊥)
+    → (get_or bytes k 0 == 10) ≡ true →
+    (whole_lines held bytes ≡ (held ++ take k bytes) ∷ whole_lines [] (drop (suc k) bytes))
+    × (last_piece held bytes ≡ last_piece [] (drop (suc k) bytes))
 unfolding whole_lines last_piece
 cut_from held [] k within before here = absurd (omega arith)
 cut_from held (b ∷ bytes) zero within before here =
     (rw here (ap (λ l. l ∷ whole_lines [] bytes) (sym (append-nil held))), rw here refl)
 cut_from held (b ∷ bytes) (suc k) within before here =
     let none : (b == 10) ≡ false = false_unless (b == 10) (before 0 (omega arith)) in
-    let rest = cut_from (held ++ b ∷ []) bytes k (omega arith) (λ j h. before (suc j) (omega arith)) here in
-    (rw none (rest.0 ∙ ap (λ l. l ∷ whole_lines [] (drop (suc k) bytes)) (append_assoc held (b ∷ []) (take k bytes))), rw none rest.1)
+    let rest = cut_from (held ++ b ∷ []) bytes k (omega arith) (λ j h. before (suc j) (omega arith)) here in (
+      rw none (rest.0 ∙ ap (λ l. l ∷ whole_lines [] (drop (suc k) bytes)) (append_assoc held (b ∷ []) (take k bytes))),
+      rw none rest.1,
+    )
 
-no_cut_from : (held bytes : List ℕ) → ((j : ℕ) → j < length bytes → (get_or bytes j 0 == 10) ≡ true → ⊥) → (whole_lines held bytes ≡ []) × (last_piece held bytes ≡ held ++ bytes)
+no_cut_from : (held bytes : List ℕ) → ((j : ℕ) → j < length bytes → (get_or bytes j 0 == 10) ≡ true → ⊥)
+    → (whole_lines held bytes ≡ []) × (last_piece held bytes ≡ held ++ bytes)
 unfolding whole_lines last_piece
 no_cut_from held [] before = (refl, sym (append-nil held))
 no_cut_from held (b ∷ bytes) before =
@@ -68,7 +80,8 @@ no_cut held bytes found =
     let both = no_cut_from held bytes (λ j h. found j (omega arith) h) in
     record { whole = both.0; last = both.1 }
 
-front_from : (held bytes : List ℕ) (k : ℕ) → k < length bytes → ((j : ℕ) → j < k → (get_or bytes j 0 == 10) ≡ true → ⊥) → (get_or bytes k 0 == 10) ≡ true →
+front_from : (held bytes : List ℕ) (k : ℕ) → k < length bytes → ((j : ℕ) → j < k → (get_or bytes j 0 == 10) ≡ true → ⊥)
+    → (get_or bytes k 0 == 10) ≡ true →
     (whole_lines held (take (suc k) bytes) ≡ (held ++ take k bytes) ∷ []) × (last_piece held (take (suc k) bytes) ≡ [])
 unfolding whole_lines last_piece
 front_from held [] k within before here = absurd (omega arith)

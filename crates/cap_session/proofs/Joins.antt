@@ -1,7 +1,9 @@
 -- A script in pieces is replied to as a whole.
-use Rattle.std.proofs.Common.{◌≡◌, ℕ, zero, suc, ◌<◌, List, [], ◌∷◌, ◌++◌, length, take, drop, map, refl, sym, ◌∙◌, ap, append_assoc, arith, true, false, cond, inl, inr, subst}
+use Rattle.std.proofs.Common.{◌≡◌, ℕ, zero, suc, ◌<◌, List, [], ◌∷◌, ◌++◌, length, take, drop, map, refl, sym, ◌∙◌, ap}
+use Rattle.std.proofs.Common.{append_assoc, arith, true, false, cond, inl, inr, subst}
 use Rattle.std.specs.Prelude.{◌==◌}
-use Rattle.std.proofs.lemmas.List.{length-append, length-take, take_all, take-append-le, take-take, map-append, take-map, take_at, take-append-drop}
+use Rattle.std.proofs.lemmas.List.{length-append, length-take, take_all, take-append-le, take-take, map-append}
+use Rattle.std.proofs.lemmas.List.{take-map, take_at, take-append-drop}
 use Rattle.std.proofs.lemmas.Bool.{cases_lt}
 use Rattle.cap_session.specs.Devices.{SinkState}
 use Rattle.cap_session.specs.Lines.{whole_lines, last_piece}
@@ -15,7 +17,8 @@ use Rattle.cap_session.proofs.Runs.{is_long, is_short, answers_cut}
 abbrev pub cut : List ℕ → List ℕ
 cut line = take 1057 line
 
-pub answers_uncut : (profile : Profile) (t : List Entry) (line text : List ℕ) (u : List Entry) → Answers profile t line text u → Answers profile t (take 1057 line) text u
+pub answers_uncut : (profile : Profile) (t : List Entry) (line text : List ℕ) (u : List Entry)
+    → Answers profile t line text u → Answers profile t (take 1057 line) text u
 answers_uncut profile t line text u is =
     elim (cases_lt 1056 (length line)) [
       | inl long ↦
@@ -24,14 +27,16 @@ answers_uncut profile t line text u is =
       | inr short ↦ rw (take_all 1057 line (omega arith)) is
     ]
 
-pub run_same : (profile : Profile) (t : List Entry) (xs ys : List (List ℕ)) (text : List ℕ) (u : List Entry) → map cut xs ≡ map cut ys → Run profile t xs text u → Run profile t ys text u
+pub run_same : (profile : Profile) (t : List Entry) (xs ys : List (List ℕ)) (text : List ℕ) (u : List Entry)
+    → map cut xs ≡ map cut ys → Run profile t xs text u → Run profile t ys text u
 run_same profile t [] [] text u same run = run
 run_same profile t [] (y ∷ ys) text u same run = cc
 run_same profile t (x ∷ xs) [] text u same run = cc
 run_same profile t (x ∷ xs) (y ∷ ys) text u same run =
     let first : take 1057 x ≡ take 1057 y = cc in
     let others : map cut xs ≡ map cut ys = cc in
-    let is = answers_cut profile t y run.0 run.1 (subst (λ (l : List ℕ). Answers profile t l run.0 run.1) first (answers_uncut profile t x run.0 run.1 run.3)) in
+    let is = answers_cut profile t y run.0 run.1
+    (subst (λ (l : List ℕ). Answers profile t l run.0 run.1) first (answers_uncut profile t x run.0 run.1 run.3)) in
     (run.0, run.1, run.2, is, run_same profile run.1 xs ys run.2 u others run.4, run.5)
 
 take_again : (n : ℕ) (h x : List ℕ) → take n (take n h ++ x) ≡ take n (h ++ x)
@@ -46,7 +51,8 @@ whole_same : (h k p : List ℕ) → take 1057 h ≡ take 1057 k → map cut (who
 unfolding whole_lines
 whole_same h k [] same = refl
 whole_same h k (b ∷ p) same =
-    elim (b == 10) as (λ v. map cut (cond v (h ∷ whole_lines [] p) (whole_lines (h ++ b ∷ []) p)) ≡ map cut (cond v (k ∷ whole_lines [] p) (whole_lines (k ++ b ∷ []) p))) [
+    elim (b == 10) as (λ v. map cut (cond v (h ∷ whole_lines [] p) (whole_lines (h ++ b ∷ []) p))
+    ≡ map cut (cond v (k ∷ whole_lines [] p) (whole_lines (k ++ b ∷ []) p))) [
       | true ↦ ap (λ l. l ∷ map cut (whole_lines [] p)) same
       | false ↦ whole_same (h ++ b ∷ []) (k ++ b ∷ []) p (same_on h k (b ∷ []) same)
     ]
@@ -55,7 +61,8 @@ pub last_same : (h k p : List ℕ) → take 1057 h ≡ take 1057 k → take 1057
 unfolding last_piece
 last_same h k [] same = same
 last_same h k (b ∷ p) same =
-    elim (b == 10) as (λ v. take 1057 (cond v (last_piece [] p) (last_piece (h ++ b ∷ []) p)) ≡ take 1057 (cond v (last_piece [] p) (last_piece (k ++ b ∷ []) p))) [
+    elim (b == 10) as (λ v. take 1057 (cond v (last_piece [] p) (last_piece (h ++ b ∷ []) p))
+    ≡ take 1057 (cond v (last_piece [] p) (last_piece (k ++ b ∷ []) p))) [
       | true ↦ refl
       | false ↦ last_same (h ++ b ∷ []) (k ++ b ∷ []) p (same_on h k (b ∷ []) same)
     ]
@@ -76,14 +83,19 @@ script_same h k p same =
     ∙ sym (map-append cut (whole_lines k p) (long_piece (last_piece k p)))
 
 -- the first line of what follows a beginning that is too long is that one
-first_long : (h p : List ℕ) → 1056 < length h → map cut (script_lines h p) ≡ take 1057 h ∷ map cut (tail (script_lines h p))
+first_long : (h p : List ℕ) → 1056 < length h
+    → map cut (script_lines h p) ≡ take 1057 h ∷ map cut (tail (script_lines h p))
 unfolding whole_lines last_piece
 first_long h [] long = rw (is_long h long) refl
 first_long h (b ∷ p) long =
     let more : 1056 < length (h ++ b ∷ []) = simp length-append (omega arith) in
-    elim (b == 10) as (λ v. map cut (cond v (h ∷ whole_lines [] p) (whole_lines (h ++ b ∷ []) p) ++ long_piece (cond v (last_piece [] p) (last_piece (h ++ b ∷ []) p))) ≡ take 1057 h ∷ map cut (tail (cond v (h ∷ whole_lines [] p) (whole_lines (h ++ b ∷ []) p) ++ long_piece (cond v (last_piece [] p) (last_piece (h ++ b ∷ []) p))))) [
+    elim (b == 10) as (λ v. map cut (cond v (h ∷ whole_lines [] p) (whole_lines (h ++ b ∷ []) p)
+    ++ long_piece (cond v (last_piece [] p) (last_piece (h ++ b ∷ []) p)))
+    ≡ take 1057 h ∷ map cut (tail (cond v (h ∷ whole_lines [] p) (whole_lines (h ++ b ∷ []) p)
+    ++ long_piece (cond v (last_piece [] p) (last_piece (h ++ b ∷ []) p))))) [
       | true ↦ refl
-      | false ↦ first_long (h ++ b ∷ []) p more ∙ ap (λ l. l ∷ map cut (tail (script_lines (h ++ b ∷ []) p))) (take-append-le 1057 h (b ∷ []) (omega arith))
+      | false ↦ first_long (h ++ b ∷ []) p more
+          ∙ ap (λ l. l ∷ map cut (tail (script_lines (h ++ b ∷ []) p))) (take-append-le 1057 h (b ∷ []) (omega arith))
     ]
 
 due_same : (l p : List ℕ) → map cut (long_piece l ++ due (take 1057 l) p) ≡ map cut (script_lines l p)
@@ -93,12 +105,14 @@ due_same l p =
           let past : 1056 < length (take 1057 l) = simp length-take (omega arith) in
           let again : take 1057 (take 1057 l) ≡ take 1057 l = take-take 1057 1057 l (omega arith) in
           rw (is_long l long, is_long (take 1057 l) past)
-          (ap (λ x. x ∷ map cut (tail (script_lines (take 1057 l) p))) (sym again) ∙ sym (first_long (take 1057 l) p past) ∙ script_same (take 1057 l) l p again)
+          (ap (λ x. x ∷ map cut (tail (script_lines (take 1057 l) p))) (sym again)
+          ∙ sym (first_long (take 1057 l) p past) ∙ script_same (take 1057 l) l p again)
       | inr short ↦ rw (is_short l short, take_all 1057 l (omega arith), is_short l short) refl
     ]
 
 -- the next piece goes on where the bytes before it end
-pub pieces_same : (g p : List ℕ) → map cut (script_lines [] g ++ due (take 1057 (last_piece [] g)) p) ≡ map cut (script_lines [] (g ++ p))
+pub pieces_same : (g p : List ℕ)
+    → map cut (script_lines [] g ++ due (take 1057 (last_piece [] g)) p) ≡ map cut (script_lines [] (g ++ p))
 pieces_same g p =
     let before : List (List ℕ) = whole_lines [] g in
     let last : List ℕ = last_piece [] g in
@@ -109,12 +123,27 @@ pieces_same g p =
     ∙ ap (map cut) (sym (append_assoc before (whole_lines last p) (long_piece (last_piece last p))))
     ∙ rw (whole_lines-append [] g p, last_piece-append [] g p) refl
 
-pub replied_same : (profile : Profile) (t : List Entry) (w0 w1 : SinkState) (xs ys : List (List ℕ)) (u : List Entry) → map cut xs ≡ map cut ys → Replied profile t w0 w1 xs u → Replied profile t w0 w1 ys u
-replied_same profile t w0 w1 xs ys u same r = record { text = r.text; run = run_same profile t xs ys r.text u same r.run; wrote = r.wrote }
+pub replied_same : (profile : Profile) (t : List Entry) (w0 w1 : SinkState) (xs ys : List (List ℕ)) (u : List Entry)
+    → map cut xs ≡ map cut ys → Replied profile t w0 w1 xs u → Replied profile t w0 w1 ys u
+replied_same profile t w0 w1 xs ys u same r = record {
+  text = r.text;
+  run = run_same profile t xs ys r.text u same r.run;
+  wrote = r.wrote;
+}
 
-pub broken_same : (profile : Profile) (t : List Entry) (w0 w1 : SinkState) (xs ys : List (List ℕ)) → map cut xs ≡ map cut ys → Broken profile t w0 w1 xs → Broken profile t w0 w1 ys
+pub broken_same : (profile : Profile) (t : List Entry) (w0 w1 : SinkState) (xs ys : List (List ℕ))
+    → map cut xs ≡ map cut ys → Broken profile t w0 w1 xs → Broken profile t w0 w1 ys
 broken_same profile t w0 w1 xs ys same b =
     let n : ℕ = length b.first in
     let front : take n xs ≡ b.first = ap (take n) b.cut ∙ take_at b.first b.others n refl in
-    let cuts : map cut b.first ≡ map cut (take n ys) = ap (map cut) (sym front) ∙ sym (take-map cut n xs) ∙ ap (take n) same ∙ take-map cut n ys in
-    record { first = take n ys; others = drop n ys; cut = sym (take-append-drop n ys); text = b.text; trace = b.trace; run = run_same profile t b.first (take n ys) b.text b.trace cuts b.run; wrote = b.wrote }
+    let cuts : map cut b.first ≡ map cut (take n ys) = ap (map cut) (sym front) ∙ sym (take-map cut n xs)
+    ∙ ap (take n) same ∙ take-map cut n ys in
+    record {
+      first = take n ys;
+      others = drop n ys;
+      cut = sym (take-append-drop n ys);
+      text = b.text;
+      trace = b.trace;
+      run = run_same profile t b.first (take n ys) b.text b.trace cuts b.run;
+      wrote = b.wrote;
+    }

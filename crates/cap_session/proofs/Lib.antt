@@ -23,6 +23,7 @@ pub mod Started
 pub mod StartParses
 pub mod StartReads
 pub mod StartRejecting
+pub mod Texted
 pub mod Traces
 pub mod ScriptEdits
 pub mod Words

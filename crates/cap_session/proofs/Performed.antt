@@ -4,9 +4,9 @@ use Rattle.std.specs.Prelude.{Result, Ok, Err, IsTrue, ◌⊎◌}
 use Rattle.cap_trace.specs.Entry.{Entry}
 use Rattle.cap_machine.specs.declared.cell.Profile.{Profile}
 use Rattle.cap_session.specs.declared.script.NotDone.{NotDone}
-use Rattle.cap_session.specs.declared.script.NotDone.TheVariants as NotDone
 use Rattle.cap_session.specs.declared.refused.Refused.{Refused}
-use Rattle.cap_session.specs.declared.refused.Refused.TheVariants.{LongLine, Shape, Pid, Argument, Right, Answer, Position, Full, Memory}
+use Rattle.cap_session.specs.declared.refused.Refused.TheVariants.{LongLine, Shape, Pid, Argument, Right, Answer}
+use Rattle.cap_session.specs.declared.refused.Refused.TheVariants.{Position, Full, Memory}
 use Rattle.cap_session.specs.Session.{SessionState, RefusesExactly}
 use Rattle.cap_session.specs.Replies.{edit_done, commanded, may_want}
 use Rattle.cap_session.specs.Commands.{Asked, asked}
@@ -20,7 +20,8 @@ use Rattle.cap_session.specs.Edits.{edited}
 use Rattle.cap_session.specs.Performs.{edit_asked}
 
 -- An edit as a command is told by what was asked of the session.
-pub edit_commanded : (profile : Profile) (t : List Entry) (e : Edit) → commanded profile t (edit_asked e) ≡ edit_done (edited 1000000 t e)
+pub edit_commanded : (profile : Profile) (t : List Entry) (e : Edit)
+    → commanded profile t (edit_asked e) ≡ edit_done (edited 1000000 t e)
 edit_commanded profile t (Insert position line) = refl
 edit_commanded profile t (Delete position) = refl
 edit_commanded profile t (Replace position line) = refl
@@ -41,7 +42,8 @@ told asked e is = ap edit_done is
 abbrev NotMade : Result (List Entry) Refused → NotDone → Type 0
 NotMade asked why = (edit_done asked ≡ Err why) ⊎ ((why ≡ NotDone.Refused Memory) × IsOk (edit_done asked))
 
-not_made : (asked : Result (List Entry) Refused) (e : Refused) → RefusesExactly asked (Err e) → (◌≡◌ {A = Result ℕ Refused} (Err e) (Err Memory) → IsOk asked) → NotMade asked (NotDone.Refused e)
+not_made : (asked : Result (List Entry) Refused) (e : Refused) → RefusesExactly asked (Err e)
+    → (◌≡◌ {A = Result ℕ Refused} (Err e) (Err Memory) → IsOk asked) → NotMade asked (NotDone.Refused e)
 not_made asked Memory refused memory = inr (refl, done_ok asked (memory refl))
 not_made asked LongLine refused memory = inl (told asked LongLine ((refused LongLine (λ e. cc)).0 refl))
 not_made asked Shape refused memory = inl (told asked Shape ((refused Shape (λ e. cc)).0 refl))
@@ -52,23 +54,33 @@ not_made asked Answer refused memory = inl (told asked Answer ((refused Answer (
 not_made asked Position refused memory = inl (told asked Position ((refused Position (λ e. cc)).0 refl))
 not_made asked Full refused memory = inl (told asked Full ((refused Full (λ e. cc)).0 refl))
 
-as_command : (profile : Profile) (t : List Entry) (e : Edit) (why : NotDone) → NotMade (edited 1000000 t e) why → (commanded profile t (edit_asked e) ≡ Err why) ⊎ ((why ≡ NotDone.Refused Memory) × IsOk (commanded profile t (edit_asked e)) × IsTrue (may_want (edit_asked e)))
+as_command : (profile : Profile) (t : List Entry) (e : Edit) (why : NotDone) → NotMade (edited 1000000 t e) why
+    → (commanded profile t (edit_asked e) ≡ Err why)
+    ⊎ ((why ≡ NotDone.Refused Memory) × IsOk (commanded profile t (edit_asked e)) × IsTrue (may_want (edit_asked e)))
 as_command profile t e why (inl is) = inl (edit_commanded profile t e ∙ is)
 as_command profile t e why (inr is) = inr (is.0, rw (edit_commanded profile t e) is.1, edit_wants e)
 
 -- an edit was not made
-pub edit_refused : (old new : SessionState) (e : Edit) (refused : Refused) → old.limit ≡ 1000000 → RefusesExactly (edited old.limit old.trace e) (Err refused) →
+pub edit_refused : (old new : SessionState) (e : Edit) (refused : Refused) → old.limit ≡ 1000000
+    → RefusesExactly (edited old.limit old.trace e) (Err refused) →
     (◌≡◌ {A = Result ℕ Refused} (Err refused) (Err Memory) → IsOk (edited old.limit old.trace e)) → new ≡ old →
-    (new.trace ≡ old.trace) × ((commanded old.profile old.trace (edit_asked e) ≡ Err (NotDone.Refused refused)) ⊎ ((NotDone.Refused refused ≡ NotDone.Refused Memory) × IsOk (commanded old.profile old.trace (edit_asked e)) × IsTrue (may_want (edit_asked e))))
-edit_refused old new e refused limit tells memory kept =
-    (ap (λ (s : SessionState). s.trace) kept, as_command old.profile old.trace e (NotDone.Refused refused) (not_made (edited 1000000 old.trace e) refused (rw limit at tells) (rw limit at memory)))
+    (new.trace ≡ old.trace) × ((commanded old.profile old.trace (edit_asked e) ≡ Err (NotDone.Refused refused))
+    ⊎ ((NotDone.Refused refused ≡ NotDone.Refused Memory)
+    × IsOk (commanded old.profile old.trace (edit_asked e)) × IsTrue (may_want (edit_asked e))))
+edit_refused old new e refused limit tells memory kept = (
+  ap (λ (s : SessionState). s.trace) kept,
+  as_command old.profile old.trace e (NotDone.Refused refused)
+      (not_made (edited 1000000 old.trace e) refused (rw limit at tells) (rw limit at memory)),
+)
 
 -- ---- a command's reply
 
-pub does_command : (profile : Profile) (t : List Entry) (ask : Asked) (reply : Reply) (u : List Entry) → Performs profile t ask (Ok reply) u → Commands profile t ask (text_of reply) u
+pub does_command : (profile : Profile) (t : List Entry) (ask : Asked) (reply : Reply) (u : List Entry)
+    → Performs profile t ask (Ok reply) u → Commands profile t ask (text_of reply) u
 does_command profile t ask reply u is = inl (rw is (refl, refl))
 
-pub refuses_command : (profile : Profile) (t : List Entry) (ask : Asked) (why : NotDone) (u : List Entry) → Performs profile t ask (Err why) u → Commands profile t ask (refused_text (not_done_code why)) u
+pub refuses_command : (profile : Profile) (t : List Entry) (ask : Asked) (why : NotDone) (u : List Entry)
+    → Performs profile t ask (Err why) u → Commands profile t ask (refused_text (not_done_code why)) u
 refuses_command profile t ask why u is =
     elim is.1 [
       | inl e ↦ inl (rw e (refl, is.0))

@@ -1,5 +1,6 @@
 -- Replies, one after the other.
-use Rattle.std.proofs.Common.{◌≡◌, ℕ, ◌+◌, ◌<◌, ◌≤◌, List, [], ◌∷◌, ◌++◌, length, take, drop, refl, sym, ◌∙◌, ap, append_assoc, arith, true, false, cond, inl, inr, subst}
+use Rattle.std.proofs.Common.{◌≡◌, ℕ, ◌+◌, ◌<◌, ◌≤◌, List, [], ◌∷◌, ◌++◌, length, take, drop, refl, sym, ◌∙◌, ap}
+use Rattle.std.proofs.Common.{append_assoc, arith, true, false, cond, inl, inr, subst}
 use Rattle.std.specs.Prelude.{nat_lt, Some, None}
 use Rattle.std.proofs.lemmas.List.{append-nil, length-take, length-drop, take_all}
 use Rattle.std.proofs.lemmas.Bool.{cases_lt}
@@ -8,7 +9,8 @@ use Rattle.cap_session.specs.Devices.{SinkState}
 use Rattle.cap_session.specs.Writes.{Wrote, WrotePrefix}
 use Rattle.cap_session.specs.Lines.{whole_lines, last_piece}
 use Rattle.cap_session.specs.Trace.{is_skipped}
-use Rattle.cap_session.specs.Scripts.{Commands, Answers, Run, Replied, Broken, long_piece, script_lines, tail, due, due_line, due_piece, Scripting}
+use Rattle.cap_session.specs.Scripts.{Commands, Answers, Run, Replied, Broken, long_piece, script_lines, tail, due}
+use Rattle.cap_session.specs.Scripts.{due_line, due_piece, Scripting}
 use Rattle.cap_trace.specs.Entry.{Entry}
 use Rattle.cap_machine.specs.declared.cell.Profile.{Profile}
 use Rattle.cap_session.specs.Commands.{asked}
@@ -19,17 +21,20 @@ use Rattle.cap_session.proofs.Calls.{appends_more, appends_none}
 pub is_long : (line : List ℕ) → 1056 < length line → nat_lt 1056 (length line) ≡ true
 is_long line long = grind arith
 
-pub answers_long : (profile : Profile) (t : List Entry) (line : List ℕ) → 1056 < length line → Answers profile t line (refused_text 1) t
+pub answers_long : (profile : Profile) (t : List Entry) (line : List ℕ) → 1056 < length line
+    → Answers profile t line (refused_text 1) t
 answers_long profile t line long =
     rw (is_long line long) (refl, refl)
 
-pub answers_command : (profile : Profile) (t : List Entry) (line text : List ℕ) (u : List Entry) → length line ≤ 1056 → is_skipped line ≡ false → Commands profile t (asked line) text u → Answers profile t line text u
+pub answers_command : (profile : Profile) (t : List Entry) (line text : List ℕ) (u : List Entry) → length line ≤ 1056
+    → is_skipped line ≡ false → Commands profile t (asked line) text u → Answers profile t line text u
 answers_command profile t line text u short command is =
     let no : nat_lt 1056 (length line) ≡ false = grind arith in
     rw (no, command) is
 
 -- the reply to a line that is too long rests on no byte past its 1,057th
-pub answers_cut : (profile : Profile) (t : List Entry) (line text : List ℕ) (u : List Entry) → Answers profile t (take 1057 line) text u → Answers profile t line text u
+pub answers_cut : (profile : Profile) (t : List Entry) (line text : List ℕ) (u : List Entry)
+    → Answers profile t (take 1057 line) text u → Answers profile t line text u
 answers_cut profile t line text u is =
     elim (cases_lt 1056 (length line)) [
       | inl long ↦
@@ -38,21 +43,49 @@ answers_cut profile t line text u is =
       | inr short ↦ rw (take_all 1057 line (omega arith)) at is
     ]
 
-pub one_line : (profile : Profile) (t : List Entry) (w0 w1 : SinkState) (line text : List ℕ) (u : List Entry) → Answers profile t line text u → Wrote w0 w1 text → Replied profile t w0 w1 (line ∷ []) u
-one_line profile t w0 w1 line text u is wrote = record { text = text; run = (text, u, [], is, (refl, refl), sym (append-nil text)); wrote = wrote }
+pub one_line : (profile : Profile) (t : List Entry) (w0 w1 : SinkState) (line text : List ℕ) (u : List Entry)
+    → Answers profile t line text u → Wrote w0 w1 text → Replied profile t w0 w1 (line ∷ []) u
+one_line profile t w0 w1 line text u is wrote = record {
+  text = text;
+  run = (text, u, [], is, (refl, refl), sym (append-nil text));
+  wrote = wrote;
+}
 
-pub one_broken : (profile : Profile) (t : List Entry) (w0 w1 : SinkState) (line text : List ℕ) (u : List Entry) → Answers profile t line text u → WrotePrefix w0 w1 text → Broken profile t w0 w1 (line ∷ [])
-one_broken profile t w0 w1 line text u is wrote = record { first = line ∷ []; others = []; cut = refl; text = text; trace = u; run = (text, u, [], is, (refl, refl), sym (append-nil text)); wrote = wrote }
+pub one_broken : (profile : Profile) (t : List Entry) (w0 w1 : SinkState) (line text : List ℕ) (u : List Entry)
+    → Answers profile t line text u → WrotePrefix w0 w1 text → Broken profile t w0 w1 (line ∷ [])
+one_broken profile t w0 w1 line text u is wrote = record {
+  first = line ∷ [];
+  others = [];
+  cut = refl;
+  text = text;
+  trace = u;
+  run = (text, u, [], is, (refl, refl), sym (append-nil text));
+  wrote = wrote;
+}
 
-run_on : (profile : Profile) (t : List Entry) (xs : List (List ℕ)) (text : List ℕ) (u : List Entry) (ys : List (List ℕ)) (more : List ℕ) (v : List Entry) → Run profile t xs text u → Run profile u ys more v → Run profile t (xs ++ ys) (text ++ more) v
-run_on profile t [] text u ys more v first second = rw first.0 (subst (λ (x : List Entry). Run profile x ys more v) first.1 second)
-run_on profile t (line ∷ xs) text u ys more v first second =
-    (first.0, first.1, first.2 ++ more, first.3, run_on profile first.1 xs first.2 u ys more v first.4 second, ap (λ l. l ++ more) first.5 ∙ append_assoc first.0 first.2 more)
+run_on : (profile : Profile) (t : List Entry) (xs : List (List ℕ)) (text : List ℕ) (u : List Entry) (ys : List (List ℕ))
+    (more : List ℕ) (v : List Entry)
+    → Run profile t xs text u → Run profile u ys more v → Run profile t (xs ++ ys) (text ++ more) v
+run_on profile t [] text u ys more v first second =
+    rw first.0 (subst (λ (x : List Entry). Run profile x ys more v) first.1 second)
+run_on profile t (line ∷ xs) text u ys more v first second = (
+  first.0,
+  first.1,
+  first.2 ++ more,
+  first.3,
+  run_on profile first.1 xs first.2 u ys more v first.4 second,
+  ap (λ l. l ++ more) first.5 ∙ append_assoc first.0 first.2 more,
+)
 
 pub replied_none : (profile : Profile) (t : List Entry) (w : SinkState) → Replied profile t w w [] t
-replied_none profile t w = record { text = []; run = (refl, refl); wrote = record { taken = appends_none w.taken; failures = refl; room = refl } }
+replied_none profile t w = record {
+  text = [];
+  run = (refl, refl);
+  wrote = record { taken = appends_none w.taken; failures = refl; room = refl };
+}
 
-pub replied_on : (profile : Profile) (t : List Entry) (w0 w1 w2 : SinkState) (xs ys : List (List ℕ)) (u v : List Entry) → Replied profile t w0 w1 xs u → Replied profile u w1 w2 ys v → Replied profile t w0 w2 (xs ++ ys) v
+pub replied_on : (profile : Profile) (t : List Entry) (w0 w1 w2 : SinkState) (xs ys : List (List ℕ)) (u v : List Entry)
+    → Replied profile t w0 w1 xs u → Replied profile u w1 w2 ys v → Replied profile t w0 w2 (xs ++ ys) v
 replied_on profile t w0 w1 w2 xs ys u v first second = record {
   text = first.text ++ second.text;
   run = run_on profile t xs first.text u ys second.text v first.run second.run;
@@ -63,7 +96,8 @@ replied_on profile t w0 w1 w2 xs ys u v first second = record {
   };
 }
 
-pub broken_on : (profile : Profile) (t : List Entry) (w0 w1 w2 : SinkState) (xs ys : List (List ℕ)) (u : List Entry) → Replied profile t w0 w1 xs u → Broken profile u w1 w2 ys → Broken profile t w0 w2 (xs ++ ys)
+pub broken_on : (profile : Profile) (t : List Entry) (w0 w1 w2 : SinkState) (xs ys : List (List ℕ)) (u : List Entry)
+    → Replied profile t w0 w1 xs u → Broken profile u w1 w2 ys → Broken profile t w0 w2 (xs ++ ys)
 broken_on profile t w0 w1 w2 xs ys u done broke = record {
   first = xs ++ broke.first;
   others = broke.others;
@@ -81,7 +115,8 @@ broken_on profile t w0 w1 w2 xs ys u done broke = record {
   };
 }
 
-pub broken_more : (profile : Profile) (t : List Entry) (w0 w1 : SinkState) (xs ys : List (List ℕ)) → Broken profile t w0 w1 xs → Broken profile t w0 w1 (xs ++ ys)
+pub broken_more : (profile : Profile) (t : List Entry) (w0 w1 : SinkState) (xs ys : List (List ℕ))
+    → Broken profile t w0 w1 xs → Broken profile t w0 w1 (xs ++ ys)
 broken_more profile t w0 w1 xs ys broke = record {
   first = broke.first;
   others = broke.others ++ ys;
@@ -92,23 +127,30 @@ broken_more profile t w0 w1 xs ys broke = record {
   wrote = broke.wrote;
 }
 
-pub due_cut : (held bytes : List ℕ) (k : ℕ) → IsFirstByte (is_byte 10) bytes (Some k) → due held bytes ≡ due_line held (take k bytes) ++ due [] (drop (k + 1) bytes)
+pub due_cut : (held bytes : List ℕ) (k : ℕ) → IsFirstByte (is_byte 10) bytes (Some k)
+    → due held bytes ≡ due_line held (take k bytes) ++ due [] (drop (k + 1) bytes)
 due_cut held bytes k found =
     let cut : Cut held bytes k = cut_at held bytes k found in
     rw (cut.whole, cut.last) (
-    elim (nat_lt 1056 (length held)) as (λ v. cond v (whole_lines [] (drop (k + 1) bytes) ++ long_piece (last_piece [] (drop (k + 1) bytes))) ((held ++ take k bytes) ∷ (whole_lines [] (drop (k + 1) bytes) ++ long_piece (last_piece [] (drop (k + 1) bytes)))) ≡ cond v [] ((held ++ take k bytes) ∷ []) ++ script_lines [] (drop (k + 1) bytes)) [ true ↦ refl | false ↦ refl ])
+    elim (nat_lt 1056 (length held)) as (λ v. cond v
+    (whole_lines [] (drop (k + 1) bytes) ++ long_piece (last_piece [] (drop (k + 1) bytes))) ((held ++ take k bytes)
+    ∷ (whole_lines [] (drop (k + 1) bytes) ++ long_piece (last_piece [] (drop (k + 1) bytes)))) ≡ cond v []
+    ((held ++ take k bytes) ∷ []) ++ script_lines [] (drop (k + 1) bytes)) [ true ↦ refl | false ↦ refl ])
 
 tail_long : (held : List ℕ) → tail (long_piece held) ≡ []
-tail_long held = elim (nat_lt 1056 (length held)) as (λ v. tail (cond v (held ∷ []) []) ≡ []) [ true ↦ refl | false ↦ refl ]
+tail_long held =
+    elim (nat_lt 1056 (length held)) as (λ v. tail (cond v (held ∷ []) []) ≡ []) [ true ↦ refl | false ↦ refl ]
 
 pub due_rest : (held bytes : List ℕ) → IsFirstByte (is_byte 10) bytes None → due held bytes ≡ due_piece held bytes
 due_rest held bytes found =
     let cut : NoCut held bytes = no_cut held bytes found in
     rw (cut.whole, cut.last) (
-    elim (nat_lt 1056 (length held)) as (λ v. cond v (tail (long_piece (held ++ bytes))) (long_piece (held ++ bytes)) ≡ cond v [] (long_piece (held ++ bytes))) [ true ↦ tail_long (held ++ bytes) | false ↦ refl ])
+    elim (nat_lt 1056 (length held)) as (λ v. cond v (tail (long_piece (held ++ bytes))) (long_piece (held ++ bytes))
+    ≡ cond v [] (long_piece (held ++ bytes))) [ true ↦ tail_long (held ++ bytes) | false ↦ refl ])
 
 -- What the loop over a piece of a script keeps.
-pub record Scripted (start : Scripting) (w0 : SinkState) (piece : List ℕ) (s : Scripting) (w1 : SinkState) (rest : List ℕ) : Type 0 where
+pub record Scripted (start : Scripting) (w0 : SinkState) (piece : List ℕ) (s : Scripting) (w1 : SinkState)
+    (rest : List ℕ) : Type 0 where
   pub lines : List (List ℕ)
   pub profile : s.profile ≡ start.profile
   pub replied : Replied start.profile start.trace w0 w1 lines s.trace
@@ -118,42 +160,63 @@ pub record Scripted (start : Scripting) (w0 : SinkState) (piece : List ℕ) (s :
   pub within : length rest ≤ length piece
 
 pub scripted_first : (start : Scripting) (w : SinkState) (piece : List ℕ) → Scripted start w piece start w piece
-scripted_first start w piece = record { lines = []; profile = refl; replied = replied_none start.profile start.trace w; same = refl; last = refl; room = refl; within = omega arith }
+scripted_first start w piece = record {
+  lines = [];
+  profile = refl;
+  replied = replied_none start.profile start.trace w;
+  same = refl;
+  last = refl;
+  room = refl;
+  within = omega arith;
+}
 
 -- a line was replied to
-pub scripted_on : (start s t : Scripting) (w0 w1 w2 : SinkState) (piece rest : List ℕ) (k : ℕ) → Scripted start w0 piece s w1 rest →
-    IsFirstByte (is_byte 10) rest (Some k) → Replied s.profile s.trace w1 w2 (due_line s.held (take k rest)) t.trace → t.profile ≡ s.profile → t.held ≡ [] → Scripted start w0 piece t w2 (drop (k + 1) rest)
+pub scripted_on : (start s t : Scripting) (w0 w1 w2 : SinkState) (piece rest : List ℕ) (k : ℕ)
+    → Scripted start w0 piece s w1 rest →
+    IsFirstByte (is_byte 10) rest (Some k) → Replied s.profile s.trace w1 w2 (due_line s.held (take k rest)) t.trace
+    → t.profile ≡ s.profile → t.held ≡ [] → Scripted start w0 piece t w2 (drop (k + 1) rest)
 scripted_on start s t w0 w1 w2 piece rest k went found replied stays empty =
     let cut : Cut s.held rest k = cut_at s.held rest k found in
     record {
       lines = went.lines ++ due_line s.held (take k rest);
       profile = stays ∙ went.profile;
       replied = replied_on _ _ _ _ _ _ _ _ _ went.replied (rw went.profile at replied);
-      same = went.same ∙ ap (λ ls. went.lines ++ ls) (due_cut s.held rest k found) ∙ sym (append_assoc went.lines (due_line s.held (take k rest)) (due [] (drop (k + 1) rest))) ∙ ap (λ h. (went.lines ++ due_line s.held (take k rest)) ++ due h (drop (k + 1) rest)) (sym empty);
+      same = went.same ∙ ap (λ ls. went.lines ++ ls) (due_cut s.held rest k found)
+          ∙ sym (append_assoc went.lines (due_line s.held (take k rest)) (due [] (drop (k + 1) rest)))
+          ∙ ap (λ h. (went.lines ++ due_line s.held (take k rest)) ++ due h (drop (k + 1) rest)) (sym empty);
       last = rw empty (sym (ap (λ l. take 1057 l) cut.last) ∙ went.last);
       room = replied.wrote.room ∙ went.room;
       within = let before = went.within in simp length-drop (omega arith);
     }
 
 -- the writer failed in a reply
-pub scripted_broken : (start s : Scripting) (w0 w1 w2 : SinkState) (piece rest : List ℕ) (k : ℕ) → Scripted start w0 piece s w1 rest →
-    IsFirstByte (is_byte 10) rest (Some k) → Broken s.profile s.trace w1 w2 (due_line s.held (take k rest)) → Broken start.profile start.trace w0 w2 (due start.held piece)
+pub scripted_broken : (start s : Scripting) (w0 w1 w2 : SinkState) (piece rest : List ℕ) (k : ℕ)
+    → Scripted start w0 piece s w1 rest →
+    IsFirstByte (is_byte 10) rest (Some k) → Broken s.profile s.trace w1 w2 (due_line s.held (take k rest))
+    → Broken start.profile start.trace w0 w2 (due start.held piece)
 scripted_broken start s w0 w1 w2 piece rest k went found broke =
-    rw (went.same, due_cut s.held rest k found) (broken_on _ _ _ _ _ _ _ _ went.replied (broken_more _ _ _ _ _ (due [] (drop (k + 1) rest)) (rw went.profile at broke)))
+    rw (went.same, due_cut s.held rest k found) (broken_on _ _ _ _ _ _ _ _ went.replied
+    (broken_more _ _ _ _ _ (due [] (drop (k + 1) rest)) (rw went.profile at broke)))
 
 -- the piece was worked through
-pub scripted_last : (start s t : Scripting) (w0 w1 w2 : SinkState) (piece rest : List ℕ) → Scripted start w0 piece s w1 rest →
-    IsFirstByte (is_byte 10) rest None → Replied s.profile s.trace w1 w2 (due_piece s.held rest) t.trace → Replied start.profile start.trace w0 w2 (due start.held piece) t.trace
+pub scripted_last : (start s t : Scripting) (w0 w1 w2 : SinkState) (piece rest : List ℕ)
+    → Scripted start w0 piece s w1 rest →
+    IsFirstByte (is_byte 10) rest None → Replied s.profile s.trace w1 w2 (due_piece s.held rest) t.trace
+    → Replied start.profile start.trace w0 w2 (due start.held piece) t.trace
 scripted_last start s t w0 w1 w2 piece rest went none replied =
     rw (went.same, due_rest s.held rest none) (replied_on _ _ _ _ _ _ _ _ _ went.replied (rw went.profile at replied))
 
-pub scripted_last_broken : (start s : Scripting) (w0 w1 w2 : SinkState) (piece rest : List ℕ) → Scripted start w0 piece s w1 rest →
-    IsFirstByte (is_byte 10) rest None → Broken s.profile s.trace w1 w2 (due_piece s.held rest) → Broken start.profile start.trace w0 w2 (due start.held piece)
+pub scripted_last_broken : (start s : Scripting) (w0 w1 w2 : SinkState) (piece rest : List ℕ)
+    → Scripted start w0 piece s w1 rest →
+    IsFirstByte (is_byte 10) rest None → Broken s.profile s.trace w1 w2 (due_piece s.held rest)
+    → Broken start.profile start.trace w0 w2 (due start.held piece)
 scripted_last_broken start s w0 w1 w2 piece rest went none broke =
     rw (went.same, due_rest s.held rest none) (broken_on _ _ _ _ _ _ _ _ went.replied (rw went.profile at broke))
 
-pub scripted_held : (start s t : Scripting) (w0 w1 : SinkState) (piece rest : List ℕ) → Scripted start w0 piece s w1 rest →
-    IsFirstByte (is_byte 10) rest None → t.held ≡ take 1057 (s.held ++ rest) → t.held ≡ take 1057 (last_piece start.held piece)
+pub scripted_held : (start s t : Scripting) (w0 w1 : SinkState) (piece rest : List ℕ)
+    → Scripted start w0 piece s w1 rest →
+    IsFirstByte (is_byte 10) rest None → t.held ≡ take 1057 (s.held ++ rest)
+    → t.held ≡ take 1057 (last_piece start.held piece)
 scripted_held start s t w0 w1 piece rest went none is =
     let cut : NoCut s.held rest = no_cut s.held rest none in
     is ∙ ap (λ l. take 1057 l) (sym cut.last) ∙ went.last
@@ -164,7 +227,8 @@ is_short line short = grind arith
 pub due_line_short : (held bytes : List ℕ) → length held ≤ 1056 → due_line held bytes ≡ (held ++ bytes) ∷ []
 due_line_short held bytes short = rw (is_short held short) refl
 
-pub due_piece_long : (held bytes : List ℕ) → length held ≤ 1056 → 1056 < length (take 1057 (held ++ bytes)) → due_piece held bytes ≡ (held ++ bytes) ∷ []
+pub due_piece_long : (held bytes : List ℕ) → length held ≤ 1056 → 1056 < length (take 1057 (held ++ bytes))
+    → due_piece held bytes ≡ (held ++ bytes) ∷ []
 due_piece_long held bytes short long =
     let past : 1056 < length (held ++ bytes) = let cut = rw length-take at long in omega arith in
     rw (is_short held short, is_long (held ++ bytes) past) refl
@@ -175,24 +239,38 @@ due_piece_was_long held bytes long = rw (is_long held long) refl
 pub due_piece_short : (held bytes : List ℕ) → length (take 1057 (held ++ bytes)) ≤ 1056 → due_piece held bytes ≡ []
 due_piece_short held bytes short =
     let within : length (held ++ bytes) ≤ 1056 = let cut = rw length-take at short in omega arith in
-    rw (is_short (held ++ bytes) within) (elim (nat_lt 1056 (length held)) as (λ v. cond {A = List (List ℕ)} v [] [] ≡ []) [ true ↦ refl | false ↦ refl ])
+    rw (is_short (held ++ bytes) within) (elim (nat_lt 1056 (length held)) as (λ v. cond {A = List (List ℕ)} v [] []
+    ≡ []) [ true ↦ refl | false ↦ refl ])
 
-pub replied_cut : (profile : Profile) (t : List Entry) (w0 w1 : SinkState) (line : List ℕ) (u : List Entry) → Replied profile t w0 w1 (take 1057 line ∷ []) u → Replied profile t w0 w1 (line ∷ []) u
+pub replied_cut : (profile : Profile) (t : List Entry) (w0 w1 : SinkState) (line : List ℕ) (u : List Entry)
+    → Replied profile t w0 w1 (take 1057 line ∷ []) u → Replied profile t w0 w1 (line ∷ []) u
 replied_cut profile t w0 w1 line u r = record {
   text = r.text;
   run = (r.run.0, r.run.1, r.run.2, answers_cut profile t line r.run.0 r.run.1 r.run.3, r.run.4, r.run.5);
   wrote = r.wrote;
 }
 
-broken_cut_from : (profile : Profile) (t : List Entry) (w0 w1 : SinkState) (line : List ℕ) (first others : List (List ℕ)) (text : List ℕ) (u : List Entry) →
-    take 1057 line ∷ [] ≡ first ++ others → Run profile t first text u → WrotePrefix w0 w1 text → Broken profile t w0 w1 (line ∷ [])
+broken_cut_from : (profile : Profile) (t : List Entry) (w0 w1 : SinkState) (line : List ℕ)
+    (first others : List (List ℕ)) (text : List ℕ) (u : List Entry) →
+    take 1057 line ∷ [] ≡ first ++ others → Run profile t first text u → WrotePrefix w0 w1 text
+    → Broken profile t w0 w1 (line ∷ [])
 broken_cut_from profile t w0 w1 line [] others text u cut run wrote =
     record { first = []; others = line ∷ []; cut = refl; text = text; trace = u; run = run; wrote = wrote }
 broken_cut_from profile t w0 w1 line (x ∷ []) others text u cut run wrote =
     let same : x ≡ take 1057 line = cc in
     let is = subst (λ (l : List ℕ). Answers profile t l run.0 run.1) same run.3 in
-    record { first = line ∷ []; others = []; cut = refl; text = text; trace = u; run = (run.0, run.1, run.2, answers_cut profile t line run.0 run.1 is, run.4, run.5); wrote = wrote }
+    record {
+      first = line ∷ [];
+      others = [];
+      cut = refl;
+      text = text;
+      trace = u;
+      run = (run.0, run.1, run.2, answers_cut profile t line run.0 run.1 is, run.4, run.5);
+      wrote = wrote;
+    }
 broken_cut_from profile t w0 w1 line (x ∷ y ∷ more) others text u cut run wrote = cc
 
-pub broken_cut : (profile : Profile) (t : List Entry) (w0 w1 : SinkState) (line : List ℕ) → Broken profile t w0 w1 (take 1057 line ∷ []) → Broken profile t w0 w1 (line ∷ [])
-broken_cut profile t w0 w1 line b = broken_cut_from profile t w0 w1 line b.first b.others b.text b.trace b.cut b.run b.wrote
+pub broken_cut : (profile : Profile) (t : List Entry) (w0 w1 : SinkState) (line : List ℕ)
+    → Broken profile t w0 w1 (take 1057 line ∷ []) → Broken profile t w0 w1 (line ∷ [])
+broken_cut profile t w0 w1 line b =
+    broken_cut_from profile t w0 w1 line b.first b.others b.text b.trace b.cut b.run b.wrote

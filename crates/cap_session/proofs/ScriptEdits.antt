@@ -1,18 +1,22 @@
 -- What the lines of any script do, by the edits among them.
-use Rattle.std.proofs.Common.{◌≡◌, ℕ, List, [], ◌∷◌, ◌++◌, length, Bool, true, false, refl, sym, ap, ◌∙◌, append_assoc, subst, inl, inr, suc}
-use Rattle.std.specs.Prelude.{codes, nat_lt, MatchBool, IsOk, Result, Ok, Err, ◌⊎◌}
+use Rattle.std.proofs.Common.{◌≡◌, ℕ, List, [], ◌∷◌, ◌++◌, length, Bool, true, false, refl, sym, ap, ◌∙◌, append_assoc}
+use Rattle.std.proofs.Common.{subst, inl, inr, suc}
+use Rattle.std.specs.Prelude.{codes, nat_lt, Result, Ok, Err, ◌⊎◌}
 use Rattle.cap_trace.specs.Entry.{Entry}
 use Rattle.cap_machine.specs.declared.cell.Profile.{Profile}
 use Rattle.cap_session.specs.declared.edit.Edit.{Edit}
 use Rattle.cap_session.specs.declared.edit.Edit.TheVariants.{Insert, Delete, Replace}
 use Rattle.cap_session.specs.declared.refused.Refused.{Refused}
 use Rattle.cap_session.specs.Edits.{edited, trace_after, after}
-use Rattle.cap_session.specs.Commands.{Asked, asked, insert_line, replace_line, delete_line, show_line, count_lines, report_all, report_lines, unknown}
+use Rattle.cap_session.specs.Commands.{Asked, asked, insert_line, replace_line, delete_line, show_line, count_lines}
+use Rattle.cap_session.specs.Commands.{report_all, report_lines, unknown}
 use Rattle.cap_session.specs.Performs.{edit_asked}
 use Rattle.cap_session.specs.Trace.{is_skipped}
-use Rattle.cap_session.specs.Replies.{shown_done, shown, ranged, line_feed, most_lines}
+use Rattle.cap_session.specs.Replies.{shown_done, shown, ranged, line_feed}
+use Rattle.cap_session.specs.Limits.{most_lines}
 use Rattle.cap_session.specs.Scripts.{RepliesTo, Commands, Answers, Run}
-use Rattle.cap_session.specs.ScriptLaws.{Asks, AsksNone, AreEditsOf, LeavesEdits, ScriptLeavesWhatEditsGive, ReportsThen, EachReportIsOfItsTrace}
+use Rattle.cap_session.specs.ScriptLaws.{Asks, AsksNone, AreEditsOf, LeavesEdits, ScriptLeavesWhatEditsGive}
+use Rattle.cap_session.specs.ScriptLaws.{EachReportIsOfItsTrace}
 use Rattle.cap_session.proofs.Scripted.{edit_replied, reported}
 
 -- what asks for no edit leaves the trace
@@ -20,7 +24,8 @@ record Passes (profile : Profile) (ask : Asked) : Type 0 where
   none : (edit : Edit) → ask ≡ edit_asked edit → ⊥
   keeps : (t u : List Entry) (text : List ℕ) → Commands profile t ask text u → u ≡ t
 
-shown_keeps : (t u : List Entry) (end text : List ℕ) (r : Result (List ℕ) Refused) → RepliesTo t (shown_done t end r) text u → u ≡ t
+shown_keeps : (t u : List Entry) (end text : List ℕ) (r : Result (List ℕ) Refused)
+    → RepliesTo t (shown_done t end r) text u → u ≡ t
 shown_keeps t u end text (Ok shown) is = is.1
 shown_keeps t u end text (Err e) is = is.1
 
@@ -29,23 +34,46 @@ edit_or_not profile (insert_line k line) = inl (Insert k (record { ref_ptr = (0,
 edit_or_not profile (replace_line k line) = inl (Replace k (record { ref_ptr = (0, 0); now = line }), refl)
 edit_or_not profile (delete_line k) = inl (Delete k, refl)
 edit_or_not profile (show_line k) = inr (record {
-  none = λ edit. elim edit as (λ e. show_line k ≡ edit_asked e → ⊥) [ Insert p l ↦ λ is. cc | Delete p ↦ λ is. cc | Replace p l ↦ λ is. cc ];
+  none = λ edit. elim edit as (λ e. show_line k ≡ edit_asked e → ⊥) [
+    | Insert p l ↦ λ is. cc
+    | Delete p ↦ λ is. cc
+    | Replace p l ↦ λ is. cc
+  ];
   keeps = λ t u text is. elim is [ inl told ↦ shown_keeps t u line_feed text (shown t k) told | inr wants ↦ wants.3 ];
 })
 edit_or_not profile count_lines = inr (record {
-  none = λ edit. elim edit as (λ e. count_lines ≡ edit_asked e → ⊥) [ Insert p l ↦ λ is. cc | Delete p ↦ λ is. cc | Replace p l ↦ λ is. cc ];
+  none = λ edit. elim edit as (λ e. count_lines ≡ edit_asked e → ⊥) [
+    | Insert p l ↦ λ is. cc
+    | Delete p ↦ λ is. cc
+    | Replace p l ↦ λ is. cc
+  ];
   keeps = λ t u text is. elim is [ inl told ↦ told.1 | inr wants ↦ wants.3 ];
 })
 edit_or_not profile report_all = inr (record {
-  none = λ edit. elim edit as (λ e. report_all ≡ edit_asked e → ⊥) [ Insert p l ↦ λ is. cc | Delete p ↦ λ is. cc | Replace p l ↦ λ is. cc ];
+  none = λ edit. elim edit as (λ e. report_all ≡ edit_asked e → ⊥) [
+    | Insert p l ↦ λ is. cc
+    | Delete p ↦ λ is. cc
+    | Replace p l ↦ λ is. cc
+  ];
   keeps = λ t u text is. elim is [ inl told ↦ told.1 | inr wants ↦ wants.3 ];
 })
 edit_or_not profile (report_lines a b) = inr (record {
-  none = λ edit. elim edit as (λ e. report_lines a b ≡ edit_asked e → ⊥) [ Insert p l ↦ λ is. cc | Delete p ↦ λ is. cc | Replace p l ↦ λ is. cc ];
-  keeps = λ t u text is. elim is [ inl told ↦ shown_keeps t u [] text (ranged profile t a b) told | inr wants ↦ wants.3 ];
+  none = λ edit. elim edit as (λ e. report_lines a b ≡ edit_asked e → ⊥) [
+    | Insert p l ↦ λ is. cc
+    | Delete p ↦ λ is. cc
+    | Replace p l ↦ λ is. cc
+  ];
+  keeps = λ t u text is. elim is [
+    | inl told ↦ shown_keeps t u [] text (ranged profile t a b) told
+    | inr wants ↦ wants.3
+  ];
 })
 edit_or_not profile unknown = inr (record {
-  none = λ edit. elim edit as (λ e. unknown ≡ edit_asked e → ⊥) [ Insert p l ↦ λ is. cc | Delete p ↦ λ is. cc | Replace p l ↦ λ is. cc ];
+  none = λ edit. elim edit as (λ e. unknown ≡ edit_asked e → ⊥) [
+    | Insert p l ↦ λ is. cc
+    | Delete p ↦ λ is. cc
+    | Replace p l ↦ λ is. cc
+  ];
   keeps = λ t u text is. elim is [ inl told ↦ told.1 | inr wants ↦ wants.3 ];
 })
 
@@ -60,7 +88,9 @@ record Stays (t : List Entry) (line : List ℕ) (u : List Entry) : Type 0 where
   none : AsksNone line
   same : u ≡ t
 
-line_does : (profile : Profile) (long skipped : Bool) (t u : List Entry) (line text : List ℕ) → nat_lt 1056 (length line) ≡ long → is_skipped line ≡ skipped → Answers profile t line text u → Edits t line u ⊎ Stays t line u
+line_does : (profile : Profile) (long skipped : Bool) (t u : List Entry) (line text : List ℕ)
+    → nat_lt 1056 (length line) ≡ long
+    → is_skipped line ≡ skipped → Answers profile t line text u → Edits t line u ⊎ Stays t line u
 line_does profile true skipped t u line text long is_so is =
     inr (record { none = λ edit asks. let no = sym long ∙ asks.0 in cc; same = (rw long at is).1 })
 line_does profile false true t u line text long is_so is =
@@ -69,18 +99,26 @@ line_does profile false false t u line text long is_so is =
     let does : Commands profile t (asked line) text u = rw (long, is_so) at is in
     elim (edit_or_not profile (asked line)) [
       | inl edit ↦
-          let done = edit_replied profile t u text edit.0 (subst (λ (a : Asked). Commands profile t a text u) edit.1 does) in
+          let done =
+          edit_replied profile t u text edit.0 (subst (λ (a : Asked). Commands profile t a text u) edit.1 does) in
           inl (record { edit = edit.0; asks = (long, is_so, edit.1); want = done.0; moves = done.1 })
       | inr passes ↦ inr (record { none = λ edit asks. passes.none edit asks.2; same = passes.keeps t u text does })
     ]
 
 -- a line that asks for no edit, before others
-passed_over : (line : List ℕ) (lines : List (List ℕ)) (edits : List Edit) → AsksNone line → AreEditsOf lines edits → AreEditsOf (line ∷ lines) edits
+passed_over : (line : List ℕ) (lines : List (List ℕ)) (edits : List Edit) → AsksNone line → AreEditsOf lines edits
+    → AreEditsOf (line ∷ lines) edits
 passed_over line lines [] none are = (none, are)
 passed_over line lines (edit ∷ edits) none are = inl (none, are)
 
 pub script_leaves_what_edits_give : ScriptLeavesWhatEditsGive
-script_leaves_what_edits_give profile trace left [] text run = record { edits = []; asked = tt; wanted = []; each = refl; leaves = run.1 }
+script_leaves_what_edits_give profile trace left [] text run = record {
+  edits = [];
+  asked = tt;
+  wanted = [];
+  each = refl;
+  leaves = run.1;
+}
 script_leaves_what_edits_give profile trace left (line ∷ lines) text run =
     let (first, mid, rest, is, more, cut) = run in
     let others : LeavesEdits mid lines left = script_leaves_what_edits_give profile mid left lines rest more in
@@ -102,7 +140,8 @@ script_leaves_what_edits_give profile trace left (line ∷ lines) text run =
     ]
 
 -- lines one after the other
-record Split (profile : Profile) (t : List Entry) (xs ys : List (List ℕ)) (text : List ℕ) (u : List Entry) : Type 0 where
+record Split (profile : Profile) (t : List Entry) (xs ys : List (List ℕ)) (text : List ℕ)
+    (u : List Entry) : Type 0 where
   now : List Entry
   first : List ℕ
   rest : List ℕ
@@ -110,8 +149,16 @@ record Split (profile : Profile) (t : List Entry) (xs ys : List (List ℕ)) (tex
   others : Run profile now ys rest u
   joins : text ≡ first ++ rest
 
-run_split : (profile : Profile) (t : List Entry) (xs ys : List (List ℕ)) (text : List ℕ) (u : List Entry) → Run profile t (xs ++ ys) text u → Split profile t xs ys text u
-run_split profile t [] ys text u run = record { now = t; first = []; rest = text; before = (refl, refl); others = run; joins = refl }
+run_split : (profile : Profile) (t : List Entry) (xs ys : List (List ℕ)) (text : List ℕ) (u : List Entry)
+    → Run profile t (xs ++ ys) text u → Split profile t xs ys text u
+run_split profile t [] ys text u run = record {
+  now = t;
+  first = [];
+  rest = text;
+  before = (refl, refl);
+  others = run;
+  joins = refl;
+}
 run_split profile t (x ∷ xs) ys text u run =
     let (first, mid, rest, is, more, cut) = run in
     let s = run_split profile mid xs ys rest u more in

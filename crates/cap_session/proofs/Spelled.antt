@@ -1,6 +1,8 @@
 -- What the fields of a line of a start text spell.
-use Rattle.std.proofs.Common.{inl, inr, ◌≡◌, ℕ, suc, ◌+◌, ◌<◌, ◌≤◌, List, [], ◌∷◌, length, take, drop, refl, sym, ◌∙◌, ap, arith, Bool, true, false, cond, not, ltb}
-use Rattle.std.specs.Prelude.{◌==◌, nat_le, Result, Ok, Err, Option, Some, None, MatchOption, option_copied, option_and_then, position}
+use Rattle.std.proofs.Common.{inl, inr, ◌≡◌, ℕ, suc, ◌+◌, ◌<◌, ◌≤◌, List, [], ◌∷◌, length, take, drop, refl, sym, ◌∙◌}
+use Rattle.std.proofs.Common.{ap, arith, Bool, true, false, cond, not, ltb}
+use Rattle.std.specs.Prelude.{◌==◌, nat_le, Result, Ok, Err, Option, Some, None, MatchOption, option_copied}
+use Rattle.std.specs.Prelude.{option_and_then, position}
 use Rattle.std.specs.List.{slice_get, position_or_len, onto_first}
 use Rattle.std.proofs.lemmas.List.Splits.{slice_split_first}
 use Rattle.std.proofs.lemmas.Bool.{cases_lt}
@@ -9,7 +11,8 @@ use denote.Ref.{Bor}
 use Rattle.cap_trace.specs.Number.{num_at, digits_at, is_odd}
 use Rattle.cap_session.specs.Commands.{position as position_spelled}
 use Rattle.cap_session.specs.StartWords.{words}
-use Rattle.cap_session.specs.StartTexts.{number_spelled, at_least, need, rest_at, mode_spelled, cells_from, described, ◌>>=◌, Described}
+use Rattle.cap_session.specs.StartTexts.{number_spelled, at_least, need, rest_at, mode_spelled, cells_from, described}
+use Rattle.cap_session.specs.StartTexts.{◌>>=◌, Described}
 use Rattle.cap_session.specs.StartLines.{completed}
 use Rattle.cap_machine.specs.declared.cell.Cell.{Cell}
 use Rattle.cap_machine.specs.declared.cell.Mode.{Mode}
@@ -26,7 +29,8 @@ no_space : (t : List ℕ) → length t ≤ position_or_len is_space t → words 
 no_space [] le = refl
 no_space (x ∷ t) le = go (x == 32) refl le (λ h. no_space t h)
   where
-    go : (b : Bool) → (x == 32) ≡ b → suc (length t) ≤ cond (not b) (1 + position_or_len is_space t) 0 → (length t ≤ position_or_len is_space t → words t ≡ t ∷ []) →
+    go : (b : Bool) → (x == 32) ≡ b → suc (length t) ≤ cond (not b) (1 + position_or_len is_space t) 0
+        → (length t ≤ position_or_len is_space t → words t ≡ t ∷ []) →
         cond b ([] ∷ words t) (onto_first x (words t)) ≡ (x ∷ t) ∷ []
     go true e le more = absurd (omega arith)
     go false e le more = ap (onto_first x) (more (omega arith))
@@ -56,7 +60,8 @@ first_word t i e =
     rw found.1 at split
 
 -- the next word is the first of those that are left
-pub taken : (word : Option (Bor (List ℕ))) (old new : List (List ℕ)) → MatchOption word ((old ≡ []) × (new ≡ [])) (λ w. old ≡ w.now ∷ new) →
+pub taken : (word : Option (Bor (List ℕ))) (old new : List (List ℕ))
+    → MatchOption word ((old ≡ []) × (new ≡ [])) (λ w. old ≡ w.now ∷ new) →
     (option_copied word ≡ slice_get old 0) × (new ≡ drop 1 old)
 taken None old new h = (rw h.0 refl, rw (h.0, h.1) refl)
 taken (Some w) old new h = (rw h refl, rw h refl)
@@ -84,20 +89,27 @@ pid_said low word = need bad.Pid (option_and_then (number_spelled low 99999) wor
 abbrev mode_said : Option (List ℕ) → Result Mode Refused
 mode_said word = need bad.Argument (option_and_then mode_spelled word)
 
-pub pid_is : (low : ℕ) (ws ws0 : List (List ℕ)) (word : Option (List ℕ)) (r : Result ℕ Refused) → ws0 ≡ ws → word ≡ slice_get ws0 0 → r ≡ pid_said low word →
+pub pid_is : (low : ℕ) (ws ws0 : List (List ℕ)) (word : Option (List ℕ)) (r : Result ℕ Refused) → ws0 ≡ ws
+    → word ≡ slice_get ws0 0 → r ≡ pid_said low word →
     pid_said low (slice_get ws 0) ≡ r
 pid_is low ws ws0 word r all at is = sym (is ∙ ap (pid_said low) (at ∙ ap (λ (l : List (List ℕ)). slice_get l 0) all))
 
-pub mode_is : (ws ws0 ws1 : List (List ℕ)) (word : Option (List ℕ)) (r : Result Mode Refused) → ws0 ≡ ws → ws1 ≡ drop 1 ws0 → word ≡ slice_get ws1 0 → r ≡ mode_said word →
+pub mode_is : (ws ws0 ws1 : List (List ℕ)) (word : Option (List ℕ)) (r : Result Mode Refused) → ws0 ≡ ws
+    → ws1 ≡ drop 1 ws0 → word ≡ slice_get ws1 0 → r ≡ mode_said word →
     mode_said (slice_get ws 1) ≡ r
-mode_is ws ws0 ws1 word r all one at is = sym (is ∙ ap mode_said (at ∙ ap (λ (l : List (List ℕ)). slice_get l 0) (one ∙ ap (drop 1) all) ∙ second ws))
+mode_is ws ws0 ws1 word r all one at is =
+    sym (is ∙ ap mode_said (at ∙ ap (λ (l : List (List ℕ)). slice_get l 0) (one ∙ ap (drop 1) all) ∙ second ws))
 
-pub rest_is : (ws ws0 ws1 ws2 : List (List ℕ)) (word : Option (List ℕ)) (r : Result Cell Refused) → ws0 ≡ ws → ws1 ≡ drop 1 ws0 → ws2 ≡ drop 1 ws1 → word ≡ slice_get ws2 0 → r ≡ rest_at word →
+pub rest_is : (ws ws0 ws1 ws2 : List (List ℕ)) (word : Option (List ℕ)) (r : Result Cell Refused) → ws0 ≡ ws
+    → ws1 ≡ drop 1 ws0 → ws2 ≡ drop 1 ws1 → word ≡ slice_get ws2 0 → r ≡ rest_at word →
     rest_at (slice_get ws 2) ≡ r
-rest_is ws ws0 ws1 ws2 word r all one two at is = sym (is ∙ ap rest_at (at ∙ ap (λ (l : List (List ℕ)). slice_get l 0) (two ∙ ap (drop 1) (one ∙ ap (drop 1) all)) ∙ third ws))
+rest_is ws ws0 ws1 ws2 word r all one two at is = sym (is ∙ ap rest_at
+    (at ∙ ap (λ (l : List (List ℕ)). slice_get l 0) (two ∙ ap (drop 1) (one ∙ ap (drop 1) all)) ∙ third ws))
 
-pub others_are : (ws ws0 ws1 ws2 ws3 : List (List ℕ)) → ws0 ≡ ws → ws1 ≡ drop 1 ws0 → ws2 ≡ drop 1 ws1 → ws3 ≡ drop 1 ws2 → ws3 ≡ drop 3 ws
-others_are ws ws0 ws1 ws2 ws3 all one two three = three ∙ ap (drop 1) (two ∙ ap (drop 1) (one ∙ ap (drop 1) all)) ∙ others ws
+pub others_are : (ws ws0 ws1 ws2 ws3 : List (List ℕ)) → ws0 ≡ ws → ws1 ≡ drop 1 ws0 → ws2 ≡ drop 1 ws1
+    → ws3 ≡ drop 1 ws2 → ws3 ≡ drop 3 ws
+others_are ws ws0 ws1 ws2 ws3 all one two three = three
+    ∙ ap (drop 1) (two ∙ ap (drop 1) (one ∙ ap (drop 1) all)) ∙ others ws
 
 -- ---- numbers
 
@@ -117,13 +129,15 @@ none_kept : (b : Bool) (k : ℕ) → ◌≡◌ {A = Option ℕ} None (cond b (So
 none_kept true k e = absurd cc
 none_kept false k e = refl
 
-numbered_some : (most n : ℕ) (odd : Bool) (digits : Option ℕ) → Some n ≡ numbered most odd digits → (odd ≡ false) × (digits ≡ Some n)
+numbered_some : (most n : ℕ) (odd : Bool) (digits : Option ℕ) → Some n ≡ numbered most odd digits
+    → (odd ≡ false) × (digits ≡ Some n)
 numbered_some most n true digits e = absurd cc
 numbered_some most n false None e = absurd cc
 numbered_some most n false (Some k) e = (refl, ap (λ (i : ℕ). Some i) (some_kept (nat_le k most) k n e))
 
 -- what is larger than the larger limit is larger than the other
-numbered_none : (most high : ℕ) (odd : Bool) (digits : Option ℕ) → high ≤ most → None ≡ numbered most odd digits → numbered high odd digits ≡ None
+numbered_none : (most high : ℕ) (odd : Bool) (digits : Option ℕ) → high ≤ most → None ≡ numbered most odd digits
+    → numbered high odd digits ≡ None
 numbered_none most high true digits le e = refl
 numbered_none most high false None le e = refl
 numbered_none most high false (Some k) le e =
@@ -132,19 +146,22 @@ numbered_none most high false (Some k) le e =
     rw past refl
 
 -- the same number with another limit
-with_limit : (most high n : ℕ) (t : List ℕ) → Some n ≡ num_at most t → num_at high t ≡ cond (nat_le n high) (Some n) None
+with_limit : (most high n : ℕ) (t : List ℕ) → Some n ≡ num_at most t
+    → num_at high t ≡ cond (nat_le n high) (Some n) None
 with_limit most high n t e =
     let both = numbered_some most n (is_odd t) (digits_at t) (e ∙ is_numbered most t) in
     is_numbered high t ∙ rw (both.0, both.1) refl
 
-pub number_good : (low high n : ℕ) (t : List ℕ) → Some n ≡ position_spelled t → low ≤ n → n ≤ high → Some n ≡ number_spelled low high t
+pub number_good : (low high n : ℕ) (t : List ℕ) → Some n ≡ position_spelled t → low ≤ n → n ≤ high
+    → Some n ≡ number_spelled low high t
 unfolding number_spelled
 number_good low high n t e above below =
     let is : nat_le n high ≡ true = grind arith in
     let from : nat_le low n ≡ true = grind arith in
     rw (with_limit 9999999999999999999 high n t e, is, from) refl
 
-pub number_high : (low high n : ℕ) (t : List ℕ) → Some n ≡ position_spelled t → high < n → None ≡ number_spelled low high t
+pub number_high : (low high n : ℕ) (t : List ℕ) → Some n ≡ position_spelled t → high < n
+    → None ≡ number_spelled low high t
 unfolding number_spelled
 number_high low high n t e above =
     let is : nat_le n high ≡ false = grind arith in
@@ -156,29 +173,37 @@ below_low low n true below =
     rw is refl
 below_low low n false below = refl
 
-pub number_low : (low high n : ℕ) (t : List ℕ) → Some n ≡ position_spelled t → n < low → None ≡ number_spelled low high t
+pub number_low : (low high n : ℕ) (t : List ℕ) → Some n ≡ position_spelled t → n < low
+    → None ≡ number_spelled low high t
 unfolding number_spelled
-number_low low high n t e below = rw (with_limit 9999999999999999999 high n t e) (sym (below_low low n (nat_le n high) below))
+number_low low high n t e below =
+    rw (with_limit 9999999999999999999 high n t e) (sym (below_low low n (nat_le n high) below))
 
-pub number_none : (low high : ℕ) (t : List ℕ) → high ≤ 9999999999999999999 → None ≡ position_spelled t → None ≡ number_spelled low high t
+pub number_none : (low high : ℕ) (t : List ℕ) → high ≤ 9999999999999999999 → None ≡ position_spelled t
+    → None ≡ number_spelled low high t
 unfolding number_spelled
 number_none low high t le e =
-    let none : num_at high t ≡ None = is_numbered high t ∙ numbered_none 9999999999999999999 high (is_odd t) (digits_at t) le (e ∙ is_numbered 9999999999999999999 t) in
+    let none : num_at high t ≡ None = is_numbered high t
+    ∙ numbered_none 9999999999999999999 high (is_odd t) (digits_at t) le (e ∙ is_numbered 9999999999999999999 t) in
     rw none refl
 
 -- ---- the fields before the listed descriptors
 
-pub bad_pid : (low : ℕ) (ws : List (List ℕ)) (e : Refused) → need bad.Pid (option_and_then (number_spelled low 99999) (slice_get ws 0)) ≡ Err e → described low ws ≡ Err e
+pub bad_pid : (low : ℕ) (ws : List (List ℕ)) (e : Refused)
+    → need bad.Pid (option_and_then (number_spelled low 99999) (slice_get ws 0)) ≡ Err e → described low ws ≡ Err e
 unfolding described
 bad_pid low ws e is = rw is refl
 
-pub bad_mode : (low : ℕ) (ws : List (List ℕ)) (pid : ℕ) (e : Refused) → need bad.Pid (option_and_then (number_spelled low 99999) (slice_get ws 0)) ≡ Ok pid →
+pub bad_mode : (low : ℕ) (ws : List (List ℕ)) (pid : ℕ) (e : Refused)
+    → need bad.Pid (option_and_then (number_spelled low 99999) (slice_get ws 0)) ≡ Ok pid →
     need bad.Argument (option_and_then mode_spelled (slice_get ws 1)) ≡ Err e → described low ws ≡ Err e
 unfolding described
 bad_mode low ws pid e first is = rw (first, is) refl
 
-pub bad_rest : (low : ℕ) (ws : List (List ℕ)) (pid : ℕ) (mode : Mode) (e : Refused) → need bad.Pid (option_and_then (number_spelled low 99999) (slice_get ws 0)) ≡ Ok pid →
-    need bad.Argument (option_and_then mode_spelled (slice_get ws 1)) ≡ Ok mode → rest_at (slice_get ws 2) ≡ Err e → described low ws ≡ Err e
+pub bad_rest : (low : ℕ) (ws : List (List ℕ)) (pid : ℕ) (mode : Mode) (e : Refused)
+    → need bad.Pid (option_and_then (number_spelled low 99999) (slice_get ws 0)) ≡ Ok pid →
+    need bad.Argument (option_and_then mode_spelled (slice_get ws 1)) ≡ Ok mode → rest_at (slice_get ws 2) ≡ Err e
+    → described low ws ≡ Err e
 unfolding described
 bad_rest low ws pid mode e first second is = rw (first, second, is) refl
 
@@ -190,7 +215,9 @@ completes : (head : Head) (cells : Result (List (ℕ × Cell)) Refused) →
 completes head (Ok cells) = refl
 completes head (Err e) = refl
 
-pub good_head : (low : ℕ) (ws : List (List ℕ)) (head : Head) → need bad.Pid (option_and_then (number_spelled low 99999) (slice_get ws 0)) ≡ Ok head.pid →
-    need bad.Argument (option_and_then mode_spelled (slice_get ws 1)) ≡ Ok head.mode → rest_at (slice_get ws 2) ≡ Ok head.rest → described low ws ≡ completed head (cells_from 0 (drop 3 ws))
+pub good_head : (low : ℕ) (ws : List (List ℕ)) (head : Head)
+    → need bad.Pid (option_and_then (number_spelled low 99999) (slice_get ws 0)) ≡ Ok head.pid →
+    need bad.Argument (option_and_then mode_spelled (slice_get ws 1)) ≡ Ok head.mode
+    → rest_at (slice_get ws 2) ≡ Ok head.rest → described low ws ≡ completed head (cells_from 0 (drop 3 ws))
 unfolding described
 good_head low ws head first second third = rw (first, second, third) (completes head (cells_from 0 (drop 3 ws)))

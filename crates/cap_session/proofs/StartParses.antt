@@ -12,14 +12,17 @@ use Rattle.cap_session.specs.StartParsed.{Parses, fault_of}
 use Rattle.cap_session.specs.Refused.{code_of}
 use Rattle.cap_session.specs.declared.refused.Refusal.{Refusal}
 use Rattle.cap_session.specs.declared.refused.Refused.{Refused}
-use Rattle.cap_session.specs.declared.refused.Refused.TheVariants.{LongLine, Shape, Pid, Argument, Right, Answer, Position, Full, Memory}
+use Rattle.cap_session.specs.declared.refused.Refused.TheVariants.{LongLine, Shape, Pid, Argument, Right, Answer}
+use Rattle.cap_session.specs.declared.refused.Refused.TheVariants.{Position, Full, Memory}
 use Rattle.cap_session.specs.declared.start_text.StartFault.{StartFault}
 use Rattle.cap_session.specs.declared.start_text.StartFault.TheVariants as faults
 
 is_ok : {A B : Type 0} (r : Result A B) (x : A) → r ≡ Ok x → IsOk r
 is_ok r x is = rw is (search rules)
 
-pub parsed : (text : List ℕ) (kept : Option Start) (low : ℕ) → (known : Listed) × (whole_text next_process none_listed text ≡ Ok known) × Follows kept low known → Parses (start text) (ok_or kept faults.Memory)
+pub parsed : (text : List ℕ) (kept : Option Start) (low : ℕ)
+    → (known : Listed) × (whole_text next_process none_listed text ≡ Ok known) × Follows kept low known
+    → Parses (start text) (ok_or kept faults.Memory)
 parsed text (Some s) low (known, is, does) = ap state_of is ∙ ap (λ (x : State). Ok x) (sym does.0)
 parsed text None low (known, is, does) = is_ok (start text) known.state (ap state_of is)
 
@@ -53,9 +56,11 @@ same_refusal d e same =
     let code : code_of d.reason ≡ code_of e.reason = cc in
     let line : d.line ≡ e.line = cc in
     let reason : d.reason ≡ e.reason = has_code d.reason ∙ ap reason_at code ∙ sym (has_code e.reason) in
-    ap (λ (r : Refused). record { reason = r; line = d.line }) reason ∙ ap (λ (n : ℕ). record { reason = e.reason; line = n }) line
+    ap (λ (r : Refused). record { reason = r; line = d.line }) reason
+    ∙ ap (λ (n : ℕ). record { reason = e.reason; line = n }) line
 
-pub parse_good : (said : Result State Refusal) (result : Result Start StartFault) → Parses said result → IfOk result (λ s. said ≡ Ok (start_state s))
+pub parse_good : (said : Result State Refusal) (result : Result Start StartFault) → Parses said result
+    → IfOk result (λ s. said ≡ Ok (start_state s))
 parse_good said (Ok s) is = is
 parse_good said (Err f) is = tt
 
@@ -64,7 +69,8 @@ not_both said s e good bad =
     let both = sym good ∙ bad in
     absurd cc
 
-pub parse_bad : (said : Result State Refusal) (result : Result Start StartFault) → Parses said result → (e : Refusal) → (result ≡ Err (fault_of e)) ↔ (said ≡ Err e)
+pub parse_bad : (said : Result State Refusal) (result : Result Start StartFault) → Parses said result → (e : Refusal)
+    → (result ≡ Err (fault_of e)) ↔ (said ≡ Err e)
 parse_bad said (Ok s) is e = (λ other. absurd cc, λ bad. not_both said _ e is bad)
 parse_bad said (Err (faults.Bad code line)) (d, is, names) e = (
   λ same.
@@ -77,7 +83,8 @@ parse_bad said (Err (faults.Bad code line)) (d, is, names) e = (
 parse_bad (Ok s) (Err faults.Memory) is e = (λ other. absurd cc, λ other. absurd cc)
 parse_bad (Err d) (Err faults.Memory) is e = absurd (search rules)
 
-pub parse_memory : (said : Result State Refusal) (result : Result Start StartFault) → Parses said result → result ≡ Err faults.Memory → IsOk said
+pub parse_memory : (said : Result State Refusal) (result : Result Start StartFault) → Parses said result
+    → result ≡ Err faults.Memory → IsOk said
 parse_memory said (Ok s) is other = absurd cc
 parse_memory said (Err (faults.Bad code line)) is other = absurd cc
 parse_memory said (Err faults.Memory) is same = is

@@ -16,18 +16,41 @@ use Rattle.cap_session.specs.declared.refused.Refusal.{Refusal}
 use Rattle.cap_session.specs.declared.lines.Stop.{Stop}
 use Rattle.cap_session.specs.declared.lines.Stop.TheVariants as stops
 use Rattle.cap_session.specs.declared.outcome.Outcome.{Outcome}
-use Rattle.cap_session.specs.declared.outcome.Outcome.TheVariants.{Clean, Findings, Refused, StartRefused, Memory, ReadFault, WriteFault, TooLong}
+use Rattle.cap_session.specs.declared.outcome.Outcome.TheVariants.{Clean, Findings, Refused, StartRefused, Memory}
+use Rattle.cap_session.specs.declared.outcome.Outcome.TheVariants.{ReadFault, WriteFault, TooLong}
 use Rattle.cap_session.proofs.Answered.{with_stop}
 use Rattle.cap_session.proofs.Calls.{appends_none}
-use Rattle.cap_session.proofs.Goes.{goes_nowhere}
+use Rattle.cap_session.proofs.Texted.{goes_nowhere}
 
-line_refused : (profile : Profile) {T : Type 0} (holds : T → State → Type 0) (turns : ℕ) (s0 s1 r : SourceState) (w0 w1 : SinkState) (e : Refusal) (o : Outcome) → Reads start start_soon holds turns s0 s1 (Err (stops.Refused e)) → WritesStartRefusal e w0 w1 o →
+line_refused : (profile : Profile) {T : Type 0} (holds : T → State → Type 0) (turns : ℕ) (s0 s1 r : SourceState)
+    (w0 w1 : SinkState) (e : Refusal) (o : Outcome)
+    → Reads start start_soon holds turns s0 s1 (Err (stops.Refused e)) → WritesStartRefusal e w0 w1 o →
     StartStreams profile turns s0 s1 r r w0 w1 o
 line_refused profile holds turns s0 s1 r w0 w1 e (StartRefused code line) d w =
     let same = w.0.failures in
-    inl (record { given = d.given; read = d.read; written = start_refusal_text e; wrote = w.0.taken; calls = d.calls; read_fault = d.failures; write_fault = omega arith; answer = record { refusal = e; says = record { line = d.answer; is = refl }; code_is = w.1; line_is = w.2 }; unread = refl })
+    inl (record {
+      given = d.given;
+      read = d.read;
+      written = start_refusal_text e;
+      wrote = w.0.taken;
+      calls = d.calls;
+      read_fault = d.failures;
+      write_fault = omega arith;
+      answer = record { refusal = e; says = record { line = d.answer; is = refl }; code_is = w.1; line_is = w.2 };
+      unread = refl;
+    })
 line_refused profile holds turns s0 s1 r w0 w1 e WriteFault d w =
-    inl (record { given = d.given; read = d.read; written = w.front; wrote = w.taken; calls = d.calls; read_fault = d.failures; write_fault = w.failures; answer = (e, start_refusal_text e, record { line = d.answer; is = refl }, (w.rest, w.cut)); unread = refl })
+    inl (record {
+      given = d.given;
+      read = d.read;
+      written = w.front;
+      wrote = w.taken;
+      calls = d.calls;
+      read_fault = d.failures;
+      write_fault = w.failures;
+      answer = (e, start_refusal_text e, record { line = d.answer; is = refl }, (w.rest, w.cut));
+      unread = refl;
+    })
 line_refused profile holds turns s0 s1 r w0 w1 e (Refused code line) d w = absurd w
 line_refused profile holds turns s0 s1 r w0 w1 e Clean d w = absurd w
 line_refused profile holds turns s0 s1 r w0 w1 e Findings d w = absurd w
@@ -36,28 +59,74 @@ line_refused profile holds turns s0 s1 r w0 w1 e ReadFault d w = absurd w
 line_refused profile holds turns s0 s1 r w0 w1 e TooLong d w = absurd w
 
 -- reading the start stopped
-pub start_rejected : (profile : Profile) {T : Type 0} (holds : T → State → Type 0) (turns : ℕ) (s0 s1 r : SourceState) (w0 w1 : SinkState) (stop : Stop) (o : Outcome) → Reads start start_soon holds turns s0 s1 (Err stop) → EndsStart stop w0 w1 o →
+pub start_rejected : (profile : Profile) {T : Type 0} (holds : T → State → Type 0) (turns : ℕ) (s0 s1 r : SourceState)
+    (w0 w1 : SinkState) (stop : Stop) (o : Outcome)
+    → Reads start start_soon holds turns s0 s1 (Err stop) → EndsStart stop w0 w1 o →
     StartStreams profile turns s0 s1 r r w0 w1 o
-start_rejected profile holds turns s0 s1 r w0 w1 (stops.Refused e) o d w = line_refused profile holds turns s0 s1 r w0 w1 e o d w
+start_rejected profile holds turns s0 s1 r w0 w1 (stops.Refused e) o d w =
+    line_refused profile holds turns s0 s1 r w0 w1 e o d w
 start_rejected profile holds turns s0 s1 r w0 w1 stops.Memory o d w =
-    rw (w.0, w.1) (inl (record { given = d.given; read = d.read; written = []; wrote = appends_none w0.taken; calls = d.calls; read_fault = d.failures; write_fault = omega arith; answer = record { good = d.answer; silent = refl }; unread = refl }))
+    rw (w.0, w.1) (inl (record {
+      given = d.given;
+      read = d.read;
+      written = [];
+      wrote = appends_none w0.taken;
+      calls = d.calls;
+      read_fault = d.failures;
+      write_fault = omega arith;
+      answer = record { good = d.answer; silent = refl };
+      unread = refl;
+    }))
 start_rejected profile holds turns s0 s1 r w0 w1 stops.ReadFault o d w =
-    rw (w.0, w.1) (inl (record { given = d.given; read = d.read; written = []; wrote = appends_none w0.taken; calls = d.calls; read_fault = d.failures; write_fault = omega arith; answer = record { going = d.answer.0; good = d.answer.1; silent = refl }; unread = refl }))
+    rw (w.0, w.1) (inl (record {
+      given = d.given;
+      read = d.read;
+      written = [];
+      wrote = appends_none w0.taken;
+      calls = d.calls;
+      read_fault = d.failures;
+      write_fault = omega arith;
+      answer = record { going = d.answer.0; good = d.answer.1; silent = refl };
+      unread = refl;
+    }))
 start_rejected profile holds turns s0 s1 r w0 w1 stops.TooLong o d w =
-    rw (w.0, w.1) (inl (record { given = d.given; read = d.read; written = []; wrote = appends_none w0.taken; calls = d.calls; read_fault = d.failures; write_fault = omega arith; answer = (record { going = d.answer.0; good = d.answer.1; silent = refl }, d.answer.2); unread = refl }))
+    rw (w.0, w.1) (inl (record {
+      given = d.given;
+      read = d.read;
+      written = [];
+      wrote = appends_none w0.taken;
+      calls = d.calls;
+      read_fault = d.failures;
+      write_fault = omega arith;
+      answer = (record { going = d.answer.0; good = d.answer.1; silent = refl }, d.answer.2);
+      unread = refl;
+    }))
 start_rejected profile holds turns s0 s1 r w0 w1 stops.WriteFault o d w = absurd d.answer
 
 -- the start was read to its end, and the trace checked from it
-pub start_taken : (profile : Profile) {T : Type 0} (holds : T → State → Type 0) (turns : ℕ) (s0 s1 r0 r1 : SourceState) (w0 w1 : SinkState) (x : T) (s : State) (o : Outcome) → Reads start start_soon holds turns s0 s1 (Ok x) → ((known : State) → holds x known → s ≡ known) →
+pub start_taken : (profile : Profile) {T : Type 0} (holds : T → State → Type 0) (turns : ℕ) (s0 s1 r0 r1 : SourceState)
+    (w0 w1 : SinkState) (x : T) (s : State) (o : Outcome)
+    → Reads start start_soon holds turns s0 s1 (Ok x) → ((known : State) → holds x known → s ≡ known) →
     Streams profile s turns r0 r1 w0 w1 o → StartStreams profile turns s0 s1 r0 r1 w0 w1 o
 start_taken profile holds turns s0 s1 r0 r1 w0 w1 x s o d is checks =
     let known = d.answer.1 in
     let same = d.failures in
-    inr (record { given = d.given; read = d.read; calls = d.calls; failures = omega arith; end = d.answer.0; known = known.0; good = known.1; checked = subst (λ (k : State). Streams profile k turns r0 r1 w0 w1 o) (is known.0 known.2) checks })
+    inr (record {
+      given = d.given;
+      read = d.read;
+      calls = d.calls;
+      failures = omega arith;
+      end = d.answer.0;
+      known = known.0;
+      good = known.1;
+      checked = subst (λ (k : State). Streams profile k turns r0 r1 w0 w1 o) (is known.0 known.2) checks;
+    })
 
 -- memory ran out before the first read of the trace
-pub not_begun : (profile : Profile) (s : State) (turns : ℕ) (r : SourceState) (w : SinkState) → Streams profile s turns r r w w Memory
+pub not_begun : (profile : Profile) (s : State) (turns : ℕ) (r : SourceState) (w : SinkState)
+    → Streams profile s turns r r w w Memory
 not_begun profile s turns r w =
     let holds : List Entry → List Entry → Type 0 = λ lines known. known ≡ [] in
     let follows : List Entry → Type 0 = λ known. known ≡ [] in
-    with_stop profile s holds turns r r w w stops.Memory Memory (goes_nowhere next_entry follows holds turns r [] refl) (refl, refl)
+    with_stop profile s holds turns r r w w stops.Memory Memory (goes_nowhere next_entry follows holds turns r [] refl)
+    (refl, refl)

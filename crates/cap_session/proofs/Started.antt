@@ -1,16 +1,18 @@
 -- What a line of a start text does, and how far a text was taken.
-use Rattle.std.proofs.Common.{rules, ◌≡◌, ℕ, ◌+◌, ◌≤◌, List, [], ◌∷◌, ◌++◌, length, take, drop, refl, sym, ◌∙◌, ap, arith, append_assoc, true, false}
+use Rattle.std.proofs.Common.{rules, ◌≡◌, ℕ, ◌+◌, ◌≤◌, List, [], ◌∷◌, ◌++◌, length, take, drop, refl, sym, ◌∙◌, ap}
+use Rattle.std.proofs.Common.{arith, append_assoc, true, false}
 use Rattle.std.specs.Prelude.{Result, Ok, Err, Some, None, IsOk, OnOk, IfErr, nat_lt}
 use Rattle.std.proofs.lemmas.List.{take-append-drop, length-drop, append-nil}
 use Rattle.memchr.specs.Find.{IsFirstByte, is_byte}
-use Rattle.cap_machine.specs.State.{State, usual, with_listed}
+use Rattle.cap_machine.specs.State.{with_listed}
 use Rattle.cap_machine.specs.declared.cell.Cell.{Cell}
 use Rattle.cap_session.specs.Lines.{whole_lines, last_piece, line_if_any, lines}
 use Rattle.cap_session.specs.Texts.{with_line, with_lines, whole_text, refused_so_far}
 use Rattle.cap_session.specs.Trace.{is_skipped}
 use Rattle.cap_session.specs.Feeds.{Reached}
 use Rattle.cap_session.specs.StartWords.{words}
-use Rattle.cap_session.specs.StartTexts.{Listed, none_listed, described, with_described, next_process, cells_from, state_of, start}
+use Rattle.cap_session.specs.StartTexts.{Listed, none_listed, described, with_described, next_process, cells_from}
+use Rattle.cap_session.specs.StartTexts.{state_of, start}
 use Rattle.cap_session.specs.StartLines.{completed, TakesNumbered}
 use Rattle.cap_session.specs.declared.refused.Refusal.{Refusal}
 use Rattle.cap_session.specs.declared.refused.Refused.{Refused}
@@ -26,30 +28,43 @@ pub skipped_line : (listed : Listed) (line : List ℕ) → is_skipped line ≡ t
 unfolding next_process
 skipped_line listed line skipped = rw skipped refl
 
-line_says : (listed : Listed) (line : List ℕ) → is_skipped line ≡ false → next_process listed line ≡ with_described listed (described listed.low (words line))
+line_says : (listed : Listed) (line : List ℕ) → is_skipped line ≡ false
+    → next_process listed line ≡ with_described listed (described listed.low (words line))
 unfolding next_process
 line_says listed line counts = rw counts refl
 
-pub head_bad : (listed : Listed) (line : List ℕ) (low : ℕ) (field : Refused) → low ≡ listed.low → is_skipped line ≡ false → described low (words line) ≡ Err field →
+pub head_bad : (listed : Listed) (line : List ℕ) (low : ℕ) (field : Refused) → low ≡ listed.low
+    → is_skipped line ≡ false → described low (words line) ≡ Err field →
     next_process listed line ≡ Err field
 head_bad listed line low field same counts is =
-    line_says listed line counts ∙ ap (λ (n : ℕ). with_described listed (described n (words line))) (sym same) ∙ ap (with_described listed) is
+    line_says listed line counts ∙ ap (λ (n : ℕ). with_described listed (described n (words line))) (sym same)
+    ∙ ap (with_described listed) is
 
-pub cells_bad : (listed : Listed) (line : List ℕ) (low : ℕ) (head : Head) (field : Refused) → low ≡ listed.low → is_skipped line ≡ false →
-    described low (words line) ≡ completed head (cells_from 0 head.listed) → cells_from 0 head.listed ≡ Err field → next_process listed line ≡ Err field
-cells_bad listed line low head field same counts says is = head_bad listed line low field same counts (says ∙ ap (completed head) is)
+pub cells_bad : (listed : Listed) (line : List ℕ) (low : ℕ) (head : Head) (field : Refused) → low ≡ listed.low
+    → is_skipped line ≡ false →
+    described low (words line) ≡ completed head (cells_from 0 head.listed) → cells_from 0 head.listed ≡ Err field
+    → next_process listed line ≡ Err field
+cells_bad listed line low head field same counts says is =
+    head_bad listed line low field same counts (says ∙ ap (completed head) is)
 
 -- what is known after a line
 abbrev pub now_listed : Listed → Head → List (ℕ × Cell) → Listed
-now_listed listed head cells = record { state = with_listed listed.state head.pid head.mode head.rest cells; low = head.pid + 1 }
+now_listed listed head cells = record {
+  state = with_listed listed.state head.pid head.mode head.rest cells;
+  low = head.pid + 1;
+}
 
-pub process_added : (listed : Listed) (line : List ℕ) (low : ℕ) (head : Head) (cells : List (ℕ × Cell)) → low ≡ listed.low → is_skipped line ≡ false →
-    described low (words line) ≡ completed head (cells_from 0 head.listed) → cells_from 0 head.listed ≡ Ok cells → next_process listed line ≡ Ok (now_listed listed head cells)
+pub process_added : (listed : Listed) (line : List ℕ) (low : ℕ) (head : Head) (cells : List (ℕ × Cell))
+    → low ≡ listed.low → is_skipped line ≡ false →
+    described low (words line) ≡ completed head (cells_from 0 head.listed) → cells_from 0 head.listed ≡ Ok cells
+    → next_process listed line ≡ Ok (now_listed listed head cells)
 process_added listed line low head cells same counts says is =
-    line_says listed line counts ∙ ap (λ (n : ℕ). with_described listed (described n (words line))) (sym same) ∙ ap (with_described listed) (says ∙ ap (completed head) is)
+    line_says listed line counts ∙ ap (λ (n : ℕ). with_described listed (described n (words line))) (sym same)
+    ∙ ap (with_described listed) (says ∙ ap (completed head) is)
 
 -- a line that isn't too long
-pub short_line : {A : Type 0} (next : A → List ℕ → Result A Refused) (known : A) (line : List ℕ) → length line ≤ 1024 → with_line next known line ≡ next known line
+pub short_line : {A : Type 0} (next : A → List ℕ → Result A Refused) (known : A) (line : List ℕ) → length line ≤ 1024
+    → with_line next known line ≡ next known line
 short_line next known line short =
     let is : nat_lt 1024 (length line) ≡ false = grind arith in
     rw is refl
@@ -75,8 +90,11 @@ through_first holds bytes is = record {
   reached = reached_first next_process none_listed holds is;
 }
 
-pub through_line : {T : Type 0} (holds after : Listed → Type 0) (bytes rest : List ℕ) (number at : ℕ) (done : T) → Through holds bytes number rest → IsFirstByte (is_byte 10) rest (Some at) →
-    ((known : Listed) → holds known → TakesNumbered (with_line next_process known (take at rest)) after (number + 1) (Ok done)) → Through after bytes (number + 1) (drop (at + 1) rest)
+pub through_line : {T : Type 0} (holds after : Listed → Type 0) (bytes rest : List ℕ) (number at : ℕ) (done : T)
+    → Through holds bytes number rest → IsFirstByte (is_byte 10) rest (Some at) →
+    ((known : Listed) → holds known
+    → TakesNumbered (with_line next_process known (take at rest)) after (number + 1) (Ok done))
+    → Through after bytes (number + 1) (drop (at + 1) rest)
 through_line holds after bytes rest number at done t found takes =
     let count = t.count in
     let within = found.0.high in
@@ -84,56 +102,77 @@ through_line holds after bytes rest number at done t found takes =
     let k = takes r.known r.does in
     record {
       front = t.front ++ take (at + 1) rest;
-      cut = t.cut ∙ ap (λ l. t.front ++ l) (sym (take-append-drop (at + 1) rest)) ∙ sym (append_assoc t.front (take (at + 1) rest) (drop (at + 1) rest));
+      cut = t.cut ∙ ap (λ l. t.front ++ l) (sym (take-append-drop (at + 1) rest))
+          ∙ sym (append_assoc t.front (take (at + 1) rest) (drop (at + 1) rest));
       count = simp length-drop (omega arith);
       reached = reached_line next_process none_listed holds after t.front [] rest number at r found k.0 k.1 k.2;
     }
 
-pub through_bad : (T : Type 0) (holds after : Listed → Type 0) (bytes rest : List ℕ) (number at : ℕ) (e : Refusal) → Through holds bytes number rest → IsFirstByte (is_byte 10) rest (Some at) →
-    ((known : Listed) → holds known → TakesNumbered {T = T} (with_line next_process known (take at rest)) after (number + 1) (Err e)) → start bytes ≡ Err e
+pub through_bad : (T : Type 0) (holds after : Listed → Type 0) (bytes rest : List ℕ) (number at : ℕ) (e : Refusal)
+    → Through holds bytes number rest → IsFirstByte (is_byte 10) rest (Some at) →
+    ((known : Listed) → holds known
+    → TakesNumbered {T = T} (with_line next_process known (take at rest)) after (number + 1) (Err e))
+    → start bytes ≡ Err e
 through_bad T holds after bytes rest number at e t found takes =
     let r = t.reached in
     let bad = takes r.known r.does in
-    let one : record { reason = e.reason; line = number + 1 } ≡ e = ap (λ (n : ℕ). record { reason = e.reason; line = n }) (sym bad.1) in
-    let soon : refused_so_far next_process none_listed (t.front ++ rest) ≡ Some e = refused_line next_process none_listed holds t.front [] rest number at e.reason r found bad.0 ∙ ap (λ (x : Refusal). Some x) one in
+    let one : record { reason = e.reason; line = number + 1 } ≡ e =
+    ap (λ (n : ℕ). record { reason = e.reason; line = n }) (sym bad.1) in
+    let soon : refused_so_far next_process none_listed (t.front ++ rest) ≡ Some e =
+    refused_line next_process none_listed holds t.front [] rest number at e.reason r found bad.0
+    ∙ ap (λ (x : Refusal). Some x) one in
     ap start t.cut ∙ ap state_of (whole_too next_process none_listed (t.front ++ rest) e soon)
 
 -- the last piece is a line, unless it is empty
-whole_end : (holds : Listed → Type 0) (bytes rest : List ℕ) (number : ℕ) → (t : Through holds bytes number rest) → IsFirstByte (is_byte 10) rest None →
+whole_end : (holds : Listed → Type 0) (bytes rest : List ℕ) (number : ℕ) → (t : Through holds bytes number rest)
+    → IsFirstByte (is_byte 10) rest None →
     whole_text next_process none_listed bytes ≡ with_lines next_process t.reached.known number (line_if_any rest)
 whole_end holds bytes rest number t found =
     let r = t.reached in
     let none = no_cut [] rest found in
-    let whole : whole_lines [] (t.front ++ rest) ≡ whole_lines [] t.front = lines_after t.front rest [] r.begun ∙ ap (λ l. whole_lines [] t.front ++ l) none.whole ∙ append-nil (whole_lines [] t.front) in
+    let whole : whole_lines [] (t.front ++ rest) ≡ whole_lines [] t.front = lines_after t.front rest [] r.begun
+    ∙ ap (λ l. whole_lines [] t.front ++ l) none.whole ∙ append-nil (whole_lines [] t.front) in
     let last : last_piece [] (t.front ++ rest) ≡ rest = last_after t.front rest [] r.begun ∙ none.last in
     let all : lines (t.front ++ rest) ≡ whole_lines [] t.front ++ line_if_any rest = rw (whole, last) refl in
     let count : 0 + length (whole_lines [] t.front) ≡ number = let c = r.count in omega arith in
-    ap (whole_text next_process none_listed) t.cut ∙ ap (with_lines next_process none_listed 0) all ∙ after_good next_process none_listed r.known 0 (whole_lines [] t.front) (line_if_any rest) r.lines
+    ap (whole_text next_process none_listed) t.cut ∙ ap (with_lines next_process none_listed 0) all ∙ after_good
+    next_process none_listed r.known 0 (whole_lines [] t.front) (line_if_any rest) r.lines
     ∙ ap (λ (n : ℕ). with_lines next_process r.known n (line_if_any rest)) count
 
 empty_good : (listed : Listed) → with_line next_process listed [] ≡ Ok listed
 empty_good listed = skipped_line listed [] refl
 
 -- what taking the last piece answers
-pub last_good : {T : Type 0} (holds after : Listed → Type 0) (bytes rest : List ℕ) (number : ℕ) (result : Result T Refusal) → Through holds bytes number rest → IsFirstByte (is_byte 10) rest None →
-    ((known : Listed) → holds known → TakesNumbered (with_line next_process known rest) after (number + 1) result) → OnOk result ((known : Listed) × (whole_text next_process none_listed bytes ≡ Ok known) × after known)
+pub last_good : {T : Type 0} (holds after : Listed → Type 0) (bytes rest : List ℕ) (number : ℕ)
+    (result : Result T Refusal) → Through holds bytes number rest → IsFirstByte (is_byte 10) rest None →
+    ((known : Listed) → holds known → TakesNumbered (with_line next_process known rest) after (number + 1) result)
+    → OnOk result ((known : Listed) × (whole_text next_process none_listed bytes ≡ Ok known) × after known)
 last_good holds after bytes [] number (Ok x) t found takes =
     let k = takes t.reached.known t.reached.does in
     let same : ◌≡◌ {A = Result Listed Refused} (Ok t.reached.known) (Ok k.0) = sym (empty_good t.reached.known) ∙ k.1 in
     (k.0, whole_end holds bytes [] number t found ∙ no_line next_process t.reached.known number ∙ cc, k.2)
 last_good holds after bytes (b ∷ rest) number (Ok x) t found takes =
-    let k = takes t.reached.known t.reached.does in
-    (k.0, whole_end holds bytes (b ∷ rest) number t found ∙ line_good next_process t.reached.known k.0 number (b ∷ rest) [] k.1 ∙ no_line next_process k.0 (number + 1), k.2)
+    let k = takes t.reached.known t.reached.does in (
+      k.0,
+      whole_end holds bytes (b ∷ rest) number t found
+          ∙ line_good next_process t.reached.known k.0 number (b ∷ rest) [] k.1 ∙ no_line next_process k.0 (number + 1),
+      k.2,
+    )
 last_good holds after bytes rest number (Err e) t found takes = tt
 
-pub last_bad : {T : Type 0} (holds after : Listed → Type 0) (bytes rest : List ℕ) (number : ℕ) (result : Result T Refusal) → Through holds bytes number rest → IsFirstByte (is_byte 10) rest None →
-    ((known : Listed) → holds known → TakesNumbered (with_line next_process known rest) after (number + 1) result) → IfErr result (λ e. start bytes ≡ Err e)
+pub last_bad : {T : Type 0} (holds after : Listed → Type 0) (bytes rest : List ℕ) (number : ℕ)
+    (result : Result T Refusal) → Through holds bytes number rest → IsFirstByte (is_byte 10) rest None →
+    ((known : Listed) → holds known → TakesNumbered (with_line next_process known rest) after (number + 1) result)
+    → IfErr result (λ e. start bytes ≡ Err e)
 last_bad holds after bytes rest number (Ok x) t found takes = tt
 last_bad holds after bytes [] number (Err e) t found takes =
     let bad = takes t.reached.known t.reached.does in
-    let no : ◌≡◌ {A = Result Listed Refused} (Ok t.reached.known) (Err e.reason) = sym (empty_good t.reached.known) ∙ bad.0 in
+    let no : ◌≡◌ {A = Result Listed Refused} (Ok t.reached.known) (Err e.reason) =
+    sym (empty_good t.reached.known) ∙ bad.0 in
     absurd cc
 last_bad holds after bytes (b ∷ rest) number (Err e) t found takes =
     let bad = takes t.reached.known t.reached.does in
-    let one : record { reason = e.reason; line = number + 1 } ≡ e = ap (λ (n : ℕ). record { reason = e.reason; line = n }) (sym bad.1) in
-    ap state_of (whole_end holds bytes (b ∷ rest) number t found ∙ line_bad next_process t.reached.known number e.reason (b ∷ rest) [] bad.0 ∙ ap (λ (x : Refusal). Err x) one)
+    let one : record { reason = e.reason; line = number + 1 } ≡ e =
+    ap (λ (n : ℕ). record { reason = e.reason; line = n }) (sym bad.1) in
+    ap state_of (whole_end holds bytes (b ∷ rest) number t found
+    ∙ line_bad next_process t.reached.known number e.reason (b ∷ rest) [] bad.0 ∙ ap (λ (x : Refusal). Err x) one)

@@ -1,11 +1,13 @@
 -- How a line is cut at its first space.
-use Rattle.std.proofs.Common.{◌≡◌, ℕ, zero, suc, ◌+◌, ◌<◌, List, [], ◌∷◌, length, take, drop, get_or, refl, ap, add-one, arith, true, false}
+use Rattle.std.proofs.Common.{◌≡◌, ℕ, zero, suc, ◌+◌, ◌<◌, List, [], ◌∷◌, length, take, drop, get_or, refl, ap, add-one}
+use Rattle.std.proofs.Common.{arith, true, false}
 use Rattle.std.specs.Prelude.{◌==◌, Some, None}
 use Rattle.memchr.specs.Find.{IsFirstByte, is_byte}
 use Rattle.cap_session.specs.Commands.{first_word, after_word}
 use Rattle.cap_session.proofs.Cuts.{false_unless}
 
-split_from : (line : List ℕ) (k : ℕ) → k < length line → ((j : ℕ) → j < k → (get_or line j 0 == 32) ≡ true → ⊥) → (get_or line k 0 == 32) ≡ true →
+split_from : (line : List ℕ) (k : ℕ) → k < length line → ((j : ℕ) → j < k → (get_or line j 0 == 32) ≡ true → ⊥)
+    → (get_or line k 0 == 32) ≡ true →
     (first_word line ≡ take k line) × (after_word line ≡ Some (drop (suc k) line))
 unfolding first_word after_word
 split_from [] k within before here = absurd (omega arith)
@@ -15,7 +17,8 @@ split_from (b ∷ line) (suc k) within before here =
     let rest = split_from line k (omega arith) (λ j h. before (suc j) (omega arith)) here in
     (rw none (ap (λ l. b ∷ l) rest.0), rw none rest.1)
 
-no_split_from : (line : List ℕ) → ((j : ℕ) → j < length line → (get_or line j 0 == 32) ≡ true → ⊥) → (first_word line ≡ line) × (after_word line ≡ None)
+no_split_from : (line : List ℕ) → ((j : ℕ) → j < length line → (get_or line j 0 == 32) ≡ true → ⊥)
+    → (first_word line ≡ line) × (after_word line ≡ None)
 unfolding first_word after_word
 no_split_from [] before = (refl, refl)
 no_split_from (b ∷ line) before =
@@ -23,10 +26,12 @@ no_split_from (b ∷ line) before =
     let rest = no_split_from line (λ j h. before (suc j) (omega arith)) in
     (rw none (ap (λ l. b ∷ l) rest.0), rw none rest.1)
 
-pub word_at : (line : List ℕ) (k : ℕ) → IsFirstByte (is_byte 32) line (Some k) → (first_word line ≡ take k line) × (after_word line ≡ Some (drop (k + 1) line))
+pub word_at : (line : List ℕ) (k : ℕ) → IsFirstByte (is_byte 32) line (Some k)
+    → (first_word line ≡ take k line) × (after_word line ≡ Some (drop (k + 1) line))
 word_at line k found =
     let both = split_from line k found.0.high (λ j h. found.0.before j (omega arith) h) found.1 in
     (both.0, rw add-one both.1)
 
-pub one_word : (line : List ℕ) → IsFirstByte (is_byte 32) line None → (first_word line ≡ line) × (after_word line ≡ None)
+pub one_word : (line : List ℕ) → IsFirstByte (is_byte 32) line None
+    → (first_word line ≡ line) × (after_word line ≡ None)
 one_word line found = no_split_from line (λ j h. found j (omega arith) h)

@@ -1,4 +1,4 @@
--- What one call of a device counts.
+-- The state of a reader and of a writer as contracts see it, and what one call of each does to it.
 use Rattle.std.specs.Prelude.{ℕ, zero, suc, ◌-◌, ◌^◌, ◌<◌, ◌≤◌, List, length, take, MatchResult}
 use Rattle.std.specs.Prelude.{Option, Result, Ok, Err}
 use Rattle.std.specs.Io.KnownBytes.{Keeps, Appends}
@@ -36,9 +36,11 @@ ended (Err e) = 0
 
 -- A write took the first n bytes, one or more, or none where it failed.
 abbrev pub Takes : {E : Type 0} → Option (List ℕ) → Option (List ℕ) → Result ℕ E → List ℕ → Type 0
-Takes old new r bytes = MatchResult r (λ n. Appends old new (take n bytes) × (0 < n) × (n ≤ length bytes)) (λ _. Keeps old new)
+Takes old new r bytes =
+    MatchResult r (λ n. Appends old new (take n bytes) × (0 < n) × (n ≤ length bytes)) (λ _. Keeps old new)
 
--- What was counted of a device: its reads, those that failed and those that answered the end, and its writes that failed.
+-- What was counted of a device: its reads, those that failed and those that answered the end, and its writes that
+-- failed.
 pub record Counts : Type 0 where
   pub calls : ℕ
   pub failures : ℕ

@@ -1,4 +1,5 @@
--- What holds of edits.
+-- Laws of edits: an inserted line stands and its deletion brings the old trace back; the accepted edits alone give the
+-- same trace; no edit is refused by its definition for lack of memory.
 use Rattle.std.specs.Prelude.{◌≡◌, ◌≢◌, ℕ, ◌-◌, Bool, List, [], ◌∷◌, Result, Ok, Err, Some}
 use Rattle.std.specs.List.{slice_get}
 use Rattle.cap_trace.specs.Entry.{Entry}
@@ -31,5 +32,7 @@ NoEditAsksForMemory = (limit : ℕ) (trace : List Entry) (edit : Edit) → edite
 
 -- An inserted line stands at its position, and the trace comes back where it is deleted there.
 abbrev pub InsertedStands : Type 0
-InsertedStands = (limit : ℕ) (trace next : List Entry) (position : ℕ) (bytes : List ℕ) → inserted limit trace position bytes ≡ Ok next →
-    (line : Entry) × (line_of bytes ≡ Ok line) × (slice_get next (position - 1) ≡ Some line) × (deleted next position ≡ Ok trace)
+InsertedStands = (limit : ℕ) (trace next : List Entry) (position : ℕ) (bytes : List ℕ)
+    → inserted limit trace position bytes ≡ Ok next →
+    (line : Entry) × (line_of bytes ≡ Ok line) × (slice_get next (position - 1) ≡ Some line)
+    × (deleted next position ≡ Ok trace)

@@ -1,4 +1,4 @@
--- What replying to a script in a profile does and answers.
+-- The contract of `edit_stream_as`: what a trace and a script in a profile have written, and the outcome.
 use Rattle.std.specs.Prelude.{◌≡◌, ◌≢◌, ℕ, ◌+◌, ◌≤◌, ◌⊎◌, List, [], Result, Ok, Err, ⊤}
 use Rattle.std.specs.Io.KnownBytes.{Consumes, Appends}
 use Rattle.cap_trace.specs.Entry.{Entry}
@@ -17,25 +17,32 @@ use Rattle.cap_session.specs.declared.refused.Refusal.{Refusal}
 use Rattle.cap_session.specs.declared.lines.Stop.{Stop}
 use Rattle.cap_session.specs.declared.lines.Stop.TheVariants as stops
 use Rattle.cap_session.specs.declared.outcome.Outcome.{Outcome}
-use Rattle.cap_session.specs.declared.outcome.Outcome.TheVariants.{Clean, Findings, Refused, StartRefused, Memory, ReadFault, WriteFault, TooLong}
+use Rattle.cap_session.specs.declared.outcome.Outcome.TheVariants.{Clean, Findings, Refused, StartRefused, Memory}
+use Rattle.cap_session.specs.declared.outcome.Outcome.TheVariants.{ReadFault, WriteFault, TooLong}
 
 -- The writer failed in the replies to the lines of a script of which these bytes were given, before its end or at it.
 abbrev pub IsBroken : Profile → SourceState → SourceState → SinkState → SinkState → List ℕ → List Entry → Type 0
-IsBroken profile s0 s1 w0 w1 given t = (NotAtEnd s0 s1 × Broken profile t w0 w1 (script_lines [] given)) ⊎ (IsEnded s0 s1 × Broken profile t w0 w1 (lines given))
+IsBroken profile s0 s1 w0 w1 given t = (NotAtEnd s0 s1 × Broken profile t w0 w1 (script_lines [] given))
+    ⊎ (IsEnded s0 s1 × Broken profile t w0 w1 (lines given))
 
 -- ---- the script: s is its reader, and w the writer
 
--- What the replies to the lines end with, for the bytes that were given: t is the trace before them, and u the one after them.
-abbrev pub RepliesUntil : {T : Type 0} → Profile → ℕ → SourceState → SourceState → SinkState → SinkState → List ℕ → List Entry → List Entry → Result T Stop → Type 0
+-- What the replies to the lines end with, for the bytes that were given: t is the trace before them, and u the one
+-- after them.
+abbrev pub RepliesUntil : {T : Type 0} → Profile → ℕ → SourceState → SourceState → SinkState → SinkState → List ℕ
+    → List Entry → List Entry → Result T Stop → Type 0
 RepliesUntil profile turns s0 s1 w0 w1 given t u (Ok _) = IsEnded s0 s1 × Replied profile t w0 w1 (lines given) u
-RepliesUntil profile turns s0 s1 w0 w1 given t u (Err stops.ReadFault) = NotAtEnd s0 s1 × Replied profile t w0 w1 (script_lines [] given) u
-RepliesUntil profile turns s0 s1 w0 w1 given t u (Err stops.TooLong) = NotAtEnd s0 s1 × UsedUp turns s0 s1 × Replied profile t w0 w1 (script_lines [] given) u
+RepliesUntil profile turns s0 s1 w0 w1 given t u (Err stops.ReadFault) =
+    NotAtEnd s0 s1 × Replied profile t w0 w1 (script_lines [] given) u
+RepliesUntil profile turns s0 s1 w0 w1 given t u (Err stops.TooLong) =
+    NotAtEnd s0 s1 × UsedUp turns s0 s1 × Replied profile t w0 w1 (script_lines [] given) u
 RepliesUntil profile turns s0 s1 w0 w1 given t u (Err stops.WriteFault) = IsBroken profile s0 s1 w0 w1 given t
 RepliesUntil profile turns s0 s1 w0 w1 given t u (Err (stops.Refused e)) = ⊥
 RepliesUntil profile turns s0 s1 w0 w1 given t u (Err stops.Memory) = ⊥
 
 -- Some bytes were given, and the replies are those to their lines.
-pub record RepliesToAll {T : Type 0} (profile : Profile) (turns : ℕ) (s0 s1 : SourceState) (w0 w1 : SinkState) (t u : List Entry) (result : Result T Stop) : Type 0 where
+pub record RepliesToAll {T : Type 0} (profile : Profile) (turns : ℕ) (s0 s1 : SourceState) (w0 w1 : SinkState)
+    (t u : List Entry) (result : Result T Stop) : Type 0 where
   pub given : List ℕ
   pub read : Consumes s0.bytes s1.bytes given
   pub calls : s1.calls ≤ s0.calls + turns
@@ -53,19 +60,26 @@ IsOutcome profile u ReadFault = ⊥
 IsOutcome profile u WriteFault = ⊥
 IsOutcome profile u TooLong = ⊥
 
--- The outcome, for the bytes of the script that were given. At the end it is that of the trace as it then is, unless memory runs out.
-abbrev pub ScriptHasOutcome : Profile → ℕ → SourceState → SourceState → SinkState → SinkState → List ℕ → List Entry → List Entry → Outcome → Type 0
-ScriptHasOutcome profile turns s0 s1 w0 w1 given t u Clean = IsEnded s0 s1 × Replied profile t w0 w1 (lines given) u × (check usual (steps profile u) ≡ [])
-ScriptHasOutcome profile turns s0 s1 w0 w1 given t u Findings = IsEnded s0 s1 × Replied profile t w0 w1 (lines given) u × (check usual (steps profile u) ≢ [])
+-- The outcome, for the bytes of the script that were given. At the end it is that of the trace as it then is, unless
+-- memory runs out.
+abbrev pub ScriptHasOutcome : Profile → ℕ → SourceState → SourceState → SinkState → SinkState → List ℕ → List Entry
+    → List Entry → Outcome → Type 0
+ScriptHasOutcome profile turns s0 s1 w0 w1 given t u Clean =
+    IsEnded s0 s1 × Replied profile t w0 w1 (lines given) u × (check usual (steps profile u) ≡ [])
+ScriptHasOutcome profile turns s0 s1 w0 w1 given t u Findings =
+    IsEnded s0 s1 × Replied profile t w0 w1 (lines given) u × (check usual (steps profile u) ≢ [])
 ScriptHasOutcome profile turns s0 s1 w0 w1 given t u Memory = IsEnded s0 s1 × Replied profile t w0 w1 (lines given) u
-ScriptHasOutcome profile turns s0 s1 w0 w1 given t u ReadFault = NotAtEnd s0 s1 × Replied profile t w0 w1 (script_lines [] given) u
-ScriptHasOutcome profile turns s0 s1 w0 w1 given t u TooLong = NotAtEnd s0 s1 × UsedUp turns s0 s1 × Replied profile t w0 w1 (script_lines [] given) u
+ScriptHasOutcome profile turns s0 s1 w0 w1 given t u ReadFault =
+    NotAtEnd s0 s1 × Replied profile t w0 w1 (script_lines [] given) u
+ScriptHasOutcome profile turns s0 s1 w0 w1 given t u TooLong =
+    NotAtEnd s0 s1 × UsedUp turns s0 s1 × Replied profile t w0 w1 (script_lines [] given) u
 ScriptHasOutcome profile turns s0 s1 w0 w1 given t u WriteFault = IsBroken profile s0 s1 w0 w1 given t
 ScriptHasOutcome profile turns s0 s1 w0 w1 given t u (Refused code line) = ⊥
 ScriptHasOutcome profile turns s0 s1 w0 w1 given t u (StartRefused code line) = ⊥
 
 -- What replying to a script on a trace does.
-pub record Replies (profile : Profile) (turns : ℕ) (s0 s1 : SourceState) (w0 w1 : SinkState) (t : List Entry) (outcome : Outcome) : Type 0 where
+pub record Replies (profile : Profile) (turns : ℕ) (s0 s1 : SourceState) (w0 w1 : SinkState) (t : List Entry)
+    (outcome : Outcome) : Type 0 where
   pub given : List ℕ
   pub read : Consumes s0.bytes s1.bytes given
   pub calls : s1.calls ≤ s0.calls + turns
@@ -82,7 +96,8 @@ Rejects turns r0 r1 given written (StartRefused code line) = ⊥
 Rejects turns r0 r1 given written Memory = IsSilent (IsEnded r0 r1) given written
 Rejects turns r0 r1 given written ReadFault = IsOpen r0 r1 given written
 Rejects turns r0 r1 given written TooLong = IsOpen r0 r1 given written × UsedUp turns r0 r1
-Rejects turns r0 r1 given written WriteFault = (e : Refusal) × (text : List ℕ) × IsRefusal (IsEnded r0 r1) given text e × IsPrefix written text
+Rejects turns r0 r1 given written WriteFault =
+    (e : Refusal) × (text : List ℕ) × IsRefusal (IsEnded r0 r1) given text e × IsPrefix written text
 Rejects turns r0 r1 given written Clean = ⊥
 Rejects turns r0 r1 given written Findings = ⊥
 
@@ -99,7 +114,8 @@ pub record Rejected (turns : ℕ) (r0 r1 s0 s1 : SourceState) (w0 w1 : SinkState
   pub unread : s1 ≡ s0
 
 -- The trace was read to its end, no line of it is refused, and the script was replied to.
-pub record Taken (profile : Profile) (turns : ℕ) (r0 r1 s0 s1 : SourceState) (w0 w1 : SinkState) (outcome : Outcome) : Type 0 where
+pub record Taken (profile : Profile) (turns : ℕ) (r0 r1 s0 s1 : SourceState) (w0 w1 : SinkState)
+    (outcome : Outcome) : Type 0 where
   pub given : List ℕ
   pub read : Consumes r0.bytes r1.bytes given
   pub calls : r1.calls ≤ r0.calls + turns
@@ -109,5 +125,7 @@ pub record Taken (profile : Profile) (turns : ℕ) (r0 r1 s0 s1 : SourceState) (
   pub good : trace given ≡ Ok entries
   pub script : Replies profile turns s0 s1 w0 w1 entries outcome
 
-abbrev pub EditStreams : Profile → ℕ → SourceState → SourceState → SourceState → SourceState → SinkState → SinkState → Outcome → Type 0
-EditStreams profile turns r0 r1 s0 s1 w0 w1 outcome = Rejected turns r0 r1 s0 s1 w0 w1 outcome ⊎ Taken profile turns r0 r1 s0 s1 w0 w1 outcome
+abbrev pub EditStreams : Profile → ℕ → SourceState → SourceState → SourceState → SourceState → SinkState → SinkState
+    → Outcome → Type 0
+EditStreams profile turns r0 r1 s0 s1 w0 w1 outcome =
+    Rejected turns r0 r1 s0 s1 w0 w1 outcome ⊎ Taken profile turns r0 r1 s0 s1 w0 w1 outcome

@@ -1,5 +1,6 @@
 -- What an edit makes of a trace, and what a list of edits does. Lines are numbered from 1.
-use Rattle.std.specs.Prelude.{ℕ, ◌+◌, ◌-◌, ◌&&◌, nat_le, Bool, true, false, List, [], ◌∷◌, length, if◌then◌else◌, Result, Ok, Err, insert, remove, slice_set}
+use Rattle.std.specs.Prelude.{ℕ, ◌+◌, ◌-◌, ◌&&◌, nat_le, Bool, true, false, List, [], ◌∷◌, length, if◌then◌else◌}
+use Rattle.std.specs.Prelude.{Result, Ok, Err, insert, remove, slice_set}
 use Rattle.cap_trace.specs.declared.fault.ReadFault.{ReadFault}
 use Rattle.cap_trace.specs.Entry.{Entry}
 use Rattle.cap_trace.specs.Reading.{line_of}
@@ -63,13 +64,15 @@ answer false (Ok next) = Ok (length next)
 
 -- the trace after edits; `wanted` says for which of them memory was wanted
 abbrev pub after : ℕ → List Entry → List Edit → List Bool → List Entry
-after limit trace (edit ∷ edits) (wanted ∷ more) = after limit (trace_after trace wanted (edited limit trace edit)) edits more
+after limit trace (edit ∷ edits) (wanted ∷ more) =
+    after limit (trace_after trace wanted (edited limit trace edit)) edits more
 after limit trace [] _ = trace
 after limit trace (edit ∷ edits) [] = trace
 
 -- what each of them answers
 abbrev pub answers : ℕ → List Entry → List Edit → List Bool → List (Result ℕ Refused)
 answers limit trace (edit ∷ edits) (wanted ∷ more) =
-    answer wanted (edited limit trace edit) ∷ answers limit (trace_after trace wanted (edited limit trace edit)) edits more
+    answer wanted (edited limit trace edit)
+    ∷ answers limit (trace_after trace wanted (edited limit trace edit)) edits more
 answers limit trace [] _ = []
 answers limit trace (edit ∷ edits) [] = []

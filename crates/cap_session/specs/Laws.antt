@@ -14,16 +14,21 @@ use Rattle.cap_session.specs.Refusal.{refusal_text}
 use Rattle.cap_session.specs.Streams.{Streams, IsPrefix}
 use Rattle.cap_session.specs.declared.refused.Refusal.{Refusal}
 use Rattle.cap_session.specs.declared.outcome.Outcome.{Outcome}
-use Rattle.cap_session.specs.declared.outcome.Outcome.TheVariants.{Clean, Findings, Refused, StartRefused, Memory, ReadFault, WriteFault, TooLong}
+use Rattle.cap_session.specs.declared.outcome.Outcome.TheVariants.{Clean, Findings, Refused, StartRefused, Memory}
+use Rattle.cap_session.specs.declared.outcome.Outcome.TheVariants.{ReadFault, WriteFault, TooLong}
 
 -- The first refused line of a beginning is that of the text, whatever follows, and whether or not the end was reached.
 abbrev pub BeginningDecides : Type 0
-BeginningDecides = (begin rest : List ℕ) (e : Refusal) → soon begin ≡ Some e → (soon (begin ++ rest) ≡ Some e) × (trace (begin ++ rest) ≡ Err e)
+BeginningDecides = (begin rest : List ℕ) (e : Refusal) → soon begin ≡ Some e
+    → (soon (begin ++ rest) ≡ Some e) × (trace (begin ++ rest) ≡ Err e)
 
--- An outcome for a good trace: its report is written, unless memory runs out or the writer fails. No other outcome comes.
+-- An outcome for a good trace: its report is written, unless memory runs out or the writer fails. No other outcome
+-- comes.
 abbrev pub Reports : Profile → State → List Entry → List ℕ → Outcome → Type 0
-Reports profile start entries written Clean = (check start (steps profile entries) ≡ []) × (written ≡ report start (steps profile entries))
-Reports profile start entries written Findings = (check start (steps profile entries) ≢ []) × (written ≡ report start (steps profile entries))
+Reports profile start entries written Clean =
+    (check start (steps profile entries) ≡ []) × (written ≡ report start (steps profile entries))
+Reports profile start entries written Findings =
+    (check start (steps profile entries) ≢ []) × (written ≡ report start (steps profile entries))
 Reports profile start entries written Memory = written ≡ []
 Reports profile start entries written WriteFault = IsPrefix written (report start (steps profile entries))
 Reports profile start entries written (Refused code line) = ⊥
@@ -44,26 +49,36 @@ RefusesLine e written TooLong = ⊥
 
 -- Where the end was reached and no line is refused, the call reports.
 abbrev pub GoodIsReported : Type 0
-GoodIsReported = (profile : Profile) (start : State) (turns : ℕ) (r0 r1 : SourceState) (w0 w1 : SinkState) (o : Outcome) (entries : List Entry) →
-    (call : Streams profile start turns r0 r1 w0 w1 o) → IsEnded r0 r1 → trace call.given ≡ Ok entries → Reports profile start entries call.written o
+GoodIsReported = (profile : Profile) (start : State) (turns : ℕ) (r0 r1 : SourceState) (w0 w1 : SinkState) (o : Outcome)
+    (entries : List Entry) →
+    (call : Streams profile start turns r0 r1 w0 w1 o) → IsEnded r0 r1 → trace call.given ≡ Ok entries
+    → Reports profile start entries call.written o
 
 -- Where a line is refused, before the end or at it, the call answers with that line.
 abbrev pub BadIsRefused : Type 0
-BadIsRefused = (profile : Profile) (start : State) (turns : ℕ) (r0 r1 : SourceState) (w0 w1 : SinkState) (o : Outcome) (e : Refusal) →
-    (call : Streams profile start turns r0 r1 w0 w1 o) → (soon call.given ≡ Some e) ⊎ (IsEnded r0 r1 × (trace call.given ≡ Err e)) → RefusesLine e call.written o
+BadIsRefused = (profile : Profile) (start : State) (turns : ℕ) (r0 r1 : SourceState) (w0 w1 : SinkState) (o : Outcome)
+    (e : Refusal) →
+    (call : Streams profile start turns r0 r1 w0 w1 o)
+    → (soon call.given ≡ Some e) ⊎ (IsEnded r0 r1 × (trace call.given ≡ Err e)) → RefusesLine e call.written o
 
 -- The answer to a whole text, in an outcome that is one: the others say nothing of the text.
 abbrev pub IsAnswer : Profile → State → List ℕ → List ℕ → Outcome → Type 0
-IsAnswer profile start text written Clean = (entries : List Entry) × (trace text ≡ Ok entries) × (check start (steps profile entries) ≡ []) × (written ≡ report start (steps profile entries))
-IsAnswer profile start text written Findings = (entries : List Entry) × (trace text ≡ Ok entries) × (check start (steps profile entries) ≢ []) × (written ≡ report start (steps profile entries))
-IsAnswer profile start text written (Refused code line) = (e : Refusal) × (trace text ≡ Err e) × (code ≡ code_of e.reason) × (line ≡ e.line) × (written ≡ refusal_text e)
+IsAnswer profile start text written Clean = (entries : List Entry) × (trace text ≡ Ok entries)
+    × (check start (steps profile entries) ≡ []) × (written ≡ report start (steps profile entries))
+IsAnswer profile start text written Findings = (entries : List Entry) × (trace text ≡ Ok entries)
+    × (check start (steps profile entries) ≢ []) × (written ≡ report start (steps profile entries))
+IsAnswer profile start text written (Refused code line) =
+    (e : Refusal) × (trace text ≡ Err e) × (code ≡ code_of e.reason) × (line ≡ e.line) × (written ≡ refusal_text e)
 IsAnswer profile start text written (StartRefused code line) = ⊥
 IsAnswer profile start text written Memory = ⊤
 IsAnswer profile start text written ReadFault = ⊤
 IsAnswer profile start text written WriteFault = ⊤
 IsAnswer profile start text written TooLong = ⊤
 
--- Any pieces give the same: an answer is that of the whole text that the reader had, however it was cut and however far it was read.
+-- Any pieces give the same: an answer is that of the whole text that the reader had, however it was cut and however far
+-- it was read.
 abbrev pub PiecesAgree : Type 0
-PiecesAgree = (profile : Profile) (start : State) (turns : ℕ) (r0 r1 : SourceState) (w0 w1 : SinkState) (o : Outcome) (text : List ℕ) →
-    (call : Streams profile start turns r0 r1 w0 w1 o) → r0.bytes ≡ Some text → IsAnswer profile start text call.written o
+PiecesAgree = (profile : Profile) (start : State) (turns : ℕ) (r0 r1 : SourceState) (w0 w1 : SinkState) (o : Outcome)
+    (text : List ℕ) →
+    (call : Streams profile start turns r0 r1 w0 w1 o) → r0.bytes ≡ Some text
+    → IsAnswer profile start text call.written o

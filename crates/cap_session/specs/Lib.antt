@@ -4,7 +4,9 @@ pub mod EditLaws
 pub mod EditStreams
 pub mod Edits
 pub mod Feeds
+pub mod Gives
 pub mod Laws
+pub mod Limits
 pub mod Lines
 pub mod Outcome
 pub mod Performs
@@ -21,6 +23,7 @@ pub mod StartStreams
 pub mod StartTexts
 pub mod StartWords
 pub mod Streams
+pub mod Takes
 pub mod Texts
 pub mod Trace
 pub mod Traced

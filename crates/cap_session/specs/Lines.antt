@@ -1,5 +1,6 @@
 -- The lines of a text, cut at LF.
 use Rattle.std.specs.Prelude.{ℕ, ◌==◌, nat_lt, List, [], ◌∷◌, ◌++◌, length, if◌then◌else◌}
+use Rattle.cap_session.specs.Limits.{longest_line}
 
 -- The lines that end with LF, where `held` begins the first. (`whole_lines []` cuts a text.)
 unfoldable pub whole_lines : List ℕ → List ℕ → List (List ℕ)
@@ -22,7 +23,7 @@ lines text = whole_lines [] text ++ line_if_any (last_piece [] text)
 
 -- a last piece whose LF hasn't come is a line already, where it is too long for one
 abbrev pub line_if_long : List ℕ → List (List ℕ)
-line_if_long piece = if nat_lt 1024 (length piece) then piece ∷ [] else []
+line_if_long piece = if nat_lt longest_line (length piece) then piece ∷ [] else []
 
 -- the lines of a text whose end isn't reached
 abbrev pub lines_so_far : List ℕ → List (List ℕ)

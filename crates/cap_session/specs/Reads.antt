@@ -2,6 +2,7 @@
 use Rattle.std.specs.Prelude.{◌≡◌, ℕ, ◌+◌, ◌≤◌, ◌⊎◌, List, ◌++◌, length, Result, Ok, Err, IsOk, Option, None, Some}
 use Rattle.std.specs.Io.KnownBytes.{Consumes, IsAtEnd}
 use Rattle.cap_session.specs.Devices.{SourceState}
+use Rattle.cap_session.specs.Limits.{longest_piece}
 use Rattle.cap_session.specs.declared.refused.Refusal.{Refusal}
 use Rattle.cap_session.specs.declared.lines.Stop.{Stop}
 use Rattle.cap_session.specs.declared.lines.Stop.TheVariants.{Refused, Memory, ReadFault, WriteFault, TooLong}
@@ -16,21 +17,23 @@ NotAtEnd old new = new.ends ≡ old.ends
 abbrev pub UsedUp : ℕ → SourceState → SourceState → Type 0
 UsedUp turns old new = new.calls ≡ old.calls + turns
 
--- Of what was given, all but a piece of at most 65,536 bytes has no refused line.
+-- Of what was given, all but the last piece has no refused line.
 pub record IsNear (soon : List ℕ → Option Refusal) (given : List ℕ) : Type 0 where
   pub front : List ℕ
   pub piece : List ℕ
   pub cut : given ≡ front ++ piece
-  pub short : length piece ≤ 65536
+  pub short : length piece ≤ longest_piece
   pub good : soon front ≡ None
 
 -- A line of what was given is refused, before the end or at it, and reading went at most a piece past it.
-pub record IsRefused {A : Type 0} (whole : List ℕ → Result A Refusal) (soon : List ℕ → Option Refusal) (ended : Type 0) (given : List ℕ) (e : Refusal) : Type 0 where
+pub record IsRefused {A : Type 0} (whole : List ℕ → Result A Refusal) (soon : List ℕ → Option Refusal) (ended : Type 0)
+    (given : List ℕ) (e : Refusal) : Type 0 where
   pub line : (soon given ≡ Some e) ⊎ (ended × (whole given ≡ Err e))
   pub near : IsNear soon given
 
 -- No line of what was given is refused, neither before the end nor at it.
-pub record IsGood {A : Type 0} (whole : List ℕ → Result A Refusal) (soon : List ℕ → Option Refusal) (ended : Type 0) (given : List ℕ) : Type 0 where
+pub record IsGood {A : Type 0} (whole : List ℕ → Result A Refusal) (soon : List ℕ → Option Refusal) (ended : Type 0)
+    (given : List ℕ) : Type 0 where
   pub before : soon given ≡ None
   pub at_end : ended → IsOk (whole given)
 
@@ -44,8 +47,10 @@ faults (Err TooLong) = 0
 faults (Ok lines) = 0
 
 -- What reading answers, for what was given.
-abbrev pub Read : {A T : Type 0} → (List ℕ → Result A Refusal) → (List ℕ → Option Refusal) → (T → A → Type 0) → ℕ → SourceState → SourceState → List ℕ → Result T Stop → Type 0
-Read {A = A} whole soon holds turns old new given (Ok lines) = IsEnded old new × ((known : A) × (whole given ≡ Ok known) × holds lines known)
+abbrev pub Read : {A T : Type 0} → (List ℕ → Result A Refusal) → (List ℕ → Option Refusal) → (T → A → Type 0) → ℕ
+    → SourceState → SourceState → List ℕ → Result T Stop → Type 0
+Read {A = A} whole soon holds turns old new given (Ok lines) =
+    IsEnded old new × ((known : A) × (whole given ≡ Ok known) × holds lines known)
 Read whole soon holds turns old new given (Err (Refused e)) = IsRefused whole soon (IsEnded old new) given e
 Read whole soon holds turns old new given (Err Memory) = IsGood whole soon (IsEnded old new) given
 Read whole soon holds turns old new given (Err ReadFault) = NotAtEnd old new × (soon given ≡ None)
@@ -53,7 +58,8 @@ Read whole soon holds turns old new given (Err TooLong) = NotAtEnd old new × (s
 Read whole soon holds turns old new given (Err WriteFault) = ⊥
 
 -- Some bytes were given, and the answer is that to these bytes.
-pub record Reads {A T : Type 0} (whole : List ℕ → Result A Refusal) (soon : List ℕ → Option Refusal) (holds : T → A → Type 0) (turns : ℕ) (old new : SourceState) (result : Result T Stop) : Type 0 where
+pub record Reads {A T : Type 0} (whole : List ℕ → Result A Refusal) (soon : List ℕ → Option Refusal)
+    (holds : T → A → Type 0) (turns : ℕ) (old new : SourceState) (result : Result T Stop) : Type 0 where
   pub given : List ℕ
   pub read : Consumes old.bytes new.bytes given
   pub calls : new.calls ≤ old.calls + turns

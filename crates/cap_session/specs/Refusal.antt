@@ -9,4 +9,5 @@ refusal_text e = codes "refused E" ++ decimal (code_of e.reason) ++ codes " line
 
 -- `refused E4 start line 2` and LF: the same of a line of a start
 unfoldable pub start_refusal_text : Refusal → List ℕ
-start_refusal_text e = codes "refused E" ++ decimal (code_of e.reason) ++ codes " start line " ++ decimal e.line ++ codes "\n"
+start_refusal_text e =
+    codes "refused E" ++ decimal (code_of e.reason) ++ codes " start line " ++ decimal e.line ++ codes "\n"

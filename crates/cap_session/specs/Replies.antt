@@ -1,5 +1,6 @@
 -- The reply to a command in a profile, and the trace that it leaves.
-use Rattle.std.specs.Prelude.{ℕ, ◌-◌, ◌&&◌, nat_le, Bool, true, false, List, [], ◌++◌, length, flat_map, filter, codes, decimal, if◌then◌else◌, Result, Ok, Err, Option, None, Some}
+use Rattle.std.specs.Prelude.{ℕ, ◌-◌, ◌&&◌, nat_le, Bool, true, false, List, [], ◌++◌, length, flat_map, filter, codes}
+use Rattle.std.specs.Prelude.{decimal, if◌then◌else◌, Result, Ok, Err, Option, None, Some}
 use Rattle.std.specs.List.{slice_get}
 use Rattle.cap_trace.specs.Entry.{Entry}
 use Rattle.cap_trace.specs.Spelling.{canon}
@@ -10,12 +11,13 @@ use Rattle.cap_machine.specs.Steps.{steps}
 use Rattle.cap_machine.specs.State.{State, usual}
 use Rattle.cap_machine.specs.Check.{check}
 use Rattle.cap_machine.specs.Report.{report_line, last_line, report}
+use Rattle.cap_session.specs.Limits.{most_lines}
 use Rattle.cap_session.specs.Edits.{is_position, inserted, deleted, replaced}
 use Rattle.cap_session.specs.Refused.{code_of}
-use Rattle.cap_session.specs.Commands.{Asked, insert_line, replace_line, delete_line, show_line, count_lines, report_all, report_lines, unknown}
+use Rattle.cap_session.specs.Commands.{Asked, insert_line, replace_line, delete_line, show_line, count_lines}
+use Rattle.cap_session.specs.Commands.{report_all, report_lines, unknown}
 use Rattle.cap_session.specs.declared.refused.Refused.{Refused}
 use Rattle.cap_session.specs.declared.script.NotDone.{NotDone}
-use Rattle.cap_session.specs.declared.script.NotDone.TheVariants as NotDone
 use Rattle.cap_session.specs.declared.refused.Refused.TheVariants.{Position}
 
 -- ---- what is asked without a change
@@ -26,7 +28,8 @@ shown_of None = Err Position
 
 -- the canonical text of the line at a position, without LF
 abbrev pub shown : List Entry → ℕ → Result (List ℕ) Refused
-shown trace position = if is_position position (length trace) then shown_of (slice_get trace (position - 1)) else Err Position
+shown trace position = if is_position position (length trace) then shown_of (slice_get trace (position - 1))
+    else Err Position
 
 -- a finding whose position lies in a range
 abbrev pub lies_in : ℕ → ℕ → Found → Bool
@@ -38,14 +41,16 @@ found_in s trace first last = filter (lies_in first last) (check s trace)
 
 -- their lines, and how many they are
 abbrev pub range_report : State → List Step → ℕ → ℕ → List ℕ
-range_report s trace first last = flat_map (report_line trace) (found_in s trace first last) ++ last_line (length (found_in s trace first last))
+range_report s trace first last =
+    flat_map (report_line trace) (found_in s trace first last) ++ last_line (length (found_in s trace first last))
 
 -- a range begins at a line, and ends at that line or after it
 abbrev pub is_range : ℕ → ℕ → ℕ → Bool
 is_range count first last = nat_le 1 first && nat_le first last && nat_le last count
 
 abbrev pub ranged : Profile → List Entry → ℕ → ℕ → Result (List ℕ) Refused
-ranged profile trace first last = if is_range (length trace) first last then Ok (range_report usual (steps profile trace) first last) else Err Position
+ranged profile trace first last = if is_range (length trace) first last
+    then Ok (range_report usual (steps profile trace) first last) else Err Position
 
 -- ---- commands
 
@@ -72,11 +77,7 @@ abbrev pub shown_done : List Entry → List ℕ → Result (List ℕ) Refused �
 shown_done trace end (Ok text) = Ok (record { text = text ++ end; trace = trace })
 shown_done trace end (Err e) = Err (NotDone.Refused e)
 
--- A script's session holds at most 1,000,000 lines.
-abbrev pub most_lines : ℕ
-most_lines = 1000000
-
--- what a command does, or why it isn't done
+-- what a command does, or why it isn't done; a script's session holds as many lines as a trace may have
 abbrev pub commanded : Profile → List Entry → Asked → Result Done NotDone
 commanded profile trace (insert_line k line) = edit_done (inserted most_lines trace k line)
 commanded profile trace (replace_line k line) = edit_done (replaced trace k line)

@@ -1,5 +1,6 @@
--- What holds of scripts, in every profile.
-use Rattle.std.specs.Prelude.{◌≡◌, ◌⊎◌, ℕ, nat_lt, Bool, false, List, [], ◌∷◌, ◌++◌, length, flat_map, codes, decimal, Result, Ok, Err, ⊤}
+-- Laws of scripts, in every profile: the trace that a script leaves, and which trace each report is of.
+use Rattle.std.specs.Prelude.{◌≡◌, ◌⊎◌, ℕ, nat_lt, Bool, false, List, [], ◌∷◌, ◌++◌, length, flat_map, codes, decimal}
+use Rattle.std.specs.Prelude.{Result, Ok, Err, ⊤}
 use Rattle.cap_trace.specs.Entry.{Entry}
 use Rattle.cap_machine.specs.declared.cell.Profile.{Profile}
 use Rattle.cap_machine.specs.Steps.{steps}
@@ -7,17 +8,19 @@ use Rattle.cap_machine.specs.State.{usual}
 use Rattle.cap_machine.specs.Report.{report}
 use Rattle.cap_session.specs.declared.edit.Edit.{Edit}
 use Rattle.cap_session.specs.declared.refused.Refused.{Refused}
+use Rattle.cap_session.specs.Limits.{longest_script_line, most_lines}
 use Rattle.cap_session.specs.Trace.{is_skipped}
 use Rattle.cap_session.specs.Refused.{code_of}
 use Rattle.cap_session.specs.Edits.{after, answers}
 use Rattle.cap_session.specs.Commands.{asked}
 use Rattle.cap_session.specs.Performs.{edit_asked}
-use Rattle.cap_session.specs.Replies.{most_lines, refused_text, line_feed}
+use Rattle.cap_session.specs.Replies.{refused_text, line_feed}
 use Rattle.cap_session.specs.Scripts.{Run}
 
 -- A line that is neither too long nor a comment asks for an edit.
 abbrev pub Asks : List ℕ → Edit → Type 0
-Asks line edit = (nat_lt 1056 (length line) ≡ false) × (is_skipped line ≡ false) × (asked line ≡ edit_asked edit)
+Asks line edit =
+    (nat_lt longest_script_line (length line) ≡ false) × (is_skipped line ≡ false) × (asked line ≡ edit_asked edit)
 
 -- The lines ask for the edits, each for one.
 abbrev pub AskAll : List (List ℕ) → List Edit → Type 0
@@ -35,12 +38,14 @@ answer_text (Err e) = refused_text (code_of e)
 abbrev pub ReportOrWant : Profile → List Entry → List ℕ → Type 0
 ReportOrWant profile trace text = (text ≡ report usual (steps profile trace)) ⊎ (text ≡ refused_text 9)
 
--- After the lines of any edits, `report` is replied to with the report of the trace that the edits leave, one after the other, and before it
--- stands what each edit answers. For which of them memory was wanted is left open.
+-- After the lines of any edits, `report` is replied to with the report of the trace that the edits leave, one after the
+-- other, and before it stands what each edit answers. For which of them memory was wanted is left open.
 abbrev pub ScriptReportsWhatEditsGive : Type 0
-ScriptReportsWhatEditsGive = (profile : Profile) (trace left : List Entry) (lines : List (List ℕ)) (edits : List Edit) (text : List ℕ) →
+ScriptReportsWhatEditsGive =
+    (profile : Profile) (trace left : List Entry) (lines : List (List ℕ)) (edits : List Edit) (text : List ℕ) →
     AskAll lines edits → Run profile trace (lines ++ codes "report" ∷ []) text left →
-    (wanted : List Bool) × (last : List ℕ) × (length wanted ≡ length edits) × (left ≡ after most_lines trace edits wanted) ×
+    (wanted : List Bool) × (last : List ℕ) × (length wanted ≡ length edits)
+    × (left ≡ after most_lines trace edits wanted) ×
     (text ≡ flat_map answer_text (answers most_lines trace edits wanted) ++ last) × ReportOrWant profile left last
 
 -- A line asks for no edit.
@@ -52,9 +57,11 @@ abbrev pub AreEditsOf : List (List ℕ) → List Edit → Type 0
 AreEditsOf [] [] = ⊤
 AreEditsOf [] (edit ∷ edits) = ⊥
 AreEditsOf (line ∷ lines) [] = AsksNone line × AreEditsOf lines []
-AreEditsOf (line ∷ lines) (edit ∷ edits) = (AsksNone line × AreEditsOf lines (edit ∷ edits)) ⊎ (Asks line edit × AreEditsOf lines edits)
+AreEditsOf (line ∷ lines) (edit ∷ edits) =
+    (AsksNone line × AreEditsOf lines (edit ∷ edits)) ⊎ (Asks line edit × AreEditsOf lines edits)
 
--- A trace becomes the one that the edits among the lines leave, one after the other. For which of them memory was wanted is left open.
+-- A trace becomes the one that the edits among the lines leave, one after the other. For which of them memory was
+-- wanted is left open.
 pub record LeavesEdits (trace : List Entry) (lines : List (List ℕ)) (left : List Entry) : Type 0 where
   pub edits : List Edit
   pub asked : AreEditsOf lines edits
@@ -64,10 +71,13 @@ pub record LeavesEdits (trace : List Entry) (lines : List (List ℕ)) (left : Li
 
 -- Whatever the lines of a script are, they leave the trace that the edits among them leave.
 abbrev pub ScriptLeavesWhatEditsGive : Type 0
-ScriptLeavesWhatEditsGive = (profile : Profile) (trace left : List Entry) (lines : List (List ℕ)) (text : List ℕ) → Run profile trace lines text left → LeavesEdits trace lines left
+ScriptLeavesWhatEditsGive = (profile : Profile) (trace left : List Entry) (lines : List (List ℕ)) (text : List ℕ)
+    → Run profile trace lines text left → LeavesEdits trace lines left
 
--- `now` is the trace at a line `report`, `reply` is the reply to it, and `first` and `rest` are those to the lines before and after it.
-pub record ReportsThen (profile : Profile) (trace left : List Entry) (before others : List (List ℕ)) (text : List ℕ) : Type 0 where
+-- `now` is the trace at a line `report`, `reply` is the reply to it, and `first` and `rest` are those to the lines
+-- before and after it.
+pub record ReportsThen (profile : Profile) (trace left : List Entry) (before others : List (List ℕ))
+    (text : List ℕ) : Type 0 where
   pub now : List Entry
   pub first : List ℕ
   pub reply : List ℕ
@@ -78,7 +88,8 @@ pub record ReportsThen (profile : Profile) (trace left : List Entry) (before oth
   pub report : ReportOrWant profile now reply
   pub more : Run profile now others rest left
 
--- Each `report` in a script is replied to with the report of the trace that the edits before it leave, whatever else stands before it and after it.
+-- Each `report` in a script is replied to with the report of the trace that the edits before it leave, whatever else
+-- stands before it and after it.
 abbrev pub EachReportIsOfItsTrace : Type 0
 EachReportIsOfItsTrace = (profile : Profile) (trace left : List Entry) (before others : List (List ℕ)) (text : List ℕ) →
     Run profile trace (before ++ codes "report" ∷ others) text left → ReportsThen profile trace left before others text

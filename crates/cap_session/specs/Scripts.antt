@@ -1,8 +1,10 @@
 -- The replies to a script in a profile.
-use Rattle.std.specs.Prelude.{◌≡◌, ℕ, nat_lt, ◌⊎◌, List, [], ◌∷◌, ◌++◌, length, if◌then◌else◌, MatchBool, IsTrue, IsOk, Result, Ok, Err}
+use Rattle.std.specs.Prelude.{◌≡◌, ℕ, nat_lt, ◌⊎◌, List, [], ◌∷◌, ◌++◌, length, if◌then◌else◌, MatchBool, IsTrue, IsOk}
+use Rattle.std.specs.Prelude.{Result, Ok, Err}
 use Rattle.cap_trace.specs.Entry.{Entry}
 use Rattle.cap_machine.specs.declared.cell.Profile.{Profile}
 use Rattle.cap_session.specs.Devices.{SinkState}
+use Rattle.cap_session.specs.Limits.{longest_script_line}
 use Rattle.cap_session.specs.Lines.{whole_lines, last_piece, line_if_any}
 use Rattle.cap_session.specs.Trace.{is_skipped}
 use Rattle.cap_session.specs.Writes.{Wrote, WrotePrefix}
@@ -22,22 +24,23 @@ Wants profile t ask text u = IsTrue (may_want ask) × IsOk (commanded profile t 
 abbrev pub Commands : Profile → List Entry → Asked → List ℕ → List Entry → Type 0
 Commands profile t ask text u = RepliesTo t (commanded profile t ask) text u ⊎ Wants profile t ask text u
 
--- This may be written of the line, and the trace t becomes u. A line of more than 1,056 bytes is refused with 1, whatever it holds; an
--- empty line and a comment are skipped.
+-- This may be written of the line, and the trace t becomes u. A line that is too long is refused with 1, whatever it
+-- holds; an empty line and a comment are skipped.
 abbrev pub Answers : Profile → List Entry → List ℕ → List ℕ → List Entry → Type 0
 Answers profile t line text u =
-    MatchBool (nat_lt 1056 (length line)) ((text ≡ refused_text 1) × (u ≡ t))
+    MatchBool (nat_lt longest_script_line (length line)) ((text ≡ refused_text 1) × (u ≡ t))
     (MatchBool (is_skipped line) ((text ≡ []) × (u ≡ t)) (Commands profile t (asked line) text u))
 
 -- These may be the replies to the lines, one after the other.
 abbrev pub Run : Profile → List Entry → List (List ℕ) → List ℕ → List Entry → Type 0
 Run profile t [] text u = (text ≡ []) × (u ≡ t)
 Run profile t (line ∷ more) text u =
-    (first : List ℕ) × (mid : List Entry) × (rest : List ℕ) × Answers profile t line first mid × Run profile mid more rest u × (text ≡ first ++ rest)
+    (first : List ℕ) × (mid : List Entry) × (rest : List ℕ) × Answers profile t line first mid
+    × Run profile mid more rest u × (text ≡ first ++ rest)
 
 -- a last piece that is too long is replied to before its LF
 abbrev pub long_piece : List ℕ → List (List ℕ)
-long_piece held = if nat_lt 1056 (length held) then held ∷ [] else []
+long_piece held = if nat_lt longest_script_line (length held) then held ∷ [] else []
 
 -- The lines of a script that is not at its end which are replied to: those with LF, and a last piece that is too long.
 -- (`script_lines []` is of a whole script; `held` begins its first line.)
@@ -45,7 +48,8 @@ abbrev pub script_lines : List ℕ → List ℕ → List (List ℕ)
 script_lines held bytes = whole_lines held bytes ++ long_piece (last_piece held bytes)
 
 -- These lines were replied to.
-pub record Replied (profile : Profile) (t : List Entry) (w0 w1 : SinkState) (lines : List (List ℕ)) (u : List Entry) : Type 0 where
+pub record Replied (profile : Profile) (t : List Entry) (w0 w1 : SinkState) (lines : List (List ℕ))
+    (u : List Entry) : Type 0 where
   pub text : List ℕ
   pub run : Run profile t lines text u
   pub wrote : Wrote w0 w1 text
@@ -62,7 +66,8 @@ pub record Broken (profile : Profile) (t : List Entry) (w0 w1 : SinkState) (line
 
 -- ---- while a script comes
 
--- What is known: the profile, the trace, and the beginning of the next line, of which no more than 1,057 bytes are kept.
+-- What is known: the profile, the trace, and the beginning of the next line, of which no more than `most_held` bytes
+-- are kept.
 pub record Scripting : Type 0 where
   pub profile : Profile
   pub trace : List Entry
@@ -74,16 +79,17 @@ tail (line ∷ more) = more
 
 -- what is still to be replied to: a beginning that is too long was replied to
 abbrev pub due : List ℕ → List ℕ → List (List ℕ)
-due held bytes = if nat_lt 1056 (length held) then tail (script_lines held bytes) else script_lines held bytes
+due held bytes = if nat_lt longest_script_line (length held) then tail (script_lines held bytes)
+    else script_lines held bytes
 
 -- what completing the begun line leaves to reply to
 abbrev pub due_line : List ℕ → List ℕ → List (List ℕ)
-due_line held bytes = if nat_lt 1056 (length held) then [] else (held ++ bytes) ∷ []
+due_line held bytes = if nat_lt longest_script_line (length held) then [] else (held ++ bytes) ∷ []
 
 -- what going on with it does
 abbrev pub due_piece : List ℕ → List ℕ → List (List ℕ)
-due_piece held bytes = if nat_lt 1056 (length held) then [] else long_piece (held ++ bytes)
+due_piece held bytes = if nat_lt longest_script_line (length held) then [] else long_piece (held ++ bytes)
 
 -- what the end leaves to reply to
 abbrev pub due_end : List ℕ → List (List ℕ)
-due_end held = if nat_lt 1056 (length held) then [] else line_if_any held
+due_end held = if nat_lt longest_script_line (length held) then [] else line_if_any held

@@ -1,4 +1,5 @@
--- What the parts of reading a start text do.
+-- What each part of the code that reads a start text does. Only the code's contracts use this; StartTexts says what a
+-- start text is.
 use Rattle.std.specs.Prelude.{◌≡◌, ℕ, List, Result, Ok, Err, Option, MatchOption, ⊤}
 use Rattle.cap_machine.specs.State.{State, with_listed}
 use Rattle.cap_machine.specs.Table.{start_state}
@@ -28,7 +29,8 @@ Holds kept listed = MatchOption kept ⊥ (λ start. start_state start ≡ listed
 
 -- The listed cells are good, and whatever the start stood for, the process is added to it.
 abbrev pub Adds : Head → Option Start → Option Start → Type 0
-Adds head old new = (cells : List (ℕ × Cell)) × (cells_from 0 head.listed ≡ Ok cells) × ((s : State) → StandsFor old s → StandsFor new (with_listed s head.pid head.mode head.rest cells))
+Adds head old new = (cells : List (ℕ × Cell)) × (cells_from 0 head.listed ≡ Ok cells)
+    × ((s : State) → StandsFor old s → StandsFor new (with_listed s head.pid head.mode head.rest cells))
 
 -- A line with this number did what the definition says.
 abbrev pub TakesNumbered : {A T : Type 0} → Result A Refused → (A → Type 0) → ℕ → Result T Refusal → Type 0

@@ -1,5 +1,5 @@
 -- What reading a start text from its bytes answers.
-use Rattle.std.specs.Prelude.{◌≡◌, ℕ, Result, Ok, Err, IsOk}
+use Rattle.std.specs.Prelude.{◌≡◌, Result, Ok, Err, IsOk}
 use Rattle.cap_machine.specs.State.{State}
 use Rattle.cap_machine.specs.Table.{start_state}
 use Rattle.cap_machine.specs.declared.start.Start.{Start}

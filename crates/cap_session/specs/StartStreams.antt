@@ -12,7 +12,8 @@ use Rattle.cap_session.specs.Streams.{Streams, IsPrefix}
 use Rattle.cap_session.specs.Outcome.{read_faults, write_faults}
 use Rattle.cap_session.specs.declared.refused.Refusal.{Refusal}
 use Rattle.cap_session.specs.declared.outcome.Outcome.{Outcome}
-use Rattle.cap_session.specs.declared.outcome.Outcome.TheVariants.{Clean, Findings, Refused, StartRefused, Memory, ReadFault, WriteFault, TooLong}
+use Rattle.cap_session.specs.declared.outcome.Outcome.TheVariants.{Clean, Findings, Refused, StartRefused, Memory}
+use Rattle.cap_session.specs.declared.outcome.Outcome.TheVariants.{ReadFault, WriteFault, TooLong}
 
 -- A line of what was given of the start is refused, and the text says so.
 pub record IsStartRefusal (ended : Type 0) (given text : List ℕ) (e : Refusal) : Type 0 where
@@ -43,7 +44,8 @@ RejectsStart turns s0 s1 given written (StartRefused code line) = NamesStartLine
 RejectsStart turns s0 s1 given written Memory = IsStartSilent (IsEnded s0 s1) given written
 RejectsStart turns s0 s1 given written ReadFault = IsStartOpen s0 s1 given written
 RejectsStart turns s0 s1 given written TooLong = IsStartOpen s0 s1 given written × UsedUp turns s0 s1
-RejectsStart turns s0 s1 given written WriteFault = (e : Refusal) × (text : List ℕ) × IsStartRefusal (IsEnded s0 s1) given text e × IsPrefix written text
+RejectsStart turns s0 s1 given written WriteFault =
+    (e : Refusal) × (text : List ℕ) × IsStartRefusal (IsEnded s0 s1) given text e × IsPrefix written text
 RejectsStart turns s0 s1 given written (Refused code line) = ⊥
 RejectsStart turns s0 s1 given written Clean = ⊥
 RejectsStart turns s0 s1 given written Findings = ⊥
@@ -62,7 +64,8 @@ pub record StartRejected (turns : ℕ) (s0 s1 r0 r1 : SourceState) (w0 w1 : Sink
   pub unread : r1 ≡ r0
 
 -- The start was read to its end, no line of it is refused, and the trace was checked from it.
-pub record StartTaken (profile : Profile) (turns : ℕ) (s0 s1 r0 r1 : SourceState) (w0 w1 : SinkState) (outcome : Outcome) : Type 0 where
+pub record StartTaken (profile : Profile) (turns : ℕ) (s0 s1 r0 r1 : SourceState) (w0 w1 : SinkState)
+    (outcome : Outcome) : Type 0 where
   pub given : List ℕ
   pub read : Consumes s0.bytes s1.bytes given
   pub calls : s1.calls ≤ s0.calls + turns
@@ -72,5 +75,7 @@ pub record StartTaken (profile : Profile) (turns : ℕ) (s0 s1 r0 r1 : SourceSta
   pub good : start given ≡ Ok known
   pub checked : Streams profile known turns r0 r1 w0 w1 outcome
 
-abbrev pub StartStreams : Profile → ℕ → SourceState → SourceState → SourceState → SourceState → SinkState → SinkState → Outcome → Type 0
-StartStreams profile turns s0 s1 r0 r1 w0 w1 outcome = StartRejected turns s0 s1 r0 r1 w0 w1 outcome ⊎ StartTaken profile turns s0 s1 r0 r1 w0 w1 outcome
+abbrev pub StartStreams : Profile → ℕ → SourceState → SourceState → SourceState → SourceState → SinkState → SinkState
+    → Outcome → Type 0
+StartStreams profile turns s0 s1 r0 r1 w0 w1 outcome =
+    StartRejected turns s0 s1 r0 r1 w0 w1 outcome ⊎ StartTaken profile turns s0 s1 r0 r1 w0 w1 outcome

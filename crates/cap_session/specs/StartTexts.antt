@@ -1,9 +1,10 @@
 -- Start texts: what was known of each process before the first line of a trace.
 --
--- A line is about one process, in words with one space between: its pid, its mode, the cell of each descriptor that isn't listed, and
--- the listed descriptors, each with its cell: `100 out closed 0=ALL 3=CAP_READ|CAP_SEEK 5=unknown`. Pids rise from line to line, and
--- descriptors within a line. Empty lines and lines that begin with `#` are skipped.
-use Rattle.std.specs.Prelude.{ℕ, ◌+◌, nat_le, List, [], ◌∷◌, drop, codes, if◌then◌else◌, Result, Ok, Err, Option, None, Some, option_map, option_and_then}
+-- A line is about one process, in words with one space between: its pid, its mode, the cell of each descriptor that
+-- isn't listed, and the listed descriptors, each with its cell: `100 out closed 0=ALL 3=CAP_READ|CAP_SEEK 5=unknown`.
+-- Pids rise from line to line, and descriptors within a line. Empty lines and lines that begin with `#` are skipped.
+use Rattle.std.specs.Prelude.{ℕ, ◌+◌, nat_le, List, [], ◌∷◌, drop, codes, if◌then◌else◌, Result, Ok, Err, Option, None}
+use Rattle.std.specs.Prelude.{Some, option_map, option_and_then}
 use Rattle.std.specs.Str.{bytes_eq}
 use Rattle.std.specs.List.{slice_get}
 use Rattle.cap_rights.specs.Text.{names}
@@ -111,12 +112,14 @@ abbrev pub none_listed : Listed
 none_listed = record { state = usual; low = 1 }
 
 abbrev pub with_described : Listed → Result Described Refused → Result Listed Refused
-with_described listed (Ok d) = Ok (record { state = with_listed listed.state d.pid d.mode d.rest d.cells; low = d.pid + 1 })
+with_described listed (Ok d) =
+    Ok (record { state = with_listed listed.state d.pid d.mode d.rest d.cells; low = d.pid + 1 })
 with_described listed (Err field) = Err field
 
 -- A line is skipped, or adds a process, or is refused for its first bad field.
 unfoldable pub next_process : Listed → List ℕ → Result Listed Refused
-next_process listed line = if is_skipped line then Ok listed else with_described listed (described listed.low (words line))
+next_process listed line = if is_skipped line then Ok listed
+    else with_described listed (described listed.low (words line))
 
 abbrev pub state_of : Result Listed Refusal → Result State Refusal
 state_of (Ok listed) = Ok listed.state

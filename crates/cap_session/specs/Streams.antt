@@ -1,4 +1,4 @@
--- What a stream call answers, for the bytes that its reader gave.
+-- The contract of `check_stream_as`: for the bytes that its reader gave, what was written, and the outcome.
 use Rattle.std.specs.Prelude.{◌≡◌, ◌≢◌, ℕ, ◌+◌, ◌≤◌, ◌⊎◌, List, [], ◌++◌, None, Ok}
 use Rattle.std.specs.Io.KnownBytes.{Consumes, Appends}
 use Rattle.cap_trace.specs.Entry.{Entry}
@@ -15,10 +15,13 @@ use Rattle.cap_session.specs.Refusal.{refusal_text}
 use Rattle.cap_session.specs.Outcome.{read_faults, write_faults}
 use Rattle.cap_session.specs.declared.refused.Refusal.{Refusal}
 use Rattle.cap_session.specs.declared.outcome.Outcome.{Outcome}
-use Rattle.cap_session.specs.declared.outcome.Outcome.TheVariants.{Clean, Findings, Refused, StartRefused, Memory, ReadFault, WriteFault, TooLong}
+use Rattle.cap_session.specs.declared.outcome.Outcome.TheVariants.{Clean, Findings, Refused, StartRefused, Memory}
+use Rattle.cap_session.specs.declared.outcome.Outcome.TheVariants.{ReadFault, WriteFault, TooLong}
 
--- The end was reached, no line of what was given is refused, and the text is the report of its entries in this profile, under the start.
-pub record IsReport (profile : Profile) (start : State) (ended : Type 0) (given text : List ℕ) (entries : List Entry) : Type 0 where
+-- The end was reached, no line of what was given is refused, and the text is the report of its entries in this profile,
+-- under the start.
+pub record IsReport (profile : Profile) (start : State) (ended : Type 0) (given text : List ℕ)
+    (entries : List Entry) : Type 0 where
   pub end : ended
   pub good : trace given ≡ Ok entries
   pub is : text ≡ report start (steps profile entries)
@@ -48,7 +51,8 @@ pub record IsOpen (old new : SourceState) (given written : List ℕ) : Type 0 wh
 
 -- The text that is to be written of what was given.
 abbrev pub IsText : Profile → State → Type 0 → List ℕ → List ℕ → Type 0
-IsText profile start ended given text = ((entries : List Entry) × IsReport profile start ended given text entries) ⊎ ((e : Refusal) × IsRefusal ended given text e)
+IsText profile start ended given text = ((entries : List Entry) × IsReport profile start ended given text entries)
+    ⊎ ((e : Refusal) × IsRefusal ended given text e)
 
 -- the text begins so
 abbrev pub IsPrefix : List ℕ → List ℕ → Type 0
@@ -56,17 +60,23 @@ IsPrefix written text = (rest : List ℕ) × (text ≡ written ++ rest)
 
 -- The outcome, for what was given and written.
 abbrev pub HasOutcome : Profile → State → ℕ → SourceState → SourceState → List ℕ → List ℕ → Outcome → Type 0
-HasOutcome profile start turns old new given written Clean = (entries : List Entry) × IsReport profile start (IsEnded old new) given written entries × (check start (steps profile entries) ≡ [])
-HasOutcome profile start turns old new given written Findings = (entries : List Entry) × IsReport profile start (IsEnded old new) given written entries × (check start (steps profile entries) ≢ [])
-HasOutcome profile start turns old new given written (Refused code line) = NamesLine (IsEnded old new) given written code line
+HasOutcome profile start turns old new given written Clean = (entries : List Entry)
+    × IsReport profile start (IsEnded old new) given written entries × (check start (steps profile entries) ≡ [])
+HasOutcome profile start turns old new given written Findings = (entries : List Entry)
+    × IsReport profile start (IsEnded old new) given written entries × (check start (steps profile entries) ≢ [])
+HasOutcome profile start turns old new given written (Refused code line) =
+    NamesLine (IsEnded old new) given written code line
 HasOutcome profile start turns old new given written (StartRefused code line) = ⊥
 HasOutcome profile start turns old new given written Memory = IsSilent (IsEnded old new) given written
 HasOutcome profile start turns old new given written ReadFault = IsOpen old new given written
 HasOutcome profile start turns old new given written TooLong = IsOpen old new given written × UsedUp turns old new
-HasOutcome profile start turns old new given written WriteFault = (text : List ℕ) × IsText profile start (IsEnded old new) given text × IsPrefix written text
+HasOutcome profile start turns old new given written WriteFault =
+    (text : List ℕ) × IsText profile start (IsEnded old new) given text × IsPrefix written text
 
--- What a stream call does in a profile, under a start: some bytes were given, some were written, and the outcome is that of these bytes.
-pub record Streams (profile : Profile) (start : State) (turns : ℕ) (r0 r1 : SourceState) (w0 w1 : SinkState) (outcome : Outcome) : Type 0 where
+-- What a stream call does in a profile, under a start: some bytes were given, some were written, and the outcome is
+-- that of these bytes.
+pub record Streams (profile : Profile) (start : State) (turns : ℕ) (r0 r1 : SourceState) (w0 w1 : SinkState)
+    (outcome : Outcome) : Type 0 where
   pub given : List ℕ
   pub read : Consumes r0.bytes r1.bytes given
   pub written : List ℕ

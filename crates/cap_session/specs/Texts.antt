@@ -1,14 +1,15 @@
 -- What a text of lines gives, from its first line to the first that is refused.
 -- `next` says of a line what becomes of what is known, or why the line is refused.
 use Rattle.std.specs.Prelude.{ℕ, ◌+◌, nat_lt, List, [], ◌∷◌, length, if◌then◌else◌, Result, Ok, Err, Option, None, Some}
+use Rattle.cap_session.specs.Limits.{longest_line}
 use Rattle.cap_session.specs.Lines.{lines, lines_so_far}
 use Rattle.cap_session.specs.declared.refused.Refusal.{Refusal}
 use Rattle.cap_session.specs.declared.refused.Refused.{Refused}
 use Rattle.cap_session.specs.declared.refused.Refused.TheVariants.{LongLine}
 
--- a line of more than 1,024 bytes is too long, whatever it holds
+-- a line that is too long is refused so, whatever it holds
 abbrev pub with_line : {A : Type 0} → (A → List ℕ → Result A Refused) → A → List ℕ → Result A Refused
-with_line next known line = if nat_lt 1024 (length line) then Err LongLine else next known line
+with_line next known line = if nat_lt longest_line (length line) then Err LongLine else next known line
 
 -- the lines one after the other, where `before` lines stand before them
 unfoldable pub with_lines : {A : Type 0} → (A → List ℕ → Result A Refused) → A → ℕ → List (List ℕ) → Result A Refusal

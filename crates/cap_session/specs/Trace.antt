@@ -1,9 +1,11 @@
 -- The trace that a text spells: a list of entries, or its first refused line.
-use Rattle.std.specs.Prelude.{ℕ, ◌==◌, Bool, true, nat_le, List, [], ◌∷◌, ◌++◌, length, if◌then◌else◌, Result, Ok, Err, Option}
+use Rattle.std.specs.Prelude.{ℕ, ◌==◌, Bool, true, nat_le, List, [], ◌∷◌, ◌++◌, length, if◌then◌else◌, Result, Ok, Err}
+use Rattle.std.specs.Prelude.{Option}
 use Rattle.cap_trace.specs.declared.fault.ReadFault.{ReadFault}
 use Rattle.cap_trace.specs.Entry.{Entry}
 use Rattle.cap_trace.specs.Reading.{line_of}
 use Rattle.cap_trace.specs.Fault.{line_fault}
+use Rattle.cap_session.specs.Limits.{most_lines}
 use Rattle.cap_session.specs.Texts.{whole_text, refused_so_far}
 use Rattle.cap_session.specs.Refused.{refused_line}
 use Rattle.cap_session.specs.declared.refused.Refusal.{Refusal}
@@ -20,11 +22,11 @@ abbrev pub with_entry : List Entry → Result Entry ReadFault → Result (List E
 with_entry entries (Ok entry) = Ok (entries ++ entry ∷ [])
 with_entry entries (Err fault) = Err (refused_line (line_fault fault))
 
--- A line is skipped; or refused, whatever it holds, where there are 1,000,000 entries; or read.
+-- A line is skipped; or refused, whatever it holds, where there are as many entries as a trace may have; or read.
 unfoldable pub next_entry : List Entry → List ℕ → Result (List Entry) Refused
 next_entry entries line =
     if is_skipped line then Ok entries
-    else if nat_le 1000000 (length entries) then Err Full
+    else if nat_le most_lines (length entries) then Err Full
     else with_entry entries (line_of line)
 
 -- the entries of a whole text, or its first refused line

@@ -1,4 +1,4 @@
--- What is known of a trace while it comes.
+-- What is known of a trace while it comes, in a profile and from a start. Only the code's contracts use this.
 use Rattle.std.specs.Prelude.{◌≡◌, ℕ, List, [], ◌∷◌, ◌++◌, length, Result, Ok, Err, Option, MatchOption}
 use Rattle.cap_trace.specs.Entry.{Entry}
 use Rattle.cap_machine.specs.declared.cell.Profile.{Profile}
@@ -29,7 +29,8 @@ next_traced known line = with_setting known.setting (next_entry known.entries li
 
 -- The entries are kept, or they were lost and are counted.
 abbrev pub Follows : {K : Type 0} → (K → Setting → List Entry → Type 0) → Option K → ℕ → Traced → Type 0
-Follows keeps kept lost known = MatchOption kept (lost ≡ length known.entries) (λ k. keeps k known.setting known.entries)
+Follows keeps kept lost known =
+    MatchOption kept (lost ≡ length known.entries) (λ k. keeps k known.setting known.entries)
 
 -- The entries are kept.
 abbrev pub Holds : {K : Type 0} → (K → Setting → List Entry → Type 0) → Option K → Traced → Type 0

@@ -1,4 +1,5 @@
--- What the parts of a stream call do.
+-- What each part of the code of a stream call does. Only the code's contracts use this; Streams says what a call
+-- answers.
 use Rattle.std.specs.Prelude.{◌≡◌, ◌≢◌, List, []}
 use Rattle.cap_trace.specs.Entry.{Entry}
 use Rattle.cap_machine.specs.declared.cell.Profile.{Profile}
@@ -14,12 +15,15 @@ use Rattle.cap_session.specs.declared.lines.Stop.{Stop}
 use Rattle.cap_session.specs.declared.lines.Stop.TheVariants as stops
 use Rattle.cap_session.specs.declared.refused.Refusal.{Refusal}
 use Rattle.cap_session.specs.declared.outcome.Outcome.{Outcome}
-use Rattle.cap_session.specs.declared.outcome.Outcome.TheVariants.{Clean, Findings, Refused, StartRefused, Memory, ReadFault, WriteFault, TooLong}
+use Rattle.cap_session.specs.declared.outcome.Outcome.TheVariants.{Clean, Findings, Refused, StartRefused, Memory}
+use Rattle.cap_session.specs.declared.outcome.Outcome.TheVariants.{ReadFault, WriteFault, TooLong}
 
 -- What writing the report does and answers.
 abbrev pub WritesReport : Profile → State → List Entry → SinkState → SinkState → Outcome → Type 0
-WritesReport profile s entries w0 w1 Clean = Wrote w0 w1 (report s (steps profile entries)) × (check s (steps profile entries) ≡ [])
-WritesReport profile s entries w0 w1 Findings = Wrote w0 w1 (report s (steps profile entries)) × (check s (steps profile entries) ≢ [])
+WritesReport profile s entries w0 w1 Clean =
+    Wrote w0 w1 (report s (steps profile entries)) × (check s (steps profile entries) ≡ [])
+WritesReport profile s entries w0 w1 Findings =
+    Wrote w0 w1 (report s (steps profile entries)) × (check s (steps profile entries) ≢ [])
 WritesReport profile s entries w0 w1 Memory = w1 ≡ w0
 WritesReport profile s entries w0 w1 WriteFault = WrotePrefix w0 w1 (report s (steps profile entries))
 WritesReport profile s entries w0 w1 (Refused code line) = ⊥
@@ -48,7 +52,8 @@ EndsCall stops.TooLong w0 w1 outcome = (w1 ≡ w0) × (outcome ≡ TooLong)
 
 -- The same of a refused line of a start.
 abbrev pub WritesStartRefusal : Refusal → SinkState → SinkState → Outcome → Type 0
-WritesStartRefusal e w0 w1 (StartRefused code line) = Wrote w0 w1 (start_refusal_text e) × (code ≡ code_of e.reason) × (line ≡ e.line)
+WritesStartRefusal e w0 w1 (StartRefused code line) =
+    Wrote w0 w1 (start_refusal_text e) × (code ≡ code_of e.reason) × (line ≡ e.line)
 WritesStartRefusal e w0 w1 WriteFault = WrotePrefix w0 w1 (start_refusal_text e)
 WritesStartRefusal e w0 w1 (Refused code line) = ⊥
 WritesStartRefusal e w0 w1 Clean = ⊥

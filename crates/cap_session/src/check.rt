@@ -35,7 +35,8 @@ impl Keep for Checker {
 /// Writes the report of the trace that was checked.
 fn write_report<W: Sink>(checker: Checker, writer: &mut W) -> Outcome
     requires { 1 ≤ (W.state writer.old).room }
-    ensures { (profile : Profile) (s : State) (entries : List Entry) → HasChecked checker profile s entries → WritesReport profile s entries (W.state writer.old) (W.state writer.new) result }
+    ensures { (profile : Profile) (s : State) (entries : List Entry) → HasChecked checker profile s entries
+        → WritesReport profile s entries (W.state writer.old) (W.state writer.new) result }
 {
     let is_clean = checker.is_clean();
     let Ok(text) = checker.report() else {
@@ -84,7 +85,8 @@ pub fn check_with<R: Source, W: Sink>(
     requires turns { turns ≤ 2 ^ 32 }
     requires calls { turns ≤ (R.state reader.old).room }
     requires failure { 1 ≤ (W.state writer.old).room }
-    ensures { (profile : Profile) (s : State) → HasChecked checker profile s [] → Streams profile s turns (R.state reader.old) (R.state reader.new) (W.state writer.old) (W.state writer.new) result }
+    ensures { (profile : Profile) (s : State) → HasChecked checker profile s [] → Streams profile s turns
+        (R.state reader.old) (R.state reader.new) (W.state writer.old) (W.state writer.new) result }
 {
     match read_trace(alloc, turns, reader, checker) {
         Ok(checker) => write_report(checker, writer),
@@ -105,7 +107,8 @@ pub fn check_stream_as<R: Source, W: Sink>(
     requires turns { turns ≤ 2 ^ 32 }
     requires calls { turns ≤ (R.state reader.old).room }
     requires failure { 1 ≤ (W.state writer.old).room }
-    ensures { Streams profile usual turns (R.state reader.old) (R.state reader.new) (W.state writer.old) (W.state writer.new) result }
+    ensures { Streams profile usual turns (R.state reader.old) (R.state reader.new) (W.state writer.old)
+        (W.state writer.new) result }
 {
     check_with(alloc, turns, reader, writer, Checker::new(alloc, profile))
 }
@@ -132,7 +135,8 @@ pub fn check_stream<R: Source, W: Sink>(
     requires turns { turns ≤ 2 ^ 32 }
     requires calls { turns ≤ (R.state reader.old).room }
     requires failure { 1 ≤ (W.state writer.old).room }
-    ensures { Streams Profile.One usual turns (R.state reader.old) (R.state reader.new) (W.state writer.old) (W.state writer.new) result }
+    ensures { Streams Profile.One usual turns (R.state reader.old) (R.state reader.new) (W.state writer.old)
+        (W.state writer.new) result }
 {
     check_stream_as(alloc, Profile::One, turns, reader, writer)
 }

@@ -1,13 +1,15 @@
-//! What a line of a script command_asked for.
+//! What a line of a script asks for: [`command_of`] reads it, and every line is some command, if only an unknown one.
 ghost use Rattle.std.specs.Prelude.{◌≡◌, MatchOption, None, Some};
-ghost use Rattle.cap_session.specs.Commands.{Asked, asked, asked_alone, asked_with, first_word, after_word, position, with_number, with_line, with_range, insert_line, replace_line, report_lines, unknown};
+ghost use Rattle.cap_session.specs.Commands.{Asked, asked, asked_alone, asked_with, first_word, after_word, position};
+ghost use Rattle.cap_session.specs.Commands.{with_number, with_line, with_range, insert_line, replace_line};
+ghost use Rattle.cap_session.specs.Commands.{report_lines, unknown};
 ghost use Rattle.cap_session.specs.Performs.{command_asked};
 
 use crate::edit::Edit;
 use crate::number::number_of;
 use bstr::ByteSlice;
 
-/// What a line of a script command_asked for.
+/// What a line of a script asks for.
 #[derive(Clone, Copy, Debug)]
 pub enum Command<'a> {
     Edit(Edit<'a>),
@@ -103,7 +105,7 @@ fn with_rest<'a>(word: &[u8], rest: &'a [u8]) -> Command<'a>
     }
 }
 
-/// What a line command_asked for.
+/// What a line asks for.
 pub fn command_of<'a>(line: &'a [u8]) -> Command<'a>
     ensures { command_asked result ≡ asked line.now }
 {

@@ -1,4 +1,5 @@
-//! A device of std, with its counts.
+//! [`Counted`] makes a reader or a writer of the stream calls from any `Read` or `Write`: one call of the device for
+//! each call, none after a failure, and counts of both.
 ghost use Rattle.std.specs.Prelude.{◌≡◌, ◌+◌, ◌-◌, ◌^◌, ◌<◌, ◌≤◌};
 ghost use Rattle.cap_session.specs.Devices.{CountedDevice, nothing_counted, reads_left, faults_left};
 
@@ -19,7 +20,10 @@ pub struct Counted<D> {
 impl<D> Model for Counted<D> {
     ghost Value = { CountedDevice D };
 
-    ghost view = { λ s. record { device = s.device; counts = record { calls = s.calls; failures = s.failures; ends = s.ends; faults = s.faults } } };
+    ghost view = { λ s. record {
+      device = s.device;
+      counts = record { calls = s.calls; failures = s.failures; ends = s.ends; faults = s.faults };
+    } };
 
     ghost invariant = { λ s. (s.failures ≤ s.calls) × (s.ends ≤ s.calls) };
 }
@@ -43,7 +47,13 @@ impl<D> Counted<D> {
 }
 
 impl<R: Read> Source for Counted<R> {
-    ghost state = { λ s. record { bytes = R.remaining s.device; calls = s.counts.calls; failures = s.counts.failures; ends = s.counts.ends; room = reads_left s.counts } };
+    ghost state = { λ s. record {
+      bytes = R.remaining s.device;
+      calls = s.counts.calls;
+      failures = s.counts.failures;
+      ends = s.counts.ends;
+      room = reads_left s.counts;
+    } };
 
     fn read(&mut self, buffer: &mut [u8]) -> Result<usize, Failed> {
         self.calls += 1;
@@ -66,7 +76,8 @@ impl<R: Read> Source for Counted<R> {
 }
 
 impl<W: Write> Sink for Counted<W> {
-    ghost state = { λ s. record { taken = W.contents s.device; failures = s.counts.faults; room = faults_left s.counts } };
+    ghost state = { λ s.
+        record { taken = W.contents s.device; failures = s.counts.faults; room = faults_left s.counts } };
 
     fn write(&mut self, bytes: &[u8]) -> Result<usize, Failed> {
         match self.device.write(bytes) {

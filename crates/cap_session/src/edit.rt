@@ -1,4 +1,4 @@
-//! What can be asked of a trace, and what holds of it.
+//! [`Edit`], an edit of a trace as a value, and the laws of edits. Each law is a function that does nothing.
 ghost use Rattle.cap_session.specs.EditLaws.{AcceptedEditsGive, NoEditAsksForMemory, InsertedStands};
 
 /// A change of a trace, one line at a time. Positions count from 1.

@@ -1,15 +1,16 @@
-//! A trace, and a script of commands on it.
+//! [`edit_stream_as`]: a trace is loaded, and then a script of commands on it is replied to, line by line.
 ghost use Rattle.std.specs.Prelude.{◌≡◌, ◌^◌, ◌<◌, ◌≤◌, [], length};
 ghost use Rattle.cap_machine.specs.declared.cell.Profile.TheVariants.{One};
 ghost use Rattle.cap_session.specs.EditStreams.{EditStreams, Replies, IsOutcome};
+ghost use Rattle.cap_session.specs.Limits.{longest_piece};
 
 use crate::check::write_stop;
 use crate::devices::{Sink, Source};
 use crate::entries::read_trace;
 use crate::held::Held;
+use crate::limits::LONGEST_PIECE;
 use crate::loading::Loading;
 use crate::outcome::Outcome;
-use crate::read::PIECE;
 use crate::replies::reply_all;
 use crate::script::Script;
 use crate::session::Session;
@@ -29,8 +30,9 @@ fn edit_loaded<S: Source, W: Sink>(
     requires failure { 1 ≤ (W.state writer.old).room }
     requires begins { script.held ≡ [] }
     requires some { 0 < length piece.old }
-    requires most { length piece.old ≤ 65536 }
-    ensures { Replies script.profile turns (S.state reader.old) (S.state reader.new) (W.state writer.old) (W.state writer.new) script.trace result }
+    requires most { length piece.old ≤ longest_piece }
+    ensures { Replies script.profile turns (S.state reader.old) (S.state reader.new) (W.state writer.old)
+        (W.state writer.new) script.trace result }
 {
     match reply_all(turns, reader, writer, &mut script, piece) {
         Ok(()) => outcome_of(&script.session),
@@ -82,9 +84,10 @@ pub fn edit_stream_as<T: Source, S: Source, W: Sink>(
     requires trace_calls { turns ≤ (T.state trace.old).room }
     requires script_calls { turns ≤ (S.state script.old).room }
     requires failure { 1 ≤ (W.state writer.old).room }
-    ensures { EditStreams profile turns (T.state trace.old) (T.state trace.new) (S.state script.old) (S.state script.new) (W.state writer.old) (W.state writer.new) result }
+    ensures { EditStreams profile turns (T.state trace.old) (T.state trace.new) (S.state script.old)
+        (S.state script.new) (W.state writer.old) (W.state writer.new) result }
 {
-    let Ok(mut piece) = vec![in alloc; 0u8; PIECE] else {
+    let Ok(mut piece) = vec![in alloc; 0u8; LONGEST_PIECE] else {
         return Outcome::Memory;
     };
     let Ok(held) = Held::new(alloc) else {
@@ -117,10 +120,8 @@ pub fn edit_stream<T: Source, S: Source, W: Sink>(
     requires trace_calls { turns ≤ (T.state trace.old).room }
     requires script_calls { turns ≤ (S.state script.old).room }
     requires failure { 1 ≤ (W.state writer.old).room }
-    ensures { EditStreams One turns (T.state trace.old) (T.state trace.new) (S.state script.old) (S.state script.new) (W.state writer.old) (W.state writer.new) result }
+    ensures { EditStreams One turns (T.state trace.old) (T.state trace.new) (S.state script.old) (S.state script.new)
+        (W.state writer.old) (W.state writer.new) result }
 {
     edit_stream_as(alloc, Profile::One, turns, trace, script, writer)
 }
-
-#[cfg(test)]
-mod tests;

@@ -1,21 +1,20 @@
-//! The lines of a trace, each read and kept.
+//! The lines of a trace, each read and given to what keeps them: a checker, which keeps none, or a session ([`Keep`]).
 ghost use Rattle.std.specs.Prelude.{◌≡◌, ◌<◌, ◌≤◌, ◌^◌, ℕ, ◌++◌, ◌∷◌, [], List, length, OnOk, None, MatchOption};
 ghost use Rattle.std.specs.Option.{ForSome};
 ghost use Rattle.cap_trace.specs.Entry.{Entry};
+ghost use Rattle.cap_session.specs.Limits.{most_lines};
 ghost use Rattle.cap_session.specs.Trace.{is_skipped, trace, soon};
 ghost use Rattle.cap_session.specs.Traced.{Setting, Traced, one_more, next_traced, Follows, Holds};
 ghost use Rattle.cap_session.specs.Reads.{Reads};
 
 use crate::devices::Source;
+use crate::limits::MOST_LINES;
 use crate::lines::{Lines, Stop};
 use crate::read::read_text;
 use crate::refused::Refused;
 use cap_machine::NoMemory;
 use cap_trace::{Line, LineFault, parse_line};
 use std::alloc::Global;
-
-/// A trace has at most so many lines, those that are skipped not counted.
-pub const MOST_LINES: usize = 1_000_000;
 
 /// Whether a line is empty or a comment.
 pub fn is_skipped(line: &[u8]) -> bool
@@ -42,8 +41,9 @@ pub trait Keep: Drop {
 
     /// Keeps one line more.
     fn keep(&mut self, line: Line) -> Result<(), NoMemory>
-        requires { lines_of self.old < 1000000 }
-        ensures { (s : Setting) (entries : List Entry) → keeps self.old s entries → OnOk result (keeps self.new s (entries ++ line ∷ [])) };
+        requires { lines_of self.old < most_lines }
+        ensures { (s : Setting) (entries : List Entry) → keeps self.old s entries
+            → OnOk result (keeps self.new s (entries ++ line ∷ [])) };
 }
 
 /// The lines of a trace so far. They are kept until memory runs out, and counted from then on.
@@ -58,7 +58,8 @@ impl<K: Keep> Entries<K> {
     /// How many lines there are so far.
     fn count(&self) -> usize
         ensures count { MatchOption self.now.kept (result ≡ self.now.lost) (λ k. result ≡ K.lines_of k) }
-        ensures lines { (known : Traced) → Follows K.keeps self.now.kept self.now.lost known → result ≡ length known.entries }
+        ensures lines { (known : Traced) → Follows K.keeps self.now.kept self.now.lost known
+            → result ≡ length known.entries }
     {
         match &self.kept {
             Some(kept) => kept.count(),
@@ -68,9 +69,10 @@ impl<K: Keep> Entries<K> {
 
     /// Keeps the next line, which comes after `count` others.
     fn keep(&mut self, count: usize, line: Line)
-        requires room { ForSome self.old.kept (λ k. K.lines_of k < 1000000) }
-        requires most { count < 1000000 }
-        ensures { (known : Traced) → Follows K.keeps self.old.kept self.old.lost known → count ≡ length known.entries → Follows K.keeps self.new.kept self.new.lost (one_more known line) }
+        requires room { ForSome self.old.kept (λ k. K.lines_of k < most_lines) }
+        requires most { count < most_lines }
+        ensures { (known : Traced) → Follows K.keeps self.old.kept self.old.lost known → count ≡ length known.entries
+            → Follows K.keeps self.new.kept self.new.lost (one_more known line) }
     {
         let is_kept = match &mut self.kept {
             Some(kept) => kept.keep(line).is_ok(),
@@ -137,7 +139,8 @@ pub fn read_trace<K: Keep, R: Source>(
 ) -> Result<K, Stop>
     requires turns { turns ≤ 2 ^ 32 }
     requires calls { turns ≤ (R.state reader.old).room }
-    ensures { (s : Setting) → K.keeps keep s [] → Reads trace soon (λ k entries. K.keeps k s entries) turns (R.state reader.old) (R.state reader.new) result }
+    ensures { (s : Setting) → K.keeps keep s []
+        → Reads trace soon (λ k entries. K.keeps k s entries) turns (R.state reader.old) (R.state reader.new) result }
 {
     let entries = Entries {
         alloc,

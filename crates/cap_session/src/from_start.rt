@@ -54,7 +54,8 @@ fn check_from<R: Source, W: Sink>(
     requires turns { turns ≤ 2 ^ 32 }
     requires calls { turns ≤ (R.state reader.old).room }
     requires failure { 1 ≤ (W.state writer.old).room }
-    ensures { Streams profile (start_state start.now) turns (R.state reader.old) (R.state reader.new) (W.state writer.old) (W.state writer.new) result }
+    ensures { Streams profile (start_state start.now) turns (R.state reader.old) (R.state reader.new)
+        (W.state writer.old) (W.state writer.new) result }
 {
     let Ok(checker) = Checker::from_start(alloc, profile, start) else {
         return Outcome::Memory;
@@ -62,19 +63,21 @@ fn check_from<R: Source, W: Sink>(
     check_with(alloc, turns, reader, writer, checker)
 }
 
-/// Reads a start text, checks a trace as it comes from that start in a profile, and writes its report or the first refused
-/// line.
+/// Reads a start text, checks a trace as it comes from that start in a profile, and writes its report or the first
+/// refused line.
 ///
-/// Both texts are read as [`check_stream`](crate::check_stream) reads a trace, the start first; `turns` bounds the calls of
-/// each reader by itself. The start is a text as `parse_start` reads it. What follows its refused line isn't looked at.
+/// Both texts are read as [`check_stream`](crate::check_stream) reads a trace, the start first; `turns` bounds the
+/// calls of each reader by itself. The start is a text as `parse_start` reads it. What follows its refused line isn't
+/// looked at.
 ///
-/// - `StartRefused`: the code and the number of the first refused line of the start, as `parse_start` has them, written as
+/// - `StartRefused`: the code and the number of the first refused line of the start, as `parse_start` has them, written
+///   as
 ///   `refused E4 start line 2` and LF. The trace isn't read.
 /// - `Memory`, `ReadFault`, `TooLong` and `WriteFault` of the start: as for a trace, and the trace isn't read.
 /// - Else the outcome is that of the trace, as [`check_stream`](crate::check_stream) has it, from this start.
 ///
-/// `turns` must be at most 2^32, both readers must be able to count so many calls, and the writer must be able to count a
-/// failure.
+/// `turns` must be at most 2^32, both readers must be able to count so many calls, and the writer must be able to count
+/// a failure.
 pub fn check_stream_from_as<S: Source, R: Source, W: Sink>(
     alloc: Global,
     profile: Profile,
@@ -87,7 +90,8 @@ pub fn check_stream_from_as<S: Source, R: Source, W: Sink>(
     requires start_calls { turns ≤ (S.state start.old).room }
     requires calls { turns ≤ (R.state reader.old).room }
     requires failure { 1 ≤ (W.state writer.old).room }
-    ensures { StartStreams profile turns (S.state start.old) (S.state start.new) (R.state reader.old) (R.state reader.new) (W.state writer.old) (W.state writer.new) result }
+    ensures { StartStreams profile turns (S.state start.old) (S.state start.new) (R.state reader.old)
+        (R.state reader.new) (W.state writer.old) (W.state writer.new) result }
 {
     match read_start(alloc, turns, start) {
         Ok(known) => check_from(alloc, profile, turns, &known, reader, writer),
@@ -107,7 +111,8 @@ pub fn check_stream_from<S: Source, R: Source, W: Sink>(
     requires start_calls { turns ≤ (S.state start.old).room }
     requires calls { turns ≤ (R.state reader.old).room }
     requires failure { 1 ≤ (W.state writer.old).room }
-    ensures { StartStreams One turns (S.state start.old) (S.state start.new) (R.state reader.old) (R.state reader.new) (W.state writer.old) (W.state writer.new) result }
+    ensures { StartStreams One turns (S.state start.old) (S.state start.new) (R.state reader.old) (R.state reader.new)
+        (W.state writer.old) (W.state writer.new) result }
 {
     check_stream_from_as(alloc, Profile::One, turns, start, reader, writer)
 }

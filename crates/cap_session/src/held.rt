@@ -1,5 +1,6 @@
 //! The beginning of a line, in room that is taken before the first read.
-ghost use Rattle.std.specs.Prelude.{◌≡◌, ◌+◌, ◌<◌, ◌≤◌, ◌↔◌, List, ℕ, [], ◌++◌, length, take, IfOk, OnOk, OnErr, vec_capacity, IsTrue};
+ghost use Rattle.std.specs.Prelude.{◌≡◌, ◌+◌, ◌<◌, ◌≤◌, ◌↔◌, List, ℕ, [], ◌++◌, length, take, IfOk, OnOk, OnErr};
+ghost use Rattle.std.specs.Prelude.{vec_capacity, IsTrue};
 
 use std::alloc::{AllocError, Global};
 use std::marker::Model;

@@ -1,6 +1,8 @@
-//! What holds of a text and its pieces, and of a script.
+//! Laws of texts and of scripts: how the input is cut never matters, a refused line is refused whatever follows, and a
+//! script's reports are those of its edits. Each function does nothing: its contract is what it says.
 ghost use Rattle.cap_session.specs.Laws.{BeginningDecides, GoodIsReported, BadIsRefused, PiecesAgree};
-ghost use Rattle.cap_session.specs.ScriptLaws.{ScriptReportsWhatEditsGive, ScriptLeavesWhatEditsGive, EachReportIsOfItsTrace};
+ghost use Rattle.cap_session.specs.ScriptLaws.{ScriptReportsWhatEditsGive, ScriptLeavesWhatEditsGive};
+ghost use Rattle.cap_session.specs.ScriptLaws.{EachReportIsOfItsTrace};
 
 /// The first refused line of a beginning is that of the text, whatever follows.
 pub fn beginning_decides()
@@ -13,14 +15,14 @@ pub fn pieces_agree()
     ensures { PiecesAgree }
 {}
 
-/// Where the text was read to its end and no line is refused, `check_stream` writes the report, unless memory runs out or
-/// the writer fails. So a good trace is never refused.
+/// Where the text was read to its end and no line is refused, `check_stream` writes the report, unless memory runs out
+/// or the writer fails. So a good trace is never refused.
 pub fn good_is_reported()
     ensures { GoodIsReported }
 {}
 
-/// Where a line is refused, `check_stream` answers with that line, unless the writer fails. Out of memory never stands in
-/// its place.
+/// Where a line is refused, `check_stream` answers with that line, unless the writer fails. Out of memory never stands
+/// in its place.
 pub fn bad_is_refused()
     ensures { BadIsRefused }
 {}
@@ -31,14 +33,14 @@ pub fn script_reports_what_edits_give()
     ensures { ScriptReportsWhatEditsGive }
 {}
 
-/// Whatever the lines of a script are, they leave the trace that the edits among them leave, one after the other: comments,
-/// unknown commands, lines that are too long, and `show`, `count` and `report` change nothing.
+/// Whatever the lines of a script are, they leave the trace that the edits among them leave, one after the other:
+/// comments, unknown commands, lines that are too long, and `show`, `count` and `report` change nothing.
 pub fn script_leaves_what_edits_give()
     ensures { ScriptLeavesWhatEditsGive }
 {}
 
-/// Each `report` in a script is replied to with the report of checking anew the trace that the edits before it leave, unless
-/// memory runs out for it.
+/// Each `report` in a script is replied to with the report of checking anew the trace that the edits before it leave,
+/// unless memory runs out for it.
 pub fn each_report_is_of_its_trace()
     ensures { EachReportIsOfItsTrace }
 {}

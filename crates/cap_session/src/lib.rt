@@ -1,5 +1,6 @@
-//! Traces: checked as they come from a reader, with the report to a writer ([`check_stream`]); kept, edited line by line and
-//! reported when asked ([`Session`]); and worked on by a script of commands, with a reply to each ([`edit_stream`]).
+//! Traces: checked as they come from a reader, with the report to a writer ([`check_stream`]); kept, edited line by
+//! line and reported when asked ([`Session`]); and worked on by a script of commands, with a reply to each
+//! ([`edit_stream`]).
 //!
 //! After any edits a report is that of checking the edited trace anew ([`Session::report_after`]).
 //!
@@ -22,10 +23,9 @@ mod edit;
 mod editing;
 mod entries;
 mod from_start;
-#[cfg(test)]
-mod from_start_tests;
 mod held;
 mod laws;
+mod limits;
 mod lines;
 mod loading;
 mod number;
@@ -37,11 +37,7 @@ mod script;
 mod session;
 mod short_text;
 mod start_fields;
-#[cfg(test)]
-mod start_tests;
 mod start_text;
-#[cfg(test)]
-mod tests;
 mod write;
 
 pub use check::{check_stream, check_stream_as};
@@ -54,6 +50,7 @@ pub use laws::{
     bad_is_refused, beginning_decides, each_report_is_of_its_trace, good_is_reported, pieces_agree,
     script_leaves_what_edits_give, script_reports_what_edits_give,
 };
+pub use limits::{LONGEST_LINE, LONGEST_PIECE, LONGEST_SCRIPT_LINE, MOST_LINES};
 pub use outcome::Outcome;
 pub use refused::Refused;
 pub use session::{Edited, Session};

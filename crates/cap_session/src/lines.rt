@@ -2,11 +2,14 @@
 //!
 //! A line that lies whole in a piece is looked at where it lies. Only one that crosses pieces is copied,
 //! into room that is taken before the first read.
-ghost use Rattle.std.specs.Prelude.{◌≡◌, ℕ, ◌+◌, ◌^◌, ◌<◌, ◌≤◌, List, [], ◌++◌, length, Result, IfOk, OnOk, OnErr, MatchBool, ⊤};
+ghost use Rattle.std.specs.Prelude.{◌≡◌, ℕ, ◌+◌, ◌^◌, ◌<◌, ◌≤◌, List, [], ◌++◌, length, Result, IfOk, OnOk, OnErr};
+ghost use Rattle.std.specs.Prelude.{MatchBool, ⊤};
+ghost use Rattle.cap_session.specs.Limits.{longest_line};
 ghost use Rattle.cap_session.specs.Texts.{with_line};
 ghost use Rattle.cap_session.specs.Feeds.{TakesLine, Completes, Reached, Feeds, Finishes, Ends};
 
 use crate::held::Held;
+use crate::limits::LONGEST_LINE;
 use crate::refused::{Refusal, Refused};
 use memchr::memchr;
 use std::alloc::{AllocError, Global};
@@ -42,18 +45,16 @@ pub trait Lines: Drop {
     /// The value stands for what is known.
     ghost holds: { Self → Known → Type 0 };
 
-    /// TakesLine the next line, without its LF. A line for which memory runs out is not refused, and those after it are
+    /// Takes the next line, without its LF. A line for which memory runs out is not refused, and those after it are
     /// still looked at.
     fn line(&mut self, line: &[u8]) -> Result<(), Refused>
-        ensures { (known : Known) → follows self.old known → TakesLine (next known line.now) (follows self.new) result };
+        ensures { (known : Known) → follows self.old known
+            → TakesLine (next known line.now) (follows self.new) result };
 
     /// Whether memory ran out for a line. If not, the value stands for all of them.
     fn is_out_of_memory(&self) -> bool
         ensures { (known : Known) → follows self.now known → MatchBool result ⊤ (holds self.now known) };
 }
-
-/// A line has at most so many bytes, its LF not counted.
-pub const LINE: usize = 1024;
 
 /// A text that comes.
 #[derive(Drop)]
@@ -62,7 +63,7 @@ pub struct Reading<L: Lines> {
     /// How many lines were taken.
     pub number: usize,
     /// The beginning of the next line.
-    pub held: Held<LINE>,
+    pub held: Held<LONGEST_LINE>,
 }
 
 impl<L: Lines> Reading<L> {
@@ -80,12 +81,13 @@ impl<L: Lines> Reading<L> {
 
     /// Gives on the line that is begun, which these bytes complete.
     fn take(&mut self, bytes: &[u8]) -> Result<(), Refused>
-        ensures takes { (known : L.Known) → L.follows self.old.lines known → TakesLine (with_line L.next known (self.old.held ++ bytes.now)) (L.follows self.new.lines) result }
+        ensures takes { (known : L.Known) → L.follows self.old.lines known
+            → TakesLine (with_line L.next known (self.old.held ++ bytes.now)) (L.follows self.new.lines) result }
         ensures held { OnOk result (self.new.held ≡ []) }
         ensures number { self.new.number ≡ self.old.number }
     {
         if self.held.is_empty() {
-            if bytes.len() > LINE {
+            if bytes.len() > LONGEST_LINE {
                 return Err(Refused::LongLine);
             }
             return self.lines.line(bytes);
@@ -98,10 +100,11 @@ impl<L: Lines> Reading<L> {
         Ok(())
     }
 
-    /// TakesLine the line that is begun, which these bytes complete.
+    /// Takes the line that is begun, which these bytes complete.
     fn complete(&mut self, bytes: &[u8]) -> Result<(), Stop>
         requires { self.old.number + 1 < 2 ^ 64 }
-        ensures completes { (known : L.Known) → L.follows self.old.lines known → Completes (with_line L.next known (self.old.held ++ bytes.now)) (L.follows self.new.lines) self.old.number result }
+        ensures completes { (known : L.Known) → L.follows self.old.lines known → Completes
+            (with_line L.next known (self.old.held ++ bytes.now)) (L.follows self.new.lines) self.old.number result }
         ensures held { OnOk result (self.new.held ≡ []) }
         ensures number { OnOk result (self.new.number ≡ self.old.number + 1) }
     {
@@ -129,9 +132,10 @@ impl<L: Lines> Reading<L> {
     fn hold(&mut self, bytes: &[u8]) -> Result<(), Stop>
         requires { self.old.number + 1 < 2 ^ 64 }
         ensures held { OnOk result (self.new.held ≡ self.old.held ++ bytes.now) }
-        ensures short { OnOk result (length self.old.held + length bytes.now ≤ 1024) }
-        ensures long { OnErr result (1024 < length self.old.held + length bytes.now) }
-        ensures stops { OnErr result (result ≡ Err (Stop.Refused (record { reason = Refused.LongLine; line = self.old.number + 1 }))) }
+        ensures short { OnOk result (length self.old.held + length bytes.now ≤ longest_line) }
+        ensures long { OnErr result (longest_line < length self.old.held + length bytes.now) }
+        ensures stops { OnErr result
+            (result ≡ Err (Stop.Refused (record { reason = Refused.LongLine; line = self.old.number + 1 }))) }
         ensures lines { self.new.lines ≡ self.old.lines }
         ensures number { self.new.number ≡ self.old.number }
     {
@@ -144,7 +148,9 @@ impl<L: Lines> Reading<L> {
     /// Works the next piece through. `Memory` only where no line is refused so far.
     pub fn feed(&mut self, piece: &[u8]) -> Result<(), Stop>
         requires { self.old.number + length piece.now + 1 < 2 ^ 64 }
-        ensures feeds { (start : L.Known) (given : List ℕ) → Reached L.next start (L.follows self.old.lines) given self.old.number self.old.held → Feeds L.next start (L.follows self.new.lines) (given ++ piece.now) self.new.number self.new.held result }
+        ensures feeds { (start : L.Known) (given : List ℕ)
+            → Reached L.next start (L.follows self.old.lines) given self.old.number self.old.held
+            → Feeds L.next start (L.follows self.new.lines) (given ++ piece.now) self.new.number self.new.held result }
         ensures number { OnOk result (self.new.number ≤ self.old.number + length piece.now) }
     {
         let mut rest = piece;
@@ -159,10 +165,11 @@ impl<L: Lines> Reading<L> {
         Ok(())
     }
 
-    /// TakesLine the line that is begun, where there is one: it is the last.
+    /// Takes the line that is begun, where there is one: it is the last.
     fn finish(&mut self) -> Result<(), Stop>
         requires { self.old.number + 1 < 2 ^ 64 }
-        ensures { (start : L.Known) (given : List ℕ) → Reached L.next start (L.follows self.old.lines) given self.old.number self.old.held → Finishes L.next start (L.follows self.new.lines) given result }
+        ensures { (start : L.Known) (given : List ℕ) → Reached L.next start (L.follows self.old.lines) given
+            self.old.number self.old.held → Finishes L.next start (L.follows self.new.lines) given result }
     {
         if self.held.is_empty() {
             return Ok(());
@@ -173,7 +180,8 @@ impl<L: Lines> Reading<L> {
     /// Works the end through. `Memory` only where no line is refused.
     pub fn end(&mut self) -> Result<(), Stop>
         requires { self.old.number + 1 < 2 ^ 64 }
-        ensures { (start : L.Known) (given : List ℕ) → Reached L.next start (L.follows self.old.lines) given self.old.number self.old.held → Ends L.next start (L.holds self.new.lines) given result }
+        ensures { (start : L.Known) (given : List ℕ) → Reached L.next start (L.follows self.old.lines) given
+            self.old.number self.old.held → Ends L.next start (L.holds self.new.lines) given result }
     {
         self.finish()?;
         if self.lines.is_out_of_memory() {

@@ -1,7 +1,9 @@
-//! A trace that is taken over into a session.
+//! Loading: the lines of a trace are kept in a session, through the same code that reads a trace for a check.
 ghost use Rattle.std.specs.Prelude.{◌≡◌, [], length, IfOk};
+ghost use Rattle.cap_session.specs.Limits.{most_lines};
 
-use crate::entries::{Keep, MOST_LINES};
+use crate::entries::Keep;
+use crate::limits::MOST_LINES;
 use crate::session::Session;
 use cap_machine::{NoMemory, Profile};
 use cap_trace::Line;
@@ -11,7 +13,7 @@ use std::alloc::Global;
 #[derive(Drop)]
 pub struct Loading {
     pub session: Session,
-    ghost limit: { session.limit ≡ 1000000 },
+    ghost limit: { session.limit ≡ most_lines },
 }
 
 impl Loading {
@@ -25,7 +27,8 @@ impl Loading {
 }
 
 impl Keep for Loading {
-    ghost keeps = { λ loading setting entries. (loading.session.profile ≡ setting.profile) × (loading.session.trace ≡ entries) };
+    ghost keeps = { λ loading setting entries. (loading.session.profile ≡ setting.profile)
+        × (loading.session.trace ≡ entries) };
 
     ghost lines_of = { λ loading. length loading.session.trace };
 

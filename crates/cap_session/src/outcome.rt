@@ -1,4 +1,4 @@
-//! How a stream call ends.
+//! How a stream call ends: clean, with findings, refused, or at a fault; and the exit status of each.
 ghost use Rattle.std.specs.Prelude.{◌≡◌};
 ghost use Rattle.cap_session.specs.Outcome.{status_of, outcome_of};
 

@@ -1,10 +1,37 @@
-//! A script is replied to as it comes.
-ghost use Rattle.std.specs.Prelude.{◌≡◌, ◌+◌, ◌^◌, ◌<◌, ◌≤◌, [], length};
+//! A script is replied to as it comes: each reply is written before the next line is looked at.
+ghost use Rattle.std.specs.Prelude.{◌≡◌, ◌+◌, ◌^◌, ◌<◌, ◌≤◌, [], ◌++◌, length};
 ghost use Rattle.cap_session.specs.EditStreams.{RepliesToAll};
+ghost use Rattle.cap_session.specs.Limits.{longest_piece};
+ghost use Rattle.cap_session.specs.Takes.{TookScript, StoppedScript, EndedScript};
 
 use crate::devices::{Failed, Sink, Source};
 use crate::lines::Stop;
+use crate::read::{Takes, give_all};
 use crate::script::Script;
+
+impl<W: Sink> Takes<W> for Script {
+    ghost fits = { λ _ w _. 1 ≤ (W.state w).room };
+
+    ghost took = { λ s w t v given. TookScript s t (W.state w) (W.state v) given };
+
+    ghost stopped = { λ s w t v front piece stop. StoppedScript s t (W.state w) (W.state v) (front ++ piece) stop };
+
+    ghost ended = { λ s w t v given result. EndedScript s t (W.state w) (W.state v) given result };
+
+    fn take_piece(&mut self, piece: &[u8], output: &mut W) -> Result<(), Stop> {
+        match self.feed(piece, output) {
+            Ok(()) => Ok(()),
+            Err(Failed) => Err(Stop::WriteFault),
+        }
+    }
+
+    fn take_end(&mut self, output: &mut W) -> Result<(), Stop> {
+        match self.end(output) {
+            Ok(()) => Ok(()),
+            Err(Failed) => Err(Stop::WriteFault),
+        }
+    }
+}
 
 /// Replies to a script as it comes, with room for a piece.
 pub fn reply_all<R: Source, W: Sink>(
@@ -19,24 +46,10 @@ pub fn reply_all<R: Source, W: Sink>(
     requires failure { 1 ≤ (W.state writer.old).room }
     requires begins { script.old.held ≡ [] }
     requires some { 0 < length piece.old }
-    requires most { length piece.old ≤ 65536 }
-    ensures all { RepliesToAll script.old.profile turns (R.state reader.old) (R.state reader.new) (W.state writer.old) (W.state writer.new) script.old.trace script.new.trace result }
+    requires most { length piece.old ≤ longest_piece }
+    ensures all { RepliesToAll script.old.profile turns (R.state reader.old) (R.state reader.new) (W.state writer.old)
+        (W.state writer.new) script.old.trace script.new.trace result }
     ensures profile { script.new.profile ≡ script.old.profile }
 {
-    for _turn in 0..turns {
-        match reader.read(piece) {
-            Err(Failed) => return Err(Stop::ReadFault),
-            Ok(0) => {
-                return match script.end(writer) {
-                    Ok(()) => Ok(()),
-                    Err(Failed) => Err(Stop::WriteFault),
-                };
-            }
-            Ok(n) => match script.feed(&piece[..n], writer) {
-                Ok(()) => {}
-                Err(Failed) => return Err(Stop::WriteFault),
-            },
-        }
-    }
-    Err(Stop::TooLong)
+    give_all(turns, reader, script, writer, piece)
 }

@@ -1,5 +1,6 @@
-//! A script, each line replied to before the next is worked through.
+//! The lines of a script, as they come in pieces: each is performed on the session, and its reply is written.
 ghost use Rattle.std.specs.Prelude.{◌≡◌, ◌<◌, ◌≤◌, [], ◌∷◌, ◌++◌, length, take, OnOk, OnErr};
+ghost use Rattle.cap_session.specs.Limits.{longest_piece, most_held, most_lines};
 ghost use Rattle.cap_session.specs.Lines.{last_piece};
 ghost use Rattle.cap_session.specs.Performs.{command_asked, Performs, text_of};
 ghost use Rattle.cap_session.specs.Replies.{not_done_code};
@@ -10,15 +11,13 @@ use crate::devices::{Failed, Sink};
 use crate::edit::Edit;
 use crate::entries::is_skipped;
 use crate::held::Held;
+use crate::limits::{LONGEST_SCRIPT_LINE, MOST_HELD};
 use crate::refused::Refused;
 use crate::session::Session;
 use crate::short_text::ShortText;
 use crate::write::write_text;
 use memchr::memchr;
 use std::marker::Model;
-
-/// A script line has at most so many bytes, its LF not counted.
-const LINE: usize = 1056;
 
 /// Why a command isn't done.
 #[derive(Clone, Copy, Debug, PartialEq, Eq)]
@@ -61,8 +60,9 @@ impl Reply {
 
 /// Makes an edit, and replies with the new count.
 fn perform_edit(session: &mut Session, edit: &Edit<'_>) -> Result<Reply, NotDone>
-    requires { session.old.limit ≡ 1000000 }
-    ensures performs { Performs session.old.profile session.old.trace (command_asked (Command.Edit edit.now)) result session.new.trace }
+    requires { session.old.limit ≡ most_lines }
+    ensures performs { Performs session.old.profile session.old.trace
+        (command_asked (Command.Edit edit.now)) result session.new.trace }
     ensures limit { session.new.limit ≡ session.old.limit }
     ensures profile { session.new.profile ≡ session.old.profile }
 {
@@ -74,7 +74,8 @@ fn perform_edit(session: &mut Session, edit: &Edit<'_>) -> Result<Reply, NotDone
 
 /// Replies with the text of a line.
 fn perform_show(session: &Session, position: usize) -> Result<Reply, NotDone>
-    ensures { Performs session.now.profile session.now.trace (command_asked (Command.Show position)) result session.now.trace }
+    ensures { Performs session.now.profile session.now.trace
+        (command_asked (Command.Show position)) result session.now.trace }
 {
     match session.show(position) {
         Ok(mut text) => match text.push(b'\n') {
@@ -97,7 +98,8 @@ fn perform_report(session: &Session) -> Result<Reply, NotDone>
 
 /// Replies with the report of a part.
 fn perform_range(session: &Session, first: usize, last: usize) -> Result<Reply, NotDone>
-    ensures { Performs session.now.profile session.now.trace (command_asked (Command.ReportRange first last)) result session.now.trace }
+    ensures { Performs session.now.profile session.now.trace
+        (command_asked (Command.ReportRange first last)) result session.now.trace }
 {
     match session.report_range(first, last) {
         Ok(text) => Ok(Reply::Long(text)),
@@ -107,8 +109,9 @@ fn perform_range(session: &Session, first: usize, last: usize) -> Result<Reply, 
 
 /// Does a command, and gives its reply.
 fn perform(session: &mut Session, command: &Command<'_>) -> Result<Reply, NotDone>
-    requires { session.old.limit ≡ 1000000 }
-    ensures performs { Performs session.old.profile session.old.trace (command_asked command.now) result session.new.trace }
+    requires { session.old.limit ≡ most_lines }
+    ensures performs { Performs session.old.profile session.old.trace
+        (command_asked command.now) result session.new.trace }
     ensures limit { session.new.limit ≡ session.old.limit }
     ensures profile { session.new.profile ≡ session.old.profile }
 {
@@ -124,14 +127,16 @@ fn perform(session: &mut Session, command: &Command<'_>) -> Result<Reply, NotDon
 
 /// Replies to a line.
 fn answer<W: Sink>(session: &mut Session, line: &[u8], writer: &mut W) -> Result<(), Failed>
-    requires limit { session.old.limit ≡ 1000000 }
+    requires limit { session.old.limit ≡ most_lines }
     requires room { 1 ≤ (W.state writer.old).room }
-    ensures ok { OnOk result (Replied session.old.profile session.old.trace (W.state writer.old) (W.state writer.new) (line.now ∷ []) session.new.trace) }
-    ensures err { OnErr result (Broken session.old.profile session.old.trace (W.state writer.old) (W.state writer.new) (line.now ∷ [])) }
+    ensures ok { OnOk result (Replied session.old.profile session.old.trace (W.state writer.old) (W.state writer.new)
+        (line.now ∷ []) session.new.trace) }
+    ensures err { OnErr result
+        (Broken session.old.profile session.old.trace (W.state writer.old) (W.state writer.new) (line.now ∷ [])) }
     ensures limit { session.new.limit ≡ session.old.limit }
     ensures profile { session.new.profile ≡ session.old.profile }
 {
-    if line.len() > LINE {
+    if line.len() > LONGEST_SCRIPT_LINE {
         return write_text(
             writer,
             ShortText::refused(Refused::LongLine.code()).as_slice(),
@@ -146,12 +151,12 @@ fn answer<W: Sink>(session: &mut Session, line: &[u8], writer: &mut W) -> Result
     }
 }
 
-/// What is known while a script comes. Of the line that is begun no more than 1,057 bytes are kept: with those
-/// the line is too long, and was replied to.
+/// What is known while a script comes. Of the line that is begun no more than [`MOST_HELD`] bytes are kept:
+/// with those the line is too long, and was replied to.
 #[derive(Drop)]
 pub struct Script {
     pub session: Session,
-    pub held: Held<1057>,
+    pub held: Held<MOST_HELD>,
 }
 
 impl Model for Script {
@@ -159,19 +164,21 @@ impl Model for Script {
 
     ghost view = { λ s. record { profile = s.session.profile; trace = s.session.trace; held = s.held } };
 
-    ghost invariant = { λ s. s.session.limit ≡ 1000000 };
+    ghost invariant = { λ s. s.session.limit ≡ most_lines };
 }
 
 impl Script {
     /// Replies to the line that is begun, which these bytes complete.
     fn line<W: Sink>(&mut self, bytes: &[u8], writer: &mut W) -> Result<(), Failed>
         requires { 1 ≤ (W.state writer.old).room }
-        ensures ok { OnOk result (Replied self.old.profile self.old.trace (W.state writer.old) (W.state writer.new) (due_line self.old.held bytes.now) self.new.trace) }
+        ensures ok { OnOk result (Replied self.old.profile self.old.trace (W.state writer.old) (W.state writer.new)
+            (due_line self.old.held bytes.now) self.new.trace) }
         ensures held { OnOk result (self.new.held ≡ []) }
-        ensures err { OnErr result (Broken self.old.profile self.old.trace (W.state writer.old) (W.state writer.new) (due_line self.old.held bytes.now)) }
+        ensures err { OnErr result (Broken self.old.profile self.old.trace (W.state writer.old) (W.state writer.new)
+            (due_line self.old.held bytes.now)) }
         ensures profile { self.new.profile ≡ self.old.profile }
     {
-        if self.held.len() > LINE {
+        if self.held.len() > LONGEST_SCRIPT_LINE {
             self.held.clear();
             return Ok(());
         }
@@ -187,14 +194,16 @@ impl Script {
     /// Begins a line or goes on with it, and replies where it gets too long.
     fn hold<W: Sink>(&mut self, bytes: &[u8], writer: &mut W) -> Result<(), Failed>
         requires { 1 ≤ (W.state writer.old).room }
-        ensures ok { OnOk result (Replied self.old.profile self.old.trace (W.state writer.old) (W.state writer.new) (due_piece self.old.held bytes.now) self.new.trace) }
-        ensures held { OnOk result (self.new.held ≡ take 1057 (self.old.held ++ bytes.now)) }
-        ensures err { OnErr result (Broken self.old.profile self.old.trace (W.state writer.old) (W.state writer.new) (due_piece self.old.held bytes.now)) }
+        ensures ok { OnOk result (Replied self.old.profile self.old.trace (W.state writer.old) (W.state writer.new)
+            (due_piece self.old.held bytes.now) self.new.trace) }
+        ensures held { OnOk result (self.new.held ≡ take most_held (self.old.held ++ bytes.now)) }
+        ensures err { OnErr result (Broken self.old.profile self.old.trace (W.state writer.old) (W.state writer.new)
+            (due_piece self.old.held bytes.now)) }
         ensures profile { self.new.profile ≡ self.old.profile }
     {
-        let was_long = self.held.len() > LINE;
+        let was_long = self.held.len() > LONGEST_SCRIPT_LINE;
         self.held.add_front(bytes);
-        if was_long || self.held.len() <= LINE {
+        if was_long || self.held.len() <= LONGEST_SCRIPT_LINE {
             return Ok(());
         }
         answer(&mut self.session, self.held.as_slice(), writer)
@@ -203,10 +212,12 @@ impl Script {
     /// Works the next piece through, each reply written before the next line.
     pub fn feed<W: Sink>(&mut self, piece: &[u8], writer: &mut W) -> Result<(), Failed>
         requires room { 1 ≤ (W.state writer.old).room }
-        requires short { length piece.now ≤ 65536 }
-        ensures ok { OnOk result (Replied self.old.profile self.old.trace (W.state writer.old) (W.state writer.new) (due self.old.held piece.now) self.new.trace) }
-        ensures held { OnOk result (self.new.held ≡ take 1057 (last_piece self.old.held piece.now)) }
-        ensures err { OnErr result (Broken self.old.profile self.old.trace (W.state writer.old) (W.state writer.new) (due self.old.held piece.now)) }
+        requires short { length piece.now ≤ longest_piece }
+        ensures ok { OnOk result (Replied self.old.profile self.old.trace (W.state writer.old) (W.state writer.new)
+            (due self.old.held piece.now) self.new.trace) }
+        ensures held { OnOk result (self.new.held ≡ take most_held (last_piece self.old.held piece.now)) }
+        ensures err { OnErr result (Broken self.old.profile self.old.trace (W.state writer.old) (W.state writer.new)
+            (due self.old.held piece.now)) }
         ensures profile { self.new.profile ≡ self.old.profile }
     {
         let mut rest = piece;
@@ -220,11 +231,13 @@ impl Script {
     /// Replies to the line that is begun, which is the last.
     pub fn end<W: Sink>(&mut self, writer: &mut W) -> Result<(), Failed>
         requires { 1 ≤ (W.state writer.old).room }
-        ensures ok { OnOk result (Replied self.old.profile self.old.trace (W.state writer.old) (W.state writer.new) (due_end self.old.held) self.new.trace) }
-        ensures err { OnErr result (Broken self.old.profile self.old.trace (W.state writer.old) (W.state writer.new) (due_end self.old.held)) }
+        ensures ok { OnOk result (Replied self.old.profile self.old.trace (W.state writer.old) (W.state writer.new)
+            (due_end self.old.held) self.new.trace) }
+        ensures err { OnErr result
+            (Broken self.old.profile self.old.trace (W.state writer.old) (W.state writer.new) (due_end self.old.held)) }
         ensures profile { self.new.profile ≡ self.old.profile }
     {
-        if self.held.is_empty() || self.held.len() > LINE {
+        if self.held.is_empty() || self.held.len() > LONGEST_SCRIPT_LINE {
             return Ok(());
         }
         answer(&mut self.session, self.held.as_slice(), writer)

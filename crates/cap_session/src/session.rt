@@ -1,7 +1,8 @@
-//! A trace that is edited line by line, and reported when asked.
+//! [`Session`]: a trace that is edited line by line, and reported when asked.
 //!
 //! Each report checks anew from the first line.
-ghost use Rattle.std.specs.Prelude.{◌≡◌, ◌+◌, ◌≤◌, ◌^◌, ◌<◌, ◌↔◌, ◌⊎◌, [], ◌∷◌, ◌++◌, length, Ok, Err, IsOk, IfOk, OnOk, OnErr, IsOkUnless, IsTrue};
+ghost use Rattle.std.specs.Prelude.{◌≡◌, ◌+◌, ◌≤◌, ◌^◌, ◌<◌, ◌↔◌, ◌⊎◌, [], ◌∷◌, ◌++◌, length, Ok, Err, IsOk, IfOk};
+ghost use Rattle.std.specs.Prelude.{OnOk, OnErr, IsOkUnless, IsTrue};
 ghost use Rattle.cap_machine.specs.Report.{report};
 ghost use Rattle.cap_machine.specs.Check.{check};
 ghost use Rattle.cap_machine.specs.Checked.{HasChecked};
@@ -10,6 +11,7 @@ ghost use Rattle.cap_machine.specs.Steps.{steps};
 ghost use Rattle.cap_machine.specs.Table.{start_state};
 ghost use Rattle.cap_machine.specs.declared.cell.Profile.TheVariants.{One};
 ghost use Rattle.cap_session.specs.Edits.{is_position, inserted, deleted, replaced, loaded, edited, after, answers};
+ghost use Rattle.cap_session.specs.Limits.{most_lines};
 ghost use Rattle.cap_session.specs.Replies.{shown, lies_in, is_range, ranged, range_report};
 ghost use Rattle.cap_session.specs.Session.{SessionState, RefusesExactly, wanted};
 
@@ -34,7 +36,7 @@ impl Model for Session {
 
     ghost view = { λ s. record { profile = s.profile; trace = s.lines.items; limit = s.limit } };
 
-    ghost invariant = { λ s. (length s.lines.items ≤ s.limit) × (s.limit ≤ 1000000) };
+    ghost invariant = { λ s. (length s.lines.items ≤ s.limit) × (s.limit ≤ most_lines) };
 }
 
 /// What a list of edits gave.
@@ -70,9 +72,10 @@ fn lies_in(first: usize, last: usize, found: &Found) -> bool
 impl Session {
     /// A session in profile 1 that holds no lines, and at most `limit` later.
     ///
-    /// The limit must be at most 1,000,000. Answers `NoMemory` where there is no memory for a session.
+    /// The limit must be at most [`MOST_LINES`](crate::MOST_LINES). Answers `NoMemory` where there is no memory for a
+    /// session.
     pub fn new(alloc: Global, limit: usize) -> Result<Session, NoMemory>
-        requires { limit ≤ 1000000 }
+        requires { limit ≤ most_lines }
         ensures { IfOk result (λ s. s ≡ (record { profile = One; trace = []; limit = limit })) }
     {
         Session::with_profile(alloc, limit, Profile::One)
@@ -80,9 +83,10 @@ impl Session {
 
     /// A session that holds no lines, at most `limit` later, and checks them in a profile.
     ///
-    /// The limit must be at most 1,000,000. Answers `NoMemory` where there is no memory for a session.
+    /// The limit must be at most [`MOST_LINES`](crate::MOST_LINES). Answers `NoMemory` where there is no memory for a
+    /// session.
     pub fn with_profile(alloc: Global, limit: usize, profile: Profile) -> Result<Session, NoMemory>
-        requires { limit ≤ 1000000 }
+        requires { limit ≤ most_lines }
         ensures { IfOk result (λ s. s ≡ (record { profile = profile; trace = []; limit = limit })) }
     {
         Ok(Session {
@@ -105,7 +109,8 @@ impl Session {
     ///
     /// `Full` where the list is longer than the limit, `Memory` where memory runs out; the list is then dropped.
     pub fn load(&mut self, lines: Vec<Line>) -> Result<usize, Refused>
-        ensures accepted { IfOk result (λ count. (loaded self.old.limit lines.items ≡ Ok self.new.trace) × (count ≡ length self.new.trace)) }
+        ensures accepted { IfOk result
+            (λ count. (loaded self.old.limit lines.items ≡ Ok self.new.trace) × (count ≡ length self.new.trace)) }
         ensures refused { RefusesExactly (loaded self.old.limit lines.items) result }
         ensures memory { result ≡ Err Refused.Memory → IsOk (loaded self.old.limit lines.items) }
         ensures done { IsOk (loaded self.old.limit lines.items) → IsOkUnless result Refused.Memory }
@@ -139,10 +144,12 @@ impl Session {
     /// It looks for `Position` first, then for `Full`, where the session holds as many lines as its limit, then for
     /// the first fault of the line, and answers `Memory` only where none of these comes.
     pub fn insert(&mut self, position: usize, line: &[u8]) -> Result<usize, Refused>
-        ensures accepted { IfOk result (λ count. (inserted self.old.limit self.old.trace position line.now ≡ Ok self.new.trace) × (count ≡ length self.new.trace)) }
+        ensures accepted { IfOk result (λ count. (inserted self.old.limit self.old.trace position line.now
+            ≡ Ok self.new.trace) × (count ≡ length self.new.trace)) }
         ensures refused { RefusesExactly (inserted self.old.limit self.old.trace position line.now) result }
         ensures memory { result ≡ Err Refused.Memory → IsOk (inserted self.old.limit self.old.trace position line.now) }
-        ensures done { IsOk (inserted self.old.limit self.old.trace position line.now) → IsOkUnless result Refused.Memory }
+        ensures done { IsOk (inserted self.old.limit self.old.trace position line.now)
+            → IsOkUnless result Refused.Memory }
         ensures unchanged { OnErr result (self.new ≡ self.old) }
         ensures limit { self.new.limit ≡ self.old.limit }
         ensures profile { self.new.profile ≡ self.old.profile }
@@ -162,7 +169,8 @@ impl Session {
     ///
     /// `Position` where no line stands there, and `Memory` where memory runs out.
     pub fn delete(&mut self, position: usize) -> Result<usize, Refused>
-        ensures accepted { IfOk result (λ count. (deleted self.old.trace position ≡ Ok self.new.trace) × (count ≡ length self.new.trace)) }
+        ensures accepted { IfOk result
+            (λ count. (deleted self.old.trace position ≡ Ok self.new.trace) × (count ≡ length self.new.trace)) }
         ensures refused { RefusesExactly (deleted self.old.trace position) result }
         ensures memory { result ≡ Err Refused.Memory → IsOk (deleted self.old.trace position) }
         ensures done { IsOk (deleted self.old.trace position) → IsOkUnless result Refused.Memory }
@@ -182,7 +190,8 @@ impl Session {
     /// It looks for `Position` first, then for the first fault of the line, and answers `Memory` only where none of
     /// these comes.
     pub fn replace(&mut self, position: usize, line: &[u8]) -> Result<usize, Refused>
-        ensures accepted { IfOk result (λ count. (replaced self.old.trace position line.now ≡ Ok self.new.trace) × (count ≡ length self.new.trace)) }
+        ensures accepted { IfOk result (λ count. (replaced self.old.trace position line.now ≡ Ok self.new.trace)
+            × (count ≡ length self.new.trace)) }
         ensures refused { RefusesExactly (replaced self.old.trace position line.now) result }
         ensures memory { result ≡ Err Refused.Memory → IsOk (replaced self.old.trace position line.now) }
         ensures done { IsOk (replaced self.old.trace position line.now) → IsOkUnless result Refused.Memory }
@@ -207,7 +216,8 @@ impl Session {
 
     /// The report of the trace, checked from its first line under another start. It fails only when memory runs out.
     pub fn report_from(&self, start: &Start) -> Result<Vec<u8>, Refused>
-        ensures report { IfOk result (λ text. text.items ≡ report (start_state start.now) (steps self.now.profile self.now.trace)) }
+        ensures report { IfOk result
+            (λ text. text.items ≡ report (start_state start.now) (steps self.now.profile self.now.trace)) }
         ensures only { IsOkUnless result Refused.Memory }
     {
         Ok(self.checked_from(start)?.report()?)
@@ -237,7 +247,8 @@ impl Session {
     /// The check of the whole trace, by a checker that was given no line.
     fn checked_by(&self, mut checker: Checker) -> Result<Checker, NoMemory>
         requires { (s : State) × HasChecked checker self.now.profile s [] }
-        ensures { (s : State) → HasChecked checker self.now.profile s [] → IfOk result (λ done. HasChecked done self.now.profile s self.now.trace) }
+        ensures { (s : State) → HasChecked checker self.now.profile s []
+            → IfOk result (λ done. HasChecked done self.now.profile s self.now.trace) }
     {
         for line in &self.lines {
             checker.line(line)?;
@@ -266,7 +277,8 @@ impl Session {
     /// `Position` unless 1 <= `first` <= `last` <= the number of lines, and `Memory` where memory runs out.
     pub fn report_range(&self, first: usize, last: usize) -> Result<Vec<u8>, Refused>
         ensures text { IfOk result (λ text. ranged self.now.profile self.now.trace first last ≡ Ok text.items) }
-        ensures position { (result ≡ Err Refused.Position) ↔ (ranged self.now.profile self.now.trace first last ≡ Err Refused.Position) }
+        ensures position { (result ≡ Err Refused.Position)
+            ↔ (ranged self.now.profile self.now.trace first last ≡ Err Refused.Position) }
         ensures only { OnErr result ((result ≡ Err Refused.Position) ⊎ (result ≡ Err Refused.Memory)) }
     {
         if !is_range(first, last, self.lines.len()) {
@@ -282,7 +294,8 @@ impl Session {
     fn part(&self, first: usize, last: usize) -> Result<Vec<u8>, NoMemory>
         requires first { 1 ≤ first }
         requires last { last ≤ length self.now.trace }
-        ensures { IfOk result (λ text. text.items ≡ range_report usual (steps self.now.profile self.now.trace) first last) }
+        ensures { IfOk result
+            (λ text. text.items ≡ range_report usual (steps self.now.profile self.now.trace) first last) }
     {
         let all = check(
             self.alloc,
@@ -305,7 +318,8 @@ impl Session {
 
     /// Makes one edit, as `insert`, `delete` and `replace` do.
     pub fn edit(&mut self, edit: &Edit<'_>) -> Result<usize, Refused>
-        ensures accepted { IfOk result (λ count. (edited self.old.limit self.old.trace edit.now ≡ Ok self.new.trace) × (count ≡ length self.new.trace)) }
+        ensures accepted { IfOk result (λ count. (edited self.old.limit self.old.trace edit.now ≡ Ok self.new.trace)
+            × (count ≡ length self.new.trace)) }
         ensures refused { RefusesExactly (edited self.old.limit self.old.trace edit.now) result }
         ensures memory { result ≡ Err Refused.Memory → IsOk (edited self.old.limit self.old.trace edit.now) }
         ensures done { IsOk (edited self.old.limit self.old.trace edit.now) → IsOkUnless result Refused.Memory }
@@ -328,8 +342,10 @@ impl Session {
         // Each edit was made and has its answer.
         ensures each { IfOk result (λ answered. length answered.items ≡ length edits.now) }
         // The trace is that which the accepted edits give, and each answer is that of its edit.
-        ensures trace { IfOk result (λ answered. self.new.trace ≡ after self.old.limit self.old.trace edits.now (wanted answered.items)) }
-        ensures answers { IfOk result (λ answered. answered.items ≡ answers self.old.limit self.old.trace edits.now (wanted answered.items)) }
+        ensures trace { IfOk result
+            (λ answered. self.new.trace ≡ after self.old.limit self.old.trace edits.now (wanted answered.items)) }
+        ensures answers { IfOk result
+            (λ answered. answered.items ≡ answers self.old.limit self.old.trace edits.now (wanted answered.items)) }
         ensures unchanged { OnErr result (self.new ≡ self.old) }
         ensures limit { self.new.limit ≡ self.old.limit }
         ensures profile { self.new.profile ≡ self.old.profile }
@@ -348,11 +364,14 @@ impl Session {
     /// `Memory` where there is no memory for the answers. No edit is made then.
     pub fn report_after(&mut self, edits: &[Edit<'_>]) -> Result<Edited, Refused>
         // After any edits, the report is that of checking anew the trace which the accepted edits give.
-        ensures report { IfOk result (λ r. IfOk r.report (λ text. text.items ≡ report usual (steps self.old.profile (after self.old.limit self.old.trace edits.now (wanted r.answers.items))))) }
+        ensures report { IfOk result (λ r. IfOk r.report (λ text. text.items ≡ report usual
+            (steps self.old.profile (after self.old.limit self.old.trace edits.now (wanted r.answers.items))))) }
         ensures report_only { IfOk result (λ r. IsOkUnless r.report Refused.Memory) }
         ensures each { IfOk result (λ r. length r.answers.items ≡ length edits.now) }
-        ensures trace { IfOk result (λ r. self.new.trace ≡ after self.old.limit self.old.trace edits.now (wanted r.answers.items)) }
-        ensures answers { IfOk result (λ r. r.answers.items ≡ answers self.old.limit self.old.trace edits.now (wanted r.answers.items)) }
+        ensures trace { IfOk result
+            (λ r. self.new.trace ≡ after self.old.limit self.old.trace edits.now (wanted r.answers.items)) }
+        ensures answers { IfOk result
+            (λ r. r.answers.items ≡ answers self.old.limit self.old.trace edits.now (wanted r.answers.items)) }
         ensures unchanged { OnErr result (self.new ≡ self.old) }
         ensures limit { self.new.limit ≡ self.old.limit }
         ensures profile { self.new.profile ≡ self.old.profile }
@@ -365,6 +384,3 @@ impl Session {
         })
     }
 }
-
-#[cfg(test)]
-mod tests;

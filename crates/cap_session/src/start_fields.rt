@@ -1,8 +1,10 @@
 //! The fields of a line of a start text.
-ghost use Rattle.std.specs.Prelude.{◌≡◌, ◌≤◌, [], ◌∷◌, IfSome, IfOk, IfErr, MatchOption, OnOk, IsOk, position, ◌==◌, length, ◌<◌, option_map, option_and_then, option_copied};
+ghost use Rattle.std.specs.Prelude.{◌≡◌, ◌≤◌, [], ◌∷◌, IfSome, IfOk, IfErr, MatchOption, OnOk, IsOk, position, ◌==◌};
+ghost use Rattle.std.specs.Prelude.{length, ◌<◌, option_map, option_and_then, option_copied};
 ghost use Rattle.cap_trace.specs.Quotes.{cut_at_byte};
 ghost use Rattle.cap_session.specs.StartWords.{words};
-ghost use Rattle.cap_session.specs.StartTexts.{held as held_cell, cell_spelled, mode_spelled, number_spelled, need, rest_at as rest_said, listed_at, cells_from, described};
+ghost use Rattle.cap_session.specs.StartTexts.{held as held_cell, cell_spelled, mode_spelled, number_spelled, need};
+ghost use Rattle.cap_session.specs.StartTexts.{rest_at as rest_said, listed_at, cells_from, described};
 ghost use Rattle.cap_session.specs.StartLines.{completed};
 
 use crate::number::number_of;
@@ -227,7 +229,8 @@ pub fn check_cells(low: Fd, mut words: Words<'_>) -> Result<(), Refused>
 
 /// The listed descriptors with their cells, or `None` where memory ran out for them.
 pub fn cells_of(alloc: Global, mut words: Words<'_>) -> Result<Option<Vec<(Fd, Cell)>>, Refused>
-    ensures good { IfOk result (λ cells. MatchOption cells (IsOk (cells_from 0 words.entry)) (λ cells. cells_from 0 words.entry ≡ Ok cells.items)) }
+    ensures good { IfOk result (λ cells. MatchOption cells (IsOk (cells_from 0 words.entry))
+        (λ cells. cells_from 0 words.entry ≡ Ok cells.items)) }
     ensures bad { IfErr result (λ field. cells_from 0 words.entry ≡ Err field) }
 {
     let mut cells = Vec::new(alloc);

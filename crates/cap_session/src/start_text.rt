@@ -1,9 +1,10 @@
-//! Start texts: what was known of each process before a trace.
+//! Start texts: what was known of each process before a trace, read line by line ([`parse_start`], `read_start`).
 ghost use Rattle.std.specs.Prelude.{◌≡◌, ◌↔◌, ◌+◌, ◌^◌, ◌<◌, ◌≤◌, Ok, Err, IfOk, IfErr, OnOk, IsOk, length};
 ghost use Rattle.cap_machine.specs.State.{State, with_listed};
 ghost use Rattle.cap_machine.specs.Table.{start_state};
 ghost use Rattle.cap_session.specs.Reads.{Reads};
-ghost use Rattle.cap_session.specs.StartTexts.{Listed, none_listed, next_process, cells_from, start as start_said, start_soon};
+ghost use Rattle.cap_session.specs.StartTexts.{Listed, none_listed, next_process, cells_from, start as start_said};
+ghost use Rattle.cap_session.specs.StartTexts.{start_soon};
 ghost use Rattle.cap_session.specs.StartLines.{StandsFor, Follows, Holds, Adds, TakesNumbered};
 ghost use Rattle.cap_session.specs.StartParsed.{fault_of, Parses};
 ghost use Rattle.cap_session.specs.Texts.{with_line, whole_text};
@@ -11,7 +12,8 @@ ghost use Rattle.cap_session.specs.declared.refused.Refusal.{Refusal};
 
 use crate::devices::Source;
 use crate::entries::is_skipped;
-use crate::lines::{LINE, Lines, Stop};
+use crate::limits::LONGEST_LINE;
+use crate::lines::{Lines, Stop};
 use crate::read::read_text;
 use crate::refused::{Refusal, Refused};
 use crate::start_fields::{Head, cells_of, head_of};
@@ -72,7 +74,8 @@ impl Starting {
         rest: Cell,
         cells: Vec<(Fd, Cell)>,
     ) -> Result<(), NoMemory>
-        ensures added { (s : State) → StandsFor self.old.kept s → OnOk result (StandsFor self.new.kept (with_listed s pid mode rest cells.items)) }
+        ensures added { (s : State) → StandsFor self.old.kept s
+            → OnOk result (StandsFor self.new.kept (with_listed s pid mode rest cells.items)) }
         ensures low { self.new.low ≡ self.old.low }
     {
         match &mut self.kept {
@@ -99,9 +102,10 @@ impl Starting {
 
     /// Takes the next line, which has this number.
     fn numbered(&mut self, number: usize, line: &[u8]) -> Result<(), Refusal>
-        ensures { (known : Listed) → Follows self.old.kept self.old.low known → TakesNumbered (with_line next_process known line.now) (Follows self.new.kept self.new.low) number result }
+        ensures { (known : Listed) → Follows self.old.kept self.old.low known
+            → TakesNumbered (with_line next_process known line.now) (Follows self.new.kept self.new.low) number result }
     {
-        if line.len() > LINE {
+        if line.len() > LONGEST_LINE {
             return Err(Refusal {
                 reason: Refused::LongLine,
                 line: number,
@@ -119,7 +123,8 @@ impl Starting {
     /// Takes the lines of a whole text.
     fn text(&mut self, bytes: &[u8]) -> Result<(), Refusal>
         requires first { Follows self.old.kept self.old.low none_listed }
-        ensures good { OnOk result ((known : Listed) × (whole_text next_process none_listed bytes.now ≡ Ok known) × Follows self.new.kept self.new.low known) }
+        ensures good { OnOk result ((known : Listed) × (whole_text next_process none_listed bytes.now ≡ Ok known)
+            × Follows self.new.kept self.new.low known) }
         ensures bad { IfErr result (λ e. start_said bytes.now ≡ Err e) }
     {
         let mut before: usize = 0;
@@ -170,7 +175,8 @@ fn read_bytes(alloc: Global, bytes: &[u8]) -> Result<Start, StartFault>
 pub fn read_start<R: Source>(alloc: Global, turns: u64, reader: &mut R) -> Result<Start, Stop>
     requires turns { turns ≤ 2 ^ 32 }
     requires calls { turns ≤ (R.state reader.old).room }
-    ensures { Reads start_said start_soon (λ start s. start_state start ≡ s) turns (R.state reader.old) (R.state reader.new) result }
+    ensures { Reads start_said start_soon (λ start s. start_state start ≡ s) turns (R.state reader.old)
+        (R.state reader.new) result }
 {
     let starting = read_text(alloc, turns, reader, Starting::new(alloc))?;
     starting.kept.ok_or(Stop::Memory)
@@ -178,18 +184,20 @@ pub fn read_start<R: Source>(alloc: Global, turns: u64, reader: &mut R) -> Resul
 
 /// Reads a start text: what was known of each process before a trace.
 ///
-/// A line is about one process, as `100 out closed 0=ALL 3=CAP_READ|CAP_SEEK 5=unknown`: its pid from 1 to 99,999; `in`, `out` or
-/// `unsure`, which say whether it is in capability mode (capsicum(4)); the cell of each descriptor that isn't listed; and then
-/// any number of descriptors from 0 to 1,048,575, each with `=` and its cell. A cell is `unknown`, `closed`, or rights
-/// (rights(4)) as `parse_rights` reads them, of a descriptor that is open and holds them. There is one space between words.
-/// Pids rise from line to line, descriptors within a line. Empty lines and lines that begin with `#` are skipped, and the
-/// last line needs no LF.
+/// A line is about one process, as `100 out closed 0=ALL 3=CAP_READ|CAP_SEEK 5=unknown`: its pid from 1 to 99,999;
+/// `in`, `out` or
+/// `unsure`, which say whether it is in capability mode (capsicum(4)); the cell of each descriptor that isn't listed;
+/// and then any number of descriptors from 0 to 1,048,575, each with `=` and its cell. A cell is `unknown`, `closed`,
+/// or rights (rights(4)) as `parse_rights` reads them, of a descriptor that is open and holds them. There is one space
+/// between words. Pids rise from line to line, descriptors within a line. Empty lines and lines that begin with `#` are
+/// skipped, and the last line needs no LF.
 ///
 /// # Errors
 ///
-/// - [`StartFault::Bad`]: the code of the first refused line, and its number among all lines, from 1. Code 1 is a line of
-///   more than 1,024 bytes. Else the first bad field from the left decides: 3 is the pid, or one that doesn't rise; 4 the
-///   mode, a word without `=`, a descriptor or one that doesn't rise, or a missing field; 5 a cell, also an empty one.
+/// - [`StartFault::Bad`]: the code of the first refused line, and its number among all lines, from 1. Code 1 is a line
+///   of more than 1,024 bytes. Else the first bad field from the left decides: 3 is the pid, or one that doesn't rise;
+///   4 the mode, a word without `=`, a descriptor or one that doesn't rise, or a missing field; 5 a cell, also an empty
+///   one.
 /// - [`StartFault::Memory`]: out of memory. It comes only where every line is good.
 ///
 /// ```

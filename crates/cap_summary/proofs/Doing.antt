@@ -1,5 +1,6 @@
 -- What a change of one process does.
-use Rattle.std.proofs.Common.{◌≡◌, ℕ, Bool, true, false, cond, eqb, Option, Some, None, ◌||◌, ◌&&◌, refl, sym, ap, ◌∙◌, inl, inr}
+use Rattle.std.proofs.Common.{◌≡◌, ℕ, Bool, true, false, cond, eqb, Option, Some, None, ◌||◌, ◌&&◌, refl, sym, ap, ◌∙◌}
+use Rattle.std.proofs.Common.{inl, inr}
 use Rattle.std.specs.Prelude.{is_some}
 use Rattle.std.proofs.lemmas.Bool.Decides.{eqb_tells}
 use Rattle.cap_machine.specs.declared.cell.Cell.{Cell}
@@ -24,7 +25,8 @@ pub record IsOnly (change : Change) (me : ℕ) (process : Process) : Type 0 wher
   pub each : (p : ℕ) → process_at change.processes p ≡ cond (eqb p me) (Some process) None
   pub mode : process.mode ≡ mode_value.Of me
 
-only_mode : (change : Change) (me : ℕ) (process : Process) → IsOnly change me process → (s : State) (p : ℕ) → read_mode s (mode_of change p) ≡ s.mode p
+only_mode : (change : Change) (me : ℕ) (process : Process) → IsOnly change me process → (s : State) (p : ℕ)
+    → read_mode s (mode_of change p) ≡ s.mode p
 only_mode change me process is s p = elim (eqb_tells p me) [
   | inl h ↦ rw (is.each p, h.0) (ap (read_mode s) is.mode ∙ ap s.mode (sym h.1))
   | inr h ↦ rw (is.each p, h.0) refl
@@ -34,19 +36,23 @@ some_only : (b : Bool) (process : Process) → is_some (cond b (Some process) No
 some_only true process e = refl
 some_only false process e = e
 
-only_listed : (change : Change) (me : ℕ) (process : Process) → IsOnly change me process → (p : ℕ) → is_listed change p ≡ true → (eqb p me || false) ≡ true
-only_listed change me process is p e = some_only (eqb p me) process (ap (λ (o : Option Process). is_some o) (sym (is.each p)) ∙ e)
+only_listed : (change : Change) (me : ℕ) (process : Process) → IsOnly change me process → (p : ℕ)
+    → is_listed change p ≡ true → (eqb p me || false) ≡ true
+only_listed change me process is p e =
+    some_only (eqb p me) process (ap (λ (o : Option Process). is_some o) (sym (is.each p)) ∙ e)
 
 -- one descriptor is what an op makes of another
 pub does_change : (change : Change) (me to from : ℕ) (op : Op) (process : Process) → IsOnly change me process →
-    ((f : ℕ) → value_in process f ≡ cond (eqb f to) (value.Of me from op) (value.Of me f same)) → Does change (effects.Change to op from) me
+    ((f : ℕ) → value_in process f ≡ cond (eqb f to) (value.Of me from op) (value.Of me f same))
+    → Does change (effects.Change to op from) me
 does_change change me to from op process is cells = record {
   cells = λ s p f. at s p f;
   modes = λ s p. only_mode change me process is s p;
   listed = λ p e. only_listed change me process is p e;
 }
   where
-    at : (s : State) (p f : ℕ) → read_cell s (value_of change p f) ≡ touched (cond (eqb p me && eqb f to) (taken op me from) kept) s.cell p f
+    at : (s : State) (p f : ℕ)
+        → read_cell s (value_of change p f) ≡ touched (cond (eqb p me && eqb f to) (taken op me from) kept) s.cell p f
     at s p f = elim (eqb_tells p me) [
       | inl h ↦ elim (eqb_tells f to) [
         | inl k ↦ rw (is.each p, h.0, cells f, k.0) refl
@@ -57,14 +63,17 @@ does_change change me to from op process is cells = record {
 
 -- two descriptors have this cell
 pub does_two : (change : Change) (me first second : ℕ) (cell : Cell) (process : Process) → IsOnly change me process →
-    ((f : ℕ) → value_in process f ≡ cond (eqb f second) (value.Fixed cell) (cond (eqb f first) (value.Fixed cell) (value.Of me f same))) → Does change (effects.GiveTwo first second cell) me
+    ((f : ℕ) → value_in process f
+    ≡ cond (eqb f second) (value.Fixed cell) (cond (eqb f first) (value.Fixed cell) (value.Of me f same)))
+    → Does change (effects.GiveTwo first second cell) me
 does_two change me first second cell process is cells = record {
   cells = λ s p f. at s p f;
   modes = λ s p. only_mode change me process is s p;
   listed = λ p e. only_listed change me process is p e;
 }
   where
-    at : (s : State) (p f : ℕ) → read_cell s (value_of change p f) ≡ touched (cond (eqb p me && (eqb f first || eqb f second)) (given cell) kept) s.cell p f
+    at : (s : State) (p f : ℕ) → read_cell s (value_of change p f)
+        ≡ touched (cond (eqb p me && (eqb f first || eqb f second)) (given cell) kept) s.cell p f
     at s p f = elim (eqb_tells p me) [
       | inl h ↦ elim (eqb_tells f second) [
         | inl k ↦ rw (is.each p, h.0, cells f, k.0) (either (eqb f first))

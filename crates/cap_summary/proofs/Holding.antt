@@ -1,5 +1,7 @@
--- Which conditions hold behind an op and a change; and that a line's conditions hold exactly where something is said of it.
-use Rattle.std.proofs.Common.{◌≡◌, ℕ, ◌+◌, ◌<◌, List, [], ◌∷◌, ◌++◌, Option, Some, None, Bool, true, false, ◌&&◌, ◌||◌, map, cond, refl, sym, ap, ◌∙◌, bit_and, eqb, take, length, get_or}
+-- Which conditions hold behind an op and a change; and that a line's conditions hold exactly where something is said of
+-- it.
+use Rattle.std.proofs.Common.{◌≡◌, ℕ, ◌+◌, ◌<◌, List, [], ◌∷◌, ◌++◌, Option, Some, None, Bool, true, false, ◌&&◌, ◌||◌}
+use Rattle.std.proofs.Common.{map, cond, refl, sym, ap, ◌∙◌, bit_and, eqb, take, length, get_or}
 use Rattle.std.specs.Prelude.{not, option_to_list}
 use Rattle.std.specs.List.{list_any}
 use Rattle.std.proofs.lemmas.Nat.{and_assoc, and_comm}
@@ -25,17 +27,22 @@ use Rattle.cap_machine.specs.declared.verdict.Finding.TheVariants as say
 use Rattle.cap_machine.specs.State.{State}
 use Rattle.cap_machine.specs.Op.{applied, masked, held}
 use Rattle.cap_machine.specs.Check.{said_of}
-use Rattle.cap_machine.specs.Judge.{listed, fault, shortfall, faults, judged_by, is_excused, all_excused, has_check, is_forbidden, is_allowed, is_inside, is_outside}
+use Rattle.cap_machine.specs.Judge.{listed, fault, shortfall, faults, judged_by, is_excused, all_excused, has_check}
+use Rattle.cap_machine.specs.Judge.{is_forbidden, is_allowed, is_inside, is_outside}
 use Rattle.cap_summary.proofs.Bools.{and_false, or_false, or_true, or_assoc}
 use Rattle.cap_summary.specs.declared.conditions.HeldTest.{HeldTest}
 use Rattle.cap_summary.specs.declared.conditions.HeldTest.TheVariants.{Never, Always, Lacks, Has}
 use Rattle.cap_summary.specs.declared.conditions.CellTest.{CellTest}
 use Rattle.cap_summary.specs.declared.conditions.Condition.{Condition}
 use Rattle.cap_summary.specs.declared.conditions.Condition.TheVariants as condition
-use Rattle.cap_summary.specs.Conditions.{passes_held, held_test, passes, masked_before, held_before, before, holds, outside_holds, any_holds, has_any}
-use Rattle.cap_summary.specs.LineConditions.{test_of, need_of, refused_by, one_excused, both_excused, success_conditions, line_conditions, line_conditions_by, line_always, line_always_by}
+use Rattle.cap_summary.specs.Conditions.{passes_held, held_test, passes, masked_before, held_before, before, holds}
+use Rattle.cap_summary.specs.Conditions.{outside_holds, any_holds, has_any}
+use Rattle.cap_summary.specs.LineConditions.{test_of, need_of, refused_by, one_excused, both_excused}
+use Rattle.cap_summary.specs.LineConditions.{success_conditions, line_conditions, line_conditions_by, line_always}
+use Rattle.cap_summary.specs.LineConditions.{line_always_by}
 
-pub never_passes : (t : CellTest) → t.unknown ≡ false → t.closed ≡ false → t.set ≡ Never → t.clear ≡ Never → t.unsure ≡ Never → (c : Cell) → passes t c ≡ false
+pub never_passes : (t : CellTest) → t.unknown ≡ false → t.closed ≡ false → t.set ≡ Never → t.clear ≡ Never
+    → t.unsure ≡ Never → (c : Cell) → passes t c ≡ false
 never_passes t u k a b d Unknown = u
 never_passes t u k a b d Closed = k
 never_passes t u k a b d (Held rights Set) = ap (λ r. passes_held r rights) a
@@ -49,14 +56,16 @@ meet_within r k n e = ap (λ x. eqb x n) (and_assoc n r k ∙ ap (bit_and r) (eq
 within_right : (r k n : ℕ) → bit_and (bit_and r k) n ≡ n → bit_and k n ≡ n
 within_right r k n e =
     let turned : bit_and (bit_and k r) n ≡ n = ap (λ x. bit_and x n) (and_comm k r) ∙ e in
-    ap (bit_and k) (sym turned) ∙ sym (and_assoc n k (bit_and k r)) ∙ ap (λ x. bit_and x n) (sym (and_assoc r k k) ∙ ap (λ x. bit_and x r) (and_self k)) ∙ turned
+    ap (bit_and k) (sym turned) ∙ sym (and_assoc n k (bit_and k r))
+    ∙ ap (λ x. bit_and x n) (sym (and_assoc r k k) ∙ ap (λ x. bit_and x r) (and_self k)) ∙ turned
 
 meet_beyond : (r k n : ℕ) → has_all k n ≡ false → has_all (meet r k) n ≡ false
 meet_beyond r k n e = cases (has_all (meet r k) n) refl
   where
     cases : (b : Bool) → has_all (meet r k) n ≡ b → has_all (meet r k) n ≡ false
     cases false is = is
-    cases true is = absurd (let yes : has_all k n ≡ true = eq-eqb (bit_and k n) n (within_right r k n (eqb-true (bit_and (bit_and r k) n) n is)) in cc)
+    cases true is = absurd (let yes : has_all k n ≡ true =
+        eq-eqb (bit_and k n) n (within_right r k n (eqb-true (bit_and (bit_and r k) n) n is)) in cc)
 
 masked_passes : (h : HeldTest) (m : Option ℕ) (r : ℕ) → passes_held (masked_before h m) r ≡ passes_held h (masked m r)
 masked_passes Never None r = refl
@@ -107,7 +116,8 @@ has_any-cond false x = refl
 
 -- ---- one line
 -- a check of a call that succeeded
-held_fault : (word : Word) (a : Check) (rights : ℕ) → not (has_all rights a.needs) ≡ has_any (cond (has_all rights a.needs) [] (shortfall word a.fd (minus a.needs rights) ∷ []))
+held_fault : (word : Word) (a : Check) (rights : ℕ) → not (has_all rights a.needs)
+    ≡ has_any (cond (has_all rights a.needs) [] (shortfall word a.fd (minus a.needs rights) ∷ []))
 held_fault word a rights = cases (shortfall word a.fd (minus a.needs rights)) (has_all rights a.needs)
   where
     cases : (x : Finding) (b : Bool) → not b ≡ has_any (cond b [] (x ∷ []))
@@ -121,23 +131,31 @@ fault_holds word a (Held rights Set) = held_fault word a rights
 fault_holds word a (Held rights Clear) = held_fault word a rights
 fault_holds word a (Held rights Unsure) = held_fault word a rights
 
-faults_hold : (s : State) (me : ℕ) (word : Word) (xs : List Check) → list_any (holds s) (map (need_of me) xs) ≡ has_any (faults word xs (map (λ (check : Check). s.cell me check.fd) xs))
+faults_hold : (s : State) (me : ℕ) (word : Word) (xs : List Check) → list_any (holds s) (map (need_of me) xs)
+    ≡ has_any (faults word xs (map (λ (check : Check). s.cell me check.fd) xs))
 faults_hold s me word [] = refl
 faults_hold s me word (a ∷ xs) =
     ap (λ r. r || list_any (holds s) (map (need_of me) xs)) (fault_holds word a (s.cell me a.fd))
     ∙ ap (λ r. has_any (fault word a (s.cell me a.fd)) || r) (faults_hold s me word xs)
-    ∙ sym (has_any-append (fault word a (s.cell me a.fd)) (faults word xs (map (λ (check : Check). s.cell me check.fd) xs)))
+    ∙ sym (has_any-append (fault word a (s.cell me a.fd))
+    (faults word xs (map (λ (check : Check). s.cell me check.fd) xs)))
 
-forbidden_holds : (s : State) (me : ℕ) (b : Bool) → list_any (holds s) (cond b (condition.Inside me ∷ []) []) ≡ has_any (cond (b && is_inside (s.mode me)) (say.Forbidden ∷ []) [])
+forbidden_holds : (s : State) (me : ℕ) (b : Bool) → list_any (holds s) (cond b (condition.Inside me ∷ []) [])
+    ≡ has_any (cond (b && is_inside (s.mode me)) (say.Forbidden ∷ []) [])
 forbidden_holds s me true = or_false (is_inside (s.mode me)) ∙ sym (has_any-cond (is_inside (s.mode me)) say.Forbidden)
 forbidden_holds s me false = refl
 
-success_holds : (s : State) (me : ℕ) (d : Demand) → any_holds s (success_conditions d me) ≡ has_any (judged_by Success d (s.mode me) (map (λ (check : Check). s.cell me check.fd) (listed d.checks)))
+success_holds : (s : State) (me : ℕ) (d : Demand) → any_holds s (success_conditions d me)
+    ≡ has_any (judged_by Success d (s.mode me) (map (λ (check : Check). s.cell me check.fd) (listed d.checks)))
 success_holds s me d =
-    list_any-append (holds s) (cond (is_forbidden d.class) (condition.Inside me ∷ []) []) (map (need_of me) (listed d.checks))
-    ∙ ap (λ r. r || list_any (holds s) (map (need_of me) (listed d.checks))) (forbidden_holds s me (is_forbidden d.class))
-    ∙ ap (λ r. has_any (cond (is_forbidden d.class && is_inside (s.mode me)) (say.Forbidden ∷ []) []) || r) (faults_hold s me d.word (listed d.checks))
-    ∙ sym (has_any-append (cond (is_forbidden d.class && is_inside (s.mode me)) (say.Forbidden ∷ []) []) (faults d.word (listed d.checks) (map (λ (check : Check). s.cell me check.fd) (listed d.checks))))
+    list_any-append (holds s) (cond (is_forbidden d.class) (condition.Inside me ∷ []) [])
+    (map (need_of me) (listed d.checks))
+    ∙ ap (λ r. r || list_any (holds s) (map (need_of me) (listed d.checks)))
+    (forbidden_holds s me (is_forbidden d.class))
+    ∙ ap (λ r. has_any (cond (is_forbidden d.class && is_inside (s.mode me)) (say.Forbidden ∷ []) []) || r)
+    (faults_hold s me d.word (listed d.checks))
+    ∙ sym (has_any-append (cond (is_forbidden d.class && is_inside (s.mode me)) (say.Forbidden ∷ []) [])
+    (faults d.word (listed d.checks) (map (λ (check : Check). s.cell me check.fd) (listed d.checks))))
 
 -- a call that was refused
 excused_holds : (x : ℕ) (c : Cell) → passes (test_of false (Has x)) c ≡ is_excused (Some x) c
@@ -152,7 +170,8 @@ not_excused Unknown = refl
 not_excused Closed = refl
 not_excused (Held rights flag) = refl
 
-not_at : (s : State) (me : ℕ) (at : Bool) → outside_holds s (cond at (Some me) None) ≡ (not at || is_outside (s.mode me))
+not_at : (s : State) (me : ℕ) (at : Bool)
+    → outside_holds s (cond at (Some me) None) ≡ (not at || is_outside (s.mode me))
 not_at s me true = refl
 not_at s me false = refl
 
@@ -171,52 +190,75 @@ swap_two false true false = refl
 swap_two false false b = refl
 
 one_refused : (s : State) (me : ℕ) (mode : Option ℕ) (f : ℕ) (e : Option ℕ) →
-    list_any (holds s) (map condition.Refused (option_to_list (one_excused mode me f e))) ≡ ((is_excused e (s.cell me f) && true) && outside_holds s mode)
+    list_any (holds s) (map condition.Refused (option_to_list (one_excused mode me f e)))
+    ≡ ((is_excused e (s.cell me f) && true) && outside_holds s mode)
 one_refused s me mode f None = rw (not_excused (s.cell me f)) refl
-one_refused s me mode f (Some x) = rw (excused_holds x (s.cell me f)) (swap_one (outside_holds s mode) (is_excused (Some x) (s.cell me f)))
+one_refused s me mode f (Some x) =
+    rw (excused_holds x (s.cell me f)) (swap_one (outside_holds s mode) (is_excused (Some x) (s.cell me f)))
 
 both_refused : (s : State) (me : ℕ) (mode : Option ℕ) (f g : ℕ) (e h : Option ℕ) →
-    list_any (holds s) (map condition.Refused (option_to_list (both_excused mode me f g e h))) ≡ ((is_excused e (s.cell me f) && (is_excused h (s.cell me g) && true)) && outside_holds s mode)
+    list_any (holds s) (map condition.Refused (option_to_list (both_excused mode me f g e h)))
+    ≡ ((is_excused e (s.cell me f) && (is_excused h (s.cell me g) && true)) && outside_holds s mode)
 both_refused s me mode f g None h = rw (not_excused (s.cell me f)) refl
-both_refused s me mode f g (Some x) None = rw (not_excused (s.cell me g), and_false (is_excused (Some x) (s.cell me f))) refl
-both_refused s me mode f g (Some x) (Some y) = rw (excused_holds x (s.cell me f), excused_holds y (s.cell me g)) (swap_two (outside_holds s mode) (is_excused (Some x) (s.cell me f)) (is_excused (Some y) (s.cell me g)))
+both_refused s me mode f g (Some x) None =
+    rw (not_excused (s.cell me g), and_false (is_excused (Some x) (s.cell me f))) refl
+both_refused s me mode f g (Some x) (Some y) = rw (excused_holds x (s.cell me f), excused_holds y (s.cell me g))
+    (swap_two (outside_holds s mode) (is_excused (Some x) (s.cell me f)) (is_excused (Some y) (s.cell me g)))
 
 refusal_holds : (s : State) (me : ℕ) (mode : Option ℕ) (c : Checks) →
-    list_any (holds s) (map condition.Refused (option_to_list (refused_by mode me c))) ≡ (has_check c && (all_excused (listed c) (map (λ (check : Check). s.cell me check.fd) (listed c)) && outside_holds s mode))
+    list_any (holds s) (map condition.Refused (option_to_list (refused_by mode me c))) ≡ (has_check c
+    && (all_excused (listed c) (map (λ (check : Check). s.cell me check.fd) (listed c)) && outside_holds s mode))
 refusal_holds s me mode checks.Nothing = refl
 refusal_holds s me mode (checks.One a) = one_refused s me mode a.fd a.excuse
 refusal_holds s me mode (checks.Two a b) = both_refused s me mode a.fd b.fd a.excuse b.excuse
 
-permitted_holds : (s : State) (me : ℕ) (b : Bool) → (b || any_holds s (cond b [] (condition.Outside me ∷ []))) ≡ (is_outside (s.mode me) || b)
+permitted_holds : (s : State) (me : ℕ) (b : Bool)
+    → (b || any_holds s (cond b [] (condition.Outside me ∷ []))) ≡ (is_outside (s.mode me) || b)
 permitted_holds s me true = sym (or_true (is_outside (s.mode me)))
 permitted_holds s me false = refl
 
 -- a line's conditions hold exactly where something is said of it
-judged_holds : (s : State) (me : ℕ) (d : Demand) (r : Reply) → (line_always_by r d || any_holds s (line_conditions_by r d me)) ≡ has_any (judged_by r d (s.mode me) (map (λ (check : Check). s.cell me check.fd) (listed d.checks)))
+judged_holds : (s : State) (me : ℕ) (d : Demand) (r : Reply)
+    → (line_always_by r d || any_holds s (line_conditions_by r d me))
+    ≡ has_any (judged_by r d (s.mode me) (map (λ (check : Check). s.cell me check.fd) (listed d.checks)))
 judged_holds s me d Success = success_holds s me d
 judged_holds s me d NotCapable =
     refusal_holds s me (cond d.at (Some me) None) d.checks
-    ∙ ap (λ r. has_check d.checks && (all_excused (listed d.checks) (map (λ (check : Check). s.cell me check.fd) (listed d.checks)) && r)) (not_at s me d.at)
-    ∙ sym (has_any-cond (has_check d.checks && (all_excused (listed d.checks) (map (λ (check : Check). s.cell me check.fd) (listed d.checks)) && (not d.at || is_outside (s.mode me)))) say.Refusal)
-judged_holds s me d NotPermitted = permitted_holds s me (is_allowed d.class) ∙ sym (has_any-cond (is_outside (s.mode me) || is_allowed d.class) say.ModeRefusal)
+    ∙ ap (λ r. has_check d.checks
+    && (all_excused (listed d.checks) (map (λ (check : Check). s.cell me check.fd) (listed d.checks)) && r))
+    (not_at s me d.at)
+    ∙ sym
+    (has_any-cond (has_check d.checks && (all_excused (listed d.checks) (map (λ (check : Check). s.cell me check.fd)
+    (listed d.checks)) && (not d.at || is_outside (s.mode me)))) say.Refusal)
+judged_holds s me d NotPermitted = permitted_holds s me (is_allowed d.class)
+    ∙ sym (has_any-cond (is_outside (s.mode me) || is_allowed d.class) say.ModeRefusal)
 judged_holds s me d Other = refl
 
-pub line_holds : (s : State) (me : ℕ) (d : Demand) → (line_always d || any_holds s (line_conditions d me)) ≡ has_any (said_of d me s)
+pub line_holds : (s : State) (me : ℕ) (d : Demand)
+    → (line_always d || any_holds s (line_conditions d me)) ≡ has_any (said_of d me s)
 line_holds s me d = judged_holds s me d d.reply
 
 -- ---- a walk over conditions
-seen_more : (g : Condition → Bool) (xs : List Condition) (i : ℕ) (x : Condition) → i < length xs → x ≡ get_or xs i x → list_any g (take (i + 1) xs) ≡ (list_any g (take i xs) || g x)
-seen_more g xs i x within at = list_any_more g xs i x within ∙ ap (λ (y : Condition). list_any g (take i xs) || g y) (sym at)
+seen_more : (g : Condition → Bool) (xs : List Condition) (i : ℕ) (x : Condition) → i < length xs → x ≡ get_or xs i x
+    → list_any g (take (i + 1) xs) ≡ (list_any g (take i xs) || g x)
+seen_more g xs i x within at = list_any_more g xs i x within
+    ∙ ap (λ (y : Condition). list_any g (take i xs) || g y) (sym at)
 
-pub turn_never : (g : Condition → Bool) (xs : List Condition) (i : ℕ) (x : Condition) (told : Bool) → i < length xs → x ≡ get_or xs i x → false ≡ g x → told ≡ list_any g (take i xs) → told ≡ list_any g (take (i + 1) xs)
+pub turn_never : (g : Condition → Bool) (xs : List Condition) (i : ℕ) (x : Condition) (told : Bool) → i < length xs
+    → x ≡ get_or xs i x → false ≡ g x → told ≡ list_any g (take i xs) → told ≡ list_any g (take (i + 1) xs)
 turn_never g xs i x told within at never before =
-    before ∙ sym (or_false (list_any g (take i xs))) ∙ ap (λ r. list_any g (take i xs) || r) never ∙ sym (seen_more g xs i x within at)
+    before ∙ sym (or_false (list_any g (take i xs))) ∙ ap (λ r. list_any g (take i xs) || r) never
+    ∙ sym (seen_more g xs i x within at)
 
-pub turn_always : (g : Condition → Bool) (xs : List Condition) (i : ℕ) (x : Condition) → i < length xs → x ≡ get_or xs i x → true ≡ g x → true ≡ list_any g (take (i + 1) xs)
+pub turn_always : (g : Condition → Bool) (xs : List Condition) (i : ℕ) (x : Condition) → i < length xs
+    → x ≡ get_or xs i x → true ≡ g x → true ≡ list_any g (take (i + 1) xs)
 turn_always g xs i x within at always =
-    sym (or_true (list_any g (take i xs))) ∙ ap (λ r. list_any g (take i xs) || r) always ∙ sym (seen_more g xs i x within at)
+    sym (or_true (list_any g (take i xs))) ∙ ap (λ r. list_any g (take i xs) || r) always
+    ∙ sym (seen_more g xs i x within at)
 
-pub turn_to : (f g : Condition → Bool) (xs : List Condition) (i : ℕ) (x : Condition) (always : Bool) (old new : List Condition) (y : Condition) → i < length xs → x ≡ get_or xs i x → f y ≡ g x → new ≡ old ++ y ∷ [] → (always || list_any f old) ≡ list_any g (take i xs) → (always || list_any f new) ≡ list_any g (take (i + 1) xs)
+pub turn_to : (f g : Condition → Bool) (xs : List Condition) (i : ℕ) (x : Condition) (always : Bool)
+    (old new : List Condition) (y : Condition) → i < length xs → x ≡ get_or xs i x → f y ≡ g x → new ≡ old ++ y ∷ []
+    → (always || list_any f old) ≡ list_any g (take i xs) → (always || list_any f new) ≡ list_any g (take (i + 1) xs)
 turn_to f g xs i x always old new y within at same is before =
     ap (λ (r : List Condition). always || list_any f r) is
     ∙ ap (λ r. always || r) (list_any-append f old (y ∷ []))

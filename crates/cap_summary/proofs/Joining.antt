@@ -53,19 +53,23 @@ closed_stays : (passing : Passing) → applied (passing_op passing) Closed ≡ C
 closed_stays passings.Same = refl
 closed_stays passings.Exec = refl
 
-none_left : (o : Option Value) → (let no : Option Value = None in or_else (option_and_then (λ (v : Value). no) o) no ≡ no)
+none_left : (o : Option Value)
+    → (let no : Option Value = None in or_else (option_and_then (λ (v : Value). no) o) no ≡ no)
 none_left None = refl
 none_left (Some v) = refl
 
 -- whether a descriptor is closed, and whether it was by the change; what was listed of it, and what is
-pub base_joined : (s t : State) (passing : Passing) (q f : ℕ) (now was low : Bool) (o n : Option Value) (others first : Others) →
+pub base_joined : (s t : State) (passing : Passing) (q f : ℕ) (now was low : Bool) (o n : Option Value)
+    (others first : Others) →
     low ≡ (was || now) →
     n ≡ or_else (option_and_then (λ (v : Value). cond now None (Some (op_on (passing_op passing) v))) o) None →
     read_cell s (rest_value others f) ≡ applied (passing_op passing) (read_cell s (rest_value first f)) →
     t.cell q f ≡ read_cell s (unwrap_or o (cond was (value.Fixed Closed) (rest_value first f))) →
-    read_cell s (unwrap_or n (cond low (value.Fixed Closed) (rest_value others f))) ≡ read_cell t (cond now (value.Fixed Closed) (value.Of q f (passing_op passing)))
+    read_cell s (unwrap_or n (cond low (value.Fixed Closed) (rest_value others f)))
+    ≡ read_cell t (cond now (value.Fixed Closed) (value.Of q f (passing_op passing)))
 base_joined s t passing q f true was low o n others first lower is rest before =
-    ap (λ (r : Option Value). read_cell s (unwrap_or r (cond low (value.Fixed Closed) (rest_value others f)))) (is ∙ none_left o)
+    ap (λ (r : Option Value). read_cell s (unwrap_or r (cond low (value.Fixed Closed) (rest_value others f))))
+    (is ∙ none_left o)
     ∙ ap (λ r. read_cell s (cond r (value.Fixed Closed) (rest_value others f))) (lower ∙ or_true was)
 base_joined s t passing q f false was low (Some v) n others first lower is rest before =
     ap (λ (r : Option Value). read_cell s (unwrap_or r (cond low (value.Fixed Closed) (rest_value others f)))) is
@@ -82,14 +86,18 @@ base_joined s t passing q f false false low None n others first lower is rest be
     ∙ ap (applied (passing_op passing)) (sym before)
 
 -- the base of a process that the change leaves as it was, and one of cells that are alike
-pub base_kept : (s t : State) (op : Op) (q f : ℕ) (now : Bool) (n : Option Value) → n ≡ None → t.cell q f ≡ applied same (s.cell q f) →
-    read_cell s (unwrap_or n (cond now (value.Fixed Closed) (value.Of q f op))) ≡ read_cell t (cond now (value.Fixed Closed) (value.Of q f op))
+pub base_kept : (s t : State) (op : Op) (q f : ℕ) (now : Bool) (n : Option Value) → n ≡ None
+    → t.cell q f ≡ applied same (s.cell q f) →
+    read_cell s (unwrap_or n (cond now (value.Fixed Closed) (value.Of q f op)))
+    ≡ read_cell t (cond now (value.Fixed Closed) (value.Of q f op))
 base_kept s t op q f true n is before = ap (λ (r : Option Value). read_cell s (unwrap_or r (value.Fixed Closed))) is
 base_kept s t op q f false n is before =
-    ap (λ (r : Option Value). read_cell s (unwrap_or r (value.Of q f op))) is ∙ sym (ap (applied op) (before ∙ applied_same (s.cell q f)))
+    ap (λ (r : Option Value). read_cell s (unwrap_or r (value.Of q f op))) is
+    ∙ sym (ap (applied op) (before ∙ applied_same (s.cell q f)))
 
 pub base_alike : (s t : State) (c : Cell) (now : Bool) (n : Option Value) → n ≡ None →
-    read_cell s (unwrap_or n (cond now (value.Fixed Closed) (value.Fixed c))) ≡ read_cell t (cond now (value.Fixed Closed) (value.Fixed c))
+    read_cell s (unwrap_or n (cond now (value.Fixed Closed) (value.Fixed c)))
+    ≡ read_cell t (cond now (value.Fixed Closed) (value.Fixed c))
 base_alike s t c true n is = ap (λ (r : Option Value). read_cell s (unwrap_or r (value.Fixed Closed))) is
 base_alike s t c false n is = ap (λ (r : Option Value). read_cell s (unwrap_or r (value.Fixed c))) is
 
@@ -97,7 +105,8 @@ base_alike s t c false n is = ap (λ (r : Option Value). read_cell s (unwrap_or 
 
 -- what is listed of it stands over what the base has
 pub process_joined : (s : State) (a : Change) (base : Base) (old : Process) (f : ℕ) (first cells : Cells) →
-    listed_value cells f ≡ or_else (option_and_then (λ v. Some (under a v)) (listed_value old.cells f)) (listed_value first f) →
+    listed_value cells f
+    ≡ or_else (option_and_then (λ v. Some (under a v)) (listed_value old.cells f)) (listed_value first f) →
     read_cell s (value_at base first f) ≡ read_cell (changed a s) (unlisted old.base f) →
     read_cell s (value_at base cells f) ≡ read_cell (changed a s) (value_in old f)
 process_joined s a base old f first cells is rest = cases (listed_value old.cells f) (listed_value cells f) is
@@ -109,28 +118,35 @@ process_joined s a base old f first cells is rest = cases (listed_value old.cell
 
 -- ---- all processes
 
-cell_joined : (s : State) (a : Change) (p f : ℕ) (old new : Option Process) → JoinsListed a (process_at a.processes p) old new →
+cell_joined : (s : State) (a : Change) (p f : ℕ) (old new : Option Process)
+    → JoinsListed a (process_at a.processes p) old new →
     read_cell s (cell_in new p f) ≡ read_cell (changed a s) (cell_in old p f)
-cell_joined s a p f None new is = ap (λ (o : Option Process). read_cell s (cell_in o p f)) is ∙ sym (applied_same (read_cell s (value_of a p f)))
+cell_joined s a p f None new is = ap (λ (o : Option Process). read_cell s (cell_in o p f)) is
+    ∙ sym (applied_same (read_cell s (value_of a p f)))
 cell_joined s a p f (Some d) None is = absurd is
 cell_joined s a p f (Some d) (Some e) is = is.cells s f
 
-mode_joined : (s : State) (a : Change) (p : ℕ) (old new : Option Process) → JoinsListed a (process_at a.processes p) old new →
+mode_joined : (s : State) (a : Change) (p : ℕ) (old new : Option Process)
+    → JoinsListed a (process_at a.processes p) old new →
     read_mode s (mode_in new p) ≡ read_mode (changed a s) (mode_in old p)
 mode_joined s a p None new is = ap (λ (o : Option Process). read_mode s (mode_in o p)) is
 mode_joined s a p (Some d) None is = absurd is
 mode_joined s a p (Some d) (Some e) is = is.mode s
 
-listed_joined : (a : Change) (before old new : Option Process) → JoinsListed a before old new → is_some new ≡ (is_some before || is_some old)
+listed_joined : (a : Change) (before old new : Option Process) → JoinsListed a before old new
+    → is_some new ≡ (is_some before || is_some old)
 listed_joined a before None new is = ap (λ (o : Option Process). is_some o) is ∙ sym (or_false (is_some before))
 listed_joined a before (Some d) None is = absurd is
 listed_joined a before (Some d) (Some e) is = sym (or_true (is_some before))
 
 -- a table in which each listed process is joined
-pub joins_to : (a b whole : Change) → ((p : ℕ) → JoinsListed a (process_at a.processes p) (process_at b.processes p) (process_at whole.processes p)) → JoinsTo a b whole
+pub joins_to : (a b whole : Change)
+    → ((p : ℕ) → JoinsListed a (process_at a.processes p) (process_at b.processes p) (process_at whole.processes p))
+    → JoinsTo a b whole
 joins_to a b whole each = record {
   changes = λ s. same_state (changed whole s) (changed b (changed a s))
       (λ p f. cell_joined s a p f (process_at b.processes p) (process_at whole.processes p) (each p))
       (λ p. mode_joined s a p (process_at b.processes p) (process_at whole.processes p) (each p));
-  listed = λ p. listed_joined a (process_at a.processes p) (process_at b.processes p) (process_at whole.processes p) (each p);
+  listed = λ p.
+      listed_joined a (process_at a.processes p) (process_at b.processes p) (process_at whole.processes p) (each p);
 }

@@ -29,7 +29,8 @@ use Rattle.cap_summary.specs.Knows.{Knows, finds}
 use Rattle.cap_summary.proofs.Bools.{or_true, or_false}
 use Rattle.cap_summary.proofs.Holding.{has_any-append, has_any-map, line_holds}
 
-pub found_in_turn : (s : State) (t u : List Step) → has_any (check s (t ++ u)) ≡ (has_any (check s t) || has_any (check (ended s t) u))
+pub found_in_turn : (s : State) (t u : List Step)
+    → has_any (check s (t ++ u)) ≡ (has_any (check s t) || has_any (check (ended s t) u))
 found_in_turn s t u =
     ap (λ (r : List Found). has_any r) (checks_in_turn s t u)
     ∙ has_any-append (check s t) (map (later (length t)) (check (ended s t) u))
@@ -41,57 +42,70 @@ shuffled false true m x y = sym (or_true x)
 shuffled false false true x y = sym (or_true x)
 shuffled false false false x y = refl
 
-listed_in_turn : (a b c x y : Bool) → c ≡ (a || b) → (a ≡ true → x ≡ true) → (b ≡ true → y ≡ true) → c ≡ true → (x || y) ≡ true
+listed_in_turn : (a b c x y : Bool) → c ≡ (a || b) → (a ≡ true → x ≡ true) → (b ≡ true → y ≡ true) → c ≡ true
+    → (x || y) ≡ true
 listed_in_turn true b c x y is left right e = ap (λ r. r || y) (left refl)
 listed_in_turn false b c x y is left right e = ap (λ r. x || r) (right (sym is ∙ e)) ∙ or_true x
 
 pub joined_knows : (a b whole : Known) (met : Bool) (moved : List Condition) (t u : List Step) →
     JoinsTo a.change.value b.change.value whole.change.value →
     ((s : State) → (met || any_holds s moved) ≡ any_holds (changed a.change.value s) b.conditions.value.items) →
-    ((s : State) → any_holds s whole.conditions.value.items ≡ (any_holds s a.conditions.value.items || any_holds s moved)) →
+    ((s : State)
+    → any_holds s whole.conditions.value.items ≡ (any_holds s a.conditions.value.items || any_holds s moved)) →
     whole.always ≡ (a.always || (b.always || met)) →
     Knows a t → Knows b u → Knows whole (t ++ u)
 joined_knows a b whole met moved t u joins behind both always left right = record {
-  ends = λ s. joins.changes s ∙ right.ends (changed a.change.value s) ∙ ap (λ r. ended r u) (left.ends s) ∙ sym (ends_in_turn s t u);
+  ends = λ s. joins.changes s ∙ right.ends (changed a.change.value s) ∙ ap (λ r. ended r u) (left.ends s)
+      ∙ sym (ends_in_turn s t u);
   found = λ s.
       ap (λ r. r || any_holds s whole.conditions.value.items) always
       ∙ ap (λ r. (a.always || (b.always || met)) || r) (both s)
       ∙ shuffled a.always b.always met (any_holds s a.conditions.value.items) (any_holds s moved)
       ∙ ap (λ r. finds a s || (b.always || r)) (behind s)
       ∙ ap (λ r. r || finds b (changed a.change.value s)) (left.found s)
-      ∙ ap (λ r. has_any (check s t) || r) (right.found (changed a.change.value s) ∙ ap (λ r. has_any (check r u)) (left.ends s))
+      ∙ ap (λ r. has_any (check s t) || r)
+      (right.found (changed a.change.value s) ∙ ap (λ r. has_any (check r u)) (left.ends s))
       ∙ sym (found_in_turn s t u);
   listed = λ p e. list_any-append (λ (step : Step). names_pid p step.line) t u
-      ∙ listed_in_turn (is_listed a.change.value p) (is_listed b.change.value p) (is_listed whole.change.value p) (list_any (λ (step : Step). names_pid p step.line) t) (list_any (λ (step : Step). names_pid p step.line) u) (joins.listed p) (left.listed p) (right.listed p) e;
+      ∙ listed_in_turn (is_listed a.change.value p) (is_listed b.change.value p) (is_listed whole.change.value p)
+      (list_any (λ (step : Step). names_pid p step.line) t)
+      (list_any (λ (step : Step). names_pid p step.line) u) (joins.listed p) (left.listed p) (right.listed p) e;
 }
 
 -- the state behind one step
 pub step_ends : (step : Step) (effect : Effect) →
-    ((p f : ℕ) → effect_touch effect step.line.pid p f ≡ touch step p f) → ((p : ℕ) → effect_turn effect step.line.pid p ≡ turn step p) →
+    ((p f : ℕ) → effect_touch effect step.line.pid p f ≡ touch step p f)
+    → ((p : ℕ) → effect_turn effect step.line.pid p ≡ turn step p) →
     (s : State) → effect_after effect step.line.pid s ≡ ended s (step ∷ [])
 step_ends step effect cells modes s = same_state (effect_after effect step.line.pid s) (ended s (step ∷ []))
     (λ p f. ap (λ (r : Touch). touched r s.cell p f) (cells p f))
     (λ p. ap (λ (r : Turn). turned r s.mode p) (modes p))
 
 effect_ends : (change : Change) (step : Step) (effect : Effect) → Does change effect step.line.pid →
-    ((p f : ℕ) → effect_touch effect step.line.pid p f ≡ touch step p f) → ((p : ℕ) → effect_turn effect step.line.pid p ≡ turn step p) →
+    ((p f : ℕ) → effect_touch effect step.line.pid p f ≡ touch step p f)
+    → ((p : ℕ) → effect_turn effect step.line.pid p ≡ turn step p) →
     (s : State) → changed change s ≡ ended s (step ∷ [])
 effect_ends change step effect does cells modes s =
-    same_state (changed change s) (effect_after effect step.line.pid s) (does.cells s) (does.modes s) ∙ step_ends step effect cells modes s
+    same_state (changed change s) (effect_after effect step.line.pid s) (does.cells s) (does.modes s)
+    ∙ step_ends step effect cells modes s
 
 -- a process that the step's line names
-child_named : (step : Step) (p : ℕ) (own makes : Bool) → ((own || makes) ≡ false → turn step p ≡ stays) → (own || is_following (turn step p)) ≡ true → (own || makes) ≡ true
+child_named : (step : Step) (p : ℕ) (own makes : Bool) → ((own || makes) ≡ false → turn step p ≡ stays)
+    → (own || is_following (turn step p)) ≡ true → (own || makes) ≡ true
 child_named step p true makes quiet is = refl
 child_named step p false true quiet is = refl
 child_named step p false false quiet is = sym (ap is_following (quiet refl)) ∙ is
 
-pub named : (step : Step) (p : ℕ) → ((p == step.line.pid) || is_following (turn step p)) ≡ true → names_pid p step.line ≡ true
+pub named : (step : Step) (p : ℕ) → ((p == step.line.pid) || is_following (turn step p)) ≡ true
+    → names_pid p step.line ≡ true
 named step p is = child_named step p (p == step.line.pid) (item_makes p step.line.item) (own_modes step p) is
 
 pub step_knows : (known : Known) (step : Step) (effect : Effect) (d : Demand) →
     Does known.change.value effect step.line.pid →
-    ((p f : ℕ) → effect_touch effect step.line.pid p f ≡ touch step p f) → ((p : ℕ) → effect_turn effect step.line.pid p ≡ turn step p) →
-    d ≡ demand step.line → known.always ≡ line_always d → known.conditions.value.items ≡ line_conditions d step.line.pid →
+    ((p f : ℕ) → effect_touch effect step.line.pid p f ≡ touch step p f)
+    → ((p : ℕ) → effect_turn effect step.line.pid p ≡ turn step p) →
+    d ≡ demand step.line → known.always ≡ line_always d
+    → known.conditions.value.items ≡ line_conditions d step.line.pid →
     Knows known (step ∷ [])
 step_knows known step effect d does cells modes is always conditions = record {
   ends = effect_ends known.change.value step effect does cells modes;
@@ -101,5 +115,6 @@ step_knows known step effect d does cells modes is always conditions = record {
       ∙ line_holds s step.line.pid d
       ∙ ap (λ (r : Demand). has_any (said_of r step.line.pid s)) is
       ∙ sym (has_any-map (found_at 1) (said step s));
-  listed = λ p e. or_false (names_pid p step.line) ∙ named step p (ap (λ (r : Turn). (p == step.line.pid) || is_following r) (sym (modes p)) ∙ does.listed p e);
+  listed = λ p e. or_false (names_pid p step.line)
+      ∙ named step p (ap (λ (r : Turn). (p == step.line.pid) || is_following r) (sym (modes p)) ∙ does.listed p e);
 }

@@ -10,7 +10,8 @@ use Rattle.cap_summary.specs.declared.step.Step.{Step}
 use Rattle.cap_summary.specs.Steps.{step_of, steps_of}
 
 -- a copy stands for the same step
-steps_from_clones : (xs ys : List Step) → AllZip (λ (x y : Step). (y.profile ≡ x.profile) × (y.line.value ≡ x.line.value)) xs ys → steps_of ys ≡ steps_of xs
+steps_from_clones : (xs ys : List Step)
+    → AllZip (λ (x y : Step). (y.profile ≡ x.profile) × (y.line.value ≡ x.line.value)) xs ys → steps_of ys ≡ steps_of xs
 steps_from_clones [] [] same = refl
 steps_from_clones [] (y ∷ ys) same = absurd same
 steps_from_clones (x ∷ xs) [] same = absurd same
@@ -20,7 +21,9 @@ steps_from_clones (x ∷ xs) (y ∷ ys) same =
     ap (λ (r : Profile). step r y.line.value) same.0.0 ∙ ap (λ (r : Entry). step x.profile r) same.0.1 in
     ap (λ r. r ∷ steps_of ys) first ∙ ap (λ r. step_of x ∷ r) rest
 
-pub steps_of-append_clones : (old new more : List Step) → AppendsClones (λ (x y : Step). (y.profile ≡ x.profile) × (y.line.value ≡ x.line.value)) old new more → steps_of new ≡ steps_of old ++ steps_of more
+pub steps_of-append_clones : (old new more : List Step)
+    → AppendsClones (λ (x y : Step). (y.profile ≡ x.profile) × (y.line.value ≡ x.line.value)) old new more
+    → steps_of new ≡ steps_of old ++ steps_of more
 steps_of-append_clones old new more (added, is, same) =
     ap steps_of is ∙ (map-append step_of old added ∙ ap (λ zs. steps_of old ++ zs) (steps_from_clones more added same))
 
@@ -34,6 +37,8 @@ none_behind a [] n is none = is ∙ sym (append-nil a)
 none_behind a (x ∷ xs) n is none = absurd (omega arith)
 
 -- the first of a run, and the rest
-pub head_tail : (run : List Step) (x : Step) → 0 < length run → x ≡ get_or run 0 x → steps_of run ≡ step_of x ∷ steps_of (slice_range run 1 (length run))
+pub head_tail : (run : List Step) (x : Step) → 0 < length run → x ≡ get_or run 0 x
+    → steps_of run ≡ step_of x ∷ steps_of (slice_range run 1 (length run))
 head_tail [] x some at = absurd (omega arith)
-head_tail (y ∷ ys) x some at = ap (λ r. step_of r ∷ steps_of ys) (sym at) ∙ ap (λ r. step_of x ∷ steps_of r) (sym (between_to_end (y ∷ ys) 1 (length (y ∷ ys)) (omega arith)))
+head_tail (y ∷ ys) x some at = ap (λ r. step_of r ∷ steps_of ys) (sym at)
+    ∙ ap (λ r. step_of x ∷ steps_of r) (sym (between_to_end (y ∷ ys) 1 (length (y ∷ ys)) (omega arith)))

@@ -36,7 +36,10 @@ mode_of change p = mode_in (process_at change.processes p) p
 
 -- the state that a change makes of a state
 abbrev pub changed : Change → State → State
-changed change s = record { cell = λ p f. read_cell s (value_of change p f); mode = λ p. read_mode s (mode_of change p) }
+changed change s = record {
+  cell = λ p f. read_cell s (value_of change p f);
+  mode = λ p. read_mode s (mode_of change p);
+}
 
 -- a process is listed
 abbrev pub is_listed : Change → ℕ → Bool

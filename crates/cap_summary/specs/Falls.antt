@@ -6,6 +6,7 @@ use Rattle.cap_summary.specs.declared.node.Content.TheVariants.{Run, Both}
 use Rattle.cap_summary.specs.declared.node.Node.TheDeep.{deep-Content}
 use Rattle.cap_summary.specs.Content.{content_steps, HasParts}
 
-pub deep_le_length : (content : Content) → HasParts content → max (deep-Content content) 0 ≤ length (content_steps content)
+pub deep_le_length : (content : Content) → HasParts content
+    → max (deep-Content content) 0 ≤ length (content_steps content)
 deep_le_length (Run run) has = omega arith
 deep_le_length (Both a b) has = omega (arith, length-append a.value b.value)

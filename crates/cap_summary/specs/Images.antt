@@ -16,4 +16,5 @@ under change (value.Of q g op) = op_on op (value_of change q g)
 -- behind a change; or handed on, and below the descriptor from which cells are closed
 abbrev pub image_of : Image → ℕ → Value → Option Value
 image_of (image.Under change) f v = Some (under change.now v)
-image_of (image.Passed passing closed_from) f v = if is_from closed_from f then None else Some (op_on (passing_op passing) v)
+image_of (image.Passed passing closed_from) f v = if is_from closed_from f then None
+    else Some (op_on (passing_op passing) v)

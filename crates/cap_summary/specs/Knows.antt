@@ -22,8 +22,8 @@ finds known s = known.always || any_holds s known.conditions.value.items
 abbrev pub lists : Known → ℕ → Bool
 lists known p = is_listed known.change.value p
 
--- under every state before the segment: the state after it, each cell and each mode; and whether something is found in it. A
--- process is listed only where a line names it: as its own, or as the child that a fork made
+-- under every state before the segment: the state after it, each cell and each mode; and whether something is found in
+-- it. A process is listed only where a line names it: as its own, or as the child that a fork made
 pub record Knows (known : Known) (t : List Step) : Type 0 where
   pub ends : (s : State) → state_after known s ≡ ended s t
   pub found : (s : State) → finds known s ≡ has_any (check s t)

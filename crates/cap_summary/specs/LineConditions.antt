@@ -1,5 +1,6 @@
 -- The conditions under which something is said of one line (Judge says what is).
-use Rattle.std.specs.Prelude.{ℕ, List, [], ◌∷◌, ◌++◌, map, Option, Some, None, option_to_list, Bool, true, false, if◌then◌else◌}
+use Rattle.std.specs.Prelude.{ℕ, List, [], ◌∷◌, ◌++◌, map, Option, Some, None, option_to_list, Bool, true, false}
+use Rattle.std.specs.Prelude.{if◌then◌else◌}
 use Rattle.cap_machine.specs.declared.rule.Reply.{Reply}
 use Rattle.cap_machine.specs.declared.rule.Reply.TheVariants.{Success, NotCapable, NotPermitted, Other}
 use Rattle.cap_machine.specs.declared.rule.Check.{Check}
@@ -28,7 +29,8 @@ abbrev pub excused_of : ℕ → ℕ → ℕ → Source
 excused_of me f x = record { pid = me; fd = f; test = test_of false (Has x) }
 
 abbrev pub both_excused : Option ℕ → ℕ → ℕ → ℕ → Option ℕ → Option ℕ → Option Refused
-both_excused mode me f g (Some x) (Some y) = Some (record { mode = mode; first = Some (excused_of me f x); second = Some (excused_of me g y) })
+both_excused mode me f g (Some x) (Some y) =
+    Some (record { mode = mode; first = Some (excused_of me f x); second = Some (excused_of me g y) })
 both_excused mode me f g (Some x) None = None
 both_excused mode me f g None y = None
 
@@ -46,7 +48,8 @@ abbrev pub refused_of : Demand → ℕ → Option Refused
 refused_of d me = refused_by (if d.at then Some me else None) me d.checks
 
 abbrev pub success_conditions : Demand → ℕ → List Condition
-success_conditions d me = (if is_forbidden d.class then condition.Inside me ∷ [] else []) ++ map (need_of me) (listed d.checks)
+success_conditions d me =
+    (if is_forbidden d.class then condition.Inside me ∷ [] else []) ++ map (need_of me) (listed d.checks)
 
 -- the conditions of a line, by the kind of its answer
 abbrev pub line_conditions_by : Reply → Demand → ℕ → List Condition

@@ -1,13 +1,15 @@
 //! The state behind a start and changes, and what is found from there.
 
-ghost use Rattle.std.specs.Prelude.{◌≡◌, ℕ, ◌&&◌, nat_le, ◌+◌, ◌^◌, ◌≤◌, ◌<◌, ◌++◌, ◌∷◌, [], List, length, IfOk, OnOk, IfSome, map};
+ghost use Rattle.std.specs.Prelude.{◌≡◌, ℕ, ◌&&◌, nat_le, ◌+◌, ◌^◌, ◌≤◌, ◌<◌, ◌++◌, ◌∷◌, [], List, length, IfOk, OnOk};
+ghost use Rattle.std.specs.Prelude.{IfSome, map};
 ghost use Rattle.cap_machine.specs.Check.{check, said_of, found_at};
 ghost use Rattle.cap_machine.specs.Laws.{later};
 ghost use Rattle.cap_summary.specs.Before.{state_before};
 ghost use Rattle.cap_summary.specs.Knows.{finds};
 ghost use Rattle.cap_summary.specs.Steps.{steps_of};
 ghost use Rattle.cap_summary.specs.Positions.{within};
-ghost use Rattle.cap_summary.specs.Conditions.{source_holds, part_holds, outside_holds, refused_holds, holds, any_holds};
+ghost use Rattle.cap_summary.specs.Conditions.{source_holds, part_holds, outside_holds, refused_holds, holds};
+ghost use Rattle.cap_summary.specs.Conditions.{any_holds};
 
 use crate::change::Change;
 use crate::conditions::{Condition, Refused, Source};
@@ -175,7 +177,8 @@ fn note_line(
     asked: &Positions,
     found: &mut Vec<Found>,
 ) -> Result<(), NoMemory>
-    ensures { OnOk result (found.new.items ≡ found.old.items ++ within asked.now.from asked.now.to (map (found_at at) (said_of demand.now pid (state_before before.now)))) }
+    ensures { OnOk result (found.new.items ≡ found.old.items
+        ++ within asked.now.from asked.now.to (map (found_at at) (said_of demand.now pid (state_before before.now)))) }
 {
     if !asked.has(at) {
         return Ok(());
@@ -184,8 +187,8 @@ fn note_line(
     note(found, at, &verdict)
 }
 
-/// Notes what is found in a run of steps that begins in this state behind so many others, at the positions that are asked
-/// for.
+/// Notes what is found in a run of steps that begins in this state behind so many others, at the positions that are
+/// asked for.
 pub(crate) fn judge_run(
     run: &[Step],
     before: &Before<'_>,
@@ -194,7 +197,8 @@ pub(crate) fn judge_run(
     found: &mut Vec<Found>,
 ) -> Result<(), NoMemory>
     requires short { at + length run.now ≤ 2 ^ 31 }
-    ensures { OnOk result (found.new.items ≡ found.old.items ++ within asked.now.from asked.now.to (map (later at) (check (state_before before.now) (steps_of run.now)))) }
+    ensures { OnOk result (found.new.items ≡ found.old.items
+        ++ within asked.now.from asked.now.to (map (later at) (check (state_before before.now) (steps_of run.now)))) }
 {
     if run.len() == 0 {
         return Ok(());

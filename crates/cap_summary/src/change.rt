@@ -125,7 +125,8 @@ impl Change {
 
     /// The cells of a base that stands behind this change.
     fn base_under(&self, alloc: Global, base: &Base) -> Result<(Base, Cells), NoMemory>
-        ensures { IfOk result (λ r. (s : State) (f : ℕ) → read_cell s (value_at r.0 r.1 f) ≡ read_cell (changed self.now s) (unlisted base.now f)) }
+        ensures { IfOk result (λ r. (s : State) (f : ℕ)
+            → read_cell s (value_at r.0 r.1 f) ≡ read_cell (changed self.now s) (unlisted base.now f)) }
     {
         let mut cells = Cells::new(alloc);
         match base.others {

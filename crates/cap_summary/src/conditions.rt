@@ -47,8 +47,8 @@ pub struct Source {
     pub test: CellTest,
 }
 
-/// A call was refused for lack of rights: something is said of it where all of these hold. What holds in any case is left
-/// out.
+/// A call was refused for lack of rights: something is said of it where all of these hold. What holds in any case is
+/// left out.
 #[derive(Clone, Copy)]
 pub struct Refused {
     /// This process is outside capability mode.

@@ -44,7 +44,8 @@ impl Process {
 
     /// The process with one value written.
     fn with(self, fd: Fd, value: &Value) -> Result<Process, NoMemory>
-        ensures cells { IfOk result (λ new. (f : ℕ) → value_in new f ≡ (if f == fd then value.now else value_in self f)) }
+        ensures cells { IfOk result
+            (λ new. (f : ℕ) → value_in new f ≡ (if f == fd then value.now else value_in self f)) }
         ensures mode { IfOk result (λ new. new.mode ≡ self.mode) }
     {
         let mut new = self;
@@ -65,7 +66,8 @@ impl Change {
 
     /// The change with one process written.
     fn and(self, alloc: Global, pid: Pid, process: Process) -> Result<Change, NoMemory>
-        ensures { IfOk result (λ new. (p : ℕ) → process_at new.processes p ≡ (if p == pid then Some process else process_at self.processes p)) }
+        ensures { IfOk result (λ new. (p : ℕ)
+            → process_at new.processes p ≡ (if p == pid then Some process else process_at self.processes p)) }
     {
         let mut new = self;
         new.processes.set(alloc, pid, process)?;
@@ -74,15 +76,18 @@ impl Change {
 
     /// One process changes.
     fn only(alloc: Global, pid: Pid, process: Process) -> Result<Change, NoMemory>
-        ensures { IfOk result (λ new. (p : ℕ) → process_at new.processes p ≡ (if p == pid then Some process else None)) }
+        ensures { IfOk result
+            (λ new. (p : ℕ) → process_at new.processes p ≡ (if p == pid then Some process else None)) }
     {
         Change::nothing(alloc).and(alloc, pid, process)
     }
 
     /// No cell of a process is listed.
     fn whole(alloc: Global, me: Pid, base: Base, mode: ModeValue) -> Result<Change, NoMemory>
-        ensures cells { IfOk result (λ change. (p f : ℕ) → value_of change p f ≡ (if p == me then unlisted base f else Value.Of p f same)) }
-        ensures modes { IfOk result (λ change. (p : ℕ) → mode_of change p ≡ (if p == me then mode else ModeValue.Of p)) }
+        ensures cells { IfOk result
+            (λ change. (p f : ℕ) → value_of change p f ≡ (if p == me then unlisted base f else Value.Of p f same)) }
+        ensures modes { IfOk result
+            (λ change. (p : ℕ) → mode_of change p ≡ (if p == me then mode else ModeValue.Of p)) }
         ensures listed { IfOk result (λ change. (p : ℕ) → is_listed change p ≡ (p == me)) }
     {
         let change = Change::only(alloc, me, Process::over(alloc, base, mode))?;
@@ -155,8 +160,10 @@ impl Change {
 
     /// A child is as its parent, but for a descriptor of which nothing is known in either.
     fn forked(alloc: Global, me: Pid, child: Pid, fd: Fd) -> Result<Change, NoMemory>
-        ensures cells { IfOk result (λ change. (p f : ℕ) → value_of change p f ≡ (if (p == me || p == child) && f == fd then Value.Fixed Cell.Unknown else (if p == child then Value.Of me f same else Value.Of p f same))) }
-        ensures modes { IfOk result (λ change. (p : ℕ) → mode_of change p ≡ (if p == child then ModeValue.Of me else ModeValue.Of p)) }
+        ensures cells { IfOk result (λ change. (p f : ℕ) → value_of change p f ≡ (if (p == me || p == child) && f == fd
+            then Value.Fixed Cell.Unknown else (if p == child then Value.Of me f same else Value.Of p f same))) }
+        ensures modes { IfOk result
+            (λ change. (p : ℕ) → mode_of change p ≡ (if p == child then ModeValue.Of me else ModeValue.Of p)) }
         ensures listed { IfOk result (λ change. (p : ℕ) → is_listed change p ≡ (p == child || p == me)) }
     {
         let unknown = Value::Fixed(Cell::Unknown);

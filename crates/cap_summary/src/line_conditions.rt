@@ -1,7 +1,8 @@
 //! The conditions under which something is said of one line.
 
 ghost use Rattle.std.specs.Prelude.{◌≡◌, ◌∷◌, ◌++◌, [], IfOk};
-ghost use Rattle.cap_summary.specs.LineConditions.{need_of, excused_of, success_conditions, refused_of, line_conditions, line_always};
+ghost use Rattle.cap_summary.specs.LineConditions.{need_of, excused_of, success_conditions, refused_of};
+ghost use Rattle.cap_summary.specs.LineConditions.{line_conditions, line_always};
 
 use crate::conditions::{CellTest, Condition, HeldTest, Refused, Source, put};
 use cap_machine::{Check, Checks, Class, Demand, Reply};

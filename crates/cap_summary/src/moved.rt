@@ -3,7 +3,8 @@
 ghost use Rattle.std.specs.Prelude.{◌≡◌, ◌||◌, ◌++◌, ◌∷◌, [], IfOk, IfSome, IfNone, false};
 ghost use Rattle.cap_machine.specs.State.{State};
 ghost use Rattle.cap_summary.specs.Changes.{changed};
-ghost use Rattle.cap_summary.specs.Conditions.{source_holds, part_holds, outside_holds, refused_holds, holds, any_holds};
+ghost use Rattle.cap_summary.specs.Conditions.{source_holds, part_holds, outside_holds, refused_holds, holds};
+ghost use Rattle.cap_summary.specs.Conditions.{any_holds};
 ghost use Rattle.cap_summary.specs.Moved.{moved_holds, moved_source_holds};
 
 use crate::change::Change;
@@ -56,7 +57,8 @@ impl Change {
 
     /// What is left of a part of a refusal; none where it never holds.
     fn moved_part(&self, part: &Option<Source>) -> Option<Option<Source>>
-        ensures left { IfSome result (λ new. (s : State) → part_holds s new ≡ part_holds (changed self.now s) part.now) }
+        ensures left { IfSome result
+            (λ new. (s : State) → part_holds s new ≡ part_holds (changed self.now s) part.now) }
         ensures never { IfNone result ((s : State) → part_holds (changed self.now s) part.now ≡ false) }
     {
         let Some(source) = part else {
@@ -70,7 +72,8 @@ impl Change {
     }
 
     fn moved_mode(&self, mode: Option<Pid>) -> Option<Option<Pid>>
-        ensures left { IfSome result (λ new. (s : State) → outside_holds s new ≡ outside_holds (changed self.now s) mode) }
+        ensures left { IfSome result
+            (λ new. (s : State) → outside_holds s new ≡ outside_holds (changed self.now s) mode) }
         ensures never { IfNone result ((s : State) → outside_holds (changed self.now s) mode ≡ false) }
     {
         let Some(pid) = mode else {
@@ -136,7 +139,8 @@ impl Change {
         alloc: Global,
         conditions: &[Condition],
     ) -> Result<(bool, Vec<Condition>), NoMemory>
-        ensures { IfOk result (λ r. (s : State) → (r.0 || any_holds s r.1.items) ≡ any_holds (changed self.now s) conditions.now) }
+        ensures { IfOk result
+            (λ r. (s : State) → (r.0 || any_holds s r.1.items) ≡ any_holds (changed self.now s) conditions.now) }
     {
         let mut always = false;
         let mut left = Vec::new(alloc);

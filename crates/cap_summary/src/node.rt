@@ -204,7 +204,8 @@ impl Node {
         requires short { at + (length self.now + length (rest_steps rest.now)) ≤ 2 ^ 31 }
         requires some { 0 < length self.now }
         requires each { AllSome rest.now }
-        ensures { OnOk result (found.new.items ≡ found.old.items ++ within asked.now.from asked.now.to (map (later at) (check (state_before before.now) (self.now ++ rest_steps rest.now)))) }
+        ensures { OnOk result (found.new.items ≡ found.old.items ++ within asked.now.from asked.now.to
+            (map (later at) (check (state_before before.now) (self.now ++ rest_steps rest.now)))) }
     {
         if asked.to <= at {
             return Ok(());

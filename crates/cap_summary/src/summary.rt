@@ -1,6 +1,7 @@
 //! The summary of a segment of a trace.
 
-ghost use Rattle.std.specs.Prelude.{◌≡◌, ℕ, ◌+◌, ◌^◌, ◌≤◌, ◌<◌, ◌++◌, ◌∷◌, [], List, length, IfOk, OnOk, IfSome, IfNone, map};
+ghost use Rattle.std.specs.Prelude.{◌≡◌, ℕ, ◌+◌, ◌^◌, ◌≤◌, ◌<◌, ◌++◌, ◌∷◌, [], List, length, IfOk, OnOk, IfSome};
+ghost use Rattle.std.specs.Prelude.{IfNone, map};
 ghost use Rattle.cap_machine.specs.Check.{check};
 ghost use Rattle.cap_machine.specs.Table.{start_state};
 ghost use Rattle.cap_summary.specs.Knows.{Knows};
@@ -55,7 +56,8 @@ pub fn resolve_range(
     from: usize,
     to: usize,
 ) -> Result<Vec<Found>, NoMemory>
-    ensures { IfOk result (λ found. found.items ≡ within from to (check (start_state start.now) (summed_up summary.now))) }
+    ensures { IfOk result
+        (λ found. found.items ≡ within from to (check (start_state start.now) (summed_up summary.now))) }
 {
     let mut found = Vec::new(alloc);
     if summary.node.len() == 0 {

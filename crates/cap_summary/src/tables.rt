@@ -1,4 +1,5 @@
-//! Tables of cells and of processes. No other module knows how they are kept: each call here says what its look-ups answer.
+//! Tables of cells and of processes. No other module knows how they are kept: each call here says what its look-ups
+//! answer.
 
 ghost use Rattle.std.specs.Prelude.{◌≡◌, ℕ, ◌==◌, if◌then◌else◌, None, Some, OnOk, IfOk, option_and_then};
 ghost use Rattle.std.specs.Option.{option_copied};
@@ -55,7 +56,8 @@ impl Cells {
     /// Lists a value.
     #[tactic(auto, unfolding(crate::specs::Tables::listed_value))]
     pub(crate) fn set(&mut self, fd: Fd, value: &Value) -> Result<(), NoMemory>
-        ensures { OnOk result ((f : ℕ) → listed_value self.new f ≡ (if f == fd then Some value.now else listed_value self.old f)) }
+        ensures { OnOk result
+            ((f : ℕ) → listed_value self.new f ≡ (if f == fd then Some value.now else listed_value self.old f)) }
     {
         let value = match value {
             Value::Fixed(cell) => Value::Fixed(*cell),
@@ -68,7 +70,8 @@ impl Cells {
     /// Lists over these what becomes of each of others.
     #[tactic(auto, unfolding(crate::specs::Tables::listed_value))]
     pub(crate) fn set_all(&mut self, others: &Cells, image: &Image<'_>) -> Result<(), NoMemory>
-        ensures { OnOk result ((f : ℕ) → listed_value self.new f ≡ or_else (option_and_then (image_of image.now f) (listed_value others.now f)) (listed_value self.old f)) }
+        ensures { OnOk result ((f : ℕ) → listed_value self.new f
+            ≡ or_else (option_and_then (image_of image.now f) (listed_value others.now f)) (listed_value self.old f)) }
     {
         for (fd, value) in &others.map {
             if let Some(moved) = image.of(*fd, value) {
@@ -122,7 +125,8 @@ impl Processes {
     /// Lists a process.
     #[tactic(auto, unfolding(crate::specs::Tables::process_at))]
     pub(crate) fn set(&mut self, alloc: Global, pid: Pid, process: Process) -> Result<(), NoMemory>
-        ensures { OnOk result ((p : ℕ) → process_at self.new p ≡ (if p == pid then Some process else process_at self.old p)) }
+        ensures { OnOk result
+            ((p : ℕ) → process_at self.new p ≡ (if p == pid then Some process else process_at self.old p)) }
     {
         let shared = Rc::new(alloc, process)?;
         self.map.insert(pid, shared)?;
@@ -146,7 +150,8 @@ impl Processes {
         others: &Processes,
         change: &Change,
     ) -> Result<(), NoMemory>
-        ensures { OnOk result ((p : ℕ) → JoinsListed change.now (process_at self.old p) (process_at others.now p) (process_at self.new p)) }
+        ensures { OnOk result ((p : ℕ)
+            → JoinsListed change.now (process_at self.old p) (process_at others.now p) (process_at self.new p)) }
     {
         for (pid, process) in &others.map {
             let moved = change.process_under(alloc, process)?;

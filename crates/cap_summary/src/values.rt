@@ -90,7 +90,8 @@ impl Passing {
 
     /// One after another.
     fn then(self, later: Passing) -> Passing
-        ensures { (c : Cell) → applied (passing_op result) c ≡ applied (passing_op later) (applied (passing_op self) c) }
+        ensures { (c : Cell)
+            → applied (passing_op result) c ≡ applied (passing_op later) (applied (passing_op self) c) }
     {
         match self {
             Passing::Same => later,
@@ -102,7 +103,8 @@ impl Passing {
 impl Others {
     /// The cells after they were handed on.
     pub(crate) fn passed(&self, passing: Passing) -> Others
-        ensures { (s : State) (f : ℕ) → read_cell s (rest_value result f) ≡ applied (passing_op passing) (read_cell s (rest_value self.now f)) }
+        ensures { (s : State) (f : ℕ)
+            → read_cell s (rest_value result f) ≡ applied (passing_op passing) (read_cell s (rest_value self.now f)) }
     {
         match self {
             Others::Alike(cell) => Others::Alike(passing.op().on(*cell)),

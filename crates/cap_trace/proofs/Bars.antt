@@ -1,5 +1,6 @@
 -- A loop over the bytes of flags finds what cutting them at the bars says.
-use Rattle.std.proofs.Common.{◌≡◌, ℕ, ◌<◌, ◌&&◌, Bool, true, false, cond, not, eqb, List, [], ◌∷◌, length, Option, Some, None, refl, sym, ap, ◌∙◌, arith, tests}
+use Rattle.std.proofs.Common.{◌≡◌, ℕ, ◌<◌, ◌&&◌, Bool, true, false, cond, not, eqb, List, [], ◌∷◌, length, Option, Some}
+use Rattle.std.proofs.Common.{None, refl, sym, ap, ◌∙◌, arith, tests}
 use Rattle.std.specs.List.{list_all, slice_split, onto_first}
 use Rattle.std.specs.Char.{is_ascii_uppercase}
 use Rattle.cap_trace.specs.Fields.{is_flag_byte, is_word}
@@ -26,7 +27,8 @@ one_step : (b : Bool) (c : ℕ) (cs : List ℕ) → takes_all flag_step not b (c
 unfolding takes_all led_to
 one_step b c cs = refl
 
-inside_onto : (c : ℕ) (parts : List (List ℕ)) → 0 < length parts → going_on (onto_first c parts) ≡ (is_flag_byte c && going_on parts)
+inside_onto : (c : ℕ) (parts : List (List ℕ)) → 0 < length parts
+    → going_on (onto_first c parts) ≡ (is_flag_byte c && going_on parts)
 unfolding going_on
 inside_onto c [] lt = absurd (omega arith)
 inside_onto c (w ∷ ws) lt = and_assoc (is_flag_byte c) (list_all is_flag_byte w) (list_all is_word ws)
@@ -35,7 +37,8 @@ inside_onto c (w ∷ ws) lt = and_assoc (is_flag_byte c) (list_all is_flag_byte 
     and_assoc true b d = refl
     and_assoc false b d = refl
 
-begin_onto : (c : ℕ) (parts : List (List ℕ)) → 0 < length parts → list_all is_word (onto_first c parts) ≡ (is_ascii_uppercase c && going_on parts)
+begin_onto : (c : ℕ) (parts : List (List ℕ)) → 0 < length parts
+    → list_all is_word (onto_first c parts) ≡ (is_ascii_uppercase c && going_on parts)
 unfolding going_on
 begin_onto c [] lt = absurd (omega arith)
 begin_onto c (w ∷ ws) lt = and_assoc (is_ascii_uppercase c) (list_all is_flag_byte w) (list_all is_word ws)
@@ -60,22 +63,31 @@ nothing_goes_on : (ws : List (List ℕ)) → list_all is_word ws ≡ going_on ([
 unfolding going_on
 nothing_goes_on ws = refl
 
-inside_step : (c : ℕ) (cs : List ℕ) (a b : Bool) → eqb c 124 ≡ a → is_flag_byte c ≡ b → takes_all flag_step not false cs ≡ going_on (cut_at_bars cs) → takes_all flag_step not true cs ≡ list_all is_word (cut_at_bars cs)
-    → led_to cs (cond a (Some true) (cond b (Some false) None)) ≡ going_on (cond a ([] ∷ cut_at_bars cs) (onto_first c (cut_at_bars cs)))
+inside_step : (c : ℕ) (cs : List ℕ) (a b : Bool) → eqb c 124 ≡ a → is_flag_byte c ≡ b → takes_all flag_step not false cs
+    ≡ going_on (cut_at_bars cs) → takes_all flag_step not true cs ≡ list_all is_word (cut_at_bars cs)
+    → led_to cs (cond a (Some true) (cond b (Some false) None))
+    ≡ going_on (cond a ([] ∷ cut_at_bars cs) (onto_first c (cut_at_bars cs)))
 unfolding led_to
 inside_step c cs true b e f on begin = begin ∙ nothing_goes_on (cut_at_bars cs)
-inside_step c cs false true e f on begin = on ∙ sym (inside_onto c (cut_at_bars cs) (split_some cs) ∙ ap (λ (x : Bool). x && going_on (cut_at_bars cs)) f)
-inside_step c cs false false e f on begin = sym (inside_onto c (cut_at_bars cs) (split_some cs) ∙ ap (λ (x : Bool). x && going_on (cut_at_bars cs)) f)
+inside_step c cs false true e f on begin = on
+    ∙ sym (inside_onto c (cut_at_bars cs) (split_some cs) ∙ ap (λ (x : Bool). x && going_on (cut_at_bars cs)) f)
+inside_step c cs false false e f on begin =
+    sym (inside_onto c (cut_at_bars cs) (split_some cs) ∙ ap (λ (x : Bool). x && going_on (cut_at_bars cs)) f)
 
-begin_step : (c : ℕ) (cs : List ℕ) (a b : Bool) → eqb c 124 ≡ a → is_ascii_uppercase c ≡ b → takes_all flag_step not false cs ≡ going_on (cut_at_bars cs)
-    → led_to cs (cond b (Some false) None) ≡ list_all is_word (cond a ([] ∷ cut_at_bars cs) (onto_first c (cut_at_bars cs)))
+begin_step : (c : ℕ) (cs : List ℕ) (a b : Bool) → eqb c 124 ≡ a → is_ascii_uppercase c ≡ b
+    → takes_all flag_step not false cs ≡ going_on (cut_at_bars cs)
+    → led_to cs (cond b (Some false) None)
+    ≡ list_all is_word (cond a ([] ∷ cut_at_bars cs) (onto_first c (cut_at_bars cs)))
 unfolding led_to
 begin_step c cs true true e f on = absurd (let low = bar_no_upper c e in cc)
 begin_step c cs true false e f on = refl
-begin_step c cs false true e f on = on ∙ sym (begin_onto c (cut_at_bars cs) (split_some cs) ∙ ap (λ (x : Bool). x && going_on (cut_at_bars cs)) f)
-begin_step c cs false false e f on = sym (begin_onto c (cut_at_bars cs) (split_some cs) ∙ ap (λ (x : Bool). x && going_on (cut_at_bars cs)) f)
+begin_step c cs false true e f on = on
+    ∙ sym (begin_onto c (cut_at_bars cs) (split_some cs) ∙ ap (λ (x : Bool). x && going_on (cut_at_bars cs)) f)
+begin_step c cs false false e f on =
+    sym (begin_onto c (cut_at_bars cs) (split_some cs) ∙ ap (λ (x : Bool). x && going_on (cut_at_bars cs)) f)
 
-both_ways : (t : List ℕ) → (takes_all flag_step not false t ≡ going_on (cut_at_bars t)) × (takes_all flag_step not true t ≡ list_all is_word (cut_at_bars t))
+both_ways : (t : List ℕ) → (takes_all flag_step not false t ≡ going_on (cut_at_bars t))
+    × (takes_all flag_step not true t ≡ list_all is_word (cut_at_bars t))
 unfolding takes_all going_on
 both_ways [] = (refl, refl)
 both_ways (c ∷ cs) =

@@ -1,5 +1,6 @@
 -- The canonical text of a line spells it.
-use Rattle.std.proofs.Common.{◌≡◌, ℕ, ◌+◌, ◌^◌, ◌<◌, ◌≤◌, ◌&&◌, Bool, true, false, List, [], ◌∷◌, ◌++◌, length, map, refl, sym, ap, subst, ◌∙◌, arith, length-append}
+use Rattle.std.proofs.Common.{◌≡◌, ℕ, ◌+◌, ◌^◌, ◌<◌, ◌≤◌, ◌&&◌, Bool, true, false, List, [], ◌∷◌, ◌++◌, length, map}
+use Rattle.std.proofs.Common.{refl, sym, ap, subst, ◌∙◌, arith, length-append}
 use Rattle.std.specs.Prelude.{codes}
 use Rattle.std.specs.List.{join_with_byte}
 use Rattle.std.specs.Fmt.{decimal}
@@ -15,8 +16,10 @@ use Rattle.cap_trace.specs.declared.line.Answer.{Answer}
 use Rattle.cap_trace.specs.declared.line.Answer.TheVariants as answers
 use Rattle.cap_trace.specs.declared.line.Dir.TheVariants as dirs
 use Rattle.cap_trace.specs.declared.calls.Kind.TheVariants.{Zero}
-use Rattle.cap_trace.specs.Entry.{Entry, Arg, an_fd, a_dir, some_flags, some_rights, a_path, a_command, a_word, free_text, args_of, fds, IsAnswer, IsWhole}
-use Rattle.cap_trace.specs.Spelling.{SpellsArg, SpellsArgs, SpellsBy, Spells, arg_text, answer_text, joined, canon, IsProper}
+use Rattle.cap_trace.specs.Entry.{Entry, Arg, an_fd, a_dir, some_flags, some_rights, a_path, a_command, a_word}
+use Rattle.cap_trace.specs.Entry.{free_text, args_of, fds, IsAnswer, IsWhole}
+use Rattle.cap_trace.specs.Spelling.{SpellsArg, SpellsArgs, SpellsBy, Spells, arg_text, answer_text, joined, canon}
+use Rattle.cap_trace.specs.Spelling.{IsProper}
 use Rattle.cap_trace.proofs.Cuts.{both}
 
 -- what is written for an argument spells it
@@ -58,13 +61,15 @@ abbrev pub are_settled : List Arg → Bool
 are_settled [] = true
 are_settled (a ∷ others) = is_settled a && are_settled others
 
-args_same : (ts : List (List ℕ)) (given : List Arg) → are_settled given ≡ true → SpellsArgs ts given → ts ≡ map arg_text given
+args_same : (ts : List (List ℕ)) (given : List Arg) → are_settled given ≡ true → SpellsArgs ts given
+    → ts ≡ map arg_text given
 args_same [] [] s h = refl
 args_same [] (a ∷ others) s h = absurd h
 args_same (t ∷ ts) [] s h = absurd h
 args_same (t ∷ ts) (a ∷ others) s h =
     let k = both (is_settled a) (are_settled others) s in
-    ap (λ (u : List ℕ). u ∷ ts) (arg_same t a k.0 h.0) ∙ ap (λ (us : List (List ℕ)). arg_text a ∷ us) (args_same ts others k.1 h.1)
+    ap (λ (u : List ℕ). u ∷ ts) (arg_same t a k.0 h.0)
+    ∙ ap (λ (us : List (List ℕ)). arg_text a ∷ us) (args_same ts others k.1 h.1)
 
 pub fds_settled : (fs : List ℕ) → are_settled (fds fs) ≡ true
 unfolding is_settled
@@ -72,12 +77,14 @@ fds_settled [] = refl
 fds_settled (f ∷ fs) = fds_settled fs
 
 -- a line without rights has one text
-pub settled_same : (bytes : List ℕ) (e : Entry) (texts : List (List ℕ)) → are_settled (args_of e.item) ≡ true → SpellsBy bytes e texts → canon e ≡ bytes
+pub settled_same : (bytes : List ℕ) (e : Entry) (texts : List (List ℕ)) → are_settled (args_of e.item) ≡ true
+    → SpellsBy bytes e texts → canon e ≡ bytes
 settled_same bytes e texts s h = sym (h.parts ∙ ap (joined e) (args_same texts (args_of e.item) s h.args))
 
 -- ---- how long it is
 
-settled_short : (bytes : List ℕ) (e : Entry) (texts : List (List ℕ)) → are_settled (args_of e.item) ≡ true → SpellsBy bytes e texts → length (canon e) ≤ 1024
+settled_short : (bytes : List ℕ) (e : Entry) (texts : List (List ℕ)) → are_settled (args_of e.item) ≡ true
+    → SpellsBy bytes e texts → length (canon e) ≤ 1024
 settled_short bytes e texts s h = subst (λ (b : List ℕ). length b ≤ 1024) (sym (settled_same bytes e texts s h)) h.short
 
 decimal_short : (n : ℕ) → n < 2 ^ 64 → length (decimal n) ≤ 20
@@ -89,26 +96,43 @@ zero_short (answers.Pair n m) h = absurd h
 zero_short (answers.Fault e) h = omega (arith, decimal_short e (omega (arith, h.1)))
 
 -- a line in its parts
-parts_length : (p n a r : List ℕ) → length (p ++ (32 ∷ (n ++ (40 ∷ (a ++ (41 ∷ r)))))) ≡ length p + (length n + (length a + (length r + 3)))
+parts_length : (p n a r : List ℕ)
+    → length (p ++ (32 ∷ (n ++ (40 ∷ (a ++ (41 ∷ r)))))) ≡ length p + (length n + (length a + (length r + 3)))
 parts_length p n a r = simp length-append (omega arith)
 
 two_length : (f t : List ℕ) → length (join_with_byte 44 (f ∷ t ∷ [])) ≡ length f + (length t + 1)
 two_length f t = simp length-append (omega arith)
 
-limit_short : (bytes : List ℕ) (e : Entry) (texts : List (List ℕ)) (x y : ℕ) (a : Answer) → e.item ≡ items.Call (calls.RightsLimit x y) a → SpellsBy bytes e texts → length (canon e) ≤ 1024
+limit_short : (bytes : List ℕ) (e : Entry) (texts : List (List ℕ)) (x y : ℕ) (a : Answer)
+    → e.item ≡ items.Call (calls.RightsLimit x y) a → SpellsBy bytes e texts → length (canon e) ≤ 1024
 limit_short bytes e texts x y a i h =
-    let canon_is : canon e ≡ decimal e.pid ++ (32 ∷ (codes "cap_rights_limit" ++ (40 ∷ (join_with_byte 44 (decimal x ∷ text y ∷ []) ++ (41 ∷ (codes " RET " ++ answer_text a)))))) = ap (λ (j : Item). canon (record { pid = e.pid; item = j })) i in
+    let canon_is : canon e ≡ decimal e.pid ++ (32 ∷ (codes "cap_rights_limit"
+    ++ (40 ∷ (join_with_byte 44 (decimal x ∷ text y ∷ []) ++ (41 ∷ (codes " RET " ++ answer_text a)))))) =
+    ap (λ (j : Item). canon (record { pid = e.pid; item = j })) i in
     let whole : IsAnswer Zero a = subst IsWhole i h.whole in
-    let given : SpellsArgs texts (an_fd x ∷ some_rights y ∷ []) = subst (λ (j : Item). SpellsArgs texts (args_of j)) i h.args in
-    let long = parts_length (decimal e.pid) (codes "cap_rights_limit") (join_with_byte 44 (decimal x ∷ text y ∷ [])) (codes " RET " ++ answer_text a) in
+    let given : SpellsArgs texts (an_fd x ∷ some_rights y ∷ []) =
+    subst (λ (j : Item). SpellsArgs texts (args_of j)) i h.args in
+    let long = parts_length (decimal e.pid) (codes "cap_rights_limit") (join_with_byte 44 (decimal x ∷ text y ∷ []))
+    (codes " RET " ++ answer_text a) in
     let args = two_length (decimal x) (text y) in
-    omega (arith, ap length canon_is, long, args, decimal_short e.pid (omega (arith, h.pid.1)), decimal_short x (fd_small texts x y given), text_is_short y, zero_short a whole)
+    omega (
+      arith,
+      ap length canon_is,
+      long,
+      args,
+      decimal_short e.pid (omega (arith, h.pid.1)),
+      decimal_short x (fd_small texts x y given),
+      text_is_short y,
+      zero_short a whole,
+    )
   where
     fd_small : (texts : List (List ℕ)) (x y : ℕ) → SpellsArgs texts (an_fd x ∷ some_rights y ∷ []) → x < 2 ^ 64
     fd_small [] x y h = absurd h
     fd_small (t ∷ ts) x y h = omega (arith, h.0.1)
 
-short_call : (bytes : List ℕ) (p : ℕ) (c : Call) (a : Answer) (texts : List (List ℕ)) → SpellsBy bytes (record { pid = p; item = items.Call c a }) texts → length (canon (record { pid = p; item = items.Call c a })) ≤ 1024
+short_call : (bytes : List ℕ) (p : ℕ) (c : Call) (a : Answer) (texts : List (List ℕ))
+    → SpellsBy bytes (record { pid = p; item = items.Call c a }) texts
+    → length (canon (record { pid = p; item = items.Call c a })) ≤ 1024
 unfolding is_settled
 short_call bytes p (calls.OnFd c x) a texts h = settled_short bytes _ texts refl h
 short_call bytes p (calls.Send c x) a texts h = settled_short bytes _ texts refl h
@@ -132,7 +156,8 @@ short_call bytes p (calls.Bare c) a texts h = settled_short bytes _ texts refl h
 short_call bytes p (calls.Other n b) a texts h = settled_short bytes _ texts refl h
 short_call bytes p (calls.RightsLimit x y) a texts h = limit_short bytes _ texts x y a refl h
 
-short_item : (bytes : List ℕ) (p : ℕ) (i : Item) (texts : List (List ℕ)) → SpellsBy bytes (record { pid = p; item = i }) texts → length (canon (record { pid = p; item = i })) ≤ 1024
+short_item : (bytes : List ℕ) (p : ℕ) (i : Item) (texts : List (List ℕ))
+    → SpellsBy bytes (record { pid = p; item = i }) texts → length (canon (record { pid = p; item = i })) ≤ 1024
 unfolding is_settled
 short_item bytes p (items.Call c a) texts h = short_call bytes p c a texts h
 short_item bytes p (items.Start fs) texts h = settled_short bytes _ texts (fds_settled fs) h
@@ -143,5 +168,12 @@ pub canon_spells : (e : Entry) → IsProper e → Spells (canon e) e
 canon_spells e h =
     let s = h.1.1 in (
       map arg_text (args_of e.item),
-      record { short = short_item h.0 e.pid e.item h.1.0 s; pid = s.pid; head = s.head; args = args_written h.1.0 (args_of e.item) s.args; whole = s.whole; parts = refl },
+      record {
+        short = short_item h.0 e.pid e.item h.1.0 s;
+        pid = s.pid;
+        head = s.head;
+        args = args_written h.1.0 (args_of e.item) s.args;
+        whole = s.whole;
+        parts = refl;
+      },
     )

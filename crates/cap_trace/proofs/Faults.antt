@@ -1,28 +1,31 @@
 -- The faults that reading a part of a line can have.
-use Rattle.std.proofs.Common.{◌≡◌, ℕ, ◌+◌, ◌&&◌, Bool, true, false, cond, eqb, ltb, List, [], ◌∷◌, length, Option, Some, None, Result, Ok, Err, refl, sym, ap, ◌∙◌, ◌⊎◌, inl, inr}
+use Rattle.std.proofs.Common.{◌≡◌, ℕ, ◌+◌, ◌&&◌, Bool, true, false, cond, eqb, ltb, List, [], ◌∷◌, length, Option, Some}
+use Rattle.std.proofs.Common.{None, Result, Ok, Err, refl, sym, ap, ◌∙◌, ◌⊎◌, inl, inr}
 use Rattle.std.specs.Prelude.{codes}
 use Rattle.std.specs.List.{list_all}
 use Rattle.std.specs.Str.{bytes_eq}
 use Rattle.cap_rights.specs.Text.{names}
 use Rattle.cap_trace.specs.declared.fault.ReadFault.{ReadFault}
 use Rattle.cap_trace.specs.declared.fault.ReadFault.TheVariants as faults
-use Rattle.cap_trace.specs.declared.line.Item.{Item}
 use Rattle.cap_trace.specs.declared.line.Item.TheVariants as items
 use Rattle.cap_trace.specs.declared.line.Answer.{Answer}
 use Rattle.cap_trace.specs.declared.line.Answer.TheVariants as answers
-use Rattle.cap_trace.specs.declared.line.Dir.{Dir}
 use Rattle.cap_trace.specs.declared.line.Dir.TheVariants as dirs
 use Rattle.cap_trace.specs.declared.calls.Kind.{Kind}
 use Rattle.cap_trace.specs.declared.calls.Kind.TheVariants.{Count, Zero, Fd, Same, FdPair, Child, ChildAndFd, Any}
 use Rattle.cap_trace.specs.declared.calls.Form.TheVariants as forms
-use Rattle.cap_trace.specs.Names.{Head, listed, unlisted, head_named}
+use Rattle.cap_trace.specs.Names.{Head, listed, unlisted}
 use Rattle.cap_trace.specs.Number.{num_at}
 use Rattle.cap_trace.specs.Quotes.{cut_at_byte}
 use Rattle.cap_trace.specs.Fields.{is_flags, are_items, is_free}
-use Rattle.cap_trace.specs.Entry.{Arg, an_fd, a_dir, some_flags, some_rights, a_path, a_command, a_word, free_text, Word, dest, set_fd, dup_to, kind_of}
+use Rattle.cap_trace.specs.Entry.{Arg, an_fd, a_dir, some_flags, some_rights, a_path, a_command, a_word, free_text}
+use Rattle.cap_trace.specs.Entry.{dest, set_fd, dup_to}
 use Rattle.cap_trace.specs.Spelling.{word_text, is_command}
-use Rattle.cap_trace.specs.Forms.{Slot, fd, dir, flags, rights, path, command, word, free, Shape, these, rising_fds, shape_of, Said, a_call, a_marker, built}
-use Rattle.cap_trace.specs.Reading.{◌>>=◌, need, positive, kept, behind, before, pid_at, fd_at, rights_at, dir_at, flags_at, command_at, path_at, free_at, arg_at, args_at, fds_from, shaped, said_at, number_at, same_at, pair_at, any_at, made_at, result_at, answer_at, ended, between, behind_head, item_at}
+use Rattle.cap_trace.specs.Forms.{Slot, fd, dir, flags, rights, path, command, word, free, Shape, these, rising_fds}
+use Rattle.cap_trace.specs.Forms.{shape_of, Said, a_marker, built}
+use Rattle.cap_trace.specs.Reading.{◌>>=◌, need, positive, kept, after_prefix, before_suffix, pid_at, fd_at, rights_at}
+use Rattle.cap_trace.specs.Reading.{dir_at, flags_at, command_at, path_at, free_at, arg_at, args_at, fds_from, shaped}
+use Rattle.cap_trace.specs.Reading.{said_at, number_at, same_at, pair_at, any_at, made_at, result_at}
 use Rattle.cap_trace.proofs.Built.{slots_in}
 use Rattle.cap_trace.proofs.Cuts.{both}
 
@@ -31,11 +34,13 @@ use Rattle.cap_trace.proofs.Cuts.{both}
 pub err_is : {A : Type 0} (x y : ReadFault) → ◌≡◌ {A = Result A ReadFault} (Err x) (Err y) → x ≡ y
 err_is x y e = cc
 
-pub bind_err : {A B : Type 0} (r : Result A ReadFault) (f : A → Result B ReadFault) (d : ReadFault) → (r >>= f) ≡ Err d → (r ≡ Err d) ⊎ ((x : A) × (r ≡ Ok x) × (f x ≡ Err d))
+pub bind_err : {A B : Type 0} (r : Result A ReadFault) (f : A → Result B ReadFault) (d : ReadFault) → (r >>= f) ≡ Err d
+    → (r ≡ Err d) ⊎ ((x : A) × (r ≡ Ok x) × (f x ≡ Err d))
 bind_err (Ok x) f d e = inr (x, refl, e)
 bind_err {A} {B} (Err c) f d e = inl (ap Err (err_is {A = B} c d e))
 
-pub made_err : {A B : Type 0} (r : Result A ReadFault) (make : A → B) (d : ReadFault) → (r >>= λ x. Ok (make x)) ≡ Err d → r ≡ Err d
+pub made_err : {A B : Type 0} (r : Result A ReadFault) (make : A → B) (d : ReadFault)
+    → (r >>= λ x. Ok (make x)) ≡ Err d → r ≡ Err d
 made_err (Ok x) make d e = absurd cc
 made_err {A} {B} (Err c) make d e = ap Err (err_is {A = B} c d e)
 
@@ -43,11 +48,13 @@ pub need_err : {A : Type 0} (c : ReadFault) (o : Option A) (d : ReadFault) → n
 need_err {A} c None d e = sym (err_is {A = A} c d e)
 need_err c (Some x) d e = absurd cc
 
-cond_err : {A : Type 0} (c : ReadFault) (x : A) (b : Bool) (d : ReadFault) → ◌≡◌ {A = Result A ReadFault} (cond b (Ok x) (Err c)) (Err d) → d ≡ c
+cond_err : {A : Type 0} (c : ReadFault) (x : A) (b : Bool) (d : ReadFault)
+    → ◌≡◌ {A = Result A ReadFault} (cond b (Ok x) (Err c)) (Err d) → d ≡ c
 cond_err c x true d e = absurd cc
 cond_err {A} c x false d e = sym (err_is {A = A} c d e)
 
-cond_ok : {A : Type 0} (c : ReadFault) (x : A) (b : Bool) (d : ReadFault) → ◌≡◌ {A = Result A ReadFault} (cond b (Err c) (Ok x)) (Err d) → d ≡ c
+cond_ok : {A : Type 0} (c : ReadFault) (x : A) (b : Bool) (d : ReadFault)
+    → ◌≡◌ {A = Result A ReadFault} (cond b (Err c) (Ok x)) (Err d) → d ≡ c
 cond_ok {A} c x true d e = sym (err_is {A = A} c d e)
 cond_ok c x false d e = absurd cc
 
@@ -68,7 +75,8 @@ pub fd_err : (t : List ℕ) (d : ReadFault) → fd_at t ≡ Err d → d ≡ faul
 unfolding fd_at
 fd_err t d e = need_err faults.Argument (num_at 1048575 t) d e
 
-dir_cond : (t : List ℕ) (b : Bool) (d : ReadFault) → cond b (Ok dirs.Cwd) (fd_at t >>= λ f. Ok (dirs.Fd f)) ≡ Err d → d ≡ faults.Argument
+dir_cond : (t : List ℕ) (b : Bool) (d : ReadFault) → cond b (Ok dirs.Cwd) (fd_at t >>= λ f. Ok (dirs.Fd f)) ≡ Err d
+    → d ≡ faults.Argument
 dir_cond t true d e = absurd cc
 dir_cond t false d e = fd_err t d (made_err (fd_at t) (λ f. dirs.Fd f) d e)
 
@@ -76,17 +84,20 @@ dir_err : (t : List ℕ) (d : ReadFault) → dir_at t ≡ Err d → d ≡ faults
 unfolding dir_at
 dir_err t d e = dir_cond t (bytes_eq t (codes "AT_FDCWD")) d e
 
-inside_err : (o : Option (List ℕ)) (d : ReadFault) → (need faults.Argument o >>= λ i. kept are_items faults.Argument i) ≡ Err d → d ≡ faults.Argument
+inside_err : (o : Option (List ℕ)) (d : ReadFault)
+    → (need faults.Argument o >>= λ i. kept are_items faults.Argument i) ≡ Err d → d ≡ faults.Argument
 inside_err None d e = sym (err_is {A = List ℕ} faults.Argument d e)
 inside_err (Some i) d e = kept_err are_items faults.Argument i d e
 
-path_parts : (o : Option (List ℕ)) (d : ReadFault) → (need faults.Argument o >>= λ p. need faults.Argument (before (34 ∷ []) p) >>= λ i. kept are_items faults.Argument i) ≡ Err d → d ≡ faults.Argument
+path_parts : (o : Option (List ℕ)) (d : ReadFault) → (need faults.Argument o
+    >>= λ p. need faults.Argument (before_suffix (34 ∷ []) p) >>= λ i. kept are_items faults.Argument i) ≡ Err d
+    → d ≡ faults.Argument
 path_parts None d e = sym (err_is {A = List ℕ} faults.Argument d e)
-path_parts (Some p) d e = inside_err (before (34 ∷ []) p) d e
+path_parts (Some p) d e = inside_err (before_suffix (34 ∷ []) p) d e
 
 path_err : (t : List ℕ) (d : ReadFault) → path_at t ≡ Err d → d ≡ faults.Argument
 unfolding path_at
-path_err t d e = path_parts (behind (34 ∷ []) t) d e
+path_err t d e = path_parts (after_prefix (34 ∷ []) t) d e
 
 -- the fault of an argument of each kind
 abbrev pub slot_fault : Slot → ReadFault
@@ -117,7 +128,8 @@ abbrev pub passes_slots : (ReadFault → Bool) → List Slot → Bool
 passes_slots q [] = true
 passes_slots q (s ∷ ss) = q (slot_fault s) && passes_slots q ss
 
-args_err : (q : ReadFault → Bool) → q faults.Argument ≡ true → (ss : List Slot) (ts : List (List ℕ)) (d : ReadFault) → passes_slots q ss ≡ true → args_at ss ts ≡ Err d → q d ≡ true
+args_err : (q : ReadFault → Bool) → q faults.Argument ≡ true → (ss : List Slot) (ts : List (List ℕ)) (d : ReadFault)
+    → passes_slots q ss ≡ true → args_at ss ts ≡ Err d → q d ≡ true
 unfolding args_at
 args_err q a [] [] d p e = absurd cc
 args_err q a [] (t ∷ ts) d p e = ap q (sym (err_is {A = List Arg} faults.Argument d e)) ∙ a
@@ -129,7 +141,8 @@ args_err q a (s ∷ ss) (t ∷ ts) d p e =
       | inr h ↦ args_err q a ss ts d k.1 (made_err (args_at ss ts) (λ others. h.0 ∷ others) d h.2)
     ]
 
-low_err : {A : Type 0} (b : Bool) (r : Result A ReadFault) (d : ReadFault) → cond b (Err faults.Argument) r ≡ Err d → (d ≡ faults.Argument) ⊎ (r ≡ Err d)
+low_err : {A : Type 0} (b : Bool) (r : Result A ReadFault) (d : ReadFault) → cond b (Err faults.Argument) r ≡ Err d
+    → (d ≡ faults.Argument) ⊎ (r ≡ Err d)
 low_err {A} true r d e = inl (sym (err_is {A = A} faults.Argument d e))
 low_err false r d e = inr e
 
@@ -137,12 +150,15 @@ fds_err : (low : ℕ) (ts : List (List ℕ)) (d : ReadFault) → fds_from low ts
 unfolding fds_from
 fds_err low [] d e = absurd cc
 fds_err low (t ∷ ts) d e =
-    elim (bind_err (fd_at t) (λ f. cond (ltb f low) (Err faults.Argument) (fds_from (f + 1) ts) >>= λ fs. Ok (f ∷ fs)) d e) as (λ _. d ≡ faults.Argument) [
+    elim (bind_err (fd_at t) (λ f. cond (ltb f low) (Err faults.Argument) (fds_from (f + 1) ts) >>= λ fs. Ok (f ∷ fs)) d
+    e) as (λ _. d ≡ faults.Argument) [
       | inl h ↦ fd_err t d h
-      | inr h ↦ elim (low_err (ltb h.0 low) (fds_from (h.0 + 1) ts) d (made_err (cond (ltb h.0 low) (Err faults.Argument) (fds_from (h.0 + 1) ts)) (λ fs. h.0 ∷ fs) d h.2)) as (λ _. d ≡ faults.Argument) [
-        | inl g ↦ g
-        | inr g ↦ fds_err (h.0 + 1) ts d g
-      ]
+      | inr h ↦ elim (low_err (ltb h.0 low) (fds_from (h.0 + 1) ts) d
+          (made_err (cond (ltb h.0 low) (Err faults.Argument) (fds_from (h.0 + 1) ts)) (λ fs. h.0 ∷ fs) d h.2)) as (λ _.
+          d ≡ faults.Argument) [
+            | inl g ↦ g
+            | inr g ↦ fds_err (h.0 + 1) ts d g
+          ]
     ]
 
 pub built_err : (h : Head) (given : List Arg) (d : ReadFault) → built h given ≡ Err d → d ≡ faults.Argument
@@ -171,14 +187,19 @@ built_err (listed forms.Exit) [] d e = absurd cc
 built_err (listed forms.Foreign) (an_fd x ∷ []) d e = absurd cc
 built_err h given d e = sym (err_is {A = Said} faults.Argument d e)
 
-counted_err : {A : Type 0} (b : Bool) (r : Result A ReadFault) (d : ReadFault) → cond b r (Err faults.Argument) ≡ Err d → (d ≡ faults.Argument) ⊎ (r ≡ Err d)
+counted_err : {A : Type 0} (b : Bool) (r : Result A ReadFault) (d : ReadFault) → cond b r (Err faults.Argument) ≡ Err d
+    → (d ≡ faults.Argument) ⊎ (r ≡ Err d)
 counted_err true r d e = inr e
 counted_err {A} false r d e = inl (sym (err_is {A = A} faults.Argument d e))
 
-shaped_err : (q : ReadFault → Bool) → q faults.Argument ≡ true → (h : Head) (shape : Shape) (ts : List (List ℕ)) (d : ReadFault) → passes_slots q (slots_in shape) ≡ true → shaped h shape ts ≡ Err d → q d ≡ true
-shaped_err q a h rising_fds ts d p e = ap q (fds_err 0 ts d (made_err (fds_from 0 ts) (λ fs. a_marker (items.Start fs)) d e)) ∙ a
+shaped_err : (q : ReadFault → Bool) → q faults.Argument ≡ true
+    → (h : Head) (shape : Shape) (ts : List (List ℕ)) (d : ReadFault)
+    → passes_slots q (slots_in shape) ≡ true → shaped h shape ts ≡ Err d → q d ≡ true
+shaped_err q a h rising_fds ts d p e =
+    ap q (fds_err 0 ts d (made_err (fds_from 0 ts) (λ fs. a_marker (items.Start fs)) d e)) ∙ a
 shaped_err q a h (these ss) ts d p e =
-    elim (counted_err (eqb (length ts) (length ss)) (args_at ss ts >>= λ given. built h given) d e) as (λ _. q d ≡ true) [
+    elim (counted_err (eqb (length ts) (length ss))
+    (args_at ss ts >>= λ given. built h given) d e) as (λ _. q d ≡ true) [
       | inl g ↦ ap q g ∙ a
       | inr g ↦ elim (bind_err (args_at ss ts) (λ given. built h given) d g) as (λ _. q d ≡ true) [
         | inl k ↦ args_err q a ss ts d p k
@@ -186,7 +207,8 @@ shaped_err q a h (these ss) ts d p e =
       ]
     ]
 
-pub said_err : (q : ReadFault → Bool) → q faults.Argument ≡ true → (h : Head) (ts : List (List ℕ)) (d : ReadFault) → passes_slots q (slots_in (shape_of h ts)) ≡ true → said_at h ts ≡ Err d → q d ≡ true
+pub said_err : (q : ReadFault → Bool) → q faults.Argument ≡ true → (h : Head) (ts : List (List ℕ)) (d : ReadFault)
+    → passes_slots q (slots_in (shape_of h ts)) ≡ true → said_at h ts ≡ Err d → q d ≡ true
 unfolding said_at
 said_err q a h ts d p e = shaped_err q a h (shape_of h ts) ts d p e
 
@@ -196,13 +218,15 @@ number_err : (o : Option ℕ) (d : ReadFault) → number_at o ≡ Err d → d �
 number_err None d e = sym (err_is {A = Answer} faults.Answer d e)
 number_err (Some n) d e = absurd cc
 
-second_err : (n : ℕ) (o : Option ℕ) (d : ReadFault) → (need faults.Answer o >>= λ m. Ok (answers.Pair n m)) ≡ Err d → d ≡ faults.Answer
+second_err : (n : ℕ) (o : Option ℕ) (d : ReadFault) → (need faults.Answer o >>= λ m. Ok (answers.Pair n m)) ≡ Err d
+    → d ≡ faults.Answer
 second_err n o d e = need_err faults.Answer o d (made_err (need faults.Answer o) (λ m. answers.Pair n m) d e)
 
 pair_err : (n m : ℕ) (c : Option (List ℕ × List ℕ)) (d : ReadFault) → pair_at n m c ≡ Err d → d ≡ faults.Answer
 pair_err n m None d e = sym (err_is {A = Answer} faults.Answer d e)
 pair_err n m (Some c) d e =
-    elim (bind_err (need faults.Answer (num_at n c.0)) (λ x. need faults.Answer (num_at m c.1) >>= λ y. Ok (answers.Pair x y)) d e) as (λ _. d ≡ faults.Answer) [
+    elim (bind_err (need faults.Answer (num_at n c.0))
+    (λ x. need faults.Answer (num_at m c.1) >>= λ y. Ok (answers.Pair x y)) d e) as (λ _. d ≡ faults.Answer) [
       | inl h ↦ need_err faults.Answer (num_at n c.0) d h
       | inr h ↦ second_err h.0 (num_at m c.1) d h.2
     ]
@@ -212,7 +236,8 @@ any_err t None d e = number_err (num_at 18446744073709551615 t) d e
 any_err t (Some c) d e = pair_err 18446744073709551615 18446744073709551615 (Some c) d e
 
 -- another descriptor than the one that was given, or no descriptor
-pub same_err : (g : ℕ) (o : Option ℕ) (d : ReadFault) → same_at g o ≡ Err d → ((o ≡ None) × (d ≡ faults.Answer)) ⊎ ((n : ℕ) × ((o ≡ Some n) × (d ≡ faults.Argument)))
+pub same_err : (g : ℕ) (o : Option ℕ) (d : ReadFault) → same_at g o ≡ Err d
+    → ((o ≡ None) × (d ≡ faults.Answer)) ⊎ ((n : ℕ) × ((o ≡ Some n) × (d ≡ faults.Argument)))
 same_err g None d e = inl (refl, sym (err_is {A = Answer} faults.Answer d e))
 same_err g (Some n) d e = inr (n, (refl, cond_err faults.Argument (answers.Made n) (eqb n g) d e))
 
@@ -232,4 +257,5 @@ made_fails ChildAndFd t d s e = pair_err 99999 1048575 (cut_at_byte 44 t) d e
 made_fails Any t d s e = any_err t (cut_at_byte 44 t) d e
 
 pub errno_err : (k : Kind) (t n : List ℕ) (d : ReadFault) → result_at k t (Some n) ≡ Err d → d ≡ faults.Answer
-errno_err k t n d e = positive_err faults.Answer (num_at 65535 n) d (made_err (positive faults.Answer (num_at 65535 n)) (λ x. answers.Fault x) d e)
+errno_err k t n d e = positive_err faults.Answer (num_at 65535 n) d
+    (made_err (positive faults.Answer (num_at 65535 n)) (λ x. answers.Fault x) d e)

@@ -1,8 +1,7 @@
 -- A line whose fields are good, and whose text isn't too long, is one that some bytes spell, and none else is.
-use Rattle.std.proofs.Common.{◌≡◌, ℕ, ◌+◌, ◌^◌, ◌<◌, ◌≤◌, ◌&&◌, Bool, true, false, cond, not, eqb, ltb, leb, List, [], ◌∷◌, ◌++◌, length, map, Option, Some, None, refl, sym, ap, subst, ◌∙◌, arith, tests}
+use Rattle.std.proofs.Common.{◌≡◌, ℕ, ◌+◌, ◌≤◌, ◌&&◌, Bool, true, false, eqb, ltb, leb, List, [], ◌∷◌, length, map}
+use Rattle.std.proofs.Common.{Option, Some, None, refl, ap}
 use Rattle.std.specs.Prelude.{is_none}
-use Rattle.std.specs.Fmt.{decimal}
-use Rattle.std.specs.List.{list_all}
 use Rattle.std.proofs.lemmas.Bool.{eqb-true, lt-ltb, le-leb}
 use borrow.Author.Tests.{ltb-true, leb-true}
 use Rattle.cap_rights.specs.Text.{names, text}
@@ -18,10 +17,12 @@ use Rattle.cap_trace.specs.declared.calls.Kind.{Kind}
 use Rattle.cap_trace.specs.declared.calls.Kind.TheVariants.{Count, Zero, Fd, Same, FdPair, Child, ChildAndFd, Any}
 use Rattle.cap_trace.specs.declared.calls.Form.{Form}
 use Rattle.cap_trace.specs.Names.{Head, listed, unlisted, is_name, form_named}
-use Rattle.cap_trace.specs.Fields.{is_free}
-use Rattle.cap_trace.specs.Entry.{Entry, Arg, an_fd, a_dir, some_flags, some_rights, a_path, a_command, a_word, free_text, args_of, args_of_call, head_of, head_of_call, fds, kind_of, IsPid, IsFd, IsAnswer, IsWhole, RisesFrom}
-use Rattle.cap_trace.specs.Spelling.{SpellsArg, SpellsArgs, SpellsBy, Spells, IsHead, IsProper, arg_text, canon}
-use Rattle.cap_trace.specs.Making.{is_fd, is_pid, is_good, are_good, is_head, is_answer, all_rise, is_good_item, is_same_set, is_named, has_named_rights, has_text}
+use Rattle.cap_trace.specs.Entry.{Entry, Arg, an_fd, a_dir, some_flags, some_rights, a_path, a_command, a_word}
+use Rattle.cap_trace.specs.Entry.{free_text, args_of, args_of_call, head_of, head_of_call, fds, kind_of, IsPid, IsFd}
+use Rattle.cap_trace.specs.Entry.{IsAnswer, IsWhole, RisesFrom}
+use Rattle.cap_trace.specs.Spelling.{SpellsArg, SpellsArgs, SpellsBy, IsHead, IsProper, arg_text, canon}
+use Rattle.cap_trace.specs.Making.{is_fd, is_pid, is_good, are_good, is_head, is_answer, all_rise, is_good_item}
+use Rattle.cap_trace.specs.Making.{is_same_set, is_named, has_named_rights, has_text}
 use Rattle.cap_trace.proofs.Cuts.{both, both_true, eqb_same}
 use Rattle.cap_trace.proofs.Canonical.{canon_spells}
 
@@ -86,7 +87,8 @@ args_to (t ∷ ts) [] h = absurd h
 args_to (t ∷ []) (a ∷ []) h = arg_to t a h.0
 args_to (t ∷ u ∷ ts) (a ∷ []) h = absurd h.1
 args_to (t ∷ []) (a ∷ b ∷ more) h = absurd h.1
-args_to (t ∷ u ∷ ts) (a ∷ b ∷ more) h = both_true (is_good a) (are_good (b ∷ more)) (arg_to t a h.0) (args_to (u ∷ ts) (b ∷ more) h.1)
+args_to (t ∷ u ∷ ts) (a ∷ b ∷ more) h =
+    both_true (is_good a) (are_good (b ∷ more)) (arg_to t a h.0) (args_to (u ∷ ts) (b ∷ more) h.1)
 
 -- ---- the name, the answer, the pid
 
@@ -103,30 +105,40 @@ head_to (listed f) h = refl
 head_to (unlisted n) h = both_true (is_name n) (is_none (form_named n)) h.0 (ap is_none h.1)
 
 answer_from : (k : Kind) (a : Answer) → is_answer k a ≡ true → IsAnswer k a
-answer_from Count (answers.Fault e) h = (let k = both (ltb 0 e) (leb e 65535) h in (ltb-true _ _ k.0, leb-true e 65535 k.1))
+answer_from Count (answers.Fault e) h =
+    (let k = both (ltb 0 e) (leb e 65535) h in (ltb-true _ _ k.0, leb-true e 65535 k.1))
 answer_from Count (answers.Made n) h = ltb-true _ _ h
 answer_from Count (answers.Pair n m) h = absurd cc
-answer_from Zero (answers.Fault e) h = (let k = both (ltb 0 e) (leb e 65535) h in (ltb-true _ _ k.0, leb-true e 65535 k.1))
+answer_from Zero (answers.Fault e) h =
+    (let k = both (ltb 0 e) (leb e 65535) h in (ltb-true _ _ k.0, leb-true e 65535 k.1))
 answer_from Zero (answers.Made n) h = eqb-true n 0 h
 answer_from Zero (answers.Pair n m) h = absurd cc
-answer_from Fd (answers.Fault e) h = (let k = both (ltb 0 e) (leb e 65535) h in (ltb-true _ _ k.0, leb-true e 65535 k.1))
+answer_from Fd (answers.Fault e) h =
+    (let k = both (ltb 0 e) (leb e 65535) h in (ltb-true _ _ k.0, leb-true e 65535 k.1))
 answer_from Fd (answers.Made n) h = fd_from n h
 answer_from Fd (answers.Pair n m) h = absurd cc
-answer_from (Same g) (answers.Fault e) h = (let k = both (ltb 0 e) (leb e 65535) h in (ltb-true _ _ k.0, leb-true e 65535 k.1))
+answer_from (Same g) (answers.Fault e) h =
+    (let k = both (ltb 0 e) (leb e 65535) h in (ltb-true _ _ k.0, leb-true e 65535 k.1))
 answer_from (Same g) (answers.Made n) h = (let k = both (eqb n g) (is_fd n) h in (eqb-true n g k.0, fd_from n k.1))
 answer_from (Same g) (answers.Pair n m) h = absurd cc
-answer_from FdPair (answers.Fault e) h = (let k = both (ltb 0 e) (leb e 65535) h in (ltb-true _ _ k.0, leb-true e 65535 k.1))
+answer_from FdPair (answers.Fault e) h =
+    (let k = both (ltb 0 e) (leb e 65535) h in (ltb-true _ _ k.0, leb-true e 65535 k.1))
 answer_from FdPair (answers.Made n) h = absurd cc
 answer_from FdPair (answers.Pair n m) h = (let k = both (is_fd n) (is_fd m) h in (fd_from n k.0, fd_from m k.1))
-answer_from Child (answers.Fault e) h = (let k = both (ltb 0 e) (leb e 65535) h in (ltb-true _ _ k.0, leb-true e 65535 k.1))
+answer_from Child (answers.Fault e) h =
+    (let k = both (ltb 0 e) (leb e 65535) h in (ltb-true _ _ k.0, leb-true e 65535 k.1))
 answer_from Child (answers.Made n) h = leb-true n 99999 h
 answer_from Child (answers.Pair n m) h = absurd cc
-answer_from ChildAndFd (answers.Fault e) h = (let k = both (ltb 0 e) (leb e 65535) h in (ltb-true _ _ k.0, leb-true e 65535 k.1))
+answer_from ChildAndFd (answers.Fault e) h =
+    (let k = both (ltb 0 e) (leb e 65535) h in (ltb-true _ _ k.0, leb-true e 65535 k.1))
 answer_from ChildAndFd (answers.Made n) h = absurd cc
-answer_from ChildAndFd (answers.Pair n m) h = (let k = both (leb n 99999) (is_fd m) h in (leb-true n 99999 k.0, fd_from m k.1))
-answer_from Any (answers.Fault e) h = (let k = both (ltb 0 e) (leb e 65535) h in (ltb-true _ _ k.0, leb-true e 65535 k.1))
+answer_from ChildAndFd (answers.Pair n m) h =
+    (let k = both (leb n 99999) (is_fd m) h in (leb-true n 99999 k.0, fd_from m k.1))
+answer_from Any (answers.Fault e) h =
+    (let k = both (ltb 0 e) (leb e 65535) h in (ltb-true _ _ k.0, leb-true e 65535 k.1))
 answer_from Any (answers.Made n) h = ltb-true _ _ h
-answer_from Any (answers.Pair n m) h = (let k = both (ltb n 18446744073709551616) (ltb m 18446744073709551616) h in (ltb-true _ _ k.0, ltb-true _ _ k.1))
+answer_from Any (answers.Pair n m) h =
+    (let k = both (ltb n 18446744073709551616) (ltb m 18446744073709551616) h in (ltb-true _ _ k.0, ltb-true _ _ k.1))
 
 answer_to : (k : Kind) (a : Answer) → IsAnswer k a → is_answer k a ≡ true
 answer_to Count (answers.Fault e) h = both_true (ltb 0 e) (leb e 65535) (lt-ltb _ _ h.0) (le-leb e 65535 h.1)
@@ -152,7 +164,8 @@ answer_to ChildAndFd (answers.Made n) h = absurd h
 answer_to ChildAndFd (answers.Pair n m) h = both_true (leb n 99999) (is_fd m) (le-leb n 99999 h.0) (fd_to m h.1)
 answer_to Any (answers.Fault e) h = both_true (ltb 0 e) (leb e 65535) (lt-ltb _ _ h.0) (le-leb e 65535 h.1)
 answer_to Any (answers.Made n) h = lt-ltb _ _ h
-answer_to Any (answers.Pair n m) h = both_true (ltb n 18446744073709551616) (ltb m 18446744073709551616) (lt-ltb _ _ h.0) (lt-ltb _ _ h.1)
+answer_to Any (answers.Pair n m) h =
+    both_true (ltb n 18446744073709551616) (ltb m 18446744073709551616) (lt-ltb _ _ h.0) (lt-ltb _ _ h.1)
 
 pid_from : (p : ℕ) → is_pid p ≡ true → IsPid p
 pid_from p h = let k = both (ltb 0 p) (leb p 99999) h in (ltb-true _ _ k.0, leb-true p 99999 k.1)
@@ -162,26 +175,30 @@ pid_to p h = both_true (ltb 0 p) (leb p 99999) (lt-ltb _ _ h.0) (le-leb p 99999 
 
 -- ---- descriptors that rise
 
-rise_parts : (low f : ℕ) (fs : List ℕ) → all_rise low (f ∷ fs) ≡ true → (low ≤ f) × (IsFd f × (all_rise (f + 1) fs ≡ true))
+rise_parts : (low f : ℕ) (fs : List ℕ) → all_rise low (f ∷ fs) ≡ true
+    → (low ≤ f) × (IsFd f × (all_rise (f + 1) fs ≡ true))
 unfolding all_rise
 rise_parts low f fs h =
     let k = both (leb low f && is_fd f) (all_rise (f + 1) fs) h in
     let l = both (leb low f) (is_fd f) k.0 in
     (leb-true low f l.0, (fd_from f l.1, k.1))
 
-rise_from : (low : ℕ) (fs : List ℕ) → all_rise low fs ≡ true → SpellsArgs (map arg_text (fds fs)) (fds fs) × RisesFrom low fs
+rise_from : (low : ℕ) (fs : List ℕ) → all_rise low fs ≡ true
+    → SpellsArgs (map arg_text (fds fs)) (fds fs) × RisesFrom low fs
 rise_from low [] h = (tt, tt)
 rise_from low (f ∷ fs) h =
     let k = rise_parts low f fs h in
     let more = rise_from (f + 1) fs k.1.1 in
     (((refl, k.1.0), more.0), (k.0, more.1))
 
-rise_to : (low : ℕ) (ts : List (List ℕ)) (fs : List ℕ) → SpellsArgs ts (fds fs) → RisesFrom low fs → all_rise low fs ≡ true
+rise_to : (low : ℕ) (ts : List (List ℕ)) (fs : List ℕ) → SpellsArgs ts (fds fs) → RisesFrom low fs
+    → all_rise low fs ≡ true
 unfolding all_rise
 rise_to low ts [] h r = refl
 rise_to low [] (f ∷ fs) h r = absurd h
 rise_to low (t ∷ ts) (f ∷ fs) h r =
-    both_true (leb low f && is_fd f) (all_rise (f + 1) fs) (both_true (leb low f) (is_fd f) (le-leb low f r.0) (fd_to f h.0.1)) (rise_to (f + 1) ts fs h.1 r.1)
+    both_true (leb low f && is_fd f) (all_rise (f + 1) fs)
+    (both_true (leb low f) (is_fd f) (le-leb low f r.0) (fd_to f h.0.1)) (rise_to (f + 1) ts fs h.1 r.1)
 
 -- ---- an item
 
@@ -220,15 +237,23 @@ item_from (items.Start fs) h n = let k = rise_from 0 fs h in (k.0, (tt, k.1))
 item_from items.Exit h n = (tt, (tt, tt))
 item_from (items.Foreign f) h n = (((refl, fd_from f h), tt), (tt, tt))
 
-pub proper_from : (e : Entry) → is_pid e.pid ≡ true → is_good_item e.item ≡ true → has_named_rights e.item ≡ true → length (canon e) ≤ 1024 → IsProper e
+pub proper_from : (e : Entry) → is_pid e.pid ≡ true → is_good_item e.item ≡ true → has_named_rights e.item ≡ true
+    → length (canon e) ≤ 1024 → IsProper e
 proper_from e p h n le =
-    let k = item_from e.item h n in
-    (canon e, (map arg_text (args_of e.item), record { short = le; pid = pid_from e.pid p; head = k.1.0; args = k.0; whole = k.1.1; parts = refl }))
+    let k = item_from e.item h n in (
+      canon e,
+      (
+        map arg_text (args_of e.item),
+        record { short = le; pid = pid_from e.pid p; head = k.1.0; args = k.0; whole = k.1.1; parts = refl },
+      ),
+    )
 
-item_to : (p : ℕ) (i : Item) (bytes : List ℕ) (texts : List (List ℕ)) → SpellsBy bytes (record { pid = p; item = i }) texts → is_good_item i ≡ true
+item_to : (p : ℕ) (i : Item) (bytes : List ℕ) (texts : List (List ℕ))
+    → SpellsBy bytes (record { pid = p; item = i }) texts → is_good_item i ≡ true
 item_to p (items.Call c a) bytes texts h =
     both_true (are_good (args_of_call c) && is_head (head_of_call c)) (is_answer (kind_of c) a)
-    (both_true (are_good (args_of_call c)) (is_head (head_of_call c)) (args_to texts (args_of_call c) h.args) (head_to (head_of_call c) h.head)) (answer_to (kind_of c) a h.whole)
+    (both_true (are_good (args_of_call c)) (is_head (head_of_call c)) (args_to texts (args_of_call c) h.args)
+    (head_to (head_of_call c) h.head)) (answer_to (kind_of c) a h.whole)
 item_to p (items.Start fs) bytes texts h = rise_to 0 texts fs h.args h.whole
 item_to p items.Exit bytes texts h = refl
 item_to p (items.Foreign f) bytes [] h = absurd h.args
@@ -239,7 +264,8 @@ limit_named [] x y h = absurd h
 limit_named (t ∷ []) x y h = absurd h.1
 limit_named (t ∷ u ∷ ts) x y h = named_to u y h.1.0
 
-named_item : (p : ℕ) (i : Item) (bytes : List ℕ) (texts : List (List ℕ)) → SpellsBy bytes (record { pid = p; item = i }) texts → has_named_rights i ≡ true
+named_item : (p : ℕ) (i : Item) (bytes : List ℕ) (texts : List (List ℕ))
+    → SpellsBy bytes (record { pid = p; item = i }) texts → has_named_rights i ≡ true
 named_item p (items.Call (calls.OnFd c x) a) bytes texts h = refl
 named_item p (items.Call (calls.Send c x) a) bytes texts h = refl
 named_item p (items.Call (calls.SendTo c x) a) bytes texts h = refl

@@ -1,5 +1,6 @@
 -- Names: what is looked up has that name, and each name is found.
-use Rattle.std.proofs.Common.{◌≡◌, ℕ, ◌&&◌, Bool, true, false, cond, not, eqb, List, [], ◌∷◌, Option, Some, None, refl, sym, ap, subst, ◌∙◌, arith, tests}
+use Rattle.std.proofs.Common.{◌≡◌, ℕ, ◌&&◌, Bool, true, false, cond, not, eqb, List, [], ◌∷◌, Option, Some, None, refl}
+use Rattle.std.proofs.Common.{sym, ap, subst, ◌∙◌, arith, tests}
 use Rattle.std.specs.Prelude.{find}
 use Rattle.std.specs.List.{list_all}
 use Rattle.std.specs.Str.{bytes_eq}
@@ -14,7 +15,8 @@ use Rattle.cap_trace.specs.declared.calls.AtCall.TheVariants as at_dir_calls
 use Rattle.cap_trace.specs.declared.calls.AtFlagsCall.TheVariants as at_dir_with_flags_calls
 use Rattle.cap_trace.specs.declared.calls.FlagsCall.TheVariants as on_flags_calls
 use Rattle.cap_trace.specs.declared.calls.BareCall.TheVariants as bare_calls
-use Rattle.cap_trace.specs.Names.{Head, listed, unlisted, row_of, name_of, is_name, is_name_byte, all_forms, form_named, or_unlisted, head_named}
+use Rattle.cap_trace.specs.Names.{Head, listed, unlisted, row_of, name_of, is_name, is_name_byte, all_forms, form_named}
+use Rattle.cap_trace.specs.Names.{or_unlisted, head_named}
 use Rattle.cap_trace.specs.Spelling.{IsHead}
 use Rattle.cap_trace.proofs.Cuts.{both, lacks, kept_some}
 use Rattle.cap_trace.proofs.Quiet.{weaken}
@@ -22,21 +24,25 @@ use Rattle.cap_trace.proofs.Quiet.{weaken}
 pub some_is : {A : Type 0} (x y : A) → ◌≡◌ {A = Option A} (Some x) (Some y) → x ≡ y
 some_is x y e = cc
 
-find_step : {A : Type 0} (p q : A → Bool) (b : Bool) (y : A) (o : Option A) (x : A) → p y ≡ b → q y ≡ true → cond b (Some y) o ≡ Some x → (o ≡ Some x → (p x ≡ true) × (q x ≡ true)) → (p x ≡ true) × (q x ≡ true)
+find_step : {A : Type 0} (p q : A → Bool) (b : Bool) (y : A) (o : Option A) (x : A) → p y ≡ b → q y ≡ true
+    → cond b (Some y) o ≡ Some x → (o ≡ Some x → (p x ≡ true) × (q x ≡ true)) → (p x ≡ true) × (q x ≡ true)
 find_step p q true y o x at ok e rest = let same = some_is y x e in (ap p (sym same) ∙ at, ap q (sym same) ∙ ok)
 find_step p q false y o x at ok e rest = rest e
 
 -- what is found passes the test, and what all pass
-pub find_takes : {A : Type 0} (p q : A → Bool) (xs : List A) (x : A) → list_all q xs ≡ true → find p xs ≡ Some x → (p x ≡ true) × (q x ≡ true)
+pub find_takes : {A : Type 0} (p q : A → Bool) (xs : List A) (x : A) → list_all q xs ≡ true → find p xs ≡ Some x
+    → (p x ≡ true) × (q x ≡ true)
 find_takes p q [] x h e = absurd cc
-find_takes p q (y ∷ ys) x h e = let k = both (q y) (list_all q ys) h in find_step p q (p y) y (find p ys) x refl k.0 e (λ h. find_takes p q ys x k.1 h)
+find_takes p q (y ∷ ys) x h e = let k = both (q y) (list_all q ys) h in
+    find_step p q (p y) y (find p ys) x refl k.0 e (λ h. find_takes p q ys x k.1 h)
 
 -- no name of the table has a bracket
 plain_names : list_all (λ f. lacks 40 (row_of f).name) all_forms ≡ true
 unfolding all_forms
 plain_names = refl
 
-pub form_takes : (name : List ℕ) (f : Form) → form_named name ≡ Some f → ((row_of f).name ≡ name) × (lacks 40 (row_of f).name ≡ true)
+pub form_takes : (name : List ℕ) (f : Form) → form_named name ≡ Some f
+    → ((row_of f).name ≡ name) × (lacks 40 (row_of f).name ≡ true)
 form_takes name f e =
     let k = find_takes (λ g. bytes_eq (row_of g).name name) (λ g. lacks 40 (row_of g).name) all_forms f plain_names e in
     ((bytes_eq-Decides (row_of f).name name).0 k.0, k.1)
@@ -143,12 +149,15 @@ form_again forms.Start = refl
 form_again forms.Exit = refl
 form_again forms.Foreign = refl
 
-head_ok : (name : List ℕ) (h : Head) (o : Option Form) (b : Bool) → form_named name ≡ o → is_name name ≡ b → or_unlisted name o ≡ Some h → (name_of h ≡ name) × IsHead h
-head_ok name h (Some f) b e n k = subst (λ (x : Head). (name_of x ≡ name) × IsHead x) (some_is (listed f) h k) ((form_takes name f e).0, tt)
+head_ok : (name : List ℕ) (h : Head) (o : Option Form) (b : Bool) → form_named name ≡ o → is_name name ≡ b
+    → or_unlisted name o ≡ Some h → (name_of h ≡ name) × IsHead h
+head_ok name h (Some f) b e n k =
+    subst (λ (x : Head). (name_of x ≡ name) × IsHead x) (some_is (listed f) h k) ((form_takes name f e).0, tt)
 head_ok name h None true e n k =
     let same = kept_some (is_name name) (unlisted name) h k in
     subst (λ (x : Head). (name_of x ≡ name) × IsHead x) same.1 (refl, (n, e))
-head_ok name h None false e n k = absurd (let same = kept_some (is_name name) (unlisted name) h k in let no = same.0 in cc)
+head_ok name h None false e n k =
+    absurd (let same = kept_some (is_name name) (unlisted name) h k in let no = same.0 in cc)
 
 pub head_takes : (name : List ℕ) (h : Head) → head_named name ≡ Some h → (name_of h ≡ name) × IsHead h
 head_takes name h e = head_ok name h (form_named name) (is_name name) refl refl e

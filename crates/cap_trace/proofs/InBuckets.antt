@@ -1,5 +1,6 @@
 -- Looking in its bucket finds what a name has in the whole table.
-use Rattle.std.proofs.Common.{◌≡◌, ℕ, ◌<◌, Bool, true, false, cond, List, [], ◌∷◌, length, get_or, Option, Some, None, refl, sym, ap, ◌∙◌, arith}
+use Rattle.std.proofs.Common.{◌≡◌, ℕ, ◌<◌, Bool, true, false, cond, List, [], ◌∷◌, length, get_or, Option, Some, None}
+use Rattle.std.proofs.Common.{refl, sym, ap, ◌∙◌, arith}
 use Rattle.std.specs.Prelude.{nat_lt}
 use Rattle.std.specs.List.{list_all}
 use Rattle.std.specs.Str.{bytes_eq}
@@ -124,25 +125,32 @@ bucket_again forms.Start = refl
 bucket_again forms.Exit = refl
 bucket_again forms.Foreign = refl
 
-first_step : (f g : Form) (name : List ℕ) (b : Bool) (o : Option Form) → bytes_eq (row_of f).name name ≡ b → cond b (Some f) o ≡ Some g → (o ≡ Some g → (row_of g).name ≡ name) → (row_of g).name ≡ name
-first_step f g name true o e h rest = ap (λ (x : Form). (row_of x).name) (sym (some_is f g h)) ∙ (bytes_eq-Decides (row_of f).name name).0 e
+first_step : (f g : Form) (name : List ℕ) (b : Bool) (o : Option Form) → bytes_eq (row_of f).name name ≡ b
+    → cond b (Some f) o ≡ Some g → (o ≡ Some g → (row_of g).name ≡ name) → (row_of g).name ≡ name
+first_step f g name true o e h rest = ap (λ (x : Form). (row_of x).name) (sym (some_is f g h))
+    ∙ (bytes_eq-Decides (row_of f).name name).0 e
 first_step f g name false o e h rest = rest h
 
-first_takes : (slots : List (Option Form)) (name : List ℕ) (g : Form) → first_in slots name ≡ Some g → (row_of g).name ≡ name
+first_takes : (slots : List (Option Form)) (name : List ℕ) (g : Form) → first_in slots name ≡ Some g
+    → (row_of g).name ≡ name
 first_takes [] name g e = absurd cc
 first_takes (None ∷ more) name g e = first_takes more name g e
-first_takes (Some f ∷ more) name g e = first_step f g name (bytes_eq (row_of f).name name) (first_in more name) refl e (λ h. first_takes more name g h)
+first_takes (Some f ∷ more) name g e =
+    first_step f g name (bytes_eq (row_of f).name name) (first_in more name) refl e (λ h. first_takes more name g h)
 
-no_other : (name : List ℕ) (o : Option Form) → first_in (bucket (bucket_at name)) name ≡ None → form_named name ≡ o → None ≡ o
+no_other : (name : List ℕ) (o : Option Form) → first_in (bucket (bucket_at name)) name ≡ None
+    → form_named name ≡ o → None ≡ o
 no_other name None e h = refl
 no_other name (Some g) e h =
     let same = (form_takes name g h).0 in
-    let found : first_in (bucket (bucket_at name)) name ≡ Some g = ap (λ (n : List ℕ). first_in (bucket (bucket_at n)) n) (sym same) ∙ bucket_again g in
+    let found : first_in (bucket (bucket_at name)) name ≡ Some g =
+    ap (λ (n : List ℕ). first_in (bucket (bucket_at n)) n) (sym same) ∙ bucket_again g in
     absurd (let none = e in let some = found in cc)
 
 finds : (name : List ℕ) (o : Option Form) → first_in (bucket (bucket_at name)) name ≡ o → o ≡ form_named name
 finds name None e = no_other name (form_named name) e refl
-finds name (Some f) e = let same = first_takes (bucket (bucket_at name)) name f e in sym (form_again f) ∙ ap form_named same
+finds name (Some f) e = let same = first_takes (bucket (bucket_at name)) name f e in
+    sym (form_again f) ∙ ap form_named same
 
 pub bucket_finds : (name : List ℕ) → first_in (bucket (bucket_at name)) name ≡ form_named name
 bucket_finds name = finds name (first_in (bucket (bucket_at name)) name) refl
@@ -155,7 +163,8 @@ long_names = refl
 short_ok : (name : List ℕ) (o : Option Form) → length name < 3 → form_named name ≡ o → None ≡ o
 short_ok name None lt e = refl
 short_ok name (Some f) lt e =
-    let k = find_takes (λ g. bytes_eq (row_of g).name name) (λ g. nat_lt 2 (length (row_of g).name)) all_forms f long_names e in
+    let k = find_takes (λ g. bytes_eq (row_of g).name name)
+    (λ g. nat_lt 2 (length (row_of g).name)) all_forms f long_names e in
     let same = (bytes_eq-Decides (row_of f).name name).0 k.0 in
     absurd (omega (arith, ltb-true _ _ k.1, ap length same))
 

@@ -1,10 +1,13 @@
 -- A field that is read is spelled so, and what spells it is read.
-use Rattle.std.proofs.Common.{◌≡◌, ℕ, zero, suc, ◌^◌, ◌<◌, ◌≤◌, ◌≢◌, ◌&&◌, ◌||◌, Bool, true, false, cond, not, eqb, ltb, leb, List, length, get_or, Option, Some, None, Result, Ok, Err, refl, sym, ap, ◌∙◌, arith, tests}
+use Rattle.std.proofs.Common.{◌≡◌, ℕ, zero, suc, ◌^◌, ◌<◌, ◌≤◌, ◌≢◌, ◌&&◌, ◌||◌, Bool, true, false, cond, not, eqb, ltb}
+use Rattle.std.proofs.Common.{leb, List, length, get_or, Option, Some, None, Result, Ok, Err, refl, sym, ap, ◌∙◌, arith}
+use Rattle.std.proofs.Common.{tests}
 use Rattle.std.specs.Str.{all_ascii_digits}
 use Rattle.std.specs.Str.Parse.{digits_value}
 use Rattle.std.specs.Fmt.{decimal}
 use Rattle.std.proofs.lemmas.Str.Parse.{IsNumeralModel, numerals_by_value, tells_all_ascii_digits}
-use Rattle.std.proofs.lemmas.Fmt.{decimal-digits_value, digits_decimal, digits_value-decimal, decimal_nonempty, first_decimal, decimal_digit}
+use Rattle.std.proofs.lemmas.Fmt.{decimal-digits_value, digits_decimal, digits_value-decimal, decimal_nonempty}
+use Rattle.std.proofs.lemmas.Fmt.{first_decimal, decimal_digit}
 use Rattle.std.proofs.lemmas.Bool.{eqb-true, lt-ltb, le-leb}
 use borrow.Author.Tests.{ltb-true, leb-true}
 use Rattle.cap_trace.specs.declared.fault.ReadFault.{ReadFault}
@@ -17,7 +20,8 @@ own = numerals_by_value _ tells_all_ascii_digits
 
 -- ---- steps
 
-pub bind_ok : {A B : Type 0} (r : Result A ReadFault) (f : A → Result B ReadFault) (y : B) → (r >>= f) ≡ Ok y → (x : A) × (r ≡ Ok x) × (f x ≡ Ok y)
+pub bind_ok : {A B : Type 0} (r : Result A ReadFault) (f : A → Result B ReadFault) (y : B) → (r >>= f) ≡ Ok y
+    → (x : A) × (r ≡ Ok x) × (f x ≡ Ok y)
 bind_ok (Ok x) f y e = (x, refl, e)
 bind_ok (Err d) f y e = absurd cc
 
@@ -25,13 +29,15 @@ pub need_ok : {A : Type 0} (d : ReadFault) (o : Option A) (x : A) → need d o �
 need_ok d None x e = absurd cc
 need_ok d (Some y) x e = (let e2 = e in cc)
 
-positive_step : (d : ReadFault) (n m : ℕ) (b : Bool) → (b ≡ false → n ≢ 0) → ◌≡◌ {A = Result ℕ ReadFault} (cond b (Err d) (Ok n)) (Ok m) → (n ≡ m) × (0 < n)
+positive_step : (d : ReadFault) (n m : ℕ) (b : Bool) → (b ≡ false → n ≢ 0)
+    → ◌≡◌ {A = Result ℕ ReadFault} (cond b (Err d) (Ok n)) (Ok m) → (n ≡ m) × (0 < n)
 positive_step d n m true h e = absurd cc
 positive_step d n m false h e = ((let e2 = e in cc), (let ne = h refl in omega arith))
 
 pub positive_ok : (d : ReadFault) (o : Option ℕ) (n : ℕ) → positive d o ≡ Ok n → (o ≡ Some n) × (0 < n)
 positive_ok d None n e = absurd cc
-positive_ok d (Some m) n e = let p = positive_step d m n (eqb m 0) (grind (arith, tests)) e in (ap Some p.0, omega (arith, p.0, p.1))
+positive_ok d (Some m) n e = let p = positive_step d m n (eqb m 0) (grind (arith, tests)) e in
+    (ap Some p.0, omega (arith, p.0, p.1))
 
 pub positive_again : (d : ReadFault) (n : ℕ) → 0 < n → positive d (Some n) ≡ Ok n
 positive_again d n lt = let e : eqb n 0 ≡ false = grind (arith, tests) in rw e refl
@@ -42,9 +48,12 @@ unless_some : {A : Type 0} (b : Bool) (o : Option A) (x : A) → cond b None o �
 unless_some true o x e = absurd cc
 unless_some false o x e = (refl, e)
 
-below : (most : ℕ) (o : Option ℕ) (n : ℕ) → (elim o as (λ _. Option ℕ) [ None ↦ None | Some m ↦ cond (leb m most) (Some m) None ]) ≡ Some n → (o ≡ Some n) × (n ≤ most)
+below : (most : ℕ) (o : Option ℕ) (n : ℕ)
+    → (elim o as (λ _. Option ℕ) [ None ↦ None | Some m ↦ cond (leb m most) (Some m) None ]) ≡ Some n
+    → (o ≡ Some n) × (n ≤ most)
 below most None n e = absurd cc
-below most (Some m) n e = let k = kept_some (leb m most) m n e in (ap Some k.1, (let l : leb m most ≡ true = k.0 in omega (arith, k.1, leb-true m most l)))
+below most (Some m) n e = let k = kept_some (leb m most) m n e in
+    (ap Some k.1, (let l : leb m most ≡ true = k.0 in omega (arith, k.1, leb-true m most l)))
 
 odd_parts : (a b c : Bool) → (a || (b && not c)) ≡ false → (a ≡ false) × (b ≡ true → c ≡ true)
 odd_parts true b c e = absurd cc
@@ -67,12 +76,14 @@ not_odd false false c e f = refl
 number_plain : (t : List ℕ) → 0 < length t → (get_or t 0 0 ≡ 48 → length t ≡ 1) → is_odd t ≡ false
 number_plain t some nought =
     let there : eqb (length t) 0 ≡ false = grind (arith, tests) in
-    not_odd (eqb (length t) 0) (eqb (get_or t 0 0) 48) (eqb (length t) 1) there (λ e. let one = nought (eqb-true _ _ e) in rw one refl)
+    not_odd (eqb (length t) 0) (eqb (get_or t 0 0) 48) (eqb (length t) 1) there
+    (λ e. let one = nought (eqb-true _ _ e) in rw one refl)
 
 pub num_takes : (most : ℕ) (t : List ℕ) (n : ℕ) → num_at most t ≡ Some n → (t ≡ decimal n) × (n ≤ most)
 unfolding num_at digits_at
 num_takes most t n e =
-    let a = unless_some (is_odd t) (elim (digits_at t) as (λ _. Option ℕ) [ None ↦ None | Some m ↦ cond (leb m most) (Some m) None ]) n e in
+    let a = unless_some (is_odd t)
+    (elim (digits_at t) as (λ _. Option ℕ) [ None ↦ None | Some m ↦ cond (leb m most) (Some m) None ]) n e in
     let b = below most (digits_at t) n a.1 in
     let d = kept_some (all_ascii_digits t && ltb (digits_value 10 t) (2 ^ 64)) (digits_value 10 t) n b.0 in
     let f = both (all_ascii_digits t) (ltb (digits_value 10 t) (2 ^ 64)) d.0 in
@@ -92,3 +103,12 @@ num_again most n le lt =
     let fits : ltb n (2 ^ 64) ≡ true = lt-ltb _ _ lt in
     let small : leb n most ≡ true = le-leb n most le in
     rw (odd, all, value, fits, small) refl
+
+-- ---- what number_of promises of what it finds
+
+pub num_found : (most : ℕ) (t : List ℕ) (n : ℕ) → Some n ≡ num_at most t → t ≡ decimal n
+num_found most t n e = (num_takes most t n (sym e)).0
+
+pub num_only : (most : ℕ) (t : List ℕ) (r : Option ℕ) → r ≡ num_at most t → most < 2 ^ 64 → (n : ℕ) → n ≤ most
+    → t ≡ decimal n → r ≡ Some n
+num_only most t r e fits n le is = e ∙ ap (num_at most) is ∙ num_again most n le (omega (arith, le, fits))

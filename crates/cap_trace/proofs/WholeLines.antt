@@ -1,5 +1,6 @@
 -- The two laws: what is read is spelled so, and what is spelled so is read.
-use Rattle.std.proofs.Common.{◌≡◌, ℕ, Bool, true, false, cond, not, eqb, ltb, List, [], ◌∷◌, ◌++◌, length, Option, Some, None, Result, Ok, Err, refl, sym, ap, subst, ◌∙◌, arith, tests}
+use Rattle.std.proofs.Common.{◌≡◌, ℕ, Bool, true, false, cond, not, eqb, ltb, List, [], ◌∷◌, ◌++◌, length, Option, Some}
+use Rattle.std.proofs.Common.{None, Result, Ok, Err, refl, sym, ap, subst, ◌∙◌, arith, tests}
 use Rattle.std.specs.Prelude.{option_map}
 use Rattle.std.specs.List.{join_with_byte}
 use Rattle.std.specs.Str.{all_ascii_digits}
@@ -24,18 +25,23 @@ use Rattle.cap_trace.specs.Quotes.{pieces, cut_at_byte, cut_outside}
 use Rattle.cap_trace.specs.Entry.{Entry, Arg, an_fd, args_of, args_of_call, fds, head_of, kind_of, IsPid, IsWhole}
 use Rattle.cap_trace.specs.Spelling.{Spells, SpellsArgs, IsHead, tail_text}
 use Rattle.cap_trace.specs.Forms.{Said, a_call, a_marker}
-use Rattle.cap_trace.specs.Reading.{◌>>=◌, need, pid_at, said_at, answer_at, ended, between, behind_head, item_at, entry_at, line_of}
-use Rattle.cap_trace.proofs.Cuts.{both, lacks, closes, AreParts, cut_takes, cut_again, outside_takes, outside_again, pieces_takes, pieces_again, closes-append}
+use Rattle.cap_trace.specs.Reading.{◌>>=◌, need, pid_at, said_at, answer_at, ended, args_and_tail, after_bracket}
+use Rattle.cap_trace.specs.Reading.{item_at, entry_at, line_of}
+use Rattle.cap_trace.proofs.Cuts.{both, lacks, closes, AreParts, cut_takes, cut_again, outside_takes, outside_again}
+use Rattle.cap_trace.proofs.Cuts.{pieces_takes, pieces_again, closes-append}
 use Rattle.cap_trace.proofs.Numerals.{own, bind_ok, need_ok}
 use Rattle.cap_trace.proofs.Quiet.{weaken}
 use Rattle.cap_trace.proofs.Heads.{head_takes, head_again, head_lacks}
-use Rattle.cap_trace.proofs.Spelled.{ok_is, bind_made, pid_takes, pid_again, args_parts, is_closed, are_closed, fds_closed}
-use Rattle.cap_trace.proofs.Built.{said_args, said_head, SaidWhole, said_takes, call_again, start_again, exit_again, foreign_again}
+use Rattle.cap_trace.proofs.Spelled.{ok_is, bind_made, pid_takes, pid_again, args_parts, is_closed, are_closed}
+use Rattle.cap_trace.proofs.Spelled.{fds_closed}
+use Rattle.cap_trace.proofs.Built.{said_args, said_head, SaidWhole, said_takes, call_again, start_again, exit_again}
+use Rattle.cap_trace.proofs.Built.{foreign_again}
 use Rattle.cap_trace.proofs.Answered.{answer_takes, answer_again}
 
--- ---- what stands behind the arguments
+-- ---- what follows the arguments
 
-ended_ok : (b : Bool) (x y : Item) → ◌≡◌ {A = Result Item ReadFault} (cond b (Ok x) (Err faults.Shape)) (Ok y) → (b ≡ true) × (x ≡ y)
+ended_ok : (b : Bool) (x y : Item) → ◌≡◌ {A = Result Item ReadFault} (cond b (Ok x) (Err faults.Shape)) (Ok y)
+    → (b ≡ true) × (x ≡ y)
 ended_ok true x y e = (refl, ok_is x y e)
 ended_ok false x y e = absurd cc
 
@@ -44,19 +50,21 @@ pub record Ends (s : Said) (tail : List ℕ) (i : Item) : Type 0 where
   pub args : args_of i ≡ said_args s
   pub head : head_of i ≡ said_head s
   pub whole : IsWhole i
-  pub behind : tail ≡ tail_text i
+  pub rest : tail ≡ tail_text i
 
-marker_ends : (m : Item) (tail : List ℕ) (i : Item) → IsWhole m → (length tail ≡ 0 → tail ≡ tail_text m) → cond (eqb (length tail) 0) (Ok m) (Err faults.Shape) ≡ Ok i → Ends (a_marker m) tail i
+marker_ends : (m : Item) (tail : List ℕ) (i : Item) → IsWhole m → (length tail ≡ 0 → tail ≡ tail_text m)
+    → cond (eqb (length tail) 0) (Ok m) (Err faults.Shape) ≡ Ok i → Ends (a_marker m) tail i
 marker_ends m tail i w b e =
     let k = ended_ok (eqb (length tail) 0) m i e in
-    subst (λ (x : Item). Ends (a_marker m) tail x) k.1 (record { args = refl; head = refl; whole = w; behind = b (eqb-true _ _ k.0) })
+    subst (λ (x : Item). Ends (a_marker m) tail x) k.1
+    (record { args = refl; head = refl; whole = w; rest = b (eqb-true _ _ k.0) })
 
 ended_takes : (s : Said) (tail : List ℕ) (i : Item) → SaidWhole s → ended s tail ≡ Ok i → Ends s tail i
 unfolding ended
 ended_takes (a_call c) tail i w e =
     let a = bind_made (answer_at (kind_of c) tail) (λ a. items.Call c a) i e in
     let p = answer_takes (kind_of c) tail a.0 a.1 in
-    subst (λ (x : Item). Ends (a_call c) tail x) a.2 (record { args = refl; head = refl; whole = p.1; behind = p.0 })
+    subst (λ (x : Item). Ends (a_call c) tail x) a.2 (record { args = refl; head = refl; whole = p.1; rest = p.0 })
 ended_takes (a_marker (items.Start fs)) tail i w e = marker_ends (items.Start fs) tail i w (nil_from_length tail) e
 ended_takes (a_marker items.Exit) tail i w e = marker_ends items.Exit tail i w (nil_from_length tail) e
 ended_takes (a_marker (items.Foreign f)) tail i w e = marker_ends (items.Foreign f) tail i w (nil_from_length tail) e
@@ -64,19 +72,22 @@ ended_takes (a_marker (items.Call c a)) tail i w e = absurd w
 
 -- ---- between the brackets
 
--- the parts, and what stands behind them, make the text again
-pub between_takes : (h : Head) (text : List ℕ) (x : List (List ℕ) × List ℕ) → between h text ≡ Some x → text ≡ join_with_byte 44 x.0 ++ (41 ∷ x.1)
-between_takes (listed f) text x e = listed_cut (cut_outside 41 text) refl e
+-- the parts, and what follows them, make the text again
+pub args_and_tail_takes : (h : Head) (text : List ℕ) (x : List (List ℕ) × List ℕ) → args_and_tail h text ≡ Some x
+    → text ≡ join_with_byte 44 x.0 ++ (41 ∷ x.1)
+args_and_tail_takes (listed f) text x e = listed_cut (cut_outside 41 text) refl e
   where
-    listed_cut : (o : Option (List ℕ × List ℕ)) → cut_outside 41 text ≡ o → option_map (λ c. (pieces c.0, c.1)) o ≡ Some x → text ≡ join_with_byte 44 x.0 ++ (41 ∷ x.1)
+    listed_cut : (o : Option (List ℕ × List ℕ)) → cut_outside 41 text ≡ o
+        → option_map (λ c. (pieces c.0, c.1)) o ≡ Some x → text ≡ join_with_byte 44 x.0 ++ (41 ∷ x.1)
     listed_cut None at e = absurd cc
     listed_cut (Some c) at e =
         let same : (pieces c.0, c.1) ≡ x = (let e2 = e in cc) in
         subst (λ (y : List (List ℕ) × List ℕ). text ≡ join_with_byte 44 y.0 ++ (41 ∷ y.1)) same
         (outside_takes 41 text c at ∙ ap (λ (a : List ℕ). a ++ (41 ∷ c.1)) (sym (pieces_takes c.0)))
-between_takes (unlisted n) text x e = free_cut (cut_at_byte 41 text) refl e
+args_and_tail_takes (unlisted n) text x e = free_cut (cut_at_byte 41 text) refl e
   where
-    free_cut : (o : Option (List ℕ × List ℕ)) → cut_at_byte 41 text ≡ o → option_map (λ c. (c.0 ∷ [], c.1)) o ≡ Some x → text ≡ join_with_byte 44 x.0 ++ (41 ∷ x.1)
+    free_cut : (o : Option (List ℕ × List ℕ)) → cut_at_byte 41 text ≡ o → option_map (λ c. (c.0 ∷ [], c.1)) o ≡ Some x
+        → text ≡ join_with_byte 44 x.0 ++ (41 ∷ x.1)
     free_cut None at e = absurd cc
     free_cut (Some c) at e =
         let same : (c.0 ∷ [], c.1) ≡ x = (let e2 = e in cc) in
@@ -85,14 +96,17 @@ between_takes (unlisted n) text x e = free_cut (cut_at_byte 41 text) refl e
 pub joined_closes : (ts : List (List ℕ)) → AreParts ts → closes Outside 41 (join_with_byte 44 ts) ≡ true
 joined_closes [] h = refl
 joined_closes (t ∷ []) h = h.0.bracket
-joined_closes (t ∷ u ∷ us) h = closes-append Outside 41 t (44 ∷ join_with_byte 44 (u ∷ us)) h.0.bracket (joined_closes (u ∷ us) h.1)
+joined_closes (t ∷ u ∷ us) h =
+    closes-append Outside 41 t (44 ∷ join_with_byte 44 (u ∷ us)) h.0.bracket (joined_closes (u ∷ us) h.1)
 
 -- what the arguments of a line are made of stands between its brackets
 unfoldable pub Cuts : Item → Type 0
-Cuts i = (ts : List (List ℕ)) → SpellsArgs ts (args_of i) → (tail : List ℕ) → between (head_of i) (join_with_byte 44 ts ++ (41 ∷ tail)) ≡ Some (ts, tail)
+Cuts i = (ts : List (List ℕ)) → SpellsArgs ts (args_of i) → (tail : List ℕ)
+    → args_and_tail (head_of i) (join_with_byte 44 ts ++ (41 ∷ tail)) ≡ Some (ts, tail)
 
-listed_again : (f : Form) (ts : List (List ℕ)) (given : List Arg) (tail : List ℕ) → are_closed given ≡ true → SpellsArgs ts given
-    → between (listed f) (join_with_byte 44 ts ++ (41 ∷ tail)) ≡ Some (ts, tail)
+listed_again : (f : Form) (ts : List (List ℕ)) (given : List Arg) (tail : List ℕ) → are_closed given ≡ true
+    → SpellsArgs ts given
+    → args_and_tail (listed f) (join_with_byte 44 ts ++ (41 ∷ tail)) ≡ Some (ts, tail)
 listed_again f ts given tail c h =
     let parts = args_parts ts given c h in
     rw (outside_again 41 (join_with_byte 44 ts) tail (joined_closes ts parts), pieces_again ts parts) refl
@@ -113,23 +127,37 @@ unfolding Cuts is_closed
 call_cuts (calls.Other n a) answer = other_again n a answer
 call_cuts (calls.OnFd c x) answer = λ ts h tail. listed_again forms.Exit ts (args_of_call (calls.OnFd c x)) tail refl h
 call_cuts (calls.Send c x) answer = λ ts h tail. listed_again forms.Exit ts (args_of_call (calls.Send c x)) tail refl h
-call_cuts (calls.SendTo c x) answer = λ ts h tail. listed_again forms.Exit ts (args_of_call (calls.SendTo c x)) tail refl h
-call_cuts (calls.Accept4 x y) answer = λ ts h tail. listed_again forms.Exit ts (args_of_call (calls.Accept4 x y)) tail refl h
+call_cuts (calls.SendTo c x) answer =
+    λ ts h tail. listed_again forms.Exit ts (args_of_call (calls.SendTo c x)) tail refl h
+call_cuts (calls.Accept4 x y) answer =
+    λ ts h tail. listed_again forms.Exit ts (args_of_call (calls.Accept4 x y)) tail refl h
 call_cuts (calls.Dup2 x y) answer = λ ts h tail. listed_again forms.Exit ts (args_of_call (calls.Dup2 x y)) tail refl h
-call_cuts (calls.Fcntl x y) answer = λ ts h tail. listed_again forms.Exit ts (args_of_call (calls.Fcntl x y)) tail refl h
-call_cuts (calls.FcntlDup c x y) answer = λ ts h tail. listed_again forms.Exit ts (args_of_call (calls.FcntlDup c x y)) tail refl h
-call_cuts (calls.FcntlSetFd x y) answer = λ ts h tail. listed_again forms.Exit ts (args_of_call (calls.FcntlSetFd x y)) tail refl h
-call_cuts (calls.Mmap x y z) answer = λ ts h tail. listed_again forms.Exit ts (args_of_call (calls.Mmap x y z)) tail refl h
-call_cuts (calls.RightsLimit x y) answer = λ ts h tail. listed_again forms.Exit ts (args_of_call (calls.RightsLimit x y)) tail refl h
+call_cuts (calls.Fcntl x y) answer =
+    λ ts h tail. listed_again forms.Exit ts (args_of_call (calls.Fcntl x y)) tail refl h
+call_cuts (calls.FcntlDup c x y) answer =
+    λ ts h tail. listed_again forms.Exit ts (args_of_call (calls.FcntlDup c x y)) tail refl h
+call_cuts (calls.FcntlSetFd x y) answer =
+    λ ts h tail. listed_again forms.Exit ts (args_of_call (calls.FcntlSetFd x y)) tail refl h
+call_cuts (calls.Mmap x y z) answer =
+    λ ts h tail. listed_again forms.Exit ts (args_of_call (calls.Mmap x y z)) tail refl h
+call_cuts (calls.RightsLimit x y) answer =
+    λ ts h tail. listed_again forms.Exit ts (args_of_call (calls.RightsLimit x y)) tail refl h
 call_cuts (calls.Open x y) answer = λ ts h tail. listed_again forms.Exit ts (args_of_call (calls.Open x y)) tail refl h
-call_cuts (calls.OnPath c x) answer = λ ts h tail. listed_again forms.Exit ts (args_of_call (calls.OnPath c x)) tail refl h
-call_cuts (calls.OnPaths c x y) answer = λ ts h tail. listed_again forms.Exit ts (args_of_call (calls.OnPaths c x y)) tail refl h
+call_cuts (calls.OnPath c x) answer =
+    λ ts h tail. listed_again forms.Exit ts (args_of_call (calls.OnPath c x)) tail refl h
+call_cuts (calls.OnPaths c x y) answer =
+    λ ts h tail. listed_again forms.Exit ts (args_of_call (calls.OnPaths c x y)) tail refl h
 call_cuts (calls.At c x y) answer = λ ts h tail. listed_again forms.Exit ts (args_of_call (calls.At c x y)) tail refl h
-call_cuts (calls.AtFlags c x y z) answer = λ ts h tail. listed_again forms.Exit ts (args_of_call (calls.AtFlags c x y z)) tail refl h
-call_cuts (calls.SymlinkAt x y z) answer = λ ts h tail. listed_again forms.Exit ts (args_of_call (calls.SymlinkAt x y z)) tail refl h
-call_cuts (calls.RenameAt x y z u) answer = λ ts h tail. listed_again forms.Exit ts (args_of_call (calls.RenameAt x y z u)) tail refl h
-call_cuts (calls.LinkAt x y z u v) answer = λ ts h tail. listed_again forms.Exit ts (args_of_call (calls.LinkAt x y z u v)) tail refl h
-call_cuts (calls.OnFlags c x) answer = λ ts h tail. listed_again forms.Exit ts (args_of_call (calls.OnFlags c x)) tail refl h
+call_cuts (calls.AtFlags c x y z) answer =
+    λ ts h tail. listed_again forms.Exit ts (args_of_call (calls.AtFlags c x y z)) tail refl h
+call_cuts (calls.SymlinkAt x y z) answer =
+    λ ts h tail. listed_again forms.Exit ts (args_of_call (calls.SymlinkAt x y z)) tail refl h
+call_cuts (calls.RenameAt x y z u) answer =
+    λ ts h tail. listed_again forms.Exit ts (args_of_call (calls.RenameAt x y z u)) tail refl h
+call_cuts (calls.LinkAt x y z u v) answer =
+    λ ts h tail. listed_again forms.Exit ts (args_of_call (calls.LinkAt x y z u v)) tail refl h
+call_cuts (calls.OnFlags c x) answer =
+    λ ts h tail. listed_again forms.Exit ts (args_of_call (calls.OnFlags c x)) tail refl h
 call_cuts (calls.Bare c) answer = λ ts h tail. listed_again forms.Exit ts (args_of_call (calls.Bare c)) tail refl h
 
 pub between_again : (i : Item) → Cuts i
@@ -139,7 +167,7 @@ between_again (items.Start fs) = λ ts h tail. listed_again forms.Exit ts (fds f
 between_again items.Exit = λ ts h tail. listed_again forms.Exit ts [] tail refl h
 between_again (items.Foreign f) = λ ts h tail. listed_again forms.Exit ts (an_fd f ∷ []) tail refl h
 
--- ---- behind the pid
+-- ---- after the pid
 
 pub record SpellsItem (text : List ℕ) (i : Item) : Type 0 where
   pub texts : List (List ℕ)
@@ -151,9 +179,11 @@ pub record SpellsItem (text : List ℕ) (i : Item) : Type 0 where
 item_takes : (text : List ℕ) (i : Item) → item_at text ≡ Ok i → SpellsItem text i
 unfolding item_at
 item_takes text i e =
-    let cut = bind_ok (need faults.Shape (cut_at_byte 40 text)) (λ cut. need faults.Shape (head_named cut.0) >>= λ h. behind_head h cut.1) i e in
-    let head = bind_ok (need faults.Shape (head_named cut.0.0)) (λ h. behind_head h cut.0.1) i cut.2 in
-    let args = bind_ok (need faults.Shape (between head.0 cut.0.1)) (λ args. said_at head.0 args.0 >>= λ s. ended s args.1) i head.2 in
+    let cut = bind_ok (need faults.Shape (cut_at_byte 40 text))
+    (λ cut. need faults.Shape (head_named cut.0) >>= λ h. after_bracket h cut.1) i e in
+    let head = bind_ok (need faults.Shape (head_named cut.0.0)) (λ h. after_bracket h cut.0.1) i cut.2 in
+    let args = bind_ok (need faults.Shape (args_and_tail head.0 cut.0.1))
+    (λ args. said_at head.0 args.0 >>= λ s. ended s args.1) i head.2 in
     let said = bind_ok (said_at head.0 args.0.0) (λ s. ended s args.0.1) i args.2 in
     let name = head_takes cut.0.0 head.0 (need_ok faults.Shape (head_named cut.0.0) head.0 head.1) in
     let spelled = said_takes head.0 args.0.0 said.0 said.1 in
@@ -166,13 +196,16 @@ item_takes text i e =
       whole = ends.whole;
       parts = cut_takes 40 text cut.0 (need_ok faults.Shape (cut_at_byte 40 text) cut.0 cut.1)
           ∙ ap (λ (n : List ℕ). n ++ (40 ∷ cut.0.1)) (sym name.0 ∙ ap name_of (sym same))
-          ∙ ap (λ (r : List ℕ). name_of (head_of i) ++ (40 ∷ r)) (between_takes head.0 cut.0.1 args.0 (need_ok faults.Shape (between head.0 cut.0.1) args.0 args.1))
-          ∙ ap (λ (r : List ℕ). name_of (head_of i) ++ (40 ∷ (join_with_byte 44 args.0.0 ++ (41 ∷ r)))) ends.behind;
+          ∙ ap (λ (r : List ℕ). name_of (head_of i) ++ (40 ∷ r)) (args_and_tail_takes head.0 cut.0.1 args.0
+          (need_ok faults.Shape (args_and_tail head.0 cut.0.1) args.0 args.1))
+          ∙ ap (λ (r : List ℕ). name_of (head_of i) ++ (40 ∷ (join_with_byte 44 args.0.0 ++ (41 ∷ r)))) ends.rest;
     }
 
-said_again : (i : Item) (ts : List (List ℕ)) → SpellsArgs ts (args_of i) → IsWhole i → (said_at (head_of i) ts >>= λ s. ended s (tail_text i)) ≡ Ok i
+said_again : (i : Item) (ts : List (List ℕ)) → SpellsArgs ts (args_of i) → IsWhole i
+    → (said_at (head_of i) ts >>= λ s. ended s (tail_text i)) ≡ Ok i
 unfolding ended
-said_again (items.Call c a) ts h w = rw (call_again c ts h) (ap (λ (r : Result Answer ReadFault). r >>= λ x. Ok (items.Call c x)) (answer_again (kind_of c) a w))
+said_again (items.Call c a) ts h w = rw (call_again c ts h)
+    (ap (λ (r : Result Answer ReadFault). r >>= λ x. Ok (items.Call c x)) (answer_again (kind_of c) a w))
 said_again (items.Start fs) ts h w = rw (start_again fs ts h w) refl
 said_again items.Exit ts h w = rw (exit_again ts h) refl
 said_again (items.Foreign f) ts h w = rw (foreign_again f ts h) refl
@@ -181,21 +214,27 @@ item_again : (i : Item) (ts : List (List ℕ)) → IsHead (head_of i) → Spells
     → item_at (name_of (head_of i) ++ (40 ∷ (join_with_byte 44 ts ++ (41 ∷ tail_text i)))) ≡ Ok i
 unfolding item_at Cuts
 item_again i ts n h w =
-    rw (cut_again 40 (name_of (head_of i)) (join_with_byte 44 ts ++ (41 ∷ tail_text i)) (head_lacks (head_of i) n), head_again (head_of i) n, between_again i ts h (tail_text i)) (said_again i ts h w)
+    rw (
+      cut_again 40 (name_of (head_of i)) (join_with_byte 44 ts ++ (41 ∷ tail_text i)) (head_lacks (head_of i) n),
+      head_again (head_of i) n,
+      between_again i ts h (tail_text i),
+    ) (said_again i ts h w)
 
 -- ---- the line
 
-long_ok : {A : Type 0} (b : Bool) (d : ReadFault) (r : Result A ReadFault) (y : A) → cond b (Err d) r ≡ Ok y → (b ≡ false) × (r ≡ Ok y)
+long_ok : {A : Type 0} (b : Bool) (d : ReadFault) (r : Result A ReadFault) (y : A) → cond b (Err d) r ≡ Ok y
+    → (b ≡ false) × (r ≡ Ok y)
 long_ok true d r y e = absurd cc
 long_ok false d r y e = (refl, e)
 
-pub record SpellsBehind (bytes : List ℕ) (e : Entry) : Type 0 where
+pub record SpellsAfter (bytes : List ℕ) (e : Entry) : Type 0 where
   pub rest : List ℕ
   pub parts : bytes ≡ decimal e.pid ++ (32 ∷ rest)
   pub pid : IsPid e.pid
   pub item : SpellsItem rest e.item
 
-entry_takes : (bytes : List ℕ) (o : Option (List ℕ × List ℕ)) (e : Entry) → cut_at_byte 32 bytes ≡ o → entry_at bytes o ≡ Ok e → SpellsBehind bytes e
+entry_takes : (bytes : List ℕ) (o : Option (List ℕ × List ℕ)) (e : Entry) → cut_at_byte 32 bytes ≡ o
+    → entry_at bytes o ≡ Ok e → SpellsAfter bytes e
 unfolding entry_at
 entry_takes bytes None e at h = let p = bind_ok (pid_at bytes) (λ _. Err faults.Shape) e h in absurd (let f = p.2 in cc)
 entry_takes bytes (Some x) e at h =
@@ -203,8 +242,13 @@ entry_takes bytes (Some x) e at h =
     let make : Item → Entry = λ item. record { pid = pid.0; item = item } in
     let item = bind_made (item_at x.1) make e pid.2 in
     let p = pid_takes x.0 pid.0 pid.1 in
-    subst (λ (y : Entry). SpellsBehind bytes y) item.2
-    (record { rest = x.1; parts = cut_takes 32 bytes x at ∙ ap (λ (d : List ℕ). d ++ (32 ∷ x.1)) p.0; pid = p.1; item = item_takes x.1 item.0 item.1 })
+    subst (λ (y : Entry). SpellsAfter bytes y) item.2
+    (record {
+      rest = x.1;
+      parts = cut_takes 32 bytes x at ∙ ap (λ (d : List ℕ). d ++ (32 ∷ x.1)) p.0;
+      pid = p.1;
+      item = item_takes x.1 item.0 item.1;
+    })
 
 pub line_takes : (bytes : List ℕ) (e : Entry) → line_of bytes ≡ Ok e → Spells bytes e
 unfolding line_of
@@ -233,6 +277,7 @@ unfolding line_of entry_at
 line_again bytes e h =
     let s = h.1 in
     let short : ltb 1024 (length bytes) ≡ false = le-ltb _ _ s.short in
-    let behind_pid = name_of (head_of e.item) ++ (40 ∷ (join_with_byte 44 h.0 ++ (41 ∷ tail_text e.item))) in
-    let cut : cut_at_byte 32 bytes ≡ Some (decimal e.pid, behind_pid) = ap (cut_at_byte 32) s.parts ∙ cut_again 32 (decimal e.pid) behind_pid (digits_lack (decimal e.pid) (digits_decimal own e.pid (omega (arith, s.pid.1)))) in
+    let after_pid = name_of (head_of e.item) ++ (40 ∷ (join_with_byte 44 h.0 ++ (41 ∷ tail_text e.item))) in
+    let cut : cut_at_byte 32 bytes ≡ Some (decimal e.pid, after_pid) = ap (cut_at_byte 32) s.parts ∙ cut_again 32
+    (decimal e.pid) after_pid (digits_lack (decimal e.pid) (digits_decimal own e.pid (omega (arith, s.pid.1)))) in
     rw (short, cut, pid_again e.pid s.pid, item_again e.item h.0 s.head s.args s.whole) refl

@@ -1,4 +1,5 @@
--- What a line says: a process, and a call with its answer, or a marker.
+-- What a line says: a process, and a call with its answer, or a marker; the arguments of each by kind, and which
+-- answers fit which call.
 use Rattle.std.specs.Prelude.{◌≡◌, ℕ, ◌+◌, ◌^◌, ◌<◌, ◌≤◌, ◌||◌, List, [], ◌∷◌, codes, if◌then◌else◌}
 use Rattle.std.specs.Str.{bytes_eq}
 use Rattle.cap_trace.specs.declared.line.Item.{Item}
@@ -12,6 +13,7 @@ use Rattle.cap_trace.specs.declared.calls.DupCommand.{DupCommand}
 use Rattle.cap_trace.specs.declared.calls.Form.TheVariants as forms
 use Rattle.cap_trace.specs.declared.calls.Kind.{Kind}
 use Rattle.cap_trace.specs.declared.calls.Kind.TheVariants.{Count, Zero, Fd, Same, FdPair, Child, ChildAndFd, Any}
+use Rattle.cap_trace.specs.Limits.{largest_pid, largest_fd, largest_errno}
 use Rattle.cap_trace.specs.Names.{Head, listed, unlisted, row_of}
 
 -- a line without where it lies in memory
@@ -20,10 +22,10 @@ pub record Entry : Type 0 where
   pub item : Item
 
 abbrev pub IsPid : ℕ → Type 0
-IsPid p = (0 < p) × (p ≤ 99999)
+IsPid p = (0 < p) × (p ≤ largest_pid)
 
 abbrev pub IsFd : ℕ → Type 0
-IsFd f = f ≤ 1048575
+IsFd f = f ≤ largest_fd
 
 -- ---- the name
 
@@ -64,8 +66,8 @@ pub data Word : Type 0 where
   set_fd : Word
   dup_to : DupCommand → Word
 
--- an argument: flags, the path between its quotes, other commands of fcntl and the arguments of a call that has no form of
--- its own are kept as they are spelled
+-- an argument: flags, the path between its quotes, other commands of fcntl and the arguments of a call that has no form
+-- of its own are kept as they are spelled
 pub data Arg : Type 0 where
   an_fd : ℕ → Arg
   a_dir : Dir → Arg
@@ -127,13 +129,13 @@ kind_of (calls.Fcntl x y) = fcntl_kind y
 kind_of c = head_kind (head_of_call c)
 
 abbrev pub IsAnswer : Kind → Answer → Type 0
-IsAnswer k (answers.Fault e) = (0 < e) × (e ≤ 65535)
+IsAnswer k (answers.Fault e) = (0 < e) × (e ≤ largest_errno)
 IsAnswer Count (answers.Made n) = n < 2 ^ 64
 IsAnswer Zero (answers.Made n) = n ≡ 0
 IsAnswer Fd (answers.Made n) = IsFd n
 IsAnswer (Same g) (answers.Made n) = (n ≡ g) × IsFd n
 IsAnswer FdPair (answers.Made n) = ⊥
-IsAnswer Child (answers.Made n) = n ≤ 99999
+IsAnswer Child (answers.Made n) = n ≤ largest_pid
 IsAnswer ChildAndFd (answers.Made n) = ⊥
 IsAnswer Any (answers.Made n) = n < 2 ^ 64
 IsAnswer Count (answers.Pair n m) = ⊥
@@ -142,7 +144,7 @@ IsAnswer Fd (answers.Pair n m) = ⊥
 IsAnswer (Same g) (answers.Pair n m) = ⊥
 IsAnswer FdPair (answers.Pair n m) = IsFd n × IsFd m
 IsAnswer Child (answers.Pair n m) = ⊥
-IsAnswer ChildAndFd (answers.Pair n m) = (n ≤ 99999) × IsFd m
+IsAnswer ChildAndFd (answers.Pair n m) = (n ≤ largest_pid) × IsFd m
 IsAnswer Any (answers.Pair n m) = (n < 2 ^ 64) × (m < 2 ^ 64)
 
 -- each at least low, and above the one before it

@@ -3,23 +3,23 @@ use Rattle.std.specs.Prelude.{ℕ}
 use Rattle.cap_trace.specs.declared.fault.ReadFault.{ReadFault}
 use Rattle.cap_trace.specs.declared.fault.ReadFault.TheVariants as faults
 use Rattle.cap_trace.specs.declared.fault.LineFault.{LineFault}
-use Rattle.cap_trace.specs.declared.fault.LineFault.TheVariants as told
+use Rattle.cap_trace.specs.declared.fault.LineFault.TheVariants as line_faults
 
 -- the fault of a line, as a caller sees it
 abbrev pub line_fault : ReadFault → LineFault
-line_fault faults.TooLong = told.TooLong
-line_fault faults.Shape = told.Shape
-line_fault faults.Pid = told.Pid
-line_fault faults.Argument = told.Argument
-line_fault faults.Right = told.Right
-line_fault faults.Answer = told.Answer
+line_fault faults.TooLong = line_faults.TooLong
+line_fault faults.Shape = line_faults.Shape
+line_fault faults.Pid = line_faults.Pid
+line_fault faults.Argument = line_faults.Argument
+line_fault faults.Right = line_faults.Right
+line_fault faults.Answer = line_faults.Answer
 
 -- its number in reports
 abbrev pub code_of : LineFault → ℕ
-code_of told.TooLong = 1
-code_of told.Shape = 2
-code_of told.Pid = 3
-code_of told.Argument = 4
-code_of told.Right = 5
-code_of told.Answer = 6
-code_of told.Memory = 9
+code_of line_faults.TooLong = 1
+code_of line_faults.Shape = 2
+code_of line_faults.Pid = 3
+code_of line_faults.Argument = 4
+code_of line_faults.Right = 5
+code_of line_faults.Answer = 6
+code_of line_faults.Memory = 9

@@ -1,4 +1,4 @@
--- Flags as a loop over their bytes sees them.
+-- Flags as a loop over their bytes sees them. Only the code's contracts use this; Fields says what flags are.
 use Rattle.std.specs.Prelude.{ℕ, ◌==◌, Bool, true, false, Option, Some, None, if◌then◌else◌}
 use Rattle.std.specs.Char.{is_ascii_uppercase}
 use Rattle.cap_trace.specs.Fields.{is_flag_byte}

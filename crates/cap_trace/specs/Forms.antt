@@ -11,7 +11,8 @@ use Rattle.cap_trace.specs.declared.calls.DupCommand.TheVariants as dup_commands
 use Rattle.cap_trace.specs.declared.calls.Form.{Form}
 use Rattle.cap_trace.specs.declared.calls.Form.TheVariants as forms
 use Rattle.cap_trace.specs.Names.{Head, listed, unlisted}
-use Rattle.cap_trace.specs.Entry.{Arg, an_fd, a_dir, some_flags, some_rights, a_path, a_command, a_word, free_text, Word, dest, set_fd, dup_to}
+use Rattle.cap_trace.specs.Entry.{Arg, an_fd, a_dir, some_flags, some_rights, a_path, a_command, a_word, free_text}
+use Rattle.cap_trace.specs.Entry.{Word, dest, set_fd, dup_to}
 
 -- the kinds of argument
 pub data Slot : Type 0 where
@@ -100,7 +101,8 @@ built (listed (forms.At c)) (a_dir x ∷ a_path y ∷ []) = Ok (a_call (calls.At
 built (listed (forms.AtFlags c)) (a_dir x ∷ a_path y ∷ some_flags z ∷ []) = Ok (a_call (calls.AtFlags c x y z))
 built (listed forms.SymlinkAt) (a_path x ∷ a_dir y ∷ a_path z ∷ []) = Ok (a_call (calls.SymlinkAt x y z))
 built (listed forms.RenameAt) (a_dir x ∷ a_path y ∷ a_dir z ∷ a_path u ∷ []) = Ok (a_call (calls.RenameAt x y z u))
-built (listed forms.LinkAt) (a_dir x ∷ a_path y ∷ a_dir z ∷ a_path u ∷ some_flags v ∷ []) = Ok (a_call (calls.LinkAt x y z u v))
+built (listed forms.LinkAt) (a_dir x ∷ a_path y ∷ a_dir z ∷ a_path u ∷ some_flags v ∷ []) =
+    Ok (a_call (calls.LinkAt x y z u v))
 built (listed (forms.OnFlags c)) (some_flags x ∷ []) = Ok (a_call (calls.OnFlags c x))
 built (listed (forms.Bare c)) [] = Ok (a_call (calls.Bare c))
 built (listed forms.Exit) [] = Ok (a_marker items.Exit)

@@ -1,27 +1,29 @@
 -- Making the parts of a line, and a line, of what a producer of traces knows.
-use Rattle.std.specs.Prelude.{◌≡◌, ℕ, ◌+◌, ◌^◌, ◌==◌, ◌&&◌, Bool, true, false, not, List, [], ◌∷◌, Option, Some, None, Result, Ok, Err, nat_le, nat_lt, is_none, length, IsTrue}
+use Rattle.std.specs.Prelude.{◌≡◌, ℕ, ◌+◌, ◌^◌, ◌==◌, ◌&&◌, Bool, true, false, List, [], ◌∷◌, Option, Some, None}
+use Rattle.std.specs.Prelude.{Result, Ok, Err, nat_le, nat_lt, is_none, length, IsTrue}
 use Rattle.std.specs.List.{list_all}
 use Rattle.cap_rights.specs.Text.{names, text}
 use Rattle.cap_trace.specs.declared.fault.LineFault.{LineFault}
-use Rattle.cap_trace.specs.declared.fault.LineFault.TheVariants as told
+use Rattle.cap_trace.specs.declared.fault.LineFault.TheVariants as line_faults
 use Rattle.cap_trace.specs.declared.line.Item.{Item}
 use Rattle.cap_trace.specs.declared.line.Item.TheVariants as items
-use Rattle.cap_trace.specs.declared.line.Call.{Call}
 use Rattle.cap_trace.specs.declared.line.Call.TheVariants as calls
 use Rattle.cap_trace.specs.declared.line.Answer.{Answer}
 use Rattle.cap_trace.specs.declared.line.Answer.TheVariants as answers
 use Rattle.cap_trace.specs.declared.line.Dir.TheVariants as dirs
 use Rattle.cap_trace.specs.declared.calls.Kind.{Kind}
 use Rattle.cap_trace.specs.declared.calls.Kind.TheVariants.{Count, Zero, Fd, Same, FdPair, Child, ChildAndFd, Any}
+use Rattle.cap_trace.specs.Limits.{longest_line, largest_pid, largest_fd, largest_errno}
 use Rattle.cap_trace.specs.Names.{Head, listed, unlisted, is_name, form_named}
 use Rattle.cap_trace.specs.Fields.{is_flags, are_items, is_free}
-use Rattle.cap_trace.specs.Entry.{Entry, Arg, an_fd, a_dir, some_flags, some_rights, a_path, a_command, a_word, free_text, args_of_call, head_of_call, kind_of}
+use Rattle.cap_trace.specs.Entry.{Entry, Arg, an_fd, a_dir, some_flags, some_rights, a_path, a_command, a_word}
+use Rattle.cap_trace.specs.Entry.{free_text, args_of_call, head_of_call, kind_of}
 use Rattle.cap_trace.specs.Spelling.{is_command, canon, IsProper}
 
 -- the value, exactly where its text is good, and else this fault; memory runs out only for a good one
 abbrev pub MakesWhere : {A : Type 0} → Bool → LineFault → A → Result A LineFault → Type 0
 MakesWhere good f v (Ok x) = IsTrue good × (x ≡ v)
-MakesWhere good f v (Err told.Memory) = IsTrue good
+MakesWhere good f v (Err line_faults.Memory) = IsTrue good
 MakesWhere good f v (Err e) = (good ≡ false) × (e ≡ f)
 
 -- the line, exactly where some bytes spell it
@@ -32,10 +34,10 @@ IsLineOf e (Some l) = (l ≡ e) × IsProper e
 -- ---- the same, field by field
 
 abbrev pub is_fd : ℕ → Bool
-is_fd f = nat_le f 1048575
+is_fd f = nat_le f largest_fd
 
 abbrev pub is_pid : ℕ → Bool
-is_pid p = nat_lt 0 p && nat_le p 99999
+is_pid p = nat_lt 0 p && nat_le p largest_pid
 
 -- an argument that some text spells; of rights see is_named
 abbrev pub is_good : Arg → Bool
@@ -59,13 +61,13 @@ is_head (listed f) = true
 is_head (unlisted n) = is_name n && is_none (form_named n)
 
 abbrev pub is_answer : Kind → Answer → Bool
-is_answer k (answers.Fault e) = nat_lt 0 e && nat_le e 65535
+is_answer k (answers.Fault e) = nat_lt 0 e && nat_le e largest_errno
 is_answer Count (answers.Made n) = nat_lt n (2 ^ 64)
 is_answer Zero (answers.Made n) = n == 0
 is_answer Fd (answers.Made n) = is_fd n
 is_answer (Same g) (answers.Made n) = (n == g) && is_fd n
 is_answer FdPair (answers.Made n) = false
-is_answer Child (answers.Made n) = nat_le n 99999
+is_answer Child (answers.Made n) = nat_le n largest_pid
 is_answer ChildAndFd (answers.Made n) = false
 is_answer Any (answers.Made n) = nat_lt n (2 ^ 64)
 is_answer Count (answers.Pair n m) = false
@@ -74,7 +76,7 @@ is_answer Fd (answers.Pair n m) = false
 is_answer (Same g) (answers.Pair n m) = false
 is_answer FdPair (answers.Pair n m) = is_fd n && is_fd m
 is_answer Child (answers.Pair n m) = false
-is_answer ChildAndFd (answers.Pair n m) = nat_le n 99999 && is_fd m
+is_answer ChildAndFd (answers.Pair n m) = nat_le n largest_pid && is_fd m
 is_answer Any (answers.Pair n m) = nat_lt n (2 ^ 64) && nat_lt m (2 ^ 64)
 
 -- descriptors, each at least low and above the one before it
@@ -102,4 +104,4 @@ has_named_rights i = true
 
 -- the fields are good, and the canonical text isn't too long
 abbrev pub has_text : Entry → Bool
-has_text e = (is_pid e.pid && is_good_item e.item && has_named_rights e.item) && nat_le (length (canon e)) 1024
+has_text e = (is_pid e.pid && is_good_item e.item && has_named_rights e.item) && nat_le (length (canon e)) longest_line

@@ -1,8 +1,9 @@
--- What reading a line promises.
+-- What reading a line promises: bytes spell at most one line, reading finds it, and its canonical text is read as that
+-- line. Each is the contract of a public function.
 use Rattle.std.specs.Prelude.{◌≡◌, ◌⊎◌, ◌↔◌, ℕ, List, Result, Ok, Err, Some}
 use Rattle.cap_trace.specs.declared.fault.ReadFault.{ReadFault}
 use Rattle.cap_trace.specs.declared.fault.LineFault.{LineFault}
-use Rattle.cap_trace.specs.declared.fault.LineFault.TheVariants as told
+use Rattle.cap_trace.specs.declared.fault.LineFault.TheVariants as line_faults
 use Rattle.cap_trace.specs.Entry.{Entry}
 use Rattle.cap_trace.specs.Spelling.{Spells, canon}
 use Rattle.cap_trace.specs.Reading.{fault, line_of}
@@ -15,17 +16,18 @@ abbrev pub SpellsSome : List ℕ → Type 0
 SpellsSome bytes = (e : Entry) × Spells bytes e
 
 -- each fault is given exactly where the bytes spell no line and have that fault
-abbrev pub TellsFaults : List ℕ → Result Entry LineFault → Type 0
-TellsFaults bytes r = (f : ReadFault) → (r ≡ Err (line_fault f)) ↔ (SpellsNone bytes × (fault bytes ≡ Some f))
+abbrev pub FaultsAreExact : List ℕ → Result Entry LineFault → Type 0
+FaultsAreExact bytes r = (f : ReadFault) → (r ≡ Err (line_fault f)) ↔ (SpellsNone bytes × (fault bytes ≡ Some f))
 
 -- what the bytes spell is read, or memory ran out
 abbrev pub ReadsOnly : List ℕ → Result Entry LineFault → Type 0
-ReadsOnly bytes r = (e : Entry) → Spells bytes e → (r ≡ Ok e) ⊎ (r ≡ Err told.Memory)
+ReadsOnly bytes r = (e : Entry) → Spells bytes e → (r ≡ Ok e) ⊎ (r ≡ Err line_faults.Memory)
 
 -- the result is what reading gives: the line, its first fault, or out of memory for a line
-abbrev pub TellsReading : List ℕ → Result Entry LineFault → Type 0
-TellsReading bytes (Ok e) = line_of bytes ≡ Ok e
-TellsReading bytes (Err t) = ((f : ReadFault) × (line_of bytes ≡ Err f) × (t ≡ line_fault f)) ⊎ ((t ≡ told.Memory) × ((e : Entry) × (line_of bytes ≡ Ok e)))
+abbrev pub MatchesReading : List ℕ → Result Entry LineFault → Type 0
+MatchesReading bytes (Ok e) = line_of bytes ≡ Ok e
+MatchesReading bytes (Err t) = ((f : ReadFault) × (line_of bytes ≡ Err f) × (t ≡ line_fault f))
+    ⊎ ((t ≡ line_faults.Memory) × ((e : Entry) × (line_of bytes ≡ Ok e)))
 
 -- bytes spell at most one line
 abbrev pub OneLine : Type 0

@@ -1,5 +1,6 @@
 -- Reading a line from the left, with the first fault that is met.
-use Rattle.std.specs.Prelude.{◌≡◌, ℕ, ◌+◌, ◌-◌, ◌^◌, ◌==◌, Bool, List, [], ◌∷◌, length, take, drop, Option, Some, None, Result, Ok, Err, nat_lt, codes, option_map, if◌then◌else◌}
+use Rattle.std.specs.Prelude.{◌≡◌, ℕ, ◌+◌, ◌-◌, ◌^◌, ◌==◌, Bool, List, [], ◌∷◌, length, take, drop, Option, Some, None}
+use Rattle.std.specs.Prelude.{Result, Ok, Err, nat_lt, codes, option_map, if◌then◌else◌}
 use Rattle.std.specs.Str.{bytes_eq}
 use Rattle.std.specs.List.{starts_with, ends_with, list_all}
 use Rattle.std.specs.Prelude.{nat_eq}
@@ -14,13 +15,16 @@ use Rattle.cap_trace.specs.declared.line.Dir.{Dir}
 use Rattle.cap_trace.specs.declared.line.Dir.TheVariants as dirs
 use Rattle.cap_trace.specs.declared.calls.Kind.{Kind}
 use Rattle.cap_trace.specs.declared.calls.Kind.TheVariants.{Count, Zero, Fd, Same, FdPair, Child, ChildAndFd, Any}
+use Rattle.cap_trace.specs.Limits.{longest_line, largest_pid, largest_fd, largest_errno}
 use Rattle.cap_trace.specs.Names.{Head, listed, unlisted, head_named}
 use Rattle.cap_trace.specs.Number.{num_at}
 use Rattle.cap_trace.specs.Quotes.{cut_at_byte, cut_outside, pieces}
 use Rattle.cap_trace.specs.Fields.{is_flags, are_items, is_free}
-use Rattle.cap_trace.specs.Entry.{Entry, Arg, an_fd, a_dir, some_flags, some_rights, a_path, a_command, a_word, free_text, kind_of}
+use Rattle.cap_trace.specs.Entry.{Entry, Arg, an_fd, a_dir, some_flags, some_rights, a_path, a_command, a_word}
+use Rattle.cap_trace.specs.Entry.{free_text, kind_of}
 use Rattle.cap_trace.specs.Spelling.{word_text, is_command}
-use Rattle.cap_trace.specs.Forms.{Slot, fd, dir, flags, rights, path, command, word, free, Shape, these, rising_fds, shape_of, Said, a_call, a_marker, built}
+use Rattle.cap_trace.specs.Forms.{Slot, fd, dir, flags, rights, path, command, word, free, Shape, these, rising_fds}
+use Rattle.cap_trace.specs.Forms.{shape_of, Said, a_call, a_marker, built}
 
 infixl 10 ◌>>=◌
 abbrev pub ◌>>=◌ : {A B : Type 0} → Result A ReadFault → (A → Result B ReadFault) → Result B ReadFault
@@ -47,20 +51,20 @@ abbrev pub kept : (List ℕ → Bool) → ReadFault → List ℕ → Result (Lis
 kept test e t = if test t then Ok t else Err e
 
 -- what follows a prefix
-abbrev pub behind : List ℕ → List ℕ → Option (List ℕ)
-behind p t = if starts_with nat_eq t p then Some (drop (length p) t) else None
+abbrev pub after_prefix : List ℕ → List ℕ → Option (List ℕ)
+after_prefix p t = if starts_with nat_eq t p then Some (drop (length p) t) else None
 
 -- what stands before a suffix
-abbrev pub before : List ℕ → List ℕ → Option (List ℕ)
-before p t = if ends_with nat_eq t p then Some (take (length t - length p) t) else None
+abbrev pub before_suffix : List ℕ → List ℕ → Option (List ℕ)
+before_suffix p t = if ends_with nat_eq t p then Some (take (length t - length p) t) else None
 
 -- ---- fields
 
 unfoldable pub pid_at : List ℕ → Result ℕ ReadFault
-pid_at t = positive faults.Pid (num_at 99999 t)
+pid_at t = positive faults.Pid (num_at largest_pid t)
 
 unfoldable pub fd_at : List ℕ → Result ℕ ReadFault
-fd_at t = need faults.Argument (num_at 1048575 t)
+fd_at t = need faults.Argument (num_at largest_fd t)
 
 unfoldable pub rights_at : List ℕ → Result ℕ ReadFault
 rights_at t = need faults.Right (names t)
@@ -76,8 +80,8 @@ command_at t = kept is_command faults.Argument t
 
 unfoldable pub path_at : List ℕ → Result (List ℕ) ReadFault
 path_at t = do
-  opened ← need faults.Argument (behind (34 ∷ []) t)
-  inside ← need faults.Argument (before (34 ∷ []) opened)
+  opened ← need faults.Argument (after_prefix (34 ∷ []) t)
+  inside ← need faults.Argument (before_suffix (34 ∷ []) opened)
   kept are_items faults.Argument inside
 
 unfoldable pub free_at : List ℕ → Result (List ℕ) ReadFault
@@ -113,7 +117,8 @@ fds_from low (t ∷ ts) = do
 
 abbrev pub shaped : Head → Shape → List (List ℕ) → Result Said ReadFault
 shaped h rising_fds ts = fds_from 0 ts >>= λ fs. Ok (a_marker (items.Start fs))
-shaped h (these slots) ts = if length ts == length slots then (args_at slots ts >>= λ given. built h given) else Err faults.Argument
+shaped h (these slots) ts = if length ts == length slots then (args_at slots ts >>= λ given. built h given)
+    else Err faults.Argument
 
 unfoldable pub said_at : Head → List (List ℕ) → Result Said ReadFault
 said_at h ts = shaped h (shape_of h ts) ts
@@ -144,22 +149,22 @@ any_at t (Some c) = pair_at (2 ^ 64 - 1) (2 ^ 64 - 1) (Some c)
 unfoldable pub made_at : Kind → List ℕ → Result Answer ReadFault
 made_at Count t = number_at (num_at (2 ^ 64 - 1) t)
 made_at Zero t = number_at (num_at 0 t)
-made_at Fd t = number_at (num_at 1048575 t)
-made_at (Same g) t = same_at g (num_at 1048575 t)
-made_at FdPair t = pair_at 1048575 1048575 (cut_at_byte 44 t)
-made_at Child t = number_at (num_at 99999 t)
-made_at ChildAndFd t = pair_at 99999 1048575 (cut_at_byte 44 t)
+made_at Fd t = number_at (num_at largest_fd t)
+made_at (Same g) t = same_at g (num_at largest_fd t)
+made_at FdPair t = pair_at largest_fd largest_fd (cut_at_byte 44 t)
+made_at Child t = number_at (num_at largest_pid t)
+made_at ChildAndFd t = pair_at largest_pid largest_fd (cut_at_byte 44 t)
 made_at Any t = any_at t (cut_at_byte 44 t)
 
 -- by the errno that stands there, if one does
 abbrev pub result_at : Kind → List ℕ → Option (List ℕ) → Result Answer ReadFault
 result_at k t None = made_at k t
-result_at k t (Some n) = positive faults.Answer (num_at 65535 n) >>= λ e. Ok (answers.Fault e)
+result_at k t (Some n) = positive faults.Answer (num_at largest_errno n) >>= λ e. Ok (answers.Fault e)
 
 unfoldable pub answer_at : Kind → List ℕ → Result Answer ReadFault
 answer_at k tail = do
-  t ← need faults.Shape (behind (codes " RET ") tail)
-  result_at k t (behind (codes "-1 errno ") t)
+  t ← need faults.Shape (after_prefix (codes " RET ") tail)
+  result_at k t (after_prefix (codes "-1 errno ") t)
 
 -- a marker ends after its bracket
 unfoldable pub ended : Said → List ℕ → Result Item ReadFault
@@ -169,14 +174,14 @@ ended (a_marker i) tail = if length tail == 0 then Ok i else Err faults.Shape
 -- ---- the line
 
 -- step 4: the arguments, and what follows them
-abbrev pub between : Head → List ℕ → Option (List (List ℕ) × List ℕ)
-between (listed f) text = option_map (λ c. (pieces c.0, c.1)) (cut_outside 41 text)
-between (unlisted n) text = option_map (λ c. (c.0 ∷ [], c.1)) (cut_at_byte 41 text)
+abbrev pub args_and_tail : Head → List ℕ → Option (List (List ℕ) × List ℕ)
+args_and_tail (listed f) text = option_map (λ c. (pieces c.0, c.1)) (cut_outside 41 text)
+args_and_tail (unlisted n) text = option_map (λ c. (c.0 ∷ [], c.1)) (cut_at_byte 41 text)
 
 -- steps 4 to 7: what follows the opening bracket
-abbrev pub behind_head : Head → List ℕ → Result Item ReadFault
-behind_head h text = do
-  args ← need faults.Shape (between h text)
+abbrev pub after_bracket : Head → List ℕ → Result Item ReadFault
+after_bracket h text = do
+  args ← need faults.Shape (args_and_tail h text)
   said ← said_at h args.0
   ended said args.1
 
@@ -185,7 +190,7 @@ unfoldable pub item_at : List ℕ → Result Item ReadFault
 item_at text = do
   cut ← need faults.Shape (cut_at_byte 40 text)
   head ← need faults.Shape (head_named cut.0)
-  behind_head head cut.1
+  after_bracket head cut.1
 
 -- step 2: pid, space, and the rest
 unfoldable pub entry_at : List ℕ → Option (List ℕ × List ℕ) → Result Entry ReadFault
@@ -197,7 +202,7 @@ entry_at bytes (Some cut) = do
 
 -- the seven steps
 unfoldable pub line_of : List ℕ → Result Entry ReadFault
-line_of bytes = if nat_lt 1024 (length bytes) then Err faults.TooLong else entry_at bytes (cut_at_byte 32 bytes)
+line_of bytes = if nat_lt longest_line (length bytes) then Err faults.TooLong else entry_at bytes (cut_at_byte 32 bytes)
 
 -- the fault of the bytes, where they have one
 abbrev pub fault : List ℕ → Option ReadFault

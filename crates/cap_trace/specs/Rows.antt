@@ -1,4 +1,4 @@
--- The table of names as the code has it.
+-- The code's rows of the table of names, seen as those of Names.
 use Rattle.cap_trace.specs.declared.names.Row as code
 use Rattle.cap_trace.specs.declared.names.Head as heads
 use Rattle.cap_trace.specs.declared.names.Head.TheVariants as heads_are

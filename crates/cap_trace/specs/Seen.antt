@@ -1,5 +1,5 @@
--- What a line says, over its bytes.
-use Rattle.std.specs.Prelude.{ℕ, List, [], ◌∷◌, Ok, Err}
+-- What a line says while its texts still lie in its bytes, seen as the entry of Entry.
+use Rattle.std.specs.Prelude.{ℕ, List, [], ◌∷◌, Ok, Err, IsTrue}
 use Rattle.cap_trace.specs.declared.line.Call.{Call}
 use Rattle.cap_trace.specs.declared.line.Call.TheVariants as calls
 use Rattle.cap_trace.specs.declared.line.Item.{Item}
@@ -11,7 +11,9 @@ use Rattle.cap_trace.specs.declared.seen.SaidSeen.TheVariants as seen_said
 use Rattle.cap_trace.specs.declared.seen.ItemSeen.{ItemSeen}
 use Rattle.cap_trace.specs.declared.seen.ItemSeen.TheVariants as seen_items
 use Rattle.cap_trace.specs.declared.seen.LineSeen.{LineSeen}
-use Rattle.cap_trace.specs.Entry.{Entry}
+use Rattle.cap_trace.specs.Entry.{Entry, Arg, an_fd, a_dir, some_flags, some_rights, a_path, a_command, a_word}
+use Rattle.cap_trace.specs.Entry.{free_text}
+use Rattle.cap_trace.specs.Fields.{are_items}
 use Rattle.cap_trace.specs.Forms.{Said, a_call, a_marker}
 use Rattle.cap_trace.specs.Quotes.{pieces}
 use Rattle.cap_trace.specs.Reading.{fd_at}
@@ -58,3 +60,15 @@ item_seen (seen_items.Foreign f) = items.Foreign f
 
 abbrev pub line_seen : LineSeen → Entry
 line_seen l = record { pid = l.pid; item = item_seen l.item }
+
+-- what stands between the quotes of each path is the items of one
+abbrev pub HavePaths : List Arg → Type 0
+HavePaths [] = Unit {0}
+HavePaths (an_fd f ∷ others) = HavePaths others
+HavePaths (a_dir d ∷ others) = HavePaths others
+HavePaths (some_flags w ∷ others) = HavePaths others
+HavePaths (some_rights r ∷ others) = HavePaths others
+HavePaths (a_path p ∷ others) = IsTrue (are_items p) × HavePaths others
+HavePaths (a_command w ∷ others) = HavePaths others
+HavePaths (a_word w ∷ others) = HavePaths others
+HavePaths (free_text a ∷ others) = HavePaths others

@@ -1,5 +1,6 @@
--- How a line is spelled.
-use Rattle.std.specs.Prelude.{◌≡◌, ℕ, ◌≤◌, ◌&&◌, ◌||◌, not, Bool, List, [], ◌∷◌, ◌++◌, length, Some, None, IsTrue, codes, map}
+-- How a line is spelled: the grammar as a relation between bytes and what a line says, and the one canonical text.
+use Rattle.std.specs.Prelude.{◌≡◌, ℕ, ◌≤◌, ◌&&◌, ◌||◌, not, Bool, List, [], ◌∷◌, ◌++◌, length, Some, None, IsTrue}
+use Rattle.std.specs.Prelude.{codes, map}
 use Rattle.std.specs.Str.{bytes_eq}
 use Rattle.std.specs.List.{join_with_byte, list_all}
 use Rattle.std.specs.Fmt.{decimal}
@@ -9,9 +10,11 @@ use Rattle.cap_trace.specs.declared.line.Item.TheVariants as items
 use Rattle.cap_trace.specs.declared.line.Answer.{Answer}
 use Rattle.cap_trace.specs.declared.line.Answer.TheVariants as answers
 use Rattle.cap_trace.specs.declared.line.Dir.TheVariants as dirs
+use Rattle.cap_trace.specs.Limits.{longest_line}
 use Rattle.cap_trace.specs.Names.{Head, listed, unlisted, name_of, is_name, form_named, dup_command_name}
 use Rattle.cap_trace.specs.Fields.{is_flags, is_word, are_items, quoted, is_free}
-use Rattle.cap_trace.specs.Entry.{Entry, Arg, an_fd, a_dir, some_flags, some_rights, a_path, a_command, a_word, free_text, Word, dest, set_fd, dup_to, args_of, head_of, IsPid, IsFd, IsWhole}
+use Rattle.cap_trace.specs.Entry.{Entry, Arg, an_fd, a_dir, some_flags, some_rights, a_path, a_command, a_word}
+use Rattle.cap_trace.specs.Entry.{free_text, Word, dest, set_fd, dup_to, args_of, head_of, IsPid, IsFd, IsWhole}
 
 -- a name of the table, or one that could be a name and isn't in the table
 abbrev pub IsHead : Head → Type 0
@@ -25,7 +28,8 @@ word_text (dup_to c) = dup_command_name c
 
 -- a command of fcntl that has no form of its own
 abbrev pub is_command : List ℕ → Bool
-is_command w = is_word w && not (bytes_eq w (codes "F_SETFD") || bytes_eq w (codes "F_DUP2FD") || bytes_eq w (codes "F_DUP2FD_CLOEXEC"))
+is_command w = is_word w
+    && not (bytes_eq w (codes "F_SETFD") || bytes_eq w (codes "F_DUP2FD") || bytes_eq w (codes "F_DUP2FD_CLOEXEC"))
 
 -- a text that spells an argument: only rights have several
 abbrev pub SpellsArg : List ℕ → Arg → Type 0
@@ -69,14 +73,15 @@ tail_text (items.Start fs) = []
 tail_text items.Exit = []
 tail_text (items.Foreign f) = []
 
--- a line with these texts for its arguments: pid, space, name, the arguments in brackets with commas between them, and the
--- answer
+-- a line with these texts for its arguments: pid, space, name, the arguments in brackets with commas between them, and
+-- the answer
 abbrev pub joined : Entry → List (List ℕ) → List ℕ
-joined e texts = decimal e.pid ++ (32 ∷ (name_of (head_of e.item) ++ (40 ∷ (join_with_byte 44 texts ++ (41 ∷ tail_text e.item)))))
+joined e texts =
+    decimal e.pid ++ (32 ∷ (name_of (head_of e.item) ++ (40 ∷ (join_with_byte 44 texts ++ (41 ∷ tail_text e.item)))))
 
 -- the bytes spell the line, with these texts for its arguments
 pub record SpellsBy (bytes : List ℕ) (e : Entry) (texts : List (List ℕ)) : Type 0 where
-  pub short : length bytes ≤ 1024
+  pub short : length bytes ≤ longest_line
   pub pid : IsPid e.pid
   pub head : IsHead (head_of e.item)
   pub args : SpellsArgs texts (args_of e.item)

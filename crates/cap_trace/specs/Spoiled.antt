@@ -1,5 +1,5 @@
 -- Which fault a line has, by the field that is wrong, and not by how the line is read.
-use Rattle.std.specs.Prelude.{◌≡◌, ◌≤◌, ◌<◌, ◌+◌, ◌==◌, ◌↔◌, ◌⊎◌, ℕ, List, [], ◌∷◌, ◌++◌, length, Some, None, codes}
+use Rattle.std.specs.Prelude.{◌≡◌, ◌≤◌, ◌<◌, ◌==◌, ◌↔◌, ◌⊎◌, ℕ, List, [], ◌∷◌, ◌++◌, length, Some, None, codes}
 use Rattle.std.specs.List.{join_with_byte, before_first}
 use Rattle.std.specs.Fmt.{decimal}
 use Rattle.cap_rights.specs.Text.{names}
@@ -10,15 +10,13 @@ use Rattle.cap_trace.specs.declared.line.Call.{Call}
 use Rattle.cap_trace.specs.declared.line.Answer.{Answer}
 use Rattle.cap_trace.specs.declared.calls.Kind.{Kind}
 use Rattle.cap_trace.specs.declared.calls.Kind.TheVariants.{Same}
+use Rattle.cap_trace.specs.Limits.{longest_line}
 use Rattle.cap_trace.specs.Names.{name_of}
 use Rattle.cap_trace.specs.Quotes.{place}
-use Rattle.cap_trace.specs.Entry.{Entry, Arg, an_fd, a_dir, some_flags, some_rights, a_path, a_command, a_word, free_text, IsPid, IsFd, IsAnswer, kind_of, args_of, args_of_call, head_of_call}
+use Rattle.cap_trace.specs.Entry.{Entry, Arg, an_fd, a_dir, some_flags, some_rights, a_path, a_command, a_word}
+use Rattle.cap_trace.specs.Entry.{free_text, IsPid, IsFd, IsAnswer, kind_of, args_of, args_of_call, head_of_call}
 use Rattle.cap_trace.specs.Spelling.{SpellsArg, SpellsArgs, answer_text, joined, IsProper}
 use Rattle.cap_trace.specs.Reading.{fault}
-
--- a line has at most so many bytes
-abbrev pub longest_line : ℕ
-longest_line = 1024
 
 -- ---- too many bytes
 
@@ -31,9 +29,11 @@ TooLongExactly = (bytes : List ℕ) → (fault bytes ≡ Some faults.TooLong) �
 abbrev pub SpellsNoPid : List ℕ → Type 0
 SpellsNoPid t = (p : ℕ) → IsPid p → t ≡ decimal p → ⊥
 
--- exactly where, of no more bytes than a line may have, those before the first space (all, where there is none) spell no pid
+-- exactly where, of no more bytes than a line may have, those before the first space (all, where there is none) spell
+-- no pid
 abbrev pub PidExactly : Type 0
-PidExactly = (bytes : List ℕ) → (fault bytes ≡ Some faults.Pid) ↔ ((length bytes ≤ longest_line) × SpellsNoPid (before_first (λ c. c == 32) bytes))
+PidExactly = (bytes : List ℕ) → (fault bytes ≡ Some faults.Pid)
+    ↔ ((length bytes ≤ longest_line) × SpellsNoPid (before_first (λ c. c == 32) bytes))
 
 -- ---- rights
 
@@ -65,7 +65,8 @@ AreAlike (a_command v) (a_command w) = Unit {0}
 AreAlike (a_word v) (a_word w) = Unit {0}
 AreAlike a b = ⊥
 
--- a text that spells no argument of this kind; its quotes are closed, and outside them it has no comma and no closing bracket
+-- a text that spells no argument of this kind; its quotes are closed, and outside them it has no comma and no closing
+-- bracket
 pub record Spoils (t : List ℕ) (a : Arg) : Type 0 where
   pub some : 0 < length t
   pub comma : place 44 (t ++ 44 ∷ []) ≡ Some (length t)
@@ -81,28 +82,33 @@ abbrev pub SpoilsOne : List (List ℕ) → List Arg → ReadFault → Type 0
 SpoilsOne [] given f = ⊥
 SpoilsOne (t ∷ ts) [] f = ⊥
 SpoilsOne (t ∷ ts) (free_text a ∷ others) f = ⊥
-SpoilsOne (t ∷ ts) (a ∷ others) f = (Spoils t a × (SpellsArgs ts others × (f ≡ fault_of_arg a))) ⊎ (SpellsArg t a × SpoilsOne ts others f)
+SpoilsOne (t ∷ ts) (a ∷ others) f =
+    (Spoils t a × (SpellsArgs ts others × (f ≡ fault_of_arg a))) ⊎ (SpellsArg t a × SpoilsOne ts others f)
 
 -- a good line with one argument spoiled has the fault of that argument
 abbrev pub SpoiledArgument : Type 0
-SpoiledArgument = (e : Entry) (texts : List (List ℕ)) (f : ReadFault) → IsProper e → length (joined e texts) ≤ longest_line → SpoilsOne texts (args_of e.item) f → fault (joined e texts) ≡ Some f
+SpoiledArgument = (e : Entry) (texts : List (List ℕ)) (f : ReadFault) → IsProper e
+    → length (joined e texts) ≤ longest_line → SpoilsOne texts (args_of e.item) f → fault (joined e texts) ≡ Some f
 
 -- ---- the answer
 
 -- a call with these texts for its arguments and this text for its answer
 abbrev pub answered : ℕ → Call → List (List ℕ) → List ℕ → List ℕ
-answered pid call texts answer = decimal pid ++ (32 ∷ (name_of (head_of_call call) ++ (40 ∷ (join_with_byte 44 texts ++ (41 ∷ (codes " RET " ++ answer))))))
+answered pid call texts answer = decimal pid
+    ++ (32 ∷ (name_of (head_of_call call) ++ (40 ∷ (join_with_byte 44 texts ++ (41 ∷ (codes " RET " ++ answer))))))
 
 abbrev pub SpellsNoAnswer : Kind → List ℕ → Type 0
 SpellsNoAnswer k t = (a : Answer) → IsAnswer k a → t ≡ answer_text a → ⊥
 
 -- where a call has to answer the descriptor that it was given, another descriptor is a wrong argument
 abbrev pub FaultOfAnswer : Kind → List ℕ → ReadFault → Type 0
-FaultOfAnswer (Same g) t f = (((n : ℕ) × (IsFd n × (t ≡ decimal n))) × (f ≡ faults.Argument)) ⊎ (((n : ℕ) → IsFd n → t ≡ decimal n → ⊥) × (f ≡ faults.Answer))
+FaultOfAnswer (Same g) t f = (((n : ℕ) × (IsFd n × (t ≡ decimal n))) × (f ≡ faults.Argument))
+    ⊎ (((n : ℕ) → IsFd n → t ≡ decimal n → ⊥) × (f ≡ faults.Answer))
 FaultOfAnswer k t f = f ≡ faults.Answer
 
 -- a good line of a call whose answer is spoiled has the fault of the answer
 abbrev pub SpoiledAnswer : Type 0
 SpoiledAnswer = (pid : ℕ) (call : Call) (good : Answer) (texts : List (List ℕ)) (t : List ℕ) (f : ReadFault)
-    → IsProper (record { pid = pid; item = items.Call call good }) → SpellsArgs texts (args_of_call call) → length (answered pid call texts t) ≤ longest_line
+    → IsProper (record { pid = pid; item = items.Call call good }) → SpellsArgs texts (args_of_call call)
+    → length (answered pid call texts t) ≤ longest_line
     → SpellsNoAnswer (kind_of call) t → FaultOfAnswer (kind_of call) t f → fault (answered pid call texts t) ≡ Some f

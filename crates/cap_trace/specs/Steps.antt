@@ -1,4 +1,4 @@
--- Texts that are read byte by byte, with a state.
+-- Texts that are read byte by byte, with a state. Only the code's contracts use this.
 use Rattle.std.specs.Prelude.{ℕ, Bool, false, List, [], ◌∷◌, Option, Some, None}
 
 -- whether each byte may stand where it stands, and the text may end where it ends

@@ -1,4 +1,4 @@
--- Arguments as they are written.
+-- The text of each kind of argument, as it is written.
 use Rattle.std.specs.Prelude.{ℕ, List, [], ◌∷◌, ◌++◌, codes}
 use Rattle.std.specs.Fmt.{decimal}
 use Rattle.cap_rights.specs.Text.{text}

@@ -1,12 +1,15 @@
-//! Reading the answer of a call. Nothing here takes memory.
+//! Reading the answer of a call: what follows ` RET `, by the kind of result that the call has. Nothing here takes
+//! memory.
 
 ghost use Rattle.std.specs.Prelude.{◌≡◌};
+ghost use Rattle.cap_trace.specs.Limits.{largest_fd};
 ghost use Rattle.cap_trace.specs.Number.{num_at};
 ghost use Rattle.cap_trace.specs.Reading.{Gives, number_at, same_at, pair_at, any_at, made_at, answer_at};
 ghost use Rattle.cap_trace.specs.Quotes.{cut_at_byte};
 
 use crate::calls::Kind;
 use crate::fault::ReadFault;
+use crate::limits::{LARGEST_FD, LARGEST_PID};
 use crate::line::Answer;
 use crate::number::number_of;
 use crate::quotes::cut;
@@ -36,9 +39,9 @@ fn number(most: u64, text: &[u8]) -> Result<Answer, ReadFault>
 
 /// The descriptor that the call was given.
 fn same(fd: u32, text: &[u8]) -> Result<Answer, ReadFault>
-    ensures { Gives (λ a. a) result (same_at fd (num_at 1048575 text.now)) }
+    ensures { Gives (λ a. a) result (same_at fd (num_at largest_fd text.now)) }
 {
-    match number_of(1_048_575, text) {
+    match number_of(u64::from(LARGEST_FD), text) {
         Some(made) if made == u64::from(fd) => Ok(Answer::Made(made)),
         Some(_) => Err(ReadFault::Argument),
         None => Err(ReadFault::Answer),
@@ -63,11 +66,11 @@ fn made(kind: Kind, text: &[u8]) -> Result<Answer, ReadFault>
     match kind {
         Kind::Count => number(u64::MAX, text),
         Kind::Zero => number(0, text),
-        Kind::Fd => number(1_048_575, text),
+        Kind::Fd => number(u64::from(LARGEST_FD), text),
         Kind::Same(fd) => same(fd, text),
-        Kind::FdPair => pair(1_048_575, 1_048_575, text),
-        Kind::Child => number(99_999, text),
-        Kind::ChildAndFd => pair(99_999, 1_048_575, text),
+        Kind::FdPair => pair(u64::from(LARGEST_FD), u64::from(LARGEST_FD), text),
+        Kind::Child => number(u64::from(LARGEST_PID), text),
+        Kind::ChildAndFd => pair(u64::from(LARGEST_PID), u64::from(LARGEST_FD), text),
         Kind::Any => any(text),
     }
 }

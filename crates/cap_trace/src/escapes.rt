@@ -1,13 +1,16 @@
-//! Paths of any bytes, as they are written between quotes.
+//! Paths of any bytes, as they are written between quotes: `\"`, `\\`, and `\x` with two digits for a byte that isn't
+//! printable.
 
-ghost use Rattle.std.specs.Prelude.{◌≡◌, ◌++◌, ◌<◌, IfOk, OnOk};
+ghost use Rattle.std.specs.Prelude.{◌≡◌, ◌++◌, ◌<◌, IfOk, OnOk, option_map};
 ghost use Rattle.cap_trace.specs.declared.fault.LineFault.TheVariants.{Argument};
-ghost use Rattle.cap_trace.specs.Escaping.{hex_of, escape_of, escaped, lacks_zero};
+ghost use Rattle.cap_trace.specs.Escaping.{hex_of, escape_of, escaped, lacks_zero, hex_byte, first_byte, SpellsBytes};
+ghost use Rattle.cap_trace.specs.Escaping.{OnePath};
 ghost use Rattle.cap_trace.specs.Making.{MakesWhere};
 
 use crate::fault::LineFault;
-use crate::fields::plain;
+use crate::fields::{hex_value, plain};
 use crate::line::Path;
+use cap_rights::NoMemory;
 use std::alloc::{AllocError, Global};
 
 /// A hexadecimal digit, in lower case.
@@ -50,6 +53,31 @@ fn has_no_zero(bytes: &[u8]) -> bool
     bytes.iter().all(|byte| *byte != 0)
 }
 
+/// The byte that two hexadecimal digits write, and what follows them.
+fn hex_pair(text: &[u8]) -> Option<(u8, &[u8])>
+    ensures { option_map (λ p. (p.0, p.1.now)) result ≡ hex_byte text.now }
+{
+    match text {
+        [high, low, rest @ ..] => Some((16 * hex_value(*high)? + hex_value(*low)?, rest)),
+        _ => None,
+    }
+}
+
+/// The byte that the first item of a text spells, and what follows the item.
+fn first_item(text: &[u8]) -> Option<(u8, &[u8])>
+    ensures { option_map (λ p. (p.0, p.1.now)) result ≡ first_byte text.now }
+{
+    let (first, rest) = text.split_first()?;
+    if *first != b'\\' {
+        return Some((*first, rest));
+    }
+    let (second, rest) = rest.split_first()?;
+    if *second != b'x' {
+        return Some((*second, rest));
+    }
+    hex_pair(rest)
+}
+
 impl Path {
     /// The path of these bytes, as it is written: printable bytes stand for themselves, `"` and `\` follow a `\`,
     /// and any other byte is `\x` and its two hexadecimal digits.
@@ -69,4 +97,27 @@ impl Path {
             Err(_) => Err(LineFault::Memory),
         }
     }
+
+    /// The bytes of the path: those whose text, as [`Path::escape`] writes it, stands between the quotes.
+    ///
+    /// # Errors
+    ///
+    /// [`NoMemory`] where memory ran out.
+    pub fn unescape(&self, alloc: Global) -> Result<Vec<u8>, NoMemory>
+        ensures { IfOk result (λ v. SpellsBytes self.now v.items) }
+    {
+        let mut bytes = Vec::new(alloc);
+        let mut text = self.items.as_slice();
+        while let Some((byte, rest)) = first_item(text) {
+            bytes.push(byte)?;
+            text = rest;
+        }
+        Ok(bytes)
+    }
 }
+
+/// A text spells the bytes of one path at most: what [`Path::unescape`] finds in what [`Path::escape`] wrote of some
+/// bytes is those bytes.
+pub fn one_path()
+    ensures { OnePath }
+{}

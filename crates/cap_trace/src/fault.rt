@@ -1,4 +1,4 @@
-//! Why a line could not be read.
+//! Why a line could not be read: the faults that `docs/FORMAT.md` numbers E1 to E6, and out of memory.
 
 use thiserror::Error;
 

@@ -1,9 +1,10 @@
 //! Flags, commands and paths, byte by byte.
 
-ghost use Rattle.std.specs.Prelude.{◌≡◌, ◌==◌};
+ghost use Rattle.std.specs.Prelude.{◌≡◌, ◌==◌, ◌<◌, IfSome};
 ghost use Rattle.std.specs.List.{list_all, slice_split};
 ghost use Rattle.cap_trace.specs.FlagSteps.{flag_step};
-ghost use Rattle.cap_trace.specs.Fields.{is_flag_byte, is_word, is_flags, is_plain, hex_digit, is_escaped, item_step, is_between, are_items, is_free};
+ghost use Rattle.cap_trace.specs.Fields.{is_flag_byte, is_word, is_flags, is_plain, hex_digit, is_escaped, item_step};
+ghost use Rattle.cap_trace.specs.Fields.{is_between, are_items, is_free};
 ghost use Rattle.cap_trace.specs.Spelling.{is_command};
 
 fn flag_byte(byte: u8) -> bool
@@ -91,8 +92,9 @@ pub(crate) fn plain(byte: u8) -> bool
 }
 
 /// The value of a hexadecimal digit in lower case.
-fn hex_value(byte: u8) -> Option<u8>
-    ensures { result ≡ hex_digit byte }
+pub(crate) fn hex_value(byte: u8) -> Option<u8>
+    ensures value { result ≡ hex_digit byte }
+    ensures bound { IfSome result (λ d. d < 16) }
 {
     match byte {
         b'0'..=b'9' => Some(byte - b'0'),

@@ -1,4 +1,4 @@
-//! The forms of calls and markers. Nothing here takes memory.
+//! Reading the arguments of each form of call and marker, one function for each form. Nothing here takes memory.
 
 ghost use Rattle.std.specs.Prelude.{◌≡◌, [], ◌∷◌};
 ghost use Rattle.cap_trace.specs.declared.calls.Form.TheVariants as forms;
@@ -14,7 +14,7 @@ use crate::calls::{
 };
 use crate::fault::ReadFault;
 use crate::parts::Parts;
-use crate::reading::{
+use crate::scan_fields::{
     command_of, dir_of, fd_of, five_parts, flags_of, four_parts, free_of, no_part, one_part,
     path_of, rights_of, three_parts, two_parts,
 };
@@ -191,7 +191,8 @@ fn fcntl_two<'a>(fd: &[u8], word: &'a [u8]) -> Result<CallSeen<'a>, ReadFault>
 /// `fcntl(fd,F_SETFD,flags)`, `fcntl(fd,F_DUP2FD,fd)`, `fcntl(fd,F_DUP2FD_CLOEXEC,fd)`
 #[tactic(auto, unfolding(crate::specs::Reading::said_at, crate::specs::Reading::args_at, crate::specs::Reading::arg_at))]
 fn fcntl_three<'a>(fd: &[u8], word: &[u8], third: &'a [u8]) -> Result<CallSeen<'a>, ReadFault>
-    ensures { Gives (λ c. a_call (call_seen c)) result (said_at (listed forms.Fcntl) (fd.now ∷ word.now ∷ third.now ∷ [])) }
+    ensures { Gives (λ c. a_call (call_seen c)) result
+        (said_at (listed forms.Fcntl) (fd.now ∷ word.now ∷ third.now ∷ [])) }
 {
     if word == b"F_SETFD".as_slice() {
         return Ok(CallSeen::FcntlSetFd(fd_of(fd)?, flags_of(third)?));

@@ -1,6 +1,8 @@
-//! Laws of reading: facts about the definitions, each on a function that does nothing.
+//! Laws of reading, beyond what the contract of each call says. Each function does nothing: its contract is what it
+//! says.
 
-ghost use Rattle.cap_trace.specs.Spoiled.{TooLongExactly, PidExactly, RightOnlyOfLimits, SpoiledArgument, SpoiledAnswer};
+ghost use Rattle.cap_trace.specs.Spoiled.{TooLongExactly, PidExactly, RightOnlyOfLimits, SpoiledArgument};
+ghost use Rattle.cap_trace.specs.Spoiled.{SpoiledAnswer};
 
 /// The fault of a line is that of the field that is wrong.
 pub fn faults_are_of_their_fields()

@@ -1,4 +1,5 @@
-//! What a line says.
+//! What a line says: its process, and a call with its answer, or a marker. A [`Line`] is always one that some bytes
+//! spell.
 
 ghost use Rattle.std.specs.Prelude.{◌≡◌, List, ℕ};
 
@@ -10,10 +11,10 @@ use crate::names::Head;
 use cap_rights::RightSet;
 use std::marker::Model;
 
-/// The number of a process, from 1 to 99,999.
+/// The number of a process, from 1 to [`crate::LARGEST_PID`].
 pub type Pid = u32;
 
-/// A descriptor, from 0 to 1,048,575.
+/// A descriptor, from 0 to [`crate::LARGEST_FD`].
 pub type Fd = u32;
 
 /// Descriptors, each above the one before it.
@@ -37,16 +38,22 @@ impl Fds {
     }
 }
 
-/// A path, as it is spelled between its quotes.
+/// A path, as it is spelled between its quotes: printable bytes stand for themselves, `"` and `\` follow a `\`, and any
+/// other byte but 0 is `\x` and its two hexadecimal digits in lower case.
 #[derive(Debug, Drop)]
 pub struct Path {
     pub(crate) items: Vec<u8>,
 }
 
 impl Model for Path {
+    ghost use Rattle.std.specs.Prelude.{List, ℕ, IsTrue};
+    ghost use Rattle.cap_trace.specs.Fields.{are_items};
+
     ghost Value = { List ℕ };
 
     ghost view = { λ x. x.items.items };
+
+    ghost invariant = { λ x. IsTrue (are_items x.items.items) };
 }
 
 impl Path {
@@ -220,8 +227,8 @@ pub enum Item {
     Foreign(Fd),
 }
 
-/// A line of a trace. Some text of at most 1,024 bytes spells it: [`Line::new`] makes only such lines, and a caller that
-/// writes the struct itself has to prove it.
+/// A line of a trace. Some text of at most 1,024 bytes spells it: [`Line::new`] makes only such lines, and a caller
+/// that writes the struct itself has to prove it.
 #[derive(Debug, Drop)]
 pub struct Line {
     pub pid: Pid,

@@ -4,15 +4,18 @@ ghost use Rattle.std.specs.Prelude.{◌≡◌, ◌&&◌, IfOk, length, nat_le};
 ghost use Rattle.std.specs.List.{list_all};
 ghost use Rattle.cap_trace.specs.declared.fault.LineFault.TheVariants as faults;
 ghost use Rattle.cap_trace.specs.declared.line.Answer.TheVariants as answers;
+ghost use Rattle.cap_trace.specs.Limits.{longest_line};
 ghost use Rattle.cap_trace.specs.Fields.{is_flags, are_items, is_free};
 ghost use Rattle.cap_trace.specs.Names.{unlisted};
 ghost use Rattle.cap_trace.specs.Entry.{args_of_call, head_of_call, kind_of, a_dir};
 ghost use Rattle.cap_trace.specs.Spelling.{is_command, canon};
-ghost use Rattle.cap_trace.specs.Making.{MakesWhere, IsLineOf, is_fd, is_pid, is_good, are_good, is_head, is_answer, all_rise, is_good_item, is_named, has_named_rights, has_text};
+ghost use Rattle.cap_trace.specs.Making.{MakesWhere, IsLineOf, is_fd, is_pid, is_good, are_good, is_head, is_answer};
+ghost use Rattle.cap_trace.specs.Making.{all_rise, is_good_item, is_named, has_named_rights, has_text};
 
 use crate::calls::{Form, Kind};
 use crate::fault::LineFault;
 use crate::fields::{command, flags, free, items};
+use crate::limits::{LARGEST_FD, LARGEST_PID, LONGEST_LINE};
 use crate::line::{Answer, Args, Call, Command, Dir, Fd, Fds, Flags, Item, Line, Name, Path, Pid};
 use crate::names::{Head, form_of, is_call_name};
 use crate::seen::fcntl_kind;
@@ -147,13 +150,13 @@ fn is_other_name(text: &[u8]) -> bool
 fn fd_fits(fd: Fd) -> bool
     ensures { result ≡ is_fd fd }
 {
-    fd <= 1_048_575
+    fd <= LARGEST_FD
 }
 
 fn pid_fits(pid: Pid) -> bool
     ensures { result ≡ is_pid pid }
 {
-    0 < pid && pid <= 99_999
+    0 < pid && pid <= LARGEST_PID
 }
 
 fn dir_fits(dir: Dir) -> bool
@@ -261,9 +264,9 @@ fn number_fits(kind: Kind, number: u64) -> bool
     match kind {
         Kind::Count | Kind::Any => true,
         Kind::Zero => number == 0,
-        Kind::Fd => number <= 1_048_575,
-        Kind::Same(fd) => number == u64::from(fd) && number <= 1_048_575,
-        Kind::Child => number <= 99_999,
+        Kind::Fd => number <= u64::from(LARGEST_FD),
+        Kind::Same(fd) => number == u64::from(fd) && number <= u64::from(LARGEST_FD),
+        Kind::Child => number <= u64::from(LARGEST_PID),
         Kind::FdPair | Kind::ChildAndFd => false,
     }
 }
@@ -274,8 +277,8 @@ fn pair_fits(kind: Kind, first: u64, second: u64) -> bool
 {
     match kind {
         Kind::Any => true,
-        Kind::FdPair => first <= 1_048_575 && second <= 1_048_575,
-        Kind::ChildAndFd => first <= 99_999 && second <= 1_048_575,
+        Kind::FdPair => first <= u64::from(LARGEST_FD) && second <= u64::from(LARGEST_FD),
+        Kind::ChildAndFd => first <= u64::from(LARGEST_PID) && second <= u64::from(LARGEST_FD),
         Kind::Count | Kind::Zero | Kind::Fd | Kind::Same(_) | Kind::Child => false,
     }
 }
@@ -338,11 +341,11 @@ fn fields_fit(alloc: Global, pid: Pid, item: &Item) -> Result<bool, NoMemory>
 }
 
 fn text_fits(alloc: Global, pid: Pid, item: &Item) -> Result<bool, NoMemory>
-    ensures { IfOk result (λ b. b ≡ nat_le (length (canon (record { pid = pid; item = item.now }))) 1024) }
+    ensures { IfOk result (λ b. b ≡ nat_le (length (canon (record { pid = pid; item = item.now }))) longest_line) }
 {
     let mut text = Vec::new(alloc);
     match put_text(pid, item, &mut text) {
-        Ok(()) => Ok(text.len() <= 1024),
+        Ok(()) => Ok(text.len() <= LONGEST_LINE),
         Err(_) => Err(NoMemory),
     }
 }

@@ -3,7 +3,8 @@
 ghost use Rattle.std.specs.Prelude.{◌≡◌, ◌<◌, ◌↔◌, length, IfSome, IsNone};
 ghost use Rattle.std.specs.Option.{option_map};
 ghost use Rattle.std.specs.List.{list_all};
-ghost use Rattle.cap_trace.specs.Names.{row_of, dup_command_name, form_named, is_name, is_name_byte, name_of, head_named};
+ghost use Rattle.cap_trace.specs.Names.{row_of, dup_command_name, form_named, is_name, is_name_byte, name_of};
+ghost use Rattle.cap_trace.specs.Names.{head_named};
 ghost use Rattle.cap_trace.specs.Names as names;
 ghost use Rattle.cap_trace.specs.Buckets.{bucket_at, first_in};
 ghost use Rattle.cap_trace.specs.Rows.{row_seen, head_seen};

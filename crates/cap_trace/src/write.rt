@@ -1,4 +1,4 @@
-//! Writing a line.
+//! Writing a line in its one canonical text ([`write_line`]).
 //!
 //! What a function here wrote before memory ran out stays in the vector; `write_line` takes it off again.
 
@@ -83,7 +83,8 @@ fn put_arguments(arguments: &[Shown<'_>], out: &mut Vec<u8>) -> Result<(), Alloc
 
 /// The arguments of a call.
 fn put_call(call: &Call, out: &mut Vec<u8>) -> Result<(), AllocError>
-    ensures ok { OnOk result (out.new.items ≡ out.old.items ++ join_with_byte 44 (map arg_text (args_of_call call.now))) }
+    ensures ok { OnOk result
+        (out.new.items ≡ out.old.items ++ join_with_byte 44 (map arg_text (args_of_call call.now))) }
     ensures err { OnErr result (take (length out.old.items) out.new.items ≡ out.old.items) }
 {
     match call {
@@ -249,7 +250,8 @@ fn put_tail(item: &Item, out: &mut Vec<u8>) -> Result<(), AllocError>
 
 /// What stands before the arguments.
 fn put_head(pid: Pid, item: &Item, out: &mut Vec<u8>) -> Result<(), AllocError>
-    ensures ok { OnOk result (out.new.items ≡ out.old.items ++ (decimal pid ++ (32 ∷ (name_of (head_of item.now) ++ 40 ∷ [])))) }
+    ensures ok { OnOk result
+        (out.new.items ≡ out.old.items ++ (decimal pid ++ (32 ∷ (name_of (head_of item.now) ++ 40 ∷ [])))) }
     ensures err { OnErr result (take (length out.old.items) out.new.items ≡ out.old.items) }
 {
     put_number(u64::from(pid), out)?;

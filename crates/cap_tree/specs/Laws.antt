@@ -1,4 +1,5 @@
--- What a reader may rely on, beyond the definitions. Each law stands on a public function of the crate.
+-- What a reader may rely on, beyond the definitions: that `bits` counts binary digits. Each law is the contract of a
+-- public function.
 use Rattle.std.specs.Prelude.{ℕ, ◌-◌, ◌^◌, ◌<◌, ◌≤◌}
 use Rattle.cap_tree.specs.Bits.{bits}
 

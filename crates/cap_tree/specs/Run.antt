@@ -1,4 +1,4 @@
--- A run of shared items.
+-- A run of shared items, as a leaf holds it, is seen as the list of the items.
 use Rattle.std.specs.Prelude.{List, map}
 use Rattle.std.specs.declared.rc.Rc.{Rc}
 

@@ -5,8 +5,8 @@
 //! - [`Meter`] counts the joins that were made. An edit of `n` items makes at most `12 * bits n + 12` joins, where
 //!   `bits n` is the number of binary digits of `n`.
 //!
-//! A call allocates with the allocator that it is given. If an allocation is refused it answers [`NoMemory`], and all trees
-//! that were there before are as they were.
+//! A call allocates with the allocator that it is given. If an allocation is refused it answers [`NoMemory`], and all
+//! trees that were there before are as they were.
 //!
 //! ```
 //! let mut meter = Meter::new();

@@ -1,4 +1,4 @@
-//! A count of joins.
+//! A count of the joins that were made, by which contracts bound what an edit costs.
 ghost use Rattle.std.specs.Prelude.{◌≡◌, ℕ, ◌+◌, ◌^◌, ◌<◌};
 
 use std::marker::Model;

@@ -1,4 +1,4 @@
-//! Out of memory.
+//! The error of a call whose allocation was refused.
 
 use std::alloc::{AllocError, AllocFailed};
 use thiserror::Error;

@@ -3,7 +3,9 @@
 //! A leaf holds a run of items and one summary of them, since a summary of each single item would take far more memory
 //! than the items. A node's height is 0 for a leaf, else that of the higher part and one, and two parts are at most one
 //! apart. An edit makes anew the leaf that holds its place and the nodes above it, and shares all others.
-ghost use Rattle.std.specs.Prelude.{◌≡◌, ℕ, ◌+◌, ◌-◌, ◌*◌, ◌/◌, ◌^◌, ◌<◌, ◌≤◌, min, max, List, [], ◌∷◌, ◌++◌, length, vec_len, insert, remove, slice_get, slice_range, slice_set, Some, IfOk, OnOk, MatchOption};
+ghost use Rattle.std.specs.Prelude.{◌≡◌, ℕ, ◌+◌, ◌-◌, ◌*◌, ◌/◌, ◌^◌, ◌<◌, ◌≤◌, min, max, List, [], ◌∷◌, ◌++◌, length};
+ghost use Rattle.std.specs.Prelude.{vec_len, insert, remove, slice_get, slice_range, slice_set, Some, IfOk, OnOk};
+ghost use Rattle.std.specs.Prelude.{MatchOption};
 ghost use Rattle.cap_tree.specs.Heights.{DifferByAtMost, SettlesAt, HaveLostOne, IsLeastHeight};
 ghost use Rattle.cap_tree.specs.Run.{values};
 
@@ -439,7 +441,8 @@ impl<S: Segment> Node<S> {
         requires in_range { at < length self.now.0 }
         ensures not_before { result.1 ≤ at }
         ensures within { result.1 < length result.0.now }
-        ensures run { values result.0.now ≡ slice_range self.now.0 (at - result.1) (at - result.1 + length result.0.now) }
+        ensures run { values result.0.now
+            ≡ slice_range self.now.0 (at - result.1) (at - result.1 + length result.0.now) }
     {
         match &self.shape {
             Shape::Leaf(run) => (run.as_slice(), at),
@@ -498,8 +501,10 @@ impl<S: Segment> Node<S> {
     ) -> Result<Option<Rc<Node<S>>>, NoMemory>
         requires in_range { at < length self.now.0 }
         requires room { meter.old + 2 ^ 32 < 2 ^ 64 }
-        ensures items { IfOk result (λ o. MatchOption o (remove self.now.0 at ≡ []) (λ n. n.value.0 ≡ remove self.now.0 at)) }
-        ensures height { IfOk result (λ o. MatchOption o (self.now.1 ≡ 0) (λ n. (self.now.1 ≤ n.value.1 + 1) × (n.value.1 ≤ self.now.1))) }
+        ensures items { IfOk result
+            (λ o. MatchOption o (remove self.now.0 at ≡ []) (λ n. n.value.0 ≡ remove self.now.0 at)) }
+        ensures height { IfOk result
+            (λ o. MatchOption o (self.now.1 ≡ 0) (λ n. (self.now.1 ≤ n.value.1 + 1) × (n.value.1 ≤ self.now.1))) }
         ensures not_less { meter.old ≤ meter.new }
         ensures joins { meter.new ≤ meter.old + min LEAF_ITEMS (length self.now.0) + 3 * self.now.1 }
     {

@@ -1,5 +1,6 @@
 //! Runs of shared items, as a leaf holds them. Each is made with room for its items and no more.
-ghost use Rattle.std.specs.Prelude.{◌≡◌, ℕ, ◌+◌, ◌^◌, ◌<◌, ◌≤◌, [], ◌∷◌, ◌++◌, length, insert, remove, slice_set, IfOk, OnOk};
+ghost use Rattle.std.specs.Prelude.{◌≡◌, ℕ, ◌+◌, ◌^◌, ◌<◌, ◌≤◌, [], ◌∷◌, ◌++◌, length, insert, remove, slice_set, IfOk};
+ghost use Rattle.std.specs.Prelude.{OnOk};
 ghost use Rattle.cap_tree.specs.Run.{values};
 
 use crate::no_memory::NoMemory;

@@ -1,4 +1,4 @@
-//! What can sum up a list of items.
+//! What can sum up a list of items. The clauses of the trait are the laws that the tree rests on.
 ghost use Rattle.std.specs.Prelude.{◌≡◌, ℕ, ◌+◌, ◌^◌, ◌<◌, ◌≤◌, List, [], ◌∷◌, ◌++◌, length, IfOk, OnOk};
 
 use crate::meter::Meter;

@@ -1,5 +1,8 @@
-//! A list of items with a summary of it.
-ghost use Rattle.std.specs.Prelude.{◌≡◌, ℕ, ◌+◌, ◌-◌, ◌*◌, ◌^◌, ◌<◌, ◌≤◌, ◌==◌, [], length, map, insert, remove, slice_get, slice_range, slice_set, vec_len, Some, IfOk, OnOk};
+//! A list of items with a summary of it: what this crate's callers use.
+//!
+//! A contract sees a tree as its list. The nodes, their heights and their leaves stand in `node` and `run`.
+ghost use Rattle.std.specs.Prelude.{◌≡◌, ℕ, ◌+◌, ◌-◌, ◌*◌, ◌^◌, ◌<◌, ◌≤◌, ◌==◌, [], length, map, insert, remove};
+ghost use Rattle.std.specs.Prelude.{slice_get, slice_range, slice_set, vec_len, Some, IfOk, OnOk};
 ghost use Rattle.cap_tree.specs.Bits.{bound};
 ghost use Rattle.cap_tree.specs.Run.{values};
 
@@ -15,10 +18,10 @@ use std::rc::Rc;
 
 /// A list of items with a summary of it. A contract sees the list.
 ///
-/// Places count from 0. An edit gives a new tree, which shares with the old one all parts that are the same; the old one
-/// stays as it was, even if the edit answers `NoMemory`, which it does only if an allocation was refused. A tree has at
-/// most `2 ^ 30` items. Each call that takes a meter needs room for `2 ^ 32` joins on it, and counts its joins there: the
-/// bound on them holds after `NoMemory` too.
+/// Places count from 0. An edit gives a new tree, which shares with the old one all parts that are the same; the old
+/// one stays as it was, even if the edit answers `NoMemory`, which it does only if an allocation was refused. A tree
+/// has at most `2 ^ 30` items. Each call that takes a meter needs room for `2 ^ 32` joins on it, and counts its joins
+/// there: the bound on them holds after `NoMemory` too.
 #[derive(Drop)]
 pub struct Tree<S: Segment> {
     root: Root<S>,
@@ -42,8 +45,8 @@ impl<S: Segment> Model for Tree<S> {
     ghost invariant = { λ t. IsSummedUp S.stands t.root };
 }
 
-/// A clone is the same list. It shares all nodes with the tree, takes constant time and allocates nothing. It fails only if
-/// there are so many clones that they can't be counted.
+/// A clone is the same list. It shares all nodes with the tree, takes constant time and allocates nothing. It fails
+/// only if there are so many clones that they can't be counted.
 impl<S: Segment> Clone for Tree<S> {
     ghost is_clone = { λ tree copy. copy ≡ tree };
 
@@ -131,8 +134,8 @@ impl<S: Segment> Tree<S> {
         }
     }
 
-    /// The items at the places of a range, from the left. The range must not end before it starts, nor after the last item.
-    /// Allocates nothing, and descends the tree once for each leaf.
+    /// The items at the places of a range, from the left. The range must not end before it starts, nor after the last
+    /// item. Allocates nothing, and descends the tree once for each leaf.
     pub fn range(&self, range: Range<usize>) -> Items<'_, S>
         requires in_order { range.start ≤ range.end }
         requires in_range { range.end ≤ length self.now }

@@ -1,5 +1,5 @@
-//! Tests of the tree over two segments: one is its list, the other counts joins and refuses summaries by cells that its
-//! items share.
+//! Tests of cap_tree over two segments: one is its list, the other counts joins and refuses summaries by cells that its
+//! items share. They stand in a crate of their own, so that a check of cap_tree doesn't prove them again.
 #![tactic(auto)]
 
 #[cfg(test)]

@@ -1,4 +1,4 @@
-//! A segment that is its list of numbers.
+//! A segment that is its list of numbers, so that a summary can be compared with the items.
 ghost use Rattle.std.specs.Prelude.{◌≡◌, ◌++◌, length, IfOk};
 ghost use Rattle.std.proofs.Common.{ap};
 

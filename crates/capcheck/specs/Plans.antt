@@ -1,4 +1,5 @@
--- What the words of the command line ask for.
+-- What the words of the command line ask for, said by `clap`'s own functions: which words ask for which run, which
+-- for help, and which are a mistake. `Fits` is the contract of `plan_of`.
 use Rattle.std.specs.Prelude.{◌≡◌, ◌⊎◌, List, [], Option, Some, None, codes, option_map}
 use Rattle.std.specs.Prelude.{option_and_then, if◌then◌else◌}
 use Rattle.std.specs.Str.{bytes_eq}

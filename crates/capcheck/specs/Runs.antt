@@ -1,4 +1,5 @@
--- What a run reads and writes, and the status that it ends with.
+-- What a run reads and writes, and the status that it ends with. `Answers` is the contract of `answer`, which is the
+-- whole program but for its arguments and its devices.
 use Rattle.std.specs.Prelude.{◌≡◌, ◌⊎◌, ℕ, List, Option, Some, None}
 use Rattle.std.specs.Option.{option_map}
 use Rattle.std.specs.Borrow.{Bor}

@@ -1,4 +1,4 @@
--- Where a text is read from, and what is known of it.
+-- What is known of the text that a name stands for: nothing, as of a file, that there is none, or its bytes.
 use Rattle.std.specs.Prelude.{◌≡◌, ℕ, Bool, true, false, List, Option, Some}
 use Rattle.capcheck.specs.declared.texts.Opened.{Opened}
 use Rattle.capcheck.specs.declared.texts.Opened.TheVariants.{File, Standard}

@@ -1,8 +1,12 @@
-//! What the words of the command line ask for.
+//! What the words of the command line ask for: a check, an edit, help, or nothing, where they are a mistake.
+//!
+//! `clap` reads the words. [`plan_of`] makes a [`Plan`] of its matches or of its error.
 ghost use Rattle.std.specs.Prelude.{◌≡◌, IfOk, IsTrue, Some, ◌↔◌, map, option_and_then, option_map};
-ghost use Rattle.clap.specs.Words.{FailsBy, fault_of, first_of, found_of, kind_of, rows_of, subcommand_of, subcommand_rows_of};
+ghost use Rattle.clap.specs.Words.{FailsBy, fault_of, first_of, found_of, kind_of, rows_of, subcommand_of};
+ghost use Rattle.clap.specs.Words.{subcommand_rows_of};
 ghost use Rattle.capcheck.specs.CommandLine.{capcheck};
-ghost use Rattle.capcheck.specs.Plans.{Fits, IsRequest, TellsKind, TellsMistake, check_among, edit_among, profile_among, profile_named, run_in, run_of, seen};
+ghost use Rattle.capcheck.specs.Plans.{Fits, IsRequest, TellsKind, TellsMistake, check_among, edit_among};
+ghost use Rattle.capcheck.specs.Plans.{profile_among, profile_named, run_in, run_of, seen};
 
 use crate::words::command;
 use cap_machine::Profile;

@@ -1,4 +1,7 @@
-//! What the program does, over any runtime.
+//! What the program does with its words: it opens the texts, makes the check or the edit, says on standard error why
+//! there is no answer, and ends with the exit status.
+//!
+//! [`run`] takes words and devices from the runtime. [`answer`] is all the rest, over any texts and any output.
 
 ghost use Rattle.std.specs.Prelude.{◌≡◌, ◌≤◌, None, Some, map};
 ghost use Rattle.std.specs.Option.{option_map};
@@ -67,7 +70,8 @@ pub fn answer<T: Texts, W: Sink, R: Print + Eprint + AllocGlobal>(
     words: &[&str],
 ) -> u8
     requires { 1 ≤ (W.state output.old).room }
-    ensures { Answers (map (λ w. w.now) words.entry.now) (T.known texts.now) (W.state output.old) (W.state output.new) result }
+    ensures { Answers (map (λ w. w.now) words.entry.now) (T.known texts.now) (W.state output.old)
+        (W.state output.new) result }
 {
     carry_out(rt, texts, output, plan_of(rt.alloc(), words))
 }
@@ -122,7 +126,8 @@ pub fn check<T: Texts, W: Sink>(
     trace: Option<&str>,
 ) -> Outcome
     requires { 1 ≤ (W.state report.old).room }
-    ensures { ChecksText profile (known_start (T.known texts.now) start.entry) (T.known texts.now (seen trace.entry)) (W.state report.old) (W.state report.new) result }
+    ensures { ChecksText profile (known_start (T.known texts.now) start.entry) (T.known texts.now (seen trace.entry))
+        (W.state report.old) (W.state report.new) result }
 {
     match start {
         None => check_usual(alloc, texts, report, profile, trace),
@@ -139,7 +144,8 @@ fn check_usual<T: Texts, W: Sink>(
     trace: Option<&str>,
 ) -> Outcome
     requires { 1 ≤ (W.state report.old).room }
-    ensures { ChecksText profile None (T.known texts.now (seen trace.entry)) (W.state report.old) (W.state report.new) result }
+    ensures { ChecksText profile None (T.known texts.now (seen trace.entry)) (W.state report.old)
+        (W.state report.new) result }
 {
     let Ok(mut trace) = texts.open(trace) else {
         return Outcome::ReadFault;
@@ -157,7 +163,8 @@ fn check_from<T: Texts, W: Sink>(
     trace: Option<&str>,
 ) -> Outcome
     requires { 1 ≤ (W.state report.old).room }
-    ensures { ChecksText profile (Some (T.known texts.now (Some start.now))) (T.known texts.now (seen trace.entry)) (W.state report.old) (W.state report.new) result }
+    ensures { ChecksText profile (Some (T.known texts.now (Some start.now))) (T.known texts.now (seen trace.entry))
+        (W.state report.old) (W.state report.new) result }
 {
     let Ok(mut start) = texts.open(Some(start)) else {
         return Outcome::ReadFault;
@@ -179,7 +186,8 @@ pub fn edit<T: Texts, W: Sink>(
     script: Option<&str>,
 ) -> Outcome
     requires { 1 ≤ (W.state replies.old).room }
-    ensures { EditsText profile (T.known texts.now (Some trace.now)) (T.known texts.now (seen script.entry)) (W.state replies.old) (W.state replies.new) result }
+    ensures { EditsText profile (T.known texts.now (Some trace.now)) (T.known texts.now (seen script.entry))
+        (W.state replies.old) (W.state replies.new) result }
 {
     let Ok(mut trace) = texts.open(Some(trace)) else {
         return Outcome::ReadFault;

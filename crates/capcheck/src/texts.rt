@@ -1,4 +1,8 @@
-//! The texts that a run reads, by their names.
+//! The texts that a run reads, by their names: [`Texts`] for any source of texts, and [`SystemTexts`] for files and
+//! standard input.
+//!
+//! Contracts say of a text what is known of its bytes. Of a file they know nothing; over texts in memory, as in the
+//! tests, they know all.
 ghost use Rattle.std.specs.Prelude.{◌≡◌, ◌^◌, ◌≤◌, List, ℕ, Option, IfErr, IfOk, is_some};
 ghost use Rattle.std.specs.Option.{option_map};
 ghost use Rattle.capcheck.specs.Texts.{Gives, Known, MayFail, is_file, remaining_of, unknown};
@@ -19,7 +23,8 @@ pub trait Texts {
 
     /// Opens the text of this name, or standard input where there is none.
     fn open(&self, name: Option<&str>) -> Result<Self::Reader, Failed>
-        ensures text { IfOk result (λ r. Gives (known self.now (option_map (λ n. n.now) name.entry)) (Self.Reader.state r).bytes) }
+        ensures text { IfOk result
+            (λ r. Gives (known self.now (option_map (λ n. n.now) name.entry)) (Self.Reader.state r).bytes) }
         ensures room { IfOk result (λ r. 2 ^ 32 ≤ (Self.Reader.state r).room) }
         ensures fails { IfErr result (λ _. MayFail (known self.now (option_map (λ n. n.now) name.entry))) };
 }

@@ -1,8 +1,11 @@
-//! The command line, as `clap` is given it.
+//! The command line, as `clap` is given it: the two commands and their arguments. The texts of help stand in `help`.
+//!
+//! The contract of [`command`] says that it builds the command line which `specs/CommandLine.antt` has as a value.
 ghost use Rattle.std.specs.Prelude.{◌≡◌, IfOk, false};
 ghost use Rattle.clap.specs.Words.{app_of, rule_of, shape_of};
 ghost use Rattle.clap.specs.declared.builder.command.Command.TheViews.{out-Command};
-ghost use Rattle.capcheck.specs.CommandLine.{bare_words, capcheck, check_words, edit_words, needed_trace_rule, profile_rule, script_rule, start_rule, trace_rule};
+ghost use Rattle.capcheck.specs.CommandLine.{bare_words, capcheck, check_words, edit_words, needed_trace_rule};
+ghost use Rattle.capcheck.specs.CommandLine.{profile_rule, script_rule, start_rule, trace_rule};
 
 use crate::help;
 use clap::{Arg, Command};

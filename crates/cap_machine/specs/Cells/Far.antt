@@ -1,4 +1,5 @@
--- The cells of the descriptors from 2 ^ 20 on, which no trace has: one cell for all, and then step by step what was done to them.
+-- The cells of the descriptors from 2 ^ 20 on, which no trace has: one cell for all, and then step by step what was
+-- done to them.
 use Rattle.std.specs.Prelude.{ℕ, ◌==◌, nat_le, if◌then◌else◌, List, [], ◌∷◌}
 use Rattle.cap_machine.specs.declared.cell.Cell.{Cell}
 use Rattle.cap_machine.specs.declared.cell.Cell.TheVariants.{Closed}

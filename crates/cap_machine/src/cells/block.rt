@@ -1,4 +1,4 @@
-//! The cells of 256 descriptors.
+//! The cells of 256 descriptors: two levels of nodes under a name of their own, which keeps the prover's terms small.
 
 use crate::cell::Cell;
 use crate::cells::leaf::Leaf;

@@ -34,8 +34,8 @@ impl Step {
     }
 }
 
-/// The cells of the descriptors from 2 ^ 20 on: one cell for all, and then what was done. No trace has such a descriptor, so
-/// nothing is done to a single one there.
+/// The cells of the descriptors from 2 ^ 20 on: one cell for all, and then what was done. No trace has such a
+/// descriptor, so nothing is done to a single one there.
 #[derive(Drop)]
 pub(crate) struct Far {
     first: Cell,

@@ -1,4 +1,4 @@
-//! The cells of 1,048,576 descriptors.
+//! The cells of 1,048,576 descriptors: two more levels of nodes over `region`, under a name of their own.
 
 use crate::cell::Cell;
 use crate::cells::node::Node;
@@ -8,7 +8,8 @@ use crate::cells::subtree::Subtree;
 use cap_rights::NoMemory;
 use std::alloc::{AllocError, Global};
 
-/// The cells of 1,048,576 descriptors that stand next to each other. A type of its own keeps what is to be proved small.
+/// The cells of 1,048,576 descriptors that stand next to each other. A type of its own keeps what is to be proved
+/// small.
 #[derive(Drop)]
 pub(crate) struct High {
     node: Node<Node<Region, 16384>, 131072>,

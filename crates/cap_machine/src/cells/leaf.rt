@@ -1,18 +1,42 @@
-//! The cells of a few descriptors.
+//! The lowest part of the tree: the cells of a few descriptors, in an array.
 
 ghost use Rattle.std.specs.Prelude.{◌≡◌, ℕ, ◌<◌, OnOk, ◌==◌, nat_le, if◌then◌else◌};
 ghost use Rattle.std.specs.List.{slice_index_or};
 
 use crate::cell::Cell;
+use crate::cells::kind::{Kind, rights_of};
 use crate::cells::pending::Pending;
 use crate::cells::subtree::Subtree;
-use cap_rights::NoMemory;
+use cap_rights::{NoMemory, RightSet};
 use std::alloc::Global;
 
-/// The cells of `N` descriptors that stand next to each other.
+/// The cells of `N` descriptors that stand next to each other: the rights of each, and the kind of each.
 #[derive(Clone, Copy)]
 pub(crate) struct Leaf<const N: usize> {
-    cells: [Cell; N],
+    rights: [RightSet; N],
+    kinds: [Kind; N],
+}
+
+impl<const N: usize> Leaf<N> {
+    ghost use Rattle.cap_machine.specs.Cells.Parts.{in_leaf};
+
+    /// The cell at a place.
+    fn at(&self, place: usize) -> Cell
+        requires { place < N }
+        ensures { result ≡ in_leaf self.now place }
+    {
+        self.kinds[place].with(self.rights[place])
+    }
+
+    /// Writes the cell at a place.
+    #[tactic(auto, using(crate::proofs::Leaves::put_in))]
+    fn put(&mut self, place: usize, cell: Cell)
+        requires { place < N }
+        ensures { (f : ℕ) → in_leaf self.new f ≡ (if f == place then cell else in_leaf self.old f) }
+    {
+        self.kinds[place] = Kind::of(&cell);
+        self.rights[place] = rights_of(&cell);
+    }
 }
 
 impl<const N: usize> Subtree for Leaf<N> {
@@ -23,27 +47,31 @@ impl<const N: usize> Subtree for Leaf<N> {
     ghost has = { λ f. f < N };
 
     fn all(_alloc: Global, cell: Cell) -> Result<Leaf<N>, NoMemory> {
-        Ok(Leaf { cells: [cell; N] })
+        Ok(Leaf {
+            rights: [rights_of(&cell); N],
+            kinds: [Kind::of(&cell); N],
+        })
     }
 
     fn cell(&self, fd: usize) -> Cell {
-        self.cells[fd]
+        self.at(fd)
     }
 
     fn write(&mut self, fd: usize, cell: Cell) -> Result<(), NoMemory> {
-        self.cells[fd] = cell;
+        self.put(fd, cell);
         Ok(())
     }
 
     fn settle(&mut self, pending: Pending) {
         for k in 0..N {
-            self.cells[k] = pending.on(self.cells[k]);
+            let cell = pending.on(self.at(k));
+            self.put(k, cell);
         }
     }
 
     fn close_from(&mut self, fd: usize) -> Result<(), NoMemory> {
         for k in fd..N {
-            self.cells[k] = Cell::Closed;
+            self.put(k, Cell::Closed);
         }
         Ok(())
     }

@@ -1,4 +1,4 @@
-//! Eight parts that stand next to each other.
+//! A node of the tree: eight parts that stand next to each other, each shared, with what is still to be done to it.
 
 ghost use Rattle.std.specs.Prelude.{◌≡◌, ℕ, ◌<◌, ◌/◌, ◌%◌, OnOk, IfOk, ◌==◌, nat_le, if◌then◌else◌, slice_get};
 ghost use Rattle.std.specs.List.{slice_index_or};
@@ -13,8 +13,9 @@ use cap_rights::NoMemory;
 use std::alloc::{AllocError, Global};
 use std::rc::Rc;
 
-/// Eight parts that stand next to each other, of so many descriptors each. A clone shares them, and a write makes anew the one
-/// that it is in. What was done to a whole part is pending: it is done to the parts of the part only once one of them is written.
+/// Eight parts that stand next to each other, of so many descriptors each. A clone shares them, and a write makes anew
+/// the one that it is in. What was done to a whole part is pending: it is done to the parts of the part only once one
+/// of them is written.
 #[derive(Drop)]
 pub(crate) struct Node<T, const WIDTH: usize> {
     parts: [Rc<T>; 8],
@@ -36,7 +37,8 @@ impl<T: Subtree, const WIDTH: usize> Clone for Node<T, WIDTH> {
 
 /// One part eight times.
 fn eight<T: Subtree>(part: Rc<T>) -> Result<[Rc<T>; 8], NoMemory>
-    ensures { IfOk result (λ parts. (i f : ℕ) → i < 8 → option_map_or (λ p. T.cell_at p.value f) (slice_get parts i) Cell.Unknown ≡ T.cell_at part.value f) }
+    ensures { IfOk result (λ parts. (i f : ℕ) → i < 8
+        → option_map_or (λ p. T.cell_at p.value f) (slice_get parts i) Cell.Unknown ≡ T.cell_at part.value f) }
 {
     Ok([
         part.clone()?,
@@ -52,7 +54,8 @@ fn eight<T: Subtree>(part: Rc<T>) -> Result<[Rc<T>; 8], NoMemory>
 
 /// Does this to each of eight parts, once it must.
 fn settle_all(pending: &mut [Pending; 8], next: Pending)
-    ensures { (i : ℕ) (c : Cell) → i < 8 → settled (slice_index_or pending.new i Pending.Nothing) c ≡ settled next (settled (slice_index_or pending.old i Pending.Nothing) c) }
+    ensures { (i : ℕ) (c : Cell) → i < 8 → settled (slice_index_or pending.new i Pending.Nothing) c
+        ≡ settled next (settled (slice_index_or pending.old i Pending.Nothing) c) }
 {
     for k in 0..8 {
         pending[k] = next.after(pending[k]);
@@ -61,7 +64,8 @@ fn settle_all(pending: &mut [Pending; 8], next: Pending)
 
 /// Closes the parts from one on.
 fn close_all(pending: &mut [Pending; 8], from: usize)
-    ensures { (i : ℕ) (c : Cell) → i < 8 → settled (slice_index_or pending.new i Pending.Nothing) c ≡ (if nat_le from i then Cell.Closed else settled (slice_index_or pending.old i Pending.Nothing) c) }
+    ensures { (i : ℕ) (c : Cell) → i < 8 → settled (slice_index_or pending.new i Pending.Nothing) c
+        ≡ (if nat_le from i then Cell.Closed else settled (slice_index_or pending.old i Pending.Nothing) c) }
 {
     for k in from..8 {
         pending[k] = Pending::Close;

@@ -1,4 +1,5 @@
-//! What is still to be done to a whole part of the cells.
+//! What is still to be done to a whole part of the cells: nothing, an exec, closing or forgetting. It is done to a part
+//! once something in it is written, so that an exec or a closefrom touches one path of the tree.
 
 ghost use Rattle.std.specs.Prelude.{◌≡◌};
 ghost use Rattle.cap_machine.specs.Cells.Pending.{settled};

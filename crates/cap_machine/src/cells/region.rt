@@ -1,4 +1,4 @@
-//! The cells of 16,384 descriptors.
+//! The cells of 16,384 descriptors: two more levels of nodes over `block`, under a name of their own.
 
 use crate::cell::Cell;
 use crate::cells::block::Block;

@@ -1,4 +1,4 @@
-//! A part that is shared until it is written.
+//! A part of the tree that processes share until one of them writes to it.
 
 ghost use Rattle.std.specs.Prelude.{◌≡◌, ℕ, OnOk, ◌==◌, nat_le, if◌then◌else◌};
 ghost use Rattle.cap_machine.specs.Cells.Pending.{settled};
@@ -18,22 +18,24 @@ pub(crate) fn write_part<T: Subtree>(
     cell: Cell,
 ) -> Result<(), NoMemory>
     requires { T.has fd }
-    ensures { OnOk result ((f : ℕ) → T.has f → T.cell_at part.new.value f ≡ (if f == fd then cell else settled pending (T.cell_at part.old.value f))) }
+    ensures { OnOk result ((f : ℕ) → T.has f
+        → T.cell_at part.new.value f ≡ (if f == fd then cell else settled pending (T.cell_at part.old.value f))) }
 {
     let below = Rc::make_mut(part)?;
     below.settle(pending);
     below.write(fd, cell)
 }
 
-/// Closes the descriptors of a shared part with something pending from one on, in a part of its own, in which then nothing is
-/// pending.
+/// Closes the descriptors of a shared part with something pending from one on, in a part of its own, in which then
+/// nothing is pending.
 pub(crate) fn close_part<T: Subtree>(
     part: &mut Rc<T>,
     pending: Pending,
     fd: usize,
 ) -> Result<(), NoMemory>
     requires { T.has fd }
-    ensures { OnOk result ((f : ℕ) → T.has f → T.cell_at part.new.value f ≡ (if nat_le fd f then Cell.Closed else settled pending (T.cell_at part.old.value f))) }
+    ensures { OnOk result ((f : ℕ) → T.has f → T.cell_at part.new.value f
+        ≡ (if nat_le fd f then Cell.Closed else settled pending (T.cell_at part.old.value f))) }
 {
     let below = Rc::make_mut(part)?;
     below.settle(pending);

@@ -1,4 +1,5 @@
-//! A part of the cells of a process.
+//! The laws of a part of the cells: what a look-up answers after a write, after closing and after an exec. A leaf, a
+//! node and a shared part keep them.
 
 ghost use Rattle.std.specs.Prelude.{◌≡◌, ℕ, OnOk, IfOk, ◌==◌, nat_le, if◌then◌else◌};
 ghost use Rattle.cap_machine.specs.Cells.Pending.{settled};
@@ -40,7 +41,8 @@ pub(crate) trait Subtree: Clone + Drop {
     /// Closes the descriptors from one on.
     fn close_from(&mut self, fd: usize) -> Result<(), NoMemory>
         requires { has fd }
-        ensures { OnOk result ((f : ℕ) → has f → cell_at self.new f ≡ (if nat_le fd f then Closed else cell_at self.old f)) };
+        ensures { OnOk result
+            ((f : ℕ) → has f → cell_at self.new f ≡ (if nat_le fd f then Closed else cell_at self.old f)) };
 
     /// A clone has the same cells.
     ghost same_in_clone: { (a b : Self) → Self.is_clone a b → (f : ℕ) → cell_at b f ≡ cell_at a f };

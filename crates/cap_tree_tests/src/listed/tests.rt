@@ -1,3 +1,5 @@
+//! Trees after edits of each kind hold the right items, leaves split and merge, and out of memory leaves the old tree.
+
 use super::*;
 use crate::edits::{Edit, FIRST, PLACES, TURNS, edit_at, edited};
 use cap_tree::Tree;
@@ -130,8 +132,8 @@ fn a_thousand_at_either_end(rt: HostRuntime) -> Result<(), Fail> {
     Ok(())
 }
 
-/// With any one growth of an edit refused (`rt try --test --fail-alloc N`), the old tree is as before, and the same edit
-/// then gives the right answer. A growth refused elsewhere fails the test.
+/// With any one growth of an edit refused (`rt try --test --fail-alloc N`), the old tree is as before, and the same
+/// edit then gives the right answer. A growth refused elsewhere fails the test.
 #[test]
 fn one_growth_refused(rt: HostRuntime) -> Result<(), Fail> {
     let alloc = rt.alloc();
@@ -158,8 +160,8 @@ fn one_growth_refused(rt: HostRuntime) -> Result<(), Fail> {
     Ok(())
 }
 
-/// Leaves merge: once a tree is removed down to the size of one leaf it is one leaf, so that a replace sums up that leaf
-/// and joins nothing else.
+/// Leaves merge: once a tree is removed down to the size of one leaf it is one leaf, so that a replace sums up that
+/// leaf and joins nothing else.
 #[test]
 fn leaves_merge(rt: HostRuntime) -> Result<(), Fail> {
     let alloc = rt.alloc();

@@ -1,3 +1,5 @@
+//! Joins are counted on the meter alone, and a refused summary leaves the old tree as it was.
+
 use super::*;
 use crate::edits::{FIRST, PLACES, TURNS, edit_at, edited};
 use cap_tree::Tree;

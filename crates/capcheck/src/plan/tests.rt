@@ -1,6 +1,7 @@
 //! Worked rows: words, and what they ask for. A plan of `Memory` fails a row: memory is ample.
 
 use super::*;
+use crate::help;
 use std::alloc::AllocError;
 use std::test::Fail;
 
@@ -35,8 +36,8 @@ static MISTAKES: [&[&str]; 25] = [
 static REQUESTS: [(&[&str], &str); 10] = [
     (&["--help"], "Usage: capcheck <COMMAND>"),
     (&["-h", "undo"], "Usage: capcheck <COMMAND>"),
-    (&["--version"], "capcheck 0.1.0\n"),
-    (&["-V"], "capcheck 0.1.0\n"),
+    (&["--version"], help::VERSION),
+    (&["-V"], help::VERSION),
     (&["check", "--help"], "--start <FILE>"),
     (&["check", "--help"], "--profile <NUMBER>"),
     (&["check", "trace", "-h"], "capcheck check server.trace"),

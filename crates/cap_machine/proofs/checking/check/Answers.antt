@@ -21,11 +21,15 @@ loop-i-preserved c =
     let within : c.loop-i.i < length c.args.lines.now = omega arith in
     let so_far : length before ≡ c.loop-i.i = omega (arith, length-take c.loop-i.i c.args.lines.now) in
     let many : length t ≡ c.loop-i.i = length-map before (step c.args.profile) ∙ so_far in
-    let lines : take (c.loop-i.i + 1) c.args.lines.now ≡ before ++ line ∷ [] = take_more c.args.lines.now c.loop-i.i line within ∙ ap (λ (r : Entry). before ++ r ∷ []) (sym c.index-lines-i.is) in
-    let more : steps c.args.profile (take (c.loop-i.i + 1) c.args.lines.now) ≡ t ++ l ∷ [] = ap (steps c.args.profile) lines ∙ steps-more c.args.profile before line in
+    let lines : take (c.loop-i.i + 1) c.args.lines.now ≡ before ++ line ∷ [] =
+    take_more c.args.lines.now c.loop-i.i line within
+    ∙ ap (λ (r : Entry). before ++ r ∷ []) (sym c.index-lines-i.is) in
+    let more : steps c.args.profile (take (c.loop-i.i + 1) c.args.lines.now) ≡ t ++ l ∷ [] =
+    ap (steps c.args.profile) lines ∙ steps-more c.args.profile before line in
     let start : state_of c.loop-i.table ≡ ended s t = c.loop-i.invariant.state in
     record {
-      state = state_kept c.take_line.new.table (step_after l (state_of c.loop-i.table)) c.in_ok-verdict.ensures.moved ∙ ap (step_after l) start ∙ sym (ends_more s t l) ∙ ap (ended s) (sym more);
+      state = state_kept c.take_line.new.table (step_after l (state_of c.loop-i.table)) c.in_ok-verdict.ensures.moved
+          ∙ ap (step_after l) start ∙ sym (ends_more s t l) ∙ ap (ended s) (sym more);
       found = c.in_ok-add_findings.ensures
           ∙ ap (λ r. c.loop-i.found.items ++ map (found_at (c.loop-i.i + 1)) r) c.in_ok-verdict.ensures.says
           ∙ ap (λ r. r ++ map (found_at (c.loop-i.i + 1)) (said l (state_of c.loop-i.table))) c.loop-i.invariant.found

@@ -7,5 +7,6 @@ use Rattle.cap_machine.proofs.flags.has_flag_of.Goals as goal
 pub returns : goal.returns
 returns c =
     any_from_yields_List (λ word. bytes_eq word c.args.name.now) _ _ _ c.any.ensures.ran
-    (YieldsList-from_slice_split _ (λ x. x == 124) c.args.flags.now c.split.ensures.rest c.split.ensures.done c.split.ensures.closure (λ x b q k. search (rules, tests)))
+    (YieldsList-from_slice_split _ (λ x. x == 124) c.args.flags.now c.split.ensures.rest c.split.ensures.done
+    c.split.ensures.closure (λ x b q k. search (rules, tests)))
     (λ x b q k. search (rules, tests))

@@ -5,7 +5,8 @@ use Rattle.std.proofs.lemmas.Iterator.{YieldsList-from_slice}
 use Rattle.std.proofs.lemmas.Iterator.Search.{any_from_yields_List}
 use Rattle.cap_machine.proofs.flags.is_one_of_these.Goals as goal
 
-list_any-map : {X Y : Type 0} (test : Y → Bool) (f : X → Y) (xs : List X) → list_any test (map f xs) ≡ list_any (λ x. test (f x)) xs
+list_any-map : {X Y : Type 0} (test : Y → Bool) (f : X → Y) (xs : List X)
+    → list_any test (map f xs) ≡ list_any (λ x. test (f x)) xs
 list_any-map test f [] = refl
 list_any-map test f (x ∷ xs) = ap (λ r. test (f x) || r) (list_any-map test f xs)
 

@@ -8,20 +8,24 @@ pub returns-clause-ok : goal.returns-clause-ok
 returns-clause-ok c =
     let line = c.args.line.now in
     let mine : c.line.inside.pid ≡ line.pid = ap (λ (r : Entry). r.pid) c.line.view_is in
-    written c.args.out.now.items c.put_number.new.out.items c.extend_from_slice.new.self.items c.put_number-2.new.out.items
+    written c.args.out.now.items c.put_number.new.out.items c.extend_from_slice.new.self.items
+    c.put_number-2.new.out.items
     c.extend_from_slice-2.new.self.items c.extend_from_slice-3.new.self.items c.extend_from_slice-4.new.self.items
     c.put_words.new.out.items c.extend_from_slice-5.new.self.items
     (decimal c.args.at) (decimal line.pid) (name_of (head_of line.item)) c.args.finding.now
-    c.in_ok-put_number.ensures.ok c.in_ok-extend_from_slice.ensures.items (c.in_ok-put_number-2.ensures.ok ∙ ap (λ n. c.extend_from_slice.new.self.items ++ decimal n) (c.from.ensures ∙ mine))
+    c.in_ok-put_number.ensures.ok c.in_ok-extend_from_slice.ensures.items (c.in_ok-put_number-2.ensures.ok
+    ∙ ap (λ n. c.extend_from_slice.new.self.items ++ decimal n) (c.from.ensures ∙ mine))
     c.in_ok-extend_from_slice-2.ensures.items
-    (c.in_ok-extend_from_slice-3.ensures.items ∙ ap (λ (r : List ℕ). c.extend_from_slice-2.new.self.items ++ r) c.name.ensures)
+    (c.in_ok-extend_from_slice-3.ensures.items
+    ∙ ap (λ (r : List ℕ). c.extend_from_slice-2.new.self.items ++ r) c.name.ensures)
     c.in_ok-extend_from_slice-4.ensures.items c.in_ok-put_words.ensures.ok c.in_ok-extend_from_slice-5.ensures.items
 
 pub returns-in_err-put_number-2-clause-err : goal.returns-in_err-put_number-2-clause-err
 returns-in_err-put_number-2-clause-err c =
     on_err c.from_residual-in_err-put_number-2.result _
     (front_kept _ c.put_number.new.out.items _ _ c.in_ok-put_number.ensures.ok
-    (front_kept _ c.extend_from_slice.new.self.items _ _ c.in_ok-extend_from_slice.ensures.items c.in_err-put_number-2.ensures.err))
+    (front_kept _ c.extend_from_slice.new.self.items _ _ c.in_ok-extend_from_slice.ensures.items
+    c.in_err-put_number-2.ensures.err))
 
 pub returns-in_err-put_words-clause-err : goal.returns-in_err-put_words-clause-err
 returns-in_err-put_words-clause-err c =
@@ -31,4 +35,5 @@ returns-in_err-put_words-clause-err c =
     (front_kept _ c.put_number-2.new.out.items _ _ c.in_ok-put_number-2.ensures.ok
     (front_kept _ c.extend_from_slice-2.new.self.items _ _ c.in_ok-extend_from_slice-2.ensures.items
     (front_kept _ c.extend_from_slice-3.new.self.items _ _ c.in_ok-extend_from_slice-3.ensures.items
-    (front_kept _ c.extend_from_slice-4.new.self.items _ _ c.in_ok-extend_from_slice-4.ensures.items c.in_err-put_words.ensures.err))))))
+    (front_kept _ c.extend_from_slice-4.new.self.items _ _ c.in_ok-extend_from_slice-4.ensures.items
+    c.in_err-put_words.ensures.err))))))

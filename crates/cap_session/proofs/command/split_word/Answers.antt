@@ -13,4 +13,5 @@ pub returns-in-Some-clause-word : goal.returns-in-Some-clause-word
 returns-in-Some-clause-word c = sym (word_at c.args.line.now c.in-Some.at c.in-Some.ensures).0
 
 pub returns-in-Some-clause-rest : goal.returns-in-Some-clause-rest
-returns-in-Some-clause-rest c = rw (take_rest c.args.line.now (c.in-Some.at + 1)) (word_at c.args.line.now c.in-Some.at c.in-Some.ensures).1
+returns-in-Some-clause-rest c =
+    rw (take_rest c.args.line.now (c.in-Some.at + 1)) (word_at c.args.line.now c.in-Some.at c.in-Some.ensures).1

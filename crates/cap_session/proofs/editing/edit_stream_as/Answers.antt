@@ -10,10 +10,12 @@ under profile = record { profile = profile; start = usual }
 pub returns-in-Ok-read_trace : goal.returns-in-Ok-read_trace
 returns-in-Ok-read_trace g c =
     let loading = c.in-Ok-read_trace.loading in
-    taken _ _ _ _ _ _ _ _ _ loading loading.session.profile loading.session.trace _ (c.in-Ok-read_trace.ensures (under c.args.profile) c.in-Ok-new-2.ensures) (λ known is. is) c.edit_loaded.ensures
+    taken _ _ _ _ _ _ _ _ _ loading loading.session.profile loading.session.trace _
+    (c.in-Ok-read_trace.ensures (under c.args.profile) c.in-Ok-new-2.ensures) (λ known is. is) c.edit_loaded.ensures
 
 pub returns : goal.returns
-returns g c = rejected _ _ _ _ _ _ _ _ c.in-Err.stop _ (c.in-Err.ensures (under c.args.profile) c.in-Ok-new-2.ensures) c.write_stop.ensures
+returns g c = rejected _ _ _ _ _ _ _ _ c.in-Err.stop _
+    (c.in-Err.ensures (under c.args.profile) c.in-Ok-new-2.ensures) c.write_stop.ensures
 
 pub returns-in_default : goal.returns-in_default
 returns-in_default g c = nothing_begun _ _ _ _ _

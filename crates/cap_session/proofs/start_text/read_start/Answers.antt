@@ -8,8 +8,10 @@ use Rattle.cap_session.proofs.start_text.read_start.Goals as goal
 pub returns-in_err-starting : goal.returns-in_err-starting
 returns-in_err-starting g c =
     let p = err_from_is_err_and c.from_residual.result c.from_residual.ensures.1 in
-    rw (p.1, p.2) (start_stopped _ _ c.args.turns _ _ c.in_err-starting.field-0.0 (c.in_err-starting.ensures none_listed c.new.ensures))
+    rw (p.1, p.2) (start_stopped _ _ c.args.turns _ _ c.in_err-starting.field-0.0
+    (c.in_err-starting.ensures none_listed c.new.ensures))
 
 pub returns : goal.returns
 returns g c =
-    rw c.ok_or.ensures.value (start_kept (λ (s : Starting). Holds s.kept) c.args.turns _ _ c.in_ok-starting.starting c.in_ok-starting.starting.kept (λ known has. has) (c.in_ok-starting.ensures none_listed c.new.ensures))
+    rw c.ok_or.ensures.value (start_kept (λ (s : Starting). Holds s.kept) c.args.turns _ _ c.in_ok-starting.starting
+    c.in_ok-starting.starting.kept (λ known has. has) (c.in_ok-starting.ensures none_listed c.new.ensures))

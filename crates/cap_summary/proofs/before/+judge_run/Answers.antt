@@ -17,7 +17,8 @@ use Rattle.cap_summary.proofs.Resolving.{found_step, found_behind}
 use Rattle.cap_summary.proofs.before.+judge_run.Goals as goal
 
 pub returns-then-asked-at : goal.returns-then-asked-at
-returns-then-asked-at t c = found_behind (state_before c.args.before.now) (steps_of c.args.run.now) c.args.at c.args.asked.now.from c.args.asked.now.to c.args.found.now.items (omega arith)
+returns-then-asked-at t c = found_behind (state_before c.args.before.now)
+    (steps_of c.args.run.now) c.args.at c.args.asked.now.from c.args.asked.now.to c.args.found.now.items (omega arith)
 
 pub returns : goal.returns
 returns t c =
@@ -27,11 +28,15 @@ returns t c =
     let rest : List Step = slice_range c.args.run.now 1 (length c.args.run.now) in
     let at_line : c.deref-line.result.now ≡ step.line = c.deref-line.ensures in
     let me : c.line.inside.pid ≡ step.line.pid = ap (λ (e : Entry). e.pid) (c.line.view_is ∙ at_line) in
-    let run : steps_of c.args.run.now ≡ step ∷ steps_of rest = head_tail c.args.run.now c.index-run-0.result (omega arith) c.index-run-0.is in
+    let run : steps_of c.args.run.now ≡ step ∷ steps_of rest =
+    head_tail c.args.run.now c.index-run-0.result (omega arith) c.index-run-0.is in
     let moved : effect_after c.rule_of-rule.result.effect step.line.pid s ≡ ended s (step ∷ []) =
-    step_ends step c.rule_of-rule.result.effect (rw at_line at c.rule_of-rule.ensures.cells) (rw at_line at c.rule_of-rule.ensures.modes) s in
-    let first : c.note_line.new.found.items ≡ old ++ within c.args.asked.now.from c.args.asked.now.to (map (found_at (c.args.at + 1)) (said step s)) =
+    step_ends step c.rule_of-rule.result.effect (rw at_line at c.rule_of-rule.ensures.cells)
+    (rw at_line at c.rule_of-rule.ensures.modes) s in
+    let first : c.note_line.new.found.items
+    ≡ old ++ within c.args.asked.now.from c.args.asked.now.to (map (found_at (c.args.at + 1)) (said step s)) =
     rw (me, c.rule_of-rule.ensures.demand, at_line) at c.in_ok-note_line.ensures in
     rw run (on_ok_weaker c.judge_run.result (λ last.
-    found_step s step (steps_of rest) c.args.at c.args.asked.now.from c.args.asked.now.to old c.note_line.new.found.items c.judge_run.new.found.items first
+    found_step s step (steps_of rest) c.args.at c.args.asked.now.from c.args.asked.now.to old
+    c.note_line.new.found.items c.judge_run.new.found.items first
     (rw (me, moved) at last)) c.judge_run.ensures)

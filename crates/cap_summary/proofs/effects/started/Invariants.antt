@@ -5,4 +5,5 @@ use Rattle.cap_summary.proofs.effects.started.Given as goal
 
 -- the descriptors so far are listed
 abbrev pub invariant-loop-fd : goal.invariant-loop-fd
-invariant-loop-fd l = (f : ℕ) → listed_value l.cells f ≡ cond (list_any (λ g. eqb f g) (take l.fd-index l.fds)) (Some l.held) None
+invariant-loop-fd l = (f : ℕ)
+    → listed_value l.cells f ≡ cond (list_any (λ g. eqb f g) (take l.fd-index l.fds)) (Some l.held) None

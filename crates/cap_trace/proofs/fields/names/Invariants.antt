@@ -4,4 +4,5 @@ use Rattle.cap_trace.specs.FlagSteps.{flag_step}
 use Rattle.cap_trace.proofs.fields.names.Given as goal
 
 abbrev pub invariant-loop-byte : goal.invariant-loop-byte
-invariant-loop-byte l = takes_all flag_step not l.begins (drop l.byte-index l.text) ≡ takes_all flag_step not true l.text
+invariant-loop-byte l =
+    takes_all flag_step not l.begins (drop l.byte-index l.text) ≡ takes_all flag_step not true l.text

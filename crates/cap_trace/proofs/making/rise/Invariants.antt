@@ -1,4 +1,4 @@
-use Rattle.std.proofs.Common.{◌≡◌, ◌≤◌, drop}
+use Rattle.std.proofs.Common.{◌≡◌, drop}
 use Rattle.cap_trace.specs.Making.{all_rise}
 use Rattle.cap_trace.proofs.making.rise.Given as goal
 

@@ -8,4 +8,5 @@ returns-in-None c = short_none c.args.name.now (c.in-None.ensures.none.0 refl)
 
 pub returns-in-Some : goal.returns-in-Some
 unfolding buckets
-returns-in-Some c = c.first_named.ensures ∙ ap (λ (k : ℕ). first_in (bucket k) c.args.name.now) c.in-Some.ensures.some.0 ∙ bucket_finds c.args.name.now
+returns-in-Some c = c.first_named.ensures ∙ ap (λ (k : ℕ). first_in (bucket k) c.args.name.now) c.in-Some.ensures.some.0
+    ∙ bucket_finds c.args.name.now

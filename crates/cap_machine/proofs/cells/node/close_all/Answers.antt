@@ -7,5 +7,6 @@ use Rattle.cap_machine.proofs.cells.node.close_all.Goals as goal
 pub loop-k-preserved : goal.loop-k-preserved
 loop-k-preserved c = record {
   long = length-set c.loop-k.pending c.loop-k.k Close ∙ c.loop-k.invariant.long;
-  each = λ i cell lt. closed_more c.loop-k.pending c.args.pending.now c.args.from c.loop-k.k i cell c.loop-k.invariant.long (search rules) (search rules) (c.loop-k.invariant.each i cell lt);
+  each = λ i cell lt. closed_more c.loop-k.pending c.args.pending.now c.args.from c.loop-k.k i cell
+      c.loop-k.invariant.long (search rules) (search rules) (c.loop-k.invariant.each i cell lt);
 }

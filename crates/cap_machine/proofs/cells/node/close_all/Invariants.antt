@@ -7,4 +7,8 @@ use Rattle.cap_machine.specs.declared.cells.pending.Pending.TheVariants.{Nothing
 use Rattle.cap_machine.proofs.cells.node.close_all.Given as goal
 
 abbrev pub invariant-loop-k : goal.invariant-loop-k
-invariant-loop-k l = record { long : length l.pending ≡ 8; each : (i : ℕ) (c : Cell) → i < 8 → settled (slice_index_or l.pending i Nothing) c ≡ (if nat_le l.fn.from i && nat_lt i l.k then Closed else settled (slice_index_or l.initial.pending i Nothing) c) }
+invariant-loop-k l = record {
+  long : length l.pending ≡ 8;
+  each : (i : ℕ) (c : Cell) → i < 8 → settled (slice_index_or l.pending i Nothing) c
+      ≡ (if nat_le l.fn.from i && nat_lt i l.k then Closed else settled (slice_index_or l.initial.pending i Nothing) c);
+}

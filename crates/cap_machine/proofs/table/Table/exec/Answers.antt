@@ -17,6 +17,14 @@ returns c =
     let within : c.in_ok-place.place < length c.enter.new.self.processes.items = search rules in
     let q : Process = c.settle.new.self in
     record {
-      cells = λ r f. changed (λ x. cell_in x f) Unknown (applied exec) (place_in c.enter.new.self.index) c.enter.new.self.processes.items c.args.pid c.in_ok-place.place c.index_mut-process.result.now q (λ r. cell_of c.args.self.now r f) stands.place within c.index_mut-process.ensures.value (stands.owner c.index_mut-process.result.now) c.in_ok-settle.ensures.pid (c.in_ok-settle.ensures.cells f) (λ r. kept.cells r f) r;
-      modes = λ r. changed (λ (x : Process). x.mode) Unsure (λ (m : Mode). m) (place_in c.enter.new.self.index) c.enter.new.self.processes.items c.args.pid c.in_ok-place.place c.index_mut-process.result.now q (mode_of c.args.self.now) stands.place within c.index_mut-process.ensures.value (stands.owner c.index_mut-process.result.now) c.in_ok-settle.ensures.pid (c.in_ok-settle.ensures.mode) kept.modes r ∙ either_way (r == c.args.pid) (mode_of c.args.self.now r);
+      cells = λ r f. changed (λ x. cell_in x f) Unknown (applied exec) (place_in c.enter.new.self.index)
+          c.enter.new.self.processes.items c.args.pid c.in_ok-place.place c.index_mut-process.result.now q
+          (λ r. cell_of c.args.self.now r f) stands.place within c.index_mut-process.ensures.value
+          (stands.owner c.index_mut-process.result.now) c.in_ok-settle.ensures.pid
+          (c.in_ok-settle.ensures.cells f) (λ r. kept.cells r f) r;
+      modes = λ r. changed (λ (x : Process). x.mode) Unsure (λ (m : Mode). m) (place_in c.enter.new.self.index)
+          c.enter.new.self.processes.items c.args.pid c.in_ok-place.place c.index_mut-process.result.now q
+          (mode_of c.args.self.now) stands.place within c.index_mut-process.ensures.value
+          (stands.owner c.index_mut-process.result.now) c.in_ok-settle.ensures.pid
+          (c.in_ok-settle.ensures.mode) kept.modes r ∙ either_way (r == c.args.pid) (mode_of c.args.self.now r);
     }

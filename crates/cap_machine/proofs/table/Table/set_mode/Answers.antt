@@ -15,8 +15,19 @@ returns c =
     let stands : StandsAt c.enter.new.self c.args.pid c.in_ok-place.place = c.in_ok-place.ensures.place in
     let kept : Keeps c.enter.new.self (state_of c.args.self.now) = c.in_ok-place.ensures.kept in
     let within : c.in_ok-place.place < length c.enter.new.self.processes.items = search rules in
-    let q : Process = record { pid = c.index_mut-process.result.now.pid; mode = c.args.mode; cells = c.index_mut-process.result.now.cells } in
+    let q : Process = record {
+      pid = c.index_mut-process.result.now.pid;
+      mode = c.args.mode;
+      cells = c.index_mut-process.result.now.cells;
+    } in
     record {
-      cells = λ r f. changed (λ x. cell_in x f) Unknown (λ (x : Cell). x) (place_in c.enter.new.self.index) c.enter.new.self.processes.items c.args.pid c.in_ok-place.place c.index_mut-process.result.now q (λ r. cell_of c.args.self.now r f) stands.place within c.index_mut-process.ensures.value (stands.owner c.index_mut-process.result.now) refl (refl) (λ r. kept.cells r f) r ∙ either_way (r == c.args.pid) (cell_of c.args.self.now r f);
-      modes = λ r. changed (λ (x : Process). x.mode) Unsure (λ (m : Mode). c.args.mode) (place_in c.enter.new.self.index) c.enter.new.self.processes.items c.args.pid c.in_ok-place.place c.index_mut-process.result.now q (mode_of c.args.self.now) stands.place within c.index_mut-process.ensures.value (stands.owner c.index_mut-process.result.now) refl (refl) kept.modes r;
+      cells = λ r f. changed (λ x. cell_in x f) Unknown (λ (x : Cell). x) (place_in c.enter.new.self.index)
+          c.enter.new.self.processes.items c.args.pid c.in_ok-place.place c.index_mut-process.result.now q
+          (λ r. cell_of c.args.self.now r f) stands.place within c.index_mut-process.ensures.value
+          (stands.owner c.index_mut-process.result.now) refl (refl) (λ r. kept.cells r f) r
+          ∙ either_way (r == c.args.pid) (cell_of c.args.self.now r f);
+      modes = λ r. changed (λ (x : Process). x.mode) Unsure (λ (m : Mode). c.args.mode)
+          (place_in c.enter.new.self.index) c.enter.new.self.processes.items
+          c.args.pid c.in_ok-place.place c.index_mut-process.result.now q (mode_of c.args.self.now) stands.place within
+          c.index_mut-process.ensures.value (stands.owner c.index_mut-process.result.now) refl (refl) kept.modes r;
     }

@@ -17,6 +17,15 @@ returns c =
     let within : c.in_ok-place.place < length c.enter.new.self.processes.items = search rules in
     let q : Process = c.write.new.self in
     record {
-      cells = λ r f. changed (λ x. cell_in x f) Unknown (λ (x : Cell). if f == c.args.fd then c.args.cell else x) (place_in c.enter.new.self.index) c.enter.new.self.processes.items c.args.pid c.in_ok-place.place c.index_mut-process.result.now q (λ r. cell_of c.args.self.now r f) stands.place within c.index_mut-process.ensures.value (stands.owner c.index_mut-process.result.now) c.in_ok-write.ensures.pid (c.in_ok-write.ensures.cells f) (λ r. kept.cells r f) r ∙ both_tests (r == c.args.pid) (f == c.args.fd) c.args.cell (cell_of c.args.self.now r f);
-      modes = λ r. changed (λ (x : Process). x.mode) Unsure (λ (m : Mode). m) (place_in c.enter.new.self.index) c.enter.new.self.processes.items c.args.pid c.in_ok-place.place c.index_mut-process.result.now q (mode_of c.args.self.now) stands.place within c.index_mut-process.ensures.value (stands.owner c.index_mut-process.result.now) c.in_ok-write.ensures.pid (c.in_ok-write.ensures.mode) kept.modes r ∙ either_way (r == c.args.pid) (mode_of c.args.self.now r);
+      cells = λ r f. changed (λ x. cell_in x f) Unknown (λ (x : Cell). if f == c.args.fd then c.args.cell else x)
+          (place_in c.enter.new.self.index) c.enter.new.self.processes.items c.args.pid
+          c.in_ok-place.place c.index_mut-process.result.now q (λ r. cell_of c.args.self.now r f) stands.place within
+          c.index_mut-process.ensures.value (stands.owner c.index_mut-process.result.now) c.in_ok-write.ensures.pid
+          (c.in_ok-write.ensures.cells f) (λ r. kept.cells r f) r
+          ∙ both_tests (r == c.args.pid) (f == c.args.fd) c.args.cell (cell_of c.args.self.now r f);
+      modes = λ r. changed (λ (x : Process). x.mode) Unsure (λ (m : Mode). m) (place_in c.enter.new.self.index)
+          c.enter.new.self.processes.items c.args.pid c.in_ok-place.place c.index_mut-process.result.now q
+          (mode_of c.args.self.now) stands.place within c.index_mut-process.ensures.value
+          (stands.owner c.index_mut-process.result.now) c.in_ok-write.ensures.pid
+          (c.in_ok-write.ensures.mode) kept.modes r ∙ either_way (r == c.args.pid) (mode_of c.args.self.now r);
     }

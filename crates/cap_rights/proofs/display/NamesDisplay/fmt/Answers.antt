@@ -9,7 +9,8 @@ use Rattle.cap_rights.proofs.display.NamesDisplay.fmt.Goals.{then-holds+in_ok-wr
 
 pub bounds-flags-right : goal.bounds-flags-right
 unfolding table
-bounds-flags-right g c = let size = ap length (sym (c.flags-flags.ensures tt)) ∙ length-map c.flags-flags.result.now _ in omega (arith, size)
+bounds-flags-right g c = let size = ap length (sym (c.flags-flags.ensures tt))
+    ∙ length-map c.flags-flags.result.now _ in omega (arith, size)
 
 pub rights-init : goal.rights-init
 rights-init g c = record {
@@ -23,10 +24,13 @@ unfolding table
 rights-preserved g c =
     let size = ap length (sym (c.flags-flags.ensures tt)) ∙ length-map c.flags-flags.result.now _ in
     let lt : c.rights.right < length c.flags-flags.result.now = omega (arith, size) in
-    let at = table_row (λ f. (f.name.now, f.value.0)) c.flags-flags.result.now table c.rights.right (record { name = record { ref_ptr = (0, 0); now = [] }; value = record { 0 = 0 } }) (c.flags-flags.ensures tt) lt in
+    let at = table_row (λ f. (f.name.now, f.value.0)) c.flags-flags.result.now table c.rights.right
+    (record { name = record { ref_ptr = (0, 0); now = [] }; value = record { 0 = 0 } })
+    (c.flags-flags.ensures tt) lt in
     elim c.if-holds.branch [
       | then-holds+in_ok-write_str+in_ok-write_str-2 w ↦
-          let m = shown_more c.rights.right c.args.self.now.0 _ c.rights.separator.now at.0 at.1 (sym c.holds.ensures.held ∙ w.if-holds.true) c.rights.invariant.next in
+          let m = shown_more c.rights.right c.args.self.now.0 _ c.rights.separator.now at.0 at.1
+          (sym c.holds.ensures.held ∙ w.if-holds.true) c.rights.invariant.next in
           record {
             text = rw w.separator-is (search rules);
             written = λ plain. rw w.f-is (
@@ -37,7 +41,8 @@ rights-preserved g c =
             next = rw w.separator-is m.1;
           }
       | else-holds w ↦
-          let m = written_same c.rights.right c.args.self.now.0 _ at.0 at.1 (sym c.holds.ensures.held ∙ w.if-holds.false) in
+          let m =
+          written_same c.rights.right c.args.self.now.0 _ at.0 at.1 (sym c.holds.ensures.held ∙ w.if-holds.false) in
           record {
             text = rw w.separator-is (c.rights.invariant.text);
             written = rw (w.f-is, m) c.rights.invariant.written;

@@ -4,7 +4,8 @@ use Rattle.cap_session.specs.Traced.{one_more}
 use Rattle.cap_session.proofs.entries.EntriesLines.line.Goals as goal
 
 pub returns-then-is_skipped : goal.returns-then-is_skipped
-returns-then-is_skipped g c = λ known has. (known, skips known c.args.line.now (sym c.is_skipped.ensures ∙ c.if-is_skipped.true), has)
+returns-then-is_skipped g c =
+    λ known has. (known, skips known c.args.line.now (sym c.is_skipped.ensures ∙ c.if-is_skipped.true), has)
 
 pub returns-then-count-ge-MOST_LINES : goal.returns-then-count-ge-MOST_LINES
 returns-then-count-ge-MOST_LINES g c = λ known has.
@@ -15,18 +16,27 @@ returns-then-count-ge-MOST_LINES g c = λ known has.
 pub returns-in-Ok : goal.returns-in-Ok
 returns-in-Ok g c = λ known has.
     let count = c.count-count.ensures.lines known has in
-    let room : length known.entries < 1000000 = omega arith in
-    (one_more known c.in-Ok.line, reads known c.args.line.now c.in-Ok.line (sym c.is_skipped.ensures ∙ c.if-is_skipped.false) room c.in-Ok.ensures.reads, c.keep.ensures known has count)
+    let room : length known.entries < 1000000 = omega arith in (
+      one_more known c.in-Ok.line,
+      reads known c.args.line.now c.in-Ok.line
+          (sym c.is_skipped.ensures ∙ c.if-is_skipped.false) room c.in-Ok.ensures.reads,
+      c.keep.ensures known has count,
+    )
 
 pub returns-in-Memory : goal.returns-in-Memory
 returns-in-Memory g c = λ known has.
     let count = c.count-count.ensures.lines known has in
     let room : length known.entries < 1000000 = omega arith in
-    let some = reads_some known c.args.line.now (sym c.is_skipped.ensures ∙ c.if-is_skipped.false) room (rw c.in-Memory.is at c.in-Err.ensures.reads) in
-    (one_more known some.0, some.1, is_lost g.K.Keep.keeps known some.0 _ _ _ c.lose.ensures.kept c.lose.ensures.lost count)
+    let some = reads_some known c.args.line.now (sym c.is_skipped.ensures ∙ c.if-is_skipped.false) room
+    (rw c.in-Memory.is at c.in-Err.ensures.reads) in (
+      one_more known some.0,
+      some.1,
+      is_lost g.K.Keep.keeps known some.0 _ _ _ c.lose.ensures.kept c.lose.ensures.lost count,
+    )
 
 pub returns-in_default : goal.returns-in_default
 returns-in_default g c = λ known has.
     let count = c.count-count.ensures.lines known has in
     let room : length known.entries < 1000000 = omega arith in
-    rw c.from.ensures (is_faulty known c.args.line.now c.in-Err.fault (sym c.is_skipped.ensures ∙ c.if-is_skipped.false) room c.in_default.not-Memory c.in-Err.ensures.reads)
+    rw c.from.ensures (is_faulty known c.args.line.now c.in-Err.fault
+    (sym c.is_skipped.ensures ∙ c.if-is_skipped.false) room c.in_default.not-Memory c.in-Err.ensures.reads)

@@ -11,16 +11,22 @@ returns-in_err-line-clause-err g c =
 
 pub loop-at-preserved : goal.loop-at-preserved
 loop-at-preserved g c =
-    rw (take_rest c.loop-at.rest.now (c.in-Some.at + 1)) (scripted_on _ _ _ _ _ _ _ _ c.in-Some.at c.loop-at.invariant c.in-Some.ensures c.in_ok-line.ensures.ok c.in_ok-line.ensures.profile c.in_ok-line.ensures.held)
+    rw (take_rest c.loop-at.rest.now (c.in-Some.at + 1)) (scripted_on _ _ _ _ _ _ _ _ c.in-Some.at c.loop-at.invariant
+    c.in-Some.ensures c.in_ok-line.ensures.ok c.in_ok-line.ensures.profile c.in_ok-line.ensures.held)
 
 pub returns-clause-ok : goal.returns-clause-ok
 returns-clause-ok g c =
-    on_ok_weaker c.hold.result (λ done. scripted_last _ _ c.hold.new.self _ _ _ _ _ c.loop-at.invariant c.in_default.ensures done) c.hold.ensures.ok
+    on_ok_weaker c.hold.result
+    (λ done. scripted_last _ _ c.hold.new.self _ _ _ _ _ c.loop-at.invariant c.in_default.ensures done)
+    c.hold.ensures.ok
 
 pub returns-clause-held : goal.returns-clause-held
 returns-clause-held g c =
-    on_ok_weaker c.hold.result (λ is. scripted_held _ _ c.hold.new.self _ _ _ _ c.loop-at.invariant c.in_default.ensures is) c.hold.ensures.held
+    on_ok_weaker c.hold.result
+    (λ is. scripted_held _ _ c.hold.new.self _ _ _ _ c.loop-at.invariant c.in_default.ensures is)
+    c.hold.ensures.held
 
 pub returns-clause-err : goal.returns-clause-err
 returns-clause-err g c =
-    on_err_weaker c.hold.result (λ broke. scripted_last_broken _ _ _ _ _ _ _ c.loop-at.invariant c.in_default.ensures broke) c.hold.ensures.err
+    on_err_weaker c.hold.result
+    (λ broke. scripted_last_broken _ _ _ _ _ _ _ c.loop-at.invariant c.in_default.ensures broke) c.hold.ensures.err

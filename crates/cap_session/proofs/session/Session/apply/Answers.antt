@@ -10,6 +10,7 @@ loop-edit-preserved c =
     let ask = c.edit-answer.ensures in
     let pushed = rw c.unwrap.ensures at c.push.ensures.items in
     record {
-      made = rw pushed (made_next _ _ _ _ _ _ _ _ c.loop-edit.invariant.made c.loop-edit-test.true ask.limit ask.profile (does _ _ _ _ ask.accepted ask.refused ask.memory ask.unchanged));
+      made = rw pushed (made_next _ _ _ _ _ _ _ _ c.loop-edit.invariant.made c.loop-edit-test.true ask.limit ask.profile
+          (does _ _ _ _ ask.accepted ask.refused ask.memory ask.unchanged));
       room = search rules;
     }

@@ -3,4 +3,7 @@ use Rattle.cap_session.proofs.Applied.{HasMade}
 use Rattle.cap_session.proofs.session.Session.apply.Given as goal
 
 abbrev pub invariant-loop-edit : goal.invariant-loop-edit
-invariant-loop-edit l = record { made : HasMade l.fn.self l.self (take l.edit-index l.edits) l.answered.items; room : length l.edits ≤ vec_capacity l.answered }
+invariant-loop-edit l = record {
+  made : HasMade l.fn.self l.self (take l.edit-index l.edits) l.answered.items;
+  room : length l.edits ≤ vec_capacity l.answered;
+}

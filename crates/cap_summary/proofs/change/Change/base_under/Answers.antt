@@ -18,6 +18,8 @@ returns-in_ok-set_all-in-Some c = λ s f.
     (is_from c.args.base.now.closed_from f) (is_from process.base.closed_from f) (is_from c.lower_of.result f)
     (listed_value process.cells f) (listed_value c.set_all.new.self f) c.passed.result process.base.others
     (c.lower_of.ensures f)
-    (c.in_ok-set_all-in-Some.ensures f ∙ ap (λ (r : Option Value). or_else (option_and_then (λ (v : Value). cond (is_from c.args.base.now.closed_from f) None (Some (op_on (passing_op c.in-Of.passing) v))) (listed_value process.cells f)) r) (c.new-cells.ensures f))
+    (c.in_ok-set_all-in-Some.ensures f ∙ ap
+    (λ (r : Option Value). or_else (option_and_then (λ (v : Value). cond (is_from c.args.base.now.closed_from f)
+    None (Some (op_on (passing_op c.in-Of.passing) v))) (listed_value process.cells f)) r) (c.new-cells.ensures f))
     (c.passed.ensures s f)
     (ap (λ (o : Option Process). read_cell s (cell_in o c.in-Of.pid f)) found))

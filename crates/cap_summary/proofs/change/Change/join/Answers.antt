@@ -11,4 +11,5 @@ pub returns : goal.returns
 returns c =
     let whole : Change = record { processes = c.set_all.new.self } in
     joins_to c.args.self.now c.args.then.now whole (λ p.
-    subst (λ (o : Option Process). JoinsListed c.args.self.now o (process_at c.args.then.now.processes p) (process_at c.set_all.new.self p)) (c.in_ok-processes.ensures p) (c.in_ok-set_all.ensures p))
+    subst (λ (o : Option Process). JoinsListed c.args.self.now o (process_at c.args.then.now.processes p)
+    (process_at c.set_all.new.self p)) (c.in_ok-processes.ensures p) (c.in_ok-set_all.ensures p))

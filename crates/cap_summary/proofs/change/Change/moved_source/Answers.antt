@@ -9,6 +9,10 @@ use Rattle.cap_summary.proofs.change.Change.moved_source.Goals as goal
 
 pub returns-then-is_empty : goal.returns-then-is_empty
 returns-then-is_empty c = λ s.
-    let never : passes c.before-test.result (s.cell c.in-Of.pid c.in-Of.fd) ≡ false = c.if-is_empty.ensures refl (s.cell c.in-Of.pid c.in-Of.fd) in
-    let moved : passes (before c.args.source.now.test c.in-Of.op) (s.cell c.in-Of.pid c.in-Of.fd) ≡ passes c.args.source.now.test (applied c.in-Of.op (s.cell c.in-Of.pid c.in-Of.fd)) = passes_before c.args.source.now.test c.in-Of.op (s.cell c.in-Of.pid c.in-Of.fd) in
-    sym never ∙ ap (λ (w : CellTest). passes w (s.cell c.in-Of.pid c.in-Of.fd)) c.before-test.ensures ∙ moved ∙ ap (λ (v : Value). passes c.args.source.now.test (read_cell s v)) c.in-Of.ensures
+    let never : passes c.before-test.result (s.cell c.in-Of.pid c.in-Of.fd) ≡ false =
+    c.if-is_empty.ensures refl (s.cell c.in-Of.pid c.in-Of.fd) in
+    let moved : passes (before c.args.source.now.test c.in-Of.op) (s.cell c.in-Of.pid c.in-Of.fd)
+    ≡ passes c.args.source.now.test (applied c.in-Of.op (s.cell c.in-Of.pid c.in-Of.fd)) =
+    passes_before c.args.source.now.test c.in-Of.op (s.cell c.in-Of.pid c.in-Of.fd) in
+    sym never ∙ ap (λ (w : CellTest). passes w (s.cell c.in-Of.pid c.in-Of.fd)) c.before-test.ensures ∙ moved
+    ∙ ap (λ (v : Value). passes c.args.source.now.test (read_cell s v)) c.in-Of.ensures

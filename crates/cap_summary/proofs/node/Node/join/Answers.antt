@@ -5,9 +5,16 @@ use Rattle.cap_summary.proofs.node.Node.join.Goals as goal
 pub returns-then-len-eq0 : goal.returns-then-len-eq0
 returns-then-len-eq0 c =
     let none : length c.args.left.now.value ≡ 0 = sym (rw c.deref.ensures at c.len.ensures.count) ∙ c.if-len-eq0.true in
-    record { steps = none_before c.args.left.now.value c.args.right.now.value c.in_ok-clone.field-0.value c.in_ok-clone.ensures.cases none }
+    record {
+      steps = none_before c.args.left.now.value c.args.right.now.value c.in_ok-clone.field-0.value
+          c.in_ok-clone.ensures.cases none;
+    }
 
 pub returns-then-len-eq0-2 : goal.returns-then-len-eq0-2
 returns-then-len-eq0-2 c =
-    let none : length c.args.right.now.value ≡ 0 = sym (rw c.deref-2.ensures at c.len-2.ensures.count) ∙ c.if-len-eq0-2.true in
-    record { steps = none_behind c.args.left.now.value c.args.right.now.value c.in_ok-clone-2.field-0.value c.in_ok-clone-2.ensures.cases none }
+    let none : length c.args.right.now.value ≡ 0 = sym (rw c.deref-2.ensures at c.len-2.ensures.count)
+    ∙ c.if-len-eq0-2.true in
+    record {
+      steps = none_behind c.args.left.now.value c.args.right.now.value c.in_ok-clone-2.field-0.value
+          c.in_ok-clone-2.ensures.cases none;
+    }

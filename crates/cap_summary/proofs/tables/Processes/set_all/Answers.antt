@@ -15,12 +15,17 @@ pub loop-pid-preserved : goal.loop-pid-preserved
 unfolding process_at
 loop-pid-preserved c =
     let value = λ (process : Rc Process Global). process.value in
-    let turn = btree_map_turn deref_pair c.loop-pid.yielded c.into_iter-pid-iterator.result c.loop-pid.pid-iterator c.next.new.self c.next.result (c.in-Some.pid, c.in-Some.process) c.loop-pid.yielded_by c.in-Some.is c.next.ensures.steps nat_cmp_total c.args.others.now.map (search rules) (search rules) in
+    let turn = btree_map_turn deref_pair c.loop-pid.yielded c.into_iter-pid-iterator.result c.loop-pid.pid-iterator
+    c.next.new.self c.next.result (c.in-Some.pid, c.in-Some.process) c.loop-pid.yielded_by
+    c.in-Some.is c.next.ensures.steps nat_cmp_total c.args.others.now.map (search rules) (search rules) in
     let now : ℕ → Option Process = process_at c.loop-pid.self in
     let new : ℕ → Option Process = process_at c.set.new.self in
-    let old : process_at c.args.others.now c.in-Some.pid.now ≡ Some c.in-Some.process.now.value = ap (option_map value) turn.1 in
-    let here : new c.in-Some.pid.now ≡ Some c.in_ok-moved.moved = put_here now new c.in-Some.pid.now c.in_ok-moved.moved c.in_ok-set.ensures in
-    related_one (λ p. JoinsListed c.args.change.now) c.loop-pid.yielded (c.in-Some.pid, c.in-Some.process) (process_at c.args.others.now) (process_at c.args.self.now) now new
+    let old : process_at c.args.others.now c.in-Some.pid.now ≡ Some c.in-Some.process.now.value =
+    ap (option_map value) turn.1 in
+    let here : new c.in-Some.pid.now ≡ Some c.in_ok-moved.moved =
+    put_here now new c.in-Some.pid.now c.in_ok-moved.moved c.in_ok-set.ensures in
+    related_one (λ p. JoinsListed c.args.change.now) c.loop-pid.yielded (c.in-Some.pid, c.in-Some.process)
+    (process_at c.args.others.now) (process_at c.args.self.now) now new
     c.loop-pid.invariant (rw (old, here) (rw c.deref.ensures at c.in_ok-moved.ensures))
     (put_other now new c.in-Some.pid.now c.in_ok-moved.moved c.in_ok-set.ensures)
 
@@ -29,4 +34,6 @@ unfolding process_at
 returns c =
     let value = λ (process : Rc Process Global). process.value in
     let all : map deref_pair c.loop-pid.yielded ≡ c.args.others.now.map.entries = search (rules, iter_end) in
-    λ p. subst (λ (o : Option Process). JoinsListed c.args.change.now (process_at c.args.self.now p) o (process_at c.loop-pid.self p)) (met_all value c.loop-pid.yielded c.args.others.now.map p all) (c.loop-pid.invariant p)
+    λ p. subst (λ (o : Option Process). JoinsListed c.args.change.now (process_at c.args.self.now p) o
+    (process_at c.loop-pid.self p))
+    (met_all value c.loop-pid.yielded c.args.others.now.map p all) (c.loop-pid.invariant p)

@@ -9,4 +9,5 @@ returns-else-at-middle-clause-run g t c =
     let all : c.args.self.now.0 ≡ left ++ right = sym (ap (λ d. d.0) (rw c.in-Branch.is at c.self.view_is)) in
     let long : length left ≡ c.len-middle.result = sym (rw c.deref.ensures at c.len-middle.ensures.count) in
     let run = rw c.deref-else-at-middle.ensures at c.leaf_at-else-at-middle.ensures.run in
-    rw all (run ∙ slice_range-append_right left right c.len-middle.result c.args.at _ _ long c.if-at-middle.false c.leaf_at-else-at-middle.ensures.not_before)
+    rw all (run ∙ slice_range-append_right left right c.len-middle.result c.args.at _ _ long c.if-at-middle.false
+    c.leaf_at-else-at-middle.ensures.not_before)

@@ -9,4 +9,5 @@ pub returns-else-len-le-LEAF_ITEMS-clause-height : goal.returns-else-len-le-LEAF
 returns-else-len-le-LEAF_ITEMS-clause-height g c =
     let P = λ (h : ℕ). IsLeastHeight LEAF_ITEMS h (length c.as_slice.result.now) in
     let few : length c.as_slice.result.now ≤ LEAF_ITEMS + 1 = omega arith in
-    IfOk-weaker c.build.result (λ n. P n.value.1) (λ n. n.value.1 ≤ 1) (λ n least. height-split n.value.1 _ least few) c.build.ensures.height
+    IfOk-weaker c.build.result (λ n. P n.value.1) (λ n. n.value.1 ≤ 1)
+    (λ n least. height-split n.value.1 _ least few) c.build.ensures.height

@@ -9,7 +9,9 @@ use Rattle.cap_machine.proofs.cells.node.NodeSubtree.all.Goals as goal
 
 pub returns : goal.returns
 returns g c = λ f has.
-    ap (λ (m : Pending). settled m (option_map_or (λ part. g.T.Subtree.cell_at part.value (f % g.row.WIDTH)) (slice_get c.in_ok-eight.field-0 (f / g.row.WIDTH)) Unknown)) (get_or-replicate 8 (f / g.row.WIDTH) Nothing Nothing has.1)
+    ap (λ (m : Pending). settled m (option_map_or (λ part. g.T.Subtree.cell_at part.value (f % g.row.WIDTH))
+    (slice_get c.in_ok-eight.field-0 (f / g.row.WIDTH)) Unknown))
+    (get_or-replicate 8 (f / g.row.WIDTH) Nothing Nothing has.1)
     ∙ c.in_ok-eight.ensures (f / g.row.WIDTH) (f % g.row.WIDTH) has.1
     ∙ ap (λ tree. g.T.Subtree.cell_at tree (f % g.row.WIDTH)) c.in_ok-part.ensures.ok
     ∙ c.in_ok-all.ensures (f % g.row.WIDTH) has.2

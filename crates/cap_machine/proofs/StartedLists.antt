@@ -1,0 +1,118 @@
+-- What is left of a list when descriptors are struck off it.
+use Rattle.std.proofs.Common.{◌≡◌, ℕ, ◌==◌, nat_le, nat_lt, ◌||◌, not, ◌++◌, if◌then◌else◌, Bool, true, false, List, []}
+use Rattle.std.proofs.Common.{◌∷◌, refl, ap, sym, ◌∙◌, arith}
+use Rattle.std.specs.List.{list_any, filter}
+use Rattle.std.proofs.lemmas.Bool.{cases_eq, cases_lt}
+use Rattle.std.proofs.lemmas.Bool.Decides.{nat_tests}
+use Rattle.std.proofs.lemmas.Map.Views.{any-filter_same}
+use Rattle.std.proofs.Math.Logic.{⊎_elim}
+
+-- without one descriptor
+pub any_without : (fds : List ℕ) (fd f : ℕ)
+    → list_any (λ g. f == g) (filter (λ g. not (g == fd)) fds) ≡ (if f == fd then false else list_any (λ g. f == g) fds)
+any_without fds fd f =
+    ⊎_elim
+    (λ e.
+    let yes : (f == fd) ≡ true = grind (arith, nat_tests, e) in
+    any-filter_same (λ g. f == g) (λ g. not (g == fd)) false (λ g same. grind (arith, nat_tests, same, e)) fds
+    ∙ ap (λ b. if b then false else list_any (λ g. f == g) fds) (sym yes))
+    (λ ne.
+    let no : (f == fd) ≡ false = grind (arith, nat_tests, ne) in
+    any-filter_same (λ g. f == g) (λ g. not (g == fd)) true (λ g same. grind (arith, nat_tests, same, ne)) fds
+    ∙ ap (λ b. if b then false else list_any (λ g. f == g) fds) (sym no))
+    (cases_eq f fd)
+
+-- without those from one on
+pub any_below : (fds : List ℕ) (fd f : ℕ) → list_any (λ g. f == g) (filter (λ g. nat_lt g fd) fds)
+    ≡ (if nat_le fd f then false else list_any (λ g. f == g) fds)
+any_below fds fd f =
+    ⊎_elim
+    (λ lt.
+    let no : nat_le fd f ≡ false = grind (arith, nat_tests, lt) in
+    any-filter_same (λ g. f == g) (λ g. nat_lt g fd) true (λ g same. grind (arith, nat_tests, same, lt)) fds
+    ∙ ap (λ b. if b then false else list_any (λ g. f == g) fds) (sym no))
+    (λ ge.
+    let yes : nat_le fd f ≡ true = grind (arith, nat_tests, ge) in
+    any-filter_same (λ g. f == g) (λ g. nat_lt g fd) false (λ g same. grind (arith, nat_tests, same, ge)) fds
+    ∙ ap (λ b. if b then false else list_any (λ g. f == g) fds) (sym yes))
+    (cases_lt f fd)
+
+-- two lists, without the same descriptors
+neither : (b s l : Bool) → ((if b then false else s) || (if b then false else l)) ≡ (if b then false else (s || l))
+neither true s l = refl
+neither false s l = refl
+
+chosen : {X : Type 0} (b t : Bool) (x c : X)
+    → (if (if b then false else t) then x else c) ≡ (if b then c else (if t then x else c))
+chosen true t x c = refl
+chosen false t x c = refl
+
+-- what is asked of two lists before and after
+pub without : {X : Type 0} (small large few more : List ℕ) (fd f : ℕ) (x c : X)
+    → few ≡ filter (λ g. not (g == fd)) small → more ≡ filter (λ g. not (g == fd)) large
+    → (if list_any (λ g. f == g) few || list_any (λ g. f == g) more then x else c)
+    ≡ (if f == fd then c else (if list_any (λ g. f == g) small || list_any (λ g. f == g) large then x else c))
+without small large few more fd f x c e h =
+    ap (λ (gs : List ℕ). if list_any (λ g. f == g) gs || list_any (λ g. f == g) more then x else c) e
+    ∙ ap (λ (gs : List ℕ). if list_any (λ g. f == g) (filter (λ g. not (g == fd)) small) || list_any (λ g. f == g) gs
+    then x else c) h
+    ∙ ap (λ (b : Bool). if b || list_any (λ g. f == g) (filter (λ g. not (g == fd)) large) then x else c)
+    (any_without small fd f)
+    ∙ ap (λ (b : Bool). if (if f == fd then false else list_any (λ g. f == g) small) || b then x else c)
+    (any_without large fd f)
+    ∙ ap (λ (b : Bool). if b then x else c)
+    (neither (f == fd) (list_any (λ g. f == g) small) (list_any (λ g. f == g) large))
+    ∙ chosen (f == fd) (list_any (λ g. f == g) small || list_any (λ g. f == g) large) x c
+
+pub below : {X : Type 0} (small large few more : List ℕ) (fd f : ℕ) (x c : X) → few ≡ filter (λ g. nat_lt g fd) small
+    → more ≡ filter (λ g. nat_lt g fd) large
+    → (if list_any (λ g. f == g) few || list_any (λ g. f == g) more then x else c)
+    ≡ (if nat_le fd f then c else (if list_any (λ g. f == g) small || list_any (λ g. f == g) large then x else c))
+below small large few more fd f x c e h =
+    ap (λ (gs : List ℕ). if list_any (λ g. f == g) gs || list_any (λ g. f == g) more then x else c) e
+    ∙ ap (λ (gs : List ℕ). if list_any (λ g. f == g) (filter (λ g. nat_lt g fd) small) || list_any (λ g. f == g) gs
+    then x else c) h
+    ∙ ap (λ (b : Bool). if b || list_any (λ g. f == g) (filter (λ g. nat_lt g fd) large) then x else c)
+    (any_below small fd f)
+    ∙ ap (λ (b : Bool). if (if nat_le fd f then false else list_any (λ g. f == g) small) || b then x else c)
+    (any_below large fd f)
+    ∙ ap (λ (b : Bool). if b then x else c)
+    (neither (nat_le fd f) (list_any (λ g. f == g) small) (list_any (λ g. f == g) large))
+    ∙ chosen (nat_le fd f) (list_any (λ g. f == g) small || list_any (λ g. f == g) large) x c
+
+-- one descriptor more at the end of a list
+or_false : (b : Bool) → (b || false) ≡ b
+or_false true = refl
+or_false false = refl
+
+or_assoc : (a b c : Bool) → (a || (b || c)) ≡ ((a || b) || c)
+or_assoc true b c = refl
+or_assoc false b c = refl
+
+pub any_more : (f : ℕ) (fds : List ℕ) (fd : ℕ)
+    → list_any (λ g. f == g) (fds ++ fd ∷ []) ≡ (list_any (λ g. f == g) fds || f == fd)
+any_more f [] fd = or_false (f == fd)
+any_more f (one ∷ fds) fd = ap (λ (b : Bool). f == one || b) (any_more f fds fd)
+    ∙ or_assoc (f == one) (list_any (λ g. f == g) fds) (f == fd)
+
+-- and of the first or of the second of two
+among : (a b t : Bool) → ((a || t) || b) ≡ ((a || b) || t)
+among true b t = refl
+among false true true = refl
+among false true false = refl
+among false false true = refl
+among false false false = refl
+
+pub more_small : (f : ℕ) (small large : List ℕ) (fd : ℕ)
+    → (list_any (λ g. f == g) (small ++ fd ∷ []) || list_any (λ g. f == g) large)
+    ≡ ((list_any (λ g. f == g) small || list_any (λ g. f == g) large) || f == fd)
+more_small f small large fd =
+    ap (λ (b : Bool). b || list_any (λ g. f == g) large) (any_more f small fd)
+    ∙ among (list_any (λ g. f == g) small) (list_any (λ g. f == g) large) (f == fd)
+
+pub more_large : (f : ℕ) (small large : List ℕ) (fd : ℕ)
+    → (list_any (λ g. f == g) small || list_any (λ g. f == g) (large ++ fd ∷ []))
+    ≡ ((list_any (λ g. f == g) small || list_any (λ g. f == g) large) || f == fd)
+more_large f small large fd =
+    ap (λ (b : Bool). list_any (λ g. f == g) small || b) (any_more f large fd)
+    ∙ or_assoc (list_any (λ g. f == g) small) (list_any (λ g. f == g) large) (f == fd)

@@ -1,0 +1,60 @@
+//! A cell as a leaf keeps it.
+
+ghost use Rattle.std.specs.Prelude.{◌≡◌};
+ghost use Rattle.cap_machine.specs.Cells.Kind.{kind_of_cell, rights_of_cell, cell_of_kind};
+
+use crate::cell::{Cell, OnExec};
+use cap_rights::RightSet;
+
+/// What a cell is, but for its rights. Kept apart from them it takes one byte.
+#[derive(Clone, Copy)]
+pub(crate) enum Kind {
+    /// Nothing is known of it.
+    Unknown,
+    /// It is closed.
+    Closed,
+    /// It is held, and an exec closes it.
+    Set,
+    /// It is held, and an exec leaves it open.
+    Clear,
+    /// It is held, and what an exec does with it isn't known.
+    Unsure,
+}
+
+impl Kind {
+    /// The kind of a cell.
+    pub(crate) fn of(cell: &Cell) -> Kind
+        ensures { result ≡ kind_of_cell cell.now }
+    {
+        match cell {
+            Cell::Unknown => Kind::Unknown,
+            Cell::Closed => Kind::Closed,
+            Cell::Held(_, OnExec::Set) => Kind::Set,
+            Cell::Held(_, OnExec::Clear) => Kind::Clear,
+            Cell::Held(_, OnExec::Unsure) => Kind::Unsure,
+        }
+    }
+
+    /// The cell of this kind with these rights, if it is held.
+    pub(crate) fn with(self, rights: RightSet) -> Cell
+        ensures { result ≡ cell_of_kind self rights }
+    {
+        match self {
+            Kind::Unknown => Cell::Unknown,
+            Kind::Closed => Cell::Closed,
+            Kind::Set => Cell::Held(rights, OnExec::Set),
+            Kind::Clear => Cell::Held(rights, OnExec::Clear),
+            Kind::Unsure => Cell::Held(rights, OnExec::Unsure),
+        }
+    }
+}
+
+/// The rights of a cell; none where it isn't held.
+pub(crate) fn rights_of(cell: &Cell) -> RightSet
+    ensures { result ≡ rights_of_cell cell.now }
+{
+    match cell {
+        Cell::Unknown | Cell::Closed => RightSet::none(),
+        Cell::Held(rights, _) => *rights,
+    }
+}

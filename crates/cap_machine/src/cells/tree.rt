@@ -1,0 +1,108 @@
+//! The cells of a process without its list of `@start`.
+
+ghost use Rattle.std.specs.Prelude.{◌≡◌, ℕ, OnOk, IfOk, ◌==◌, nat_le, if◌then◌else◌};
+ghost use Rattle.cap_machine.specs.Cells.Pending.{settled};
+ghost use Rattle.cap_machine.specs.Cells.Tree.{cell_in_tree};
+
+use crate::cell::Cell;
+use crate::cells::far::Far;
+use crate::cells::high::High;
+use crate::cells::leaf::Leaf;
+use crate::cells::pending::Pending;
+use crate::cells::shared::Shared;
+use crate::cells::subtree::Subtree;
+use cap_rights::NoMemory;
+use cap_trace::Fd;
+use std::alloc::{AllocError, Global};
+
+/// One cell for each descriptor: those of the first 32 stand in one leaf, those of the others below 2 ^ 20 in a tree.
+#[derive(Drop)]
+pub(crate) struct Tree {
+    low: Shared<Leaf<32>>,
+    high: Shared<High>,
+    far: Far,
+}
+
+impl Tree {
+    /// Each cell is this one.
+    #[tactic(auto, unfolding(crate::specs::Cells::Tree::cell_in_tree))]
+    pub(crate) fn all(alloc: Global, cell: Cell) -> Result<Tree, NoMemory>
+        ensures { IfOk result (λ tree. (f : ℕ) → cell_in_tree tree f ≡ cell) }
+    {
+        Ok(Tree {
+            low: Shared::all(alloc, cell)?,
+            high: Shared::all(alloc, cell)?,
+            far: Far::all(alloc, cell),
+        })
+    }
+
+    /// The cell of a descriptor.
+    #[tactic(auto, unfolding(crate::specs::Cells::Tree::cell_in_tree))]
+    pub(crate) fn cell(&self, fd: Fd) -> Cell
+        ensures { result ≡ cell_in_tree self.now fd }
+    {
+        if fd < 32 {
+            self.low.cell(fd as usize)
+        } else if fd < 1_048_576 {
+            self.high.cell(fd as usize)
+        } else {
+            self.far.cell(fd)
+        }
+    }
+
+    /// Writes one cell.
+    #[tactic(auto, unfolding(crate::specs::Cells::Tree::cell_in_tree))]
+    pub(crate) fn write(&mut self, fd: Fd, cell: Cell) -> Result<(), NoMemory>
+        ensures { OnOk result
+            ((f : ℕ) → cell_in_tree self.new f ≡ (if f == fd then cell else cell_in_tree self.old f)) }
+    {
+        if fd < 32 {
+            self.low.write(fd as usize, cell)
+        } else if fd < 1_048_576 {
+            self.high.write(fd as usize, cell)
+        } else {
+            self.far.write(fd, cell)
+        }
+    }
+
+    /// Does this to each cell.
+    #[tactic(auto, unfolding(crate::specs::Cells::Tree::cell_in_tree))]
+    pub(crate) fn settle(&mut self, pending: Pending) -> Result<(), NoMemory>
+        ensures { OnOk result ((f : ℕ) → cell_in_tree self.new f ≡ settled pending (cell_in_tree self.old f)) }
+    {
+        self.low.settle(pending);
+        self.high.settle(pending);
+        self.far.settle(pending)
+    }
+
+    /// Closes the descriptors from one on.
+    #[tactic(auto, unfolding(crate::specs::Cells::Tree::cell_in_tree))]
+    pub(crate) fn close_from(&mut self, fd: Fd) -> Result<(), NoMemory>
+        ensures { OnOk result
+            ((f : ℕ) → cell_in_tree self.new f ≡ (if nat_le fd f then Cell.Closed else cell_in_tree self.old f)) }
+    {
+        if fd < 32 {
+            self.low.close_from(fd as usize)?;
+            self.high.settle(Pending::Close);
+            self.far.settle(Pending::Close)
+        } else if fd < 1_048_576 {
+            self.high.close_from(fd as usize)?;
+            self.far.settle(Pending::Close)
+        } else {
+            self.far.close_from(fd)
+        }
+    }
+}
+
+impl Clone for Tree {
+    ghost is_clone = { λ a b. (f : ℕ) → cell_in_tree b f ≡ cell_in_tree a f };
+
+    #[tactic(auto, unfolding(crate::specs::Cells::Tree::cell_in_tree))]
+    fn clone(&self) -> Result<Tree, AllocError> {
+        Ok(Tree {
+            low: self.low.clone()?,
+            high: self.high.clone()?,
+            far: self.far.clone()?,
+        })
+    }
+}

@@ -1,0 +1,76 @@
+//! Rules, judging, and laws.
+
+use cap_machine::{
+    Cell, Checks, Effect, Finding, Mode, OnExec, Profile, Rule, Step, Verdict, judge,
+    no_alarm_lost, positions_are_within, profiles_agree, rule_of, touches_what_it_names,
+    traces_in_turn,
+};
+use cap_rights::parse_rights;
+use cap_trace::{Line, parse_line};
+use std::test::Fail;
+
+/// What is said of the one check of a rule.
+fn said_of(rule: &Rule<'_>, cell: Cell) -> Option<Finding> {
+    match rule.demand.checks {
+        Checks::One(_) => judge(rule, Mode::Unsure, &[cell])
+            .as_slice()
+            .first()
+            .copied(),
+        _ => None,
+    }
+}
+
+/// What is said of the one check of a line that does nothing.
+fn said_of_line(line: &Line, cell: Cell) -> Option<Finding> {
+    let rule = rule_of(Profile::Two, line);
+    match &rule.effect {
+        Effect::Keep => said_of(&rule, cell),
+        _ => None,
+    }
+}
+
+#[test]
+fn a_line_is_judged(rt: HostRuntime) -> Result<(), Fail> {
+    let line = parse_line(rt.alloc(), b"100 write(0) RET 1")?;
+    let missing = Finding::Missing(0, parse_rights(b"CAP_WRITE")?);
+    let read = parse_rights(b"CAP_READ")?;
+    for flag in [OnExec::Set, OnExec::Clear, OnExec::Unsure] {
+        assert_eq!(rt; said_of_line(&line, Cell::Held(read, flag)), Some(missing));
+    }
+    Ok(())
+}
+
+#[test]
+fn a_step_is_a_line_in_a_profile(rt: HostRuntime) -> Result<(), Fail> {
+    let line = parse_line(rt.alloc(), b"100 execve(\"a\") RET 0")?;
+    let step = Step {
+        profile: Profile::Two,
+        line,
+    };
+    let rule = rule_of(step.profile, &step.line);
+    assert!(rt; matches!(rule.effect, Effect::Exec));
+    let rule = rule_of(Profile::One, &step.line);
+    assert!(rt; matches!(rule.effect, Effect::Forget));
+    assert_eq!(rt; said_inside(&rule), 1);
+    assert_eq!(rt; Verdict::silent().len(), 0);
+    Ok(())
+}
+
+/// How many findings there are of a call without checks that succeeded in capability mode.
+fn said_inside(rule: &Rule<'_>) -> usize {
+    match rule.demand.checks {
+        Checks::Nothing => rule.demand.judge(Mode::Inside, &[]).len(),
+        _ => 0,
+    }
+}
+
+/// Each law may be called.
+#[test]
+fn the_laws_are_called() -> Result<(), Fail> {
+    traces_in_turn();
+    profiles_agree();
+    no_alarm_lost();
+    touches_what_it_names();
+    positions_are_within();
+    Ok(())
+}

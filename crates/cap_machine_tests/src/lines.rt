@@ -1,0 +1,28 @@
+//! Lines of a trace, and the report of a checker.
+
+use cap_machine::{Checker, NoMemory};
+use cap_trace::{Line, parse_line};
+use std::alloc::Global;
+use std::test::Fail;
+
+/// The lines of a trace.
+pub fn lines_of(alloc: Global, trace: &[u8]) -> Result<Vec<Line>, Fail> {
+    let mut lines = Vec::new(alloc);
+    for text in trace.split(|byte| *byte == b'\n') {
+        if !text.is_empty() {
+            let line = parse_line(alloc, text)?;
+            lines.push(line)?;
+        }
+    }
+    Ok(lines)
+}
+
+/// The report of a checker, once it was given these lines.
+pub fn report_of(mut checker: Checker, lines: &[Line]) -> Result<Vec<u8>, NoMemory> {
+    for line in lines {
+        if checker.count() < 100 {
+            checker.line(line)?;
+        }
+    }
+    checker.report()
+}

@@ -1,0 +1,16 @@
+//! Tests of `cap_session` through what it offers to others: traces from broken readers to broken writers, start texts,
+//! edits and scripts, and each public function once where it succeeds.
+#![tactic(auto)]
+
+#[cfg(test)]
+mod checks;
+#[cfg(test)]
+mod devices;
+#[cfg(test)]
+mod edits;
+#[cfg(test)]
+mod from_starts;
+#[cfg(test)]
+mod scripts;
+#[cfg(test)]
+mod starts;

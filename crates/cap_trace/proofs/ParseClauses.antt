@@ -1,0 +1,57 @@
+-- From what reading gives to the clauses of parse_line.
+use Rattle.std.proofs.Common.{◌≡◌, ℕ, List, Option, Some, None, Result, Ok, Err, refl, sym, ap, ◌∙◌, inl}
+use Rattle.cap_trace.specs.declared.fault.ReadFault.{ReadFault}
+use Rattle.cap_trace.specs.declared.fault.ReadFault.TheVariants as faults
+use Rattle.cap_trace.specs.declared.fault.LineFault.{LineFault}
+use Rattle.cap_trace.specs.declared.fault.LineFault.TheVariants as line_faults
+use Rattle.cap_trace.specs.Entry.{Entry}
+use Rattle.cap_trace.specs.Reading.{line_of, fault}
+use Rattle.cap_trace.specs.Fault.{line_fault}
+use Rattle.cap_trace.specs.Parsing.{SpellsNone, FaultsAreExact, ReadsOnly}
+use Rattle.cap_trace.proofs.WholeLines.{line_again}
+use Rattle.cap_trace.proofs.Rising.{ok_same}
+
+read_fault : LineFault → Option ReadFault
+read_fault line_faults.TooLong = Some faults.TooLong
+read_fault line_faults.Shape = Some faults.Shape
+read_fault line_faults.Pid = Some faults.Pid
+read_fault line_faults.Argument = Some faults.Argument
+read_fault line_faults.Right = Some faults.Right
+read_fault line_faults.Answer = Some faults.Answer
+read_fault line_faults.Memory = None
+
+read_fault_again : (f : ReadFault) → read_fault (line_fault f) ≡ Some f
+unfolding read_fault
+read_fault_again faults.TooLong = refl
+read_fault_again faults.Shape = refl
+read_fault_again faults.Pid = refl
+read_fault_again faults.Argument = refl
+read_fault_again faults.Right = refl
+read_fault_again faults.Answer = refl
+
+same_fault : (d f : ReadFault) → line_fault d ≡ line_fault f → ◌≡◌ {A = Option ReadFault} (Some d) (Some f)
+same_fault d f e = sym (read_fault_again d) ∙ ap read_fault e ∙ read_fault_again f
+
+pub none_spelled : (bytes : List ℕ) (d : ReadFault) → line_of bytes ≡ Err d → SpellsNone bytes
+none_spelled bytes d h = λ e s. absurd (let g = sym h ∙ line_again bytes e s in cc)
+
+fault_is : (bytes : List ℕ) (d : ReadFault) → line_of bytes ≡ Err d → fault bytes ≡ Some d
+fault_is bytes d h =
+    ap (λ (r : Result Entry ReadFault). elim r as (λ _. Option ReadFault) [ Ok e ↦ None | Err f ↦ Some f ]) h
+
+pub faults_exact : (bytes : List ℕ) (d : ReadFault) (l : LineFault) → line_of bytes ≡ Err d → l ≡ line_fault d
+    → FaultsAreExact bytes (Err l)
+faults_exact bytes d l h e f = (
+  λ given. let same : l ≡ line_fault f = (let g = given in cc) in
+      (none_spelled bytes d h, fault_is bytes d h ∙ same_fault d f (sym e ∙ same)),
+  λ p. let same : ◌≡◌ {A = Option ReadFault} (Some d) (Some f) = sym (fault_is bytes d h) ∙ p.1 in
+      let one : d ≡ f = (let s = same in cc) in
+      ap Err (e ∙ ap line_fault one),
+)
+
+pub only_none : (bytes : List ℕ) (d : ReadFault) (r : Result Entry LineFault) → line_of bytes ≡ Err d
+    → ReadsOnly bytes r
+only_none bytes d r h = λ e s. absurd (none_spelled bytes d h e s)
+
+pub only_this : (bytes : List ℕ) (x : Entry) → line_of bytes ≡ Ok x → ReadsOnly bytes (Ok x)
+only_this bytes x h = λ e s. inl (ap Ok (ok_same x e (sym h ∙ line_again bytes e s)))

@@ -1,0 +1,187 @@
+//! Reading the fields of a line over its bytes. Nothing here takes memory.
+
+ghost use Rattle.std.specs.Prelude.{◌≡◌, ◌≤◌, ◌==◌, ◌∷◌, [], false, length, IfOk, MatchResult};
+ghost use Rattle.cap_trace.specs.declared.fault.ReadFault.TheVariants.{Argument};
+ghost use Rattle.cap_trace.specs.Limits.{largest_fd};
+ghost use Rattle.cap_trace.specs.Quotes.{pieces};
+ghost use Rattle.cap_trace.specs.Reading.{Gives, pid_at, fd_at, rights_at, dir_at, flags_at, command_at, path_at};
+ghost use Rattle.cap_trace.specs.Reading.{free_at};
+
+use crate::fault::ReadFault;
+use crate::fields::{command, flags, free, items};
+use crate::limits::{LARGEST_FD, LARGEST_PID};
+use crate::line::{Dir, Fd, Pid};
+use crate::number::number_of;
+use crate::parts::Parts;
+use cap_rights::{RightSet, parse_rights};
+
+#[tactic(auto, unfolding(crate::specs::Reading::pid_at))]
+pub(crate) fn pid_of(text: &[u8]) -> Result<Pid, ReadFault>
+    ensures { Gives (λ p. p) result (pid_at text.now) }
+{
+    match number_of(u64::from(LARGEST_PID), text) {
+        Some(pid) if pid != 0 => Ok(pid as u32),
+        _ => Err(ReadFault::Pid),
+    }
+}
+
+#[tactic(auto, unfolding(crate::specs::Reading::fd_at))]
+pub(crate) fn fd_of(text: &[u8]) -> Result<Fd, ReadFault>
+    ensures value { Gives (λ f. f) result (fd_at text.now) }
+    ensures bound { IfOk result (λ f. f ≤ largest_fd) }
+{
+    match number_of(u64::from(LARGEST_FD), text) {
+        Some(fd) => Ok(fd as u32),
+        None => Err(ReadFault::Argument),
+    }
+}
+
+#[tactic(auto, unfolding(crate::specs::Reading::rights_at))]
+pub(crate) fn rights_of(text: &[u8]) -> Result<RightSet, ReadFault>
+    ensures { Gives (λ r. r) result (rights_at text.now) }
+{
+    parse_rights(text).map_err(|_| ReadFault::Right)
+}
+
+#[tactic(auto, unfolding(crate::specs::Reading::dir_at))]
+pub(crate) fn dir_of(text: &[u8]) -> Result<Dir, ReadFault>
+    ensures { Gives (λ d. d) result (dir_at text.now) }
+{
+    if text == b"AT_FDCWD".as_slice() {
+        return Ok(Dir::Cwd);
+    }
+    Ok(Dir::Fd(fd_of(text)?))
+}
+
+#[tactic(auto, unfolding(crate::specs::Reading::flags_at))]
+pub(crate) fn flags_of(text: &[u8]) -> Result<&[u8], ReadFault>
+    ensures { Gives (λ f. f.now) result (flags_at text.now) }
+{
+    if flags(text) {
+        Ok(text)
+    } else {
+        Err(ReadFault::Argument)
+    }
+}
+
+#[tactic(auto, unfolding(crate::specs::Reading::command_at))]
+pub(crate) fn command_of(text: &[u8]) -> Result<&[u8], ReadFault>
+    ensures { Gives (λ c. c.now) result (command_at text.now) }
+{
+    if command(text) {
+        Ok(text)
+    } else {
+        Err(ReadFault::Argument)
+    }
+}
+
+/// What stands between the quotes.
+#[tactic(auto, unfolding(crate::specs::Reading::path_at))]
+pub(crate) fn path_of(text: &[u8]) -> Result<&[u8], ReadFault>
+    ensures { Gives (λ p. p.now) result (path_at text.now) }
+{
+    let Some(opened) = text.strip_prefix(b"\"".as_slice()) else {
+        return Err(ReadFault::Argument);
+    };
+    match opened.strip_suffix(b"\"".as_slice()) {
+        Some(inside) if items(inside) => Ok(inside),
+        _ => Err(ReadFault::Argument),
+    }
+}
+
+#[tactic(auto, unfolding(crate::specs::Reading::free_at))]
+pub(crate) fn free_of(text: &[u8]) -> Result<&[u8], ReadFault>
+    ensures { Gives (λ a. a.now) result (free_at text.now) }
+{
+    if free(text) {
+        Ok(text)
+    } else {
+        Err(ReadFault::Shape)
+    }
+}
+
+// ---- how many arguments there are
+
+/// No argument.
+pub(crate) fn no_part(args: &[u8]) -> Result<(), ReadFault>
+    ensures { MatchResult result (λ _. pieces args.now ≡ [])
+        (λ e. (e ≡ Argument) × ((length (pieces args.now) == 0) ≡ false)) }
+{
+    match Parts::of(args).next() {
+        None => Ok(()),
+        Some(_) => Err(ReadFault::Argument),
+    }
+}
+
+/// The one argument.
+pub(crate) fn one_part(args: &[u8]) -> Result<&[u8], ReadFault>
+    ensures { MatchResult result (λ a. pieces args.now ≡ a.now ∷ [])
+        (λ e. (e ≡ Argument) × ((length (pieces args.now) == 1) ≡ false)) }
+{
+    let mut parts = Parts::of(args);
+    match (parts.next(), parts.next()) {
+        (Some(a), None) => Ok(a),
+        _ => Err(ReadFault::Argument),
+    }
+}
+
+/// The two arguments.
+pub(crate) fn two_parts(args: &[u8]) -> Result<(&[u8], &[u8]), ReadFault>
+    ensures { MatchResult result (λ p. pieces args.now ≡ p.0.now ∷ p.1.now ∷ [])
+        (λ e. (e ≡ Argument) × ((length (pieces args.now) == 2) ≡ false)) }
+{
+    let mut parts = Parts::of(args);
+    match (parts.next(), parts.next(), parts.next()) {
+        (Some(a), Some(b), None) => Ok((a, b)),
+        _ => Err(ReadFault::Argument),
+    }
+}
+
+/// The three arguments.
+pub(crate) fn three_parts(args: &[u8]) -> Result<(&[u8], &[u8], &[u8]), ReadFault>
+    ensures { MatchResult result (λ p. pieces args.now ≡ p.0.now ∷ p.1.now ∷ p.2.now ∷ [])
+        (λ e. (e ≡ Argument) × ((length (pieces args.now) == 3) ≡ false)) }
+{
+    let mut parts = Parts::of(args);
+    match (parts.next(), parts.next(), parts.next(), parts.next()) {
+        (Some(a), Some(b), Some(c), None) => Ok((a, b, c)),
+        _ => Err(ReadFault::Argument),
+    }
+}
+
+/// The four arguments.
+pub(crate) fn four_parts(args: &[u8]) -> Result<(&[u8], &[u8], &[u8], &[u8]), ReadFault>
+    ensures { MatchResult result (λ p. pieces args.now ≡ p.0.now ∷ p.1.now ∷ p.2.now ∷ p.3.now ∷ [])
+        (λ e. (e ≡ Argument) × ((length (pieces args.now) == 4) ≡ false)) }
+{
+    let mut parts = Parts::of(args);
+    match (
+        parts.next(),
+        parts.next(),
+        parts.next(),
+        parts.next(),
+        parts.next(),
+    ) {
+        (Some(a), Some(b), Some(c), Some(d), None) => Ok((a, b, c, d)),
+        _ => Err(ReadFault::Argument),
+    }
+}
+
+/// The five arguments.
+pub(crate) fn five_parts(args: &[u8]) -> Result<(&[u8], &[u8], &[u8], &[u8], &[u8]), ReadFault>
+    ensures { MatchResult result (λ p. pieces args.now ≡ p.0.now ∷ p.1.now ∷ p.2.now ∷ p.3.now ∷ p.4.now ∷ [])
+        (λ e. (e ≡ Argument) × ((length (pieces args.now) == 5) ≡ false)) }
+{
+    let mut parts = Parts::of(args);
+    match (
+        parts.next(),
+        parts.next(),
+        parts.next(),
+        parts.next(),
+        parts.next(),
+        parts.next(),
+    ) {
+        (Some(a), Some(b), Some(c), Some(d), Some(e), None) => Ok((a, b, c, d, e)),
+        _ => Err(ReadFault::Argument),
+    }
+}
