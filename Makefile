@@ -2,15 +2,19 @@
 #
 #   make            proves every crate and leaves the program as ./capcheck
 #   make run        the same, and checks an example trace with it
-#   make test       the gate: the examples, worked traces and scripts, random ones beside a second reading of the rules, each
-#                   allocation refused in turn, the recorder and the annotator, and then every proof, test, stored run and
-#                   wrong body from nothing
+#   make test       the gate: every proof, test, stored run and wrong body from nothing, and with the program that this builds
+#                   the examples, worked traces and scripts, random ones beside a second reading of the rules, each allocation
+#                   refused in turn, hostile input, the recorder and the annotator
+#   make examples   the same scripts alone, with ./capcheck
 #   make bench      times the program, and reading alone, on traces of a million lines beside `wc -l`, and scripts beside a check
 #   make install    puts the program and its manual page under PREFIX (default /usr/local)
 
 RT ?= rt
 PREFIX ?= /usr/local
 SOURCES = $(shell find crates -path '*/out' -prune -o -type f -name '*.rt' -print -o -type f -name '*.antt' -print) crates.txt HANDLES
+
+# What runs the built program, each with the program as its argument.
+SCRIPTS = examples/check tests/rows tests/talks tests/memory tests/faults tests/compare tests/recorder tests/annotate
 
 .PHONY: all run test examples bench install clean
 all: capcheck
@@ -25,17 +29,10 @@ run: capcheck
 	./capcheck check examples/filter.trace || test $$? -eq 1
 
 examples: capcheck
-	examples/check ./capcheck
-	tests/rows ./capcheck
-	tests/talks ./capcheck
-	tests/memory ./capcheck
-	tests/faults ./capcheck
-	tests/compare ./capcheck
-	tests/recorder ./capcheck
-	tests/annotate ./capcheck
+	for script in $(SCRIPTS); do $$script ./capcheck || exit 1; done
 
-test: examples
-	$(RT) ci
+test:
+	tests/gate $(SCRIPTS)
 
 bench: capcheck
 	bench/run ./capcheck
