@@ -1,4 +1,4 @@
-//! Worked texts, with what is told of them, over readers and writers that are cut and broken at will.
+//! Worked texts, with what is answered to them, over readers and writers that are cut and broken at will.
 
 use crate::devices::{Kept, Pieces, ample};
 use cap_session::{
