@@ -6,6 +6,7 @@
 #                   the examples, worked traces and scripts, random ones beside a second reading of the rules, each allocation
 #                   refused in turn, hostile input, the recorder and the annotator
 #   make examples   the same scripts alone, with ./capcheck
+#   make refusals   each call that takes memory, with each of its allocations refused
 #   make bench      times the program, and reading alone, on traces of a million lines beside `wc -l`, and scripts beside a check
 #   make install    puts the program and its manual page under PREFIX (default /usr/local)
 
@@ -31,8 +32,13 @@ run: capcheck
 examples: capcheck
 	for script in $(SCRIPTS); do $$script ./capcheck || exit 1; done
 
+# Each allocation refused in turn, in a process that calls each function that takes memory.
+refusals:
+	cd crates/cap_refusal_tests && $(RT) test
+	tests/refusals crates/cap_refusal_tests/out/cap_refusal_tests_tests
+
 test:
-	tests/gate $(SCRIPTS)
+	tests/gate $(SCRIPTS) tests/refusals
 
 bench: capcheck
 	bench/run ./capcheck

@@ -212,8 +212,8 @@ def answer(name, given, text):
     if len(words) != len(limits):
         raise Refused(6)
     made = [number(word, limit, 6) for word, limit in zip(words, limits)]
-    told = given[1] if name == "dup2" else given[2] if name == "fcntl" and given[1] in COPIES_TO else made[0]
-    if made[0] != told:
+    wanted = given[1] if name == "dup2" else given[2] if name == "fcntl" and given[1] in COPIES_TO else made[0]
+    if made[0] != wanted:
         raise Refused(4)
     return made
 
@@ -476,22 +476,22 @@ class Processes:
     def put(self, pid, place, cell):
         self.of(pid).cells[place] = cell
 
-    def said(self, pid, name, given, told):
+    def said(self, pid, name, given, answer):
         """The findings of a line, each as its words."""
-        if told is None:
+        if answer is None:
             return []
         kind, checks = rule(name, given)
         mode = self.of(pid).mode
         cells = [self.cell(pid, place) for place, _, _ in checks]
-        if told == 94:
+        if answer == 94:
             return ["moderefusal"] if mode == "outside" or kind == "allowed" else []
-        if told == 93:
+        if answer == 93:
             held = [
                 excuse is not None and isinstance(cell, Held) and excuse <= cell.rights
                 for (_, _, excuse), cell in zip(checks, cells)
             ]
             return ["refusal"] if held and all(held) and (name not in AT_CALLS or mode == "outside") else []
-        if isinstance(told, int):
+        if isinstance(answer, int):
             return []
         out = ["forbidden"] if kind == "forbidden" and mode == "inside" else []
         for (place, needs, _), cell in zip(checks, cells):
@@ -502,7 +502,7 @@ class Processes:
                 out.append(f"{word} {place} {rights_text(needs - cell.rights)}")
         return out
 
-    def follow(self, pid, name, given, told):
+    def follow(self, pid, name, given, answer):
         """What is known after a line."""
         if name == "@start":
             self.known[pid] = Process({place: Held(EVERYTHING) for place in given[0]}, CLOSED, "outside")
@@ -511,14 +511,14 @@ class Processes:
         elif name == "@foreign":
             self.put(pid, given[0], UNKNOWN)
         elif name == "close":
-            if told != 9:
-                self.put(pid, given[0], UNKNOWN if isinstance(told, int) else CLOSED)
-        elif not isinstance(told, int):
-            self.succeeded(pid, name, given, told)
+            if answer != 9:
+                self.put(pid, given[0], UNKNOWN if isinstance(answer, int) else CLOSED)
+        elif not isinstance(answer, int):
+            self.succeeded(pid, name, given, answer)
 
-    def succeeded(self, pid, name, given, told):
+    def succeeded(self, pid, name, given, answer):
         if name in ("fork", "vfork", "pdfork"):
-            self.forked(pid, name, told)
+            self.forked(pid, name, answer)
         elif name in ("execve", "fexecve"):
             self.replaced(pid)
         elif name == "closefrom":
@@ -533,29 +533,29 @@ class Processes:
         elif name == "fcntl" and given[1] == "F_SETFD":
             self.put(pid, given[0], with_flags(self.cell(pid, given[0]), given[2]))
         else:
-            self.made(pid, name, given, told)
+            self.made(pid, name, given, answer)
 
-    def made(self, pid, name, given, told):
+    def made(self, pid, name, given, answer):
         """The descriptors that a call made."""
         if name in ("dup", "dup2") or (name == "fcntl" and given[1] in COPIES + COPIES_TO):
             cell = self.cell(pid, given[0])
-            self.put(pid, told[0], Held(cell.rights, flag_of_copy(name, given, cell.flag)) if isinstance(cell, Held) else UNKNOWN)
+            self.put(pid, answer[0], Held(cell.rights, flag_of_copy(name, given, cell.flag)) if isinstance(cell, Held) else UNKNOWN)
         elif name == "openat" and given[0] != "AT_FDCWD" and given[1] and given[1][0] != "/":
             cell = self.cell(pid, given[0])
-            self.put(pid, told[0], Held(cell.rights, flag_of_new(name, given)) if isinstance(cell, Held) else UNKNOWN)
+            self.put(pid, answer[0], Held(cell.rights, flag_of_new(name, given)) if isinstance(cell, Held) else UNKNOWN)
         elif name in ("open", "socket") or name in MAKES_TWO or (name == "openat" and given[0] == "AT_FDCWD" and given[1]):
-            for place in told:
+            for place in answer:
                 self.put(pid, place, Held(EVERYTHING, flag_of_new(name, given)))
         elif name in MAKES_ONE:
-            self.put(pid, told[0], UNKNOWN)
+            self.put(pid, answer[0], UNKNOWN)
 
-    def forked(self, pid, name, told):
-        child = told[0]
+    def forked(self, pid, name, answer):
+        child = answer[0]
         if child not in (0, pid):
             self.known[child] = self.of(pid).copy()
         if name == "pdfork" and child != 0:
-            self.put(pid, told[1], UNKNOWN)
-            self.put(child, told[1], UNKNOWN)
+            self.put(pid, answer[1], UNKNOWN)
+            self.put(child, answer[1], UNKNOWN)
 
     def replaced(self, pid):
         """After an exec."""
@@ -569,9 +569,9 @@ def findings(trace, profile=1, start=None):
     """The findings of a trace, each with its position."""
     processes, found = Processes(profile, start), []
     for at, line in enumerate(trace, 1):
-        pid, name, given, told = read(line)
-        found += [(at, f"{at} {pid} {name} {words}\n") for words in processes.said(pid, name, given, told)]
-        processes.follow(pid, name, given, told)
+        pid, name, given, answer = read(line)
+        found += [(at, f"{at} {pid} {name} {words}\n") for words in processes.said(pid, name, given, answer)]
+        processes.follow(pid, name, given, answer)
     return found
 
 
@@ -679,7 +679,7 @@ def reply(trace, line, profile):
         first, last = int(words[1]), int(words[2])
         if not 1 <= first <= last <= len(trace):
             raise Refused(7)
-        return report([(at, told) for at, told in findings(trace, profile) if first <= at <= last])
+        return report([(at, text) for at, text in findings(trace, profile) if first <= at <= last])
     words = re.fullmatch(f"(show|delete) {NUMBER}", line) or re.fullmatch(f"(insert|replace) {NUMBER} (.*)", line)
     if not words:
         raise Refused(10)

@@ -1,5 +1,5 @@
 // Refuses one allocation of the program that it is loaded into: the one whose number REFUSE has, counted from 1. It writes a
-// byte to the descriptor REFUSE_TELLS once it did.
+// byte to the descriptor REFUSE_SIGNALS once it did.
 #define _GNU_SOURCE
 #include <dlfcn.h>
 #include <errno.h>
@@ -15,8 +15,8 @@ static int refuses(void) {
     }
     if (before == 0 || --before > 0)
         return 0;
-    const char *tells = getenv("REFUSE_TELLS");
-    if (tells && write(atoi(tells), "x", 1) < 0)
+    const char *signals = getenv("REFUSE_SIGNALS");
+    if (signals && write(atoi(signals), "x", 1) < 0)
         abort();
     errno = ENOMEM;
     return 1;

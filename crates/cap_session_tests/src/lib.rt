@@ -4,8 +4,7 @@
 
 #[cfg(test)]
 mod checks;
-#[cfg(test)]
-mod devices;
+pub mod devices;
 #[cfg(test)]
 mod edits;
 #[cfg(test)]

@@ -1,0 +1,96 @@
+//! Rights and lines.
+
+use crate::marks::Mark;
+use cap_rights::{RightSet, parse_rights, write_rights};
+use cap_trace::{LineFault, parse_line, write_line};
+use std::test::Fail;
+
+/// Texts of rights.
+static RIGHTS: [&[u8]; 4] = [
+    b"NONE",
+    b"ALL",
+    b"CAP_READ",
+    b"CAP_READ|CAP_WRITE|CAP_SEEK|CAP_FSTAT",
+];
+
+/// Lines of each shape that takes memory, and some that take none.
+static LINES: [&[u8]; 12] = [
+    b"100 @start()",
+    b"100 @start(0,3,17)",
+    b"100 @exit()",
+    b"100 read(3) RET 1",
+    b"100 open(\"a\\\"b\",O_RDONLY|O_CREAT) RET 3",
+    b"100 openat(3,\"a/b\",O_RDONLY) RET 5",
+    b"100 renameat(3,\"a\",4,\"b\") RET 0",
+    b"100 linkat(AT_FDCWD,\"a\",4,\"b\",0) RET 0",
+    b"100 mmap(3,PROT_READ,MAP_SHARED) RET 4096",
+    b"100 cap_rights_limit(3,CAP_READ|CAP_SEEK) RET 0",
+    b"100 fcntl(3,F_GETFL) RET 2",
+    b"100 foo(anything) RET -1 errno 9",
+];
+
+#[test]
+fn write_rights_refused(rt: HostRuntime) -> Result<(), Fail> {
+    let alloc = rt.alloc();
+    for text in RIGHTS {
+        let rights = parse_rights(text)?;
+        let mut out = Vec::new(alloc);
+        out.extend_from_slice(b"before ")?;
+        Mark::Begin.set(alloc)?;
+        let first = write_rights(&rights, &mut out);
+        Mark::End.set(alloc)?;
+        if first.is_err() {
+            Mark::Lacked.set(alloc)?;
+            assert_eq!(rt; out.as_slice(), b"before ".as_slice());
+            write_rights(&rights, &mut out)?;
+        }
+        assert!(rt; out.starts_with(b"before "));
+        assert!(rt; out.ends_with(text));
+        assert_eq!(rt; out.len(), 7 + text.len());
+        Mark::Right.set(alloc)?;
+    }
+    Ok(())
+}
+
+#[test]
+fn parse_line_refused(rt: HostRuntime) -> Result<(), Fail> {
+    let alloc = rt.alloc();
+    for text in LINES {
+        Mark::Begin.set(alloc)?;
+        let first = parse_line(alloc, text);
+        Mark::End.set(alloc)?;
+        let line = match first {
+            Ok(line) => line,
+            Err(fault) => {
+                Mark::Lacked.set(alloc)?;
+                assert_eq!(rt; fault, LineFault::Memory);
+                parse_line(alloc, text)?
+            }
+        };
+        let mut out = Vec::new(alloc);
+        write_line(&line, &mut out)?;
+        assert_eq!(rt; out.as_slice(), text);
+        Mark::Right.set(alloc)?;
+    }
+    Ok(())
+}
+
+#[test]
+fn write_line_refused(rt: HostRuntime) -> Result<(), Fail> {
+    let alloc = rt.alloc();
+    for text in LINES {
+        let line = parse_line(alloc, text)?;
+        let mut out = Vec::new(alloc);
+        Mark::Begin.set(alloc)?;
+        let first = write_line(&line, &mut out);
+        Mark::End.set(alloc)?;
+        if first.is_err() {
+            Mark::Lacked.set(alloc)?;
+            assert!(rt; out.is_empty());
+            write_line(&line, &mut out)?;
+        }
+        assert_eq!(rt; out.as_slice(), text);
+        Mark::Right.set(alloc)?;
+    }
+    Ok(())
+}

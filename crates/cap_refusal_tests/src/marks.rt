@@ -1,0 +1,38 @@
+//! Marks around a call that is tried with each of its allocations refused.
+//!
+//! A mark is an allocation of a size that nothing else here has. `tests/refusals` runs these tests over allocation
+//! functions of its own: they see the marks, and between `Begin` and `End` they refuse each allocation, one at a time,
+//! in a copy of the process. Without them a mark does nothing.
+
+use cap_rights::NoMemory;
+use std::alloc::Global;
+
+/// What a mark says.
+#[derive(Clone, Copy, Drop)]
+pub enum Mark {
+    /// The call begins.
+    Begin,
+    /// It has answered.
+    End,
+    /// It answered that memory ran out.
+    Lacked,
+    /// What it answered and what it left is right.
+    Right,
+}
+
+impl Mark {
+    /// Makes the mark.
+    pub fn set(self, alloc: Global) -> Result<(), NoMemory> {
+        let size = match self {
+            Mark::Begin => 77_771,
+            Mark::End => 77_773,
+            Mark::Lacked => 77_775,
+            Mark::Right => 77_777,
+        };
+        let mut bytes: Vec<u8> = Vec::new(alloc);
+        match bytes.reserve_exact(size) {
+            Ok(()) => Ok(()),
+            Err(_) => Err(NoMemory),
+        }
+    }
+}

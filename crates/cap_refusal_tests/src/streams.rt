@@ -1,0 +1,102 @@
+//! Traces, starts and scripts that come piece by piece.
+
+use crate::marks::Mark;
+use cap_machine::Profile;
+use cap_session::{Outcome, check_stream_as, check_stream_from_as, edit_stream_as};
+use cap_session_tests::devices::{Kept, Pieces};
+use std::alloc::Global;
+use std::test::Fail;
+
+const TRACE: &[u8] =
+    b"100 @start(0,3)\n100 cap_rights_limit(3,CAP_READ) RET 0\n100 fork() RET 101\n100 close(3) RET 0\n101 write(3) RET 1\n";
+
+const REPORT: &[u8] = b"5 101 write missing 3 CAP_WRITE\nfindings 1\n";
+
+const START: &[u8] = b"100 out closed 3=CAP_READ 70=ALL\n";
+
+const SCRIPT: &[u8] = b"delete 2\nreport\n";
+
+/// What may be written to the script: with memory for all, and where it runs out for the one command or the other.
+static REPLIES: [(Outcome, &[u8]); 3] = [
+    (Outcome::Clean, b"ok 4\nfindings 0\n"),
+    (
+        Outcome::Findings,
+        b"refused E9\n5 101 write missing 3 CAP_WRITE\nfindings 1\n",
+    ),
+    (Outcome::Clean, b"ok 4\nrefused E9\n"),
+];
+
+/// A call of a stream.
+#[derive(Clone, Copy, Drop)]
+enum Call {
+    Check,
+    CheckFrom,
+    Edit,
+}
+
+/// The outcome of a call, and what it wrote.
+fn streamed(alloc: Global, call: Call) -> (Outcome, Kept) {
+    let mut trace = Pieces::new(TRACE, 64, 0);
+    let mut other = match call {
+        Call::Check => Pieces::new(b"", 64, 0),
+        Call::CheckFrom => Pieces::new(START, 64, 0),
+        Call::Edit => Pieces::new(SCRIPT, 64, 0),
+    };
+    let mut kept = Kept::new(64, 256);
+    let profile = Profile::Two;
+    let outcome = match call {
+        Call::Check => check_stream_as(alloc, profile, 4096, &mut trace, &mut kept),
+        Call::CheckFrom => {
+            check_stream_from_as(alloc, profile, 4096, &mut other, &mut trace, &mut kept)
+        }
+        Call::Edit => edit_stream_as(alloc, profile, 4096, &mut trace, &mut other, &mut kept),
+    };
+    (outcome, kept)
+}
+
+#[test]
+fn check_streams_refused(rt: HostRuntime) -> Result<(), Fail> {
+    let alloc = rt.alloc();
+    for call in [Call::Check, Call::CheckFrom] {
+        Mark::Begin.set(alloc)?;
+        let first = streamed(alloc, call);
+        Mark::End.set(alloc)?;
+        let (outcome, kept) = if first.0 == Outcome::Memory {
+            Mark::Lacked.set(alloc)?;
+            assert_eq!(rt; first.1.text(), b"".as_slice());
+            streamed(alloc, call)
+        } else {
+            first
+        };
+        assert_eq!(rt; outcome, Outcome::Findings);
+        assert_eq!(rt; kept.text(), REPORT);
+        Mark::Right.set(alloc)?;
+    }
+    Ok(())
+}
+
+#[test]
+fn edit_stream_refused(rt: HostRuntime) -> Result<(), Fail> {
+    let alloc = rt.alloc();
+    Mark::Begin.set(alloc)?;
+    let (outcome, kept) = streamed(alloc, Call::Edit);
+    Mark::End.set(alloc)?;
+    if (outcome, kept.text()) != REPLIES[0] {
+        Mark::Lacked.set(alloc)?;
+        if outcome == Outcome::Memory {
+            let written = kept.text();
+            assert!(rt; written.is_empty() || REPLIES.iter().any(|(_, text)| *text == written));
+        } else {
+            assert!(rt;
+                REPLIES
+                    .iter()
+                    .any(|(ended, text)| *ended == outcome && *text == kept.text())
+            );
+        }
+    }
+    let (outcome, kept) = streamed(alloc, Call::Edit);
+    assert_eq!(rt; outcome, Outcome::Clean);
+    assert_eq!(rt; kept.text(), REPLIES[0].1);
+    Mark::Right.set(alloc)?;
+    Ok(())
+}
