@@ -1,8 +1,9 @@
 //! Rights and lines.
 
 use crate::marks::Mark;
-use cap_rights::{RightSet, parse_rights, write_rights};
-use cap_trace::{LineFault, parse_line, write_line};
+use cap_rights::{NoMemory, parse_rights, write_rights};
+use cap_trace::{Line, LineFault, parse_line, write_line};
+use std::alloc::Global;
 use std::test::Fail;
 
 /// Texts of rights.
@@ -75,21 +76,28 @@ fn parse_line_refused(rt: HostRuntime) -> Result<(), Fail> {
     Ok(())
 }
 
+/// The text of a line; where the first call lacks memory, by a second one.
+fn written(alloc: Global, line: &Line) -> Result<Vec<u8>, NoMemory> {
+    let mut out = Vec::new(alloc);
+    Mark::Begin.set(alloc)?;
+    let first = write_line(line, &mut out);
+    Mark::End.set(alloc)?;
+    if first.is_err() {
+        Mark::Lacked.set(alloc)?;
+        if !out.is_empty() {
+            return Err(NoMemory);
+        }
+        write_line(line, &mut out)?;
+    }
+    Ok(out)
+}
+
 #[test]
 fn write_line_refused(rt: HostRuntime) -> Result<(), Fail> {
     let alloc = rt.alloc();
     for text in LINES {
         let line = parse_line(alloc, text)?;
-        let mut out = Vec::new(alloc);
-        Mark::Begin.set(alloc)?;
-        let first = write_line(&line, &mut out);
-        Mark::End.set(alloc)?;
-        if first.is_err() {
-            Mark::Lacked.set(alloc)?;
-            assert!(rt; out.is_empty());
-            write_line(&line, &mut out)?;
-        }
-        assert_eq!(rt; out.as_slice(), text);
+        assert_eq!(rt; written(alloc, &line)?.as_slice(), text);
         Mark::Right.set(alloc)?;
     }
     Ok(())
