@@ -1,6 +1,13 @@
 -- What is read in one pass is what the line spells.
 use Rattle.std.proofs.Common.{◌≡◌, ℕ, ◌≤◌, List, [], ◌∷◌, ◌++◌, length, Some, Result, Ok, refl, sym, ap, subst, ◌∙◌}
-use Rattle.std.proofs.Common.{append_assoc, true}
+use Rattle.std.proofs.Common.{append_assoc, Bool, true, false, not, cond, eqb, ltb, ◌&&◌, ◌+◌, ◌-◌, suc, take, drop, None, arith}
+use Rattle.std.proofs.lemmas.List.{take-append-drop, take_all, length-drop}
+use Rattle.std.specs.Prelude.{nat_le, position}
+use Rattle.std.specs.List.{list_all, position_or_len}
+use Rattle.cap_trace.specs.Steps.{takes_all}
+use Rattle.std.proofs.Common.{Option}
+use Rattle.cap_trace.specs.declared.fields.Place.{Place}
+use Rattle.cap_trace.specs.declared.fields.Place.TheVariants as places
 use Rattle.std.specs.Fmt.{decimal}
 use Rattle.std.specs.List.{join_with_byte}
 use Rattle.cap_trace.specs.declared.line.Item.{Item}
@@ -8,7 +15,7 @@ use Rattle.cap_trace.specs.declared.line.Item.TheVariants as items
 use Rattle.cap_trace.specs.declared.line.Call.{Call}
 use Rattle.cap_trace.specs.declared.line.Answer.{Answer}
 use Rattle.cap_trace.specs.Names.{Head, name_of, head_named}
-use Rattle.cap_trace.specs.Fields.{are_items, quoted}
+use Rattle.cap_trace.specs.Fields.{are_items, is_plain, is_between, item_step, quoted}
 use Rattle.cap_trace.specs.Entry.{an_fd, a_dir, some_flags, some_rights, a_command, free_text}
 use Rattle.cap_trace.specs.Entry.{Arg, head_of_call, args_of_call, kind_of, a_path}
 use Rattle.cap_trace.specs.Spelling.{Spells, SpellsArg, SpellsArgs, IsHead}
@@ -19,7 +26,7 @@ use Rattle.cap_trace.specs.Reading.{◌>>=◌, pid_at, fd_at, dir_at, flags_at, 
 use Rattle.cap_trace.specs.Reading.{arg_at, answer_at}
 use Rattle.cap_trace.specs.Forms.{Slot, fd, dir, flags, rights, command, free}
 use Rattle.cap_trace.specs.Quick.{Before, Between, SpellsAfter}
-use Rattle.cap_trace.proofs.Cuts.{cut_takes}
+use Rattle.cap_trace.proofs.Cuts.{both, both_true, cut_takes}
 use Rattle.cap_trace.proofs.Heads.{head_takes}
 use Rattle.cap_trace.proofs.Spelled.{pid_takes, arg_takes}
 use Rattle.cap_trace.proofs.Answered.{answer_takes}
@@ -72,17 +79,58 @@ unfolding arg_at
 free_before stop text t rest a at e = read_before free stop text t rest (free_text a) at
     (ap (λ (r : Result (List ℕ) ReadFault). r >>= λ x. Ok (free_text x)) e)
 
+-- ---- a path without escapes
+
+abbrev is_odd_byte : ℕ → Bool
+is_odd_byte c = not (is_plain c)
+
+plain_step : (x : ℕ) (xs : List ℕ) (n : ℕ) (b : Bool) → is_plain x ≡ b → list_all is_plain (take n xs) ≡ true
+    → list_all is_plain (take (cond (not (not b)) (1 + n) 0) (x ∷ xs)) ≡ true
+plain_step x xs n true e h =
+    let one : 1 + n ≡ suc n = omega arith in rw one (both_true (is_plain x) (list_all is_plain (take n xs)) e h)
+plain_step x xs n false e h = refl
+
+plain_before : (t : List ℕ) → list_all is_plain (take (position_or_len is_odd_byte t) t) ≡ true
+plain_before [] = refl
+plain_before (x ∷ xs) = plain_step x xs (position_or_len is_odd_byte xs) (is_plain x) refl (plain_before xs)
+
+not_true : (b : Bool) → not b ≡ true → b ≡ false
+not_true true e = absurd cc
+not_true false e = refl
+
+plain_place : (c : ℕ) (s p : Bool) → s ≡ false → p ≡ true
+    → cond s (Some places.Slash) (cond p (Some places.Between) None) ≡ Some places.Between
+plain_place c s p e f = rw (e, f) refl
+
+plain_items : (t : List ℕ) → list_all is_plain t ≡ true → are_items t ≡ true
+unfolding takes_all
+plain_items [] h = refl
+plain_items (c ∷ cs) h =
+    let k = both (is_plain c) (list_all is_plain cs) h in
+    let slash = not_true (eqb c 92)
+    (both (nat_le 32 c && nat_le c 126 && not (eqb c 34)) (not (eqb c 92)) k.0).1 in
+    subst (λ (o : Option Place). elim o as (λ _. Bool) [ None ↦ false | Some p ↦ takes_all item_step is_between p cs ] ≡ true)
+    (sym (plain_place c (eqb c 92) (is_plain c) slash k.0)) (plain_items cs k.1)
+
+place_is : (t : List ℕ) (b : Bool) (n i : ℕ) → Some i ≡ cond b (Some n) None → i ≡ n
+place_is t true n i e = cc
+place_is t false n i e = absurd cc
+
 -- a path, its closing quote and the byte
-pub path_before : (stop : ℕ) (text inside path more rest : List ℕ) → text ≡ 34 ∷ inside
-    → Some (path, more) ≡ cut_at_byte 34 inside → more ≡ stop ∷ rest → are_items path ≡ true
-    → Before text (a_path path) stop rest
-path_before stop text inside path more rest e at f ok =
+pub path_before : (stop : ℕ) (text inside behind rest : List ℕ) (end : ℕ) → text ≡ 34 ∷ inside
+    → Some end ≡ position (λ c. not (is_plain c)) inside → take (length inside - end) (drop end inside) ≡ 34 ∷ behind
+    → behind ≡ stop ∷ rest → Before text (a_path (take end inside)) stop rest
+path_before stop text inside behind rest end e at f g =
+    let same = place_is inside (ltb (position_or_len is_odd_byte inside) (length inside))
+    (position_or_len is_odd_byte inside) end at in
+    let path = take end inside in
+    let whole = take_all (length inside - end) (drop end inside) (omega (arith, length-drop end inside)) in
     record {
       spelling = quoted path;
-      arg = (refl, ok);
-      parts = e ∙ ap (λ (s : List ℕ). 34 ∷ s) (cut_takes 34 inside (path, more) (sym at))
-          ∙ ap (λ (s : List ℕ). 34 ∷ (path ++ (34 ∷ s))) f ∙ ap (λ (s : List ℕ). 34 ∷ s)
-          (sym (append_assoc path (34 ∷ []) (stop ∷ rest)));
+      arg = (refl, plain_items path (ap (λ (i : ℕ). list_all is_plain (take i inside)) same ∙ plain_before inside));
+      parts = e ∙ ap (λ (s : List ℕ). 34 ∷ s) (sym (take-append-drop end inside))
+          ∙ ap (λ (s : List ℕ). 34 ∷ (path ++ s)) (sym whole ∙ f) ∙ ap (λ (s : List ℕ). 34 ∷ (path ++ (34 ∷ s))) g
+          ∙ ap (λ (s : List ℕ). 34 ∷ s) (sym (append_assoc path (34 ∷ []) (stop ∷ rest)));
     }
 
 -- the last argument

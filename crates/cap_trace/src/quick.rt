@@ -1,7 +1,8 @@
 //! The lines that most traces are made of, read in one pass: each field ends at the byte that follows it. What isn't
 //! read so is read with care.
 
-ghost use Rattle.std.specs.Prelude.{◌≡◌, ◌∷◌, IfSome, Ok};
+ghost use Rattle.std.specs.Prelude.{◌≡◌, ◌∷◌, ◌<◌, IfSome, Ok, length, not, position};
+ghost use Rattle.cap_trace.specs.Fields.{is_plain};
 ghost use Rattle.cap_trace.specs.declared.calls.Form.TheVariants as forms;
 ghost use Rattle.cap_trace.specs.Names.{listed, unlisted, row_of};
 ghost use Rattle.cap_trace.specs.Rows.{head_seen};
@@ -11,7 +12,7 @@ ghost use Rattle.cap_trace.specs.Quick.{Before, SpellsAfter};
 
 use crate::answers::answer;
 use crate::calls::{AtFlagsCall, BareCall, FdCall, FlagsCall, Form, Kind, PathCall};
-use crate::fields::items;
+use crate::fields::plain;
 use crate::limits::LONGEST_LINE;
 use crate::line::{Answer, Call, Dir, Fd, Item, Line};
 use crate::names::{Head, head_of};
@@ -86,17 +87,22 @@ fn free_before(stop: u8, text: &[u8]) -> Option<(&[u8], &[u8])>
     }
 }
 
-/// A path in its quotes before this byte, with no quote in it, and what follows the byte.
+/// The place of the first byte that doesn't stand for itself in a path.
+fn first_odd(text: &[u8]) -> Option<usize>
+    ensures value { result ≡ position (λ c. not (is_plain c)) text.now }
+    ensures bound { IfSome result (λ i. i < length text.now) }
+{
+    text.iter().position(|byte| !plain(*byte))
+}
+
+/// A path without escapes in its quotes before this byte, and what follows the byte.
 fn path_before(stop: u8, text: &[u8]) -> Option<(&[u8], &[u8])>
     ensures { IfSome result (λ p. Before text.now (a_path p.0.now) stop p.1.now) }
 {
-    let (path, rest) = cut(b'"', behind(b'"', text)?)?;
-    let rest = behind(stop, rest)?;
-    if items(path) {
-        Some((path, rest))
-    } else {
-        None
-    }
+    let inside = behind(b'"', text)?;
+    let end = first_odd(inside)?;
+    let rest = behind(stop, behind(b'"', &inside[end..])?)?;
+    Some((&inside[..end], rest))
 }
 
 /// The answer of a call of this kind.
@@ -117,6 +123,7 @@ fn answer_of(name: Form, tail: &[u8]) -> Option<Answer>
 }
 
 /// `name(fd)`
+#[inline(always)]
 fn on_fd(call: FdCall, text: &[u8]) -> Option<Item>
     ensures { IfSome result (λ i. SpellsAfter (listed (forms.OnFd call)) text.now i) }
 {
@@ -127,6 +134,7 @@ fn on_fd(call: FdCall, text: &[u8]) -> Option<Item>
 }
 
 /// `fcntl(fd,command)`
+#[inline(always)]
 fn fcntl(alloc: Global, text: &[u8]) -> Option<Item>
     ensures { IfSome result (λ i. SpellsAfter (listed forms.Fcntl) text.now i) }
 {
@@ -140,6 +148,7 @@ fn fcntl(alloc: Global, text: &[u8]) -> Option<Item>
 }
 
 /// `mmap(fd,flags,flags)`
+#[inline(always)]
 fn mmap(alloc: Global, text: &[u8]) -> Option<Item>
     ensures { IfSome result (λ i. SpellsAfter (listed forms.Mmap) text.now i) }
 {
@@ -154,6 +163,7 @@ fn mmap(alloc: Global, text: &[u8]) -> Option<Item>
 }
 
 /// `cap_rights_limit(fd,rights)`
+#[inline(always)]
 fn rights_limit(text: &[u8]) -> Option<Item>
     ensures { IfSome result (λ i. SpellsAfter (listed forms.RightsLimit) text.now i) }
 {
@@ -168,6 +178,7 @@ fn rights_limit(text: &[u8]) -> Option<Item>
 }
 
 /// `open(path,flags)`
+#[inline(always)]
 fn open(alloc: Global, text: &[u8]) -> Option<Item>
     ensures { IfSome result (λ i. SpellsAfter (listed forms.Open) text.now i) }
 {
@@ -181,6 +192,7 @@ fn open(alloc: Global, text: &[u8]) -> Option<Item>
 }
 
 /// `name(path)`
+#[inline(always)]
 fn on_path(alloc: Global, call: PathCall, text: &[u8]) -> Option<Item>
     ensures { IfSome result (λ i. SpellsAfter (listed (forms.OnPath call)) text.now i) }
 {
@@ -193,6 +205,7 @@ fn on_path(alloc: Global, call: PathCall, text: &[u8]) -> Option<Item>
 }
 
 /// `name(dir,path,flags)`
+#[inline(always)]
 fn at_flags(alloc: Global, call: AtFlagsCall, text: &[u8]) -> Option<Item>
     ensures { IfSome result (λ i. SpellsAfter (listed (forms.AtFlags call)) text.now i) }
 {
@@ -207,6 +220,7 @@ fn at_flags(alloc: Global, call: AtFlagsCall, text: &[u8]) -> Option<Item>
 }
 
 /// `name(flags)`
+#[inline(always)]
 fn on_flags(alloc: Global, call: FlagsCall, text: &[u8]) -> Option<Item>
     ensures { IfSome result (λ i. SpellsAfter (listed (forms.OnFlags call)) text.now i) }
 {
@@ -219,6 +233,7 @@ fn on_flags(alloc: Global, call: FlagsCall, text: &[u8]) -> Option<Item>
 }
 
 /// `name()`
+#[inline(always)]
 fn bare(call: BareCall, text: &[u8]) -> Option<Item>
     ensures { IfSome result (λ i. SpellsAfter (listed (forms.Bare call)) text.now i) }
 {
@@ -229,6 +244,7 @@ fn bare(call: BareCall, text: &[u8]) -> Option<Item>
 }
 
 /// A name that has no form of its own.
+#[inline(always)]
 fn other(alloc: Global, name: &[u8], text: &[u8]) -> Option<Item>
     ensures { IfSome result (λ i. SpellsAfter (unlisted name.now) text.now i) }
 {
@@ -241,6 +257,7 @@ fn other(alloc: Global, name: &[u8], text: &[u8]) -> Option<Item>
 }
 
 /// What follows the opening bracket of a name of the table.
+#[inline(always)]
 fn listed_item(alloc: Global, form: Form, text: &[u8]) -> Option<Item>
     ensures { IfSome result (λ i. SpellsAfter (listed form) text.now i) }
 {
@@ -259,6 +276,7 @@ fn listed_item(alloc: Global, form: Form, text: &[u8]) -> Option<Item>
 }
 
 /// What follows the opening bracket.
+#[inline(always)]
 fn item_after(alloc: Global, head: Head<'_>, text: &[u8]) -> Option<Item>
     ensures { IfSome result (λ i. SpellsAfter (head_seen head.entry) text.now i) }
 {
@@ -269,6 +287,7 @@ fn item_after(alloc: Global, head: Head<'_>, text: &[u8]) -> Option<Item>
 }
 
 /// The line that the bytes spell, where it is one of those that are read in one pass and there is memory for it.
+#[inline(always)]
 pub(crate) fn quick(alloc: Global, bytes: &[u8]) -> Option<Line>
     ensures { IfSome result (λ l. line_of bytes.now ≡ Ok l) }
 {
