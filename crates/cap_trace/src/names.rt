@@ -1,12 +1,12 @@
 //! The table of names: each call and marker that has a form of its own, with the kind of its result.
 
-ghost use Rattle.std.specs.Prelude.{◌≡◌, ◌<◌, ◌↔◌, length, IfSome, IsNone};
+ghost use Rattle.std.specs.Prelude.{◌≡◌, ◌<◌, ◌↔◌, ◌⊎◌, length, slice_index, IfSome, IsNone};
 ghost use Rattle.std.specs.Option.{option_map};
-ghost use Rattle.std.specs.List.{list_all};
-ghost use Rattle.cap_trace.specs.Names.{row_of, dup_command_name, form_named, is_name, is_name_byte, name_of};
+ghost use Rattle.std.specs.List.{list_all, slice_get};
+ghost use Rattle.cap_trace.specs.Names.{row_of, dup_command_name, form_named, all_forms, is_name, is_name_byte, name_of};
 ghost use Rattle.cap_trace.specs.Names.{head_named};
 ghost use Rattle.cap_trace.specs.Names as names;
-ghost use Rattle.cap_trace.specs.Buckets.{bucket_at, first_in};
+ghost use Rattle.cap_trace.specs.Slots.{slot_at, slots};
 ghost use Rattle.cap_trace.specs.Rows.{row_seen, head_seen};
 
 use crate::calls::{
@@ -228,239 +228,192 @@ impl DupCommand {
     }
 }
 
-/// The forms, by the bucket of their names.
-static BUCKETS: [[Option<Form>; 3]; 64] = [
-    [
-        Some(Form::OnFd(FdCall::Fsync)),
-        Some(Form::OnFd(FdCall::Bind)),
-        Some(Form::OnPath(PathCall::Statfs)),
-    ],
-    [Some(Form::SymlinkAt), None, None],
-    [
-        Some(Form::OnFd(FdCall::Fstatfs)),
-        Some(Form::Bare(BareCall::ShmOpen)),
-        None,
-    ],
-    [None, None, None],
-    [
-        Some(Form::OnPath(PathCall::Lstat)),
-        Some(Form::Bare(BareCall::Vfork)),
-        None,
-    ],
-    [
-        Some(Form::OnFd(FdCall::Fchdir)),
-        Some(Form::OnPath(PathCall::Lchown)),
-        None,
-    ],
-    [None, None, None],
-    [Some(Form::OnFd(FdCall::Lseek)), None, None],
-    [Some(Form::OnFd(FdCall::Ioctl)), Some(Form::Exit), None],
-    [
-        Some(Form::OnFd(FdCall::Read)),
-        Some(Form::OnFd(FdCall::Fchmod)),
-        Some(Form::LinkAt),
-    ],
-    [
-        Some(Form::OnFd(FdCall::Fchflags)),
-        Some(Form::OnFlags(FlagsCall::Pipe2)),
-        Some(Form::Mmap),
-    ],
-    [
-        Some(Form::OnPath(PathCall::Readlink)),
-        Some(Form::Foreign),
-        None,
-    ],
-    [
-        Some(Form::OnFd(FdCall::CapIoctlsLimit)),
-        Some(Form::OnFd(FdCall::CapFcntlsLimit)),
-        Some(Form::RightsLimit),
-    ],
-    [Some(Form::OnFd(FdCall::Connect)), None, None],
-    [None, None, None],
-    [
-        Some(Form::OnFd(FdCall::Listen)),
-        Some(Form::Bare(BareCall::Fork)),
-        None,
-    ],
-    [
-        Some(Form::OnFd(FdCall::Recvfrom)),
-        Some(Form::OnFd(FdCall::Preadv)),
-        Some(Form::OnPath(PathCall::Execve)),
-    ],
-    [
-        Some(Form::OnFd(FdCall::Recvmsg)),
-        Some(Form::OnFd(FdCall::Accept)),
-        Some(Form::AtFlags(AtFlagsCall::Chflagsat)),
-    ],
-    [None, None, None],
-    [
-        Some(Form::OnFd(FdCall::Write)),
-        Some(Form::OnPath(PathCall::Chdir)),
-        None,
-    ],
-    [Some(Form::OnFd(FdCall::Fdatasync)), None, None],
-    [Some(Form::OnPaths(PathsCall::Symlink)), None, None],
-    [None, None, None],
-    [
-        Some(Form::OnFd(FdCall::Fpathconf)),
-        Some(Form::OnPath(PathCall::Chmod)),
-        None,
-    ],
-    [
-        Some(Form::OnFd(FdCall::Pwritev)),
-        Some(Form::OnPath(PathCall::Chflags)),
-        None,
-    ],
-    [
-        Some(Form::OnPath(PathCall::Access)),
-        Some(Form::Bare(BareCall::Pipe)),
-        None,
-    ],
-    [Some(Form::AtFlags(AtFlagsCall::Unlinkat)), None, None],
-    [
-        Some(Form::Bare(BareCall::CapEnter)),
-        Some(Form::Fcntl),
-        None,
-    ],
-    [Some(Form::OnFlags(FlagsCall::Socketpair)), None, None],
-    [
-        Some(Form::OnPaths(PathsCall::Link)),
-        Some(Form::At(AtCall::Mkdirat)),
-        Some(Form::At(AtCall::Mknodat)),
-    ],
-    [None, None, None],
-    [
-        Some(Form::OnFd(FdCall::Futimens)),
-        Some(Form::AtFlags(AtFlagsCall::Utimensat)),
-        None,
-    ],
-    [Some(Form::Send(SendCall::Sendmsg)), None, None],
-    [None, None, None],
-    [
-        Some(Form::OnPath(PathCall::Mkfifo)),
-        Some(Form::At(AtCall::Mkfifoat)),
-        Some(Form::Accept4),
-    ],
-    [Some(Form::Bare(BareCall::MqOpen)), None, None],
-    [
-        Some(Form::OnFd(FdCall::Fexecve)),
-        Some(Form::OnFd(FdCall::Close)),
-        None,
-    ],
-    [None, None, None],
-    [Some(Form::Send(SendCall::Sendto)), None, None],
-    [
-        Some(Form::OnFd(FdCall::Flock)),
-        Some(Form::Bare(BareCall::Kqueue)),
-        None,
-    ],
-    [
-        Some(Form::OnFd(FdCall::Ftruncate)),
-        Some(Form::OnPath(PathCall::Stat)),
-        Some(Form::Start),
-    ],
-    [
-        Some(Form::OnFd(FdCall::Readv)),
-        Some(Form::OnPath(PathCall::Mkdir)),
-        None,
-    ],
-    [Some(Form::OnFd(FdCall::Fstat)), None, None],
-    [Some(Form::OnFd(FdCall::Fchown)), None, None],
-    [
-        Some(Form::OnFd(FdCall::Getpeername)),
-        Some(Form::OnFd(FdCall::Getsockname)),
-        None,
-    ],
-    [
-        Some(Form::OnPath(PathCall::Mknod)),
-        Some(Form::RenameAt),
-        None,
-    ],
-    [Some(Form::OnPath(PathCall::Unlink)), None, None],
-    [
-        Some(Form::OnFd(FdCall::Pwrite)),
-        Some(Form::Bare(BareCall::Pdfork)),
-        None,
-    ],
-    [Some(Form::OnFd(FdCall::Pread)), None, None],
-    [None, None, None],
-    [Some(Form::Dup2), Some(Form::Open), None],
-    [Some(Form::OnFd(FdCall::Setsockopt)), None, None],
-    [
-        Some(Form::OnFd(FdCall::Closefrom)),
-        Some(Form::OnPath(PathCall::Rmdir)),
-        Some(Form::AtFlags(AtFlagsCall::Fstatat)),
-    ],
-    [
-        Some(Form::OnPath(PathCall::Truncate)),
-        Some(Form::Bare(BareCall::Fhopen)),
-        None,
-    ],
-    [Some(Form::AtFlags(AtFlagsCall::Openat)), None, None],
-    [Some(Form::At(AtCall::Readlinkat)), None, None],
-    [
-        Some(Form::OnFd(FdCall::Shutdown)),
-        Some(Form::OnPaths(PathsCall::Rename)),
-        None,
-    ],
-    [
-        Some(Form::OnPath(PathCall::Chown)),
-        Some(Form::AtFlags(AtFlagsCall::Fchmodat)),
-        Some(Form::AtFlags(AtFlagsCall::Fchownat)),
-    ],
-    [Some(Form::OnFd(FdCall::Dup)), None, None],
-    [None, None, None],
-    [Some(Form::OnFd(FdCall::Writev)), None, None],
-    [None, None, None],
-    [
-        Some(Form::At(AtCall::Futimesat)),
-        Some(Form::OnFlags(FlagsCall::Socket)),
-        None,
-    ],
-    [
-        Some(Form::OnFd(FdCall::Futimes)),
-        Some(Form::OnFd(FdCall::Getsockopt)),
-        None,
-    ],
-];
+// tools/name_slots: factors
+const SIZE_FACTOR: usize = 7;
 
-/// The bucket of a name, by its length, its first and its last two bytes. No name of the table has fewer than 3.
-fn bucket_of(name: &[u8]) -> Option<usize>
-    ensures some { IfSome result (λ k. (k ≡ bucket_at name.now) × (k < 64)) }
-    ensures none { IsNone result ↔ (length name.now < 3) }
+const FIRST_FACTOR: usize = 14;
+
+const MIDDLE_FACTOR: usize = 4;
+
+const BEFORE_FACTOR: usize = 10;
+
+const LAST_FACTOR: usize = 13;
+// the end of factors
+
+/// The forms of the table.
+// tools/name_slots: forms
+static FORMS: [Form; 98] = [
+    Form::OnFd(FdCall::Read),
+    Form::OnFd(FdCall::Readv),
+    Form::OnFd(FdCall::Recvfrom),
+    Form::OnFd(FdCall::Recvmsg),
+    Form::OnFd(FdCall::Pread),
+    Form::OnFd(FdCall::Preadv),
+    Form::OnFd(FdCall::Write),
+    Form::OnFd(FdCall::Writev),
+    Form::OnFd(FdCall::Pwrite),
+    Form::OnFd(FdCall::Pwritev),
+    Form::OnFd(FdCall::Lseek),
+    Form::OnFd(FdCall::Fstat),
+    Form::OnFd(FdCall::Fstatfs),
+    Form::OnFd(FdCall::Fsync),
+    Form::OnFd(FdCall::Fdatasync),
+    Form::OnFd(FdCall::Ftruncate),
+    Form::OnFd(FdCall::Fchmod),
+    Form::OnFd(FdCall::Fchown),
+    Form::OnFd(FdCall::Fchflags),
+    Form::OnFd(FdCall::Fchdir),
+    Form::OnFd(FdCall::Flock),
+    Form::OnFd(FdCall::Fpathconf),
+    Form::OnFd(FdCall::Futimes),
+    Form::OnFd(FdCall::Futimens),
+    Form::OnFd(FdCall::Ioctl),
+    Form::OnFd(FdCall::Accept),
+    Form::OnFd(FdCall::Bind),
+    Form::OnFd(FdCall::Connect),
+    Form::OnFd(FdCall::Listen),
+    Form::OnFd(FdCall::Shutdown),
+    Form::OnFd(FdCall::Getpeername),
+    Form::OnFd(FdCall::Getsockname),
+    Form::OnFd(FdCall::Getsockopt),
+    Form::OnFd(FdCall::Setsockopt),
+    Form::OnFd(FdCall::Fexecve),
+    Form::OnFd(FdCall::Close),
+    Form::OnFd(FdCall::Closefrom),
+    Form::OnFd(FdCall::Dup),
+    Form::OnFd(FdCall::CapIoctlsLimit),
+    Form::OnFd(FdCall::CapFcntlsLimit),
+    Form::Send(SendCall::Sendto),
+    Form::Send(SendCall::Sendmsg),
+    Form::OnPath(PathCall::Execve),
+    Form::OnPath(PathCall::Access),
+    Form::OnPath(PathCall::Chdir),
+    Form::OnPath(PathCall::Chflags),
+    Form::OnPath(PathCall::Chmod),
+    Form::OnPath(PathCall::Chown),
+    Form::OnPath(PathCall::Lchown),
+    Form::OnPath(PathCall::Lstat),
+    Form::OnPath(PathCall::Mkdir),
+    Form::OnPath(PathCall::Mkfifo),
+    Form::OnPath(PathCall::Mknod),
+    Form::OnPath(PathCall::Readlink),
+    Form::OnPath(PathCall::Rmdir),
+    Form::OnPath(PathCall::Stat),
+    Form::OnPath(PathCall::Statfs),
+    Form::OnPath(PathCall::Truncate),
+    Form::OnPath(PathCall::Unlink),
+    Form::OnPaths(PathsCall::Link),
+    Form::OnPaths(PathsCall::Rename),
+    Form::OnPaths(PathsCall::Symlink),
+    Form::At(AtCall::Mkdirat),
+    Form::At(AtCall::Mkfifoat),
+    Form::At(AtCall::Mknodat),
+    Form::At(AtCall::Readlinkat),
+    Form::At(AtCall::Futimesat),
+    Form::AtFlags(AtFlagsCall::Openat),
+    Form::AtFlags(AtFlagsCall::Unlinkat),
+    Form::AtFlags(AtFlagsCall::Fstatat),
+    Form::AtFlags(AtFlagsCall::Fchmodat),
+    Form::AtFlags(AtFlagsCall::Fchownat),
+    Form::AtFlags(AtFlagsCall::Chflagsat),
+    Form::AtFlags(AtFlagsCall::Utimensat),
+    Form::OnFlags(FlagsCall::Socket),
+    Form::OnFlags(FlagsCall::Socketpair),
+    Form::OnFlags(FlagsCall::Pipe2),
+    Form::Bare(BareCall::Pipe),
+    Form::Bare(BareCall::Kqueue),
+    Form::Bare(BareCall::ShmOpen),
+    Form::Bare(BareCall::MqOpen),
+    Form::Bare(BareCall::Fhopen),
+    Form::Bare(BareCall::Fork),
+    Form::Bare(BareCall::Vfork),
+    Form::Bare(BareCall::Pdfork),
+    Form::Bare(BareCall::CapEnter),
+    Form::Accept4,
+    Form::Dup2,
+    Form::Fcntl,
+    Form::Mmap,
+    Form::RightsLimit,
+    Form::Open,
+    Form::SymlinkAt,
+    Form::RenameAt,
+    Form::LinkAt,
+    Form::Start,
+    Form::Exit,
+    Form::Foreign,
+];
+// the end of forms
+
+/// The number of the form whose name has this slot, or 255.
+// tools/name_slots: slots
+static SLOTS: [u8; 512] = [
+    255, 255, 255, 255, 255, 255, 255, 73, 255, 9, 255, 255, 255, 255, 255, 255, 255, 255, 83, 255,
+    255, 255, 6, 255, 255, 255, 255, 255, 255, 255, 255, 255, 75, 255, 255, 255, 255, 255, 255,
+    255, 255, 255, 255, 2, 255, 255, 255, 255, 255, 255, 255, 255, 255, 255, 255, 86, 255, 255,
+    255, 255, 255, 255, 255, 255, 7, 255, 255, 255, 255, 255, 255, 255, 255, 255, 255, 255, 255,
+    255, 255, 255, 255, 255, 87, 255, 255, 255, 255, 40, 255, 255, 255, 255, 255, 255, 255, 255,
+    255, 255, 255, 76, 255, 255, 255, 255, 255, 255, 255, 255, 255, 255, 255, 255, 255, 255, 255,
+    255, 255, 255, 255, 255, 255, 255, 255, 255, 26, 255, 255, 255, 255, 255, 255, 255, 255, 255,
+    255, 255, 255, 255, 255, 255, 255, 255, 29, 255, 255, 255, 255, 255, 255, 255, 255, 46, 255,
+    255, 255, 255, 255, 255, 255, 255, 33, 255, 255, 255, 255, 255, 255, 255, 255, 255, 255, 255,
+    255, 255, 255, 255, 255, 255, 255, 255, 20, 255, 255, 255, 255, 255, 255, 255, 255, 255, 255,
+    255, 255, 255, 255, 255, 255, 255, 255, 255, 16, 255, 0, 255, 255, 255, 255, 255, 255, 255,
+    255, 255, 255, 255, 13, 255, 255, 255, 255, 255, 35, 255, 255, 255, 255, 85, 255, 255, 255,
+    255, 30, 255, 255, 4, 255, 255, 255, 255, 255, 255, 255, 255, 255, 255, 255, 255, 14, 255, 255,
+    255, 255, 255, 255, 255, 255, 255, 255, 42, 81, 255, 255, 255, 255, 72, 255, 255, 255, 255,
+    255, 255, 31, 255, 45, 44, 255, 255, 255, 27, 255, 255, 255, 255, 255, 255, 97, 21, 255, 255,
+    255, 255, 255, 255, 255, 66, 255, 255, 255, 255, 255, 80, 255, 255, 70, 52, 255, 11, 255, 255,
+    255, 96, 71, 255, 10, 255, 255, 255, 255, 255, 255, 255, 89, 18, 19, 69, 255, 255, 255, 88, 25,
+    255, 255, 255, 255, 255, 255, 82, 15, 255, 255, 255, 36, 255, 255, 51, 255, 43, 255, 255, 255,
+    255, 22, 255, 255, 77, 34, 59, 38, 62, 28, 255, 12, 47, 255, 255, 255, 255, 255, 255, 255, 255,
+    255, 255, 90, 255, 91, 255, 94, 255, 255, 255, 255, 255, 67, 255, 63, 60, 255, 255, 255, 49,
+    79, 255, 255, 255, 255, 78, 255, 64, 255, 255, 39, 255, 255, 23, 255, 255, 255, 255, 255, 255,
+    17, 255, 255, 255, 255, 255, 255, 24, 255, 37, 255, 255, 93, 255, 255, 50, 255, 255, 255, 255,
+    255, 255, 255, 255, 3, 255, 255, 255, 255, 255, 255, 255, 255, 8, 255, 255, 255, 53, 65, 255,
+    255, 255, 5, 84, 255, 255, 255, 255, 255, 56, 255, 255, 255, 255, 255, 255, 95, 255, 255, 255,
+    74, 255, 255, 1, 255, 255, 255, 255, 255, 255, 255, 255, 255, 255, 55, 255, 255, 92, 255, 255,
+    61, 255, 41, 255, 48, 255, 68, 57, 255, 255, 255, 255, 255, 54, 32, 255, 255, 58, 255, 255,
+    255, 255,
+];
+// the end of slots
+
+/// The slot of a name, by its length and four of its bytes: each name of the table has one of its own. All of them have
+/// 3 to 16 bytes.
+fn slot_of(name: &[u8]) -> Option<usize>
+    ensures some { IfSome result (λ k. (k ≡ slot_at name.now) × (k < 512)) }
+    ensures none { IsNone result ↔ ((length name.now < 3) ⊎ (16 < length name.now)) }
 {
-    let [first, .., before, last] = name else {
+    let size = name.len();
+    if size < 3 || size > 16 {
         return None;
-    };
-    let sum = 5 * (name.len() % 64)
-        + 15 * usize::from(*first)
-        + 3 * usize::from(*before)
-        + usize::from(*last);
-    Some(sum % 64)
+    }
+    let sum = SIZE_FACTOR * size
+        + FIRST_FACTOR * usize::from(name[0])
+        + MIDDLE_FACTOR * usize::from(name[size * 3 / 8])
+        + BEFORE_FACTOR * usize::from(name[size - 2])
+        + LAST_FACTOR * usize::from(name[size - 1]);
+    Some(sum % 512)
 }
 
-/// The first form in a bucket that has the name.
-fn first_named(bucket: &[Option<Form>], name: &[u8]) -> Option<Form>
-    ensures { result ≡ first_in bucket.now name.now }
+/// The form in a slot.
+#[tactic(auto, unfolding(crate::specs::Slots::slots, crate::specs::Names::all_forms))]
+fn in_slot(slot: usize) -> Option<Form>
+    requires { slot < 512 }
+    ensures { result ≡ slice_get all_forms (slice_index slots slot) }
 {
-    for slot in bucket {
-        if let Some(form) = slot {
-            if form.row().name == name {
-                return Some(*form);
-            }
-        }
-    }
-    None
+    FORMS.get(usize::from(SLOTS[slot])).copied()
 }
 
 /// The form of a name of the table.
-#[tactic(auto, unfolding(crate::specs::Buckets::buckets))]
 pub(crate) fn form_of(name: &[u8]) -> Option<Form>
     ensures { result ≡ form_named name.now }
 {
-    match bucket_of(name) {
-        Some(bucket) => first_named(&BUCKETS[bucket], name),
-        None => None,
+    let Some(slot) = slot_of(name) else {
+        return None;
+    };
+    match in_slot(slot) {
+        Some(form) if form.row().name == name => Some(form),
+        _ => None,
     }
 }
 

@@ -75,7 +75,7 @@ fn accept4(alloc: Global, fd: Fd, flags_text: &[u8]) -> Result<Call, AllocError>
 }
 
 /// `fcntl` with a command that asks for no third argument.
-fn fcntl(alloc: Global, fd: Fd, word: &[u8]) -> Result<Call, AllocError>
+pub(crate) fn fcntl(alloc: Global, fd: Fd, word: &[u8]) -> Result<Call, AllocError>
     ensures { IfOk result (λ c. c ≡ calls.Fcntl fd word.now) }
 {
     Ok(Call::Fcntl(fd, command(alloc, word)?))
@@ -89,14 +89,19 @@ fn fcntl_set_fd(alloc: Global, fd: Fd, flags_text: &[u8]) -> Result<Call, AllocE
 }
 
 /// `mmap`.
-fn mmap(alloc: Global, fd: Fd, protection: &[u8], mapping: &[u8]) -> Result<Call, AllocError>
+pub(crate) fn mmap(
+    alloc: Global,
+    fd: Fd,
+    protection: &[u8],
+    mapping: &[u8],
+) -> Result<Call, AllocError>
     ensures { IfOk result (λ c. c ≡ calls.Mmap fd protection.now mapping.now) }
 {
     Ok(Call::Mmap(fd, flags(alloc, protection)?, flags(alloc, mapping)?))
 }
 
 /// `open`.
-fn open(alloc: Global, path_text: &[u8], flags_text: &[u8]) -> Result<Call, AllocError>
+pub(crate) fn open(alloc: Global, path_text: &[u8], flags_text: &[u8]) -> Result<Call, AllocError>
     requires { IsTrue (are_items path_text.now) }
     ensures { IfOk result (λ c. c ≡ calls.Open path_text.now flags_text.now) }
 {
@@ -113,7 +118,7 @@ fn on_paths(alloc: Global, call: PathsCall, from: &[u8], to: &[u8]) -> Result<Ca
 }
 
 /// A call on a path at a directory, with flags.
-fn at_flags(
+pub(crate) fn at_flags(
     alloc: Global,
     call: AtFlagsCall,
     dir: Dir,
@@ -178,7 +183,7 @@ fn link_at(
 }
 
 /// A call without a form of its own.
-fn other(alloc: Global, name_text: &[u8], args_text: &[u8]) -> Result<Call, AllocError>
+pub(crate) fn other(alloc: Global, name_text: &[u8], args_text: &[u8]) -> Result<Call, AllocError>
     ensures { IfOk result (λ c. c ≡ calls.Other name_text.now args_text.now) }
 {
     Ok(Call::Other {
@@ -188,7 +193,7 @@ fn other(alloc: Global, name_text: &[u8], args_text: &[u8]) -> Result<Call, Allo
 }
 
 /// A call on a path.
-fn on_path(alloc: Global, call: PathCall, path_text: &[u8]) -> Result<Call, AllocError>
+pub(crate) fn on_path(alloc: Global, call: PathCall, path_text: &[u8]) -> Result<Call, AllocError>
     requires { IsTrue (are_items path_text.now) }
     ensures { IfOk result (λ c. c ≡ calls.OnPath call path_text.now) }
 {
@@ -204,7 +209,11 @@ fn at(alloc: Global, call: AtCall, dir: Dir, path_text: &[u8]) -> Result<Call, A
 }
 
 /// A call on flags.
-fn on_flags(alloc: Global, call: FlagsCall, flags_text: &[u8]) -> Result<Call, AllocError>
+pub(crate) fn on_flags(
+    alloc: Global,
+    call: FlagsCall,
+    flags_text: &[u8],
+) -> Result<Call, AllocError>
     ensures { IfOk result (λ c. c ≡ calls.OnFlags call flags_text.now) }
 {
     Ok(Call::OnFlags(call, flags(alloc, flags_text)?))
@@ -245,6 +254,7 @@ fn call_of(alloc: Global, seen: &CallSeen<'_>) -> Result<Call, AllocError>
 }
 
 /// The line that was seen, in memory of its own.
+#[inline(never)]
 pub(crate) fn owned(alloc: Global, seen: &LineSeen<'_>) -> Result<Line, AllocError>
     requires { IsProper (line_seen seen.now) }
     ensures { IfOk result (λ l. l ≡ line_seen seen.now) }

@@ -10,6 +10,7 @@ ghost use Rattle.cap_trace.specs.Rewriting.{OnlyRightsAreRewritten};
 use crate::fault::LineFault;
 use crate::line::Line;
 use crate::owned::owned;
+use crate::quick::quick;
 use crate::scan::line;
 use std::alloc::Global;
 
@@ -34,6 +35,9 @@ pub fn parse_line(alloc: Global, bytes: &[u8]) -> Result<Line, LineFault>
     // The same by the function that reads from the left.
     ensures reads { MatchesReading bytes.now result }
 {
+    if let Some(line) = quick(alloc, bytes) {
+        return Ok(line);
+    }
     match line(bytes) {
         Err(fault) => Err(LineFault::of(fault)),
         Ok(seen) => match owned(alloc, &seen) {

@@ -26,3 +26,9 @@ returns-in-Ok-owned-clause-only c =
 pub returns-in-Err-owned-clause-memory : goal.returns-in-Err-owned-clause-memory
 returns-in-Err-owned-clause-memory c =
     λ _. (line_seen c.in-Ok.seen, line_takes c.args.bytes.now (line_seen c.in-Ok.seen) c.in-Ok.ensures)
+
+pub returns-in-Some-clause-found : goal.returns-in-Some-clause-found
+returns-in-Some-clause-found c = line_takes c.args.bytes.now c.in-Some.line c.in-Some.ensures
+
+pub returns-in-Some-clause-only : goal.returns-in-Some-clause-only
+returns-in-Some-clause-only c = only_this c.args.bytes.now c.in-Some.line c.in-Some.ensures

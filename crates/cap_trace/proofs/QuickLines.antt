@@ -1,0 +1,192 @@
+-- What is read in one pass is what the line spells.
+use Rattle.std.proofs.Common.{◌≡◌, ℕ, ◌≤◌, List, [], ◌∷◌, ◌++◌, length, Some, Result, Ok, refl, sym, ap, subst, ◌∙◌}
+use Rattle.std.proofs.Common.{append_assoc, Bool, true, false, not, cond, eqb, ltb, ◌&&◌, ◌+◌, ◌-◌, suc, take, drop, None, arith}
+use Rattle.std.proofs.lemmas.List.{take-append-drop, take_all, length-drop}
+use Rattle.std.specs.Prelude.{nat_le, position}
+use Rattle.std.specs.List.{list_all, position_or_len}
+use Rattle.cap_trace.specs.Steps.{takes_all}
+use Rattle.std.proofs.Common.{Option}
+use Rattle.cap_trace.specs.declared.fields.Place.{Place}
+use Rattle.cap_trace.specs.declared.fields.Place.TheVariants as places
+use Rattle.std.specs.Fmt.{decimal}
+use Rattle.std.specs.List.{join_with_byte}
+use Rattle.cap_trace.specs.declared.line.Item.{Item}
+use Rattle.cap_trace.specs.declared.line.Item.TheVariants as items
+use Rattle.cap_trace.specs.declared.line.Call.{Call}
+use Rattle.cap_trace.specs.declared.line.Answer.{Answer}
+use Rattle.cap_trace.specs.Names.{Head, name_of, head_named}
+use Rattle.cap_trace.specs.Fields.{are_items, is_plain, is_between, item_step, quoted}
+use Rattle.cap_trace.specs.Entry.{an_fd, a_dir, some_flags, some_rights, a_command, free_text}
+use Rattle.cap_trace.specs.Entry.{Arg, head_of_call, args_of_call, kind_of, a_path}
+use Rattle.cap_trace.specs.Spelling.{Spells, SpellsArg, SpellsArgs, IsHead}
+use Rattle.cap_trace.specs.Quotes.{cut_at_byte}
+use Rattle.cap_trace.specs.declared.fault.ReadFault.{ReadFault}
+use Rattle.cap_trace.specs.declared.line.Dir.{Dir}
+use Rattle.cap_trace.specs.Reading.{◌>>=◌, pid_at, fd_at, dir_at, flags_at, rights_at, command_at, free_at}
+use Rattle.cap_trace.specs.Reading.{arg_at, answer_at}
+use Rattle.cap_trace.specs.Forms.{Slot, fd, dir, flags, rights, command, free}
+use Rattle.cap_trace.specs.Quick.{Before, Between, SpellsAfter}
+use Rattle.cap_trace.proofs.Cuts.{both, both_true, cut_takes}
+use Rattle.cap_trace.proofs.Heads.{head_takes}
+use Rattle.cap_trace.proofs.Spelled.{pid_takes, arg_takes}
+use Rattle.cap_trace.proofs.Answered.{answer_takes}
+
+-- a cut, where what was cut is known better
+cut_is : (c : ℕ) (t a b x y : List ℕ) → cut_at_byte c t ≡ Some (a, b) → a ≡ x → b ≡ y → t ≡ x ++ (c ∷ y)
+cut_is c t a b x y at e f = cut_takes c t (a, b) at ∙ ap (λ (s : List ℕ). s ++ (c ∷ b)) e ∙ ap (λ (s : List ℕ). x ++ (c ∷ s)) f
+
+-- ---- arguments
+
+-- an argument that is read before a byte
+read_before : (s : Slot) (stop : ℕ) (text t rest : List ℕ) (a : Arg) → Some (t, rest) ≡ cut_at_byte stop text
+    → arg_at s t ≡ Ok a → Before text a stop rest
+read_before s stop text t rest a at e =
+    record { spelling = t; arg = arg_takes s t a e; parts = cut_takes stop text (t, rest) (sym at) }
+
+pub fd_before : (stop : ℕ) (text t rest : List ℕ) (f : ℕ) → Some (t, rest) ≡ cut_at_byte stop text → fd_at t ≡ Ok f
+    → Before text (an_fd f) stop rest
+unfolding arg_at
+fd_before stop text t rest f at e = read_before fd stop text t rest (an_fd f) at
+    (ap (λ (r : Result ℕ ReadFault). r >>= λ x. Ok (an_fd x)) e)
+
+pub dir_before : (stop : ℕ) (text t rest : List ℕ) (d : Dir) → Some (t, rest) ≡ cut_at_byte stop text
+    → dir_at t ≡ Ok d → Before text (a_dir d) stop rest
+unfolding arg_at
+dir_before stop text t rest d at e = read_before dir stop text t rest (a_dir d) at
+    (ap (λ (r : Result Dir ReadFault). r >>= λ x. Ok (a_dir x)) e)
+
+pub flags_before : (stop : ℕ) (text t rest w : List ℕ) → Some (t, rest) ≡ cut_at_byte stop text → flags_at t ≡ Ok w
+    → Before text (some_flags w) stop rest
+unfolding arg_at
+flags_before stop text t rest w at e = read_before flags stop text t rest (some_flags w) at
+    (ap (λ (r : Result (List ℕ) ReadFault). r >>= λ x. Ok (some_flags x)) e)
+
+pub command_before : (stop : ℕ) (text t rest w : List ℕ) → Some (t, rest) ≡ cut_at_byte stop text
+    → command_at t ≡ Ok w → Before text (a_command w) stop rest
+unfolding arg_at
+command_before stop text t rest w at e = read_before command stop text t rest (a_command w) at
+    (ap (λ (r : Result (List ℕ) ReadFault). r >>= λ x. Ok (a_command x)) e)
+
+pub rights_before : (stop : ℕ) (text t rest : List ℕ) (r : ℕ) → Some (t, rest) ≡ cut_at_byte stop text
+    → rights_at t ≡ Ok r → Before text (some_rights r) stop rest
+unfolding arg_at
+rights_before stop text t rest r at e = read_before rights stop text t rest (some_rights r) at
+    (ap (λ (x : Result ℕ ReadFault). x >>= λ y. Ok (some_rights y)) e)
+
+pub free_before : (stop : ℕ) (text t rest a : List ℕ) → Some (t, rest) ≡ cut_at_byte stop text → free_at t ≡ Ok a
+    → Before text (free_text a) stop rest
+unfolding arg_at
+free_before stop text t rest a at e = read_before free stop text t rest (free_text a) at
+    (ap (λ (r : Result (List ℕ) ReadFault). r >>= λ x. Ok (free_text x)) e)
+
+-- ---- a path without escapes
+
+abbrev is_odd_byte : ℕ → Bool
+is_odd_byte c = not (is_plain c)
+
+plain_step : (x : ℕ) (xs : List ℕ) (n : ℕ) (b : Bool) → is_plain x ≡ b → list_all is_plain (take n xs) ≡ true
+    → list_all is_plain (take (cond (not (not b)) (1 + n) 0) (x ∷ xs)) ≡ true
+plain_step x xs n true e h =
+    let one : 1 + n ≡ suc n = omega arith in rw one (both_true (is_plain x) (list_all is_plain (take n xs)) e h)
+plain_step x xs n false e h = refl
+
+plain_before : (t : List ℕ) → list_all is_plain (take (position_or_len is_odd_byte t) t) ≡ true
+plain_before [] = refl
+plain_before (x ∷ xs) = plain_step x xs (position_or_len is_odd_byte xs) (is_plain x) refl (plain_before xs)
+
+not_true : (b : Bool) → not b ≡ true → b ≡ false
+not_true true e = absurd cc
+not_true false e = refl
+
+plain_place : (c : ℕ) (s p : Bool) → s ≡ false → p ≡ true
+    → cond s (Some places.Slash) (cond p (Some places.Between) None) ≡ Some places.Between
+plain_place c s p e f = rw (e, f) refl
+
+plain_items : (t : List ℕ) → list_all is_plain t ≡ true → are_items t ≡ true
+unfolding takes_all
+plain_items [] h = refl
+plain_items (c ∷ cs) h =
+    let k = both (is_plain c) (list_all is_plain cs) h in
+    let slash = not_true (eqb c 92)
+    (both (nat_le 32 c && nat_le c 126 && not (eqb c 34)) (not (eqb c 92)) k.0).1 in
+    subst (λ (o : Option Place). elim o as (λ _. Bool) [ None ↦ false | Some p ↦ takes_all item_step is_between p cs ] ≡ true)
+    (sym (plain_place c (eqb c 92) (is_plain c) slash k.0)) (plain_items cs k.1)
+
+place_is : (t : List ℕ) (b : Bool) (n i : ℕ) → Some i ≡ cond b (Some n) None → i ≡ n
+place_is t true n i e = cc
+place_is t false n i e = absurd cc
+
+-- a path, its closing quote and the byte
+pub path_before : (stop : ℕ) (text inside behind rest : List ℕ) (end : ℕ) → text ≡ 34 ∷ inside
+    → Some end ≡ position (λ c. not (is_plain c)) inside → take (length inside - end) (drop end inside) ≡ 34 ∷ behind
+    → behind ≡ stop ∷ rest → Before text (a_path (take end inside)) stop rest
+path_before stop text inside behind rest end e at f g =
+    let same = place_is inside (ltb (position_or_len is_odd_byte inside) (length inside))
+    (position_or_len is_odd_byte inside) end at in
+    let path = take end inside in
+    let whole = take_all (length inside - end) (drop end inside) (omega (arith, length-drop end inside)) in
+    record {
+      spelling = quoted path;
+      arg = (refl, plain_items path (ap (λ (i : ℕ). list_all is_plain (take i inside)) same ∙ plain_before inside));
+      parts = e ∙ ap (λ (s : List ℕ). 34 ∷ s) (sym (take-append-drop end inside))
+          ∙ ap (λ (s : List ℕ). 34 ∷ (path ++ s)) (sym whole ∙ f) ∙ ap (λ (s : List ℕ). 34 ∷ (path ++ (34 ∷ s))) g
+          ∙ ap (λ (s : List ℕ). 34 ∷ s) (sym (append_assoc path (34 ∷ []) (stop ∷ rest)));
+    }
+
+-- the last argument
+pub last : (text rest : List ℕ) (a : Arg) → Before text a 41 rest → Between text (a ∷ []) rest
+last text rest a b = record { texts = b.spelling ∷ []; args = (b.arg, tt); parts = b.parts }
+
+more_parts : (text more rest t : List ℕ) (a b : Arg) (others : List Arg) (ts : List (List ℕ)) → SpellsArg t a
+    → text ≡ t ++ (44 ∷ more) → SpellsArgs ts (b ∷ others) → more ≡ join_with_byte 44 ts ++ (41 ∷ rest)
+    → Between text (a ∷ b ∷ others) rest
+more_parts text more rest t a b others [] s e h f = absurd h
+more_parts text more rest t a b others (u ∷ us) s e h f =
+    record {
+      texts = t ∷ u ∷ us;
+      args = (s, h);
+      parts = e ∙ ap (λ (m : List ℕ). t ++ (44 ∷ m)) f
+          ∙ sym (append_assoc t (44 ∷ join_with_byte 44 (u ∷ us)) (41 ∷ rest));
+    }
+
+-- an argument with others after it
+pub next : (text more rest : List ℕ) (a b : Arg) (others : List Arg) → Before text a 44 more
+    → Between more (b ∷ others) rest → Between text (a ∷ b ∷ others) rest
+next text more rest a b others x y =
+    more_parts text more rest x.spelling a b others y.texts x.arg x.parts y.args y.parts
+
+-- ---- calls and lines
+
+-- a call with its answer
+pub call_after : (h : Head) (text tail : List ℕ) (x c : Call) (a : Answer) → x ≡ c → head_of_call c ≡ h
+    → Between text (args_of_call c) tail → answer_at (kind_of c) tail ≡ Ok a → SpellsAfter h text (items.Call x a)
+call_after h text tail x c a same e b is_answer =
+    let k = answer_takes (kind_of c) tail a is_answer in
+    subst (λ (y : Call). SpellsAfter h text (items.Call y a)) (sym same) (record {
+      head = e;
+      args = record {
+        texts = b.texts;
+        args = b.args;
+        parts = b.parts ∙ ap (λ (r : List ℕ). join_with_byte 44 b.texts ++ (41 ∷ r)) k.0;
+      };
+      whole = k.1;
+    })
+
+-- a name, with what follows its bracket
+pub line_after : (bytes pid rest name text : List ℕ) (p : ℕ) (h : Head) (i : Item) → length bytes ≤ 1024
+    → Some (pid, rest) ≡ cut_at_byte 32 bytes → pid_at pid ≡ Ok p → Some (name, text) ≡ cut_at_byte 40 rest
+    → Some h ≡ head_named name → SpellsAfter h text i → Spells bytes (record { pid = p; item = i })
+line_after bytes pid rest name text p h i short at is_pid after named s =
+    let k = pid_takes pid p is_pid in
+    let n = head_takes name h (sym named) in (
+      s.args.texts,
+      record {
+        short = short;
+        pid = k.1;
+        head = subst IsHead {x = h} (sym s.head) n.1;
+        args = s.args.args;
+        whole = s.whole;
+        parts = cut_is 32 bytes pid rest (decimal p) _ (sym at) k.0
+            (cut_is 40 rest name text _ _ (sym after) (sym n.0 ∙ sym (ap name_of s.head)) s.args.parts);
+      },
+    )

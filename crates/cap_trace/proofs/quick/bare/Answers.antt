@@ -1,0 +1,12 @@
+use Rattle.std.proofs.Common.{refl, []}
+use Rattle.cap_trace.specs.declared.line.Call.TheVariants as calls
+use Rattle.cap_trace.specs.declared.calls.Form.TheVariants as forms
+use Rattle.cap_trace.specs.Names.{listed}
+use Rattle.cap_trace.proofs.QuickLines.{call_after}
+use Rattle.cap_trace.proofs.quick.bare.Goals as goal
+
+pub returns : goal.returns
+returns c =
+    call_after (listed (forms.Bare c.args.call)) c.args.text.now c.in_ok-tail.tail.now (calls.Bare c.args.call)
+    (calls.Bare c.args.call) c.in_ok-answer.answer refl refl
+    (record { texts = []; args = tt; parts = c.in_ok-tail.ensures }) c.in_ok-answer.ensures

@@ -1,0 +1,13 @@
+use Rattle.std.proofs.Common.{refl}
+use Rattle.cap_trace.specs.declared.line.Call.TheVariants as calls
+use Rattle.cap_trace.specs.Names.{unlisted}
+use Rattle.cap_trace.specs.Entry.{free_text}
+use Rattle.cap_trace.proofs.QuickLines.{last, call_after}
+use Rattle.cap_trace.proofs.quick.other.Goals as goal
+
+pub returns : goal.returns
+returns c =
+    call_after (unlisted c.args.name.now) c.args.text.now (c.in_ok-args.tail.now) (c.in-Ok.call) (calls.Other c.args.name.now c.in_ok-args.args.now) c.in_ok-answer.answer
+    c.in-Ok.ensures refl
+    (last (c.args.text.now) (c.in_ok-args.tail.now) (free_text c.in_ok-args.args.now) c.in_ok-args.ensures)
+    c.in_ok-answer.ensures

@@ -1,0 +1,304 @@
+//! The lines that most traces are made of, read in one pass: each field ends at the byte that follows it. What isn't
+//! read so is read with care.
+
+ghost use Rattle.std.specs.Prelude.{◌≡◌, ◌∷◌, ◌<◌, IfSome, Ok, length, not, position};
+ghost use Rattle.cap_trace.specs.Fields.{is_plain};
+ghost use Rattle.cap_trace.specs.declared.calls.Form.TheVariants as forms;
+ghost use Rattle.cap_trace.specs.Names.{listed, unlisted, row_of};
+ghost use Rattle.cap_trace.specs.Rows.{head_seen};
+ghost use Rattle.cap_trace.specs.Entry.{an_fd, a_dir, some_flags, a_path, a_command, free_text};
+ghost use Rattle.cap_trace.specs.Reading.{line_of, answer_at};
+ghost use Rattle.cap_trace.specs.Quick.{Before, SpellsAfter};
+
+use crate::answers::answer;
+use crate::calls::{AtFlagsCall, BareCall, FdCall, FlagsCall, Form, Kind, PathCall};
+use crate::fields::plain;
+use crate::limits::LONGEST_LINE;
+use crate::line::{Answer, Call, Dir, Fd, Item, Line};
+use crate::names::{Head, head_of};
+use crate::owned;
+use crate::quotes::cut;
+use crate::scan_fields::{command_of, dir_of, fd_of, flags_of, free_of, pid_of, rights_of};
+use crate::seen::fcntl_kind;
+use std::alloc::Global;
+
+/// What follows this byte, where a text begins with it.
+fn behind(byte: u8, text: &[u8]) -> Option<&[u8]>
+    ensures { IfSome result (λ r. text.now ≡ byte ∷ r.now) }
+{
+    match text {
+        [first, rest @ ..] if *first == byte => Some(rest),
+        _ => None,
+    }
+}
+
+/// A descriptor before this byte, and what follows the byte.
+fn fd_before(stop: u8, text: &[u8]) -> Option<(Fd, &[u8])>
+    ensures { IfSome result (λ p. Before text.now (an_fd p.0) stop p.1.now) }
+{
+    let (fd, rest) = cut(stop, text)?;
+    match fd_of(fd) {
+        Ok(fd) => Some((fd, rest)),
+        Err(_) => None,
+    }
+}
+
+/// A directory before this byte, and what follows the byte.
+fn dir_before(stop: u8, text: &[u8]) -> Option<(Dir, &[u8])>
+    ensures { IfSome result (λ p. Before text.now (a_dir p.0) stop p.1.now) }
+{
+    let (dir, rest) = cut(stop, text)?;
+    match dir_of(dir) {
+        Ok(dir) => Some((dir, rest)),
+        Err(_) => None,
+    }
+}
+
+/// Flags before this byte, and what follows the byte.
+fn flags_before(stop: u8, text: &[u8]) -> Option<(&[u8], &[u8])>
+    ensures { IfSome result (λ p. Before text.now (some_flags p.0.now) stop p.1.now) }
+{
+    let (flags, rest) = cut(stop, text)?;
+    match flags_of(flags) {
+        Ok(flags) => Some((flags, rest)),
+        Err(_) => None,
+    }
+}
+
+/// A command of `fcntl` before this byte, and what follows the byte.
+fn command_before(stop: u8, text: &[u8]) -> Option<(&[u8], &[u8])>
+    ensures { IfSome result (λ p. Before text.now (a_command p.0.now) stop p.1.now) }
+{
+    let (command, rest) = cut(stop, text)?;
+    match command_of(command) {
+        Ok(command) => Some((command, rest)),
+        Err(_) => None,
+    }
+}
+
+/// The arguments of a call without a form of its own before this byte, and what follows the byte.
+fn free_before(stop: u8, text: &[u8]) -> Option<(&[u8], &[u8])>
+    ensures { IfSome result (λ p. Before text.now (free_text p.0.now) stop p.1.now) }
+{
+    let (args, rest) = cut(stop, text)?;
+    match free_of(args) {
+        Ok(args) => Some((args, rest)),
+        Err(_) => None,
+    }
+}
+
+/// The place of the first byte that doesn't stand for itself in a path.
+fn first_odd(text: &[u8]) -> Option<usize>
+    ensures value { result ≡ position (λ c. not (is_plain c)) text.now }
+    ensures bound { IfSome result (λ i. i < length text.now) }
+{
+    text.iter().position(|byte| !plain(*byte))
+}
+
+/// A path without escapes in its quotes before this byte, and what follows the byte.
+fn path_before(stop: u8, text: &[u8]) -> Option<(&[u8], &[u8])>
+    ensures { IfSome result (λ p. Before text.now (a_path p.0.now) stop p.1.now) }
+{
+    let inside = behind(b'"', text)?;
+    let end = first_odd(inside)?;
+    let rest = behind(stop, behind(b'"', &inside[end..])?)?;
+    Some((&inside[..end], rest))
+}
+
+/// The answer of a call of this kind.
+fn answered(kind: Kind, tail: &[u8]) -> Option<Answer>
+    ensures { IfSome result (λ a. answer_at kind tail.now ≡ Ok a) }
+{
+    match answer(kind, tail) {
+        Ok(answer) => Some(answer),
+        Err(_) => None,
+    }
+}
+
+/// The answer of a call with this name.
+fn answer_of(name: Form, tail: &[u8]) -> Option<Answer>
+    ensures { IfSome result (λ a. answer_at (row_of name).kind tail.now ≡ Ok a) }
+{
+    answered(name.row().kind, tail)
+}
+
+/// `name(fd)`
+#[inline(always)]
+fn on_fd(call: FdCall, text: &[u8]) -> Option<Item>
+    ensures { IfSome result (λ i. SpellsAfter (listed (forms.OnFd call)) text.now i) }
+{
+    let (fd, tail) = fd_before(b')', text)?;
+    let answer = answer_of(Form::OnFd(call), tail)?;
+    let call = Call::OnFd(call, fd);
+    Some(Item::Call { call, answer })
+}
+
+/// `fcntl(fd,command)`
+#[inline(always)]
+fn fcntl(alloc: Global, text: &[u8]) -> Option<Item>
+    ensures { IfSome result (λ i. SpellsAfter (listed forms.Fcntl) text.now i) }
+{
+    let (fd, rest) = fd_before(b',', text)?;
+    let (command, tail) = command_before(b')', rest)?;
+    let answer = answered(fcntl_kind(command), tail)?;
+    let Ok(call) = owned::fcntl(alloc, fd, command) else {
+        return None;
+    };
+    Some(Item::Call { call, answer })
+}
+
+/// `mmap(fd,flags,flags)`
+#[inline(always)]
+fn mmap(alloc: Global, text: &[u8]) -> Option<Item>
+    ensures { IfSome result (λ i. SpellsAfter (listed forms.Mmap) text.now i) }
+{
+    let (fd, rest) = fd_before(b',', text)?;
+    let (protection, rest) = flags_before(b',', rest)?;
+    let (mapping, tail) = flags_before(b')', rest)?;
+    let answer = answered(Kind::Count, tail)?;
+    let Ok(call) = owned::mmap(alloc, fd, protection, mapping) else {
+        return None;
+    };
+    Some(Item::Call { call, answer })
+}
+
+/// `cap_rights_limit(fd,rights)`
+#[inline(always)]
+fn rights_limit(text: &[u8]) -> Option<Item>
+    ensures { IfSome result (λ i. SpellsAfter (listed forms.RightsLimit) text.now i) }
+{
+    let (fd, rest) = fd_before(b',', text)?;
+    let (rights, tail) = cut(b')', rest)?;
+    let Ok(rights) = rights_of(rights) else {
+        return None;
+    };
+    let answer = answered(Kind::Zero, tail)?;
+    let call = Call::RightsLimit(fd, rights);
+    Some(Item::Call { call, answer })
+}
+
+/// `open(path,flags)`
+#[inline(always)]
+fn open(alloc: Global, text: &[u8]) -> Option<Item>
+    ensures { IfSome result (λ i. SpellsAfter (listed forms.Open) text.now i) }
+{
+    let (path, rest) = path_before(b',', text)?;
+    let (flags, tail) = flags_before(b')', rest)?;
+    let answer = answered(Kind::Fd, tail)?;
+    let Ok(call) = owned::open(alloc, path, flags) else {
+        return None;
+    };
+    Some(Item::Call { call, answer })
+}
+
+/// `name(path)`
+#[inline(always)]
+fn on_path(alloc: Global, call: PathCall, text: &[u8]) -> Option<Item>
+    ensures { IfSome result (λ i. SpellsAfter (listed (forms.OnPath call)) text.now i) }
+{
+    let (path, tail) = path_before(b')', text)?;
+    let answer = answer_of(Form::OnPath(call), tail)?;
+    let Ok(call) = owned::on_path(alloc, call, path) else {
+        return None;
+    };
+    Some(Item::Call { call, answer })
+}
+
+/// `name(dir,path,flags)`
+#[inline(always)]
+fn at_flags(alloc: Global, call: AtFlagsCall, text: &[u8]) -> Option<Item>
+    ensures { IfSome result (λ i. SpellsAfter (listed (forms.AtFlags call)) text.now i) }
+{
+    let (dir, rest) = dir_before(b',', text)?;
+    let (path, rest) = path_before(b',', rest)?;
+    let (flags, tail) = flags_before(b')', rest)?;
+    let answer = answer_of(Form::AtFlags(call), tail)?;
+    let Ok(call) = owned::at_flags(alloc, call, dir, path, flags) else {
+        return None;
+    };
+    Some(Item::Call { call, answer })
+}
+
+/// `name(flags)`
+#[inline(always)]
+fn on_flags(alloc: Global, call: FlagsCall, text: &[u8]) -> Option<Item>
+    ensures { IfSome result (λ i. SpellsAfter (listed (forms.OnFlags call)) text.now i) }
+{
+    let (flags, tail) = flags_before(b')', text)?;
+    let answer = answer_of(Form::OnFlags(call), tail)?;
+    let Ok(call) = owned::on_flags(alloc, call, flags) else {
+        return None;
+    };
+    Some(Item::Call { call, answer })
+}
+
+/// `name()`
+#[inline(always)]
+fn bare(call: BareCall, text: &[u8]) -> Option<Item>
+    ensures { IfSome result (λ i. SpellsAfter (listed (forms.Bare call)) text.now i) }
+{
+    let tail = behind(b')', text)?;
+    let answer = answer_of(Form::Bare(call), tail)?;
+    let call = Call::Bare(call);
+    Some(Item::Call { call, answer })
+}
+
+/// A name that has no form of its own.
+#[inline(always)]
+fn other(alloc: Global, name: &[u8], text: &[u8]) -> Option<Item>
+    ensures { IfSome result (λ i. SpellsAfter (unlisted name.now) text.now i) }
+{
+    let (args, tail) = free_before(b')', text)?;
+    let answer = answered(Kind::Any, tail)?;
+    let Ok(call) = owned::other(alloc, name, args) else {
+        return None;
+    };
+    Some(Item::Call { call, answer })
+}
+
+/// What follows the opening bracket of a name of the table.
+#[inline(always)]
+fn listed_item(alloc: Global, form: Form, text: &[u8]) -> Option<Item>
+    ensures { IfSome result (λ i. SpellsAfter (listed form) text.now i) }
+{
+    match form {
+        Form::OnFd(call) => on_fd(call, text),
+        Form::Fcntl => fcntl(alloc, text),
+        Form::Mmap => mmap(alloc, text),
+        Form::RightsLimit => rights_limit(text),
+        Form::Open => open(alloc, text),
+        Form::OnPath(call) => on_path(alloc, call, text),
+        Form::AtFlags(call) => at_flags(alloc, call, text),
+        Form::OnFlags(call) => on_flags(alloc, call, text),
+        Form::Bare(call) => bare(call, text),
+        _ => None,
+    }
+}
+
+/// What follows the opening bracket.
+#[inline(always)]
+fn item_after(alloc: Global, head: Head<'_>, text: &[u8]) -> Option<Item>
+    ensures { IfSome result (λ i. SpellsAfter (head_seen head.entry) text.now i) }
+{
+    match head {
+        Head::Listed(form) => listed_item(alloc, form, text),
+        Head::Unlisted(name) => other(alloc, name, text),
+    }
+}
+
+/// The line that the bytes spell, where it is one of those that are read in one pass and there is memory for it.
+#[inline(always)]
+pub(crate) fn quick(alloc: Global, bytes: &[u8]) -> Option<Line>
+    ensures { IfSome result (λ l. line_of bytes.now ≡ Ok l) }
+{
+    if bytes.len() > LONGEST_LINE {
+        return None;
+    }
+    let (pid, rest) = cut(b' ', bytes)?;
+    let Ok(pid) = pid_of(pid) else {
+        return None;
+    };
+    let (name, text) = cut(b'(', rest)?;
+    let item = item_after(alloc, head_of(name)?, text)?;
+    Some(Line { pid, item })
+}
