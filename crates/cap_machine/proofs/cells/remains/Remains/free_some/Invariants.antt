@@ -1,4 +1,4 @@
-use Rattle.std.proofs.Common.{ℕ, ◌-◌, ◌≤◌}
+use Rattle.std.proofs.Common.{◌-◌, ◌≤◌}
 use Rattle.cap_machine.specs.Cells.Remains.{left_at_most}
 use Rattle.cap_machine.proofs.cells.remains.Remains.free_some.Given as goal
 
