@@ -15,4 +15,5 @@ pub mod PartsOf
 pub mod FarSteps
 pub mod Owners
 pub mod Leaves
+pub mod Starts
 pub mod StartedLists

@@ -1,7 +1,8 @@
 -- Which process stands at the place of a pid.
 use Rattle.std.proofs.Common.{◌≡◌, ℕ, ◌+◌, ◌<◌, ◌≤◌, ◌==◌, ◌&&◌, if◌then◌else◌, Bool, true, false, List, [], ◌∷◌, ◌++◌}
-use Rattle.std.proofs.Common.{length, get_or, set, Option, Some, None, refl, ap, sym, ◌∙◌, arith, length-append, eq-eqb}
+use Rattle.std.proofs.Common.{length, get_or, set, Some, None, refl, ap, sym, ◌∙◌, arith, length-append, eq-eqb, zero, suc}
 use Rattle.std.specs.Prelude.{slice_get, slice_set, slice_index_or}
+use Rattle.std.specs.List.{AllZip}
 use Rattle.std.specs.Option.{option_map_or}
 use Rattle.std.proofs.lemmas.Option.{slice_get-get_or, slice_get_past}
 use Rattle.std.proofs.lemmas.Bool.{cases_eq, cases_lt, cases_order}
@@ -10,7 +11,7 @@ use Rattle.std.proofs.lemmas.Grind.{get_or-set_at, common_steps}
 use Rattle.std.proofs.lemmas.List.{get_or-set_other, length-set}
 use Rattle.std.proofs.Math.Logic.{⊎_elim}
 use Rattle.cap_machine.specs.declared.table.Process.{Process}
-use Rattle.cap_machine.specs.Table.{own, own_at}
+use Rattle.cap_machine.specs.Table.{own, own_at, IsSame}
 
 not_same : (a b : ℕ) → (a ≡ b → ⊥) → (a == b) ≡ false
 not_same a b ne = grind (arith, nat_tests, ne)
@@ -190,3 +191,22 @@ both_tests false false x y = refl
 pub either_way : {R : Type 0} (b : Bool) (x : R) → (if b then x else x) ≡ x
 either_way true x = refl
 either_way false x = refl
+
+-- two processes of which the same is asked, if they are anywhere
+asked_if : {R : Type 0} (ask : Process → R) (default : R) (p q : Process) (b : Bool) → ask q ≡ ask p
+    → option_map_or ask (if b then Some q else None) default ≡ option_map_or ask (if b then Some p else None) default
+asked_if ask default p q true e = e
+asked_if ask default p q false e = refl
+
+-- a list of copies answers as the list does
+pub asked_of_copies : {R : Type 0} (ask : Process → R) (default : R) (ps qs : List Process) (i r : ℕ)
+    → ((p q : Process) → IsSame p q → ask q ≡ ask p) → AllZip IsSame ps qs
+    → option_map_or ask (own_at qs i r) default ≡ option_map_or ask (own_at ps i r) default
+asked_of_copies ask default [] [] i r follows e = refl
+asked_of_copies ask default [] (q ∷ qs) i r follows e = absurd e
+asked_of_copies ask default (p ∷ ps) [] i r follows e = absurd e
+asked_of_copies ask default (p ∷ ps) (q ∷ qs) zero r follows e =
+    ap (λ (n : ℕ). option_map_or ask (if n == r then Some q else None) default) e.0.2
+    ∙ asked_if ask default p q (p.pid == r) (follows p q e.0)
+asked_of_copies ask default (p ∷ ps) (q ∷ qs) (suc i) r follows e =
+    asked_of_copies ask default ps qs i r follows e.1

@@ -1,7 +1,6 @@
 -- Look-ups in parts of the same width.
 use Rattle.std.proofs.Common.{◌≡◌, ℕ, suc, ◌+◌, ◌*◌, ◌/◌, ◌%◌, ◌<◌, ◌≤◌, ◌==◌, nat_le, nat_lt, ◌&&◌, if◌then◌else◌}
-use Rattle.std.proofs.Common.{Bool, true, false, List, length, get_or, set, Some, None, refl, ap, sym, ◌∙◌, arith, ◌⊎◌}
-use Rattle.std.proofs.Common.{cond}
+use Rattle.std.proofs.Common.{Bool, true, false, List, length, get_or, set, ap, sym, ◌∙◌, arith}
 use Rattle.std.specs.Prelude.{slice_get, slice_set, slice_index_or}
 use Rattle.std.specs.Option.{option_map_or}
 use Rattle.std.proofs.lemmas.Option.{slice_get-get_or}

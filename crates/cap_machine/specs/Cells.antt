@@ -8,6 +8,7 @@ pub mod High
 pub mod Far
 pub mod Tree
 pub mod Started
+pub mod Remains
 use Rattle.std.specs.Prelude.{ℕ}
 use Rattle.cap_machine.specs.declared.cell.Cell.{Cell}
 use Rattle.cap_machine.specs.declared.cells.Cells.{Cells}

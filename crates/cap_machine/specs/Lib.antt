@@ -19,4 +19,5 @@ pub mod Effect
 pub mod Cells
 pub mod Index
 pub mod Table
+pub mod Starts
 pub mod Checked

@@ -19,9 +19,21 @@ abbrev pub listed_cell : Cell → List (ℕ × Cell) → ℕ → Cell
 listed_cell rest [] f = rest
 listed_cell rest (entry ∷ more) f = listed_cell (if f == entry.0 then entry.1 else rest) more f
 
+-- what was added to a start of one process: its mode, the cells that are listed, and that of all its other descriptors
+pub record Added : Type 0 where
+  pub pid : ℕ
+  pub mode : Mode
+  pub rest : Cell
+  pub cells : List (ℕ × Cell)
+
 -- process p has this mode and these cells, and all else is as before
 abbrev pub with_listed : State → ℕ → Mode → Cell → List (ℕ × Cell) → State
 with_listed s me m rest cells = record {
   cell = λ p f. if p == me then listed_cell rest cells f else s.cell p f;
   mode = λ p. if p == me then m else s.mode p;
 }
+
+-- the state after these were added in turn
+abbrev pub with_all : State → List Added → State
+with_all s [] = s
+with_all s (next ∷ more) = with_all (with_listed s next.pid next.mode next.rest next.cells) more

@@ -10,8 +10,7 @@ use Rattle.cap_machine.specs.declared.cell.Mode.{Mode}
 use Rattle.cap_machine.specs.declared.cell.Mode.TheVariants.{Outside, Unsure}
 use Rattle.cap_machine.specs.declared.table.Process.{Process}
 use Rattle.cap_machine.specs.declared.table.Table.{Table}
-use Rattle.cap_machine.specs.declared.start.Start.{Start}
-use Rattle.cap_machine.specs.State.{State}
+use Rattle.cap_machine.specs.State.{State, usual, Added, with_all}
 use Rattle.cap_machine.specs.declared.cell.Op.{Op}
 use Rattle.cap_machine.specs.Op.{applied}
 use Rattle.cap_machine.specs.Cells.{cell_in_cells}
@@ -57,9 +56,9 @@ state_of table = record { cell = cell_of table; mode = mode_of table }
 abbrev pub IsSame : Process → Process → Type 0
 IsSame a b = ((f : ℕ) → cell_in b f ≡ cell_in a f) × (b.mode ≡ a.mode) × (b.pid ≡ a.pid)
 
--- the state that a start stands for; how the table keeps it is nobody else's concern
-unfoldable pub start_state : Start → State
-start_state start = state_of start.table
+-- the state that a start stands for: from the usual one, what was added in turn
+unfoldable pub start_state : List Added → State
+start_state added = with_all usual added
 
 -- the table keeps this state
 pub record Keeps (table : Table) (s : State) : Type 0 where

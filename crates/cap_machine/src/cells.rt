@@ -1,9 +1,10 @@
 //! The cells of a process: what is known of each of its descriptors. Those of the first 32 stand in one leaf, the
 //! others in a tree whose parts are shared between processes until they are written.
 
-ghost use Rattle.std.specs.Prelude.{◌≡◌, ℕ, OnOk, IfOk, ◌==◌, nat_le, if◌then◌else◌};
+ghost use Rattle.std.specs.Prelude.{◌≡◌, ℕ, ◌+◌, ◌≤◌, OnOk, IfOk, ◌==◌, nat_le, if◌then◌else◌};
 ghost use Rattle.cap_machine.specs.Cells.Pending.{settled};
 ghost use Rattle.cap_machine.specs.Cells.{cell_in_cells};
+ghost use Rattle.cap_machine.specs.Cells.Remains.{left_at_most};
 ghost use Rattle.cap_machine.specs.Touch.{started};
 
 mod block;
@@ -14,6 +15,7 @@ mod leaf;
 mod node;
 mod pending;
 mod region;
+mod remains;
 mod shared;
 mod started;
 mod subtree;
@@ -21,6 +23,7 @@ mod tree;
 
 use crate::cell::Cell;
 pub(crate) use crate::cells::pending::Pending;
+pub(crate) use crate::cells::remains::Remains;
 use crate::cells::started::Started;
 use crate::cells::tree::Tree;
 use cap_rights::NoMemory;
@@ -94,6 +97,13 @@ impl Cells {
     {
         self.started = Started::of(alloc, fds)?;
         self.tree.settle(Pending::Close)
+    }
+
+    /// Hands on what nobody else has of these cells, as they are to be dropped.
+    pub(crate) fn hand_on(&self, remains: &mut Remains) -> Result<(), NoMemory>
+        ensures { left_at_most remains.new ≤ left_at_most remains.old + 37449 }
+    {
+        self.tree.hand_on(remains)
     }
 }
 

@@ -1,6 +1,6 @@
 //! What is known before the first line of a trace.
 
-ghost use Rattle.std.specs.Prelude.{◌≡◌, OnOk, OnErr};
+ghost use Rattle.std.specs.Prelude.{◌≡◌, OnOk, OnErr, [], ◌∷◌, ◌++◌};
 ghost use Rattle.cap_machine.specs.State.{usual, with_listed};
 ghost use Rattle.cap_machine.specs.Table.{start_state};
 
@@ -9,20 +9,48 @@ use crate::table::Table;
 use cap_rights::NoMemory;
 use cap_trace::{Fd, Pid};
 use std::alloc::Global;
+use std::marker::Model;
+
+/// What was added of one process.
+#[derive(Drop)]
+struct Entry {
+    pid: Pid,
+    mode: Mode,
+    rest: Cell,
+    cells: Vec<(Fd, Cell)>,
+}
 
 /// What is known of each process before the first line: a mode and cells. Of a process that isn't listed nothing is.
+///
+/// It is the list of what was added, in order. A table of the same is kept beside it for look-ups.
 #[derive(Drop)]
 pub struct Start {
+    added: Vec<Entry>,
     pub(crate) table: Table,
+}
+
+impl Model for Start {
+    ghost use Rattle.std.specs.Prelude.{List};
+    ghost use Rattle.cap_machine.specs.State.{Added};
+
+    ghost Value = { List Added };
+
+    ghost use Rattle.cap_machine.specs.Starts.{all_added, IsKept};
+
+    ghost view = { all_added };
+
+    ghost invariant = { IsKept };
 }
 
 impl Start {
     /// The usual start, in which nothing is known of any process. It takes no memory.
     #[tactic(auto, unfolding(crate::specs::Table::start_state))]
     pub fn unknown(alloc: Global) -> Start
-        ensures { start_state result ≡ usual }
+        ensures empty { result ≡ [] }
+        ensures usual { start_state result ≡ usual }
     {
         Start {
+            added: Vec::new(alloc),
             table: Table::unknown(alloc),
         }
     }
@@ -42,14 +70,26 @@ impl Start {
         rest: Cell,
         cells: Vec<(Fd, Cell)>,
     ) -> Result<(), NoMemory>
+        ensures added { OnOk result
+            (self.new ≡ self.old ++ (record { pid = pid; mode = mode; rest = rest; cells = cells.items }) ∷ []) }
+        ensures unchanged { OnErr result (self.new ≡ self.old) }
         ensures ok { OnOk result (start_state self.new ≡ with_listed (start_state self.old) pid mode rest cells.items) }
         ensures err { OnErr result (start_state self.new ≡ start_state self.old) }
     {
-        self.table.add(pid, mode, rest, &cells)
+        let entry = Entry {
+            pid,
+            mode,
+            rest,
+            cells,
+        };
+        self.added.reserve(1)?;
+        self.table
+            .add(entry.pid, entry.mode, entry.rest, &entry.cells)?;
+        self.added.push_reserved(entry);
+        Ok(())
     }
 
     /// What is known of a descriptor of a process.
-    #[tactic(auto, unfolding(crate::specs::Table::start_state))]
     pub fn cell(&self, pid: Pid, fd: Fd) -> Cell
         ensures { result ≡ (start_state self.now).cell pid fd }
     {
@@ -57,7 +97,6 @@ impl Start {
     }
 
     /// What is known of the mode of a process.
-    #[tactic(auto, unfolding(crate::specs::Table::start_state))]
     pub fn mode(&self, pid: Pid) -> Mode
         ensures { result ≡ (start_state self.now).mode pid }
     {

@@ -15,7 +15,7 @@ ghost use Rattle.cap_machine.specs.Cells.Pending.{settled};
 mod index;
 
 use crate::cell::{Cell, Mode};
-use crate::cells::{Cells, Pending};
+use crate::cells::{Cells, Pending, Remains};
 use crate::rule::{Checks, Demand, Effect};
 use crate::table::index::Index;
 use crate::verdict::Verdict;
@@ -159,12 +159,15 @@ fn cell_at(process: Option<&Process>, fd: Fd) -> Cell
 ///
 /// A new process begins from a clone of the cells in `blank`, whatever they are, with all of them pending to be
 /// forgotten: so it shares them, and takes memory only for what is written.
+///
+/// What is left of a process that a fork replaced is in `remains`, and is freed by the lines that follow.
 #[derive(Drop)]
 pub(crate) struct Table {
     alloc: Global,
     index: Index,
     processes: Vec<Process>,
     blank: Option<Cells>,
+    remains: Remains,
 }
 
 impl Table {
@@ -177,6 +180,7 @@ impl Table {
             index: Index::new(alloc),
             processes: Vec::new(alloc),
             blank: None,
+            remains: Remains::nothing(alloc),
         }
     }
 
@@ -184,12 +188,10 @@ impl Table {
     pub(crate) fn copy(&self, alloc: Global) -> Result<Table, NoMemory>
         ensures { IfOk result (λ table. Keeps table (state_of self.now)) }
     {
-        Ok(Table {
-            alloc,
-            index: self.index.clone()?,
-            processes: self.processes.clone()?,
-            blank: None,
-        })
+        let mut table = Table::unknown(alloc);
+        table.index = self.index.clone()?;
+        table.processes = self.processes.clone()?;
+        Ok(table)
     }
 
     /// What is known of a process.
@@ -378,10 +380,22 @@ impl Table {
         }
     }
 
+    /// Hands on the cells of a process that is to be replaced.
+    fn hand_on(&mut self, pid: Pid) -> Result<(), NoMemory>
+        ensures index { self.new.index ≡ self.old.index }
+        ensures processes { self.new.processes ≡ self.old.processes }
+    {
+        match self.processes.get(self.index.place(pid)) {
+            Some(old) if old.pid == pid => old.cells.hand_on(&mut self.remains),
+            _ => Ok(()),
+        }
+    }
+
     /// Gives the child what the parent has.
     fn fork(&mut self, parent: Pid, child: Pid) -> Result<(), NoMemory>
         ensures { OnOk result (Keeps self.new (with_copy (state_of self.old) parent child)) }
     {
+        self.hand_on(child)?;
         let copy = self.like(parent, child)?;
         self.put(copy)
     }
@@ -426,6 +440,7 @@ impl Table {
     pub(crate) fn apply(&mut self, pid: Pid, effect: &Effect<'_>) -> Result<(), NoMemory>
         ensures { OnOk result (Keeps self.new (effect_after effect.now pid (state_of self.old))) }
     {
+        self.remains.free_some();
         match effect {
             Effect::Keep => Ok(()),
             Effect::Enter => self.set_mode(pid, Mode::Inside),

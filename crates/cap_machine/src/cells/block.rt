@@ -11,7 +11,7 @@ use std::alloc::{AllocError, Global};
 /// The cells of 256 descriptors that stand next to each other. A type of its own keeps what is to be proved small.
 #[derive(Drop)]
 pub(crate) struct Block {
-    node: Node<Node<Leaf<4>, 4>, 32>,
+    pub(crate) node: Node<Node<Leaf<4>, 4>, 32>,
 }
 
 impl Clone for Block {

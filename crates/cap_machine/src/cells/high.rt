@@ -12,7 +12,7 @@ use std::alloc::{AllocError, Global};
 /// small.
 #[derive(Drop)]
 pub(crate) struct High {
-    node: Node<Node<Region, 16384>, 131072>,
+    pub(crate) node: Node<Node<Region, 16384>, 131072>,
 }
 
 impl Clone for High {

@@ -18,7 +18,7 @@ use std::rc::Rc;
 /// of them is written.
 #[derive(Drop)]
 pub(crate) struct Node<T, const WIDTH: usize> {
-    parts: [Rc<T>; 8],
+    pub(crate) parts: [Rc<T>; 8],
     pending: [Pending; 8],
 }
 

@@ -11,7 +11,7 @@ use std::alloc::{AllocError, Global};
 /// The cells of 16,384 descriptors that stand next to each other. A type of its own keeps what is to be proved small.
 #[derive(Drop)]
 pub(crate) struct Region {
-    node: Node<Node<Block, 256>, 2048>,
+    pub(crate) node: Node<Node<Block, 256>, 2048>,
 }
 
 impl Clone for Region {

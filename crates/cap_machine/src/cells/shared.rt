@@ -1,6 +1,6 @@
 //! A part of the tree that processes share until one of them writes to it.
 
-ghost use Rattle.std.specs.Prelude.{◌≡◌, ℕ, OnOk, ◌==◌, nat_le, if◌then◌else◌};
+ghost use Rattle.std.specs.Prelude.{◌≡◌, ℕ, OnOk, IfOk, IfSome, ◌==◌, nat_le, if◌then◌else◌};
 ghost use Rattle.cap_machine.specs.Cells.Pending.{settled};
 
 use crate::cell::Cell;
@@ -47,6 +47,18 @@ pub(crate) fn close_part<T: Subtree>(
 pub(crate) struct Shared<T> {
     pending: Pending,
     part: Rc<T>,
+}
+
+impl<T: Drop> Shared<T> {
+    /// The part, if nobody else has it.
+    pub(crate) fn sole(&self) -> Result<Option<Rc<T>>, NoMemory>
+        ensures { IfOk result (λ part. IfSome part (λ part. part.value ≡ self.now.part.value)) }
+    {
+        if Rc::strong_count(&self.part) != 1 {
+            return Ok(None);
+        }
+        Ok(Some(self.part.clone()?))
+    }
 }
 
 impl<T: Subtree> Clone for Shared<T> {

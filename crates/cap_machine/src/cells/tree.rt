@@ -1,14 +1,16 @@
 //! The cells of a process without its list of `@start`.
 
-ghost use Rattle.std.specs.Prelude.{◌≡◌, ℕ, OnOk, IfOk, ◌==◌, nat_le, if◌then◌else◌};
+ghost use Rattle.std.specs.Prelude.{◌≡◌, ℕ, ◌+◌, ◌≤◌, OnOk, IfOk, ◌==◌, nat_le, if◌then◌else◌};
 ghost use Rattle.cap_machine.specs.Cells.Pending.{settled};
 ghost use Rattle.cap_machine.specs.Cells.Tree.{cell_in_tree};
+ghost use Rattle.cap_machine.specs.Cells.Remains.{left_at_most};
 
 use crate::cell::Cell;
 use crate::cells::far::Far;
 use crate::cells::high::High;
 use crate::cells::leaf::Leaf;
 use crate::cells::pending::Pending;
+use crate::cells::remains::Remains;
 use crate::cells::shared::Shared;
 use crate::cells::subtree::Subtree;
 use cap_rights::NoMemory;
@@ -90,6 +92,16 @@ impl Tree {
             self.far.settle(Pending::Close)
         } else {
             self.far.close_from(fd)
+        }
+    }
+
+    /// Hands on the cells at or above 32, which nobody else may have, as this tree is to be dropped.
+    pub(crate) fn hand_on(&self, remains: &mut Remains) -> Result<(), NoMemory>
+        ensures { left_at_most remains.new ≤ left_at_most remains.old + 37449 }
+    {
+        match self.high.sole()? {
+            Some(high) => remains.add(high),
+            None => Ok(()),
         }
     }
 }

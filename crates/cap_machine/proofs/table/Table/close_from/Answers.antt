@@ -1,10 +1,9 @@
-use Rattle.std.proofs.Common.{rules, ◌≡◌, ℕ, ◌<◌, ◌==◌, nat_le, if◌then◌else◌, length, refl, ◌∙◌}
+use Rattle.std.proofs.Common.{rules, ◌<◌, ◌==◌, nat_le, if◌then◌else◌, length, ◌∙◌}
 use Rattle.cap_machine.specs.declared.cell.Cell.{Cell}
 use Rattle.cap_machine.specs.declared.cell.Cell.TheVariants.{Unknown, Closed}
 use Rattle.cap_machine.specs.declared.cell.Mode.{Mode}
 use Rattle.cap_machine.specs.declared.cell.Mode.TheVariants.{Unsure}
 use Rattle.cap_machine.specs.declared.table.Process.{Process}
-use Rattle.cap_machine.specs.Op.{applied, exec}
 use Rattle.cap_machine.specs.Index.{place_in}
 use Rattle.cap_machine.specs.Table.{cell_in, cell_of, mode_of, Keeps, StandsAt, state_of}
 use Rattle.cap_machine.proofs.Owners.{changed, both_tests, either_way}

@@ -1,4 +1,4 @@
-use Rattle.std.proofs.Common.{rules, ◌≡◌, ℕ, List, ap, ◌∙◌, refl}
+use Rattle.std.proofs.Common.{rules, refl}
 use Rattle.cap_machine.specs.Index.{place_in}
 use Rattle.cap_machine.proofs.Owners.{put_at}
 use Rattle.cap_machine.proofs.table.Table.store.Goals as goal

@@ -1,4 +1,4 @@
-use Rattle.std.proofs.Common.{rules, ◌/◌, ◌%◌, ap, ◌∙◌, slice_get}
+use Rattle.std.proofs.Common.{◌/◌, ◌%◌, ap, ◌∙◌, slice_get}
 use Rattle.std.specs.Option.{option_map_or}
 use Rattle.std.proofs.lemmas.List.{get_or-replicate}
 use Rattle.cap_machine.specs.Cells.Pending.{settled}

@@ -1,4 +1,4 @@
-use Rattle.std.proofs.Common.{rules, ◌≡◌, ℕ, ◌<◌, ◌/◌, ◌%◌}
+use Rattle.std.proofs.Common.{rules, ◌%◌}
 use Rattle.cap_machine.proofs.PartsOf.{part_closed}
 use Rattle.cap_machine.proofs.cells.node.NodeSubtree.close_from.Goals as goal
 

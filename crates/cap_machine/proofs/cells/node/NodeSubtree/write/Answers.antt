@@ -1,5 +1,4 @@
-use Rattle.std.proofs.Common.{rules, ◌≡◌, ℕ, ◌<◌, ◌/◌, ◌%◌, OnOk, IfOk, ◌==◌, nat_le, if◌then◌else◌, slice_get}
-use Rattle.std.proofs.Common.{slice_set, length}
+use Rattle.std.proofs.Common.{rules, ◌%◌}
 use Rattle.cap_machine.proofs.PartsOf.{part_written}
 use Rattle.cap_machine.proofs.cells.node.NodeSubtree.write.Goals as goal
 

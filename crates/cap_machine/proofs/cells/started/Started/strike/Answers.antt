@@ -1,5 +1,5 @@
-use Rattle.std.proofs.Common.{rules, ◌≡◌, ℕ, ◌==◌, not, if◌then◌else◌}
-use Rattle.std.specs.List.{list_any, filter}
+use Rattle.std.proofs.Common.{rules, ◌≡◌, ◌==◌, not}
+use Rattle.std.specs.List.{filter}
 use Rattle.std.proofs.lemmas.Fn.{filter_same}
 use Rattle.cap_machine.proofs.StartedLists.{without}
 use Rattle.cap_machine.proofs.cells.started.Started.strike.Goals as goal
