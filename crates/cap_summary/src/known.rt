@@ -41,7 +41,7 @@ impl Known {
         ensures { IfOk result (λ known. Knows known []) }
     {
         Ok(Known {
-            change: Rc::new(alloc, Change::nothing(alloc))?,
+            change: Rc::new(alloc, Change::nothing())?,
             always: false,
             conditions: Rc::new(alloc, Vec::new(alloc))?,
         })
