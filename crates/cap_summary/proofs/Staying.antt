@@ -45,16 +45,41 @@ held-same (Keeps mask Unsure) = ap (λ m. Keeps m Unsure) (no_mask mask)
 same_parts : (a b : Op) → a.unknown ≡ b.unknown → a.closed ≡ b.closed → a.set ≡ b.set → a.clear ≡ b.clear
     → a.unsure ≡ b.unsure → a ≡ b
 same_parts a b u k x y z =
-    ap (λ (r : Cell). let op : Op = record { unknown = r; closed = a.closed; set = a.set; clear = a.clear;
-    unsure = a.unsure } in op) u
-    ∙ ap (λ (r : Cell). let op : Op = record { unknown = b.unknown; closed = r; set = a.set; clear = a.clear;
-    unsure = a.unsure } in op) k
-    ∙ ap (λ (r : HeldOp). let op : Op = record { unknown = b.unknown; closed = b.closed; set = r; clear = a.clear;
-    unsure = a.unsure } in op) x
-    ∙ ap (λ (r : HeldOp). let op : Op = record { unknown = b.unknown; closed = b.closed; set = b.set; clear = r;
-    unsure = a.unsure } in op) y
-    ∙ ap (λ (r : HeldOp). let op : Op = record { unknown = b.unknown; closed = b.closed; set = b.set; clear = b.clear;
-    unsure = r } in op) z
+    ap (λ (r : Cell). let op : Op = record {
+      unknown = r;
+      closed = a.closed;
+      set = a.set;
+      clear = a.clear;
+      unsure = a.unsure;
+    } in op) u
+    ∙ ap (λ (r : Cell). let op : Op = record {
+      unknown = b.unknown;
+      closed = r;
+      set = a.set;
+      clear = a.clear;
+      unsure = a.unsure;
+    } in op) k
+    ∙ ap (λ (r : HeldOp). let op : Op = record {
+      unknown = b.unknown;
+      closed = b.closed;
+      set = r;
+      clear = a.clear;
+      unsure = a.unsure;
+    } in op) x
+    ∙ ap (λ (r : HeldOp). let op : Op = record {
+      unknown = b.unknown;
+      closed = b.closed;
+      set = b.set;
+      clear = r;
+      unsure = a.unsure;
+    } in op) y
+    ∙ ap (λ (r : HeldOp). let op : Op = record {
+      unknown = b.unknown;
+      closed = b.closed;
+      set = b.set;
+      clear = b.clear;
+      unsure = r;
+    } in op) z
 
 in_turn-same : (op : Op) → in_turn op same ≡ op
 in_turn-same op = same_parts (in_turn op same) op (applied_same op.unknown) (applied_same op.closed) (held-same op.set)

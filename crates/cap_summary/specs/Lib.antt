@@ -9,6 +9,7 @@ pub mod Images
 pub mod Does
 pub mod Touched
 pub mod Conditions
+pub mod Packed
 pub mod Moved
 pub mod LineConditions
 pub mod Merging

@@ -142,7 +142,7 @@ impl Change {
     }
 
     /// Whether the process of a mode isn't listed.
-    fn leaves_mode(&self, mode: &ModeValue) -> bool
+    pub(crate) fn leaves_mode(&self, mode: &ModeValue) -> bool
         ensures { result ≡ true → (s : State) → read_mode s mode.now ≡ read_mode (changed self.now s) mode.now }
     {
         match mode {
@@ -173,11 +173,7 @@ impl Change {
     }
 
     /// A process that stands behind this change.
-    fn process_under(
-        &self,
-        alloc: Global,
-        process: &Process,
-    ) -> Result<Process, NoMemory>
+    fn process_under(&self, alloc: Global, process: &Process) -> Result<Process, NoMemory>
         ensures { IfOk result (λ new. JoinsProcess self.now process.now new) }
     {
         let (base, first) = self.base_under(alloc, &process.base)?;

@@ -24,6 +24,7 @@ mod line_conditions;
 mod merge;
 mod moved;
 mod node;
+mod packed;
 mod sorted;
 mod step;
 mod summary;
