@@ -22,7 +22,7 @@ pub or_assoc : (x y z : Bool) → ((x || y) || z) ≡ (x || (y || z))
 or_assoc true y z = refl
 or_assoc false y z = refl
 
-or_turned : (x y : Bool) → (x || y) ≡ (y || x)
+pub or_turned : (x y : Bool) → (x || y) ≡ (y || x)
 or_turned true true = refl
 or_turned true false = refl
 or_turned false true = refl

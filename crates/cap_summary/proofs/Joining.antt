@@ -1,6 +1,6 @@
 -- One change after another.
 use Rattle.std.proofs.Common.{◌≡◌, ℕ, Option, Some, None, Bool, true, false, cond, ◌||◌, refl, sym, ap, ◌∙◌}
-use Rattle.std.specs.Prelude.{option_and_then, unwrap_or, is_some}
+use Rattle.std.specs.Prelude.{option_and_then, option_map, unwrap_or, is_some}
 use Rattle.cap_machine.specs.declared.cell.OnExec.TheVariants.{Set, Clear, Unsure}
 use Rattle.cap_machine.specs.declared.cell.Cell.{Cell}
 use Rattle.cap_machine.specs.declared.cell.Cell.TheVariants.{Unknown, Closed, Held}
@@ -53,8 +53,7 @@ closed_stays : (passing : Passing) → applied (passing_op passing) Closed ≡ C
 closed_stays passings.Same = refl
 closed_stays passings.Exec = refl
 
-none_left : (o : Option Value)
-    → (let no : Option Value = None in or_else (option_and_then (λ (v : Value). no) o) no ≡ no)
+none_left : (o : Option Value) → (let no : Option Value = None in option_and_then (λ (v : Value). no) o ≡ no)
 none_left None = refl
 none_left (Some v) = refl
 
@@ -62,7 +61,7 @@ none_left (Some v) = refl
 pub base_joined : (s t : State) (passing : Passing) (q f : ℕ) (now was low : Bool) (o n : Option Value)
     (others first : Others) →
     low ≡ (was || now) →
-    n ≡ or_else (option_and_then (λ (v : Value). cond now None (Some (op_on (passing_op passing) v))) o) None →
+    n ≡ option_and_then (λ (v : Value). cond now None (Some (op_on (passing_op passing) v))) o →
     read_cell s (rest_value others f) ≡ applied (passing_op passing) (read_cell s (rest_value first f)) →
     t.cell q f ≡ read_cell s (unwrap_or o (cond was (value.Fixed Closed) (rest_value first f))) →
     read_cell s (unwrap_or n (cond low (value.Fixed Closed) (rest_value others f)))
@@ -106,12 +105,12 @@ base_alike s t c false n is = ap (λ (r : Option Value). read_cell s (unwrap_or 
 -- what is listed of it stands over what the base has
 pub process_joined : (s : State) (a : Change) (base : Base) (old : Process) (f : ℕ) (first cells : Cells) →
     listed_value cells f
-    ≡ or_else (option_and_then (λ v. Some (under a v)) (listed_value old.cells f)) (listed_value first f) →
+    ≡ or_else (option_map (under a) (listed_value old.cells f)) (listed_value first f) →
     read_cell s (value_at base first f) ≡ read_cell (changed a s) (unlisted old.base f) →
     read_cell s (value_at base cells f) ≡ read_cell (changed a s) (value_in old f)
 process_joined s a base old f first cells is rest = cases (listed_value old.cells f) (listed_value cells f) is
   where
-    cases : (o n : Option Value) → n ≡ or_else (option_and_then (λ v. Some (under a v)) o) (listed_value first f) →
+    cases : (o n : Option Value) → n ≡ or_else (option_map (under a) o) (listed_value first f) →
         read_cell s (unwrap_or n (unlisted base f)) ≡ read_cell (changed a s) (unwrap_or o (unlisted old.base f))
     cases None n is = ap (λ (r : Option Value). read_cell s (unwrap_or r (unlisted base f))) is ∙ rest
     cases (Some v) n is = ap (λ (r : Option Value). read_cell s (unwrap_or r (unlisted base f))) is ∙ read-under s a v

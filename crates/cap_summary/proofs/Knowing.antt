@@ -48,26 +48,26 @@ listed_in_turn true b c x y is left right e = ap (λ r. r || y) (left refl)
 listed_in_turn false b c x y is left right e = ap (λ r. x || r) (right (sym is ∙ e)) ∙ or_true x
 
 pub joined_knows : (a b whole : Known) (met : Bool) (moved : List Condition) (t u : List Step) →
-    JoinsTo a.change.value b.change.value whole.change.value →
-    ((s : State) → (met || any_holds s moved) ≡ any_holds (changed a.change.value s) b.conditions.value.items) →
+    JoinsTo a.change b.change whole.change →
+    ((s : State) → (met || any_holds s moved) ≡ any_holds (changed a.change s) b.conditions) →
     ((s : State)
-    → any_holds s whole.conditions.value.items ≡ (any_holds s a.conditions.value.items || any_holds s moved)) →
+    → any_holds s whole.conditions ≡ (any_holds s a.conditions || any_holds s moved)) →
     whole.always ≡ (a.always || (b.always || met)) →
     Knows a t → Knows b u → Knows whole (t ++ u)
 joined_knows a b whole met moved t u joins behind both always left right = record {
-  ends = λ s. joins.changes s ∙ right.ends (changed a.change.value s) ∙ ap (λ r. ended r u) (left.ends s)
+  ends = λ s. joins.changes s ∙ right.ends (changed a.change s) ∙ ap (λ r. ended r u) (left.ends s)
       ∙ sym (ends_in_turn s t u);
   found = λ s.
-      ap (λ r. r || any_holds s whole.conditions.value.items) always
+      ap (λ r. r || any_holds s whole.conditions) always
       ∙ ap (λ r. (a.always || (b.always || met)) || r) (both s)
-      ∙ shuffled a.always b.always met (any_holds s a.conditions.value.items) (any_holds s moved)
+      ∙ shuffled a.always b.always met (any_holds s a.conditions) (any_holds s moved)
       ∙ ap (λ r. finds a s || (b.always || r)) (behind s)
-      ∙ ap (λ r. r || finds b (changed a.change.value s)) (left.found s)
+      ∙ ap (λ r. r || finds b (changed a.change s)) (left.found s)
       ∙ ap (λ r. has_any (check s t) || r)
-      (right.found (changed a.change.value s) ∙ ap (λ r. has_any (check r u)) (left.ends s))
+      (right.found (changed a.change s) ∙ ap (λ r. has_any (check r u)) (left.ends s))
       ∙ sym (found_in_turn s t u);
   listed = λ p e. list_any-append (λ (step : Step). names_pid p step.line) t u
-      ∙ listed_in_turn (is_listed a.change.value p) (is_listed b.change.value p) (is_listed whole.change.value p)
+      ∙ listed_in_turn (is_listed a.change p) (is_listed b.change p) (is_listed whole.change p)
       (list_any (λ (step : Step). names_pid p step.line) t)
       (list_any (λ (step : Step). names_pid p step.line) u) (joins.listed p) (left.listed p) (right.listed p) e;
 }
@@ -101,16 +101,16 @@ pub named : (step : Step) (p : ℕ) → ((p == step.line.pid) || is_following (t
 named step p is = child_named step p (p == step.line.pid) (item_makes p step.line.item) (own_modes step p) is
 
 pub step_knows : (known : Known) (step : Step) (effect : Effect) (d : Demand) →
-    Does known.change.value effect step.line.pid →
+    Does known.change effect step.line.pid →
     ((p f : ℕ) → effect_touch effect step.line.pid p f ≡ touch step p f)
     → ((p : ℕ) → effect_turn effect step.line.pid p ≡ turn step p) →
     d ≡ demand step.line → known.always ≡ line_always d
-    → known.conditions.value.items ≡ line_conditions d step.line.pid →
+    → known.conditions ≡ line_conditions d step.line.pid →
     Knows known (step ∷ [])
 step_knows known step effect d does cells modes is always conditions = record {
-  ends = effect_ends known.change.value step effect does cells modes;
+  ends = effect_ends known.change step effect does cells modes;
   found = λ s.
-      ap (λ r. r || any_holds s known.conditions.value.items) always
+      ap (λ r. r || any_holds s known.conditions) always
       ∙ ap (λ (r : List Condition). line_always d || any_holds s r) conditions
       ∙ line_holds s step.line.pid d
       ∙ ap (λ (r : Demand). has_any (said_of r step.line.pid s)) is

@@ -1,6 +1,9 @@
 pub mod Bools
-pub mod Walks
+pub mod SortedFound
+pub mod SortedMerging
+pub mod SortedSetting
 pub mod Joining
+pub mod Staying
 pub mod Runs
 pub mod Holding
 pub mod Merging

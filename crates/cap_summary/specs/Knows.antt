@@ -12,15 +12,15 @@ use Rattle.cap_summary.specs.Conditions.{any_holds, has_any}
 
 -- the state that the segment leaves
 abbrev pub state_after : Known → State → State
-state_after known s = changed known.change.value s
+state_after known s = changed known.change s
 
 -- whether something is found in the segment: in any case, or where one of its conditions holds
 abbrev pub finds : Known → State → Bool
-finds known s = known.always || any_holds s known.conditions.value.items
+finds known s = known.always || any_holds s known.conditions
 
 -- a process is listed
 abbrev pub lists : Known → ℕ → Bool
-lists known p = is_listed known.change.value p
+lists known p = is_listed known.change p
 
 -- under every state before the segment: the state after it, each cell and each mode; and whether something is found in
 -- it. A process is listed only where a line names it: as its own, or as the child that a fork made

@@ -1,3 +1,6 @@
+pub mod Sorted
+pub mod Place
+pub mod Shared
 pub mod Steps
 pub mod Values
 pub mod Tables
@@ -6,6 +9,7 @@ pub mod Images
 pub mod Does
 pub mod Touched
 pub mod Conditions
+pub mod Packed
 pub mod Moved
 pub mod LineConditions
 pub mod Merging

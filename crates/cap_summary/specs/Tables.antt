@@ -1,21 +1,40 @@
 -- Tables of cells and of processes, by look-up.
 use Rattle.std.specs.Prelude.{ℕ, Option, Some, None, option_map}
-use Rattle.std.specs.Ordering.{nat_cmp}
 use Rattle.std.specs.declared.rc.Rc.{Rc}
 use Rattle.std.specs.declared.alloc.Global.{Global}
-use Rattle.std.specs.BTreeMap.{get}
+use Rattle.cap_summary.specs.Sorted.{found}
 use Rattle.cap_summary.specs.declared.values.Value.{Value}
+use Rattle.cap_summary.specs.declared.values.Value.TheVariants as value
+use Rattle.cap_summary.specs.declared.kept.Kept.{Kept}
+use Rattle.cap_summary.specs.declared.kept.Kept.TheVariants as kept
 use Rattle.cap_summary.specs.declared.change.Process.{Process}
 use Rattle.cap_summary.specs.declared.tables.Cells.{Cells}
+use Rattle.cap_summary.specs.declared.tables.Listing.{Listing}
 use Rattle.cap_summary.specs.declared.tables.Processes.{Processes}
+
+-- the value that a table keeps, whose op is shared
+abbrev pub kept_value : Kept → Value
+kept_value (kept.Fixed c) = value.Fixed c
+kept_value (kept.Of q g op) = value.Of q g op.value
+
+abbrev pub kept_values : Option Kept → Option Value
+kept_values o = option_map kept_value o
 
 -- the value of a descriptor that is listed
 unfoldable pub listed_value : Cells → ℕ → Option Value
-listed_value cells f = get nat_cmp cells.map f
+listed_value cells f = kept_values (found cells.table f)
+
+-- the same of cells that are being listed
+unfoldable pub value_so_far : Listing → ℕ → Option Value
+value_so_far listing f = kept_values (found listing.builder f)
+
+-- what shared processes are
+abbrev pub processes_shared : Option (Rc Process Global) → Option Process
+processes_shared o = option_map (λ (process : Rc Process Global). process.value) o
 
 -- a process that is listed
 unfoldable pub process_at : Processes → ℕ → Option Process
-process_at processes p = option_map (λ (process : Rc Process Global). process.value) (get nat_cmp processes.map p)
+process_at processes p = processes_shared (found processes.table p)
 
 -- the first where there is one, and else the second
 abbrev pub or_else : {X : Type 0} → Option X → Option X → Option X

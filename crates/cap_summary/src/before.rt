@@ -15,6 +15,7 @@ use crate::change::Change;
 use crate::conditions::{Condition, Refused, Source};
 use crate::effects::{Touched, Turned, touch_of, turn_of};
 use crate::known::Known;
+use crate::packed::Conditions;
 use crate::step::Step;
 use crate::values::{ModeValue, Value};
 use cap_machine::{Cell, Checks, Demand, Effect, Found, Mode, Start, Verdict, rule_of};
@@ -107,11 +108,11 @@ impl<'a> Before<'a> {
         }
     }
 
-    fn any_holds(&self, conditions: &[Condition]) -> bool
+    fn any_holds(&self, conditions: &Conditions) -> bool
         ensures { result ≡ any_holds (state_before self.now) conditions.now }
     {
-        for condition in conditions {
-            if self.holds(condition) {
+        for at in 0..conditions.len() {
+            if self.holds(&conditions.get(at)) {
                 return true;
             }
         }

@@ -1,16 +1,19 @@
 //! What becomes of each cell and mode over a segment.
 
-ghost use Rattle.std.specs.Prelude.{◌≡◌, ℕ, ◌++◌, IfOk, option_and_then};
+ghost use Rattle.std.specs.Prelude.{◌≡◌, ℕ, true, None, IfOk};
+ghost use Rattle.cap_machine.specs.Op.{same};
 ghost use Rattle.cap_machine.specs.State.{State};
 ghost use Rattle.cap_summary.specs.Values.{read_cell, read_mode, unlisted};
 ghost use Rattle.cap_summary.specs.Changes.{value_at, value_in, value_of, mode_of, changed, JoinsProcess, JoinsTo};
-ghost use Rattle.cap_summary.specs.Images.{under, image_of};
+ghost use Rattle.cap_summary.specs.Images.{under};
+ghost use Rattle.cap_summary.specs.Tables.{process_at};
 
 use crate::tables::{Cells, Processes};
-use crate::values::{Base, ModeValue, Others, Passing, Value, is_closed, lower_of, same_op};
+use crate::values::{Base, ModeValue, Others, Value, lower_of, same_op};
 use cap_trace::{Fd, Pid};
 use cap_tree::NoMemory;
 use std::alloc::Global;
+use std::rc::Rc;
 
 /// What has become of a process: its listed cells, all its others, and its mode.
 #[derive(Drop)]
@@ -26,28 +29,39 @@ pub struct Change {
     pub(crate) processes: Processes,
 }
 
-/// What becomes of listed values.
-#[derive(Clone, Copy)]
-pub(crate) enum Image<'a> {
-    /// They stand behind this change.
-    Under(&'a Change),
-    /// They are handed on, those below a descriptor from which cells are closed.
-    Passed(Passing, Option<Fd>),
-}
-
 impl Process {
     /// The cell of a descriptor.
     pub(crate) fn value(&self, fd: Fd) -> Value
         ensures { result ≡ value_in self.now fd }
     {
         match self.cells.get(fd) {
-            Some(value) => *value,
+            Some(value) => value,
             None => self.base.value(fd),
         }
     }
 }
 
 impl Process {
+    /// Whether a cell of the process with this pid is as it was. No is a safe answer.
+    fn leaves(&self, pid: Pid, fd: Fd) -> bool
+        ensures { result ≡ true → value_in self.now fd ≡ Value.Of pid fd same }
+    {
+        self.cells.get(fd).is_none() && self.base.leaves(pid, fd)
+    }
+
+    /// Whether it stands behind a change as it is. No is a safe answer.
+    pub(crate) fn stays_behind(&self, change: &Change) -> bool
+        ensures { result ≡ true → JoinsProcess change.now self.now self.now }
+    {
+        if !change.leaves_base(&self.base) {
+            return false;
+        }
+        if !change.leaves_mode(&self.mode) {
+            return false;
+        }
+        self.cells.stay_behind(change)
+    }
+
     /// How many cells of another process it copies where it stands behind a change.
     pub(crate) fn copied(&self, pid: Pid, change: &Change) -> usize {
         let Others::Of(source, _) = self.base.others else {
@@ -85,23 +99,6 @@ impl Change {
     }
 }
 
-impl<'a> Image<'a> {
-    /// What becomes of the value of a descriptor; none where it is closed.
-    pub(crate) fn of(&self, fd: Fd, value: &Value) -> Option<Value>
-        ensures { result ≡ image_of self.now fd value.now }
-    {
-        match self {
-            Image::Under(change) => Some(change.under(value)),
-            Image::Passed(passing, closed_from) => {
-                if is_closed(*closed_from, fd) {
-                    return None;
-                }
-                Some(value.after(&passing.op()))
-            }
-        }
-    }
-}
-
 impl Change {
     /// A value that stands behind this change.
     pub(crate) fn under(&self, value: &Value) -> Value
@@ -123,19 +120,48 @@ impl Change {
         }
     }
 
+    /// Whether a cell is as it was. No is a safe answer.
+    pub(crate) fn leaves(&self, pid: Pid, fd: Fd) -> bool
+        ensures { result ≡ true → value_of self.now pid fd ≡ Value.Of pid fd same }
+    {
+        match self.processes.get(pid) {
+            Some(process) => process.leaves(pid, fd),
+            None => true,
+        }
+    }
+
+    /// Whether the process of a base isn't listed.
+    fn leaves_base(&self, base: &Base) -> bool
+        ensures { result ≡ true
+            → (s : State) (f : ℕ) → read_cell s (unlisted base.now f) ≡ read_cell (changed self.now s) (unlisted base.now f) }
+    {
+        match base.others {
+            Others::Alike(_) => true,
+            Others::Of(pid, _) => self.processes.get(pid).is_none(),
+        }
+    }
+
+    /// Whether the process of a mode isn't listed.
+    pub(crate) fn leaves_mode(&self, mode: &ModeValue) -> bool
+        ensures { result ≡ true → (s : State) → read_mode s mode.now ≡ read_mode (changed self.now s) mode.now }
+    {
+        match mode {
+            ModeValue::Fixed(_) => true,
+            ModeValue::Of(pid) => self.processes.get(*pid).is_none(),
+        }
+    }
+
     /// The cells of a base that stands behind this change.
     fn base_under(&self, alloc: Global, base: &Base) -> Result<(Base, Cells), NoMemory>
         ensures { IfOk result (λ r. (s : State) (f : ℕ)
             → read_cell s (value_at r.0 r.1 f) ≡ read_cell (changed self.now s) (unlisted base.now f)) }
     {
-        let mut cells = Cells::new(alloc);
         match base.others {
-            Others::Alike(_) => Ok((*base, cells)),
+            Others::Alike(_) => Ok((*base, Cells::new())),
             Others::Of(pid, passing) => match self.processes.get(pid) {
-                None => Ok((*base, cells)),
+                None => Ok((*base, Cells::new())),
                 Some(process) => {
-                    let image = Image::Passed(passing, base.closed_from);
-                    cells.set_all(&process.cells, &image)?;
+                    let cells = process.cells.handed_on(alloc, passing, base.closed_from)?;
                     let new = Base {
                         others: process.base.others.passed(passing),
                         closed_from: lower_of(process.base.closed_from, base.closed_from),
@@ -147,15 +173,11 @@ impl Change {
     }
 
     /// A process that stands behind this change.
-    pub(crate) fn process_under(
-        &self,
-        alloc: Global,
-        process: &Process,
-    ) -> Result<Process, NoMemory>
+    fn process_under(&self, alloc: Global, process: &Process) -> Result<Process, NoMemory>
         ensures { IfOk result (λ new. JoinsProcess self.now process.now new) }
     {
-        let (base, mut cells) = self.base_under(alloc, &process.base)?;
-        cells.set_all(&process.cells, &Image::Under(self))?;
+        let (base, first) = self.base_under(alloc, &process.base)?;
+        let cells = first.under(alloc, &process.cells, self)?;
         Ok(Process {
             base,
             mode: self.mode_under(&process.mode),
@@ -163,12 +185,30 @@ impl Change {
         })
     }
 
-    /// What this change and then another do.
+    /// The same, shared where it stays as it is.
+    pub(crate) fn shared_under(
+        &self,
+        alloc: Global,
+        process: &Rc<Process>,
+    ) -> Result<Rc<Process>, NoMemory>
+        ensures { IfOk result (λ new. JoinsProcess self.now process.now.value new.value) }
+    {
+        if process.stays_behind(self) {
+            return Ok(process.clone()?);
+        }
+        let new = self.process_under(alloc, process)?;
+        Ok(Rc::new(alloc, new)?)
+    }
+
+    /// What this change and then another do. What the one leaves of the other as it is, is shared.
     pub(crate) fn join(&self, alloc: Global, then: &Change) -> Result<Change, NoMemory>
         ensures { IfOk result (λ whole. JoinsTo self.now then.now whole) }
     {
-        let mut processes = self.processes.copy()?;
-        processes.set_all(alloc, &then.processes, self)?;
+        if self.processes.is_empty() {
+            let processes = then.processes.share()?;
+            return Ok(Change { processes });
+        }
+        let processes = self.processes.under(alloc, &then.processes, self)?;
         Ok(Change { processes })
     }
 }

@@ -1,12 +1,12 @@
 //! Conditions on the state before a segment, under which something is found in it.
 
-ghost use Rattle.std.specs.Prelude.{◌≡◌, ℕ, ◌∷◌, ◌++◌, [], OnOk, true, false};
+ghost use Rattle.std.specs.Prelude.{◌≡◌, ℕ, ◌||◌, true, false};
+ghost use Rattle.cap_machine.specs.declared.cell.Cell.{Cell};
 ghost use Rattle.cap_summary.specs.Conditions.{passes_held, held_test, passes, masked_before, held_before, before};
 
 use cap_machine::{Cell, HeldOp, OnExec, Op};
 use cap_rights::RightSet;
 use cap_trace::{Fd, Pid};
-use cap_tree::NoMemory;
 
 /// The held rights against which something is said.
 #[derive(Clone, Copy)]
@@ -81,6 +81,19 @@ impl HeldTest {
             HeldTest::Always => true,
             HeldTest::Lacks(needs) => !rights.has_all(needs),
             HeldTest::Has(excuse) => rights.has_all(excuse),
+        }
+    }
+
+    /// Whether rights that pass another test pass this one. No is a safe answer.
+    #[tactic(auto, using(crate::proofs::Bools::or_false, crate::proofs::Merging::lacks_more))]
+    fn covers(&self, other: &HeldTest) -> bool
+        ensures { result ≡ true → (r : ℕ) → passes_held self.now r ≡ (passes_held self.now r || passes_held other.now r) }
+    {
+        match (self, other) {
+            (_, HeldTest::Never) => true,
+            (HeldTest::Always, _) => true,
+            (HeldTest::Lacks(a), HeldTest::Lacks(b)) => a.has_all(b),
+            _ => false,
         }
     }
 
@@ -164,6 +177,22 @@ impl CellTest {
         }
     }
 
+    /// Whether each cell that passes another test passes this one. No is a safe answer.
+    #[tactic(auto, using(crate::proofs::Merging::covers_all))]
+    pub(crate) fn covers(&self, other: &CellTest) -> bool
+        ensures { result ≡ true → (c : Cell) → passes self.now c ≡ (passes self.now c || passes other.now c) }
+    {
+        if other.unknown && !self.unknown {
+            return false;
+        }
+        if other.closed && !self.closed {
+            return false;
+        }
+        self.set.covers(&other.set)
+            && self.clear.covers(&other.clear)
+            && self.unsure.covers(&other.unsure)
+    }
+
     /// No cell passes.
     #[tactic(auto, using(crate::proofs::Holding::never_passes))]
     pub(crate) fn is_empty(&self) -> bool
@@ -180,25 +209,4 @@ impl CellTest {
             _ => false,
         }
     }
-}
-
-/// Adds a condition.
-pub(crate) fn put(conditions: &mut Vec<Condition>, condition: &Condition) -> Result<(), NoMemory>
-    ensures { OnOk result (conditions.new.items ≡ conditions.old.items ++ condition.now ∷ []) }
-{
-    let condition = match condition {
-        Condition::Cell(source) => {
-            let test = &source.test;
-            Condition::Cell(Source {
-                pid: source.pid,
-                fd: source.fd,
-                test: *test,
-            })
-        }
-        Condition::Inside(pid) => Condition::Inside(*pid),
-        Condition::Outside(pid) => Condition::Outside(*pid),
-        Condition::Refused(refused) => Condition::Refused(*refused),
-    };
-    conditions.push(condition)?;
-    Ok(())
 }

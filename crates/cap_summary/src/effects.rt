@@ -13,7 +13,7 @@ ghost use Rattle.cap_summary.specs.Does.{Does};
 ghost use Rattle.cap_summary.specs.Touched.{touch_seen, turn_seen};
 
 use crate::change::{Change, Process};
-use crate::tables::{Cells, Processes};
+use crate::tables::{Cells, Listing, Processes};
 use crate::values::{Base, ModeValue, Passing, Value, same_op};
 use cap_machine::{Cell, Effect, Mode, OnExec, Op};
 use cap_rights::RightSet;
@@ -23,55 +23,73 @@ use std::alloc::Global;
 
 impl Process {
     /// No cell is listed.
-    fn over(alloc: Global, base: Base, mode: ModeValue) -> Process
+    fn over(base: Base, mode: ModeValue) -> Process
         ensures cells { (f : ℕ) → value_in result f ≡ unlisted base f }
         ensures mode { result.mode ≡ mode }
     {
         Process {
             base,
             mode,
-            cells: Cells::new(alloc),
+            cells: Cells::new(),
         }
     }
 
     /// A process as it was.
-    fn kept(alloc: Global, pid: Pid) -> Process
+    fn kept(pid: Pid) -> Process
         ensures cells { (f : ℕ) → value_in result f ≡ Value.Of pid f same }
         ensures mode { result.mode ≡ ModeValue.Of pid }
     {
-        Process::over(alloc, Base::of(pid, Passing::Same), ModeValue::Of(pid))
+        Process::over(Base::of(pid, Passing::Same), ModeValue::Of(pid))
     }
 
-    /// The process with one value written.
-    fn with(self, fd: Fd, value: &Value) -> Result<Process, NoMemory>
+    /// A process as it was, but for one cell.
+    fn with(alloc: Global, pid: Pid, fd: Fd, value: &Value) -> Result<Process, NoMemory>
         ensures cells { IfOk result
-            (λ new. (f : ℕ) → value_in new f ≡ (if f == fd then value.now else value_in self f)) }
-        ensures mode { IfOk result (λ new. new.mode ≡ self.mode) }
+            (λ new. (f : ℕ) → value_in new f ≡ (if f == fd then value.now else Value.Of pid f same)) }
+        ensures mode { IfOk result (λ new. new.mode ≡ ModeValue.Of pid) }
     {
-        let mut new = self;
-        new.cells.set(fd, value)?;
-        Ok(new)
+        let mut listing = Listing::new(alloc);
+        listing.set(alloc, fd, value)?;
+        let cells = listing.finish()?;
+        Ok(Process {
+            base: Base::of(pid, Passing::Same),
+            mode: ModeValue::Of(pid),
+            cells,
+        })
+    }
+
+    /// A process as it was, but for two cells, which are alike.
+    fn with_two(
+        alloc: Global,
+        pid: Pid,
+        first: Fd,
+        second: Fd,
+        value: &Value,
+    ) -> Result<Process, NoMemory>
+        ensures cells { IfOk result (λ new. (f : ℕ) → value_in new f
+            ≡ (if f == second then value.now else (if f == first then value.now else Value.Of pid f same))) }
+        ensures mode { IfOk result (λ new. new.mode ≡ ModeValue.Of pid) }
+    {
+        let mut listing = Listing::new(alloc);
+        listing.set(alloc, first, value)?;
+        listing.set(alloc, second, value)?;
+        let cells = listing.finish()?;
+        Ok(Process {
+            base: Base::of(pid, Passing::Same),
+            mode: ModeValue::Of(pid),
+            cells,
+        })
     }
 }
 
 impl Change {
     /// Nothing changes. It takes no memory.
-    pub(crate) fn nothing(alloc: Global) -> Change
+    pub(crate) fn nothing() -> Change
         ensures { (p : ℕ) → process_at result.processes p ≡ None }
     {
         Change {
-            processes: Processes::new(alloc),
+            processes: Processes::new(),
         }
-    }
-
-    /// The change with one process written.
-    fn and(self, alloc: Global, pid: Pid, process: Process) -> Result<Change, NoMemory>
-        ensures { IfOk result (λ new. (p : ℕ)
-            → process_at new.processes p ≡ (if p == pid then Some process else process_at self.processes p)) }
-    {
-        let mut new = self;
-        new.processes.set(alloc, pid, process)?;
-        Ok(new)
     }
 
     /// One process changes.
@@ -79,7 +97,8 @@ impl Change {
         ensures { IfOk result
             (λ new. (p : ℕ) → process_at new.processes p ≡ (if p == pid then Some process else None)) }
     {
-        Change::nothing(alloc).and(alloc, pid, process)
+        let processes = Processes::one(alloc, pid, process)?;
+        Ok(Change { processes })
     }
 
     /// No cell of a process is listed.
@@ -90,7 +109,7 @@ impl Change {
             (λ change. (p : ℕ) → mode_of change p ≡ (if p == me then mode else ModeValue.Of p)) }
         ensures listed { IfOk result (λ change. (p : ℕ) → is_listed change p ≡ (p == me)) }
     {
-        let change = Change::only(alloc, me, Process::over(alloc, base, mode))?;
+        let change = Change::only(alloc, me, Process::over(base, mode))?;
         Ok(change)
     }
 
@@ -105,8 +124,7 @@ impl Change {
         ensures { IfOk result (λ change. Does change (Effect.GiveTwo first second cell) me) }
     {
         let value = Value::Fixed(cell);
-        let one = Process::kept(alloc, me).with(first, &value)?;
-        let both = one.with(second, &value)?;
+        let both = Process::with_two(alloc, me, first, second, &value)?;
         let change = Change::only(alloc, me, both)?;
         Ok(change)
     }
@@ -115,7 +133,7 @@ impl Change {
     fn taken(alloc: Global, me: Pid, to: Fd, op: &Op, from: Fd) -> Result<Change, NoMemory>
         ensures { IfOk result (λ change. Does change (Effect.Change to op.now from) me) }
     {
-        let process = Process::kept(alloc, me).with(to, &Value::Of(me, from, *op))?;
+        let process = Process::with(alloc, me, to, &Value::Of(me, from, *op))?;
         let change = Change::only(alloc, me, process)?;
         Ok(change)
     }
@@ -127,7 +145,7 @@ impl Change {
     {
         let kept = Base::of(me, Passing::Same);
         match effect {
-            Effect::Keep => Ok(Change::nothing(alloc)),
+            Effect::Keep => Ok(Change::nothing()),
             Effect::Enter => Change::whole(alloc, me, kept, ModeValue::Fixed(Mode::Inside)),
             Effect::Start(fds) => {
                 let held = Value::Fixed(Cell::Held(RightSet::all(), OnExec::Unsure));
@@ -148,12 +166,12 @@ impl Change {
                 Change::whole(alloc, me, Base::closed_from(me, *fd), ModeValue::Of(me))
             }
             Effect::Give(fd, cell) => {
-                let process = Process::kept(alloc, me).with(*fd, &Value::Fixed(*cell))?;
+                let process = Process::with(alloc, me, *fd, &Value::Fixed(*cell))?;
                 Change::only(alloc, me, process)
             }
             Effect::GiveTwo(a, b, cell) => Change::given_two(alloc, me, *a, *b, *cell),
             Effect::Change(to, op, from) => Change::taken(alloc, me, *to, op, *from),
-            Effect::Fork(child) => Change::only(alloc, *child, Process::kept(alloc, me)),
+            Effect::Fork(child) => Change::only(alloc, *child, Process::kept(me)),
             Effect::ForkAs(child, fd) => Change::forked(alloc, me, *child, *fd),
         }
     }
@@ -167,9 +185,10 @@ impl Change {
         ensures listed { IfOk result (λ change. (p : ℕ) → is_listed change p ≡ (p == child || p == me)) }
     {
         let unknown = Value::Fixed(Cell::Unknown);
-        let parent = Process::kept(alloc, me).with(fd, &unknown)?;
-        let made = Process::kept(alloc, me).with(fd, &unknown)?;
-        Change::only(alloc, me, parent)?.and(alloc, child, made)
+        let parent = Process::with(alloc, me, fd, &unknown)?;
+        let made = Process::with(alloc, me, fd, &unknown)?;
+        let processes = Processes::two(alloc, me, parent, child, made)?;
+        Ok(Change { processes })
     }
 }
 
@@ -274,13 +293,13 @@ fn started(alloc: Global, fds: &[Fd], held: &Value) -> Result<Process, NoMemory>
     ensures cells { IfOk result (λ process. (f : ℕ) → value_in process f ≡ Value.Fixed (started_cell fds.now f)) }
     ensures mode { IfOk result (λ process. process.mode ≡ ModeValue.Fixed Mode.Outside) }
 {
-    let mut cells = Cells::new(alloc);
+    let mut listing = Listing::new(alloc);
     for fd in fds {
-        cells.set(*fd, held)?;
+        listing.set(alloc, *fd, held)?;
     }
     Ok(Process {
         base: Base::alike(Cell::Closed),
         mode: ModeValue::Fixed(Mode::Outside),
-        cells,
+        cells: listing.finish()?,
     })
 }

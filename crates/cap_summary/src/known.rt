@@ -8,15 +8,14 @@ ghost use Rattle.cap_summary.specs.Knows.{Knows, finds, state_after};
 
 use crate::before::Before;
 use crate::change::Change;
-use crate::conditions::Condition;
 use crate::line_conditions::{always, conditions_of};
 use crate::merge::merged;
+use crate::packed::Conditions;
 use crate::step::Step as SharedStep;
 use cap_machine::{Cell, Mode, Start, rule_of};
 use cap_trace::{Fd, Pid};
 use cap_tree::NoMemory;
 use std::alloc::Global;
-use std::rc::Rc;
 
 /// The most conditions, processes and cells that a segment of many steps lists.
 const LARGE: usize = 40_000;
@@ -24,9 +23,9 @@ const LARGE: usize = 40_000;
 /// What a segment does, and under which conditions on the state before it something is found in it.
 #[derive(Drop)]
 pub struct Known {
-    pub(crate) change: Rc<Change>,
+    pub(crate) change: Change,
     pub(crate) always: bool,
-    pub(crate) conditions: Rc<Vec<Condition>>,
+    pub(crate) conditions: Conditions,
 }
 
 fn one_of(a: bool, b: bool, c: bool) -> bool
@@ -37,14 +36,14 @@ fn one_of(a: bool, b: bool, c: bool) -> bool
 
 impl Known {
     /// No step.
-    pub(crate) fn empty(alloc: Global) -> Result<Known, NoMemory>
-        ensures { IfOk result (λ known. Knows known []) }
+    pub(crate) fn empty() -> Known
+        ensures { Knows result [] }
     {
-        Ok(Known {
-            change: Rc::new(alloc, Change::nothing(alloc))?,
+        Known {
+            change: Change::nothing(),
             always: false,
-            conditions: Rc::new(alloc, Vec::new(alloc))?,
-        })
+            conditions: Conditions::none(),
+        }
     }
 
     /// One step.
@@ -56,9 +55,9 @@ impl Known {
         let change = Change::of_effect(alloc, line.pid, &rule.effect)?;
         let conditions = conditions_of(alloc, line.pid, &rule.demand)?;
         Ok(Known {
-            change: Rc::new(alloc, change)?,
+            change,
             always: always(&rule.demand),
-            conditions: Rc::new(alloc, conditions)?,
+            conditions,
         })
     }
 
@@ -84,9 +83,9 @@ impl Known {
         let (met, moved) = a.change.behind(alloc, &b.conditions)?;
         let conditions = merged(alloc, &a.conditions, &moved)?;
         Ok(Known {
-            change: Rc::new(alloc, change)?,
+            change,
             always: one_of(a.always, b.always, met),
-            conditions: Rc::new(alloc, conditions)?,
+            conditions,
         })
     }
 
@@ -102,7 +101,7 @@ impl Known {
         ensures { result ≡ (state_after self.now (start_state start.now)).cell pid fd }
     {
         let before = Before::At(&*start);
-        Before::After(&before, &*self.change).cell(pid, fd)
+        Before::After(&before, &self.change).cell(pid, fd)
     }
 
     /// What is known of the mode of a process after the steps, from a start.
@@ -110,6 +109,6 @@ impl Known {
         ensures { result ≡ (state_after self.now (start_state start.now)).mode pid }
     {
         let before = Before::At(&*start);
-        Before::After(&before, &*self.change).mode(pid)
+        Before::After(&before, &self.change).mode(pid)
     }
 }

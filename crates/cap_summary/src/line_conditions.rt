@@ -4,7 +4,8 @@ ghost use Rattle.std.specs.Prelude.{◌≡◌, ◌∷◌, ◌++◌, [], IfOk};
 ghost use Rattle.cap_summary.specs.LineConditions.{need_of, excused_of, success_conditions, refused_of};
 ghost use Rattle.cap_summary.specs.LineConditions.{line_conditions, line_always};
 
-use crate::conditions::{CellTest, Condition, HeldTest, Refused, Source, put};
+use crate::conditions::{CellTest, Condition, HeldTest, Refused, Source};
+use crate::packed::{Conditions, NewConditions};
 use cap_machine::{Check, Checks, Class, Demand, Reply};
 use cap_rights::RightSet;
 use cap_trace::{Fd, Pid};
@@ -46,26 +47,22 @@ fn excused(me: Pid, fd: Fd, excuse: &RightSet) -> Source
 }
 
 /// The conditions of a call that succeeded.
-fn conditions_of_success(
-    alloc: Global,
-    me: Pid,
-    demand: &Demand,
-) -> Result<Vec<Condition>, NoMemory>
-    ensures { IfOk result (λ conditions. conditions.items ≡ success_conditions demand.now me) }
+fn conditions_of_success(alloc: Global, me: Pid, demand: &Demand) -> Result<Conditions, NoMemory>
+    ensures { IfOk result (λ conditions. conditions ≡ success_conditions demand.now me) }
 {
-    let mut conditions = Vec::new(alloc);
+    let mut conditions = NewConditions::with_room(alloc, 0)?;
     if demand.class == Class::Forbidden {
-        put(&mut conditions, &Condition::Inside(me))?;
+        conditions.put(alloc, &Condition::Inside(me))?;
     }
     match &demand.checks {
         Checks::Nothing => {}
-        Checks::One(a) => put(&mut conditions, &need(me, a))?,
+        Checks::One(a) => conditions.put(alloc, &need(me, a))?,
         Checks::Two(a, b) => {
-            put(&mut conditions, &need(me, a))?;
-            put(&mut conditions, &need(me, b))?;
+            conditions.put(alloc, &need(me, a))?;
+            conditions.put(alloc, &need(me, b))?;
         }
     }
-    Ok(conditions)
+    conditions.finish()
 }
 
 /// The condition of a call that was refused for lack of rights.
@@ -105,31 +102,21 @@ pub(crate) fn always(demand: &Demand) -> bool
 }
 
 /// The conditions of a line.
-pub(crate) fn conditions_of(
-    alloc: Global,
-    me: Pid,
-    demand: &Demand,
-) -> Result<Vec<Condition>, NoMemory>
-    ensures { IfOk result (λ conditions. conditions.items ≡ line_conditions demand.now me) }
+pub(crate) fn conditions_of(alloc: Global, me: Pid, demand: &Demand) -> Result<Conditions, NoMemory>
+    ensures { IfOk result (λ conditions. conditions ≡ line_conditions demand.now me) }
 {
-    let mut conditions = Vec::new(alloc);
     match demand.reply {
-        Reply::Success => {
-            let all = conditions_of_success(alloc, me, demand)?;
-            Ok(all)
-        }
-        Reply::NotCapable => {
-            if let Some(refused) = refusal_of(me, demand) {
-                conditions.push(Condition::Refused(refused))?;
-            }
-            Ok(conditions)
-        }
+        Reply::Success => conditions_of_success(alloc, me, demand),
+        Reply::NotCapable => match refusal_of(me, demand) {
+            Some(refused) => Conditions::one(alloc, &Condition::Refused(refused)),
+            None => Ok(Conditions::none()),
+        },
         Reply::NotPermitted => {
-            if demand.class != Class::Allowed {
-                conditions.push(Condition::Outside(me))?;
+            if demand.class == Class::Allowed {
+                return Ok(Conditions::none());
             }
-            Ok(conditions)
+            Conditions::one(alloc, &Condition::Outside(me))
         }
-        Reply::Other => Ok(conditions),
+        Reply::Other => Ok(Conditions::none()),
     }
 }

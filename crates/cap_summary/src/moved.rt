@@ -1,6 +1,6 @@
 //! What becomes of conditions behind a change.
 
-ghost use Rattle.std.specs.Prelude.{◌≡◌, ◌||◌, ◌++◌, ◌∷◌, [], IfOk, IfSome, IfNone, false};
+ghost use Rattle.std.specs.Prelude.{◌≡◌, ◌<◌, ◌||◌, length, slice_index_or, IfOk, IfSome, IfNone, true, false};
 ghost use Rattle.cap_machine.specs.State.{State};
 ghost use Rattle.cap_summary.specs.Changes.{changed};
 ghost use Rattle.cap_summary.specs.Conditions.{source_holds, part_holds, outside_holds, refused_holds, holds};
@@ -8,7 +8,8 @@ ghost use Rattle.cap_summary.specs.Conditions.{any_holds};
 ghost use Rattle.cap_summary.specs.Moved.{moved_holds, moved_source_holds};
 
 use crate::change::Change;
-use crate::conditions::{Condition, Refused, Source, put};
+use crate::conditions::{Condition, Refused, Source};
+use crate::packed::{Conditions, NewConditions};
 use crate::values::{ModeValue, Value};
 use cap_machine::Mode;
 use cap_trace::Pid;
@@ -133,24 +134,112 @@ impl Change {
         }
     }
 
-    /// The conditions behind this change, and whether one of them holds in any case.
+    /// Whether a part of a refusal stands behind this change as it is. No is a safe answer.
+    #[tactic(auto, using(crate::proofs::Holding::source_stays))]
+    fn leaves_part(&self, part: &Option<Source>) -> bool
+        ensures { result ≡ true → (s : State) → part_holds (changed self.now s) part.now ≡ part_holds s part.now }
+    {
+        match part {
+            Some(source) => self.leaves(source.pid, source.fd),
+            None => true,
+        }
+    }
+
+    /// The same of the process that has to be outside.
+    fn leaves_outside(&self, mode: Option<Pid>) -> bool
+        ensures { result ≡ true → (s : State) → outside_holds (changed self.now s) mode ≡ outside_holds s mode }
+    {
+        match mode {
+            Some(pid) => self.leaves_mode(&ModeValue::Of(pid)),
+            None => true,
+        }
+    }
+
+    /// The same of a refusal.
+    fn leaves_refused(&self, refused: &Refused) -> bool
+        ensures { result ≡ true → (s : State) → refused_holds (changed self.now s) refused.now ≡ refused_holds s refused.now }
+    {
+        if !self.leaves_outside(refused.mode) {
+            return false;
+        }
+        if !self.leaves_part(&refused.first) {
+            return false;
+        }
+        self.leaves_part(&refused.second)
+    }
+
+    /// The same of a condition.
+    #[tactic(auto, using(crate::proofs::Holding::source_stays))]
+    fn leaves_condition(&self, condition: &Condition) -> bool
+        ensures { result ≡ true → (s : State) → holds (changed self.now s) condition.now ≡ holds s condition.now }
+    {
+        match condition {
+            Condition::Cell(source) => self.leaves(source.pid, source.fd),
+            Condition::Inside(pid) => self.leaves_mode(&ModeValue::Of(*pid)),
+            Condition::Outside(pid) => self.leaves_mode(&ModeValue::Of(*pid)),
+            Condition::Refused(refused) => self.leaves_refused(refused),
+        }
+    }
+
+    /// The same of all conditions.
+    fn leaves_all(&self, conditions: &Conditions) -> bool
+        ensures { result ≡ true → (s : State) → any_holds (changed self.now s) conditions.now ≡ any_holds s conditions.now }
+    {
+        for at in 0..conditions.len() {
+            if !self.leaves_condition(&conditions.get(at)) {
+                return false;
+            }
+        }
+        true
+    }
+
+    /// Adds what becomes of the condition at a place behind this change, and answers whether it holds in any case.
+    fn put_behind(
+        &self,
+        alloc: Global,
+        conditions: &Conditions,
+        at: usize,
+        left: &mut NewConditions,
+    ) -> Result<bool, NoMemory>
+        requires { at < length conditions.now }
+        ensures { IfOk result (λ always. (d : Condition) (s : State) → (always || any_holds s left.new)
+            ≡ (any_holds s left.old || holds (changed self.now s) (slice_index_or conditions.now at d))) }
+    {
+        let condition = conditions.get(at);
+        if self.leaves_condition(&condition) {
+            left.copy(conditions, at)?;
+            return Ok(false);
+        }
+        match self.moved(&condition) {
+            Moved::Never => Ok(false),
+            Moved::Always => Ok(true),
+            Moved::To(new) => {
+                left.put(alloc, &new)?;
+                Ok(false)
+            }
+        }
+    }
+
+    /// The conditions behind this change, and whether one of them holds in any case. Those that stay as they are are
+    /// shared.
     pub(crate) fn behind(
         &self,
         alloc: Global,
-        conditions: &[Condition],
-    ) -> Result<(bool, Vec<Condition>), NoMemory>
+        conditions: &Conditions,
+    ) -> Result<(bool, Conditions), NoMemory>
         ensures { IfOk result
-            (λ r. (s : State) → (r.0 || any_holds s r.1.items) ≡ any_holds (changed self.now s) conditions.now) }
+            (λ r. (s : State) → (r.0 || any_holds s r.1) ≡ any_holds (changed self.now s) conditions.now) }
     {
+        if self.leaves_all(conditions) {
+            return Ok((false, conditions.share()?));
+        }
         let mut always = false;
-        let mut left = Vec::new(alloc);
-        for condition in conditions {
-            match self.moved(condition) {
-                Moved::Never => {}
-                Moved::Always => always = true,
-                Moved::To(new) => put(&mut left, &new)?,
+        let mut left = NewConditions::with_room(alloc, conditions.len())?;
+        for at in 0..conditions.len() {
+            if self.put_behind(alloc, conditions, at, &mut left)? {
+                always = true;
             }
         }
-        Ok((always, left))
+        Ok((always, left.finish()?))
     }
 }

@@ -159,7 +159,7 @@ impl Node {
     pub(crate) fn empty(alloc: Global) -> Result<Rc<Node>, NoMemory>
         ensures { IfOk result (λ n. n.value ≡ []) }
     {
-        let known = Known::empty(alloc)?;
+        let known = Known::empty();
         let node = Node {
             len: 0,
             known: Some(known),
@@ -222,7 +222,7 @@ impl Node {
             return match rest {
                 Rest::End => Ok(()),
                 Rest::Then(node, rest) => node.resolve(
-                    &Before::After(&*before, &*known.change),
+                    &Before::After(&*before, &known.change),
                     at + self.len,
                     rest,
                     asked,

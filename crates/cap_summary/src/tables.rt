@@ -1,96 +1,231 @@
 //! Tables of cells and of processes. No other module knows how they are kept: each call here says what its look-ups
-//! answer.
+//! answer. A table never changes, and what a call leaves as it was is shared.
 
-ghost use Rattle.std.specs.Prelude.{◌≡◌, ℕ, ◌==◌, if◌then◌else◌, None, Some, OnOk, IfOk, option_and_then};
+ghost use Rattle.std.specs.Prelude.{◌≡◌, ℕ, ◌==◌, if◌then◌else◌, None, Some, true, OnOk, IfOk};
+ghost use Rattle.std.specs.Prelude.{option_map, option_and_then};
 ghost use Rattle.std.specs.Option.{option_copied};
-ghost use Rattle.std.specs.Ordering.{nat_cmp};
-ghost use Rattle.std.specs.BTreeMap.{Updates};
-ghost use Rattle.cap_summary.specs.Tables.{listed_value, process_at, or_else};
+ghost use Rattle.cap_summary.specs.Tables.{listed_value, value_so_far, process_at, or_else};
 ghost use Rattle.cap_summary.specs.Changes.{JoinsListed};
-ghost use Rattle.cap_summary.specs.Images.{image_of};
+ghost use Rattle.cap_summary.specs.Images.{under, passed_on};
 
-use crate::change::{Change, Image, Process};
-use crate::values::Value;
+use crate::change::{Change, Process};
+use crate::kept::{Handing, Joining, Kept, Moving};
+use crate::sorted::{Builder, Table, merge};
+use crate::values::{Passing, Value};
 use cap_trace::{Fd, Pid};
 use cap_tree::NoMemory;
 use std::alloc::Global;
-use std::collections::BTreeMap;
 use std::rc::Rc;
 
 /// Cells of a process by descriptor.
 #[derive(Drop)]
 pub struct Cells {
-    map: BTreeMap<Fd, Value>,
+    table: Table<Kept>,
+}
+
+/// Cells that are being listed.
+#[derive(Drop)]
+pub(crate) struct Listing {
+    builder: Builder<Kept>,
 }
 
 /// Processes by pid, each shared.
 #[derive(Drop)]
 pub struct Processes {
-    map: BTreeMap<Pid, Rc<Process>>,
+    table: Table<Rc<Process>>,
+}
+
+impl Listing {
+    /// No cell.
+    #[tactic(auto, unfolding(crate::specs::Tables::value_so_far))]
+    pub(crate) fn new(alloc: Global) -> Listing
+        ensures { (f : ℕ) → value_so_far result f ≡ None }
+    {
+        Listing {
+            builder: Builder::new(alloc),
+        }
+    }
+
+    /// Lists a value.
+    #[tactic(auto, unfolding(crate::specs::Tables::value_so_far))]
+    pub(crate) fn set(&mut self, alloc: Global, fd: Fd, value: &Value) -> Result<(), NoMemory>
+        ensures { OnOk result
+            ((f : ℕ) → value_so_far self.new f ≡ (if f == fd then Some value.now else value_so_far self.old f)) }
+    {
+        let kept = Kept::of(alloc, value)?;
+        self.builder.set(fd, kept)
+    }
+
+    /// The cells that were listed.
+    #[tactic(auto, unfolding(crate::specs::Tables::listed_value, crate::specs::Tables::value_so_far))]
+    pub(crate) fn finish(self) -> Result<Cells, NoMemory>
+        ensures { IfOk result (λ cells. (f : ℕ) → listed_value cells f ≡ value_so_far self f) }
+    {
+        let table = self.builder.finish()?;
+        Ok(Cells { table })
+    }
 }
 
 impl Cells {
     /// No cell. It takes no memory.
     #[tactic(auto, unfolding(crate::specs::Tables::listed_value))]
-    pub(crate) fn new(alloc: Global) -> Cells
+    pub(crate) fn new() -> Cells
         ensures { (f : ℕ) → listed_value result f ≡ None }
     {
         Cells {
-            map: BTreeMap::new(alloc),
+            table: Table::empty(),
         }
     }
 
     /// The value of a descriptor that is listed.
     #[tactic(auto, unfolding(crate::specs::Tables::listed_value))]
-    pub(crate) fn get(&self, fd: Fd) -> Option<&Value>
-        ensures { option_copied result ≡ listed_value self.now fd }
+    pub(crate) fn get(&self, fd: Fd) -> Option<Value>
+        ensures { result ≡ listed_value self.now fd }
     {
-        self.map.get(&fd)
+        match self.table.get(fd) {
+            Some(kept) => Some(kept.value()),
+            None => None,
+        }
     }
 
     /// How many are listed.
     pub(crate) fn len(&self) -> usize {
-        self.map.len()
+        self.table.len()
     }
 
-    /// Lists a value.
+    /// Whether none is listed.
     #[tactic(auto, unfolding(crate::specs::Tables::listed_value))]
-    pub(crate) fn set(&mut self, fd: Fd, value: &Value) -> Result<(), NoMemory>
-        ensures { OnOk result
-            ((f : ℕ) → listed_value self.new f ≡ (if f == fd then Some value.now else listed_value self.old f)) }
+    fn is_empty(&self) -> bool
+        ensures { result ≡ true → (f : ℕ) → listed_value self.now f ≡ None }
     {
-        let value = match value {
-            Value::Fixed(cell) => Value::Fixed(*cell),
-            Value::Of(pid, from, op) => Value::Of(*pid, *from, *op),
-        };
-        self.map.insert(fd, value)?;
-        Ok(())
+        self.table.is_empty()
     }
 
-    /// Lists over these what becomes of each of others.
+    /// The same cells, shared.
     #[tactic(auto, unfolding(crate::specs::Tables::listed_value))]
-    pub(crate) fn set_all(&mut self, others: &Cells, image: &Image<'_>) -> Result<(), NoMemory>
-        ensures { OnOk result ((f : ℕ) → listed_value self.new f
-            ≡ or_else (option_and_then (image_of image.now f) (listed_value others.now f)) (listed_value self.old f)) }
+    pub(crate) fn share(&self) -> Result<Cells, NoMemory>
+        ensures { IfOk result (λ same. (f : ℕ) → listed_value same f ≡ listed_value self.now f) }
     {
-        for (fd, value) in &others.map {
-            if let Some(moved) = image.of(*fd, value) {
-                self.set(*fd, &moved)?;
+        let table = self.table.clone()?;
+        Ok(Cells { table })
+    }
+
+    /// What becomes of these cells where they are handed on, those from a descriptor up closed.
+    #[tactic(auto, unfolding(crate::specs::Tables::listed_value))]
+    pub(crate) fn handed_on(
+        &self,
+        alloc: Global,
+        passing: Passing,
+        closed_from: Option<Fd>,
+    ) -> Result<Cells, NoMemory>
+        ensures { IfOk result (λ new. (f : ℕ)
+            → listed_value new f ≡ option_and_then (passed_on passing closed_from f) (listed_value self.now f)) }
+    {
+        match (passing, closed_from) {
+            (Passing::Same, None) => self.share(),
+            _ => {
+                let handing = Handing {
+                    passing,
+                    closed_from,
+                };
+                let table = merge(alloc, &handing, &self.table, &Table::empty())?;
+                Ok(Cells { table })
             }
         }
-        Ok(())
+    }
+
+    /// Whether each cell stands behind a change as it is. No is a safe answer.
+    #[tactic(auto, unfolding(crate::specs::Tables::listed_value))]
+    pub(crate) fn stay_behind(&self, change: &Change) -> bool
+        ensures { result ≡ true
+            → (f : ℕ) → option_map (under change.now) (listed_value self.now f) ≡ listed_value self.now f }
+    {
+        for entry in self.table.entries() {
+            if !entry.1.stays_behind(change) {
+                return false;
+            }
+        }
+        true
+    }
+
+    /// Whether each listed descriptor is listed in others.
+    #[tactic(auto, unfolding(crate::specs::Tables::listed_value))]
+    fn are_within(&self, others: &Cells) -> bool
+        ensures { result ≡ true
+            → (f : ℕ) → or_else (listed_value others.now f) (listed_value self.now f) ≡ listed_value others.now f }
+    {
+        if others.len() < self.len() {
+            return false;
+        }
+        for entry in self.table.entries() {
+            let Some(_) = others.table.get(entry.0) else {
+                return false;
+            };
+        }
+        true
+    }
+
+    /// These cells, and over them what others are behind a change.
+    #[tactic(auto, unfolding(crate::specs::Tables::listed_value))]
+    pub(crate) fn under(
+        &self,
+        alloc: Global,
+        others: &Cells,
+        change: &Change,
+    ) -> Result<Cells, NoMemory>
+        ensures { IfOk result (λ new. (f : ℕ) → listed_value new f
+            ≡ or_else (option_map (under change.now) (listed_value others.now f)) (listed_value self.now f)) }
+    {
+        if others.is_empty() {
+            return self.share();
+        }
+        if self.are_within(others) && others.stay_behind(change) {
+            return others.share();
+        }
+        let table = merge(alloc, &Moving { change }, &self.table, &others.table)?;
+        Ok(Cells { table })
     }
 }
 
 impl Processes {
     /// No process. It takes no memory.
     #[tactic(auto, unfolding(crate::specs::Tables::process_at))]
-    pub(crate) fn new(alloc: Global) -> Processes
+    pub(crate) fn new() -> Processes
         ensures { (p : ℕ) → process_at result p ≡ None }
     {
         Processes {
-            map: BTreeMap::new(alloc),
+            table: Table::empty(),
         }
+    }
+
+    /// One process.
+    #[tactic(auto, unfolding(crate::specs::Tables::process_at))]
+    pub(crate) fn one(alloc: Global, pid: Pid, process: Process) -> Result<Processes, NoMemory>
+        ensures { IfOk result
+            (λ new. (p : ℕ) → process_at new p ≡ (if p == pid then Some process else None)) }
+    {
+        let shared = Rc::new(alloc, process)?;
+        let table = Table::one(alloc, pid, shared)?;
+        Ok(Processes { table })
+    }
+
+    /// Two processes, the second where both are one.
+    #[tactic(auto, unfolding(crate::specs::Tables::process_at))]
+    pub(crate) fn two(
+        alloc: Global,
+        first: Pid,
+        of_first: Process,
+        second: Pid,
+        of_second: Process,
+    ) -> Result<Processes, NoMemory>
+        ensures { IfOk result (λ new. (p : ℕ) → process_at new p
+            ≡ (if p == second then Some of_second else (if p == first then Some of_first else None))) }
+    {
+        let mut builder = Builder::new(alloc);
+        builder.set(first, Rc::new(alloc, of_first)?)?;
+        builder.set(second, Rc::new(alloc, of_second)?)?;
+        let table = builder.finish()?;
+        Ok(Processes { table })
     }
 
     /// A process that is listed.
@@ -98,16 +233,24 @@ impl Processes {
     pub(crate) fn get(&self, pid: Pid) -> Option<&Process>
         ensures { option_copied result ≡ process_at self.now pid }
     {
-        match self.map.get(&pid) {
+        match self.table.get(pid) {
             Some(process) => Some(&**process),
             None => None,
         }
     }
 
+    /// Whether no process is listed.
+    #[tactic(auto, unfolding(crate::specs::Tables::process_at))]
+    pub(crate) fn is_empty(&self) -> bool
+        ensures { result ≡ true → (p : ℕ) → process_at self.now p ≡ None }
+    {
+        self.table.is_empty()
+    }
+
     /// How many processes and cells are listed.
     pub(crate) fn size(&self) -> usize {
-        let mut size = self.map.len();
-        for process in self.map.values() {
+        let mut size = self.table.len();
+        for (_pid, process) in self.table.entries() {
             size = size.saturating_add(process.cells.len());
         }
         size
@@ -116,47 +259,36 @@ impl Processes {
     /// How many cells are listed twice where these processes stand behind a change: those that they have from others.
     pub(crate) fn copied(&self, change: &Change) -> usize {
         let mut copied = 0usize;
-        for (pid, process) in &self.map {
+        for (pid, process) in self.table.entries() {
             copied = copied.saturating_add(process.copied(*pid, change));
         }
         copied
     }
 
-    /// Lists a process.
-    #[tactic(auto, unfolding(crate::specs::Tables::process_at))]
-    pub(crate) fn set(&mut self, alloc: Global, pid: Pid, process: Process) -> Result<(), NoMemory>
-        ensures { OnOk result
-            ((p : ℕ) → process_at self.new p ≡ (if p == pid then Some process else process_at self.old p)) }
-    {
-        let shared = Rc::new(alloc, process)?;
-        self.map.insert(pid, shared)?;
-        Ok(())
-    }
-
     /// The same processes, shared.
     #[tactic(auto, unfolding(crate::specs::Tables::process_at))]
-    pub(crate) fn copy(&self) -> Result<Processes, NoMemory>
-        ensures { IfOk result (λ copy. (p : ℕ) → process_at copy p ≡ process_at self.now p) }
+    pub(crate) fn share(&self) -> Result<Processes, NoMemory>
+        ensures { IfOk result (λ same. (p : ℕ) → process_at same p ≡ process_at self.now p) }
     {
-        let map = self.map.clone()?;
-        Ok(Processes { map })
+        let table = self.table.clone()?;
+        Ok(Processes { table })
     }
 
-    /// Lists over these what becomes of each of others behind a change.
+    /// These processes, and over them what others are behind a change.
     #[tactic(auto, unfolding(crate::specs::Tables::process_at))]
-    pub(crate) fn set_all(
-        &mut self,
+    pub(crate) fn under(
+        &self,
         alloc: Global,
         others: &Processes,
         change: &Change,
-    ) -> Result<(), NoMemory>
-        ensures { OnOk result ((p : ℕ)
-            → JoinsListed change.now (process_at self.old p) (process_at others.now p) (process_at self.new p)) }
+    ) -> Result<Processes, NoMemory>
+        ensures { IfOk result (λ new. (p : ℕ)
+            → JoinsListed change.now (process_at self.now p) (process_at others.now p) (process_at new p)) }
     {
-        for (pid, process) in &others.map {
-            let moved = change.process_under(alloc, process)?;
-            self.set(alloc, *pid, moved)?;
+        if others.is_empty() {
+            return self.share();
         }
-        Ok(())
+        let table = merge(alloc, &Joining { change }, &self.table, &others.table)?;
+        Ok(Processes { table })
     }
 }

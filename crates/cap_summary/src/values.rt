@@ -1,6 +1,6 @@
 //! What a cell or a mode is after a segment, in terms of the state before it.
 
-ghost use Rattle.std.specs.Prelude.{◌≡◌, ℕ, ◌||◌, nat_le, if◌then◌else◌};
+ghost use Rattle.std.specs.Prelude.{◌≡◌, ℕ, ◌||◌, nat_le, true, if◌then◌else◌};
 ghost use Rattle.cap_machine.specs.State.{State};
 ghost use Rattle.cap_machine.specs.Op.{same, exec, applied};
 ghost use Rattle.cap_summary.specs.Values.{read_cell, read_mode, passing_op, rest_value, unlisted, is_from, op_on};
@@ -162,6 +162,16 @@ impl Base {
         Base {
             others: Others::Of(pid, Passing::Same),
             closed_from: Some(fd),
+        }
+    }
+
+    /// Whether a cell that isn't listed is as it was, of the process with this pid. No is a safe answer.
+    pub(crate) fn leaves(&self, pid: Pid, fd: Fd) -> bool
+        ensures { result ≡ true → unlisted self.now fd ≡ Value.Of pid fd same }
+    {
+        match &self.others {
+            Others::Of(source, Passing::Same) => *source == pid && !is_closed(self.closed_from, fd),
+            _ => false,
         }
     }
 

@@ -3,5 +3,5 @@ use Rattle.cap_summary.specs.Before.{state_before}
 use Rattle.cap_summary.specs.Conditions.{any_holds}
 use Rattle.cap_summary.proofs.before.Before.any_holds.Given as goal
 
-abbrev pub invariant-loop-condition : goal.invariant-loop-condition
-invariant-loop-condition l = any_holds (state_before l.self) (take l.condition-index l.conditions) ≡ false
+abbrev pub invariant-loop-at : goal.invariant-loop-at
+invariant-loop-at l = any_holds (state_before l.self) (take l.at l.conditions) ≡ false

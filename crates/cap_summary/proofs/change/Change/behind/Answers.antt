@@ -1,30 +1,34 @@
-use Rattle.std.proofs.Common.{◌<◌, ◌≤◌, ◌||◌, Bool, length, ap, ◌∙◌, arith, List}
+use Rattle.std.proofs.Common.{◌<◌, ◌≤◌, ◌≡◌, ◌||◌, Bool, List, length, arith, ap, sym, ◌∙◌}
 use Rattle.std.proofs.lemmas.List.{take_all}
 use Rattle.cap_summary.specs.declared.conditions.Condition.{Condition}
 use Rattle.cap_summary.specs.Changes.{changed}
 use Rattle.cap_summary.specs.Conditions.{holds, any_holds}
-use Rattle.cap_summary.proofs.Holding.{turn_never, turn_always, turn_to}
+use Rattle.cap_summary.proofs.Holding.{turn_put}
+use Rattle.cap_summary.proofs.Bools.{or_true, or_false}
 use Rattle.cap_summary.proofs.change.Change.behind.Goals as goal
-use Rattle.cap_summary.proofs.change.Change.behind.Goals.{in-Never, in-Always, in-To+in_ok-put-in-To}
+use Rattle.cap_summary.proofs.change.Change.behind.Goals.{then-branch, else-branch}
 
-pub loop-condition-preserved : goal.loop-condition-preserved
-loop-condition-preserved c = λ s.
+pub returns-then-leaves_all : goal.returns-then-leaves_all
+returns-then-leaves_all c = λ s. ap (λ (r : List Condition). any_holds s r) (c.in_ok-share.ensures)
+    ∙ sym (c.leaves_all.ensures c.if-leaves_all.true s)
+
+pub loop-at-preserved : goal.loop-at-preserved
+loop-at-preserved c = λ s.
     let g : Condition → Bool = holds (changed c.args.self.now s) in
-    let within : c.loop-condition.condition-index < length c.args.conditions.now = omega arith in
-    elim c.match-moved.branch [
-      | in-Never w ↦ rw (w.always-is, w.left-is) (turn_never g c.args.conditions.now c.loop-condition.condition-index
-          c.condition-item.result (c.loop-condition.always || any_holds s c.loop-condition.left.items)
-          within c.condition-item.is (w.in-Never.ensures s) (c.loop-condition.invariant s))
-      | in-Always w ↦ rw (w.always-is) (turn_always g c.args.conditions.now c.loop-condition.condition-index
-          c.condition-item.result within c.condition-item.is (w.in-Always.ensures s))
-      | in-To+in_ok-put-in-To w ↦ rw (w.always-is, w.left-is)
-          (turn_to (holds s) g c.args.conditions.now c.loop-condition.condition-index c.condition-item.result
-          c.loop-condition.always c.loop-condition.left.items w.put.new.conditions.items w.in-To.new
-          within c.condition-item.is (w.in-To.ensures s) w.in_ok-put-in-To.ensures (c.loop-condition.invariant s))
-    ]
+    let within : c.loop-at.at < length c.args.conditions.now = omega arith in
+    let met : c.if-branch.always ≡ (c.loop-at.always || c.in_ok-put_behind.field-0) = elim c.if-branch.branch [
+      | then-branch w ↦ w.always-is ∙ sym (or_true c.loop-at.always) ∙ ap (λ b. c.loop-at.always || b)
+          (sym w.if-branch.true)
+      | else-branch w ↦ w.always-is ∙ sym (or_false c.loop-at.always) ∙ ap (λ b. c.loop-at.always || b)
+          (sym w.if-branch.false)
+    ] in
+    turn_put (holds s) g c.args.conditions.now c.loop-at.at c.loop-at.always c.in_ok-put_behind.field-0
+    c.if-branch.always c.loop-at.left c.put_behind.new.left within (λ d. c.in_ok-put_behind.ensures d s) met
+    (c.loop-at.invariant s)
 
 pub returns : goal.returns
 returns c = λ s.
-    let le : length c.args.conditions.now ≤ c.loop-condition.condition-index = omega arith in
-    c.loop-condition.invariant s ∙ ap (λ (r : List Condition). any_holds (changed c.args.self.now s) r)
-    (take_all c.loop-condition.condition-index c.args.conditions.now le)
+    let all : length c.args.conditions.now ≤ c.loop-at.at = omega arith in
+    ap (λ (r : List Condition). c.loop-at.always || any_holds s r) c.in_ok-finish.ensures ∙ c.loop-at.invariant s
+    ∙ ap (λ (r : List Condition). any_holds (changed c.args.self.now s) r)
+    (take_all c.loop-at.at c.args.conditions.now all)

@@ -4,7 +4,7 @@ use Rattle.cap_summary.specs.Changes.{changed}
 use Rattle.cap_summary.specs.Conditions.{any_holds}
 use Rattle.cap_summary.proofs.change.Change.behind.Given as goal
 
--- what was seen so far tells behind the change where what is left does
-abbrev pub invariant-loop-condition : goal.invariant-loop-condition
-invariant-loop-condition l = (s : State)
-    → (l.always || any_holds s l.left.items) ≡ any_holds (changed l.self s) (take l.condition-index l.conditions)
+-- one of those seen so far holds behind the change where one of what is left does
+abbrev pub invariant-loop-at : goal.invariant-loop-at
+invariant-loop-at l = (s : State)
+    → (l.always || any_holds s l.left) ≡ any_holds (changed l.self s) (take l.at l.conditions)

@@ -3,7 +3,7 @@ use Rattle.cap_summary.proofs.change.Change.process_under.Goals as goal
 
 pub returns : goal.returns
 returns c = record {
-  cells = λ s f. process_joined s c.args.self.now c.in_ok-base.base c.args.process.now f c.in_ok-base.cells
-      c.set_all.new.self (c.in_ok-set_all.ensures f) (c.in_ok-base.ensures s f);
+  cells = λ s f. process_joined s c.args.self.now c.in_ok-base.base c.args.process.now f c.in_ok-base.first
+      c.in_ok-cells.cells (c.in_ok-cells.ensures f) (c.in_ok-base.ensures s f);
   mode = c.mode_under.ensures;
 }

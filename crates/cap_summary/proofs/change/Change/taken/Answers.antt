@@ -1,11 +1,6 @@
-use Rattle.std.proofs.Common.{cond, eqb, ap, ◌∙◌}
-use Rattle.cap_summary.specs.declared.values.Value.{Value}
-use Rattle.cap_summary.specs.declared.values.Value.TheVariants as value
 use Rattle.cap_summary.proofs.Doing.{does_change}
 use Rattle.cap_summary.proofs.change.Change.taken.Goals as goal
 
 pub returns : goal.returns
 returns c = does_change c.in_ok-change.change c.args.me c.args.to c.args.from c.args.op.now c.in_ok-process.process
-    (record { each = c.in_ok-change.ensures; mode = c.in_ok-process.ensures.mode ∙ c.kept.ensures.mode })
-    (λ f. c.in_ok-process.ensures.cells f ∙ ap (λ (v : Value). cond (eqb f c.args.to)
-    (value.Of c.args.me c.args.from c.args.op.now) v) (c.kept.ensures.cells f))
+    (record { each = c.in_ok-change.ensures; mode = c.in_ok-process.ensures.mode }) c.in_ok-process.ensures.cells

@@ -12,16 +12,16 @@ pub returns : goal.returns
 returns c =
     let step : Step = step_of c.args.step.now in
     let known : Known = record {
-      change = c.in_ok-new.field-0;
+      change = c.in_ok-change.change;
       always = c.always.result;
-      conditions = c.in_ok-new-2.field-0;
+      conditions = c.in_ok-conditions.conditions;
     } in
     let at_line : c.deref-line.result.now ≡ step.line = c.deref-line.ensures in
     let me : c.line.inside.pid ≡ step.line.pid = ap (λ (e : Entry). e.pid) (c.line.view_is ∙ at_line) in
-    let does : Does c.in_ok-new.field-0.value c.rule_of-rule.result.effect step.line.pid =
-    rw (c.in_ok-new.ensures.ok, ← me) c.in_ok-change.ensures in
-    let conditions : c.in_ok-new-2.field-0.value.items ≡ line_conditions c.rule_of-rule.result.demand step.line.pid =
-    rw (c.in_ok-new-2.ensures.ok, ← me) c.in_ok-conditions.ensures in
+    let does : Does c.in_ok-change.change c.rule_of-rule.result.effect step.line.pid =
+    rw (← me) c.in_ok-change.ensures in
+    let conditions : c.in_ok-conditions.conditions ≡ line_conditions c.rule_of-rule.result.demand step.line.pid =
+    rw (← me) c.in_ok-conditions.ensures in
     step_knows known step c.rule_of-rule.result.effect c.rule_of-rule.result.demand does
     (rw at_line at c.rule_of-rule.ensures.cells) (rw at_line at c.rule_of-rule.ensures.modes)
     (rw at_line at c.rule_of-rule.ensures.demand) c.always.ensures conditions

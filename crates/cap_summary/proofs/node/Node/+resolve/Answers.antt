@@ -93,4 +93,4 @@ returns-in-Then t c =
     rw rest (on_ok_weaker c.resolve-in-Then.result (λ last.
     found_parts s steps u c.args.at c.self.inside.len from to old c.if-at-self.found.items
     c.resolve-in-Then.new.found.items len first
-    (rw (c.deref-in-Then.ensures, knows.ends s) at last)) c.resolve-in-Then.ensures)
+    (rw (knows.ends s) at last)) c.resolve-in-Then.ensures)

@@ -1,3 +1,0 @@
-pub mod Place
-pub mod Shared
-pub mod Table

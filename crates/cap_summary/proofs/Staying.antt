@@ -1,0 +1,206 @@
+-- What a change leaves as it is, and what stands behind it as it is.
+use Rattle.std.proofs.Common.{◌≡◌, ℕ, ◌+◌, ◌<◌, eqb, List, [], ◌∷◌, ◌++◌, Option, Some, None, Bool, true, false, cond, ◌||◌}
+use Rattle.std.proofs.Common.{take, get_or, length, inl, inr, refl, sym, ap, ◌∙◌}
+use Rattle.std.proofs.lemmas.List.{take_more}
+use Rattle.std.proofs.lemmas.Bool.Decides.{eqb_tells}
+use Rattle.std.specs.Prelude.{option_map, option_and_then, unwrap_or, is_some}
+use Rattle.std.specs.Option.{option_or}
+use Rattle.cap_machine.specs.declared.cell.OnExec.{OnExec}
+use Rattle.cap_machine.specs.declared.cell.OnExec.TheVariants.{Set, Clear, Unsure}
+use Rattle.cap_machine.specs.declared.cell.Cell.{Cell}
+use Rattle.cap_machine.specs.declared.cell.Cell.TheVariants.{Closed}
+use Rattle.cap_machine.specs.declared.cell.HeldOp.{HeldOp}
+use Rattle.cap_machine.specs.declared.cell.HeldOp.TheVariants.{Becomes, Keeps}
+use Rattle.cap_machine.specs.declared.cell.Op.{Op}
+use Rattle.cap_machine.specs.State.{State}
+use Rattle.cap_machine.specs.Op.{applied, same}
+use Rattle.cap_machine.specs.Composed.{in_turn, held_then, kept_then, both_masks}
+use Rattle.cap_machine.proofs.Turns.{same_state}
+use Rattle.cap_summary.specs.declared.values.Value.{Value}
+use Rattle.cap_summary.specs.declared.values.Value.TheVariants as value
+use Rattle.cap_summary.specs.declared.values.Passing.TheVariants as passings
+use Rattle.cap_summary.specs.declared.change.Process.{Process}
+use Rattle.cap_summary.specs.declared.change.Change.{Change}
+use Rattle.cap_summary.specs.declared.kept.Kept.{Kept}
+use Rattle.cap_summary.specs.Sorted.{found}
+use Rattle.cap_summary.specs.Values.{read_cell, read_mode, unlisted, op_on}
+use Rattle.cap_summary.specs.Tables.{listed_value, process_at, or_else, kept_value, kept_values}
+use Rattle.cap_summary.specs.Changes.{value_in, value_of, mode_of, cell_in, mode_in, changed, JoinsProcess, JoinsTo}
+use Rattle.cap_summary.specs.Images.{under, passed_on}
+use Rattle.cap_summary.proofs.Joining.{applied_same, read-under}
+use Rattle.cap_summary.proofs.SortedMerging.{found-append}
+
+-- ---- ops
+
+no_mask : (mask : Option ℕ) → both_masks mask None ≡ mask
+no_mask None = refl
+no_mask (Some m) = refl
+
+held-same : (op : HeldOp) → held_then op same ≡ op
+held-same (Becomes cell) = ap Becomes (applied_same cell)
+held-same (Keeps mask Set) = ap (λ m. Keeps m Set) (no_mask mask)
+held-same (Keeps mask Clear) = ap (λ m. Keeps m Clear) (no_mask mask)
+held-same (Keeps mask Unsure) = ap (λ m. Keeps m Unsure) (no_mask mask)
+
+same_parts : (a b : Op) → a.unknown ≡ b.unknown → a.closed ≡ b.closed → a.set ≡ b.set → a.clear ≡ b.clear
+    → a.unsure ≡ b.unsure → a ≡ b
+same_parts a b u k x y z =
+    ap (λ (r : Cell). let op : Op = record {
+      unknown = r;
+      closed = a.closed;
+      set = a.set;
+      clear = a.clear;
+      unsure = a.unsure;
+    } in op) u
+    ∙ ap (λ (r : Cell). let op : Op = record {
+      unknown = b.unknown;
+      closed = r;
+      set = a.set;
+      clear = a.clear;
+      unsure = a.unsure;
+    } in op) k
+    ∙ ap (λ (r : HeldOp). let op : Op = record {
+      unknown = b.unknown;
+      closed = b.closed;
+      set = r;
+      clear = a.clear;
+      unsure = a.unsure;
+    } in op) x
+    ∙ ap (λ (r : HeldOp). let op : Op = record {
+      unknown = b.unknown;
+      closed = b.closed;
+      set = b.set;
+      clear = r;
+      unsure = a.unsure;
+    } in op) y
+    ∙ ap (λ (r : HeldOp). let op : Op = record {
+      unknown = b.unknown;
+      closed = b.closed;
+      set = b.set;
+      clear = b.clear;
+      unsure = r;
+    } in op) z
+
+in_turn-same : (op : Op) → in_turn op same ≡ op
+in_turn-same op = same_parts (in_turn op same) op (applied_same op.unknown) (applied_same op.closed) (held-same op.set)
+    (held-same op.clear) (held-same op.unsure)
+
+none-then : (op : HeldOp) → kept_then None op ≡ op
+none-then (Becomes cell) = refl
+none-then (Keeps mask flag) = refl
+
+same-in_turn : (op : Op) → in_turn same op ≡ op
+same-in_turn op = same_parts (in_turn same op) op refl refl (none-then op.set) (none-then op.clear) (none-then op.unsure)
+
+-- ---- values
+
+-- handed on as they are, none closed
+op_on-same : (v : Value) → op_on same v ≡ v
+op_on-same (value.Fixed c) = ap value.Fixed (applied_same c)
+op_on-same (value.Of q g op) = ap (value.Of q g) (in_turn-same op)
+
+pub passed_same : (f : ℕ) (o n : Option Value) → n ≡ o → n ≡ option_and_then (passed_on passings.Same None f) o
+passed_same f None n is = is
+passed_same f (Some v) n is = is ∙ ap Some (sym (op_on-same v))
+
+-- a cell that is as it was
+pub value_stays : (a : Change) (q g : ℕ) (op : Op) → value_of a q g ≡ value.Of q g same
+    → under a (value.Of q g op) ≡ value.Of q g op
+value_stays a q g op is = ap (op_on op) is ∙ ap (value.Of q g) (same-in_turn op)
+
+-- ---- tables
+
+-- what is found among the first entries, and one more
+found-more : {V : Type 0} (xs : List (ℕ × V)) (i : ℕ) (x : ℕ × V) (f : ℕ) → i < length xs → x ≡ get_or xs i x
+    → found (take (i + 1) xs) f ≡ option_or (found (take i xs) f) (cond (eqb x.0 f) (Some x.1) None)
+found-more {V} xs i x f within at =
+    ap (λ (l : List (ℕ × V)). found l f) (take_more xs i x within ∙ ap (λ (y : ℕ × V). take i xs ++ y ∷ []) (sym at))
+    ∙ found-append (take i xs) x.0 x.1 f
+
+-- a value that stays as it is, where there is one
+abbrev pub Stays : Change → Option Kept → Type 0
+Stays a o = option_map (under a) (kept_values o) ≡ kept_values o
+
+one_stays : (a : Change) (v : Kept) (b : Bool) → under a (kept_value v) ≡ kept_value v → Stays a (cond b (Some v) None)
+one_stays a v true is = ap Some is
+one_stays a v false is = refl
+
+either_stays : (a : Change) (o n : Option Kept) → Stays a o → Stays a n → Stays a (option_or o n)
+either_stays a None n first second = second
+either_stays a (Some v) n first second = first
+
+pub stays_more : (a : Change) (xs : List (ℕ × Kept)) (i : ℕ) (x : ℕ × Kept) → i < length xs → x ≡ get_or xs i x
+    → under a (kept_value x.1) ≡ kept_value x.1 → ((f : ℕ) → Stays a (found (take i xs) f)) → (f : ℕ)
+    → Stays a (found (take (i + 1) xs) f)
+stays_more a xs i x within at is before f = rw (found-more xs i x f within at)
+    (either_stays a (found (take i xs) f) (cond (eqb x.0 f) (Some x.1) None) (before f)
+    (one_stays a x.1 (eqb x.0 f) is))
+
+-- what hides a listed value, where there is one
+abbrev pub Hides : Option Kept → Option Kept → Type 0
+Hides o n = or_else (kept_values o) (kept_values n) ≡ kept_values o
+
+some_hides : (v : Kept) (o n : Option Kept) → o ≡ Some v → Hides o n
+some_hides v o n is = rw is refl
+
+none_hidden : (o : Option Kept) → Hides o None
+none_hidden None = refl
+none_hidden (Some v) = refl
+
+one_hidden : (others : List (ℕ × Kept)) (k f : ℕ) (v w : Kept) → found others k ≡ Some w
+    → Hides (found others f) (cond (eqb k f) (Some v) None)
+one_hidden others k f v w is = elim (eqb_tells k f) [
+  | inl h ↦ some_hides w (found others f) (cond (eqb k f) (Some v) None) (ap (found others) (sym h.1) ∙ is)
+  | inr h ↦ rw h.0 (none_hidden (found others f))
+]
+
+either_hidden : (o m n : Option Kept) → Hides o m → Hides o n → Hides o (option_or m n)
+either_hidden o None n first second = second
+either_hidden o (Some v) n first second = first
+
+pub hides_more : (others xs : List (ℕ × Kept)) (i : ℕ) (x : ℕ × Kept) (w : Kept) → i < length xs → x ≡ get_or xs i x
+    → found others x.0 ≡ Some w → ((f : ℕ) → Hides (found others f) (found (take i xs) f)) → (f : ℕ)
+    → Hides (found others f) (found (take (i + 1) xs) f)
+hides_more others xs i x w within at is before f = rw (found-more xs i x f within at)
+    (either_hidden (found others f) (found (take i xs) f) (cond (eqb x.0 f) (Some x.1) None) (before f)
+    (one_hidden others x.0 f x.1 w is))
+
+-- cells over others that hide them, and that stay as they are
+pub over_hidden : (a : Change) (others own new : Option Value) → or_else others own ≡ others
+    → option_map (under a) others ≡ others → new ≡ others → new ≡ or_else (option_map (under a) others) own
+over_hidden a others own new hides stays is = is ∙ sym (ap (λ (r : Option Value). or_else r own) stays ∙ hides)
+
+-- ---- processes
+
+pub process_stays : (a : Change) (d : Process)
+    → ((s : State) (f : ℕ) → read_cell s (unlisted d.base f) ≡ read_cell (changed a s) (unlisted d.base f))
+    → ((s : State) → read_mode s d.mode ≡ read_mode (changed a s) d.mode)
+    → ((f : ℕ) → option_map (under a) (listed_value d.cells f) ≡ listed_value d.cells f) → JoinsProcess a d d
+process_stays a d base mode cells = record {
+  cells = λ s f. cell s f (listed_value d.cells f) (cells f);
+  mode = mode;
+}
+  where
+    cell : (s : State) (f : ℕ) (o : Option Value) → option_map (under a) o ≡ o
+        → read_cell s (unwrap_or o (unlisted d.base f)) ≡ read_cell (changed a s) (unwrap_or o (unlisted d.base f))
+    cell s f None is = base s f
+    cell s f (Some v) is = ap (λ (o : Option Value). read_cell s (unwrap_or o v)) (sym is) ∙ read-under s a v
+
+-- ---- changes
+
+-- where nothing is listed, the state is as it was
+unchanged : (a : Change) → ((p : ℕ) → process_at a.processes p ≡ None) → (s : State) → changed a s ≡ s
+unchanged a none s = same_state (changed a s) s
+    (λ p f. ap (λ (o : Option Process). read_cell s (cell_in o p f)) (none p) ∙ applied_same (s.cell p f))
+    (λ p. ap (λ (o : Option Process). read_mode s (mode_in o p)) (none p))
+
+pub joins_nothing : (a b whole : Change) → ((p : ℕ) → process_at a.processes p ≡ None)
+    → ((p : ℕ) → process_at whole.processes p ≡ process_at b.processes p) → JoinsTo a b whole
+joins_nothing a b whole none same_as = record {
+  changes = λ s. same_state (changed whole s) (changed b s)
+      (λ p f. ap (λ (o : Option Process). read_cell s (cell_in o p f)) (same_as p))
+      (λ p. ap (λ (o : Option Process). read_mode s (mode_in o p)) (same_as p))
+      ∙ ap (changed b) (sym (unchanged a none s));
+  listed = λ p. ap (λ (o : Option Process). is_some o) (same_as p)
+      ∙ sym (ap (λ (o : Option Process). is_some o || is_some (process_at b.processes p)) (none p));
+}

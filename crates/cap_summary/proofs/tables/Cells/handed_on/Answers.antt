@@ -1,0 +1,12 @@
+use Rattle.std.proofs.Common.{◌≡◌, ℕ, Option, None, ap, ◌∙◌}
+use Rattle.std.specs.Prelude.{option_and_then}
+use Rattle.std.proofs.lemmas.Result.{IfOk-weaker}
+use Rattle.cap_summary.specs.declared.values.Passing.{Passing}
+use Rattle.cap_summary.specs.Tables.{listed_value}
+use Rattle.cap_summary.specs.Images.{passed_on}
+use Rattle.cap_summary.proofs.Staying.{passed_same}
+use Rattle.cap_summary.proofs.tables.Cells.handed_on.Goals as goal
+
+pub returns-in-Same-None : goal.returns-in-Same-None
+returns-in-Same-None c = rw (c.in-Same-None.is-0, c.in-Same-None.is-1) (IfOk-weaker c.share.result _ _
+    (λ new is f. passed_same f (listed_value c.args.self.now f) (listed_value new f) (is f)) c.share.ensures)

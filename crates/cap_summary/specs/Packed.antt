@@ -1,0 +1,29 @@
+-- Conditions as a list keeps them.
+use Rattle.std.specs.Prelude.{ℕ, List, map}
+use Rattle.cap_summary.specs.declared.conditions.HeldTest.TheVariants.{Lacks}
+use Rattle.cap_summary.specs.declared.conditions.Condition.{Condition}
+use Rattle.cap_summary.specs.declared.conditions.Condition.TheVariants as condition
+use Rattle.cap_summary.specs.declared.packed.Lack.{Lack}
+use Rattle.cap_summary.specs.declared.packed.Packed.{Packed}
+use Rattle.cap_summary.specs.declared.packed.Packed.TheVariants as packed
+
+-- the condition that stands there
+abbrev pub packed_condition : Packed → Condition
+packed_condition (packed.Cell lack) = condition.Cell (record {
+  pid = lack.pid;
+  fd = lack.fd;
+  test = record {
+    unknown = lack.unknown;
+    closed = lack.closed;
+    set = Lacks lack.rights;
+    clear = Lacks lack.rights;
+    unsure = Lacks lack.rights;
+  };
+})
+packed_condition (packed.Other x) = condition.Cell x.value
+packed_condition (packed.Inside p) = condition.Inside p
+packed_condition (packed.Outside p) = condition.Outside p
+packed_condition (packed.Refused r) = condition.Refused r.value
+
+abbrev pub packed_conditions : List Packed → List Condition
+packed_conditions items = map packed_condition items

@@ -1,0 +1,252 @@
+//! Lists of conditions. No other module knows how a condition is kept in one: a contract sees the conditions.
+
+ghost use Rattle.std.specs.Prelude.{◌≡◌, ◌<◌, ◌++◌, ◌∷◌, [], length, slice_index_or, true, IfOk, IfSome, OnOk};
+ghost use Rattle.cap_summary.specs.declared.conditions.Condition.{Condition};
+ghost use Rattle.cap_summary.specs.Packed.{packed_condition, packed_conditions};
+
+use crate::conditions::{CellTest, Condition, HeldTest, Refused, Source};
+use cap_rights::RightSet;
+use cap_trace::{Fd, Pid};
+use cap_tree::NoMemory;
+use std::alloc::Global;
+use std::marker::Model;
+use std::rc::{Rc, RcSlice};
+
+/// A test of a cell that any held one fails by the same rights.
+#[derive(Clone, Copy)]
+pub(crate) struct Lack {
+    pid: Pid,
+    fd: Fd,
+    unknown: bool,
+    closed: bool,
+    rights: RightSet,
+}
+
+/// A condition as a list keeps it: the most common form in few bytes, and the large ones shared.
+#[derive(Drop)]
+pub(crate) enum Packed {
+    Cell(Lack),
+    Other(Rc<Source>),
+    Inside(Pid),
+    Outside(Pid),
+    Refused(Rc<Refused>),
+}
+
+#[tactic(auto, using(crate::proofs::Merging::same_sets))]
+fn same_rights(a: &RightSet, b: &RightSet) -> bool
+    ensures { result ≡ true → b.now ≡ a.now }
+{
+    a.has_all(b) && b.has_all(a)
+}
+
+/// The rights by which any held cell fails a test, where they are the same.
+fn lacked_by(test: &CellTest) -> Option<RightSet>
+    ensures set { IfSome result (λ rights. test.now.set ≡ HeldTest.Lacks rights) }
+    ensures clear { IfSome result (λ rights. test.now.clear ≡ HeldTest.Lacks rights) }
+    ensures unsure { IfSome result (λ rights. test.now.unsure ≡ HeldTest.Lacks rights) }
+{
+    match (&test.set, &test.clear, &test.unsure) {
+        (HeldTest::Lacks(a), HeldTest::Lacks(b), HeldTest::Lacks(c)) => {
+            if same_rights(a, b) && same_rights(a, c) {
+                Some(*a)
+            } else {
+                None
+            }
+        }
+        _ => None,
+    }
+}
+
+impl Packed {
+    fn of_source(alloc: Global, source: &Source) -> Result<Packed, NoMemory>
+        ensures { IfOk result (λ packed. packed_condition packed ≡ Condition.Cell source.now) }
+    {
+        match lacked_by(&source.test) {
+            Some(rights) => Ok(Packed::Cell(Lack {
+                pid: source.pid,
+                fd: source.fd,
+                unknown: source.test.unknown,
+                closed: source.test.closed,
+                rights,
+            })),
+            None => Ok(Packed::Other(Rc::new(alloc, *source)?)),
+        }
+    }
+
+    /// A condition, to be kept.
+    fn of(alloc: Global, condition: &Condition) -> Result<Packed, NoMemory>
+        ensures { IfOk result (λ packed. packed_condition packed ≡ condition.now) }
+    {
+        match condition {
+            Condition::Cell(source) => Packed::of_source(alloc, source),
+            Condition::Inside(pid) => Ok(Packed::Inside(*pid)),
+            Condition::Outside(pid) => Ok(Packed::Outside(*pid)),
+            Condition::Refused(refused) => Ok(Packed::Refused(Rc::new(alloc, *refused)?)),
+        }
+    }
+
+    /// The condition that is kept.
+    fn condition(&self) -> Condition
+        ensures { result ≡ packed_condition self.now }
+    {
+        match self {
+            Packed::Cell(lack) => Condition::Cell(Source {
+                pid: lack.pid,
+                fd: lack.fd,
+                test: CellTest {
+                    unknown: lack.unknown,
+                    closed: lack.closed,
+                    set: HeldTest::Lacks(lack.rights),
+                    clear: HeldTest::Lacks(lack.rights),
+                    unsure: HeldTest::Lacks(lack.rights),
+                },
+            }),
+            Packed::Other(source) => Condition::Cell(**source),
+            Packed::Inside(pid) => Condition::Inside(*pid),
+            Packed::Outside(pid) => Condition::Outside(*pid),
+            Packed::Refused(refused) => Condition::Refused(**refused),
+        }
+    }
+
+    /// The same condition, shared where it is large.
+    fn share(&self) -> Result<Packed, NoMemory>
+        ensures { IfOk result (λ same. packed_condition same ≡ packed_condition self.now) }
+    {
+        match self {
+            Packed::Cell(lack) => Ok(Packed::Cell(*lack)),
+            Packed::Other(source) => Ok(Packed::Other(source.clone()?)),
+            Packed::Inside(pid) => Ok(Packed::Inside(*pid)),
+            Packed::Outside(pid) => Ok(Packed::Outside(*pid)),
+            Packed::Refused(refused) => Ok(Packed::Refused(refused.clone()?)),
+        }
+    }
+}
+
+/// Conditions that are never changed. Copies share them.
+#[derive(Drop)]
+pub(crate) struct Conditions {
+    items: Option<RcSlice<Packed>>,
+}
+
+impl Model for Conditions {
+    ghost use Rattle.std.specs.Prelude.{List};
+    ghost use Rattle.cap_summary.specs.declared.conditions.Condition.{Condition};
+    ghost use Rattle.cap_summary.specs.Packed.{packed_conditions};
+    ghost use Rattle.cap_summary.specs.Shared.{shared_entries};
+
+    ghost Value = { List Condition };
+
+    ghost view = { λ c. packed_conditions (shared_entries c.items) };
+}
+
+/// Conditions that are being put together.
+#[derive(Drop)]
+pub(crate) struct NewConditions {
+    items: Vec<Packed>,
+}
+
+impl Model for NewConditions {
+    ghost use Rattle.std.specs.Prelude.{List};
+    ghost use Rattle.cap_summary.specs.declared.conditions.Condition.{Condition};
+    ghost use Rattle.cap_summary.specs.Packed.{packed_conditions};
+
+    ghost Value = { List Condition };
+
+    ghost view = { λ c. packed_conditions c.items.items };
+}
+
+impl Conditions {
+    /// None. It takes no memory.
+    pub(crate) fn none() -> Conditions
+        ensures { result ≡ [] }
+    {
+        Conditions { items: None }
+    }
+
+    /// One condition.
+    pub(crate) fn one(alloc: Global, condition: &Condition) -> Result<Conditions, NoMemory>
+        ensures { IfOk result (λ all. all ≡ condition.now ∷ []) }
+    {
+        let mut new = NewConditions::with_room(alloc, 1)?;
+        new.put(alloc, condition)?;
+        new.finish()
+    }
+
+    fn packed(&self) -> &[Packed]
+        ensures { packed_conditions result.now ≡ self.now }
+    {
+        match &self.items {
+            Some(items) => items.as_slice(),
+            None => &[],
+        }
+    }
+
+    /// How many there are.
+    pub(crate) fn len(&self) -> usize
+        ensures { result ≡ length self.now }
+    {
+        self.packed().len()
+    }
+
+    /// The one at a place.
+    pub(crate) fn get(&self, at: usize) -> Condition
+        requires { at < length self.now }
+        ensures { result ≡ slice_index_or self.now at result }
+    {
+        self.packed()[at].condition()
+    }
+
+    /// The same conditions, shared.
+    pub(crate) fn share(&self) -> Result<Conditions, NoMemory>
+        ensures { IfOk result (λ same. same ≡ self.now) }
+    {
+        let items = match &self.items {
+            Some(items) => Some(items.clone()?),
+            None => None,
+        };
+        Ok(Conditions { items })
+    }
+}
+
+impl NewConditions {
+    /// None so far, with room for so many.
+    pub(crate) fn with_room(alloc: Global, room: usize) -> Result<NewConditions, NoMemory>
+        ensures { IfOk result (λ new. new ≡ []) }
+    {
+        Ok(NewConditions {
+            items: Vec::with_capacity(alloc, room)?,
+        })
+    }
+
+    /// Adds a condition.
+    pub(crate) fn put(&mut self, alloc: Global, condition: &Condition) -> Result<(), NoMemory>
+        ensures { OnOk result (self.new ≡ self.old ++ condition.now ∷ []) }
+    {
+        self.items.push(Packed::of(alloc, condition)?)?;
+        Ok(())
+    }
+
+    /// Adds the condition at a place of others, shared.
+    pub(crate) fn copy(&mut self, others: &Conditions, at: usize) -> Result<(), NoMemory>
+        requires { at < length others.now }
+        ensures { OnOk result
+            ((d : Condition) → self.new ≡ self.old ++ slice_index_or others.now at d ∷ []) }
+    {
+        self.items.push(others.packed()[at].share()?)?;
+        Ok(())
+    }
+
+    /// The conditions, without spare room.
+    pub(crate) fn finish(self) -> Result<Conditions, NoMemory>
+        ensures { IfOk result (λ all. all ≡ self) }
+    {
+        let mut items = self.items;
+        if items.is_empty() {
+            return Ok(Conditions::none());
+        }
+        items.shrink_to_fit();
+        Ok(Conditions {
+            items: Some(RcSlice::from_vec(items)?),
+        })
+    }
+}
