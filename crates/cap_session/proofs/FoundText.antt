@@ -49,6 +49,6 @@ some_stand_within s shared first last =
 -- whether there is none
 pub none_found : (b : Bool) (all : List Found) → b ≡ has_any all → IsTrue (not b) ↔ (all ≡ [])
 none_found true [] is = absurd (cc)
-none_found true (x ∷ all) is = ((λ no. absurd no), (λ none. absurd (cc)))
-none_found false [] is = ((λ yes. refl), (λ none. tt))
+none_found true (x ∷ all) is = ((λ no. absurd (cc)), (λ none. absurd (cc)))
+none_found false [] is = ((λ yes. refl), (λ none. refl))
 none_found false (x ∷ all) is = absurd (cc)

@@ -190,6 +190,6 @@ not_loaded profile holds turns r0 r1 s w x r =
       failures = r.failures;
       answer = record {
         before = good_soon next_entry [] known.0 r.given known.1;
-        at_end = λ end. rw known.1 tt;
+        at_end = λ end. rw known.1 refl;
       };
     }) (refl, refl)

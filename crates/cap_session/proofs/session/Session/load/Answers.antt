@@ -1,4 +1,4 @@
-use Rattle.std.proofs.Common.{◌≡◌, ◌∙◌, subst, length, true, arith}
+use Rattle.std.proofs.Common.{◌≡◌, ◌∙◌, subst, length, true, refl, arith}
 use Rattle.std.specs.Prelude.{nat_le}
 use Rattle.cap_tree.specs.Run.{values}
 use Rattle.cap_session.specs.Session.{SessionState, IsIn}
