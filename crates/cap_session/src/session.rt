@@ -311,12 +311,21 @@ impl Session {
         ensures report { IfOk result (λ text. text.items ≡ report usual (steps self.now.profile self.now.trace)) }
         ensures only { IsOkUnless result Refused.Memory }
     {
-        self.report_from(&Start::unknown(self.alloc))
+        self.whole(&Start::unknown(self.alloc))
     }
 
     /// The report of the trace, checked from its first line under another start. It fails only when memory runs out.
     pub fn report_from(&self, start: &Start) -> Result<Vec<u8>, Refused>
         ensures report { IfOk result
+            (λ text. text.items ≡ report (start_state start.now) (steps self.now.profile self.now.trace)) }
+        ensures only { IsOkUnless result Refused.Memory }
+    {
+        self.whole(start)
+    }
+
+    /// The text of all findings under a start.
+    fn whole(&self, start: &Start) -> Result<Vec<u8>, Refused>
+        ensures text { IfOk result
             (λ text. text.items ≡ report (start_state start.now) (steps self.now.profile self.now.trace)) }
         ensures only { IsOkUnless result Refused.Memory }
     {
@@ -366,6 +375,15 @@ impl Session {
         if !is_range(first, last, self.count()) {
             return Err(Refused::Position);
         }
+        self.part(first, last)
+    }
+
+    /// The text of the findings at a range of positions. Only that part of the tree is visited.
+    fn part(&self, first: usize, last: usize) -> Result<Vec<u8>, Refused>
+        ensures text { IfOk result
+            (λ text. text.items ≡ range_report usual (steps self.now.profile self.now.trace) first last) }
+        ensures only { IsOkUnless result Refused.Memory }
+    {
         let start = Start::unknown(self.alloc);
         let found = resolve_range(self.alloc, self.tree.summary(), &start, first, last)?;
         Ok(text_of(self.alloc, &self.tree, found.as_slice())?)
