@@ -15,7 +15,7 @@ PREFIX ?= /usr/local
 SOURCES = $(shell find crates -path '*/out' -prune -o -type f -name '*.rt' -print -o -type f -name '*.antt' -print) crates.txt HANDLES
 
 # What runs the built program, each with the program as its argument.
-SCRIPTS = examples/check tests/rows tests/talks tests/memory tests/faults tests/compare tests/recorder tests/annotate
+SCRIPTS = examples/check tests/rows tests/talks tests/memory tests/allocations tests/faults tests/compare tests/recorder tests/annotate
 
 .PHONY: all run test examples bench install clean
 all: capcheck

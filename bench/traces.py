@@ -37,6 +37,14 @@ def loud(lines):
     return out
 
 
+def ten(lines):
+    """The first, with ten findings, far from one another."""
+    out = quiet(lines)
+    for place in range(10):
+        out[64 + place * (len(out) - 64) // 10] = "100 write(0) RET 1"
+    return out
+
+
 def wide(lines):
     """A hundred processes, each with a thousand descriptors."""
     rng = random.Random(3)

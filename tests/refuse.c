@@ -1,14 +1,25 @@
 // Refuses one allocation of the program that it is loaded into: the one whose number REFUSE has, counted from 1. It writes a
-// byte to the descriptor REFUSE_SIGNALS once it did.
+// byte to the descriptor REFUSE_SIGNALS once it did. As the program ends it writes how many allocations were asked for, in decimal,
+// to the descriptor REFUSE_COUNTS.
 #define _GNU_SOURCE
 #include <dlfcn.h>
 #include <errno.h>
+#include <stdio.h>
 #include <stdlib.h>
 #include <unistd.h>
 
 static long before = -1;
+static long asked;
+
+__attribute__((destructor)) static void count(void) {
+    const char *counts = getenv("REFUSE_COUNTS");
+    long all = asked;
+    if (counts && dprintf(atoi(counts), "%ld", all) < 0)
+        abort();
+}
 
 static int refuses(void) {
+    asked++;
     if (before < 0) {
         const char *number = getenv("REFUSE");
         before = number ? atol(number) : 0;

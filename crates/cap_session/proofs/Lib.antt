@@ -6,11 +6,11 @@ pub mod Calls
 pub mod Cuts
 pub mod NextEntry
 pub mod Fed
+pub mod FoundText
 pub mod Goes
 pub mod Joins
 pub mod Lined
 pub mod Listing
-pub mod Parts
 pub mod Performed
 pub mod Reach
 pub mod Rejecting
@@ -19,6 +19,7 @@ pub mod Runs
 pub mod Soon
 pub mod Spelled
 pub mod Scripted
+pub mod Shared
 pub mod Started
 pub mod StartParses
 pub mod StartReads

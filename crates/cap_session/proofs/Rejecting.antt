@@ -17,6 +17,7 @@ use Rattle.cap_session.specs.declared.outcome.Outcome.{Outcome}
 use Rattle.cap_session.specs.declared.outcome.Outcome.TheVariants.{Clean, Findings, Refused, StartRefused, Memory}
 use Rattle.cap_session.specs.declared.outcome.Outcome.TheVariants.{ReadFault, WriteFault, TooLong}
 use Rattle.cap_session.proofs.Calls.{appends_none}
+use Rattle.cap_session.proofs.Soon.{good_soon}
 use Rattle.cap_session.proofs.Texted.{goes_nowhere}
 
 line_refused : {T : Type 0} (profile : Profile) (holds : T → List Entry → Type 0) (turns : ℕ) (r0 r1 s : SourceState)
@@ -175,3 +176,20 @@ taken profile holds turns r0 r1 s0 s1 w0 w1 x p t o r is script =
       good = known.1;
       script = subst (λ (u : List Entry). Replies profile turns s0 s1 w0 w1 u o) kept.1 here;
     })
+
+-- the trace was read to its end, and memory ran out before the script was read
+pub not_loaded : {T : Type 0} (profile : Profile) (holds : T → List Entry → Type 0) (turns : ℕ)
+    (r0 r1 s : SourceState) (w : SinkState) (x : T) → Reads trace soon holds turns r0 r1 (Ok x)
+    → EditStreams profile turns r0 r1 s s w w Memory
+not_loaded profile holds turns r0 r1 s w x r =
+    let known = r.answer.1 in
+    rejected profile holds turns r0 r1 s w w stops.Memory Memory (record {
+      given = r.given;
+      read = r.read;
+      calls = r.calls;
+      failures = r.failures;
+      answer = record {
+        before = good_soon next_entry [] known.0 r.given known.1;
+        at_end = λ end. rw known.1 refl;
+      };
+    }) (refl, refl)

@@ -1,7 +1,14 @@
 -- What a session holds, and what its calls answer.
-use Rattle.std.specs.Prelude.{◌≡◌, ◌≢◌, ◌↔◌, ℕ, Bool, true, false, List, map, Result, Ok, Err}
+use Rattle.std.specs.Prelude.{◌≡◌, ◌≢◌, ◌↔◌, ◌≤◌, ℕ, ◌+◌, Bool, true, false, List, length, map, All, Result, Ok, Err}
 use Rattle.cap_trace.specs.Entry.{Entry}
 use Rattle.cap_machine.specs.declared.cell.Profile.{Profile}
+use Rattle.cap_machine.specs.declared.verdict.Found.{Found}
+use Rattle.cap_machine.specs.Steps.{steps}
+use Rattle.cap_summary.specs.declared.step.Step.{Step}
+use Rattle.cap_summary.specs.Steps.{steps_of}
+use Rattle.cap_session.specs.Limits.{most_lines}
+use Rattle.cap_session.specs.declared.edit.Edit.{Edit}
+use Rattle.cap_session.specs.declared.edit.Edit.TheVariants.{Insert, Delete, Replace}
 use Rattle.cap_session.specs.declared.refused.Refused.{Refused}
 use Rattle.cap_session.specs.declared.refused.Refused.TheVariants.{LongLine, Shape, Pid, Argument, Right, Answer}
 use Rattle.cap_session.specs.declared.refused.Refused.TheVariants.{Position, Full, Memory}
@@ -14,6 +21,37 @@ pub record SessionState : Type 0 where
   pub trace : List Entry
   -- how many it may have
   pub limit : ℕ
+  -- how many summaries the last edit or load joined from two others
+  pub joins : ℕ
+
+-- What a contract sees of a trace that is read for a session.
+pub record LoadingState : Type 0 where
+  pub profile : Profile
+  pub trace : List Entry
+
+-- the lines of steps that share them
+abbrev pub lines_of : List Step → List Entry
+lines_of shared = map (λ (step : Step). step.line.value) shared
+
+-- each of the steps has the profile
+abbrev pub IsIn : Profile → List Step → Type 0
+IsIn profile shared = steps_of shared ≡ steps profile (lines_of shared)
+
+-- What always holds of the steps that a session keeps, and of those that it will take over.
+pub record IsKept (profile : Profile) (limit : ℕ) (shared : List Step) : Type 0 where
+  pub in_profile : IsIn profile shared
+  pub few : length shared ≤ limit
+  pub most : limit ≤ most_lines
+
+-- Each finding stands at one of the positions 1 to n.
+abbrev pub StandWithin : ℕ → List Found → Type 0
+StandWithin n found = All (λ (one : Found). (1 ≤ one.at) × (one.at ≤ n)) found
+
+-- how many lines the trees of an edit of n lines have: an inserted line is one of them
+abbrev pub lines_at : ℕ → Edit → ℕ
+lines_at n (Insert position line) = n + 1
+lines_at n (Delete position) = n
+lines_at n (Replace position line) = n
 
 -- A refusal other than out of memory is answered exactly where it is what was asked for.
 abbrev pub RefusesExactly : Result (List Entry) Refused → Result ℕ Refused → Type 0

@@ -93,15 +93,12 @@ pub fn edit_stream_as<T: Source, S: Source, W: Sink>(
     let Ok(held) = Held::new(alloc) else {
         return Outcome::Memory;
     };
-    let Ok(loading) = Loading::new(alloc, profile) else {
-        return Outcome::Memory;
-    };
-    match read_trace(alloc, turns, trace, loading) {
+    match read_trace(alloc, turns, trace, Loading::new(alloc, profile)) {
         Ok(loading) => {
-            let loaded = Script {
-                session: loading.session,
-                held,
+            let Ok(session) = loading.session() else {
+                return Outcome::Memory;
             };
+            let loaded = Script { session, held };
             edit_loaded(turns, script, writer, loaded, piece.as_mut_slice())
         }
         Err(stop) => write_stop(stop, writer),

@@ -22,6 +22,7 @@ mod devices;
 mod edit;
 mod editing;
 mod entries;
+mod found;
 mod from_start;
 mod held;
 mod laws;
@@ -38,6 +39,7 @@ mod session;
 mod short_text;
 mod start_fields;
 mod start_text;
+mod steps;
 mod write;
 
 pub use check::{check_stream, check_stream_as};

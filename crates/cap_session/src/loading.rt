@@ -1,42 +1,84 @@
-//! Loading: the lines of a trace are kept in a session, through the same code that reads a trace for a check.
-ghost use Rattle.std.specs.Prelude.{◌≡◌, [], length, IfOk};
+//! Loading: the lines of a trace are kept for a session, through the same code that reads a trace for a check.
+ghost use Rattle.std.specs.Prelude.{◌≡◌, ◌<◌, ◌++◌, ◌∷◌, [], length, IfOk, OnOk};
 ghost use Rattle.cap_session.specs.Limits.{most_lines};
+ghost use Rattle.cap_session.specs.Session.{LoadingState, IsKept, lines_of};
+ghost use Rattle.cap_tree.specs.Run.{values};
 
 use crate::entries::Keep;
 use crate::limits::MOST_LINES;
+use crate::refused::Refused;
 use crate::session::Session;
+use crate::steps::step_of;
 use cap_machine::{NoMemory, Profile};
+use cap_summary::Step;
 use cap_trace::Line;
 use std::alloc::Global;
+use std::marker::Model;
+use std::rc::Rc;
 
-/// A session that holds as many lines as a trace may have.
+/// The lines of a trace in a profile, as many as a trace may have, for a session that takes them over at the end.
 #[derive(Drop)]
 pub struct Loading {
-    pub session: Session,
-    ghost limit: { session.limit ≡ most_lines },
+    alloc: Global,
+    profile: Profile,
+    steps: Vec<Rc<Step>>,
+}
+
+impl Model for Loading {
+    ghost Value = { LoadingState };
+
+    ghost view = { λ l. record { profile = l.profile; trace = lines_of (values l.steps.items) } };
+
+    ghost invariant = { λ l. IsKept l.profile most_lines (values l.steps.items) };
 }
 
 impl Loading {
     /// One that holds no line, in a profile.
-    pub fn new(alloc: Global, profile: Profile) -> Result<Loading, NoMemory>
-        ensures { IfOk result (λ loading. (loading.session.profile ≡ profile) × (loading.session.trace ≡ [])) }
+    pub fn new(alloc: Global, profile: Profile) -> Loading
+        ensures { (result.profile ≡ profile) × (result.trace ≡ []) }
     {
-        let session = Session::with_profile(alloc, MOST_LINES, profile)?;
-        Ok(Loading { session })
+        Loading {
+            alloc,
+            profile,
+            steps: Vec::new(alloc),
+        }
+    }
+
+    fn push(&mut self, line: Line) -> Result<(), cap_tree::NoMemory>
+        requires { length self.old.trace < most_lines }
+        ensures ok { OnOk result (self.new.trace ≡ self.old.trace ++ line ∷ []) }
+        ensures profile { self.new.profile ≡ self.old.profile }
+    {
+        let step = step_of(self.alloc, self.profile, line)?;
+        self.steps.push(step)?;
+        Ok(())
+    }
+
+    /// A session of the lines, which holds as many as a trace may have.
+    pub fn session(self) -> Result<Session, Refused>
+        ensures profile { IfOk result (λ session. session.profile ≡ self.profile) }
+        ensures trace { IfOk result (λ session. session.trace ≡ self.trace) }
+        ensures limit { IfOk result (λ session. session.limit ≡ most_lines) }
+    {
+        let mut session = Session::with_profile(self.alloc, MOST_LINES, self.profile)?;
+        session.load_steps(self.steps)?;
+        Ok(session)
     }
 }
 
 impl Keep for Loading {
-    ghost keeps = { λ loading setting entries. (loading.session.profile ≡ setting.profile)
-        × (loading.session.trace ≡ entries) };
+    ghost keeps = { λ loading setting entries. (loading.profile ≡ setting.profile) × (loading.trace ≡ entries) };
 
-    ghost lines_of = { λ loading. length loading.session.trace };
+    ghost lines_of = { λ loading. length loading.trace };
 
     fn count(&self) -> usize {
-        self.session.count()
+        self.steps.len()
     }
 
     fn keep(&mut self, line: Line) -> Result<(), NoMemory> {
-        self.session.push(line)
+        match self.push(line) {
+            Ok(()) => Ok(()),
+            Err(_) => Err(NoMemory),
+        }
     }
 }

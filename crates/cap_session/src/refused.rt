@@ -91,6 +91,14 @@ impl From<NoMemory> for Refused {
     }
 }
 
+impl From<cap_tree::NoMemory> for Refused {
+    ghost from_gives = { λ _ refused. refused ≡ Memory };
+
+    fn from(_: cap_tree::NoMemory) -> Refused {
+        Refused::Memory
+    }
+}
+
 impl From<AllocError> for Refused {
     ghost from_gives = { λ _ refused. refused ≡ Memory };
 

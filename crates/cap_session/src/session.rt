@@ -1,42 +1,53 @@
 //! [`Session`]: a trace that is edited line by line, and reported when asked.
 //!
-//! Each report checks anew from the first line.
+//! The lines stand in a tree with summaries of its parts. An edit makes a few of them anew, and a report goes only into
+//! those in which something is found.
 ghost use Rattle.std.specs.Prelude.{◌≡◌, ◌+◌, ◌≤◌, ◌^◌, ◌<◌, ◌↔◌, ◌⊎◌, [], ◌∷◌, ◌++◌, length, Ok, Err, IsOk, IfOk};
-ghost use Rattle.std.specs.Prelude.{OnOk, OnErr, IsOkUnless, IsTrue};
+ghost use Rattle.std.specs.Prelude.{OnOk, OnErr, IsOkUnless, IsTrue, ◌*◌, vec_len, insert, remove, slice_set};
 ghost use Rattle.cap_machine.specs.Report.{report};
 ghost use Rattle.cap_machine.specs.Check.{check};
-ghost use Rattle.cap_machine.specs.Checked.{HasChecked};
-ghost use Rattle.cap_machine.specs.State.{State, usual};
+ghost use Rattle.cap_machine.specs.State.{usual};
 ghost use Rattle.cap_machine.specs.Steps.{steps};
 ghost use Rattle.cap_machine.specs.Table.{start_state};
 ghost use Rattle.cap_machine.specs.declared.cell.Profile.TheVariants.{One};
 ghost use Rattle.cap_session.specs.Edits.{is_position, inserted, deleted, replaced, loaded, edited, after, answers};
 ghost use Rattle.cap_session.specs.Limits.{most_lines};
-ghost use Rattle.cap_session.specs.Replies.{shown, lies_in, is_range, ranged, range_report};
-ghost use Rattle.cap_session.specs.Session.{SessionState, RefusesExactly, wanted};
+ghost use Rattle.cap_session.specs.Replies.{shown, is_range, ranged, range_report};
+ghost use Rattle.cap_session.specs.Session.{SessionState, RefusesExactly, wanted, lines_of, lines_at, IsIn, IsKept};
+ghost use Rattle.cap_summary.specs.Stands.{Stands, summed_up};
+ghost use Rattle.cap_summary.specs.Steps.{steps_of};
+ghost use Rattle.cap_summary.specs.declared.summary.Summary.{Summary};
+ghost use Rattle.cap_tree.specs.Bits.{bits};
+ghost use Rattle.cap_tree.specs.Run.{values};
 
 use crate::edit::Edit;
+use crate::found::text_of;
 use crate::refused::Refused;
-use cap_machine::{Checker, Found, NoMemory, Profile, Start, check, put_count, put_finding};
+use crate::steps::{step_of, steps_of};
+use cap_machine::{NoMemory, Profile, Start};
+use cap_summary::{Step, Summary, resolve, resolve_range};
 use cap_trace::{Line, parse_line, write_line};
+use cap_tree::{Meter, Tree};
 use std::alloc::Global;
 use std::marker::Model;
+use std::rc::Rc;
 
 /// The lines of a trace, at most as many as a limit, and the profile in which they are checked.
 #[derive(Drop)]
 pub struct Session {
     alloc: Global,
     profile: Profile,
-    lines: Vec<Line>,
+    tree: Tree<Summary>,
+    joins: usize,
     limit: usize,
 }
 
 impl Model for Session {
     ghost Value = { SessionState };
 
-    ghost view = { λ s. record { profile = s.profile; trace = s.lines.items; limit = s.limit } };
+    ghost view = { λ s. record { profile = s.profile; trace = lines_of s.tree; limit = s.limit; joins = s.joins } };
 
-    ghost invariant = { λ s. (length s.lines.items ≤ s.limit) × (s.limit ≤ most_lines) };
+    ghost invariant = { λ s. IsKept s.profile s.limit s.tree };
 }
 
 /// What a list of edits gave.
@@ -62,13 +73,6 @@ fn is_range(first: usize, last: usize, count: usize) -> bool
     1 <= first && first <= last && last <= count
 }
 
-/// Whether the position of a finding lies in a range.
-fn lies_in(first: usize, last: usize, found: &Found) -> bool
-    ensures { result ≡ lies_in first last found.now }
-{
-    first <= found.at && found.at <= last
-}
-
 impl Session {
     /// A session in profile 1 that holds no lines, and at most `limit` later.
     ///
@@ -76,7 +80,7 @@ impl Session {
     /// session.
     pub fn new(alloc: Global, limit: usize) -> Result<Session, NoMemory>
         requires { limit ≤ most_lines }
-        ensures { IfOk result (λ s. s ≡ (record { profile = One; trace = []; limit = limit })) }
+        ensures { IfOk result (λ s. s ≡ (record { profile = One; trace = []; limit = limit; joins = 0 })) }
     {
         Session::with_profile(alloc, limit, Profile::One)
     }
@@ -87,12 +91,17 @@ impl Session {
     /// session.
     pub fn with_profile(alloc: Global, limit: usize, profile: Profile) -> Result<Session, NoMemory>
         requires { limit ≤ most_lines }
-        ensures { IfOk result (λ s. s ≡ (record { profile = profile; trace = []; limit = limit })) }
+        ensures { IfOk result (λ s. s ≡ (record { profile = profile; trace = []; limit = limit; joins = 0 })) }
     {
+        let mut meter = Meter::new();
+        let Ok(tree) = Tree::from_list(alloc, &mut meter, Vec::new(alloc)) else {
+            return Err(NoMemory);
+        };
         Ok(Session {
             alloc,
             profile,
-            lines: Vec::new(alloc),
+            tree,
+            joins: 0,
             limit,
         })
     }
@@ -102,7 +111,7 @@ impl Session {
         ensures count { result ≡ length self.now.trace }
         ensures within { result ≤ self.now.limit }
     {
-        self.lines.len()
+        self.tree.len()
     }
 
     /// Puts a list in place of the trace, and answers its length.
@@ -117,25 +126,44 @@ impl Session {
         ensures unchanged { OnErr result (self.new ≡ self.old) }
         ensures limit { self.new.limit ≡ self.old.limit }
         ensures profile { self.new.profile ≡ self.old.profile }
+        ensures joins { OnOk result (self.new.joins ≤ 2 * length self.new.trace) }
     {
         if lines.len() > self.limit {
             return Err(Refused::Full);
         }
-        self.lines = lines;
-        Ok(self.lines.len())
+        let steps = steps_of(self.alloc, self.profile, lines)?;
+        Ok(self.load_steps(steps)?)
     }
 
-    /// Puts a line after the last.
-    pub(crate) fn push(&mut self, line: Line) -> Result<(), NoMemory>
-        requires { length self.old.trace < self.old.limit }
-        ensures ok { OnOk result (self.new.trace ≡ self.old.trace ++ line ∷ []) }
+    /// Puts a list of steps in its profile in place of the trace, and answers its length.
+    pub(crate) fn load_steps(&mut self, steps: Vec<Rc<Step>>) -> Result<usize, cap_tree::NoMemory>
+        requires few { vec_len steps ≤ self.old.limit }
+        requires in_profile { IsIn self.old.profile (values steps.items) }
+        ensures trace { OnOk result (self.new.trace ≡ lines_of (values steps.items)) }
+        ensures count { IfOk result (λ count. count ≡ length self.new.trace) }
+        ensures joins { OnOk result (self.new.joins ≤ 2 * length self.new.trace) }
+        ensures unchanged { OnErr result (self.new ≡ self.old) }
         ensures limit { self.new.limit ≡ self.old.limit }
         ensures profile { self.new.profile ≡ self.old.profile }
     {
-        match self.lines.push(line) {
-            Ok(()) => Ok(()),
-            Err(_) => Err(NoMemory),
-        }
+        let mut meter = Meter::new();
+        let tree = Tree::from_list(self.alloc, &mut meter, steps)?;
+        Ok(self.take_over(tree, &meter))
+    }
+
+    /// Puts a tree in the place of the one that there was, and answers its length.
+    fn take_over(&mut self, tree: Tree<Summary>, meter: &Meter) -> usize
+        requires in_profile { IsIn self.old.profile tree }
+        requires few { length tree ≤ self.old.limit }
+        ensures trace { self.new.trace ≡ lines_of tree }
+        ensures count { result ≡ length tree }
+        ensures joins { self.new.joins ≡ meter.now }
+        ensures limit { self.new.limit ≡ self.old.limit }
+        ensures profile { self.new.profile ≡ self.old.profile }
+    {
+        self.tree = tree;
+        self.joins = meter.joins() as usize;
+        self.count()
     }
 
     /// Puts the line that the bytes spell at a position, from 1 to one past the last, and answers the new count.
@@ -153,16 +181,16 @@ impl Session {
         ensures unchanged { OnErr result (self.new ≡ self.old) }
         ensures limit { self.new.limit ≡ self.old.limit }
         ensures profile { self.new.profile ≡ self.old.profile }
+        ensures joins { OnOk result (self.new.joins ≤ 12 * bits (length self.old.trace + 1) + 12) }
     {
-        if !is_position(position, self.lines.len() + 1) {
+        if !is_position(position, self.count() + 1) {
             return Err(Refused::Position);
         }
-        if self.lines.len() >= self.limit {
+        if self.count() >= self.limit {
             return Err(Refused::Full);
         }
         let line = parse_line(self.alloc, line)?;
-        self.lines.insert(position - 1, line)?;
-        Ok(self.lines.len())
+        self.insert_at(position - 1, line)
     }
 
     /// Takes the line at a position out, and answers the new count. Those after it move down by one.
@@ -177,12 +205,12 @@ impl Session {
         ensures unchanged { OnErr result (self.new ≡ self.old) }
         ensures limit { self.new.limit ≡ self.old.limit }
         ensures profile { self.new.profile ≡ self.old.profile }
+        ensures joins { OnOk result (self.new.joins ≤ 12 * bits (length self.old.trace) + 12) }
     {
-        if !is_position(position, self.lines.len()) {
+        if !is_position(position, self.count()) {
             return Err(Refused::Position);
         }
-        self.lines.remove(position - 1);
-        Ok(self.lines.len())
+        self.remove_at(position - 1)
     }
 
     /// Puts the line that the bytes spell in place of the one at a position, and answers the count.
@@ -198,12 +226,84 @@ impl Session {
         ensures unchanged { OnErr result (self.new ≡ self.old) }
         ensures limit { self.new.limit ≡ self.old.limit }
         ensures profile { self.new.profile ≡ self.old.profile }
+        ensures joins { OnOk result (self.new.joins ≤ 12 * bits (length self.old.trace) + 12) }
     {
-        if !is_position(position, self.lines.len()) {
+        if !is_position(position, self.count()) {
             return Err(Refused::Position);
         }
-        self.lines[position - 1] = parse_line(self.alloc, line)?;
-        Ok(self.lines.len())
+        let other = parse_line(self.alloc, line)?;
+        self.replace_at(position - 1, other)
+    }
+
+    /// Puts a line at a place, from 0 to the count.
+    fn insert_at(&mut self, at: usize, line: Line) -> Result<usize, Refused>
+        requires in_range { at ≤ length self.old.trace }
+        requires room { length self.old.trace < self.old.limit }
+        ensures trace { OnOk result (self.new.trace ≡ insert self.old.trace at line) }
+        ensures count { IfOk result (λ count. count ≡ length self.new.trace) }
+        ensures joins { OnOk result (self.new.joins ≤ 12 * bits (length self.old.trace + 1) + 12) }
+        ensures only { IsOkUnless result Refused.Memory }
+        ensures unchanged { OnErr result (self.new ≡ self.old) }
+        ensures limit { self.new.limit ≡ self.old.limit }
+        ensures profile { self.new.profile ≡ self.old.profile }
+    {
+        let step = step_of(self.alloc, self.profile, line)?;
+        let mut meter = Meter::new();
+        let tree = self.tree.insert(self.alloc, &mut meter, at, step)?;
+        Ok(self.take_over(tree, &meter))
+    }
+
+    /// Takes the line at a place out.
+    fn remove_at(&mut self, at: usize) -> Result<usize, Refused>
+        requires { at < length self.old.trace }
+        ensures trace { OnOk result (self.new.trace ≡ remove self.old.trace at) }
+        ensures count { IfOk result (λ count. count ≡ length self.new.trace) }
+        ensures joins { OnOk result (self.new.joins ≤ 12 * bits (length self.old.trace) + 12) }
+        ensures only { IsOkUnless result Refused.Memory }
+        ensures unchanged { OnErr result (self.new ≡ self.old) }
+        ensures limit { self.new.limit ≡ self.old.limit }
+        ensures profile { self.new.profile ≡ self.old.profile }
+    {
+        let mut meter = Meter::new();
+        let tree = self.tree.remove(self.alloc, &mut meter, at)?;
+        Ok(self.take_over(tree, &meter))
+    }
+
+    /// Puts a line in place of the one at a place.
+    fn replace_at(&mut self, at: usize, line: Line) -> Result<usize, Refused>
+        requires { at < length self.old.trace }
+        ensures trace { OnOk result (self.new.trace ≡ slice_set self.old.trace at line) }
+        ensures count { IfOk result (λ count. count ≡ length self.new.trace) }
+        ensures joins { OnOk result (self.new.joins ≤ 12 * bits (length self.old.trace) + 12) }
+        ensures only { IsOkUnless result Refused.Memory }
+        ensures unchanged { OnErr result (self.new ≡ self.old) }
+        ensures limit { self.new.limit ≡ self.old.limit }
+        ensures profile { self.new.profile ≡ self.old.profile }
+    {
+        let step = step_of(self.alloc, self.profile, line)?;
+        let mut meter = Meter::new();
+        let tree = self.tree.replace(self.alloc, &mut meter, at, step)?;
+        Ok(self.take_over(tree, &meter))
+    }
+
+    /// The lines as a tree of steps, each a line with the session's profile, and a summary of them all.
+    ///
+    /// It is lent as it is: a tree doesn't change, and the next edit puts another in its place.
+    pub fn tree(&self) -> &Tree<Summary>
+        ensures list { steps_of result.now ≡ steps self.now.profile self.now.trace }
+        ensures summary { (z : Summary) → Stands z result.now → summed_up z ≡ steps self.now.profile self.now.trace }
+    {
+        &self.tree
+    }
+
+    /// How many summaries the last accepted edit or load made by joining two others; 0 where there was none.
+    ///
+    /// After an edit it is at most `12 * bits n + 12`, where n is the count, with an inserted line, and `bits n` the
+    /// number of its binary digits.
+    pub fn joins(&self) -> usize
+        ensures { result ≡ self.now.joins }
+    {
+        self.joins
     }
 
     /// The report of the trace, checked from its first line under the usual start. It fails only when memory runs out.
@@ -211,7 +311,7 @@ impl Session {
         ensures report { IfOk result (λ text. text.items ≡ report usual (steps self.now.profile self.now.trace)) }
         ensures only { IsOkUnless result Refused.Memory }
     {
-        Ok(self.checked()?.report()?)
+        self.whole(&Start::unknown(self.alloc))
     }
 
     /// The report of the trace, checked from its first line under another start. It fails only when memory runs out.
@@ -220,40 +320,31 @@ impl Session {
             (λ text. text.items ≡ report (start_state start.now) (steps self.now.profile self.now.trace)) }
         ensures only { IsOkUnless result Refused.Memory }
     {
-        Ok(self.checked_from(start)?.report()?)
+        self.whole(start)
     }
 
-    /// Whether the report of the trace has no finding. It fails only when memory runs out.
-    pub(crate) fn is_clean(&self) -> Result<bool, NoMemory>
+    /// The text of all findings under a start.
+    fn whole(&self, start: &Start) -> Result<Vec<u8>, Refused>
+        ensures text { IfOk result
+            (λ text. text.items ≡ report (start_state start.now) (steps self.now.profile self.now.trace)) }
+        ensures only { IsOkUnless result Refused.Memory }
+    {
+        let found = resolve(self.alloc, self.tree.summary(), start)?;
+        Ok(text_of(self.alloc, &self.tree, found.as_slice())?)
+    }
+
+    /// Whether the report of the trace has no finding. It fails only when memory runs out, and takes none where
+    /// something is known of the whole trace.
+    pub(crate) fn is_clean(&self) -> Result<bool, cap_tree::NoMemory>
         ensures { IfOk result (λ clean. IsTrue clean ↔ (check usual (steps self.now.profile self.now.trace) ≡ [])) }
     {
-        Ok(self.checked()?.is_clean())
-    }
-
-    /// The check of the whole trace under the usual start.
-    fn checked(&self) -> Result<Checker, NoMemory>
-        ensures { IfOk result (λ checker. HasChecked checker self.now.profile usual self.now.trace) }
-    {
-        self.checked_by(Checker::new(self.alloc, self.profile))
-    }
-
-    /// The check of the whole trace under another start.
-    fn checked_from(&self, start: &Start) -> Result<Checker, NoMemory>
-        ensures { IfOk result (λ checker. HasChecked checker self.now.profile (start_state start.now) self.now.trace) }
-    {
-        self.checked_by(Checker::from_start(self.alloc, self.profile, start)?)
-    }
-
-    /// The check of the whole trace, by a checker that was given no line.
-    fn checked_by(&self, mut checker: Checker) -> Result<Checker, NoMemory>
-        requires { (s : State) × HasChecked checker self.now.profile s [] }
-        ensures { (s : State) → HasChecked checker self.now.profile s []
-            → IfOk result (λ done. HasChecked done self.now.profile s self.now.trace) }
-    {
-        for line in &self.lines {
-            checker.line(line)?;
+        let start = Start::unknown(self.alloc);
+        let summary = self.tree.summary();
+        if let Some(known) = summary.known() {
+            return Ok(!known.finds(&start));
         }
-        Ok(checker)
+        let found = resolve(self.alloc, summary, &start)?;
+        Ok(found.is_empty())
     }
 
     /// The canonical text of the line at a position, without a line feed.
@@ -264,11 +355,11 @@ impl Session {
         ensures position { (result ≡ Err Refused.Position) ↔ (shown self.now.trace position ≡ Err Refused.Position) }
         ensures only { OnErr result ((result ≡ Err Refused.Position) ⊎ (result ≡ Err Refused.Memory)) }
     {
-        if !is_position(position, self.lines.len()) {
+        if !is_position(position, self.count()) {
             return Err(Refused::Position);
         }
         let mut text = Vec::new(self.alloc);
-        write_line(&self.lines[position - 1], &mut text)?;
+        write_line(&self.tree.get(position - 1).line, &mut text)?;
         Ok(text)
     }
 
@@ -281,39 +372,21 @@ impl Session {
             ↔ (ranged self.now.profile self.now.trace first last ≡ Err Refused.Position) }
         ensures only { OnErr result ((result ≡ Err Refused.Position) ⊎ (result ≡ Err Refused.Memory)) }
     {
-        if !is_range(first, last, self.lines.len()) {
+        if !is_range(first, last, self.count()) {
             return Err(Refused::Position);
         }
-        match self.part(first, last) {
-            Ok(text) => Ok(text),
-            Err(NoMemory) => Err(Refused::Memory),
-        }
+        self.part(first, last)
     }
 
-    /// The report of a part, from the check of the whole.
-    fn part(&self, first: usize, last: usize) -> Result<Vec<u8>, NoMemory>
-        requires first { 1 ≤ first }
-        requires last { last ≤ length self.now.trace }
-        ensures { IfOk result
+    /// The text of the findings at a range of positions. Only that part of the tree is visited.
+    fn part(&self, first: usize, last: usize) -> Result<Vec<u8>, Refused>
+        ensures text { IfOk result
             (λ text. text.items ≡ range_report usual (steps self.now.profile self.now.trace) first last) }
+        ensures only { IsOkUnless result Refused.Memory }
     {
-        let all = check(
-            self.alloc,
-            self.profile,
-            &Start::unknown(self.alloc),
-            self.lines.as_slice(),
-        )?;
-        let mut text = Vec::new(self.alloc);
-        let mut count = 0;
-        for found in &all {
-            if lies_in(first, last, found) {
-                let line = &self.lines[found.at - 1];
-                put_finding(&mut text, found.at, line, &found.finding)?;
-                count += 1;
-            }
-        }
-        put_count(&mut text, count)?;
-        Ok(text)
+        let start = Start::unknown(self.alloc);
+        let found = resolve_range(self.alloc, self.tree.summary(), &start, first, last)?;
+        Ok(text_of(self.alloc, &self.tree, found.as_slice())?)
     }
 
     /// Makes one edit, as `insert`, `delete` and `replace` do.
@@ -326,6 +399,8 @@ impl Session {
         ensures unchanged { OnErr result (self.new ≡ self.old) }
         ensures limit { self.new.limit ≡ self.old.limit }
         ensures profile { self.new.profile ≡ self.old.profile }
+        ensures joins { OnOk result
+            (self.new.joins ≤ 12 * bits (lines_at (length self.old.trace) edit.now) + 12) }
     {
         match *edit {
             Edit::Insert { position, line } => self.insert(position, line),

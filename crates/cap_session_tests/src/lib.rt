@@ -10,6 +10,8 @@ mod edits;
 #[cfg(test)]
 mod from_starts;
 #[cfg(test)]
+mod joins;
+#[cfg(test)]
 mod scripts;
 #[cfg(test)]
 mod starts;

@@ -1,0 +1,14 @@
+use Rattle.std.proofs.Common.{◌∙◌, sym, ap, subst, List, length}
+use Rattle.cap_machine.specs.Check.{check}
+use Rattle.cap_machine.specs.Table.{start_state}
+use Rattle.cap_machine.specs.declared.verdict.Found.{Found}
+use Rattle.cap_session.specs.Session.{StandWithin}
+use Rattle.cap_session.proofs.FoundText.{stand_within}
+use Rattle.cap_session.proofs.session.Session.whole.Goals as goal
+
+pub text_of-requires-clause-within : goal.text_of-requires-clause-within
+text_of-requires-clause-within c =
+    let s = start_state c.args.start.now in
+    subst (λ (all : List Found). StandWithin (length c.self.inside.tree) all)
+    (sym (c.as_slice.ensures.value ∙ c.in_ok-found.ensures ∙ ap (check s) c.summary.ensures.steps))
+    (stand_within s c.self.inside.tree)
