@@ -14,6 +14,24 @@ use crate::quick::quick;
 use crate::scan::line;
 use std::alloc::Global;
 
+/// The same for a line that isn't read in one pass.
+#[inline(never)]
+fn parse_with_care(alloc: Global, bytes: &[u8]) -> Result<Line, LineFault>
+    ensures found { IfOk result (λ l. Spells bytes.now l) }
+    ensures faults { FaultsAreExact bytes.now result }
+    ensures memory { result ≡ Err Memory → SpellsSome bytes.now }
+    ensures only { ReadsOnly bytes.now result }
+    ensures reads { MatchesReading bytes.now result }
+{
+    match line(bytes) {
+        Err(fault) => Err(LineFault::of(fault)),
+        Ok(seen) => match owned(alloc, &seen) {
+            Ok(line) => Ok(line),
+            Err(_) => Err(LineFault::Memory),
+        },
+    }
+}
+
 /// The line that the bytes spell: at most 1,024 of them, without a line feed at their end.
 ///
 /// Reading takes no memory but for what is kept of the text: the descriptors of a start, paths, flags,
@@ -35,15 +53,9 @@ pub fn parse_line(alloc: Global, bytes: &[u8]) -> Result<Line, LineFault>
     // The same by the function that reads from the left.
     ensures reads { MatchesReading bytes.now result }
 {
-    if let Some(line) = quick(alloc, bytes) {
-        return Ok(line);
-    }
-    match line(bytes) {
-        Err(fault) => Err(LineFault::of(fault)),
-        Ok(seen) => match owned(alloc, &seen) {
-            Ok(line) => Ok(line),
-            Err(_) => Err(LineFault::Memory),
-        },
+    match quick(alloc, bytes) {
+        Some(line) => Ok(line),
+        None => parse_with_care(alloc, bytes),
     }
 }
 

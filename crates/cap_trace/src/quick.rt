@@ -23,6 +23,7 @@ use crate::seen::fcntl_kind;
 use std::alloc::Global;
 
 /// What follows this byte, where a text begins with it.
+#[inline(always)]
 fn behind(byte: u8, text: &[u8]) -> Option<&[u8]>
     ensures { IfSome result (λ r. text.now ≡ byte ∷ r.now) }
 {
@@ -33,6 +34,7 @@ fn behind(byte: u8, text: &[u8]) -> Option<&[u8]>
 }
 
 /// A descriptor before this byte, and what follows the byte.
+#[inline(always)]
 fn fd_before(stop: u8, text: &[u8]) -> Option<(Fd, &[u8])>
     ensures { IfSome result (λ p. Before text.now (an_fd p.0) stop p.1.now) }
 {
@@ -106,6 +108,7 @@ fn path_before(stop: u8, text: &[u8]) -> Option<(&[u8], &[u8])>
 }
 
 /// The answer of a call of this kind.
+#[inline(never)]
 fn answered(kind: Kind, tail: &[u8]) -> Option<Answer>
     ensures { IfSome result (λ a. answer_at kind tail.now ≡ Ok a) }
 {
@@ -128,7 +131,9 @@ fn on_fd(call: FdCall, text: &[u8]) -> Option<Item>
     ensures { IfSome result (λ i. SpellsAfter (listed (forms.OnFd call)) text.now i) }
 {
     let (fd, tail) = fd_before(b')', text)?;
-    let answer = answer_of(Form::OnFd(call), tail)?;
+    let Ok(answer) = answer(call.kind(), tail) else {
+        return None;
+    };
     let call = Call::OnFd(call, fd);
     Some(Item::Call { call, answer })
 }
