@@ -5,23 +5,23 @@ ghost use Rattle.cap_trace.specs.declared.fault.LineFault.TheVariants.{Memory};
 ghost use Rattle.cap_trace.specs.Spelling.{Spells};
 ghost use Rattle.cap_trace.specs.Parsing.{SpellsSome, FaultsAreExact, ReadsOnly, MatchesReading, OneLine};
 ghost use Rattle.cap_trace.specs.Parsing.{ReadingIsSpelling, WrittenIsRead};
+ghost use Rattle.cap_trace.specs.Rows.{head_seen};
+ghost use Rattle.cap_trace.specs.Quick.{Starts};
 ghost use Rattle.cap_trace.specs.Rewriting.{OnlyRightsAreRewritten};
 
+use crate::calls::Form;
 use crate::fault::LineFault;
-use crate::line::Line;
+use crate::line::{Call, Item, Line};
+use crate::names::Head;
 use crate::owned::owned;
-use crate::quick::quick;
+use crate::quick::{Start, item_after, on_fd, start_of};
 use crate::scan::line;
 use std::alloc::Global;
 
-/// The same for a line that isn't read in one pass.
+/// The line that the bytes spell, read with care.
 #[inline(never)]
-fn parse_with_care(alloc: Global, bytes: &[u8]) -> Result<Line, LineFault>
-    ensures found { IfOk result (λ l. Spells bytes.now l) }
-    ensures faults { FaultsAreExact bytes.now result }
-    ensures memory { result ≡ Err Memory → SpellsSome bytes.now }
-    ensures only { ReadsOnly bytes.now result }
-    ensures reads { MatchesReading bytes.now result }
+fn read_with_care(alloc: Global, bytes: &[u8]) -> Result<Line, LineFault>
+    ensures { MatchesReading bytes.now result }
 {
     match line(bytes) {
         Err(fault) => Err(LineFault::of(fault)),
@@ -30,6 +30,45 @@ fn parse_with_care(alloc: Global, bytes: &[u8]) -> Result<Line, LineFault>
             Err(_) => Err(LineFault::Memory),
         },
     }
+}
+
+/// The line that begins so, in one pass where that can be.
+#[inline(never)]
+fn read_rest(alloc: Global, bytes: &[u8], start: Start<'_>) -> Result<Line, LineFault>
+    requires { Starts bytes.now start.pid (head_seen start.head) start.text.now }
+    ensures { MatchesReading bytes.now result }
+{
+    match item_after(alloc, start.head, start.text) {
+        Some(item) => Ok(Line {
+            pid: start.pid,
+            item,
+        }),
+        None => read_with_care(alloc, bytes),
+    }
+}
+
+/// The line that the bytes spell. A call on a descriptor, which most lines are, is made here and copied nowhere.
+#[inline(always)]
+fn read_line(alloc: Global, bytes: &[u8]) -> Result<Line, LineFault>
+    ensures { MatchesReading bytes.now result }
+{
+    let Some(start) = start_of(bytes) else {
+        return read_with_care(alloc, bytes);
+    };
+    let Head::Listed(form) = start.head else {
+        return read_rest(alloc, bytes, start);
+    };
+    let Form::OnFd(call) = form else {
+        return read_rest(alloc, bytes, start);
+    };
+    let Some((fd, answer)) = on_fd(call, start.text) else {
+        return read_with_care(alloc, bytes);
+    };
+    let call = Call::OnFd(call, fd);
+    Ok(Line {
+        pid: start.pid,
+        item: Item::Call { call, answer },
+    })
 }
 
 /// The line that the bytes spell: at most 1,024 of them, without a line feed at their end.
@@ -53,10 +92,7 @@ pub fn parse_line(alloc: Global, bytes: &[u8]) -> Result<Line, LineFault>
     // The same by the function that reads from the left.
     ensures reads { MatchesReading bytes.now result }
 {
-    match quick(alloc, bytes) {
-        Some(line) => Ok(line),
-        None => parse_with_care(alloc, bytes),
-    }
+    read_line(alloc, bytes)
 }
 
 /// Bytes spell at most one line.
