@@ -1,5 +1,7 @@
 -- From what reading gives to the clauses of parse_line.
-use Rattle.std.proofs.Common.{◌≡◌, ℕ, List, Option, Some, None, Result, Ok, Err, refl, sym, ap, ◌∙◌, inl}
+use Rattle.std.proofs.Common.{◌≡◌, ℕ, List, Option, Some, None, Result, Ok, Err, refl, sym, ap, ◌∙◌, inl, inr}
+use Rattle.std.specs.Prelude.{IfOk}
+use Rattle.cap_trace.specs.Spelling.{Spells}
 use Rattle.cap_trace.specs.declared.fault.ReadFault.{ReadFault}
 use Rattle.cap_trace.specs.declared.fault.ReadFault.TheVariants as faults
 use Rattle.cap_trace.specs.declared.fault.LineFault.{LineFault}
@@ -7,8 +9,8 @@ use Rattle.cap_trace.specs.declared.fault.LineFault.TheVariants as line_faults
 use Rattle.cap_trace.specs.Entry.{Entry}
 use Rattle.cap_trace.specs.Reading.{line_of, fault}
 use Rattle.cap_trace.specs.Fault.{line_fault}
-use Rattle.cap_trace.specs.Parsing.{SpellsNone, FaultsAreExact, ReadsOnly}
-use Rattle.cap_trace.proofs.WholeLines.{line_again}
+use Rattle.cap_trace.specs.Parsing.{SpellsNone, SpellsSome, FaultsAreExact, ReadsOnly, MatchesReading}
+use Rattle.cap_trace.proofs.WholeLines.{line_again, line_takes}
 use Rattle.cap_trace.proofs.Rising.{ok_same}
 
 read_fault : LineFault → Option ReadFault
@@ -32,14 +34,14 @@ read_fault_again faults.Answer = refl
 same_fault : (d f : ReadFault) → line_fault d ≡ line_fault f → ◌≡◌ {A = Option ReadFault} (Some d) (Some f)
 same_fault d f e = sym (read_fault_again d) ∙ ap read_fault e ∙ read_fault_again f
 
-pub none_spelled : (bytes : List ℕ) (d : ReadFault) → line_of bytes ≡ Err d → SpellsNone bytes
+none_spelled : (bytes : List ℕ) (d : ReadFault) → line_of bytes ≡ Err d → SpellsNone bytes
 none_spelled bytes d h = λ e s. absurd (let g = sym h ∙ line_again bytes e s in cc)
 
 fault_is : (bytes : List ℕ) (d : ReadFault) → line_of bytes ≡ Err d → fault bytes ≡ Some d
 fault_is bytes d h =
     ap (λ (r : Result Entry ReadFault). elim r as (λ _. Option ReadFault) [ Ok e ↦ None | Err f ↦ Some f ]) h
 
-pub faults_exact : (bytes : List ℕ) (d : ReadFault) (l : LineFault) → line_of bytes ≡ Err d → l ≡ line_fault d
+faults_exact : (bytes : List ℕ) (d : ReadFault) (l : LineFault) → line_of bytes ≡ Err d → l ≡ line_fault d
     → FaultsAreExact bytes (Err l)
 faults_exact bytes d l h e f = (
   λ given. let same : l ≡ line_fault f = (let g = given in cc) in
@@ -49,9 +51,43 @@ faults_exact bytes d l h e f = (
       ap Err (e ∙ ap line_fault one),
 )
 
-pub only_none : (bytes : List ℕ) (d : ReadFault) (r : Result Entry LineFault) → line_of bytes ≡ Err d
+only_none : (bytes : List ℕ) (d : ReadFault) (r : Result Entry LineFault) → line_of bytes ≡ Err d
     → ReadsOnly bytes r
 only_none bytes d r h = λ e s. absurd (none_spelled bytes d h e s)
 
-pub only_this : (bytes : List ℕ) (x : Entry) → line_of bytes ≡ Ok x → ReadsOnly bytes (Ok x)
+only_this : (bytes : List ℕ) (x : Entry) → line_of bytes ≡ Ok x → ReadsOnly bytes (Ok x)
 only_this bytes x h = λ e s. inl (ap Ok (ok_same x e (sym h ∙ line_again bytes e s)))
+
+-- ---- each clause, by what reading gives
+
+no_memory : (f : ReadFault) → line_fault f ≡ line_faults.Memory → ⊥
+no_memory faults.TooLong e = cc
+no_memory faults.Shape e = cc
+no_memory faults.Pid e = cc
+no_memory faults.Argument e = cc
+no_memory faults.Right e = cc
+no_memory faults.Answer e = cc
+
+pub found_by : (bytes : List ℕ) (r : Result Entry LineFault) → MatchesReading bytes r → IfOk r (λ e. Spells bytes e)
+found_by bytes (Ok e) h = line_takes bytes e h
+found_by bytes (Err t) h = tt
+
+pub faults_by : (bytes : List ℕ) (r : Result Entry LineFault) → MatchesReading bytes r → FaultsAreExact bytes r
+faults_by bytes (Ok e) h f = (λ given. absurd (let g = given in cc), λ p. absurd (p.0 e (line_takes bytes e h)))
+faults_by bytes (Err t) (inl x) f = faults_exact bytes x.0 t x.1 x.2 f
+faults_by bytes (Err t) (inr x) f = (
+  λ given. absurd (no_memory f (let g : t ≡ line_fault f = (let k = given in cc) in sym g ∙ x.0)),
+  λ p. absurd (p.0 x.1.0 (line_takes bytes x.1.0 x.1.1)),
+)
+
+pub memory_by : (bytes : List ℕ) (r : Result Entry LineFault) → MatchesReading bytes r
+    → r ≡ Err line_faults.Memory → SpellsSome bytes
+memory_by bytes (Ok e) h given = absurd cc
+memory_by bytes (Err t) (inl x) given =
+    absurd (no_memory x.0 (let g : t ≡ line_faults.Memory = cc in sym x.2 ∙ g))
+memory_by bytes (Err t) (inr x) given = (x.1.0, line_takes bytes x.1.0 x.1.1)
+
+pub only_by : (bytes : List ℕ) (r : Result Entry LineFault) → MatchesReading bytes r → ReadsOnly bytes r
+only_by bytes (Ok e) h = only_this bytes e h
+only_by bytes (Err t) (inl x) = only_none bytes x.0 (Err t) x.1
+only_by bytes (Err t) (inr x) = λ e s. inr (ap Err x.0)

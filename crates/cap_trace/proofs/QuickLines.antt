@@ -16,20 +16,21 @@ use Rattle.cap_trace.specs.declared.line.Call.{Call}
 use Rattle.cap_trace.specs.declared.line.Answer.{Answer}
 use Rattle.cap_trace.specs.Names.{Head, name_of, head_named}
 use Rattle.cap_trace.specs.Fields.{are_items, is_plain, is_between, item_step, quoted}
-use Rattle.cap_trace.specs.Entry.{an_fd, a_dir, some_flags, some_rights, a_command, free_text}
+use Rattle.cap_trace.specs.Entry.{head_of, an_fd, a_dir, some_flags, some_rights, a_command, free_text}
 use Rattle.cap_trace.specs.Entry.{Arg, head_of_call, args_of_call, kind_of, a_path}
 use Rattle.cap_trace.specs.Spelling.{Spells, SpellsArg, SpellsArgs, IsHead}
 use Rattle.cap_trace.specs.Quotes.{cut_at_byte}
 use Rattle.cap_trace.specs.declared.fault.ReadFault.{ReadFault}
 use Rattle.cap_trace.specs.declared.line.Dir.{Dir}
 use Rattle.cap_trace.specs.Reading.{◌>>=◌, pid_at, fd_at, dir_at, flags_at, rights_at, command_at, free_at}
-use Rattle.cap_trace.specs.Reading.{arg_at, answer_at}
+use Rattle.cap_trace.specs.Reading.{arg_at, answer_at, line_of}
 use Rattle.cap_trace.specs.Forms.{Slot, fd, dir, flags, rights, command, free}
-use Rattle.cap_trace.specs.Quick.{Before, Between, SpellsAfter}
+use Rattle.cap_trace.specs.Quick.{Before, Between, SpellsAfter, Starts}
 use Rattle.cap_trace.proofs.Cuts.{both, both_true, cut_takes}
 use Rattle.cap_trace.proofs.Heads.{head_takes}
 use Rattle.cap_trace.proofs.Spelled.{pid_takes, arg_takes}
 use Rattle.cap_trace.proofs.Answered.{answer_takes}
+use Rattle.cap_trace.proofs.WholeLines.{line_again}
 
 -- a cut, where what was cut is known better
 cut_is : (c : ℕ) (t a b x y : List ℕ) → cut_at_byte c t ≡ Some (a, b) → a ≡ x → b ≡ y → t ≡ x ++ (c ∷ y)
@@ -172,21 +173,38 @@ call_after h text tail x c a same e b is_answer =
       whole = k.1;
     })
 
--- a name, with what follows its bracket
-pub line_after : (bytes pid rest name text : List ℕ) (p : ℕ) (h : Head) (i : Item) → length bytes ≤ 1024
+-- how a line begins
+pub starts : (bytes pid rest name text : List ℕ) (p : ℕ) (h : Head) → length bytes ≤ 1024
     → Some (pid, rest) ≡ cut_at_byte 32 bytes → pid_at pid ≡ Ok p → Some (name, text) ≡ cut_at_byte 40 rest
-    → Some h ≡ head_named name → SpellsAfter h text i → Spells bytes (record { pid = p; item = i })
-line_after bytes pid rest name text p h i short at is_pid after named s =
+    → Some h ≡ head_named name → Starts bytes p h text
+starts bytes pid rest name text p h short at is_pid after named =
     let k = pid_takes pid p is_pid in
-    let n = head_takes name h (sym named) in (
-      s.args.texts,
-      record {
-        short = short;
-        pid = k.1;
-        head = subst IsHead {x = h} (sym s.head) n.1;
-        args = s.args.args;
-        whole = s.whole;
-        parts = cut_is 32 bytes pid rest (decimal p) _ (sym at) k.0
-            (cut_is 40 rest name text _ _ (sym after) (sym n.0 ∙ sym (ap name_of s.head)) s.args.parts);
-      },
-    )
+    let n = head_takes name h (sym named) in
+    record {
+      short = short;
+      pid = k.1;
+      head = n.1;
+      parts = cut_is 32 bytes pid rest (decimal p) _ (sym at) k.0
+          (cut_is 40 rest name text (name_of h) text (sym after) (sym n.0) refl);
+    }
+
+-- the line, by what follows its bracket
+pub spelled_line : (bytes text : List ℕ) (p : ℕ) (h : Head) (i : Item) → Starts bytes p h text → SpellsAfter h text i
+    → Spells bytes (record { pid = p; item = i })
+spelled_line bytes text p h i b s = (
+  s.args.texts,
+  record {
+    short = b.short;
+    pid = b.pid;
+    head = subst IsHead {x = h} (sym s.head) b.head;
+    args = s.args.args;
+    whole = s.whole;
+    parts = b.parts ∙ ap (λ (n : List ℕ). decimal p ++ (32 ∷ (n ++ (40 ∷ text)))) (sym (ap name_of s.head))
+        ∙ ap (λ (r : List ℕ). decimal p ++ (32 ∷ (name_of (head_of i) ++ (40 ∷ r)))) s.args.parts;
+  },
+)
+
+pub read_so : (bytes text : List ℕ) (p : ℕ) (h : Head) (i : Item) → Starts bytes p h text → SpellsAfter h text i
+    → line_of bytes ≡ Ok (record { pid = p; item = i })
+read_so bytes text p h i b s =
+    line_again bytes (record { pid = p; item = i }) (spelled_line bytes text p h i b s)

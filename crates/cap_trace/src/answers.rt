@@ -28,6 +28,7 @@ fn pair(most: u64, most_second: u64, text: &[u8]) -> Result<Answer, ReadFault>
 }
 
 /// A number, at most so much.
+#[inline(always)]
 fn number(most: u64, text: &[u8]) -> Result<Answer, ReadFault>
     ensures { Gives (λ a. a) result (number_at (num_at most text.now)) }
 {
@@ -59,6 +60,7 @@ fn any(text: &[u8]) -> Result<Answer, ReadFault>
 }
 
 /// The result of a call of this kind, without an errno.
+#[inline(always)]
 #[tactic(auto, unfolding(crate::specs::Reading::made_at))]
 fn made(kind: Kind, text: &[u8]) -> Result<Answer, ReadFault>
     ensures { Gives (λ a. a) result (made_at kind text.now) }
@@ -76,6 +78,7 @@ fn made(kind: Kind, text: &[u8]) -> Result<Answer, ReadFault>
 }
 
 /// What follows the arguments of a call.
+#[inline(always)]
 #[tactic(auto, unfolding(crate::specs::Reading::answer_at))]
 pub(crate) fn answer(kind: Kind, tail: &[u8]) -> Result<Answer, ReadFault>
     ensures { Gives (λ a. a) result (answer_at kind tail.now) }

@@ -33,11 +33,16 @@ fn word(text: &[u8]) -> bool
 fn after_flag_byte(begins: bool, byte: u8) -> Option<bool>
     ensures { result ≡ flag_step begins byte }
 {
-    match (begins, byte) {
-        (true, _) if byte.is_ascii_uppercase() => Some(false),
-        (false, b'|') => Some(true),
-        (false, _) if flag_byte(byte) => Some(false),
-        _ => None,
+    if byte.is_ascii_uppercase() {
+        Some(false)
+    } else if begins {
+        None
+    } else if byte == b'|' {
+        Some(true)
+    } else if byte == b'_' || byte.is_ascii_digit() {
+        Some(false)
+    } else {
+        None
     }
 }
 

@@ -77,6 +77,15 @@ impl FdCall {
     }
 }
 
+impl FdCall {
+    /// What the call answers where it doesn't fail.
+    pub(crate) fn kind(self) -> Kind
+        ensures { result ≡ (names.on_fd self).kind }
+    {
+        self.row().kind
+    }
+}
+
 impl SendCall {
     fn row(self) -> Row
         ensures { row_seen result ≡ names.sends self }
@@ -379,6 +388,7 @@ static SLOTS: [u8; 512] = [
 
 /// The slot of a name, by its length and four of its bytes: each name of the table has one of its own. All of them have
 /// 3 to 16 bytes.
+#[inline(always)]
 fn slot_of(name: &[u8]) -> Option<usize>
     ensures some { IfSome result (λ k. (k ≡ slot_at name.now) × (k < 512)) }
     ensures none { IsNone result ↔ ((length name.now < 3) ⊎ (16 < length name.now)) }
@@ -396,6 +406,7 @@ fn slot_of(name: &[u8]) -> Option<usize>
 }
 
 /// The form in a slot.
+#[inline(always)]
 #[tactic(auto, unfolding(crate::specs::Slots::slots, crate::specs::Names::all_forms))]
 fn in_slot(slot: usize) -> Option<Form>
     requires { slot < 512 }
@@ -405,6 +416,7 @@ fn in_slot(slot: usize) -> Option<Form>
 }
 
 /// The form of a name of the table.
+#[inline(always)]
 pub(crate) fn form_of(name: &[u8]) -> Option<Form>
     ensures { result ≡ form_named name.now }
 {
@@ -461,6 +473,7 @@ impl<'a> Head<'a> {
 }
 
 /// The form of a name, where it is one.
+#[inline(always)]
 pub(crate) fn head_of(name: &[u8]) -> Option<Head<'_>>
     ensures { option_map head_seen result ≡ head_named name.now }
 {

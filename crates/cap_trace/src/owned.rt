@@ -254,7 +254,6 @@ fn call_of(alloc: Global, seen: &CallSeen<'_>) -> Result<Call, AllocError>
 }
 
 /// The line that was seen, in memory of its own.
-#[inline(never)]
 pub(crate) fn owned(alloc: Global, seen: &LineSeen<'_>) -> Result<Line, AllocError>
     requires { IsProper (line_seen seen.now) }
     ensures { IfOk result (λ l. l ≡ line_seen seen.now) }

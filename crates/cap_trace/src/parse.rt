@@ -5,14 +5,71 @@ ghost use Rattle.cap_trace.specs.declared.fault.LineFault.TheVariants.{Memory};
 ghost use Rattle.cap_trace.specs.Spelling.{Spells};
 ghost use Rattle.cap_trace.specs.Parsing.{SpellsSome, FaultsAreExact, ReadsOnly, MatchesReading, OneLine};
 ghost use Rattle.cap_trace.specs.Parsing.{ReadingIsSpelling, WrittenIsRead};
+ghost use Rattle.cap_trace.specs.Rows.{head_seen};
+ghost use Rattle.cap_trace.specs.Quick.{Starts};
 ghost use Rattle.cap_trace.specs.Rewriting.{OnlyRightsAreRewritten};
 
+use crate::calls::Form;
 use crate::fault::LineFault;
-use crate::line::Line;
+use crate::line::{Call, Item, Line};
+use crate::names::Head;
 use crate::owned::owned;
-use crate::quick::quick;
+use crate::quick::{Start, item_after, on_fd, start_of};
 use crate::scan::line;
 use std::alloc::Global;
+
+/// The line that the bytes spell, read with care.
+#[inline(never)]
+fn read_with_care(alloc: Global, bytes: &[u8]) -> Result<Line, LineFault>
+    ensures { MatchesReading bytes.now result }
+{
+    match line(bytes) {
+        Err(fault) => Err(LineFault::of(fault)),
+        Ok(seen) => match owned(alloc, &seen) {
+            Ok(line) => Ok(line),
+            Err(_) => Err(LineFault::Memory),
+        },
+    }
+}
+
+/// The line that begins so, in one pass where that can be.
+#[inline(never)]
+fn read_rest(alloc: Global, bytes: &[u8], start: Start<'_>) -> Result<Line, LineFault>
+    requires { Starts bytes.now start.pid (head_seen start.head) start.text.now }
+    ensures { MatchesReading bytes.now result }
+{
+    match item_after(alloc, start.head, start.text) {
+        Some(item) => Ok(Line {
+            pid: start.pid,
+            item,
+        }),
+        None => read_with_care(alloc, bytes),
+    }
+}
+
+/// The line that the bytes spell. A call on a descriptor, which most lines are, is made here and copied nowhere.
+#[inline(always)]
+fn read_line(alloc: Global, bytes: &[u8]) -> Result<Line, LineFault>
+    ensures { MatchesReading bytes.now result }
+{
+    let Some(start) = start_of(bytes) else {
+        return read_with_care(alloc, bytes);
+    };
+    let Head::Listed(form) = start.head else {
+        return read_rest(alloc, bytes, start);
+    };
+    let Form::OnFd(call) = form else {
+        return read_rest(alloc, bytes, start);
+    };
+    let Some((fd, answer)) = on_fd(call, start.text) else {
+        return read_with_care(alloc, bytes);
+    };
+    let call = Call::OnFd(call, fd);
+    Ok(Line {
+        pid: start.pid,
+        item: Item::Call { call, answer },
+    })
+}
 
 /// The line that the bytes spell: at most 1,024 of them, without a line feed at their end.
 ///
@@ -35,16 +92,7 @@ pub fn parse_line(alloc: Global, bytes: &[u8]) -> Result<Line, LineFault>
     // The same by the function that reads from the left.
     ensures reads { MatchesReading bytes.now result }
 {
-    if let Some(line) = quick(alloc, bytes) {
-        return Ok(line);
-    }
-    match line(bytes) {
-        Err(fault) => Err(LineFault::of(fault)),
-        Ok(seen) => match owned(alloc, &seen) {
-            Ok(line) => Ok(line),
-            Err(_) => Err(LineFault::Memory),
-        },
-    }
+    read_line(alloc, bytes)
 }
 
 /// Bytes spell at most one line.

@@ -4,17 +4,19 @@
 ghost use Rattle.std.specs.Prelude.{◌≡◌, ◌∷◌, ◌<◌, IfSome, Ok, length, not, position};
 ghost use Rattle.cap_trace.specs.Fields.{is_plain};
 ghost use Rattle.cap_trace.specs.declared.calls.Form.TheVariants as forms;
+ghost use Rattle.cap_trace.specs.declared.line.Call.TheVariants as calls;
+ghost use Rattle.cap_trace.specs.declared.line.Item.TheVariants as items;
 ghost use Rattle.cap_trace.specs.Names.{listed, unlisted, row_of};
 ghost use Rattle.cap_trace.specs.Rows.{head_seen};
 ghost use Rattle.cap_trace.specs.Entry.{an_fd, a_dir, some_flags, a_path, a_command, free_text};
-ghost use Rattle.cap_trace.specs.Reading.{line_of, answer_at};
-ghost use Rattle.cap_trace.specs.Quick.{Before, SpellsAfter};
+ghost use Rattle.cap_trace.specs.Reading.{answer_at};
+ghost use Rattle.cap_trace.specs.Quick.{Before, SpellsAfter, Starts};
 
 use crate::answers::answer;
 use crate::calls::{AtFlagsCall, BareCall, FdCall, FlagsCall, Form, Kind, PathCall};
 use crate::fields::plain;
 use crate::limits::LONGEST_LINE;
-use crate::line::{Answer, Call, Dir, Fd, Item, Line};
+use crate::line::{Answer, Call, Dir, Fd, Item, Pid};
 use crate::names::{Head, head_of};
 use crate::owned;
 use crate::quotes::cut;
@@ -23,6 +25,7 @@ use crate::seen::fcntl_kind;
 use std::alloc::Global;
 
 /// What follows this byte, where a text begins with it.
+#[inline(always)]
 fn behind(byte: u8, text: &[u8]) -> Option<&[u8]>
     ensures { IfSome result (λ r. text.now ≡ byte ∷ r.now) }
 {
@@ -33,6 +36,7 @@ fn behind(byte: u8, text: &[u8]) -> Option<&[u8]>
 }
 
 /// A descriptor before this byte, and what follows the byte.
+#[inline(always)]
 fn fd_before(stop: u8, text: &[u8]) -> Option<(Fd, &[u8])>
     ensures { IfSome result (λ p. Before text.now (an_fd p.0) stop p.1.now) }
 {
@@ -106,6 +110,7 @@ fn path_before(stop: u8, text: &[u8]) -> Option<(&[u8], &[u8])>
 }
 
 /// The answer of a call of this kind.
+#[inline(never)]
 fn answered(kind: Kind, tail: &[u8]) -> Option<Answer>
     ensures { IfSome result (λ a. answer_at kind tail.now ≡ Ok a) }
 {
@@ -122,15 +127,17 @@ fn answer_of(name: Form, tail: &[u8]) -> Option<Answer>
     answered(name.row().kind, tail)
 }
 
-/// `name(fd)`
+/// `name(fd)`, its descriptor and its answer.
 #[inline(always)]
-fn on_fd(call: FdCall, text: &[u8]) -> Option<Item>
-    ensures { IfSome result (λ i. SpellsAfter (listed (forms.OnFd call)) text.now i) }
+pub(crate) fn on_fd(call: FdCall, text: &[u8]) -> Option<(Fd, Answer)>
+    ensures { IfSome result (λ p. SpellsAfter (listed (forms.OnFd call)) text.now
+        (items.Call (calls.OnFd call p.0) p.1)) }
 {
     let (fd, tail) = fd_before(b')', text)?;
-    let answer = answer_of(Form::OnFd(call), tail)?;
-    let call = Call::OnFd(call, fd);
-    Some(Item::Call { call, answer })
+    match answer(call.kind(), tail) {
+        Ok(answer) => Some((fd, answer)),
+        Err(_) => None,
+    }
 }
 
 /// `fcntl(fd,command)`
@@ -262,7 +269,6 @@ fn listed_item(alloc: Global, form: Form, text: &[u8]) -> Option<Item>
     ensures { IfSome result (λ i. SpellsAfter (listed form) text.now i) }
 {
     match form {
-        Form::OnFd(call) => on_fd(call, text),
         Form::Fcntl => fcntl(alloc, text),
         Form::Mmap => mmap(alloc, text),
         Form::RightsLimit => rights_limit(text),
@@ -277,7 +283,7 @@ fn listed_item(alloc: Global, form: Form, text: &[u8]) -> Option<Item>
 
 /// What follows the opening bracket.
 #[inline(always)]
-fn item_after(alloc: Global, head: Head<'_>, text: &[u8]) -> Option<Item>
+pub(crate) fn item_after(alloc: Global, head: Head<'_>, text: &[u8]) -> Option<Item>
     ensures { IfSome result (λ i. SpellsAfter (head_seen head.entry) text.now i) }
 {
     match head {
@@ -286,10 +292,18 @@ fn item_after(alloc: Global, head: Head<'_>, text: &[u8]) -> Option<Item>
     }
 }
 
-/// The line that the bytes spell, where it is one of those that are read in one pass and there is memory for it.
+/// How a line begins: its process, its name, and what follows the opening bracket.
+#[derive(Clone, Copy)]
+pub(crate) struct Start<'a> {
+    pub(crate) pid: Pid,
+    pub(crate) head: Head<'a>,
+    pub(crate) text: &'a [u8],
+}
+
+/// How a line begins.
 #[inline(always)]
-pub(crate) fn quick(alloc: Global, bytes: &[u8]) -> Option<Line>
-    ensures { IfSome result (λ l. line_of bytes.now ≡ Ok l) }
+pub(crate) fn start_of(bytes: &[u8]) -> Option<Start<'_>>
+    ensures { IfSome result (λ s. Starts bytes.now s.pid (head_seen s.head) s.text.now) }
 {
     if bytes.len() > LONGEST_LINE {
         return None;
@@ -299,6 +313,6 @@ pub(crate) fn quick(alloc: Global, bytes: &[u8]) -> Option<Line>
         return None;
     };
     let (name, text) = cut(b'(', rest)?;
-    let item = item_after(alloc, head_of(name)?, text)?;
-    Some(Line { pid, item })
+    let head = head_of(name)?;
+    Some(Start { pid, head, text })
 }

@@ -90,7 +90,6 @@ fn item(text: &[u8]) -> Result<ItemSeen<'_>, ReadFault>
 }
 
 /// What a line says, or its first fault.
-#[inline(never)]
 #[tactic(auto, unfolding(crate::specs::Reading::line_of, crate::specs::Reading::entry_at))]
 pub(crate) fn line(bytes: &[u8]) -> Result<LineSeen<'_>, ReadFault>
     ensures { Gives line_seen result (line_of bytes.now) }

@@ -1,34 +1,14 @@
-use Rattle.std.proofs.Common.{Ok, Err, sym, ap, subst, ◌∙◌}
-use Rattle.cap_trace.specs.Entry.{Entry}
-use Rattle.cap_trace.specs.Seen.{line_seen}
-use Rattle.cap_trace.specs.Spelling.{Spells}
-use Rattle.cap_trace.proofs.WholeLines.{line_takes}
-use Rattle.cap_trace.proofs.ParseClauses.{faults_exact, only_none, only_this}
+use Rattle.cap_trace.proofs.ParseClauses.{found_by, faults_by, memory_by, only_by}
 use Rattle.cap_trace.proofs.parse.parse_line.Goals as goal
 
-pub owned-requires : goal.owned-requires
-owned-requires c = (c.args.bytes.now, line_takes c.args.bytes.now (line_seen c.in-Ok.seen) c.in-Ok.ensures)
+pub returns-clause-found : goal.returns-clause-found
+returns-clause-found c = found_by c.args.bytes.now c.read_line.result c.read_line.ensures
 
-pub returns-in-Err-clause-faults : goal.returns-in-Err-clause-faults
-returns-in-Err-clause-faults c = faults_exact c.args.bytes.now c.in-Err.fault c.of.result c.in-Err.ensures c.of.ensures
+pub returns-clause-faults : goal.returns-clause-faults
+returns-clause-faults c = faults_by c.args.bytes.now c.read_line.result c.read_line.ensures
 
-pub returns-in-Err-clause-only : goal.returns-in-Err-clause-only
-returns-in-Err-clause-only c = only_none c.args.bytes.now c.in-Err.fault (Err c.of.result) c.in-Err.ensures
+pub returns-clause-memory : goal.returns-clause-memory
+returns-clause-memory c = memory_by c.args.bytes.now c.read_line.result c.read_line.ensures
 
-pub returns-in-Ok-owned-clause-found : goal.returns-in-Ok-owned-clause-found
-returns-in-Ok-owned-clause-found c = subst (λ (e : Entry). Spells c.args.bytes.now e) (sym c.in-Ok-owned.ensures)
-    (line_takes c.args.bytes.now (line_seen c.in-Ok.seen) c.in-Ok.ensures)
-
-pub returns-in-Ok-owned-clause-only : goal.returns-in-Ok-owned-clause-only
-returns-in-Ok-owned-clause-only c =
-    only_this c.args.bytes.now c.in-Ok-owned.line (c.in-Ok.ensures ∙ ap Ok (sym c.in-Ok-owned.ensures))
-
-pub returns-in-Err-owned-clause-memory : goal.returns-in-Err-owned-clause-memory
-returns-in-Err-owned-clause-memory c =
-    λ _. (line_seen c.in-Ok.seen, line_takes c.args.bytes.now (line_seen c.in-Ok.seen) c.in-Ok.ensures)
-
-pub returns-in-Some-clause-found : goal.returns-in-Some-clause-found
-returns-in-Some-clause-found c = line_takes c.args.bytes.now c.in-Some.line c.in-Some.ensures
-
-pub returns-in-Some-clause-only : goal.returns-in-Some-clause-only
-returns-in-Some-clause-only c = only_this c.args.bytes.now c.in-Some.line c.in-Some.ensures
+pub returns-clause-only : goal.returns-clause-only
+returns-clause-only c = only_by c.args.bytes.now c.read_line.result c.read_line.ensures

@@ -1,14 +1,16 @@
-use Rattle.std.proofs.Common.{refl}
+use Rattle.std.proofs.Common.{◌≡◌, Ok, subst, refl}
 use Rattle.cap_trace.specs.declared.line.Call.TheVariants as calls
 use Rattle.cap_trace.specs.declared.calls.Form.TheVariants as forms
+use Rattle.cap_trace.specs.declared.calls.Kind.{Kind}
+use Rattle.cap_trace.specs.Reading.{answer_at}
 use Rattle.cap_trace.specs.Names.{listed}
 use Rattle.cap_trace.specs.Entry.{an_fd}
 use Rattle.cap_trace.proofs.QuickLines.{last, call_after}
 use Rattle.cap_trace.proofs.quick.on_fd.Goals as goal
 
-pub returns : goal.returns
-returns c =
-    call_after (listed (forms.OnFd c.args.call)) c.args.text.now (c.in_ok-fd.tail.now) (calls.OnFd c.args.call c.in_ok-fd.fd) (calls.OnFd c.args.call c.in_ok-fd.fd) c.in_ok-answer.answer
+pub returns-in-Ok : goal.returns-in-Ok
+returns-in-Ok c =
+    call_after (listed (forms.OnFd c.args.call)) c.args.text.now (c.in_ok-fd.tail.now) (calls.OnFd c.args.call c.in_ok-fd.fd) (calls.OnFd c.args.call c.in_ok-fd.fd) c.in-Ok.answer
     refl refl
     (last (c.args.text.now) (c.in_ok-fd.tail.now) (an_fd c.in_ok-fd.fd) c.in_ok-fd.ensures)
-    c.in_ok-answer.ensures
+    (subst (λ (k : Kind). answer_at k c.in_ok-fd.tail.now ≡ Ok c.in-Ok.answer) c.kind.ensures c.in-Ok.ensures)

@@ -1,0 +1,9 @@
+use Rattle.cap_trace.specs.Rows.{head_seen}
+use Rattle.cap_trace.proofs.QuickLines.{starts}
+use Rattle.cap_trace.proofs.quick.start_of.Goals as goal
+
+pub returns : goal.returns
+returns c =
+    starts c.args.bytes.now c.in_ok-pid.pid.now c.in_ok-pid.rest.now c.in_ok-name.name.now c.in_ok-name.text.now
+    c.in-Ok.pid (head_seen c.in_ok-head.head) c.if-bytes-gt-LONGEST_LINE.false c.in_ok-pid.ensures c.in-Ok.ensures
+    c.in_ok-name.ensures c.in_ok-head.ensures
