@@ -16,4 +16,5 @@ pub mod FarSteps
 pub mod Owners
 pub mod Leaves
 pub mod Starts
+pub mod KnownTables
 pub mod StartedLists

@@ -9,8 +9,8 @@ use Rattle.cap_machine.specs.declared.cell.Profile.{Profile}
 use Rattle.cap_machine.specs.declared.step.Step.{Step}
 use Rattle.cap_machine.specs.declared.rule.Effect.{Effect}
 use Rattle.cap_machine.specs.declared.table.Table.{Table}
-use Rattle.cap_machine.specs.declared.checker.Checker.{Checker}
-use Rattle.cap_machine.specs.Checked.{HasChecked}
+use Rattle.cap_machine.specs.Checked.{CheckerState, HasChecked}
+use Rattle.cap_machine.specs.Known.{known}
 use Rattle.cap_machine.specs.declared.verdict.Finding.{Finding}
 use Rattle.cap_machine.specs.declared.verdict.Found.{Found}
 use Rattle.cap_machine.specs.Steps.{step, steps}
@@ -20,7 +20,8 @@ use Rattle.cap_machine.specs.History.{touched, turned, ended}
 use Rattle.cap_machine.specs.Check.{check, said, found_at}
 use Rattle.cap_machine.specs.Report.{report_line, finding_line}
 use Rattle.cap_machine.specs.Effect.{effect_touch, effect_turn}
-use Rattle.cap_machine.specs.Table.{state_of, Keeps, effect_after, step_after}
+use Rattle.cap_machine.specs.Table.{state_of, start_state, Keeps, effect_after, step_after}
+use Rattle.cap_machine.proofs.KnownTables.{state_known}
 use Rattle.cap_machine.proofs.Turns.{ends_more, checks_more, same_state}
 use Rattle.cap_machine.proofs.ReportLines.{lines-check, lines-next}
 
@@ -82,29 +83,33 @@ text_more s t l old text at fs so_far place says wrote =
     ∙ ap (flat_map (report_line more)) (sym (checks_more s t l))
 
 -- what a checker was given, after one more line
-pub checked_more : (a b : Checker) (line : Entry) (profile : Profile) (s : State) (trace : List Entry)
-    (fs : List Finding) →
+pub checked_more : (a b : CheckerState) (was now : Table) (line : Entry) (profile : Profile) (s : State)
+    (trace : List Entry) (fs : List Finding) → a.known ≡ known was → b.known ≡ known now →
     b.profile ≡ a.profile → b.lines ≡ a.lines + 1 → b.findings ≡ a.findings + length fs →
-    b.text.items ≡ a.text.items ++ flat_map (λ f. finding_line line (found_at (a.lines + 1) f)) fs →
-    fs ≡ said (step a.profile line) (state_of a.table)
-    → Keeps b.table (step_after (step a.profile line) (state_of a.table)) →
+    b.text ≡ a.text ++ flat_map (λ f. finding_line line (found_at (a.lines + 1) f)) fs →
+    fs ≡ said (step a.profile line) (state_of was)
+    → Keeps now (step_after (step a.profile line) (state_of was)) →
     HasChecked a profile s trace → HasChecked b profile s (trace ++ line ∷ [])
-checked_more a b line profile s trace fs same lines found text says moved before =
+checked_more a b was now line profile s trace fs knew knows same lines found text says moved before =
     let t : List Step = steps profile trace in
     let l : Step = step profile line in
     let mine : step a.profile line ≡ l = ap (λ p. step p line) before.in_profile in
     let more : steps profile (trace ++ line ∷ []) ≡ t ++ l ∷ [] = steps-more profile trace line in
     let at : a.lines + 1 ≡ length t + 1 = ap (λ n. n + 1) (before.lines ∙ sym (length-map trace (step profile))) in
-    let said_now : fs ≡ said l (ended s t) = says ∙ ap (λ r. said r (state_of a.table)) mine
-    ∙ said_more a.table s t l before.state in
-    let kept_now : Keeps b.table (step_after l (state_of a.table)) =
-    subst (λ r. Keeps b.table (step_after r (state_of a.table))) mine moved in
+    let kept : Keeps was (ended s t) =
+    kept_state was (ended s t) (sym (state_known was) ∙ ap start_state (sym knew) ∙ before.state) in
+    let said_now : fs ≡ said l (ended s t) = says ∙ ap (λ r. said r (state_of was)) mine
+    ∙ said_more was s t l kept in
+    let kept_now : Keeps now (step_after l (state_of was)) =
+    subst (λ r. Keeps now (step_after r (state_of was))) mine moved in
     record {
       in_profile = same ∙ before.in_profile;
-      state = subst (λ r. Keeps b.table (ended s r)) (sym more) (kept_more a.table b.table s t l kept_now before.state);
+      state = ap start_state knows ∙ state_known now
+          ∙ state_kept now (ended s (t ++ l ∷ [])) (kept_more was now s t l kept_now kept)
+          ∙ ap (ended s) (sym more);
       lines = lines ∙ ap (λ n. n + 1) before.lines ∙ sym (length-append trace (line ∷ []));
       findings = found ∙ count_more s t l a.findings (length fs) fs before.findings refl said_now
           ∙ ap (λ r. length (check s r)) (sym more);
-      text = text_more s t l a.text.items b.text.items (a.lines + 1) fs before.text at said_now text
+      text = text_more s t l a.text b.text (a.lines + 1) fs before.text at said_now text
           ∙ ap (λ r. flat_map (report_line r) (check s r)) (sym more);
     }

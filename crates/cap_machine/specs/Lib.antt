@@ -20,4 +20,5 @@ pub mod Cells
 pub mod Index
 pub mod Table
 pub mod Starts
+pub mod Known
 pub mod Checked

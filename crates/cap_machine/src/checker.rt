@@ -11,6 +11,7 @@ use crate::table::Table;
 use cap_rights::NoMemory;
 use cap_trace::Line;
 use std::alloc::Global;
+use std::marker::Model;
 
 /// A check that goes on line by line: what is known after the lines so far, and the text of what was found in them. It
 /// keeps no line. Its size grows with the processes and descriptors that the lines name, and with the findings.
@@ -21,7 +22,25 @@ pub struct Checker {
     lines: usize,
     findings: usize,
     text: Vec<u8>,
-    ghost few: { findings ≤ 3 * lines },
+}
+
+impl Model for Checker {
+    ghost use Rattle.std.specs.Prelude.{◌≤◌, ◌*◌};
+    ghost use Rattle.cap_machine.specs.Checked.{CheckerState};
+
+    ghost Value = { CheckerState };
+
+    ghost use Rattle.cap_machine.specs.Known.{known};
+
+    ghost view = { λ c. record {
+      profile = c.profile;
+      known = known c.table;
+      lines = c.lines;
+      findings = c.findings;
+      text = c.text.items;
+    } };
+
+    ghost invariant = { λ c. c.findings ≤ 3 * c.lines };
 }
 
 impl Checker {

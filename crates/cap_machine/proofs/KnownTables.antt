@@ -1,0 +1,255 @@
+-- What a table knows, as a list, stands for the same state.
+use Rattle.std.proofs.Common.{◌≡◌, ℕ, ◌+◌, ◌-◌, ◌<◌, ◌≤◌, ◌==◌, ◌||◌, nat_lt, nat_le, if◌then◌else◌, Bool, true, false, List, [], ◌∷◌}
+use Rattle.std.proofs.Common.{Option, Some, None, refl, ap, sym, ◌∙◌, arith, eq-eqb, zero, suc}
+use Rattle.std.specs.Prelude.{slice_get}
+use Rattle.std.specs.Option.{option_map_or}
+use Rattle.std.specs.List.{list_any}
+use Rattle.cap_rights.specs.Rights.{all}
+use Rattle.std.proofs.lemmas.Bool.{cases_eq, cases_lt, cases_order}
+use Rattle.std.proofs.lemmas.Bool.Decides.{nat_tests}
+use Rattle.std.proofs.Math.Logic.{⊎_elim}
+use Rattle.cap_machine.specs.declared.cell.Cell.{Cell}
+use Rattle.cap_machine.specs.declared.cell.Cell.TheVariants.{Unknown, Closed, Held}
+use Rattle.cap_machine.specs.declared.cell.OnExec.TheVariants as flags
+use Rattle.cap_machine.specs.declared.cell.Mode.TheVariants.{Unsure}
+use Rattle.cap_machine.specs.Index.{place_in}
+use Rattle.cap_machine.specs.declared.cells.Cells.{Cells}
+use Rattle.cap_machine.specs.declared.cells.tree.Tree.{Tree}
+use Rattle.cap_machine.specs.declared.cells.far.Step.{Step}
+use Rattle.cap_machine.specs.declared.cells.far.Step.TheVariants.{Write, Settle, CloseFrom}
+use Rattle.cap_machine.specs.declared.table.Process.{Process}
+use Rattle.cap_machine.specs.declared.table.Table.{Table}
+use Rattle.cap_machine.specs.Cells.{cell_in_cells}
+use Rattle.cap_machine.specs.Cells.Far.{stepped, after_steps}
+use Rattle.cap_machine.specs.Cells.Tree.{cell_in_tree}
+use Rattle.cap_machine.specs.Cells.Pending.{settled}
+use Rattle.cap_machine.specs.State.{State, Added, listed_cell, with_all, with_listed, usual}
+use Rattle.cap_machine.specs.Table.{own, own_at, cell_in, state_of, start_state}
+use Rattle.cap_machine.specs.Known.{top_of, step_top, far_top, top, cells_below, known_of, known_from, known}
+use Rattle.cap_machine.proofs.Turns.{same_state}
+
+differ : (a b : ℕ) → (a ≡ b → ⊥) → (a == b) ≡ false
+differ a b ne = grind (arith, nat_tests, ne)
+
+not_below : (a b : ℕ) → b ≤ a → nat_lt a b ≡ false
+not_below a b ge = grind (arith, nat_tests, ge)
+
+is_below : (a b : ℕ) → a < b → nat_lt a b ≡ true
+is_below a b lt = grind (arith, nat_tests, lt)
+
+at_least : (a b : ℕ) → a ≤ b → nat_le a b ≡ true
+at_least a b le = grind (arith, nat_tests, le)
+
+-- a list has nothing from its top on
+none_above : (ns : List ℕ) (f : ℕ) → top_of ns ≤ f → list_any (λ g. f == g) ns ≡ false
+none_above [] f above = refl
+none_above (n ∷ ns) f above =
+    ap (λ (b : Bool). b || list_any (λ g. f == g) ns) (differ f n (λ e. omega arith))
+    ∙ none_above ns f (omega arith)
+
+stepped_above : (step : Step) (c : Cell) (f g : ℕ) → step_top step ≤ f → step_top step ≤ g
+    → stepped step c f ≡ stepped step c g
+stepped_above (Write h d) c f g above also =
+    ap (λ (b : Bool). if b then d else c) (differ f h (λ e. omega arith) ∙ sym (differ g h (λ e. omega arith)))
+stepped_above (Settle pending) c f g above also = refl
+stepped_above (CloseFrom n) c f g above also =
+    ap (λ (b : Bool). if b then Closed else c) (at_least n f above ∙ sym (at_least n g also))
+
+steps_above : (steps : List Step) (c : Cell) (f g : ℕ) → far_top steps ≤ f → far_top steps ≤ g
+    → after_steps c steps f ≡ after_steps c steps g
+steps_above [] c f g above also = refl
+steps_above (step ∷ steps) c f g above also =
+    ap (λ (r : Cell). after_steps r steps f) (stepped_above step c f g (omega arith) (omega arith))
+    ∙ steps_above steps (stepped step c g) f g (omega arith) (omega arith)
+
+neither : {X : Type 0} (a b : Bool) (x y z : X) → a ≡ false → b ≡ false
+    → (if a then x else (if b then y else z)) ≡ z
+neither a b x y z e g =
+    ap (λ (r : Bool). if r then x else (if b then y else z)) e ∙ ap (λ (r : Bool). if r then y else z) g
+
+tree_far : (tree : Tree) (f : ℕ) → 1048576 ≤ f
+    → cell_in_tree tree f ≡ after_steps tree.far.first tree.far.steps.items f
+unfolding cell_in_tree
+tree_far tree f above =
+    neither (nat_lt f 32) (nat_lt f 1048576) _ _ _ (not_below f 32 (omega arith)) (not_below f 1048576 above)
+
+cells_far : (cells : Cells) (f : ℕ) → 1048576 ≤ f → top_of cells.started.small.items ≤ f
+    → top_of cells.started.large.items ≤ f
+    → cell_in_cells cells f ≡ after_steps cells.tree.far.first cells.tree.far.steps.items f
+unfolding cell_in_cells
+cells_far cells f above small large =
+    ap (λ (b : Bool). if b then settled cells.started.pending (Held all flags.Unsure) else cell_in_tree cells.tree f)
+    (ap (λ (b : Bool). b || list_any (λ g. f == g) cells.started.large.items)
+    (none_above cells.started.small.items f small)
+    ∙ none_above cells.started.large.items f large)
+    ∙ tree_far cells.tree f above
+
+top_is : (cells : Cells) → top cells ≡ 1048576 + (top_of cells.started.small.items
+    + (top_of cells.started.large.items + far_top cells.tree.far.steps.items))
+unfolding top
+top_is cells = refl
+
+cells_above : (cells : Cells) (f : ℕ) → top cells ≤ f → cell_in_cells cells f ≡ cell_in_cells cells (top cells)
+cells_above cells f above =
+    let is : top cells ≡ 1048576 + (top_of cells.started.small.items
+    + (top_of cells.started.large.items + far_top cells.tree.far.steps.items)) = top_is cells in
+    cells_far cells f (omega arith) (omega arith) (omega arith)
+    ∙ steps_above cells.tree.far.steps.items cells.tree.far.first f (top cells) (omega arith) (omega arith)
+    ∙ sym (cells_far cells (top cells) (omega arith) (omega arith) (omega arith))
+
+one_below : (cell : ℕ → Cell) (rest : Cell) (n f : ℕ)
+    → (if nat_lt f n then cell f else (if f == n then cell n else rest)) ≡ (if nat_lt f (suc n) then cell f else rest)
+one_below cell rest n f =
+    ⊎_elim
+    (λ e.
+    ap (λ (b : Bool). if b then cell f else (if f == n then cell n else rest)) (not_below f n (omega arith))
+    ∙ ap (λ (b : Bool). if b then cell n else rest) (eq-eqb f n e) ∙ ap cell (sym e)
+    ∙ sym (ap (λ (b : Bool). if b then cell f else rest) (is_below f (suc n) (omega arith))))
+    (λ o. ⊎_elim
+    (λ lt.
+    ap (λ (b : Bool). if b then cell f else (if f == n then cell n else rest)) (is_below f n lt)
+    ∙ sym (ap (λ (b : Bool). if b then cell f else rest) (is_below f (suc n) (omega arith))))
+    (λ gt.
+    neither (nat_lt f n) (f == n) (cell f) (cell n) rest (not_below f n (omega arith))
+    (differ f n (λ e. omega arith))
+    ∙ sym (ap (λ (b : Bool). if b then cell f else rest) (not_below f (suc n) (omega arith))))
+    o)
+    (cases_order f n)
+
+below_read : (cell : ℕ → Cell) (rest : Cell) (n f : ℕ)
+    → listed_cell rest (cells_below cell n) f ≡ (if nat_lt f n then cell f else rest)
+below_read cell rest zero f = sym (ap (λ (b : Bool). if b then cell f else rest) (not_below f 0 (omega arith)))
+below_read cell rest (suc n) f =
+    below_read cell (if f == n then cell n else rest) n f ∙ one_below cell rest n f
+
+known_cell : (q : Process) (f : ℕ) → listed_cell (known_of q).rest (known_of q).cells f ≡ cell_in q f
+known_cell q f =
+    let cell : ℕ → Cell = cell_in_cells q.cells in
+    let n : ℕ = top q.cells in
+    below_read cell (cell n) n f
+    ∙ ⊎_elim
+    (λ lt. ap (λ (b : Bool). if b then cell f else cell n) (is_below f n lt))
+    (λ ge. ap (λ (b : Bool). if b then cell f else cell n) (not_below f n ge) ∙ sym (cells_above q.cells f ge))
+    (cases_lt f n)
+
+either : {X : Type 0} (b : Bool) (x : X) → (if b then x else x) ≡ x
+either true x = refl
+either false x = refl
+
+-- the process with a pid, among those that stand at their place, the first of these at place i
+abbrev owner_from : (ℕ → ℕ) → ℕ → List Process → ℕ → Option Process
+owner_from place i [] p = None
+owner_from place i (q ∷ qs) p =
+    if place q.pid == i then (if q.pid == p then Some q else owner_from place (suc i) qs p)
+    else owner_from place (suc i) qs p
+
+-- the first isn't the one
+skipped : (place : ℕ → ℕ) (i : ℕ) (q : Process) (qs : List Process) (p : ℕ) → (q.pid ≡ p → place p ≡ i → ⊥)
+    → owner_from place i (q ∷ qs) p ≡ owner_from place (suc i) qs p
+skipped place i q qs p other =
+    let more : Option Process = owner_from place (suc i) qs p in
+    ⊎_elim
+    (λ e. ap (λ (b : Bool). if b then (if q.pid == p then Some q else more) else more)
+    (differ (place q.pid) i (λ at. other e (sym (ap place e) ∙ at))))
+    (λ ne. ap (λ (b : Bool). if place q.pid == i then (if b then Some q else more) else more) (differ q.pid p ne)
+    ∙ either (place q.pid == i) more)
+    (cases_eq q.pid p)
+
+-- no place behind that of a pid has its process
+passed : (place : ℕ → ℕ) (i : ℕ) (qs : List Process) (p : ℕ) → place p < i → owner_from place i qs p ≡ None
+passed place i [] p behind = refl
+passed place i (q ∷ qs) p behind =
+    skipped place i q qs p (λ e at. omega arith) ∙ passed place (suc i) qs p (omega arith)
+
+own_first : (q : Process) (p : ℕ) (b : Bool) (o : Option Process) → (q.pid == p) ≡ b → o ≡ None
+    → (if b then Some q else o) ≡ own p (Some q)
+own_first q p true o is none = sym (ap (λ (b : Bool). if b then Some q else None) is)
+own_first q p false o is none = none ∙ sym (ap (λ (b : Bool). if b then Some q else None) is)
+
+-- the one at its place
+found_from : (place : ℕ → ℕ) (i : ℕ) (qs : List Process) (p : ℕ) → i ≤ place p
+    → owner_from place i qs p ≡ own p (slice_get qs (place p - i))
+found_from place i [] p from = refl
+found_from place i (q ∷ qs) p from =
+    let more : Option Process = owner_from place (suc i) qs p in
+    ⊎_elim
+    (λ here.
+    let at : place p - i ≡ 0 = omega arith in
+    let none : more ≡ None = passed place (suc i) qs p (omega arith) in
+    ⊎_elim
+    (λ e. ap (λ (b : Bool). if b then (if q.pid == p then Some q else more) else more)
+    (eq-eqb (place q.pid) i (ap place e ∙ here))
+    ∙ own_first q p (q.pid == p) more refl none)
+    (λ ne. skipped place i q qs p (λ e _. ne e) ∙ none
+    ∙ sym (ap (λ (b : Bool). if b then Some q else None) (differ q.pid p ne)))
+    (cases_eq q.pid p)
+    ∙ ap (λ (n : ℕ). own p (slice_get (q ∷ qs) n)) (sym at))
+    (λ o.
+    let later : i < place p = ⊎_elim (λ lt. absurd (omega arith)) (λ gt. gt) o in
+    let at : place p - i ≡ suc (place p - suc i) = omega arith in
+    skipped place i q qs p (λ _ here. omega arith)
+    ∙ found_from place (suc i) qs p (omega arith)
+    ∙ ap (λ (n : ℕ). own p (slice_get (q ∷ qs) n)) (sym at))
+    (cases_order (place p) i)
+
+-- what is read of one process after all were added, where each that is added says what is asked of its process
+all_read : {R : Type 0} (read : State → R) (ask : Process → R) (p : ℕ)
+    → ((s : State) (q : Process) → read (with_listed s q.pid (known_of q).mode (known_of q).rest (known_of q).cells)
+    ≡ (if p == q.pid then ask q else read s)) → (place : ℕ → ℕ) (i : ℕ) (qs : List Process) (s : State)
+    → read (with_all s (known_from place i qs)) ≡ option_map_or ask (owner_from place i qs p) (read s)
+all_read read ask p one place i [] s = refl
+all_read {R} read ask p one place i (q ∷ qs) s =
+    let more : Option Process = owner_from place (suc i) qs p in
+    let rest : List Added = known_from place (suc i) qs in
+    let next : State = with_listed s q.pid (known_of q).mode (known_of q).rest (known_of q).cells in
+    ⊎_elim
+    (λ here.
+    let yes : (place q.pid == i) ≡ true = eq-eqb (place q.pid) i here in
+    ap (λ (b : Bool). read (with_all s (if b then known_of q ∷ rest else rest))) yes
+    ∙ all_read read ask p one place (suc i) qs next
+    ∙ ap (λ (r : R). option_map_or ask more r) (one s q)
+    ∙ ⊎_elim
+    (λ e.
+    let none : more ≡ None = passed place (suc i) qs p (omega (arith, ap place e)) in
+    ap (λ (o : Option Process). option_map_or ask o (if p == q.pid then ask q else read s)) none
+    ∙ ap (λ (b : Bool). if b then ask q else read s) (eq-eqb p q.pid (sym e))
+    ∙ ap (λ (b : Bool). option_map_or ask (if b then Some q else more) (read s)) (sym (eq-eqb q.pid p e)))
+    (λ ne.
+    ap (λ (b : Bool). option_map_or ask more (if b then ask q else read s)) (differ p q.pid (λ e. ne (sym e)))
+    ∙ ap (λ (b : Bool). option_map_or ask (if b then Some q else more) (read s)) (sym (differ q.pid p ne)))
+    (cases_eq q.pid p)
+    ∙ ap (λ (b : Bool). option_map_or ask (if b then (if q.pid == p then Some q else more) else more) (read s))
+    (sym yes))
+    (λ other.
+    let no : (place q.pid == i) ≡ false = differ (place q.pid) i other in
+    ap (λ (b : Bool). read (with_all s (if b then known_of q ∷ rest else rest))) no
+    ∙ all_read read ask p one place (suc i) qs s
+    ∙ ap (λ (b : Bool). option_map_or ask (if b then (if q.pid == p then Some q else more) else more) (read s))
+    (sym no))
+    (cases_eq (place q.pid) i)
+
+found_is : (place : ℕ → ℕ) (qs : List Process) (p : ℕ) → owner_from place 0 qs p ≡ own_at qs (place p) p
+found_is place qs p =
+    let at : place p - 0 ≡ place p = omega arith in
+    found_from place 0 qs p (omega arith) ∙ ap (λ (n : ℕ). own p (slice_get qs n)) at
+
+cells_known : (place : ℕ → ℕ) (qs : List Process) (p f : ℕ) → (with_all usual (known_from place 0 qs)).cell p f
+    ≡ option_map_or (λ q. cell_in q f) (own_at qs (place p) p) Unknown
+cells_known place qs p f =
+    all_read (λ s. s.cell p f) (λ q. cell_in q f) p
+    (λ s q. ap (λ (r : Cell). if p == q.pid then r else s.cell p f) (known_cell q f)) place 0 qs usual
+    ∙ ap (λ (o : Option Process). option_map_or (λ q. cell_in q f) o Unknown) (found_is place qs p)
+
+modes_known : (place : ℕ → ℕ) (qs : List Process) (p : ℕ) → (with_all usual (known_from place 0 qs)).mode p
+    ≡ option_map_or (λ (q : Process). q.mode) (own_at qs (place p) p) Unsure
+modes_known place qs p =
+    all_read (λ s. s.mode p) (λ (q : Process). q.mode) p (λ s q. refl) place 0 qs usual
+    ∙ ap (λ (o : Option Process). option_map_or (λ (q : Process). q.mode) o Unsure) (found_is place qs p)
+
+-- what a table knows is a list that stands for the state that it keeps
+pub state_known : (table : Table) → start_state (known table) ≡ state_of table
+unfolding start_state known
+state_known table =
+    same_state (with_all usual (known table)) (state_of table)
+    (cells_known (place_in table.index) table.processes.items)
+    (modes_known (place_in table.index) table.processes.items)
