@@ -26,6 +26,14 @@ pub struct Known {
     pub(crate) change: Change,
     pub(crate) always: bool,
     pub(crate) conditions: Conditions,
+    size: usize,
+    forks: bool,
+}
+
+/// How many conditions, processes and cells are listed, and whether a process has its cells from another.
+fn size_of(change: &Change, conditions: &Conditions) -> (usize, bool) {
+    let (size, forks) = change.processes.size();
+    (size.saturating_add(conditions.len()), forks)
 }
 
 fn one_of(a: bool, b: bool, c: bool) -> bool
@@ -43,6 +51,8 @@ impl Known {
             change: Change::nothing(),
             always: false,
             conditions: Conditions::none(),
+            size: 0,
+            forks: false,
         }
     }
 
@@ -54,25 +64,23 @@ impl Known {
         let rule = rule_of(step.profile, line);
         let change = Change::of_effect(alloc, line.pid, &rule.effect)?;
         let conditions = conditions_of(alloc, line.pid, &rule.demand)?;
+        let (size, forks) = size_of(&change, &conditions);
         Ok(Known {
             change,
             always: always(&rule.demand),
             conditions,
+            size,
+            forks,
         })
-    }
-
-    /// How many conditions, processes and cells it lists.
-    fn size(&self) -> usize {
-        self.conditions
-            .len()
-            .saturating_add(self.change.processes.size())
     }
 
     /// Whether what is known of a segment and then another may be too large a table.
     pub(crate) fn is_large(a: &Known, b: &Known) -> bool {
-        let copied = b.change.processes.copied(&a.change);
-        let both = a.size().saturating_add(b.size());
-        both.saturating_add(copied) > LARGE
+        let both = a.size.saturating_add(b.size);
+        if !b.forks {
+            return both > LARGE;
+        }
+        both.saturating_add(b.change.processes.copied(&a.change)) > LARGE
     }
 
     /// A segment and then another.
@@ -82,10 +90,13 @@ impl Known {
         let change = a.change.join(alloc, &b.change)?;
         let (met, moved) = a.change.behind(alloc, &b.conditions)?;
         let conditions = merged(alloc, &a.conditions, &moved)?;
+        let (size, forks) = size_of(&change, &conditions);
         Ok(Known {
             change,
             always: one_of(a.always, b.always, met),
             conditions,
+            size,
+            forks,
         })
     }
 

@@ -206,7 +206,7 @@ impl Change {
             ≡ (any_holds s left.old || holds (changed self.now s) (slice_index_or conditions.now at d))) }
     {
         let condition = conditions.get(at);
-        if self.leaves_condition(&condition) {
+        if conditions.is_large(at) && self.leaves_condition(&condition) {
             left.copy(conditions, at)?;
             return Ok(false);
         }

@@ -9,6 +9,7 @@ use cap_rights::RightSet;
 use cap_trace::{Fd, Pid};
 use cap_tree::NoMemory;
 use std::alloc::Global;
+use std::cmp::Ordering;
 use std::marker::Model;
 use std::rc::{Rc, RcSlice};
 
@@ -58,6 +59,17 @@ fn lacked_by(test: &CellTest) -> Option<RightSet>
 }
 
 impl Packed {
+    /// What it is sorted by: its kind, a process and a descriptor.
+    fn key(&self) -> (u8, Pid, Fd) {
+        match self {
+            Packed::Inside(pid) => (0, *pid, 0),
+            Packed::Outside(pid) => (1, *pid, 0),
+            Packed::Cell(lack) => (2, lack.pid, lack.fd),
+            Packed::Other(source) => (2, source.pid, source.fd),
+            Packed::Refused(_) => (3, 0, 0),
+        }
+    }
+
     fn of_source(alloc: Global, source: &Source) -> Result<Packed, NoMemory>
         ensures { IfOk result (λ packed. packed_condition packed ≡ Condition.Cell source.now) }
     {
@@ -194,6 +206,24 @@ impl Conditions {
         ensures { result ≡ slice_index_or self.now at result }
     {
         self.packed()[at].condition()
+    }
+
+    /// Whether the one at a place takes memory of its own.
+    pub(crate) fn is_large(&self, at: usize) -> bool
+        requires { at < length self.now }
+    {
+        match &self.packed()[at] {
+            Packed::Other(_) | Packed::Refused(_) => true,
+            _ => false,
+        }
+    }
+
+    /// How the one at a place stands to one of others in the order in which they are kept.
+    pub(crate) fn order_to(&self, at: usize, others: &Conditions, of: usize) -> Ordering
+        requires own { at < length self.now }
+        requires other { of < length others.now }
+    {
+        self.packed()[at].key().cmp(&others.packed()[of].key())
     }
 
     /// The same conditions, shared.

@@ -247,13 +247,15 @@ impl Processes {
         self.table.is_empty()
     }
 
-    /// How many processes and cells are listed.
-    pub(crate) fn size(&self) -> usize {
+    /// How many processes and cells are listed, and whether a process has its cells from another.
+    pub(crate) fn size(&self) -> (usize, bool) {
         let mut size = self.table.len();
-        for (_pid, process) in self.table.entries() {
+        let mut forks = false;
+        for (pid, process) in self.table.entries() {
             size = size.saturating_add(process.cells.len());
+            forks = forks || process.base.is_of_another(*pid);
         }
-        size
+        (size, forks)
     }
 
     /// How many cells are listed twice where these processes stand behind a change: those that they have from others.

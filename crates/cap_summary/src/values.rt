@@ -165,6 +165,14 @@ impl Base {
         }
     }
 
+    /// Whether the cells are those of another process.
+    pub(crate) fn is_of_another(&self, pid: Pid) -> bool {
+        match &self.others {
+            Others::Of(source, _) => *source != pid,
+            Others::Alike(_) => false,
+        }
+    }
+
     /// Whether a cell that isn't listed is as it was, of the process with this pid. No is a safe answer.
     pub(crate) fn leaves(&self, pid: Pid, fd: Fd) -> bool
         ensures { result ≡ true → unlisted self.now fd ≡ Value.Of pid fd same }

@@ -8,6 +8,8 @@ returns c = λ t u left right.
       change = c.in_ok-change.change;
       always = c.one_of.result;
       conditions = c.in_ok-conditions.conditions;
+      size = c.size_of-size.result.0;
+      forks = c.size_of-size.result.1;
     } in
     joined_knows c.args.a.now c.args.b.now whole c.in_ok-met.met c.in_ok-met.moved t u c.in_ok-change.ensures
     c.in_ok-met.ensures c.in_ok-conditions.ensures c.one_of.ensures left right

@@ -15,6 +15,8 @@ returns c =
       change = c.in_ok-change.change;
       always = c.always.result;
       conditions = c.in_ok-conditions.conditions;
+      size = c.size_of-size.result.0;
+      forks = c.size_of-size.result.1;
     } in
     let at_line : c.deref-line.result.now ≡ step.line = c.deref-line.ensures in
     let me : c.line.inside.pid ≡ step.line.pid = ap (λ (e : Entry). e.pid) (c.line.view_is ∙ at_line) in
