@@ -1,5 +1,5 @@
 //! The text of a report, from the findings in a tree of steps.
-ghost use Rattle.std.specs.Prelude.{◌≡◌, ◌++◌, ◌≤◌, length, flat_map, IfOk};
+ghost use Rattle.std.specs.Prelude.{◌≡◌, ◌++◌, length, flat_map, IfOk};
 ghost use Rattle.cap_machine.specs.Report.{report_line, last_line};
 ghost use Rattle.cap_summary.specs.Steps.{steps_of};
 ghost use Rattle.cap_session.specs.Session.{StandWithin};
@@ -11,8 +11,7 @@ use std::alloc::Global;
 
 /// A line for each finding, with that step of the tree that stands at its position, and how many they are.
 pub fn text_of(alloc: Global, tree: &Tree<Summary>, found: &[Found]) -> Result<Vec<u8>, NoMemory>
-    requires within { StandWithin (length tree.now) found.now }
-    requires few { length tree.now ≤ 1000000 }
+    requires { StandWithin (length tree.now) found.now }
     ensures { IfOk result (λ text. text.items
         ≡ flat_map (report_line (steps_of tree.now)) found.now ++ last_line (length found.now)) }
 {

@@ -291,6 +291,7 @@ impl Session {
     /// It is lent as it is: a tree doesn't change, and the next edit puts another in its place.
     pub fn tree(&self) -> &Tree<Summary>
         ensures list { steps_of result.now ≡ steps self.now.profile self.now.trace }
+        // What stands for the list, as the summary that the tree lends does, sums up the trace.
         ensures summary { (z : Summary) → Stands z result.now → summed_up z ≡ steps self.now.profile self.now.trace }
     {
         &self.tree
@@ -298,8 +299,9 @@ impl Session {
 
     /// How many summaries the last accepted edit or load made by joining two others; 0 where there was none.
     ///
-    /// After an edit it is at most `12 * bits n + 12`, where n is the count, with an inserted line, and `bits n` the
-    /// number of its binary digits.
+    /// After an edit it is at most `12 * bits n + 12`, where n is the count before it, with an inserted line, and
+    /// `bits n` the number of its binary digits. After a load of n lines it is at most `2 * n`. A refused edit or load
+    /// leaves it as it was.
     pub fn joins(&self) -> usize
         ensures { result ≡ self.now.joins }
     {

@@ -6,8 +6,8 @@ use Rattle.cap_session.specs.Session.{StandWithin}
 use Rattle.cap_session.proofs.FoundText.{stand_within}
 use Rattle.cap_session.proofs.session.Session.whole.Goals as goal
 
-pub text_of-requires-clause-within : goal.text_of-requires-clause-within
-text_of-requires-clause-within c =
+pub text_of-requires : goal.text_of-requires
+text_of-requires c =
     let s = start_state c.args.start.now in
     subst (λ (all : List Found). StandWithin (length c.self.inside.tree) all)
     (sym (c.as_slice.ensures.value ∙ c.in_ok-found.ensures ∙ ap (check s) c.summary.ensures.steps))
