@@ -17,5 +17,5 @@ returns-in-Some c =
     ∙ subst (λ (s : SessionState). steps_of c.self.inside.tree ≡ steps s.profile s.trace) c.self.view_is
     c.self.invariant.in_profile in
     none_found c.finds.result _ (c.finds.ensures ∙ c.in-Some.ensures.knows.found _
-    ∙ ap (λ (s : State). has_any (check s (summed_up z))) c.unknown-start.ensures
+    ∙ ap (λ (s : State). has_any (check s (summed_up z))) c.unknown-start.ensures.usual
     ∙ ap (λ (t : List machine.Step). has_any (check usual t)) what)
