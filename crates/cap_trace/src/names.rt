@@ -29,6 +29,7 @@ fn make_row(name: &'static [u8], kind: Kind) -> Row
 }
 
 impl FdCall {
+    #[inline(always)]
     fn row(self) -> Row
         ensures { row_seen result ≡ names.on_fd self }
     {
@@ -87,6 +88,7 @@ impl FdCall {
 }
 
 impl SendCall {
+    #[inline(always)]
     fn row(self) -> Row
         ensures { row_seen result ≡ names.sends self }
     {
@@ -98,6 +100,7 @@ impl SendCall {
 }
 
 impl PathCall {
+    #[inline(always)]
     fn row(self) -> Row
         ensures { row_seen result ≡ names.on_path self }
     {
@@ -124,6 +127,7 @@ impl PathCall {
 }
 
 impl PathsCall {
+    #[inline(always)]
     fn row(self) -> Row
         ensures { row_seen result ≡ names.on_paths self }
     {
@@ -136,6 +140,7 @@ impl PathsCall {
 }
 
 impl AtCall {
+    #[inline(always)]
     fn row(self) -> Row
         ensures { row_seen result ≡ names.at_dir self }
     {
@@ -150,6 +155,7 @@ impl AtCall {
 }
 
 impl AtFlagsCall {
+    #[inline(always)]
     fn row(self) -> Row
         ensures { row_seen result ≡ names.at_dir_with_flags self }
     {
@@ -166,6 +172,7 @@ impl AtFlagsCall {
 }
 
 impl FlagsCall {
+    #[inline(always)]
     fn row(self) -> Row
         ensures { row_seen result ≡ names.on_flags self }
     {
@@ -178,6 +185,7 @@ impl FlagsCall {
 }
 
 impl BareCall {
+    #[inline(always)]
     fn row(self) -> Row
         ensures { row_seen result ≡ names.bare self }
     {
@@ -197,6 +205,7 @@ impl BareCall {
 
 impl Form {
     /// The row of the table that has this form.
+    #[inline(always)]
     pub(crate) fn row(self) -> Row
         ensures { row_seen result ≡ row_of self }
     {

@@ -47,10 +47,27 @@ fn read_rest(alloc: Global, bytes: &[u8], start: Start<'_>) -> Result<Line, Line
     }
 }
 
-/// The line that the bytes spell. A call on a descriptor, which most lines are, is made here and copied nowhere.
-#[inline(always)]
-fn read_line(alloc: Global, bytes: &[u8]) -> Result<Line, LineFault>
-    ensures { MatchesReading bytes.now result }
+/// The line that the bytes spell: at most 1,024 of them, without a line feed at their end.
+///
+/// Reading takes no memory but for what is kept of the text: the descriptors of a start, paths, flags,
+/// commands, and the name and arguments of a call that has no form of its own.
+///
+/// # Errors
+///
+/// The first fault of the bytes, from the left. [`LineFault::Memory`] comes only where the bytes spell a line, and
+/// memory ran out.
+#[inline(never)]
+pub fn parse_line(alloc: Global, bytes: &[u8]) -> Result<Line, LineFault>
+    // What is read is spelled so.
+    ensures found { IfOk result (λ l. Spells bytes.now l) }
+    // Which fault it is.
+    ensures faults { FaultsAreExact bytes.now result }
+    // Memory runs out only for a line.
+    ensures memory { result ≡ Err Memory → SpellsSome bytes.now }
+    // What is spelled so is read, unless memory runs out.
+    ensures only { ReadsOnly bytes.now result }
+    // The same by the function that reads from the left.
+    ensures reads { MatchesReading bytes.now result }
 {
     let Some(start) = start_of(bytes) else {
         return read_with_care(alloc, bytes);
@@ -69,30 +86,6 @@ fn read_line(alloc: Global, bytes: &[u8]) -> Result<Line, LineFault>
         pid: start.pid,
         item: Item::Call { call, answer },
     })
-}
-
-/// The line that the bytes spell: at most 1,024 of them, without a line feed at their end.
-///
-/// Reading takes no memory but for what is kept of the text: the descriptors of a start, paths, flags,
-/// commands, and the name and arguments of a call that has no form of its own.
-///
-/// # Errors
-///
-/// The first fault of the bytes, from the left. [`LineFault::Memory`] comes only where the bytes spell a line, and
-/// memory ran out.
-pub fn parse_line(alloc: Global, bytes: &[u8]) -> Result<Line, LineFault>
-    // What is read is spelled so.
-    ensures found { IfOk result (λ l. Spells bytes.now l) }
-    // Which fault it is.
-    ensures faults { FaultsAreExact bytes.now result }
-    // Memory runs out only for a line.
-    ensures memory { result ≡ Err Memory → SpellsSome bytes.now }
-    // What is spelled so is read, unless memory runs out.
-    ensures only { ReadsOnly bytes.now result }
-    // The same by the function that reads from the left.
-    ensures reads { MatchesReading bytes.now result }
-{
-    read_line(alloc, bytes)
 }
 
 /// Bytes spell at most one line.
