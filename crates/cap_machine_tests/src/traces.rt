@@ -1,7 +1,7 @@
 //! Worked traces and their reports.
 
 /// Traces without a successful exec or closefrom, and the report of each in both profiles.
-pub static REPORTS: [(&[u8], &[u8]); 42] = [
+pub static REPORTS: [(&[u8], &[u8]); 43] = [
     (b"", b"findings 0\n"),
     (
         b"100 @start(0,3)\n100 cap_rights_limit(0,CAP_READ) RET 0\n100 write(0) RET 5",
@@ -31,6 +31,10 @@ pub static REPORTS: [(&[u8], &[u8]); 42] = [
     (
         b"100 @start(0,3)\n100 cap_rights_limit(3,CAP_READ) RET 0\n100 fork() RET 101\n100 close(3) RET 0\n101 write(3) RET 1\n101 @exit()\n100 open(\"a\",O_RDONLY) RET 3\n100 fork() RET 101\n101 write(3) RET 1",
         b"5 101 write missing 3 CAP_WRITE\nfindings 1\n",
+    ),
+    (
+        b"100 @start(0)\n100 socket(0) RET 40\n100 socket(0) RET 300\n100 socket(0) RET 200000\n200 @start(0)\n200 fork() RET 100\n100 close(40) RET 0\n100 socket(0) RET 300\n100 read(300) RET 1\n100 read(200000) RET 1",
+        b"7 100 close closed 40\n10 100 read closed 200000\nfindings 2\n",
     ),
     (
         b"100 @start(0,3)\n100 cap_enter() RET 0\n100 open(\"/etc/x\",O_RDONLY) RET 5\n100 read(5) RET 1",

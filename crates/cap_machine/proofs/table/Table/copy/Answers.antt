@@ -19,5 +19,6 @@ returns c =
       modes = λ p. asked_of_copies (λ (q : Process). q.mode) Unsure c.args.self.now.processes.items
           c.in_ok-table-2.field-0.items (place_in c.in_ok-table.field-0 p) p (λ a b same. same.1)
           c.in_ok-table-2.ensures.cases.0
-          ∙ ap (λ i. option_map_or (λ (q : Process). q.mode) (own_at c.args.self.now.processes.items i p) Unsure) (at p);
+          ∙ ap (λ i. option_map_or (λ (q : Process). q.mode) (own_at c.args.self.now.processes.items i p) Unsure)
+          (at p);
     }
