@@ -40,7 +40,7 @@ pub is_at_tail : {V : Type 0} (x : ℕ × V) (l : List (ℕ × V)) (key at : ℕ
 is_at_tail x l key at is_at = record { in_range = omega (arith, is_at.in_range); has_key = is_at.has_key }
 
 -- the value at the place of a key is found
-found_is_at : {V : Type 0} (b : ℕ) (l : List (ℕ × V)) (key at : ℕ) → RisesFrom b l
+pub found_is_at : {V : Type 0} (b : ℕ) (l : List (ℕ × V)) (key at : ℕ) → RisesFrom b l
     → IsAt l key at → found l key ≡ option_map (λ entry. entry.1) (slice_get l at)
 found_is_at b [] key at rises is_at = absurd (omega (arith, is_at.in_range))
 found_is_at b ((k, v) ∷ rest) key zero rises is_at = grind (arith, nat_tests, is_at.has_key (k, v))

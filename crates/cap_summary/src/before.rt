@@ -31,14 +31,16 @@ pub(crate) enum Before<'a> {
 }
 
 impl<'a> Before<'a> {
+    #[tactic(auto, using(crate::proofs::Joining::applied_same))]
     pub(crate) fn cell(&self, pid: Pid, fd: Fd) -> Cell
         ensures { result ≡ (state_before self.now).cell pid fd }
     {
         match self {
             Before::At(start) => start.cell(pid, fd),
-            Before::After(before, change) => match change.value(pid, fd) {
-                Value::Fixed(cell) => cell,
-                Value::Of(source, of, op) => op.on(before.cell(source, of)),
+            Before::After(before, change) => match change.seen(pid, fd, &mut 0) {
+                None => before.cell(pid, fd),
+                Some(Value::Fixed(cell)) => cell,
+                Some(Value::Of(source, of, op)) => op.on(before.cell(source, of)),
             },
             Before::Behind(before, me, effect) => match touch_of(effect, *me, pid, fd) {
                 Touched::Kept => before.cell(pid, fd),

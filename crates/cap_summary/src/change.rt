@@ -1,6 +1,6 @@
 //! What becomes of each cell and mode over a segment.
 
-ghost use Rattle.std.specs.Prelude.{◌≡◌, ℕ, true, None, IfOk};
+ghost use Rattle.std.specs.Prelude.{◌≡◌, ℕ, true, None, IfOk, IfSome, IfNone};
 ghost use Rattle.cap_machine.specs.Op.{same};
 ghost use Rattle.cap_machine.specs.State.{State};
 ghost use Rattle.cap_summary.specs.Values.{read_cell, read_mode, unlisted};
@@ -47,6 +47,22 @@ impl Process {
         ensures { result ≡ true → value_in self.now fd ≡ Value.Of pid fd same }
     {
         self.cells.get(fd).is_none() && self.base.leaves(pid, fd)
+    }
+
+    /// What has become of a descriptor of the process with this pid; none only where it is as it was.
+    fn seen(&self, pid: Pid, fd: Fd) -> Option<Value>
+        ensures some { IfSome result (λ v. value_in self.now fd ≡ v) }
+        ensures none { IfNone result (value_in self.now fd ≡ Value.Of pid fd same) }
+    {
+        match self.cells.get(fd) {
+            Some(value) => Some(value),
+            None => {
+                if self.base.leaves(pid, fd) {
+                    return None;
+                }
+                Some(self.base.value(fd))
+            }
+        }
     }
 
     /// Whether it stands behind a change as it is. No is a safe answer.
@@ -117,6 +133,18 @@ impl Change {
         match value {
             ModeValue::Fixed(mode) => ModeValue::Fixed(*mode),
             ModeValue::Of(pid) => self.mode(*pid),
+        }
+    }
+
+    /// What has become of a descriptor of a process; none only where it is as it was. It looks for the process first where
+    /// an earlier look-up ended, and notes where this one did.
+    pub(crate) fn seen(&self, pid: Pid, fd: Fd, near: &mut usize) -> Option<Value>
+        ensures some { IfSome result (λ v. value_of self.now pid fd ≡ v) }
+        ensures none { IfNone result (value_of self.now pid fd ≡ Value.Of pid fd same) }
+    {
+        match self.processes.get_near(pid, near) {
+            Some(process) => process.seen(pid, fd),
+            None => None,
         }
     }
 

@@ -4,7 +4,8 @@ ghost use Rattle.std.specs.Prelude.{◌≡◌, ◌<◌, ◌||◌, length, slice_
 ghost use Rattle.cap_machine.specs.State.{State};
 ghost use Rattle.cap_summary.specs.Changes.{changed};
 ghost use Rattle.cap_summary.specs.Conditions.{source_holds, part_holds, outside_holds, refused_holds, holds};
-ghost use Rattle.cap_summary.specs.Conditions.{any_holds};
+ghost use Rattle.cap_summary.specs.Conditions.{any_holds, passes};
+ghost use Rattle.cap_summary.specs.Values.{read_cell};
 ghost use Rattle.cap_summary.specs.Moved.{moved_holds, moved_source_holds};
 
 use crate::change::Change;
@@ -32,28 +33,39 @@ pub(crate) enum MovedSource {
     To(Source),
 }
 
+/// What has become of a source whose cell has this value.
+#[tactic(auto, using(crate::proofs::Holding::passes_before))]
+fn source_at(source: &Source, value: &Value) -> MovedSource
+    ensures { (s : State) → moved_source_holds s result ≡ passes source.now.test (read_cell s value.now) }
+{
+    match value {
+        Value::Fixed(cell) => {
+            if source.test.passes(*cell) {
+                MovedSource::Always
+            } else {
+                MovedSource::Never
+            }
+        }
+        Value::Of(pid, fd, op) => {
+            let test = source.test.before(op);
+            if test.is_empty() {
+                return MovedSource::Never;
+            }
+            MovedSource::To(Source {
+                pid: *pid,
+                fd: *fd,
+                test,
+            })
+        }
+    }
+}
+
 impl Change {
     /// What has become of a source behind this change.
-    #[tactic(auto, using(crate::proofs::Holding::passes_before))]
     fn moved_source(&self, source: &Source) -> MovedSource
         ensures { (s : State) → moved_source_holds s result ≡ source_holds (changed self.now s) source.now }
     {
-        match self.value(source.pid, source.fd) {
-            Value::Fixed(cell) => {
-                if source.test.passes(cell) {
-                    MovedSource::Always
-                } else {
-                    MovedSource::Never
-                }
-            }
-            Value::Of(pid, fd, op) => {
-                let test = source.test.before(&op);
-                if test.is_empty() {
-                    return MovedSource::Never;
-                }
-                MovedSource::To(Source { pid, fd, test })
-            }
-        }
+        source_at(source, &self.value(source.pid, source.fd))
     }
 
     /// What is left of a part of a refusal; none where it never holds.
@@ -193,12 +205,43 @@ impl Change {
         true
     }
 
-    /// Adds what becomes of the condition at a place behind this change, and answers whether it holds in any case.
+    /// Adds what becomes of a test of a cell, the condition at a place, behind this change, and answers whether it holds
+    /// in any case.
+    fn put_source(
+        &self,
+        alloc: Global,
+        conditions: &Conditions,
+        at: usize,
+        source: &Source,
+        near: &mut usize,
+        left: &mut NewConditions,
+    ) -> Result<bool, NoMemory>
+        requires in_range { at < length conditions.now }
+        requires there { slice_index_or conditions.now at (Condition.Cell source.now) ≡ Condition.Cell source.now }
+        ensures { IfOk result (λ always. (s : State) → (always || any_holds s left.new)
+            ≡ (any_holds s left.old || source_holds (changed self.now s) source.now)) }
+    {
+        let Some(value) = self.seen(source.pid, source.fd, near) else {
+            left.copy(conditions, at)?;
+            return Ok(false);
+        };
+        match source_at(source, &value) {
+            MovedSource::Never => Ok(false),
+            MovedSource::Always => Ok(true),
+            MovedSource::To(new) => {
+                left.put(alloc, &Condition::Cell(new))?;
+                Ok(false)
+            }
+        }
+    }
+
+    /// The same of any condition.
     fn put_behind(
         &self,
         alloc: Global,
         conditions: &Conditions,
         at: usize,
+        near: &mut usize,
         left: &mut NewConditions,
     ) -> Result<bool, NoMemory>
         requires { at < length conditions.now }
@@ -206,7 +249,11 @@ impl Change {
             ≡ (any_holds s left.old || holds (changed self.now s) (slice_index_or conditions.now at d))) }
     {
         let condition = conditions.get(at);
-        if conditions.is_large(at) && self.leaves_condition(&condition) {
+        if let Condition::Cell(source) = &condition {
+            let always = self.put_source(alloc, conditions, at, source, near, left)?;
+            return Ok(always);
+        }
+        if self.leaves_condition(&condition) {
             left.copy(conditions, at)?;
             return Ok(false);
         }
@@ -234,9 +281,10 @@ impl Change {
             return Ok((false, conditions.share()?));
         }
         let mut always = false;
+        let mut near = 0;
         let mut left = NewConditions::with_room(alloc, conditions.len())?;
         for at in 0..conditions.len() {
-            if self.put_behind(alloc, conditions, at, &mut left)? {
+            if self.put_behind(alloc, conditions, at, &mut near, &mut left)? {
                 always = true;
             }
         }

@@ -208,16 +208,6 @@ impl Conditions {
         self.packed()[at].condition()
     }
 
-    /// Whether the one at a place takes memory of its own.
-    pub(crate) fn is_large(&self, at: usize) -> bool
-        requires { at < length self.now }
-    {
-        match &self.packed()[at] {
-            Packed::Other(_) | Packed::Refused(_) => true,
-            _ => false,
-        }
-    }
-
     /// How the one at a place stands to one of others in the order in which they are kept.
     pub(crate) fn order_to(&self, at: usize, others: &Conditions, of: usize) -> Ordering
         requires own { at < length self.now }

@@ -4,7 +4,7 @@ ghost use Rattle.std.specs.Option.{option_copied};
 ghost use Rattle.cap_summary.specs.Sorted.{found, Rises};
 
 use cap_tree::NoMemory;
-use place::place_of;
+use place::{place_near, place_of};
 use std::alloc::{AllocError, Global};
 use std::marker::Model;
 use std::rc::RcSlice;
@@ -91,6 +91,19 @@ impl<V> Table<V> {
         match place_of(entries, key) {
             Ok(at) => Some(&entries[at].1),
             Err(_) => None,
+        }
+    }
+}
+
+impl<V> Table<V> {
+    /// The same, and where the entry is or would be. It looks first at the place that is given, that of an earlier look-up.
+    pub fn get_near(&self, key: u32, near: usize) -> (Option<&V>, usize)
+        ensures { option_copied result.0 ≡ found self.now key }
+    {
+        let entries = self.entries();
+        match place_near(entries, key, near) {
+            Ok(at) => (Some(&entries[at].1), at),
+            Err(at) => (None, at),
         }
     }
 }

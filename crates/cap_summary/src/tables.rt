@@ -239,6 +239,19 @@ impl Processes {
         }
     }
 
+    /// The same. It looks first where an earlier look-up ended, and notes where this one did.
+    #[tactic(auto, unfolding(crate::specs::Tables::process_at))]
+    pub(crate) fn get_near(&self, pid: Pid, near: &mut usize) -> Option<&Process>
+        ensures { option_copied result ≡ process_at self.now pid }
+    {
+        let (found, at) = self.table.get_near(pid, *near);
+        *near = at;
+        match found {
+            Some(process) => Some(&**process),
+            None => None,
+        }
+    }
+
     /// Whether no process is listed.
     #[tactic(auto, unfolding(crate::specs::Tables::process_at))]
     pub(crate) fn is_empty(&self) -> bool

@@ -1,5 +1,5 @@
 //! The place of a key among sorted entries.
-ghost use Rattle.std.specs.Prelude.{◌≡◌, Some, None, slice_get, option_map, IfOk, IfErr};
+ghost use Rattle.std.specs.Prelude.{◌≡◌, true, Some, None, slice_get, option_map, IfOk, IfErr};
 ghost use Rattle.cap_summary.specs.Place.{IsAt, IsGap};
 ghost use Rattle.cap_summary.specs.Sorted.{found, Rises};
 
@@ -13,4 +13,28 @@ pub(super) fn place_of<V>(entries: &[(u32, V)], key: u32) -> Result<usize, usize
     ensures absent { IfErr result (λ _. found entries.now key ≡ None) }
 {
     entries.binary_search_by_key(&key, |entry| entry.0)
+}
+
+/// Whether the entry at a place has the key.
+fn is_at<V>(entries: &[(u32, V)], key: u32, at: usize) -> bool
+    ensures { result ≡ true → IsAt entries.now key at }
+{
+    if at >= entries.len() {
+        return false;
+    }
+    entries[at].0 == key
+}
+
+/// The same as [`place_of`]. It looks at one place first.
+pub(super) fn place_near<V>(entries: &[(u32, V)], key: u32, near: usize) -> Result<usize, usize>
+    requires { Rises entries.now }
+    ensures at { IfOk result (IsAt entries.now key) }
+    ensures value { IfOk result
+        (λ at. found entries.now key ≡ option_map (λ entry. entry.1) (slice_get entries.now at)) }
+    ensures absent { IfErr result (λ _. found entries.now key ≡ None) }
+{
+    if is_at(entries, key, near) {
+        return Ok(near);
+    }
+    place_of(entries, key)
 }

@@ -5,7 +5,7 @@ use Rattle.cap_summary.specs.declared.conditions.CellTest.{CellTest}
 use Rattle.cap_summary.specs.Values.{read_cell}
 use Rattle.cap_summary.specs.Conditions.{passes, before}
 use Rattle.cap_summary.proofs.Holding.{passes_before}
-use Rattle.cap_summary.proofs.change.Change.moved_source.Goals as goal
+use Rattle.cap_summary.proofs.moved.source_at.Goals as goal
 
 pub returns-then-is_empty : goal.returns-then-is_empty
 returns-then-is_empty c = λ s.
@@ -15,4 +15,4 @@ returns-then-is_empty c = λ s.
     ≡ passes c.args.source.now.test (applied c.in-Of.op (s.cell c.in-Of.pid c.in-Of.fd)) =
     passes_before c.args.source.now.test c.in-Of.op (s.cell c.in-Of.pid c.in-Of.fd) in
     sym never ∙ ap (λ (w : CellTest). passes w (s.cell c.in-Of.pid c.in-Of.fd)) c.before-test.ensures ∙ moved
-    ∙ ap (λ (v : Value). passes c.args.source.now.test (read_cell s v)) c.in-Of.ensures
+    ∙ ap (λ (v : Value). passes c.args.source.now.test (read_cell s v)) (sym c.in-Of.is)
