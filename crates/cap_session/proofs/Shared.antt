@@ -1,5 +1,5 @@
 -- Steps that share their lines: an edit of them is that edit of their lines, and leaves each in its profile.
-use Rattle.std.proofs.Common.{◌≡◌, ℕ, suc, ◌∷◌, [], ◌++◌, List, length, map, take, drop, insert, remove, slice_set}
+use Rattle.std.proofs.Common.{◌≡◌, ℕ, suc, ◌∷◌, [], List, map, take, drop, insert, remove, slice_set}
 use Rattle.std.proofs.Common.{refl, sym, ap, ◌∙◌}
 use Rattle.std.proofs.lemmas.List.{map-append, take-map, drop-map, map-set}
 use Rattle.cap_trace.specs.Entry.{Entry}
