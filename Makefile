@@ -44,6 +44,7 @@ bench: capcheck
 	bench/run ./capcheck
 	bench/edits ./capcheck
 	bench/reading
+	if command -v valgrind >/dev/null; then bench/replaced ./capcheck; fi
 
 install: capcheck
 	install -d $(DESTDIR)$(PREFIX)/bin
