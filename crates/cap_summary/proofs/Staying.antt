@@ -1,5 +1,6 @@
 -- What a change leaves as it is, and what stands behind it as it is.
-use Rattle.std.proofs.Common.{◌≡◌, ℕ, ◌+◌, ◌<◌, eqb, List, [], ◌∷◌, ◌++◌, Option, Some, None, Bool, true, false, cond, ◌||◌}
+use Rattle.std.proofs.Common.{◌≡◌, ℕ, ◌+◌, ◌<◌, eqb, List, [], ◌∷◌, ◌++◌, Option, Some, None, Bool, true, false}
+use Rattle.std.proofs.Common.{cond, ◌||◌}
 use Rattle.std.proofs.Common.{take, get_or, length, inl, inr, refl, sym, ap, ◌∙◌}
 use Rattle.std.proofs.lemmas.List.{take_more}
 use Rattle.std.proofs.lemmas.Bool.Decides.{eqb_tells}
@@ -88,7 +89,8 @@ none-then (Becomes cell) = refl
 none-then (Keeps mask flag) = refl
 
 same-in_turn : (op : Op) → in_turn same op ≡ op
-same-in_turn op = same_parts (in_turn same op) op refl refl (none-then op.set) (none-then op.clear) (none-then op.unsure)
+same-in_turn op =
+    same_parts (in_turn same op) op refl refl (none-then op.set) (none-then op.clear) (none-then op.unsure)
 
 -- ---- values
 
