@@ -1,19 +1,18 @@
 -- What a change leaves as it is, and what stands behind it as it is.
-use Rattle.std.proofs.Common.{◌≡◌, ℕ, ◌+◌, ◌<◌, eqb, List, [], ◌∷◌, ◌++◌, Option, Some, None, Bool, true, false, cond, ◌||◌}
+use Rattle.std.proofs.Common.{◌≡◌, ℕ, ◌+◌, ◌<◌, eqb, List, [], ◌∷◌, ◌++◌, Option, Some, None, Bool, true, false}
+use Rattle.std.proofs.Common.{cond, ◌||◌}
 use Rattle.std.proofs.Common.{take, get_or, length, inl, inr, refl, sym, ap, ◌∙◌}
 use Rattle.std.proofs.lemmas.List.{take_more}
 use Rattle.std.proofs.lemmas.Bool.Decides.{eqb_tells}
 use Rattle.std.specs.Prelude.{option_map, option_and_then, unwrap_or, is_some}
 use Rattle.std.specs.Option.{option_or}
-use Rattle.cap_machine.specs.declared.cell.OnExec.{OnExec}
 use Rattle.cap_machine.specs.declared.cell.OnExec.TheVariants.{Set, Clear, Unsure}
 use Rattle.cap_machine.specs.declared.cell.Cell.{Cell}
-use Rattle.cap_machine.specs.declared.cell.Cell.TheVariants.{Closed}
 use Rattle.cap_machine.specs.declared.cell.HeldOp.{HeldOp}
 use Rattle.cap_machine.specs.declared.cell.HeldOp.TheVariants.{Becomes, Keeps}
 use Rattle.cap_machine.specs.declared.cell.Op.{Op}
 use Rattle.cap_machine.specs.State.{State}
-use Rattle.cap_machine.specs.Op.{applied, same}
+use Rattle.cap_machine.specs.Op.{same}
 use Rattle.cap_machine.specs.Composed.{in_turn, held_then, kept_then, both_masks}
 use Rattle.cap_machine.proofs.Turns.{same_state}
 use Rattle.cap_summary.specs.declared.values.Value.{Value}
@@ -25,7 +24,7 @@ use Rattle.cap_summary.specs.declared.kept.Kept.{Kept}
 use Rattle.cap_summary.specs.Sorted.{found}
 use Rattle.cap_summary.specs.Values.{read_cell, read_mode, unlisted, op_on}
 use Rattle.cap_summary.specs.Tables.{listed_value, process_at, or_else, kept_value, kept_values}
-use Rattle.cap_summary.specs.Changes.{value_in, value_of, mode_of, cell_in, mode_in, changed, JoinsProcess, JoinsTo}
+use Rattle.cap_summary.specs.Changes.{value_of, cell_in, mode_in, changed, JoinsProcess, JoinsTo}
 use Rattle.cap_summary.specs.Images.{under, passed_on}
 use Rattle.cap_summary.proofs.Joining.{applied_same, read-under}
 use Rattle.cap_summary.proofs.SortedMerging.{found-append}
@@ -90,7 +89,8 @@ none-then (Becomes cell) = refl
 none-then (Keeps mask flag) = refl
 
 same-in_turn : (op : Op) → in_turn same op ≡ op
-same-in_turn op = same_parts (in_turn same op) op refl refl (none-then op.set) (none-then op.clear) (none-then op.unsure)
+same-in_turn op =
+    same_parts (in_turn same op) op refl refl (none-then op.set) (none-then op.clear) (none-then op.unsure)
 
 -- ---- values
 

@@ -1,9 +1,8 @@
 -- Conditions as a list keeps them.
-use Rattle.std.specs.Prelude.{ℕ, List, map}
+use Rattle.std.specs.Prelude.{List, map}
 use Rattle.cap_summary.specs.declared.conditions.HeldTest.TheVariants.{Lacks}
 use Rattle.cap_summary.specs.declared.conditions.Condition.{Condition}
 use Rattle.cap_summary.specs.declared.conditions.Condition.TheVariants as condition
-use Rattle.cap_summary.specs.declared.packed.Lack.{Lack}
 use Rattle.cap_summary.specs.declared.packed.Packed.{Packed}
 use Rattle.cap_summary.specs.declared.packed.Packed.TheVariants as packed
 

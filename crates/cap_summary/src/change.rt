@@ -136,8 +136,8 @@ impl Change {
         }
     }
 
-    /// What has become of a descriptor of a process; none only where it is as it was. It looks for the process first where
-    /// an earlier look-up ended, and notes where this one did.
+    /// What has become of a descriptor of a process; none only where it is as it was. It looks for the process
+    /// first where an earlier look-up ended, and notes where this one did.
     pub(crate) fn seen(&self, pid: Pid, fd: Fd, near: &mut usize) -> Option<Value>
         ensures some { IfSome result (λ v. value_of self.now pid fd ≡ v) }
         ensures none { IfNone result (value_of self.now pid fd ≡ Value.Of pid fd same) }
@@ -160,8 +160,8 @@ impl Change {
 
     /// Whether the process of a base isn't listed.
     fn leaves_base(&self, base: &Base) -> bool
-        ensures { result ≡ true
-            → (s : State) (f : ℕ) → read_cell s (unlisted base.now f) ≡ read_cell (changed self.now s) (unlisted base.now f) }
+        ensures { result ≡ true → (s : State) (f : ℕ)
+            → read_cell s (unlisted base.now f) ≡ read_cell (changed self.now s) (unlisted base.now f) }
     {
         match base.others {
             Others::Alike(_) => true,

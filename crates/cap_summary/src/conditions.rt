@@ -87,7 +87,8 @@ impl HeldTest {
     /// Whether rights that pass another test pass this one. No is a safe answer.
     #[tactic(auto, using(crate::proofs::Bools::or_false, crate::proofs::Merging::lacks_more))]
     fn covers(&self, other: &HeldTest) -> bool
-        ensures { result ≡ true → (r : ℕ) → passes_held self.now r ≡ (passes_held self.now r || passes_held other.now r) }
+        ensures { result ≡ true
+            → (r : ℕ) → passes_held self.now r ≡ (passes_held self.now r || passes_held other.now r) }
     {
         match (self, other) {
             (_, HeldTest::Never) => true,

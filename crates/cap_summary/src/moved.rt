@@ -169,7 +169,8 @@ impl Change {
 
     /// The same of a refusal.
     fn leaves_refused(&self, refused: &Refused) -> bool
-        ensures { result ≡ true → (s : State) → refused_holds (changed self.now s) refused.now ≡ refused_holds s refused.now }
+        ensures { result ≡ true
+            → (s : State) → refused_holds (changed self.now s) refused.now ≡ refused_holds s refused.now }
     {
         if !self.leaves_outside(refused.mode) {
             return false;
@@ -195,7 +196,8 @@ impl Change {
 
     /// The same of all conditions.
     fn leaves_all(&self, conditions: &Conditions) -> bool
-        ensures { result ≡ true → (s : State) → any_holds (changed self.now s) conditions.now ≡ any_holds s conditions.now }
+        ensures { result ≡ true
+            → (s : State) → any_holds (changed self.now s) conditions.now ≡ any_holds s conditions.now }
     {
         for at in 0..conditions.len() {
             if !self.leaves_condition(&conditions.get(at)) {
@@ -205,8 +207,8 @@ impl Change {
         true
     }
 
-    /// Adds what becomes of a test of a cell, the condition at a place, behind this change, and answers whether it holds
-    /// in any case.
+    /// Adds what becomes of a test of a cell, the condition at a place, behind this change, and answers whether
+    /// it holds in any case.
     fn put_source(
         &self,
         alloc: Global,

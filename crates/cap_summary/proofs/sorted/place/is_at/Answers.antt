@@ -1,4 +1,4 @@
-use Rattle.std.proofs.Common.{◌≡◌, ℕ, get_or, arith, ap, ◌∙◌}
+use Rattle.std.proofs.Common.{ℕ, get_or, arith, ap, ◌∙◌}
 use Rattle.std.proofs.lemmas.Bool.{eqb-true}
 use Rattle.std.proofs.lemmas.List.{get_or_default}
 use Rattle.cap_summary.proofs.sorted.place.is_at.Goals as goal

@@ -1,4 +1,4 @@
-use Rattle.std.proofs.Common.{◌<◌, length, arith, sym}
+use Rattle.std.proofs.Common.{◌<◌, length, sym}
 use Rattle.cap_summary.proofs.Staying.{hides_more}
 use Rattle.cap_summary.proofs.tables.Cells.are_within.Goals as goal
 

@@ -1,9 +1,5 @@
-use Rattle.std.proofs.Common.{◌≡◌, ℕ, Option, None, ap, ◌∙◌}
-use Rattle.std.specs.Prelude.{option_and_then}
 use Rattle.std.proofs.lemmas.Result.{IfOk-weaker}
-use Rattle.cap_summary.specs.declared.values.Passing.{Passing}
 use Rattle.cap_summary.specs.Tables.{listed_value}
-use Rattle.cap_summary.specs.Images.{passed_on}
 use Rattle.cap_summary.proofs.Staying.{passed_same}
 use Rattle.cap_summary.proofs.tables.Cells.handed_on.Goals as goal
 
