@@ -22,13 +22,13 @@ pub beginning_decides : BeginningDecides
 beginning_decides begin rest e is =
     (soon_after next_entry [] begin rest e is, whole_after next_entry [] begin rest e is)
 
--- a refused line, told before the end or at it
+-- a line that is refused before the end or at it
 abbrev pub Line : Type 0 → List ℕ → Refusal → Type 0
-Line told given e = (soon given ≡ Some e) ⊎ (told × (trace given ≡ Err e))
+Line seen given e = (soon given ≡ Some e) ⊎ (seen × (trace given ≡ Err e))
 
-refused_whole : (told : Type 0) (given : List ℕ) (e : Refusal) → Line told given e → trace given ≡ Err e
-refused_whole told given e (inl is) = whole_too next_entry [] given e is
-refused_whole told given e (inr is) = is.1
+refused_whole : (seen : Type 0) (given : List ℕ) (e : Refusal) → Line seen given e → trace given ≡ Err e
+refused_whole seen given e (inl is) = whole_too next_entry [] given e is
+refused_whole seen given e (inr is) = is.1
 
 not_both : (r : Result (List Entry) Refusal) (entries : List Entry) (e : Refusal) → r ≡ Ok entries → r ≡ Err e → ⊥
 not_both r entries e good bad =
@@ -46,25 +46,25 @@ same_line r d e one two =
     cc
 
 pub good_is_reported : GoodIsReported
-good_is_reported profile start turns r0 r1 w0 w1 Clean entries call told good =
+good_is_reported profile start turns r0 r1 w0 w1 Clean entries call seen good =
     let same = same_entries _ call.answer.0 entries call.answer.1.good good in
     rw (← same) (call.answer.2, call.answer.1.is)
-good_is_reported profile start turns r0 r1 w0 w1 Findings entries call told good =
+good_is_reported profile start turns r0 r1 w0 w1 Findings entries call seen good =
     let same = same_entries _ call.answer.0 entries call.answer.1.good good in
     rw (← same) (call.answer.2, call.answer.1.is)
-good_is_reported profile start turns r0 r1 w0 w1 (Refused code line) entries call told good =
-    not_both _ entries _ good (refused_whole _ call.given _ call.answer.tells.line.line)
-good_is_reported profile start turns r0 r1 w0 w1 (StartRefused code line) entries call told good = absurd call.answer
-good_is_reported profile start turns r0 r1 w0 w1 Memory entries call told good = call.answer.silent
-good_is_reported profile start turns r0 r1 w0 w1 ReadFault entries call told good =
+good_is_reported profile start turns r0 r1 w0 w1 (Refused code line) entries call seen good =
+    not_both _ entries _ good (refused_whole _ call.given _ call.answer.says.line.line)
+good_is_reported profile start turns r0 r1 w0 w1 (StartRefused code line) entries call seen good = absurd call.answer
+good_is_reported profile start turns r0 r1 w0 w1 Memory entries call seen good = call.answer.silent
+good_is_reported profile start turns r0 r1 w0 w1 ReadFault entries call seen good =
     let going = call.answer.going in
-    let ended = told.0 in
+    let ended = seen.0 in
     omega arith
-good_is_reported profile start turns r0 r1 w0 w1 TooLong entries call told good =
+good_is_reported profile start turns r0 r1 w0 w1 TooLong entries call seen good =
     let going = call.answer.0.going in
-    let ended = told.0 in
+    let ended = seen.0 in
     omega arith
-good_is_reported profile start turns r0 r1 w0 w1 WriteFault entries call told good =
+good_is_reported profile start turns r0 r1 w0 w1 WriteFault entries call seen good =
     elim call.answer.1 [
       | inl is ↦
           let same = same_entries _ is.0 entries is.1.good good in
@@ -87,11 +87,11 @@ bad_is_not_ok (Ok entries) e is ok = cc
 bad_is_not_ok (Err f) e is ok = cc
 
 -- no line is refused where none is
-not_good : (told : Type 0) (given : List ℕ) (e : Refusal) → IsGood trace soon told given → Line told given e → ⊥
-not_good told given e good (inl is) =
+not_good : (seen : Type 0) (given : List ℕ) (e : Refusal) → IsGood trace soon seen given → Line seen given e → ⊥
+not_good seen given e good (inl is) =
     let no = sym good.before ∙ is in
     cc
-not_good told given e good (inr is) =
+not_good seen given e good (inr is) =
     bad_is_not_ok (trace given) e is.1 (good.at_end is.0)
 
 pub bad_is_refused : BadIsRefused
@@ -101,10 +101,10 @@ bad_is_refused profile start turns r0 r1 w0 w1 Findings e call bad =
     not_both _ call.answer.0 e call.answer.1.good (refused_whole _ call.given e bad)
 bad_is_refused profile start turns r0 r1 w0 w1 (Refused code line) e call bad =
     let same : call.answer.refusal ≡ e =
-    same_line _ _ e (refused_whole _ call.given _ call.answer.tells.line.line) (refused_whole _ call.given e bad) in (
+    same_line _ _ e (refused_whole _ call.given _ call.answer.says.line.line) (refused_whole _ call.given e bad) in (
       call.answer.code_is ∙ ap (λ (x : Refusal). code_of x.reason) same,
       call.answer.line_is ∙ ap (λ (x : Refusal). x.line) same,
-      call.answer.tells.is ∙ ap refusal_text same,
+      call.answer.says.is ∙ ap refusal_text same,
     )
 bad_is_refused profile start turns r0 r1 w0 w1 (StartRefused code line) e call bad = absurd call.answer
 bad_is_refused profile start turns r0 r1 w0 w1 Memory e call bad =
@@ -128,11 +128,11 @@ all_given : (text given : List ℕ) (left : Option (List ℕ)) → Consumes (Som
 all_given text given None read end = absurd read
 all_given text given (Some rest) read end = read ∙ ap (λ l. given ++ l) end ∙ append-nil given
 
-refused_text : (told : Type 0) (text given : List ℕ) (left : Option (List ℕ)) (e : Refusal)
-    → Consumes (Some text) left given → (told → IsAtEnd left) → Line told given e → trace text ≡ Err e
-refused_text told text given None e read end line = absurd read
-refused_text told text given (Some rest) e read end (inl is) = ap trace read ∙ whole_after next_entry [] given rest e is
-refused_text told text given (Some rest) e read end (inr is) =
+refused_text : (seen : Type 0) (text given : List ℕ) (left : Option (List ℕ)) (e : Refusal)
+    → Consumes (Some text) left given → (seen → IsAtEnd left) → Line seen given e → trace text ≡ Err e
+refused_text seen text given None e read end line = absurd read
+refused_text seen text given (Some rest) e read end (inl is) = ap trace read ∙ whole_after next_entry [] given rest e is
+refused_text seen text given (Some rest) e read end (inr is) =
     ap trace (all_given text given (Some rest) read (end is.0)) ∙ is.1
 
 pub pieces_agree : PiecesAgree
@@ -152,12 +152,12 @@ pieces_agree profile start turns r0 r1 w0 w1 Findings text call known =
     )
 pieces_agree profile start turns r0 r1 w0 w1 (Refused code line) text call known =
     let read = subst (λ (b : Option (List ℕ)). Consumes b r1.bytes call.given) known call.read in
-    let told = call.answer in (
-      told.refusal,
-      refused_text (IsEnded r0 r1) text call.given r1.bytes _ read (λ told. told.1) told.tells.line.line,
-      told.code_is,
-      told.line_is,
-      told.tells.is,
+    let seen = call.answer in (
+      seen.refusal,
+      refused_text (IsEnded r0 r1) text call.given r1.bytes _ read (λ seen. seen.1) seen.says.line.line,
+      seen.code_is,
+      seen.line_is,
+      seen.says.is,
     )
 pieces_agree profile start turns r0 r1 w0 w1 (StartRefused code line) text call known = absurd call.answer
 pieces_agree profile start turns r0 r1 w0 w1 Memory text call known = tt

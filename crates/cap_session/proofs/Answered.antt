@@ -31,9 +31,9 @@ pub record Whole (turns : ℕ) (old new : SourceState) (entries : List Entry) : 
   pub end : IsEnded old new
   pub good : trace given ≡ Ok entries
 
-is_good : (told : Type 0) (given : List ℕ) (entries : List Entry) → trace given ≡ Ok entries
-    → IsGood trace soon told given
-is_good told given entries good = record {
+is_good : (seen : Type 0) (given : List ℕ) (entries : List Entry) → trace given ≡ Ok entries
+    → IsGood trace soon seen given
+is_good seen given entries good = record {
   before = good_soon next_entry [] entries given good;
   at_end = λ end. rw good refl;
 }
@@ -107,7 +107,7 @@ refused profile s holds turns r0 r1 w0 w1 e (Refused code line) r w =
       wrote = w.0.taken;
       read_fault = r.failures;
       write_fault = omega arith;
-      answer = record { refusal = e; tells = record { line = r.answer; is = refl }; code_is = w.1; line_is = w.2 };
+      answer = record { refusal = e; says = record { line = r.answer; is = refl }; code_is = w.1; line_is = w.2 };
     }
 refused profile s holds turns r0 r1 w0 w1 e WriteFault r w =
     record {

@@ -97,7 +97,7 @@ pub made_more : (old mid new : SessionState) (edits : List Edit) (answered : Lis
 made_more old mid new edits answered e a before limit profile step =
     let same : length (wanted answered) ≡ length edits = length-map answered is_wanted ∙ before.each in
     let trace = rw (before.limit, before.trace) at step.trace in
-    let told = rw (before.limit, before.trace) at step.answers in
+    let seen = rw (before.limit, before.trace) at step.answers in
     record {
       each = omega (arith, before.each, length-append answered (a ∷ []), length-append edits (e ∷ []));
       limit = limit ∙ before.limit;
@@ -108,7 +108,7 @@ made_more old mid new edits answered e a before limit profile step =
       answers =
           rw (wanted-append answered a, answers-append old.limit old.trace edits (wanted answered) e (is_wanted a) same)
           (ap (λ all. all ++ a ∷ []) before.answers
-          ∙ ap (λ b. answers old.limit old.trace edits (wanted answered) ++ b ∷ []) told);
+          ∙ ap (λ b. answers old.limit old.trace edits (wanted answered) ++ b ∷ []) seen);
     }
 
 -- the edit at the index is made, after those before it

@@ -59,7 +59,7 @@ writing_on old now next text rest n w taken failures room = record {
   room = let same = w.room in omega arith;
 }
 
--- a read of some bytes tells no end
+-- a read of some bytes is no end
 pub ended_more : (E : Type 0) (n : ℕ) → (n ≡ 0 → ⊥) → ended {E = E} (Ok n) ≡ 0
 ended_more E zero more = absurd (more refl)
 ended_more E (suc n) more = refl

@@ -19,7 +19,7 @@ use Rattle.cap_session.specs.declared.edit.Edit.TheVariants.{Insert, Delete, Rep
 use Rattle.cap_session.specs.Edits.{edited}
 use Rattle.cap_session.specs.Performs.{edit_asked}
 
--- An edit as a command is told by what was asked of the session.
+-- An edit as a command, by what was asked of the session.
 pub edit_commanded : (profile : Profile) (t : List Entry) (e : Edit)
     → commanded profile t (edit_asked e) ≡ edit_done (edited 1000000 t e)
 edit_commanded profile t (Insert position line) = refl
@@ -35,8 +35,8 @@ done_ok : (asked : Result (List Entry) Refused) → IsOk asked → IsOk (edit_do
 done_ok (Ok next) ok = ok
 done_ok (Err e) ok = absurd (cc)
 
-told : (asked : Result (List Entry) Refused) (e : Refused) → asked ≡ Err e → edit_done asked ≡ Err (NotDone.Refused e)
-told asked e is = ap edit_done is
+seen : (asked : Result (List Entry) Refused) (e : Refused) → asked ≡ Err e → edit_done asked ≡ Err (NotDone.Refused e)
+seen asked e is = ap edit_done is
 
 -- the two ways in which an edit isn't made
 abbrev NotMade : Result (List Entry) Refused → NotDone → Type 0
@@ -45,14 +45,14 @@ NotMade asked why = (edit_done asked ≡ Err why) ⊎ ((why ≡ NotDone.Refused 
 not_made : (asked : Result (List Entry) Refused) (e : Refused) → RefusesExactly asked (Err e)
     → (◌≡◌ {A = Result ℕ Refused} (Err e) (Err Memory) → IsOk asked) → NotMade asked (NotDone.Refused e)
 not_made asked Memory refused memory = inr (refl, done_ok asked (memory refl))
-not_made asked LongLine refused memory = inl (told asked LongLine ((refused LongLine (λ e. cc)).0 refl))
-not_made asked Shape refused memory = inl (told asked Shape ((refused Shape (λ e. cc)).0 refl))
-not_made asked Pid refused memory = inl (told asked Pid ((refused Pid (λ e. cc)).0 refl))
-not_made asked Argument refused memory = inl (told asked Argument ((refused Argument (λ e. cc)).0 refl))
-not_made asked Right refused memory = inl (told asked Right ((refused Right (λ e. cc)).0 refl))
-not_made asked Answer refused memory = inl (told asked Answer ((refused Answer (λ e. cc)).0 refl))
-not_made asked Position refused memory = inl (told asked Position ((refused Position (λ e. cc)).0 refl))
-not_made asked Full refused memory = inl (told asked Full ((refused Full (λ e. cc)).0 refl))
+not_made asked LongLine refused memory = inl (seen asked LongLine ((refused LongLine (λ e. cc)).0 refl))
+not_made asked Shape refused memory = inl (seen asked Shape ((refused Shape (λ e. cc)).0 refl))
+not_made asked Pid refused memory = inl (seen asked Pid ((refused Pid (λ e. cc)).0 refl))
+not_made asked Argument refused memory = inl (seen asked Argument ((refused Argument (λ e. cc)).0 refl))
+not_made asked Right refused memory = inl (seen asked Right ((refused Right (λ e. cc)).0 refl))
+not_made asked Answer refused memory = inl (seen asked Answer ((refused Answer (λ e. cc)).0 refl))
+not_made asked Position refused memory = inl (seen asked Position ((refused Position (λ e. cc)).0 refl))
+not_made asked Full refused memory = inl (seen asked Full ((refused Full (λ e. cc)).0 refl))
 
 as_command : (profile : Profile) (t : List Entry) (e : Edit) (why : NotDone) → NotMade (edited 1000000 t e) why
     → (commanded profile t (edit_asked e) ≡ Err why)
@@ -67,10 +67,10 @@ pub edit_refused : (old new : SessionState) (e : Edit) (refused : Refused) → o
     (new.trace ≡ old.trace) × ((commanded old.profile old.trace (edit_asked e) ≡ Err (NotDone.Refused refused))
     ⊎ ((NotDone.Refused refused ≡ NotDone.Refused Memory)
     × IsOk (commanded old.profile old.trace (edit_asked e)) × IsTrue (may_want (edit_asked e))))
-edit_refused old new e refused limit tells memory kept = (
+edit_refused old new e refused limit says memory kept = (
   ap (λ (s : SessionState). s.trace) kept,
   as_command old.profile old.trace e (NotDone.Refused refused)
-      (not_made (edited 1000000 old.trace e) refused (rw limit at tells) (rw limit at memory)),
+      (not_made (edited 1000000 old.trace e) refused (rw limit at says) (rw limit at memory)),
 )
 
 -- ---- a command's reply

@@ -34,7 +34,7 @@ line_refused profile holds turns r0 r1 s w0 w1 e (Refused code line) r w =
       calls = r.calls;
       read_fault = r.failures;
       write_fault = omega arith;
-      answer = record { refusal = e; tells = record { line = r.answer; is = refl }; code_is = w.1; line_is = w.2 };
+      answer = record { refusal = e; says = record { line = r.answer; is = refl }; code_is = w.1; line_is = w.2 };
       unread = refl;
     })
 line_refused profile holds turns r0 r1 s w0 w1 e WriteFault r w =

@@ -39,7 +39,7 @@ edit_or_not profile (show_line k) = inr (record {
     | Delete p ↦ λ is. cc
     | Replace p l ↦ λ is. cc
   ];
-  keeps = λ t u text is. elim is [ inl told ↦ shown_keeps t u line_feed text (shown t k) told | inr wants ↦ wants.3 ];
+  keeps = λ t u text is. elim is [ inl seen ↦ shown_keeps t u line_feed text (shown t k) seen | inr wants ↦ wants.3 ];
 })
 edit_or_not profile count_lines = inr (record {
   none = λ edit. elim edit as (λ e. count_lines ≡ edit_asked e → ⊥) [
@@ -47,7 +47,7 @@ edit_or_not profile count_lines = inr (record {
     | Delete p ↦ λ is. cc
     | Replace p l ↦ λ is. cc
   ];
-  keeps = λ t u text is. elim is [ inl told ↦ told.1 | inr wants ↦ wants.3 ];
+  keeps = λ t u text is. elim is [ inl seen ↦ seen.1 | inr wants ↦ wants.3 ];
 })
 edit_or_not profile report_all = inr (record {
   none = λ edit. elim edit as (λ e. report_all ≡ edit_asked e → ⊥) [
@@ -55,7 +55,7 @@ edit_or_not profile report_all = inr (record {
     | Delete p ↦ λ is. cc
     | Replace p l ↦ λ is. cc
   ];
-  keeps = λ t u text is. elim is [ inl told ↦ told.1 | inr wants ↦ wants.3 ];
+  keeps = λ t u text is. elim is [ inl seen ↦ seen.1 | inr wants ↦ wants.3 ];
 })
 edit_or_not profile (report_lines a b) = inr (record {
   none = λ edit. elim edit as (λ e. report_lines a b ≡ edit_asked e → ⊥) [
@@ -64,7 +64,7 @@ edit_or_not profile (report_lines a b) = inr (record {
     | Replace p l ↦ λ is. cc
   ];
   keeps = λ t u text is. elim is [
-    | inl told ↦ shown_keeps t u [] text (ranged profile t a b) told
+    | inl seen ↦ shown_keeps t u [] text (ranged profile t a b) seen
     | inr wants ↦ wants.3
   ];
 })
@@ -74,7 +74,7 @@ edit_or_not profile unknown = inr (record {
     | Delete p ↦ λ is. cc
     | Replace p l ↦ λ is. cc
   ];
-  keeps = λ t u text is. elim is [ inl told ↦ told.1 | inr wants ↦ wants.3 ];
+  keeps = λ t u text is. elim is [ inl seen ↦ seen.1 | inr wants ↦ wants.3 ];
 })
 
 -- what one line does

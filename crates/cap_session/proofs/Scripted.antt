@@ -24,14 +24,14 @@ commands false false a b c short kept is = is
 commands true skipped a b c short kept is = absurd (cc)
 commands false true a b c short kept is = absurd (cc)
 
--- what an edit's reply says of whether memory was wanted
+-- whether an edit ran out of memory, by its reply
 abbrev pub EditReplied : List Entry → Result (List Entry) Refused → List ℕ → List Entry → Type 0
 EditReplied t r text u = (w : Bool) × (u ≡ trace_after t w r) × (text ≡ answer_text (answer w r))
 
-told : (t u : List Entry) (text : List ℕ) (r : Result (List Entry) Refused) → RepliesTo t (edit_done r) text u
+seen : (t u : List Entry) (text : List ℕ) (r : Result (List Entry) Refused) → RepliesTo t (edit_done r) text u
     → EditReplied t r text u
-told t u text (Ok next) is = (false, is.1, is.0)
-told t u text (Err e) is = (false, is.1, is.0)
+seen t u text (Ok next) is = (false, is.1, is.0)
+seen t u text (Err e) is = (false, is.1, is.0)
 
 wanted : (t u : List Entry) (text : List ℕ) (r : Result (List Entry) Refused) → IsOk (edit_done r)
     → text ≡ refused_text 9 → u ≡ t → EditReplied t r text u
@@ -40,7 +40,7 @@ wanted t u text (Err e) ok is stays = absurd (cc)
 
 pub edit_replied : (profile : Profile) (t u : List Entry) (text : List ℕ) (e : Edit)
     → Commands profile t (edit_asked e) text u → EditReplied t (edited most_lines t e) text u
-edit_replied profile t u text e (inl is) = told t u text (edited most_lines t e)
+edit_replied profile t u text e (inl is) = seen t u text (edited most_lines t e)
     (subst (λ (r : Result Done NotDone). RepliesTo t r text u) (edit_commanded profile t e) is)
 edit_replied profile t u text e (inr is) = wanted t u text (edited most_lines t e)
     (subst (λ (r : Result Done NotDone). IsOk r) (edit_commanded profile t e) is.1) is.2 is.3

@@ -54,26 +54,26 @@ pub record TooLongAfter {A : Type 0} (next : A → List ℕ → Result A Refused
   pub known : A
   pub good : with_lines next start 0 (whole_lines [] begin) ≡ Ok known
   pub long : 1024 < length (last_piece [] begin)
-  pub tells : e ≡ (record { reason = LongLine; line = 0 + length (whole_lines [] begin) + 1 })
+  pub says : e ≡ (record { reason = LongLine; line = 0 + length (whole_lines [] begin) + 1 })
 
 same_refusal : {A : Type 0} (r : Result A Refusal) (e' e : Refusal) → r ≡ Err e' → refusal_of r ≡ Some e → e' ≡ e
-same_refusal r e' e is tells =
-    let both = sym (ap refusal_of is) ∙ tells in
+same_refusal r e' e is says =
+    let both = sym (ap refusal_of is) ∙ says in
     cc
 
 no_refusal : {A : Type 0} (r : Result A Refusal) (known : A) (e : Refusal) → r ≡ Ok known → refusal_of r ≡ Some e → ⊥
-no_refusal r known e is tells =
-    let both = sym (ap refusal_of is) ∙ tells in
+no_refusal r known e is says =
+    let both = sym (ap refusal_of is) ∙ says in
     cc
 
 why_at : {A : Type 0} (next : A → List ℕ → Result A Refused) (start : A) (begin : List ℕ) (e : Refusal)
     (r : Result A Refusal) → with_lines next start 0 (whole_lines [] begin) ≡ r →
     refused_so_far next start begin ≡ Some e
     → (with_lines next start 0 (whole_lines [] begin) ≡ Err e) ⊎ TooLongAfter next start begin e
-why_at next start begin e (Err e') is tells =
+why_at next start begin e (Err e') is says =
     let all = after_refused next start e' 0 (whole_lines [] begin) (line_if_long (last_piece [] begin)) is in
-    inl (is ∙ ap (λ x. Err x) (same_refusal _ e' e all tells))
-why_at next start begin e (Ok known) is tells =
+    inl (is ∙ ap (λ x. Err x) (same_refusal _ e' e all says))
+why_at next start begin e (Ok known) is says =
     let all = after_good next start known 0 (whole_lines [] begin) (line_if_long (last_piece [] begin)) is in
     elim (cases_lt 1024 (length (last_piece [] begin))) [
       | inl long ↦
@@ -81,26 +81,26 @@ why_at next start begin e (Ok known) is tells =
           all ∙ ap (with_lines next known (0 + length (whole_lines [] begin))) (is_long (last_piece [] begin) long)
           ∙ line_bad next known _ LongLine
           (last_piece [] begin) [] (long_refused next known (last_piece [] begin) long) in
-          inr (record { known = known; good = is; long = long; tells = sym (same_refusal _ _ e bad tells) })
+          inr (record { known = known; good = is; long = long; says = sym (same_refusal _ _ e bad says) })
       | inr short ↦
           let good = all ∙ ap (with_lines next known (0 + length (whole_lines [] begin)))
           (is_short (last_piece [] begin) short) ∙ no_line next known _ in
-          absurd (no_refusal _ known e good tells)
+          absurd (no_refusal _ known e good says)
     ]
 
--- whatever follows, and whether or not the end was told
+-- whatever follows, and whether or not the end was seen
 refused_after : {A : Type 0} (next : A → List ℕ → Result A Refused) (start : A) (last : List ℕ → List (List ℕ))
     → ((piece : List ℕ) → 1024 < length piece → last piece ≡ piece ∷ []) →
     (begin rest : List ℕ) (e : Refusal) → refused_so_far next start begin ≡ Some e
     → with_lines next start 0 (whole_lines [] (begin ++ rest) ++ last (last_piece [] (begin ++ rest))) ≡ Err e
-refused_after next start last is begin rest e tells =
+refused_after next start last is begin rest e says =
     let front : List (List ℕ) = whole_lines [] begin in
     let held : List ℕ = last_piece [] begin in
     let all : whole_lines [] (begin ++ rest) ++ last (last_piece [] (begin ++ rest))
     ≡ front ++ (whole_lines held rest ++ last (last_piece held rest)) =
     rw (whole_lines-append [] begin rest, last_piece-append [] begin rest)
     (append_assoc front (whole_lines held rest) (last (last_piece held rest))) in
-    elim (why_at next start begin e (with_lines next start 0 front) refl tells) [
+    elim (why_at next start begin e (with_lines next start 0 front) refl says) [
       | inl bad ↦ ap (with_lines next start 0) all ∙ after_refused next start e 0 front
           (whole_lines held rest ++ last (last_piece held rest)) bad
       | inr long ↦
@@ -109,21 +109,21 @@ refused_after next start last is begin rest e tells =
           (whole_lines held rest ++ last (last_piece held rest)) long.good
           ∙ ap (with_lines next long.known (0 + length front)) first.are
           ∙ line_bad next long.known _ LongLine first.line first.more
-          (long_refused next long.known first.line first.long) ∙ ap (λ x. Err x) (sym long.tells)
+          (long_refused next long.known first.line first.long) ∙ ap (λ x. Err x) (sym long.says)
     ]
 
 pub soon_after : {A : Type 0} (next : A → List ℕ → Result A Refused) (start : A) (begin rest : List ℕ) (e : Refusal)
     → refused_so_far next start begin ≡ Some e → refused_so_far next start (begin ++ rest) ≡ Some e
-soon_after next start begin rest e tells =
-    ap refusal_of (refused_after next start line_if_long is_long begin rest e tells)
+soon_after next start begin rest e says =
+    ap refusal_of (refused_after next start line_if_long is_long begin rest e says)
 
 pub whole_after : {A : Type 0} (next : A → List ℕ → Result A Refused) (start : A) (begin rest : List ℕ) (e : Refusal)
     → refused_so_far next start begin ≡ Some e → whole_text next start (begin ++ rest) ≡ Err e
-whole_after next start begin rest e tells = refused_after next start line_if_any any_long begin rest e tells
+whole_after next start begin rest e says = refused_after next start line_if_any any_long begin rest e says
 
 pub whole_too : {A : Type 0} (next : A → List ℕ → Result A Refused) (start : A) (text : List ℕ) (e : Refusal)
     → refused_so_far next start text ≡ Some e → whole_text next start text ≡ Err e
-whole_too next start text e tells = rw append-nil at (whole_after next start text [] e tells)
+whole_too next start text e says = rw append-nil at (whole_after next start text [] e says)
 
 -- a good text has no refused line before its end
 pub good_soon : {A : Type 0} (next : A → List ℕ → Result A Refused) (start known : A) (text : List ℕ)

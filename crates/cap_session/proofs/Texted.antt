@@ -16,10 +16,10 @@ use Rattle.cap_session.specs.declared.lines.Stop.TheVariants as stops
 use Rattle.cap_session.proofs.Calls.{consumes_none}
 use Rattle.cap_session.proofs.Reach.{reached_first, reached_good}
 
--- the end isn't told where the count of ends stays
-not_told : (r0 r1 : SourceState) (T : Type 0) → r1.ends ≡ r0.ends → IsEnded r0 r1 → T
-not_told r0 r1 T same told =
-    let ended = told.0 in
+-- the end isn't seen where the count of ends stays
+not_seen : (r0 r1 : SourceState) (T : Type 0) → r1.ends ≡ r0.ends → IsEnded r0 r1 → T
+not_seen r0 r1 T same seen =
+    let ended = seen.0 in
     absurd (omega arith)
 
 good_at_end : {A : Type 0} (whole : Result A Refusal) → (known : A) × (whole ≡ Ok known) → IsOk whole
@@ -66,7 +66,7 @@ module _ {A T : Type 0} (next : A → List ℕ → Result A Refused) (before aft
     read = read;
     calls = calls;
     failures = omega arith;
-    answer = record { before = why.1; at_end = not_told r0 r1 _ going };
+    answer = record { before = why.1; at_end = not_seen r0 r1 _ going };
   }
   stopped_so front piece (stops.Refused e) read calls short going failed start why = record {
     given = front ++ piece;
@@ -92,7 +92,7 @@ module _ {A T : Type 0} (next : A → List ℕ → Result A Refused) (before aft
     read = read;
     calls = calls;
     failures = omega arith;
-    answer = record { before = why.0; at_end = λ told. good_at_end (whole_text next start given) why.1 };
+    answer = record { before = why.0; at_end = λ seen. good_at_end (whole_text next start given) why.1 };
   }
   ended_so given (stops.Refused e) lines read calls end failed start why = record {
     given = given;
@@ -176,6 +176,6 @@ goes_nowhere next follows holds turns r start begins = record {
   failures = omega arith;
   answer = record {
     before = reached_good next start follows [] [] 0 (reached_first next start follows begins);
-    at_end = not_told r r _ refl;
+    at_end = not_seen r r _ refl;
   };
 }

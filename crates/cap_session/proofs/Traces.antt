@@ -114,7 +114,7 @@ read_stopped holds keeps s turns r0 r1 stops.Memory r =
       failures = r.failures;
       answer = record {
         before = sym (soon_started s r.given) ∙ r.answer.before;
-        at_end = λ told. good_started s (trace r.given) (rw (whole_started s r.given) at (r.answer.at_end told));
+        at_end = λ seen. good_started s (trace r.given) (rw (whole_started s r.given) at (r.answer.at_end seen));
       };
     }
 read_stopped holds keeps s turns r0 r1 stops.ReadFault r =

@@ -25,7 +25,7 @@ outcome_of stops.ReadFault = ReadFault
 outcome_of stops.WriteFault = WriteFault
 outcome_of stops.TooLong = TooLong
 
--- one, where the outcome tells a fault of the reader
+-- one, where the outcome is a fault of the reader
 abbrev pub read_faults : Outcome → ℕ
 read_faults ReadFault = 1
 read_faults Clean = 0
@@ -36,7 +36,7 @@ read_faults Memory = 0
 read_faults WriteFault = 0
 read_faults TooLong = 0
 
--- one, where it tells a fault of the writer
+-- one, where it is a fault of the writer
 abbrev pub write_faults : Outcome → ℕ
 write_faults WriteFault = 1
 write_faults Clean = 0

@@ -34,7 +34,7 @@ pub record IsRefusal (ended : Type 0) (given text : List ℕ) (e : Refusal) : Ty
 -- The same, with the code and the number of the line.
 pub record NamesLine (ended : Type 0) (given text : List ℕ) (code line : ℕ) : Type 0 where
   pub refusal : Refusal
-  pub tells : IsRefusal ended given text refusal
+  pub says : IsRefusal ended given text refusal
   pub code_is : code ≡ code_of refusal.reason
   pub line_is : line ≡ refusal.line
 

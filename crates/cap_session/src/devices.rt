@@ -1,6 +1,6 @@
 //! What a stream call reads from and writes to.
 //!
-//! A contract sees the bytes of a device only where its type tells them: a file's are unknown, and then
+//! A contract sees the bytes of a device only where its type shows them: a file's are unknown, and then
 //! `None` claims nothing of them. The counts are known of every device.
 ghost use Rattle.std.specs.Prelude.{◌≡◌, ℕ, ◌+◌, ◌<◌, ◌≤◌, length, IfOk};
 ghost use Rattle.std.specs.Io.KnownBytes.{ReadConsumes};

@@ -182,7 +182,7 @@ impl<S: Segment> Tree<S> {
         let root = match &self.root {
             Root::Empty(_) => Node::single(alloc, meter, item)?,
             Root::Full(node) => {
-                // Tells how high a node of so many items can be.
+                // Shows how high a node of so many items can be.
                 let _height = node.height();
                 Node::insert(node, alloc, meter, at, item)?
             }
