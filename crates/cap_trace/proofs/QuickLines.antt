@@ -1,6 +1,7 @@
 -- What is read in one pass is what the line spells.
 use Rattle.std.proofs.Common.{◌≡◌, ℕ, ◌≤◌, List, [], ◌∷◌, ◌++◌, length, Some, Result, Ok, refl, sym, ap, subst, ◌∙◌}
-use Rattle.std.proofs.Common.{append_assoc, Bool, true, false, not, cond, eqb, ltb, ◌&&◌, ◌+◌, ◌-◌, suc, take, drop, None, arith}
+use Rattle.std.proofs.Common.{append_assoc, Bool, true, false, not, cond, eqb, ltb}
+use Rattle.std.proofs.Common.{◌&&◌, ◌+◌, ◌-◌, suc, take, drop, None, arith}
 use Rattle.std.proofs.lemmas.List.{take-append-drop, take_all, length-drop}
 use Rattle.std.specs.Prelude.{nat_le, position}
 use Rattle.std.specs.List.{list_all, position_or_len}
@@ -34,7 +35,8 @@ use Rattle.cap_trace.proofs.WholeLines.{line_again}
 
 -- a cut, where what was cut is known better
 cut_is : (c : ℕ) (t a b x y : List ℕ) → cut_at_byte c t ≡ Some (a, b) → a ≡ x → b ≡ y → t ≡ x ++ (c ∷ y)
-cut_is c t a b x y at e f = cut_takes c t (a, b) at ∙ ap (λ (s : List ℕ). s ++ (c ∷ b)) e ∙ ap (λ (s : List ℕ). x ++ (c ∷ s)) f
+cut_is c t a b x y at e f = cut_takes c t (a, b) at ∙ ap (λ (s : List ℕ). s ++ (c ∷ b)) e ∙ ap (λ (s : List ℕ). x ++
+    (c ∷ s)) f
 
 -- ---- arguments
 
@@ -110,7 +112,10 @@ plain_items (c ∷ cs) h =
     let k = both (is_plain c) (list_all is_plain cs) h in
     let slash = not_true (eqb c 92)
     (both (nat_le 32 c && nat_le c 126 && not (eqb c 34)) (not (eqb c 92)) k.0).1 in
-    subst (λ (o : Option Place). elim o as (λ _. Bool) [ None ↦ false | Some p ↦ takes_all item_step is_between p cs ] ≡ true)
+    subst (λ (o : Option Place). elim o as (λ _. Bool) [
+      | None ↦ false
+      | Some p ↦ takes_all item_step is_between p cs
+    ] ≡ true)
     (sym (plain_place c (eqb c 92) (is_plain c) slash k.0)) (plain_items cs k.1)
 
 place_is : (t : List ℕ) (b : Bool) (n i : ℕ) → Some i ≡ cond b (Some n) None → i ≡ n

@@ -29,12 +29,14 @@ returns c = digits_done c.args.text.now c.loop-digit.digit-index c.loop-digit.nu
 
 pub overflow_mul-number : goal.overflow_mul-number
 overflow_mul-number c =
-    let below = digits_below c.args.text.now c.loop-digit.digit-index c.loop-digit.number c.requires c.loop-digit-test.true
+    let below = digits_below c.args.text.now c.loop-digit.digit-index c.loop-digit.number c.requires
+    c.loop-digit-test.true
     c.loop-digit.invariant.digits c.loop-digit.invariant.value in
     omega arith
 
 pub overflow_add-number : goal.overflow_add-number
 overflow_add-number c =
-    let below = digits_below c.args.text.now c.loop-digit.digit-index c.loop-digit.number c.requires c.loop-digit-test.true
+    let below = digits_below c.args.text.now c.loop-digit.digit-index c.loop-digit.number c.requires
+    c.loop-digit-test.true
     c.loop-digit.invariant.digits c.loop-digit.invariant.value in
     omega (arith, c.from.ensures, c.if-not-is_ascii_digit.ensures.bound)

@@ -56,16 +56,20 @@ pub returns-in_default-head-clause-only : goal.returns-in_default-head-clause-on
 returns-in_default-head-clause-only c = only_by c.args.bytes.now c.read_rest.result c.read_rest.ensures
 
 pub returns-in_default-on_fd-clause-found : goal.returns-in_default-on_fd-clause-found
-returns-in_default-on_fd-clause-found c = found_by c.args.bytes.now c.read_with_care-in_default-on_fd.result c.read_with_care-in_default-on_fd.ensures
+returns-in_default-on_fd-clause-found c = found_by c.args.bytes.now c.read_with_care-in_default-on_fd.result
+    c.read_with_care-in_default-on_fd.ensures
 
 pub returns-in_default-on_fd-clause-faults : goal.returns-in_default-on_fd-clause-faults
-returns-in_default-on_fd-clause-faults c = faults_by c.args.bytes.now c.read_with_care-in_default-on_fd.result c.read_with_care-in_default-on_fd.ensures
+returns-in_default-on_fd-clause-faults c = faults_by c.args.bytes.now c.read_with_care-in_default-on_fd.result
+    c.read_with_care-in_default-on_fd.ensures
 
 pub returns-in_default-on_fd-clause-memory : goal.returns-in_default-on_fd-clause-memory
-returns-in_default-on_fd-clause-memory c = memory_by c.args.bytes.now c.read_with_care-in_default-on_fd.result c.read_with_care-in_default-on_fd.ensures
+returns-in_default-on_fd-clause-memory c = memory_by c.args.bytes.now c.read_with_care-in_default-on_fd.result
+    c.read_with_care-in_default-on_fd.ensures
 
 pub returns-in_default-on_fd-clause-only : goal.returns-in_default-on_fd-clause-only
-returns-in_default-on_fd-clause-only c = only_by c.args.bytes.now c.read_with_care-in_default-on_fd.result c.read_with_care-in_default-on_fd.ensures
+returns-in_default-on_fd-clause-only c = only_by c.args.bytes.now c.read_with_care-in_default-on_fd.result
+    c.read_with_care-in_default-on_fd.ensures
 
 pub returns-in_default-form : goal.returns-in_default-form
 returns-in_default-form c = record {

@@ -10,9 +10,12 @@ use Rattle.cap_trace.proofs.quick.fcntl.Goals as goal
 
 pub returns : goal.returns
 returns c =
-    call_after (listed forms.Fcntl) c.args.text.now (c.in_ok-command.tail.now) (c.in-Ok.call) (calls.Fcntl c.in_ok-fd.fd c.in_ok-command.command.now) c.in_ok-answer.answer
+    call_after (listed forms.Fcntl) c.args.text.now (c.in_ok-command.tail.now) (c.in-Ok.call) (calls.Fcntl
+    c.in_ok-fd.fd c.in_ok-command.command.now) c.in_ok-answer.answer
     c.in-Ok.ensures refl
-    (next (c.args.text.now) (c.in_ok-fd.rest.now) (c.in_ok-command.tail.now) (an_fd c.in_ok-fd.fd) (a_command c.in_ok-command.command.now) [] c.in_ok-fd.ensures
-    (last (c.in_ok-fd.rest.now) (c.in_ok-command.tail.now) (a_command c.in_ok-command.command.now) c.in_ok-command.ensures))
+    (next (c.args.text.now) (c.in_ok-fd.rest.now) (c.in_ok-command.tail.now) (an_fd c.in_ok-fd.fd) (a_command
+    c.in_ok-command.command.now) [] c.in_ok-fd.ensures
+    (last (c.in_ok-fd.rest.now) (c.in_ok-command.tail.now) (a_command c.in_ok-command.command.now)
+    c.in_ok-command.ensures))
     (subst (λ (k : Kind). answer_at k c.in_ok-command.tail.now ≡ Ok c.in_ok-answer.answer) c.fcntl_kind.ensures
     c.in_ok-answer.ensures)

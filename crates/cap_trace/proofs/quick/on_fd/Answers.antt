@@ -10,7 +10,8 @@ use Rattle.cap_trace.proofs.quick.on_fd.Goals as goal
 
 pub returns-in-Ok : goal.returns-in-Ok
 returns-in-Ok c =
-    call_after (listed (forms.OnFd c.args.call)) c.args.text.now (c.in_ok-fd.tail.now) (calls.OnFd c.args.call c.in_ok-fd.fd) (calls.OnFd c.args.call c.in_ok-fd.fd) c.in-Ok.answer
+    call_after (listed (forms.OnFd c.args.call)) c.args.text.now (c.in_ok-fd.tail.now) (calls.OnFd c.args.call
+    c.in_ok-fd.fd) (calls.OnFd c.args.call c.in_ok-fd.fd) c.in-Ok.answer
     refl refl
     (last (c.args.text.now) (c.in_ok-fd.tail.now) (an_fd c.in_ok-fd.fd) c.in_ok-fd.ensures)
     (subst (λ (k : Kind). answer_at k c.in_ok-fd.tail.now ≡ Ok c.in-Ok.answer) c.kind.ensures c.in-Ok.ensures)

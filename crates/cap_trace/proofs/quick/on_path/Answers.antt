@@ -11,7 +11,8 @@ on_path-requires c = c.in_ok-path.ensures.arg.1
 
 pub returns : goal.returns
 returns c =
-    call_after (listed (forms.OnPath c.args.call)) c.args.text.now (c.in_ok-path.tail.now) (c.in-Ok.call) (calls.OnPath c.args.call c.in_ok-path.path.now) c.in_ok-answer.answer
+    call_after (listed (forms.OnPath c.args.call)) c.args.text.now (c.in_ok-path.tail.now) (c.in-Ok.call)
+    (calls.OnPath c.args.call c.in_ok-path.path.now) c.in_ok-answer.answer
     c.in-Ok.ensures refl
     (last (c.args.text.now) (c.in_ok-path.tail.now) (a_path c.in_ok-path.path.now) c.in_ok-path.ensures)
     c.in_ok-answer.ensures

@@ -11,8 +11,10 @@ open-requires c = c.in_ok-path.ensures.arg.1
 
 pub returns : goal.returns
 returns c =
-    call_after (listed forms.Open) c.args.text.now (c.in_ok-flags.tail.now) (c.in-Ok.call) (calls.Open c.in_ok-path.path.now c.in_ok-flags.flags.now) c.in_ok-answer.answer
+    call_after (listed forms.Open) c.args.text.now (c.in_ok-flags.tail.now) (c.in-Ok.call) (calls.Open
+    c.in_ok-path.path.now c.in_ok-flags.flags.now) c.in_ok-answer.answer
     c.in-Ok.ensures refl
-    (next (c.args.text.now) (c.in_ok-path.rest.now) (c.in_ok-flags.tail.now) (a_path c.in_ok-path.path.now) (some_flags c.in_ok-flags.flags.now) [] c.in_ok-path.ensures
+    (next (c.args.text.now) (c.in_ok-path.rest.now) (c.in_ok-flags.tail.now) (a_path c.in_ok-path.path.now)
+    (some_flags c.in_ok-flags.flags.now) [] c.in_ok-path.ensures
     (last (c.in_ok-path.rest.now) (c.in_ok-flags.tail.now) (some_flags c.in_ok-flags.flags.now) c.in_ok-flags.ensures))
     c.in_ok-answer.ensures
