@@ -31,7 +31,8 @@ text_more shared all i x s text more so lt at stands put =
     slice_get-map step_of shared (x.at - 1) ∙ ap (option_map step_of) stands in
     let here : report_line (steps_of shared) x ≡ finding_line s.line.value x = ap (λ l. line_about l x) is in
     let one : line (x ∷ []) ≡ finding_line s.line.value x = append-nil (report_line (steps_of shared) x) ∙ here in
-    put ∙ ap (λ (l : List ℕ). l ++ finding_line s.line.value x) so ∙ ap (λ (l : List ℕ). line (take i all) ++ l) (sym one)
+    put ∙ ap (λ (l : List ℕ). l ++ finding_line s.line.value x) so
+    ∙ ap (λ (l : List ℕ). line (take i all) ++ l) (sym one)
     ∙ sym (flat_map-append (report_line (steps_of shared)) (take i all) (x ∷ [])) ∙ ap line (sym next)
 
 -- findings stand at positions of the trace, and so do those of a range

@@ -12,7 +12,8 @@ use Rattle.cap_session.specs.Session.{lines_of, IsIn}
 
 -- ---- edits of a list that is mapped
 
-map-insert : {X Y : Type 0} (f : X → Y) (xs : List X) (i : ℕ) (x : X) → map f (insert xs i x) ≡ insert (map f xs) i (f x)
+map-insert : {X Y : Type 0} (f : X → Y) (xs : List X) (i : ℕ) (x : X)
+    → map f (insert xs i x) ≡ insert (map f xs) i (f x)
 map-insert f xs i x = map-append f (take i xs) (x ∷ drop i xs) ∙ rw (← (take-map f i xs), ← (drop-map f i xs)) refl
 
 map-remove : {X Y : Type 0} (f : X → Y) (xs : List X) (i : ℕ) → map f (remove xs i) ≡ remove (map f xs) i

@@ -254,7 +254,8 @@ seen_more g xs i x within at = list_any_more g xs i x within
 
 -- a list of which one more condition was seen, and of which what becomes of it was put into another list
 pub turn_put : (f g : Condition → Bool) (xs : List Condition) (i : ℕ) (seen met always : Bool)
-    (old new : List Condition) → i < length xs → ((d : Condition) → (met || list_any f new) ≡ (list_any f old || g (get_or xs i d)))
+    (old new : List Condition) → i < length xs
+    → ((d : Condition) → (met || list_any f new) ≡ (list_any f old || g (get_or xs i d)))
     → always ≡ (seen || met) → (seen || list_any f old) ≡ list_any g (take i xs)
     → (always || list_any f new) ≡ list_any g (take (i + 1) xs)
 turn_put f g [] i seen met always old new within put both before = absurd (omega arith)
