@@ -5,8 +5,8 @@ use Rattle.std.specs.Prelude.{nat_le, Result, Ok, Err, Some, insert, remove, if�
 use Rattle.std.specs.List.{slice_get}
 use Rattle.std.proofs.lemmas.List.Edits.{length-insert, get_or-insert_at}
 use Rattle.std.proofs.lemmas.Option.{slice_get-get_or}
-use Rattle.cap_trace.specs.declared.fault.ReadFault.{ReadFault}
-use Rattle.cap_trace.specs.declared.fault.ReadFault.TheVariants as faults
+use Rattle.cap_trace.specs.declared.fault.FirstFault.{FirstFault}
+use Rattle.cap_trace.specs.declared.fault.FirstFault.TheVariants as faults
 use Rattle.cap_trace.specs.Entry.{Entry}
 use Rattle.cap_trace.specs.Reading.{line_of}
 use Rattle.cap_session.specs.declared.refused.Refused.{Refused}
@@ -46,9 +46,9 @@ if_full : (b : Bool) (r : Result (List Entry) Refused) → r ≢ Err Memory → 
 if_full true r rest is = cc
 if_full false r rest is = rest is
 
-reads : (r : Result Entry ReadFault) (f : Entry → List Entry) → with_read r f ≢ Err Memory
+reads : (r : Result Entry FirstFault) (f : Entry → List Entry) → with_read r f ≢ Err Memory
 reads (Ok line) f is = cc
-reads (Err faults.TooLong) f is = cc
+reads (Err faults.LongLine) f is = cc
 reads (Err faults.Shape) f is = cc
 reads (Err faults.Pid) f is = cc
 reads (Err faults.Argument) f is = cc
@@ -87,7 +87,7 @@ with_room : (b : Bool) (r : Result (List Entry) Refused) (next : List Entry) →
 with_room true r next is = absurd (cc)
 with_room false r next is = is
 
-of_line : (r : Result Entry ReadFault) (f : Entry → List Entry) (next : List Entry) → with_read r f ≡ Ok next
+of_line : (r : Result Entry FirstFault) (f : Entry → List Entry) (next : List Entry) → with_read r f ≡ Ok next
     → (line : Entry) × (r ≡ Ok line) × (next ≡ f line)
 of_line (Ok line) f next is = (line, refl, cc)
 of_line (Err fault) f next is = absurd (cc)

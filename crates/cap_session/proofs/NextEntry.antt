@@ -3,8 +3,8 @@ use Rattle.std.proofs.Common.{◌≡◌, ◌≢◌, ℕ, ◌<◌, ◌≤◌, Lis
 use Rattle.std.proofs.Common.{◌∷◌, []}
 use Rattle.std.specs.Prelude.{Ok, Err, nat_le, ◌+◌, Option, Some, None}
 use Rattle.std.proofs.lemmas.List.{length-append}
-use Rattle.cap_trace.specs.declared.fault.ReadFault.{ReadFault}
-use Rattle.cap_trace.specs.declared.fault.ReadFault.TheVariants as read
+use Rattle.cap_trace.specs.declared.fault.FirstFault.{FirstFault}
+use Rattle.cap_trace.specs.declared.fault.FirstFault.TheVariants as read
 use Rattle.cap_trace.specs.declared.fault.LineFault.{LineFault}
 use Rattle.cap_trace.specs.declared.fault.LineFault.TheVariants as faults
 use Rattle.cap_trace.specs.Entry.{Entry}
@@ -49,8 +49,8 @@ pub reads : (known : Traced) (line : List ℕ) (e : Entry) → is_skipped line �
 reads known line e counts room is =
     ap (with_setting known.setting) (line_read known.entries line counts room ∙ ap (with_entry known.entries) is)
 
-no_memory : (f : ReadFault) → faults.Memory ≡ line_fault f → ⊥
-no_memory read.TooLong is = cc
+no_memory : (f : FirstFault) → faults.Memory ≡ line_fault f → ⊥
+no_memory read.LongLine is = cc
 no_memory read.Shape is = cc
 no_memory read.Pid is = cc
 no_memory read.Argument is = cc

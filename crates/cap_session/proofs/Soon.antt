@@ -49,7 +49,7 @@ long_first last is held (b ∷ rest) long =
     ]
 
 -- why a beginning is refused: one of its lines with LF is, or what follows them is too long
-pub record TooLongAfter {A : Type 0} (next : A → List ℕ → Result A Refused) (start : A) (begin : List ℕ)
+pub record LongAfter {A : Type 0} (next : A → List ℕ → Result A Refused) (start : A) (begin : List ℕ)
     (e : Refusal) : Type 0 where
   pub known : A
   pub good : with_lines next start 0 (whole_lines [] begin) ≡ Ok known
@@ -69,7 +69,7 @@ no_refusal r known e is says =
 why_at : {A : Type 0} (next : A → List ℕ → Result A Refused) (start : A) (begin : List ℕ) (e : Refusal)
     (r : Result A Refusal) → with_lines next start 0 (whole_lines [] begin) ≡ r →
     refused_so_far next start begin ≡ Some e
-    → (with_lines next start 0 (whole_lines [] begin) ≡ Err e) ⊎ TooLongAfter next start begin e
+    → (with_lines next start 0 (whole_lines [] begin) ≡ Err e) ⊎ LongAfter next start begin e
 why_at next start begin e (Err e') is says =
     let all = after_refused next start e' 0 (whole_lines [] begin) (line_if_long (last_piece [] begin)) is in
     inl (is ∙ ap (λ x. Err x) (same_refusal _ e' e all says))

@@ -1,7 +1,7 @@
 -- What an edit makes of a trace, and what a list of edits does. Lines are numbered from 1.
 use Rattle.std.specs.Prelude.{ℕ, ◌+◌, ◌-◌, ◌&&◌, nat_le, Bool, true, false, List, [], ◌∷◌, length, if◌then◌else◌}
 use Rattle.std.specs.Prelude.{Result, Ok, Err, insert, remove, slice_set}
-use Rattle.cap_trace.specs.declared.fault.ReadFault.{ReadFault}
+use Rattle.cap_trace.specs.declared.fault.FirstFault.{FirstFault}
 use Rattle.cap_trace.specs.Entry.{Entry}
 use Rattle.cap_trace.specs.Reading.{line_of}
 use Rattle.cap_trace.specs.Fault.{line_fault}
@@ -18,7 +18,7 @@ abbrev pub is_position : ℕ → ℕ → Bool
 is_position position last = nat_le 1 position && nat_le position last
 
 -- the trace with a line that was read; or the first fault of its bytes
-abbrev pub with_read : Result Entry ReadFault → (Entry → List Entry) → Result (List Entry) Refused
+abbrev pub with_read : Result Entry FirstFault → (Entry → List Entry) → Result (List Entry) Refused
 with_read (Ok line) trace = Ok (trace line)
 with_read (Err fault) trace = Err (refused_line (line_fault fault))
 

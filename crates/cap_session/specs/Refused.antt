@@ -20,7 +20,7 @@ code_of Memory = 9
 
 -- the fault of a line, as a session answers it
 abbrev pub refused_line : LineFault → Refused
-refused_line line.TooLong = LongLine
+refused_line line.LongLine = LongLine
 refused_line line.Shape = Shape
 refused_line line.Pid = Pid
 refused_line line.Argument = Argument

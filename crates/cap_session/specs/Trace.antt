@@ -1,7 +1,7 @@
 -- The trace that a text spells: a list of entries, or its first refused line.
 use Rattle.std.specs.Prelude.{ℕ, ◌==◌, Bool, true, nat_le, List, [], ◌∷◌, ◌++◌, length, if◌then◌else◌, Result, Ok, Err}
 use Rattle.std.specs.Prelude.{Option}
-use Rattle.cap_trace.specs.declared.fault.ReadFault.{ReadFault}
+use Rattle.cap_trace.specs.declared.fault.FirstFault.{FirstFault}
 use Rattle.cap_trace.specs.Entry.{Entry}
 use Rattle.cap_trace.specs.Reading.{line_of}
 use Rattle.cap_trace.specs.Fault.{line_fault}
@@ -18,7 +18,7 @@ is_skipped [] = true
 is_skipped (b ∷ line) = b == 35
 
 -- the entry of a line comes after the others; a line that spells none is refused with its first fault
-abbrev pub with_entry : List Entry → Result Entry ReadFault → Result (List Entry) Refused
+abbrev pub with_entry : List Entry → Result Entry FirstFault → Result (List Entry) Refused
 with_entry entries (Ok entry) = Ok (entries ++ entry ∷ [])
 with_entry entries (Err fault) = Err (refused_line (line_fault fault))
 

@@ -72,7 +72,7 @@ impl From<LineFault> for Refused {
 
     fn from(fault: LineFault) -> Refused {
         match fault {
-            LineFault::TooLong => Refused::LongLine,
+            LineFault::LongLine => Refused::LongLine,
             LineFault::Shape => Refused::Shape,
             LineFault::Pid => Refused::Pid,
             LineFault::Argument => Refused::Argument,

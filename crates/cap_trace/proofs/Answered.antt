@@ -7,8 +7,8 @@ use Rattle.std.specs.Char.{is_ascii_digit}
 use Rattle.std.specs.Fmt.{decimal}
 use Rattle.std.proofs.lemmas.Fmt.{digits_decimal, decimal_nonempty}
 use Rattle.std.proofs.lemmas.Bool.{eqb-true}
-use Rattle.cap_trace.specs.declared.fault.ReadFault.{ReadFault}
-use Rattle.cap_trace.specs.declared.fault.ReadFault.TheVariants as faults
+use Rattle.cap_trace.specs.declared.fault.FirstFault.{FirstFault}
+use Rattle.cap_trace.specs.declared.fault.FirstFault.TheVariants as faults
 use Rattle.cap_trace.specs.declared.line.Answer.{Answer}
 use Rattle.cap_trace.specs.declared.line.Answer.TheVariants as answers
 use Rattle.cap_trace.specs.declared.calls.Kind.{Kind}
@@ -26,22 +26,22 @@ use Rattle.cap_trace.proofs.Spelled.{ok_is, bind_made}
 use Rattle.cap_trace.proofs.Quiet.{weaken}
 
 -- an answer of this kind, so spelled
-abbrev Answers : Kind → List ℕ → Answer → Type 0
-Answers k t a = (t ≡ answer_text a) × IsAnswer k a
+abbrev SpellsAnswer : Kind → List ℕ → Answer → Type 0
+SpellsAnswer k t a = (t ≡ answer_text a) × IsAnswer k a
 
 number_ok : (o : Option ℕ) (a : Answer) → number_at o ≡ Ok a → (n : ℕ) × (o ≡ Some n) × (answers.Made n ≡ a)
 number_ok None a e = absurd cc
 number_ok (Some n) a e = (n, refl, ok_is (answers.Made n) a e)
 
 number_takes : (k : Kind) (most : ℕ) (t : List ℕ) (a : Answer) → ((n : ℕ) → n ≤ most → IsAnswer k (answers.Made n))
-    → number_at (num_at most t) ≡ Ok a → Answers k t a
+    → number_at (num_at most t) ≡ Ok a → SpellsAnswer k t a
 number_takes k most t a fits e =
     let n = number_ok (num_at most t) a e in
     let p = num_takes most t n.0 n.1 in
-    subst (λ (x : Answer). Answers k t x) n.2 (p.0, fits n.0 p.1)
+    subst (λ (x : Answer). SpellsAnswer k t x) n.2 (p.0, fits n.0 p.1)
 
 same_test : (g n : ℕ) (a : Answer) (b : Bool) → eqb n g ≡ b
-    → ◌≡◌ {A = Result Answer ReadFault} (cond b (Ok (answers.Made n)) (Err faults.Argument)) (Ok a)
+    → ◌≡◌ {A = Result Answer FirstFault} (cond b (Ok (answers.Made n)) (Err faults.Argument)) (Ok a)
     → (n ≡ g) × (answers.Made n ≡ a)
 same_test g n a true h e = (eqb-true n g h, ok_is (answers.Made n) a e)
 same_test g n a false h e = absurd cc
@@ -52,7 +52,7 @@ same_ok g None a e = absurd cc
 same_ok g (Some n) a e = let k = same_test g n a (eqb n g) refl e in (n, refl, k.0, k.1)
 
 pair_takes : (k : Kind) (m o : ℕ) (t : List ℕ) (c : Option (List ℕ × List ℕ)) (a : Answer) → cut_at_byte 44 t ≡ c
-    → ((x y : ℕ) → x ≤ m → y ≤ o → IsAnswer k (answers.Pair x y)) → pair_at m o c ≡ Ok a → Answers k t a
+    → ((x y : ℕ) → x ≤ m → y ≤ o → IsAnswer k (answers.Pair x y)) → pair_at m o c ≡ Ok a → SpellsAnswer k t a
 pair_takes k m o t None a at fits e = absurd cc
 pair_takes k m o t (Some c) a at fits e =
     let x = bind_ok (need faults.Answer (num_at m c.0))
@@ -60,18 +60,18 @@ pair_takes k m o t (Some c) a at fits e =
     let y = bind_made (need faults.Answer (num_at o c.1)) (λ y. answers.Pair x.0 y) a x.2 in
     let p = num_takes m c.0 x.0 (need_ok faults.Answer (num_at m c.0) x.0 x.1) in
     let q = num_takes o c.1 y.0 (need_ok faults.Answer (num_at o c.1) y.0 y.1) in
-    subst (λ (z : Answer). Answers k t z) y.2 (
+    subst (λ (z : Answer). SpellsAnswer k t z) y.2 (
       cut_takes 44 t c at ∙ ap (λ (d : List ℕ). d ++ (44 ∷ c.1)) p.0 ∙ ap (λ (d : List ℕ). decimal x.0 ++ (44 ∷ d)) q.0,
       fits x.0 y.0 p.1 q.1,
     )
 
 any_takes : (t : List ℕ) (c : Option (List ℕ × List ℕ)) (a : Answer) → cut_at_byte 44 t ≡ c → any_at t c ≡ Ok a
-    → Answers Any t a
+    → SpellsAnswer Any t a
 any_takes t None a at e = number_takes Any (2 ^ 64 - 1) t a (λ n h. omega (arith, h)) e
 any_takes t (Some c) a at e =
     pair_takes Any (2 ^ 64 - 1) (2 ^ 64 - 1) t (Some c) a at (λ x y h g. (omega (arith, h), omega (arith, g))) e
 
-made_takes : (k : Kind) (t : List ℕ) (a : Answer) → made_at k t ≡ Ok a → Answers k t a
+made_takes : (k : Kind) (t : List ℕ) (a : Answer) → made_at k t ≡ Ok a → SpellsAnswer k t a
 unfolding made_at
 made_takes Count t a e = number_takes Count (2 ^ 64 - 1) t a (λ n h. omega (arith, h)) e
 made_takes Zero t a e = number_takes Zero 0 t a (λ n h. omega (arith, h)) e
@@ -79,20 +79,20 @@ made_takes Fd t a e = number_takes Fd 1048575 t a (λ n h. h) e
 made_takes (Same g) t a e =
     let n = same_ok g (num_at 1048575 t) a e in
     let p = num_takes 1048575 t n.0 n.1 in
-    subst (λ (x : Answer). Answers (Same g) t x) n.3 (p.0, (n.2, p.1))
+    subst (λ (x : Answer). SpellsAnswer (Same g) t x) n.3 (p.0, (n.2, p.1))
 made_takes FdPair t a e = pair_takes FdPair 1048575 1048575 t (cut_at_byte 44 t) a refl (λ x y h g. (h, g)) e
 made_takes Child t a e = number_takes Child 99999 t a (λ n h. h) e
 made_takes ChildAndFd t a e = pair_takes ChildAndFd 99999 1048575 t (cut_at_byte 44 t) a refl (λ x y h g. (h, g)) e
 made_takes Any t a e = any_takes t (cut_at_byte 44 t) a refl e
 
 result_takes : (k : Kind) (t : List ℕ) (o : Option (List ℕ)) (a : Answer) → after_prefix (codes "-1 errno ") t ≡ o
-    → result_at k t o ≡ Ok a → Answers k t a
+    → result_at k t o ≡ Ok a → SpellsAnswer k t a
 result_takes k t None a at e = made_takes k t a e
 result_takes k t (Some n) a at e =
     let x = bind_made (positive faults.Answer (num_at 65535 n)) (λ e. answers.Fault e) a e in
     let q = positive_ok faults.Answer (num_at 65535 n) x.0 x.1 in
     let p = num_takes 65535 n x.0 q.0 in
-    subst (λ (y : Answer). Answers k t y) x.2
+    subst (λ (y : Answer). SpellsAnswer k t y) x.2
     (after_prefix_takes (codes "-1 errno ") t n at ∙ ap (λ (d : List ℕ). codes "-1 errno " ++ d) p.0, (q.1, p.1))
 
 pub answer_takes : (k : Kind) (tail : List ℕ) (a : Answer) → answer_at k tail ≡ Ok a

@@ -2,8 +2,8 @@
 use Rattle.std.proofs.Common.{◌≡◌, ℕ, Bool, true, false, cond, eqb, List, [], ◌∷◌, length, Result, Ok, Err, refl, sym}
 use Rattle.std.proofs.Common.{ap, subst, ◌∙◌}
 use Rattle.std.specs.Prelude.{codes}
-use Rattle.cap_trace.specs.declared.fault.ReadFault.{ReadFault}
-use Rattle.cap_trace.specs.declared.fault.ReadFault.TheVariants as faults
+use Rattle.cap_trace.specs.declared.fault.FirstFault.{FirstFault}
+use Rattle.cap_trace.specs.declared.fault.FirstFault.TheVariants as faults
 use Rattle.cap_trace.specs.declared.line.Item.TheVariants as items
 use Rattle.cap_trace.specs.declared.line.Call.{Call}
 use Rattle.cap_trace.specs.declared.line.Call.TheVariants as calls
@@ -41,7 +41,7 @@ pub record Says (h : Head) (given : List Arg) (s : Said) : Type 0 where
   pub head : said_head s ≡ h
   pub whole : SaidWhole s
 
-said_is : (h : Head) (given : List Arg) (s r : Said) → ◌≡◌ {A = Result Said ReadFault} (Ok s) (Ok r) → Says h given s
+said_is : (h : Head) (given : List Arg) (s r : Said) → ◌≡◌ {A = Result Said FirstFault} (Ok s) (Ok r) → Says h given s
     → Says h given r
 said_is h given s r e k = subst (λ (x : Said). Says h given x) (ok_is s r e) k
 
@@ -109,7 +109,8 @@ pub record Spelled (h : Head) (ts : List (List ℕ)) (s : Said) : Type 0 where
   pub head : said_head s ≡ h
   pub whole : SaidWhole s
 
-counted_ok : {A : Type 0} (b : Bool) (r : Result A ReadFault) (x : A) → cond b r (Err faults.Argument) ≡ Ok x → r ≡ Ok x
+counted_ok : {A : Type 0} (b : Bool) (r : Result A FirstFault) (x : A) → cond b r (Err faults.Argument) ≡ Ok x
+    → r ≡ Ok x
 counted_ok true r x e = e
 counted_ok false r x e = absurd cc
 

@@ -5,8 +5,8 @@ use Rattle.std.specs.Prelude.{codes}
 use Rattle.std.specs.List.{list_all}
 use Rattle.std.specs.Str.{bytes_eq}
 use Rattle.cap_rights.specs.Text.{names}
-use Rattle.cap_trace.specs.declared.fault.ReadFault.{ReadFault}
-use Rattle.cap_trace.specs.declared.fault.ReadFault.TheVariants as faults
+use Rattle.cap_trace.specs.declared.fault.FirstFault.{FirstFault}
+use Rattle.cap_trace.specs.declared.fault.FirstFault.TheVariants as faults
 use Rattle.cap_trace.specs.declared.line.Item.TheVariants as items
 use Rattle.cap_trace.specs.declared.line.Answer.{Answer}
 use Rattle.cap_trace.specs.declared.line.Answer.TheVariants as answers
@@ -31,76 +31,77 @@ use Rattle.cap_trace.proofs.Cuts.{both}
 
 -- ---- steps
 
-pub err_is : {A : Type 0} (x y : ReadFault) → ◌≡◌ {A = Result A ReadFault} (Err x) (Err y) → x ≡ y
+pub err_is : {A : Type 0} (x y : FirstFault) → ◌≡◌ {A = Result A FirstFault} (Err x) (Err y) → x ≡ y
 err_is x y e = cc
 
-pub bind_err : {A B : Type 0} (r : Result A ReadFault) (f : A → Result B ReadFault) (d : ReadFault) → (r >>= f) ≡ Err d
+pub bind_err : {A B : Type 0} (r : Result A FirstFault) (f : A → Result B FirstFault) (d : FirstFault)
+    → (r >>= f) ≡ Err d
     → (r ≡ Err d) ⊎ ((x : A) × (r ≡ Ok x) × (f x ≡ Err d))
 bind_err (Ok x) f d e = inr (x, refl, e)
 bind_err {A} {B} (Err c) f d e = inl (ap Err (err_is {A = B} c d e))
 
-pub made_err : {A B : Type 0} (r : Result A ReadFault) (make : A → B) (d : ReadFault)
+pub made_err : {A B : Type 0} (r : Result A FirstFault) (make : A → B) (d : FirstFault)
     → (r >>= λ x. Ok (make x)) ≡ Err d → r ≡ Err d
 made_err (Ok x) make d e = absurd cc
 made_err {A} {B} (Err c) make d e = ap Err (err_is {A = B} c d e)
 
-pub need_err : {A : Type 0} (c : ReadFault) (o : Option A) (d : ReadFault) → need c o ≡ Err d → d ≡ c
+pub need_err : {A : Type 0} (c : FirstFault) (o : Option A) (d : FirstFault) → need c o ≡ Err d → d ≡ c
 need_err {A} c None d e = sym (err_is {A = A} c d e)
 need_err c (Some x) d e = absurd cc
 
-cond_err : {A : Type 0} (c : ReadFault) (x : A) (b : Bool) (d : ReadFault)
-    → ◌≡◌ {A = Result A ReadFault} (cond b (Ok x) (Err c)) (Err d) → d ≡ c
+cond_err : {A : Type 0} (c : FirstFault) (x : A) (b : Bool) (d : FirstFault)
+    → ◌≡◌ {A = Result A FirstFault} (cond b (Ok x) (Err c)) (Err d) → d ≡ c
 cond_err c x true d e = absurd cc
 cond_err {A} c x false d e = sym (err_is {A = A} c d e)
 
-cond_ok : {A : Type 0} (c : ReadFault) (x : A) (b : Bool) (d : ReadFault)
-    → ◌≡◌ {A = Result A ReadFault} (cond b (Err c) (Ok x)) (Err d) → d ≡ c
+cond_ok : {A : Type 0} (c : FirstFault) (x : A) (b : Bool) (d : FirstFault)
+    → ◌≡◌ {A = Result A FirstFault} (cond b (Err c) (Ok x)) (Err d) → d ≡ c
 cond_ok {A} c x true d e = sym (err_is {A = A} c d e)
 cond_ok c x false d e = absurd cc
 
-kept_err : (test : List ℕ → Bool) (c : ReadFault) (t : List ℕ) (d : ReadFault) → kept test c t ≡ Err d → d ≡ c
+kept_err : (test : List ℕ → Bool) (c : FirstFault) (t : List ℕ) (d : FirstFault) → kept test c t ≡ Err d → d ≡ c
 kept_err test c t d e = cond_err c t (test t) d e
 
-positive_err : (c : ReadFault) (o : Option ℕ) (d : ReadFault) → positive c o ≡ Err d → d ≡ c
+positive_err : (c : FirstFault) (o : Option ℕ) (d : FirstFault) → positive c o ≡ Err d → d ≡ c
 positive_err c None d e = sym (err_is {A = ℕ} c d e)
 positive_err c (Some n) d e = cond_ok c n (eqb n 0) d e
 
 -- ---- fields
 
-pub pid_err : (t : List ℕ) (d : ReadFault) → pid_at t ≡ Err d → d ≡ faults.Pid
+pub pid_err : (t : List ℕ) (d : FirstFault) → pid_at t ≡ Err d → d ≡ faults.Pid
 unfolding pid_at
 pid_err t d e = positive_err faults.Pid (num_at 99999 t) d e
 
-pub fd_err : (t : List ℕ) (d : ReadFault) → fd_at t ≡ Err d → d ≡ faults.Argument
+pub fd_err : (t : List ℕ) (d : FirstFault) → fd_at t ≡ Err d → d ≡ faults.Argument
 unfolding fd_at
 fd_err t d e = need_err faults.Argument (num_at 1048575 t) d e
 
-dir_cond : (t : List ℕ) (b : Bool) (d : ReadFault) → cond b (Ok dirs.Cwd) (fd_at t >>= λ f. Ok (dirs.Fd f)) ≡ Err d
+dir_cond : (t : List ℕ) (b : Bool) (d : FirstFault) → cond b (Ok dirs.Cwd) (fd_at t >>= λ f. Ok (dirs.Fd f)) ≡ Err d
     → d ≡ faults.Argument
 dir_cond t true d e = absurd cc
 dir_cond t false d e = fd_err t d (made_err (fd_at t) (λ f. dirs.Fd f) d e)
 
-dir_err : (t : List ℕ) (d : ReadFault) → dir_at t ≡ Err d → d ≡ faults.Argument
+dir_err : (t : List ℕ) (d : FirstFault) → dir_at t ≡ Err d → d ≡ faults.Argument
 unfolding dir_at
 dir_err t d e = dir_cond t (bytes_eq t (codes "AT_FDCWD")) d e
 
-inside_err : (o : Option (List ℕ)) (d : ReadFault)
+inside_err : (o : Option (List ℕ)) (d : FirstFault)
     → (need faults.Argument o >>= λ i. kept are_items faults.Argument i) ≡ Err d → d ≡ faults.Argument
 inside_err None d e = sym (err_is {A = List ℕ} faults.Argument d e)
 inside_err (Some i) d e = kept_err are_items faults.Argument i d e
 
-path_parts : (o : Option (List ℕ)) (d : ReadFault) → (need faults.Argument o
+path_parts : (o : Option (List ℕ)) (d : FirstFault) → (need faults.Argument o
     >>= λ p. need faults.Argument (before_suffix (34 ∷ []) p) >>= λ i. kept are_items faults.Argument i) ≡ Err d
     → d ≡ faults.Argument
 path_parts None d e = sym (err_is {A = List ℕ} faults.Argument d e)
 path_parts (Some p) d e = inside_err (before_suffix (34 ∷ []) p) d e
 
-path_err : (t : List ℕ) (d : ReadFault) → path_at t ≡ Err d → d ≡ faults.Argument
+path_err : (t : List ℕ) (d : FirstFault) → path_at t ≡ Err d → d ≡ faults.Argument
 unfolding path_at
 path_err t d e = path_parts (after_prefix (34 ∷ []) t) d e
 
 -- the fault of an argument of each kind
-abbrev pub slot_fault : Slot → ReadFault
+abbrev pub slot_fault : Slot → FirstFault
 slot_fault fd = faults.Argument
 slot_fault dir = faults.Argument
 slot_fault flags = faults.Argument
@@ -110,7 +111,7 @@ slot_fault command = faults.Argument
 slot_fault (word w) = faults.Argument
 slot_fault free = faults.Shape
 
-pub arg_err : (s : Slot) (t : List ℕ) (d : ReadFault) → arg_at s t ≡ Err d → d ≡ slot_fault s
+pub arg_err : (s : Slot) (t : List ℕ) (d : FirstFault) → arg_at s t ≡ Err d → d ≡ slot_fault s
 unfolding arg_at flags_at command_at free_at rights_at
 arg_err fd t d e = fd_err t d (made_err (fd_at t) (λ x. an_fd x) d e)
 arg_err dir t d e = dir_err t d (made_err (dir_at t) (λ x. a_dir x) d e)
@@ -124,11 +125,11 @@ arg_err free t d e = kept_err (λ a. list_all is_free a) faults.Shape t d (made_
 -- ---- arguments
 
 -- a test of faults that passes those of each of these kinds
-abbrev pub passes_slots : (ReadFault → Bool) → List Slot → Bool
+abbrev pub passes_slots : (FirstFault → Bool) → List Slot → Bool
 passes_slots q [] = true
 passes_slots q (s ∷ ss) = q (slot_fault s) && passes_slots q ss
 
-args_err : (q : ReadFault → Bool) → q faults.Argument ≡ true → (ss : List Slot) (ts : List (List ℕ)) (d : ReadFault)
+args_err : (q : FirstFault → Bool) → q faults.Argument ≡ true → (ss : List Slot) (ts : List (List ℕ)) (d : FirstFault)
     → passes_slots q ss ≡ true → args_at ss ts ≡ Err d → q d ≡ true
 unfolding args_at
 args_err q a [] [] d p e = absurd cc
@@ -141,12 +142,12 @@ args_err q a (s ∷ ss) (t ∷ ts) d p e =
       | inr h ↦ args_err q a ss ts d k.1 (made_err (args_at ss ts) (λ others. h.0 ∷ others) d h.2)
     ]
 
-low_err : {A : Type 0} (b : Bool) (r : Result A ReadFault) (d : ReadFault) → cond b (Err faults.Argument) r ≡ Err d
+low_err : {A : Type 0} (b : Bool) (r : Result A FirstFault) (d : FirstFault) → cond b (Err faults.Argument) r ≡ Err d
     → (d ≡ faults.Argument) ⊎ (r ≡ Err d)
 low_err {A} true r d e = inl (sym (err_is {A = A} faults.Argument d e))
 low_err false r d e = inr e
 
-fds_err : (low : ℕ) (ts : List (List ℕ)) (d : ReadFault) → fds_from low ts ≡ Err d → d ≡ faults.Argument
+fds_err : (low : ℕ) (ts : List (List ℕ)) (d : FirstFault) → fds_from low ts ≡ Err d → d ≡ faults.Argument
 unfolding fds_from
 fds_err low [] d e = absurd cc
 fds_err low (t ∷ ts) d e =
@@ -161,7 +162,7 @@ fds_err low (t ∷ ts) d e =
           ]
     ]
 
-pub built_err : (h : Head) (given : List Arg) (d : ReadFault) → built h given ≡ Err d → d ≡ faults.Argument
+pub built_err : (h : Head) (given : List Arg) (d : FirstFault) → built h given ≡ Err d → d ≡ faults.Argument
 built_err (listed (forms.OnFd c)) (an_fd x ∷ []) d e = absurd cc
 built_err (listed (forms.Send c)) (an_fd x ∷ []) d e = absurd cc
 built_err (listed (forms.Send c)) (an_fd x ∷ a_word dest ∷ []) d e = absurd cc
@@ -187,13 +188,14 @@ built_err (listed forms.Exit) [] d e = absurd cc
 built_err (listed forms.Foreign) (an_fd x ∷ []) d e = absurd cc
 built_err h given d e = sym (err_is {A = Said} faults.Argument d e)
 
-counted_err : {A : Type 0} (b : Bool) (r : Result A ReadFault) (d : ReadFault) → cond b r (Err faults.Argument) ≡ Err d
+counted_err : {A : Type 0} (b : Bool) (r : Result A FirstFault) (d : FirstFault)
+    → cond b r (Err faults.Argument) ≡ Err d
     → (d ≡ faults.Argument) ⊎ (r ≡ Err d)
 counted_err true r d e = inr e
 counted_err {A} false r d e = inl (sym (err_is {A = A} faults.Argument d e))
 
-shaped_err : (q : ReadFault → Bool) → q faults.Argument ≡ true
-    → (h : Head) (shape : Shape) (ts : List (List ℕ)) (d : ReadFault)
+shaped_err : (q : FirstFault → Bool) → q faults.Argument ≡ true
+    → (h : Head) (shape : Shape) (ts : List (List ℕ)) (d : FirstFault)
     → passes_slots q (slots_in shape) ≡ true → shaped h shape ts ≡ Err d → q d ≡ true
 shaped_err q a h rising_fds ts d p e =
     ap q (fds_err 0 ts d (made_err (fds_from 0 ts) (λ fs. a_marker (items.Start fs)) d e)) ∙ a
@@ -207,22 +209,22 @@ shaped_err q a h (these ss) ts d p e =
       ]
     ]
 
-pub said_err : (q : ReadFault → Bool) → q faults.Argument ≡ true → (h : Head) (ts : List (List ℕ)) (d : ReadFault)
+pub said_err : (q : FirstFault → Bool) → q faults.Argument ≡ true → (h : Head) (ts : List (List ℕ)) (d : FirstFault)
     → passes_slots q (slots_in (shape_of h ts)) ≡ true → said_at h ts ≡ Err d → q d ≡ true
 unfolding said_at
 said_err q a h ts d p e = shaped_err q a h (shape_of h ts) ts d p e
 
 -- ---- the answer
 
-number_err : (o : Option ℕ) (d : ReadFault) → number_at o ≡ Err d → d ≡ faults.Answer
+number_err : (o : Option ℕ) (d : FirstFault) → number_at o ≡ Err d → d ≡ faults.Answer
 number_err None d e = sym (err_is {A = Answer} faults.Answer d e)
 number_err (Some n) d e = absurd cc
 
-second_err : (n : ℕ) (o : Option ℕ) (d : ReadFault) → (need faults.Answer o >>= λ m. Ok (answers.Pair n m)) ≡ Err d
+second_err : (n : ℕ) (o : Option ℕ) (d : FirstFault) → (need faults.Answer o >>= λ m. Ok (answers.Pair n m)) ≡ Err d
     → d ≡ faults.Answer
 second_err n o d e = need_err faults.Answer o d (made_err (need faults.Answer o) (λ m. answers.Pair n m) d e)
 
-pair_err : (n m : ℕ) (c : Option (List ℕ × List ℕ)) (d : ReadFault) → pair_at n m c ≡ Err d → d ≡ faults.Answer
+pair_err : (n m : ℕ) (c : Option (List ℕ × List ℕ)) (d : FirstFault) → pair_at n m c ≡ Err d → d ≡ faults.Answer
 pair_err n m None d e = sym (err_is {A = Answer} faults.Answer d e)
 pair_err n m (Some c) d e =
     elim (bind_err (need faults.Answer (num_at n c.0))
@@ -231,12 +233,12 @@ pair_err n m (Some c) d e =
       | inr h ↦ second_err h.0 (num_at m c.1) d h.2
     ]
 
-any_err : (t : List ℕ) (c : Option (List ℕ × List ℕ)) (d : ReadFault) → any_at t c ≡ Err d → d ≡ faults.Answer
+any_err : (t : List ℕ) (c : Option (List ℕ × List ℕ)) (d : FirstFault) → any_at t c ≡ Err d → d ≡ faults.Answer
 any_err t None d e = number_err (num_at 18446744073709551615 t) d e
 any_err t (Some c) d e = pair_err 18446744073709551615 18446744073709551615 (Some c) d e
 
 -- another descriptor than the one that was given, or no descriptor
-pub same_err : (g : ℕ) (o : Option ℕ) (d : ReadFault) → same_at g o ≡ Err d
+pub same_err : (g : ℕ) (o : Option ℕ) (d : FirstFault) → same_at g o ≡ Err d
     → ((o ≡ None) × (d ≡ faults.Answer)) ⊎ ((n : ℕ) × ((o ≡ Some n) × (d ≡ faults.Argument)))
 same_err g None d e = inl (refl, sym (err_is {A = Answer} faults.Answer d e))
 same_err g (Some n) d e = inr (n, (refl, cond_err faults.Argument (answers.Made n) (eqb n g) d e))
@@ -245,7 +247,7 @@ unfoldable pub is_same : Kind → Bool
 is_same (Same g) = true
 is_same k = false
 
-pub made_fails : (k : Kind) (t : List ℕ) (d : ReadFault) → is_same k ≡ false → made_at k t ≡ Err d → d ≡ faults.Answer
+pub made_fails : (k : Kind) (t : List ℕ) (d : FirstFault) → is_same k ≡ false → made_at k t ≡ Err d → d ≡ faults.Answer
 unfolding made_at is_same
 made_fails Count t d s e = number_err (num_at 18446744073709551615 t) d e
 made_fails Zero t d s e = number_err (num_at 0 t) d e
@@ -256,6 +258,6 @@ made_fails Child t d s e = number_err (num_at 99999 t) d e
 made_fails ChildAndFd t d s e = pair_err 99999 1048575 (cut_at_byte 44 t) d e
 made_fails Any t d s e = any_err t (cut_at_byte 44 t) d e
 
-pub errno_err : (k : Kind) (t n : List ℕ) (d : ReadFault) → result_at k t (Some n) ≡ Err d → d ≡ faults.Answer
+pub errno_err : (k : Kind) (t n : List ℕ) (d : FirstFault) → result_at k t (Some n) ≡ Err d → d ≡ faults.Answer
 errno_err k t n d e = positive_err faults.Answer (num_at 65535 n) d
     (made_err (positive faults.Answer (num_at 65535 n)) (λ x. answers.Fault x) d e)

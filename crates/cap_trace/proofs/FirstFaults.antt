@@ -10,8 +10,8 @@ use Rattle.std.proofs.lemmas.Bool.{eqb-true, ltb-false, le-ltb, lt-ltb}
 use Rattle.std.proofs.lemmas.List.{take_all}
 use borrow.Author.Tests.{ltb-true}
 use Rattle.cap_rights.specs.Text.{names}
-use Rattle.cap_trace.specs.declared.fault.ReadFault.{ReadFault}
-use Rattle.cap_trace.specs.declared.fault.ReadFault.TheVariants as faults
+use Rattle.cap_trace.specs.declared.fault.FirstFault.{FirstFault}
+use Rattle.cap_trace.specs.declared.fault.FirstFault.TheVariants as faults
 use Rattle.cap_trace.specs.declared.line.Item.{Item}
 use Rattle.cap_trace.specs.declared.line.Item.TheVariants as items
 use Rattle.cap_trace.specs.declared.calls.Kind.{Kind}
@@ -26,7 +26,7 @@ use Rattle.cap_trace.specs.Forms.{fcntl_shape, Said, a_call, a_marker, built}
 use Rattle.cap_trace.specs.Reading.{◌>>=◌, need, after_prefix, pid_at, fd_at, rights_at, arg_at, args_at, said_at}
 use Rattle.cap_trace.specs.Reading.{same_at, result_at, made_at, answer_at, ended, args_and_tail, after_bracket}
 use Rattle.cap_trace.specs.Reading.{item_at, entry_at, line_of, fault}
-use Rattle.cap_trace.specs.Spoiled.{TooLongExactly, PidExactly, SpellsNoPid, RightOnlyOfLimits, LimitsByNoRights}
+use Rattle.cap_trace.specs.Spoiled.{LongLineExactly, PidExactly, SpellsNoPid, RightOnlyOfLimits, LimitsByNoRights}
 use Rattle.cap_trace.proofs.Built.{slots_in}
 use Rattle.cap_trace.proofs.Cuts.{cut_takes}
 use Rattle.cap_trace.proofs.Numerals.{need_ok}
@@ -36,30 +36,30 @@ use Rattle.cap_trace.proofs.WholeLines.{args_and_tail_takes}
 use Rattle.cap_trace.proofs.Faults.{err_is, bind_err, made_err, need_err, pid_err, arg_err, passes_slots, built_err}
 use Rattle.cap_trace.proofs.Faults.{said_err, same_err, is_same, made_fails, errno_err}
 
-pub fault_err : (r : Result Entry ReadFault) (f : ReadFault)
-    → (elim r as (λ _. Option ReadFault) [ Ok e ↦ None | Err d ↦ Some d ]) ≡ Some f → r ≡ Err f
+pub fault_err : (r : Result Entry FirstFault) (f : FirstFault)
+    → (elim r as (λ _. Option FirstFault) [ Ok e ↦ None | Err d ↦ Some d ]) ≡ Some f → r ≡ Err f
 fault_err (Ok e) f h = absurd cc
 fault_err (Err d) f h = ap Err (let h2 = h in cc)
 
-pub err_fault : (bytes : List ℕ) (f : ReadFault) → line_of bytes ≡ Err f → fault bytes ≡ Some f
+pub err_fault : (bytes : List ℕ) (f : FirstFault) → line_of bytes ≡ Err f → fault bytes ≡ Some f
 err_fault bytes f h =
-    ap (λ (r : Result Entry ReadFault). elim r as (λ _. Option ReadFault) [ Ok e ↦ None | Err d ↦ Some d ]) h
+    ap (λ (r : Result Entry FirstFault). elim r as (λ _. Option FirstFault) [ Ok e ↦ None | Err d ↦ Some d ]) h
 
 -- ---- a test that passes every fault but those of the length and the pid
 
-pub record Passes (q : ReadFault → Bool) : Type 0 where
+pub record Passes (q : FirstFault → Bool) : Type 0 where
   pub shape : q faults.Shape ≡ true
   pub argument : q faults.Argument ≡ true
   pub answer : q faults.Answer ≡ true
 
-same_result : (q : ReadFault → Bool) → Passes q → (g : ℕ) (o : Option ℕ) (d : ReadFault) → same_at g o ≡ Err d
+same_result : (q : FirstFault → Bool) → Passes q → (g : ℕ) (o : Option ℕ) (d : FirstFault) → same_at g o ≡ Err d
     → q d ≡ true
 same_result q p g o d e = elim (same_err g o d e) as (λ _. q d ≡ true) [
   | inl h ↦ ap q h.1 ∙ p.answer
   | inr h ↦ ap q h.1.1 ∙ p.argument
 ]
 
-made_result : (q : ReadFault → Bool) → Passes q → (k : Kind) (t : List ℕ) (d : ReadFault) → made_at k t ≡ Err d
+made_result : (q : FirstFault → Bool) → Passes q → (k : Kind) (t : List ℕ) (d : FirstFault) → made_at k t ≡ Err d
     → q d ≡ true
 unfolding made_at is_same
 made_result q p (Same g) t d e = same_result q p g (num_at 1048575 t) d e
@@ -71,12 +71,12 @@ made_result q p Child t d e = ap q (made_fails Child t d refl e) ∙ p.answer
 made_result q p ChildAndFd t d e = ap q (made_fails ChildAndFd t d refl e) ∙ p.answer
 made_result q p Any t d e = ap q (made_fails Any t d refl e) ∙ p.answer
 
-result_passes : (q : ReadFault → Bool) → Passes q → (k : Kind) (t : List ℕ) (o : Option (List ℕ)) (d : ReadFault)
+result_passes : (q : FirstFault → Bool) → Passes q → (k : Kind) (t : List ℕ) (o : Option (List ℕ)) (d : FirstFault)
     → result_at k t o ≡ Err d → q d ≡ true
 result_passes q p k t None d e = made_result q p k t d e
 result_passes q p k t (Some n) d e = ap q (errno_err k t n d e) ∙ p.answer
 
-answer_passes : (q : ReadFault → Bool) → Passes q → (k : Kind) (tail : List ℕ) (d : ReadFault)
+answer_passes : (q : FirstFault → Bool) → Passes q → (k : Kind) (tail : List ℕ) (d : FirstFault)
     → answer_at k tail ≡ Err d → q d ≡ true
 unfolding answer_at
 answer_passes q p k tail d e =
@@ -86,12 +86,12 @@ answer_passes q p k tail d e =
       | inr h ↦ result_passes q p k h.0 (after_prefix (codes "-1 errno ") h.0) d h.2
     ]
 
-end_err : (b : Bool) (i : Item) (d : ReadFault)
-    → ◌≡◌ {A = Result Item ReadFault} (cond b (Ok i) (Err faults.Shape)) (Err d) → d ≡ faults.Shape
+end_err : (b : Bool) (i : Item) (d : FirstFault)
+    → ◌≡◌ {A = Result Item FirstFault} (cond b (Ok i) (Err faults.Shape)) (Err d) → d ≡ faults.Shape
 end_err true i d e = absurd cc
 end_err false i d e = sym (err_is {A = Item} faults.Shape d e)
 
-ended_passes : (q : ReadFault → Bool) → Passes q → (s : Said) (tail : List ℕ) (d : ReadFault) → ended s tail ≡ Err d
+ended_passes : (q : FirstFault → Bool) → Passes q → (s : Said) (tail : List ℕ) (d : FirstFault) → ended s tail ≡ Err d
     → q d ≡ true
 unfolding ended
 ended_passes q p (a_call c) tail d e =
@@ -99,17 +99,17 @@ ended_passes q p (a_call c) tail d e =
 ended_passes q p (a_marker i) tail d e = ap q (end_err (eqb (length tail) 0) i d e) ∙ p.shape
 
 -- a fault of an item that doesn't pass is one of the arguments of its head
-pub record OfArguments (text : List ℕ) (d : ReadFault) : Type 0 where
+pub record OfArguments (text : List ℕ) (d : FirstFault) : Type 0 where
   pub head : Head
   pub texts : List (List ℕ)
   pub tail : List ℕ
   pub parts : text ≡ name_of head ++ (40 ∷ (join_with_byte 44 texts ++ (41 ∷ tail)))
   pub said : said_at head texts ≡ Err d
 
-abbrev PassesOr : (ReadFault → Bool) → List ℕ → ReadFault → Type 0
+abbrev PassesOr : (FirstFault → Bool) → List ℕ → FirstFault → Type 0
 PassesOr q text d = (q d ≡ true) ⊎ OfArguments text d
 
-after_bracket_err : (q : ReadFault → Bool) → Passes q → (text name rest : List ℕ) (h : Head) (d : ReadFault)
+after_bracket_err : (q : FirstFault → Bool) → Passes q → (text name rest : List ℕ) (h : Head) (d : FirstFault)
     → text ≡ name ++ (40 ∷ rest) → name_of h ≡ name → after_bracket h rest ≡ Err d → PassesOr q text d
 after_bracket_err q p text name rest h d at is e =
     elim (bind_err (need faults.Shape (args_and_tail h rest))
@@ -128,7 +128,7 @@ after_bracket_err q p text name rest h d at is e =
       ]
     ]
 
-item_err : (q : ReadFault → Bool) → Passes q → (text : List ℕ) (d : ReadFault) → item_at text ≡ Err d
+item_err : (q : FirstFault → Bool) → Passes q → (text : List ℕ) (d : FirstFault) → item_at text ≡ Err d
     → PassesOr q text d
 unfolding item_at
 item_err q p text d e =
@@ -144,7 +144,7 @@ item_err q p text d e =
           ]
     ]
 
-every_slot : (q : ReadFault → Bool) → Passes q → q faults.Right ≡ true → (ss : List Slot) → passes_slots q ss ≡ true
+every_slot : (q : FirstFault → Bool) → Passes q → q faults.Right ≡ true → (ss : List Slot) → passes_slots q ss ≡ true
 every_slot q p r [] = refl
 every_slot q p r (fd ∷ ss) = rw (p.argument, every_slot q p r ss) refl
 every_slot q p r (dir ∷ ss) = rw (p.argument, every_slot q p r ss) refl
@@ -155,7 +155,7 @@ every_slot q p r (command ∷ ss) = rw (p.argument, every_slot q p r ss) refl
 every_slot q p r (word w ∷ ss) = rw (p.argument, every_slot q p r ss) refl
 every_slot q p r (free ∷ ss) = rw (p.shape, every_slot q p r ss) refl
 
-item_passes : (q : ReadFault → Bool) → Passes q → q faults.Right ≡ true → (text : List ℕ) (d : ReadFault)
+item_passes : (q : FirstFault → Bool) → Passes q → q faults.Right ≡ true → (text : List ℕ) (d : FirstFault)
     → item_at text ≡ Err d → q d ≡ true
 item_passes q p r text d e =
     elim (item_err q p text d e) as (λ _. q d ≡ true) [
@@ -165,15 +165,15 @@ item_passes q p r text d e =
 
 -- ---- the length
 
-in_length : ReadFault → Bool
-in_length faults.TooLong = false
+in_length : FirstFault → Bool
+in_length faults.LongLine = false
 in_length f = true
 
 in_passes : Passes in_length
 unfolding in_length
 in_passes = record { shape = refl; argument = refl; answer = refl }
 
-entry_in : (bytes : List ℕ) (o : Option (List ℕ × List ℕ)) (d : ReadFault) → entry_at bytes o ≡ Err d
+entry_in : (bytes : List ℕ) (o : Option (List ℕ × List ℕ)) (d : FirstFault) → entry_at bytes o ≡ Err d
     → in_length d ≡ true
 unfolding entry_at in_length
 entry_in bytes None d e =
@@ -190,23 +190,23 @@ entry_in bytes (Some cut) d e =
     ]
 
 long_step : (bytes : List ℕ) (b : Bool) → ltb 1024 (length bytes) ≡ b
-    → cond b (Err faults.TooLong) (entry_at bytes (cut_at_byte 32 bytes)) ≡ Err faults.TooLong → 1024 < length bytes
+    → cond b (Err faults.LongLine) (entry_at bytes (cut_at_byte 32 bytes)) ≡ Err faults.LongLine → 1024 < length bytes
 unfolding in_length
 long_step bytes true at e = ltb-true _ _ at
-long_step bytes false at e = absurd (let no = entry_in bytes (cut_at_byte 32 bytes) faults.TooLong e in cc)
+long_step bytes false at e = absurd (let no = entry_in bytes (cut_at_byte 32 bytes) faults.LongLine e in cc)
 
-long_err : (bytes : List ℕ) → line_of bytes ≡ Err faults.TooLong → 1024 < length bytes
+long_err : (bytes : List ℕ) → line_of bytes ≡ Err faults.LongLine → 1024 < length bytes
 unfolding line_of
 long_err bytes e = long_step bytes (ltb 1024 (length bytes)) refl e
 
-long_line : (bytes : List ℕ) → 1024 < length bytes → line_of bytes ≡ Err faults.TooLong
+long_line : (bytes : List ℕ) → 1024 < length bytes → line_of bytes ≡ Err faults.LongLine
 unfolding line_of
 long_line bytes lt = rw (lt-ltb _ _ lt) refl
 
-pub too_long : TooLongExactly
+pub too_long : LongLineExactly
 too_long = λ bytes. (
-  λ h. long_err bytes (fault_err (line_of bytes) faults.TooLong h),
-  λ lt. err_fault bytes faults.TooLong (long_line bytes lt),
+  λ h. long_err bytes (fault_err (line_of bytes) faults.LongLine h),
+  λ lt. err_fault bytes faults.LongLine (long_line bytes lt),
 )
 
 -- ---- the pid
@@ -215,8 +215,8 @@ pub short_line : (bytes : List ℕ) → length bytes ≤ 1024 → line_of bytes 
 unfolding line_of
 short_line bytes le = rw (le-ltb _ _ le) refl
 
-after_pid : ReadFault → Bool
-after_pid faults.TooLong = false
+after_pid : FirstFault → Bool
+after_pid faults.LongLine = false
 after_pid faults.Pid = false
 after_pid f = true
 
@@ -227,7 +227,7 @@ after_passes = record { shape = refl; argument = refl; answer = refl }
 no_pid : (t : List ℕ) → pid_at t ≡ Err faults.Pid → SpellsNoPid t
 no_pid t e = λ p is at. absurd (let none = e in let some = ap pid_at at ∙ pid_again p is in cc)
 
-pid_fails : (t : List ℕ) (r : Result ℕ ReadFault) → pid_at t ≡ r → SpellsNoPid t → r ≡ Err faults.Pid
+pid_fails : (t : List ℕ) (r : Result ℕ FirstFault) → pid_at t ≡ r → SpellsNoPid t → r ≡ Err faults.Pid
 pid_fails t (Ok p) e none = let k = pid_takes t p e in absurd (none p k.1 k.0)
 pid_fails t (Err d) e none = ap Err (pid_err t d e)
 
@@ -275,15 +275,15 @@ pid_missing bytes None at none =
 pid_missing bytes (Some cut) at none =
     rw (pid_fails cut.0 (pid_at cut.0) refl (subst SpellsNoPid (first_some bytes cut at) none)) refl
 
-short_step : (bytes : List ℕ) (b : Bool) (d : ReadFault) → ltb 1024 (length bytes) ≡ b → in_length d ≡ true
-    → cond b (Err faults.TooLong) (entry_at bytes (cut_at_byte 32 bytes)) ≡ Err d
+short_step : (bytes : List ℕ) (b : Bool) (d : FirstFault) → ltb 1024 (length bytes) ≡ b → in_length d ≡ true
+    → cond b (Err faults.LongLine) (entry_at bytes (cut_at_byte 32 bytes)) ≡ Err d
     → (length bytes ≤ 1024) × (entry_at bytes (cut_at_byte 32 bytes) ≡ Err d)
 unfolding in_length
 short_step bytes true d at ok e =
-    absurd (let same = err_is {A = Entry} faults.TooLong d e in let no = ap in_length same ∙ ok in cc)
+    absurd (let same = err_is {A = Entry} faults.LongLine d e in let no = ap in_length same ∙ ok in cc)
 short_step bytes false d at ok e = (ltb-false _ _ at, e)
 
-short_err : (bytes : List ℕ) (d : ReadFault) → in_length d ≡ true → line_of bytes ≡ Err d
+short_err : (bytes : List ℕ) (d : FirstFault) → in_length d ≡ true → line_of bytes ≡ Err d
     → (length bytes ≤ 1024) × (entry_at bytes (cut_at_byte 32 bytes) ≡ Err d)
 unfolding line_of
 short_err bytes d ok e = short_step bytes (ltb 1024 (length bytes)) d refl ok e
@@ -301,7 +301,7 @@ pid_exactly = λ bytes. (
 
 -- ---- rights
 
-no_right : ReadFault → Bool
+no_right : FirstFault → Bool
 no_right faults.Right = false
 no_right f = true
 
@@ -367,11 +367,11 @@ pub record NoRights (texts : List (List ℕ)) : Type 0 where
   pub unnamed : names rights ≡ None
   pub parts : texts ≡ decimal fd ∷ rights ∷ []
 
-need_none : {A : Type 0} (c d : ReadFault) (o : Option A) → need c o ≡ Err d → o ≡ None
+need_none : {A : Type 0} (c d : FirstFault) (o : Option A) → need c o ≡ Err d → o ≡ None
 need_none c d None e = refl
 need_none c d (Some x) e = absurd cc
 
-counted_two : (b : Bool) (r : Result Said ReadFault) → cond b r (Err faults.Argument) ≡ Err faults.Right
+counted_two : (b : Bool) (r : Result Said FirstFault) → cond b r (Err faults.Argument) ≡ Err faults.Right
     → (b ≡ true) × (r ≡ Err faults.Right)
 counted_two true r e = (refl, e)
 counted_two false r e = absurd cc

@@ -10,7 +10,7 @@ use Rattle.std.proofs.lemmas.Fmt.{decimal-digits_value, digits_decimal, digits_v
 use Rattle.std.proofs.lemmas.Fmt.{first_decimal, decimal_digit}
 use Rattle.std.proofs.lemmas.Bool.{eqb-true, lt-ltb, le-leb}
 use borrow.Author.Tests.{ltb-true, leb-true}
-use Rattle.cap_trace.specs.declared.fault.ReadFault.{ReadFault}
+use Rattle.cap_trace.specs.declared.fault.FirstFault.{FirstFault}
 use Rattle.cap_trace.specs.Number.{num_at, digits_at, is_odd}
 use Rattle.cap_trace.specs.Reading.{◌>>=◌, need, positive}
 use Rattle.cap_trace.proofs.Cuts.{kept_some, both}
@@ -20,26 +20,26 @@ own = numerals_by_value _ tells_all_ascii_digits
 
 -- ---- steps
 
-pub bind_ok : {A B : Type 0} (r : Result A ReadFault) (f : A → Result B ReadFault) (y : B) → (r >>= f) ≡ Ok y
+pub bind_ok : {A B : Type 0} (r : Result A FirstFault) (f : A → Result B FirstFault) (y : B) → (r >>= f) ≡ Ok y
     → (x : A) × (r ≡ Ok x) × (f x ≡ Ok y)
 bind_ok (Ok x) f y e = (x, refl, e)
 bind_ok (Err d) f y e = absurd cc
 
-pub need_ok : {A : Type 0} (d : ReadFault) (o : Option A) (x : A) → need d o ≡ Ok x → o ≡ Some x
+pub need_ok : {A : Type 0} (d : FirstFault) (o : Option A) (x : A) → need d o ≡ Ok x → o ≡ Some x
 need_ok d None x e = absurd cc
 need_ok d (Some y) x e = (let e2 = e in cc)
 
-positive_step : (d : ReadFault) (n m : ℕ) (b : Bool) → (b ≡ false → n ≢ 0)
-    → ◌≡◌ {A = Result ℕ ReadFault} (cond b (Err d) (Ok n)) (Ok m) → (n ≡ m) × (0 < n)
+positive_step : (d : FirstFault) (n m : ℕ) (b : Bool) → (b ≡ false → n ≢ 0)
+    → ◌≡◌ {A = Result ℕ FirstFault} (cond b (Err d) (Ok n)) (Ok m) → (n ≡ m) × (0 < n)
 positive_step d n m true h e = absurd cc
 positive_step d n m false h e = ((let e2 = e in cc), (let ne = h refl in omega arith))
 
-pub positive_ok : (d : ReadFault) (o : Option ℕ) (n : ℕ) → positive d o ≡ Ok n → (o ≡ Some n) × (0 < n)
+pub positive_ok : (d : FirstFault) (o : Option ℕ) (n : ℕ) → positive d o ≡ Ok n → (o ≡ Some n) × (0 < n)
 positive_ok d None n e = absurd cc
 positive_ok d (Some m) n e = let p = positive_step d m n (eqb m 0) (grind (arith, tests)) e in
     (ap Some p.0, omega (arith, p.0, p.1))
 
-pub positive_again : (d : ReadFault) (n : ℕ) → 0 < n → positive d (Some n) ≡ Ok n
+pub positive_again : (d : FirstFault) (n : ℕ) → 0 < n → positive d (Some n) ≡ Ok n
 positive_again d n lt = let e : eqb n 0 ≡ false = grind (arith, tests) in rw e refl
 
 -- ---- numbers

@@ -2,8 +2,8 @@
 use Rattle.std.proofs.Common.{◌≡◌, ℕ, List, Option, Some, None, Result, Ok, Err, refl, sym, ap, ◌∙◌, inl, inr}
 use Rattle.std.specs.Prelude.{IfOk}
 use Rattle.cap_trace.specs.Spelling.{Spells}
-use Rattle.cap_trace.specs.declared.fault.ReadFault.{ReadFault}
-use Rattle.cap_trace.specs.declared.fault.ReadFault.TheVariants as faults
+use Rattle.cap_trace.specs.declared.fault.FirstFault.{FirstFault}
+use Rattle.cap_trace.specs.declared.fault.FirstFault.TheVariants as faults
 use Rattle.cap_trace.specs.declared.fault.LineFault.{LineFault}
 use Rattle.cap_trace.specs.declared.fault.LineFault.TheVariants as line_faults
 use Rattle.cap_trace.specs.Entry.{Entry}
@@ -13,8 +13,8 @@ use Rattle.cap_trace.specs.Parsing.{SpellsNone, SpellsSome, FaultsAreExact, Read
 use Rattle.cap_trace.proofs.WholeLines.{line_again, line_takes}
 use Rattle.cap_trace.proofs.Rising.{ok_same}
 
-read_fault : LineFault → Option ReadFault
-read_fault line_faults.TooLong = Some faults.TooLong
+read_fault : LineFault → Option FirstFault
+read_fault line_faults.LongLine = Some faults.LongLine
 read_fault line_faults.Shape = Some faults.Shape
 read_fault line_faults.Pid = Some faults.Pid
 read_fault line_faults.Argument = Some faults.Argument
@@ -22,36 +22,36 @@ read_fault line_faults.Right = Some faults.Right
 read_fault line_faults.Answer = Some faults.Answer
 read_fault line_faults.Memory = None
 
-read_fault_again : (f : ReadFault) → read_fault (line_fault f) ≡ Some f
+read_fault_again : (f : FirstFault) → read_fault (line_fault f) ≡ Some f
 unfolding read_fault
-read_fault_again faults.TooLong = refl
+read_fault_again faults.LongLine = refl
 read_fault_again faults.Shape = refl
 read_fault_again faults.Pid = refl
 read_fault_again faults.Argument = refl
 read_fault_again faults.Right = refl
 read_fault_again faults.Answer = refl
 
-same_fault : (d f : ReadFault) → line_fault d ≡ line_fault f → ◌≡◌ {A = Option ReadFault} (Some d) (Some f)
+same_fault : (d f : FirstFault) → line_fault d ≡ line_fault f → ◌≡◌ {A = Option FirstFault} (Some d) (Some f)
 same_fault d f e = sym (read_fault_again d) ∙ ap read_fault e ∙ read_fault_again f
 
-none_spelled : (bytes : List ℕ) (d : ReadFault) → line_of bytes ≡ Err d → SpellsNone bytes
+none_spelled : (bytes : List ℕ) (d : FirstFault) → line_of bytes ≡ Err d → SpellsNone bytes
 none_spelled bytes d h = λ e s. absurd (let g = sym h ∙ line_again bytes e s in cc)
 
-fault_is : (bytes : List ℕ) (d : ReadFault) → line_of bytes ≡ Err d → fault bytes ≡ Some d
+fault_is : (bytes : List ℕ) (d : FirstFault) → line_of bytes ≡ Err d → fault bytes ≡ Some d
 fault_is bytes d h =
-    ap (λ (r : Result Entry ReadFault). elim r as (λ _. Option ReadFault) [ Ok e ↦ None | Err f ↦ Some f ]) h
+    ap (λ (r : Result Entry FirstFault). elim r as (λ _. Option FirstFault) [ Ok e ↦ None | Err f ↦ Some f ]) h
 
-faults_exact : (bytes : List ℕ) (d : ReadFault) (l : LineFault) → line_of bytes ≡ Err d → l ≡ line_fault d
+faults_exact : (bytes : List ℕ) (d : FirstFault) (l : LineFault) → line_of bytes ≡ Err d → l ≡ line_fault d
     → FaultsAreExact bytes (Err l)
 faults_exact bytes d l h e f = (
   λ given. let same : l ≡ line_fault f = (let g = given in cc) in
       (none_spelled bytes d h, fault_is bytes d h ∙ same_fault d f (sym e ∙ same)),
-  λ p. let same : ◌≡◌ {A = Option ReadFault} (Some d) (Some f) = sym (fault_is bytes d h) ∙ p.1 in
+  λ p. let same : ◌≡◌ {A = Option FirstFault} (Some d) (Some f) = sym (fault_is bytes d h) ∙ p.1 in
       let one : d ≡ f = (let s = same in cc) in
       ap Err (e ∙ ap line_fault one),
 )
 
-only_none : (bytes : List ℕ) (d : ReadFault) (r : Result Entry LineFault) → line_of bytes ≡ Err d
+only_none : (bytes : List ℕ) (d : FirstFault) (r : Result Entry LineFault) → line_of bytes ≡ Err d
     → ReadsOnly bytes r
 only_none bytes d r h = λ e s. absurd (none_spelled bytes d h e s)
 
@@ -60,8 +60,8 @@ only_this bytes x h = λ e s. inl (ap Ok (ok_same x e (sym h ∙ line_again byte
 
 -- ---- each clause, by what reading gives
 
-no_memory : (f : ReadFault) → line_fault f ≡ line_faults.Memory → ⊥
-no_memory faults.TooLong e = cc
+no_memory : (f : FirstFault) → line_fault f ≡ line_faults.Memory → ⊥
+no_memory faults.LongLine e = cc
 no_memory faults.Shape e = cc
 no_memory faults.Pid e = cc
 no_memory faults.Argument e = cc

@@ -21,7 +21,7 @@ use Rattle.cap_trace.specs.Entry.{head_of, an_fd, a_dir, some_flags, some_rights
 use Rattle.cap_trace.specs.Entry.{Arg, head_of_call, args_of_call, kind_of, a_path}
 use Rattle.cap_trace.specs.Spelling.{Spells, SpellsArg, SpellsArgs, IsHead}
 use Rattle.cap_trace.specs.Quotes.{cut_at_byte}
-use Rattle.cap_trace.specs.declared.fault.ReadFault.{ReadFault}
+use Rattle.cap_trace.specs.declared.fault.FirstFault.{FirstFault}
 use Rattle.cap_trace.specs.declared.line.Dir.{Dir}
 use Rattle.cap_trace.specs.Reading.{◌>>=◌, pid_at, fd_at, dir_at, flags_at, rights_at, command_at, free_at}
 use Rattle.cap_trace.specs.Reading.{arg_at, answer_at, line_of}
@@ -50,37 +50,37 @@ pub fd_before : (stop : ℕ) (text t rest : List ℕ) (f : ℕ) → Some (t, res
     → Before text (an_fd f) stop rest
 unfolding arg_at
 fd_before stop text t rest f at e = read_before fd stop text t rest (an_fd f) at
-    (ap (λ (r : Result ℕ ReadFault). r >>= λ x. Ok (an_fd x)) e)
+    (ap (λ (r : Result ℕ FirstFault). r >>= λ x. Ok (an_fd x)) e)
 
 pub dir_before : (stop : ℕ) (text t rest : List ℕ) (d : Dir) → Some (t, rest) ≡ cut_at_byte stop text
     → dir_at t ≡ Ok d → Before text (a_dir d) stop rest
 unfolding arg_at
 dir_before stop text t rest d at e = read_before dir stop text t rest (a_dir d) at
-    (ap (λ (r : Result Dir ReadFault). r >>= λ x. Ok (a_dir x)) e)
+    (ap (λ (r : Result Dir FirstFault). r >>= λ x. Ok (a_dir x)) e)
 
 pub flags_before : (stop : ℕ) (text t rest w : List ℕ) → Some (t, rest) ≡ cut_at_byte stop text → flags_at t ≡ Ok w
     → Before text (some_flags w) stop rest
 unfolding arg_at
 flags_before stop text t rest w at e = read_before flags stop text t rest (some_flags w) at
-    (ap (λ (r : Result (List ℕ) ReadFault). r >>= λ x. Ok (some_flags x)) e)
+    (ap (λ (r : Result (List ℕ) FirstFault). r >>= λ x. Ok (some_flags x)) e)
 
 pub command_before : (stop : ℕ) (text t rest w : List ℕ) → Some (t, rest) ≡ cut_at_byte stop text
     → command_at t ≡ Ok w → Before text (a_command w) stop rest
 unfolding arg_at
 command_before stop text t rest w at e = read_before command stop text t rest (a_command w) at
-    (ap (λ (r : Result (List ℕ) ReadFault). r >>= λ x. Ok (a_command x)) e)
+    (ap (λ (r : Result (List ℕ) FirstFault). r >>= λ x. Ok (a_command x)) e)
 
 pub rights_before : (stop : ℕ) (text t rest : List ℕ) (r : ℕ) → Some (t, rest) ≡ cut_at_byte stop text
     → rights_at t ≡ Ok r → Before text (some_rights r) stop rest
 unfolding arg_at
 rights_before stop text t rest r at e = read_before rights stop text t rest (some_rights r) at
-    (ap (λ (x : Result ℕ ReadFault). x >>= λ y. Ok (some_rights y)) e)
+    (ap (λ (x : Result ℕ FirstFault). x >>= λ y. Ok (some_rights y)) e)
 
 pub free_before : (stop : ℕ) (text t rest a : List ℕ) → Some (t, rest) ≡ cut_at_byte stop text → free_at t ≡ Ok a
     → Before text (free_text a) stop rest
 unfolding arg_at
 free_before stop text t rest a at e = read_before free stop text t rest (free_text a) at
-    (ap (λ (r : Result (List ℕ) ReadFault). r >>= λ x. Ok (free_text x)) e)
+    (ap (λ (r : Result (List ℕ) FirstFault). r >>= λ x. Ok (free_text x)) e)
 
 -- ---- a path without escapes
 

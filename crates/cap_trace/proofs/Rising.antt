@@ -3,21 +3,21 @@ use Rattle.std.proofs.Common.{◌≡◌, ℕ, ◌+◌, ◌≤◌, ◌<◌, Bool,
 use Rattle.std.proofs.Common.{Option, Some, None, Result, Ok, Err, refl, sym, ap, ◌∙◌}
 use Rattle.std.proofs.lemmas.List.{append-nil}
 use Rattle.std.proofs.lemmas.Bool.{le-ltb, lt-ltb}
-use Rattle.cap_trace.specs.declared.fault.ReadFault.{ReadFault}
-use Rattle.cap_trace.specs.declared.fault.ReadFault.TheVariants as faults
+use Rattle.cap_trace.specs.declared.fault.FirstFault.{FirstFault}
+use Rattle.cap_trace.specs.declared.fault.FirstFault.TheVariants as faults
 use Rattle.cap_trace.specs.Reading.{◌>>=◌, fd_at, fds_from}
 use Rattle.cap_trace.specs.Seen.{fds_in}
 
 -- what went wrong, if anything did
-abbrev pub failure : {A : Type 0} → Result A ReadFault → Option ReadFault
+abbrev pub failure : {A : Type 0} → Result A FirstFault → Option FirstFault
 failure (Ok x) = None
 failure (Err e) = Some e
 
-failure-same : {A B : Type 0} (r : Result A ReadFault) (f : A → B) → failure (r >>= λ x. Ok (f x)) ≡ failure r
+failure-same : {A B : Type 0} (r : Result A FirstFault) (f : A → B) → failure (r >>= λ x. Ok (f x)) ≡ failure r
 failure-same (Ok x) f = refl
 failure-same (Err e) f = refl
 
-pub rises_more : (low : ℕ) (t : List ℕ) (ts : List (List ℕ)) (f : ℕ) (total : Option ReadFault) → fd_at t ≡ Ok f
+pub rises_more : (low : ℕ) (t : List ℕ) (ts : List (List ℕ)) (f : ℕ) (total : Option FirstFault) → fd_at t ≡ Ok f
     → low ≤ f → failure (fds_from low (t ∷ ts)) ≡ total → failure (fds_from (f + 1) ts) ≡ total
 unfolding fds_from
 rises_more low t ts f total e le h =
@@ -25,30 +25,31 @@ rises_more low t ts f total e le h =
     rw (e, le-ltb f low le) (failure-same (fds_from (f + 1) ts) (λ fs. f ∷ fs)) in
     sym one ∙ h
 
-pub rises_not : (low : ℕ) (t : List ℕ) (ts : List (List ℕ)) (f : ℕ) (total : Option ReadFault) → fd_at t ≡ Ok f
+pub rises_not : (low : ℕ) (t : List ℕ) (ts : List (List ℕ)) (f : ℕ) (total : Option FirstFault) → fd_at t ≡ Ok f
     → f < low → failure (fds_from low (t ∷ ts)) ≡ total → total ≡ Some faults.Argument
 unfolding fds_from
 rises_not low t ts f total e lt h =
     let one : failure (fds_from low (t ∷ ts)) ≡ Some faults.Argument = rw (e, lt-ltb f low lt) refl in
     sym h ∙ one
 
-pub rises_bad : (low : ℕ) (t : List ℕ) (ts : List (List ℕ)) (e : ReadFault) (total : Option ReadFault) → fd_at t ≡ Err e
+pub rises_bad : (low : ℕ) (t : List ℕ) (ts : List (List ℕ)) (e : FirstFault) (total : Option FirstFault)
+    → fd_at t ≡ Err e
     → failure (fds_from low (t ∷ ts)) ≡ total → total ≡ Some e
 unfolding fds_from
 rises_bad low t ts e total bad h =
     let one : failure (fds_from low (t ∷ ts)) ≡ Some e = rw bad refl in
     sym h ∙ one
 
-pub failed : {A : Type 0} (r : Result A ReadFault) (e : ReadFault) → failure r ≡ Some e → r ≡ Err e
+pub failed : {A : Type 0} (r : Result A FirstFault) (e : FirstFault) → failure r ≡ Some e → r ≡ Err e
 failed (Ok x) e h = absurd cc
 failed (Err d) e h = (let h2 = h in cc)
 
-not_failed : {A B : Type 0} (r : Result A ReadFault) (f : A → Result B ReadFault) → failure (r >>= f) ≡ None
+not_failed : {A B : Type 0} (r : Result A FirstFault) (f : A → Result B FirstFault) → failure (r >>= f) ≡ None
     → (x : A) × (r ≡ Ok x) × (failure (f x) ≡ None)
 not_failed (Ok x) f h = (x, refl, h)
 not_failed (Err e) f h = absurd cc
 
-tested : {A : Type 0} (b : Bool) (e : ReadFault) (r : Result A ReadFault) → failure (cond b (Err e) r) ≡ None
+tested : {A : Type 0} (b : Bool) (e : FirstFault) (r : Result A FirstFault) → failure (cond b (Err e) r) ≡ None
     → (b ≡ false) × (failure r ≡ None)
 tested true e r h = absurd cc
 tested false e r h = (refl, h)
@@ -63,7 +64,7 @@ rising_listed low (t ∷ ts) h =
     let b = tested (ltb a.0 low) faults.Argument (fds_from (a.0 + 1) ts) (sym
     (failure-same (cond (ltb a.0 low) (Err faults.Argument) (fds_from (a.0 + 1) ts)) (λ fs. a.0 ∷ fs)) ∙ a.2) in
     let all : fds_in (t ∷ ts) ≡ a.0 ∷ fds_in ts =
-    ap (λ (r : Result ℕ ReadFault). elim r as (λ _. List ℕ) [ Ok f ↦ f ∷ fds_in ts | Err e ↦ fds_in ts ]) a.1 in
+    ap (λ (r : Result ℕ FirstFault). elim r as (λ _. List ℕ) [ Ok f ↦ f ∷ fds_in ts | Err e ↦ fds_in ts ]) a.1 in
     rw (a.1, b.0, rising_listed (a.0 + 1) ts b.1) (ap Ok (sym all))
 
 -- ---- the same, as a loop takes them into memory
@@ -77,20 +78,20 @@ pub listed_more : (front : List ℕ) (t : List ℕ) (ts : List (List ℕ)) (f : 
     → front ++ fds_in (t ∷ ts) ≡ total → (front ++ f ∷ []) ++ fds_in ts ≡ total
 listed_more front t ts f total e h =
     append_assoc front (f ∷ []) (fds_in ts) ∙ sym (ap (λ (x : List ℕ). front ++ x) (listed_is t ts
-    ∙ ap (λ (r : Result ℕ ReadFault). elim r as (λ _. List ℕ) [ Ok f ↦ f ∷ fds_in ts | Err e ↦ fds_in ts ]) e)) ∙ h
+    ∙ ap (λ (r : Result ℕ FirstFault). elim r as (λ _. List ℕ) [ Ok f ↦ f ∷ fds_in ts | Err e ↦ fds_in ts ]) e)) ∙ h
 
-pub listed_less : (front : List ℕ) (t : List ℕ) (ts : List (List ℕ)) (d : ReadFault) (total : List ℕ) → fd_at t ≡ Err d
+pub listed_less : (front : List ℕ) (t : List ℕ) (ts : List (List ℕ)) (d : FirstFault) (total : List ℕ) → fd_at t ≡ Err d
     → front ++ fds_in (t ∷ ts) ≡ total → front ++ fds_in ts ≡ total
 listed_less front t ts d total e h =
     sym (ap (λ (x : List ℕ). front ++ x) (listed_is t ts
-    ∙ ap (λ (r : Result ℕ ReadFault). elim r as (λ _. List ℕ) [ Ok f ↦ f ∷ fds_in ts | Err e ↦ fds_in ts ]) e)) ∙ h
+    ∙ ap (λ (r : Result ℕ FirstFault). elim r as (λ _. List ℕ) [ Ok f ↦ f ∷ fds_in ts | Err e ↦ fds_in ts ]) e)) ∙ h
 
 pub listed_end : (front : List ℕ) (ts : List (List ℕ)) (total : List ℕ) → ts ≡ [] → front ++ fds_in ts ≡ total
     → front ≡ total
 unfolding fds_in
 listed_end front ts total e h = sym (append-nil front) ∙ sym (ap (λ (x : List (List ℕ)). front ++ fds_in x) e) ∙ h
 
-abbrev done : {A : Type 0} → A → Result A ReadFault
+abbrev done : {A : Type 0} → A → Result A FirstFault
 done x = Ok x
 
 pub ok_same : {A : Type 0} (x y : A) → done x ≡ done y → x ≡ y

@@ -10,8 +10,8 @@ use Rattle.std.proofs.lemmas.Fmt.{digits_decimal, decimal_nonempty}
 use Rattle.std.proofs.lemmas.Slice.Eq.{bytes_eq-Decides}
 use Rattle.cap_rights.specs.Text.{names}
 use Rattle.cap_rights.proofs.Plain.{names_some, names_plain, plain as right_byte}
-use Rattle.cap_trace.specs.declared.fault.ReadFault.{ReadFault}
-use Rattle.cap_trace.specs.declared.fault.ReadFault.TheVariants as faults
+use Rattle.cap_trace.specs.declared.fault.FirstFault.{FirstFault}
+use Rattle.cap_trace.specs.declared.fault.FirstFault.TheVariants as faults
 use Rattle.cap_trace.specs.declared.line.Dir.{Dir}
 use Rattle.cap_trace.specs.declared.line.Dir.TheVariants as dirs
 use Rattle.cap_trace.specs.declared.calls.DupCommand.TheVariants as dup_commands
@@ -32,23 +32,23 @@ use Rattle.std.proofs.Common.{ltb}
 
 -- ---- steps
 
-pub ok_is : {A : Type 0} (x y : A) → ◌≡◌ {A = Result A ReadFault} (Ok x) (Ok y) → x ≡ y
+pub ok_is : {A : Type 0} (x y : A) → ◌≡◌ {A = Result A FirstFault} (Ok x) (Ok y) → x ≡ y
 ok_is x y e = cc
 
-pub bind_made : {A B : Type 0} (r : Result A ReadFault) (make : A → B) (y : B) → (r >>= λ x. Ok (make x)) ≡ Ok y
+pub bind_made : {A B : Type 0} (r : Result A FirstFault) (make : A → B) (y : B) → (r >>= λ x. Ok (make x)) ≡ Ok y
     → (x : A) × (r ≡ Ok x) × (make x ≡ y)
 bind_made (Ok x) make y e = (x, refl, ok_is (make x) y e)
 bind_made (Err d) make y e = absurd cc
 
-kept_ok : (test : List ℕ → Bool) (d : ReadFault) (t x : List ℕ) (b : Bool) → test t ≡ b
-    → ◌≡◌ {A = Result (List ℕ) ReadFault} (cond b (Ok t) (Err d)) (Ok x) → (t ≡ x) × (test x ≡ true)
+kept_ok : (test : List ℕ → Bool) (d : FirstFault) (t x : List ℕ) (b : Bool) → test t ≡ b
+    → ◌≡◌ {A = Result (List ℕ) FirstFault} (cond b (Ok t) (Err d)) (Ok x) → (t ≡ x) × (test x ≡ true)
 kept_ok test d t x true h e = let same = ok_is t x e in (same, ap test (sym same) ∙ h)
 kept_ok test d t x false h e = absurd cc
 
-kept_takes : (test : List ℕ → Bool) (d : ReadFault) (t x : List ℕ) → kept test d t ≡ Ok x → (t ≡ x) × (test x ≡ true)
+kept_takes : (test : List ℕ → Bool) (d : FirstFault) (t x : List ℕ) → kept test d t ≡ Ok x → (t ≡ x) × (test x ≡ true)
 kept_takes test d t x e = kept_ok test d t x (test t) refl e
 
-kept_again : (test : List ℕ → Bool) (d : ReadFault) (t x : List ℕ) → t ≡ x → test x ≡ true → kept test d t ≡ Ok x
+kept_again : (test : List ℕ → Bool) (d : FirstFault) (t x : List ℕ) → t ≡ x → test x ≡ true → kept test d t ≡ Ok x
 kept_again test d t x e h = let here : test t ≡ true = ap test e ∙ h in rw here (ap Ok e)
 
 -- ---- fields
@@ -119,12 +119,12 @@ path_again t p h =
 -- ---- an argument
 
 word_ok : (t : List ℕ) (w : Word) (a : Arg) (b : Bool) → bytes_eq t (word_text w) ≡ b
-    → ◌≡◌ {A = Result Arg ReadFault} (cond b (Ok (a_word w)) (Err faults.Argument)) (Ok a) → SpellsArg t a
+    → ◌≡◌ {A = Result Arg FirstFault} (cond b (Ok (a_word w)) (Err faults.Argument)) (Ok a) → SpellsArg t a
 word_ok t w a true h e =
     subst (λ (x : Arg). SpellsArg t x) (ok_is (a_word w) a e) ((bytes_eq-Decides t (word_text w)).0 h)
 word_ok t w a false h e = absurd cc
 
-made_arg : {A : Type 0} (t : List ℕ) (make : A → Arg) (r : Result A ReadFault) (a : Arg)
+made_arg : {A : Type 0} (t : List ℕ) (make : A → Arg) (r : Result A FirstFault) (a : Arg)
     → ((x : A) → r ≡ Ok x → SpellsArg t (make x)) → (r >>= λ x. Ok (make x)) ≡ Ok a → SpellsArg t a
 made_arg t make r a spells e = let x = bind_made r make a e in subst (λ (y : Arg). SpellsArg t y) x.2 (spells x.0 x.1)
 
@@ -195,7 +195,7 @@ as_many (t ∷ ts) (a ∷ others) h = omega (arith, as_many ts others h.1)
 
 -- ---- descriptors that rise
 
-low_ok : {A : Type 0} (b : Bool) (d : ReadFault) (r : Result A ReadFault) (y : A) → cond b (Err d) r ≡ Ok y
+low_ok : {A : Type 0} (b : Bool) (d : FirstFault) (r : Result A FirstFault) (y : A) → cond b (Err d) r ≡ Ok y
     → (b ≡ false) × (r ≡ Ok y)
 low_ok true d r y e = absurd cc
 low_ok false d r y e = (refl, e)

@@ -7,8 +7,8 @@ use Rattle.std.specs.Str.{bytes_eq}
 use Rattle.std.specs.Fmt.{decimal}
 use Rattle.std.proofs.lemmas.Fmt.{digits_decimal}
 use Rattle.std.proofs.lemmas.Slice.Eq.{bytes_eq-Decides}
-use Rattle.cap_trace.specs.declared.fault.ReadFault.{ReadFault}
-use Rattle.cap_trace.specs.declared.fault.ReadFault.TheVariants as faults
+use Rattle.cap_trace.specs.declared.fault.FirstFault.{FirstFault}
+use Rattle.cap_trace.specs.declared.fault.FirstFault.TheVariants as faults
 use Rattle.cap_trace.specs.declared.line.Item.{Item}
 use Rattle.cap_trace.specs.declared.line.Item.TheVariants as items
 use Rattle.cap_trace.specs.declared.line.Call.{Call}
@@ -82,12 +82,12 @@ spoiled_part t a s = record {
 
 -- ---- a spoiled argument
 
-alike_made : {A : Type 0} (a : Arg) (make : A → Arg) (r : Result A ReadFault) (b : Arg)
+alike_made : {A : Type 0} (a : Arg) (make : A → Arg) (r : Result A FirstFault) (b : Arg)
     → ((x : A) → AreAlike a (make x)) → (r >>= λ x. Ok (make x)) ≡ Ok b → AreAlike a b
 alike_made a make r b alike e = let x = bind_made r make b e in subst (λ (y : Arg). AreAlike a y) x.2 (alike x.0)
 
 alike_word : (w : Word) (c : Bool) (b : Arg)
-    → ◌≡◌ {A = Result Arg ReadFault} (cond c (Ok (a_word w)) (Err faults.Argument)) (Ok b) → AreAlike (a_word w) b
+    → ◌≡◌ {A = Result Arg FirstFault} (cond c (Ok (a_word w)) (Err faults.Argument)) (Ok b) → AreAlike (a_word w) b
 alike_word w true b e = subst (λ (y : Arg). AreAlike (a_word w) y) (ok_is (a_word w) b e) tt
 alike_word w false b e = absurd cc
 
@@ -114,18 +114,18 @@ same_kind (a_command w) c = refl
 same_kind (a_word w) c = refl
 same_kind (free_text f) c = absurd cc
 
-arg_spoiled : (t : List ℕ) (a : Arg) (r : Result Arg ReadFault) → arg_at (slot_of a) t ≡ r → is_closed a ≡ true
+arg_spoiled : (t : List ℕ) (a : Arg) (r : Result Arg FirstFault) → arg_at (slot_of a) t ≡ r → is_closed a ≡ true
     → Spoils t a → r ≡ Err (fault_of_arg a)
 arg_spoiled t a (Ok b) e c s = absurd (s.none b (alike_ok a b t c e) (arg_takes (slot_of a) t b e))
 arg_spoiled t a (Err d) e c s = ap Err (arg_err (slot_of a) t d e ∙ same_kind a c)
 
 -- ---- texts of which one is spoiled
 
-abbrev Step : List ℕ → List (List ℕ) → Arg → List Arg → ReadFault → Type 0
+abbrev Step : List ℕ → List (List ℕ) → Arg → List Arg → FirstFault → Type 0
 Step t ts a others f =
     (Spoils t a × (SpellsArgs ts others × (f ≡ fault_of_arg a))) ⊎ (SpellsArg t a × SpoilsOne ts others f)
 
-spoils_step : (t : List ℕ) (ts : List (List ℕ)) (a : Arg) (others : List Arg) (f : ReadFault)
+spoils_step : (t : List ℕ) (ts : List (List ℕ)) (a : Arg) (others : List Arg) (f : FirstFault)
     → SpoilsOne (t ∷ ts) (a ∷ others) f → Step t ts a others f
 spoils_step t ts (an_fd g) others f h = h
 spoils_step t ts (a_dir d) others f h = h
@@ -136,7 +136,7 @@ spoils_step t ts (a_command w) others f h = h
 spoils_step t ts (a_word w) others f h = h
 spoils_step t ts (free_text a) others f h = absurd h
 
-spoiled_many : (ts : List (List ℕ)) (given : List Arg) (f : ReadFault) → SpoilsOne ts given f
+spoiled_many : (ts : List (List ℕ)) (given : List Arg) (f : FirstFault) → SpoilsOne ts given f
     → length ts ≡ length (slots_of given)
 spoiled_many [] given f h = absurd h
 spoiled_many (t ∷ ts) [] f h = absurd h
@@ -146,7 +146,8 @@ spoiled_many (t ∷ ts) (a ∷ others) f h =
       | inr s ↦ omega (arith, spoiled_many ts others f s.1)
     ]
 
-spoiled_parts : (ts : List (List ℕ)) (given : List Arg) (f : ReadFault) → are_closed given ≡ true → SpoilsOne ts given f
+spoiled_parts : (ts : List (List ℕ)) (given : List Arg) (f : FirstFault) → are_closed given ≡ true
+    → SpoilsOne ts given f
     → AreParts ts
 spoiled_parts [] given f c h = tt
 spoiled_parts (t ∷ ts) [] f c h = absurd h
@@ -157,7 +158,7 @@ spoiled_parts (t ∷ ts) (a ∷ others) f c h =
       | inr s ↦ (arg_part t a k.0 s.0, spoiled_parts ts others f k.1 s.1)
     ]
 
-args_spoiled : (ts : List (List ℕ)) (given : List Arg) (f : ReadFault) → are_closed given ≡ true → SpoilsOne ts given f
+args_spoiled : (ts : List (List ℕ)) (given : List Arg) (f : FirstFault) → are_closed given ≡ true → SpoilsOne ts given f
     → args_at (slots_of given) ts ≡ Err f
 unfolding args_at
 args_spoiled [] given f c h = absurd h
@@ -169,7 +170,7 @@ args_spoiled (t ∷ ts) (a ∷ others) f c h =
       | inr s ↦ rw (arg_again t a s.0, args_spoiled ts others f k.1 s.1) refl
     ]
 
-these_spoiled : (h : Head) (ts : List (List ℕ)) (given : List Arg) (f : ReadFault) (ss : List Slot)
+these_spoiled : (h : Head) (ts : List (List ℕ)) (given : List Arg) (f : FirstFault) (ss : List Slot)
     → ss ≡ slots_of given → are_closed given ≡ true → SpoilsOne ts given f → shaped h (these ss) ts ≡ Err f
 these_spoiled h ts given f ss same c s =
     let many : eqb (length ts) (length (slots_of given)) ≡ true =
@@ -194,7 +195,7 @@ no_command t u v w s =
     ) refl
 
 -- the word of a command stands there, or is spoiled
-word_or : (t u : List ℕ) (ts : List (List ℕ)) (a b : Arg) (w : Word) (others : List Arg) (f : ReadFault)
+word_or : (t u : List ℕ) (ts : List (List ℕ)) (a b : Arg) (w : Word) (others : List Arg) (f : FirstFault)
     → SpoilsOne (t ∷ u ∷ ts) (a ∷ a_word w ∷ others) f
     → (u ≡ word_text w) ⊎ (Spoils u (a_word w) × (f ≡ faults.Argument))
 word_or t u ts a b w others f h =
@@ -207,7 +208,7 @@ word_or t u ts a b w others f h =
       ]
     ]
 
-set_fd_spoiled : (x : ℕ) (y : List ℕ) (ts : List (List ℕ)) (f : ReadFault)
+set_fd_spoiled : (x : ℕ) (y : List ℕ) (ts : List (List ℕ)) (f : FirstFault)
     → SpoilsOne ts (args_of_call (calls.FcntlSetFd x y)) f → said_at (listed forms.Fcntl) ts ≡ Err f
 unfolding said_at slot_of is_closed
 set_fd_spoiled x y [] f h = absurd h
@@ -227,7 +228,7 @@ set_fd_spoiled x y (t ∷ u ∷ v ∷ []) f h =
       | inr k ↦ no_command t u v set_fd k.0 ∙ ap Err (sym k.1)
     ]
 
-dup_spoiled : (x y : ℕ) (ts : List (List ℕ)) (f : ReadFault)
+dup_spoiled : (x y : ℕ) (ts : List (List ℕ)) (f : FirstFault)
     → SpoilsOne ts (args_of_call (calls.FcntlDup dup_commands.FDup2fd x y)) f → said_at (listed forms.Fcntl) ts ≡ Err f
 unfolding said_at slot_of is_closed
 dup_spoiled x y [] f h = absurd h
@@ -247,7 +248,7 @@ dup_spoiled x y (t ∷ u ∷ v ∷ []) f h =
       | inr k ↦ no_command t u v (dup_to dup_commands.FDup2fd) k.0 ∙ ap Err (sym k.1)
     ]
 
-cloexec_spoiled : (x y : ℕ) (ts : List (List ℕ)) (f : ReadFault)
+cloexec_spoiled : (x y : ℕ) (ts : List (List ℕ)) (f : FirstFault)
     → SpoilsOne ts (args_of_call (calls.FcntlDup dup_commands.FDup2fdCloexec x y)) f
     → said_at (listed forms.Fcntl) ts ≡ Err f
 unfolding said_at slot_of is_closed
@@ -269,7 +270,7 @@ cloexec_spoiled x y (t ∷ u ∷ v ∷ []) f h =
       | inr k ↦ no_command t u v (dup_to dup_commands.FDup2fdCloexec) k.0 ∙ ap Err (sym k.1)
     ]
 
-call_spoiled : (c : Call) (ts : List (List ℕ)) (f : ReadFault) → SpoilsOne ts (args_of_call c) f
+call_spoiled : (c : Call) (ts : List (List ℕ)) (f : FirstFault) → SpoilsOne ts (args_of_call c) f
     → said_at (head_of_call c) ts ≡ Err f
 unfolding said_at slot_of is_closed
 call_spoiled (calls.OnFd c x) ts f h =
@@ -324,11 +325,11 @@ call_spoiled (calls.FcntlSetFd x y) ts f h = set_fd_spoiled x y ts f h
 call_spoiled (calls.FcntlDup dup_commands.FDup2fd x y) ts f h = dup_spoiled x y ts f h
 call_spoiled (calls.FcntlDup dup_commands.FDup2fdCloexec x y) ts f h = cloexec_spoiled x y ts f h
 
-fd_spoiled : (t : List ℕ) (g : ℕ) (r : Result ℕ ReadFault) → fd_at t ≡ r → Spoils t (an_fd g) → r ≡ Err faults.Argument
+fd_spoiled : (t : List ℕ) (g : ℕ) (r : Result ℕ FirstFault) → fd_at t ≡ r → Spoils t (an_fd g) → r ≡ Err faults.Argument
 fd_spoiled t g (Ok f) e s = absurd (s.none (an_fd f) tt (fd_takes t f e))
 fd_spoiled t g (Err d) e s = ap Err (fd_err t d e)
 
-fds_spoiled : (low : ℕ) (ts : List (List ℕ)) (fs : List ℕ) (f : ReadFault) → SpoilsOne ts (fds fs) f → RisesFrom low fs
+fds_spoiled : (low : ℕ) (ts : List (List ℕ)) (fs : List ℕ) (f : FirstFault) → SpoilsOne ts (fds fs) f → RisesFrom low fs
     → fds_from low ts ≡ Err f
 unfolding fds_from
 fds_spoiled low [] fs f h r = absurd h
@@ -339,7 +340,7 @@ fds_spoiled low (t ∷ ts) (g ∷ gs) f h r =
       | inr s ↦ rw (fd_again t g s.0, le-ltb g low r.0, fds_spoiled (g + 1) ts gs f s.1 r.1) refl
     ]
 
-said_spoiled : (i : Item) (ts : List (List ℕ)) (f : ReadFault) → SpoilsOne ts (args_of i) f → IsWhole i
+said_spoiled : (i : Item) (ts : List (List ℕ)) (f : FirstFault) → SpoilsOne ts (args_of i) f → IsWhole i
     → said_at (head_of i) ts ≡ Err f
 unfolding said_at slot_of is_closed
 said_spoiled (items.Call c a) ts f h w = call_spoiled c ts f h
@@ -354,7 +355,7 @@ said_spoiled (items.Foreign g) ts f h w = these_spoiled (listed forms.Foreign) t
 abbrev Listed : Item → Type 0
 Listed i = (g : Form) × ((head_of i ≡ listed g) × (are_closed (args_of i) ≡ true))
 
-call_listed : (c : Call) (a : Answer) (ts : List (List ℕ)) (f : ReadFault) → SpoilsOne ts (args_of_call c) f
+call_listed : (c : Call) (a : Answer) (ts : List (List ℕ)) (f : FirstFault) → SpoilsOne ts (args_of_call c) f
     → Listed (items.Call c a)
 unfolding is_closed
 call_listed (calls.OnFd c x) a ts f h = ((forms.OnFd c), (refl, refl))
@@ -380,7 +381,7 @@ call_listed (calls.Bare c) a ts f h = ((forms.Bare c), (refl, refl))
 call_listed (calls.Other n b) a [] f h = absurd h
 call_listed (calls.Other n b) a (t ∷ ts) f h = absurd h
 
-item_listed : (i : Item) (ts : List (List ℕ)) (f : ReadFault) → SpoilsOne ts (args_of i) f → Listed i
+item_listed : (i : Item) (ts : List (List ℕ)) (f : FirstFault) → SpoilsOne ts (args_of i) f → Listed i
 unfolding is_closed
 item_listed (items.Call c a) ts f h = call_listed c a ts f h
 item_listed (items.Start fs) ts f h = (forms.Start, (refl, fds_closed fs))
@@ -392,7 +393,7 @@ listed_args_and_tail : (g : Form) (ts : List (List ℕ)) (tail : List ℕ) → A
 listed_args_and_tail g ts tail parts =
     rw (outside_again 41 (join_with_byte 44 ts) tail (joined_closes ts parts), pieces_again ts parts) refl
 
-spoiled_after_bracket : (i : Item) (ts : List (List ℕ)) (tail : List ℕ) (f : ReadFault) → SpoilsOne ts (args_of i) f
+spoiled_after_bracket : (i : Item) (ts : List (List ℕ)) (tail : List ℕ) (f : FirstFault) → SpoilsOne ts (args_of i) f
     → IsWhole i → after_bracket (head_of i) (join_with_byte 44 ts ++ (41 ∷ tail)) ≡ Err f
 spoiled_after_bracket i ts tail f h w =
     let k = item_listed i ts f h in
@@ -406,7 +407,7 @@ item_from : (h : Head) (rest : List ℕ) → IsHead h → item_at (name_of h ++ 
 unfolding item_at
 item_from h rest is = rw (cut_again 40 (name_of h) rest (head_lacks h is), head_again h is) refl
 
-entry_fails : (p : ℕ) (text : List ℕ) (f : ReadFault) → IsPid p → item_at text ≡ Err f
+entry_fails : (p : ℕ) (text : List ℕ) (f : FirstFault) → IsPid p → item_at text ≡ Err f
     → length (decimal p ++ (32 ∷ text)) ≤ 1024 → line_of (decimal p ++ (32 ∷ text)) ≡ Err f
 unfolding entry_at
 entry_fails p text f is e le =
@@ -415,7 +416,7 @@ entry_fails p text f is e le =
     (cut_again 32 (decimal p) text (digits_lack (decimal p) (digits_decimal own p (omega (arith, is.1)))))
     ∙ rw (pid_again p is, e) refl
 
-spoiled_line : (e : Entry) (texts : List (List ℕ)) (f : ReadFault) → IsProper e → length (joined e texts) ≤ 1024
+spoiled_line : (e : Entry) (texts : List (List ℕ)) (f : FirstFault) → IsProper e → length (joined e texts) ≤ 1024
     → SpoilsOne texts (args_of e.item) f → line_of (joined e texts) ≡ Err f
 spoiled_line e texts f h le s =
     let by = h.1.1 in
@@ -432,12 +433,12 @@ spoiled_argument = λ e texts f h le s. err_fault (joined e texts) f (spoiled_li
 fd_no_errno : (n : ℕ) → IsFd n → after_prefix (codes "-1 errno ") (decimal n) ≡ None
 fd_no_errno n is = decimal_no_errno n (omega (arith, is))
 
-result_fault : (k : Kind) (t : List ℕ) (o : Option (List ℕ)) (d : ReadFault) → is_same k ≡ false
+result_fault : (k : Kind) (t : List ℕ) (o : Option (List ℕ)) (d : FirstFault) → is_same k ≡ false
     → result_at k t o ≡ Err d → d ≡ faults.Answer
 result_fault k t None d s e = made_fails k t d s e
 result_fault k t (Some n) d s e = errno_err k t n d e
 
-same_fault : (g : ℕ) (t : List ℕ) (o : Option (List ℕ)) (d : ReadFault) → after_prefix (codes "-1 errno ") t ≡ o
+same_fault : (g : ℕ) (t : List ℕ) (o : Option (List ℕ)) (d : FirstFault) → after_prefix (codes "-1 errno ") t ≡ o
     → result_at (Same g) t o ≡ Err d → FaultOfAnswer (Same g) t d
 unfolding made_at
 same_fault g t None d at e =
@@ -456,7 +457,7 @@ same_fault g t (Some n) d at e =
       errno_err (Same g) t n d e,
     )
 
-kind_fault : (k : Kind) (t : List ℕ) (o : Option (List ℕ)) (d : ReadFault) → after_prefix (codes "-1 errno ") t ≡ o
+kind_fault : (k : Kind) (t : List ℕ) (o : Option (List ℕ)) (d : FirstFault) → after_prefix (codes "-1 errno ") t ≡ o
     → result_at k t o ≡ Err d → FaultOfAnswer k t d
 unfolding is_same
 kind_fault (Same g) t o d at e = same_fault g t o d at e
@@ -468,7 +469,7 @@ kind_fault Child t o d at e = result_fault Child t o d refl e
 kind_fault ChildAndFd t o d at e = result_fault ChildAndFd t o d refl e
 kind_fault Any t o d at e = result_fault Any t o d refl e
 
-one_fault : (k : Kind) (t : List ℕ) (d f : ReadFault) → FaultOfAnswer k t d → FaultOfAnswer k t f → d ≡ f
+one_fault : (k : Kind) (t : List ℕ) (d f : FirstFault) → FaultOfAnswer k t d → FaultOfAnswer k t f → d ≡ f
 one_fault (Same g) t d f (inl h) (inl i) = h.1 ∙ sym i.1
 one_fault (Same g) t d f (inl h) (inr i) = absurd (i.0 h.0.0 h.0.1.0 h.0.1.1)
 one_fault (Same g) t d f (inr h) (inl i) = absurd (h.0 i.0.0 i.0.1.0 i.0.1.1)
@@ -481,7 +482,7 @@ one_fault Child t d f h i = h ∙ sym i
 one_fault ChildAndFd t d f h i = h ∙ sym i
 one_fault Any t d f h i = h ∙ sym i
 
-answer_spoiled : (k : Kind) (t : List ℕ) (f : ReadFault) (r : Result Answer ReadFault)
+answer_spoiled : (k : Kind) (t : List ℕ) (f : FirstFault) (r : Result Answer FirstFault)
     → answer_at k (codes " RET " ++ t) ≡ r → SpellsNoAnswer k t → FaultOfAnswer k t f → r ≡ Err f
 answer_spoiled k t f (Ok a) e none h =
     let p = answer_takes k (codes " RET " ++ t) a e in
@@ -490,7 +491,7 @@ answer_spoiled k t f (Ok a) e none h =
 answer_spoiled k t f (Err d) e none h = ap Err (one_fault k t d f (kind_fault k t
     (after_prefix (codes "-1 errno ") t) d refl (sym (answer_is k t (after_prefix (codes "-1 errno ") t) refl) ∙ e)) h)
 
-answer_after : (c : Call) (good : Answer) (texts : List (List ℕ)) (t : List ℕ) (f : ReadFault)
+answer_after : (c : Call) (good : Answer) (texts : List (List ℕ)) (t : List ℕ) (f : FirstFault)
     → SpellsArgs texts (args_of_call c) → SpellsNoAnswer (kind_of c) t → FaultOfAnswer (kind_of c) t f
     → after_bracket (head_of_call c) (join_with_byte 44 texts ++ (41 ∷ (codes " RET " ++ t))) ≡ Err f
 unfolding Cuts ended

@@ -9,8 +9,8 @@ use Rattle.std.specs.Fmt.{decimal}
 use Rattle.std.proofs.lemmas.Fmt.{digits_decimal}
 use Rattle.std.proofs.lemmas.Bool.{eqb-true, ltb-false, le-ltb}
 use Rattle.std.proofs.lemmas.List.{nil_from_length}
-use Rattle.cap_trace.specs.declared.fault.ReadFault.{ReadFault}
-use Rattle.cap_trace.specs.declared.fault.ReadFault.TheVariants as faults
+use Rattle.cap_trace.specs.declared.fault.FirstFault.{FirstFault}
+use Rattle.cap_trace.specs.declared.fault.FirstFault.TheVariants as faults
 use Rattle.cap_trace.specs.declared.line.Item.{Item}
 use Rattle.cap_trace.specs.declared.line.Item.TheVariants as items
 use Rattle.cap_trace.specs.declared.line.Call.{Call}
@@ -40,31 +40,31 @@ use Rattle.cap_trace.proofs.Answered.{answer_takes, answer_again}
 
 -- ---- what follows the arguments
 
-ended_ok : (b : Bool) (x y : Item) → ◌≡◌ {A = Result Item ReadFault} (cond b (Ok x) (Err faults.Shape)) (Ok y)
+ended_ok : (b : Bool) (x y : Item) → ◌≡◌ {A = Result Item FirstFault} (cond b (Ok x) (Err faults.Shape)) (Ok y)
     → (b ≡ true) × (x ≡ y)
 ended_ok true x y e = (refl, ok_is x y e)
 ended_ok false x y e = absurd cc
 
 -- what was said, with its answer
-pub record Ends (s : Said) (tail : List ℕ) (i : Item) : Type 0 where
+pub record EndsItem (s : Said) (tail : List ℕ) (i : Item) : Type 0 where
   pub args : args_of i ≡ said_args s
   pub head : head_of i ≡ said_head s
   pub whole : IsWhole i
   pub rest : tail ≡ tail_text i
 
 marker_ends : (m : Item) (tail : List ℕ) (i : Item) → IsWhole m → (length tail ≡ 0 → tail ≡ tail_text m)
-    → cond (eqb (length tail) 0) (Ok m) (Err faults.Shape) ≡ Ok i → Ends (a_marker m) tail i
+    → cond (eqb (length tail) 0) (Ok m) (Err faults.Shape) ≡ Ok i → EndsItem (a_marker m) tail i
 marker_ends m tail i w b e =
     let k = ended_ok (eqb (length tail) 0) m i e in
-    subst (λ (x : Item). Ends (a_marker m) tail x) k.1
+    subst (λ (x : Item). EndsItem (a_marker m) tail x) k.1
     (record { args = refl; head = refl; whole = w; rest = b (eqb-true _ _ k.0) })
 
-ended_takes : (s : Said) (tail : List ℕ) (i : Item) → SaidWhole s → ended s tail ≡ Ok i → Ends s tail i
+ended_takes : (s : Said) (tail : List ℕ) (i : Item) → SaidWhole s → ended s tail ≡ Ok i → EndsItem s tail i
 unfolding ended
 ended_takes (a_call c) tail i w e =
     let a = bind_made (answer_at (kind_of c) tail) (λ a. items.Call c a) i e in
     let p = answer_takes (kind_of c) tail a.0 a.1 in
-    subst (λ (x : Item). Ends (a_call c) tail x) a.2 (record { args = refl; head = refl; whole = p.1; rest = p.0 })
+    subst (λ (x : Item). EndsItem (a_call c) tail x) a.2 (record { args = refl; head = refl; whole = p.1; rest = p.0 })
 ended_takes (a_marker (items.Start fs)) tail i w e = marker_ends (items.Start fs) tail i w (nil_from_length tail) e
 ended_takes (a_marker items.Exit) tail i w e = marker_ends items.Exit tail i w (nil_from_length tail) e
 ended_takes (a_marker (items.Foreign f)) tail i w e = marker_ends (items.Foreign f) tail i w (nil_from_length tail) e
@@ -205,7 +205,7 @@ said_again : (i : Item) (ts : List (List ℕ)) → SpellsArgs ts (args_of i) →
     → (said_at (head_of i) ts >>= λ s. ended s (tail_text i)) ≡ Ok i
 unfolding ended
 said_again (items.Call c a) ts h w = rw (call_again c ts h)
-    (ap (λ (r : Result Answer ReadFault). r >>= λ x. Ok (items.Call c x)) (answer_again (kind_of c) a w))
+    (ap (λ (r : Result Answer FirstFault). r >>= λ x. Ok (items.Call c x)) (answer_again (kind_of c) a w))
 said_again (items.Start fs) ts h w = rw (start_again fs ts h w) refl
 said_again items.Exit ts h w = rw (exit_again ts h) refl
 said_again (items.Foreign f) ts h w = rw (foreign_again f ts h) refl
@@ -222,7 +222,7 @@ item_again i ts n h w =
 
 -- ---- the line
 
-long_ok : {A : Type 0} (b : Bool) (d : ReadFault) (r : Result A ReadFault) (y : A) → cond b (Err d) r ≡ Ok y
+long_ok : {A : Type 0} (b : Bool) (d : FirstFault) (r : Result A FirstFault) (y : A) → cond b (Err d) r ≡ Ok y
     → (b ≡ false) × (r ≡ Ok y)
 long_ok true d r y e = absurd cc
 long_ok false d r y e = (refl, e)
@@ -253,7 +253,7 @@ entry_takes bytes (Some x) e at h =
 pub line_takes : (bytes : List ℕ) (e : Entry) → line_of bytes ≡ Ok e → Spells bytes e
 unfolding line_of
 line_takes bytes e h =
-    let g = long_ok (ltb 1024 (length bytes)) faults.TooLong (entry_at bytes (cut_at_byte 32 bytes)) e h in
+    let g = long_ok (ltb 1024 (length bytes)) faults.LongLine (entry_at bytes (cut_at_byte 32 bytes)) e h in
     let p = entry_takes bytes (cut_at_byte 32 bytes) e refl g.1 in (
       p.item.texts,
       record {

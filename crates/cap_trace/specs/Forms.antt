@@ -1,8 +1,8 @@
 -- The form of each name: the arguments that it asks for, and the call that they make.
 use Rattle.std.specs.Prelude.{ℕ, List, [], ◌∷◌, codes, Result, Ok, Err, if◌then◌else◌}
 use Rattle.std.specs.Str.{bytes_eq}
-use Rattle.cap_trace.specs.declared.fault.ReadFault.{ReadFault}
-use Rattle.cap_trace.specs.declared.fault.ReadFault.TheVariants as faults
+use Rattle.cap_trace.specs.declared.fault.FirstFault.{FirstFault}
+use Rattle.cap_trace.specs.declared.fault.FirstFault.TheVariants as faults
 use Rattle.cap_trace.specs.declared.line.Item.{Item}
 use Rattle.cap_trace.specs.declared.line.Item.TheVariants as items
 use Rattle.cap_trace.specs.declared.line.Call.{Call}
@@ -83,7 +83,7 @@ pub data Said : Type 0 where
   a_marker : Item → Said
 
 -- what a name says of arguments that have its shape
-abbrev pub built : Head → List Arg → Result Said ReadFault
+abbrev pub built : Head → List Arg → Result Said FirstFault
 built (listed (forms.OnFd c)) (an_fd x ∷ []) = Ok (a_call (calls.OnFd c x))
 built (listed (forms.Send c)) (an_fd x ∷ []) = Ok (a_call (calls.Send c x))
 built (listed (forms.Send c)) (an_fd x ∷ a_word dest ∷ []) = Ok (a_call (calls.SendTo c x))

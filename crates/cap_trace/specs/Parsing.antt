@@ -1,7 +1,7 @@
 -- What reading a line promises: bytes spell at most one line, reading finds it, and its canonical text is read as that
 -- line. Each is the contract of a public function.
 use Rattle.std.specs.Prelude.{◌≡◌, ◌⊎◌, ◌↔◌, ℕ, List, Result, Ok, Err, Some}
-use Rattle.cap_trace.specs.declared.fault.ReadFault.{ReadFault}
+use Rattle.cap_trace.specs.declared.fault.FirstFault.{FirstFault}
 use Rattle.cap_trace.specs.declared.fault.LineFault.{LineFault}
 use Rattle.cap_trace.specs.declared.fault.LineFault.TheVariants as line_faults
 use Rattle.cap_trace.specs.Entry.{Entry}
@@ -17,7 +17,7 @@ SpellsSome bytes = (e : Entry) × Spells bytes e
 
 -- each fault is given exactly where the bytes spell no line and have that fault
 abbrev pub FaultsAreExact : List ℕ → Result Entry LineFault → Type 0
-FaultsAreExact bytes r = (f : ReadFault) → (r ≡ Err (line_fault f)) ↔ (SpellsNone bytes × (fault bytes ≡ Some f))
+FaultsAreExact bytes r = (f : FirstFault) → (r ≡ Err (line_fault f)) ↔ (SpellsNone bytes × (fault bytes ≡ Some f))
 
 -- what the bytes spell is read, or memory ran out
 abbrev pub ReadsOnly : List ℕ → Result Entry LineFault → Type 0
@@ -26,7 +26,7 @@ ReadsOnly bytes r = (e : Entry) → Spells bytes e → (r ≡ Ok e) ⊎ (r ≡ E
 -- the result is what reading gives: the line, its first fault, or out of memory for a line
 abbrev pub MatchesReading : List ℕ → Result Entry LineFault → Type 0
 MatchesReading bytes (Ok e) = line_of bytes ≡ Ok e
-MatchesReading bytes (Err t) = ((f : ReadFault) × (line_of bytes ≡ Err f) × (t ≡ line_fault f))
+MatchesReading bytes (Err t) = ((f : FirstFault) × (line_of bytes ≡ Err f) × (t ≡ line_fault f))
     ⊎ ((t ≡ line_faults.Memory) × ((e : Entry) × (line_of bytes ≡ Ok e)))
 
 -- bytes spell at most one line

@@ -3,8 +3,8 @@ use Rattle.std.specs.Prelude.{◌≡◌, ◌≤◌, ◌<◌, ◌==◌, ◌↔◌
 use Rattle.std.specs.List.{join_with_byte, before_first}
 use Rattle.std.specs.Fmt.{decimal}
 use Rattle.cap_rights.specs.Text.{names}
-use Rattle.cap_trace.specs.declared.fault.ReadFault.{ReadFault}
-use Rattle.cap_trace.specs.declared.fault.ReadFault.TheVariants as faults
+use Rattle.cap_trace.specs.declared.fault.FirstFault.{FirstFault}
+use Rattle.cap_trace.specs.declared.fault.FirstFault.TheVariants as faults
 use Rattle.cap_trace.specs.declared.line.Item.TheVariants as items
 use Rattle.cap_trace.specs.declared.line.Call.{Call}
 use Rattle.cap_trace.specs.declared.line.Answer.{Answer}
@@ -21,8 +21,8 @@ use Rattle.cap_trace.specs.Reading.{fault}
 -- ---- too many bytes
 
 -- exactly where a line has more bytes than it may have
-abbrev pub TooLongExactly : Type 0
-TooLongExactly = (bytes : List ℕ) → (fault bytes ≡ Some faults.TooLong) ↔ (longest_line < length bytes)
+abbrev pub LongLineExactly : Type 0
+LongLineExactly = (bytes : List ℕ) → (fault bytes ≡ Some faults.LongLine) ↔ (longest_line < length bytes)
 
 -- ---- the pid
 
@@ -73,12 +73,12 @@ pub record Spoils (t : List ℕ) (a : Arg) : Type 0 where
   pub bracket : place 41 (t ++ 41 ∷ []) ≡ Some (length t)
   pub none : (b : Arg) → AreAlike a b → SpellsArg t b → ⊥
 
-abbrev pub fault_of_arg : Arg → ReadFault
+abbrev pub fault_of_arg : Arg → FirstFault
 fault_of_arg (some_rights r) = faults.Right
 fault_of_arg a = faults.Argument
 
 -- texts of these arguments but for one, whose fault this is
-abbrev pub SpoilsOne : List (List ℕ) → List Arg → ReadFault → Type 0
+abbrev pub SpoilsOne : List (List ℕ) → List Arg → FirstFault → Type 0
 SpoilsOne [] given f = ⊥
 SpoilsOne (t ∷ ts) [] f = ⊥
 SpoilsOne (t ∷ ts) (free_text a ∷ others) f = ⊥
@@ -87,7 +87,7 @@ SpoilsOne (t ∷ ts) (a ∷ others) f =
 
 -- a good line with one argument spoiled has the fault of that argument
 abbrev pub SpoiledArgument : Type 0
-SpoiledArgument = (e : Entry) (texts : List (List ℕ)) (f : ReadFault) → IsProper e
+SpoiledArgument = (e : Entry) (texts : List (List ℕ)) (f : FirstFault) → IsProper e
     → length (joined e texts) ≤ longest_line → SpoilsOne texts (args_of e.item) f → fault (joined e texts) ≡ Some f
 
 -- ---- the answer
@@ -101,14 +101,14 @@ abbrev pub SpellsNoAnswer : Kind → List ℕ → Type 0
 SpellsNoAnswer k t = (a : Answer) → IsAnswer k a → t ≡ answer_text a → ⊥
 
 -- where a call has to answer the descriptor that it was given, another descriptor is a wrong argument
-abbrev pub FaultOfAnswer : Kind → List ℕ → ReadFault → Type 0
+abbrev pub FaultOfAnswer : Kind → List ℕ → FirstFault → Type 0
 FaultOfAnswer (Same g) t f = (((n : ℕ) × (IsFd n × (t ≡ decimal n))) × (f ≡ faults.Argument))
     ⊎ (((n : ℕ) → IsFd n → t ≡ decimal n → ⊥) × (f ≡ faults.Answer))
 FaultOfAnswer k t f = f ≡ faults.Answer
 
 -- a good line of a call whose answer is spoiled has the fault of the answer
 abbrev pub SpoiledAnswer : Type 0
-SpoiledAnswer = (pid : ℕ) (call : Call) (good : Answer) (texts : List (List ℕ)) (t : List ℕ) (f : ReadFault)
+SpoiledAnswer = (pid : ℕ) (call : Call) (good : Answer) (texts : List (List ℕ)) (t : List ℕ) (f : FirstFault)
     → IsProper (record { pid = pid; item = items.Call call good }) → SpellsArgs texts (args_of_call call)
     → length (answered pid call texts t) ≤ longest_line
     → SpellsNoAnswer (kind_of call) t → FaultOfAnswer (kind_of call) t f → fault (answered pid call texts t) ≡ Some f

@@ -8,49 +8,49 @@ ghost use Rattle.cap_trace.specs.Reading.{Gives, number_at, same_at, pair_at, an
 ghost use Rattle.cap_trace.specs.Quotes.{cut_at_byte};
 
 use crate::calls::Kind;
-use crate::fault::ReadFault;
+use crate::fault::FirstFault;
 use crate::limits::{LARGEST_FD, LARGEST_PID};
 use crate::line::Answer;
 use crate::number::number_of;
 use crate::quotes::cut;
 
 /// Two numbers with a comma between them, each at most so much.
-fn pair(most: u64, most_second: u64, text: &[u8]) -> Result<Answer, ReadFault>
+fn pair(most: u64, most_second: u64, text: &[u8]) -> Result<Answer, FirstFault>
     ensures { Gives (λ a. a) result (pair_at most most_second (cut_at_byte 44 text.now)) }
 {
     let Some((first, second)) = cut(b',', text) else {
-        return Err(ReadFault::Answer);
+        return Err(FirstFault::Answer);
     };
     match (number_of(most, first), number_of(most_second, second)) {
         (Some(first), Some(second)) => Ok(Answer::Pair(first, second)),
-        _ => Err(ReadFault::Answer),
+        _ => Err(FirstFault::Answer),
     }
 }
 
 /// A number, at most so much.
 #[inline(always)]
-fn number(most: u64, text: &[u8]) -> Result<Answer, ReadFault>
+fn number(most: u64, text: &[u8]) -> Result<Answer, FirstFault>
     ensures { Gives (λ a. a) result (number_at (num_at most text.now)) }
 {
     match number_of(most, text) {
         Some(number) => Ok(Answer::Made(number)),
-        None => Err(ReadFault::Answer),
+        None => Err(FirstFault::Answer),
     }
 }
 
 /// The descriptor that the call was given.
-fn same(fd: u32, text: &[u8]) -> Result<Answer, ReadFault>
+fn same(fd: u32, text: &[u8]) -> Result<Answer, FirstFault>
     ensures { Gives (λ a. a) result (same_at fd (num_at largest_fd text.now)) }
 {
     match number_of(u64::from(LARGEST_FD), text) {
         Some(made) if made == u64::from(fd) => Ok(Answer::Made(made)),
-        Some(_) => Err(ReadFault::Argument),
-        None => Err(ReadFault::Answer),
+        Some(_) => Err(FirstFault::Argument),
+        None => Err(FirstFault::Answer),
     }
 }
 
 /// A number or two.
-fn any(text: &[u8]) -> Result<Answer, ReadFault>
+fn any(text: &[u8]) -> Result<Answer, FirstFault>
     ensures { Gives (λ a. a) result (any_at text.now (cut_at_byte 44 text.now)) }
 {
     match cut(b',', text) {
@@ -62,7 +62,7 @@ fn any(text: &[u8]) -> Result<Answer, ReadFault>
 /// The result of a call of this kind, without an errno.
 #[inline(always)]
 #[tactic(auto, unfolding(crate::specs::Reading::made_at))]
-fn made(kind: Kind, text: &[u8]) -> Result<Answer, ReadFault>
+fn made(kind: Kind, text: &[u8]) -> Result<Answer, FirstFault>
     ensures { Gives (λ a. a) result (made_at kind text.now) }
 {
     match kind {
@@ -80,17 +80,17 @@ fn made(kind: Kind, text: &[u8]) -> Result<Answer, ReadFault>
 /// What follows the arguments of a call.
 #[inline(always)]
 #[tactic(auto, unfolding(crate::specs::Reading::answer_at))]
-pub(crate) fn answer(kind: Kind, tail: &[u8]) -> Result<Answer, ReadFault>
+pub(crate) fn answer(kind: Kind, tail: &[u8]) -> Result<Answer, FirstFault>
     ensures { Gives (λ a. a) result (answer_at kind tail.now) }
 {
     let Some(text) = tail.strip_prefix(b" RET ".as_slice()) else {
-        return Err(ReadFault::Shape);
+        return Err(FirstFault::Shape);
     };
     match text.strip_prefix(b"-1 errno ".as_slice()) {
         None => made(kind, text),
         Some(number) => match number_of(65_535, number) {
             Some(errno) if errno != 0 => Ok(Answer::Fault(errno as u16)),
-            _ => Err(ReadFault::Answer),
+            _ => Err(FirstFault::Answer),
         },
     }
 }

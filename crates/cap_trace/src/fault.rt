@@ -4,9 +4,9 @@ use thiserror::Error;
 
 /// The first thing that is wrong with a line, from the left.
 #[derive(Clone, Copy, Debug, PartialEq, Eq)]
-pub enum ReadFault {
+pub enum FirstFault {
     /// More than 1,024 bytes.
-    TooLong,
+    LongLine,
     /// The shape of the line.
     Shape,
     /// The pid.
@@ -24,7 +24,7 @@ pub enum ReadFault {
 pub enum LineFault {
     /// The line has more than 1,024 bytes.
     #[error("the line is longer than 1,024 bytes")]
-    TooLong,
+    LongLine,
     /// The line isn't of the shape `PID NAME(ARGUMENTS) RET RESULT` or `PID @NAME(ARGUMENTS)`.
     #[error("the line has no known shape")]
     Shape,
@@ -50,16 +50,16 @@ impl LineFault {
     ghost use Rattle.cap_trace.specs.Fault.{line_fault, code_of};
 
     /// The fault of a line, as a caller sees it.
-    pub(crate) fn of(fault: ReadFault) -> LineFault
+    pub(crate) fn of(fault: FirstFault) -> LineFault
         ensures { result ≡ line_fault fault }
     {
         match fault {
-            ReadFault::TooLong => LineFault::TooLong,
-            ReadFault::Shape => LineFault::Shape,
-            ReadFault::Pid => LineFault::Pid,
-            ReadFault::Argument => LineFault::Argument,
-            ReadFault::Right => LineFault::Right,
-            ReadFault::Answer => LineFault::Answer,
+            FirstFault::LongLine => LineFault::LongLine,
+            FirstFault::Shape => LineFault::Shape,
+            FirstFault::Pid => LineFault::Pid,
+            FirstFault::Argument => LineFault::Argument,
+            FirstFault::Right => LineFault::Right,
+            FirstFault::Answer => LineFault::Answer,
         }
     }
 
@@ -69,7 +69,7 @@ impl LineFault {
         ensures { result ≡ code_of self }
     {
         match self {
-            LineFault::TooLong => 1,
+            LineFault::LongLine => 1,
             LineFault::Shape => 2,
             LineFault::Pid => 3,
             LineFault::Argument => 4,

@@ -12,7 +12,7 @@ use crate::calls::{
     AtCall, AtFlagsCall, BareCall, DupCommand, FdCall, FlagsCall, Form, PathCall, PathsCall,
     SendCall,
 };
-use crate::fault::ReadFault;
+use crate::fault::FirstFault;
 use crate::parts::Parts;
 use crate::scan_fields::{
     command_of, dir_of, fd_of, five_parts, flags_of, four_parts, free_of, no_part, one_part,
@@ -22,7 +22,7 @@ use crate::seen::{CallSeen, SaidSeen};
 
 /// `name(fd)`
 #[tactic(auto, unfolding(crate::specs::Reading::said_at, crate::specs::Reading::args_at, crate::specs::Reading::arg_at))]
-fn on_fd<'a>(call: FdCall, args: &'a [u8]) -> Result<CallSeen<'a>, ReadFault>
+fn on_fd<'a>(call: FdCall, args: &'a [u8]) -> Result<CallSeen<'a>, FirstFault>
     ensures { Gives (λ c. a_call (call_seen c)) result (said_at (listed (forms.OnFd call)) (pieces args.now)) }
 {
     let fd = fd_of(one_part(args)?)?;
@@ -31,7 +31,7 @@ fn on_fd<'a>(call: FdCall, args: &'a [u8]) -> Result<CallSeen<'a>, ReadFault>
 
 /// `accept4(fd,flags)`
 #[tactic(auto, unfolding(crate::specs::Reading::said_at, crate::specs::Reading::args_at, crate::specs::Reading::arg_at))]
-fn accept4<'a>(args: &'a [u8]) -> Result<CallSeen<'a>, ReadFault>
+fn accept4<'a>(args: &'a [u8]) -> Result<CallSeen<'a>, FirstFault>
     ensures { Gives (λ c. a_call (call_seen c)) result (said_at (listed (forms.Accept4)) (pieces args.now)) }
 {
     let (fd, flags) = two_parts(args)?;
@@ -40,7 +40,7 @@ fn accept4<'a>(args: &'a [u8]) -> Result<CallSeen<'a>, ReadFault>
 
 /// `dup2(fd,fd)`
 #[tactic(auto, unfolding(crate::specs::Reading::said_at, crate::specs::Reading::args_at, crate::specs::Reading::arg_at))]
-fn dup2<'a>(args: &'a [u8]) -> Result<CallSeen<'a>, ReadFault>
+fn dup2<'a>(args: &'a [u8]) -> Result<CallSeen<'a>, FirstFault>
     ensures { Gives (λ c. a_call (call_seen c)) result (said_at (listed (forms.Dup2)) (pieces args.now)) }
 {
     let (fd, made) = two_parts(args)?;
@@ -49,7 +49,7 @@ fn dup2<'a>(args: &'a [u8]) -> Result<CallSeen<'a>, ReadFault>
 
 /// `mmap(fd,flags,flags)`
 #[tactic(auto, unfolding(crate::specs::Reading::said_at, crate::specs::Reading::args_at, crate::specs::Reading::arg_at))]
-fn mmap<'a>(args: &'a [u8]) -> Result<CallSeen<'a>, ReadFault>
+fn mmap<'a>(args: &'a [u8]) -> Result<CallSeen<'a>, FirstFault>
     ensures { Gives (λ c. a_call (call_seen c)) result (said_at (listed (forms.Mmap)) (pieces args.now)) }
 {
     let (fd, protection, kind) = three_parts(args)?;
@@ -58,7 +58,7 @@ fn mmap<'a>(args: &'a [u8]) -> Result<CallSeen<'a>, ReadFault>
 
 /// `cap_rights_limit(fd,rights)`
 #[tactic(auto, unfolding(crate::specs::Reading::said_at, crate::specs::Reading::args_at, crate::specs::Reading::arg_at))]
-fn rights_limit<'a>(args: &'a [u8]) -> Result<CallSeen<'a>, ReadFault>
+fn rights_limit<'a>(args: &'a [u8]) -> Result<CallSeen<'a>, FirstFault>
     ensures { Gives (λ c. a_call (call_seen c)) result (said_at (listed (forms.RightsLimit)) (pieces args.now)) }
 {
     let (fd, rights) = two_parts(args)?;
@@ -67,7 +67,7 @@ fn rights_limit<'a>(args: &'a [u8]) -> Result<CallSeen<'a>, ReadFault>
 
 /// `open(path,flags)`
 #[tactic(auto, unfolding(crate::specs::Reading::said_at, crate::specs::Reading::args_at, crate::specs::Reading::arg_at))]
-fn open<'a>(args: &'a [u8]) -> Result<CallSeen<'a>, ReadFault>
+fn open<'a>(args: &'a [u8]) -> Result<CallSeen<'a>, FirstFault>
     ensures { Gives (λ c. a_call (call_seen c)) result (said_at (listed (forms.Open)) (pieces args.now)) }
 {
     let (path, flags) = two_parts(args)?;
@@ -76,7 +76,7 @@ fn open<'a>(args: &'a [u8]) -> Result<CallSeen<'a>, ReadFault>
 
 /// `name(path)`
 #[tactic(auto, unfolding(crate::specs::Reading::said_at, crate::specs::Reading::args_at, crate::specs::Reading::arg_at))]
-fn on_path<'a>(call: PathCall, args: &'a [u8]) -> Result<CallSeen<'a>, ReadFault>
+fn on_path<'a>(call: PathCall, args: &'a [u8]) -> Result<CallSeen<'a>, FirstFault>
     ensures { Gives (λ c. a_call (call_seen c)) result (said_at (listed (forms.OnPath call)) (pieces args.now)) }
 {
     let path = path_of(one_part(args)?)?;
@@ -85,7 +85,7 @@ fn on_path<'a>(call: PathCall, args: &'a [u8]) -> Result<CallSeen<'a>, ReadFault
 
 /// `name(path,path)`
 #[tactic(auto, unfolding(crate::specs::Reading::said_at, crate::specs::Reading::args_at, crate::specs::Reading::arg_at))]
-fn on_paths<'a>(call: PathsCall, args: &'a [u8]) -> Result<CallSeen<'a>, ReadFault>
+fn on_paths<'a>(call: PathsCall, args: &'a [u8]) -> Result<CallSeen<'a>, FirstFault>
     ensures { Gives (λ c. a_call (call_seen c)) result (said_at (listed (forms.OnPaths call)) (pieces args.now)) }
 {
     let (from, to) = two_parts(args)?;
@@ -94,7 +94,7 @@ fn on_paths<'a>(call: PathsCall, args: &'a [u8]) -> Result<CallSeen<'a>, ReadFau
 
 /// `name(dir,path)`
 #[tactic(auto, unfolding(crate::specs::Reading::said_at, crate::specs::Reading::args_at, crate::specs::Reading::arg_at))]
-fn at_dir<'a>(call: AtCall, args: &'a [u8]) -> Result<CallSeen<'a>, ReadFault>
+fn at_dir<'a>(call: AtCall, args: &'a [u8]) -> Result<CallSeen<'a>, FirstFault>
     ensures { Gives (λ c. a_call (call_seen c)) result (said_at (listed (forms.At call)) (pieces args.now)) }
 {
     let (dir, path) = two_parts(args)?;
@@ -103,7 +103,7 @@ fn at_dir<'a>(call: AtCall, args: &'a [u8]) -> Result<CallSeen<'a>, ReadFault>
 
 /// `name(dir,path,flags)`
 #[tactic(auto, unfolding(crate::specs::Reading::said_at, crate::specs::Reading::args_at, crate::specs::Reading::arg_at))]
-fn at_dir_with_flags<'a>(call: AtFlagsCall, args: &'a [u8]) -> Result<CallSeen<'a>, ReadFault>
+fn at_dir_with_flags<'a>(call: AtFlagsCall, args: &'a [u8]) -> Result<CallSeen<'a>, FirstFault>
     ensures { Gives (λ c. a_call (call_seen c)) result (said_at (listed (forms.AtFlags call)) (pieces args.now)) }
 {
     let (dir, path, flags) = three_parts(args)?;
@@ -112,7 +112,7 @@ fn at_dir_with_flags<'a>(call: AtFlagsCall, args: &'a [u8]) -> Result<CallSeen<'
 
 /// `symlinkat(path,dir,path)`
 #[tactic(auto, unfolding(crate::specs::Reading::said_at, crate::specs::Reading::args_at, crate::specs::Reading::arg_at))]
-fn symlink_at<'a>(args: &'a [u8]) -> Result<CallSeen<'a>, ReadFault>
+fn symlink_at<'a>(args: &'a [u8]) -> Result<CallSeen<'a>, FirstFault>
     ensures { Gives (λ c. a_call (call_seen c)) result (said_at (listed (forms.SymlinkAt)) (pieces args.now)) }
 {
     let (target, dir, path) = three_parts(args)?;
@@ -121,7 +121,7 @@ fn symlink_at<'a>(args: &'a [u8]) -> Result<CallSeen<'a>, ReadFault>
 
 /// `renameat(dir,path,dir,path)`
 #[tactic(auto, unfolding(crate::specs::Reading::said_at, crate::specs::Reading::args_at, crate::specs::Reading::arg_at))]
-fn rename_at<'a>(args: &'a [u8]) -> Result<CallSeen<'a>, ReadFault>
+fn rename_at<'a>(args: &'a [u8]) -> Result<CallSeen<'a>, FirstFault>
     ensures { Gives (λ c. a_call (call_seen c)) result (said_at (listed (forms.RenameAt)) (pieces args.now)) }
 {
     let (from, old, to, new) = four_parts(args)?;
@@ -130,7 +130,7 @@ fn rename_at<'a>(args: &'a [u8]) -> Result<CallSeen<'a>, ReadFault>
 
 /// `linkat(dir,path,dir,path,flags)`
 #[tactic(auto, unfolding(crate::specs::Reading::said_at, crate::specs::Reading::args_at, crate::specs::Reading::arg_at))]
-fn link_at<'a>(args: &'a [u8]) -> Result<CallSeen<'a>, ReadFault>
+fn link_at<'a>(args: &'a [u8]) -> Result<CallSeen<'a>, FirstFault>
     ensures { Gives (λ c. a_call (call_seen c)) result (said_at (listed (forms.LinkAt)) (pieces args.now)) }
 {
     let (from, old, to, new, flags) = five_parts(args)?;
@@ -145,7 +145,7 @@ fn link_at<'a>(args: &'a [u8]) -> Result<CallSeen<'a>, ReadFault>
 
 /// `name(flags)`
 #[tactic(auto, unfolding(crate::specs::Reading::said_at, crate::specs::Reading::args_at, crate::specs::Reading::arg_at))]
-fn on_flags<'a>(call: FlagsCall, args: &'a [u8]) -> Result<CallSeen<'a>, ReadFault>
+fn on_flags<'a>(call: FlagsCall, args: &'a [u8]) -> Result<CallSeen<'a>, FirstFault>
     ensures { Gives (λ c. a_call (call_seen c)) result (said_at (listed (forms.OnFlags call)) (pieces args.now)) }
 {
     let flags = flags_of(one_part(args)?)?;
@@ -154,7 +154,7 @@ fn on_flags<'a>(call: FlagsCall, args: &'a [u8]) -> Result<CallSeen<'a>, ReadFau
 
 /// `name()`
 #[tactic(auto, unfolding(crate::specs::Reading::said_at, crate::specs::Reading::args_at, crate::specs::Reading::arg_at))]
-fn bare<'a>(call: BareCall, args: &'a [u8]) -> Result<CallSeen<'a>, ReadFault>
+fn bare<'a>(call: BareCall, args: &'a [u8]) -> Result<CallSeen<'a>, FirstFault>
     ensures { Gives (λ c. a_call (call_seen c)) result (said_at (listed (forms.Bare call)) (pieces args.now)) }
 {
     no_part(args)?;
@@ -163,7 +163,7 @@ fn bare<'a>(call: BareCall, args: &'a [u8]) -> Result<CallSeen<'a>, ReadFault>
 
 /// `sendto(fd)` and `sendto(fd,DEST)`
 #[tactic(auto, unfolding(crate::specs::Reading::said_at, crate::specs::Reading::args_at, crate::specs::Reading::arg_at))]
-fn send<'a>(call: SendCall, args: &'a [u8]) -> Result<CallSeen<'a>, ReadFault>
+fn send<'a>(call: SendCall, args: &'a [u8]) -> Result<CallSeen<'a>, FirstFault>
     ensures { Gives (λ c. a_call (call_seen c)) result (said_at (listed (forms.Send call)) (pieces args.now)) }
 {
     let mut parts = Parts::of(args);
@@ -172,17 +172,17 @@ fn send<'a>(call: SendCall, args: &'a [u8]) -> Result<CallSeen<'a>, ReadFault>
         (Some(fd), Some(word), None) => {
             let fd = fd_of(fd)?;
             if word != b"DEST".as_slice() {
-                return Err(ReadFault::Argument);
+                return Err(FirstFault::Argument);
             }
             Ok(CallSeen::SendTo(call, fd))
         }
-        _ => Err(ReadFault::Argument),
+        _ => Err(FirstFault::Argument),
     }
 }
 
 /// `fcntl(fd,command)`
 #[tactic(auto, unfolding(crate::specs::Reading::said_at, crate::specs::Reading::args_at, crate::specs::Reading::arg_at))]
-fn fcntl_two<'a>(fd: &[u8], word: &'a [u8]) -> Result<CallSeen<'a>, ReadFault>
+fn fcntl_two<'a>(fd: &[u8], word: &'a [u8]) -> Result<CallSeen<'a>, FirstFault>
     ensures { Gives (λ c. a_call (call_seen c)) result (said_at (listed forms.Fcntl) (fd.now ∷ word.now ∷ [])) }
 {
     Ok(CallSeen::Fcntl(fd_of(fd)?, command_of(word)?))
@@ -190,7 +190,7 @@ fn fcntl_two<'a>(fd: &[u8], word: &'a [u8]) -> Result<CallSeen<'a>, ReadFault>
 
 /// `fcntl(fd,F_SETFD,flags)`, `fcntl(fd,F_DUP2FD,fd)`, `fcntl(fd,F_DUP2FD_CLOEXEC,fd)`
 #[tactic(auto, unfolding(crate::specs::Reading::said_at, crate::specs::Reading::args_at, crate::specs::Reading::arg_at))]
-fn fcntl_three<'a>(fd: &[u8], word: &[u8], third: &'a [u8]) -> Result<CallSeen<'a>, ReadFault>
+fn fcntl_three<'a>(fd: &[u8], word: &[u8], third: &'a [u8]) -> Result<CallSeen<'a>, FirstFault>
     ensures { Gives (λ c. a_call (call_seen c)) result
         (said_at (listed forms.Fcntl) (fd.now ∷ word.now ∷ third.now ∷ [])) }
 {
@@ -202,27 +202,27 @@ fn fcntl_three<'a>(fd: &[u8], word: &[u8], third: &'a [u8]) -> Result<CallSeen<'
     } else if word == b"F_DUP2FD_CLOEXEC".as_slice() {
         DupCommand::FDup2fdCloexec
     } else {
-        return Err(ReadFault::Argument);
+        return Err(FirstFault::Argument);
     };
     Ok(CallSeen::FcntlDup(command, fd_of(fd)?, fd_of(third)?))
 }
 
 /// `fcntl(..)`
 #[tactic(auto, unfolding(crate::specs::Reading::said_at, crate::specs::Reading::args_at, crate::specs::Reading::arg_at))]
-fn fcntl<'a>(args: &'a [u8]) -> Result<CallSeen<'a>, ReadFault>
+fn fcntl<'a>(args: &'a [u8]) -> Result<CallSeen<'a>, FirstFault>
     ensures { Gives (λ c. a_call (call_seen c)) result (said_at (listed forms.Fcntl) (pieces args.now)) }
 {
     let mut parts = Parts::of(args);
     match (parts.next(), parts.next(), parts.next(), parts.next()) {
         (Some(fd), Some(word), None, _) => fcntl_two(fd, word),
         (Some(fd), Some(word), Some(third), None) => fcntl_three(fd, word, third),
-        _ => Err(ReadFault::Argument),
+        _ => Err(FirstFault::Argument),
     }
 }
 
 /// The arguments of a start: descriptors that rise.
 #[tactic(auto, unfolding(crate::specs::Reading::fds_from))]
-fn rising(args: &[u8]) -> Result<(), ReadFault>
+fn rising(args: &[u8]) -> Result<(), FirstFault>
     ensures { Gives (λ _. fds_in (pieces args.now)) result (fds_from 0 (pieces args.now)) }
 {
     let mut parts = Parts::of(args);
@@ -230,7 +230,7 @@ fn rising(args: &[u8]) -> Result<(), ReadFault>
     while let Some(part) = parts.next() {
         let fd = fd_of(part)?;
         if fd < low {
-            return Err(ReadFault::Argument);
+            return Err(FirstFault::Argument);
         }
         low = fd + 1;
     }
@@ -239,7 +239,7 @@ fn rising(args: &[u8]) -> Result<(), ReadFault>
 
 /// The arguments of a call that has no form of its own.
 #[tactic(auto, unfolding(crate::specs::Reading::said_at, crate::specs::Reading::args_at, crate::specs::Reading::arg_at))]
-pub(crate) fn other<'a>(name: &'a [u8], args: &'a [u8]) -> Result<CallSeen<'a>, ReadFault>
+pub(crate) fn other<'a>(name: &'a [u8], args: &'a [u8]) -> Result<CallSeen<'a>, FirstFault>
     ensures { Gives (λ c. a_call (call_seen c)) result (said_at (unlisted name.now) (args.now ∷ [])) }
 {
     Ok(CallSeen::Other(name, free_of(args)?))
@@ -247,7 +247,7 @@ pub(crate) fn other<'a>(name: &'a [u8], args: &'a [u8]) -> Result<CallSeen<'a>, 
 
 /// What a call or a marker that has a form of its own says, without its answer.
 #[tactic(auto, unfolding(crate::specs::Reading::said_at, crate::specs::Reading::args_at, crate::specs::Reading::arg_at))]
-pub(crate) fn said<'a>(form: Form, args: &'a [u8]) -> Result<SaidSeen<'a>, ReadFault>
+pub(crate) fn said<'a>(form: Form, args: &'a [u8]) -> Result<SaidSeen<'a>, FirstFault>
     ensures { Gives said_seen result (said_at (listed form) (pieces args.now)) }
 {
     let call = match form {

@@ -1,13 +1,13 @@
 //! Laws of reading, beyond what the contract of each call says. Each function does nothing: its contract is what it
 //! says.
 
-ghost use Rattle.cap_trace.specs.Spoiled.{TooLongExactly, PidExactly, RightOnlyOfLimits, SpoiledArgument};
+ghost use Rattle.cap_trace.specs.Spoiled.{LongLineExactly, PidExactly, RightOnlyOfLimits, SpoiledArgument};
 ghost use Rattle.cap_trace.specs.Spoiled.{SpoiledAnswer};
 
 /// The fault of a line is that of the field that is wrong.
 pub fn faults_are_of_their_fields()
     // The line is too long exactly where it has more than 1,024 bytes.
-    ensures too_long { TooLongExactly }
+    ensures too_long { LongLineExactly }
     // The pid is wrong exactly where the bytes before the first space spell none.
     ensures pid { PidExactly }
     // A right is wrong only in a limit, in a text that names no rights.

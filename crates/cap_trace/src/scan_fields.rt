@@ -1,13 +1,13 @@
 //! Reading the fields of a line over its bytes. Nothing here takes memory.
 
 ghost use Rattle.std.specs.Prelude.{◌≡◌, ◌≤◌, ◌==◌, ◌∷◌, [], false, length, IfOk, MatchResult};
-ghost use Rattle.cap_trace.specs.declared.fault.ReadFault.TheVariants.{Argument};
+ghost use Rattle.cap_trace.specs.declared.fault.FirstFault.TheVariants.{Argument};
 ghost use Rattle.cap_trace.specs.Limits.{largest_fd};
 ghost use Rattle.cap_trace.specs.Quotes.{pieces};
 ghost use Rattle.cap_trace.specs.Reading.{Gives, pid_at, fd_at, rights_at, dir_at, flags_at, command_at, path_at};
 ghost use Rattle.cap_trace.specs.Reading.{free_at};
 
-use crate::fault::ReadFault;
+use crate::fault::FirstFault;
 use crate::fields::{command, flags, free, items};
 use crate::limits::{LARGEST_FD, LARGEST_PID};
 use crate::line::{Dir, Fd, Pid};
@@ -16,35 +16,35 @@ use crate::parts::Parts;
 use cap_rights::{RightSet, parse_rights};
 
 #[tactic(auto, unfolding(crate::specs::Reading::pid_at))]
-pub(crate) fn pid_of(text: &[u8]) -> Result<Pid, ReadFault>
+pub(crate) fn pid_of(text: &[u8]) -> Result<Pid, FirstFault>
     ensures { Gives (λ p. p) result (pid_at text.now) }
 {
     match number_of(u64::from(LARGEST_PID), text) {
         Some(pid) if pid != 0 => Ok(pid as u32),
-        _ => Err(ReadFault::Pid),
+        _ => Err(FirstFault::Pid),
     }
 }
 
 #[tactic(auto, unfolding(crate::specs::Reading::fd_at))]
-pub(crate) fn fd_of(text: &[u8]) -> Result<Fd, ReadFault>
+pub(crate) fn fd_of(text: &[u8]) -> Result<Fd, FirstFault>
     ensures value { Gives (λ f. f) result (fd_at text.now) }
     ensures bound { IfOk result (λ f. f ≤ largest_fd) }
 {
     match number_of(u64::from(LARGEST_FD), text) {
         Some(fd) => Ok(fd as u32),
-        None => Err(ReadFault::Argument),
+        None => Err(FirstFault::Argument),
     }
 }
 
 #[tactic(auto, unfolding(crate::specs::Reading::rights_at))]
-pub(crate) fn rights_of(text: &[u8]) -> Result<RightSet, ReadFault>
+pub(crate) fn rights_of(text: &[u8]) -> Result<RightSet, FirstFault>
     ensures { Gives (λ r. r) result (rights_at text.now) }
 {
-    parse_rights(text).map_err(|_| ReadFault::Right)
+    parse_rights(text).map_err(|_| FirstFault::Right)
 }
 
 #[tactic(auto, unfolding(crate::specs::Reading::dir_at))]
-pub(crate) fn dir_of(text: &[u8]) -> Result<Dir, ReadFault>
+pub(crate) fn dir_of(text: &[u8]) -> Result<Dir, FirstFault>
     ensures { Gives (λ d. d) result (dir_at text.now) }
 {
     if text == b"AT_FDCWD".as_slice() {
@@ -54,103 +54,103 @@ pub(crate) fn dir_of(text: &[u8]) -> Result<Dir, ReadFault>
 }
 
 #[tactic(auto, unfolding(crate::specs::Reading::flags_at))]
-pub(crate) fn flags_of(text: &[u8]) -> Result<&[u8], ReadFault>
+pub(crate) fn flags_of(text: &[u8]) -> Result<&[u8], FirstFault>
     ensures { Gives (λ f. f.now) result (flags_at text.now) }
 {
     if flags(text) {
         Ok(text)
     } else {
-        Err(ReadFault::Argument)
+        Err(FirstFault::Argument)
     }
 }
 
 #[tactic(auto, unfolding(crate::specs::Reading::command_at))]
-pub(crate) fn command_of(text: &[u8]) -> Result<&[u8], ReadFault>
+pub(crate) fn command_of(text: &[u8]) -> Result<&[u8], FirstFault>
     ensures { Gives (λ c. c.now) result (command_at text.now) }
 {
     if command(text) {
         Ok(text)
     } else {
-        Err(ReadFault::Argument)
+        Err(FirstFault::Argument)
     }
 }
 
 /// What stands between the quotes.
 #[tactic(auto, unfolding(crate::specs::Reading::path_at))]
-pub(crate) fn path_of(text: &[u8]) -> Result<&[u8], ReadFault>
+pub(crate) fn path_of(text: &[u8]) -> Result<&[u8], FirstFault>
     ensures { Gives (λ p. p.now) result (path_at text.now) }
 {
     let Some(opened) = text.strip_prefix(b"\"".as_slice()) else {
-        return Err(ReadFault::Argument);
+        return Err(FirstFault::Argument);
     };
     match opened.strip_suffix(b"\"".as_slice()) {
         Some(inside) if items(inside) => Ok(inside),
-        _ => Err(ReadFault::Argument),
+        _ => Err(FirstFault::Argument),
     }
 }
 
 #[tactic(auto, unfolding(crate::specs::Reading::free_at))]
-pub(crate) fn free_of(text: &[u8]) -> Result<&[u8], ReadFault>
+pub(crate) fn free_of(text: &[u8]) -> Result<&[u8], FirstFault>
     ensures { Gives (λ a. a.now) result (free_at text.now) }
 {
     if free(text) {
         Ok(text)
     } else {
-        Err(ReadFault::Shape)
+        Err(FirstFault::Shape)
     }
 }
 
 // ---- how many arguments there are
 
 /// No argument.
-pub(crate) fn no_part(args: &[u8]) -> Result<(), ReadFault>
+pub(crate) fn no_part(args: &[u8]) -> Result<(), FirstFault>
     ensures { MatchResult result (λ _. pieces args.now ≡ [])
         (λ e. (e ≡ Argument) × ((length (pieces args.now) == 0) ≡ false)) }
 {
     match Parts::of(args).next() {
         None => Ok(()),
-        Some(_) => Err(ReadFault::Argument),
+        Some(_) => Err(FirstFault::Argument),
     }
 }
 
 /// The one argument.
-pub(crate) fn one_part(args: &[u8]) -> Result<&[u8], ReadFault>
+pub(crate) fn one_part(args: &[u8]) -> Result<&[u8], FirstFault>
     ensures { MatchResult result (λ a. pieces args.now ≡ a.now ∷ [])
         (λ e. (e ≡ Argument) × ((length (pieces args.now) == 1) ≡ false)) }
 {
     let mut parts = Parts::of(args);
     match (parts.next(), parts.next()) {
         (Some(a), None) => Ok(a),
-        _ => Err(ReadFault::Argument),
+        _ => Err(FirstFault::Argument),
     }
 }
 
 /// The two arguments.
-pub(crate) fn two_parts(args: &[u8]) -> Result<(&[u8], &[u8]), ReadFault>
+pub(crate) fn two_parts(args: &[u8]) -> Result<(&[u8], &[u8]), FirstFault>
     ensures { MatchResult result (λ p. pieces args.now ≡ p.0.now ∷ p.1.now ∷ [])
         (λ e. (e ≡ Argument) × ((length (pieces args.now) == 2) ≡ false)) }
 {
     let mut parts = Parts::of(args);
     match (parts.next(), parts.next(), parts.next()) {
         (Some(a), Some(b), None) => Ok((a, b)),
-        _ => Err(ReadFault::Argument),
+        _ => Err(FirstFault::Argument),
     }
 }
 
 /// The three arguments.
-pub(crate) fn three_parts(args: &[u8]) -> Result<(&[u8], &[u8], &[u8]), ReadFault>
+pub(crate) fn three_parts(args: &[u8]) -> Result<(&[u8], &[u8], &[u8]), FirstFault>
     ensures { MatchResult result (λ p. pieces args.now ≡ p.0.now ∷ p.1.now ∷ p.2.now ∷ [])
         (λ e. (e ≡ Argument) × ((length (pieces args.now) == 3) ≡ false)) }
 {
     let mut parts = Parts::of(args);
     match (parts.next(), parts.next(), parts.next(), parts.next()) {
         (Some(a), Some(b), Some(c), None) => Ok((a, b, c)),
-        _ => Err(ReadFault::Argument),
+        _ => Err(FirstFault::Argument),
     }
 }
 
 /// The four arguments.
-pub(crate) fn four_parts(args: &[u8]) -> Result<(&[u8], &[u8], &[u8], &[u8]), ReadFault>
+pub(crate) fn four_parts(args: &[u8]) -> Result<(&[u8], &[u8], &[u8], &[u8]), FirstFault>
     ensures { MatchResult result (λ p. pieces args.now ≡ p.0.now ∷ p.1.now ∷ p.2.now ∷ p.3.now ∷ [])
         (λ e. (e ≡ Argument) × ((length (pieces args.now) == 4) ≡ false)) }
 {
@@ -163,12 +163,12 @@ pub(crate) fn four_parts(args: &[u8]) -> Result<(&[u8], &[u8], &[u8], &[u8]), Re
         parts.next(),
     ) {
         (Some(a), Some(b), Some(c), Some(d), None) => Ok((a, b, c, d)),
-        _ => Err(ReadFault::Argument),
+        _ => Err(FirstFault::Argument),
     }
 }
 
 /// The five arguments.
-pub(crate) fn five_parts(args: &[u8]) -> Result<(&[u8], &[u8], &[u8], &[u8], &[u8]), ReadFault>
+pub(crate) fn five_parts(args: &[u8]) -> Result<(&[u8], &[u8], &[u8], &[u8], &[u8]), FirstFault>
     ensures { MatchResult result (λ p. pieces args.now ≡ p.0.now ∷ p.1.now ∷ p.2.now ∷ p.3.now ∷ p.4.now ∷ [])
         (λ e. (e ≡ Argument) × ((length (pieces args.now) == 5) ≡ false)) }
 {
@@ -182,6 +182,6 @@ pub(crate) fn five_parts(args: &[u8]) -> Result<(&[u8], &[u8], &[u8], &[u8], &[u
         parts.next(),
     ) {
         (Some(a), Some(b), Some(c), Some(d), Some(e), None) => Ok((a, b, c, d, e)),
-        _ => Err(ReadFault::Argument),
+        _ => Err(FirstFault::Argument),
     }
 }

@@ -50,8 +50,8 @@ abbrev pub run_asked : List Text → Option Run
 run_asked words = option_and_then run_in (subcommand_of capcheck words)
 
 -- `clap` finds no fault in the words, and they name this run
-abbrev pub Asks : List Text → Run → Type 0
-Asks words run = (fault_of capcheck words ≡ []) × (run_asked words ≡ Some run)
+abbrev pub NamesRun : List Text → Run → Type 0
+NamesRun words run = (fault_of capcheck words ≡ []) × (run_asked words ≡ Some run)
 
 -- the words are to be answered by a text and are no mistake: they ask for help, or for the version
 abbrev pub IsRequest : ErrorKind → Type 0
@@ -75,8 +75,8 @@ seen = option_map (λ text. text.now)
 
 -- the plan is what the words ask for; of running out of memory nothing is said
 abbrev pub Fits : List Text → Plan → Type 0
-Fits words (Check trace start profile) = Asks words (checks (seen trace) (seen start) profile)
-Fits words (Edit trace script profile) = Asks words (edits trace.now (seen script) profile)
+Fits words (Check trace start profile) = NamesRun words (checks (seen trace) (seen start) profile)
+Fits words (Edit trace script profile) = NamesRun words (edits trace.now (seen script) profile)
 Fits words (Help text) = Requests (fault_of capcheck words)
 Fits words (Usage text) = IsMistake words
 Fits words Memory = Unit {0}

@@ -1,4 +1,4 @@
--- What a run reads and writes, and the status that it ends with. `Answers` is the contract of `answer`, which is the
+-- What a run reads and writes, and the status that it ends with. `Finishes` is the contract of `answer`, which is the
 -- whole program but for its arguments and its devices.
 use Rattle.std.specs.Prelude.{◌≡◌, ◌⊎◌, ℕ, List, Option, Some, None}
 use Rattle.std.specs.Option.{option_map}
@@ -89,7 +89,7 @@ CarriesOut known w0 w1 (Usage text) status = (w1 ≡ w0) × (status ≡ 2)
 CarriesOut known w0 w1 Memory status = (w1 ≡ w0) × (status ≡ 3)
 
 -- The words ask for a plan, and it was carried out.
-pub record Answers (words : List Text) (known : Option Text → Known) (w0 w1 : SinkState) (status : ℕ) : Type 0 where
+pub record Finishes (words : List Text) (known : Option Text → Known) (w0 w1 : SinkState) (status : ℕ) : Type 0 where
   pub plan : Plan
   pub fits : Fits words plan
   pub done : CarriesOut known w0 w1 plan status

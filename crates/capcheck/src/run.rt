@@ -8,7 +8,7 @@ ghost use Rattle.std.specs.Option.{option_map};
 ghost use Rattle.cap_session.specs.Outcome.{status_of};
 ghost use Rattle.capcheck.specs.Faults.{fault_code};
 ghost use Rattle.capcheck.specs.Plans.{seen};
-ghost use Rattle.capcheck.specs.Runs.{Answers, CarriesOut, ChecksText, EditsText, known_start};
+ghost use Rattle.capcheck.specs.Runs.{Finishes, CarriesOut, ChecksText, EditsText, known_start};
 
 use crate::plan::{Plan, plan_of};
 use crate::texts::{SystemTexts, Texts};
@@ -70,7 +70,7 @@ pub fn answer<T: Texts, W: Sink, R: Print + Eprint + AllocGlobal>(
     words: &[&str],
 ) -> u8
     requires { 1 ≤ (W.state output.old).room }
-    ensures { Answers (map (λ w. w.now) words.entry.now) (T.known texts.now) (W.state output.old)
+    ensures { Finishes (map (λ w. w.now) words.entry.now) (T.known texts.now) (W.state output.old)
         (W.state output.new) result }
 {
     carry_out(rt, texts, output, plan_of(rt.alloc(), words))
