@@ -79,6 +79,20 @@ fn cut_each(
     Ok(())
 }
 
+/// The example at the head of the crate.
+#[test]
+fn the_example_of_the_crate(rt: HostRuntime) -> Result<(), Fail> {
+    let alloc = rt.alloc();
+    let steps = steps_of(alloc, Profile::One, SEEK)?;
+    assert!(&rt; steps.len() < 1000);
+    let mut meter = Meter::new();
+    let trace: Tree<Summary> = Tree::from_list(alloc, &mut meter, steps)?;
+    for found in resolve(alloc, trace.summary(), &Start::unknown(alloc))? {
+        println!(rt; "line {}: {:?}", found.at, found.finding)?;
+    }
+    Ok(())
+}
+
 #[test]
 fn rows_are_cut_in_both_profiles(rt: HostRuntime) -> Result<(), Fail> {
     for (trace, report) in BOTH {
