@@ -17,7 +17,7 @@ SOURCES = $(shell find crates -path '*/out' -prune -o -type f -name '*.rt' -prin
 # What runs the built program, each with the program as its argument.
 SCRIPTS = examples/check tests/rows tests/talks tests/memory tests/allocations tests/faults tests/compare tests/recorder tests/annotate
 
-.PHONY: all run test examples bench install clean
+.PHONY: all run test examples refusals bench install clean
 all: capcheck
 
 # `rt run` proves the program and all that it stands on, builds it and runs it, here to tell its version.
