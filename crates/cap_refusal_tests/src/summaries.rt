@@ -2,8 +2,8 @@
 
 use crate::machine::{TRACE, cells_of};
 use crate::marks::Mark;
-use cap_machine::{Cell, Found, Mode, Profile, Start};
-use cap_summary::{Step, Summary, resolve, resolve_range};
+use cap_machine::{Cell, Found, Mode, Profile, Start, Step};
+use cap_summary::{Summary, resolve, resolve_range};
 use cap_trace::parse_line;
 use cap_tree::{Meter, NoMemory, Segment, Tree};
 use std::alloc::Global;
@@ -14,7 +14,7 @@ use std::test::Fail;
 fn steps_of(alloc: Global) -> Result<Vec<Rc<Step>>, Fail> {
     let mut steps = Vec::new(alloc);
     for text in TRACE {
-        let line = Rc::new(alloc, parse_line(alloc, text)?)?;
+        let line = parse_line(alloc, text)?;
         let profile = Profile::Two;
         steps.push(Rc::new(alloc, Step { profile, line })?)?;
     }

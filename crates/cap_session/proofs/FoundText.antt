@@ -1,12 +1,12 @@
 -- The text of findings, one after the other; and whether there are any.
 use Rattle.std.proofs.Common.{◌≡◌, ℕ, ◌+◌, ◌-◌, ◌<◌, Bool, true, false, not, List, [], ◌∷◌, ◌++◌, length, take, get_or}
-use Rattle.std.proofs.Common.{refl, sym, ◌∙◌, ap, subst, ◌≤◌, IsTrue, ◌↔◌}
-use Rattle.std.specs.Prelude.{Some, slice_get, option_map}
+use Rattle.std.proofs.Common.{refl, sym, ◌∙◌, ap, ◌≤◌, IsTrue, ◌↔◌}
+use Rattle.std.specs.Prelude.{Some, slice_get}
 use Rattle.std.specs.List.{flat_map}
-use Rattle.std.proofs.lemmas.List.{take_more, append-nil, length-map}
+use Rattle.std.proofs.lemmas.List.{take_more, append-nil}
 use Rattle.std.proofs.lemmas.List.Elements.{All-filter}
 use Rattle.std.proofs.lemmas.List.Concat.{flat_map-append}
-use Rattle.std.proofs.lemmas.Option.{slice_get-map}
+use Rattle.cap_machine.specs.declared.step.Step.{Step}
 use Rattle.cap_machine.specs.declared.verdict.Found.{Found}
 use Rattle.cap_machine.specs.State.{State}
 use Rattle.cap_machine.specs.Check.{check}
@@ -14,37 +14,31 @@ use Rattle.cap_machine.specs.Report.{report_line, line_about, finding_line}
 use Rattle.cap_machine.proofs.Positions.{positions_within}
 use Rattle.cap_summary.specs.Conditions.{has_any}
 use Rattle.cap_summary.specs.Positions.{is_at, within}
-use Rattle.cap_summary.specs.declared.step.Step.{Step}
-use Rattle.cap_summary.specs.Steps.{step_of, steps_of}
 use Rattle.cap_session.specs.Session.{StandWithin}
 
 -- the text of one finding more
 pub text_more : (shared : List Step) (all : List Found) (i : ℕ) (x : Found) (s : Step) (text more : List ℕ) →
-    text ≡ flat_map (report_line (steps_of shared)) (take i all) → i < length all → x ≡ get_or all i x →
-    slice_get shared (x.at - 1) ≡ Some s → more ≡ text ++ finding_line s.line.value x
-    → more ≡ flat_map (report_line (steps_of shared)) (take (i + 1) all)
+    text ≡ flat_map (report_line shared) (take i all) → i < length all → x ≡ get_or all i x →
+    slice_get shared (x.at - 1) ≡ Some s → more ≡ text ++ finding_line s.line x
+    → more ≡ flat_map (report_line shared) (take (i + 1) all)
 text_more shared all i x s text more so lt at stands put =
-    let line : List Found → List ℕ = flat_map (report_line (steps_of shared)) in
+    let line : List Found → List ℕ = flat_map (report_line shared) in
     let next : take (i + 1) all ≡ take i all ++ x ∷ [] =
     take_more all i x lt ∙ ap (λ (y : Found). take i all ++ y ∷ []) (sym at) in
-    let is : slice_get (steps_of shared) (x.at - 1) ≡ Some (step_of s) =
-    slice_get-map step_of shared (x.at - 1) ∙ ap (option_map step_of) stands in
-    let here : report_line (steps_of shared) x ≡ finding_line s.line.value x = ap (λ l. line_about l x) is in
-    let one : line (x ∷ []) ≡ finding_line s.line.value x = append-nil (report_line (steps_of shared) x) ∙ here in
-    put ∙ ap (λ (l : List ℕ). l ++ finding_line s.line.value x) so
+    let here : report_line shared x ≡ finding_line s.line x = ap (λ l. line_about l x) stands in
+    let one : line (x ∷ []) ≡ finding_line s.line x = append-nil (report_line shared x) ∙ here in
+    put ∙ ap (λ (l : List ℕ). l ++ finding_line s.line x) so
     ∙ ap (λ (l : List ℕ). line (take i all) ++ l) (sym one)
-    ∙ sym (flat_map-append (report_line (steps_of shared)) (take i all) (x ∷ [])) ∙ ap line (sym next)
+    ∙ sym (flat_map-append (report_line shared) (take i all) (x ∷ [])) ∙ ap line (sym next)
 
 -- findings stand at positions of the trace, and so do those of a range
-pub stand_within : (s : State) (shared : List Step) → StandWithin (length shared) (check s (steps_of shared))
-stand_within s shared =
-    let P : ℕ → Type 0 = λ n. StandWithin n (check s (steps_of shared)) in
-    subst P (length-map shared step_of) (positions_within s (steps_of shared))
+pub stand_within : (s : State) (shared : List Step) → StandWithin (length shared) (check s shared)
+stand_within s shared = positions_within s shared
 
 pub some_stand_within : (s : State) (shared : List Step) (first last : ℕ)
-    → StandWithin (length shared) (within first last (check s (steps_of shared)))
+    → StandWithin (length shared) (within first last (check s shared))
 some_stand_within s shared first last =
-    All-filter (is_at first last) (λ (one : Found). (1 ≤ one.at) × (one.at ≤ length shared)) (check s (steps_of shared))
+    All-filter (is_at first last) (λ (one : Found). (1 ≤ one.at) × (one.at ≤ length shared)) (check s shared)
     (stand_within s shared)
 
 -- whether there is none

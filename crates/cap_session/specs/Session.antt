@@ -4,8 +4,7 @@ use Rattle.cap_trace.specs.Entry.{Entry}
 use Rattle.cap_machine.specs.declared.cell.Profile.{Profile}
 use Rattle.cap_machine.specs.declared.verdict.Found.{Found}
 use Rattle.cap_machine.specs.Steps.{steps}
-use Rattle.cap_summary.specs.declared.step.Step.{Step}
-use Rattle.cap_summary.specs.Steps.{steps_of}
+use Rattle.cap_machine.specs.declared.step.Step.{Step}
 use Rattle.cap_session.specs.Limits.{most_lines}
 use Rattle.cap_session.specs.declared.edit.Edit.{Edit}
 use Rattle.cap_session.specs.declared.edit.Edit.TheVariants.{Insert, Delete, Replace}
@@ -29,13 +28,13 @@ pub record LoadingState : Type 0 where
   pub profile : Profile
   pub trace : List Entry
 
--- the lines of steps that share them
+-- the lines of steps
 abbrev pub lines_of : List Step → List Entry
-lines_of shared = map (λ (step : Step). step.line.value) shared
+lines_of shared = map (λ (step : Step). step.line) shared
 
 -- each of the steps has the profile
 abbrev pub IsIn : Profile → List Step → Type 0
-IsIn profile shared = steps_of shared ≡ steps profile (lines_of shared)
+IsIn profile shared = shared ≡ steps profile (lines_of shared)
 
 -- What always holds of the steps that a session keeps, and of those that it will take over.
 pub record IsKept (profile : Profile) (limit : ℕ) (shared : List Step) : Type 0 where

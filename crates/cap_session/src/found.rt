@@ -1,7 +1,6 @@
 //! The text of a report, from the findings in a tree of steps.
 ghost use Rattle.std.specs.Prelude.{◌≡◌, ◌++◌, length, flat_map, IfOk};
 ghost use Rattle.cap_machine.specs.Report.{report_line, last_line};
-ghost use Rattle.cap_summary.specs.Steps.{steps_of};
 ghost use Rattle.cap_session.specs.Session.{StandWithin};
 
 use cap_machine::{Found, NoMemory, put_count, put_finding};
@@ -13,7 +12,7 @@ use std::alloc::Global;
 pub fn text_of(alloc: Global, tree: &Tree<Summary>, found: &[Found]) -> Result<Vec<u8>, NoMemory>
     requires { StandWithin (length tree.now) found.now }
     ensures { IfOk result (λ text. text.items
-        ≡ flat_map (report_line (steps_of tree.now)) found.now ++ last_line (length found.now)) }
+        ≡ flat_map (report_line tree.now) found.now ++ last_line (length found.now)) }
 {
     let mut text = Vec::new(alloc);
     for one in found {

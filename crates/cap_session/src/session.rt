@@ -15,7 +15,6 @@ ghost use Rattle.cap_session.specs.Limits.{most_lines};
 ghost use Rattle.cap_session.specs.Replies.{shown, is_range, ranged, range_report};
 ghost use Rattle.cap_session.specs.Session.{SessionState, RefusesExactly, wanted, lines_of, lines_at, IsIn, IsKept};
 ghost use Rattle.cap_summary.specs.Stands.{Stands, summed_up};
-ghost use Rattle.cap_summary.specs.Steps.{steps_of};
 ghost use Rattle.cap_summary.specs.declared.summary.Summary.{Summary};
 ghost use Rattle.cap_tree.specs.Bits.{bits};
 ghost use Rattle.cap_tree.specs.Run.{values};
@@ -24,8 +23,8 @@ use crate::edit::Edit;
 use crate::found::text_of;
 use crate::refused::Refused;
 use crate::steps::{step_of, steps_of};
-use cap_machine::{NoMemory, Profile, Start};
-use cap_summary::{Step, Summary, resolve, resolve_range};
+use cap_machine::{NoMemory, Profile, Start, Step};
+use cap_summary::{Summary, resolve, resolve_range};
 use cap_trace::{Line, parse_line, write_line};
 use cap_tree::{Meter, Tree};
 use std::alloc::Global;
@@ -290,7 +289,7 @@ impl Session {
     ///
     /// It is lent as it is: a tree doesn't change, and the next edit puts another in its place.
     pub fn tree(&self) -> &Tree<Summary>
-        ensures list { steps_of result.now ≡ steps self.now.profile self.now.trace }
+        ensures list { result.now ≡ steps self.now.profile self.now.trace }
         // What stands for the list, as the summary that the tree lends does, sums up the trace.
         ensures summary { (z : Summary) → Stands z result.now → summed_up z ≡ steps self.now.profile self.now.trace }
     {

@@ -1,11 +1,9 @@
 //! The lines of a trace as the steps that a tree takes: each with its profile, and shared.
 ghost use Rattle.std.specs.Prelude.{◌≡◌, IfOk};
 ghost use Rattle.cap_machine.specs.Steps.{step, steps};
-ghost use Rattle.cap_summary.specs.Steps.{step_of, steps_of};
 ghost use Rattle.cap_tree.specs.Run.{values};
 
-use cap_machine::Profile;
-use cap_summary::Step;
+use cap_machine::{Profile, Step};
 use cap_trace::Line;
 use cap_tree::NoMemory;
 use std::alloc::Global;
@@ -13,11 +11,9 @@ use std::rc::Rc;
 
 /// The step of a line in a profile.
 pub fn step_of(alloc: Global, profile: Profile, line: Line) -> Result<Rc<Step>, NoMemory>
-    ensures { IfOk result (λ shared. step_of shared.value ≡ step profile line) }
+    ensures { IfOk result (λ shared. shared.value ≡ step profile line) }
 {
-    let line = Rc::new(alloc, line)?;
-    let shared = Rc::new(alloc, Step { profile, line })?;
-    Ok(shared)
+    Ok(Rc::new(alloc, Step { profile, line })?)
 }
 
 /// The steps of lines in a profile.
@@ -26,7 +22,7 @@ pub fn steps_of(
     profile: Profile,
     lines: Vec<Line>,
 ) -> Result<Vec<Rc<Step>>, NoMemory>
-    ensures { IfOk result (λ shared. steps_of (values shared.items) ≡ steps profile lines.items) }
+    ensures { IfOk result (λ shared. values shared.items ≡ steps profile lines.items) }
 {
     let mut shared = Vec::with_capacity(alloc, lines.len())?;
     for line in lines {

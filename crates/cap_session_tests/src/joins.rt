@@ -1,8 +1,8 @@
 //! The joins of a session's edits, beside those of the same edits of a tree that the test keeps.
 
-use cap_machine::{Profile, Start};
+use cap_machine::{Profile, Start, Step};
 use cap_session::Session;
-use cap_summary::{Step, Summary, resolve};
+use cap_summary::{Summary, resolve};
 use cap_trace::parse_line;
 use cap_tree::{Meter, NoMemory, Segment, Tree};
 use std::alloc::Global;
@@ -16,7 +16,7 @@ const MOST: usize = 1_000;
 
 /// The call as a step.
 fn call(alloc: Global) -> Result<Rc<Step>, Fail> {
-    let line = Rc::new(alloc, parse_line(alloc, CALL)?)?;
+    let line = parse_line(alloc, CALL)?;
     let profile = Profile::One;
     Ok(Rc::new(alloc, Step { profile, line })?)
 }

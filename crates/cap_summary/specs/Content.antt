@@ -1,7 +1,7 @@
 -- What a node of a summary is seen as.
 use Rattle.std.specs.Prelude.{◌≡◌, ℕ, ◌^◌, ◌<◌, ◌≤◌, List, ◌++◌, length, Option, IfSome, IfNone}
 use Rattle.cap_machine.specs.declared.step.Step.{Step}
-use Rattle.cap_summary.specs.Steps.{steps_of}
+use Rattle.cap_tree.specs.Run.{values}
 use Rattle.cap_summary.specs.declared.known.Known.{Known}
 use Rattle.cap_summary.specs.Knows.{Knows}
 use Rattle.cap_summary.specs.declared.node.Content.{Content}
@@ -9,7 +9,7 @@ use Rattle.cap_summary.specs.declared.node.Content.TheVariants.{Run, Both}
 
 -- the steps, from the first
 abbrev pub content_steps : Content → List Step
-content_steps (Run run) = steps_of run.items
+content_steps (Run run) = values run.items
 content_steps (Both a b) = a.value ++ b.value
 
 -- a node of two parts has steps in both

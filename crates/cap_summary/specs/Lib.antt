@@ -1,7 +1,6 @@
 pub mod Sorted
 pub mod Place
 pub mod Shared
-pub mod Steps
 pub mod Values
 pub mod Tables
 pub mod Changes

@@ -1,14 +1,12 @@
 -- What a summary stands for.
 use Rattle.std.specs.Prelude.{◌≡◌, List}
-use Rattle.cap_machine.specs.declared.step.Step as machine
+use Rattle.cap_machine.specs.declared.step.Step.{Step}
 use Rattle.cap_summary.specs.declared.summary.Summary.{Summary}
-use Rattle.cap_summary.specs.declared.step.Step.{Step}
-use Rattle.cap_summary.specs.Steps.{steps_of}
 
 -- the steps that a summary sums up, from the first
-abbrev pub summed_up : Summary → List machine.Step
+abbrev pub summed_up : Summary → List Step
 summed_up z = z.node.value
 
 -- a summary stands for a list of steps where it sums up just these
 pub record Stands (z : Summary) (t : List Step) : Type 0 where
-  pub steps : summed_up z ≡ steps_of t
+  pub steps : summed_up z ≡ t

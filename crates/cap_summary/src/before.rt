@@ -6,7 +6,7 @@ ghost use Rattle.cap_machine.specs.Check.{check, said_of, found_at};
 ghost use Rattle.cap_machine.specs.Laws.{later};
 ghost use Rattle.cap_summary.specs.Before.{state_before};
 ghost use Rattle.cap_summary.specs.Knows.{finds};
-ghost use Rattle.cap_summary.specs.Steps.{steps_of};
+ghost use Rattle.cap_tree.specs.Run.{values};
 ghost use Rattle.cap_summary.specs.Positions.{within};
 ghost use Rattle.cap_summary.specs.Conditions.{source_holds, part_holds, outside_holds, refused_holds, holds};
 ghost use Rattle.cap_summary.specs.Conditions.{any_holds};
@@ -16,11 +16,11 @@ use crate::conditions::{Condition, Refused, Source};
 use crate::effects::{Touched, Turned, touch_of, turn_of};
 use crate::known::Known;
 use crate::packed::Conditions;
-use crate::step::Step;
 use crate::values::{ModeValue, Value};
-use cap_machine::{Cell, Checks, Demand, Effect, Found, Mode, Start, Verdict, rule_of};
+use cap_machine::{Cell, Checks, Demand, Effect, Found, Mode, Start, Step, Verdict, rule_of};
 use cap_trace::{Fd, Pid};
 use cap_tree::NoMemory;
+use std::rc::Rc;
 
 /// A start, or what a change or a line of a process makes of one.
 #[derive(Clone, Copy)]
@@ -193,7 +193,7 @@ fn note_line(
 /// Notes what is found in a run of steps that begins in this state behind so many others, at the positions that are
 /// asked for.
 pub(crate) fn judge_run(
-    run: &[Step],
+    run: &[Rc<Step>],
     before: &Before<'_>,
     at: usize,
     asked: &Positions,
@@ -201,7 +201,7 @@ pub(crate) fn judge_run(
 ) -> Result<(), NoMemory>
     requires short { at + length run.now ≤ 2 ^ 31 }
     ensures { OnOk result (found.new.items ≡ found.old.items
-        ++ within asked.now.from asked.now.to (map (later at) (check (state_before before.now) (steps_of run.now)))) }
+        ++ within asked.now.from asked.now.to (map (later at) (check (state_before before.now) (values run.now)))) }
 {
     if run.len() == 0 {
         return Ok(());
@@ -209,8 +209,8 @@ pub(crate) fn judge_run(
     if asked.to <= at {
         return Ok(());
     }
-    let step = &run[0];
-    let line = &*step.line;
+    let step: &Step = &run[0];
+    let line = &step.line;
     let rule = rule_of(step.profile, line);
     note_line(before, line.pid, &rule.demand, at + 1, asked, found)?;
     let after = Before::Behind(&*before, line.pid, &rule.effect);

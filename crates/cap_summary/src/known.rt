@@ -2,7 +2,6 @@
 
 ghost use Rattle.std.specs.Prelude.{◌≡◌, ◌∷◌, [], ◌++◌, ◌||◌, List, IfOk};
 ghost use Rattle.cap_machine.specs.declared.step.Step.{Step};
-ghost use Rattle.cap_summary.specs.Steps.{step_of};
 ghost use Rattle.cap_machine.specs.Table.{start_state};
 ghost use Rattle.cap_summary.specs.Knows.{Knows, finds, state_after};
 
@@ -11,8 +10,7 @@ use crate::change::Change;
 use crate::line_conditions::{always, conditions_of};
 use crate::merge::merged;
 use crate::packed::Conditions;
-use crate::step::Step as SharedStep;
-use cap_machine::{Cell, Mode, Start, rule_of};
+use cap_machine::{Cell, Mode, Start, Step, rule_of};
 use cap_trace::{Fd, Pid};
 use cap_tree::NoMemory;
 use std::alloc::Global;
@@ -57,10 +55,10 @@ impl Known {
     }
 
     /// One step.
-    pub(crate) fn of_step(alloc: Global, step: &SharedStep) -> Result<Known, NoMemory>
-        ensures { IfOk result (λ known. Knows known (step_of step.now ∷ [])) }
+    pub(crate) fn of_step(alloc: Global, step: &Step) -> Result<Known, NoMemory>
+        ensures { IfOk result (λ known. Knows known (step.now ∷ [])) }
     {
-        let line = &*step.line;
+        let line = &step.line;
         let rule = rule_of(step.profile, line);
         let change = Change::of_effect(alloc, line.pid, &rule.effect)?;
         let conditions = conditions_of(alloc, line.pid, &rule.demand)?;

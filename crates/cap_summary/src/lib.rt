@@ -1,7 +1,7 @@
 //! What a segment of a trace does and says, whatever the state before it.
 //!
-//! A [`Summary`] stands for a list of steps, lines with the profile by which they are checked ([`Step`]). It is made of
-//! one step or joined from two summaries (`Segment` of cap_tree), so a `Tree` of summaries has one of the
+//! A [`Summary`] stands for a list of steps, lines with the profile by which they are checked (`Step` of cap_machine). It
+//! is made of one step or joined from two summaries (`Segment` of cap_tree), so a `Tree` of summaries has one of the
 //! whole trace after each edit. [`resolve`] answers what is found in the steps from a start, and [`resolve_range`] the
 //! part of it at a range of positions.
 //!
@@ -26,7 +26,6 @@ mod moved;
 mod node;
 mod packed;
 mod sorted;
-mod step;
 mod summary;
 mod tables;
 mod values;
@@ -34,7 +33,6 @@ mod values;
 pub use change::{Change, Process};
 pub use conditions::{CellTest, Condition, HeldTest, Refused, Source};
 pub use known::Known;
-pub use step::Step;
 pub use summary::{Summary, resolve, resolve_range};
 pub use tables::{Cells, Processes};
 pub use values::{Base, ModeValue, Others, Passing, Value};

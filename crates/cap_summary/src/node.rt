@@ -7,13 +7,12 @@ ghost use Rattle.cap_machine.specs.Laws.{later};
 ghost use Rattle.cap_summary.specs.Before.{state_before};
 ghost use Rattle.cap_summary.specs.Positions.{within};
 ghost use Rattle.cap_summary.specs.Rest.{rest_steps, AllSome};
-ghost use Rattle.cap_summary.specs.Steps.{step_of, steps_of};
+ghost use Rattle.cap_tree.specs.Run.{values};
 ghost use Rattle.cap_summary.specs.Content.{content_steps, HasParts};
 
 use crate::before::{Before, Positions, judge_run};
 use crate::known::Known;
-use crate::step::Step as SharedStep;
-use cap_machine::Found;
+use cap_machine::{Found, Step};
 use cap_tree::NoMemory;
 use std::alloc::Global;
 use std::marker::Model;
@@ -36,7 +35,7 @@ pub(crate) struct Node {
 #[cycle(node)]
 #[derive(Drop)]
 pub(crate) enum Content {
-    Run(Vec<SharedStep>),
+    Run(Vec<Rc<Step>>),
     Both(Rc<Node>, Rc<Node>),
 }
 
@@ -68,9 +67,9 @@ impl Node {
         self.len
     }
 
-    /// Adds the same steps, their lines shared.
-    fn share(run: &mut Vec<SharedStep>, more: &[SharedStep]) -> Result<(), NoMemory>
-        ensures { OnOk result (steps_of run.new.items ≡ steps_of run.old.items ++ steps_of more.now) }
+    /// Adds the same steps, shared.
+    fn share(run: &mut Vec<Rc<Step>>, more: &[Rc<Step>]) -> Result<(), NoMemory>
+        ensures { OnOk result (values run.new.items ≡ values run.old.items ++ values more.now) }
     {
         run.extend_from_slice(more)?;
         Ok(())
@@ -79,11 +78,11 @@ impl Node {
     /// The steps of two runs.
     fn joined(
         alloc: Global,
-        front: &[SharedStep],
-        back: &[SharedStep],
-    ) -> Result<Vec<SharedStep>, NoMemory>
+        front: &[Rc<Step>],
+        back: &[Rc<Step>],
+    ) -> Result<Vec<Rc<Step>>, NoMemory>
         requires { length front.now + length back.now ≤ 2 ^ 30 }
-        ensures { IfOk result (λ run. steps_of run.items ≡ steps_of front.now ++ steps_of back.now) }
+        ensures { IfOk result (λ run. values run.items ≡ values front.now ++ values back.now) }
     {
         let mut run = Vec::with_capacity(alloc, front.len() + back.len())?;
         Node::share(&mut run, front)?;
@@ -169,8 +168,8 @@ impl Node {
     }
 
     /// One step.
-    pub(crate) fn one(alloc: Global, step: &SharedStep) -> Result<Rc<Node>, NoMemory>
-        ensures { IfOk result (λ n. n.value ≡ step_of step.now ∷ []) }
+    pub(crate) fn one(alloc: Global, step: &Rc<Step>) -> Result<Rc<Node>, NoMemory>
+        ensures { IfOk result (λ n. n.value ≡ step.now.value ∷ []) }
     {
         let known = Known::of_step(alloc, step)?;
         let mut run = Vec::with_capacity(alloc, 1)?;

@@ -11,8 +11,7 @@ ghost use Rattle.cap_summary.specs.Stands.{Stands, summed_up};
 use crate::before::{Before, Positions};
 use crate::known::Known;
 use crate::node::{Node, Rest};
-use crate::step::Step;
-use cap_machine::{Found, Start};
+use cap_machine::{Found, Start, Step};
 use cap_tree::{Meter, NoMemory, Segment};
 use std::alloc::Global;
 use std::rc::Rc;
@@ -87,7 +86,7 @@ impl Segment for Summary {
         Ok(Summary { node })
     }
 
-    fn one(alloc: Global, step: &Step) -> Result<Summary, NoMemory> {
+    fn one(alloc: Global, step: &Rc<Step>) -> Result<Summary, NoMemory> {
         let node = Node::one(alloc, step)?;
         Ok(Summary { node })
     }

@@ -1,9 +1,9 @@
 //! Summaries of the two parts of a trace, joined and read under a start.
 
 use crate::rows::{BOTH, EACH};
-use cap_machine::{Cell, Found, Mode, OnExec, Profile, Start, put_count, put_finding};
+use cap_machine::{Cell, Found, Mode, OnExec, Profile, Start, Step, put_count, put_finding};
 use cap_rights::{RightSet, parse_rights};
-use cap_summary::{Step, Summary, resolve, resolve_range};
+use cap_summary::{Summary, resolve, resolve_range};
 use cap_trace::parse_line;
 use cap_tree::{Meter, NoMemory, Segment, Tree};
 use std::alloc::Global;
@@ -15,7 +15,7 @@ fn steps_of(alloc: Global, profile: Profile, trace: &[u8]) -> Result<Vec<Rc<Step
     let mut steps = Vec::new(alloc);
     for text in trace.split(|byte| *byte == b'\n') {
         if !text.is_empty() {
-            let line = Rc::new(alloc, parse_line(alloc, text)?)?;
+            let line = parse_line(alloc, text)?;
             steps.push(Rc::new(alloc, Step { profile, line })?)?;
         }
     }

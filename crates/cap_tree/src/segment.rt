@@ -4,6 +4,7 @@ ghost use Rattle.std.specs.Prelude.{◌≡◌, ℕ, ◌+◌, ◌^◌, ◌<◌, �
 use crate::meter::Meter;
 use crate::no_memory::NoMemory;
 use std::alloc::Global;
+use std::rc::Rc;
 
 /// A summary of a list of items. Two summaries join to that of the one list followed by the other.
 ///
@@ -21,9 +22,9 @@ pub trait Segment: Drop {
     fn empty(alloc: Global) -> Result<Self, NoMemory>
         ensures { IfOk result (λ s. stands s []) };
 
-    /// The summary of one item.
-    fn one(alloc: Global, item: &Self::Item) -> Result<Self, NoMemory>
-        ensures { IfOk result (λ s. stands s (item.now ∷ [])) };
+    /// The summary of one item, which may be shared.
+    fn one(alloc: Global, item: &Rc<Self::Item>) -> Result<Self, NoMemory>
+        ensures { IfOk result (λ s. stands s (item.now.value ∷ [])) };
 
     /// How many items are summed up. Allocates nothing.
     fn len(&self) -> usize

@@ -4,6 +4,7 @@ ghost use Rattle.std.proofs.Common.{ap};
 
 use cap_tree::{Meter, NoMemory, Segment};
 use std::alloc::Global;
+use std::rc::Rc;
 
 #[cfg(test)]
 mod tests;
@@ -27,9 +28,9 @@ impl Segment for Listed {
         })
     }
 
-    fn one(alloc: Global, item: &u32) -> Result<Listed, NoMemory> {
+    fn one(alloc: Global, item: &Rc<u32>) -> Result<Listed, NoMemory> {
         let mut list = Vec::new(alloc);
-        list.push(*item)?;
+        list.push(**item)?;
         Ok(Listed { list })
     }
 

@@ -59,7 +59,7 @@ impl Segment for Watched {
         })
     }
 
-    fn one(alloc: Global, item: &Item) -> Result<Watched, NoMemory> {
+    fn one(alloc: Global, item: &Rc<Item>) -> Result<Watched, NoMemory> {
         item.watch.allows()?;
         let watch = item.watch.clone()?;
         let mut list = Vec::new(alloc);

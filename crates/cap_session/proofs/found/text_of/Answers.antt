@@ -1,6 +1,3 @@
-use Rattle.std.proofs.Common.{◌∙◌, ap, ◌++◌}
-use Rattle.cap_trace.specs.Entry.{Entry}
-use Rattle.cap_machine.specs.Report.{finding_line}
 use Rattle.cap_session.proofs.FoundText.{text_more}
 use Rattle.cap_session.proofs.found.text_of.Goals as goal
 
@@ -9,5 +6,4 @@ loop-one-preserved c =
     let x = c.one-item.result in
     text_more c.args.tree.now c.args.found.now c.loop-one.one-index x c.get-step.result.now c.loop-one.text.items
     c.put_finding.new.out.items c.loop-one.invariant c.loop-one-test.true c.one-item.is c.get-step.ensures
-    (c.in_ok-put_finding.ensures.ok
-    ∙ ap (λ (line : Entry). c.loop-one.text.items ++ finding_line line x) c.deref.ensures)
+    c.in_ok-put_finding.ensures.ok

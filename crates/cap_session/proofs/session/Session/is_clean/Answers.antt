@@ -1,11 +1,10 @@
 use Rattle.std.proofs.Common.{◌≡◌, ◌∙◌, List, ap, subst}
-use Rattle.cap_machine.specs.declared.step.Step as machine
+use Rattle.cap_machine.specs.declared.step.Step.{Step}
 use Rattle.cap_machine.specs.Steps.{steps}
 use Rattle.cap_machine.specs.State.{State, usual}
 use Rattle.cap_machine.specs.Check.{check}
 use Rattle.cap_summary.specs.Conditions.{has_any}
 use Rattle.cap_summary.specs.Stands.{summed_up}
-use Rattle.cap_summary.specs.Steps.{steps_of}
 use Rattle.cap_session.specs.Session.{SessionState}
 use Rattle.cap_session.proofs.FoundText.{none_found}
 use Rattle.cap_session.proofs.session.Session.is_clean.Goals as goal
@@ -14,8 +13,8 @@ pub returns-in-Some : goal.returns-in-Some
 returns-in-Some c =
     let z = c.summary-summary.result.now in
     let what : summed_up z ≡ steps c.args.self.now.profile c.args.self.now.trace = c.summary-summary.ensures.steps
-    ∙ subst (λ (s : SessionState). steps_of c.self.inside.tree ≡ steps s.profile s.trace) c.self.view_is
+    ∙ subst (λ (s : SessionState). c.self.inside.tree ≡ steps s.profile s.trace) c.self.view_is
     c.self.invariant.in_profile in
     none_found c.finds.result _ (c.finds.ensures ∙ c.in-Some.ensures.knows.found _
     ∙ ap (λ (s : State). has_any (check s (summed_up z))) c.unknown-start.ensures.usual
-    ∙ ap (λ (t : List machine.Step). has_any (check usual t)) what)
+    ∙ ap (λ (t : List Step). has_any (check usual t)) what)

@@ -1,7 +1,7 @@
 use Rattle.std.proofs.Common.{◌∙◌, sym, ap, subst, List, length}
 use Rattle.cap_machine.specs.Check.{check}
 use Rattle.cap_machine.specs.Table.{start_state}
-use Rattle.cap_machine.specs.declared.step.Step as machine
+use Rattle.cap_machine.specs.declared.step.Step.{Step}
 use Rattle.cap_machine.specs.declared.verdict.Found.{Found}
 use Rattle.cap_summary.specs.Positions.{within}
 use Rattle.cap_session.specs.Session.{StandWithin}
@@ -13,5 +13,5 @@ text_of-requires c =
     let s = start_state c.unknown-start.result in
     subst (λ (all : List Found). StandWithin (length c.self.inside.tree) all)
     (sym (c.as_slice.ensures.value ∙ c.in_ok-found.ensures
-    ∙ ap (λ (t : List machine.Step). within c.args.first c.args.last (check s t)) c.summary.ensures.steps))
+    ∙ ap (λ (t : List Step). within c.args.first c.args.last (check s t)) c.summary.ensures.steps))
     (some_stand_within s c.self.inside.tree c.args.first c.args.last)

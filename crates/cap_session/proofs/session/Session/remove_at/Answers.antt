@@ -1,16 +1,15 @@
-use Rattle.std.proofs.Common.{◌≡◌, ◌∙◌, ap, subst, remove}
-use Rattle.cap_summary.specs.Steps.{steps_of}
+use Rattle.std.proofs.Common.{◌≡◌, ◌∙◌, subst, remove}
 use Rattle.cap_session.specs.Session.{SessionState, lines_of, IsIn}
-use Rattle.cap_session.proofs.Shared.{is_in, lines_are, steps_of-remove}
+use Rattle.cap_session.proofs.Shared.{is_in, lines_are, steps-remove}
 use Rattle.cap_session.proofs.session.Session.remove_at.Goals as goal
 
 pub take_over-requires-clause-in_profile : goal.take_over-requires-clause-in_profile
 take_over-requires-clause-in_profile c = subst (λ (s : SessionState). IsIn s.profile c.in_ok-tree.tree) c.self.view_is
-    (is_in _ _ _ (ap steps_of c.in_ok-tree.ensures.list
-    ∙ steps_of-remove _ _ _ c.args.at c.self.invariant.in_profile))
+    (is_in _ _ _ (c.in_ok-tree.ensures.list
+    ∙ steps-remove _ _ _ c.args.at c.self.invariant.in_profile))
 
 pub returns-clause-trace : goal.returns-clause-trace
 returns-clause-trace c = c.take_over.ensures.trace
     ∙ subst (λ (s : SessionState). lines_of c.in_ok-tree.tree ≡ remove s.trace c.args.at) c.self.view_is
-    (lines_are _ _ _ (ap steps_of c.in_ok-tree.ensures.list
-    ∙ steps_of-remove _ _ _ c.args.at c.self.invariant.in_profile))
+    (lines_are _ _ _ (c.in_ok-tree.ensures.list
+    ∙ steps-remove _ _ _ c.args.at c.self.invariant.in_profile))

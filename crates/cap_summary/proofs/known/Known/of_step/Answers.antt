@@ -2,7 +2,6 @@ use Rattle.std.proofs.Common.{◌≡◌, ap, ◌∙◌}
 use Rattle.cap_trace.specs.Entry.{Entry}
 use Rattle.cap_machine.specs.declared.step.Step.{Step}
 use Rattle.cap_summary.specs.declared.known.Known.{Known}
-use Rattle.cap_summary.specs.Steps.{step_of}
 use Rattle.cap_summary.specs.Does.{Does}
 use Rattle.cap_summary.specs.LineConditions.{line_conditions}
 use Rattle.cap_summary.proofs.Knowing.{step_knows}
@@ -10,7 +9,7 @@ use Rattle.cap_summary.proofs.known.Known.of_step.Goals as goal
 
 pub returns : goal.returns
 returns c =
-    let step : Step = step_of c.args.step.now in
+    let step : Step = c.args.step.now in
     let known : Known = record {
       change = c.in_ok-change.change;
       always = c.always.result;
@@ -18,12 +17,10 @@ returns c =
       size = c.size_of-size.result.0;
       forks = c.size_of-size.result.1;
     } in
-    let at_line : c.deref-line.result.now ≡ step.line = c.deref-line.ensures in
-    let me : c.line.inside.pid ≡ step.line.pid = ap (λ (e : Entry). e.pid) (c.line.view_is ∙ at_line) in
+    let me : c.line.inside.pid ≡ step.line.pid = ap (λ (e : Entry). e.pid) c.line.view_is in
     let does : Does c.in_ok-change.change c.rule_of-rule.result.effect step.line.pid =
     rw (← me) c.in_ok-change.ensures in
     let conditions : c.in_ok-conditions.conditions ≡ line_conditions c.rule_of-rule.result.demand step.line.pid =
     rw (← me) c.in_ok-conditions.ensures in
     step_knows known step c.rule_of-rule.result.effect c.rule_of-rule.result.demand does
-    (rw at_line at c.rule_of-rule.ensures.cells) (rw at_line at c.rule_of-rule.ensures.modes)
-    (rw at_line at c.rule_of-rule.ensures.demand) c.always.ensures conditions
+    c.rule_of-rule.ensures.cells c.rule_of-rule.ensures.modes c.rule_of-rule.ensures.demand c.always.ensures conditions

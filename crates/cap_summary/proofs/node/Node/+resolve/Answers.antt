@@ -9,7 +9,7 @@ use Rattle.cap_machine.specs.Laws.{later}
 use Rattle.cap_summary.specs.Before.{state_before}
 use Rattle.cap_summary.specs.Knows.{Knows}
 use Rattle.cap_summary.specs.Rest.{rest_steps}
-use Rattle.cap_summary.specs.Steps.{steps_of}
+use Rattle.cap_tree.specs.Run.{values}
 use Rattle.cap_summary.specs.Content.{content_steps}
 use Rattle.cap_summary.proofs.Resolving.{found_parts, found_none, found_before, found_behind}
 use Rattle.cap_summary.proofs.node.Node.+resolve.Goals as goal
@@ -37,7 +37,7 @@ returns-in-End t c =
     let first : c.if-at-self.found.items ≡ old ++ within from to (map (later c.args.at) (check s steps)) =
     elim c.if-at-self.branch [
       | then-at-self+then-finds+in-Run+in_ok-judge_run-in-Run w ↦
-          let run : steps_of w.in-Run.run'.items ≡ steps = sym (ap content_steps w.in-Run.is) ∙ c.self.view_is in
+          let run : values w.in-Run.run'.items ≡ steps = sym (ap content_steps w.in-Run.is) ∙ c.self.view_is in
           rw w.found-is (rw w.deref.ensures.value at w.in_ok-judge_run-in-Run.ensures)
           ∙ ap (λ r. old ++ within from to (map (later c.args.at) (check s r))) run
       | then-at-self+then-finds+in-Both+in_ok-resolve-in-Both w ↦
@@ -71,7 +71,7 @@ returns-in-Then t c =
     let first : c.if-at-self.found.items ≡ old ++ within from to (map (later c.args.at) (check s steps)) =
     elim c.if-at-self.branch [
       | then-at-self+then-finds+in-Run+in_ok-judge_run-in-Run w ↦
-          let run : steps_of w.in-Run.run'.items ≡ steps = sym (ap content_steps w.in-Run.is) ∙ c.self.view_is in
+          let run : values w.in-Run.run'.items ≡ steps = sym (ap content_steps w.in-Run.is) ∙ c.self.view_is in
           rw w.found-is (rw w.deref.ensures.value at w.in_ok-judge_run-in-Run.ensures)
           ∙ ap (λ r. old ++ within from to (map (later c.args.at) (check s r))) run
       | then-at-self+then-finds+in-Both+in_ok-resolve-in-Both w ↦
