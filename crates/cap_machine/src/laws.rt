@@ -1,15 +1,16 @@
 //! Laws of whole traces: one that follows another, the two profiles, what a line touches, where findings stand. Each
 //! function does nothing: its contract is what it says.
 
-ghost use Rattle.cap_machine.specs.Laws.{EndsInTurn, ChecksInTurn};
+ghost use Rattle.cap_machine.specs.Laws.{EndsInTurn, ChecksInTurn, ChecksOneMore};
 ghost use Rattle.cap_machine.specs.ProfileLaws.{ProfilesAgree, NoAlarmLost};
 ghost use Rattle.cap_machine.specs.Named.{OwnProcesses, OwnModes, NamedDescriptors, PositionsWithin};
 
 /// A trace that follows another is checked from the state after the first, and its findings stand that many lines
-/// later.
+/// later. One step that follows adds what is said of it in that state, at the next position.
 pub fn traces_in_turn()
     ensures ends { EndsInTurn }
     ensures checks { ChecksInTurn }
+    ensures one { ChecksOneMore }
 {}
 
 /// A trace without a successful execve(2), fexecve(2) or closefrom(2) has the same report in both profiles, from every

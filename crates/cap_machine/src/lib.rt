@@ -31,6 +31,7 @@ mod demands;
 mod effects;
 mod flags;
 mod laws;
+mod machine;
 mod needs;
 mod places;
 mod report;
@@ -47,6 +48,7 @@ pub use checking::check;
 pub use laws::{
     no_alarm_lost, positions_are_within, profiles_agree, touches_what_it_names, traces_in_turn,
 };
+pub use machine::Machine;
 pub use report::{put_count, put_finding};
 pub use rule::{Check, Checks, Class, Demand, Effect, Reply, Rule, Word, rule_of};
 pub use start::Start;

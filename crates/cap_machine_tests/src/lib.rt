@@ -6,6 +6,8 @@ mod calls;
 #[cfg(test)]
 mod lines;
 #[cfg(test)]
+mod machines;
+#[cfg(test)]
 mod ops;
 #[cfg(test)]
 mod reports;

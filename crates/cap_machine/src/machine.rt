@@ -1,0 +1,61 @@
+//! [`Machine`]: what is known of all processes, moved on by one step after another.
+
+ghost use Rattle.std.specs.Prelude.{◌≡◌, [], ◌∷◌, IfOk, OnOk};
+ghost use Rattle.cap_machine.specs.Steps.{step};
+ghost use Rattle.cap_machine.specs.History.{ended};
+ghost use Rattle.cap_machine.specs.Check.{said};
+ghost use Rattle.cap_machine.specs.Table.{start_state};
+
+use crate::cell::Profile;
+use crate::checking::take_line;
+use crate::start::Start;
+use crate::table::Table;
+use crate::verdict::Verdict;
+use cap_rights::NoMemory;
+use cap_trace::Line;
+use std::alloc::Global;
+use std::marker::Model;
+
+/// What is known of all processes at one point of a trace. It keeps no line and no finding. Its size grows with the
+/// processes and descriptors that the steps name.
+///
+/// A contract sees what is known as a list, as of a start: what one would add to the usual start for the same.
+#[derive(Drop)]
+pub struct Machine {
+    table: Table,
+}
+
+impl Model for Machine {
+    ghost use Rattle.std.specs.Prelude.{List};
+    ghost use Rattle.cap_machine.specs.State.{Added};
+
+    ghost Value = { List Added };
+
+    ghost use Rattle.cap_machine.specs.Known.{known};
+
+    ghost view = { λ machine. known machine.table };
+}
+
+impl Machine {
+    /// A machine that knows what the start says, before any step.
+    ///
+    /// `NoMemory` when out of memory.
+    pub fn from_start(alloc: Global, start: &Start) -> Result<Machine, NoMemory>
+        ensures { IfOk result (λ machine. start_state machine ≡ start_state start.now) }
+    {
+        let table = start.table.copy(alloc)?;
+        Ok(Machine { table })
+    }
+
+    /// Judges the next step, a line in a profile, by what is known before it, and moves on to what is known after it.
+    /// Each step may have a profile of its own. What is said of a step makes no difference to what is known after it.
+    ///
+    /// `NoMemory` when out of memory. What the machine then knows isn't promised: drop it.
+    pub fn step(&mut self, profile: Profile, line: &Line) -> Result<Verdict, NoMemory>
+        ensures says { IfOk result (λ verdict. verdict ≡ said (step profile line.now) (start_state self.old)) }
+        ensures moves { OnOk result
+            (start_state self.new ≡ ended (start_state self.old) (step profile line.now ∷ [])) }
+    {
+        take_line(&mut self.table, profile, line)
+    }
+}
