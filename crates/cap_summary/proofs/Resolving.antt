@@ -1,6 +1,6 @@
 -- Findings of segments, one after the other.
 use Rattle.std.proofs.Common.{◌≡◌, ℕ, ◌+◌, ◌<◌, ◌≤◌, List, [], ◌∷◌, ◌++◌, Bool, true, false, ◌&&◌, cond, length, map}
-use Rattle.std.proofs.Common.{refl, sym, ap, ◌∙◌, add_assoc, append_assoc, arith}
+use Rattle.std.proofs.Common.{refl, sym, ap, ◌∙◌, inl, inr, add_assoc, append_assoc, arith}
 use Rattle.std.specs.List.{All}
 use Rattle.std.proofs.lemmas.List.{map-append, append-nil}
 use Rattle.std.proofs.lemmas.List.Elements.{filter-append, All-head, All-tail}
@@ -16,7 +16,7 @@ use Rattle.cap_machine.specs.Laws.{later}
 use Rattle.cap_machine.proofs.Turns.{checks_in_turn}
 use Rattle.cap_machine.proofs.Positions.{positions_within}
 use Rattle.cap_summary.specs.Conditions.{has_any}
-use Rattle.cap_summary.specs.Positions.{is_at, within}
+use Rattle.cap_summary.specs.Positions.{is_at, within, AllOrMany}
 use Rattle.cap_summary.proofs.Bools.{and_false}
 
 later-later : (m n : ℕ) (xs : List Found) → map (later m) (map (later n) xs) ≡ map (later (m + n)) xs
@@ -51,6 +51,19 @@ found_parts s t u at n from to old first all len one two =
     ∙ ap (λ r. old ++ r) (sym (filter-append (is_at from to) (map (later at) (check s t))
     (map (later (at + length t)) (check (ended s t) u))))
     ∙ ap (λ r. old ++ within from to r) (sym (later_parts s t u at))
+
+-- all of them where there aren't many
+pub not_many : (most : ℕ) (found all : List Found) → AllOrMany most found all → length found ≤ most → found ≡ all
+not_many most found all (inl is) few = is
+not_many most found all (inr many) few = absurd (omega arith)
+
+pub parts_or_many : (most : ℕ) (s : State) (t u : List Step) (at n from to : ℕ) (old first all : List Found)
+    → n ≡ length t → first ≡ old ++ within from to (map (later at) (check s t))
+    → AllOrMany most all (first ++ within from to (map (later (at + n)) (check (ended s t) u)))
+    → AllOrMany most all (old ++ within from to (map (later at) (check s (t ++ u))))
+parts_or_many most s t u at n from to old first all len one (inl two) =
+    inl (found_parts s t u at n from to old first all len one two)
+parts_or_many most s t u at n from to old first all len one (inr many) = inr many
 
 -- what was found in a step, and then in what follows it
 pub found_step : (s : State) (l : Step) (u : List Step) (at from to : ℕ) (old first all : List Found) →
@@ -152,6 +165,11 @@ pub found_all : (s : State) (t : List Step) (from to : ℕ) (all : List Found)
     → all ≡ within from to (map (later 0) (check s (t ++ []))) → all ≡ within from to (check s t)
 found_all s t from to all is = is ∙ ap (within from to) (later-none (check s (t ++ [])))
     ∙ ap (λ r. within from to (check s r)) (append-nil t)
+
+-- the same where all steps are judged in order
+pub found_in_order : (s : State) (t : List Step) (from to : ℕ) (all : List Found)
+    → all ≡ within from to (map (later 0) (check s t)) → all ≡ within from to (check s t)
+found_in_order s t from to all is = is ∙ ap (within from to) (later-none (check s t))
 
 -- a range of positions that has them all
 all_within : (to n : ℕ) (xs : List Found) → All (IsBelow n) xs → n ≤ to → within 1 to xs ≡ xs

@@ -143,15 +143,20 @@ impl<'a> Before<'a> {
     }
 }
 
-/// Positions of a trace, from one to another with both ends.
+/// Which findings are asked for.
 #[derive(Clone, Copy)]
-pub(crate) struct Positions {
+pub(crate) struct Asked {
+    /// The first position.
     pub(crate) from: usize,
+    /// The last position.
     pub(crate) to: usize,
+    /// How many are looked up one by one.
+    pub(crate) most: usize,
 }
 
-impl Positions {
-    fn has(&self, at: usize) -> bool
+impl Asked {
+    /// Whether a position is one of those.
+    pub(crate) fn has(&self, at: usize) -> bool
         ensures { result ≡ (nat_le self.now.from at && nat_le at self.now.to) }
     {
         self.from <= at && at <= self.to
@@ -159,7 +164,7 @@ impl Positions {
 }
 
 /// Notes what is said of the line at a position.
-fn note(found: &mut Vec<Found>, at: usize, verdict: &Verdict) -> Result<(), NoMemory>
+pub(crate) fn note(found: &mut Vec<Found>, at: usize, verdict: &Verdict) -> Result<(), NoMemory>
     ensures { OnOk result (found.new.items ≡ found.old.items ++ map (found_at at) verdict.now) }
 {
     for finding in verdict.as_slice() {
@@ -177,7 +182,7 @@ fn note_line(
     pid: Pid,
     demand: &Demand,
     at: usize,
-    asked: &Positions,
+    asked: &Asked,
     found: &mut Vec<Found>,
 ) -> Result<(), NoMemory>
     ensures { OnOk result (found.new.items ≡ found.old.items
@@ -196,7 +201,7 @@ pub(crate) fn judge_run(
     run: &[Rc<Step>],
     before: &Before<'_>,
     at: usize,
-    asked: &Positions,
+    asked: &Asked,
     found: &mut Vec<Found>,
 ) -> Result<(), NoMemory>
     requires short { at + length run.now ≤ 2 ^ 31 }

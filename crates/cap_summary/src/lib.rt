@@ -18,6 +18,7 @@ mod before;
 mod change;
 mod conditions;
 mod effects;
+mod in_order;
 mod kept;
 mod known;
 mod line_conditions;

@@ -3,16 +3,19 @@
 ghost use Rattle.std.specs.Prelude.{◌≡◌, ℕ, ◌+◌, ◌^◌, ◌<◌, ◌≤◌, ◌++◌, ◌∷◌, [], length, map, IfOk, OnOk, IfSome, IfNone};
 ghost use Rattle.cap_summary.specs.Knows.{Knows};
 ghost use Rattle.cap_machine.specs.Check.{check};
+ghost use Rattle.cap_machine.specs.History.{ended};
+ghost use Rattle.cap_machine.specs.Table.{start_state};
 ghost use Rattle.cap_machine.specs.Laws.{later};
 ghost use Rattle.cap_summary.specs.Before.{state_before};
-ghost use Rattle.cap_summary.specs.Positions.{within};
+ghost use Rattle.cap_summary.specs.Positions.{within, AllOrMany};
 ghost use Rattle.cap_summary.specs.Rest.{rest_steps, AllSome};
 ghost use Rattle.cap_tree.specs.Run.{values};
 ghost use Rattle.cap_summary.specs.Content.{content_steps, HasParts};
 
-use crate::before::{Before, Positions, judge_run};
+use crate::before::{Asked, Before, judge_run};
+use crate::in_order::judge_in_order;
 use crate::known::Known;
-use cap_machine::{Found, Step};
+use cap_machine::{Found, Machine, Step};
 use cap_tree::NoMemory;
 use std::alloc::Global;
 use std::marker::Model;
@@ -191,20 +194,22 @@ impl Node {
     }
 
     /// Notes what is found in the steps and then in the rest, which begin in this state behind so many others, at the
-    /// positions that are asked for. It visits only parts that have such positions.
+    /// positions that are asked for. It visits only parts that have such positions, and stops where more was found than is
+    /// looked up one by one.
     pub(crate) fn resolve(
         &self,
         before: &Before<'_>,
         at: usize,
         rest: &Rest<'_>,
-        asked: &Positions,
+        asked: &Asked,
         found: &mut Vec<Found>,
     ) -> Result<(), NoMemory>
         requires short { at + (length self.now + length (rest_steps rest.now)) ≤ 2 ^ 31 }
         requires some { 0 < length self.now }
         requires each { AllSome rest.now }
-        ensures { OnOk result (found.new.items ≡ found.old.items ++ within asked.now.from asked.now.to
-            (map (later at) (check (state_before before.now) (self.now ++ rest_steps rest.now)))) }
+        ensures { OnOk result (AllOrMany asked.now.most found.new.items (found.old.items
+            ++ within asked.now.from asked.now.to
+            (map (later at) (check (state_before before.now) (self.now ++ rest_steps rest.now))))) }
     {
         if asked.to <= at {
             return Ok(());
@@ -217,6 +222,9 @@ impl Node {
                         a.resolve(before, at, &Rest::Then(&**b, &Rest::End), asked, found)?;
                     }
                 }
+            }
+            if found.len() > asked.most {
+                return Ok(());
             }
             return match rest {
                 Rest::End => Ok(()),
@@ -233,6 +241,29 @@ impl Node {
             unreachable!()
         };
         a.resolve(before, at, &Rest::Then(&**b, &*rest), asked, found)
+    }
+
+    /// Notes what is found in the steps behind so many others, at the positions that are asked for, and moves the machine on
+    /// to what is known after them.
+    pub(crate) fn judge(
+        &self,
+        machine: &mut Machine,
+        at: usize,
+        asked: &Asked,
+        found: &mut Vec<Found>,
+    ) -> Result<(), NoMemory>
+        requires short { at + length self.now ≤ 2 ^ 31 }
+        ensures found { OnOk result (found.new.items ≡ found.old.items ++ within asked.now.from asked.now.to
+            (map (later at) (check (start_state machine.old) self.now))) }
+        ensures moves { OnOk result (start_state machine.new ≡ ended (start_state machine.old) self.now) }
+    {
+        match &self.content {
+            Content::Run(run) => judge_in_order(run, machine, at, asked, found),
+            Content::Both(a, b) => {
+                a.judge(machine, at, asked, found)?;
+                b.judge(machine, at + a.len(), asked, found)
+            }
+        }
     }
 }
 

@@ -8,13 +8,16 @@ ghost use Rattle.cap_summary.specs.Knows.{Knows};
 ghost use Rattle.cap_summary.specs.Positions.{within};
 ghost use Rattle.cap_summary.specs.Stands.{Stands, summed_up};
 
-use crate::before::{Before, Positions};
+use crate::before::{Asked, Before};
 use crate::known::Known;
 use crate::node::{Node, Rest};
-use cap_machine::{Found, Start, Step};
+use cap_machine::{Found, Machine, Start, Step};
 use cap_tree::{Meter, NoMemory, Segment};
 use std::alloc::Global;
 use std::rc::Rc;
+
+/// To look a finding up takes about as long as to judge some hundred lines; so, of so many lines, one is looked up.
+const LINES_A_FINDING: usize = 2048;
 
 /// What a segment of a trace does and says, whatever the state before it. A clone shares all of it.
 #[derive(Drop)]
@@ -58,15 +61,63 @@ pub fn resolve_range(
     ensures { IfOk result
         (λ found. found.items ≡ within from to (check (start_state start.now) (summed_up summary.now))) }
 {
-    let mut found = Vec::new(alloc);
-    if summary.node.len() == 0 {
+    let most = summary.node.len() / LINES_A_FINDING;
+    let asked = Asked { from, to, most };
+    if let Some(found) = looked_up(alloc, summary, start, &asked)? {
         return Ok(found);
     }
+    judged_in_order(alloc, summary, start, &asked)
+}
+
+/// Whether findings are looked up one by one: not those of many positions where nothing is known of all steps, since each
+/// look-up would walk back through what is known of each part.
+fn are_looked_up(summary: &Summary, asked: &Asked) -> bool {
+    summary.node.known().is_some() || asked.to.saturating_sub(asked.from) <= asked.most
+}
+
+/// What is found at positions by looking where something is found; none where that is more than is looked up one by one.
+fn looked_up(
+    alloc: Global,
+    summary: &Summary,
+    start: &Start,
+    asked: &Asked,
+) -> Result<Option<Vec<Found>>, NoMemory>
+    ensures { IfOk result (λ few. IfSome few (λ found. found.items
+        ≡ within asked.now.from asked.now.to (check (start_state start.now) (summed_up summary.now)))) }
+{
+    let mut found = Vec::new(alloc);
+    if summary.node.len() == 0 {
+        return Ok(Some(found));
+    }
+    if !are_looked_up(summary, asked) {
+        return Ok(None);
+    }
     let before = Before::At(&*start);
-    let asked = Positions { from, to };
     summary
         .node
-        .resolve(&before, 0, &Rest::End, &asked, &mut found)?;
+        .resolve(&before, 0, &Rest::End, asked, &mut found)?;
+    if found.len() > asked.most {
+        return Ok(None);
+    }
+    Ok(Some(found))
+}
+
+/// What is found at positions by judging all steps in order.
+fn judged_in_order(
+    alloc: Global,
+    summary: &Summary,
+    start: &Start,
+    asked: &Asked,
+) -> Result<Vec<Found>, NoMemory>
+    requires { length (summed_up summary.now) ≤ 2 ^ 30 }
+    ensures { IfOk result (λ found. found.items
+        ≡ within asked.now.from asked.now.to (check (start_state start.now) (summed_up summary.now))) }
+{
+    let Ok(mut machine) = Machine::from_start(alloc, start) else {
+        return Err(NoMemory);
+    };
+    let mut found = Vec::new(alloc);
+    summary.node.judge(&mut machine, 0, asked, &mut found)?;
     Ok(found)
 }
 

@@ -1,4 +1,4 @@
-use Rattle.std.proofs.Common.{◌≡◌, ◌+◌, ◌<◌, ◌++◌, [], List, ℕ, length, map, sym, ap, ◌∙◌, arith}
+use Rattle.std.proofs.Common.{◌≡◌, ◌+◌, ◌<◌, ◌++◌, [], List, ℕ, length, map, sym, ap, ◌∙◌, inl, arith}
 use Rattle.std.proofs.lemmas.Result.{on_ok_weaker}
 use Rattle.std.proofs.lemmas.List.{append-nil}
 use Rattle.cap_machine.specs.declared.step.Step.{Step}
@@ -11,18 +11,18 @@ use Rattle.cap_summary.specs.Knows.{Knows}
 use Rattle.cap_summary.specs.Rest.{rest_steps}
 use Rattle.cap_tree.specs.Run.{values}
 use Rattle.cap_summary.specs.Content.{content_steps}
-use Rattle.cap_summary.proofs.Resolving.{found_parts, found_none, found_before, found_behind}
+use Rattle.cap_summary.proofs.Resolving.{not_many, parts_or_many, found_none, found_before, found_behind}
 use Rattle.cap_summary.proofs.node.Node.+resolve.Goals as goal
 use Rattle.cap_summary.proofs.node.Node.+resolve.Goals.{then-at-self+then-finds+in-Run+in_ok-judge_run-in-Run}
 use Rattle.cap_summary.proofs.node.Node.+resolve.Goals.{then-at-self+then-finds+in-Both+in_ok-resolve-in-Both}
 use Rattle.cap_summary.proofs.node.Node.+resolve.Goals.{else-at-self, else-at-self-via-then-at-self+else-finds}
 use Rattle.cap_summary.proofs.node.Node.+resolve.Goals.{else-at-self-via-else-at-self}
-use Rattle.cap_summary.specs.Positions.{within}
+use Rattle.cap_summary.specs.Positions.{within, AllOrMany}
 
 pub returns-then-asked-at : goal.returns-then-asked-at
 returns-then-asked-at t c =
-    found_behind (state_before c.args.before.now) (c.args.self.now ++ rest_steps c.args.rest.now)
-    c.args.at c.args.asked.now.from c.args.asked.now.to c.args.found.now.items (omega arith)
+    inl (found_behind (state_before c.args.before.now) (c.args.self.now ++ rest_steps c.args.rest.now)
+    c.args.at c.args.asked.now.from c.args.asked.now.to c.args.found.now.items (omega arith))
 
 pub returns-in-End : goal.returns-in-End
 returns-in-End t c =
@@ -31,32 +31,34 @@ returns-in-End t c =
     let steps : List Step = c.args.self.now in
     let from : ℕ = c.args.asked.now.from in
     let to : ℕ = c.args.asked.now.to in
+    let most : ℕ = c.args.asked.now.most in
     let knows : Knows c.in-Some.known steps = rw (c.in-Some.is, c.self.view_is) at c.self.invariant.known in
     let len : c.self.inside.len ≡ length steps = c.self.invariant.len
     ∙ ap (λ (r : List Step). length r) c.self.view_is in
-    let first : c.if-at-self.found.items ≡ old ++ within from to (map (later c.args.at) (check s steps)) =
+    let all : List Found = old ++ within from to (map (later c.args.at) (check s steps)) in
+    let some : AllOrMany most c.if-at-self.found.items all =
     elim c.if-at-self.branch [
       | then-at-self+then-finds+in-Run+in_ok-judge_run-in-Run w ↦
           let run : values w.in-Run.run'.items ≡ steps = sym (ap content_steps w.in-Run.is) ∙ c.self.view_is in
-          rw w.found-is (rw w.deref.ensures.value at w.in_ok-judge_run-in-Run.ensures)
-          ∙ ap (λ r. old ++ within from to (map (later c.args.at) (check s r))) run
+          inl (rw w.found-is (rw w.deref.ensures.value at w.in_ok-judge_run-in-Run.ensures)
+          ∙ ap (λ r. old ++ within from to (map (later c.args.at) (check s r))) run)
       | then-at-self+then-finds+in-Both+in_ok-resolve-in-Both w ↦
           let parts : w.in-Both.a.value ++ (w.in-Both.b.value ++ []) ≡ steps =
           ap (λ r. w.in-Both.a.value ++ r) (append-nil w.in-Both.b.value)
           ∙ sym (ap content_steps w.in-Both.is) ∙ c.self.view_is in
-          rw w.found-is (rw (w.deref-in-Both.ensures, w.deref-in-Both-2.ensures) at w.in_ok-resolve-in-Both.ensures)
-          ∙ ap (λ r. old ++ within from to (map (later c.args.at) (check s r))) parts
+          rw w.found-is (rw (w.deref-in-Both.ensures, w.deref-in-Both-2.ensures, parts) at w.in_ok-resolve-in-Both.ensures)
       | else-at-self w ↦ elim w.else-at-self.branch [
-        | else-at-self-via-then-at-self+else-finds v ↦ rw w.found-is
-            (found_none s steps c.args.at from to old v.finds.result (v.finds.ensures ∙ knows.found s) v.if-finds.false)
+        | else-at-self-via-then-at-self+else-finds v ↦ inl (rw w.found-is
+            (found_none s steps c.args.at from to old v.finds.result (v.finds.ensures ∙ knows.found s) v.if-finds.false))
         | else-at-self-via-else-at-self v ↦
             let before : c.args.at + length steps < from = omega (arith, v.if-at-self.false, len) in
-            rw w.found-is (found_before s steps c.args.at from to old before)
+            inl (rw w.found-is (found_before s steps c.args.at from to old before))
       ]
     ] in
+    let first : c.if-at-self.found.items ≡ all = not_many most c.if-at-self.found.items all some (omega arith) in
     let rest : rest_steps c.args.rest.now ≡ [] = ap rest_steps c.in-End.is in
-    first ∙ sym (ap (λ (r : List Step). old ++ within from to (map (later c.args.at) (check s (steps ++ r)))) rest
-    ∙ ap (λ (r : List Step). old ++ within from to (map (later c.args.at) (check s r))) (append-nil steps))
+    inl (first ∙ sym (ap (λ (r : List Step). old ++ within from to (map (later c.args.at) (check s (steps ++ r)))) rest
+    ∙ ap (λ (r : List Step). old ++ within from to (map (later c.args.at) (check s r))) (append-nil steps)))
 
 pub returns-in-Then : goal.returns-in-Then
 returns-in-Then t c =
@@ -65,32 +67,33 @@ returns-in-Then t c =
     let steps : List Step = c.args.self.now in
     let from : ℕ = c.args.asked.now.from in
     let to : ℕ = c.args.asked.now.to in
+    let most : ℕ = c.args.asked.now.most in
     let knows : Knows c.in-Some.known steps = rw (c.in-Some.is, c.self.view_is) at c.self.invariant.known in
     let len : c.self.inside.len ≡ length steps = c.self.invariant.len
     ∙ ap (λ (r : List Step). length r) c.self.view_is in
-    let first : c.if-at-self.found.items ≡ old ++ within from to (map (later c.args.at) (check s steps)) =
+    let all : List Found = old ++ within from to (map (later c.args.at) (check s steps)) in
+    let some : AllOrMany most c.if-at-self.found.items all =
     elim c.if-at-self.branch [
       | then-at-self+then-finds+in-Run+in_ok-judge_run-in-Run w ↦
           let run : values w.in-Run.run'.items ≡ steps = sym (ap content_steps w.in-Run.is) ∙ c.self.view_is in
-          rw w.found-is (rw w.deref.ensures.value at w.in_ok-judge_run-in-Run.ensures)
-          ∙ ap (λ r. old ++ within from to (map (later c.args.at) (check s r))) run
+          inl (rw w.found-is (rw w.deref.ensures.value at w.in_ok-judge_run-in-Run.ensures)
+          ∙ ap (λ r. old ++ within from to (map (later c.args.at) (check s r))) run)
       | then-at-self+then-finds+in-Both+in_ok-resolve-in-Both w ↦
           let parts : w.in-Both.a.value ++ (w.in-Both.b.value ++ []) ≡ steps =
           ap (λ r. w.in-Both.a.value ++ r) (append-nil w.in-Both.b.value)
           ∙ sym (ap content_steps w.in-Both.is) ∙ c.self.view_is in
-          rw w.found-is (rw (w.deref-in-Both.ensures, w.deref-in-Both-2.ensures) at w.in_ok-resolve-in-Both.ensures)
-          ∙ ap (λ r. old ++ within from to (map (later c.args.at) (check s r))) parts
+          rw w.found-is (rw (w.deref-in-Both.ensures, w.deref-in-Both-2.ensures, parts) at w.in_ok-resolve-in-Both.ensures)
       | else-at-self w ↦ elim w.else-at-self.branch [
-        | else-at-self-via-then-at-self+else-finds v ↦ rw w.found-is
-            (found_none s steps c.args.at from to old v.finds.result (v.finds.ensures ∙ knows.found s) v.if-finds.false)
+        | else-at-self-via-then-at-self+else-finds v ↦ inl (rw w.found-is
+            (found_none s steps c.args.at from to old v.finds.result (v.finds.ensures ∙ knows.found s) v.if-finds.false))
         | else-at-self-via-else-at-self v ↦
             let before : c.args.at + length steps < from = omega (arith, v.if-at-self.false, len) in
-            rw w.found-is (found_before s steps c.args.at from to old before)
+            inl (rw w.found-is (found_before s steps c.args.at from to old before))
       ]
     ] in
+    let first : c.if-at-self.found.items ≡ all = not_many most c.if-at-self.found.items all some (omega arith) in
     let u : List Step = c.in-Then.node.now ++ rest_steps c.in-Then.rest.now in
     let rest : rest_steps c.args.rest.now ≡ u = ap rest_steps c.in-Then.is in
-    rw rest (on_ok_weaker c.resolve-in-Then.result (λ last.
-    found_parts s steps u c.args.at c.self.inside.len from to old c.if-at-self.found.items
-    c.resolve-in-Then.new.found.items len first
+    rw rest (on_ok_weaker c.resolve-in-Then.result (λ last. parts_or_many most s steps u c.args.at c.self.inside.len
+    from to old c.if-at-self.found.items c.resolve-in-Then.new.found.items len first
     (rw (knows.ends s) at last)) c.resolve-in-Then.ensures)
