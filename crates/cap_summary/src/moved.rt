@@ -10,6 +10,7 @@ ghost use Rattle.cap_summary.specs.Moved.{moved_holds, moved_source_holds};
 
 use crate::change::Change;
 use crate::conditions::{Condition, Refused, Source};
+use crate::merge::sorted;
 use crate::packed::{Conditions, NewConditions};
 use crate::values::{ModeValue, Value};
 use cap_machine::Mode;
@@ -270,7 +271,7 @@ impl Change {
     }
 
     /// The conditions behind this change, and whether one of them holds in any case. Those that stay as they are are
-    /// shared.
+    /// shared, and each stands where the order wants it: a child's cell may have become that of its parent.
     pub(crate) fn behind(
         &self,
         alloc: Global,
@@ -290,6 +291,7 @@ impl Change {
                 always = true;
             }
         }
-        Ok((always, left.finish()?))
+        let sorted = sorted(alloc, left.finish()?)?;
+        Ok((always, sorted))
     }
 }

@@ -1,6 +1,6 @@
 //! Lists of conditions. No other module knows how a condition is kept in one: a contract sees the conditions.
 
-ghost use Rattle.std.specs.Prelude.{◌≡◌, ◌<◌, ◌++◌, ◌∷◌, [], length, slice_index_or, true, IfOk, IfSome, OnOk};
+ghost use Rattle.std.specs.Prelude.{◌≡◌, ◌<◌, ◌≤◌, ◌++◌, ◌∷◌, [], length, slice_index_or, true, IfOk, IfSome, OnOk};
 ghost use Rattle.cap_summary.specs.declared.conditions.Condition.{Condition};
 ghost use Rattle.cap_summary.specs.Packed.{packed_condition, packed_conditions};
 
@@ -216,6 +216,20 @@ impl Conditions {
         self.packed()[at].key().cmp(&others.packed()[of].key())
     }
 
+    /// Whether each of those from one place to another comes after the one before it in the order in which they are
+    /// kept.
+    pub(crate) fn rise(&self, from: usize, to: usize) -> bool
+        requires { to ≤ length self.now }
+    {
+        let items = self.packed();
+        for at in from..to {
+            if at > from && items[at - 1].key() >= items[at].key() {
+                return false;
+            }
+        }
+        true
+    }
+
     /// The same conditions, shared.
     pub(crate) fn share(&self) -> Result<Conditions, NoMemory>
         ensures { IfOk result (λ same. same ≡ self.now) }
@@ -244,6 +258,17 @@ impl NewConditions {
     {
         self.items.push(Packed::of(alloc, condition)?)?;
         Ok(())
+    }
+
+    /// Whether the condition at a place of others comes after all these in the order in which they are kept, where
+    /// these rise.
+    pub(crate) fn go_on(&self, others: &Conditions, at: usize) -> bool
+        requires { at < length others.now }
+    {
+        match self.items.last() {
+            Some(last) => last.key() < others.packed()[at].key(),
+            None => true,
+        }
     }
 
     /// Adds the condition at a place of others, shared.
