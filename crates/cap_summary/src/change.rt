@@ -46,7 +46,7 @@ impl Process {
     fn leaves(&self, pid: Pid, fd: Fd) -> bool
         ensures { result ≡ true → value_in self.now fd ≡ Value.Of pid fd same }
     {
-        self.cells.get(fd).is_none() && self.base.leaves(pid, fd)
+        !self.cells.lists(fd) && self.base.leaves(pid, fd)
     }
 
     /// What has become of a descriptor of the process with this pid; none only where it is as it was.

@@ -251,11 +251,11 @@ impl Change {
         ensures { IfOk result (λ always. (d : Condition) (s : State) → (always || any_holds s left.new)
             ≡ (any_holds s left.old || holds (changed self.now s) (slice_index_or conditions.now at d))) }
     {
-        let condition = conditions.get(at);
-        if let Condition::Cell(source) = &condition {
-            let always = self.put_source(alloc, conditions, at, source, near, left)?;
+        if let Some(source) = conditions.source(at) {
+            let always = self.put_source(alloc, conditions, at, &source, near, left)?;
             return Ok(always);
         }
+        let condition = conditions.get(at);
         if self.leaves_condition(&condition) {
             left.copy(conditions, at)?;
             return Ok(false);

@@ -2,7 +2,7 @@
 //! answer. A table never changes, and what a call leaves as it was is shared.
 
 ghost use Rattle.std.specs.Prelude.{◌≡◌, ℕ, ◌==◌, if◌then◌else◌, None, Some, true, OnOk, IfOk};
-ghost use Rattle.std.specs.Prelude.{option_map, option_and_then};
+ghost use Rattle.std.specs.Prelude.{option_map, option_and_then, is_some};
 ghost use Rattle.std.specs.Option.{option_copied};
 ghost use Rattle.cap_summary.specs.Tables.{listed_value, value_so_far, process_at, or_else};
 ghost use Rattle.cap_summary.specs.Changes.{JoinsListed};
@@ -86,6 +86,14 @@ impl Cells {
             Some(kept) => Some(kept.value()),
             None => None,
         }
+    }
+
+    /// Whether a descriptor is listed.
+    #[tactic(auto, unfolding(crate::specs::Tables::listed_value))]
+    pub(crate) fn lists(&self, fd: Fd) -> bool
+        ensures { result ≡ is_some (listed_value self.now fd) }
+    {
+        self.table.get(fd).is_some()
     }
 
     /// How many are listed.
