@@ -8,7 +8,7 @@ ghost use Rattle.cap_summary.specs.Conditions.{any_holds, passes};
 ghost use Rattle.cap_summary.specs.Values.{read_cell};
 ghost use Rattle.cap_summary.specs.Moved.{moved_holds, moved_source_holds};
 
-use crate::change::Change;
+use crate::change::{Change, Near};
 use crate::conditions::{Condition, Refused, Source};
 use crate::merge::sorted;
 use crate::packed::{Conditions, NewConditions};
@@ -153,7 +153,7 @@ impl Change {
         ensures { result ≡ true → (s : State) → part_holds (changed self.now s) part.now ≡ part_holds s part.now }
     {
         match part {
-            Some(source) => self.leaves(source.pid, source.fd),
+            Some(source) => self.leaves(source.pid, source.fd, &mut Near::first()),
             None => true,
         }
     }
@@ -188,7 +188,7 @@ impl Change {
         ensures { result ≡ true → (s : State) → holds (changed self.now s) condition.now ≡ holds s condition.now }
     {
         match condition {
-            Condition::Cell(source) => self.leaves(source.pid, source.fd),
+            Condition::Cell(source) => self.leaves(source.pid, source.fd, &mut Near::first()),
             Condition::Inside(pid) => self.leaves_mode(&ModeValue::Of(*pid)),
             Condition::Outside(pid) => self.leaves_mode(&ModeValue::Of(*pid)),
             Condition::Refused(refused) => self.leaves_refused(refused),
@@ -216,7 +216,7 @@ impl Change {
         conditions: &Conditions,
         at: usize,
         source: &Source,
-        near: &mut usize,
+        near: &mut Near,
         left: &mut NewConditions,
     ) -> Result<bool, NoMemory>
         requires in_range { at < length conditions.now }
@@ -244,7 +244,7 @@ impl Change {
         alloc: Global,
         conditions: &Conditions,
         at: usize,
-        near: &mut usize,
+        near: &mut Near,
         left: &mut NewConditions,
     ) -> Result<bool, NoMemory>
         requires { at < length conditions.now }
@@ -284,7 +284,7 @@ impl Change {
             return Ok((false, conditions.share()?));
         }
         let mut always = false;
-        let mut near = 0;
+        let mut near = Near::first();
         let mut left = NewConditions::with_room(alloc, conditions.len())?;
         for at in 0..conditions.len() {
             if self.put_behind(alloc, conditions, at, &mut near, &mut left)? {
