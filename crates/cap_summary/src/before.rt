@@ -11,7 +11,7 @@ ghost use Rattle.cap_summary.specs.Positions.{within};
 ghost use Rattle.cap_summary.specs.Conditions.{source_holds, part_holds, outside_holds, refused_holds, holds};
 ghost use Rattle.cap_summary.specs.Conditions.{any_holds};
 
-use crate::change::Change;
+use crate::change::{Change, Near};
 use crate::conditions::{Condition, Refused, Source};
 use crate::effects::{Touched, Turned, touch_of, turn_of};
 use crate::known::Known;
@@ -37,7 +37,7 @@ impl<'a> Before<'a> {
     {
         match self {
             Before::At(start) => start.cell(pid, fd),
-            Before::After(before, change) => match change.seen(pid, fd, &mut 0) {
+            Before::After(before, change) => match change.seen(pid, fd, &mut Near::first()) {
                 None => before.cell(pid, fd),
                 Some(Value::Fixed(cell)) => cell,
                 Some(Value::Of(source, of, op)) => op.on(before.cell(source, of)),

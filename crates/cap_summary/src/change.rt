@@ -23,6 +23,23 @@ pub struct Process {
     pub(crate) cells: Cells,
 }
 
+/// Where an earlier look-up ended, which the next one looks at first.
+#[derive(Clone, Copy)]
+pub(crate) struct Near {
+    process: usize,
+    cell: usize,
+}
+
+impl Near {
+    /// At the first process and its first cell.
+    pub(crate) fn first() -> Near {
+        Near {
+            process: 0,
+            cell: 0,
+        }
+    }
+}
+
 /// What has become of each process that isn't as it was.
 #[derive(Drop)]
 pub struct Change {
@@ -43,18 +60,18 @@ impl Process {
 
 impl Process {
     /// Whether a cell of the process with this pid is as it was. No is a safe answer.
-    fn leaves(&self, pid: Pid, fd: Fd) -> bool
+    fn leaves(&self, pid: Pid, fd: Fd, near: &mut usize) -> bool
         ensures { result ≡ true → value_in self.now fd ≡ Value.Of pid fd same }
     {
-        self.cells.get(fd).is_none() && self.base.leaves(pid, fd)
+        !self.cells.lists_near(fd, near) && self.base.leaves(pid, fd)
     }
 
     /// What has become of a descriptor of the process with this pid; none only where it is as it was.
-    fn seen(&self, pid: Pid, fd: Fd) -> Option<Value>
+    fn seen(&self, pid: Pid, fd: Fd, near: &mut usize) -> Option<Value>
         ensures some { IfSome result (λ v. value_in self.now fd ≡ v) }
         ensures none { IfNone result (value_in self.now fd ≡ Value.Of pid fd same) }
     {
-        match self.cells.get(fd) {
+        match self.cells.get_near(fd, near) {
             Some(value) => Some(value),
             None => {
                 if self.base.leaves(pid, fd) {
@@ -138,22 +155,22 @@ impl Change {
 
     /// What has become of a descriptor of a process; none only where it is as it was. It looks for the process
     /// first where an earlier look-up ended, and notes where this one did.
-    pub(crate) fn seen(&self, pid: Pid, fd: Fd, near: &mut usize) -> Option<Value>
+    pub(crate) fn seen(&self, pid: Pid, fd: Fd, near: &mut Near) -> Option<Value>
         ensures some { IfSome result (λ v. value_of self.now pid fd ≡ v) }
         ensures none { IfNone result (value_of self.now pid fd ≡ Value.Of pid fd same) }
     {
-        match self.processes.get_near(pid, near) {
-            Some(process) => process.seen(pid, fd),
+        match self.processes.get_near(pid, &mut near.process) {
+            Some(process) => process.seen(pid, fd, &mut near.cell),
             None => None,
         }
     }
 
     /// Whether a cell is as it was. No is a safe answer.
-    pub(crate) fn leaves(&self, pid: Pid, fd: Fd) -> bool
+    pub(crate) fn leaves(&self, pid: Pid, fd: Fd, near: &mut Near) -> bool
         ensures { result ≡ true → value_of self.now pid fd ≡ Value.Of pid fd same }
     {
-        match self.processes.get(pid) {
-            Some(process) => process.leaves(pid, fd),
+        match self.processes.get_near(pid, &mut near.process) {
+            Some(process) => process.leaves(pid, fd, &mut near.cell),
             None => true,
         }
     }

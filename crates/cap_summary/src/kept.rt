@@ -4,7 +4,7 @@ ghost use Rattle.std.specs.Prelude.{◌≡◌, ℕ, true, IfOk, option_map, opti
 ghost use Rattle.cap_summary.specs.Tables.{kept_value};
 ghost use Rattle.cap_summary.specs.Images.{under};
 
-use crate::change::{Change, Process};
+use crate::change::{Change, Near, Process};
 use crate::sorted::Combine;
 use crate::values::{Passing, Value, is_closed};
 use cap_machine::{Cell, Op};
@@ -52,12 +52,12 @@ impl Kept {
     }
 
     /// Whether it stands behind a change as it is. No is a safe answer.
-    pub(crate) fn stays_behind(&self, change: &Change) -> bool
+    pub(crate) fn stays_behind(&self, change: &Change, near: &mut Near) -> bool
         ensures { result ≡ true → under change.now (kept_value self.now) ≡ kept_value self.now }
     {
         match self {
             Kept::Fixed(_) => true,
-            Kept::Of(pid, fd, _) => change.leaves(*pid, *fd),
+            Kept::Of(pid, fd, _) => change.leaves(*pid, *fd, near),
         }
     }
 
@@ -65,7 +65,7 @@ impl Kept {
     fn under(&self, alloc: Global, change: &Change) -> Result<Kept, NoMemory>
         ensures { IfOk result (λ new. kept_value new ≡ under change.now (kept_value self.now)) }
     {
-        if self.stays_behind(change) {
+        if self.stays_behind(change, &mut Near::first()) {
             return self.share();
         }
         Kept::of(alloc, &change.under(&self.value()))

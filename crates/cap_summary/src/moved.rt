@@ -8,8 +8,9 @@ ghost use Rattle.cap_summary.specs.Conditions.{any_holds, passes};
 ghost use Rattle.cap_summary.specs.Values.{read_cell};
 ghost use Rattle.cap_summary.specs.Moved.{moved_holds, moved_source_holds};
 
-use crate::change::Change;
+use crate::change::{Change, Near};
 use crate::conditions::{Condition, Refused, Source};
+use crate::merge::sorted;
 use crate::packed::{Conditions, NewConditions};
 use crate::values::{ModeValue, Value};
 use cap_machine::Mode;
@@ -152,7 +153,7 @@ impl Change {
         ensures { result ≡ true → (s : State) → part_holds (changed self.now s) part.now ≡ part_holds s part.now }
     {
         match part {
-            Some(source) => self.leaves(source.pid, source.fd),
+            Some(source) => self.leaves(source.pid, source.fd, &mut Near::first()),
             None => true,
         }
     }
@@ -187,7 +188,7 @@ impl Change {
         ensures { result ≡ true → (s : State) → holds (changed self.now s) condition.now ≡ holds s condition.now }
     {
         match condition {
-            Condition::Cell(source) => self.leaves(source.pid, source.fd),
+            Condition::Cell(source) => self.leaves(source.pid, source.fd, &mut Near::first()),
             Condition::Inside(pid) => self.leaves_mode(&ModeValue::Of(*pid)),
             Condition::Outside(pid) => self.leaves_mode(&ModeValue::Of(*pid)),
             Condition::Refused(refused) => self.leaves_refused(refused),
@@ -215,7 +216,7 @@ impl Change {
         conditions: &Conditions,
         at: usize,
         source: &Source,
-        near: &mut usize,
+        near: &mut Near,
         left: &mut NewConditions,
     ) -> Result<bool, NoMemory>
         requires in_range { at < length conditions.now }
@@ -243,18 +244,18 @@ impl Change {
         alloc: Global,
         conditions: &Conditions,
         at: usize,
-        near: &mut usize,
+        near: &mut Near,
         left: &mut NewConditions,
     ) -> Result<bool, NoMemory>
         requires { at < length conditions.now }
         ensures { IfOk result (λ always. (d : Condition) (s : State) → (always || any_holds s left.new)
             ≡ (any_holds s left.old || holds (changed self.now s) (slice_index_or conditions.now at d))) }
     {
-        let condition = conditions.get(at);
-        if let Condition::Cell(source) = &condition {
-            let always = self.put_source(alloc, conditions, at, source, near, left)?;
+        if let Some(source) = conditions.source(at) {
+            let always = self.put_source(alloc, conditions, at, &source, near, left)?;
             return Ok(always);
         }
+        let condition = conditions.get(at);
         if self.leaves_condition(&condition) {
             left.copy(conditions, at)?;
             return Ok(false);
@@ -270,7 +271,7 @@ impl Change {
     }
 
     /// The conditions behind this change, and whether one of them holds in any case. Those that stay as they are are
-    /// shared.
+    /// shared, and each stands where the order wants it: a child's cell may have become that of its parent.
     pub(crate) fn behind(
         &self,
         alloc: Global,
@@ -283,13 +284,14 @@ impl Change {
             return Ok((false, conditions.share()?));
         }
         let mut always = false;
-        let mut near = 0;
+        let mut near = Near::first();
         let mut left = NewConditions::with_room(alloc, conditions.len())?;
         for at in 0..conditions.len() {
             if self.put_behind(alloc, conditions, at, &mut near, &mut left)? {
                 always = true;
             }
         }
-        Ok((always, left.finish()?))
+        let sorted = sorted(alloc, left.finish()?)?;
+        Ok((always, sorted))
     }
 }

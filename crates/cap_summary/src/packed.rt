@@ -1,7 +1,9 @@
 //! Lists of conditions. No other module knows how a condition is kept in one: a contract sees the conditions.
 
-ghost use Rattle.std.specs.Prelude.{◌≡◌, ◌<◌, ◌++◌, ◌∷◌, [], length, slice_index_or, true, IfOk, IfSome, OnOk};
+ghost use Rattle.std.specs.Prelude.{◌≡◌, ◌<◌, ◌≤◌, ◌++◌, ◌∷◌, [], ◌||◌, length, slice_index_or, true, IfOk, IfSome, OnOk};
 ghost use Rattle.cap_summary.specs.declared.conditions.Condition.{Condition};
+ghost use Rattle.cap_machine.specs.State.{State};
+ghost use Rattle.cap_summary.specs.Conditions.{holds};
 ghost use Rattle.cap_summary.specs.Packed.{packed_condition, packed_conditions};
 
 use crate::conditions::{CellTest, Condition, HeldTest, Refused, Source};
@@ -21,6 +23,26 @@ pub(crate) struct Lack {
     unknown: bool,
     closed: bool,
     rights: RightSet,
+}
+
+impl Lack {
+    #[tactic(auto, using(crate::proofs::Merging::lacks_covers))]
+    /// Whether it is a test of the same cell that passes where another one does. No is a safe answer.
+    fn covers(&self, other: &Lack) -> bool
+        ensures { result ≡ true → (s : State) → holds s (packed_condition (Packed.Cell self.now))
+            ≡ (holds s (packed_condition (Packed.Cell self.now)) || holds s (packed_condition (Packed.Cell other.now))) }
+    {
+        if self.pid != other.pid || self.fd != other.fd {
+            return false;
+        }
+        if other.unknown && !self.unknown {
+            return false;
+        }
+        if other.closed && !self.closed {
+            return false;
+        }
+        self.rights.has_all(&other.rights)
+    }
 }
 
 /// A condition as a list keeps it: the most common form in few bytes, and the large ones shared.
@@ -55,6 +77,25 @@ fn lacked_by(test: &CellTest) -> Option<RightSet>
             }
         }
         _ => None,
+    }
+}
+
+impl Lack {
+    /// The test in full.
+    fn source(&self) -> Source
+        ensures { Condition.Cell result ≡ packed_condition (Packed.Cell self.now) }
+    {
+        Source {
+            pid: self.pid,
+            fd: self.fd,
+            test: CellTest {
+                unknown: self.unknown,
+                closed: self.closed,
+                set: HeldTest::Lacks(self.rights),
+                clear: HeldTest::Lacks(self.rights),
+                unsure: HeldTest::Lacks(self.rights),
+            },
+        }
     }
 }
 
@@ -102,17 +143,7 @@ impl Packed {
         ensures { result ≡ packed_condition self.now }
     {
         match self {
-            Packed::Cell(lack) => Condition::Cell(Source {
-                pid: lack.pid,
-                fd: lack.fd,
-                test: CellTest {
-                    unknown: lack.unknown,
-                    closed: lack.closed,
-                    set: HeldTest::Lacks(lack.rights),
-                    clear: HeldTest::Lacks(lack.rights),
-                    unsure: HeldTest::Lacks(lack.rights),
-                },
-            }),
+            Packed::Cell(lack) => Condition::Cell(lack.source()),
             Packed::Other(source) => Condition::Cell(**source),
             Packed::Inside(pid) => Condition::Inside(*pid),
             Packed::Outside(pid) => Condition::Outside(*pid),
@@ -216,6 +247,46 @@ impl Conditions {
         self.packed()[at].key().cmp(&others.packed()[of].key())
     }
 
+    /// Whether the one at a place holds wherever one of others does, by a look at those kept in few bytes alone. No is a
+    /// safe answer.
+    pub(crate) fn covers(&self, at: usize, others: &Conditions, of: usize) -> bool
+        requires own { at < length self.now }
+        requires other { of < length others.now }
+        ensures { result ≡ true → (x y : Condition) (s : State) → holds s (slice_index_or self.now at x)
+            ≡ (holds s (slice_index_or self.now at x) || holds s (slice_index_or others.now of y)) }
+    {
+        match (&self.packed()[at], &others.packed()[of]) {
+            (Packed::Cell(a), Packed::Cell(b)) => a.covers(b),
+            _ => false,
+        }
+    }
+
+    /// The test of a cell at a place; none only where there is another condition.
+    pub(crate) fn source(&self, at: usize) -> Option<Source>
+        requires { at < length self.now }
+        ensures { IfSome result (λ source. (d : Condition) → slice_index_or self.now at d ≡ Condition.Cell source) }
+    {
+        match &self.packed()[at] {
+            Packed::Cell(lack) => Some(lack.source()),
+            Packed::Other(source) => Some(**source),
+            _ => None,
+        }
+    }
+
+    /// Whether each of those from one place to another comes after the one before it in the order in which they are
+    /// kept.
+    pub(crate) fn rise(&self, from: usize, to: usize) -> bool
+        requires { to ≤ length self.now }
+    {
+        let items = self.packed();
+        for at in from..to {
+            if at > from && items[at - 1].key() >= items[at].key() {
+                return false;
+            }
+        }
+        true
+    }
+
     /// The same conditions, shared.
     pub(crate) fn share(&self) -> Result<Conditions, NoMemory>
         ensures { IfOk result (λ same. same ≡ self.now) }
@@ -244,6 +315,17 @@ impl NewConditions {
     {
         self.items.push(Packed::of(alloc, condition)?)?;
         Ok(())
+    }
+
+    /// Whether the condition at a place of others comes after all these in the order in which they are kept, where
+    /// these rise.
+    pub(crate) fn go_on(&self, others: &Conditions, at: usize) -> bool
+        requires { at < length others.now }
+    {
+        match self.items.last() {
+            Some(last) => last.key() < others.packed()[at].key(),
+            None => true,
+        }
     }
 
     /// Adds the condition at a place of others, shared.

@@ -2,13 +2,13 @@
 //! answer. A table never changes, and what a call leaves as it was is shared.
 
 ghost use Rattle.std.specs.Prelude.{◌≡◌, ℕ, ◌==◌, if◌then◌else◌, None, Some, true, OnOk, IfOk};
-ghost use Rattle.std.specs.Prelude.{option_map, option_and_then};
+ghost use Rattle.std.specs.Prelude.{option_map, option_and_then, is_some};
 ghost use Rattle.std.specs.Option.{option_copied};
 ghost use Rattle.cap_summary.specs.Tables.{listed_value, value_so_far, process_at, or_else};
 ghost use Rattle.cap_summary.specs.Changes.{JoinsListed};
 ghost use Rattle.cap_summary.specs.Images.{under, passed_on};
 
-use crate::change::{Change, Process};
+use crate::change::{Change, Near, Process};
 use crate::kept::{Handing, Joining, Kept, Moving};
 use crate::sorted::{Builder, Table, merge};
 use crate::values::{Passing, Value};
@@ -88,6 +88,30 @@ impl Cells {
         }
     }
 
+    /// Whether a descriptor is listed. It looks first where an earlier look-up ended, and notes where this one did.
+    #[tactic(auto, unfolding(crate::specs::Tables::listed_value))]
+    pub(crate) fn lists_near(&self, fd: Fd, near: &mut usize) -> bool
+        ensures { result ≡ is_some (listed_value self.now fd) }
+    {
+        let (found, at) = self.table.get_near(fd, *near);
+        *near = at;
+        found.is_some()
+    }
+
+    /// The value of a descriptor that is listed. It looks first behind where an earlier look-up ended, and notes where
+    /// this one did.
+    #[tactic(auto, unfolding(crate::specs::Tables::listed_value))]
+    pub(crate) fn get_near(&self, fd: Fd, near: &mut usize) -> Option<Value>
+        ensures { result ≡ listed_value self.now fd }
+    {
+        let (found, at) = self.table.get_near(fd, *near);
+        *near = at.saturating_add(1);
+        match found {
+            Some(kept) => Some(kept.value()),
+            None => None,
+        }
+    }
+
     /// How many are listed.
     pub(crate) fn len(&self) -> usize {
         self.table.len()
@@ -140,8 +164,9 @@ impl Cells {
         ensures { result ≡ true
             → (f : ℕ) → option_map (under change.now) (listed_value self.now f) ≡ listed_value self.now f }
     {
+        let mut near = Near::first();
         for entry in self.table.entries() {
-            if !entry.1.stays_behind(change) {
+            if !entry.1.stays_behind(change, &mut near) {
                 return false;
             }
         }
@@ -157,10 +182,13 @@ impl Cells {
         if others.len() < self.len() {
             return false;
         }
+        let mut near = 0usize;
         for entry in self.table.entries() {
-            let Some(_) = others.table.get(entry.0) else {
+            let (found, at) = others.table.get_near(entry.0, near);
+            let Some(_) = found else {
                 return false;
             };
+            near = at.saturating_add(1);
         }
         true
     }

@@ -29,6 +29,8 @@ loop-at-preserved c = λ s.
 pub returns : goal.returns
 returns c = λ s.
     let all : length c.args.conditions.now ≤ c.loop-at.at = omega arith in
-    ap (λ (r : List Condition). c.loop-at.always || any_holds s r) c.in_ok-finish.ensures ∙ c.loop-at.invariant s
+    ap (λ r. c.loop-at.always || r) (c.in_ok-sorted.ensures s
+    ∙ ap (λ (r : List Condition). any_holds s r) c.in_ok-finish.ensures)
+    ∙ c.loop-at.invariant s
     ∙ ap (λ (r : List Condition). any_holds (changed c.args.self.now s) r)
     (take_all c.loop-at.at c.args.conditions.now all)
