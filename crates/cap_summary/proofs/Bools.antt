@@ -34,6 +34,15 @@ or_swapped a b x = or_assoc a b x ∙ ap (λ r. a || r) (or_turned b x) ∙ sym 
 pub or_crossed : (a b x y : Bool) → ((a || b) || (x || y)) ≡ ((a || x) || (b || y))
 or_crossed a b x y = sym (or_assoc (a || b) x y) ∙ ap (λ r. r || y) (or_swapped a b x) ∙ or_assoc (a || x) b y
 
+-- both hold wherever two others do
+pub and_within : (a b x y : Bool) → a ≡ (a || x) → b ≡ (b || y) → (a && b) ≡ ((a && b) || (x && y))
+and_within true true x y first second = refl
+and_within true false x true first second = absurd cc
+and_within true false true false first second = refl
+and_within true false false false first second = refl
+and_within false b true y first second = absurd cc
+and_within false b false y first second = refl
+
 pub not_and : (x y : Bool) → not (x && y) ≡ (not x || not y)
 not_and true y = refl
 not_and false y = refl

@@ -85,7 +85,7 @@ impl HeldTest {
     }
 
     /// Whether rights that pass another test pass this one. No is a safe answer.
-    #[tactic(auto, using(crate::proofs::Bools::or_false, crate::proofs::Merging::lacks_more))]
+    #[tactic(auto, using(crate::proofs::Bools::or_false, crate::proofs::Merging::lacks_more, crate::proofs::Merging::has_more))]
     fn covers(&self, other: &HeldTest) -> bool
         ensures { result ≡ true
             → (r : ℕ) → passes_held self.now r ≡ (passes_held self.now r || passes_held other.now r) }
@@ -94,6 +94,7 @@ impl HeldTest {
             (_, HeldTest::Never) => true,
             (HeldTest::Always, _) => true,
             (HeldTest::Lacks(a), HeldTest::Lacks(b)) => a.has_all(b),
+            (HeldTest::Has(a), HeldTest::Has(b)) => b.has_all(a),
             _ => false,
         }
     }

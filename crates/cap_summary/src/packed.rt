@@ -99,15 +99,44 @@ impl Lack {
     }
 }
 
+/// A process and a descriptor of it, as one number that rises with the process and then with the descriptor.
+fn place(pid: Pid, fd: Fd) -> u64 {
+    (u64::from(pid) << 32) | u64::from(fd)
+}
+
+fn place_of_part(part: &Option<Source>) -> u64 {
+    match part {
+        Some(source) => place(source.pid, source.fd),
+        None => 0,
+    }
+}
+
+/// How two refusals stand to one another in the order in which they are kept: by their cells, then by the process that
+/// is to be outside.
+fn order_of_refusals(a: &Refused, b: &Refused) -> Ordering {
+    let firsts = place_of_part(&a.first).cmp(&place_of_part(&b.first));
+    let seconds = place_of_part(&a.second).cmp(&place_of_part(&b.second));
+    firsts.then(seconds).then(a.mode.cmp(&b.mode))
+}
+
 impl Packed {
-    /// What it is sorted by: its kind, a process and a descriptor.
-    fn key(&self) -> (u8, Pid, Fd) {
+    /// What it is sorted by first: its kind, and a process and a descriptor.
+    fn key(&self) -> (u8, u64) {
         match self {
-            Packed::Inside(pid) => (0, *pid, 0),
-            Packed::Outside(pid) => (1, *pid, 0),
-            Packed::Cell(lack) => (2, lack.pid, lack.fd),
-            Packed::Other(source) => (2, source.pid, source.fd),
-            Packed::Refused(_) => (3, 0, 0),
+            Packed::Inside(pid) => (0, place(*pid, 0)),
+            Packed::Outside(pid) => (1, place(*pid, 0)),
+            Packed::Cell(lack) => (2, place(lack.pid, lack.fd)),
+            Packed::Other(source) => (2, place(source.pid, source.fd)),
+            Packed::Refused(refused) => (3, place_of_part(&refused.first)),
+        }
+    }
+
+    /// How it stands to another one in the order in which conditions are kept.
+    fn order(&self, other: &Packed) -> Ordering {
+        match (self, other) {
+            (Packed::Cell(a), Packed::Cell(b)) => place(a.pid, a.fd).cmp(&place(b.pid, b.fd)),
+            (Packed::Refused(a), Packed::Refused(b)) => order_of_refusals(a, b),
+            _ => self.key().cmp(&other.key()),
         }
     }
 
@@ -244,7 +273,7 @@ impl Conditions {
         requires own { at < length self.now }
         requires other { of < length others.now }
     {
-        self.packed()[at].key().cmp(&others.packed()[of].key())
+        self.packed()[at].order(&others.packed()[of])
     }
 
     /// Whether the one at a place holds wherever one of others does, by a look at those kept in few bytes alone. No is a
@@ -280,7 +309,7 @@ impl Conditions {
     {
         let items = self.packed();
         for at in from..to {
-            if at > from && items[at - 1].key() >= items[at].key() {
+            if at > from && items[at - 1].order(&items[at]) != Ordering::Less {
                 return false;
             }
         }
@@ -323,7 +352,7 @@ impl NewConditions {
         requires { at < length others.now }
     {
         match self.items.last() {
-            Some(last) => last.key() < others.packed()[at].key(),
+            Some(last) => last.order(&others.packed()[at]) == Ordering::Less,
             None => true,
         }
     }
