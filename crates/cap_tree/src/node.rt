@@ -134,6 +134,27 @@ impl<S: Segment> Node<S> {
         Node::leaf(alloc, meter, run)
     }
 
+    /// The node over two parts, whose items in order are summed up.
+    fn over(
+        alloc: Global,
+        summary: S,
+        left: Rc<Node<S>>,
+        right: Rc<Node<S>>,
+    ) -> Result<Rc<Node<S>>, NoMemory>
+        requires stands { S.stands summary (left.value.0 ++ right.value.0) }
+        requires balanced { DifferByAtMost 1 left.value.1 right.value.1 }
+        requires few { length left.value.0 + length right.value.0 ≤ 2 ^ 30 }
+        ensures { IfOk result (λ n. n.value ≡ (left.value.0 ++ right.value.0, max left.value.1 right.value.1 + 1)) }
+    {
+        let height = left.height().max(right.height()) + 1;
+        let node = Node {
+            summary,
+            height,
+            shape: Shape::Branch(left, right),
+        };
+        Ok(Rc::new(alloc, node)?)
+    }
+
     /// The two in order, whose heights are at most one apart.
     fn branch(
         alloc: Global,
@@ -149,14 +170,50 @@ impl<S: Segment> Node<S> {
         ensures not_less { meter.old ≤ meter.new }
         ensures joins { meter.new ≤ meter.old + 1 }
     {
-        let height = left.height().max(right.height()) + 1;
         let summary = S::join(alloc, meter, left.summary(), right.summary())?;
-        let node = Node {
-            summary,
-            height,
-            shape: Shape::Branch(left, right),
-        };
-        Ok(Rc::new(alloc, node)?)
+        Node::over(alloc, summary, left, right)
+    }
+
+    /// The two in order, as `branch`, where this node has another one in place of the left.
+    fn with_left(
+        &self,
+        was: &Node<S>,
+        alloc: Global,
+        meter: &mut Meter,
+        left: Rc<Node<S>>,
+        right: Rc<Node<S>>,
+    ) -> Result<Rc<Node<S>>, NoMemory>
+        requires old { self.now.0 ≡ was.now.0 ++ right.value.0 }
+        requires balanced { DifferByAtMost 1 left.value.1 right.value.1 }
+        requires few { length left.value.0 + length right.value.0 ≤ 2 ^ 30 }
+        requires room { meter.old + 1 < 2 ^ 64 }
+        ensures ok { IfOk result (λ n. n.value ≡ (left.value.0 ++ right.value.0, max left.value.1 right.value.1 + 1)) }
+        ensures not_less { meter.old ≤ meter.new }
+        ensures joins { meter.new ≤ meter.old + 1 }
+    {
+        let summary = S::with_left(alloc, meter, &self.summary, left.summary(), right.summary())?;
+        Node::over(alloc, summary, left, right)
+    }
+
+    /// The two in order, as `branch`, where this node has another one in place of the right.
+    fn with_right(
+        &self,
+        was: &Node<S>,
+        alloc: Global,
+        meter: &mut Meter,
+        left: Rc<Node<S>>,
+        right: Rc<Node<S>>,
+    ) -> Result<Rc<Node<S>>, NoMemory>
+        requires old { self.now.0 ≡ left.value.0 ++ was.now.0 }
+        requires balanced { DifferByAtMost 1 left.value.1 right.value.1 }
+        requires few { length left.value.0 + length right.value.0 ≤ 2 ^ 30 }
+        requires room { meter.old + 1 < 2 ^ 64 }
+        ensures ok { IfOk result (λ n. n.value ≡ (left.value.0 ++ right.value.0, max left.value.1 right.value.1 + 1)) }
+        ensures not_less { meter.old ≤ meter.new }
+        ensures joins { meter.new ≤ meter.old + 1 }
+    {
+        let summary = S::with_right(alloc, meter, &self.summary, left.summary(), right.summary())?;
+        Node::over(alloc, summary, left, right)
     }
 
     /// The two in order, at heights that one edit may have set two apart.
@@ -304,27 +361,105 @@ impl<S: Segment> Node<S> {
         Ok(Rc::new(alloc, node)?)
     }
 
-    /// The two in order, which were the parts of a node of this height until one of them lost an item.
-    fn shrunk(
+    /// The two in order, as `balance`, where this node has another one in place of the left.
+    fn settle_left(
+        &self,
+        was: &Node<S>,
         alloc: Global,
         meter: &mut Meter,
-        height: usize,
         left: Rc<Node<S>>,
         right: Rc<Node<S>>,
     ) -> Result<Rc<Node<S>>, NoMemory>
-        requires lost { HaveLostOne left.value.1 right.value.1 height }
+        requires old { self.now.0 ≡ was.now.0 ++ right.value.0 }
+        requires near { DifferByAtMost 2 left.value.1 right.value.1 }
         requires few { length left.value.0 + length right.value.0 ≤ 2 ^ 30 }
         requires room { meter.old + 3 < 2 ^ 64 }
         ensures items { IfOk result (λ n. n.value.0 ≡ left.value.0 ++ right.value.0) }
-        ensures at_most_one_lower { IfOk result (λ n. height ≤ n.value.1 + 1) }
-        ensures not_higher { IfOk result (λ n. n.value.1 ≤ height) }
+        ensures height { IfOk result (λ n. SettlesAt left.value.1 right.value.1 n.value.1) }
         ensures not_less { meter.old ≤ meter.new }
         ensures joins { meter.new ≤ meter.old + 3 }
     {
-        if height == 1 {
+        if left.height() > right.height() + 1 || right.height() > left.height() + 1 {
+            Node::balance(alloc, meter, left, right)
+        } else {
+            self.with_left(was, alloc, meter, left, right)
+        }
+    }
+
+    /// The two in order, as `balance`, where this node has another one in place of the right.
+    fn settle_right(
+        &self,
+        was: &Node<S>,
+        alloc: Global,
+        meter: &mut Meter,
+        left: Rc<Node<S>>,
+        right: Rc<Node<S>>,
+    ) -> Result<Rc<Node<S>>, NoMemory>
+        requires old { self.now.0 ≡ left.value.0 ++ was.now.0 }
+        requires near { DifferByAtMost 2 left.value.1 right.value.1 }
+        requires few { length left.value.0 + length right.value.0 ≤ 2 ^ 30 }
+        requires room { meter.old + 3 < 2 ^ 64 }
+        ensures items { IfOk result (λ n. n.value.0 ≡ left.value.0 ++ right.value.0) }
+        ensures height { IfOk result (λ n. SettlesAt left.value.1 right.value.1 n.value.1) }
+        ensures not_less { meter.old ≤ meter.new }
+        ensures joins { meter.new ≤ meter.old + 3 }
+    {
+        if left.height() > right.height() + 1 || right.height() > left.height() + 1 {
+            Node::balance(alloc, meter, left, right)
+        } else {
+            self.with_right(was, alloc, meter, left, right)
+        }
+    }
+
+    /// The two in order, where this node has another one in place of the left, which lost an item.
+    fn shrunk_left(
+        &self,
+        was: &Node<S>,
+        alloc: Global,
+        meter: &mut Meter,
+        left: Rc<Node<S>>,
+        right: Rc<Node<S>>,
+    ) -> Result<Rc<Node<S>>, NoMemory>
+        requires old { self.now.0 ≡ was.now.0 ++ right.value.0 }
+        requires lost { HaveLostOne left.value.1 right.value.1 self.now.1 }
+        requires few { length left.value.0 + length right.value.0 ≤ 2 ^ 30 }
+        requires room { meter.old + 3 < 2 ^ 64 }
+        ensures items { IfOk result (λ n. n.value.0 ≡ left.value.0 ++ right.value.0) }
+        ensures at_most_one_lower { IfOk result (λ n. self.now.1 ≤ n.value.1 + 1) }
+        ensures not_higher { IfOk result (λ n. n.value.1 ≤ self.now.1) }
+        ensures not_less { meter.old ≤ meter.new }
+        ensures joins { meter.new ≤ meter.old + 3 }
+    {
+        if self.height == 1 {
             Node::pair(alloc, meter, left, right)
         } else {
-            Node::balance(alloc, meter, left, right)
+            self.settle_left(was, alloc, meter, left, right)
+        }
+    }
+
+    /// The two in order, where this node has another one in place of the right, which lost an item.
+    fn shrunk_right(
+        &self,
+        was: &Node<S>,
+        alloc: Global,
+        meter: &mut Meter,
+        left: Rc<Node<S>>,
+        right: Rc<Node<S>>,
+    ) -> Result<Rc<Node<S>>, NoMemory>
+        requires old { self.now.0 ≡ left.value.0 ++ was.now.0 }
+        requires lost { HaveLostOne left.value.1 right.value.1 self.now.1 }
+        requires few { length left.value.0 + length right.value.0 ≤ 2 ^ 30 }
+        requires room { meter.old + 3 < 2 ^ 64 }
+        ensures items { IfOk result (λ n. n.value.0 ≡ left.value.0 ++ right.value.0) }
+        ensures at_most_one_lower { IfOk result (λ n. self.now.1 ≤ n.value.1 + 1) }
+        ensures not_higher { IfOk result (λ n. n.value.1 ≤ self.now.1) }
+        ensures not_less { meter.old ≤ meter.new }
+        ensures joins { meter.new ≤ meter.old + 3 }
+    {
+        if self.height == 1 {
+            Node::pair(alloc, meter, left, right)
+        } else {
+            self.settle_right(was, alloc, meter, left, right)
         }
     }
 
@@ -353,11 +488,11 @@ impl<S: Segment> Node<S> {
                 if at <= middle {
                     let changed = Node::insert(left, alloc, meter, at, item)?;
                     let kept = right.clone()?;
-                    Node::balance(alloc, meter, changed, kept)
+                    node.settle_left(left, alloc, meter, changed, kept)
                 } else {
                     let changed = Node::insert(right, alloc, meter, at - middle, item)?;
                     let kept = left.clone()?;
-                    Node::balance(alloc, meter, kept, changed)
+                    node.settle_right(right, alloc, meter, kept, changed)
                 }
             }
         }
@@ -482,11 +617,11 @@ impl<S: Segment> Node<S> {
                 if at < middle {
                     let changed = left.replace(alloc, meter, at, item)?;
                     let kept = right.clone()?;
-                    Node::branch(alloc, meter, changed, kept)
+                    self.with_left(left, alloc, meter, changed, kept)
                 } else {
                     let changed = right.replace(alloc, meter, at - middle, item)?;
                     let kept = left.clone()?;
-                    Node::branch(alloc, meter, kept, changed)
+                    self.with_right(right, alloc, meter, kept, changed)
                 }
             }
         }
@@ -525,7 +660,7 @@ impl<S: Segment> Node<S> {
                     match rest {
                         None => Ok(Some(kept)),
                         Some(changed) => {
-                            let node = Node::shrunk(alloc, meter, self.height, changed, kept)?;
+                            let node = self.shrunk_left(left, alloc, meter, changed, kept)?;
                             Ok(Some(node))
                         }
                     }
@@ -535,7 +670,7 @@ impl<S: Segment> Node<S> {
                     match rest {
                         None => Ok(Some(kept)),
                         Some(changed) => {
-                            let node = Node::shrunk(alloc, meter, self.height, kept, changed)?;
+                            let node = self.shrunk_right(right, alloc, meter, kept, changed)?;
                             Ok(Some(node))
                         }
                     }

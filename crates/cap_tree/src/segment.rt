@@ -43,6 +43,48 @@ pub trait Segment: Drop {
         ensures not_less { meter.old ≤ meter.new }
         ensures at_most_one { meter.new ≤ meter.old + 1 };
 
+    /// As [`Segment::join`] of the left and the right part, where `old` sums up other items and then those of the right
+    /// part. The new summary may share with the old one what is equal.
+    fn with_left(
+        alloc: Global,
+        meter: &mut Meter,
+        old: &Self,
+        left: &Self,
+        right: &Self,
+    ) -> Result<Self, NoMemory>
+        requires few { size left.now + size right.now ≤ 2 ^ 30 }
+        requires room { meter.old + 1 < 2 ^ 64 }
+        ensures joined { IfOk result (λ s. (t u v : List Self.Item) → stands old.now (t ++ u)
+            → stands left.now v → stands right.now u → stands s (v ++ u)) }
+        ensures counted { OnOk result (meter.new ≡ meter.old + 1) }
+        ensures not_less { meter.old ≤ meter.new }
+        ensures at_most_one { meter.new ≤ meter.old + 1 }
+    {
+        let _ = old;
+        Self::join(alloc, meter, left, right)
+    }
+
+    /// As [`Segment::join`] of the left and the right part, where `old` sums up the items of the left part and then others.
+    /// The new summary may share with the old one what is equal.
+    fn with_right(
+        alloc: Global,
+        meter: &mut Meter,
+        old: &Self,
+        left: &Self,
+        right: &Self,
+    ) -> Result<Self, NoMemory>
+        requires few { size left.now + size right.now ≤ 2 ^ 30 }
+        requires room { meter.old + 1 < 2 ^ 64 }
+        ensures joined { IfOk result (λ s. (t u v : List Self.Item) → stands old.now (t ++ u)
+            → stands left.now t → stands right.now v → stands s (t ++ v)) }
+        ensures counted { OnOk result (meter.new ≡ meter.old + 1) }
+        ensures not_less { meter.old ≤ meter.new }
+        ensures at_most_one { meter.new ≤ meter.old + 1 }
+    {
+        let _ = old;
+        Self::join(alloc, meter, left, right)
+    }
+
     /// All lists that one value sums up have its length.
     ghost sized: { (s : Self) (t : List Self.Item) → stands s t → size s ≡ length t };
 }
