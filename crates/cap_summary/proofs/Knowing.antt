@@ -25,7 +25,7 @@ use Rattle.cap_summary.specs.Changes.{changed, JoinsTo, is_listed}
 use Rattle.cap_summary.specs.Does.{Does, is_following}
 use Rattle.cap_summary.specs.Conditions.{any_holds, has_any}
 use Rattle.cap_summary.specs.LineConditions.{line_always, line_conditions}
-use Rattle.cap_summary.specs.Knows.{Knows, finds}
+use Rattle.cap_summary.specs.Knows.{Knows, Composes, IsLike, finds}
 use Rattle.cap_summary.proofs.Bools.{or_true, or_false}
 use Rattle.cap_summary.proofs.Holding.{has_any-append, has_any-map, line_holds}
 
@@ -36,32 +36,36 @@ found_in_turn s t u =
     ∙ has_any-append (check s t) (map (later (length t)) (check (ended s t) u))
     ∙ ap (λ r. has_any (check s t) || r) (has_any-map (later (length t)) (check (ended s t) u))
 
-shuffled : (a b m x y : Bool) → ((a || (b || m)) || (x || y)) ≡ ((a || x) || (b || (m || y)))
-shuffled true b m x y = refl
-shuffled false true m x y = sym (or_true x)
-shuffled false false true x y = sym (or_true x)
-shuffled false false false x y = refl
+shuffled : (a b m x : Bool) → ((a || (b || m)) || x) ≡ (a || (b || (m || x)))
+shuffled true b m x = refl
+shuffled false true m x = refl
+shuffled false false m x = refl
+
+dealt : (a b x y : Bool) → (a || (b || (x || y))) ≡ ((a || x) || (b || y))
+dealt true b x y = refl
+dealt false true x y = sym (or_true x)
+dealt false false x y = refl
+
+turned_round : (m x y : Bool) → (m || (x || y)) ≡ (x || (m || y))
+turned_round true x y = sym (or_true x)
+turned_round false x y = refl
 
 listed_in_turn : (a b c x y : Bool) → c ≡ (a || b) → (a ≡ true → x ≡ true) → (b ≡ true → y ≡ true) → c ≡ true
     → (x || y) ≡ true
 listed_in_turn true b c x y is left right e = ap (λ r. r || y) (left refl)
 listed_in_turn false b c x y is left right e = ap (λ r. x || r) (right (sym is ∙ e)) ∙ or_true x
 
-pub joined_knows : (a b whole : Known) (met : Bool) (moved : List Condition) (t u : List Step) →
-    JoinsTo a.change b.change whole.change →
-    ((s : State) → (met || any_holds s moved) ≡ any_holds (changed a.change s) b.conditions) →
-    ((s : State)
-    → any_holds s whole.conditions ≡ (any_holds s a.conditions || any_holds s moved)) →
-    whole.always ≡ (a.always || (b.always || met)) →
-    Knows a t → Knows b u → Knows whole (t ++ u)
-joined_knows a b whole met moved t u joins behind both always left right = record {
-  ends = λ s. joins.changes s ∙ right.ends (changed a.change s) ∙ ap (λ r. ended r u) (left.ends s)
+-- what the parts of a whole give, and what is found in them
+pub composed_knows : (a b whole : Known) (t u : List Step) → Composes a b whole →
+    whole.always ≡ (a.always || (b.always || whole.met)) → Knows a t → Knows b u → Knows whole (t ++ u)
+composed_knows a b whole t u composes always left right = record {
+  ends = λ s. composes.changes.changes s ∙ right.ends (changed a.change s) ∙ ap (λ r. ended r u) (left.ends s)
       ∙ sym (ends_in_turn s t u);
   found = λ s.
       ap (λ r. r || any_holds s whole.conditions) always
-      ∙ ap (λ r. (a.always || (b.always || met)) || r) (both s)
-      ∙ shuffled a.always b.always met (any_holds s a.conditions) (any_holds s moved)
-      ∙ ap (λ r. finds a s || (b.always || r)) (behind s)
+      ∙ shuffled a.always b.always whole.met (any_holds s whole.conditions)
+      ∙ ap (λ r. a.always || (b.always || r)) (composes.found s)
+      ∙ dealt a.always b.always (any_holds s a.conditions) (any_holds (changed a.change s) b.conditions)
       ∙ ap (λ r. r || finds b (changed a.change s)) (left.found s)
       ∙ ap (λ r. has_any (check s t) || r)
       (right.found (changed a.change s) ∙ ap (λ r. has_any (check r u)) (left.ends s))
@@ -69,7 +73,49 @@ joined_knows a b whole met moved t u joins behind both always left right = recor
   listed = λ p e. list_any-append (λ (step : Step). names_pid p step.line) t u
       ∙ listed_in_turn (is_listed a.change p) (is_listed b.change p) (is_listed whole.change p)
       (list_any (λ (step : Step). names_pid p step.line) t)
-      (list_any (λ (step : Step). names_pid p step.line) u) (joins.listed p) (left.listed p) (right.listed p) e;
+      (list_any (λ (step : Step). names_pid p step.line) u) (composes.changes.listed p) (left.listed p) (right.listed p) e;
+}
+
+-- of the second's conditions behind the first's change
+pub composed : (a b whole : Known) (moved : List Condition) → JoinsTo a.change b.change whole.change →
+    ((s : State) → (whole.met || any_holds s moved) ≡ any_holds (changed a.change s) b.conditions) →
+    ((s : State) → any_holds s whole.conditions ≡ (any_holds s a.conditions || any_holds s moved)) → Composes a b whole
+composed a b whole moved joins behind both = record {
+  changes = joins;
+  found = λ s. ap (λ r. whole.met || r) (both s)
+      ∙ turned_round whole.met (any_holds s a.conditions) (any_holds s moved)
+      ∙ ap (λ r. any_holds s a.conditions || r) (behind s);
+}
+
+-- one that is like a part, or like the whole, stands in its place
+pub composed_left : (a b whole other : Known) → Composes a b whole → IsLike other a → Composes other b whole
+composed_left a b whole other composes like = record {
+  changes = record {
+    changes = λ s. composes.changes.changes s ∙ ap (λ r. changed b.change r) (sym (like.changes s));
+    listed = λ p. composes.changes.listed p ∙ ap (λ r. r || is_listed b.change p) (sym (like.listed p));
+  };
+  found = λ s. composes.found s ∙ ap (λ r. r || any_holds (changed a.change s) b.conditions) (sym (like.holds s))
+      ∙ ap (λ r. any_holds s other.conditions || any_holds r b.conditions) (sym (like.changes s));
+}
+
+pub composed_right : (a b whole other : Known) → Composes a b whole → IsLike other b → Composes a other whole
+composed_right a b whole other composes like = record {
+  changes = record {
+    changes = λ s. composes.changes.changes s ∙ sym (like.changes (changed a.change s));
+    listed = λ p. composes.changes.listed p ∙ ap (λ r. is_listed a.change p || r) (sym (like.listed p));
+  };
+  found = λ s. composes.found s ∙ ap (λ r. any_holds s a.conditions || r) (sym (like.holds (changed a.change s)));
+}
+
+pub composed_whole : (a b whole other : Known) → Composes a b whole → IsLike other whole → other.met ≡ whole.met
+    → Composes a b other
+composed_whole a b whole other composes like met = record {
+  changes = record {
+    changes = λ s. like.changes s ∙ composes.changes.changes s;
+    listed = λ p. like.listed p ∙ composes.changes.listed p;
+  };
+  found = λ s. ap (λ r. r || any_holds s other.conditions) met ∙ ap (λ r. whole.met || r) (like.holds s)
+      ∙ composes.found s;
 }
 
 -- the state behind one step

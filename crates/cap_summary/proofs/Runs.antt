@@ -1,5 +1,7 @@
 -- Runs of shared steps.
-use Rattle.std.proofs.Common.{◌≡◌, List, [], ◌∷◌, ◌++◌, ◌<◌, length, get_or, slice_range, refl, sym, ap, ◌∙◌, arith}
+use Rattle.std.proofs.Common.{◌≡◌, List, [], ◌∷◌, ◌++◌, ◌<◌, length, get_or, slice_range, take, drop, refl, sym, ap, ◌∙◌, arith}
+use Rattle.std.proofs.Common.{length-append}
+use Rattle.std.proofs.Math.Seq.{take-append_seam, drop-append_seam}
 use Rattle.std.proofs.lemmas.List.{map-append, append-nil}
 use Rattle.std.proofs.lemmas.Slice.{between_to_end}
 use Rattle.std.specs.declared.rc.Rc.{Rc}
@@ -31,6 +33,17 @@ none_before (x ∷ xs) b n is none = absurd (omega arith)
 pub none_behind : {X : Type 0} (a b n : List X) → n ≡ a → length b ≡ 0 → n ≡ a ++ b
 none_behind a [] n is none = is ∙ sym (append-nil a)
 none_behind a (x ∷ xs) n is none = absurd (omega arith)
+
+-- two parts of one list, by the length of one
+pub same_front : {X : Type 0} (a b t u : List X) → a ++ b ≡ t ++ u → length a ≡ length t → a ≡ t
+same_front a b t u is long = sym (take-append_seam a b) ∙ ap (take (length a)) is
+    ∙ ap (λ n. take n (t ++ u)) long ∙ take-append_seam t u
+
+pub same_back : {X : Type 0} (a b t u : List X) → a ++ b ≡ t ++ u → length b ≡ length u → b ≡ u
+same_back a b t u is long =
+    let all : length (a ++ b) ≡ length (t ++ u) = ap (λ xs. length xs) is in
+    let front : length a ≡ length t = omega (arith, all, length-append a b, length-append t u, long) in
+    sym (drop-append_seam a b) ∙ ap (drop (length a)) is ∙ ap (λ n. drop n (t ++ u)) front ∙ drop-append_seam t u
 
 -- the first of a run, and the rest
 pub head_tail : {X Z : Type 0} (run : List (Rc X Z)) (x : Rc X Z) → 0 < length run → x ≡ get_or run 0 x

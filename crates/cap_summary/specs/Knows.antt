@@ -7,7 +7,7 @@ use Rattle.cap_machine.specs.History.{ended}
 use Rattle.cap_machine.specs.Check.{check}
 use Rattle.cap_machine.specs.Named.{names_pid}
 use Rattle.cap_summary.specs.declared.known.Known.{Known}
-use Rattle.cap_summary.specs.Changes.{changed, is_listed}
+use Rattle.cap_summary.specs.Changes.{changed, is_listed, JoinsTo}
 use Rattle.cap_summary.specs.Conditions.{any_holds, has_any}
 
 -- the state that the segment leaves
@@ -28,3 +28,16 @@ pub record Knows (known : Known) (t : List Step) : Type 0 where
   pub ends : (s : State) → state_after known s ≡ ended s t
   pub found : (s : State) → finds known s ≡ has_any (check s t)
   pub listed : (p : ℕ) → lists known p ≡ true → list_any (λ step. names_pid p step.line) t ≡ true
+
+-- what is known of a segment and then another: the second's conditions hold behind the first's change where one of the
+-- whole that isn't the first's holds, or in any case
+pub record Composes (a b whole : Known) : Type 0 where
+  pub changes : JoinsTo a.change b.change whole.change
+  pub found : (s : State)
+      → (whole.met || any_holds s whole.conditions) ≡ (any_holds s a.conditions || any_holds (changed a.change s) b.conditions)
+
+-- the same changes and conditions
+pub record IsLike (a b : Known) : Type 0 where
+  pub changes : (s : State) → changed a.change s ≡ changed b.change s
+  pub listed : (p : ℕ) → is_listed a.change p ≡ is_listed b.change p
+  pub holds : (s : State) → any_holds s a.conditions ≡ any_holds s b.conditions

@@ -230,6 +230,14 @@ impl Change {
         })
     }
 
+    /// The same change, shared.
+    pub(crate) fn share(&self) -> Result<Change, NoMemory>
+        ensures { IfOk result (λ new. (p : ℕ) → process_at new.processes p ≡ process_at self.now.processes p) }
+    {
+        let processes = self.processes.share()?;
+        Ok(Change { processes })
+    }
+
     /// The same, shared where it stays as it is.
     pub(crate) fn shared_under(
         &self,

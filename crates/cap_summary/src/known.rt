@@ -1,9 +1,8 @@
 //! What is known of a segment, whatever the state before it.
 
-ghost use Rattle.std.specs.Prelude.{◌≡◌, ◌∷◌, [], ◌++◌, ◌||◌, List, IfOk};
-ghost use Rattle.cap_machine.specs.declared.step.Step.{Step};
+ghost use Rattle.std.specs.Prelude.{◌≡◌, ◌∷◌, [], ◌||◌, true, IfOk, IfSome};
 ghost use Rattle.cap_machine.specs.Table.{start_state};
-ghost use Rattle.cap_summary.specs.Knows.{Knows, finds, state_after};
+ghost use Rattle.cap_summary.specs.Knows.{Knows, Composes, IsLike, finds, state_after};
 
 use crate::before::Before;
 use crate::change::Change;
@@ -14,6 +13,7 @@ use cap_machine::{Cell, Mode, Start, Step, rule_of};
 use cap_trace::{Fd, Pid};
 use cap_tree::NoMemory;
 use std::alloc::Global;
+use std::rc::Rc;
 
 /// The most conditions, processes and cells that a segment of many steps lists.
 const LARGE: usize = 40_000;
@@ -23,6 +23,8 @@ const LARGE: usize = 40_000;
 pub struct Known {
     pub(crate) change: Change,
     pub(crate) always: bool,
+    /// Of a segment and then another: whether a condition of the second holds in any case behind the first.
+    met: bool,
     pub(crate) conditions: Conditions,
     size: usize,
     forks: bool,
@@ -48,6 +50,7 @@ impl Known {
         Known {
             change: Change::nothing(),
             always: false,
+            met: false,
             conditions: Conditions::none(),
             size: 0,
             forks: false,
@@ -66,6 +69,7 @@ impl Known {
         Ok(Known {
             change,
             always: always(&rule.demand),
+            met: false,
             conditions,
             size,
             forks,
@@ -83,7 +87,8 @@ impl Known {
 
     /// A segment and then another.
     pub(crate) fn join(alloc: Global, a: &Known, b: &Known) -> Result<Known, NoMemory>
-        ensures { IfOk result (λ whole. (t u : List Step) → Knows a.now t → Knows b.now u → Knows whole (t ++ u)) }
+        ensures composed { IfOk result (λ whole. Composes a.now b.now whole) }
+        ensures always { IfOk result (λ whole. whole.always ≡ (a.now.always || (b.now.always || whole.met))) }
     {
         let change = a.change.join(alloc, &b.change)?;
         let (met, moved) = a.change.behind(alloc, &b.conditions)?;
@@ -92,10 +97,82 @@ impl Known {
         Ok(Known {
             change,
             always: one_of(a.always, b.always, met),
+            met,
             conditions,
             size,
             forks,
         })
+    }
+
+    /// Whether another has the same change and conditions. No is a safe answer.
+    fn is_like(&self, other: &Known) -> bool
+        ensures { result ≡ true → IsLike self.now other.now }
+    {
+        self.conditions.is_like(&other.conditions) && self.change.is_like(&other.change)
+    }
+
+    /// The same change and conditions, where something is found in any case or not.
+    fn with_always(this: &Rc<Known>, alloc: Global, always: bool) -> Result<Rc<Known>, NoMemory>
+        ensures like { IfOk result (λ new. IsLike new.value this.now.value) }
+        ensures met { IfOk result (λ new. new.value.met ≡ this.now.value.met) }
+        ensures always { IfOk result (λ new. new.value.always ≡ always) }
+    {
+        if this.always == always {
+            return Ok(this.clone()?);
+        }
+        let known = Known {
+            change: this.change.share()?,
+            always,
+            met: this.met,
+            conditions: this.conditions.share()?,
+            size: this.size,
+            forks: this.forks,
+        };
+        Ok(Rc::new(alloc, known)?)
+    }
+
+    /// What is known of another segment and then the second, as `whole` is of the first and the second; none where the
+    /// other isn't like the first.
+    pub(crate) fn with_left(
+        alloc: Global,
+        whole: &Rc<Known>,
+        first: &Known,
+        second: &Known,
+        other: &Known,
+    ) -> Result<Option<Rc<Known>>, NoMemory>
+        requires { Composes first.now second.now whole.now.value }
+        ensures composed { IfOk result (λ o. IfSome o (λ new. Composes other.now second.now new.value)) }
+        ensures always { IfOk result (λ o. IfSome o
+            (λ new. new.value.always ≡ (other.now.always || (second.now.always || new.value.met)))) }
+    {
+        if !other.is_like(first) {
+            return Ok(None);
+        }
+        let always = one_of(other.always, second.always, whole.met);
+        let new = Known::with_always(whole, alloc, always)?;
+        Ok(Some(new))
+    }
+
+    /// What is known of the first segment and then another, as `whole` is of the first and the second; none where the
+    /// other isn't like the second.
+    pub(crate) fn with_right(
+        alloc: Global,
+        whole: &Rc<Known>,
+        first: &Known,
+        second: &Known,
+        other: &Known,
+    ) -> Result<Option<Rc<Known>>, NoMemory>
+        requires { Composes first.now second.now whole.now.value }
+        ensures composed { IfOk result (λ o. IfSome o (λ new. Composes first.now other.now new.value)) }
+        ensures always { IfOk result (λ o. IfSome o
+            (λ new. new.value.always ≡ (first.now.always || (other.now.always || new.value.met)))) }
+    {
+        if !other.is_like(second) {
+            return Ok(None);
+        }
+        let always = one_of(first.always, other.always, whole.met);
+        let new = Known::with_always(whole, alloc, always)?;
+        Ok(Some(new))
     }
 
     /// Whether something is found in the steps from a start.

@@ -1,7 +1,8 @@
 //! The nodes of a summary. A contract sees a node as its steps.
 
-ghost use Rattle.std.specs.Prelude.{◌≡◌, ℕ, ◌+◌, ◌^◌, ◌<◌, ◌≤◌, ◌++◌, ◌∷◌, [], length, map, IfOk, OnOk, IfSome, IfNone};
+ghost use Rattle.std.specs.Prelude.{◌≡◌, ℕ, ◌+◌, ◌^◌, ◌<◌, ◌≤◌, ◌++◌, ◌∷◌, [], List, length, map, IfOk, OnOk, IfSome, IfNone};
 ghost use Rattle.cap_summary.specs.Knows.{Knows};
+ghost use Rattle.cap_machine.specs.declared.step.Step.{Step};
 ghost use Rattle.cap_machine.specs.Check.{check};
 ghost use Rattle.cap_machine.specs.History.{ended};
 ghost use Rattle.cap_machine.specs.Table.{start_state};
@@ -10,7 +11,7 @@ ghost use Rattle.cap_summary.specs.Before.{state_before};
 ghost use Rattle.cap_summary.specs.Positions.{within, AllOrMany};
 ghost use Rattle.cap_summary.specs.Rest.{rest_steps, AllSome};
 ghost use Rattle.cap_tree.specs.Run.{values};
-ghost use Rattle.cap_summary.specs.Content.{content_steps, HasParts};
+ghost use Rattle.cap_summary.specs.Content.{IsWhole};
 
 use crate::before::{Asked, Before, judge_run};
 use crate::in_order::judge_in_order;
@@ -31,8 +32,23 @@ const KNOWN_STEPS: usize = 256;
 #[derive(Drop)]
 pub(crate) struct Node {
     len: usize,
-    known: Option<Known>,
+    known: Option<Rc<Known>>,
+    parts: Option<Parts>,
     content: Content,
+}
+
+/// What is known of the two parts of a node.
+#[derive(Drop)]
+pub(crate) struct Parts {
+    left: Rc<Known>,
+    right: Rc<Known>,
+}
+
+/// What is known of two parts, and of both together.
+#[derive(Drop)]
+struct Whole {
+    known: Rc<Known>,
+    parts: Parts,
 }
 
 #[cycle(node)]
@@ -53,7 +69,7 @@ impl Model for Node {
 
     ghost view = { λ a. content_steps a.content };
 
-    ghost invariant = { λ a. IsGood a.len a.known a.content };
+    ghost invariant = { λ a. IsGood a.len a.known a.parts a.content };
 
     ghost size = { length };
 
@@ -93,21 +109,29 @@ impl Node {
         Ok(run)
     }
 
-    /// The steps of two nodes that aren't empty.
-    fn both(alloc: Global, left: &Rc<Node>, right: &Rc<Node>) -> Result<Content, NoMemory>
-        requires first { 0 < length left.now.value }
-        requires second { 0 < length right.now.value }
-        requires few { length left.now.value + length right.now.value ≤ 2 ^ 30 }
-        ensures steps { IfOk result (λ content. content_steps content ≡ left.now.value ++ right.now.value) }
-        ensures parts { IfOk result (λ content. HasParts content) }
+    /// Two runs as one, where it can hold all their steps.
+    fn as_run(alloc: Global, left: &Node, right: &Node) -> Result<Option<Rc<Node>>, NoMemory>
+        ensures { IfOk result (λ o. IfSome o (λ n. n.value ≡ left.now ++ right.now)) }
     {
-        if left.len + right.len <= RUN_STEPS {
-            if let (Content::Run(front), Content::Run(back)) = (&left.content, &right.content) {
-                let run = Node::joined(alloc, front, back)?;
-                return Ok(Content::Run(run));
-            }
+        let (Content::Run(front), Content::Run(back)) = (&left.content, &right.content) else {
+            return Ok(None);
+        };
+        let (Some(a), Some(b)) = (&left.known, &right.known) else {
+            return Ok(None);
+        };
+        let len = left.len() + right.len();
+        if len > RUN_STEPS {
+            return Ok(None);
         }
-        Ok(Content::Both(left.clone()?, right.clone()?))
+        let known = Known::join(alloc, a, b)?;
+        let run = Node::joined(alloc, front, back)?;
+        let node = Node {
+            len,
+            known: Some(Rc::new(alloc, known)?),
+            parts: None,
+            content: Content::Run(run),
+        };
+        Ok(Some(Rc::new(alloc, node)?))
     }
 
     /// The steps of the one and then those of the other.
@@ -125,24 +149,44 @@ impl Node {
         if right.len() == 0 {
             return Ok(left.clone()?);
         }
-        let known = Node::known_of(alloc, left, right)?;
-        let content = if known.is_some() {
-            Node::both(alloc, left, right)?
-        } else {
-            Content::Both(left.clone()?, right.clone()?)
+        if let Some(node) = Node::as_run(alloc, left, right)? {
+            return Ok(node);
+        }
+        let whole = Node::whole_of(alloc, left, right)?;
+        Node::over(alloc, whole, left, right)
+    }
+
+    /// The node of two parts that have steps.
+    fn over(
+        alloc: Global,
+        whole: Option<Whole>,
+        left: &Rc<Node>,
+        right: &Rc<Node>,
+    ) -> Result<Rc<Node>, NoMemory>
+        requires first { 0 < length left.now.value }
+        requires second { 0 < length right.now.value }
+        requires few { length left.now.value + length right.now.value ≤ 2 ^ 30 }
+        requires known { IfSome whole (λ whole. IsWhole whole left.now.value right.now.value) }
+        requires long { IfNone whole (256 < length left.now.value + length right.now.value) }
+        ensures steps { IfOk result (λ n. n.value ≡ left.now.value ++ right.now.value) }
+    {
+        let (known, parts) = match whole {
+            Some(whole) => (Some(whole.known), Some(whole.parts)),
+            None => (None, None),
         };
         let node = Node {
             len: left.len() + right.len(),
             known,
-            content,
+            parts,
+            content: Content::Both(left.clone()?, right.clone()?),
         };
         Ok(Rc::new(alloc, node)?)
     }
 
     /// What is known of the steps of two nodes; none where there are many and the tables would be too large.
-    fn known_of(alloc: Global, left: &Node, right: &Node) -> Result<Option<Known>, NoMemory>
-        ensures knows { IfOk result (λ known. IfSome known (λ known. Knows known (left.now ++ right.now))) }
-        ensures short { IfOk result (λ known. IfNone known (256 < length left.now + length right.now)) }
+    fn whole_of(alloc: Global, left: &Node, right: &Node) -> Result<Option<Whole>, NoMemory>
+        ensures known { IfOk result (λ o. IfSome o (λ whole. IsWhole whole left.now right.now)) }
+        ensures short { IfOk result (λ o. IfNone o (256 < length left.now + length right.now)) }
     {
         let Some(a) = &left.known else {
             return Ok(None);
@@ -153,8 +197,84 @@ impl Node {
         if left.len + right.len > KNOWN_STEPS && Known::is_large(a, b) {
             return Ok(None);
         }
-        let whole = Known::join(alloc, a, b)?;
-        Ok(Some(whole))
+        let known = Known::join(alloc, a, b)?;
+        Ok(Some(Whole {
+            known: Rc::new(alloc, known)?,
+            parts: Parts {
+                left: a.clone()?,
+                right: b.clone()?,
+            },
+        }))
+    }
+
+    /// The node with another part in place of the left, before a right part of so many steps. None where the node has no
+    /// such right part, or what is known of the other left part isn't like what was known of the one that it had.
+    pub(crate) fn with_left(
+        &self,
+        alloc: Global,
+        left: &Rc<Node>,
+        count: usize,
+    ) -> Result<Option<Rc<Node>>, NoMemory>
+        requires { length left.now.value + count ≤ 2 ^ 30 }
+        ensures { IfOk result (λ o. IfSome o (λ n. (t u : List Step) → self.now ≡ t ++ u → length u ≡ count
+            → n.value ≡ left.now.value ++ u)) }
+    {
+        let Content::Both(_, right) = &self.content else {
+            return Ok(None);
+        };
+        let (Some(known), Some(parts)) = (&self.known, &self.parts) else {
+            return Ok(None);
+        };
+        let Some(other) = &left.known else {
+            return Ok(None);
+        };
+        if right.len() != count || left.len() == 0 {
+            return Ok(None);
+        }
+        let Some(known) = Known::with_left(alloc, known, &parts.left, &parts.right, other)? else {
+            return Ok(None);
+        };
+        let parts = Parts {
+            left: other.clone()?,
+            right: parts.right.clone()?,
+        };
+        let node = Node::over(alloc, Some(Whole { known, parts }), left, right)?;
+        Ok(Some(node))
+    }
+
+    /// The node with another part in place of the right, behind a left part of so many steps. None where the node has no
+    /// such left part, or what is known of the other right part isn't like what was known of the one that it had.
+    pub(crate) fn with_right(
+        &self,
+        alloc: Global,
+        right: &Rc<Node>,
+        count: usize,
+    ) -> Result<Option<Rc<Node>>, NoMemory>
+        requires { count + length right.now.value ≤ 2 ^ 30 }
+        ensures { IfOk result (λ o. IfSome o (λ n. (t u : List Step) → self.now ≡ t ++ u → length t ≡ count
+            → n.value ≡ t ++ right.now.value)) }
+    {
+        let Content::Both(left, _) = &self.content else {
+            return Ok(None);
+        };
+        let (Some(known), Some(parts)) = (&self.known, &self.parts) else {
+            return Ok(None);
+        };
+        let Some(other) = &right.known else {
+            return Ok(None);
+        };
+        if left.len() != count || right.len() == 0 {
+            return Ok(None);
+        }
+        let Some(known) = Known::with_right(alloc, known, &parts.left, &parts.right, other)? else {
+            return Ok(None);
+        };
+        let parts = Parts {
+            left: parts.left.clone()?,
+            right: other.clone()?,
+        };
+        let node = Node::over(alloc, Some(Whole { known, parts }), left, right)?;
+        Ok(Some(node))
     }
 
     /// No step.
@@ -164,7 +284,8 @@ impl Node {
         let known = Known::empty();
         let node = Node {
             len: 0,
-            known: Some(known),
+            known: Some(Rc::new(alloc, known)?),
+            parts: None,
             content: Content::Run(Vec::new(alloc)),
         };
         Ok(Rc::new(alloc, node)?)
@@ -179,7 +300,8 @@ impl Node {
         run.push(step.clone()?)?;
         let node = Node {
             len: 1,
-            known: Some(known),
+            known: Some(Rc::new(alloc, known)?),
+            parts: None,
             content: Content::Run(run),
         };
         Ok(Rc::new(alloc, node)?)
@@ -190,7 +312,10 @@ impl Node {
         ensures knows { IfSome result (λ known. Knows known.now self.now) }
         ensures short { IfNone result (256 < length self.now) }
     {
-        self.known.as_ref()
+        match &self.known {
+            Some(known) => Some(known),
+            None => None,
+        }
     }
 
     /// Notes what is found in the steps and then in the rest, which begin in this state behind so many others, at the
@@ -215,6 +340,7 @@ impl Node {
             return Ok(());
         }
         if let Some(known) = &self.known {
+            let known: &Known = known;
             if at + self.len >= asked.from && before.finds(known) {
                 match &self.content {
                     Content::Run(run) => judge_run(run, before, at, asked, found)?,

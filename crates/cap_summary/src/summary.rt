@@ -156,4 +156,36 @@ impl Segment for Summary {
         meter.tick();
         Ok(Summary { node })
     }
+
+    fn with_left(
+        alloc: Global,
+        meter: &mut Meter,
+        old: &Summary,
+        left: &Summary,
+        right: &Summary,
+    ) -> Result<Summary, NoMemory> {
+        match old.node.with_left(alloc, &left.node, right.node.len())? {
+            Some(node) => {
+                meter.tick();
+                Ok(Summary { node })
+            }
+            None => Summary::join(alloc, meter, left, right),
+        }
+    }
+
+    fn with_right(
+        alloc: Global,
+        meter: &mut Meter,
+        old: &Summary,
+        left: &Summary,
+        right: &Summary,
+    ) -> Result<Summary, NoMemory> {
+        match old.node.with_right(alloc, &right.node, left.node.len())? {
+            Some(node) => {
+                meter.tick();
+                Ok(Summary { node })
+            }
+            None => Summary::join(alloc, meter, left, right),
+        }
+    }
 }

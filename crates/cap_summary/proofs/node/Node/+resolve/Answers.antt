@@ -32,7 +32,8 @@ returns-in-End t c =
     let from : ℕ = c.args.asked.now.from in
     let to : ℕ = c.args.asked.now.to in
     let most : ℕ = c.args.asked.now.most in
-    let knows : Knows c.in-Some.known steps = rw (c.in-Some.is, c.self.view_is) at c.self.invariant.known in
+    let knows : Knows c.deref-known.result.now steps = rw c.deref-known.ensures
+    (rw (c.in-Some.is, c.self.view_is) at c.self.invariant.known) in
     let len : c.self.inside.len ≡ length steps = c.self.invariant.len
     ∙ ap (λ (r : List Step). length r) c.self.view_is in
     let all : List Found = old ++ within from to (map (later c.args.at) (check s steps)) in
@@ -68,7 +69,8 @@ returns-in-Then t c =
     let from : ℕ = c.args.asked.now.from in
     let to : ℕ = c.args.asked.now.to in
     let most : ℕ = c.args.asked.now.most in
-    let knows : Knows c.in-Some.known steps = rw (c.in-Some.is, c.self.view_is) at c.self.invariant.known in
+    let knows : Knows c.deref-known.result.now steps = rw c.deref-known.ensures
+    (rw (c.in-Some.is, c.self.view_is) at c.self.invariant.known) in
     let len : c.self.inside.len ≡ length steps = c.self.invariant.len
     ∙ ap (λ (r : List Step). length r) c.self.view_is in
     let all : List Found = old ++ within from to (map (later c.args.at) (check s steps)) in
