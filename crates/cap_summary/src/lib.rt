@@ -14,6 +14,7 @@
 //! ```
 #![tactic(auto)]
 
+mod alike;
 mod before;
 mod change;
 mod conditions;
