@@ -4,6 +4,7 @@ pub mod SortedMerging
 pub mod SortedSetting
 pub mod Joining
 pub mod Staying
+pub mod Comparing
 pub mod Runs
 pub mod Holding
 pub mod Merging

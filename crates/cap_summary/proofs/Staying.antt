@@ -41,7 +41,7 @@ held-same (Keeps mask Set) = ap (λ m. Keeps m Set) (no_mask mask)
 held-same (Keeps mask Clear) = ap (λ m. Keeps m Clear) (no_mask mask)
 held-same (Keeps mask Unsure) = ap (λ m. Keeps m Unsure) (no_mask mask)
 
-same_parts : (a b : Op) → a.unknown ≡ b.unknown → a.closed ≡ b.closed → a.set ≡ b.set → a.clear ≡ b.clear
+pub same_parts : (a b : Op) → a.unknown ≡ b.unknown → a.closed ≡ b.closed → a.set ≡ b.set → a.clear ≡ b.clear
     → a.unsure ≡ b.unsure → a ≡ b
 same_parts a b u k x y z =
     ap (λ (r : Cell). let op : Op = record {

@@ -58,3 +58,9 @@ JoinsListed change before old new = MatchOption old (new ≡ before) (λ d. IsSo
 pub record JoinsTo (a b c : Change) : Type 0 where
   pub changes : (s : State) → changed c s ≡ changed b (changed a s)
   pub listed : (p : ℕ) → is_listed c p ≡ (is_listed a p || is_listed b p)
+
+-- what has become of a process by two changes: the same cells and the same mode, and both list it or neither does
+pub record AreAlike (p : ℕ) (own theirs : Option Process) : Type 0 where
+  pub cells : (f : ℕ) → cell_in own p f ≡ cell_in theirs p f
+  pub mode : mode_in own p ≡ mode_in theirs p
+  pub listed : is_some own ≡ is_some theirs

@@ -9,7 +9,7 @@ use cap_rights::RightSet;
 use cap_trace::{Fd, Pid};
 
 /// The held rights against which something is said.
-#[derive(Clone, Copy)]
+#[derive(Clone, Copy, PartialEq, Eq)]
 pub enum HeldTest {
     /// None.
     Never,

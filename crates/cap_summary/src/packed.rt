@@ -3,9 +3,10 @@
 ghost use Rattle.std.specs.Prelude.{◌≡◌, ◌<◌, ◌≤◌, ◌++◌, ◌∷◌, [], ◌||◌, length, slice_index_or, true, IfOk, IfSome, OnOk};
 ghost use Rattle.cap_summary.specs.declared.conditions.Condition.{Condition};
 ghost use Rattle.cap_machine.specs.State.{State};
-ghost use Rattle.cap_summary.specs.Conditions.{holds};
+ghost use Rattle.cap_summary.specs.Conditions.{holds, any_holds};
 ghost use Rattle.cap_summary.specs.Packed.{packed_condition, packed_conditions};
 
+use crate::alike::{equal_refusals, equal_sources};
 use crate::conditions::{CellTest, Condition, HeldTest, Refused, Source};
 use cap_rights::RightSet;
 use cap_trace::{Fd, Pid};
@@ -81,6 +82,17 @@ fn lacked_by(test: &CellTest) -> Option<RightSet>
 }
 
 impl Lack {
+    /// Whether another one is the same test of the same cell. No is a safe answer.
+    fn is_like(&self, other: &Lack) -> bool
+        ensures { result ≡ true → packed_condition (Packed.Cell self.now) ≡ packed_condition (Packed.Cell other.now) }
+    {
+        self.pid == other.pid
+            && self.fd == other.fd
+            && self.unknown == other.unknown
+            && self.closed == other.closed
+            && self.rights == other.rights
+    }
+
     /// The test in full.
     fn source(&self) -> Source
         ensures { Condition.Cell result ≡ packed_condition (Packed.Cell self.now) }
@@ -177,6 +189,20 @@ impl Packed {
             Packed::Inside(pid) => Condition::Inside(*pid),
             Packed::Outside(pid) => Condition::Outside(*pid),
             Packed::Refused(refused) => Condition::Refused(**refused),
+        }
+    }
+
+    /// Whether another one is the same condition. No is a safe answer.
+    fn is_like(&self, other: &Packed) -> bool
+        ensures { result ≡ true → packed_condition self.now ≡ packed_condition other.now }
+    {
+        match (self, other) {
+            (Packed::Cell(a), Packed::Cell(b)) => a.is_like(b),
+            (Packed::Other(a), Packed::Other(b)) => equal_sources(a, b),
+            (Packed::Inside(p), Packed::Inside(q)) => p == q,
+            (Packed::Outside(p), Packed::Outside(q)) => p == q,
+            (Packed::Refused(a), Packed::Refused(b)) => equal_refusals(a, b),
+            _ => false,
         }
     }
 
@@ -310,6 +336,22 @@ impl Conditions {
         let items = self.packed();
         for at in from..to {
             if at > from && items[at - 1].order(&items[at]) != Ordering::Less {
+                return false;
+            }
+        }
+        true
+    }
+
+    /// Whether another list has the same conditions, one by one. No is a safe answer.
+    pub(crate) fn is_like(&self, other: &Conditions) -> bool
+        ensures { result ≡ true → (s : State) → any_holds s self.now ≡ any_holds s other.now }
+    {
+        let (own, theirs) = (self.packed(), other.packed());
+        if own.len() != theirs.len() {
+            return false;
+        }
+        for at in 0..own.len() {
+            if !own[at].is_like(&theirs[at]) {
                 return false;
             }
         }

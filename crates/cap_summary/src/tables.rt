@@ -5,7 +5,7 @@ ghost use Rattle.std.specs.Prelude.{◌≡◌, ℕ, ◌==◌, if◌then◌else�
 ghost use Rattle.std.specs.Prelude.{option_map, option_and_then, is_some};
 ghost use Rattle.std.specs.Option.{option_copied};
 ghost use Rattle.cap_summary.specs.Tables.{listed_value, value_so_far, process_at, or_else};
-ghost use Rattle.cap_summary.specs.Changes.{JoinsListed};
+ghost use Rattle.cap_summary.specs.Changes.{JoinsListed, AreAlike};
 ghost use Rattle.cap_summary.specs.Images.{under, passed_on};
 
 use crate::change::{Change, Near, Process};
@@ -193,6 +193,24 @@ impl Cells {
         true
     }
 
+    /// Whether others have the same values, by comparing their entries. No is a safe answer.
+    #[tactic(auto, unfolding(crate::specs::Tables::listed_value))]
+    pub(crate) fn is_like(&self, others: &Cells) -> bool
+        ensures { result ≡ true → (f : ℕ) → listed_value self.now f ≡ listed_value others.now f }
+    {
+        let (own, theirs) = (self.table.entries(), others.table.entries());
+        if own.len() != theirs.len() {
+            return false;
+        }
+        for at in 0..own.len() {
+            let (a, b) = (&own[at], &theirs[at]);
+            if a.0 != b.0 || !a.1.is_like(&b.1) {
+                return false;
+            }
+        }
+        true
+    }
+
     /// These cells, and over them what others are behind a change.
     #[tactic(auto, unfolding(crate::specs::Tables::listed_value))]
     pub(crate) fn under(
@@ -315,6 +333,25 @@ impl Processes {
     {
         let table = self.table.clone()?;
         Ok(Processes { table })
+    }
+
+    /// Whether others list the same processes, alike in what becomes of each, by comparing their entries. No is a safe
+    /// answer.
+    #[tactic(auto, unfolding(crate::specs::Tables::process_at))]
+    pub(crate) fn is_like(&self, others: &Processes) -> bool
+        ensures { result ≡ true → (p : ℕ) → AreAlike p (process_at self.now p) (process_at others.now p) }
+    {
+        let (own, theirs) = (self.table.entries(), others.table.entries());
+        if own.len() != theirs.len() {
+            return false;
+        }
+        for at in 0..own.len() {
+            let (a, b) = (&own[at], &theirs[at]);
+            if a.0 != b.0 || !a.1.is_like(&b.1) {
+                return false;
+            }
+        }
+        true
     }
 
     /// These processes, and over them what others are behind a change.

@@ -18,7 +18,7 @@ pub enum Value {
 }
 
 /// A mode after a segment: one that is known, or that of a process before it.
-#[derive(Clone, Copy)]
+#[derive(Clone, Copy, PartialEq, Eq)]
 pub enum ModeValue {
     /// It is this mode, whatever the state before.
     Fixed(Mode),
@@ -27,7 +27,7 @@ pub enum ModeValue {
 }
 
 /// How a whole table of cells was handed on.
-#[derive(Clone, Copy)]
+#[derive(Clone, Copy, PartialEq, Eq)]
 pub enum Passing {
     /// As it was.
     Same,
@@ -36,7 +36,7 @@ pub enum Passing {
 }
 
 /// The cells that no list has: all alike, or those of a process before the segment.
-#[derive(Clone, Copy)]
+#[derive(Clone, Copy, PartialEq, Eq)]
 pub enum Others {
     /// Each is this cell.
     Alike(Cell),

@@ -1,0 +1,142 @@
+-- Tables and lists of conditions whose entries are alike one by one.
+use Rattle.std.proofs.Common.{◌≡◌, ℕ, ◌+◌, ◌<◌, ◌≤◌, eqb, List, [], ◌∷◌, ◌++◌, Option, Some, None, Bool, true, false}
+use Rattle.std.proofs.Common.{take, get_or, length, map, cond, refl, sym, ap, ◌∙◌}
+use Rattle.std.proofs.Math.Path.{fun_ext}
+use Rattle.std.proofs.lemmas.List.{map_more, take_all}
+use Rattle.std.specs.Prelude.{option_map}
+use Rattle.std.specs.declared.rc.Rc.{Rc}
+use Rattle.std.specs.declared.alloc.Global.{Global}
+use Rattle.cap_machine.specs.State.{State}
+use Rattle.cap_machine.proofs.Turns.{same_state}
+use Rattle.cap_summary.specs.declared.values.Value.{Value}
+use Rattle.cap_summary.specs.declared.values.ModeValue.{ModeValue}
+use Rattle.cap_summary.specs.declared.change.Process.{Process}
+use Rattle.cap_summary.specs.declared.change.Change.{Change}
+use Rattle.cap_summary.specs.declared.kept.Kept.{Kept}
+use Rattle.cap_summary.specs.declared.tables.Cells.{Cells}
+use Rattle.cap_summary.specs.declared.tables.Processes.{Processes}
+use Rattle.cap_summary.specs.Sorted.{found}
+use Rattle.cap_summary.specs.Values.{read_cell, read_mode}
+use Rattle.cap_summary.specs.Tables.{listed_value, process_at, kept_value, processes_shared}
+use Rattle.cap_summary.specs.Changes.{value_in, changed, AreAlike}
+
+-- ---- lists
+
+-- as far as a place two lists show the same of their items
+abbrev pub ShowSame : {X Y : Type 0} → (X → Y) → ℕ → List X → List X → Type 0
+ShowSame show i xs ys = map show (take i xs) ≡ map show (take i ys)
+
+pub shows_more : {X Y : Type 0} (show : X → Y) (xs ys : List X) (i : ℕ) (x y : X) → i < length xs → i < length ys
+    → x ≡ get_or xs i x → y ≡ get_or ys i y → show x ≡ show y → ShowSame show i xs ys → ShowSame show (i + 1) xs ys
+shows_more {X} {Y} show xs ys i x y within within2 at at2 is before =
+    map_more show xs i x within
+    ∙ ap (λ (l : List Y). l ++ show (get_or xs i x) ∷ []) before
+    ∙ ap (λ (v : Y). map show (take i ys) ++ v ∷ []) (ap show (sym at) ∙ is ∙ ap show at2)
+    ∙ sym (map_more show ys i y within2)
+
+pub shows_all : {X Y : Type 0} (show : X → Y) (xs ys : List X) (i : ℕ) → length xs ≤ i → length ys ≤ i
+    → ShowSame show i xs ys → map show xs ≡ map show ys
+shows_all {X} show xs ys i all all2 is =
+    ap (λ (l : List X). map show l) (sym (take_all i xs all)) ∙ is ∙ ap (λ (l : List X). map show l) (take_all i ys all2)
+
+-- ---- tables
+
+-- an entry with what is seen of its value
+abbrev pub entry_seen : {V W : Type 0} → (V → W) → ℕ × V → ℕ × W
+entry_seen see entry = (entry.0, see entry.1)
+
+if_seen : {V W : Type 0} (see : V → W) (b : Bool) (v : V) (o : Option V) (r : Option W) → option_map see o ≡ r
+    → option_map see (cond b (Some v) o) ≡ cond b (Some (see v)) r
+if_seen see true v o r is = refl
+if_seen see false v o r is = is
+
+-- what is seen of the value that is found
+found_seen : {V W : Type 0} (see : V → W) (l : List (ℕ × V)) (key : ℕ)
+    → option_map see (found l key) ≡ found (map (entry_seen see) l) key
+found_seen see [] key = refl
+found_seen see ((k, v) ∷ rest) key = if_seen see (eqb k key) v (found rest key) (found (map (entry_seen see) rest) key)
+    (found_seen see rest key)
+
+found_alike : {V W : Type 0} (see : V → W) (xs ys : List (ℕ × V)) (key : ℕ)
+    → map (entry_seen see) xs ≡ map (entry_seen see) ys → option_map see (found xs key) ≡ option_map see (found ys key)
+found_alike {V} {W} see xs ys key is =
+    found_seen see xs key ∙ ap (λ (l : List (ℕ × W)). found l key) is ∙ sym (found_seen see ys key)
+
+-- two tables, as far as a place; all their entries stand below it
+pub record TablesAlike {V W : Type 0} (see : V → W) (own theirs xs ys : List (ℕ × V)) (i : ℕ) : Type 0 where
+  pub own_is : xs ≡ own
+  pub theirs_is : ys ≡ theirs
+  pub own_all : length xs ≤ i
+  pub theirs_all : length ys ≤ i
+  pub same : ShowSame (entry_seen see) i xs ys
+
+tables_alike : {V W : Type 0} (see : V → W) (own theirs xs ys : List (ℕ × V)) (i : ℕ) → TablesAlike see own theirs xs ys i
+    → (key : ℕ) → option_map see (found own key) ≡ option_map see (found theirs key)
+tables_alike {V} see own theirs xs ys i alike key =
+    let entries : map (entry_seen see) xs ≡ map (entry_seen see) ys =
+    shows_all (entry_seen see) xs ys i alike.own_all alike.theirs_all alike.same in
+    ap (λ (l : List (ℕ × V)). option_map see (found l key)) (sym alike.own_is) ∙ found_alike see xs ys key entries
+    ∙ ap (λ (l : List (ℕ × V)). option_map see (found l key)) alike.theirs_is
+
+pub cells_alike : (own theirs : Cells) (xs ys : List (ℕ × Kept)) (i : ℕ)
+    → TablesAlike kept_value own.table theirs.table xs ys i → (f : ℕ) → listed_value own f ≡ listed_value theirs f
+unfolding listed_value
+cells_alike own theirs xs ys i alike f = tables_alike kept_value own.table theirs.table xs ys i alike f
+
+-- ---- processes
+
+abbrev pair : {X Y : Type 0} → X → Y → X × Y
+pair x y = (x, y)
+
+-- what is seen of a process: its cells, and its mode
+abbrev pub seen_of : Process → (ℕ → Value) × ModeValue
+seen_of d = (λ f. value_in d f, d.mode)
+
+abbrev pub seen_shared : Rc Process Global → (ℕ → Value) × ModeValue
+seen_shared process = seen_of process.value
+
+both_seen : (k l : ℕ) (d e : Process) → k ≡ l → ((f : ℕ) → value_in d f ≡ value_in e f) → d.mode ≡ e.mode
+    → pair k (seen_of d) ≡ pair l (seen_of e)
+both_seen k l d e key cells mode = ap (λ (n : ℕ). pair n (seen_of d)) key
+    ∙ ap (λ (r : ℕ → Value). pair l (pair r d.mode)) (fun_ext cells)
+    ∙ ap (λ (r : ModeValue). pair l (pair (λ f. value_in e f) r)) mode
+
+pub entries_seen : (x y : ℕ × Rc Process Global) (d e : Process) → x.0 ≡ y.0 → d ≡ x.1.value → e ≡ y.1.value
+    → ((f : ℕ) → value_in d f ≡ value_in e f) → d.mode ≡ e.mode → entry_seen seen_shared x ≡ entry_seen seen_shared y
+entries_seen x y d e key first second cells mode =
+    ap (λ (r : Process). pair x.0 (seen_of r)) (sym first)
+    ∙ both_seen x.0 y.0 d e key cells mode
+    ∙ ap (λ (r : Process). pair y.0 (seen_of r)) second
+
+-- ---- changes
+
+option_seen : (p : ℕ) (own theirs : Option Process) → option_map seen_of own ≡ option_map seen_of theirs
+    → AreAlike p own theirs
+option_seen p None None is = record { cells = λ f. refl; mode = refl; listed = refl }
+option_seen p None (Some e) is = absurd cc
+option_seen p (Some d) None is = absurd cc
+option_seen p (Some d) (Some e) is = let both : seen_of d ≡ seen_of e = cc in record {
+  cells = λ f. ap (λ (r : (ℕ → Value) × ModeValue). r.0 f) both;
+  mode = ap (λ (r : (ℕ → Value) × ModeValue). r.1) both;
+  listed = refl;
+}
+
+option_shared : (o : Option (Rc Process Global)) → option_map seen_of (processes_shared o) ≡ option_map seen_shared o
+option_shared None = refl
+option_shared (Some process) = refl
+
+pub processes_alike : (own theirs : Processes) (xs ys : List (ℕ × Rc Process Global)) (i : ℕ)
+    → TablesAlike seen_shared own.table theirs.table xs ys i → (p : ℕ) → AreAlike p (process_at own p) (process_at theirs p)
+unfolding process_at
+processes_alike own theirs xs ys i alike p =
+    let a = found own.table p in
+    let b = found theirs.table p in
+    option_seen p (processes_shared a) (processes_shared b)
+    (option_shared a ∙ tables_alike seen_shared own.table theirs.table xs ys i alike p ∙ sym (option_shared b))
+
+pub changes_alike : (a b : Change)
+    → ((p : ℕ) → AreAlike p (process_at a.processes p) (process_at b.processes p)) → (s : State)
+    → changed a s ≡ changed b s
+changes_alike a b alike s = same_state (changed a s) (changed b s)
+    (λ p f. ap (λ (v : Value). read_cell s v) ((alike p).cells f))
+    (λ p. ap (λ (m : ModeValue). read_mode s m) (alike p).mode)

@@ -1,0 +1,122 @@
+//! Whether two changes are alike, and the parts of what a table or a list of conditions keeps. Entries are compared one
+//! by one, up to the first that differs; nothing is allocated.
+
+ghost use Rattle.std.specs.Prelude.{◌≡◌, ℕ, true};
+ghost use Rattle.cap_machine.specs.State.{State};
+ghost use Rattle.cap_summary.specs.Tables.{kept_value};
+ghost use Rattle.cap_summary.specs.Changes.{value_in, changed, is_listed};
+
+use crate::change::{Change, Process};
+use crate::conditions::{CellTest, HeldTest, Refused, Source};
+use crate::kept::Kept;
+use crate::values::Base;
+use cap_machine::{Cell, HeldOp, Op};
+
+fn equal_cells(a: &Cell, b: &Cell) -> bool
+    ensures { result ≡ true → a.now ≡ b.now }
+{
+    a == b
+}
+
+fn equal_held(a: &HeldOp, b: &HeldOp) -> bool
+    ensures { result ≡ true → a.now ≡ b.now }
+{
+    a == b
+}
+
+/// Whether two ops do the same to each kind of cell. No is a safe answer.
+#[tactic(auto, using(crate::proofs::Staying::same_parts))]
+fn equal_ops(a: &Op, b: &Op) -> bool
+    ensures { result ≡ true → a.now ≡ b.now }
+{
+    if !equal_cells(&a.unknown, &b.unknown) || !equal_cells(&a.closed, &b.closed) {
+        return false;
+    }
+    if !equal_held(&a.set, &b.set) || !equal_held(&a.clear, &b.clear) {
+        return false;
+    }
+    equal_held(&a.unsure, &b.unsure)
+}
+
+fn equal_bases(a: &Base, b: &Base) -> bool
+    ensures { result ≡ true → a.now ≡ b.now }
+{
+    a.closed_from == b.closed_from && a.others == b.others
+}
+
+fn equal_held_tests(a: &HeldTest, b: &HeldTest) -> bool
+    ensures { result ≡ true → a.now ≡ b.now }
+{
+    a == b
+}
+
+fn equal_tests(a: &CellTest, b: &CellTest) -> bool
+    ensures { result ≡ true → a.now ≡ b.now }
+{
+    if a.unknown != b.unknown || a.closed != b.closed {
+        return false;
+    }
+    equal_held_tests(&a.set, &b.set)
+        && equal_held_tests(&a.clear, &b.clear)
+        && equal_held_tests(&a.unsure, &b.unsure)
+}
+
+/// Whether two sources test the same cell in the same way. No is a safe answer.
+pub(crate) fn equal_sources(a: &Source, b: &Source) -> bool
+    ensures { result ≡ true → a.now ≡ b.now }
+{
+    a.pid == b.pid && a.fd == b.fd && equal_tests(&a.test, &b.test)
+}
+
+fn equal_parts(a: &Option<Source>, b: &Option<Source>) -> bool
+    ensures { result ≡ true → a.now ≡ b.now }
+{
+    match (a, b) {
+        (None, None) => true,
+        (Some(a), Some(b)) => equal_sources(a, b),
+        _ => false,
+    }
+}
+
+/// Whether two refusals have the same parts. No is a safe answer.
+pub(crate) fn equal_refusals(a: &Refused, b: &Refused) -> bool
+    ensures { result ≡ true → a.now ≡ b.now }
+{
+    a.mode == b.mode && equal_parts(&a.first, &b.first) && equal_parts(&a.second, &b.second)
+}
+
+impl Kept {
+    /// Whether another one keeps the same value. No is a safe answer.
+    pub(crate) fn is_like(&self, other: &Kept) -> bool
+        ensures { result ≡ true → kept_value self.now ≡ kept_value other.now }
+    {
+        match (self, other) {
+            (Kept::Fixed(a), Kept::Fixed(b)) => a == b,
+            (Kept::Of(p, f, a), Kept::Of(q, g, b)) => p == q && f == g && equal_ops(a, b),
+            _ => false,
+        }
+    }
+}
+
+impl Process {
+    /// Whether another one has the same cells and the same mode. No is a safe answer.
+    pub(crate) fn is_like(&self, other: &Process) -> bool
+        ensures cells { result ≡ true → (f : ℕ) → value_in self.now f ≡ value_in other.now f }
+        ensures mode { result ≡ true → self.now.mode ≡ other.now.mode }
+    {
+        self.mode == other.mode
+            && equal_bases(&self.base, &other.base)
+            && self.cells.is_like(&other.cells)
+    }
+}
+
+impl Change {
+    /// Whether another change does the same and lists the same processes, by comparing their entries. No is a safe
+    /// answer.
+    pub(crate) fn is_like(&self, other: &Change) -> bool
+        ensures changes { result ≡ true → (s : State) → changed self.now s ≡ changed other.now s }
+        ensures listed { result ≡ true → (p : ℕ) → is_listed self.now p ≡ is_listed other.now p }
+    {
+        self.processes.is_like(&other.processes)
+    }
+}
