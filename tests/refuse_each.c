@@ -3,7 +3,7 @@
 // A mark is an allocation of a size that nothing else has. Between BEGIN and END each allocation forks. The copy is refused
 // it and goes on to RIGHT, where it ends well. This process waits for the copy, ends where the copy didn't end well, and
 // goes on with memory. LACKED says that a call answered that memory ran out: a process that was refused nothing ends there.
-// For each refusal a byte is written to the descriptor that REFUSALS names.
+// For each refusal an `r` is written to the descriptor that REFUSALS names, and for each that was answered so an `a`.
 #define _GNU_SOURCE
 #include <dlfcn.h>
 #include <errno.h>
@@ -18,8 +18,15 @@ static int between, was_refused;
 static long allocations;
 
 static void end(const char *why) {
+    between = 0;
     dprintf(2, "at allocation %ld between marks: %s\n", allocations, why);
     _exit(97);
+}
+
+static void count(const char *what) {
+    const char *refusals = getenv("REFUSALS");
+    if (refusals && write(atoi(refusals), what, 1) != 1)
+        end("the refusal couldn't be counted");
 }
 
 static void look_at_mark(size_t size) {
@@ -29,6 +36,8 @@ static void look_at_mark(size_t size) {
         between = 0;
     else if (size == LACKED && !was_refused)
         end("the call answers that memory ran out, and none was refused");
+    else if (size == LACKED)
+        count("a");
     else if (size == RIGHT && was_refused)
         _exit(0);
 }
@@ -50,9 +59,7 @@ static int refuses(size_t size) {
     int status;
     if (waitpid(copy, &status, 0) < 0 || status != 0)
         end("the copy that was refused it didn't end well");
-    const char *refusals = getenv("REFUSALS");
-    if (refusals && write(atoi(refusals), "x", 1) != 1)
-        end("the refusal couldn't be counted");
+    count("r");
     return 0;
 }
 

@@ -9,6 +9,8 @@ mod lines;
 #[cfg(test)]
 mod machine;
 #[cfg(test)]
+mod making;
+#[cfg(test)]
 mod marks;
 #[cfg(test)]
 mod reports;

@@ -131,6 +131,72 @@ fn edits_refused(rt: HostRuntime) -> Result<(), Fail> {
     Ok(())
 }
 
+/// An edit that is refused for its position, and one that takes the limit out.
+static TWO: [Edit<'static>; 2] = [Edit::Delete { position: 9 }, Edit::Delete { position: 2 }];
+
+#[test]
+fn apply_refused(rt: HostRuntime) -> Result<(), Fail> {
+    let alloc = rt.alloc();
+    let mut session = session_of(alloc)?;
+    Mark::Begin.set(alloc)?;
+    let first = session.apply(&TWO);
+    Mark::End.set(alloc)?;
+    let lacks = match first {
+        Ok(answers) => {
+            assert_eq!(rt; answers.len(), 2);
+            assert_eq!(rt; answers.first(), Some(&Err(Refused::Position)));
+            answers.get(1) == Some(&Err(Refused::Memory))
+        }
+        Err(refused) => {
+            assert_eq!(rt; refused, Refused::Memory);
+            true
+        }
+    };
+    if lacks {
+        Mark::Lacked.set(alloc)?;
+        assert_eq!(rt; session.count(), 8);
+        assert_eq!(rt; session.report()?.as_slice(), REPORT);
+        session.apply(&TWO)?;
+    }
+    assert_eq!(rt; session.count(), 7);
+    assert_eq!(rt; session.report()?.as_slice(), SHORTER);
+    Mark::Right.set(alloc)?;
+    Ok(())
+}
+
+#[test]
+fn report_after_refused(rt: HostRuntime) -> Result<(), Fail> {
+    let alloc = rt.alloc();
+    let mut session = session_of(alloc)?;
+    Mark::Begin.set(alloc)?;
+    let first = session.report_after(&TWO[1..]);
+    Mark::End.set(alloc)?;
+    let report = match first {
+        Ok(edited) => edited.report,
+        Err(refused) => Err(refused),
+    };
+    match report {
+        Ok(text) if session.count() == 7 => assert_eq!(rt; text.as_slice(), SHORTER),
+        Ok(text) => {
+            Mark::Lacked.set(alloc)?;
+            assert_eq!(rt; text.as_slice(), REPORT);
+        }
+        Err(refused) => {
+            Mark::Lacked.set(alloc)?;
+            assert_eq!(rt; refused, Refused::Memory);
+        }
+    }
+    if session.count() == 8 {
+        assert_eq!(rt; session.report()?.as_slice(), REPORT);
+        let edited = session.report_after(&TWO[1..])?;
+        assert_eq!(rt; edited.report?.as_slice(), SHORTER);
+    }
+    assert_eq!(rt; session.count(), 7);
+    assert_eq!(rt; session.report()?.as_slice(), SHORTER);
+    Mark::Right.set(alloc)?;
+    Ok(())
+}
+
 #[test]
 fn show_refused(rt: HostRuntime) -> Result<(), Fail> {
     let alloc = rt.alloc();

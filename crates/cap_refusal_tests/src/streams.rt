@@ -2,7 +2,10 @@
 
 use crate::marks::Mark;
 use cap_machine::Profile;
-use cap_session::{Outcome, check_stream_as, check_stream_from_as, edit_stream_as};
+use cap_session::{
+    Failed, Outcome, Source, check_stream, check_stream_as, check_stream_from,
+    check_stream_from_as, edit_stream, edit_stream_as,
+};
 use cap_session_tests::devices::{Kept, Pieces};
 use std::alloc::Global;
 use std::test::Fail;
@@ -26,30 +29,36 @@ static REPLIES: [(Outcome, &[u8]); 3] = [
     (Outcome::Clean, b"ok 4\nrefused E9\n"),
 ];
 
-/// A call of a stream.
+/// A call of a stream, with a profile or without.
 #[derive(Clone, Copy, Drop)]
 enum Call {
     Check,
+    CheckAs,
     CheckFrom,
+    CheckFromAs,
     Edit,
+    EditAs,
 }
 
 /// The outcome of a call, and what it wrote.
 fn streamed(alloc: Global, call: Call) -> (Outcome, Kept) {
     let mut trace = Pieces::new(TRACE, 64, 0);
     let mut other = match call {
-        Call::Check => Pieces::new(b"", 64, 0),
-        Call::CheckFrom => Pieces::new(START, 64, 0),
-        Call::Edit => Pieces::new(SCRIPT, 64, 0),
+        Call::Check | Call::CheckAs => Pieces::new(b"", 64, 0),
+        Call::CheckFrom | Call::CheckFromAs => Pieces::new(START, 64, 0),
+        Call::Edit | Call::EditAs => Pieces::new(SCRIPT, 64, 0),
     };
     let mut kept = Kept::new(64, 256);
     let profile = Profile::Two;
     let outcome = match call {
-        Call::Check => check_stream_as(alloc, profile, 4096, &mut trace, &mut kept),
-        Call::CheckFrom => {
+        Call::Check => check_stream(alloc, 4096, &mut trace, &mut kept),
+        Call::CheckAs => check_stream_as(alloc, profile, 4096, &mut trace, &mut kept),
+        Call::CheckFrom => check_stream_from(alloc, 4096, &mut other, &mut trace, &mut kept),
+        Call::CheckFromAs => {
             check_stream_from_as(alloc, profile, 4096, &mut other, &mut trace, &mut kept)
         }
-        Call::Edit => edit_stream_as(alloc, profile, 4096, &mut trace, &mut other, &mut kept),
+        Call::Edit => edit_stream(alloc, 4096, &mut trace, &mut other, &mut kept),
+        Call::EditAs => edit_stream_as(alloc, profile, 4096, &mut trace, &mut other, &mut kept),
     };
     (outcome, kept)
 }
@@ -57,7 +66,12 @@ fn streamed(alloc: Global, call: Call) -> (Outcome, Kept) {
 #[test]
 fn check_streams_refused(rt: HostRuntime) -> Result<(), Fail> {
     let alloc = rt.alloc();
-    for call in [Call::Check, Call::CheckFrom] {
+    for call in [
+        Call::Check,
+        Call::CheckAs,
+        Call::CheckFrom,
+        Call::CheckFromAs,
+    ] {
         Mark::Begin.set(alloc)?;
         let first = streamed(alloc, call);
         Mark::End.set(alloc)?;
@@ -76,27 +90,87 @@ fn check_streams_refused(rt: HostRuntime) -> Result<(), Fail> {
 }
 
 #[test]
-fn edit_stream_refused(rt: HostRuntime) -> Result<(), Fail> {
+fn edit_streams_refused(rt: HostRuntime) -> Result<(), Fail> {
     let alloc = rt.alloc();
-    Mark::Begin.set(alloc)?;
-    let (outcome, kept) = streamed(alloc, Call::Edit);
-    Mark::End.set(alloc)?;
-    if (outcome, kept.text()) != REPLIES[0] {
-        Mark::Lacked.set(alloc)?;
-        if outcome == Outcome::Memory {
-            let written = kept.text();
-            assert!(rt; written.is_empty() || REPLIES.iter().any(|(_, text)| *text == written));
-        } else {
-            assert!(rt;
-                REPLIES
-                    .iter()
-                    .any(|(ended, text)| *ended == outcome && *text == kept.text())
-            );
+    for call in [Call::Edit, Call::EditAs] {
+        Mark::Begin.set(alloc)?;
+        let (outcome, kept) = streamed(alloc, call);
+        Mark::End.set(alloc)?;
+        if (outcome, kept.text()) != REPLIES[0] {
+            Mark::Lacked.set(alloc)?;
+            if outcome == Outcome::Memory {
+                let written = kept.text();
+                assert!(rt; written.is_empty() || REPLIES.iter().any(|(_, text)| *text == written));
+            } else {
+                assert!(rt;
+                    REPLIES
+                        .iter()
+                        .any(|(ended, text)| *ended == outcome && *text == kept.text())
+                );
+            }
         }
+        let (outcome, kept) = streamed(alloc, call);
+        assert_eq!(rt; outcome, Outcome::Clean);
+        assert_eq!(rt; kept.text(), REPLIES[0].1);
+        Mark::Right.set(alloc)?;
     }
-    let (outcome, kept) = streamed(alloc, Call::Edit);
-    assert_eq!(rt; outcome, Outcome::Clean);
-    assert_eq!(rt; kept.text(), REPLIES[0].1);
+    Ok(())
+}
+
+/// A script that comes a line at a time, with marks around what is done about its first line.
+#[derive(Drop)]
+struct Marked<S> {
+    script: S,
+    reads: u32,
+    alloc: Global,
+}
+
+impl<S: Source> Source for Marked<S> {
+    ghost state = { λ s. S.state s.script };
+
+    fn read(&mut self, buffer: &mut [u8]) -> Result<usize, Failed> {
+        if self.reads == 1 {
+            let _ = Mark::End.set(self.alloc);
+        }
+        let result = self.script.read(buffer);
+        if self.reads == 0 {
+            let _ = Mark::Begin.set(self.alloc);
+        }
+        self.reads = self.reads.saturating_add(1);
+        result
+    }
+
+    fn room(&self) -> u64 {
+        self.script.room()
+    }
+}
+
+/// Each allocation inside `delete 2` is refused in turn. Where the command can't do without it, it is answered so, and
+/// the trace is reported as it was.
+#[test]
+fn delete_in_a_script_refused(rt: HostRuntime) -> Result<(), Fail> {
+    let alloc = rt.alloc();
+    let mut trace = Pieces::new(TRACE, 64, 0);
+    let mut script = Marked {
+        script: Pieces::new(SCRIPT, 9, 0),
+        reads: 0,
+        alloc,
+    };
+    let mut kept = Kept::new(64, 256);
+    let outcome = edit_stream_as(
+        alloc,
+        Profile::Two,
+        4096,
+        &mut trace,
+        &mut script,
+        &mut kept,
+    );
+    if outcome == Outcome::Clean {
+        assert_eq!(rt; kept.text(), REPLIES[0].1);
+    } else {
+        Mark::Lacked.set(alloc)?;
+        assert_eq!(rt; (outcome, kept.text()), REPLIES[1]);
+    }
     Mark::Right.set(alloc)?;
     Ok(())
 }

@@ -18,10 +18,11 @@ enum Edit {
     Remove(usize),
 }
 
-/// Inserts near both ends, replaces, and then removes behind the middle.
+/// Inserts near both ends, replaces, and then removes behind the middle: leaves split, merge and vanish, and there are
+/// single and double rotations from both sides.
 fn edit_at(turn: u32, len: usize) -> Edit {
     if turn < 40 {
-        Edit::Insert(8)
+        Edit::Insert(24)
     } else if turn < 80 {
         Edit::Insert(len.saturating_sub(24))
     } else if turn < 85 {

@@ -1,5 +1,5 @@
 //! [`Counted`] makes a reader or a writer of the stream calls from any `Read` or `Write`: one call of the device for
-//! each call, none after a failure, and counts of both.
+//! each call, also where the device fails, and counts of both.
 ghost use Rattle.std.specs.Prelude.{◌≡◌, ◌+◌, ◌-◌, ◌^◌, ◌<◌, ◌≤◌};
 ghost use Rattle.cap_session.specs.Devices.{CountedDevice, nothing_counted, reads_left, faults_left};
 

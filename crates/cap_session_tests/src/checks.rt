@@ -250,10 +250,12 @@ impl<'a> Read for Given<'a> {
 struct Room {
     left: usize,
     taken: Vec<u8>,
+    writes: u64,
 }
 
 impl Write for Room {
     fn write(&mut self, bytes: &[u8]) -> io::Result<usize> {
+        self.writes = self.writes.saturating_add(1);
         let n = bytes.len().min(self.left);
         if self.taken.extend_from_slice(&bytes[..n]).is_err() {
             return Err(io::Error::from(ErrorKind::OutOfMemory));
@@ -286,6 +288,7 @@ fn devices_of_std_fail_only_where_they_do(rt: HostRuntime) -> Result<(), Fail> {
         let mut room = Room {
             left,
             taken: Vec::new(rt.alloc()),
+            writes: 0,
         };
         let mut reader = Counted::new(&mut given);
         let mut writer = Counted::new(&mut room);
@@ -319,6 +322,7 @@ fn a_long_report_is_written_whole(rt: HostRuntime) -> Result<(), Fail> {
     let mut room = Room {
         left: 200_000,
         taken: Vec::new(rt.alloc()),
+        writes: 0,
     };
     let mut writer = Counted::new(&mut room);
     let ended = ample(check_stream(rt.alloc(), 9, &mut reader, &mut writer))?;
@@ -366,14 +370,17 @@ fn a_counted_device_counts_its_calls(rt: HostRuntime) -> Result<(), Fail> {
     assert_eq!(rt; Source::read(&mut reader, &mut buffer), Ok(1));
     assert_eq!(rt; Source::read(&mut reader, &mut buffer), Ok(0));
     assert_eq!(rt; Source::room(&reader), u64::MAX - 4);
-    let mut writer = Counted::new(Room {
+    let mut room = Room {
         left: 3,
         taken: Vec::new(rt.alloc()),
-    });
+        writes: 0,
+    };
+    let mut writer = Counted::new(&mut room);
     assert_eq!(rt; Sink::write(&mut writer, b"ab"), Ok(2));
     assert_eq!(rt; Sink::write(&mut writer, b"cd"), Ok(1));
     assert_eq!(rt; Sink::write(&mut writer, b"d"), Err(Failed));
     assert_eq!(rt; Sink::room(&writer), u64::MAX - 1);
+    assert_eq!(rt; room.writes, 3);
     Ok(())
 }
 
