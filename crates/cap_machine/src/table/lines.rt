@@ -1,10 +1,12 @@
 //! What a line of a trace does to a table, and whether nothing is said of it. A line of a common form is judged and
 //! followed by itself; any other by its rule.
 
-ghost use Rattle.std.specs.Prelude.{◌≡◌, ℕ, [], OnOk, IsTrue, Option};
-ghost use Rattle.cap_trace.specs.Entry.{IsAnswer, kind_of};
+ghost use Rattle.std.specs.Prelude.{◌≡◌, ℕ, [], OnOk, IsTrue, Option, None};
+ghost use Rattle.cap_trace.specs.Entry.{IsAnswer, kind_of, fcntl_kind};
 ghost use Rattle.cap_machine.specs.Steps.{step};
 ghost use Rattle.cap_machine.specs.Touch.{on_fd, on_made, on_success, given, taken, closing, copied};
+ghost use Rattle.cap_machine.specs.Touch.{opened_below, open_flag, at_touch, fcntl_touch};
+ghost use Rattle.cap_machine.specs.Places.{below};
 ghost use Rattle.cap_machine.specs.Effect.{FitsMade};
 ghost use Rattle.cap_machine.specs.Op.{limit};
 ghost use Rattle.cap_machine.specs.Rule.{demand, call_demand, check_of, reply};
@@ -14,12 +16,26 @@ ghost use Rattle.cap_machine.specs.Table.{cell_of, state_of, Keeps, step_after, 
 
 use crate::cell::{Cell, Mode, OnExec, Op, Profile, without_full_of};
 use crate::effects::{effect_of, open_flag_of, socket_flag_of};
-use crate::needs::fd_needs_of;
+use crate::needs::{
+    at_flags_needs_of, at_needs_of, fcntl_needs_of, fd_needs_of, mmap_needs_of, send_needs_of,
+};
+use crate::places::below_of;
 use crate::rule::{Reply, demand_of_line};
 use crate::table::Table;
 use crate::verdict::Verdict;
 use cap_rights::{NoMemory, RightSet};
-use cap_trace::{Answer, Call, Fd, FdCall, FlagsCall, Item, Line, PathCall, Pid};
+use cap_trace::{Answer, AtFlagsCall, Call, Dir, Fd, FdCall, FlagsCall, Item, Line, PathCall, Pid};
+
+/// The cell of a file that was opened below no descriptor (openat(2)).
+fn opened_cell(dir: Dir, path: &[u8], flag: OnExec) -> Cell
+    ensures { (me : ℕ) → given result ≡ opened_below None dir path.now flag me }
+{
+    if dir == Dir::Cwd && !path.is_empty() {
+        Cell::Held(RightSet::all(), flag)
+    } else {
+        Cell::Unknown
+    }
+}
 
 impl Table {
     ghost use Rattle.cap_trace.specs.declared.line.Answer.{Answer};
@@ -45,11 +61,44 @@ impl Table {
         match call {
             Call::OnFd(FdCall::Closefrom, _) => true,
             Call::OnFd(call, fd) => self.may_have(pid, *fd, &fd_needs_of(*call)),
+            Call::Send(_, fd) => self.may_have(pid, *fd, &send_needs_of()),
+            Call::Dup2(fd, _) | Call::FcntlDup(_, fd, _) | Call::FcntlSetFd(fd, _) => {
+                self.may_have(pid, *fd, &RightSet::none())
+            }
+            Call::Fcntl(fd, command) => match fcntl_needs_of(command.as_bytes()) {
+                None => true,
+                Some(needs) => self.may_have(pid, *fd, &needs),
+            },
+            Call::Mmap(fd, protection, kind) => {
+                let needs = mmap_needs_of(protection.as_bytes(), kind.as_bytes());
+                self.may_have(pid, *fd, &needs)
+            }
             Call::RightsLimit(fd, asked) => self.may_have(pid, *fd, &without_full_of(asked)),
+            Call::At(call, dir, path) => match below_of(*dir, path.as_bytes()) {
+                None => self.mode(pid) != Mode::Inside,
+                Some(fd) => self.may_have(pid, fd, &at_needs_of(*call)),
+            },
+            Call::AtFlags(call, dir, path, flags) => match below_of(*dir, path.as_bytes()) {
+                None => self.mode(pid) != Mode::Inside,
+                Some(fd) => self.may_have(pid, fd, &at_flags_needs_of(*call, flags.as_bytes())),
+            },
             Call::Open(_, _) | Call::OnPath(_, _) | Call::OnPaths(_, _, _) => {
                 self.mode(pid) != Mode::Inside
             }
             Call::OnFlags(_, _) | Call::Bare(_) | Call::Other { .. } => true,
+            _ => false,
+        }
+    }
+
+    /// Whether nothing is said of a call that capability mode refused, where that is seen without its rule.
+    fn is_silent_refusal(&self, pid: Pid, call: &Call) -> bool
+        ensures { IsTrue result → (answer : Answer) → reply answer ≡ Reply.NotPermitted
+            → said_of (call_demand call.now answer) pid (state_of self.now) ≡ [] }
+    {
+        match call {
+            Call::Open(_, _) | Call::OnPath(_, _) | Call::OnPaths(_, _, _) => {
+                self.mode(pid) != Mode::Outside
+            }
             _ => false,
         }
     }
@@ -60,7 +109,8 @@ impl Table {
     {
         match &line.item {
             Item::Call { call, answer } => match answer {
-                Answer::Fault(93) | Answer::Fault(94) => false,
+                Answer::Fault(93) => false,
+                Answer::Fault(94) => self.is_silent_refusal(line.pid, call),
                 Answer::Fault(_) => true,
                 _ => self.is_silent_success(line.pid, call),
             },
@@ -125,6 +175,61 @@ impl Table {
         self.give_made(pid, cell, answer)
     }
 
+    /// openat(2).
+    fn open_at(
+        &mut self,
+        pid: Pid,
+        dir: Dir,
+        path: &[u8],
+        flags: &[u8],
+        answer: &Answer,
+    ) -> Result<(), NoMemory>
+        requires { FitsMade answer.now }
+        ensures { OnOk result (Keeps self.new (touched_by (on_made answer.now
+            (opened_below (below dir path.now) dir path.now (open_flag flags.now) pid) pid) (state_of self.old))) }
+    {
+        let flag = open_flag_of(flags);
+        match below_of(dir, path) {
+            Some(fd) => self.copy_made(pid, fd, flag, answer),
+            None => self.give_made(pid, opened_cell(dir, path, flag), answer),
+        }
+    }
+
+    /// A call at a directory, with flags.
+    fn follow_at(
+        &mut self,
+        pid: Pid,
+        call: AtFlagsCall,
+        dir: Dir,
+        path: &[u8],
+        flags: &[u8],
+        answer: &Answer,
+    ) -> Result<(), NoMemory>
+        requires { IsAnswer (kind_of (Call.AtFlags call dir path.now flags.now)) answer.now }
+        ensures { OnOk result (Keeps self.new (touched_by (at_touch call dir path.now flags.now answer.now pid)
+            (state_of self.old))) }
+    {
+        match call {
+            AtFlagsCall::Openat => self.open_at(pid, dir, path, flags, answer),
+            _ => Ok(()),
+        }
+    }
+
+    /// A command of fcntl(2) that names no descriptor.
+    fn fcntl(&mut self, pid: Pid, fd: Fd, command: &[u8], answer: &Answer) -> Result<(), NoMemory>
+        requires { IsAnswer (fcntl_kind command.now) answer.now }
+        ensures { OnOk result (Keeps self.new (touched_by (fcntl_touch command.now fd answer.now pid)
+            (state_of self.old))) }
+    {
+        if command == b"F_DUPFD".as_slice() {
+            self.copy_made(pid, fd, OnExec::Clear, answer)
+        } else if command == b"F_DUPFD_CLOEXEC".as_slice() {
+            self.copy_made(pid, fd, OnExec::Set, answer)
+        } else {
+            Ok(())
+        }
+    }
+
     /// cap_rights_limit(2).
     #[inline(never)]
     fn limit(&mut self, pid: Pid, fd: Fd, asked: &RightSet, answer: &Answer) -> Result<(), NoMemory>
@@ -184,6 +289,10 @@ impl Table {
                 let flag = open_flag_of(flags.as_bytes());
                 self.give_made(pid, Cell::Held(RightSet::all(), flag), answer)
             }
+            Call::AtFlags(call, dir, path, flags) => {
+                self.follow_at(pid, *call, *dir, path.as_bytes(), flags.as_bytes(), answer)
+            }
+            Call::Fcntl(fd, command) => self.fcntl(pid, *fd, command.as_bytes(), answer),
             Call::OnFlags(FlagsCall::Socket, flags) => {
                 let flag = socket_flag_of(flags.as_bytes());
                 self.give_made(pid, Cell::Held(RightSet::all(), flag), answer)
