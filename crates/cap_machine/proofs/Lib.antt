@@ -7,6 +7,7 @@ pub mod Quiet
 pub mod Ops
 pub mod Naming
 pub mod NamedFds
+pub mod OpenFlags
 pub mod Positions
 pub mod Tables
 pub mod Wording
