@@ -72,7 +72,7 @@ tree_far : (tree : Tree) (f : ℕ) → 1048576 ≤ f
     → cell_in_tree tree f ≡ after_steps tree.far.first tree.far.steps.items f
 unfolding cell_in_tree
 tree_far tree f above =
-    neither (nat_lt f 32) (nat_lt f 1048576) _ _ _ (not_below f 32 (omega arith)) (not_below f 1048576 above)
+    neither (nat_lt f 64) (nat_lt f 1048576) _ _ _ (not_below f 64 (omega arith)) (not_below f 1048576 above)
 
 cells_far : (cells : Cells) (f : ℕ) → 1048576 ≤ f → top_of cells.started.small.items ≤ f
     → top_of cells.started.large.items ≤ f

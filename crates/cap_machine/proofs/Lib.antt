@@ -6,6 +6,8 @@ pub mod NamedNeeds
 pub mod Quiet
 pub mod Ops
 pub mod Naming
+pub mod NamedFds
+pub mod OpenFlags
 pub mod Positions
 pub mod Tables
 pub mod Wording

@@ -1,5 +1,5 @@
 -- What a line can touch: its process and a child, and of single descriptors those that it names.
-use Rattle.std.specs.Prelude.{◌≡◌, ℕ, ◌≤◌, ◌==◌, ◌&&◌, ◌||◌, not, Bool, true, false, List, length}
+use Rattle.std.specs.Prelude.{◌≡◌, ℕ, ◌≤◌, ◌==◌, ◌&&◌, ◌||◌, not, Bool, true, false, List, [], ◌∷◌, length}
 use Rattle.std.specs.List.{list_any, All}
 use Rattle.cap_trace.specs.declared.line.Item.{Item}
 use Rattle.cap_trace.specs.declared.line.Item.TheVariants as items
@@ -16,7 +16,14 @@ use Rattle.cap_trace.specs.Entry.{Entry, Arg, an_fd, a_dir, args_of}
 use Rattle.cap_machine.specs.declared.step.Step.{Step}
 use Rattle.cap_machine.specs.declared.verdict.Found.{Found}
 use Rattle.cap_machine.specs.State.{State}
-use Rattle.cap_machine.specs.Touch.{kept, stays, touch, turn}
+use Rattle.cap_machine.specs.declared.cell.Op.{Op}
+use Rattle.cap_machine.specs.declared.rule.Check.{Check}
+use Rattle.cap_machine.specs.declared.rule.Effect.{Effect}
+use Rattle.cap_machine.specs.declared.rule.Effect.TheVariants.{Start, Give, GiveTwo, Change, ForkAs}
+use Rattle.cap_machine.specs.Touch.{kept, taken, stays, touch, turn}
+use Rattle.cap_machine.specs.Effect.{effect_touch}
+use Rattle.cap_machine.specs.Rule.{demand}
+use Rattle.cap_machine.specs.Judge.{listed}
 use Rattle.cap_machine.specs.Check.{check}
 
 -- a descriptor stands in an argument, in the answer, in the line
@@ -38,8 +45,11 @@ abbrev pub item_answer_names : ℕ → Item → Bool
 item_answer_names f (items.Call call answer) = answer_names f answer
 item_answer_names f _ = false
 
+abbrev pub args_name : ℕ → Entry → Bool
+args_name f line = list_any (arg_names f) (args_of line.item)
+
 abbrev pub names_fd : ℕ → Entry → Bool
-names_fd f line = list_any (arg_names f) (args_of line.item) || item_answer_names f line.item
+names_fd f line = args_name f line || item_answer_names f line.item
 
 -- fork(2), vfork(2), pdfork(2)
 abbrev pub is_fork : Call → Bool
@@ -86,6 +96,29 @@ OwnModes = (step : Step) (p : ℕ) → names_pid p step.line ≡ false → turn 
 abbrev pub NamedDescriptors : Type 0
 NamedDescriptors = (step : Step) (p f : ℕ) → is_whole_item step.line.item ≡ false → names_fd f step.line ≡ false
     → touch step p f ≡ kept
+
+-- a step takes a cell only from its own process, and from another descriptor only where both stand in the line
+abbrev pub NamedSources : Type 0
+NamedSources = (step : Step) (op : Op) (p f q g : ℕ) → touch step p f ≡ taken op q g → (q ≡ step.line.pid)
+    × ((f == g) ≡ false → (names_fd f step.line ≡ true) × (names_fd g step.line ≡ true))
+
+-- the descriptors that an effect has one by one
+abbrev pub fds_of : Effect → List ℕ
+fds_of (Start fds) = fds.now
+fds_of (Give f c) = f ∷ []
+fds_of (GiveTwo f g c) = f ∷ g ∷ []
+fds_of (Change f op g) = f ∷ g ∷ []
+fds_of (ForkAs child f) = f ∷ []
+fds_of effect = []
+
+-- they stand in the line
+abbrev pub NamedEffects : Type 0
+NamedEffects = (step : Step) (effect : Effect) → ((p f : ℕ) → effect_touch effect step.line.pid p f ≡ touch step p f)
+    → All (λ f. names_fd f step.line ≡ true) (fds_of effect)
+
+-- what a line is judged by speaks of no other descriptors than those of its arguments
+abbrev pub NamedChecks : Type 0
+NamedChecks = (line : Entry) → All (λ (check : Check). args_name check.fd line ≡ true) (listed (demand line).checks)
 
 -- each finding stands at a position of the trace, from 1
 abbrev pub PositionsWithin : Type 0

@@ -1,4 +1,4 @@
-//! The cells of a process: what is known of each of its descriptors. Those of the first 32 stand in one leaf, the
+//! The cells of a process: what is known of each of its descriptors. Those of the first 64 stand in one leaf, the
 //! others in a tree whose parts are shared between processes until they are written.
 
 ghost use Rattle.std.specs.Prelude.{◌≡◌, ℕ, ◌+◌, ◌≤◌, OnOk, IfOk, ◌==◌, nat_le, if◌then◌else◌};

@@ -4,8 +4,8 @@
 ghost use Rattle.std.specs.Prelude.{◌≡◌, ◌≤◌, ◌*◌, [], ◌∷◌, ◌++◌, ◌<◌, ◌^◌, ◌↔◌, List, IsTrue, IfOk, OnOk};
 
 use crate::cell::Profile;
-use crate::checking::take_line;
-use crate::report::{put_count, put_verdict};
+use crate::checking::put_said;
+use crate::report::put_count;
 use crate::start::Start;
 use crate::table::Table;
 use cap_rights::NoMemory;
@@ -99,8 +99,8 @@ impl Checker {
             → OnOk result (HasChecked self.new profile s (trace ++ line.now ∷ [])) }
     {
         let at = self.lines + 1;
-        let verdict = take_line(&mut self.table, self.profile, line)?;
-        let more = put_verdict(&mut self.text, at, line, &verdict)?;
+        let more = put_said(&mut self.text, at, line, &self.table)?;
+        self.table.follow(self.profile, line)?;
         self.lines = at;
         self.findings += more;
         Ok(())

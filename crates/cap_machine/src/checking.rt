@@ -1,18 +1,50 @@
 //! [`check`]: the findings of a whole trace. One line is judged and then moves the table on, as in the checker.
 
-ghost use Rattle.std.specs.Prelude.{◌≡◌, ◌++◌, map, IfOk, OnOk};
+ghost use Rattle.std.specs.Prelude.{◌≡◌, ◌≤◌, ◌++◌, map, length, flat_map, IfOk, OnOk};
 ghost use Rattle.cap_machine.specs.Steps.{step, steps};
-ghost use Rattle.cap_machine.specs.Check.{check, said, found_at};
+ghost use Rattle.cap_machine.specs.Rule.{demand};
+ghost use Rattle.cap_machine.specs.Report.{finding_line};
+ghost use Rattle.cap_machine.specs.Check.{check, said, said_of, found_at};
 ghost use Rattle.cap_machine.specs.Table.{Keeps, state_of, step_after, start_state};
 
 use crate::cell::Profile;
-use crate::rule::rule_of;
+use crate::report::put_verdict;
 use crate::start::Start;
 use crate::table::Table;
 use crate::verdict::{Found, Verdict};
 use cap_rights::NoMemory;
 use cap_trace::Line;
 use std::alloc::Global;
+
+/// What is said of a line by what is known before it.
+fn said_in(table: &Table, line: &Line) -> Verdict
+    ensures { result ≡ said_of (demand line.now) line.now.pid (state_of table.now) }
+{
+    if table.is_silent(line) {
+        Verdict::silent()
+    } else {
+        table.said_by_rule(line)
+    }
+}
+
+/// Appends what is said of the line at a position, and answers how many findings that is.
+pub(crate) fn put_said(
+    out: &mut Vec<u8>,
+    at: usize,
+    line: &Line,
+    table: &Table,
+) -> Result<usize, NoMemory>
+    ensures few { IfOk result (λ count. count ≤ 3) }
+    ensures count { IfOk result (λ count. count ≡ length (said_of (demand line.now) line.now.pid (state_of table.now))) }
+    ensures text { OnOk result (out.new.items ≡ out.old.items ++ flat_map (λ f. finding_line line.now (found_at at f))
+        (said_of (demand line.now) line.now.pid (state_of table.now))) }
+{
+    if table.is_silent(line) {
+        Ok(0)
+    } else {
+        put_verdict(out, at, line, &table.said_by_rule(line))
+    }
+}
 
 /// Judges a line by what is known before it, and moves what is known on.
 pub(crate) fn take_line(
@@ -23,9 +55,8 @@ pub(crate) fn take_line(
     ensures says { IfOk result (λ verdict. verdict ≡ said (step profile line.now) (state_of table.old)) }
     ensures moved { OnOk result (Keeps table.new (step_after (step profile line.now) (state_of table.old))) }
 {
-    let rule = rule_of(profile, line);
-    let verdict = table.said(line.pid, &rule.demand);
-    table.apply(line.pid, &rule.effect)?;
+    let verdict = said_in(table, line);
+    table.follow(profile, line)?;
     Ok(verdict)
 }
 

@@ -29,14 +29,14 @@ fn flag_where(is_asked: bool) -> OnExec
 }
 
 /// open(2), openat(2), pipe2(2).
-fn open_flag_of(flags: &[u8]) -> OnExec
+pub(crate) fn open_flag_of(flags: &[u8]) -> OnExec
     ensures { result ≡ open_flag flags.now }
 {
     flag_where(has_flag_of(flags, b"O_CLOEXEC"))
 }
 
 /// socket(2), socketpair(2).
-fn socket_flag_of(flags: &[u8]) -> OnExec
+pub(crate) fn socket_flag_of(flags: &[u8]) -> OnExec
     ensures { result ≡ socket_flag flags.now }
 {
     flag_where(has_flag_of(flags, b"SOCK_CLOEXEC"))

@@ -46,7 +46,8 @@ pub use cell::{Cell, HeldOp, Mode, OnExec, Op, Profile};
 pub use checker::Checker;
 pub use checking::check;
 pub use laws::{
-    no_alarm_lost, positions_are_within, profiles_agree, touches_what_it_names, traces_in_turn,
+    no_alarm_lost, positions_are_within, profiles_agree, rules_name_what_stands_there,
+    touches_what_it_names, traces_in_turn,
 };
 pub use machine::Machine;
 pub use report::{put_count, put_finding};

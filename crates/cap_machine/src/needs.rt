@@ -198,12 +198,24 @@ fn opening_needs_of(flags: &[u8]) -> RightSet
     create.join(&truncate.join(&sync.join(&lock)))
 }
 
+/// Flags of openat(2) that ask for no more than to read.
+static READING_FLAGS: [&[u8]; 5] = [
+    b"O_RDONLY",
+    b"O_CLOEXEC",
+    b"O_DIRECTORY",
+    b"O_NONBLOCK",
+    b"O_NOFOLLOW",
+];
+
 /// What openat(2) needs of the directory.
 #[tactic(auto, unfolding(crate::specs::Needs::openat_needs, crate::specs::Needs::named, cap_rights::specs::Names::table))]
 fn openat_needs_of(flags: &[u8]) -> RightSet
     ensures { result ≡ openat_needs flags.now }
 {
     let lookup = RightSet::named(RightBits::CAP_LOOKUP);
+    if all_known_of(&READING_FLAGS, flags) {
+        return lookup.join(&RightSet::named(RightBits::CAP_READ));
+    }
     if has_flag_of(flags, b"O_PATH") || has_flag_of(flags, b"O_SEARCH") {
         lookup
     } else {

@@ -147,6 +147,16 @@ pub fn rule_of(profile: Profile, line: &Line) -> Rule<'_>
     }
 }
 
+/// What a line is judged by.
+pub(crate) fn demand_of_line(line: &Line) -> Demand
+    ensures { result ≡ demand line.now }
+{
+    match &line.item {
+        Item::Call { call, answer } => demand_of(call, answer),
+        _ => unjudged_demand(),
+    }
+}
+
 /// Nothing is said of a marker.
 fn unjudged_demand() -> Demand
     ensures { result ≡ unjudged }

@@ -13,6 +13,7 @@ ghost use Rattle.cap_machine.specs.Op.{exec};
 ghost use Rattle.cap_machine.specs.Cells.Pending.{settled};
 
 mod index;
+mod lines;
 
 use crate::cell::{Cell, Mode};
 use crate::cells::{Cells, Pending, Remains};

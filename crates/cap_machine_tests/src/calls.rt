@@ -2,8 +2,8 @@
 
 use cap_machine::{
     Cell, Checks, Effect, Finding, Mode, OnExec, Profile, Rule, Step, Verdict, judge,
-    no_alarm_lost, positions_are_within, profiles_agree, rule_of, touches_what_it_names,
-    traces_in_turn,
+    no_alarm_lost, positions_are_within, profiles_agree, rule_of, rules_name_what_stands_there,
+    touches_what_it_names, traces_in_turn,
 };
 use cap_rights::parse_rights;
 use cap_trace::{Line, parse_line};
@@ -71,6 +71,7 @@ fn the_laws_are_called() -> Result<(), Fail> {
     profiles_agree();
     no_alarm_lost();
     touches_what_it_names();
+    rules_name_what_stands_there();
     positions_are_within();
     Ok(())
 }

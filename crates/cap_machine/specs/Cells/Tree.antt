@@ -6,7 +6,7 @@ use Rattle.cap_machine.specs.Cells.Parts.{in_leaf, in_shared}
 use Rattle.cap_machine.specs.Cells.High.{in_high}
 use Rattle.cap_machine.specs.Cells.Far.{in_far}
 
--- those of the first 32 descriptors, those of the others below 2 ^ 20, and all others
+-- those of the first 64 descriptors, those of the others below 2 ^ 20, and all others
 unfoldable pub cell_in_tree : Tree → ℕ → Cell
-cell_in_tree tree f = if nat_lt f 32 then in_shared in_leaf tree.low f
+cell_in_tree tree f = if nat_lt f 64 then in_shared in_leaf tree.low f
     else (if nat_lt f 1048576 then in_shared in_high tree.high f else in_far tree.far f)

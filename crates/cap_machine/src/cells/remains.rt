@@ -1,7 +1,7 @@
 //! What is left of cells that no process has any more. It is freed a few parts at a time, so that no line takes longer
 //! for the number of descriptors that a process had.
 
-ghost use Rattle.std.specs.Prelude.{◌≡◌, ℕ, ◌+◌, ◌-◌, ◌≤◌, nat_lt};
+ghost use Rattle.std.specs.Prelude.{◌≡◌, ℕ, ◌+◌, ◌-◌, ◌≤◌, nat_lt, IsTrue};
 ghost use Rattle.std.specs.Vec.{vec_len};
 ghost use Rattle.cap_machine.specs.Cells.Remains.{left_at_most};
 
@@ -111,8 +111,31 @@ impl Remains {
         true
     }
 
+    /// Whether nothing is left.
+    fn is_nothing(&self) -> bool
+        ensures { IsTrue result → left_at_most self.now ≡ 0 }
+    {
+        self.lower.is_empty()
+            && self.blocks.is_empty()
+            && self.middle.is_empty()
+            && self.regions.is_empty()
+            && self.upper.is_empty()
+            && self.highs.is_empty()
+    }
+
     /// Frees some parts, or all where there are fewer.
+    #[inline(always)]
     pub(crate) fn free_some(&mut self)
+        ensures { left_at_most self.new ≤ left_at_most self.old - 16 }
+    {
+        if !self.is_nothing() {
+            self.free_next();
+        }
+    }
+
+    /// Frees some parts, or all where there are fewer.
+    #[inline(never)]
+    fn free_next(&mut self)
         ensures { left_at_most self.new ≤ left_at_most self.old - 16 }
     {
         for _ in 0..FREED_AT_ONCE {

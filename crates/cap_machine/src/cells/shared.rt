@@ -10,6 +10,16 @@ use cap_rights::NoMemory;
 use std::alloc::{AllocError, Global};
 use std::rc::Rc;
 
+/// Does what is pending of a part to it.
+fn settle_part<T: Subtree>(part: &mut T, pending: Pending)
+    ensures { (f : ℕ) → T.has f → T.cell_at part.new f ≡ settled pending (T.cell_at part.old f) }
+{
+    match pending {
+        Pending::Nothing => {}
+        _ => part.settle(pending),
+    }
+}
+
 /// Writes one cell of a shared part with something pending, in a part of its own, in which then nothing is pending.
 pub(crate) fn write_part<T: Subtree>(
     part: &mut Rc<T>,
@@ -22,7 +32,7 @@ pub(crate) fn write_part<T: Subtree>(
         → T.cell_at part.new.value f ≡ (if f == fd then cell else settled pending (T.cell_at part.old.value f))) }
 {
     let below = Rc::make_mut(part)?;
-    below.settle(pending);
+    settle_part(below, pending);
     below.write(fd, cell)
 }
 
@@ -38,7 +48,7 @@ pub(crate) fn close_part<T: Subtree>(
         ≡ (if nat_le fd f then Cell.Closed else settled pending (T.cell_at part.old.value f))) }
 {
     let below = Rc::make_mut(part)?;
-    below.settle(pending);
+    settle_part(below, pending);
     below.close_from(fd)
 }
 

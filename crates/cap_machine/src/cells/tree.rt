@@ -17,10 +17,10 @@ use cap_rights::NoMemory;
 use cap_trace::Fd;
 use std::alloc::{AllocError, Global};
 
-/// One cell for each descriptor: those of the first 32 stand in one leaf, those of the others below 2 ^ 20 in a tree.
+/// One cell for each descriptor: those of the first 64 stand in one leaf, those of the others below 2 ^ 20 in a tree.
 #[derive(Drop)]
 pub(crate) struct Tree {
-    low: Shared<Leaf<32>>,
+    low: Shared<Leaf<64>>,
     high: Shared<High>,
     far: Far,
 }
@@ -43,7 +43,7 @@ impl Tree {
     pub(crate) fn cell(&self, fd: Fd) -> Cell
         ensures { result ≡ cell_in_tree self.now fd }
     {
-        if fd < 32 {
+        if fd < 64 {
             self.low.cell(fd as usize)
         } else if fd < 1_048_576 {
             self.high.cell(fd as usize)
@@ -58,7 +58,7 @@ impl Tree {
         ensures { OnOk result
             ((f : ℕ) → cell_in_tree self.new f ≡ (if f == fd then cell else cell_in_tree self.old f)) }
     {
-        if fd < 32 {
+        if fd < 64 {
             self.low.write(fd as usize, cell)
         } else if fd < 1_048_576 {
             self.high.write(fd as usize, cell)
@@ -83,7 +83,7 @@ impl Tree {
         ensures { OnOk result
             ((f : ℕ) → cell_in_tree self.new f ≡ (if nat_le fd f then Cell.Closed else cell_in_tree self.old f)) }
     {
-        if fd < 32 {
+        if fd < 64 {
             self.low.close_from(fd as usize)?;
             self.high.settle(Pending::Close);
             self.far.settle(Pending::Close)
@@ -95,7 +95,7 @@ impl Tree {
         }
     }
 
-    /// Hands on the cells at or above 32, which nobody else may have, as this tree is to be dropped.
+    /// Hands on the cells at or above 64, which nobody else may have, as this tree is to be dropped.
     pub(crate) fn hand_on(&self, remains: &mut Remains) -> Result<(), NoMemory>
         ensures { left_at_most remains.new ≤ left_at_most remains.old + 37449 }
     {

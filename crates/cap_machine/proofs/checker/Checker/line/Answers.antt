@@ -6,9 +6,9 @@ use Rattle.cap_machine.proofs.checker.Checker.line.Goals as goal
 pub returns : goal.returns
 returns c = record {
   checked = λ profile s trace before.
-      checked_more _ _ c.self.inside.table c.take_line.new.table c.args.line.now profile s trace
-      c.in_ok-verdict.verdict refl refl refl refl
+      checked_more _ _ c.self.inside.table c.follow.new.self c.args.line.now profile s trace
+      _ refl refl refl refl
       (ap (λ n. c.self.inside.findings + n) c.in_ok-more.ensures.count)
-      c.in_ok-more.ensures.text c.in_ok-verdict.ensures.says c.in_ok-verdict.ensures.moved
+      c.in_ok-more.ensures.text refl c.in_ok-follow.ensures
       (subst (λ (r : CheckerState). HasChecked r profile s trace) (sym c.self.view_is) before);
 }

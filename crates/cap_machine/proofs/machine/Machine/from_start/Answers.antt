@@ -1,5 +1,4 @@
 use Rattle.std.proofs.Common.{ap, ◌∙◌}
-use Rattle.cap_machine.specs.State.{State}
 use Rattle.cap_machine.specs.Table.{start_state, state_of}
 use Rattle.cap_machine.proofs.KnownTables.{state_known}
 use Rattle.cap_machine.proofs.OneMore.{state_kept}

@@ -2,7 +2,6 @@ use Rattle.std.proofs.Common.{◌≡◌, IfOk, ap, sym, ◌∙◌, subst}
 use Rattle.std.proofs.lemmas.Result.{on_ok_weaker}
 use Rattle.cap_machine.specs.declared.step.Step.{Step}
 use Rattle.cap_machine.specs.Steps.{step}
-use Rattle.cap_machine.specs.State.{State}
 use Rattle.cap_machine.specs.Check.{said}
 use Rattle.cap_machine.specs.Table.{start_state, state_of, step_after}
 use Rattle.cap_machine.proofs.KnownTables.{state_known}

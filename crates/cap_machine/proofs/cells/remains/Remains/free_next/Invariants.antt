@@ -1,6 +1,6 @@
 use Rattle.std.proofs.Common.{◌-◌, ◌≤◌}
 use Rattle.cap_machine.specs.Cells.Remains.{left_at_most}
-use Rattle.cap_machine.proofs.cells.remains.Remains.free_some.Given as goal
+use Rattle.cap_machine.proofs.cells.remains.Remains.free_next.Given as goal
 
 -- each turn so far freed a part, if there was one
 abbrev pub invariant-loop : goal.invariant-loop

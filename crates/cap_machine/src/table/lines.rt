@@ -1,0 +1,324 @@
+//! What a line of a trace does to a table, and whether nothing is said of it. A line of a common form is judged and
+//! followed by itself; any other by its rule.
+
+ghost use Rattle.std.specs.Prelude.{◌≡◌, ℕ, [], OnOk, IsTrue, Option, None};
+ghost use Rattle.cap_trace.specs.Entry.{IsAnswer, kind_of, fcntl_kind};
+ghost use Rattle.cap_machine.specs.Steps.{step};
+ghost use Rattle.cap_machine.specs.Touch.{on_fd, on_made, on_success, given, taken, closing, copied};
+ghost use Rattle.cap_machine.specs.Touch.{opened_below, open_flag, at_touch, fcntl_touch};
+ghost use Rattle.cap_machine.specs.Places.{below};
+ghost use Rattle.cap_machine.specs.Effect.{FitsMade};
+ghost use Rattle.cap_machine.specs.Op.{limit};
+ghost use Rattle.cap_machine.specs.Rule.{demand, call_demand, check_of, reply};
+ghost use Rattle.cap_machine.specs.Judge.{fault};
+ghost use Rattle.cap_machine.specs.Check.{said_of};
+ghost use Rattle.cap_machine.specs.Table.{cell_of, state_of, Keeps, step_after, call_after, touched_by};
+
+use crate::cell::{Cell, Mode, OnExec, Op, Profile, without_full_of};
+use crate::effects::{effect_of, open_flag_of, socket_flag_of};
+use crate::needs::{
+    at_flags_needs_of, at_needs_of, fcntl_needs_of, fd_needs_of, mmap_needs_of, send_needs_of,
+};
+use crate::places::below_of;
+use crate::rule::{Reply, demand_of_line};
+use crate::table::Table;
+use crate::verdict::Verdict;
+use cap_rights::{NoMemory, RightSet};
+use cap_trace::{Answer, AtFlagsCall, Call, Dir, Fd, FdCall, FlagsCall, Item, Line, PathCall, Pid};
+
+/// The cell of a file that was opened below no descriptor (openat(2)).
+fn opened_cell(dir: Dir, path: &[u8], flag: OnExec) -> Cell
+    ensures { (me : ℕ) → given result ≡ opened_below None dir path.now flag me }
+{
+    if dir == Dir::Cwd && !path.is_empty() {
+        Cell::Held(RightSet::all(), flag)
+    } else {
+        Cell::Unknown
+    }
+}
+
+impl Table {
+    ghost use Rattle.cap_trace.specs.declared.line.Answer.{Answer};
+    ghost use Rattle.cap_machine.specs.declared.rule.Word.{Word};
+
+    /// Whether a descriptor is known to have these rights, or nothing is known of it.
+    fn may_have(&self, pid: Pid, fd: Fd, needs: &RightSet) -> bool
+        ensures { IsTrue result → (word : Word) (excuse : Option ℕ)
+            → fault word (check_of fd needs.now excuse) (cell_of self.now pid fd) ≡ [] }
+    {
+        match self.cell(pid, fd) {
+            Cell::Unknown => true,
+            Cell::Closed => false,
+            Cell::Held(held, _) => held.has_all(needs),
+        }
+    }
+
+    /// Whether nothing is said of a call that succeeded, where that is seen without its rule.
+    fn is_silent_success(&self, pid: Pid, call: &Call) -> bool
+        ensures { IsTrue result → (answer : Answer) → reply answer ≡ Reply.Success
+            → said_of (call_demand call.now answer) pid (state_of self.now) ≡ [] }
+    {
+        match call {
+            Call::OnFd(FdCall::Closefrom, _) => true,
+            Call::OnFd(call, fd) => self.may_have(pid, *fd, &fd_needs_of(*call)),
+            Call::Send(_, fd) => self.may_have(pid, *fd, &send_needs_of()),
+            Call::Dup2(fd, _) | Call::FcntlDup(_, fd, _) | Call::FcntlSetFd(fd, _) => {
+                self.may_have(pid, *fd, &RightSet::none())
+            }
+            Call::Fcntl(fd, command) => match fcntl_needs_of(command.as_bytes()) {
+                None => true,
+                Some(needs) => self.may_have(pid, *fd, &needs),
+            },
+            Call::Mmap(fd, protection, kind) => {
+                let needs = mmap_needs_of(protection.as_bytes(), kind.as_bytes());
+                self.may_have(pid, *fd, &needs)
+            }
+            Call::RightsLimit(fd, asked) => self.may_have(pid, *fd, &without_full_of(asked)),
+            Call::At(call, dir, path) => match below_of(*dir, path.as_bytes()) {
+                None => self.mode(pid) != Mode::Inside,
+                Some(fd) => self.may_have(pid, fd, &at_needs_of(*call)),
+            },
+            Call::AtFlags(call, dir, path, flags) => match below_of(*dir, path.as_bytes()) {
+                None => self.mode(pid) != Mode::Inside,
+                Some(fd) => self.may_have(pid, fd, &at_flags_needs_of(*call, flags.as_bytes())),
+            },
+            Call::Open(_, _) | Call::OnPath(_, _) | Call::OnPaths(_, _, _) => {
+                self.mode(pid) != Mode::Inside
+            }
+            Call::OnFlags(_, _) | Call::Bare(_) | Call::Other { .. } => true,
+            _ => false,
+        }
+    }
+
+    /// Whether nothing is said of a call that capability mode refused, where that is seen without its rule.
+    fn is_silent_refusal(&self, pid: Pid, call: &Call) -> bool
+        ensures { IsTrue result → (answer : Answer) → reply answer ≡ Reply.NotPermitted
+            → said_of (call_demand call.now answer) pid (state_of self.now) ≡ [] }
+    {
+        match call {
+            Call::Open(_, _) | Call::OnPath(_, _) | Call::OnPaths(_, _, _) => {
+                self.mode(pid) != Mode::Outside
+            }
+            _ => false,
+        }
+    }
+
+    /// Whether nothing is said of a line, where that is seen without its rule; `false` says nothing.
+    pub(crate) fn is_silent(&self, line: &Line) -> bool
+        ensures { IsTrue result → said_of (demand line.now) line.now.pid (state_of self.now) ≡ [] }
+    {
+        match &line.item {
+            Item::Call { call, answer } => match answer {
+                Answer::Fault(93) => false,
+                Answer::Fault(94) => self.is_silent_refusal(line.pid, call),
+                Answer::Fault(_) => true,
+                _ => self.is_silent_success(line.pid, call),
+            },
+            _ => true,
+        }
+    }
+
+    /// What is said of a line, by its rule.
+    #[inline(never)]
+    pub(crate) fn said_by_rule(&self, line: &Line) -> Verdict
+        ensures { result ≡ said_of (demand line.now) line.now.pid (state_of self.now) }
+    {
+        self.said(line.pid, &demand_of_line(line))
+    }
+
+    /// A call does what its rule says.
+    #[inline(never)]
+    fn follow_rule(
+        &mut self,
+        profile: Profile,
+        pid: Pid,
+        call: &Call,
+        answer: &Answer,
+    ) -> Result<(), NoMemory>
+        requires { IsAnswer (kind_of call.now) answer.now }
+        ensures { OnOk result (Keeps self.new (call_after profile call.now answer.now pid (state_of self.old))) }
+    {
+        let effect = effect_of(profile, call, answer);
+        self.apply(pid, &effect)
+    }
+
+    /// close(2).
+    fn close(&mut self, pid: Pid, fd: Fd, answer: &Answer) -> Result<(), NoMemory>
+        ensures { OnOk result (Keeps self.new (touched_by (on_fd fd (closing answer.now) pid) (state_of self.old))) }
+    {
+        match answer {
+            Answer::Fault(9) => Ok(()),
+            Answer::Fault(_) => self.write(pid, fd, Cell::Unknown),
+            _ => self.write(pid, fd, Cell::Closed),
+        }
+    }
+
+    /// The descriptor that a call made gets this cell.
+    fn give_made(&mut self, pid: Pid, cell: Cell, answer: &Answer) -> Result<(), NoMemory>
+        requires { FitsMade answer.now }
+        ensures { OnOk result (Keeps self.new (touched_by (on_made answer.now (given cell) pid) (state_of self.old))) }
+    {
+        match answer {
+            Answer::Made(fd) => self.write(pid, *fd as Fd, cell),
+            _ => Ok(()),
+        }
+    }
+
+    /// The descriptor that a call made has the rights of this one, and this flag.
+    #[inline(never)]
+    fn copy_made(&mut self, pid: Pid, fd: Fd, flag: OnExec, answer: &Answer) -> Result<(), NoMemory>
+        requires { FitsMade answer.now }
+        ensures { OnOk result (Keeps self.new (touched_by (on_made answer.now (copied flag fd pid) pid)
+            (state_of self.old))) }
+    {
+        let cell = Op::derive(flag).on(self.cell(pid, fd));
+        self.give_made(pid, cell, answer)
+    }
+
+    /// openat(2).
+    fn open_at(
+        &mut self,
+        pid: Pid,
+        dir: Dir,
+        path: &[u8],
+        flags: &[u8],
+        answer: &Answer,
+    ) -> Result<(), NoMemory>
+        requires { FitsMade answer.now }
+        ensures { OnOk result (Keeps self.new (touched_by (on_made answer.now
+            (opened_below (below dir path.now) dir path.now (open_flag flags.now) pid) pid) (state_of self.old))) }
+    {
+        let flag = open_flag_of(flags);
+        match below_of(dir, path) {
+            Some(fd) => self.copy_made(pid, fd, flag, answer),
+            None => self.give_made(pid, opened_cell(dir, path, flag), answer),
+        }
+    }
+
+    /// A call at a directory, with flags.
+    fn follow_at(
+        &mut self,
+        pid: Pid,
+        call: AtFlagsCall,
+        dir: Dir,
+        path: &[u8],
+        flags: &[u8],
+        answer: &Answer,
+    ) -> Result<(), NoMemory>
+        requires { IsAnswer (kind_of (Call.AtFlags call dir path.now flags.now)) answer.now }
+        ensures { OnOk result (Keeps self.new (touched_by (at_touch call dir path.now flags.now answer.now pid)
+            (state_of self.old))) }
+    {
+        match call {
+            AtFlagsCall::Openat => self.open_at(pid, dir, path, flags, answer),
+            _ => Ok(()),
+        }
+    }
+
+    /// A command of fcntl(2) that names no descriptor.
+    fn fcntl(&mut self, pid: Pid, fd: Fd, command: &[u8], answer: &Answer) -> Result<(), NoMemory>
+        requires { IsAnswer (fcntl_kind command.now) answer.now }
+        ensures { OnOk result (Keeps self.new (touched_by (fcntl_touch command.now fd answer.now pid)
+            (state_of self.old))) }
+    {
+        if command == b"F_DUPFD".as_slice() {
+            self.copy_made(pid, fd, OnExec::Clear, answer)
+        } else if command == b"F_DUPFD_CLOEXEC".as_slice() {
+            self.copy_made(pid, fd, OnExec::Set, answer)
+        } else {
+            Ok(())
+        }
+    }
+
+    /// cap_rights_limit(2).
+    #[inline(never)]
+    fn limit(&mut self, pid: Pid, fd: Fd, asked: &RightSet, answer: &Answer) -> Result<(), NoMemory>
+        ensures { OnOk result (Keeps self.new (touched_by (on_success fd answer.now (taken (limit asked.now) pid fd) pid)
+            (state_of self.old))) }
+    {
+        match answer {
+            Answer::Fault(_) => Ok(()),
+            _ => {
+                let cell = Op::limit(asked).on(self.cell(pid, fd));
+                self.write(pid, fd, cell)
+            }
+        }
+    }
+
+    /// A call on one descriptor.
+    fn follow_fd_call(
+        &mut self,
+        profile: Profile,
+        pid: Pid,
+        call: &Call,
+        answer: &Answer,
+    ) -> Result<(), NoMemory>
+        requires { IsAnswer (kind_of call.now) answer.now }
+        ensures { OnOk result (Keeps self.new (call_after profile call.now answer.now pid (state_of self.old))) }
+    {
+        match call {
+            Call::OnFd(call_of, fd) => match call_of {
+                FdCall::Close => self.close(pid, *fd, answer),
+                FdCall::Dup => self.copy_made(pid, *fd, OnExec::Clear, answer),
+                FdCall::Closefrom
+                | FdCall::Accept
+                | FdCall::Fexecve
+                | FdCall::CapIoctlsLimit
+                | FdCall::CapFcntlsLimit => self.follow_rule(profile, pid, call, answer),
+                _ => Ok(()),
+            },
+            _ => self.follow_rule(profile, pid, call, answer),
+        }
+    }
+
+    /// A call.
+    fn follow_call(
+        &mut self,
+        profile: Profile,
+        pid: Pid,
+        call: &Call,
+        answer: &Answer,
+    ) -> Result<(), NoMemory>
+        requires { IsAnswer (kind_of call.now) answer.now }
+        ensures { OnOk result (Keeps self.new (call_after profile call.now answer.now pid (state_of self.old))) }
+    {
+        match call {
+            Call::OnFd(_, _) => self.follow_fd_call(profile, pid, call, answer),
+            Call::RightsLimit(fd, asked) => self.limit(pid, *fd, asked, answer),
+            Call::Open(_, flags) => {
+                let flag = open_flag_of(flags.as_bytes());
+                self.give_made(pid, Cell::Held(RightSet::all(), flag), answer)
+            }
+            Call::AtFlags(call, dir, path, flags) => {
+                self.follow_at(pid, *call, *dir, path.as_bytes(), flags.as_bytes(), answer)
+            }
+            Call::Fcntl(fd, command) => self.fcntl(pid, *fd, command.as_bytes(), answer),
+            Call::OnFlags(FlagsCall::Socket, flags) => {
+                let flag = socket_flag_of(flags.as_bytes());
+                self.give_made(pid, Cell::Held(RightSet::all(), flag), answer)
+            }
+            Call::OnPath(PathCall::Execve, _) => self.follow_rule(profile, pid, call, answer),
+            Call::OnPath(_, _)
+            | Call::OnPaths(_, _, _)
+            | Call::At(_, _, _)
+            | Call::Mmap(_, _, _)
+            | Call::Send(_, _)
+            | Call::SendTo(_, _)
+            | Call::Other { .. } => Ok(()),
+            _ => self.follow_rule(profile, pid, call, answer),
+        }
+    }
+
+    /// What is known after a line.
+    pub(crate) fn follow(&mut self, profile: Profile, line: &Line) -> Result<(), NoMemory>
+        ensures { OnOk result (Keeps self.new (step_after (step profile line.now) (state_of self.old))) }
+    {
+        self.remains.free_some();
+        match &line.item {
+            Item::Call { call, answer } => self.follow_call(profile, line.pid, call, answer),
+            Item::Start(fds) => self.start(line.pid, fds.as_slice()),
+            Item::Exit => self.exit(line.pid),
+            Item::Foreign(fd) => self.write(line.pid, *fd, Cell::Unknown),
+        }
+    }
+}
