@@ -18,3 +18,6 @@ pub mod Leaves
 pub mod Starts
 pub mod KnownTables
 pub mod StartedLists
+pub mod Origins
+pub mod ModeMatters
+pub mod Explained

@@ -22,3 +22,7 @@ pub mod Table
 pub mod Starts
 pub mod Known
 pub mod Checked
+pub mod Touched
+pub mod Origin
+pub mod Explain
+pub mod ExplainLaws

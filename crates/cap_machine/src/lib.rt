@@ -29,24 +29,33 @@ mod checking;
 mod composed;
 mod demands;
 mod effects;
+mod explaining;
 mod flags;
 mod laws;
 mod needs;
+mod origin;
+mod origin_laws;
 mod places;
 mod report;
 mod rule;
 mod start;
 mod step;
 mod table;
+mod touched;
 mod verdict;
 
 pub use cap_rights::NoMemory;
 pub use cell::{Cell, HeldOp, Mode, OnExec, Op, Profile};
 pub use checker::Checker;
 pub use checking::check;
+pub use explaining::{Explanation, explain};
 pub use laws::{
     no_alarm_lost, positions_are_within, profiles_agree, touches_what_it_names, traces_in_turn,
 };
+pub use origin::{
+    CellEnd, CellLink, CellOrigin, ModeEnd, ModeLink, ModeOrigin, origin_of_cell, origin_of_mode,
+};
+pub use origin_laws::mode_matters_where_it_decides;
 pub use report::{put_count, put_finding};
 pub use rule::{Check, Checks, Class, Demand, Effect, Reply, Rule, Word, rule_of};
 pub use start::Start;
