@@ -1,9 +1,9 @@
 -- Which line of a trace is explained.
-use Rattle.std.proofs.Common.{◌≡◌, ℕ, ◌+◌, ◌<◌, ◌≤◌, ◌==◌, if◌then◌else◌, Bool, false, List, [], ◌∷◌, ◌++◌}
+use Rattle.std.proofs.Common.{◌≡◌, ℕ, ◌+◌, ◌<◌, ◌≤◌, if◌then◌else◌, Bool, List, [], ◌∷◌, ◌++◌}
 use Rattle.std.proofs.Common.{length, take, drop, Some, None, refl, sym, ap, ◌∙◌, arith, length-append, eq-eqb}
 use Rattle.std.specs.List.{IsLastAndRest}
 use Rattle.std.proofs.lemmas.List.{take-append-drop, length-take-le}
-use Rattle.std.proofs.lemmas.Bool.Decides.{nat_tests}
+use Rattle.std.proofs.lemmas.Bool.{ne_eqb}
 use Rattle.cap_trace.specs.Entry.{Entry}
 use Rattle.cap_machine.specs.declared.cell.Profile.{Profile}
 use Rattle.cap_machine.specs.declared.step.Step.{Step}
@@ -12,15 +12,12 @@ use Rattle.cap_machine.specs.State.{State}
 use Rattle.cap_machine.specs.Explain.{explained, explained_at}
 use Rattle.cap_machine.proofs.Origins.{back, back-append, length-back}
 
-not_here : (k n : ℕ) → (k ≡ n → ⊥) → (k == n) ≡ false
-not_here k n ne = grind (arith, nat_tests, ne)
-
 -- a step that isn't at the position
 passed : (s : State) (step : Step) (history : List Step) (k : ℕ) → (k ≡ length history + 1 → ⊥)
     → explained_at s (step ∷ history) k ≡ explained_at s history k
 passed s step history k ne =
     ap (λ (b : Bool). if b then Some (explained s history step) else explained_at s history k)
-    (not_here k (length history + 1) ne)
+    (ne_eqb k (length history + 1) ne)
 
 past : (s : State) (history : List Step) (k : ℕ) → length history < k → explained_at s history k ≡ None
 past s [] k lt = refl

@@ -20,4 +20,6 @@ pub mod KnownTables
 pub mod StartedLists
 pub mod Origins
 pub mod ModeMatters
+pub mod CellChains
+pub mod ModeChains
 pub mod Explained

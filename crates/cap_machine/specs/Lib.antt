@@ -26,3 +26,4 @@ pub mod Touched
 pub mod Origin
 pub mod Explain
 pub mod ExplainLaws
+pub mod OriginLaws

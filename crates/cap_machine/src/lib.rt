@@ -55,7 +55,7 @@ pub use laws::{
 pub use origin::{
     CellEnd, CellLink, CellOrigin, ModeEnd, ModeLink, ModeOrigin, origin_of_cell, origin_of_mode,
 };
-pub use origin_laws::mode_matters_where_it_decides;
+pub use origin_laws::{chains_are_enough, chains_skip_no_line, mode_matters_where_it_decides};
 pub use report::{put_count, put_finding};
 pub use rule::{Check, Checks, Class, Demand, Effect, Reply, Rule, Word, rule_of};
 pub use start::Start;
