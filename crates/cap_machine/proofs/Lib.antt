@@ -19,6 +19,7 @@ pub mod Starts
 pub mod KnownTables
 pub mod StartedLists
 pub mod Origins
+pub mod Routes
 pub mod ModeMatters
 pub mod CellChains
 pub mod ModeChains

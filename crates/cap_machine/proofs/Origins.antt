@@ -4,10 +4,11 @@ use Rattle.std.proofs.lemmas.List.{length-map, length-reverse, reverse-append, m
 use Rattle.cap_trace.specs.Entry.{Entry}
 use Rattle.cap_machine.specs.declared.cell.Profile.{Profile}
 use Rattle.cap_machine.specs.declared.step.Step.{Step}
-use Rattle.cap_machine.specs.declared.origin.CellLink.{CellLink}
+use Rattle.cap_machine.specs.declared.origin.Passage.{Passage}
 use Rattle.cap_machine.specs.declared.origin.ModeLink.{ModeLink}
 use Rattle.cap_machine.specs.Steps.{step, steps}
-use Rattle.cap_machine.specs.Origin.{CellChain, ModeChain}
+use Rattle.cap_machine.specs.Origin.{ModeChain}
+use Rattle.cap_machine.specs.Route.{Route}
 
 -- the lines of a trace in a profile, as a history
 abbrev pub back : Profile → List Entry → List Step
@@ -21,9 +22,9 @@ back-append profile lines more =
 pub length-back : (profile : Profile) (lines : List Entry) → length (back profile lines) ≡ length lines
 length-back profile lines = length-reverse (steps profile lines) ∙ length-map lines (step profile)
 
--- links that were gathered, and then a chain
-abbrev pub cells_along : List CellLink → CellChain → CellChain
-cells_along links chain = record { links = links ++ chain.links; end = chain.end }
+-- what was gathered on the way, and what is to come
+abbrev pub passages_along : List Passage → Route → Route
+passages_along passages way = record { passages = passages ++ way.passages; end = way.end }
 
 abbrev pub modes_along : List ModeLink → ModeChain → ModeChain
 modes_along links chain = record { links = links ++ chain.links; end = chain.end }

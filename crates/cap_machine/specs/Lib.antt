@@ -24,6 +24,7 @@ pub mod Known
 pub mod Checked
 pub mod Touched
 pub mod Origin
+pub mod Route
 pub mod Explain
 pub mod ExplainLaws
 pub mod OriginLaws

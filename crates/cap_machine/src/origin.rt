@@ -1,15 +1,16 @@
 //! Where what is known of a descriptor and of a mode comes from: the lines that it rests on, newest first.
 
-ghost use Rattle.std.specs.Prelude.{◌≡◌, IfOk};
-ghost use Rattle.cap_machine.specs.Op.{applied};
+ghost use Rattle.std.specs.Prelude.{◌≡◌, IfOk, reverse};
 ghost use Rattle.cap_machine.specs.Steps.{steps};
 ghost use Rattle.cap_machine.specs.History.{ended};
 ghost use Rattle.cap_machine.specs.Table.{start_state};
+ghost use Rattle.cap_machine.specs.Route.{constant, route, route_of, cell_along, links_along};
+ghost use Rattle.cap_machine.specs.Origin.{same_cell, is_idle, cell_at_end};
 ghost use Rattle.cap_machine.specs.Origin.{cell_origin, cell_chain_of, mode_origin, mode_chain_of};
 
-use crate::cell::{Cell, Mode, Op, Profile};
+use crate::cell::{Cell, HeldOp, Mode, Op, Profile};
 use crate::start::Start;
-use crate::touched::{Touched, Turned, same_op, touch_of, turn_of};
+use crate::touched::{Touched, Turned, touch_of, turn_of};
 use cap_rights::NoMemory;
 use cap_trace::{Fd, Line, Pid};
 use std::alloc::Global;
@@ -39,8 +40,8 @@ pub enum CellEnd {
 pub struct CellOrigin {
     /// The cell itself.
     pub cell: Cell,
-    /// The lines that it rests on, newest first. Each took the cell of the next one as it was before, or the cell of
-    /// the start; the last one may have given it.
+    /// The lines that gave, moved or changed it, newest first. Each took the cell of the next one, as it was before, or
+    /// that of the start; the last one may have given it.
     pub links: Vec<CellLink>,
     /// Where the chain ends.
     pub end: CellEnd,
@@ -75,33 +76,146 @@ pub struct ModeOrigin {
     pub end: ModeEnd,
 }
 
-/// A chain whose oldest line gave this cell, of which the op then made another.
-fn given_origin(links: Vec<CellLink>, op: &Op, cell: &Cell) -> CellOrigin
-    ensures cell { result.cell ≡ applied op.now cell.now }
-    ensures chain { cell_chain_of result ≡ (record { links = links.items; end = CellEnd.Given cell.now }) }
+/// A line that touched a descriptor, and what it made of the cell that it took.
+#[derive(Clone, Copy)]
+struct Passage {
+    link: CellLink,
+    op: Op,
+    /// Whether it took the cell from itself.
+    from_itself: bool,
+}
+
+/// Every line that touched a cell on the way back, newest first, and where the way ends.
+#[derive(Drop)]
+struct Way {
+    passages: Vec<Passage>,
+    end: CellEnd,
+}
+
+fn is_same_cell(a: &Cell, b: &Cell) -> bool
+    ensures { result ≡ same_cell a.now b.now }
 {
-    CellOrigin {
-        cell: op.on(*cell),
-        links,
-        end: CellEnd::Given(*cell),
+    match (a, b) {
+        (Cell::Unknown, Cell::Unknown) | (Cell::Closed, Cell::Closed) => true,
+        (Cell::Held(rights, flag), Cell::Held(others, other)) => rights == others && flag == other,
+        _ => false,
     }
 }
 
-/// A chain that reaches this cell of the start, of which the op then made another.
-fn started_origin(links: Vec<CellLink>, op: &Op, pid: Pid, fd: Fd, cell: &Cell) -> CellOrigin
-    ensures cell { result.cell ≡ applied op.now cell.now }
-    ensures chain { cell_chain_of result ≡ (record { links = links.items; end = CellEnd.Start pid fd cell.now }) }
+/// The op that makes this cell of each.
+fn constant_op(cell: &Cell) -> Op
+    ensures { result ≡ constant cell.now }
 {
-    CellOrigin {
-        cell: op.on(*cell),
-        links,
-        end: CellEnd::Start(pid, fd, *cell),
+    Op {
+        unknown: *cell,
+        closed: *cell,
+        set: HeldOp::Becomes(*cell),
+        clear: HeldOp::Becomes(*cell),
+        unsure: HeldOp::Becomes(*cell),
     }
+}
+
+impl Passage {
+    /// Whether it left this cell as it was.
+    fn is_idle(&self, before: &Cell) -> bool
+        ensures { result ≡ is_idle self.now.op self.now.from_itself before.now }
+    {
+        self.from_itself && is_same_cell(&self.op.on(*before), before)
+    }
+}
+
+impl CellEnd {
+    /// The cell at the end of the chain.
+    fn cell(&self) -> Cell
+        ensures { result ≡ cell_at_end self.now }
+    {
+        match self {
+            CellEnd::Given(cell) => *cell,
+            CellEnd::Start(_, _, cell) => *cell,
+        }
+    }
+}
+
+/// The way back from the cell of a descriptor of a process after these lines.
+fn way_back(
+    alloc: Global,
+    profile: Profile,
+    start: &Start,
+    lines: &[Line],
+    pid: Pid,
+    fd: Fd,
+) -> Result<Way, NoMemory>
+    ensures { IfOk result (λ way. route_of way
+        ≡ route (start_state start.now) (reverse (steps profile lines.now)) pid fd) }
+{
+    let mut passages = Vec::new(alloc);
+    let mut owner = pid;
+    let mut named = fd;
+    let mut rest = lines;
+    while let Some((line, before)) = rest.split_last() {
+        let link = CellLink {
+            at: rest.len(),
+            pid: owner,
+            fd: named,
+        };
+        match &touch_of(profile, line, owner, named) {
+            Touched::Kept => {}
+            Touched::Given(cell) => {
+                passages.push(Passage {
+                    link,
+                    op: constant_op(cell),
+                    from_itself: false,
+                })?;
+                return Ok(Way {
+                    passages,
+                    end: CellEnd::Given(*cell),
+                });
+            }
+            Touched::Taken(op, from) => {
+                passages.push(Passage {
+                    link,
+                    op: *op,
+                    from_itself: line.pid == owner && *from == named,
+                })?;
+                owner = line.pid;
+                named = *from;
+            }
+        }
+        rest = before;
+    }
+    Ok(Way {
+        passages,
+        end: CellEnd::Start(owner, named, start.cell(owner, named)),
+    })
+}
+
+/// Of these passages, newest first, the links of those that didn't leave the cell as it was, oldest first, from the
+/// cell before them; and the cell after them.
+fn told_links(
+    alloc: Global,
+    passages: &[Passage],
+    end: &Cell,
+) -> Result<(Cell, Vec<CellLink>), NoMemory>
+    ensures cell { IfOk result (λ told. told.0 ≡ cell_along passages.now end.now) }
+    ensures links { IfOk result (λ told. reverse told.1.items ≡ links_along passages.now end.now) }
+{
+    let mut links = Vec::new(alloc);
+    let mut cell = *end;
+    let mut rest = passages;
+    while let Some((passage, newer)) = rest.split_last() {
+        if !passage.is_idle(&cell) {
+            links.push(passage.link)?;
+        }
+        cell = passage.op.on(cell);
+        rest = newer;
+    }
+    Ok((cell, links))
 }
 
 /// Where the cell of a descriptor of a process after these lines comes from.
 ///
-/// It goes through the lines from the last one back, and judges none. It takes no memory but the chain's.
+/// It goes through the lines from the last one back to where the cell was given, and judges none. Its memory grows with
+/// the lines that touched the cell.
 ///
 /// `NoMemory` when out of memory.
 pub fn origin_of_cell(
@@ -117,34 +231,14 @@ pub fn origin_of_cell(
     ensures chain { IfOk result
         (λ origin. cell_chain_of origin ≡ cell_origin (start_state start.now) (steps profile lines.now) pid fd) }
 {
-    let mut links = Vec::new(alloc);
-    let mut op = same_op();
-    let mut owner = pid;
-    let mut named = fd;
-    let mut rest = lines;
-    while let Some((line, before)) = rest.split_last() {
-        let link = CellLink {
-            at: rest.len(),
-            pid: owner,
-            fd: named,
-        };
-        match &touch_of(profile, line, owner, named) {
-            Touched::Kept => {}
-            Touched::Given(cell) => {
-                links.push(link)?;
-                return Ok(given_origin(links, &op, cell));
-            }
-            Touched::Taken(taken, from) => {
-                links.push(link)?;
-                op = taken.then(&op);
-                owner = line.pid;
-                named = *from;
-            }
-        }
-        rest = before;
-    }
-    let cell = start.cell(owner, named);
-    Ok(started_origin(links, &op, owner, named, &cell))
+    let way = way_back(alloc, profile, start, lines, pid, fd)?;
+    let (cell, mut links) = told_links(alloc, &way.passages, &way.end.cell())?;
+    links.reverse();
+    Ok(CellOrigin {
+        cell,
+        links,
+        end: way.end,
+    })
 }
 
 /// Where the mode of a process after these lines comes from.
@@ -182,6 +276,7 @@ pub fn origin_of_mode(
                     end: ModeEnd::Given(mode),
                 });
             }
+            Turned::Follows if line.pid == owner => {}
             Turned::Follows => {
                 links.push(link)?;
                 owner = line.pid;
