@@ -1,6 +1,6 @@
 //! Where what is known of a descriptor and of a mode comes from: the lines that it rests on, newest first.
 
-ghost use Rattle.std.specs.Prelude.{◌≡◌, IfOk, reverse};
+ghost use Rattle.std.specs.Prelude.{◌≡◌, IfOk, false, reverse};
 ghost use Rattle.cap_machine.specs.Steps.{steps};
 ghost use Rattle.cap_machine.specs.History.{ended};
 ghost use Rattle.cap_machine.specs.Table.{start_state};
@@ -102,20 +102,25 @@ fn is_same_cell(a: &Cell, b: &Cell) -> bool
     }
 }
 
-/// The op that makes this cell of each.
-fn constant_op(cell: &Cell) -> Op
-    ensures { result ≡ constant cell.now }
-{
-    Op {
-        unknown: *cell,
-        closed: *cell,
-        set: HeldOp::Becomes(*cell),
-        clear: HeldOp::Becomes(*cell),
-        unsure: HeldOp::Becomes(*cell),
-    }
-}
-
 impl Passage {
+    /// A line that gave this cell.
+    fn giving(link: CellLink, cell: &Cell) -> Passage
+        ensures { result ≡ (record { link = link; op = constant cell.now; from_itself = false }) }
+    {
+        let op = Op {
+            unknown: *cell,
+            closed: *cell,
+            set: HeldOp::Becomes(*cell),
+            clear: HeldOp::Becomes(*cell),
+            unsure: HeldOp::Becomes(*cell),
+        };
+        Passage {
+            link,
+            op,
+            from_itself: false,
+        }
+    }
+
     /// Whether it left this cell as it was.
     fn is_idle(&self, before: &Cell) -> bool
         ensures { result ≡ is_idle self.now.op self.now.from_itself before.now }
@@ -161,21 +166,17 @@ fn way_back(
         match &touch_of(profile, line, owner, named) {
             Touched::Kept => {}
             Touched::Given(cell) => {
-                passages.push(Passage {
-                    link,
-                    op: constant_op(cell),
-                    from_itself: false,
-                })?;
-                return Ok(Way {
-                    passages,
-                    end: CellEnd::Given(*cell),
-                });
+                passages.push(Passage::giving(link, cell))?;
+                let end = CellEnd::Given(*cell);
+                return Ok(Way { passages, end });
             }
             Touched::Taken(op, from) => {
+                let op = *op;
+                let from_itself = line.pid == owner && *from == named;
                 passages.push(Passage {
                     link,
-                    op: *op,
-                    from_itself: line.pid == owner && *from == named,
+                    op,
+                    from_itself,
                 })?;
                 owner = line.pid;
                 named = *from;
@@ -183,10 +184,8 @@ fn way_back(
         }
         rest = before;
     }
-    Ok(Way {
-        passages,
-        end: CellEnd::Start(owner, named, start.cell(owner, named)),
-    })
+    let end = CellEnd::Start(owner, named, start.cell(owner, named));
+    Ok(Way { passages, end })
 }
 
 /// Of these passages, newest first, the links of those that didn't leave the cell as it was, oldest first, from the
@@ -259,14 +258,14 @@ pub fn origin_of_mode(
         (λ origin. mode_chain_of origin ≡ mode_origin (start_state start.now) (steps profile lines.now) pid) }
 {
     let mut links = Vec::new(alloc);
-    let mut owner = pid;
-    let mut rest = lines;
-    while let Some((line, before)) = rest.split_last() {
+    let mut process = pid;
+    let mut earlier = lines;
+    while let Some((line, before)) = earlier.split_last() {
         let link = ModeLink {
-            at: rest.len(),
-            pid: owner,
+            at: earlier.len(),
+            pid: process,
         };
-        match turn_of(profile, line, owner) {
+        match turn_of(profile, line, process) {
             Turned::Stays => {}
             Turned::Turns(mode) => {
                 links.push(link)?;
@@ -276,18 +275,18 @@ pub fn origin_of_mode(
                     end: ModeEnd::Given(mode),
                 });
             }
-            Turned::Follows if line.pid == owner => {}
+            Turned::Follows if line.pid == process => {}
             Turned::Follows => {
                 links.push(link)?;
-                owner = line.pid;
+                process = line.pid;
             }
         }
-        rest = before;
+        earlier = before;
     }
-    let mode = start.mode(owner);
+    let mode = start.mode(process);
     Ok(ModeOrigin {
         mode,
         links,
-        end: ModeEnd::Start(owner, mode),
+        end: ModeEnd::Start(process, mode),
     })
 }
