@@ -180,6 +180,7 @@ fn explain_next(
 /// chains.
 ///
 /// `NoMemory` when out of memory.
+#[tactic(auto, using(crate::proofs::Explained::explained_past, crate::proofs::Explained::explained_here, crate::proofs::Explained::explained_zero))]
 pub fn explain(
     alloc: Global,
     profile: Profile,

@@ -188,15 +188,15 @@ fn way_back(
     Ok(Way { passages, end })
 }
 
-/// Of these passages, newest first, the links of those that didn't leave the cell as it was, oldest first, from the
-/// cell before them; and the cell after them.
+/// The cell after these passages, which are given newest first, from the cell before them; and the links of those that
+/// didn't leave the cell as it was.
 fn told_links(
     alloc: Global,
     passages: &[Passage],
     end: &Cell,
 ) -> Result<(Cell, Vec<CellLink>), NoMemory>
     ensures cell { IfOk result (λ told. told.0 ≡ cell_along passages.now end.now) }
-    ensures links { IfOk result (λ told. reverse told.1.items ≡ links_along passages.now end.now) }
+    ensures links { IfOk result (λ told. told.1.items ≡ links_along passages.now end.now) }
 {
     let mut links = Vec::new(alloc);
     let mut cell = *end;
@@ -208,6 +208,7 @@ fn told_links(
         cell = passage.op.on(cell);
         rest = newer;
     }
+    links.reverse();
     Ok((cell, links))
 }
 
@@ -231,8 +232,7 @@ pub fn origin_of_cell(
         (λ origin. cell_chain_of origin ≡ cell_origin (start_state start.now) (steps profile lines.now) pid fd) }
 {
     let way = way_back(alloc, profile, start, lines, pid, fd)?;
-    let (cell, mut links) = told_links(alloc, &way.passages, &way.end.cell())?;
-    links.reverse();
+    let (cell, links) = told_links(alloc, &way.passages, &way.end.cell())?;
     Ok(CellOrigin {
         cell,
         links,

@@ -14,6 +14,6 @@ returns-clause-cell c =
 
 pub returns-clause-chain : goal.returns-clause-chain
 returns-clause-chain c =
-    found_chain (route_of c.in_ok-way.way) c.deref.result.now c.cell.result c.reverse.new.self.items
+    found_chain (route_of c.in_ok-way.way) c.deref.result.now c.cell.result c.in_ok-cell.links.items
     (start_state c.args.start.now) (back c.args.profile c.args.lines.now) c.args.pid c.args.fd c.deref.ensures.value
-    c.cell.ensures c.in_ok-way.ensures (c.reverse.ensures.items ∙ c.in_ok-cell.ensures.links)
+    c.cell.ensures c.in_ok-way.ensures c.in_ok-cell.ensures.links
