@@ -1,5 +1,6 @@
 -- What the chain of a cell names: it is enough, and leaves out no step that touched the cell.
-use Rattle.std.proofs.Common.{◌≡◌, ◌==◌, ℕ, ◌+◌, ◌≤◌, ◌&&◌, if◌then◌else◌, Bool, true, false, List, [], ◌∷◌, length, reverse, refl}
+use Rattle.std.proofs.Common.{◌≡◌, ◌==◌, ℕ, ◌+◌, ◌≤◌, ◌&&◌, if◌then◌else◌, Bool, true, false, List, [], ◌∷◌, length}
+use Rattle.std.proofs.Common.{reverse, refl}
 use Rattle.std.proofs.Common.{sym, ap, ◌∙◌, subst, arith, eq-eqb}
 use Rattle.std.proofs.lemmas.List.{length-reverse}
 use Rattle.std.proofs.lemmas.Bool.{cases_eq, ne_eqb}
@@ -59,7 +60,8 @@ told_takes kept before p f op q g e = e
 told_takes (given d) before p f op q g e = e
 told_takes (taken to r h) before p f op q g e = where_told (is_idle to (r == p && h == f) (before r h)) to op r h q g e
 
-told_keeps : (t : Touch) (before : ℕ → ℕ → Cell) (p f : ℕ) → told t before p f ≡ kept → touched t before p f ≡ before p f
+told_keeps : (t : Touch) (before : ℕ → ℕ → Cell) (p f : ℕ) → told t before p f ≡ kept
+    → touched t before p f ≡ before p f
 told_keeps kept before p f e = refl
 told_keeps (given d) before p f e = absurd (cc)
 told_keeps (taken op q g) before p f e =
@@ -91,7 +93,8 @@ are_within : (s : State) (history : List Step) (p f : ℕ) → AreWithin (length
 unfolding AreWithin
 are_within s [] p f = tt
 are_within s (step ∷ history) p f =
-    within_by (told (touch step p f) (cell_after s history) p f) (cell_chain s history) (length history) (length (step ∷ history)) p f (omega arith)
+    within_by (told (touch step p f) (cell_after s history) p f) (cell_chain s history) (length history)
+    (length (step ∷ history)) p f (omega arith)
     (are_within s history)
 
 replay-older : (step : Step) (history : List Step) (links : List CellLink) (c : Cell) → AreWithin (length history) links
@@ -116,7 +119,8 @@ module _ (s : State) (step : Step) (history : List Step) where
   replay_by : (t : Touch) (p f : ℕ) → telling p f ≡ t
       → ((q g : ℕ) → replayed history (chains q g).links (end_of q g) ≡ cell_after s history q g)
       → replayed (step ∷ history) (by_touch t chains (length history + 1) p f).links
-      (cell_at_end (by_touch t chains (length history + 1) p f).end) ≡ touched (touch step p f) (cell_after s history) p f
+      (cell_at_end (by_touch t chains (length history + 1) p f).end)
+      ≡ touched (touch step p f) (cell_after s history) p f
   replay_by kept p f e known =
       replay-older step history (chains p f).links (end_of p f) (are_within s history p f) ∙ known p f
       ∙ sym (told_keeps (touch step p f) (cell_after s history) p f e)
@@ -136,7 +140,8 @@ replay : (s : State) (history : List Step) (p f : ℕ)
     → replayed history (cell_chain s history p f).links (cell_at_end (cell_chain s history p f).end)
     ≡ cell_after s history p f
 replay s [] p f = refl
-replay s (step ∷ history) p f = replay_by s step history (told (touch step p f) (cell_after s history) p f) p f refl (replay s history)
+replay s (step ∷ history) p f =
+    replay_by s step history (told (touch step p f) (cell_after s history) p f) p f refl (replay s history)
 
 pub cells_are_replayed : CellsAreReplayed
 cells_are_replayed s trace p f = replay s (reverse trace) p f
@@ -248,7 +253,8 @@ is_chain s (step ∷ history) p f =
     let P : ℕ → Type 0 = λ n. IsCellChain s (step ∷ history) (cell_chain s (step ∷ history) p f).links
     (cell_chain s (step ∷ history) p f).end n p f in
     let same : length history + 1 + 1 ≡ length (step ∷ history) + 1 = omega arith in
-    subst P same (chain_by s step history (told (touch step p f) (cell_after s history) p f) p f refl (is_chain s history))
+    subst P same
+    (chain_by s step history (told (touch step p f) (cell_after s history) p f) p f refl (is_chain s history))
 
 pub cells_skip_none : CellsSkipNone
 cells_skip_none s trace p f =

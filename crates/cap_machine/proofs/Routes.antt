@@ -93,7 +93,8 @@ links_along-oldest (y ∷ xs) x c =
     (links_along-oldest xs x c)
     ∙ append_where (idle (cell_along xs (applied x.op c))) y.link before last
 
-pub one_more_told : (rest xs : List Passage) (x : Passage) (c : Cell) (links later : List CellLink) → rest ≡ xs ++ x ∷ []
+pub one_more_told : (rest xs : List Passage) (x : Passage) (c : Cell) (links later : List CellLink)
+    → rest ≡ xs ++ x ∷ []
     → reverse later ≡ links_along (x ∷ []) c ++ reverse links
     → links_along xs (applied x.op c) ++ reverse later ≡ links_along rest c ++ reverse links
 one_more_told rest xs x c links later is more =

@@ -15,4 +15,5 @@ SaidInAnyMode = (d : Demand) (m n : Mode) (cells : List Cell) → mode_matters d
 -- where it matters, with some cells of the checked descriptors what is said within capability mode isn't said outside
 abbrev pub SaidByMode : Type 0
 SaidByMode = (d : Demand) → mode_matters d ≡ true
-    → (cells : List Cell) × (length cells ≡ length (listed d.checks)) × (judged d Inside cells ≡ judged d Outside cells → ⊥)
+    → (cells : List Cell) × (length cells ≡ length (listed d.checks))
+    × (judged d Inside cells ≡ judged d Outside cells → ⊥)

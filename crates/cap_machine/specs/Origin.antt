@@ -70,7 +70,8 @@ by_touch (taken op q g) before at p f = record {
 -- the chain of the cell of descriptor f of process p after a history; steps are numbered from 1
 abbrev pub cell_chain : State → List Step → ℕ → ℕ → CellChain
 cell_chain s [] p f = record { links = []; end = cells.Start p f (s.cell p f) }
-cell_chain s (step ∷ history) p f = by_touch (told (touch step p f) (cell_after s history) p f) (cell_chain s history) (length history + 1) p f
+cell_chain s (step ∷ history) p f =
+    by_touch (told (touch step p f) (cell_after s history) p f) (cell_chain s history) (length history + 1) p f
 
 abbrev pub cell_at_end : CellEnd → Cell
 cell_at_end (cells.Given c) = c

@@ -1,4 +1,5 @@
--- Laws of chains: what a chain names is enough to have the cell, and it leaves out no line that gave, moved or changed it.
+-- Laws of chains: what a chain names is enough to have the cell, and it leaves out no line that gave, moved or changed
+-- it.
 use Rattle.std.specs.Prelude.{◌≡◌, ℕ, ◌+◌, ◌<◌, ◌==◌, if◌then◌else◌, List, [], ◌∷◌, length, reverse}
 use Rattle.cap_machine.specs.declared.step.Step.{Step}
 use Rattle.cap_machine.specs.declared.cell.Cell.{Cell}
