@@ -20,3 +20,9 @@ pub mod Leaves
 pub mod Starts
 pub mod KnownTables
 pub mod StartedLists
+pub mod Origins
+pub mod Routes
+pub mod ModeMatters
+pub mod CellChains
+pub mod ModeChains
+pub mod Explained

@@ -22,3 +22,9 @@ pub mod Table
 pub mod Starts
 pub mod Known
 pub mod Checked
+pub mod Touched
+pub mod Origin
+pub mod Route
+pub mod Explain
+pub mod ExplainLaws
+pub mod OriginLaws

@@ -5,7 +5,8 @@
 //! then changes what is known by what it records. What a trace doesn't show is unknown, and nothing is said against it.
 //!
 //! [`check`] answers what is found in a whole trace; a [`Checker`] takes its lines one by one and answers the report.
-//! Both begin from a start, which says what is known of each process before the first line ([`Start`]).
+//! Both begin from a start, which says what is known of each process before the first line ([`Start`]). [`explain`]
+//! answers which lines what is said of one line rests on.
 //!
 //! ```
 //! let mut checker = Checker::new(alloc, Profile::One);
@@ -29,27 +30,38 @@ mod checking;
 mod composed;
 mod demands;
 mod effects;
+mod explaining;
 mod flags;
 mod laws;
 mod machine;
 mod needs;
+mod origin;
+mod origin_laws;
 mod places;
 mod report;
 mod rule;
 mod start;
 mod step;
 mod table;
+mod touched;
 mod verdict;
 
 pub use cap_rights::NoMemory;
 pub use cell::{Cell, HeldOp, Mode, OnExec, Op, Profile};
 pub use checker::Checker;
 pub use checking::check;
+pub use explaining::{Explanation, explain};
 pub use laws::{
     no_alarm_lost, positions_are_within, profiles_agree, rules_name_what_stands_there,
     touches_what_it_names, traces_in_turn,
 };
 pub use machine::Machine;
+pub use origin::{
+    CellEnd, CellLink, CellOrigin, ModeEnd, ModeLink, ModeOrigin, origin_of_cell, origin_of_mode,
+};
+pub use origin_laws::{
+    chains_are_enough, chains_skip_no_line, mode_matters_where_it_decides, named_lines_matter,
+};
 pub use report::{put_count, put_finding};
 pub use rule::{Check, Checks, Class, Demand, Effect, Reply, Rule, Word, rule_of};
 pub use start::Start;

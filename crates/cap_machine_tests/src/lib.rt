@@ -4,6 +4,8 @@
 #[cfg(test)]
 mod calls;
 #[cfg(test)]
+mod explanations;
+#[cfg(test)]
 mod lines;
 #[cfg(test)]
 mod machines;

@@ -1,0 +1,30 @@
+-- Walking back through the lines of a trace, and what was gathered on the way.
+use Rattle.std.proofs.Common.{◌≡◌, List, ◌++◌, length, reverse, ap, ◌∙◌}
+use Rattle.std.proofs.lemmas.List.{length-map, length-reverse, reverse-append, map-append}
+use Rattle.cap_trace.specs.Entry.{Entry}
+use Rattle.cap_machine.specs.declared.cell.Profile.{Profile}
+use Rattle.cap_machine.specs.declared.step.Step.{Step}
+use Rattle.cap_machine.specs.declared.origin.Passage.{Passage}
+use Rattle.cap_machine.specs.declared.origin.ModeLink.{ModeLink}
+use Rattle.cap_machine.specs.Steps.{step, steps}
+use Rattle.cap_machine.specs.Origin.{ModeChain}
+use Rattle.cap_machine.specs.Route.{Route}
+
+-- the lines of a trace in a profile, as a history
+abbrev pub back : Profile → List Entry → List Step
+back profile lines = reverse (steps profile lines)
+
+pub back-append : (profile : Profile) (lines more : List Entry)
+    → back profile (lines ++ more) ≡ back profile more ++ back profile lines
+back-append profile lines more =
+    ap reverse (map-append (step profile) lines more) ∙ reverse-append (steps profile lines) (steps profile more)
+
+pub length-back : (profile : Profile) (lines : List Entry) → length (back profile lines) ≡ length lines
+length-back profile lines = length-reverse (steps profile lines) ∙ length-map lines (step profile)
+
+-- what was gathered on the way, and what is to come
+abbrev pub passages_along : List Passage → Route → Route
+passages_along passages way = record { passages = passages ++ way.passages; end = way.end }
+
+abbrev pub modes_along : List ModeLink → ModeChain → ModeChain
+modes_along links chain = record { links = links ++ chain.links; end = chain.end }
