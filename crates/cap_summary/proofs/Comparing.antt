@@ -37,7 +37,9 @@ shows_more {X} {Y} show xs ys i x y within within2 at at2 is before =
 pub shows_all : {X Y : Type 0} (show : X → Y) (xs ys : List X) (i : ℕ) → length xs ≤ i → length ys ≤ i
     → ShowSame show i xs ys → map show xs ≡ map show ys
 shows_all {X} show xs ys i all all2 is =
-    ap (λ (l : List X). map show l) (sym (take_all i xs all)) ∙ is ∙ ap (λ (l : List X). map show l) (take_all i ys all2)
+    ap (λ (l : List X). map show l) (sym (take_all i xs all))
+    ∙ is
+    ∙ ap (λ (l : List X). map show l) (take_all i ys all2)
 
 -- ---- tables
 
@@ -70,8 +72,8 @@ pub record TablesAlike {V W : Type 0} (see : V → W) (own theirs xs ys : List (
   pub theirs_all : length ys ≤ i
   pub same : ShowSame (entry_seen see) i xs ys
 
-tables_alike : {V W : Type 0} (see : V → W) (own theirs xs ys : List (ℕ × V)) (i : ℕ) → TablesAlike see own theirs xs ys i
-    → (key : ℕ) → option_map see (found own key) ≡ option_map see (found theirs key)
+tables_alike : {V W : Type 0} (see : V → W) (own theirs xs ys : List (ℕ × V)) (i : ℕ)
+    → TablesAlike see own theirs xs ys i → (key : ℕ) → option_map see (found own key) ≡ option_map see (found theirs key)
 tables_alike {V} see own theirs xs ys i alike key =
     let entries : map (entry_seen see) xs ≡ map (entry_seen see) ys =
     shows_all (entry_seen see) xs ys i alike.own_all alike.theirs_all alike.same in
@@ -126,7 +128,8 @@ option_shared None = refl
 option_shared (Some process) = refl
 
 pub processes_alike : (own theirs : Processes) (xs ys : List (ℕ × Rc Process Global)) (i : ℕ)
-    → TablesAlike seen_shared own.table theirs.table xs ys i → (p : ℕ) → AreAlike p (process_at own p) (process_at theirs p)
+    → TablesAlike seen_shared own.table theirs.table xs ys i → (p : ℕ)
+    → AreAlike p (process_at own p) (process_at theirs p)
 unfolding process_at
 processes_alike own theirs xs ys i alike p =
     let a = found own.table p in
