@@ -73,7 +73,8 @@ pub record TablesAlike {V W : Type 0} (see : V → W) (own theirs xs ys : List (
   pub same : ShowSame (entry_seen see) i xs ys
 
 tables_alike : {V W : Type 0} (see : V → W) (own theirs xs ys : List (ℕ × V)) (i : ℕ)
-    → TablesAlike see own theirs xs ys i → (key : ℕ) → option_map see (found own key) ≡ option_map see (found theirs key)
+    → TablesAlike see own theirs xs ys i → (key : ℕ)
+    → option_map see (found own key) ≡ option_map see (found theirs key)
 tables_alike {V} see own theirs xs ys i alike key =
     let entries : map (entry_seen see) xs ≡ map (entry_seen see) ys =
     shows_all (entry_seen see) xs ys i alike.own_all alike.theirs_all alike.same in

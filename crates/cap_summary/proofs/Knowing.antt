@@ -73,7 +73,8 @@ composed_knows a b whole t u composes always left right = record {
   listed = λ p e. list_any-append (λ (step : Step). names_pid p step.line) t u
       ∙ listed_in_turn (is_listed a.change p) (is_listed b.change p) (is_listed whole.change p)
       (list_any (λ (step : Step). names_pid p step.line) t)
-      (list_any (λ (step : Step). names_pid p step.line) u) (composes.changes.listed p) (left.listed p) (right.listed p) e;
+      (list_any (λ (step : Step). names_pid p step.line) u) (composes.changes.listed p) (left.listed p)
+      (right.listed p) e;
 }
 
 -- of the second's conditions behind the first's change

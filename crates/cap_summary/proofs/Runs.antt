@@ -1,6 +1,6 @@
 -- Runs of shared steps.
-use Rattle.std.proofs.Common.{◌≡◌, List, [], ◌∷◌, ◌++◌, ◌<◌, length, get_or, slice_range, take, drop, refl, sym, ap, ◌∙◌, arith}
-use Rattle.std.proofs.Common.{length-append}
+use Rattle.std.proofs.Common.{◌≡◌, List, [], ◌∷◌, ◌++◌, ◌<◌, length, get_or, slice_range, take, drop, refl, sym, ap}
+use Rattle.std.proofs.Common.{◌∙◌, length-append, arith}
 use Rattle.std.proofs.Math.Seq.{take-append_seam, drop-append_seam}
 use Rattle.std.proofs.lemmas.List.{map-append, append-nil}
 use Rattle.std.proofs.lemmas.Slice.{between_to_end}

@@ -44,7 +44,8 @@ pub record IsWhole (whole : Whole) (t u : List Step) : Type 0 where
   pub composes : Composes whole.parts.left.value whole.parts.right.value whole.known.value
 
 -- what always holds of a node; one of which nothing is known is read through its parts
-pub record IsGood (size : ℕ) (kept : Option (Rc Known Global)) (kept_parts : Option Parts) (content : Content) : Type 0 where
+pub record IsGood (size : ℕ) (kept : Option (Rc Known Global)) (kept_parts : Option Parts)
+    (content : Content) : Type 0 where
   pub len : size ≡ length (content_steps content)
   pub parts : HasParts content
   pub few : size ≤ 2 ^ 30

@@ -33,8 +33,8 @@ pub record Knows (known : Known) (t : List Step) : Type 0 where
 -- whole that isn't the first's holds, or in any case
 pub record Composes (a b whole : Known) : Type 0 where
   pub changes : JoinsTo a.change b.change whole.change
-  pub found : (s : State)
-      → (whole.met || any_holds s whole.conditions) ≡ (any_holds s a.conditions || any_holds (changed a.change s) b.conditions)
+  pub found : (s : State) → (whole.met || any_holds s whole.conditions)
+      ≡ (any_holds s a.conditions || any_holds (changed a.change s) b.conditions)
 
 -- the same changes and conditions
 pub record IsLike (a b : Known) : Type 0 where

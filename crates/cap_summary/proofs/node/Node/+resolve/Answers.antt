@@ -47,10 +47,12 @@ returns-in-End t c =
           let parts : w.in-Both.a.value ++ (w.in-Both.b.value ++ []) ≡ steps =
           ap (λ r. w.in-Both.a.value ++ r) (append-nil w.in-Both.b.value)
           ∙ sym (ap content_steps w.in-Both.is) ∙ c.self.view_is in
-          rw w.found-is (rw (w.deref-in-Both.ensures, w.deref-in-Both-2.ensures, parts) at w.in_ok-resolve-in-Both.ensures)
+          rw w.found-is
+          (rw (w.deref-in-Both.ensures, w.deref-in-Both-2.ensures, parts) at w.in_ok-resolve-in-Both.ensures)
       | else-at-self w ↦ elim w.else-at-self.branch [
         | else-at-self-via-then-at-self+else-finds v ↦ inl (rw w.found-is
-            (found_none s steps c.args.at from to old v.finds.result (v.finds.ensures ∙ knows.found s) v.if-finds.false))
+            (found_none s steps c.args.at from to old v.finds.result (v.finds.ensures ∙ knows.found s)
+            v.if-finds.false))
         | else-at-self-via-else-at-self v ↦
             let before : c.args.at + length steps < from = omega (arith, v.if-at-self.false, len) in
             inl (rw w.found-is (found_before s steps c.args.at from to old before))
@@ -84,10 +86,12 @@ returns-in-Then t c =
           let parts : w.in-Both.a.value ++ (w.in-Both.b.value ++ []) ≡ steps =
           ap (λ r. w.in-Both.a.value ++ r) (append-nil w.in-Both.b.value)
           ∙ sym (ap content_steps w.in-Both.is) ∙ c.self.view_is in
-          rw w.found-is (rw (w.deref-in-Both.ensures, w.deref-in-Both-2.ensures, parts) at w.in_ok-resolve-in-Both.ensures)
+          rw w.found-is
+          (rw (w.deref-in-Both.ensures, w.deref-in-Both-2.ensures, parts) at w.in_ok-resolve-in-Both.ensures)
       | else-at-self w ↦ elim w.else-at-self.branch [
         | else-at-self-via-then-at-self+else-finds v ↦ inl (rw w.found-is
-            (found_none s steps c.args.at from to old v.finds.result (v.finds.ensures ∙ knows.found s) v.if-finds.false))
+            (found_none s steps c.args.at from to old v.finds.result (v.finds.ensures ∙ knows.found s)
+            v.if-finds.false))
         | else-at-self-via-else-at-self v ↦
             let before : c.args.at + length steps < from = omega (arith, v.if-at-self.false, len) in
             inl (rw w.found-is (found_before s steps c.args.at from to old before))

@@ -32,7 +32,8 @@ over-requires-clause-known c =
 
 pub returns : goal.returns
 returns c = λ t u is long.
-    let view : c.in-Both.left.value ++ c.in-Both.field-1.value ≡ c.args.self.now = sym (ap content_steps c.in-Both.is) ∙ c.self.view_is in
+    let view : c.in-Both.left.value ++ c.in-Both.field-1.value ≡ c.args.self.now =
+    sym (ap content_steps c.in-Both.is) ∙ c.self.view_is in
     let count : length c.in-Both.left.value ≡ length t =
     sym (rw c.deref-2.ensures at c.len.ensures.count) ∙ c.if-len-count.false ∙ sym long in
     c.in_ok-node.ensures.steps ∙ ap (λ (r : List Step). r ++ c.args.right.now.value)
