@@ -13,7 +13,7 @@ use Rattle.cap_machine.specs.declared.cell.Mode.{Mode}
 use Rattle.cap_machine.specs.State.{State}
 use Rattle.cap_machine.specs.Touch.{Turn, stays, turns, follows, turn}
 use Rattle.cap_machine.specs.History.{turned, mode_after}
-use Rattle.cap_machine.specs.Origin.{told_turn, ModeChain, by_turn, mode_chain}
+use Rattle.cap_machine.specs.Origin.{named_turn, ModeChain, by_turn, mode_chain}
 use Rattle.cap_machine.specs.OriginLaws.{turn_at, mode_at_end, ModesAreFollowed, Unturned, ModeGoesOn, IsModeChain}
 use Rattle.cap_machine.specs.OriginLaws.{ModesSkipNone}
 
@@ -24,10 +24,10 @@ from_itself : (own : Bool) (q : ℕ) (mode : ℕ → Mode) (p : ℕ) → (own �
 from_itself true q mode p is = ap mode (sym (is refl))
 from_itself false q mode p is = refl
 
-told_follows : (t : Turn) (mode : ℕ → Mode) (p : ℕ) → turned (told_turn t p) mode p ≡ turned t mode p
-told_follows stays mode p = refl
-told_follows (turns m) mode p = refl
-told_follows (follows q) mode p = from_itself (q == p) q mode p (λ e. eqb-true q p e)
+named_follows : (t : Turn) (mode : ℕ → Mode) (p : ℕ) → turned (named_turn t p) mode p ≡ turned t mode p
+named_follows stays mode p = refl
+named_follows (turns m) mode p = refl
+named_follows (follows q) mode p = from_itself (q == p) q mode p (λ e. eqb-true q p e)
 
 followed_by : (t : Turn) (before : ℕ → ModeChain) (s : State) (history : List Step) (n p : ℕ)
     → ((q : ℕ) → mode_at_end (before q).end ≡ mode_after s history q)
@@ -40,8 +40,9 @@ followed : (s : State) (history : List Step) (p : ℕ)
     → mode_at_end (mode_chain s history p).end ≡ mode_after s history p
 followed s [] p = refl
 followed s (step ∷ history) p =
-    followed_by (told_turn (turn step p) p) (mode_chain s history) s history (length history + 1) p (followed s history)
-    ∙ told_follows (turn step p) (mode_after s history) p
+    followed_by (named_turn (turn step p) p) (mode_chain s history) s history (length history + 1) p
+    (followed s history)
+    ∙ named_follows (turn step p) (mode_after s history) p
 
 pub modes_are_followed : ModesAreFollowed
 modes_are_followed s trace p = followed s (reverse trace) p
@@ -49,15 +50,15 @@ modes_are_followed s trace p = followed s (reverse trace) p
 -- ---- the step at a position
 
 turn-newest : (step : Step) (history : List Step) (p : ℕ)
-    → turn_at (step ∷ history) (length history + 1) p ≡ told_turn (turn step p) p
+    → turn_at (step ∷ history) (length history + 1) p ≡ named_turn (turn step p) p
 turn-newest step history p =
-    ap (λ (b : Bool). if b then told_turn (turn step p) p else turn_at history (length history + 1) p)
+    ap (λ (b : Bool). if b then named_turn (turn step p) p else turn_at history (length history + 1) p)
     (eq-eqb (length history + 1) (length history + 1) refl)
 
 turn-older : (step : Step) (history : List Step) (k p : ℕ) → k ≤ length history
     → turn_at (step ∷ history) k p ≡ turn_at history k p
 turn-older step history k p le =
-    ap (λ (b : Bool). if b then told_turn (turn step p) p else turn_at history k p)
+    ap (λ (b : Bool). if b then named_turn (turn step p) p else turn_at history k p)
     (ne_eqb k (length history + 1) (λ e. absurd (omega arith)))
 
 -- ---- a chain leaves nothing out
@@ -120,7 +121,7 @@ module _ (s : State) (step : Step) (history : List Step) where
   abbrev IsNext : ModeChain → ℕ → Type 0
   IsNext chain p = IsModeChain s (step ∷ history) chain.links chain.end (newest + 1) p
 
-  chain_by : (t : Turn) (p : ℕ) → told_turn (turn step p) p ≡ t
+  chain_by : (t : Turn) (p : ℕ) → named_turn (turn step p) p ≡ t
       → ((q : ℕ) → IsModeChain s history (known q).links (known q).end newest q)
       → IsNext (by_turn t known newest p) p
   chain_by stays p e is =
@@ -151,7 +152,7 @@ is_chain s (step ∷ history) p =
     let P : ℕ → Type 0 = λ n. IsModeChain s (step ∷ history) (mode_chain s (step ∷ history) p).links
     (mode_chain s (step ∷ history) p).end n p in
     let same : length history + 1 + 1 ≡ length (step ∷ history) + 1 = omega arith in
-    subst P same (chain_by s step history (told_turn (turn step p) p) p refl (is_chain s history))
+    subst P same (chain_by s step history (named_turn (turn step p) p) p refl (is_chain s history))
 
 pub modes_skip_none : ModesSkipNone
 modes_skip_none s trace p =

@@ -105,39 +105,41 @@ all_excusing (check ∷ checks) e =
     (is_excused check.excuse (excusing_cell check.excuse)) (all_excused checks (excusing checks)) e
     (is_excusing check.excuse) (all_excusing checks)
 
-refusal_told : (has excused at have : Bool) (x : Finding) → (at && (has && have)) ≡ true
+refusal_differs : (has excused at have : Bool) (x : Finding) → (at && (has && have)) ≡ true
     → (have ≡ true → excused ≡ true)
     → (if has && (excused && (not at || false)) then x ∷ [] else [])
     ≡ (if has && (excused && (not at || true)) then x ∷ [] else []) → ⊥
-refusal_told has excused false have x e all same = absurd (cc)
-refusal_told false excused true have x e all same = absurd (cc)
-refusal_told true false true have x e all same = absurd (let b : false ≡ true = all e in cc)
-refusal_told true true true have x e all same = absurd (cc)
+refusal_differs has excused false have x e all same = absurd (cc)
+refusal_differs false excused true have x e all same = absurd (cc)
+refusal_differs true false true have x e all same = absurd (let b : false ≡ true = all e in cc)
+refusal_differs true true true have x e all same = absurd (cc)
 
-allowed_told : (allowed : Bool) (x : Finding) → not allowed ≡ true
+allowed_differs : (allowed : Bool) (x : Finding) → not allowed ≡ true
     → (if false || allowed then x ∷ [] else []) ≡ (if true || allowed then x ∷ [] else []) → ⊥
-allowed_told true x e same = absurd (cc)
-allowed_told false x e same = absurd (cc)
+allowed_differs true x e same = absurd (cc)
+allowed_differs false x e same = absurd (cc)
 
-forbidden_told : (class : Class) (rest : List Finding) → is_forbidden class ≡ true
+forbidden_differs : (class : Class) (rest : List Finding) → is_forbidden class ≡ true
     → forbidden class Inside ++ rest ≡ forbidden class Outside ++ rest → ⊥
-forbidden_told Forbidden rest e same = absurd (let longer : length (say.Forbidden ∷ rest) ≡ length rest = ap length same
+forbidden_differs Forbidden rest e same =
+    absurd (let longer : length (say.Forbidden ∷ rest) ≡ length rest = ap length same
     in omega arith)
-forbidden_told Allowed rest e same = absurd (cc)
-forbidden_told Either rest e same = absurd (cc)
+forbidden_differs Allowed rest e same = absurd (cc)
+forbidden_differs Either rest e same = absurd (cc)
 
-told_by : (reply : Reply) (d : Demand) → mode_matters_by reply d ≡ true
+known_by_reply : (reply : Reply) (d : Demand) → mode_matters_by reply d ≡ true
     → judged_by reply d Inside (excusing (listed d.checks)) ≡ judged_by reply d Outside (excusing (listed d.checks)) → ⊥
-told_by Success d e same = forbidden_told d.class (faults d.word (listed d.checks) (excusing (listed d.checks))) e same
-told_by NotCapable d e same =
-    refusal_told (has_check d.checks) (all_excused (listed d.checks) (excusing (listed d.checks))) d.at
+known_by_reply Success d e same =
+    forbidden_differs d.class (faults d.word (listed d.checks) (excusing (listed d.checks))) e same
+known_by_reply NotCapable d e same =
+    refusal_differs (has_check d.checks) (all_excused (listed d.checks) (excusing (listed d.checks))) d.at
     (all_have_excuse (listed d.checks)) say.Refusal e (all_excusing (listed d.checks)) same
-told_by NotPermitted d e same = allowed_told (is_allowed d.class) say.ModeRefusal e same
-told_by Other d e same = absurd (cc)
+known_by_reply NotPermitted d e same = allowed_differs (is_allowed d.class) say.ModeRefusal e same
+known_by_reply Other d e same = absurd (cc)
 
 pub said_by_mode : SaidByMode
 said_by_mode d e = (
   excusing (listed d.checks),
   length-map (listed d.checks) (λ (check : Check). excusing_cell check.excuse),
-  told_by d.reply d e,
+  known_by_reply d.reply d e,
 )

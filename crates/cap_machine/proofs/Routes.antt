@@ -14,7 +14,8 @@ use Rattle.cap_machine.specs.State.{State}
 use Rattle.cap_machine.specs.Op.{applied}
 use Rattle.cap_machine.specs.Touch.{Touch, kept, given, taken, touch}
 use Rattle.cap_machine.specs.History.{touched, cell_after}
-use Rattle.cap_machine.specs.Origin.{CellChain, same_flag, same_cell, is_idle, told, cell_link, by_touch, cell_chain}
+use Rattle.cap_machine.specs.Origin.{CellChain, same_flag, same_cell, is_idle, named_touch, cell_link, by_touch}
+use Rattle.cap_machine.specs.Origin.{cell_chain}
 use Rattle.cap_machine.specs.Origin.{cell_at_end}
 use Rattle.cap_machine.specs.Route.{Route, constant, route, route_by, cell_along, links_along}
 
@@ -93,11 +94,11 @@ links_along-oldest (y ∷ xs) x c =
     (links_along-oldest xs x c)
     ∙ append_where (idle (cell_along xs (applied x.op c))) y.link before last
 
-pub one_more_told : (rest xs : List Passage) (x : Passage) (c : Cell) (links later : List CellLink)
+pub one_more_named : (rest xs : List Passage) (x : Passage) (c : Cell) (links later : List CellLink)
     → rest ≡ xs ++ x ∷ []
     → reverse later ≡ links_along (x ∷ []) c ++ reverse links
     → links_along xs (applied x.op c) ++ reverse later ≡ links_along rest c ++ reverse links
-one_more_told rest xs x c links later is more =
+one_more_named rest xs x c links later is more =
     ap (λ (r : List CellLink). links_along xs (applied x.op c) ++ r) more
     ∙ sym (append_assoc (links_along xs (applied x.op c)) (links_along (x ∷ []) c) (reverse links))
     ∙ ap (λ (r : List CellLink). r ++ reverse links)
@@ -156,7 +157,7 @@ module _ (s : State) (history : List Step) where
       }
 
   found_by : (t : Touch) (n p f : ℕ) → ((q g : ℕ) → Finds (way q g) (chain q g) (before q g))
-      → Finds (route_by t way n p f) (by_touch (told t before p f) chain n p f) (touched t before p f)
+      → Finds (route_by t way n p f) (by_touch (named_touch t before p f) chain n p f) (touched t before p f)
   found_by kept n p f known = known p f
   found_by (given c) n p f known = record { end = refl; cell = constant-is c c; links = refl }
   found_by (taken op q g) n p f known =

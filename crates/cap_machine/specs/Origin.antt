@@ -1,7 +1,7 @@
 -- Where a cell and a mode come from. One walks back through a history, its newest step first, to the last step that
 -- gave the cell, moved it from another (fork(2): the parent's; dup(2): another descriptor's), or changed it
 -- (cap_rights_limit(2)). Where the step gave the cell, the walk ends there; else it goes on from the cell that the step
--- took, before that step. A step that takes a cell from itself and leaves it as it was isn't told: an exec that leaves
+-- took, before that step. A step that takes a cell from itself and leaves it as it was isn't named: an exec that leaves
 -- a descriptor open, a limit to no less than what was held.
 use Rattle.std.specs.Prelude.{ℕ, ◌+◌, ◌==◌, ◌&&◌, Bool, true, false, if◌then◌else◌, List, [], ◌∷◌, length, reverse}
 use Rattle.cap_machine.specs.declared.step.Step.{Step}
@@ -48,11 +48,11 @@ same_cell _ _ = false
 abbrev pub is_idle : Op → Bool → Cell → Bool
 is_idle op from_itself c = from_itself && same_cell (applied op c) c
 
--- what is told of a touch of the cell of descriptor f of process p
-abbrev pub told : Touch → (ℕ → ℕ → Cell) → ℕ → ℕ → Touch
-told kept before p f = kept
-told (given c) before p f = given c
-told (taken op q g) before p f = if is_idle op (q == p && g == f) (before q g) then kept else taken op q g
+-- a touch of the cell of descriptor f of process p, where a chain names it
+abbrev pub named_touch : Touch → (ℕ → ℕ → Cell) → ℕ → ℕ → Touch
+named_touch kept before p f = kept
+named_touch (given c) before p f = given c
+named_touch (taken op q g) before p f = if is_idle op (q == p && g == f) (before q g) then kept else taken op q g
 
 -- at a position the cell of descriptor f of process p was touched
 abbrev pub cell_link : ℕ → ℕ → ℕ → CellLink
@@ -71,7 +71,7 @@ by_touch (taken op q g) before at p f = record {
 abbrev pub cell_chain : State → List Step → ℕ → ℕ → CellChain
 cell_chain s [] p f = record { links = []; end = cells.Start p f (s.cell p f) }
 cell_chain s (step ∷ history) p f =
-    by_touch (told (touch step p f) (cell_after s history) p f) (cell_chain s history) (length history + 1) p f
+    by_touch (named_touch (touch step p f) (cell_after s history) p f) (cell_chain s history) (length history + 1) p f
 
 abbrev pub cell_at_end : CellEnd → Cell
 cell_at_end (cells.Given c) = c
@@ -95,15 +95,15 @@ by_turn stays before at p = before p
 by_turn (turns m) before at p = record { links = mode_link at p ∷ []; end = modes.Given m }
 by_turn (follows q) before at p = record { links = mode_link at p ∷ (before q).links; end = (before q).end }
 
--- a fork that takes a mode from itself isn't told
-abbrev pub told_turn : Turn → ℕ → Turn
-told_turn stays p = stays
-told_turn (turns m) p = turns m
-told_turn (follows q) p = if q == p then stays else follows q
+-- a fork that takes a mode from itself isn't named
+abbrev pub named_turn : Turn → ℕ → Turn
+named_turn stays p = stays
+named_turn (turns m) p = turns m
+named_turn (follows q) p = if q == p then stays else follows q
 
 abbrev pub mode_chain : State → List Step → ℕ → ModeChain
 mode_chain s [] p = record { links = []; end = modes.Start p (s.mode p) }
-mode_chain s (step ∷ history) p = by_turn (told_turn (turn step p) p) (mode_chain s history) (length history + 1) p
+mode_chain s (step ∷ history) p = by_turn (named_turn (turn step p) p) (mode_chain s history) (length history + 1) p
 
 abbrev pub mode_origin : State → List Step → ℕ → ModeChain
 mode_origin s trace p = mode_chain s (reverse trace) p

@@ -15,7 +15,7 @@ use Rattle.cap_machine.specs.declared.cell.Op.{Op}
 use Rattle.cap_machine.specs.Op.{applied}
 use Rattle.cap_machine.specs.Touch.{Touch, kept, given, taken, Turn, stays, turns, follows, touch, turn}
 use Rattle.cap_machine.specs.History.{ended, cell_after}
-use Rattle.cap_machine.specs.Origin.{told, told_turn, cell_at_end, cell_origin, mode_origin}
+use Rattle.cap_machine.specs.Origin.{named_touch, named_turn, cell_at_end, cell_origin, mode_origin}
 
 -- ---- cells
 
@@ -41,15 +41,16 @@ CellsAreReplayed = (s : State) (trace : List Step) (p f : ℕ) →
     let chain = cell_origin s trace p f in
     replayed (reverse trace) chain.links (cell_at_end chain.end) ≡ (ended s trace).cell p f
 
--- what is told of the step at a position
-abbrev pub told_at : State → List Step → ℕ → ℕ → ℕ → Touch
-told_at s [] k p f = kept
-told_at s (step ∷ history) k p f =
-    if k == length history + 1 then told (touch step p f) (cell_after s history) p f else told_at s history k p f
+-- the touch of the step at a position, where a chain names it
+abbrev pub named_at : State → List Step → ℕ → ℕ → ℕ → Touch
+named_at s [] k p f = kept
+named_at s (step ∷ history) k p f =
+    if k == length history + 1 then named_touch (touch step p f) (cell_after s history) p f
+    else named_at s history k p f
 
--- nothing is told of the cell between two positions
-abbrev pub Untold : State → List Step → ℕ → ℕ → ℕ → ℕ → Type 0
-Untold s history low high p f = (k : ℕ) → low < k → k < high → told_at s history k p f ≡ kept
+-- a chain of the cell names nothing between two positions
+abbrev pub NoneNamed : State → List Step → ℕ → ℕ → ℕ → ℕ → Type 0
+NoneNamed s history low high p f = (k : ℕ) → low < k → k < high → named_at s history k p f ≡ kept
 
 -- where a chain goes on from a touch: nowhere, where it gives the cell; else from the cell that it takes
 abbrev pub CellGoesOn : Touch → List CellLink → CellEnd → (ℕ → ℕ → Type 0) → Type 0
@@ -58,36 +59,36 @@ CellGoesOn (given c) links end from = (links ≡ []) × (end ≡ cells.Given c)
 CellGoesOn (taken op q g) links end from = from q g
 
 -- These links, and this end, are where the cell of descriptor f of process p comes from before a position: the first
--- link is the last step of which something is told, and the others are where the cell that it took comes from before
+-- link is the last step that a chain names, and the others are where the cell that it took comes from before
 -- it. Without a link there was no such step, and the cell is that of the start.
 abbrev pub IsCellChain : State → List Step → List CellLink → CellEnd → ℕ → ℕ → ℕ → Type 0
-IsCellChain s history [] end high p f = Untold s history 0 high p f × (end ≡ cells.Start p f (s.cell p f))
+IsCellChain s history [] end high p f = NoneNamed s history 0 high p f × (end ≡ cells.Start p f (s.cell p f))
 IsCellChain s history (link ∷ links) end high p f =
-    (link.pid ≡ p) × (link.fd ≡ f) × (link.at < high) × Untold s history link.at high p f
-    × CellGoesOn (told_at s history link.at p f) links end (λ q g. IsCellChain s history links end link.at q g)
+    (link.pid ≡ p) × (link.fd ≡ f) × (link.at < high) × NoneNamed s history link.at high p f
+    × CellGoesOn (named_at s history link.at p f) links end (λ q g. IsCellChain s history links end link.at q g)
 
 abbrev pub CellsSkipNone : Type 0
 CellsSkipNone = (s : State) (trace : List Step) (p f : ℕ) →
     let chain = cell_origin s trace p f in
     IsCellChain s (reverse trace) chain.links chain.end (length trace + 1) p f
 
--- a step of which nothing is told leaves the cell as it was
-abbrev pub UntoldLeaves : Type 0
-UntoldLeaves = (s : State) (step : Step) (history : List Step) (p f : ℕ)
-    → told (touch step p f) (cell_after s history) p f ≡ kept
+-- a step that a chain passes over leaves the cell as it was
+abbrev pub UnnamedLeaves : Type 0
+UnnamedLeaves = (s : State) (step : Step) (history : List Step) (p f : ℕ)
+    → named_touch (touch step p f) (cell_after s history) p f ≡ kept
     → cell_after s (step ∷ history) p f ≡ cell_after s history p f
 
--- one that is told gives the cell, takes another's, or changes it
-abbrev pub ToldChanges : Type 0
-ToldChanges = (s : State) (step : Step) (history : List Step) (p f : ℕ) (op : Op)
-    → told (touch step p f) (cell_after s history) p f ≡ taken op p f
+-- one that it names gives the cell, takes another's, or changes it
+abbrev pub NamedChanges : Type 0
+NamedChanges = (s : State) (step : Step) (history : List Step) (p f : ℕ) (op : Op)
+    → named_touch (touch step p f) (cell_after s history) p f ≡ taken op p f
     → cell_after s (step ∷ history) p f ≡ cell_after s history p f → ⊥
 
 -- ---- modes
 
 abbrev pub turn_at : List Step → ℕ → ℕ → Turn
 turn_at [] k p = stays
-turn_at (step ∷ history) k p = if k == length history + 1 then told_turn (turn step p) p else turn_at history k p
+turn_at (step ∷ history) k p = if k == length history + 1 then named_turn (turn step p) p else turn_at history k p
 
 abbrev pub mode_at_end : ModeEnd → Mode
 mode_at_end (modes.Given m) = m

@@ -190,13 +190,13 @@ fn way_back(
 
 /// The cell after these passages, which are given newest first, from the cell before them; and the links of those that
 /// didn't leave the cell as it was.
-fn told_links(
+fn named_links(
     alloc: Global,
     passages: &[Passage],
     end: &Cell,
 ) -> Result<(Cell, Vec<CellLink>), NoMemory>
-    ensures cell { IfOk result (λ told. told.0 ≡ cell_along passages.now end.now) }
-    ensures links { IfOk result (λ told. told.1.items ≡ links_along passages.now end.now) }
+    ensures cell { IfOk result (λ found. found.0 ≡ cell_along passages.now end.now) }
+    ensures links { IfOk result (λ found. found.1.items ≡ links_along passages.now end.now) }
 {
     let mut links = Vec::new(alloc);
     let mut cell = *end;
@@ -232,7 +232,7 @@ pub fn origin_of_cell(
         (λ origin. cell_chain_of origin ≡ cell_origin (start_state start.now) (steps profile lines.now) pid fd) }
 {
     let way = way_back(alloc, profile, start, lines, pid, fd)?;
-    let (cell, links) = told_links(alloc, &way.passages, &way.end.cell())?;
+    let (cell, links) = named_links(alloc, &way.passages, &way.end.cell())?;
     Ok(CellOrigin {
         cell,
         links,

@@ -2,7 +2,7 @@
 
 ghost use Rattle.cap_machine.specs.ExplainLaws.{SaidInAnyMode, SaidByMode};
 ghost use Rattle.cap_machine.specs.OriginLaws.{CellsAreReplayed, ModesAreFollowed, CellsSkipNone, ModesSkipNone};
-ghost use Rattle.cap_machine.specs.OriginLaws.{UntoldLeaves, ToldChanges};
+ghost use Rattle.cap_machine.specs.OriginLaws.{UnnamedLeaves, NamedChanges};
 
 /// Where an explanation has no chain of the mode, the same is said of the line in every mode. Where it has one, what is
 /// said depends on the mode, with some cells of the descriptors that the line checks.
@@ -26,6 +26,6 @@ pub fn chains_skip_no_line()
 /// A line that a chain leaves out, where the descriptor is the one that it follows, leaves the cell as it was; one that
 /// it names gives the cell, takes that of another descriptor, or changes it.
 pub fn named_lines_matter()
-    ensures left_out { UntoldLeaves }
-    ensures named { ToldChanges }
+    ensures left_out { UnnamedLeaves }
+    ensures named { NamedChanges }
 {}

@@ -1,6 +1,6 @@
 use Rattle.std.proofs.Common.{◌≡◌, ◌++◌, length, reverse}
 use Rattle.cap_machine.specs.Route.{cell_along, links_along}
-use Rattle.cap_machine.proofs.origin.told_links.Given as goal
+use Rattle.cap_machine.proofs.origin.named_links.Given as goal
 
 abbrev pub invariant-loop-passage : goal.invariant-loop-passage
 invariant-loop-passage l = record {

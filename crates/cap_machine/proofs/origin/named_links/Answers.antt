@@ -4,9 +4,9 @@ use Rattle.cap_machine.specs.declared.cell.Cell.{Cell}
 use Rattle.cap_machine.specs.declared.origin.CellLink.{CellLink}
 use Rattle.cap_machine.specs.declared.origin.Passage.{Passage}
 use Rattle.cap_machine.specs.Route.{cell_along, links_along}
-use Rattle.cap_machine.proofs.Routes.{cell_along-oldest, one_more_told}
-use Rattle.cap_machine.proofs.origin.told_links.Goals as goal
-use Rattle.cap_machine.proofs.origin.told_links.Goals.{then-not-is_idle+in_ok-push, else-not-is_idle}
+use Rattle.cap_machine.proofs.Routes.{cell_along-oldest, one_more_named}
+use Rattle.cap_machine.proofs.origin.named_links.Goals as goal
+use Rattle.cap_machine.proofs.origin.named_links.Goals.{then-not-is_idle+in_ok-push, else-not-is_idle}
 
 pub loop-passage-preserved : goal.loop-passage-preserved
 loop-passage-preserved c =
@@ -32,6 +32,6 @@ loop-passage-preserved c =
           ∙ cell_along-oldest newer passage c.loop-passage.cell)
           ∙ c.loop-passage.invariant.cell;
       links = ap (λ (d : Cell). links_along newer d ++ reverse now) c.on-cell.ensures
-          ∙ one_more_told rest newer passage c.loop-passage.cell was now c.in-Some.ensures.cases.0 more
+          ∙ one_more_named rest newer passage c.loop-passage.cell was now c.in-Some.ensures.cases.0 more
           ∙ c.loop-passage.invariant.links;
     }
