@@ -1,7 +1,10 @@
-//! Starts, checks and checkers.
+//! Starts, checks, checkers, machines and explanations.
 
 use crate::marks::Mark;
-use cap_machine::{Cell, Checker, Finding, Mode, NoMemory, OnExec, Profile, Start, check};
+use cap_machine::{
+    Cell, Checker, Finding, Machine, Mode, NoMemory, OnExec, Profile, Start, check, explain,
+    origin_of_cell, origin_of_mode,
+};
 use cap_rights::parse_rights;
 use cap_trace::{Fd, Line, parse_line};
 use std::alloc::Global;
@@ -124,6 +127,109 @@ fn checker_refused(rt: HostRuntime) -> Result<(), Fail> {
     };
     let report = b"5 100 write missing 3 CAP_WRITE\n8 101 read closed 3\nfindings 2\n";
     assert_eq!(rt; text.as_slice(), report.as_slice());
+    Mark::Right.set(alloc)?;
+    Ok(())
+}
+
+/// How many findings a machine has of these lines.
+fn found_by_steps(alloc: Global, start: &Start, lines: &[Line]) -> Result<usize, NoMemory> {
+    let mut machine = Machine::from_start(alloc, start)?;
+    let mut count: usize = 0;
+    for line in lines {
+        count = count.saturating_add(machine.step(Profile::Two, line)?.len());
+    }
+    Ok(count)
+}
+
+#[test]
+fn machine_refused(rt: HostRuntime) -> Result<(), Fail> {
+    let alloc = rt.alloc();
+    let lines = lines_of(alloc, &TRACE)?;
+    let mut start = Start::unknown(alloc);
+    start.add(100, Mode::Outside, Cell::Closed, cells_of(alloc)?)?;
+    Mark::Begin.set(alloc)?;
+    let first = found_by_steps(alloc, &start, &lines);
+    Mark::End.set(alloc)?;
+    let count = match first {
+        Ok(count) => count,
+        Err(NoMemory) => {
+            Mark::Lacked.set(alloc)?;
+            found_by_steps(alloc, &start, &lines)?
+        }
+    };
+    assert_eq!(rt; count, 2);
+    Mark::Right.set(alloc)?;
+    Ok(())
+}
+
+/// The positions of the lines that the first cell of a line's explanation comes from.
+fn lines_behind(
+    alloc: Global,
+    start: &Start,
+    lines: &[Line],
+    at: usize,
+) -> Result<Vec<usize>, NoMemory> {
+    let mut positions = Vec::new(alloc);
+    if let Some(found) = explain(alloc, Profile::Two, start, lines, at)? {
+        for origin in &found.cells {
+            for link in &origin.links {
+                positions.push(link.at)?;
+            }
+        }
+    }
+    Ok(positions)
+}
+
+#[test]
+fn explain_refused(rt: HostRuntime) -> Result<(), Fail> {
+    let alloc = rt.alloc();
+    let lines = lines_of(alloc, &TRACE)?;
+    let start = Start::unknown(alloc);
+    for (at, behind) in [(5, [2, 1].as_slice()), (8, [7].as_slice())] {
+        Mark::Begin.set(alloc)?;
+        let first = lines_behind(alloc, &start, &lines, at);
+        Mark::End.set(alloc)?;
+        let positions = match first {
+            Ok(positions) => positions,
+            Err(NoMemory) => {
+                Mark::Lacked.set(alloc)?;
+                lines_behind(alloc, &start, &lines, at)?
+            }
+        };
+        assert_eq!(rt; positions.as_slice(), behind);
+        Mark::Right.set(alloc)?;
+    }
+    Ok(())
+}
+
+#[test]
+fn origins_refused(rt: HostRuntime) -> Result<(), Fail> {
+    let alloc = rt.alloc();
+    let lines = lines_of(alloc, &TRACE)?;
+    let start = Start::unknown(alloc);
+    Mark::Begin.set(alloc)?;
+    let first = origin_of_cell(alloc, Profile::One, &start, &lines[..4], 101, 3);
+    Mark::End.set(alloc)?;
+    let origin = match first {
+        Ok(origin) => origin,
+        Err(NoMemory) => {
+            Mark::Lacked.set(alloc)?;
+            origin_of_cell(alloc, Profile::One, &start, &lines[..4], 101, 3)?
+        }
+    };
+    assert_eq!(rt; origin.links.len(), 3);
+    Mark::Right.set(alloc)?;
+    Mark::Begin.set(alloc)?;
+    let first = origin_of_mode(alloc, Profile::One, &start, &lines[..4], 101);
+    Mark::End.set(alloc)?;
+    let origin = match first {
+        Ok(origin) => origin,
+        Err(NoMemory) => {
+            Mark::Lacked.set(alloc)?;
+            origin_of_mode(alloc, Profile::One, &start, &lines[..4], 101)?
+        }
+    };
+    assert_eq!(rt; origin.links.len(), 2);
     Mark::Right.set(alloc)?;
     Ok(())
 }
