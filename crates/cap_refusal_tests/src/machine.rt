@@ -208,25 +208,25 @@ fn origins_refused(rt: HostRuntime) -> Result<(), Fail> {
     let lines = lines_of(alloc, &TRACE)?;
     let start = Start::unknown(alloc);
     Mark::Begin.set(alloc)?;
-    let first = origin_of_cell(alloc, Profile::One, &start, &lines[..4], 101, 3);
+    let first = origin_of_cell(alloc, Profile::One, &start, &lines, 100, 3);
     Mark::End.set(alloc)?;
     let origin = match first {
         Ok(origin) => origin,
         Err(NoMemory) => {
             Mark::Lacked.set(alloc)?;
-            origin_of_cell(alloc, Profile::One, &start, &lines[..4], 101, 3)?
+            origin_of_cell(alloc, Profile::One, &start, &lines, 100, 3)?
         }
     };
-    assert_eq!(rt; origin.links.len(), 3);
+    assert_eq!(rt; origin.links.len(), 2);
     Mark::Right.set(alloc)?;
     Mark::Begin.set(alloc)?;
-    let first = origin_of_mode(alloc, Profile::One, &start, &lines[..4], 101);
+    let first = origin_of_mode(alloc, Profile::One, &start, &lines, 101);
     Mark::End.set(alloc)?;
     let origin = match first {
         Ok(origin) => origin,
         Err(NoMemory) => {
             Mark::Lacked.set(alloc)?;
-            origin_of_mode(alloc, Profile::One, &start, &lines[..4], 101)?
+            origin_of_mode(alloc, Profile::One, &start, &lines, 101)?
         }
     };
     assert_eq!(rt; origin.links.len(), 2);
