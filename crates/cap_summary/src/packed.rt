@@ -144,6 +144,7 @@ impl Packed {
     }
 
     /// How it stands to another one in the order in which conditions are kept.
+    #[inline(always)]
     fn order(&self, other: &Packed) -> Ordering {
         match (self, other) {
             (Packed::Cell(a), Packed::Cell(b)) => place(a.pid, a.fd).cmp(&place(b.pid, b.fd)),
@@ -207,6 +208,7 @@ impl Packed {
     }
 
     /// The same condition, shared where it is large.
+    #[inline(always)]
     fn share(&self) -> Result<Packed, NoMemory>
         ensures { IfOk result (λ same. packed_condition same ≡ packed_condition self.now) }
     {
@@ -400,6 +402,7 @@ impl NewConditions {
     }
 
     /// Adds the condition at a place of others, shared.
+    #[inline(always)]
     pub(crate) fn copy(&mut self, others: &Conditions, at: usize) -> Result<(), NoMemory>
         requires { at < length others.now }
         ensures { OnOk result
