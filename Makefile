@@ -7,7 +7,8 @@
 #                   refused in turn, hostile input, the recorder and the annotator
 #   make examples   the same scripts alone, with ./capcheck
 #   make refusals   each call that takes memory, with each of its allocations refused
-#   make bench      times the program, and reading alone, on traces of a million lines beside `wc -l`, and scripts beside a check
+#   make bench      times the program, and reading alone, on traces of a million lines beside `wc -l`, and scripts beside a check;
+#                   where valgrind is installed, counts instructions too
 #   make install    puts the program and its manual page under PREFIX (default /usr/local)
 
 RT ?= rt
@@ -44,7 +45,7 @@ bench: capcheck
 	bench/run ./capcheck
 	bench/edits ./capcheck
 	bench/reading
-	if command -v valgrind >/dev/null; then bench/replaced ./capcheck; fi
+	if command -v valgrind >/dev/null; then bench/instructions ./capcheck; bench/replaced ./capcheck; fi
 
 install: capcheck
 	install -d $(DESTDIR)$(PREFIX)/bin

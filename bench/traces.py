@@ -109,6 +109,79 @@ def forms(lines):
     return out[:lines]
 
 
+def mixed(lines):
+    """Sixteen processes at a time, with up to 64 descriptors each, and calls of every shape; each process that exits is replaced by
+    a child of another. A few enter capability mode, and what it forbids is refused there."""
+    rng = random.Random(16)
+    out = [f"{pid} @start(0,1,2)" for pid in range(100, 116)]
+    held = {pid: {0: "", 1: "", 2: ""} for pid in range(100, 116)}
+    inside = set()
+    child = 116
+    limits = ("CAP_PREAD|CAP_FSTAT|CAP_EVENT|CAP_FCNTL", "CAP_PWRITE|CAP_FSTAT|CAP_FSYNC", "CAP_READ|CAP_WRITE|CAP_SEEK|CAP_FSTAT|CAP_EVENT")
+    at_fd = (
+        ("read({}) RET {n}", "CAP_READ", 16), ("write({}) RET {n}", "CAP_WRITE", 13), ("writev({}) RET {n}", "CAP_WRITE", 6),
+        ("pread({}) RET {n}", "CAP_PREAD", 5), ("pwrite({}) RET {n}", "CAP_PWRITE", 6), ("lseek({}) RET {n}", "CAP_SEEK", 5),
+        ("fstat({}) RET {n}", "CAP_FSTAT", 5), ("fcntl({},F_GETFL) RET 2", "CAP_FCNTL", 1), ("fcntl({},F_SETFD,FD_CLOEXEC) RET 0", None, 1),
+        ("mmap({},PROT_READ|PROT_WRITE,MAP_SHARED) RET 3{n}59616", "CAP_MMAP_RW", 2),
+    )
+    free = ("clock_gettime(4) RET 0", "_umtx_op(0x8012a,15,0,0) RET -1 errno 60", "kevent(7,0x820c4f,1,0x820c6f,64) RET {n}")
+    paths = ("/etc/ssl/openssl.cnf", "/usr/local/lib/libcrypto.so.30", "/dev/null", "/var/log/messages", "/srv/www/work/project/src/main.c", "/run/x")
+    files = ("index.html", "data/part-0001", "img/logo.png", "x.tmp")
+    by_path = ("stat", "lstat", "access", "readlink")
+
+    def made(pid, text, limit=""):
+        """A call that makes a descriptor, the lowest that is free below 64, with a limit."""
+        fd = next((fd for fd in range(64) if fd not in held[pid]), None)
+        if fd is not None:
+            held[pid][fd] = limit
+            out.append(f"{pid} {text} RET {fd}")
+
+    while len(out) < lines:
+        pid = rng.choice(tuple(held))
+        fds = held[pid]
+        fd = rng.choice(tuple(fds))
+        n = rng.randrange(65536)
+        kind = rng.random()
+        if kind < 0.004 and pid not in inside:
+            held[child] = dict(fds)
+            out.append(f"{pid} fork() RET {child}")
+            child += 1
+            gone = rng.choice(tuple(held))
+            del held[gone]
+            out.append(f"{gone} @exit()")
+        elif kind < 0.0044:
+            inside.add(pid)
+            out.append(f"{pid} cap_enter() RET 0")
+        elif kind < 0.06:
+            out.append(f"{pid} {rng.choice(free).format(n=n % 64)}")
+        elif kind < 0.10:
+            answer = "-1 errno 94" if pid in inside else "0"
+            out.append(f'{pid} {rng.choice(by_path)}("{rng.choice(paths)}") RET {answer}')
+        elif kind < 0.21:
+            text = f'open("{rng.choice(paths)}",O_RDWR|O_CREAT|O_CLOEXEC)'
+            if pid in inside or rng.random() < 0.1:
+                out.append(f"{pid} {text} RET -1 errno {94 if pid in inside else 2}")
+            else:
+                made(pid, text)
+        elif kind < 0.235:
+            made(pid, "socket(PF_INET|SOCK_CLOEXEC)")
+        elif kind < 0.255:
+            made(pid, f"dup({fd})", fds[fd])
+        elif kind < 0.29 and not fds[fd]:
+            made(pid, f'openat({fd},"{rng.choice(files)}",O_RDONLY|O_CLOEXEC)')
+        elif kind < 0.325:
+            fds[fd] = fds[fd] or rng.choice(limits)
+            out.append(f"{pid} cap_rights_limit({fd},{fds[fd]}) RET 0")
+        elif kind < 0.46 and len(fds) > 3:
+            del fds[fd]
+            out.append(f"{pid} close({fd}) RET 0")
+        else:
+            within = [call for call in at_fd if not fds[fd] or call[1] in (None, *fds[fd].split("|")) or rng.random() < 0.003]
+            text = rng.choices(within, [weight for _, _, weight in within])[0][0]
+            out.append(f"{pid} {text.format(fd, n=n)}")
+    return out[:lines]
+
+
 def crowd(lines):
     """A thousand processes that each make a thousand descriptors."""
     out = []
@@ -285,7 +358,7 @@ def held(count, call, times):
 
 TRACES = {
     make.__name__: make
-    for make in (quiet, loud, wide, forms, crowd, hostile, pairs, spread, closes, socketpairs, strangers, starts, packed, execs, turns)
+    for make in (quiet, loud, wide, forms, mixed, crowd, hostile, pairs, spread, closes, socketpairs, strangers, starts, packed, execs, turns)
 }
 
 

@@ -1,9 +1,10 @@
 #!/usr/bin/env python3
 """The rules of capcheck once more, not made from the definitions that the proofs rest on, as plainly as Python
 allows. `tests/compare` holds the program against it: a proof ties the program to its definitions, and this ties the
-definitions to a second reading of docs/FORMAT.md, docs/RULES.md and docs/SCRIPTS.md.
+definitions to a second reading of docs/FORMAT.md, docs/RULES.md, docs/SCRIPTS.md and docs/EXPLAIN.md.
 
-It runs as the program does: tests/reference.py check [FILE] [--start FILE] [--profile N], or edit FILE [SCRIPT] [--profile N].
+It runs as the program does: tests/reference.py check [FILE] [--start FILE] [--profile N], edit FILE [SCRIPT] [--profile N], or
+explain FILE K [--start FILE] [--profile N].
 """
 
 import argparse
@@ -714,6 +715,128 @@ def replies(text, script, profile=1):
     return "".join(out), 1 if findings(trace, profile) else 0
 
 
+# ---- explanations
+
+GIVEN = "given"
+
+
+def is_fork(line):
+    pid, name, _, answer = line
+    return name in ("fork", "vfork", "pdfork") and not isinstance(answer, int) and answer[0] != 0
+
+
+def source(profile, line, owner, place):
+    """Where a line has the cell of a descriptor of a process from: it gave it, or took it from this descriptor of this process,
+    perhaps the same; None where it left it alone."""
+    pid, name, given, answer = line
+    if is_fork(line):
+        if name == "pdfork" and place == answer[1] and owner in (pid, answer[0]):
+            return GIVEN
+        return (pid, place) if owner == answer[0] != pid else None
+    if owner != pid:
+        return None
+    if name in ("@start", "@exit"):
+        return GIVEN
+    if name in ("@foreign", "close"):
+        return GIVEN if place == given[0] and not (name == "close" and answer == 9) else None
+    if isinstance(answer, int):
+        return None
+    if name in ("execve", "fexecve"):
+        return (pid, place) if profile == 2 else GIVEN
+    if name == "closefrom":
+        return GIVEN if profile == 2 and place >= given[0] else None
+    if name in ("cap_rights_limit", "cap_ioctls_limit", "cap_fcntls_limit") or (name == "fcntl" and given[1] == "F_SETFD"):
+        return (pid, place) if place == given[0] else None
+    if name in ("dup", "dup2") or (name == "fcntl" and given[1] in COPIES + COPIES_TO):
+        return (pid, given[0]) if place == answer[0] else None
+    if name == "openat" and given[0] != "AT_FDCWD" and given[1] and given[1][0] != "/":
+        return (pid, given[0]) if place == answer[0] else None
+    makes = name in ("open", "openat", "socket") or name in MAKES_ONE + MAKES_TWO
+    return GIVEN if makes and place in answer else None
+
+
+def cell_by(profile, line, where, cell, owner, place):
+    """The cell of a descriptor of a process after a line that took this cell from there, or gave it."""
+    processes = Processes(profile)
+    if where != GIVEN:
+        processes.put(*where, cell)
+    processes.follow(*line)
+    return processes.cell(owner, place)
+
+
+def chain_of_cell(profile, start, lines, owner, place):
+    """The positions of the lines that a cell after these lines comes from, newest first, and the cell at the start where it comes
+    from there. A line that took a cell from itself and left it as it was isn't one of them."""
+    passed, where = [], None
+    for at in range(len(lines), 0, -1):
+        where = source(profile, lines[at - 1], owner, place)
+        if where is not None:
+            passed.append((at, where, owner, place))
+        if where == GIVEN:
+            break
+        owner, place = where or (owner, place)
+    known = None if where == GIVEN else start.get(owner, Process()).cell(place)
+    named, cell = [], known
+    for at, where, owner, place in reversed(passed):
+        after = cell_by(profile, lines[at - 1], where, cell, owner, place)
+        if where != (owner, place) or after != cell:
+            named.insert(0, at)
+        cell = after
+    return named, known
+
+
+def chain_of_mode(start, lines, owner):
+    """The same for the mode of a process."""
+    named = []
+    for at in range(len(lines), 0, -1):
+        pid, name, _, answer = lines[at - 1]
+        if pid == owner and (name in ("@start", "@exit") or (name == "cap_enter" and not isinstance(answer, int))):
+            return named + [at], None
+        if is_fork(lines[at - 1]) and owner == answer[0] != pid:
+            named, owner = named + [at], pid
+    return named, start.get(owner, Process()).mode
+
+
+def mode_can_matter(kind, checks, name, answer):
+    """Whether the mode can make a difference to what is found in a line."""
+    if answer == 94:
+        return kind != "allowed"
+    if answer == 93:
+        return name in AT_CALLS and checks != [] and all(excuse is not None for _, _, excuse in checks)
+    return not isinstance(answer, int) and kind == "forbidden"
+
+
+def chain_text(trace, word, named, known):
+    """A chain, where what was known at the start has its word."""
+    lines = [f"{word} {at} {written(trace[at - 1])}\n" for at in named]
+    return "".join(lines) + ("" if known is None else f"{word} start {known}\n")
+
+
+def explained(text, asked, profile=1, start=""):
+    """What the program writes for a line of a trace that is to be explained, and its exit status."""
+    known, refusal = load_start(start)
+    trace, refusal = (None, refusal) if refusal else load(text)
+    if refusal:
+        return refusal, 2
+    if not 1 <= asked <= len(trace):
+        return "refused E7\n", 2
+    *before, (pid, name, given, answer) = [read(line) for line in trace[:asked]]
+    processes = Processes(profile, known)
+    for line in before:
+        processes.follow(*line)
+    said = processes.said(pid, name, given, answer)
+    out = f"{asked} {written(trace[asked - 1])}\n" + "".join(f"{words}\n" for words in said)
+    kind, checks = ("either", []) if answer is None else rule(name, given)
+    for place, _, _ in checks:
+        named, cell = chain_of_cell(profile, known, before, pid, place)
+        out += chain_text(trace, place, named, rights_text(cell.rights) if isinstance(cell, Held) else cell)
+    if answer is not None and mode_can_matter(kind, checks, name, answer):
+        named, mode = chain_of_mode(known, before, pid)
+        words = {long: short for short, long in MODES.items()}
+        out += chain_text(trace, "mode", named, words.get(mode))
+    return out, 1 if said else 0
+
+
 # ---- the command line
 
 
@@ -734,12 +857,19 @@ def main():
     edit = commands.add_parser("edit")
     edit.add_argument("trace")
     edit.add_argument("script", nargs="?")
-    for command in (plain, edit):
+    explain = commands.add_parser("explain")
+    explain.add_argument("trace")
+    explain.add_argument("position", type=int)
+    explain.add_argument("--start")
+    for command in (plain, edit, explain):
         command.add_argument("--profile", type=int, choices=(1, 2), default=1)
     words = parser.parse_args()
     if words.command == "check":
         start = text_of(words.start) if words.start is not None else ""
         out, status = check(text_of(words.trace), words.profile, start)
+    elif words.command == "explain":
+        start = text_of(words.start) if words.start is not None else ""
+        out, status = explained(text_of(words.trace), words.position, words.profile, start)
     else:
         out, status = replies(text_of(words.trace), text_of(words.script), words.profile)
     sys.stdout.buffer.write(out.encode("latin1"))

@@ -18,7 +18,7 @@ use Rattle.cap_machine.specs.History.{touched, cell_after}
 use Rattle.cap_machine.specs.Origin.{CellChain, same_cell, is_idle, named_touch, by_touch, cell_chain, cell_at_end}
 use Rattle.cap_machine.specs.OriginLaws.{touch_at, made, replayed, CellsAreReplayed, named_at, NoneNamed, CellGoesOn}
 use Rattle.cap_machine.specs.OriginLaws.{IsCellChain, CellsSkipNone, UnnamedLeaves, NamedChanges}
-use Rattle.cap_machine.proofs.Routes.{same_cell-self, idle_takes, idle_leaves}
+use Rattle.cap_machine.proofs.Passages.{same_cell-self, idle_takes, idle_leaves}
 
 -- ---- the step at a position
 

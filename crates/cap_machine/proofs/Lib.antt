@@ -21,7 +21,8 @@ pub mod Starts
 pub mod KnownTables
 pub mod StartedLists
 pub mod Origins
-pub mod Routes
+pub mod Passages
+pub mod Walking
 pub mod ModeMatters
 pub mod CellChains
 pub mod ModeChains

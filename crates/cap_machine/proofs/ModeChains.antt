@@ -24,7 +24,7 @@ from_itself : (own : Bool) (q : ℕ) (mode : ℕ → Mode) (p : ℕ) → (own �
 from_itself true q mode p is = ap mode (sym (is refl))
 from_itself false q mode p is = refl
 
-named_follows : (t : Turn) (mode : ℕ → Mode) (p : ℕ) → turned (named_turn t p) mode p ≡ turned t mode p
+pub named_follows : (t : Turn) (mode : ℕ → Mode) (p : ℕ) → turned (named_turn t p) mode p ≡ turned t mode p
 named_follows stays mode p = refl
 named_follows (turns m) mode p = refl
 named_follows (follows q) mode p = from_itself (q == p) q mode p (λ e. eqb-true q p e)

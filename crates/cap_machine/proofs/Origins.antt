@@ -1,14 +1,10 @@
--- Walking back through the lines of a trace, and what was gathered on the way.
+-- The lines of a trace as a history.
 use Rattle.std.proofs.Common.{◌≡◌, List, ◌++◌, length, reverse, ap, ◌∙◌}
 use Rattle.std.proofs.lemmas.List.{length-map, length-reverse, reverse-append, map-append}
 use Rattle.cap_trace.specs.Entry.{Entry}
 use Rattle.cap_machine.specs.declared.cell.Profile.{Profile}
 use Rattle.cap_machine.specs.declared.step.Step.{Step}
-use Rattle.cap_machine.specs.declared.origin.Passage.{Passage}
-use Rattle.cap_machine.specs.declared.origin.ModeLink.{ModeLink}
 use Rattle.cap_machine.specs.Steps.{step, steps}
-use Rattle.cap_machine.specs.Origin.{ModeChain}
-use Rattle.cap_machine.specs.Route.{Route}
 
 -- the lines of a trace in a profile, as a history
 abbrev pub back : Profile → List Entry → List Step
@@ -21,10 +17,3 @@ back-append profile lines more =
 
 pub length-back : (profile : Profile) (lines : List Entry) → length (back profile lines) ≡ length lines
 length-back profile lines = length-reverse (steps profile lines) ∙ length-map lines (step profile)
-
--- what was gathered on the way, and what is to come
-abbrev pub passages_along : List Passage → Route → Route
-passages_along passages way = record { passages = passages ++ way.passages; end = way.end }
-
-abbrev pub modes_along : List ModeLink → ModeChain → ModeChain
-modes_along links chain = record { links = links ++ chain.links; end = chain.end }

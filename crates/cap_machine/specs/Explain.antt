@@ -1,16 +1,21 @@
 -- What one line of a trace rests on: what is said of it, and where the cell of each descriptor that it checks and the
 -- mode of its process come from.
 use Rattle.std.specs.Prelude.{ℕ, ◌+◌, ◌==◌, ◌&&◌, not, Bool, true, false, if◌then◌else◌, List, [], ◌∷◌, length, map}
-use Rattle.std.specs.Prelude.{reverse, Option, Some, None, option_map}
+use Rattle.std.specs.Prelude.{◌≡◌, reverse, Option, Some, None, option_map}
+use Rattle.std.specs.Option.{option_map_or}
 use Rattle.cap_machine.specs.declared.step.Step.{Step}
 use Rattle.cap_machine.specs.declared.rule.Check.{Check}
 use Rattle.cap_machine.specs.declared.rule.Demand.{Demand}
 use Rattle.cap_machine.specs.declared.rule.Reply.{Reply}
 use Rattle.cap_machine.specs.declared.rule.Reply.TheVariants.{Success, NotCapable, NotPermitted, Other}
 use Rattle.cap_machine.specs.declared.verdict.Finding.{Finding}
+use Rattle.cap_machine.specs.declared.cell.Mode.{Mode}
+use Rattle.cap_machine.specs.declared.cell.Mode.TheVariants.{Unsure}
+use Rattle.cap_machine.specs.declared.origin.CellOrigin.{CellOrigin}
+use Rattle.cap_machine.specs.declared.origin.ModeOrigin.{ModeOrigin}
 use Rattle.cap_machine.specs.declared.explaining.Explanation.{Explanation}
 use Rattle.cap_machine.specs.State.{State}
-use Rattle.cap_machine.specs.History.{after}
+use Rattle.cap_machine.specs.History.{after, cell_after, mode_after}
 use Rattle.cap_machine.specs.Rule.{demand}
 use Rattle.cap_machine.specs.Judge.{listed, has_check, is_forbidden, is_allowed}
 use Rattle.cap_machine.specs.Check.{said_of}
@@ -72,3 +77,19 @@ explained_by e = record {
   cells = map cell_chain_of e.cells.items;
   mode = option_map mode_chain_of e.mode;
 }
+
+-- where the mode doesn't matter it isn't looked up
+abbrev pub mode_or_unsure : Option ModeOrigin → Mode
+mode_or_unsure origin = option_map_or (λ (o : ModeOrigin). o.mode) origin Unsure
+
+-- what a line of process p with this demand rests on after a history: of each check, in order, its cell and where that
+-- comes from; and the same of the mode, where it matters
+pub record RestsOn (s : State) (history : List Step) (d : Demand) (p : ℕ) (origins : List CellOrigin)
+    (mode_from : Option ModeOrigin) : Type 0 where
+  pub cells : map (λ (origin : CellOrigin). origin.cell) origins
+      ≡ map (λ (check : Check). cell_after s history p check.fd) (listed d.checks)
+  pub chains : map cell_chain_of origins
+      ≡ map (λ (check : Check). cell_chain s history p check.fd) (listed d.checks)
+  pub mode : mode_matters d ≡ true → mode_or_unsure mode_from ≡ mode_after s history p
+  pub mode_links : option_map mode_chain_of mode_from
+      ≡ (if mode_matters d then Some (mode_chain s history p) else None)

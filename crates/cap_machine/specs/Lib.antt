@@ -24,7 +24,9 @@ pub mod Known
 pub mod Checked
 pub mod Touched
 pub mod Origin
-pub mod Route
+pub mod Passages
+pub mod Walks
+pub mod Following
 pub mod Explain
 pub mod ExplainLaws
 pub mod OriginLaws

@@ -3,7 +3,7 @@
 ghost use Rattle.std.specs.Prelude.{◌≡◌};
 ghost use Rattle.cap_rights.specs.Rights.{without_full, named as all_named};
 ghost use Rattle.cap_machine.specs.Op.{held, held_op, applied, keeping, marking, derive, copy_to_itself, limit, narrow};
-ghost use Rattle.cap_machine.specs.Op.{exec, set_flag, narrow_and_set_flag};
+ghost use Rattle.cap_machine.specs.Op.{same, exec, set_flag, narrow_and_set_flag};
 
 use cap_rights::{RightBits, RightSet};
 
@@ -135,6 +135,13 @@ impl Op {
             clear: HeldOp::keeps(mask, flag),
             unsure: HeldOp::keeps(mask, flag),
         }
+    }
+
+    /// The op that leaves each cell as it is: what a child has of its parent (fork(2)).
+    pub fn same() -> Op
+        ensures { result ≡ same }
+    {
+        Op::keeping(Cell::Unknown, Cell::Closed, &None)
     }
 
     /// What a new descriptor has of the one that it comes from: its rights, and this flag (dup(2), openat(2)).

@@ -1,7 +1,8 @@
 //! What one line of a trace rests on.
 
-ghost use Rattle.std.specs.Prelude.{◌≡◌, ◌&&◌, true, IfOk, map, reverse, length, option_map, if◌then◌else◌};
+ghost use Rattle.std.specs.Prelude.{◌≡◌, ◌&&◌, true, ℕ, IfOk, List, map, reverse, length, option_map, if◌then◌else◌};
 ghost use Rattle.std.specs.Option.{option_map_or};
+ghost use Rattle.cap_machine.specs.declared.step.Step.{Step};
 ghost use Rattle.cap_machine.specs.declared.rule.Check.{Check};
 ghost use Rattle.cap_machine.specs.declared.origin.CellOrigin.{CellOrigin};
 ghost use Rattle.cap_machine.specs.declared.origin.ModeOrigin.{ModeOrigin};
@@ -13,7 +14,7 @@ ghost use Rattle.cap_machine.specs.Judge.{listed, judged, has_check};
 ghost use Rattle.cap_machine.specs.Table.{start_state};
 ghost use Rattle.cap_machine.specs.Origin.{cell_origin, cell_chain_of, mode_origin, mode_chain_of};
 ghost use Rattle.cap_machine.specs.Explain.{has_excuse, all_have_excuse, mode_matters, explained, explanation};
-ghost use Rattle.cap_machine.specs.Explain.{explained_of, explained_by};
+ghost use Rattle.cap_machine.specs.Explain.{explained_of, explained_by, mode_or_unsure, RestsOn};
 
 use crate::cell::{Mode, Profile};
 use crate::origin::{CellOrigin, ModeOrigin, origin_of_cell, origin_of_mode};
@@ -127,6 +128,32 @@ fn mode_origin_where(
     }
 }
 
+impl Explanation {
+    /// What a line with this demand rests on, which is judged here: given where the cell of each of its checks comes
+    /// from, in order, and where the mode of its process does, where it matters ([`Demand::mode_matters`]).
+    pub fn of(demand: &Demand, cells: Vec<CellOrigin>, mode: Option<ModeOrigin>) -> Explanation
+        requires one_each { length cells.items ≡ length (listed demand.now.checks) }
+        ensures verdict { result.verdict
+            ≡ judged demand.now (mode_or_unsure mode) (map (λ (origin : CellOrigin). origin.cell) cells.items) }
+        ensures cells { result.cells ≡ cells }
+        ensures mode { result.mode ≡ mode }
+        // Where the cells and the mode are those after a history, so is the explanation.
+        ensures explained { (s : State) (history : List Step) (p : ℕ)
+            → RestsOn s history demand.now p cells.items mode
+            → explained_by result ≡ explained_of s history demand.now p }
+    {
+        let known = match &mode {
+            Some(origin) => origin.mode,
+            None => Mode::Unsure,
+        };
+        Explanation {
+            verdict: verdict_of(demand, known, &cells),
+            cells,
+            mode,
+        }
+    }
+}
+
 /// What a line of a process with this demand rests on that follows these.
 fn explain_demand(
     alloc: Global,
@@ -141,15 +168,7 @@ fn explain_demand(
 {
     let cells = origins_of(alloc, profile, start, before, pid, &demand.checks)?;
     let mode = mode_origin_where(alloc, profile, start, before, pid, demand)?;
-    let known = match &mode {
-        Some(origin) => origin.mode,
-        None => Mode::Unsure,
-    };
-    Ok(Explanation {
-        verdict: verdict_of(demand, known, &cells),
-        cells,
-        mode,
-    })
+    Ok(Explanation::of(demand, cells, mode))
 }
 
 /// What a line is judged by.

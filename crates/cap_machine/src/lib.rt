@@ -45,6 +45,7 @@ mod step;
 mod table;
 mod touched;
 mod verdict;
+mod walks;
 
 pub use cap_rights::NoMemory;
 pub use cell::{Cell, HeldOp, Mode, OnExec, Op, Profile};
@@ -66,4 +67,6 @@ pub use report::{put_count, put_finding};
 pub use rule::{Check, Checks, Class, Demand, Effect, Reply, Rule, Word, rule_of};
 pub use start::Start;
 pub use step::Step;
+pub use touched::{Touched, Turned};
 pub use verdict::{Finding, Found, Verdict, judge};
+pub use walks::{CellWalk, ModeWalk, walks_may_leave_out};

@@ -2,20 +2,19 @@
 
 ghost use Rattle.std.specs.Prelude.{◌≡◌, ◌==◌};
 ghost use Rattle.std.specs.List.{list_any};
-ghost use Rattle.cap_machine.specs.Op.{same};
 ghost use Rattle.cap_machine.specs.Steps.{step};
 ghost use Rattle.cap_machine.specs.Touch.{touch, turn, started};
 ghost use Rattle.cap_machine.specs.Effect.{effect_touch, effect_turn};
 ghost use Rattle.cap_machine.specs.Touched.{touch_seen, turn_seen};
 
-use crate::cell::{Cell, HeldOp, Mode, OnExec, Op, Profile};
+use crate::cell::{Cell, Mode, OnExec, Op, Profile};
 use crate::rule::{Effect, rule_of};
 use cap_rights::RightSet;
 use cap_trace::{Fd, Line, Pid};
 
 /// What a line does to one cell.
-#[derive(Clone, Copy)]
-pub(crate) enum Touched {
+#[derive(Clone, Copy, Debug, PartialEq, Eq)]
+pub enum Touched {
     /// It stays as it was.
     Kept,
     /// It becomes this cell.
@@ -25,27 +24,14 @@ pub(crate) enum Touched {
 }
 
 /// What a line does to the mode of one process.
-#[derive(Clone, Copy)]
-pub(crate) enum Turned {
+#[derive(Clone, Copy, Debug, PartialEq, Eq)]
+pub enum Turned {
     /// It stays as it was.
     Stays,
     /// It becomes this mode.
     Turns(Mode),
     /// It becomes the mode of the line's process.
     Follows,
-}
-
-/// The op that leaves a cell as it is.
-pub(crate) fn same_op() -> Op
-    ensures { result ≡ same }
-{
-    Op {
-        unknown: Cell::Unknown,
-        closed: Cell::Closed,
-        set: HeldOp::Keeps(None, OnExec::Set),
-        clear: HeldOp::Keeps(None, OnExec::Clear),
-        unsure: HeldOp::Keeps(None, OnExec::Unsure),
-    }
 }
 
 fn has_fd(fds: &[Fd], fd: Fd) -> bool
@@ -82,42 +68,44 @@ fn own_touch(effect: &Effect<'_>, me: Pid, fd: Fd) -> Touched
         Effect::Change(to, op, from) if fd == *to => Touched::Taken(*op, *from),
         Effect::ForkAs(_, to) if fd == *to => Touched::Given(Cell::Unknown),
         Effect::Fork(child) | Effect::ForkAs(child, _) if me == *child => {
-            Touched::Taken(same_op(), fd)
+            Touched::Taken(Op::same(), fd)
         }
         _ => Touched::Kept,
     }
 }
 
-/// The same of a cell of any process.
-fn touch_by(effect: &Effect<'_>, me: Pid, pid: Pid, fd: Fd) -> Touched
-    ensures { touch_seen me result ≡ effect_touch effect.now me pid fd }
-{
-    if pid == me {
-        return own_touch(effect, me, fd);
-    }
-    match effect {
-        Effect::Fork(child) if pid == *child => Touched::Taken(same_op(), fd),
-        Effect::ForkAs(child, to) if pid == *child => {
-            if fd == *to {
-                Touched::Given(Cell::Unknown)
-            } else {
-                Touched::Taken(same_op(), fd)
+impl Effect<'_> {
+    /// What the effect of a line of process `me` does to one cell.
+    pub fn touch(&self, me: Pid, pid: Pid, fd: Fd) -> Touched
+        ensures { touch_seen me result ≡ effect_touch self.now me pid fd }
+    {
+        if pid == me {
+            return own_touch(self, me, fd);
+        }
+        match self {
+            Effect::Fork(child) if pid == *child => Touched::Taken(Op::same(), fd),
+            Effect::ForkAs(child, to) if pid == *child => {
+                if fd == *to {
+                    Touched::Given(Cell::Unknown)
+                } else {
+                    Touched::Taken(Op::same(), fd)
+                }
             }
+            _ => Touched::Kept,
         }
-        _ => Touched::Kept,
     }
-}
 
-/// What an effect of a line of a process does to the mode of one.
-fn turn_by(effect: &Effect<'_>, me: Pid, pid: Pid) -> Turned
-    ensures { turn_seen me result ≡ effect_turn effect.now me pid }
-{
-    match effect {
-        Effect::Start(_) if pid == me => Turned::Turns(Mode::Outside),
-        Effect::Exit if pid == me => Turned::Turns(Mode::Unsure),
-        Effect::Enter if pid == me => Turned::Turns(Mode::Inside),
-        Effect::Fork(child) | Effect::ForkAs(child, _) if pid == *child => Turned::Follows,
-        _ => Turned::Stays,
+    /// What the effect of a line of process `me` does to the mode of one process.
+    pub fn turn(&self, me: Pid, pid: Pid) -> Turned
+        ensures { turn_seen me result ≡ effect_turn self.now me pid }
+    {
+        match self {
+            Effect::Start(_) if pid == me => Turned::Turns(Mode::Outside),
+            Effect::Exit if pid == me => Turned::Turns(Mode::Unsure),
+            Effect::Enter if pid == me => Turned::Turns(Mode::Inside),
+            Effect::Fork(child) | Effect::ForkAs(child, _) if pid == *child => Turned::Follows,
+            _ => Turned::Stays,
+        }
     }
 }
 
@@ -125,12 +113,12 @@ fn turn_by(effect: &Effect<'_>, me: Pid, pid: Pid) -> Turned
 pub(crate) fn touch_of(profile: Profile, line: &Line, pid: Pid, fd: Fd) -> Touched
     ensures { touch_seen line.now.pid result ≡ touch (step profile line.now) pid fd }
 {
-    touch_by(&rule_of(profile, line).effect, line.pid, pid, fd)
+    rule_of(profile, line).effect.touch(line.pid, pid, fd)
 }
 
 /// What a line does to the mode of one process.
 pub(crate) fn turn_of(profile: Profile, line: &Line, pid: Pid) -> Turned
     ensures { turn_seen line.now.pid result ≡ turn (step profile line.now) pid }
 {
-    turn_by(&rule_of(profile, line).effect, line.pid, pid)
+    rule_of(profile, line).effect.turn(line.pid, pid)
 }

@@ -17,3 +17,5 @@ mod reports;
 mod starts;
 #[cfg(test)]
 mod traces;
+#[cfg(test)]
+mod walks;

@@ -218,3 +218,39 @@ fn show_refused(rt: HostRuntime) -> Result<(), Fail> {
     }
     Ok(())
 }
+
+/// Lines of the trace, and what they rest on.
+static EXPLAINED: [(usize, &[u8]); 2] = [
+    (
+        5,
+        b"5 100 write(3) RET 1\nmissing 3 CAP_WRITE\n3 2 100 cap_rights_limit(3,CAP_READ) RET 0\n3 1 100 @start(0,3)\n",
+    ),
+    (
+        8,
+        b"8 101 read(3) RET 1\nclosed 3\n3 7 101 closefrom(1) RET 0\n",
+    ),
+];
+
+#[test]
+fn explain_refused(rt: HostRuntime) -> Result<(), Fail> {
+    let alloc = rt.alloc();
+    let session = session_of(alloc)?;
+    for (position, text) in &EXPLAINED {
+        Mark::Begin.set(alloc)?;
+        let first = session.explain(*position);
+        Mark::End.set(alloc)?;
+        let line = match first {
+            Ok(line) => line,
+            Err(refused) => {
+                Mark::Lacked.set(alloc)?;
+                assert_eq!(rt; refused, Refused::Memory);
+                session.explain(*position)?
+            }
+        };
+        assert_eq!(rt; line.text.as_slice(), *text);
+        assert!(rt; !line.is_clean);
+        assert_eq!(rt; session.report()?.as_slice(), REPORT);
+        Mark::Right.set(alloc)?;
+    }
+    Ok(())
+}

@@ -3,8 +3,9 @@
 use crate::marks::Mark;
 use cap_machine::Profile;
 use cap_session::{
-    Failed, Outcome, Source, check_stream, check_stream_as, check_stream_from,
-    check_stream_from_as, edit_stream, edit_stream_as,
+    ExplainOutcome, Failed, Outcome, Source, check_stream, check_stream_as, check_stream_from,
+    check_stream_from_as, edit_stream, edit_stream_as, explain_stream, explain_stream_as,
+    explain_stream_from, explain_stream_from_as,
 };
 use cap_session_tests::devices::{Kept, Pieces};
 use std::alloc::Global;
@@ -84,6 +85,54 @@ fn check_streams_refused(rt: HostRuntime) -> Result<(), Fail> {
         };
         assert_eq!(rt; outcome, Outcome::Findings);
         assert_eq!(rt; kept.text(), REPORT);
+        Mark::Right.set(alloc)?;
+    }
+    Ok(())
+}
+
+/// What the last line of the trace rests on.
+const EXPLAINED: &[u8] =
+    b"5 101 write(3) RET 1\nmissing 3 CAP_WRITE\n3 3 100 fork() RET 101\n3 2 100 cap_rights_limit(3,CAP_READ) RET 0\n3 1 100 @start(0,3)\n";
+
+/// The outcome of explaining the last line, with a profile or without, and from a start or without, and what that wrote.
+fn explained(alloc: Global, profile: Option<Profile>, is_started: bool) -> (ExplainOutcome, Kept) {
+    let mut trace = Pieces::new(TRACE, 64, 0);
+    let mut start = Pieces::new(START, 64, 0);
+    let mut kept = Kept::new(64, 256);
+    let outcome = match (profile, is_started) {
+        (None, false) => explain_stream(alloc, 4096, 5, &mut trace, &mut kept),
+        (Some(profile), false) => {
+            explain_stream_as(alloc, profile, 4096, 5, &mut trace, &mut kept)
+        }
+        (None, true) => explain_stream_from(alloc, 4096, 5, &mut start, &mut trace, &mut kept),
+        (Some(profile), true) => {
+            explain_stream_from_as(alloc, profile, 4096, 5, &mut start, &mut trace, &mut kept)
+        }
+    };
+    (outcome, kept)
+}
+
+#[test]
+fn explain_streams_refused(rt: HostRuntime) -> Result<(), Fail> {
+    let alloc = rt.alloc();
+    for (profile, is_started) in [
+        (None, false),
+        (Some(Profile::Two), false),
+        (None, true),
+        (Some(Profile::Two), true),
+    ] {
+        Mark::Begin.set(alloc)?;
+        let first = explained(alloc, profile, is_started);
+        Mark::End.set(alloc)?;
+        let (outcome, kept) = if first.0 == ExplainOutcome::Ended(Outcome::Memory) {
+            Mark::Lacked.set(alloc)?;
+            assert_eq!(rt; first.1.text(), b"".as_slice());
+            explained(alloc, profile, is_started)
+        } else {
+            first
+        };
+        assert_eq!(rt; outcome, ExplainOutcome::Ended(Outcome::Findings));
+        assert_eq!(rt; kept.text(), EXPLAINED);
         Mark::Right.set(alloc)?;
     }
     Ok(())

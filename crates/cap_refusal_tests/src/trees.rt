@@ -8,7 +8,7 @@ use std::rc::Rc;
 use std::test::Fail;
 
 /// How many items a tree begins with: four full leaves.
-const FIRST: u32 = 128;
+const FIRST: u32 = 192;
 
 /// An edit of a tree by the number 1000.
 #[derive(Drop)]
@@ -21,11 +21,11 @@ enum Edit {
 /// Inserts near both ends, replaces, and then removes behind the middle: leaves split, merge and vanish, and there are
 /// single and double rotations from both sides.
 fn edit_at(turn: u32, len: usize) -> Edit {
-    if turn < 40 {
-        Edit::Insert(24)
-    } else if turn < 80 {
-        Edit::Insert(len.saturating_sub(24))
-    } else if turn < 85 {
+    if turn < 60 {
+        Edit::Insert(36)
+    } else if turn < 120 {
+        Edit::Insert(len.saturating_sub(36))
+    } else if turn < 125 {
         Edit::Replace(len / 3 + turn as usize % 7)
     } else {
         Edit::Remove(len / 3 * 2)
@@ -84,7 +84,7 @@ fn tree_to(alloc: Global, limit: u32) -> Result<Tree<Listed>, NoMemory> {
 #[test]
 fn from_list_refused(rt: HostRuntime) -> Result<(), Fail> {
     let alloc = rt.alloc();
-    for limit in [0, 1, 32, 33, FIRST] {
+    for limit in [0, 1, 48, 49, FIRST] {
         let items = items_to(alloc, limit)?;
         assert!(rt; items.len() < 1000);
         Mark::Begin.set(alloc)?;
@@ -111,7 +111,7 @@ fn from_list_refused(rt: HostRuntime) -> Result<(), Fail> {
 fn tree_edits_refused(rt: HostRuntime) -> Result<(), Fail> {
     let alloc = rt.alloc();
     let mut tree = tree_to(alloc, FIRST)?;
-    for turn in 0..293 {
+    for turn in 0..437 {
         let before = tree.summary().list.clone()?;
         let edit = edit_at(turn, tree.len());
         Mark::Begin.set(alloc)?;

@@ -31,7 +31,7 @@ pub record Whole (turns : ℕ) (old new : SourceState) (entries : List Entry) : 
   pub end : IsEnded old new
   pub good : trace given ≡ Ok entries
 
-is_good : (seen : Type 0) (given : List ℕ) (entries : List Entry) → trace given ≡ Ok entries
+pub is_good : (seen : Type 0) (given : List ℕ) (entries : List Entry) → trace given ≡ Ok entries
     → IsGood trace soon seen given
 is_good seen given entries good = record {
   before = good_soon next_entry [] entries given good;

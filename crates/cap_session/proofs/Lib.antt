@@ -5,6 +5,8 @@ pub mod Applied
 pub mod Calls
 pub mod Cuts
 pub mod NextEntry
+pub mod ExplainAnswered
+pub mod Explains
 pub mod Fed
 pub mod FoundText
 pub mod Goes

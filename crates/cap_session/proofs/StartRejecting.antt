@@ -11,7 +11,7 @@ use Rattle.cap_session.specs.Reads.{Reads}
 use Rattle.cap_session.specs.Refusal.{start_refusal_text}
 use Rattle.cap_session.specs.Streams.{Streams}
 use Rattle.cap_session.specs.Works.{WritesStartRefusal, EndsStart}
-use Rattle.cap_session.specs.StartStreams.{StartStreams}
+use Rattle.cap_session.specs.StartStreams.{StartRejected, StartStreams}
 use Rattle.cap_session.specs.declared.refused.Refusal.{Refusal}
 use Rattle.cap_session.specs.declared.lines.Stop.{Stop}
 use Rattle.cap_session.specs.declared.lines.Stop.TheVariants as stops
@@ -22,13 +22,13 @@ use Rattle.cap_session.proofs.Answered.{with_stop}
 use Rattle.cap_session.proofs.Calls.{appends_none}
 use Rattle.cap_session.proofs.Texted.{goes_nowhere}
 
-line_refused : (profile : Profile) {T : Type 0} (holds : T → State → Type 0) (turns : ℕ) (s0 s1 r : SourceState)
+line_refused : {T : Type 0} (holds : T → State → Type 0) (turns : ℕ) (s0 s1 r : SourceState)
     (w0 w1 : SinkState) (e : Refusal) (o : Outcome)
     → Reads start start_soon holds turns s0 s1 (Err (stops.Refused e)) → WritesStartRefusal e w0 w1 o →
-    StartStreams profile turns s0 s1 r r w0 w1 o
-line_refused profile holds turns s0 s1 r w0 w1 e (StartRefused code line) d w =
+    StartRejected turns s0 s1 r r w0 w1 o
+line_refused holds turns s0 s1 r w0 w1 e (StartRefused code line) d w =
     let same = w.0.failures in
-    inl (record {
+    record {
       given = d.given;
       read = d.read;
       written = start_refusal_text e;
@@ -38,9 +38,9 @@ line_refused profile holds turns s0 s1 r w0 w1 e (StartRefused code line) d w =
       write_fault = omega arith;
       answer = record { refusal = e; says = record { line = d.answer; is = refl }; code_is = w.1; line_is = w.2 };
       unread = refl;
-    })
-line_refused profile holds turns s0 s1 r w0 w1 e WriteFault d w =
-    inl (record {
+    }
+line_refused holds turns s0 s1 r w0 w1 e WriteFault d w =
+    record {
       given = d.given;
       read = d.read;
       written = w.front;
@@ -50,23 +50,23 @@ line_refused profile holds turns s0 s1 r w0 w1 e WriteFault d w =
       write_fault = w.failures;
       answer = (e, start_refusal_text e, record { line = d.answer; is = refl }, (w.rest, w.cut));
       unread = refl;
-    })
-line_refused profile holds turns s0 s1 r w0 w1 e (Refused code line) d w = absurd w
-line_refused profile holds turns s0 s1 r w0 w1 e Clean d w = absurd w
-line_refused profile holds turns s0 s1 r w0 w1 e Findings d w = absurd w
-line_refused profile holds turns s0 s1 r w0 w1 e Memory d w = absurd w
-line_refused profile holds turns s0 s1 r w0 w1 e ReadFault d w = absurd w
-line_refused profile holds turns s0 s1 r w0 w1 e TooLong d w = absurd w
+    }
+line_refused holds turns s0 s1 r w0 w1 e (Refused code line) d w = absurd w
+line_refused holds turns s0 s1 r w0 w1 e Clean d w = absurd w
+line_refused holds turns s0 s1 r w0 w1 e Findings d w = absurd w
+line_refused holds turns s0 s1 r w0 w1 e Memory d w = absurd w
+line_refused holds turns s0 s1 r w0 w1 e ReadFault d w = absurd w
+line_refused holds turns s0 s1 r w0 w1 e TooLong d w = absurd w
 
 -- reading the start stopped
-pub start_rejected : (profile : Profile) {T : Type 0} (holds : T → State → Type 0) (turns : ℕ) (s0 s1 r : SourceState)
+pub not_taken : {T : Type 0} (holds : T → State → Type 0) (turns : ℕ) (s0 s1 r : SourceState)
     (w0 w1 : SinkState) (stop : Stop) (o : Outcome)
     → Reads start start_soon holds turns s0 s1 (Err stop) → EndsStart stop w0 w1 o →
-    StartStreams profile turns s0 s1 r r w0 w1 o
-start_rejected profile holds turns s0 s1 r w0 w1 (stops.Refused e) o d w =
-    line_refused profile holds turns s0 s1 r w0 w1 e o d w
-start_rejected profile holds turns s0 s1 r w0 w1 stops.Memory o d w =
-    rw (w.0, w.1) (inl (record {
+    StartRejected turns s0 s1 r r w0 w1 o
+not_taken holds turns s0 s1 r w0 w1 (stops.Refused e) o d w =
+    line_refused holds turns s0 s1 r w0 w1 e o d w
+not_taken holds turns s0 s1 r w0 w1 stops.Memory o d w =
+    rw (w.0, w.1) (record {
       given = d.given;
       read = d.read;
       written = [];
@@ -76,9 +76,9 @@ start_rejected profile holds turns s0 s1 r w0 w1 stops.Memory o d w =
       write_fault = omega arith;
       answer = record { good = d.answer; silent = refl };
       unread = refl;
-    }))
-start_rejected profile holds turns s0 s1 r w0 w1 stops.ReadFault o d w =
-    rw (w.0, w.1) (inl (record {
+    })
+not_taken holds turns s0 s1 r w0 w1 stops.ReadFault o d w =
+    rw (w.0, w.1) (record {
       given = d.given;
       read = d.read;
       written = [];
@@ -88,9 +88,9 @@ start_rejected profile holds turns s0 s1 r w0 w1 stops.ReadFault o d w =
       write_fault = omega arith;
       answer = record { going = d.answer.0; good = d.answer.1; silent = refl };
       unread = refl;
-    }))
-start_rejected profile holds turns s0 s1 r w0 w1 stops.TooLong o d w =
-    rw (w.0, w.1) (inl (record {
+    })
+not_taken holds turns s0 s1 r w0 w1 stops.TooLong o d w =
+    rw (w.0, w.1) (record {
       given = d.given;
       read = d.read;
       written = [];
@@ -100,8 +100,14 @@ start_rejected profile holds turns s0 s1 r w0 w1 stops.TooLong o d w =
       write_fault = omega arith;
       answer = (record { going = d.answer.0; good = d.answer.1; silent = refl }, d.answer.2);
       unread = refl;
-    }))
-start_rejected profile holds turns s0 s1 r w0 w1 stops.WriteFault o d w = absurd d.answer
+    })
+not_taken holds turns s0 s1 r w0 w1 stops.WriteFault o d w = absurd d.answer
+
+pub start_rejected : (profile : Profile) {T : Type 0} (holds : T → State → Type 0) (turns : ℕ) (s0 s1 r : SourceState)
+    (w0 w1 : SinkState) (stop : Stop) (o : Outcome)
+    → Reads start start_soon holds turns s0 s1 (Err stop) → EndsStart stop w0 w1 o →
+    StartStreams profile turns s0 s1 r r w0 w1 o
+start_rejected profile holds turns s0 s1 r w0 w1 stop o d w = inl (not_taken holds turns s0 s1 r w0 w1 stop o d w)
 
 -- the start was read to its end, and the trace checked from it
 pub start_taken : (profile : Profile) {T : Type 0} (holds : T → State → Type 0) (turns : ℕ) (s0 s1 r0 r1 : SourceState)

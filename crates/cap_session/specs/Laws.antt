@@ -1,16 +1,19 @@
--- What holds of a text and its pieces.
-use Rattle.std.specs.Prelude.{◌≡◌, ◌≢◌, ◌⊎◌, ℕ, List, [], ◌++◌, Ok, Err, Some, ⊤}
+-- What holds of a text and its pieces, and of explanations.
+use Rattle.std.specs.Prelude.{◌≡◌, ◌≢◌, ◌⊎◌, ℕ, List, [], ◌++◌, map, Ok, Err, Some, ⊤}
 use Rattle.cap_trace.specs.Entry.{Entry}
 use Rattle.cap_machine.specs.declared.cell.Profile.{Profile}
 use Rattle.cap_machine.specs.Steps.{steps}
 use Rattle.cap_machine.specs.State.{State}
-use Rattle.cap_machine.specs.Check.{check}
+use Rattle.cap_machine.specs.declared.step.Step.{Step}
+use Rattle.cap_machine.specs.Check.{check, found_at}
+use Rattle.cap_machine.specs.Explain.{Explained, explanation}
 use Rattle.cap_machine.specs.Report.{report}
 use Rattle.cap_session.specs.Devices.{SourceState, SinkState}
 use Rattle.cap_session.specs.Trace.{trace, soon}
 use Rattle.cap_session.specs.Reads.{IsEnded}
 use Rattle.cap_session.specs.Refused.{code_of}
 use Rattle.cap_session.specs.Refusal.{refusal_text}
+use Rattle.cap_session.specs.Replies.{found_in}
 use Rattle.cap_session.specs.Streams.{Streams, IsPrefix}
 use Rattle.cap_session.specs.declared.refused.Refusal.{Refusal}
 use Rattle.cap_session.specs.declared.outcome.Outcome.{Outcome}
@@ -82,3 +85,8 @@ PiecesAgree = (profile : Profile) (start : State) (turns : ℕ) (r0 r1 : SourceS
     (text : List ℕ) →
     (call : Streams profile start turns r0 r1 w0 w1 o) → r0.bytes ≡ Some text
     → IsAnswer profile start text call.written o
+
+-- The findings of an explanation are those of the check of the whole trace at that position.
+abbrev pub ExplainsWhatIsReported : Type 0
+ExplainsWhatIsReported = (s : State) (trace : List Step) (k : ℕ) (e : Explained) → explanation s trace k ≡ Some e
+    → found_in s trace k k ≡ map (found_at k) e.findings

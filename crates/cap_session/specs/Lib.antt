@@ -3,6 +3,9 @@ pub mod Devices
 pub mod EditLaws
 pub mod EditStreams
 pub mod Edits
+pub mod ExplainStreams
+pub mod Explained
+pub mod Explaining
 pub mod Feeds
 pub mod Gives
 pub mod Laws

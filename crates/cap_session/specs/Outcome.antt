@@ -1,4 +1,4 @@
--- The exit status of an outcome.
+-- The exit status of an outcome, and the faults that it answers.
 use Rattle.std.specs.Prelude.{ℕ}
 use Rattle.cap_session.specs.Refused.{code_of}
 use Rattle.cap_session.specs.declared.lines.Stop.{Stop}
@@ -6,6 +6,8 @@ use Rattle.cap_session.specs.declared.lines.Stop.TheVariants as stops
 use Rattle.cap_session.specs.declared.outcome.Outcome.{Outcome}
 use Rattle.cap_session.specs.declared.outcome.Outcome.TheVariants.{Clean, Findings, Refused, StartRefused, Memory}
 use Rattle.cap_session.specs.declared.outcome.Outcome.TheVariants.{ReadFault, WriteFault, TooLong}
+use Rattle.cap_session.specs.declared.outcome.ExplainOutcome.{ExplainOutcome}
+use Rattle.cap_session.specs.declared.outcome.ExplainOutcome.TheVariants.{Ended, OutOfRange}
 
 abbrev pub status_of : Outcome → ℕ
 status_of Clean = 0
@@ -46,3 +48,17 @@ write_faults (StartRefused code line) = 0
 write_faults Memory = 0
 write_faults ReadFault = 0
 write_faults TooLong = 0
+
+-- ---- of a call that explains a line
+
+abbrev pub explain_status_of : ExplainOutcome → ℕ
+explain_status_of (Ended outcome) = status_of outcome
+explain_status_of OutOfRange = 2
+
+abbrev pub explain_read_faults : ExplainOutcome → ℕ
+explain_read_faults (Ended outcome) = read_faults outcome
+explain_read_faults OutOfRange = 0
+
+abbrev pub explain_write_faults : ExplainOutcome → ℕ
+explain_write_faults (Ended outcome) = write_faults outcome
+explain_write_faults OutOfRange = 0

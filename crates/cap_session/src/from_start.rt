@@ -32,7 +32,7 @@ fn write_start_refusal<W: Sink>(refusal: Refusal, writer: &mut W) -> Outcome
 }
 
 /// Ends a call whose start wasn't taken. A refused line is written, and nothing else.
-fn write_start_stop<W: Sink>(stop: Stop, writer: &mut W) -> Outcome
+pub fn write_start_stop<W: Sink>(stop: Stop, writer: &mut W) -> Outcome
     requires { 1 ≤ (W.state writer.old).room }
     ensures { EndsStart stop (W.state writer.old) (W.state writer.new) result }
 {

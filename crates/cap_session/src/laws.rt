@@ -1,6 +1,7 @@
 //! Laws of texts and of scripts: how the input is cut never matters, a refused line is refused whatever follows, and a
-//! script's reports are those of its edits. Each function does nothing: its contract is what it says.
+//! script's reports are those of its edits; and of explanations. Each function does nothing: its contract is what it says.
 ghost use Rattle.cap_session.specs.Laws.{BeginningDecides, GoodIsReported, BadIsRefused, PiecesAgree};
+ghost use Rattle.cap_session.specs.Laws.{ExplainsWhatIsReported};
 ghost use Rattle.cap_session.specs.ScriptLaws.{ScriptReportsWhatEditsGive, ScriptLeavesWhatEditsGive};
 ghost use Rattle.cap_session.specs.ScriptLaws.{EachReportIsOfItsTrace};
 
@@ -43,4 +44,9 @@ pub fn script_leaves_what_edits_give()
 /// unless memory runs out for it.
 pub fn each_report_is_of_its_trace()
     ensures { EachReportIsOfItsTrace }
+{}
+
+/// What an explanation finds in a line is what the check of the whole trace finds at its position, in order.
+pub fn explains_what_is_reported()
+    ensures { ExplainsWhatIsReported }
 {}

@@ -15,6 +15,7 @@
 //! ```
 #![tactic(auto)]
 
+mod chains;
 mod check;
 mod command;
 mod counted;
@@ -22,6 +23,8 @@ mod devices;
 mod edit;
 mod editing;
 mod entries;
+mod explained;
+mod explaining;
 mod found;
 mod from_start;
 mod held;
@@ -40,6 +43,8 @@ mod short_text;
 mod start_fields;
 mod start_text;
 mod steps;
+mod trace;
+mod wording;
 mod write;
 
 pub use check::{check_stream, check_stream_as};
@@ -47,13 +52,18 @@ pub use counted::Counted;
 pub use devices::{Failed, Sink, Source};
 pub use edit::{Edit, accepted_edits_give, inserted_stands, no_edit_asks_for_memory};
 pub use editing::{edit_stream, edit_stream_as};
+pub use explained::ExplainedLine;
+pub use explaining::{
+    explain_stream, explain_stream_as, explain_stream_from, explain_stream_from_as,
+};
 pub use from_start::{check_stream_from, check_stream_from_as};
 pub use laws::{
-    bad_is_refused, beginning_decides, each_report_is_of_its_trace, good_is_reported, pieces_agree,
-    script_leaves_what_edits_give, script_reports_what_edits_give,
+    bad_is_refused, beginning_decides, each_report_is_of_its_trace, explains_what_is_reported,
+    good_is_reported, pieces_agree, script_leaves_what_edits_give, script_reports_what_edits_give,
 };
 pub use limits::{LONGEST_LINE, LONGEST_PIECE, LONGEST_SCRIPT_LINE, MOST_LINES};
-pub use outcome::Outcome;
+pub use number::number_of;
+pub use outcome::{ExplainOutcome, Outcome};
 pub use refused::Refused;
 pub use session::{Edited, Session};
 pub use start_text::{StartFault, parse_start};

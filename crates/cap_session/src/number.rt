@@ -5,7 +5,8 @@ ghost use Rattle.cap_session.specs.Commands.{position};
 /// The largest number of 19 digits.
 const MOST: u64 = 9_999_999_999_999_999_999;
 
-/// The number that a word spells: 1 to 19 digits, without a leading zero.
+/// The number that a word spells, as a position in a script: 1 to 19 digits, without a leading zero. `None` for any
+/// other word.
 pub fn number_of(word: &[u8]) -> Option<usize>
     ensures { result ≡ position word.now }
 {

@@ -1,6 +1,7 @@
-//! How a stream call ends: clean, with findings, refused, or at a fault; and the exit status of each.
+//! How a stream call ends: clean, with findings, refused, or at a fault; one that explains a line also where there is no
+//! such line; and the exit status of each.
 ghost use Rattle.std.specs.Prelude.{◌≡◌};
-ghost use Rattle.cap_session.specs.Outcome.{status_of, outcome_of};
+ghost use Rattle.cap_session.specs.Outcome.{status_of, explain_status_of, outcome_of};
 
 use crate::lines::Stop;
 
@@ -23,6 +24,15 @@ pub enum Outcome {
     WriteFault,
     /// The reader was called as often as allowed, and its end wasn't reached.
     TooLong,
+}
+
+/// How a call that explains a line ends.
+#[derive(Clone, Copy, Debug, PartialEq, Eq)]
+pub enum ExplainOutcome {
+    /// As a check ends. `Clean` and `Findings` say of the line that was explained whether it has findings.
+    Ended(Outcome),
+    /// The trace was read to its end, and no line stands at the position.
+    OutOfRange,
 }
 
 impl From<Stop> for Outcome {
@@ -53,6 +63,18 @@ impl Outcome {
             Outcome::Findings => 1,
             Outcome::Refused { .. } | Outcome::StartRefused { .. } => 2,
             Outcome::Memory | Outcome::ReadFault | Outcome::WriteFault | Outcome::TooLong => 3,
+        }
+    }
+}
+
+impl ExplainOutcome {
+    /// The exit status of a program that ends so: that of the outcome, and 2 where no line stands at the position.
+    pub fn status(&self) -> u8
+        ensures { result ≡ explain_status_of self.now }
+    {
+        match self {
+            ExplainOutcome::Ended(outcome) => outcome.status(),
+            ExplainOutcome::OutOfRange => 2,
         }
     }
 }

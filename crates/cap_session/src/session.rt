@@ -11,6 +11,7 @@ ghost use Rattle.cap_machine.specs.Steps.{steps};
 ghost use Rattle.cap_machine.specs.Table.{start_state};
 ghost use Rattle.cap_machine.specs.declared.cell.Profile.TheVariants.{One};
 ghost use Rattle.cap_session.specs.Edits.{is_position, inserted, deleted, replaced, loaded, edited, after, answers};
+ghost use Rattle.cap_session.specs.Explaining.{explained_line, IsClean};
 ghost use Rattle.cap_session.specs.Limits.{most_lines};
 ghost use Rattle.cap_session.specs.Replies.{shown, is_range, ranged, range_report};
 ghost use Rattle.cap_session.specs.Session.{SessionState, RefusesExactly, wanted, lines_of, lines_at, IsIn, IsKept};
@@ -20,11 +21,12 @@ ghost use Rattle.cap_tree.specs.Bits.{bits};
 ghost use Rattle.cap_tree.specs.Run.{values};
 
 use crate::edit::Edit;
+use crate::explained::{ExplainedLine, line_explained};
 use crate::found::text_of;
 use crate::refused::Refused;
 use crate::steps::{step_of, steps_of};
 use cap_machine::{NoMemory, Profile, Start, Step};
-use cap_summary::{Summary, resolve, resolve_range};
+use cap_summary::{Summary, explain, resolve, resolve_range};
 use cap_trace::{Line, parse_line, write_line};
 use cap_tree::{Meter, Tree};
 use std::alloc::Global;
@@ -59,7 +61,7 @@ pub struct Edited {
 }
 
 /// Whether a position is one of 1 to `last`.
-fn is_position(position: usize, last: usize) -> bool
+pub(crate) fn is_position(position: usize, last: usize) -> bool
     ensures { result ≡ is_position position last }
 {
     1 <= position && position <= last
@@ -388,6 +390,42 @@ impl Session {
         let start = Start::unknown(self.alloc);
         let found = resolve_range(self.alloc, self.tree.summary(), &start, first, last)?;
         Ok(text_of(self.alloc, &self.tree, found.as_slice())?)
+    }
+
+    /// The line at a position, what is said of it, and the lines that this rests on, under the usual start.
+    ///
+    /// `Position` where no line stands there, and `Memory` where memory runs out.
+    pub fn explain(&self, position: usize) -> Result<ExplainedLine, Refused>
+        ensures text { IfOk result (λ line.
+            explained_line usual self.now.profile self.now.trace position ≡ Ok line.text.items) }
+        ensures clean { IfOk result
+            (λ line. IsTrue line.is_clean ↔ IsClean usual self.now.profile self.now.trace position) }
+        ensures position { (result ≡ Err Refused.Position)
+            ↔ (explained_line usual self.now.profile self.now.trace position ≡ Err Refused.Position) }
+        ensures only { OnErr result ((result ≡ Err Refused.Position) ⊎ (result ≡ Err Refused.Memory)) }
+    {
+        self.explain_from(position, &Start::unknown(self.alloc))
+    }
+
+    /// The line at a position, what is said of it, and the lines that this rests on, under another start.
+    ///
+    /// `Position` where no line stands there, and `Memory` where memory runs out.
+    pub fn explain_from(&self, position: usize, start: &Start) -> Result<ExplainedLine, Refused>
+        ensures text { IfOk result (λ line.
+            explained_line (start_state start.now) self.now.profile self.now.trace position ≡ Ok line.text.items) }
+        ensures clean { IfOk result (λ line.
+            IsTrue line.is_clean ↔ IsClean (start_state start.now) self.now.profile self.now.trace position) }
+        ensures position { (result ≡ Err Refused.Position)
+            ↔ (explained_line (start_state start.now) self.now.profile self.now.trace position ≡ Err Refused.Position) }
+        ensures only { OnErr result ((result ≡ Err Refused.Position) ⊎ (result ≡ Err Refused.Memory)) }
+    {
+        if !is_position(position, self.count()) {
+            return Err(Refused::Position);
+        }
+        let Some(explanation) = explain(self.alloc, self.tree.summary(), start, position)? else {
+            return Err(Refused::Position);
+        };
+        Ok(line_explained(self.alloc, &self.tree, position, &explanation)?)
     }
 
     /// Makes one edit, as `insert`, `delete` and `replace` do.

@@ -3,7 +3,7 @@
 use crate::devices::{Kept, Pieces, ample};
 use cap_session::{
     Counted, Failed, Outcome, Sink, Source, bad_is_refused, beginning_decides, check_stream,
-    each_report_is_of_its_trace, good_is_reported, pieces_agree, script_leaves_what_edits_give,
+    each_report_is_of_its_trace, explains_what_is_reported, good_is_reported, pieces_agree, script_leaves_what_edits_give,
     script_reports_what_edits_give,
 };
 use std::io::{self, ErrorKind, Read, Write};
@@ -393,4 +393,5 @@ fn the_laws_are_calls() {
     script_leaves_what_edits_give();
     each_report_is_of_its_trace();
     script_reports_what_edits_give();
+    explains_what_is_reported();
 }

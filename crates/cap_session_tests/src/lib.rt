@@ -8,6 +8,8 @@ pub mod devices;
 #[cfg(test)]
 mod edits;
 #[cfg(test)]
+mod explanations;
+#[cfg(test)]
 mod faults;
 #[cfg(test)]
 mod from_starts;

@@ -18,7 +18,7 @@ use Rattle.cap_summary.specs.declared.tables.Processes.{Processes}
 use Rattle.cap_summary.specs.Sorted.{found}
 use Rattle.cap_summary.specs.Values.{read_cell, read_mode}
 use Rattle.cap_summary.specs.Tables.{listed_value, process_at, kept_value, processes_shared}
-use Rattle.cap_summary.specs.Changes.{value_in, changed, AreAlike}
+use Rattle.cap_summary.specs.Changes.{value_in, changed, untouched_at, AreAlike}
 
 -- ---- lists
 
@@ -91,37 +91,53 @@ cells_alike own theirs xs ys i alike f = tables_alike kept_value own.table their
 abbrev pair : {X Y : Type 0} → X → Y → X × Y
 pair x y = (x, y)
 
--- what is seen of a process: its cells, and its mode
-abbrev pub seen_of : Process → (ℕ → Value) × ModeValue
-seen_of d = (λ f. value_in d f, d.mode)
+-- what is seen of a process: its cells, its mode, and what is untouched of it
+pub record Seen : Type 0 where
+  pub cells : ℕ → Value
+  pub mode : ModeValue
+  pub untouched : ℕ → ℕ → Bool
 
-abbrev pub seen_shared : Rc Process Global → (ℕ → Value) × ModeValue
+abbrev seen : (ℕ → Value) → ModeValue → (ℕ → ℕ → Bool) → Seen
+seen cells mode untouched = record { cells = cells; mode = mode; untouched = untouched }
+
+abbrev pub seen_of : Process → Seen
+seen_of d = seen (λ f. value_in d f) d.mode (λ p f. untouched_at d.base d.cells p f)
+
+abbrev pub seen_shared : Rc Process Global → Seen
 seen_shared process = seen_of process.value
 
-both_seen : (k l : ℕ) (d e : Process) → k ≡ l → ((f : ℕ) → value_in d f ≡ value_in e f) → d.mode ≡ e.mode
-    → pair k (seen_of d) ≡ pair l (seen_of e)
-both_seen k l d e key cells mode = ap (λ (n : ℕ). pair n (seen_of d)) key
-    ∙ ap (λ (r : ℕ → Value). pair l (pair r d.mode)) (fun_ext cells)
-    ∙ ap (λ (r : ModeValue). pair l (pair (λ f. value_in e f) r)) mode
+-- two processes of which the same is seen
+pub record LookAlike (d e : Process) : Type 0 where
+  pub cells : (f : ℕ) → value_in d f ≡ value_in e f
+  pub mode : d.mode ≡ e.mode
+  pub untouched : (p f : ℕ) → untouched_at d.base d.cells p f ≡ untouched_at e.base e.cells p f
+
+both_seen : (k l : ℕ) (d e : Process) → k ≡ l → LookAlike d e → pair k (seen_of d) ≡ pair l (seen_of e)
+both_seen k l d e key alike = ap (λ (n : ℕ). pair n (seen_of d)) key
+    ∙ ap (λ (r : ℕ → Value). pair l (seen r d.mode (λ p f. untouched_at d.base d.cells p f))) (fun_ext alike.cells)
+    ∙ ap (λ (r : ModeValue). pair l (seen (λ f. value_in e f) r (λ p f. untouched_at d.base d.cells p f))) alike.mode
+    ∙ ap (λ (r : ℕ → ℕ → Bool). pair l (seen (λ f. value_in e f) e.mode r))
+    (fun_ext (λ p. fun_ext (alike.untouched p)))
 
 pub entries_seen : (x y : ℕ × Rc Process Global) (d e : Process) → x.0 ≡ y.0 → d ≡ x.1.value → e ≡ y.1.value
-    → ((f : ℕ) → value_in d f ≡ value_in e f) → d.mode ≡ e.mode → entry_seen seen_shared x ≡ entry_seen seen_shared y
-entries_seen x y d e key first second cells mode =
+    → LookAlike d e → entry_seen seen_shared x ≡ entry_seen seen_shared y
+entries_seen x y d e key first second alike =
     ap (λ (r : Process). pair x.0 (seen_of r)) (sym first)
-    ∙ both_seen x.0 y.0 d e key cells mode
+    ∙ both_seen x.0 y.0 d e key alike
     ∙ ap (λ (r : Process). pair y.0 (seen_of r)) second
 
 -- ---- changes
 
 option_seen : (p : ℕ) (own theirs : Option Process) → option_map seen_of own ≡ option_map seen_of theirs
     → AreAlike p own theirs
-option_seen p None None is = record { cells = λ f. refl; mode = refl; listed = refl }
+option_seen p None None is = record { cells = λ f. refl; mode = refl; listed = refl; untouched = λ f. refl }
 option_seen p None (Some e) is = absurd cc
 option_seen p (Some d) None is = absurd cc
 option_seen p (Some d) (Some e) is = let both : seen_of d ≡ seen_of e = cc in record {
-  cells = λ f. ap (λ (r : (ℕ → Value) × ModeValue). r.0 f) both;
-  mode = ap (λ (r : (ℕ → Value) × ModeValue). r.1) both;
+  cells = λ f. ap (λ (r : Seen). r.cells f) both;
+  mode = ap (λ (r : Seen). r.mode) both;
   listed = refl;
+  untouched = λ f. ap (λ (r : Seen). r.untouched p f) both;
 }
 
 option_shared : (o : Option (Rc Process Global)) → option_map seen_of (processes_shared o) ≡ option_map seen_shared o

@@ -1,6 +1,7 @@
 -- One change after another.
-use Rattle.std.proofs.Common.{◌≡◌, ℕ, Option, Some, None, Bool, true, false, cond, ◌||◌, refl, sym, ap, ◌∙◌}
+use Rattle.std.proofs.Common.{◌≡◌, ℕ, eqb, Option, Some, None, Bool, true, false, cond, ◌||◌, ◌&&◌, refl, sym, ap, ◌∙◌}
 use Rattle.std.specs.Prelude.{option_and_then, option_map, unwrap_or, is_some}
+use Rattle.std.proofs.lemmas.Bool.{eq-eqb}
 use Rattle.cap_machine.specs.declared.cell.OnExec.TheVariants.{Set, Clear, Unsure}
 use Rattle.cap_machine.specs.declared.cell.Cell.{Cell}
 use Rattle.cap_machine.specs.declared.cell.Cell.TheVariants.{Unknown, Closed, Held}
@@ -18,10 +19,12 @@ use Rattle.cap_summary.specs.declared.values.Base.{Base}
 use Rattle.cap_summary.specs.declared.change.Process.{Process}
 use Rattle.cap_summary.specs.declared.change.Change.{Change}
 use Rattle.cap_summary.specs.declared.tables.Cells.{Cells}
-use Rattle.cap_summary.specs.Values.{read_cell, read_mode, passing_op, rest_value, unlisted, op_on}
+use Rattle.cap_summary.specs.Values.{read_cell, read_mode, passing_op, rest_value, unlisted, op_on, is_own}
 use Rattle.cap_summary.specs.Tables.{listed_value, process_at, or_else}
 use Rattle.cap_summary.specs.Changes.{value_at, value_in, value_of, cell_in, mode_in, changed, JoinsListed, JoinsTo}
+use Rattle.cap_summary.specs.Changes.{untouched_in, is_untouched, is_unturned}
 use Rattle.cap_summary.specs.Images.{under}
+use Rattle.cap_summary.proofs.Untouched.{both_true}
 
 pub applied_same : (c : Cell) → applied same c ≡ c
 applied_same Unknown = refl
@@ -138,6 +141,23 @@ listed_joined a before None new is = ap (λ (o : Option Process). is_some o) is 
 listed_joined a before (Some d) None is = absurd is
 listed_joined a before (Some d) (Some e) is = sym (or_true (is_some before))
 
+and_true : (x : Bool) → x ≡ true → (x && true) ≡ true
+and_true x is = both_true x true is refl
+
+untouched_joined : (a : Change) (p f : ℕ) (old new : Option Process) → JoinsListed a (process_at a.processes p) old new
+    → untouched_in new p f ≡ true → (is_untouched a p f && untouched_in old p f) ≡ true
+untouched_joined a p f None new is e =
+    and_true (is_untouched a p f) (ap (λ (o : Option Process). untouched_in o p f) (sym is) ∙ e)
+untouched_joined a p f (Some d) None is e = absurd is
+untouched_joined a p f (Some d) (Some n) is e = is.untouched p f e
+
+unturned_joined : (a : Change) (p : ℕ) (old new : Option Process) → JoinsListed a (process_at a.processes p) old new
+    → is_own (mode_in new p) p ≡ true → (is_unturned a p && is_own (mode_in old p) p) ≡ true
+unturned_joined a p None new is e = both_true (is_unturned a p) (eqb p p)
+    (ap (λ (o : Option Process). is_own (mode_in o p) p) (sym is) ∙ e) (eq-eqb p p refl)
+unturned_joined a p (Some d) None is e = absurd is
+unturned_joined a p (Some d) (Some n) is e = is.unturned p e
+
 -- a table in which each listed process is joined
 pub joins_to : (a b whole : Change)
     → ((p : ℕ) → JoinsListed a (process_at a.processes p) (process_at b.processes p) (process_at whole.processes p))
@@ -148,4 +168,6 @@ joins_to a b whole each = record {
       (λ p. mode_joined s a p (process_at b.processes p) (process_at whole.processes p) (each p));
   listed = λ p.
       listed_joined a (process_at a.processes p) (process_at b.processes p) (process_at whole.processes p) (each p);
+  untouched = λ p f. untouched_joined a p f (process_at b.processes p) (process_at whole.processes p) (each p);
+  unturned = λ p. unturned_joined a p (process_at b.processes p) (process_at whole.processes p) (each p);
 }

@@ -1,14 +1,16 @@
 -- What is known of a step, and of a segment and then another.
-use Rattle.std.proofs.Common.{◌≡◌, ℕ, List, [], ◌∷◌, ◌++◌, Bool, true, false, ◌||◌, length, map, refl, sym, ap, ◌∙◌}
+use Rattle.std.proofs.Common.{◌≡◌, ℕ, List, [], ◌∷◌, ◌++◌, Bool, true, false, ◌||◌, ◌&&◌, length, map, refl, sym, ap}
+use Rattle.std.proofs.Common.{◌∙◌}
 use Rattle.std.specs.Prelude.{◌==◌}
-use Rattle.std.specs.List.{list_any}
+use Rattle.std.specs.List.{list_any, All}
 use Rattle.std.proofs.lemmas.List.Folds.{list_any-append}
+use Rattle.std.proofs.lemmas.List.Elements.{All-nil, All-cons, All-append}
 use Rattle.cap_machine.specs.declared.step.Step.{Step}
 use Rattle.cap_machine.specs.declared.rule.Demand.{Demand}
 use Rattle.cap_machine.specs.declared.rule.Effect.{Effect}
 use Rattle.cap_machine.specs.declared.verdict.Found.{Found}
 use Rattle.cap_machine.specs.State.{State}
-use Rattle.cap_machine.specs.Touch.{Touch, Turn, stays, touch, turn}
+use Rattle.cap_machine.specs.Touch.{Touch, kept, Turn, stays, touch, turn}
 use Rattle.cap_machine.specs.Effect.{effect_touch, effect_turn}
 use Rattle.cap_machine.specs.Rule.{demand}
 use Rattle.cap_machine.specs.Named.{names_pid, item_makes}
@@ -21,12 +23,13 @@ use Rattle.cap_machine.proofs.Naming.{own_modes}
 use Rattle.cap_summary.specs.declared.change.Change.{Change}
 use Rattle.cap_summary.specs.declared.conditions.Condition.{Condition}
 use Rattle.cap_summary.specs.declared.known.Known.{Known}
-use Rattle.cap_summary.specs.Changes.{changed, JoinsTo, is_listed}
+use Rattle.cap_summary.specs.Changes.{changed, JoinsTo, is_listed, is_untouched, is_unturned}
 use Rattle.cap_summary.specs.Does.{Does, is_following}
 use Rattle.cap_summary.specs.Conditions.{any_holds, has_any}
 use Rattle.cap_summary.specs.LineConditions.{line_always, line_conditions}
 use Rattle.cap_summary.specs.Knows.{Knows, Composes, IsLike, finds}
 use Rattle.cap_summary.proofs.Bools.{or_true, or_false}
+use Rattle.cap_summary.proofs.Untouched.{first_true, second_true}
 use Rattle.cap_summary.proofs.Holding.{has_any-append, has_any-map, line_holds}
 
 pub found_in_turn : (s : State) (t u : List Step)
@@ -75,6 +78,14 @@ composed_knows a b whole t u composes always left right = record {
       (list_any (λ (step : Step). names_pid p step.line) t)
       (list_any (λ (step : Step). names_pid p step.line) u) (composes.changes.listed p) (left.listed p)
       (right.listed p) e;
+  untouched = λ p f e. let both = composes.changes.untouched p f e in
+      All-append (λ (step : Step). touch step p f ≡ kept) t u
+      (left.untouched p f (first_true (is_untouched a.change p f) (is_untouched b.change p f) both))
+      (right.untouched p f (second_true (is_untouched a.change p f) (is_untouched b.change p f) both));
+  unturned = λ p e. let both = composes.changes.unturned p e in
+      All-append (λ (step : Step). turn step p ≡ stays) t u
+      (left.unturned p (first_true (is_unturned a.change p) (is_unturned b.change p) both))
+      (right.unturned p (second_true (is_unturned a.change p) (is_unturned b.change p) both));
 }
 
 -- of the second's conditions behind the first's change
@@ -94,6 +105,9 @@ composed_left a b whole other composes like = record {
   changes = record {
     changes = λ s. composes.changes.changes s ∙ ap (λ r. changed b.change r) (sym (like.changes s));
     listed = λ p. composes.changes.listed p ∙ ap (λ r. r || is_listed b.change p) (sym (like.listed p));
+    untouched = λ p f e. ap (λ r. r && is_untouched b.change p f) (like.untouched p f)
+        ∙ composes.changes.untouched p f e;
+    unturned = λ p e. ap (λ r. r && is_unturned b.change p) (like.unturned p) ∙ composes.changes.unturned p e;
   };
   found = λ s. composes.found s ∙ ap (λ r. r || any_holds (changed a.change s) b.conditions) (sym (like.holds s))
       ∙ ap (λ r. any_holds s other.conditions || any_holds r b.conditions) (sym (like.changes s));
@@ -104,6 +118,9 @@ composed_right a b whole other composes like = record {
   changes = record {
     changes = λ s. composes.changes.changes s ∙ sym (like.changes (changed a.change s));
     listed = λ p. composes.changes.listed p ∙ ap (λ r. is_listed a.change p || r) (sym (like.listed p));
+    untouched = λ p f e. ap (λ r. is_untouched a.change p f && r) (like.untouched p f)
+        ∙ composes.changes.untouched p f e;
+    unturned = λ p e. ap (λ r. is_unturned a.change p && r) (like.unturned p) ∙ composes.changes.unturned p e;
   };
   found = λ s. composes.found s ∙ ap (λ r. any_holds s a.conditions || r) (sym (like.holds (changed a.change s)));
 }
@@ -114,6 +131,8 @@ composed_whole a b whole other composes like met = record {
   changes = record {
     changes = λ s. like.changes s ∙ composes.changes.changes s;
     listed = λ p. like.listed p ∙ composes.changes.listed p;
+    untouched = λ p f e. composes.changes.untouched p f (sym (like.untouched p f) ∙ e);
+    unturned = λ p e. composes.changes.unturned p (sym (like.unturned p) ∙ e);
   };
   found = λ s. ap (λ r. r || any_holds s other.conditions) met ∙ ap (λ r. whole.met || r) (like.holds s)
       ∙ composes.found s;
@@ -147,6 +166,9 @@ pub named : (step : Step) (p : ℕ) → ((p == step.line.pid) || is_following (t
     → names_pid p step.line ≡ true
 named step p is = child_named step p (p == step.line.pid) (item_makes p step.line.item) (own_modes step p) is
 
+one_of_all : (P : Step → Type 0) (step : Step) → P step → All P (step ∷ [])
+one_of_all P step is = All-cons P step [] is (All-nil P)
+
 pub step_knows : (known : Known) (step : Step) (effect : Effect) (d : Demand) →
     Does known.change effect step.line.pid →
     ((p f : ℕ) → effect_touch effect step.line.pid p f ≡ touch step p f)
@@ -164,4 +186,7 @@ step_knows known step effect d does cells modes is always conditions = record {
       ∙ sym (has_any-map (found_at 1) (said step s));
   listed = λ p e. or_false (names_pid p step.line)
       ∙ named step p (ap (λ (r : Turn). (p == step.line.pid) || is_following r) (sym (modes p)) ∙ does.listed p e);
+  untouched = λ p f e. one_of_all (λ (step : Step). touch step p f ≡ kept) step
+      (sym (cells p f) ∙ does.untouched p f e);
+  unturned = λ p e. one_of_all (λ (step : Step). turn step p ≡ stays) step (sym (modes p) ∙ does.unturned p e);
 }

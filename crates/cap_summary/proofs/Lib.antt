@@ -2,6 +2,7 @@ pub mod Bools
 pub mod SortedFound
 pub mod SortedMerging
 pub mod SortedSetting
+pub mod Untouched
 pub mod Joining
 pub mod Staying
 pub mod Comparing
@@ -11,4 +12,6 @@ pub mod Merging
 pub mod Knowing
 pub mod Standing
 pub mod Resolving
+pub mod Walks
+pub mod Explained
 pub mod Doing

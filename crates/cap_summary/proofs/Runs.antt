@@ -1,8 +1,8 @@
 -- Runs of shared steps.
-use Rattle.std.proofs.Common.{◌≡◌, List, [], ◌∷◌, ◌++◌, ◌<◌, length, get_or, slice_range, take, drop, refl, sym, ap}
+use Rattle.std.proofs.Common.{◌≡◌, ℕ, List, [], ◌∷◌, ◌++◌, ◌<◌, length, get_or, slice_range, take, drop, refl, sym, ap}
 use Rattle.std.proofs.Common.{◌∙◌, length-append, arith}
 use Rattle.std.proofs.Math.Seq.{take-append_seam, drop-append_seam}
-use Rattle.std.proofs.lemmas.List.{map-append, append-nil}
+use Rattle.std.proofs.lemmas.List.{map-append, append-nil, take-map}
 use Rattle.std.proofs.lemmas.Slice.{between_to_end}
 use Rattle.std.specs.declared.rc.Rc.{Rc}
 use Rattle.std.specs.List.{AllZip, AppendsClones}
@@ -44,6 +44,10 @@ same_back a b t u is long =
     let all : length (a ++ b) ≡ length (t ++ u) = ap (λ xs. length xs) is in
     let front : length a ≡ length t = omega (arith, all, length-append a b, length-append t u, long) in
     sym (drop-append_seam a b) ∙ ap (drop (length a)) is ∙ ap (λ n. drop n (t ++ u)) front ∙ drop-append_seam t u
+
+-- the first of a run
+pub values-take : {X Z : Type 0} (n : ℕ) (run : List (Rc X Z)) → take n (values run) ≡ values (take n run)
+values-take n run = take-map (λ item. item.value) n run
 
 -- the first of a run, and the rest
 pub head_tail : {X Z : Type 0} (run : List (Rc X Z)) (x : Rc X Z) → 0 < length run → x ≡ get_or run 0 x

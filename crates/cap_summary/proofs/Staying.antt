@@ -4,7 +4,8 @@ use Rattle.std.proofs.Common.{cond, ◌||◌}
 use Rattle.std.proofs.Common.{take, get_or, length, inl, inr, refl, sym, ap, ◌∙◌}
 use Rattle.std.proofs.lemmas.List.{take_more}
 use Rattle.std.proofs.lemmas.Bool.Decides.{eqb_tells}
-use Rattle.std.specs.Prelude.{option_map, option_and_then, unwrap_or, is_some}
+use Rattle.std.specs.Prelude.{option_map, option_and_then, unwrap_or, is_some, not}
+use Rattle.std.proofs.lemmas.Bool.{eq-eqb}
 use Rattle.std.specs.Option.{option_or}
 use Rattle.cap_machine.specs.declared.cell.OnExec.TheVariants.{Set, Clear, Unsure}
 use Rattle.cap_machine.specs.declared.cell.Cell.{Cell}
@@ -22,10 +23,12 @@ use Rattle.cap_summary.specs.declared.change.Process.{Process}
 use Rattle.cap_summary.specs.declared.change.Change.{Change}
 use Rattle.cap_summary.specs.declared.kept.Kept.{Kept}
 use Rattle.cap_summary.specs.Sorted.{found}
-use Rattle.cap_summary.specs.Values.{read_cell, read_mode, unlisted, op_on}
+use Rattle.cap_summary.specs.Values.{read_cell, read_mode, unlisted, op_on, rest_untouched, is_own}
 use Rattle.cap_summary.specs.Tables.{listed_value, process_at, or_else, kept_value, kept_values}
 use Rattle.cap_summary.specs.Changes.{value_of, cell_in, mode_in, changed, JoinsProcess, JoinsTo}
+use Rattle.cap_summary.specs.Changes.{untouched_in, is_untouched, is_unturned}
 use Rattle.cap_summary.specs.Images.{under, passed_on}
+use Rattle.cap_summary.proofs.Untouched.{both_true, implied}
 use Rattle.cap_summary.proofs.Joining.{applied_same, read-under}
 use Rattle.cap_summary.proofs.SortedMerging.{found-append}
 
@@ -175,10 +178,15 @@ over_hidden a others own new hides stays is = is ∙ sym (ap (λ (r : Option Val
 pub process_stays : (a : Change) (d : Process)
     → ((s : State) (f : ℕ) → read_cell s (unlisted d.base f) ≡ read_cell (changed a s) (unlisted d.base f))
     → ((s : State) → read_mode s d.mode ≡ read_mode (changed a s) d.mode)
-    → ((f : ℕ) → option_map (under a) (listed_value d.cells f) ≡ listed_value d.cells f) → JoinsProcess a d d
-process_stays a d base mode cells = record {
+    → ((f : ℕ) → option_map (under a) (listed_value d.cells f) ≡ listed_value d.cells f)
+    → ((p f : ℕ) → rest_untouched d.base p f ≡ true → is_untouched a p f ≡ true)
+    → ((p : ℕ) → is_own d.mode p ≡ true → is_unturned a p ≡ true) → JoinsProcess a d d
+process_stays a d base mode cells untouched unturned = record {
   cells = λ s f. cell s f (listed_value d.cells f) (cells f);
   mode = mode;
+  untouched = λ p f e. implied (rest_untouched d.base p f) (not (is_some (listed_value d.cells f))) (is_untouched a p f)
+      (untouched p f) e;
+  unturned = λ p e. both_true (is_unturned a p) (is_own d.mode p) (unturned p e) e;
 }
   where
     cell : (s : State) (f : ℕ) (o : Option Value) → option_map (under a) o ≡ o
@@ -203,4 +211,10 @@ joins_nothing a b whole none same_as = record {
       ∙ ap (changed b) (sym (unchanged a none s));
   listed = λ p. ap (λ (o : Option Process). is_some o) (same_as p)
       ∙ sym (ap (λ (o : Option Process). is_some o || is_some (process_at b.processes p)) (none p));
+  untouched = λ p f e. both_true (is_untouched a p f) (is_untouched b p f)
+      (ap (λ (o : Option Process). untouched_in o p f) (none p))
+      (ap (λ (o : Option Process). untouched_in o p f) (sym (same_as p)) ∙ e);
+  unturned = λ p e. both_true (is_unturned a p) (is_unturned b p)
+      (ap (λ (o : Option Process). is_own (mode_in o p) p) (none p) ∙ eq-eqb p p refl)
+      (ap (λ (o : Option Process). is_own (mode_in o p) p) (sym (same_as p)) ∙ e);
 }

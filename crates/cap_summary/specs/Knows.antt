@@ -6,8 +6,9 @@ use Rattle.cap_machine.specs.State.{State}
 use Rattle.cap_machine.specs.History.{ended}
 use Rattle.cap_machine.specs.Check.{check}
 use Rattle.cap_machine.specs.Named.{names_pid}
+use Rattle.cap_machine.specs.Walks.{LeavesCell, LeavesMode}
 use Rattle.cap_summary.specs.declared.known.Known.{Known}
-use Rattle.cap_summary.specs.Changes.{changed, is_listed, JoinsTo}
+use Rattle.cap_summary.specs.Changes.{changed, is_listed, is_untouched, is_unturned, JoinsTo}
 use Rattle.cap_summary.specs.Conditions.{any_holds, has_any}
 
 -- the state that the segment leaves
@@ -22,12 +23,22 @@ finds known s = known.always || any_holds s known.conditions
 abbrev pub lists : Known → ℕ → Bool
 lists known p = is_listed known.change p
 
+-- no step touches a cell, or turns a mode, as far as is known
+abbrev pub leaves_cell : Known → ℕ → ℕ → Bool
+leaves_cell known p f = is_untouched known.change p f
+
+abbrev pub leaves_mode : Known → ℕ → Bool
+leaves_mode known p = is_unturned known.change p
+
 -- under every state before the segment: the state after it, each cell and each mode; and whether something is found in
--- it. A process is listed only where a line names it: as its own, or as the child that a fork made
+-- it. A process is listed only where a line names it: as its own, or as the child that a fork made. What is said to be
+-- untouched no step touches; of what isn't said to be nothing is promised
 pub record Knows (known : Known) (t : List Step) : Type 0 where
   pub ends : (s : State) → state_after known s ≡ ended s t
   pub found : (s : State) → finds known s ≡ has_any (check s t)
   pub listed : (p : ℕ) → lists known p ≡ true → list_any (λ step. names_pid p step.line) t ≡ true
+  pub untouched : (p f : ℕ) → leaves_cell known p f ≡ true → LeavesCell t p f
+  pub unturned : (p : ℕ) → leaves_mode known p ≡ true → LeavesMode t p
 
 -- what is known of a segment and then another: the second's conditions hold behind the first's change where one of the
 -- whole that isn't the first's holds, or in any case
@@ -41,3 +52,5 @@ pub record IsLike (a b : Known) : Type 0 where
   pub changes : (s : State) → changed a.change s ≡ changed b.change s
   pub listed : (p : ℕ) → is_listed a.change p ≡ is_listed b.change p
   pub holds : (s : State) → any_holds s a.conditions ≡ any_holds s b.conditions
+  pub untouched : (p f : ℕ) → leaves_cell a p f ≡ leaves_cell b p f
+  pub unturned : (p : ℕ) → leaves_mode a p ≡ leaves_mode b p

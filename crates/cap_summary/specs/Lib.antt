@@ -6,7 +6,6 @@ pub mod Tables
 pub mod Changes
 pub mod Images
 pub mod Does
-pub mod Touched
 pub mod Conditions
 pub mod Packed
 pub mod Moved
@@ -20,3 +19,5 @@ pub mod Sized
 pub mod Before
 pub mod Rest
 pub mod Positions
+pub mod Passes
+pub mod Behind

@@ -1,5 +1,5 @@
 -- What a cell or a mode is after a segment, read under the state before it.
-use Rattle.std.specs.Prelude.{ℕ, Bool, false, Option, Some, None, nat_le, if◌then◌else◌}
+use Rattle.std.specs.Prelude.{ℕ, ◌==◌, ◌&&◌, not, Bool, false, Option, Some, None, nat_le, if◌then◌else◌}
 use Rattle.cap_machine.specs.declared.cell.Cell.{Cell}
 use Rattle.cap_machine.specs.declared.cell.Cell.TheVariants.{Closed}
 use Rattle.cap_machine.specs.declared.cell.Mode.{Mode}
@@ -26,6 +26,13 @@ read_cell s (value.Of q g op) = applied op (s.cell q g)
 abbrev pub read_mode : State → ModeValue → Mode
 read_mode s (mode_value.Fixed m) = m
 read_mode s (mode_value.Of q) = s.mode q
+read_mode s (mode_value.Own q) = s.mode q
+
+-- no step of the segment turned the mode of process p, and it has this value
+abbrev pub is_own : ModeValue → ℕ → Bool
+is_own (mode_value.Fixed m) p = false
+is_own (mode_value.Of q) p = false
+is_own (mode_value.Own q) p = q == p
 
 -- how a whole table of cells is handed on: as it is (fork(2)), or by an exec (execve(2))
 abbrev pub passing_op : Passing → Op
@@ -45,6 +52,15 @@ is_from (Some n) f = nat_le n f
 -- the same, where cells are closed from a descriptor up
 abbrev pub unlisted : Base → ℕ → Value
 unlisted base f = if is_from base.closed_from f then value.Fixed Closed else rest_value base.others f
+
+-- the cells that no list has are those of process p
+abbrev pub are_of : Others → ℕ → Bool
+are_of (Alike c) p = false
+are_of (Of q passing) p = q == p
+
+-- no step of the segment touched a cell of process p that isn't listed and has this base
+abbrev pub rest_untouched : Base → ℕ → ℕ → Bool
+rest_untouched base p f = (base.own && are_of base.others p) && not (is_from base.closed_from f)
 
 -- a value after an op
 abbrev pub op_on : Op → Value → Value

@@ -4,7 +4,7 @@
 ghost use Rattle.std.specs.Prelude.{◌≡◌, ℕ, true};
 ghost use Rattle.cap_machine.specs.State.{State};
 ghost use Rattle.cap_summary.specs.Tables.{kept_value};
-ghost use Rattle.cap_summary.specs.Changes.{value_in, changed, is_listed};
+ghost use Rattle.cap_summary.specs.Changes.{value_in, changed, is_listed, untouched_at, is_untouched, is_unturned};
 
 use crate::change::{Change, Process};
 use crate::conditions::{CellTest, HeldTest, Refused, Source};
@@ -41,7 +41,7 @@ fn equal_ops(a: &Op, b: &Op) -> bool
 fn equal_bases(a: &Base, b: &Base) -> bool
     ensures { result ≡ true → a.now ≡ b.now }
 {
-    a.closed_from == b.closed_from && a.others == b.others
+    a.own == b.own && a.closed_from == b.closed_from && a.others == b.others
 }
 
 fn equal_held_tests(a: &HeldTest, b: &HeldTest) -> bool
@@ -103,6 +103,8 @@ impl Process {
     pub(crate) fn is_like(&self, other: &Process) -> bool
         ensures cells { result ≡ true → (f : ℕ) → value_in self.now f ≡ value_in other.now f }
         ensures mode { result ≡ true → self.now.mode ≡ other.now.mode }
+        ensures untouched { result ≡ true → (p f : ℕ) → untouched_at self.now.base self.now.cells p f
+            ≡ untouched_at other.now.base other.now.cells p f }
     {
         self.mode == other.mode
             && equal_bases(&self.base, &other.base)
@@ -116,6 +118,8 @@ impl Change {
     pub(crate) fn is_like(&self, other: &Change) -> bool
         ensures changes { result ≡ true → (s : State) → changed self.now s ≡ changed other.now s }
         ensures listed { result ≡ true → (p : ℕ) → is_listed self.now p ≡ is_listed other.now p }
+        ensures untouched { result ≡ true → (p f : ℕ) → is_untouched self.now p f ≡ is_untouched other.now p f }
+        ensures unturned { result ≡ true → (p : ℕ) → is_unturned self.now p ≡ is_unturned other.now p }
     {
         self.processes.is_like(&other.processes)
     }

@@ -13,11 +13,12 @@ ghost use Rattle.cap_summary.specs.Conditions.{any_holds};
 
 use crate::change::{Change, Near};
 use crate::conditions::{Condition, Refused, Source};
-use crate::effects::{Touched, Turned, touch_of, turn_of};
 use crate::known::Known;
 use crate::packed::Conditions;
 use crate::values::{ModeValue, Value};
-use cap_machine::{Cell, Checks, Demand, Effect, Found, Mode, Start, Step, Verdict, rule_of};
+use cap_machine::{
+    Cell, Checks, Demand, Effect, Found, Mode, Start, Step, Touched, Turned, Verdict, rule_of,
+};
 use cap_trace::{Fd, Pid};
 use cap_tree::NoMemory;
 use std::rc::Rc;
@@ -42,7 +43,7 @@ impl<'a> Before<'a> {
                 Some(Value::Fixed(cell)) => cell,
                 Some(Value::Of(source, of, op)) => op.on(before.cell(source, of)),
             },
-            Before::Behind(before, me, effect) => match touch_of(effect, *me, pid, fd) {
+            Before::Behind(before, me, effect) => match effect.touch(*me, pid, fd) {
                 Touched::Kept => before.cell(pid, fd),
                 Touched::Given(cell) => cell,
                 Touched::Taken(op, of) => op.on(before.cell(*me, of)),
@@ -57,9 +58,9 @@ impl<'a> Before<'a> {
             Before::At(start) => start.mode(pid),
             Before::After(before, change) => match change.mode(pid) {
                 ModeValue::Fixed(mode) => mode,
-                ModeValue::Of(source) => before.mode(source),
+                ModeValue::Of(source) | ModeValue::Own(source) => before.mode(source),
             },
-            Before::Behind(before, me, effect) => match turn_of(effect, *me, pid) {
+            Before::Behind(before, me, effect) => match effect.turn(*me, pid) {
                 Turned::Stays => before.mode(pid),
                 Turned::Turns(mode) => mode,
                 Turned::Follows => before.mode(*me),

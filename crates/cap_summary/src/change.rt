@@ -1,15 +1,17 @@
 //! What becomes of each cell and mode over a segment.
 
-ghost use Rattle.std.specs.Prelude.{◌≡◌, ℕ, true, None, IfOk, IfSome, IfNone};
+ghost use Rattle.std.specs.Prelude.{◌≡◌, ℕ, ◌&&◌, true, None, IfOk, IfSome, IfNone};
 ghost use Rattle.cap_machine.specs.Op.{same};
 ghost use Rattle.cap_machine.specs.State.{State};
-ghost use Rattle.cap_summary.specs.Values.{read_cell, read_mode, unlisted};
+ghost use Rattle.cap_summary.specs.Values.{read_cell, read_mode, unlisted, rest_untouched, is_own};
 ghost use Rattle.cap_summary.specs.Changes.{value_at, value_in, value_of, mode_of, changed, JoinsProcess, JoinsTo};
+ghost use Rattle.cap_summary.specs.Changes.{untouched_at, is_untouched, is_unturned};
 ghost use Rattle.cap_summary.specs.Images.{under};
 ghost use Rattle.cap_summary.specs.Tables.{process_at};
 
 use crate::tables::{Cells, Processes};
-use crate::values::{Base, ModeValue, Others, Value, lower_of, same_op};
+use crate::values::{Base, ModeValue, Others, Value, lower_of};
+use cap_machine::Op;
 use cap_trace::{Fd, Pid};
 use cap_tree::NoMemory;
 use std::alloc::Global;
@@ -55,6 +57,13 @@ impl Process {
             Some(value) => value,
             None => self.base.value(fd),
         }
+    }
+
+    /// Whether no line touched a cell of the process with this pid. One that is listed counts as touched.
+    pub(crate) fn is_untouched(&self, pid: Pid, fd: Fd) -> bool
+        ensures { result ≡ untouched_at self.now.base self.now.cells pid fd }
+    {
+        self.base.is_untouched(pid, fd) && !self.cells.lists(fd)
     }
 }
 
@@ -117,7 +126,7 @@ impl Change {
     {
         match self.processes.get(pid) {
             Some(process) => process.value(fd),
-            None => Value::Of(pid, fd, same_op()),
+            None => Value::Of(pid, fd, Op::same()),
         }
     }
 
@@ -127,8 +136,25 @@ impl Change {
     {
         match self.processes.get(pid) {
             Some(process) => process.mode,
-            None => ModeValue::Of(pid),
+            None => ModeValue::Own(pid),
         }
+    }
+
+    /// Whether no line touched a descriptor of a process, as far as this tells.
+    pub(crate) fn is_untouched(&self, pid: Pid, fd: Fd) -> bool
+        ensures { result ≡ is_untouched self.now pid fd }
+    {
+        match self.processes.get(pid) {
+            Some(process) => process.is_untouched(pid, fd),
+            None => true,
+        }
+    }
+
+    /// Whether no line turned the mode of a process, as far as this tells.
+    pub(crate) fn is_unturned(&self, pid: Pid) -> bool
+        ensures { result ≡ is_unturned self.now pid }
+    {
+        self.mode(pid).is_own(pid)
     }
 }
 
@@ -145,11 +171,14 @@ impl Change {
 
     /// A mode that stands behind this change.
     fn mode_under(&self, value: &ModeValue) -> ModeValue
-        ensures { (s : State) → read_mode s result ≡ read_mode (changed self.now s) value.now }
+        ensures mode { (s : State) → read_mode s result ≡ read_mode (changed self.now s) value.now }
+        ensures unturned { (p : ℕ)
+            → is_own result p ≡ true → (is_unturned self.now p && is_own value.now p) ≡ true }
     {
         match value {
             ModeValue::Fixed(mode) => ModeValue::Fixed(*mode),
-            ModeValue::Of(pid) => self.mode(*pid),
+            ModeValue::Of(pid) => self.mode(*pid).taken(),
+            ModeValue::Own(pid) => self.mode(*pid).owned_by(*pid),
         }
     }
 
@@ -177,8 +206,10 @@ impl Change {
 
     /// Whether the process of a base isn't listed.
     fn leaves_base(&self, base: &Base) -> bool
-        ensures { result ≡ true → (s : State) (f : ℕ)
+        ensures cells { result ≡ true → (s : State) (f : ℕ)
             → read_cell s (unlisted base.now f) ≡ read_cell (changed self.now s) (unlisted base.now f) }
+        ensures untouched { result ≡ true → (p f : ℕ)
+            → rest_untouched base.now p f ≡ true → is_untouched self.now p f ≡ true }
     {
         match base.others {
             Others::Alike(_) => true,
@@ -188,18 +219,21 @@ impl Change {
 
     /// Whether the process of a mode isn't listed.
     pub(crate) fn leaves_mode(&self, mode: &ModeValue) -> bool
-        ensures { result ≡ true → (s : State) → read_mode s mode.now ≡ read_mode (changed self.now s) mode.now }
+        ensures mode { result ≡ true → (s : State) → read_mode s mode.now ≡ read_mode (changed self.now s) mode.now }
+        ensures unturned { result ≡ true → (p : ℕ) → is_own mode.now p ≡ true → is_unturned self.now p ≡ true }
     {
         match mode {
             ModeValue::Fixed(_) => true,
-            ModeValue::Of(pid) => self.processes.get(*pid).is_none(),
+            ModeValue::Of(pid) | ModeValue::Own(pid) => self.processes.get(*pid).is_none(),
         }
     }
 
     /// The cells of a base that stands behind this change.
     fn base_under(&self, alloc: Global, base: &Base) -> Result<(Base, Cells), NoMemory>
-        ensures { IfOk result (λ r. (s : State) (f : ℕ)
+        ensures cells { IfOk result (λ r. (s : State) (f : ℕ)
             → read_cell s (value_at r.0 r.1 f) ≡ read_cell (changed self.now s) (unlisted base.now f)) }
+        ensures untouched { IfOk result (λ r. (p f : ℕ) → untouched_at r.0 r.1 p f ≡ true
+            → (is_untouched self.now p f && rest_untouched base.now p f) ≡ true) }
     {
         match base.others {
             Others::Alike(_) => Ok((*base, Cells::new())),
@@ -210,6 +244,7 @@ impl Change {
                     let new = Base {
                         others: process.base.others.passed(passing),
                         closed_from: lower_of(process.base.closed_from, base.closed_from),
+                        own: base.stays_own(pid, &process.base),
                     };
                     Ok((new, cells))
                 }

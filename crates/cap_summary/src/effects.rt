@@ -1,20 +1,17 @@
 //! What one line does.
 
-ghost use Rattle.std.specs.Prelude.{◌≡◌, ℕ, ◌==◌, ◌&&◌, ◌||◌, if◌then◌else◌, IfOk, OnOk, Some, None};
-ghost use Rattle.std.specs.List.{list_any};
+ghost use Rattle.std.specs.Prelude.{◌≡◌, ℕ, ◌==◌, ◌&&◌, ◌||◌, not, true, false, if◌then◌else◌, IfOk, OnOk, Some, None};
 ghost use Rattle.cap_rights.specs.Rights.{all};
 ghost use Rattle.cap_machine.specs.Op.{same};
 ghost use Rattle.cap_machine.specs.Touch.{started as started_cell};
-ghost use Rattle.cap_summary.specs.Values.{unlisted};
+ghost use Rattle.cap_summary.specs.Values.{unlisted, rest_untouched};
 ghost use Rattle.cap_summary.specs.Tables.{process_at};
-ghost use Rattle.cap_summary.specs.Changes.{value_in, value_of, mode_of, is_listed};
-ghost use Rattle.cap_machine.specs.Effect.{effect_touch, effect_turn};
+ghost use Rattle.cap_summary.specs.Changes.{value_in, value_of, mode_of, is_listed, untouched_at, is_untouched};
 ghost use Rattle.cap_summary.specs.Does.{Does};
-ghost use Rattle.cap_summary.specs.Touched.{touch_seen, turn_seen};
 
 use crate::change::{Change, Process};
 use crate::tables::{Cells, Listing, Processes};
-use crate::values::{Base, ModeValue, Passing, Value, same_op};
+use crate::values::{Base, ModeValue, Passing, Value};
 use cap_machine::{Cell, Effect, Mode, OnExec, Op};
 use cap_rights::RightSet;
 use cap_trace::{Fd, Pid};
@@ -26,6 +23,7 @@ impl Process {
     fn over(base: Base, mode: ModeValue) -> Process
         ensures cells { (f : ℕ) → value_in result f ≡ unlisted base f }
         ensures mode { result.mode ≡ mode }
+        ensures untouched { (p f : ℕ) → untouched_at result.base result.cells p f ≡ rest_untouched base p f }
     {
         Process {
             base,
@@ -34,28 +32,56 @@ impl Process {
         }
     }
 
-    /// A process as it was.
-    fn kept(pid: Pid) -> Process
-        ensures cells { (f : ℕ) → value_in result f ≡ Value.Of pid f same }
-        ensures mode { result.mode ≡ ModeValue.Of pid }
+    /// The child of a process.
+    fn child_of(parent: Pid) -> Process
+        ensures cells { (f : ℕ) → value_in result f ≡ Value.Of parent f same }
+        ensures mode { result.mode ≡ ModeValue.Of parent }
+        ensures touched { (p f : ℕ) → untouched_at result.base result.cells p f ≡ false }
     {
-        Process::over(Base::of(pid, Passing::Same), ModeValue::Of(pid))
+        Process::over(Base::of(parent, Passing::Same), ModeValue::Of(parent))
+    }
+
+    /// One cell is listed.
+    fn listing_one(
+        alloc: Global,
+        base: Base,
+        mode: ModeValue,
+        fd: Fd,
+        value: &Value,
+    ) -> Result<Process, NoMemory>
+        ensures cells { IfOk result
+            (λ new. (f : ℕ) → value_in new f ≡ (if f == fd then value.now else unlisted base f)) }
+        ensures mode { IfOk result (λ new. new.mode ≡ mode) }
+        ensures untouched { IfOk result
+            (λ new. (p f : ℕ) → untouched_at new.base new.cells p f ≡ (rest_untouched base p f && not (f == fd))) }
+    {
+        let mut listing = Listing::new(alloc);
+        listing.set(alloc, fd, value)?;
+        let cells = listing.finish()?;
+        Ok(Process { base, mode, cells })
     }
 
     /// A process as it was, but for one cell.
     fn with(alloc: Global, pid: Pid, fd: Fd, value: &Value) -> Result<Process, NoMemory>
         ensures cells { IfOk result
             (λ new. (f : ℕ) → value_in new f ≡ (if f == fd then value.now else Value.Of pid f same)) }
-        ensures mode { IfOk result (λ new. new.mode ≡ ModeValue.Of pid) }
+        ensures mode { IfOk result (λ new. new.mode ≡ ModeValue.Own pid) }
+        ensures untouched { IfOk result
+            (λ new. (p f : ℕ) → untouched_at new.base new.cells p f ≡ (pid == p && not (f == fd))) }
     {
-        let mut listing = Listing::new(alloc);
-        listing.set(alloc, fd, value)?;
-        let cells = listing.finish()?;
-        Ok(Process {
-            base: Base::of(pid, Passing::Same),
-            mode: ModeValue::Of(pid),
-            cells,
-        })
+        let own = Base::own(pid);
+        Process::listing_one(alloc, own, ModeValue::Own(pid), fd, value)
+    }
+
+    /// The child of a process, but for one cell.
+    fn child_with(alloc: Global, parent: Pid, fd: Fd, value: &Value) -> Result<Process, NoMemory>
+        ensures cells { IfOk result
+            (λ new. (f : ℕ) → value_in new f ≡ (if f == fd then value.now else Value.Of parent f same)) }
+        ensures mode { IfOk result (λ new. new.mode ≡ ModeValue.Of parent) }
+        ensures touched { IfOk result (λ new. (p f : ℕ) → untouched_at new.base new.cells p f ≡ false) }
+    {
+        let passed = Base::of(parent, Passing::Same);
+        Process::listing_one(alloc, passed, ModeValue::Of(parent), fd, value)
     }
 
     /// A process as it was, but for two cells, which are alike.
@@ -68,15 +94,17 @@ impl Process {
     ) -> Result<Process, NoMemory>
         ensures cells { IfOk result (λ new. (f : ℕ) → value_in new f
             ≡ (if f == second then value.now else (if f == first then value.now else Value.Of pid f same))) }
-        ensures mode { IfOk result (λ new. new.mode ≡ ModeValue.Of pid) }
+        ensures mode { IfOk result (λ new. new.mode ≡ ModeValue.Own pid) }
+        ensures untouched { IfOk result (λ new. (p f : ℕ) → untouched_at new.base new.cells p f
+            ≡ (pid == p && not (f == first || f == second))) }
     {
         let mut listing = Listing::new(alloc);
         listing.set(alloc, first, value)?;
         listing.set(alloc, second, value)?;
         let cells = listing.finish()?;
         Ok(Process {
-            base: Base::of(pid, Passing::Same),
-            mode: ModeValue::Of(pid),
+            base: Base::own(pid),
+            mode: ModeValue::Own(pid),
             cells,
         })
     }
@@ -106,8 +134,10 @@ impl Change {
         ensures cells { IfOk result
             (λ change. (p f : ℕ) → value_of change p f ≡ (if p == me then unlisted base f else Value.Of p f same)) }
         ensures modes { IfOk result
-            (λ change. (p : ℕ) → mode_of change p ≡ (if p == me then mode else ModeValue.Of p)) }
+            (λ change. (p : ℕ) → mode_of change p ≡ (if p == me then mode else ModeValue.Own p)) }
         ensures listed { IfOk result (λ change. (p : ℕ) → is_listed change p ≡ (p == me)) }
+        ensures untouched { IfOk result (λ change. (p f : ℕ)
+            → is_untouched change p f ≡ (if p == me then rest_untouched base p f else true)) }
     {
         let change = Change::only(alloc, me, Process::over(base, mode))?;
         Ok(change)
@@ -143,10 +173,12 @@ impl Change {
     pub(crate) fn of_effect(alloc: Global, me: Pid, effect: &Effect<'_>) -> Result<Change, NoMemory>
         ensures { IfOk result (λ change. Does change effect.now me) }
     {
-        let kept = Base::of(me, Passing::Same);
         match effect {
             Effect::Keep => Ok(Change::nothing()),
-            Effect::Enter => Change::whole(alloc, me, kept, ModeValue::Fixed(Mode::Inside)),
+            Effect::Enter => {
+                let inside = ModeValue::Fixed(Mode::Inside);
+                Change::whole(alloc, me, Base::own(me), inside)
+            }
             Effect::Start(fds) => {
                 let held = Value::Fixed(Cell::Held(RightSet::all(), OnExec::Unsure));
                 Change::only(alloc, me, started(alloc, fds, &held)?)
@@ -156,14 +188,14 @@ impl Change {
                 Change::whole(alloc, me, unknown, ModeValue::Fixed(Mode::Unsure))
             }
             Effect::Forget => {
-                Change::whole(alloc, me, Base::alike(Cell::Unknown), ModeValue::Of(me))
+                Change::whole(alloc, me, Base::alike(Cell::Unknown), ModeValue::Own(me))
             }
             Effect::Exec => {
                 let passed = Base::of(me, Passing::Exec);
-                Change::whole(alloc, me, passed, ModeValue::Of(me))
+                Change::whole(alloc, me, passed, ModeValue::Own(me))
             }
             Effect::CloseFrom(fd) => {
-                Change::whole(alloc, me, Base::closed_from(me, *fd), ModeValue::Of(me))
+                Change::whole(alloc, me, Base::closed_from(me, *fd), ModeValue::Own(me))
             }
             Effect::Give(fd, cell) => {
                 let process = Process::with(alloc, me, *fd, &Value::Fixed(*cell))?;
@@ -171,7 +203,7 @@ impl Change {
             }
             Effect::GiveTwo(a, b, cell) => Change::given_two(alloc, me, *a, *b, *cell),
             Effect::Change(to, op, from) => Change::taken(alloc, me, *to, op, *from),
-            Effect::Fork(child) => Change::only(alloc, *child, Process::kept(me)),
+            Effect::Fork(child) => Change::only(alloc, *child, Process::child_of(me)),
             Effect::ForkAs(child, fd) => Change::forked(alloc, me, *child, *fd),
         }
     }
@@ -181,109 +213,16 @@ impl Change {
         ensures cells { IfOk result (λ change. (p f : ℕ) → value_of change p f ≡ (if (p == me || p == child) && f == fd
             then Value.Fixed Cell.Unknown else (if p == child then Value.Of me f same else Value.Of p f same))) }
         ensures modes { IfOk result
-            (λ change. (p : ℕ) → mode_of change p ≡ (if p == child then ModeValue.Of me else ModeValue.Of p)) }
+            (λ change. (p : ℕ) → mode_of change p ≡ (if p == child then ModeValue.Of me else ModeValue.Own p)) }
         ensures listed { IfOk result (λ change. (p : ℕ) → is_listed change p ≡ (p == child || p == me)) }
+        ensures untouched { IfOk result (λ change. (p f : ℕ) → is_untouched change p f
+            ≡ (if p == child then false else not (p == me && f == fd))) }
     {
         let unknown = Value::Fixed(Cell::Unknown);
         let parent = Process::with(alloc, me, fd, &unknown)?;
-        let made = Process::with(alloc, me, fd, &unknown)?;
+        let made = Process::child_with(alloc, me, fd, &unknown)?;
         let processes = Processes::two(alloc, me, parent, child, made)?;
         Ok(Change { processes })
-    }
-}
-
-/// What a line does to one cell.
-#[derive(Clone, Copy)]
-pub(crate) enum Touched {
-    /// It stays as it was.
-    Kept,
-    /// It becomes this cell.
-    Given(Cell),
-    /// It becomes what the op makes of the cell of this descriptor of the line's process.
-    Taken(Op, Fd),
-}
-
-/// What a line does to the mode of one process.
-#[derive(Clone, Copy)]
-pub(crate) enum Turned {
-    /// It stays as it was.
-    Stays,
-    /// It becomes this mode.
-    Turns(Mode),
-    /// It becomes the mode of the line's process.
-    Follows,
-}
-
-fn has_fd(fds: &[Fd], fd: Fd) -> bool
-    ensures { result ≡ list_any (λ g. fd == g) fds.now }
-{
-    fds.iter().any(|listed| fd == *listed)
-}
-
-/// The cell of a descriptor of a process that starts with these.
-fn started_with(fds: &[Fd], fd: Fd) -> Cell
-    ensures { result ≡ started_cell fds.now fd }
-{
-    if has_fd(fds, fd) {
-        Cell::Held(RightSet::all(), OnExec::Unsure)
-    } else {
-        Cell::Closed
-    }
-}
-
-/// What an effect of a line of a process does to one cell of the same process.
-fn own_touch(effect: &Effect<'_>, me: Pid, fd: Fd) -> Touched
-    ensures { touch_seen me result ≡ effect_touch effect.now me me fd }
-{
-    match effect {
-        Effect::Keep | Effect::Enter => Touched::Kept,
-        Effect::Start(fds) => Touched::Given(started_with(fds, fd)),
-        Effect::Exit | Effect::Forget => Touched::Given(Cell::Unknown),
-        Effect::Exec => Touched::Taken(Op::exec(), fd),
-        Effect::CloseFrom(n) if *n <= fd => Touched::Given(Cell::Closed),
-        Effect::Give(to, cell) if fd == *to => Touched::Given(*cell),
-        Effect::GiveTwo(first, second, cell) if fd == *first || fd == *second => {
-            Touched::Given(*cell)
-        }
-        Effect::Change(to, op, from) if fd == *to => Touched::Taken(*op, *from),
-        Effect::ForkAs(_, to) if fd == *to => Touched::Given(Cell::Unknown),
-        Effect::Fork(child) | Effect::ForkAs(child, _) if me == *child => {
-            Touched::Taken(same_op(), fd)
-        }
-        _ => Touched::Kept,
-    }
-}
-
-/// The same of a cell of any process.
-pub(crate) fn touch_of(effect: &Effect<'_>, me: Pid, pid: Pid, fd: Fd) -> Touched
-    ensures { touch_seen me result ≡ effect_touch effect.now me pid fd }
-{
-    if pid == me {
-        return own_touch(effect, me, fd);
-    }
-    match effect {
-        Effect::Fork(child) if pid == *child => Touched::Taken(same_op(), fd),
-        Effect::ForkAs(child, to) if pid == *child => {
-            if fd == *to {
-                Touched::Given(Cell::Unknown)
-            } else {
-                Touched::Taken(same_op(), fd)
-            }
-        }
-        _ => Touched::Kept,
-    }
-}
-
-/// What an effect of a line of a process does to the mode of one.
-pub(crate) fn turn_of(effect: &Effect<'_>, me: Pid, pid: Pid) -> Turned
-    ensures { turn_seen me result ≡ effect_turn effect.now me pid }
-{
-    match effect {
-        Effect::Start(_) if pid == me => Turned::Turns(Mode::Outside),
-        Effect::Exit if pid == me => Turned::Turns(Mode::Unsure),
-        Effect::Enter if pid == me => Turned::Turns(Mode::Inside),
-        Effect::Fork(child) | Effect::ForkAs(child, _) if pid == *child => Turned::Follows,
-        _ => Turned::Stays,
     }
 }
 
@@ -292,6 +231,7 @@ fn started(alloc: Global, fds: &[Fd], held: &Value) -> Result<Process, NoMemory>
     requires { held.now ≡ Value.Fixed (Cell.Held all OnExec.Unsure) }
     ensures cells { IfOk result (λ process. (f : ℕ) → value_in process f ≡ Value.Fixed (started_cell fds.now f)) }
     ensures mode { IfOk result (λ process. process.mode ≡ ModeValue.Fixed Mode.Outside) }
+    ensures touched { IfOk result (λ process. (p f : ℕ) → untouched_at process.base process.cells p f ≡ false) }
 {
     let mut listing = Listing::new(alloc);
     for fd in fds {

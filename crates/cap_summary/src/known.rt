@@ -2,7 +2,7 @@
 
 ghost use Rattle.std.specs.Prelude.{◌≡◌, ◌∷◌, [], ◌||◌, true, IfOk, IfSome};
 ghost use Rattle.cap_machine.specs.Table.{start_state};
-ghost use Rattle.cap_summary.specs.Knows.{Knows, Composes, IsLike, finds, state_after};
+ghost use Rattle.cap_summary.specs.Knows.{Knows, Composes, IsLike, finds, state_after, leaves_cell, leaves_mode};
 
 use crate::before::Before;
 use crate::change::Change;
@@ -196,5 +196,21 @@ impl Known {
     {
         let before = Before::At(&*start);
         Before::After(&before, &self.change).mode(pid)
+    }
+
+    /// Whether no step touches a descriptor of a process, as far as is known: where the answer is yes, none does. No
+    /// promises nothing.
+    pub fn is_untouched(&self, pid: Pid, fd: Fd) -> bool
+        ensures { result ≡ leaves_cell self.now pid fd }
+    {
+        self.change.is_untouched(pid, fd)
+    }
+
+    /// Whether no step turns the mode of a process, as far as is known: where the answer is yes, none does. No promises
+    /// nothing.
+    pub fn is_unturned(&self, pid: Pid) -> bool
+        ensures { result ≡ leaves_mode self.now pid }
+    {
+        self.change.is_unturned(pid)
     }
 }

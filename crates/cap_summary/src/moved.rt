@@ -96,7 +96,7 @@ impl Change {
         match self.mode(pid) {
             ModeValue::Fixed(Mode::Outside) => Some(None),
             ModeValue::Fixed(_) => None,
-            ModeValue::Of(source) => Some(Some(source)),
+            ModeValue::Of(source) | ModeValue::Own(source) => Some(Some(source)),
         }
     }
 
@@ -136,12 +136,16 @@ impl Change {
             Condition::Inside(pid) => match self.mode(*pid) {
                 ModeValue::Fixed(Mode::Inside) => Moved::Always,
                 ModeValue::Fixed(_) => Moved::Never,
-                ModeValue::Of(source) => Moved::To(Condition::Inside(source)),
+                ModeValue::Of(source) | ModeValue::Own(source) => {
+                    Moved::To(Condition::Inside(source))
+                }
             },
             Condition::Outside(pid) => match self.mode(*pid) {
                 ModeValue::Fixed(Mode::Outside) => Moved::Always,
                 ModeValue::Fixed(_) => Moved::Never,
-                ModeValue::Of(source) => Moved::To(Condition::Outside(source)),
+                ModeValue::Of(source) | ModeValue::Own(source) => {
+                    Moved::To(Condition::Outside(source))
+                }
             },
             Condition::Refused(refused) => self.moved_refused(refused),
         }

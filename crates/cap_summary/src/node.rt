@@ -1,6 +1,9 @@
 //! The nodes of a summary. A contract sees a node as its steps.
 
 ghost use Rattle.std.specs.Prelude.{◌≡◌, ℕ, ◌+◌, ◌^◌, ◌<◌, ◌≤◌, ◌++◌, ◌∷◌, [], List, length, map, IfOk, OnOk, IfSome, IfNone};
+ghost use Rattle.std.specs.Prelude.{take, slice_index_or, true};
+ghost use Rattle.cap_machine.specs.Walks.{LeavesCell, LeavesMode};
+ghost use Rattle.cap_summary.specs.Passes.{PassesCell, PassesMode};
 ghost use Rattle.cap_summary.specs.Knows.{Knows};
 ghost use Rattle.cap_machine.specs.declared.step.Step.{Step};
 ghost use Rattle.cap_machine.specs.Check.{check};
@@ -16,14 +19,16 @@ ghost use Rattle.cap_summary.specs.Content.{IsWhole};
 use crate::before::{Asked, Before, judge_run};
 use crate::in_order::judge_in_order;
 use crate::known::Known;
-use cap_machine::{Found, Machine, Step};
+use crate::walking::{walk_cell, walk_mode};
+use cap_machine::{CellWalk, Found, Machine, ModeWalk, Step};
+use cap_trace::{Fd, Pid};
 use cap_tree::NoMemory;
 use std::alloc::Global;
 use std::marker::Model;
 use std::rc::Rc;
 
 /// The most steps that a run holds.
-const RUN_STEPS: usize = 32;
+const RUN_STEPS: usize = 48;
 
 /// Something is known of all that are no more steps than this.
 const KNOWN_STEPS: usize = 256;
@@ -388,6 +393,100 @@ impl Node {
             Content::Both(a, b) => {
                 a.judge(machine, at, asked, found)?;
                 b.judge(machine, at + a.len(), asked, found)
+            }
+        }
+    }
+}
+
+impl Node {
+    /// The step behind so many others.
+    pub(crate) fn step(&self, count: usize) -> &Step
+        requires { count < length self.now }
+        ensures { slice_index_or self.now count result.now ≡ result.now }
+    {
+        match &self.content {
+            Content::Run(run) => &run[count],
+            Content::Both(a, b) => {
+                if count < a.len() {
+                    a.step(count)
+                } else {
+                    b.step(count - a.len())
+                }
+            }
+        }
+    }
+
+    /// Whether it is known that no step touches a cell. No is a safe answer.
+    fn leaves_cell(&self, pid: Pid, fd: Fd) -> bool
+        ensures { result ≡ true → LeavesCell self.now pid fd }
+    {
+        match &self.known {
+            Some(known) => known.is_untouched(pid, fd),
+            None => false,
+        }
+    }
+
+    /// The same of a mode.
+    fn leaves_mode(&self, pid: Pid) -> bool
+        ensures { result ≡ true → LeavesMode self.now pid }
+    {
+        match &self.known {
+            Some(known) => known.is_unturned(pid),
+            None => false,
+        }
+    }
+
+    /// Walks back from a cell through the first steps, so many, which stand behind others: the right part first, and up to
+    /// the step that gave the cell. A part of which it is known that no step touches the cell is left out.
+    pub(crate) fn walk_cell(
+        &self,
+        walk: &mut CellWalk,
+        at: usize,
+        count: usize,
+    ) -> Result<(), NoMemory>
+        requires within { count ≤ length self.now }
+        requires short { at + length self.now ≤ 2 ^ 31 }
+        ensures { OnOk result (PassesCell walk.old walk.new at (take count self.now)) }
+    {
+        if walk.has_ended() || self.leaves_cell(walk.pid(), walk.fd()) {
+            return Ok(());
+        }
+        match &self.content {
+            Content::Run(run) => walk_cell(walk, at, &run[..count]),
+            Content::Both(a, b) => {
+                let left = a.len();
+                if count <= left {
+                    return a.walk_cell(walk, at, count);
+                }
+                b.walk_cell(walk, at + left, count - left)?;
+                a.walk_cell(walk, at, left)
+            }
+        }
+    }
+
+    /// The same from a mode.
+    pub(crate) fn walk_mode(
+        &self,
+        walk: &mut ModeWalk,
+        at: usize,
+        count: usize,
+    ) -> Result<(), NoMemory>
+        requires within { count ≤ length self.now }
+        requires short { at + length self.now ≤ 2 ^ 31 }
+        ensures { OnOk result (PassesMode walk.old walk.new at (take count self.now)) }
+    {
+        if walk.has_ended() || self.leaves_mode(walk.pid()) {
+            return Ok(());
+        }
+        match &self.content {
+            Content::Run(run) => walk_mode(walk, at, &run[..count]),
+            Content::Both(a, b) => {
+                let left = a.len();
+                if count <= left {
+                    return a.walk_mode(walk, at, count);
+                }
+                b.walk_mode(walk, at + left, count - left)?;
+                a.walk_mode(walk, at, left)
             }
         }
     }

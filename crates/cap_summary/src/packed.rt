@@ -29,6 +29,7 @@ pub(crate) struct Lack {
 impl Lack {
     #[tactic(auto, using(crate::proofs::Merging::lacks_covers))]
     /// Whether it is a test of the same cell that passes where another one does. No is a safe answer.
+    #[inline]
     fn covers(&self, other: &Lack) -> bool
         ensures { result ≡ true → (s : State) → holds s (packed_condition (Packed.Cell self.now))
             ≡ (holds s (packed_condition (Packed.Cell self.now)) || holds s (packed_condition (Packed.Cell other.now))) }
@@ -83,6 +84,7 @@ fn lacked_by(test: &CellTest) -> Option<RightSet>
 
 impl Lack {
     /// Whether another one is the same test of the same cell. No is a safe answer.
+    #[inline]
     fn is_like(&self, other: &Lack) -> bool
         ensures { result ≡ true → packed_condition (Packed.Cell self.now) ≡ packed_condition (Packed.Cell other.now) }
     {
@@ -94,6 +96,7 @@ impl Lack {
     }
 
     /// The test in full.
+    #[inline]
     fn source(&self) -> Source
         ensures { Condition.Cell result ≡ packed_condition (Packed.Cell self.now) }
     {
@@ -112,10 +115,12 @@ impl Lack {
 }
 
 /// A process and a descriptor of it, as one number that rises with the process and then with the descriptor.
+#[inline]
 fn place(pid: Pid, fd: Fd) -> u64 {
     (u64::from(pid) << 32) | u64::from(fd)
 }
 
+#[inline]
 fn place_of_part(part: &Option<Source>) -> u64 {
     match part {
         Some(source) => place(source.pid, source.fd),
@@ -181,6 +186,7 @@ impl Packed {
     }
 
     /// The condition that is kept.
+    #[inline]
     fn condition(&self) -> Condition
         ensures { result ≡ packed_condition self.now }
     {
@@ -272,6 +278,7 @@ impl Conditions {
         new.finish()
     }
 
+    #[inline]
     fn packed(&self) -> &[Packed]
         ensures { packed_conditions result.now ≡ self.now }
     {
@@ -282,6 +289,7 @@ impl Conditions {
     }
 
     /// How many there are.
+    #[inline]
     pub(crate) fn len(&self) -> usize
         ensures { result ≡ length self.now }
     {
@@ -289,6 +297,7 @@ impl Conditions {
     }
 
     /// The one at a place.
+    #[inline]
     pub(crate) fn get(&self, at: usize) -> Condition
         requires { at < length self.now }
         ensures { result ≡ slice_index_or self.now at result }
@@ -297,6 +306,7 @@ impl Conditions {
     }
 
     /// How the one at a place stands to one of others in the order in which they are kept.
+    #[inline]
     pub(crate) fn order_to(&self, at: usize, others: &Conditions, of: usize) -> Ordering
         requires own { at < length self.now }
         requires other { of < length others.now }
@@ -306,6 +316,7 @@ impl Conditions {
 
     /// Whether the one at a place holds wherever one of others does, by a look at those kept in few bytes alone. No is a
     /// safe answer.
+    #[inline]
     pub(crate) fn covers(&self, at: usize, others: &Conditions, of: usize) -> bool
         requires own { at < length self.now }
         requires other { of < length others.now }
@@ -319,6 +330,7 @@ impl Conditions {
     }
 
     /// The test of a cell at a place; none only where there is another condition.
+    #[inline]
     pub(crate) fn source(&self, at: usize) -> Option<Source>
         requires { at < length self.now }
         ensures { IfSome result (λ source. (d : Condition) → slice_index_or self.now at d ≡ Condition.Cell source) }
@@ -392,6 +404,7 @@ impl NewConditions {
 
     /// Whether the condition at a place of others comes after all these in the order in which they are kept, where
     /// these rise.
+    #[inline]
     pub(crate) fn go_on(&self, others: &Conditions, at: usize) -> bool
         requires { at < length others.now }
     {

@@ -88,7 +88,15 @@ impl Cells {
         }
     }
 
-    /// Whether a descriptor is listed. It looks first where an earlier look-up ended, and notes where this one did.
+    /// Whether a descriptor is listed.
+    #[tactic(auto, unfolding(crate::specs::Tables::listed_value))]
+    pub(crate) fn lists(&self, fd: Fd) -> bool
+        ensures { result ≡ is_some (listed_value self.now fd) }
+    {
+        self.table.get(fd).is_some()
+    }
+
+    /// The same. It looks first where an earlier look-up ended, and notes where this one did.
     #[tactic(auto, unfolding(crate::specs::Tables::listed_value))]
     pub(crate) fn lists_near(&self, fd: Fd, near: &mut usize) -> bool
         ensures { result ≡ is_some (listed_value self.now fd) }

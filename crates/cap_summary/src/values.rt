@@ -1,11 +1,12 @@
 //! What a cell or a mode is after a segment, in terms of the state before it.
 
-ghost use Rattle.std.specs.Prelude.{◌≡◌, ℕ, ◌||◌, nat_le, true, if◌then◌else◌};
+ghost use Rattle.std.specs.Prelude.{◌≡◌, ◌==◌, ℕ, ◌||◌, ◌&&◌, not, nat_le, true, false, if◌then◌else◌};
 ghost use Rattle.cap_machine.specs.State.{State};
 ghost use Rattle.cap_machine.specs.Op.{same, exec, applied};
 ghost use Rattle.cap_summary.specs.Values.{read_cell, read_mode, passing_op, rest_value, unlisted, is_from, op_on};
+ghost use Rattle.cap_summary.specs.Values.{are_of, rest_untouched, is_own};
 
-use cap_machine::{Cell, HeldOp, Mode, OnExec, Op};
+use cap_machine::{Cell, Mode, Op};
 use cap_trace::{Fd, Pid};
 
 /// A cell after a segment: one that is known, or what an op makes of a cell before it.
@@ -24,6 +25,8 @@ pub enum ModeValue {
     Fixed(Mode),
     /// It is the mode of this process.
     Of(Pid),
+    /// It is the process's own mode, as no line turned it.
+    Own(Pid),
 }
 
 /// How a whole table of cells was handed on.
@@ -51,19 +54,8 @@ pub struct Base {
     pub others: Others,
     /// From here up each is closed (closefrom(2)).
     pub closed_from: Option<Fd>,
-}
-
-/// The op that leaves a cell as it is.
-pub(crate) fn same_op() -> Op
-    ensures { result ≡ same }
-{
-    Op {
-        unknown: Cell::Unknown,
-        closed: Cell::Closed,
-        set: HeldOp::Keeps(None, OnExec::Set),
-        clear: HeldOp::Keeps(None, OnExec::Clear),
-        unsure: HeldOp::Keeps(None, OnExec::Unsure),
-    }
+    /// Whether those below are the process's own, and no line touched them.
+    pub own: bool,
 }
 
 impl Value {
@@ -78,12 +70,47 @@ impl Value {
     }
 }
 
+impl ModeValue {
+    /// Whether it is the mode of the process with this pid, and no line turned it.
+    pub(crate) fn is_own(&self, pid: Pid) -> bool
+        ensures { result ≡ is_own self.now pid }
+    {
+        match self {
+            ModeValue::Own(own) => *own == pid,
+            _ => false,
+        }
+    }
+
+    /// The same mode, of a process that took it from another.
+    pub(crate) fn taken(&self) -> ModeValue
+        ensures mode { (s : State) → read_mode s result ≡ read_mode s self.now }
+        ensures untouched { (p : ℕ) → is_own result p ≡ false }
+    {
+        match self {
+            ModeValue::Own(pid) => ModeValue::Of(*pid),
+            _ => *self,
+        }
+    }
+
+    /// The same mode, of the process with this pid: its own only where it was.
+    pub(crate) fn owned_by(&self, pid: Pid) -> ModeValue
+        ensures mode { (s : State) → read_mode s result ≡ read_mode s self.now }
+        ensures own { (p : ℕ) → is_own result p ≡ true → (is_own self.now p && pid == p) ≡ true }
+    {
+        if self.is_own(pid) {
+            *self
+        } else {
+            self.taken()
+        }
+    }
+}
+
 impl Passing {
     pub(crate) fn op(self) -> Op
         ensures { result ≡ passing_op self }
     {
         match self {
-            Passing::Same => same_op(),
+            Passing::Same => Op::same(),
             Passing::Exec => Op::exec(),
         }
     }
@@ -103,8 +130,9 @@ impl Passing {
 impl Others {
     /// The cells after they were handed on.
     pub(crate) fn passed(&self, passing: Passing) -> Others
-        ensures { (s : State) (f : ℕ)
+        ensures cells { (s : State) (f : ℕ)
             → read_cell s (rest_value result f) ≡ applied (passing_op passing) (read_cell s (rest_value self.now f)) }
+        ensures source { (p : ℕ) → are_of result p ≡ are_of self.now p }
     {
         match self {
             Others::Alike(cell) => Others::Alike(passing.op().on(*cell)),
@@ -137,32 +165,75 @@ pub(crate) fn lower_of(a: Option<Fd>, b: Option<Fd>) -> Option<Fd>
 impl Base {
     /// All cells are alike.
     pub(crate) fn alike(cell: Cell) -> Base
-        ensures { (f : ℕ) → unlisted result f ≡ Value.Fixed cell }
+        ensures cells { (f : ℕ) → unlisted result f ≡ Value.Fixed cell }
+        ensures touched { (p f : ℕ) → rest_untouched result p f ≡ false }
     {
         Base {
             others: Others::Alike(cell),
             closed_from: None,
+            own: false,
         }
     }
 
-    /// The cells of a process, handed on so.
+    /// The cells that were handed on so from a process.
     pub(crate) fn of(pid: Pid, passing: Passing) -> Base
-        ensures { (f : ℕ) → unlisted result f ≡ Value.Of pid f (passing_op passing) }
+        ensures cells { (f : ℕ) → unlisted result f ≡ Value.Of pid f (passing_op passing) }
+        ensures touched { (p f : ℕ) → rest_untouched result p f ≡ false }
     {
         Base {
             others: Others::Of(pid, passing),
             closed_from: None,
+            own: false,
         }
     }
 
-    /// The cells of a process, those from this descriptor up closed.
+    /// A process's own cells, which no line touched.
+    pub(crate) fn own(pid: Pid) -> Base
+        ensures cells { (f : ℕ) → unlisted result f ≡ Value.Of pid f same }
+        ensures untouched { (p f : ℕ) → rest_untouched result p f ≡ (pid == p) }
+    {
+        Base {
+            others: Others::Of(pid, Passing::Same),
+            closed_from: None,
+            own: true,
+        }
+    }
+
+    /// A process's own cells, those from this descriptor up closed.
     pub(crate) fn closed_from(pid: Pid, fd: Fd) -> Base
-        ensures { (f : ℕ) → unlisted result f ≡ (if nat_le fd f then Value.Fixed Cell.Closed else Value.Of pid f same) }
+        ensures cells { (f : ℕ)
+            → unlisted result f ≡ (if nat_le fd f then Value.Fixed Cell.Closed else Value.Of pid f same) }
+        ensures untouched { (p f : ℕ) → rest_untouched result p f ≡ (pid == p && not (nat_le fd f)) }
     {
         Base {
             others: Others::Of(pid, Passing::Same),
             closed_from: Some(fd),
+            own: true,
         }
+    }
+
+    /// Whether the cells that are neither listed nor closed are those of the process with this pid, untouched.
+    pub(crate) fn is_own(&self, pid: Pid) -> bool
+        ensures { result ≡ (self.now.own && are_of self.now.others pid) }
+    {
+        match &self.others {
+            Others::Of(source, _) => self.own && *source == pid,
+            Others::Alike(_) => false,
+        }
+    }
+
+    /// The same where this base stands behind that of the process.
+    pub(crate) fn stays_own(&self, pid: Pid, first: &Base) -> bool
+        ensures { result ≡ (self.now.own && (first.now.own && are_of first.now.others pid)) }
+    {
+        self.own && first.is_own(pid)
+    }
+
+    /// Whether no line touched a cell of the process with this pid that isn't listed. No is a safe answer.
+    pub(crate) fn is_untouched(&self, pid: Pid, fd: Fd) -> bool
+        ensures { result ≡ rest_untouched self.now pid fd }
+    {
+        self.is_own(pid) && !is_closed(self.closed_from, fd)
     }
 
     /// Whether the cells are those of another process.

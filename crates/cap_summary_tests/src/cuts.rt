@@ -11,7 +11,11 @@ use std::process::Abort;
 use std::rc::Rc;
 use std::test::Fail;
 
-fn steps_of(alloc: Global, profile: Profile, trace: &[u8]) -> Result<Vec<Rc<Step>>, Fail> {
+pub(crate) fn steps_of(
+    alloc: Global,
+    profile: Profile,
+    trace: &[u8],
+) -> Result<Vec<Rc<Step>>, Fail> {
     let mut steps = Vec::new(alloc);
     for text in trace.split(|byte| *byte == b'\n') {
         if !text.is_empty() {
@@ -36,7 +40,11 @@ fn tree_of(alloc: Global, steps: &[Rc<Step>]) -> Result<Tree<Summary>, NoMemory>
 }
 
 /// The summary of a trace that is cut in two at a place.
-fn joined_at(alloc: Global, steps: &[Rc<Step>], place: usize) -> Result<Summary, NoMemory> {
+pub(crate) fn joined_at(
+    alloc: Global,
+    steps: &[Rc<Step>],
+    place: usize,
+) -> Result<Summary, NoMemory> {
     let (front, back) = steps.split_at(place.min(steps.len()));
     let front = tree_of(alloc, front)?;
     let back = tree_of(alloc, back)?;

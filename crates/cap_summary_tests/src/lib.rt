@@ -4,4 +4,6 @@
 #[cfg(test)]
 mod cuts;
 #[cfg(test)]
+mod explaining;
+#[cfg(test)]
 mod rows;

@@ -18,7 +18,7 @@ use std::marker::Model;
 use std::rc::Rc;
 
 /// The most items that a leaf holds.
-const LEAF_ITEMS: usize = 32;
+const LEAF_ITEMS: usize = 48;
 
 #[cycle(node)]
 #[derive(Drop)]
@@ -532,7 +532,7 @@ impl<S: Segment> Node<S> {
         Node::leaves(alloc, meter, run)
     }
 
-    /// The leaf that holds a run, or a branch over two where the run has an item too many.
+    /// The leaf that holds a run, or a branch over its halves where the run has an item too many.
     fn leaves(
         alloc: Global,
         meter: &mut Meter,
@@ -547,10 +547,12 @@ impl<S: Segment> Node<S> {
         ensures joins { meter.new < meter.old + vec_len run }
     {
         if run.len() <= LEAF_ITEMS {
-            Node::leaf(alloc, meter, run)
-        } else {
-            Node::build(alloc, meter, run.as_slice())
+            return Node::leaf(alloc, meter, run);
         }
+        let (front, back) = run.as_slice().split_at(run.len() / 2);
+        let left = Node::leaf(alloc, meter, run::shared(alloc, front)?)?;
+        let right = Node::leaf(alloc, meter, run::shared(alloc, back)?)?;
+        Node::branch(alloc, meter, left, right)
     }
 
     /// The item at the place.
@@ -679,7 +681,20 @@ impl<S: Segment> Node<S> {
         }
     }
 
-    /// A node of these items, whose leaves are at least half full where there are two or more.
+    /// Where a list of so many items is cut, so that each leaf but the last can be full, and half of the leaves or one more
+    /// than that stand before the cut.
+    fn cut(count: usize) -> usize
+        requires long { LEAF_ITEMS < count }
+        requires few { count ≤ 2 ^ 30 }
+        ensures whole_leaves { result ≡ LEAF_ITEMS * (result / LEAF_ITEMS) }
+        ensures within { result < count }
+        ensures not_below_half { count ≤ 2 * result }
+        ensures near_half { 2 * result < count + 2 * LEAF_ITEMS }
+    {
+        ((count - 1) / (2 * LEAF_ITEMS) + 1) * LEAF_ITEMS
+    }
+
+    /// A node of these items, whose leaves are full but for the last.
     pub(crate) fn build(
         alloc: Global,
         meter: &mut Meter,
@@ -698,7 +713,7 @@ impl<S: Segment> Node<S> {
             let run = run::shared(alloc, list)?;
             return Node::leaf(alloc, meter, run);
         }
-        let (front, back) = list.split_at(list.len() / 2);
+        let (front, back) = list.split_at(Node::<S>::cut(list.len()));
         let left = Node::build(alloc, meter, front)?;
         let right = Node::build(alloc, meter, back)?;
         Node::branch(alloc, meter, left, right)

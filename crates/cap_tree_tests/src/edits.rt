@@ -5,11 +5,11 @@ use std::alloc::Global;
 use std::rc::Rc;
 
 /// How many items a tree begins with: four full leaves.
-pub const FIRST: u32 = 128;
+pub const FIRST: u32 = 192;
 /// How many edits take such a tree to none.
-pub const TURNS: u32 = 293;
+pub const TURNS: u32 = 437;
 /// Near an end, and after the middle of a first leaf: the leaf that splits again is the outer or the inner one.
-pub const PLACES: [usize; 2] = [8, 24];
+pub const PLACES: [usize; 2] = [12, 36];
 
 #[derive(Drop)]
 pub enum Edit {
@@ -18,13 +18,13 @@ pub enum Edit {
     Remove(usize),
 }
 
-/// 40 inserts at the place from the left, 40 from the right, 5 replaces, and then removes.
+/// 60 inserts at the place from the left, 60 from the right, 5 replaces, and then removes.
 pub fn edit_at(turn: u32, place: usize, len: usize) -> Edit {
-    if turn < 40 {
+    if turn < 60 {
         Edit::Insert(place)
-    } else if turn < 80 {
+    } else if turn < 120 {
         Edit::Insert(len.saturating_sub(place))
-    } else if turn < 85 {
+    } else if turn < 125 {
         Edit::Replace(len / 3 + turn as usize % 7)
     } else {
         Edit::Remove(len / 3 * 2)

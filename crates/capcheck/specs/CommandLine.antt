@@ -33,6 +33,18 @@ abbrev pub edit_words : App
 edit_words = with_rule (with_rule (with_rule (new_app (codes "edit")) needed_trace_rule) script_rule)
     profile_rule
 
+-- the position of a line
+abbrev pub position_rule : Rule
+position_rule = record (new_rule (codes "position")) { value_names = 1; required = true }
+
+-- explain FILE K
+abbrev pub explain_line_words : App
+explain_line_words = with_rule (with_rule (new_app (codes "explain")) needed_trace_rule) position_rule
+
+-- the same, with --start and --profile
+abbrev pub explain_words : App
+explain_words = with_rule (with_rule explain_line_words start_rule) profile_rule
+
 -- the first word names a command, and there are --help and --version
 abbrev pub bare_words : App
 bare_words = on_top (λ s. record s {
@@ -43,4 +55,5 @@ bare_words = on_top (λ s. record s {
 }) (new_app (codes "capcheck"))
 
 abbrev pub capcheck : App
-capcheck = with_subcommand (with_subcommand bare_words check_words.top) edit_words.top
+capcheck =
+    with_subcommand (with_subcommand (with_subcommand bare_words check_words.top) edit_words.top) explain_words.top

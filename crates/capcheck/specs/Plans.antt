@@ -1,6 +1,6 @@
 -- What the words of the command line ask for, said by `clap`'s own functions: which words ask for which run, which
 -- for help, and which are a mistake. `Fits` is the contract of `plan_of`.
-use Rattle.std.specs.Prelude.{◌≡◌, ◌⊎◌, List, [], Option, Some, None, codes, option_map}
+use Rattle.std.specs.Prelude.{◌≡◌, ◌⊎◌, ℕ, List, [], Option, Some, None, codes, option_map}
 use Rattle.std.specs.Prelude.{option_and_then, if◌then◌else◌}
 use Rattle.std.specs.Str.{bytes_eq}
 use Rattle.std.specs.Borrow.{Bor}
@@ -11,12 +11,15 @@ use Rattle.capcheck.specs.CommandLine.{capcheck}
 use Rattle.capcheck.specs.declared.plan.Plan.{Plan}
 use Rattle.cap_machine.specs.declared.cell.Profile.{Profile}
 use Rattle.cap_machine.specs.declared.cell.Profile.TheVariants.{One, Two}
-use Rattle.capcheck.specs.declared.plan.Plan.TheVariants.{Check, Edit, Help, Usage, Memory}
+use Rattle.cap_session.specs.Commands.{position}
+use Rattle.capcheck.specs.declared.plan.Plan.TheVariants.{Check, Edit, Explain, Help, Usage, Memory}
 
--- a run of the program, with the names that it was given: a trace, what is known before it, a script
+-- a run of the program, with the names that it was given: a trace, what is known before it, a script; of an explanation
+-- the trace, the position of the line, and what is known before the trace
 pub data Run : Type 0 where
   checks : Option Text → Option Text → Profile → Run
   edits : Text → Option Text → Profile → Run
+  explains : Text → ℕ → Option Text → Profile → Run
 
 -- the profile of the value of `--profile`, and 1 where it isn't given
 abbrev pub profile_named : Text → Option Profile
@@ -40,10 +43,20 @@ edit_among rows = option_and_then (λ trace. option_map (λ profile.
     edits trace (first_of (codes "script") rows) profile) (profile_among rows))
     (first_of (codes "trace") rows)
 
+-- the line that is to be explained, spelled as the positions of a script
+abbrev pub position_among : List Row → Option ℕ
+position_among rows = option_and_then position (first_of (codes "position") rows)
+
+abbrev pub explain_among : List Row → Option Run
+explain_among rows = option_and_then (λ trace. option_and_then (λ k. option_map (λ profile.
+    explains trace k (first_of (codes "start") rows) profile) (profile_among rows)) (position_among rows))
+    (first_of (codes "trace") rows)
+
 -- the run that a command and the values of its arguments name
 abbrev pub run_in : Text × List Row → Option Run
 run_in found = if bytes_eq found.0 (codes "check") then check_among found.1
-    else (if bytes_eq found.0 (codes "edit") then edit_among found.1 else None)
+    else (if bytes_eq found.0 (codes "edit") then edit_among found.1
+    else (if bytes_eq found.0 (codes "explain") then explain_among found.1 else None))
 
 -- the run that the words name by `clap`'s matches
 abbrev pub run_asked : List Text → Option Run
@@ -65,7 +78,7 @@ abbrev pub Mistakes : Kinds → Type 0
 Mistakes kinds = (k : ErrorKind) × IsAmong k kinds × (IsRequest k → ⊥)
 
 -- The words are a mistake: `clap` finds one in them, or it finds no fault and they name no run,
--- as where the profile is neither 1 nor 2.
+-- as where the profile is neither 1 nor 2, or the position is no number.
 abbrev pub IsMistake : List Text → Type 0
 IsMistake words = Mistakes (fault_of capcheck words)
     ⊎ ((fault_of capcheck words ≡ []) × (run_asked words ≡ None))
@@ -77,6 +90,7 @@ seen = option_map (λ text. text.now)
 abbrev pub Fits : List Text → Plan → Type 0
 Fits words (Check trace start profile) = NamesRun words (checks (seen trace) (seen start) profile)
 Fits words (Edit trace script profile) = NamesRun words (edits trace.now (seen script) profile)
+Fits words (Explain trace position start profile) = NamesRun words (explains trace.now position (seen start) profile)
 Fits words (Help text) = Requests (fault_of capcheck words)
 Fits words (Usage text) = IsMistake words
 Fits words Memory = Unit {0}
@@ -87,6 +101,7 @@ Fits words Memory = Unit {0}
 abbrev pub run_of : Plan → Option Run
 run_of (Check trace start profile) = Some (checks (seen trace) (seen start) profile)
 run_of (Edit trace script profile) = Some (edits trace.now (seen script) profile)
+run_of (Explain trace position start profile) = Some (explains trace.now position (seen start) profile)
 run_of (Help text) = None
 run_of (Usage text) = None
 run_of Memory = None
@@ -95,6 +110,7 @@ run_of Memory = None
 abbrev pub TellsKind : ErrorKind → Plan → Type 0
 TellsKind k (Check trace start profile) = ⊥
 TellsKind k (Edit trace script profile) = ⊥
+TellsKind k (Explain trace position start profile) = ⊥
 TellsKind k (Help text) = IsRequest k
 TellsKind k (Usage text) = (k ≡ kind.OutOfMemory → ⊥) × (IsRequest k → ⊥)
 TellsKind k Memory = Unit {0}
@@ -103,6 +119,7 @@ TellsKind k Memory = Unit {0}
 abbrev pub TellsMistake : Plan → Type 0
 TellsMistake (Check trace start profile) = ⊥
 TellsMistake (Edit trace script profile) = ⊥
+TellsMistake (Explain trace position start profile) = ⊥
 TellsMistake (Help text) = ⊥
 TellsMistake (Usage text) = Unit {0}
 TellsMistake Memory = Unit {0}

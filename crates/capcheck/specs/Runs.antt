@@ -10,13 +10,16 @@ use Rattle.cap_session.specs.Devices.{SourceState, SinkState}
 use Rattle.cap_session.specs.Streams.{Streams}
 use Rattle.cap_session.specs.StartStreams.{StartStreams}
 use Rattle.cap_session.specs.EditStreams.{EditStreams}
-use Rattle.cap_session.specs.Outcome.{status_of}
+use Rattle.cap_session.specs.ExplainStreams.{ExplainStreams, ExplainStartStreams}
+use Rattle.cap_session.specs.Outcome.{status_of, explain_status_of}
 use Rattle.cap_session.specs.declared.outcome.Outcome.{Outcome}
 use Rattle.cap_session.specs.declared.outcome.Outcome.TheVariants.{ReadFault}
+use Rattle.cap_session.specs.declared.outcome.ExplainOutcome.{ExplainOutcome}
+use Rattle.cap_session.specs.declared.outcome.ExplainOutcome.TheVariants.{Ended}
 use Rattle.capcheck.specs.Texts.{Known, Gives, MayFail}
 use Rattle.capcheck.specs.Plans.{Fits, seen}
 use Rattle.capcheck.specs.declared.plan.Plan.{Plan}
-use Rattle.capcheck.specs.declared.plan.Plan.TheVariants.{Check, Edit, Help, Usage, Memory}
+use Rattle.capcheck.specs.declared.plan.Plan.TheVariants.{Check, Edit, Explain, Help, Usage, Memory}
 
 -- how often each text may be read
 abbrev pub turns : ℕ
@@ -57,6 +60,25 @@ pub record Edits (profile : Profile) (trace script : Known) (w0 w1 : SinkState) 
   pub script_text : Gives script s0.bytes
   pub stream : EditStreams profile turns r0 r1 s0 s1 w0 w1 outcome
 
+-- a trace was opened and read, and line k of it explained, from the usual start
+pub record Explains (profile : Profile) (k : ℕ) (trace : Known) (w0 w1 : SinkState) (outcome : ExplainOutcome) :
+    Type 0 where
+  pub r0 : SourceState
+  pub r1 : SourceState
+  pub text : Gives trace r0.bytes
+  pub stream : ExplainStreams profile usual turns k r0 r1 w0 w1 outcome
+
+-- a start and a trace were opened, and line k of the trace was explained from that start
+pub record ExplainsFrom (profile : Profile) (k : ℕ) (start trace : Known) (w0 w1 : SinkState)
+    (outcome : ExplainOutcome) : Type 0 where
+  pub z0 : SourceState
+  pub z1 : SourceState
+  pub r0 : SourceState
+  pub r1 : SourceState
+  pub start_text : Gives start z0.bytes
+  pub text : Gives trace r0.bytes
+  pub stream : ExplainStartStreams profile turns k z0 z1 r0 r1 w0 w1 outcome
+
 abbrev pub ChecksText : Profile → Option Known → Known → SinkState → SinkState → Outcome → Type 0
 ChecksText profile None trace w0 w1 outcome =
     Unopened (MayFail trace) w0 w1 outcome ⊎ Checks profile trace w0 w1 outcome
@@ -69,6 +91,17 @@ EditsText profile trace script w0 w1 outcome =
     Unopened (MayFail trace ⊎ MayFail script) w0 w1 outcome
     ⊎ Edits profile trace script w0 w1 outcome
 
+-- a text can't be opened, and nothing was written
+abbrev pub Unexplained : Type 0 → SinkState → SinkState → ExplainOutcome → Type 0
+Unexplained may_fail w0 w1 outcome = (o : Outcome) × Unopened may_fail w0 w1 o × (outcome ≡ Ended o)
+
+abbrev pub ExplainsText : Profile → ℕ → Option Known → Known → SinkState → SinkState → ExplainOutcome → Type 0
+ExplainsText profile k None trace w0 w1 outcome =
+    Unexplained (MayFail trace) w0 w1 outcome ⊎ Explains profile k trace w0 w1 outcome
+ExplainsText profile k (Some start) trace w0 w1 outcome =
+    Unexplained (MayFail start ⊎ MayFail trace) w0 w1 outcome
+    ⊎ ExplainsFrom profile k start trace w0 w1 outcome
+
 -- what is known of the start of this name, where one is named
 abbrev pub known_start : (Option Text → Known) → Option (Bor Text) → Option Known
 known_start known = option_map (λ name. known (Some name.now))
@@ -77,12 +110,17 @@ known_start known = option_map (λ name. known (Some name.now))
 abbrev pub StatusBy : (Outcome → Type 0) → ℕ → Type 0
 StatusBy P status = (outcome : Outcome) × P outcome × (status ≡ status_of outcome)
 
+abbrev pub ExplainStatusBy : (ExplainOutcome → Type 0) → ℕ → Type 0
+ExplainStatusBy P status = (outcome : ExplainOutcome) × P outcome × (status ≡ explain_status_of outcome)
+
 -- A plan was carried out, where this is known of the texts of names.
 abbrev pub CarriesOut : (Option Text → Known) → SinkState → SinkState → Plan → ℕ → Type 0
 CarriesOut known w0 w1 (Check trace start profile) status =
     StatusBy (ChecksText profile (known_start known start) (known (seen trace)) w0 w1) status
 CarriesOut known w0 w1 (Edit trace script profile) status =
     StatusBy (EditsText profile (known (Some trace.now)) (known (seen script)) w0 w1) status
+CarriesOut known w0 w1 (Explain trace position start profile) status =
+    ExplainStatusBy (ExplainsText profile position (known_start known start) (known (Some trace.now)) w0 w1) status
 -- 3 where it can't be printed
 CarriesOut known w0 w1 (Help text) status = (w1 ≡ w0) × ((status ≡ 0) ⊎ (status ≡ 3))
 CarriesOut known w0 w1 (Usage text) status = (w1 ≡ w0) × (status ≡ 2)

@@ -18,8 +18,9 @@ Exit status:
 Examples:
   capcheck check server.trace
   capcheck edit server.trace session.script
+  capcheck explain server.trace 9
 
-`capcheck check --help` and `capcheck edit --help` say more.";
+`capcheck check --help`, `capcheck edit --help` and `capcheck explain --help` say more.";
 
 /// The end of `capcheck check --help`.
 pub const CHECK: &str = "\
@@ -97,3 +98,35 @@ Exit status:
 
 Example:
   printf 'delete 2\\nreport\\n' | capcheck edit server.trace";
+
+/// The end of `capcheck explain --help`.
+pub const EXPLAIN: &str = "\
+Reads the trace, and prints line K, its findings, and the lines that they rest on:
+  9 201 shutdown(4) RET 0
+  missing 4 CAP_SHUTDOWN
+  4 4 201 cap_rights_limit(4,CAP_READ|CAP_WRITE) RET 0
+  4 3 200 fork() RET 201
+  4 2 200 accept(3) RET 4
+After the findings comes each descriptor that the line checks, with the lines that
+its rights come from, newest first: the descriptor, a position, and the line there.
+Here process 201 limited descriptor 4 at line 4, has it from the fork of its parent
+at line 3, and its parent made it at line 2. `mode` in place of the descriptor stands
+for capability mode, where it can matter. Where these lines lead back to what was
+known before the trace, the last says so: `4 start unknown`, `mode start unsure`.
+A line without findings is explained alike.
+
+A trace or a start with a line that can't be read is refused as by `check`. Where
+the trace has no line K, that is refused:
+  refused E7
+The start and the profiles are those of `check`.
+
+Exit status:
+  0  the line has no finding
+  1  it has some
+  2  the command line is wrong, a line was refused, or there is no line K
+  3  no answer: memory ran out (E9), a file can't be opened or read (E11),
+     standard output can't be written (E12), or an input has no end (E13)
+
+Examples:
+  capcheck explain server.trace 9
+  capcheck explain --profile 2 --start server.start server.trace 9";

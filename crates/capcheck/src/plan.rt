@@ -1,4 +1,5 @@
-//! What the words of the command line ask for: a check, an edit, help, or nothing, where they are a mistake.
+//! What the words of the command line ask for: a check, an edit, an explanation, help, or nothing, where they are a
+//! mistake.
 //!
 //! `clap` reads the words. [`plan_of`] makes a [`Plan`] of its matches or of its error.
 ghost use Rattle.std.specs.Prelude.{◌≡◌, IfOk, IsTrue, Some, ◌↔◌, map, option_and_then, option_map};
@@ -6,16 +7,21 @@ ghost use Rattle.clap.specs.Words.{FailsBy, fault_of, first_of, found_of, kind_o
 ghost use Rattle.clap.specs.Words.{subcommand_rows_of};
 ghost use Rattle.capcheck.specs.CommandLine.{capcheck};
 ghost use Rattle.capcheck.specs.Plans.{Fits, IsRequest, TellsKind, TellsMistake, check_among, edit_among};
-ghost use Rattle.capcheck.specs.Plans.{profile_among, profile_named, run_in, run_of, seen};
+ghost use Rattle.capcheck.specs.Plans.{explain_among, position_among, profile_among, profile_named, run_in, run_of};
+ghost use Rattle.capcheck.specs.Plans.{seen};
 
 use crate::words::command;
 use cap_machine::Profile;
+use cap_session::number_of;
 use clap::error::ErrorKind;
 use clap::{ArgMatches, Error};
 use std::alloc::{AllocError, Global};
 
 /// What standard error says of a profile that is neither 1 nor 2.
 const NO_PROFILE: &str = "the profile is 1 or 2";
+
+/// What standard error says of a position that is no number, or isn't spelled as one.
+const NO_POSITION: &str = "the position is a number of 1 to 19 digits, without a leading zero";
 
 /// What the program is to do.
 #[derive(Debug, PartialEq, Drop)]
@@ -32,6 +38,13 @@ pub enum Plan<'a> {
         script: Option<&'a str>,
         profile: Profile,
     },
+    /// Explain the line at this position of the trace of this name, from the start of this name, or the usual one.
+    Explain {
+        trace: &'a str,
+        position: usize,
+        start: Option<&'a str>,
+        profile: Profile,
+    },
     /// Print this text, help or the version, which was asked for.
     Help(String),
     /// Print this text: the words are a mistake.
@@ -42,17 +55,18 @@ pub enum Plan<'a> {
 
 /// What the words after the program's name ask for.
 ///
-/// - `Check` and `Edit`: only where `clap` finds no fault in the words, and with just the names, the options and the
-///   profile that its matches give. The profile is 1 where the words name none.
+/// - `Check`, `Edit` and `Explain`: only where `clap` finds no fault in the words, and with just the names, the options,
+///   the position and the profile that its matches give. The profile is 1 where the words name none.
 /// - `Help`: only where they ask for help or for the version.
-/// - `Usage`: only where they are a mistake. `clap` finds it, or the profile is neither 1 nor 2.
+/// - `Usage`: only where they are a mistake. `clap` finds it, or the profile is neither 1 nor 2, or the position is no
+///   number as a script spells it.
 pub fn plan_of<'a>(alloc: Global, words: &'a [&'a str]) -> Plan<'a>
     ensures { Fits (map (λ w. w.now) words.entry.now) result }
 {
     match matches_of(alloc, words) {
         Ok(matches) => match plan_in(&matches) {
             Some(plan) => plan,
-            None => no_run(alloc),
+            None => no_run(alloc, &matches),
         },
         Err(error) => answered(alloc, &error),
     }
@@ -82,6 +96,7 @@ fn plan_named<'a>(name: &str, found: &ArgMatches<'a>) -> Option<Plan<'a>>
     match name {
         "check" => check_in(found),
         "edit" => edit_in(found),
+        "explain" => explain_in(found),
         _ => None,
     }
 }
@@ -109,6 +124,30 @@ fn edit_in<'a>(found: &ArgMatches<'a>) -> Option<Plan<'a>>
         script: value(found, "script"),
         profile,
     })
+}
+
+/// The plan of the arguments of `explain`.
+fn explain_in<'a>(found: &ArgMatches<'a>) -> Option<Plan<'a>>
+    ensures { option_map run_of result ≡ option_map Some (explain_among (rows_of (found_of found.now))) }
+{
+    let trace = value(found, "trace")?;
+    let position = position_in(found)?;
+    let start = value(found, "start");
+    let profile = profile_in(found)?;
+    Some(Plan::Explain {
+        trace,
+        position,
+        start,
+        profile,
+    })
+}
+
+/// The position that the arguments name.
+fn position_in(found: &ArgMatches<'_>) -> Option<usize>
+    ensures { result ≡ position_among (rows_of (found_of found.now)) }
+{
+    let word = value(found, "position")?;
+    number_of(word.as_bytes())
 }
 
 /// The profile that the arguments name.
@@ -154,13 +193,22 @@ fn answered<'a>(alloc: Global, error: &Error) -> Plan<'a>
     }
 }
 
-/// The answer to words in which `clap` finds no fault, and that name no run: the profile is neither 1 nor 2.
-fn no_run<'a>(alloc: Global) -> Plan<'a>
+/// The answer to words in which `clap` finds no fault, and that name no run: the profile is neither 1 nor 2, or the
+/// position is no number.
+fn no_run<'a>(alloc: Global, matches: &ArgMatches<'_>) -> Plan<'a>
     ensures { TellsMistake result }
 {
-    match usage_text(alloc, NO_PROFILE) {
+    match usage_text(alloc, mistake_in(matches)) {
         Ok(text) => Plan::Usage(text),
         Err(_) => Plan::Memory,
+    }
+}
+
+/// What is wrong with such words.
+fn mistake_in(matches: &ArgMatches<'_>) -> &'static str {
+    match matches.subcommand() {
+        Some(("explain", found)) if position_in(found).is_none() => NO_POSITION,
+        _ => NO_PROFILE,
     }
 }
 

@@ -1,19 +1,22 @@
-//! What the program does with its words: it opens the texts, makes the check or the edit, says on standard error why
+//! What the program does with its words: it opens the texts, makes the check, the edit or the explanation, says on standard error why
 //! there is no answer, and ends with the exit status.
 //!
 //! [`run`] takes words and devices from the runtime. [`answer`] is all the rest, over any texts and any output.
 
 ghost use Rattle.std.specs.Prelude.{◌≡◌, ◌≤◌, None, Some, map};
 ghost use Rattle.std.specs.Option.{option_map};
-ghost use Rattle.cap_session.specs.Outcome.{status_of};
+ghost use Rattle.cap_session.specs.Outcome.{status_of, explain_status_of};
 ghost use Rattle.capcheck.specs.Faults.{fault_code};
 ghost use Rattle.capcheck.specs.Plans.{seen};
-ghost use Rattle.capcheck.specs.Runs.{Finishes, CarriesOut, ChecksText, EditsText, known_start};
+ghost use Rattle.capcheck.specs.Runs.{Finishes, CarriesOut, ChecksText, EditsText, ExplainsText, known_start};
 
 use crate::plan::{Plan, plan_of};
 use crate::texts::{SystemTexts, Texts};
 use cap_machine::Profile;
-use cap_session::{Counted, Outcome, Sink, check_stream_as, check_stream_from_as, edit_stream_as};
+use cap_session::{
+    Counted, ExplainOutcome, Outcome, Sink, check_stream_as, check_stream_from_as, edit_stream_as,
+    explain_stream_as, explain_stream_from_as,
+};
 use std::alloc::Global;
 use std::rt::{Env, Files};
 use std::{env, io};
@@ -102,6 +105,15 @@ fn carry_out<T: Texts, W: Sink, R: Print + Eprint + AllocGlobal>(
         } => {
             let outcome = edit(rt.alloc(), texts, output, profile, trace, script);
             ended(rt, outcome)
+        }
+        Plan::Explain {
+            trace,
+            position,
+            start,
+            profile,
+        } => {
+            let outcome = explain(rt.alloc(), texts, output, profile, start, trace, position);
+            ended_explaining(rt, outcome)
         }
         Plan::Help(text) => match rt.print(text) {
             Ok(()) => 0,
@@ -198,6 +210,71 @@ pub fn edit<T: Texts, W: Sink>(
     edit_stream_as(alloc, profile, TURNS, &mut trace, &mut script, replies)
 }
 
+/// Explains a line of the trace of this name in a profile, from the start of this name or from the usual one, and
+/// writes that, or why there is no explanation. The start is opened first, and both are opened before either is read.
+pub fn explain<T: Texts, W: Sink>(
+    alloc: Global,
+    texts: &T,
+    output: &mut W,
+    profile: Profile,
+    start: Option<&str>,
+    trace: &str,
+    position: usize,
+) -> ExplainOutcome
+    requires { 1 ≤ (W.state output.old).room }
+    ensures { ExplainsText profile position (known_start (T.known texts.now) start.entry)
+        (T.known texts.now (Some trace.now)) (W.state output.old) (W.state output.new) result }
+{
+    match start {
+        None => explain_usual(alloc, texts, output, profile, trace, position),
+        Some(start) => explain_from(alloc, texts, output, profile, start, trace, position),
+    }
+}
+
+/// Explains a line of the trace of this name from the usual start.
+fn explain_usual<T: Texts, W: Sink>(
+    alloc: Global,
+    texts: &T,
+    output: &mut W,
+    profile: Profile,
+    trace: &str,
+    position: usize,
+) -> ExplainOutcome
+    requires { 1 ≤ (W.state output.old).room }
+    ensures { ExplainsText profile position None (T.known texts.now (Some trace.now)) (W.state output.old)
+        (W.state output.new) result }
+{
+    let Ok(mut trace) = texts.open(Some(trace)) else {
+        return ExplainOutcome::Ended(Outcome::ReadFault);
+    };
+    explain_stream_as(alloc, profile, TURNS, position, &mut trace, output)
+}
+
+/// Explains a line of the trace of this name from the start of this name.
+fn explain_from<T: Texts, W: Sink>(
+    alloc: Global,
+    texts: &T,
+    output: &mut W,
+    profile: Profile,
+    start: &str,
+    trace: &str,
+    position: usize,
+) -> ExplainOutcome
+    requires { 1 ≤ (W.state output.old).room }
+    ensures { ExplainsText profile position (Some (T.known texts.now (Some start.now)))
+        (T.known texts.now (Some trace.now)) (W.state output.old) (W.state output.new) result }
+{
+    let Ok(mut start) = texts.open(Some(start)) else {
+        return ExplainOutcome::Ended(Outcome::ReadFault);
+    };
+    let Ok(mut trace) = texts.open(Some(trace)) else {
+        return ExplainOutcome::Ended(Outcome::ReadFault);
+    };
+    explain_stream_from_as(
+        alloc, profile, TURNS, position, &mut start, &mut trace, output,
+    )
+}
+
 /// Prints on standard error what is wrong with the words; whether that can be written doesn't matter.
 fn mistaken<R: Eprint>(rt: &R, text: &str) -> u8
     ensures { result ≡ 2 }
@@ -215,6 +292,17 @@ fn ended<R: Eprint>(rt: &R, outcome: Outcome) -> u8
         let _ = eprintln!(rt; "capcheck: {code}");
     }
     outcome.status()
+}
+
+/// The exit status of a call that explains a line, as [`ended`] has it. Where there is no such line it is that of a
+/// refused one.
+fn ended_explaining<R: Eprint>(rt: &R, how: ExplainOutcome) -> u8
+    ensures { result ≡ explain_status_of how }
+{
+    match how {
+        ExplainOutcome::Ended(outcome) => ended(rt, outcome),
+        ExplainOutcome::OutOfRange => how.status(),
+    }
 }
 
 /// The code for standard error: `E9` for memory, `E11` for a reader, `E12` for the writer and `E13` for an input

@@ -1,11 +1,13 @@
-//! The command line, as `clap` is given it: the two commands and their arguments. The texts of help stand in `help`.
+//! The command line, as `clap` is given it: the three commands and their arguments. The texts of help stand in `help`.
 //!
 //! The contract of [`command`] says that it builds the command line which `specs/CommandLine.antt` has as a value.
 ghost use Rattle.std.specs.Prelude.{◌≡◌, IfOk, false};
 ghost use Rattle.clap.specs.Words.{app_of, rule_of, shape_of};
 ghost use Rattle.clap.specs.declared.builder.command.Command.TheViews.{out-Command};
-ghost use Rattle.capcheck.specs.CommandLine.{bare_words, capcheck, check_words, edit_words, needed_trace_rule};
-ghost use Rattle.capcheck.specs.CommandLine.{profile_rule, script_rule, start_rule, trace_rule};
+ghost use Rattle.capcheck.specs.CommandLine.{bare_words, capcheck, check_words, edit_words, explain_words};
+ghost use Rattle.capcheck.specs.CommandLine.{explain_line_words};
+ghost use Rattle.capcheck.specs.CommandLine.{needed_trace_rule, position_rule, profile_rule, script_rule, start_rule};
+ghost use Rattle.capcheck.specs.CommandLine.{trace_rule};
 
 use crate::help;
 use clap::{Arg, Command};
@@ -17,7 +19,8 @@ pub fn command<'a>(alloc: Global) -> Result<Command<'a>, AllocError>
 {
     bare_command(alloc)?
         .subcommand(check_command(alloc)?)?
-        .subcommand(edit_command(alloc)?)
+        .subcommand(edit_command(alloc)?)?
+        .subcommand(explain_command(alloc)?)
 }
 
 /// The program's own settings, with no command yet.
@@ -111,4 +114,37 @@ fn script_arg<'a>(alloc: Global) -> Arg<'a>
     Arg::new(alloc, "script")
         .value_name("SCRIPT")
         .help("The script; standard input where none is named")
+}
+
+/// `explain FILE K`, with `--start` and `--profile`.
+fn explain_command<'a>(alloc: Global) -> Result<Command<'a>, AllocError>
+    ensures shape { IfOk result (λ c. shape_of c ≡ explain_words.top) }
+    ensures local { IfOk result (λ c. (out-Command c).has_globals ≡ false) }
+{
+    explain_line_command(alloc)?
+        .arg(start_arg(alloc))?
+        .arg(profile_arg(alloc))
+}
+
+/// `explain FILE K`.
+fn explain_line_command<'a>(alloc: Global) -> Result<Command<'a>, AllocError>
+    ensures shape { IfOk result (λ c. shape_of c ≡ explain_line_words.top) }
+    ensures local { IfOk result (λ c. (out-Command c).has_globals ≡ false) }
+{
+    Command::new(alloc, "explain")
+        .about("Shows a line of a trace with its findings, and the lines that they rest on")
+        .after_help(help::EXPLAIN)
+        .arg(needed_trace_arg(alloc))?
+        .arg(position_arg(alloc))
+}
+
+/// The position of `explain`.
+fn position_arg<'a>(alloc: Global) -> Arg<'a>
+    ensures rule { rule_of result ≡ position_rule }
+    ensures local { result.global ≡ false }
+{
+    Arg::new(alloc, "position")
+        .value_name("K")
+        .required(true)
+        .help("The line, counted from 1 without empty lines and comments")
 }

@@ -5,7 +5,7 @@ use crate::help;
 use std::alloc::AllocError;
 use std::test::Fail;
 
-static MISTAKES: [&[&str]; 25] = [
+static MISTAKES: [&[&str]; 36] = [
     &[],
     &[""],
     &["undo"],
@@ -31,9 +31,20 @@ static MISTAKES: [&[&str]; 25] = [
     &["--profile", "2", "check"],
     &["check", "--version"],
     &["--", "check"],
+    &["explain"],
+    &["explain", "t"],
+    &["explain", "t", "x"],
+    &["explain", "t", ""],
+    &["explain", "t", "01"],
+    &["explain", "t", "-1"],
+    &["explain", "t", "10000000000000000000"],
+    &["explain", "t", "1", "2"],
+    &["explain", "t", "1", "--profile", "3"],
+    &["explain", "t", "1", "--start", "a", "--start", "a"],
+    &["--start", "a", "explain", "t", "1"],
 ];
 
-static REQUESTS: [(&[&str], &str); 10] = [
+static REQUESTS: [(&[&str], &str); 12] = [
     (&["--help"], "Usage: capcheck <COMMAND>"),
     (&["-h", "undo"], "Usage: capcheck <COMMAND>"),
     (&["--version"], help::VERSION),
@@ -43,6 +54,8 @@ static REQUESTS: [(&[&str], &str); 10] = [
     (&["check", "trace", "-h"], "capcheck check server.trace"),
     (&["edit", "--help"], "--profile <NUMBER>"),
     (&["edit", "--help"], "<FILE> [SCRIPT]"),
+    (&["explain", "--help"], "<FILE> <K>"),
+    (&["explain", "-h", "t"], "--start <FILE>"),
     (
         &["edit", "-h", "t", "s", "u"],
         "printf 'delete 2\\nreport\\n'",
@@ -123,6 +136,40 @@ static EDITS: [(&[&str], &str, Option<&str>, Profile); 7] = [
     (&["edit", "t", "--profile", "2"], "t", None, Profile::Two),
 ];
 
+/// Words, the trace, the position, the start, and the profile.
+static EXPLANATIONS: [(&[&str], &str, usize, Option<&str>, Profile); 6] = [
+    (&["explain", "t", "9"], "t", 9, None, Profile::One),
+    (&["explain", "t", "0"], "t", 0, None, Profile::One),
+    (
+        &["explain", "9", "9999999999999999999"],
+        "9",
+        9_999_999_999_999_999_999,
+        None,
+        Profile::One,
+    ),
+    (
+        &["explain", "--start", "s", "t", "--profile=2", "10"],
+        "t",
+        10,
+        Some("s"),
+        Profile::Two,
+    ),
+    (
+        &["explain", "t", "1", "--start=s"],
+        "t",
+        1,
+        Some("s"),
+        Profile::One,
+    ),
+    (
+        &["explain", "--profile", "2", "--", "-t", "1"],
+        "-t",
+        1,
+        None,
+        Profile::Two,
+    ),
+];
+
 fn planned<'a>(rt: &HostRuntime, words: &'a [&'a str]) -> Result<Plan<'a>, AllocError> {
     match plan_of(rt.alloc(), words) {
         Plan::Memory => Err(AllocError),
@@ -177,6 +224,37 @@ fn an_edit_has_its_trace_and_its_script(rt: HostRuntime) -> Result<(), Fail> {
             profile: *profile,
         };
         assert_eq!(rt; planned(&rt, words)?, plan, "{words:?}");
+    }
+    Ok(())
+}
+
+#[test]
+fn an_explanation_has_its_trace_and_its_position(rt: HostRuntime) -> Result<(), Fail> {
+    for (words, trace, position, start, profile) in EXPLANATIONS.iter() {
+        let plan = Plan::Explain {
+            trace: *trace,
+            position: *position,
+            start: *start,
+            profile: *profile,
+        };
+        assert_eq!(rt; planned(&rt, words)?, plan, "{words:?}");
+    }
+    Ok(())
+}
+
+#[test]
+fn a_position_that_is_no_number_is_named(rt: HostRuntime) -> Result<(), Fail> {
+    for (words, part) in [
+        (["explain", "t", "x"].as_slice(), "the position is a number"),
+        (
+            ["check", "t", "--profile", "3"].as_slice(),
+            "the profile is 1 or 2",
+        ),
+    ] {
+        let Plan::Usage(text) = planned(&rt, words)? else {
+            return Err("no usage")?;
+        };
+        assert!(rt; text.contains(part), "{words:?}");
     }
     Ok(())
 }

@@ -54,7 +54,7 @@ static TEXTS: [(&str, &[u8]); 8] = [
 ];
 
 /// Words, what stands on standard input, what is written, and the status.
-static RUNS: [(&[&str], &[u8], &str, u8); 20] = [
+static RUNS: [(&[&str], &[u8], &str, u8); 28] = [
     (&["check"], b"", "findings 0\n", 0),
     (&["check"], TRACE, REPORT, 1),
     (&["check", "trace"], b"", REPORT, 1),
@@ -99,6 +99,39 @@ static RUNS: [(&[&str], &[u8], &str, u8); 20] = [
         b"",
         "ok 3\nfindings 0\n",
         0,
+    ),
+    (
+        &["explain", "trace", "3"],
+        b"",
+        "3 100 write(0) RET 5\nmissing 0 CAP_WRITE\n0 2 100 cap_rights_limit(0,CAP_READ) RET 0\n0 1 100 @start(0,3)\n",
+        1,
+    ),
+    (
+        &["explain", "trace", "2"],
+        b"",
+        "2 100 cap_rights_limit(0,CAP_READ) RET 0\n0 1 100 @start(0,3)\n",
+        0,
+    ),
+    (&["explain", "trace", "4"], b"", "refused E7\n", 2),
+    (&["explain", "bad", "1"], b"", "refused E4 line 4\n", 2),
+    (&["explain", "nofile", "1"], TRACE, "", 3),
+    (
+        &["explain", "--start", "start", "write", "1"],
+        b"",
+        "1 100 write(0) RET 1\nmissing 0 CAP_WRITE\n0 start CAP_READ\n",
+        1,
+    ),
+    (
+        &["explain", "--start", "bad-start", "write", "1"],
+        b"",
+        "refused E3 start line 2\n",
+        2,
+    ),
+    (
+        &["explain", "--profile", "2", "exec", "4"],
+        b"",
+        "4 100 read(5) RET 1\nclosed 5\n5 3 100 execve(\"/bin/x\") RET 0\n5 2 100 open(\"a\",O_RDONLY|O_CLOEXEC) RET 5\n",
+        1,
     ),
 ];
 

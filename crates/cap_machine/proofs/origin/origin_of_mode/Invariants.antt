@@ -2,14 +2,15 @@ use Rattle.std.proofs.Common.{◌≡◌, length}
 use Rattle.cap_machine.specs.History.{mode_after}
 use Rattle.cap_machine.specs.Table.{start_state}
 use Rattle.cap_machine.specs.Origin.{mode_chain}
-use Rattle.cap_machine.proofs.Origins.{back, modes_along}
+use Rattle.cap_machine.specs.Walks.{mode_known, mode_found}
+use Rattle.cap_machine.proofs.Origins.{back}
 use Rattle.cap_machine.proofs.origin.origin_of_mode.Given as goal
 
 abbrev pub invariant-loop-line : goal.invariant-loop-line
 invariant-loop-line l = record {
-  mode : mode_after (start_state l.start) (back l.profile l.earlier) l.process
+  mode : mode_known l.walk (start_state l.start) (back l.profile l.earlier)
       ≡ mode_after (start_state l.start) (back l.profile l.fn.lines) l.pid;
-  chain : modes_along l.links.items (mode_chain (start_state l.start) (back l.profile l.earlier) l.process)
+  chain : mode_found l.walk (start_state l.start) (back l.profile l.earlier)
       ≡ mode_chain (start_state l.start) (back l.profile l.fn.lines) l.pid;
 }
 

@@ -1,19 +1,34 @@
 use Rattle.std.proofs.Common.{◌≡◌, Option, Some, sym, ap}
 use Rattle.cap_machine.specs.State.{State}
 use Rattle.cap_summary.specs.declared.change.Process.{Process}
+use Rattle.cap_summary.specs.declared.values.Base.{Base}
 use Rattle.cap_summary.specs.Values.{read_cell, is_from}
 use Rattle.cap_summary.specs.Tables.{listed_value, process_at}
 use Rattle.cap_summary.specs.Changes.{cell_in, changed}
 use Rattle.cap_summary.proofs.Joining.{base_joined}
+use Rattle.cap_summary.proofs.Untouched.{base_untouched}
 use Rattle.cap_summary.proofs.change.Change.base_under.Goals as goal
 
-pub returns-in_ok-cells-in-Some : goal.returns-in_ok-cells-in-Some
-returns-in_ok-cells-in-Some c = λ s f.
+pub returns-in_ok-cells-in-Some-clause-cells : goal.returns-in_ok-cells-in-Some-clause-cells
+returns-in_ok-cells-in-Some-clause-cells c = λ s f.
     let process : Process = c.in-Some.process.now in
     let t : State = changed c.args.self.now s in
     let found : process_at c.args.self.now.processes c.in-Of.pid ≡ Some process = sym c.in-Some.ensures in
     rw c.in-Of.is (base_joined s t c.in-Of.passing c.in-Of.pid f
     (is_from c.args.base.now.closed_from f) (is_from process.base.closed_from f) (is_from c.lower_of.result f)
     (listed_value process.cells f) (listed_value c.in_ok-cells-in-Some.cells f) c.passed.result process.base.others
-    (c.lower_of.ensures f) (c.in_ok-cells-in-Some.ensures f) (c.passed.ensures s f)
+    (c.lower_of.ensures f) (c.in_ok-cells-in-Some.ensures f) (c.passed.ensures.cells s f)
     (ap (λ (o : Option Process). read_cell s (cell_in o c.in-Of.pid f)) found))
+
+pub returns-in_ok-cells-in-Some-clause-untouched : goal.returns-in_ok-cells-in-Some-clause-untouched
+returns-in_ok-cells-in-Some-clause-untouched c = λ p f.
+    let process : Process = c.in-Some.process.now in
+    let new : Base = record {
+      others = c.passed.result;
+      closed_from = c.lower_of.result;
+      own = c.stays_own.result;
+    } in
+    let found : process_at c.args.self.now.processes c.in-Of.pid ≡ Some process = sym c.in-Some.ensures in
+    base_untouched c.args.self.now c.args.base.now new process c.in_ok-cells-in-Some.cells c.in-Of.passing c.in-Of.pid p
+    f found c.in-Of.is c.stays_own.ensures (c.passed.ensures.source p) (c.lower_of.ensures f)
+    (c.in_ok-cells-in-Some.ensures f)

@@ -1,9 +1,13 @@
 use Rattle.cap_summary.proofs.Joining.{process_joined}
+use Rattle.cap_summary.proofs.Untouched.{process_untouched}
 use Rattle.cap_summary.proofs.change.Change.process_under.Goals as goal
 
 pub returns : goal.returns
 returns c = record {
   cells = λ s f. process_joined s c.args.self.now c.in_ok-base.base c.args.process.now f c.in_ok-base.first
-      c.in_ok-cells.cells (c.in_ok-cells.ensures f) (c.in_ok-base.ensures s f);
-  mode = c.mode_under.ensures;
+      c.in_ok-cells.cells (c.in_ok-cells.ensures f) (c.in_ok-base.ensures.cells s f);
+  mode = c.mode_under.ensures.mode;
+  untouched = λ p f. process_untouched c.args.self.now c.in_ok-base.base c.args.process.now c.in_ok-base.first
+      c.in_ok-cells.cells p f (c.in_ok-cells.ensures f) (c.in_ok-base.ensures.untouched p f);
+  unturned = c.mode_under.ensures.unturned;
 }

@@ -5,4 +5,6 @@ returns-then-is_like c = λ yes. record {
   changes = c.is_like-then-is_like.ensures.changes yes;
   listed = c.is_like-then-is_like.ensures.listed yes;
   holds = c.is_like.ensures c.if-is_like.true;
+  untouched = c.is_like-then-is_like.ensures.untouched yes;
+  unturned = c.is_like-then-is_like.ensures.unturned yes;
 }

@@ -1,0 +1,359 @@
+//! Walks back from a cell and from a mode, to the lines that they come from.
+//!
+//! A walk is handed the lines one by one, newest first. Lines that leave the cell, or the mode, that it is at as it was
+//! may be left out ([`walks_may_leave_out`]).
+
+ghost use Rattle.std.specs.Prelude.{◌≡◌, ℕ, ◌+◌, IfOk, OnOk, OnErr, List, [], ◌∷◌, length, true, false};
+ghost use Rattle.cap_machine.specs.Touched.{touch_seen, turn_seen};
+ghost use Rattle.cap_machine.specs.Following.{Follows, FollowsMode};
+ghost use Rattle.cap_machine.specs.Walks.{chain_unless};
+ghost use Rattle.cap_machine.specs.declared.step.Step.{Step};
+ghost use Rattle.cap_machine.specs.Steps.{step};
+ghost use Rattle.cap_machine.specs.State.{State};
+ghost use Rattle.cap_machine.specs.History.{cell_after, mode_after};
+ghost use Rattle.cap_machine.specs.Table.{start_state};
+ghost use Rattle.cap_machine.specs.Passages.{constant, cell_along, links_along};
+ghost use Rattle.cap_machine.specs.Origin.{same_cell, is_idle, cell_at_end, cell_chain, cell_chain_of};
+ghost use Rattle.cap_machine.specs.Origin.{named_turn, mode_chain, mode_chain_of};
+ghost use Rattle.cap_machine.specs.Walks.{cell_pid, cell_fd, cell_known, cell_found, SameCellWalk, CellIsFound};
+ghost use Rattle.cap_machine.specs.Walks.{mode_pid, mode_known, mode_found, SameModeWalk, ModeIsFound};
+ghost use Rattle.cap_machine.specs.Walks.{CellsMayBeLeftOut, ModesMayBeLeftOut};
+
+use crate::cell::{Cell, HeldOp, Mode, Op, Profile};
+use crate::origin::{CellEnd, CellLink, CellOrigin, ModeEnd, ModeLink, ModeOrigin};
+use crate::start::Start;
+use crate::touched::{Touched, Turned, touch_of, turn_of};
+use cap_rights::NoMemory;
+use cap_trace::{Fd, Line, Pid};
+use std::alloc::Global;
+
+/// A line that touched a descriptor, and what it made of the cell that it took.
+#[derive(Clone, Copy)]
+struct Passage {
+    link: CellLink,
+    op: Op,
+    /// Whether it took the cell from itself.
+    from_itself: bool,
+}
+
+/// A walk back from the cell of a descriptor of a process to the lines that it comes from.
+#[derive(Drop)]
+pub struct CellWalk {
+    /// Where it is.
+    pid: Pid,
+    fd: Fd,
+    /// Every line that touched the cell on the way, newest first.
+    passages: Vec<Passage>,
+    /// The cell, where the oldest of them gave it.
+    given: Option<Cell>,
+}
+
+/// A walk back from the mode of a process to the lines that it comes from.
+#[derive(Drop)]
+pub struct ModeWalk {
+    /// Where it is.
+    pid: Pid,
+    /// The lines that the mode rests on, newest first.
+    links: Vec<ModeLink>,
+    /// The mode, where the oldest of them gave it.
+    turned: Option<Mode>,
+}
+
+fn is_same_cell(a: &Cell, b: &Cell) -> bool
+    ensures { result ≡ same_cell a.now b.now }
+{
+    match (a, b) {
+        (Cell::Unknown, Cell::Unknown) | (Cell::Closed, Cell::Closed) => true,
+        (Cell::Held(rights, flag), Cell::Held(others, other)) => rights == others && flag == other,
+        _ => false,
+    }
+}
+
+impl Passage {
+    /// A line that gave this cell.
+    fn giving(link: CellLink, cell: &Cell) -> Passage
+        ensures { result ≡ (record { link = link; op = constant cell.now; from_itself = false }) }
+    {
+        let op = Op {
+            unknown: *cell,
+            closed: *cell,
+            set: HeldOp::Becomes(*cell),
+            clear: HeldOp::Becomes(*cell),
+            unsure: HeldOp::Becomes(*cell),
+        };
+        Passage {
+            link,
+            op,
+            from_itself: false,
+        }
+    }
+
+    /// Whether it left this cell as it was.
+    fn is_idle(&self, before: &Cell) -> bool
+        ensures { result ≡ is_idle self.now.op self.now.from_itself before.now }
+    {
+        self.from_itself && is_same_cell(&self.op.on(*before), before)
+    }
+}
+
+impl CellEnd {
+    /// The cell at the end of the chain.
+    fn cell(&self) -> Cell
+        ensures { result ≡ cell_at_end self.now }
+    {
+        match self {
+            CellEnd::Given(cell) => *cell,
+            CellEnd::Start(_, _, cell) => *cell,
+        }
+    }
+}
+
+/// The cell after these passages, which are given newest first, from the cell before them; and the links of those that
+/// didn't leave the cell as it was.
+fn named_links(
+    alloc: Global,
+    passages: &[Passage],
+    end: &Cell,
+) -> Result<(Cell, Vec<CellLink>), NoMemory>
+    ensures cell { IfOk result (λ found. found.0 ≡ cell_along passages.now end.now) }
+    ensures links { IfOk result (λ found. found.1.items ≡ links_along passages.now end.now) }
+{
+    let mut links = Vec::new(alloc);
+    let mut cell = *end;
+    let mut rest = passages;
+    while let Some((passage, newer)) = rest.split_last() {
+        if !passage.is_idle(&cell) {
+            links.push(passage.link)?;
+        }
+        cell = passage.op.on(cell);
+        rest = newer;
+    }
+    links.reverse();
+    Ok((cell, links))
+}
+
+impl CellWalk {
+    /// A walk that begins at the cell of a descriptor of a process. It takes no memory.
+    #[tactic(auto, unfolding(crate::specs::Walks::cell_known, crate::specs::Walks::cell_found))]
+    pub fn from(alloc: Global, pid: Pid, fd: Fd) -> CellWalk
+        ensures chain { (s : State) (history : List Step) → cell_found result s history ≡ cell_chain s history pid fd }
+        ensures cell { (s : State) (history : List Step) → cell_known result s history ≡ cell_after s history pid fd }
+        ensures pid { cell_pid result ≡ pid }
+        ensures fd { cell_fd result ≡ fd }
+    {
+        let passages = Vec::new(alloc);
+        CellWalk {
+            pid,
+            fd,
+            passages,
+            given: None,
+        }
+    }
+
+    /// The process of the cell that the walk is at.
+    pub fn pid(&self) -> Pid
+        ensures { result ≡ cell_pid self.now }
+    {
+        self.pid
+    }
+
+    /// The descriptor of the cell that the walk is at, by its number in that process.
+    pub fn fd(&self) -> Fd
+        ensures { result ≡ cell_fd self.now }
+    {
+        self.fd
+    }
+
+    /// Whether a line gave the cell: then no older line matters.
+    #[tactic(auto, unfolding(crate::specs::Walks::cell_known, crate::specs::Walks::cell_found))]
+    pub fn has_ended(&self) -> bool
+        ensures ended { result ≡ true → CellIsFound self.now }
+        // Else the chain ends as that of the cell that the walk is at.
+        ensures goes_on { result ≡ false → (s : State) (history : List Step)
+            → (cell_found self.now s history).end ≡ (cell_chain s history (cell_pid self.now) (cell_fd self.now)).end }
+    {
+        self.given.is_some()
+    }
+
+    /// Passes the line before those that it has passed. Lines between them that leave the cell that it is at as it was
+    /// may be left out. `at` is the position of the line, from 1.
+    ///
+    /// `NoMemory` when out of memory; the walk is then as before.
+    pub fn pass(&mut self, at: usize, profile: Profile, line: &Line) -> Result<(), NoMemory>
+        ensures chain { OnOk result ((s : State) (history : List Step) → length history + 1 ≡ at
+            → cell_found self.new s history ≡ cell_found self.old s (step profile line.now ∷ history)) }
+        ensures cell { OnOk result ((s : State) (history : List Step)
+            → cell_known self.new s history ≡ cell_known self.old s (step profile line.now ∷ history)) }
+        ensures unchanged { OnErr result (SameCellWalk self.old self.new) }
+    {
+        match self.given {
+            Some(_) => Ok(()),
+            None => {
+                let touched = touch_of(profile, line, self.pid, self.fd);
+                self.follow(at, line.pid, &touched)
+            }
+        }
+    }
+
+    /// Goes on where a line of process `owner` did this to the cell.
+    fn follow(&mut self, at: usize, owner: Pid, touched: &Touched) -> Result<(), NoMemory>
+        requires { self.old.given ≡ None }
+        ensures follows { OnOk result (Follows self.old self.new at (touch_seen owner touched.now)) }
+        ensures unchanged { OnErr result (SameCellWalk self.old self.new) }
+    {
+        let link = CellLink {
+            at,
+            pid: self.pid,
+            fd: self.fd,
+        };
+        match touched {
+            Touched::Kept => {}
+            Touched::Given(cell) => {
+                self.passages.push(Passage::giving(link, cell))?;
+                self.given = Some(*cell);
+            }
+            Touched::Taken(op, from) => {
+                let op = *op;
+                let from_itself = owner == self.pid && *from == self.fd;
+                self.passages.push(Passage {
+                    link,
+                    op,
+                    from_itself,
+                })?;
+                self.pid = owner;
+                self.fd = *from;
+            }
+        }
+        Ok(())
+    }
+
+    /// How the chain ends when no line is left.
+    fn end(&self, start: &Start) -> CellEnd
+        ensures { result ≡ (chain_unless self.now.given
+            (cell_chain (start_state start.now) [] self.now.pid self.now.fd)).end }
+    {
+        match &self.given {
+            Some(cell) => CellEnd::Given(*cell),
+            None => CellEnd::Start(self.pid, self.fd, start.cell(self.pid, self.fd)),
+        }
+    }
+
+    /// Where the cell comes from, once it has passed every line, but for those that it may leave out.
+    ///
+    /// `NoMemory` when out of memory.
+    pub fn finish(self, alloc: Global, start: &Start) -> Result<CellOrigin, NoMemory>
+        ensures chain { IfOk result (λ origin. cell_chain_of origin ≡ cell_found self (start_state start.now) []) }
+        ensures cell { IfOk result (λ origin. origin.cell ≡ cell_known self (start_state start.now) []) }
+    {
+        let end = self.end(start);
+        let (cell, links) = named_links(alloc, &self.passages, &end.cell())?;
+        Ok(CellOrigin { cell, links, end })
+    }
+}
+
+impl ModeWalk {
+    /// A walk that begins at the mode of a process. It takes no memory.
+    #[tactic(auto, unfolding(crate::specs::Walks::mode_known, crate::specs::Walks::mode_found))]
+    pub fn from(alloc: Global, pid: Pid) -> ModeWalk
+        ensures chain { (s : State) (history : List Step) → mode_found result s history ≡ mode_chain s history pid }
+        ensures mode { (s : State) (history : List Step) → mode_known result s history ≡ mode_after s history pid }
+        ensures pid { mode_pid result ≡ pid }
+    {
+        let links = Vec::new(alloc);
+        ModeWalk {
+            pid,
+            links,
+            turned: None,
+        }
+    }
+
+    /// The process whose mode the walk is at.
+    pub fn pid(&self) -> Pid
+        ensures { result ≡ mode_pid self.now }
+    {
+        self.pid
+    }
+
+    /// Whether a line gave the mode: then no older line matters.
+    #[tactic(auto, unfolding(crate::specs::Walks::mode_known, crate::specs::Walks::mode_found))]
+    pub fn has_ended(&self) -> bool
+        ensures ended { result ≡ true → ModeIsFound self.now }
+        // Else the chain ends as that of the mode that the walk is at.
+        ensures goes_on { result ≡ false → (s : State) (history : List Step)
+            → (mode_found self.now s history).end ≡ (mode_chain s history (mode_pid self.now)).end }
+    {
+        self.turned.is_some()
+    }
+
+    /// Passes the line before those that it has passed. Lines between them that leave the mode that it is at as it was
+    /// may be left out. `at` is the position of the line, from 1.
+    ///
+    /// `NoMemory` when out of memory; the walk is then as before.
+    pub fn pass(&mut self, at: usize, profile: Profile, line: &Line) -> Result<(), NoMemory>
+        ensures chain { OnOk result ((s : State) (history : List Step) → length history + 1 ≡ at
+            → mode_found self.new s history ≡ mode_found self.old s (step profile line.now ∷ history)) }
+        ensures mode { OnOk result ((s : State) (history : List Step)
+            → mode_known self.new s history ≡ mode_known self.old s (step profile line.now ∷ history)) }
+        ensures unchanged { OnErr result (SameModeWalk self.old self.new) }
+    {
+        match self.turned {
+            Some(_) => Ok(()),
+            None => {
+                let turn = turn_of(profile, line, self.pid);
+                self.follow(at, line.pid, turn)
+            }
+        }
+    }
+
+    /// Goes on where a line of process `me` did this to the mode.
+    fn follow(&mut self, at: usize, me: Pid, turn: Turned) -> Result<(), NoMemory>
+        requires { self.old.turned ≡ None }
+        ensures follows { OnOk result
+            (FollowsMode self.old self.new at (named_turn (turn_seen me turn) self.old.pid)) }
+        ensures unchanged { OnErr result (SameModeWalk self.old self.new) }
+    {
+        let link = ModeLink { at, pid: self.pid };
+        match turn {
+            Turned::Stays => {}
+            Turned::Turns(mode) => {
+                self.links.push(link)?;
+                self.turned = Some(mode);
+            }
+            Turned::Follows if me == self.pid => {}
+            Turned::Follows => {
+                self.links.push(link)?;
+                self.pid = me;
+            }
+        }
+        Ok(())
+    }
+
+    /// Where the mode comes from, once it has passed every line, but for those that it may leave out. It takes
+    /// no memory.
+    pub fn finish(self, start: &Start) -> ModeOrigin
+        ensures chain { mode_chain_of result ≡ mode_found self (start_state start.now) [] }
+        ensures mode { result.mode ≡ mode_known self (start_state start.now) [] }
+    {
+        match self.turned {
+            Some(mode) => ModeOrigin {
+                mode,
+                links: self.links,
+                end: ModeEnd::Given(mode),
+            },
+            None => {
+                let mode = start.mode(self.pid);
+                ModeOrigin {
+                    mode,
+                    links: self.links,
+                    end: ModeEnd::Start(self.pid, mode),
+                }
+            }
+        }
+    }
+}
+
+/// A walk finds the same without lines that leave the cell, or the mode, that it is at as it was.
+pub fn walks_may_leave_out()
+    ensures cells { CellsMayBeLeftOut }
+    ensures modes { ModesMayBeLeftOut }
+{}

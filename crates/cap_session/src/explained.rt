@@ -1,0 +1,154 @@
+//! A line that was explained ([`ExplainedLine`]), and the text of that.
+ghost use Rattle.std.specs.Prelude.{◌≡◌, ◌≢◌, ◌++◌, ◌↔◌, ◌⊎◌, map, length, option_map, IfOk, OnOk, OnErr, IsTrue, Ok, Err};
+ghost use Rattle.std.specs.Prelude.{[]};
+ghost use Rattle.std.specs.List.{All};
+ghost use Rattle.cap_machine.specs.Explain.{explained_by};
+ghost use Rattle.cap_machine.specs.Judge.{listed};
+ghost use Rattle.cap_machine.specs.Origin.{cell_chain_of, mode_chain_of};
+ghost use Rattle.cap_machine.specs.Rule.{demand};
+ghost use Rattle.cap_machine.specs.Table.{start_state};
+ghost use Rattle.cap_session.specs.Explained.{CellStands, AnyModeStands, FitsLine};
+ghost use Rattle.cap_session.specs.Explaining.{finding_lines, all_cell_lines, any_mode_lines, explained_text};
+ghost use Rattle.cap_session.specs.Explaining.{explained_line, IsClean};
+
+use crate::chains::{put_cell_origin, put_mode_origin, put_numbered};
+use crate::refused::Refused;
+use crate::session::is_position;
+use crate::trace::Trace;
+use crate::wording::put_found;
+use cap_machine::{
+    CellOrigin, Checks, Explanation, ModeOrigin, NoMemory, Profile, Start, Verdict, explain,
+    rule_of,
+};
+use cap_trace::Line;
+use std::alloc::Global;
+
+/// A line that was explained.
+#[derive(Debug, Drop)]
+pub struct ExplainedLine {
+    /// The line, its findings, and the lines that these rest on; `docs/EXPLAIN.md` says how.
+    pub text: Vec<u8>,
+    /// Whether it has no finding.
+    pub is_clean: bool,
+}
+
+/// Appends a line for each finding.
+fn put_findings(out: &mut Vec<u8>, verdict: &Verdict) -> Result<(), NoMemory>
+    ensures { OnOk result (out.new.items ≡ out.old.items ++ finding_lines verdict.now) }
+{
+    for finding in verdict.as_slice() {
+        put_found(out, finding)?;
+    }
+    Ok(())
+}
+
+/// Appends where the cell of each checked descriptor comes from.
+fn put_cells<T: Trace>(
+    out: &mut Vec<u8>,
+    trace: &T,
+    checks: &Checks,
+    cells: &[CellOrigin],
+) -> Result<(), NoMemory>
+    requires one_each { length cells.now ≡ length (listed checks.now) }
+    requires stand { All (CellStands (length (T.lines trace.now))) (map cell_chain_of cells.now) }
+    ensures { OnOk result (out.new.items ≡ out.old.items
+        ++ all_cell_lines (T.lines trace.now) (listed checks.now) (map cell_chain_of cells.now)) }
+{
+    match checks {
+        Checks::Nothing => {}
+        Checks::One(a) => put_cell_origin(out, trace, a.fd, &cells[0])?,
+        Checks::Two(a, b) => {
+            put_cell_origin(out, trace, a.fd, &cells[0])?;
+            put_cell_origin(out, trace, b.fd, &cells[1])?;
+        }
+    }
+    Ok(())
+}
+
+/// Appends where the mode comes from, where it can matter.
+fn put_mode<T: Trace>(
+    out: &mut Vec<u8>,
+    trace: &T,
+    mode: &Option<ModeOrigin>,
+) -> Result<(), NoMemory>
+    requires { AnyModeStands (length (T.lines trace.now)) (option_map mode_chain_of mode.now) }
+    ensures { OnOk result (out.new.items ≡ out.old.items
+        ++ any_mode_lines (T.lines trace.now) (option_map mode_chain_of mode.now)) }
+{
+    match mode {
+        Some(origin) => put_mode_origin(out, trace, origin),
+        None => Ok(()),
+    }
+}
+
+/// What a line checks.
+fn checks_of(line: &Line) -> Checks
+    ensures { listed result ≡ listed (demand line.now).checks }
+{
+    rule_of(Profile::One, line).demand.checks
+}
+
+/// The text of what the line at a position rests on.
+fn text_of<T: Trace>(
+    alloc: Global,
+    trace: &T,
+    position: usize,
+    explanation: &Explanation,
+) -> Result<Vec<u8>, NoMemory>
+    requires { FitsLine (T.lines trace.now) position (explained_by explanation.now) }
+    ensures { IfOk result
+        (λ text. text.items ≡ explained_text (T.lines trace.now) position (explained_by explanation.now)) }
+{
+    let mut text = Vec::new(alloc);
+    let checks = checks_of(trace.line_at(position));
+    put_numbered(&mut text, trace, position)?;
+    put_findings(&mut text, &explanation.verdict)?;
+    put_cells(&mut text, trace, &checks, explanation.cells.as_slice())?;
+    put_mode(&mut text, trace, &explanation.mode)?;
+    Ok(text)
+}
+
+/// The line at a position with its explanation.
+pub fn line_explained<T: Trace>(
+    alloc: Global,
+    trace: &T,
+    position: usize,
+    explanation: &Explanation,
+) -> Result<ExplainedLine, NoMemory>
+    requires { FitsLine (T.lines trace.now) position (explained_by explanation.now) }
+    ensures text { IfOk result
+        (λ line. line.text.items ≡ explained_text (T.lines trace.now) position (explained_by explanation.now)) }
+    ensures clean { IfOk result (λ line. IsTrue line.is_clean ↔ ((explained_by explanation.now).findings ≡ [])) }
+{
+    let text = text_of(alloc, trace, position, explanation)?;
+    Ok(ExplainedLine {
+        text,
+        is_clean: explanation.verdict.len() == 0,
+    })
+}
+
+/// The line at a position of a list of lines, explained under a start.
+pub fn explain_among(
+    alloc: Global,
+    profile: Profile,
+    start: &Start,
+    lines: &Vec<Line>,
+    position: usize,
+) -> Result<ExplainedLine, Refused>
+    ensures text { IfOk result
+        (λ line. explained_line (start_state start.now) profile lines.now.items position ≡ Ok line.text.items) }
+    ensures clean { IfOk result
+        (λ line. IsTrue line.is_clean ↔ IsClean (start_state start.now) profile lines.now.items position) }
+    ensures position { (result ≡ Err Refused.Position)
+        ↔ (explained_line (start_state start.now) profile lines.now.items position ≡ Err Refused.Position) }
+    ensures only { OnErr result ((result ≡ Err Refused.Position) ⊎ (result ≡ Err Refused.Memory)) }
+{
+    let all = lines.as_slice();
+    if !is_position(position, all.len()) {
+        return Err(Refused::Position);
+    }
+    let Some(explanation) = explain(alloc, profile, start, all, position)? else {
+        return Err(Refused::Position);
+    };
+    Ok(line_explained(alloc, lines, position, &explanation)?)
+}
