@@ -6,6 +6,7 @@
 #                   the examples, worked traces and scripts, random ones beside a second reading of the rules, each allocation
 #                   refused in turn, hostile input, the recorder and the annotator
 #   make examples   the same scripts alone, with ./capcheck
+#   make wrong      the wrong bodies that the gate leaves out (tests/wrong), each of which the prover must refuse: this takes hours
 #   make refusals   each call that takes memory, with each of its allocations refused
 #   make bench      times the program, and reading alone, on traces of a million lines beside `wc -l`, and scripts beside a check;
 #                   where valgrind is installed, counts instructions too
@@ -18,7 +19,7 @@ SOURCES = $(shell find crates -path '*/out' -prune -o -type f -name '*.rt' -prin
 # What runs the built program, each with the program as its argument.
 SCRIPTS = examples/check tests/rows tests/talks tests/memory tests/allocations tests/faults tests/compare tests/recorder tests/annotate
 
-.PHONY: all run test examples refusals bench install clean
+.PHONY: all run test wrong examples refusals bench install clean
 all: capcheck
 
 # `rt run` proves the program and all that it stands on, builds it and runs it, here to tell its version.
@@ -40,6 +41,9 @@ refusals:
 
 test:
 	tests/gate $(SCRIPTS) tests/refusals
+
+wrong:
+	tests/wrong_bodies
 
 bench: capcheck
 	bench/run ./capcheck
