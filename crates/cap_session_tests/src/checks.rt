@@ -3,8 +3,8 @@
 use crate::devices::{Kept, Pieces, ample};
 use cap_session::{
     Counted, Failed, Outcome, Sink, Source, bad_is_refused, beginning_decides, check_stream,
-    each_report_is_of_its_trace, explains_what_is_reported, good_is_reported, pieces_agree, script_leaves_what_edits_give,
-    script_reports_what_edits_give,
+    each_report_is_of_its_trace, explains_what_is_reported, good_is_reported, pieces_agree,
+    script_leaves_what_edits_give, script_reports_what_edits_give,
 };
 use std::io::{self, ErrorKind, Read, Write};
 use std::test::Fail;
