@@ -2,7 +2,7 @@
 #
 #   make            proves every crate and leaves the program as ./capcheck
 #   make run        the same, and checks an example trace with it
-#   make test       the gate: every proof, test, stored run and wrong body from nothing, and with the program that this builds
+#   make test       the gate: every proof, test and stored run, and the wrong bodies under must-fail/, from nothing, and with the program that this builds
 #                   the examples, worked traces and scripts, random ones beside a second reading of the rules, each allocation
 #                   refused in turn, hostile input, the recorder and the annotator
 #   make examples   the same scripts alone, with ./capcheck
