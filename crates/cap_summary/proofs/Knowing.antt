@@ -97,7 +97,8 @@ composed_knows a b whole t u composes always left right =
           ∙ ap (λ r. has_any (check s t) || r)
           (right.found (changed a.change s) ∙ ap (λ r. has_any (check r u)) (left.ends s))
           ∙ sym (found_in_turn s t u);
-      listed = composes.changes.names names first (change_more (names_in u) names (among_right t u) b.change right.listed);
+      listed = composes.changes.names names first
+          (change_more (names_in u) names (among_right t u) b.change right.listed);
       asked = composes.asked names first
           (conditions_more (names_in t) names (among_left t u) a.conditions left.asked)
           (conditions_more (names_in u) names (among_right t u) b.conditions right.asked);

@@ -1,10 +1,12 @@
 -- What a change and conditions name: no more than what they are made of.
-use Rattle.std.proofs.Common.{◌≡◌, ℕ, ◌<◌, eqb, List, [], ◌∷◌, ◌++◌, Option, Some, None, Bool, true, false, cond, ◌&&◌, ◌||◌}
+use Rattle.std.proofs.Common.{◌≡◌, ℕ, ◌<◌, eqb, List, [], ◌∷◌, ◌++◌, Option, Some, None, Bool, true, false}
+use Rattle.std.proofs.Common.{cond, ◌&&◌, ◌||◌}
 use Rattle.std.proofs.Common.{length, get_or, map, refl, sym, ap, subst, ◌∙◌, arith}
 use Rattle.std.specs.Prelude.{option_map, option_and_then, option_to_list, unwrap_or}
 use Rattle.std.specs.List.{list_any, All}
 use Rattle.std.proofs.lemmas.Bool.{eqb-true}
-use Rattle.std.proofs.lemmas.List.Elements.{All-nil, All-cons, All-head, All-tail, All-same, All-push, All-append, All-map, All-weaker}
+use Rattle.std.proofs.lemmas.List.Elements.{All-nil, All-cons, All-head, All-tail, All-same}
+use Rattle.std.proofs.lemmas.List.Elements.{All-push, All-append, All-map, All-weaker}
 use Rattle.cap_machine.specs.declared.cell.Cell.TheVariants.{Closed}
 use Rattle.cap_machine.specs.declared.cell.Op.{Op}
 use Rattle.cap_machine.specs.declared.rule.Reply.{Reply}
@@ -319,6 +321,7 @@ line_within names me d own named = cases d.reply
         (if_within names (is_forbidden d.class) (condition.Inside me) own)
         (All-map P (need_of me) (listed d.checks)
         (λ k a l. both_true (names.pids me) (names.fds (get_or (listed d.checks) k a).fd) own (named k a l)))
-    cases NotCapable = refusal_within names me (cond d.at (Some me) None) d.checks own (at_within names me d.at own) named
+    cases NotCapable =
+        refusal_within names me (cond d.at (Some me) None) d.checks own (at_within names me d.at own) named
     cases NotPermitted = unless_within names (is_allowed d.class) (condition.Outside me) own
     cases Other = All-nil (λ (c : Condition). condition_within names c ≡ true)

@@ -57,8 +57,8 @@ is_untouched change p f = untouched_in (process_at change.processes p) p f
 abbrev pub is_unturned : Change → ℕ → Bool
 is_unturned change p = is_own (mode_of change p) p
 
--- A process after a change, by what it is without it. What isn't touched is touched neither by the change nor behind it,
--- and it names only what the change and the process name
+-- A process after a change, by what it is without it. What isn't touched is touched neither by the change nor behind
+-- it, and it names only what the change and the process name
 pub record JoinsProcess (change : Change) (old new : Process) : Type 0 where
   pub cells : (s : State) (f : ℕ) → read_cell s (value_in new f) ≡ read_cell (changed change s) (value_in old f)
   pub mode : (s : State) → read_mode s new.mode ≡ read_mode (changed change s) old.mode

@@ -26,8 +26,9 @@ abbrev pub leaves_mode : Known → ℕ → Bool
 leaves_mode known p = is_unturned known.change p
 
 -- under every state before the segment: the state after it, each cell and each mode; and whether something is found in
--- it. Nothing is listed or asked about that isn't named: a process only where a line names it, as its own or as the child
--- that a fork made; a descriptor only where it stands in an argument or the answer of a line, be it of another process.
+-- it. Nothing is listed or asked about that isn't named: a process only where a line names it, as its own or as the
+-- child that a fork made; a descriptor only where it stands in an argument or the answer of a line, be it of another
+-- process.
 -- What is said to be untouched no step touches; of what isn't said to be nothing is promised
 pub record Knows (known : Known) (t : List Step) : Type 0 where
   pub ends : (s : State) → state_after known s ≡ ended s t

@@ -169,8 +169,8 @@ impl Change {
         cell: Cell,
     ) -> Result<Change, NoMemory>
         ensures does { IfOk result (λ change. Does change (Effect.GiveTwo first second cell) me) }
-        ensures names { IfOk result (λ change. (names : Names) → EffectWithin names me (Effect.GiveTwo first second cell)
-            → ChangeWithin names change) }
+        ensures names { IfOk result (λ change. (names : Names)
+            → EffectWithin names me (Effect.GiveTwo first second cell) → ChangeWithin names change) }
     {
         let value = Value::Fixed(cell);
         let both = Process::with_two(alloc, me, first, second, &value)?;

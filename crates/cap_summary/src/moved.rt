@@ -7,8 +7,9 @@ ghost use Rattle.cap_summary.specs.Conditions.{source_holds, part_holds, outside
 ghost use Rattle.cap_summary.specs.Conditions.{any_holds, passes};
 ghost use Rattle.cap_summary.specs.Values.{read_cell};
 ghost use Rattle.cap_summary.specs.Moved.{moved_holds, moved_source_holds};
-ghost use Rattle.cap_summary.specs.Names.{Names, ChangeWithin, ConditionsWithin, value_within, source_within, part_within};
-ghost use Rattle.cap_summary.specs.Names.{outside_within, refused_within, condition_within, moved_within, moved_source_within};
+ghost use Rattle.cap_summary.specs.Names.{Names, ChangeWithin, ConditionsWithin, value_within, source_within};
+ghost use Rattle.cap_summary.specs.Names.{part_within, outside_within, refused_within, condition_within};
+ghost use Rattle.cap_summary.specs.Names.{moved_within, moved_source_within};
 
 use crate::change::{Change, Near};
 use crate::conditions::{Condition, Refused, Source};
@@ -241,7 +242,8 @@ impl Change {
         ensures holds { IfOk result (λ always. (s : State) → (always || any_holds s left.new)
             ≡ (any_holds s left.old || source_holds (changed self.now s) source.now)) }
         ensures names { OnOk result ((names : Names) → ChangeWithin names self.now
-            → source_within names source.now ≡ true → ConditionsWithin names left.old → ConditionsWithin names left.new) }
+            → source_within names source.now ≡ true → ConditionsWithin names left.old
+            → ConditionsWithin names left.new) }
     {
         let Some(value) = self.seen(source.pid, source.fd, near) else {
             left.copy(conditions, at)?;

@@ -9,4 +9,5 @@ use Rattle.cap_summary.proofs.change.Change.behind.Given as goal
 abbrev pub invariant-loop-at : goal.invariant-loop-at
 invariant-loop-at l = ((s : State)
     → (l.always || any_holds s l.left) ≡ any_holds (changed l.self s) (take l.at l.conditions))
-    × ((names : Names) → ChangeWithin names l.self → ConditionsWithin names l.conditions → ConditionsWithin names l.left)
+    × ((names : Names) → ChangeWithin names l.self → ConditionsWithin names l.conditions
+    → ConditionsWithin names l.left)
