@@ -1,9 +1,9 @@
 -- Tables and lists of conditions whose entries are alike one by one.
 use Rattle.std.proofs.Common.{◌≡◌, ℕ, ◌+◌, ◌<◌, ◌≤◌, eqb, List, [], ◌∷◌, ◌++◌, Option, Some, None, Bool, true, false}
-use Rattle.std.proofs.Common.{take, get_or, length, map, cond, refl, sym, ap, ◌∙◌}
+use Rattle.std.proofs.Common.{take, get_or, length, map, cond, refl, sym, ap, subst, ◌∙◌, ◌&&◌}
 use Rattle.std.proofs.Math.Path.{fun_ext}
 use Rattle.std.proofs.lemmas.List.{map_more, take_all}
-use Rattle.std.specs.Prelude.{option_map}
+use Rattle.std.specs.Prelude.{option_map, unwrap_or, is_some, not, ◌↔◌}
 use Rattle.std.specs.declared.rc.Rc.{Rc}
 use Rattle.std.specs.declared.alloc.Global.{Global}
 use Rattle.cap_machine.specs.State.{State}
@@ -18,7 +18,10 @@ use Rattle.cap_summary.specs.declared.tables.Processes.{Processes}
 use Rattle.cap_summary.specs.Sorted.{found}
 use Rattle.cap_summary.specs.Values.{read_cell, read_mode}
 use Rattle.cap_summary.specs.Tables.{listed_value, process_at, kept_value, processes_shared}
-use Rattle.cap_summary.specs.Changes.{value_in, changed, untouched_at, AreAlike}
+use Rattle.cap_summary.specs.Values.{unlisted, rest_untouched}
+use Rattle.cap_summary.specs.Changes.{value_at, cell_in, mode_in, changed, untouched_at, untouched_in, IsSame, AreAlike}
+use Rattle.cap_summary.specs.Names.{Names, cell_within, others_within, mode_within, ListedWithin}
+use Rattle.cap_summary.specs.declared.values.Base.{Base}
 
 -- ---- lists
 
@@ -91,53 +94,44 @@ cells_alike own theirs xs ys i alike f = tables_alike kept_value own.table their
 abbrev pair : {X Y : Type 0} → X → Y → X × Y
 pair x y = (x, y)
 
--- what is seen of a process: its cells, its mode, and what is untouched of it
+-- what is seen of a process: its listed cells, its base and its mode
 pub record Seen : Type 0 where
-  pub cells : ℕ → Value
+  pub cells : ℕ → Option Value
+  pub base : Base
   pub mode : ModeValue
-  pub untouched : ℕ → ℕ → Bool
 
-abbrev seen : (ℕ → Value) → ModeValue → (ℕ → ℕ → Bool) → Seen
-seen cells mode untouched = record { cells = cells; mode = mode; untouched = untouched }
+abbrev seen : (ℕ → Option Value) → Base → ModeValue → Seen
+seen cells base mode = record { cells = cells; base = base; mode = mode }
 
 abbrev pub seen_of : Process → Seen
-seen_of d = seen (λ f. value_in d f) d.mode (λ p f. untouched_at d.base d.cells p f)
+seen_of d = seen (λ f. listed_value d.cells f) d.base d.mode
 
 abbrev pub seen_shared : Rc Process Global → Seen
 seen_shared process = seen_of process.value
 
--- two processes of which the same is seen
-pub record LookAlike (d e : Process) : Type 0 where
-  pub cells : (f : ℕ) → value_in d f ≡ value_in e f
-  pub mode : d.mode ≡ e.mode
-  pub untouched : (p f : ℕ) → untouched_at d.base d.cells p f ≡ untouched_at e.base e.cells p f
-
-both_seen : (k l : ℕ) (d e : Process) → k ≡ l → LookAlike d e → pair k (seen_of d) ≡ pair l (seen_of e)
-both_seen k l d e key alike = ap (λ (n : ℕ). pair n (seen_of d)) key
-    ∙ ap (λ (r : ℕ → Value). pair l (seen r d.mode (λ p f. untouched_at d.base d.cells p f))) (fun_ext alike.cells)
-    ∙ ap (λ (r : ModeValue). pair l (seen (λ f. value_in e f) r (λ p f. untouched_at d.base d.cells p f))) alike.mode
-    ∙ ap (λ (r : ℕ → ℕ → Bool). pair l (seen (λ f. value_in e f) e.mode r))
-    (fun_ext (λ p. fun_ext (alike.untouched p)))
+both_seen : (k l : ℕ) (d e : Process) → k ≡ l → IsSame d e → pair k (seen_of d) ≡ pair l (seen_of e)
+both_seen k l d e key same = ap (λ (n : ℕ). pair n (seen_of d)) key
+    ∙ ap (λ (r : ℕ → Option Value). pair l (seen r d.base d.mode)) (fun_ext same.cells)
+    ∙ ap (λ (r : Base). pair l (seen (λ f. listed_value e.cells f) r d.mode)) same.base
+    ∙ ap (λ (r : ModeValue). pair l (seen (λ f. listed_value e.cells f) e.base r)) same.mode
 
 pub entries_seen : (x y : ℕ × Rc Process Global) (d e : Process) → x.0 ≡ y.0 → d ≡ x.1.value → e ≡ y.1.value
-    → LookAlike d e → entry_seen seen_shared x ≡ entry_seen seen_shared y
-entries_seen x y d e key first second alike =
+    → IsSame d e → entry_seen seen_shared x ≡ entry_seen seen_shared y
+entries_seen x y d e key first second same =
     ap (λ (r : Process). pair x.0 (seen_of r)) (sym first)
-    ∙ both_seen x.0 y.0 d e key alike
+    ∙ both_seen x.0 y.0 d e key same
     ∙ ap (λ (r : Process). pair y.0 (seen_of r)) second
 
 -- ---- changes
 
-option_seen : (p : ℕ) (own theirs : Option Process) → option_map seen_of own ≡ option_map seen_of theirs
-    → AreAlike p own theirs
-option_seen p None None is = record { cells = λ f. refl; mode = refl; listed = refl; untouched = λ f. refl }
-option_seen p None (Some e) is = absurd cc
-option_seen p (Some d) None is = absurd cc
-option_seen p (Some d) (Some e) is = let both : seen_of d ≡ seen_of e = cc in record {
+option_seen : (own theirs : Option Process) → option_map seen_of own ≡ option_map seen_of theirs → AreAlike own theirs
+option_seen None None is = refl
+option_seen None (Some e) is = absurd cc
+option_seen (Some d) None is = absurd cc
+option_seen (Some d) (Some e) is = let both : seen_of d ≡ seen_of e = cc in record {
   cells = λ f. ap (λ (r : Seen). r.cells f) both;
+  base = ap (λ (r : Seen). r.base) both;
   mode = ap (λ (r : Seen). r.mode) both;
-  listed = refl;
-  untouched = λ f. ap (λ (r : Seen). r.untouched p f) both;
 }
 
 option_shared : (o : Option (Rc Process Global)) → option_map seen_of (processes_shared o) ≡ option_map seen_shared o
@@ -146,17 +140,63 @@ option_shared (Some process) = refl
 
 pub processes_alike : (own theirs : Processes) (xs ys : List (ℕ × Rc Process Global)) (i : ℕ)
     → TablesAlike seen_shared own.table theirs.table xs ys i → (p : ℕ)
-    → AreAlike p (process_at own p) (process_at theirs p)
+    → AreAlike (process_at own p) (process_at theirs p)
 unfolding process_at
 processes_alike own theirs xs ys i alike p =
     let a = found own.table p in
     let b = found theirs.table p in
-    option_seen p (processes_shared a) (processes_shared b)
+    option_seen (processes_shared a) (processes_shared b)
     (option_shared a ∙ tables_alike seen_shared own.table theirs.table xs ys i alike p ∙ sym (option_shared b))
 
+-- what is the same of a process that both list
+alike_cell : (p f : ℕ) (own theirs : Option Process) → AreAlike own theirs → cell_in own p f ≡ cell_in theirs p f
+alike_cell p f None theirs is = ap (λ (o : Option Process). cell_in o p f) (sym is)
+alike_cell p f (Some d) None is = absurd is
+alike_cell p f (Some d) (Some e) is = ap (λ (o : Option Value). unwrap_or o (unlisted d.base f)) (is.cells f)
+    ∙ ap (λ (base : Base). value_at base e.cells f) is.base
+
+pub alike_mode : (p : ℕ) (own theirs : Option Process) → AreAlike own theirs → mode_in own p ≡ mode_in theirs p
+alike_mode p None theirs is = ap (λ (o : Option Process). mode_in o p) (sym is)
+alike_mode p (Some d) None is = absurd is
+alike_mode p (Some d) (Some e) is = is.mode
+
+pub alike_untouched : (p f : ℕ) (own theirs : Option Process) → AreAlike own theirs
+    → untouched_in own p f ≡ untouched_in theirs p f
+alike_untouched p f None theirs is = ap (λ (o : Option Process). untouched_in o p f) (sym is)
+alike_untouched p f (Some d) None is = absurd is
+alike_untouched p f (Some d) (Some e) is =
+    ap (λ (o : Option Value). rest_untouched d.base p f && not (is_some o)) (is.cells f)
+    ∙ ap (λ (base : Base). untouched_at base e.cells p f) is.base
+
+pub alike_names : (names : Names) (p : ℕ) (own theirs : Option Process) → AreAlike own theirs
+    → ListedWithin names p own ↔ ListedWithin names p theirs
+alike_names names p None theirs is =
+    (λ within. subst (ListedWithin names p) (sym is) within, λ within. tt)
+alike_names names p (Some d) None is = absurd is
+alike_names names p (Some d) (Some e) is = (
+  (λ within. (
+    within.0,
+    record {
+      cells = λ f. ap (cell_within names f) (sym (is.cells f)) ∙ within.1.cells f;
+      others = ap (λ (base : Base). others_within names base.others) (sym is.base) ∙ within.1.others;
+      mode = ap (mode_within names) (sym is.mode) ∙ within.1.mode;
+    },
+  )),
+  (λ within. (
+    within.0,
+    record {
+      cells = λ f. ap (cell_within names f) (is.cells f) ∙ within.1.cells f;
+      others = ap (λ (base : Base). others_within names base.others) is.base ∙ within.1.others;
+      mode = ap (mode_within names) is.mode ∙ within.1.mode;
+    },
+  )),
+)
+
 pub changes_alike : (a b : Change)
-    → ((p : ℕ) → AreAlike p (process_at a.processes p) (process_at b.processes p)) → (s : State)
+    → ((p : ℕ) → AreAlike (process_at a.processes p) (process_at b.processes p)) → (s : State)
     → changed a s ≡ changed b s
 changes_alike a b alike s = same_state (changed a s) (changed b s)
-    (λ p f. ap (λ (v : Value). read_cell s v) ((alike p).cells f))
-    (λ p. ap (λ (m : ModeValue). read_mode s m) (alike p).mode)
+    (λ p f. ap (λ (v : Value). read_cell s v)
+    (alike_cell p f (process_at a.processes p) (process_at b.processes p) (alike p)))
+    (λ p. ap (λ (m : ModeValue). read_mode s m)
+    (alike_mode p (process_at a.processes p) (process_at b.processes p) (alike p)))

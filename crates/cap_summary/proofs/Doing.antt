@@ -1,7 +1,7 @@
 -- What a change of one process does.
-use Rattle.std.proofs.Common.{◌≡◌, ℕ, Bool, true, false, cond, eqb, Option, Some, None, ◌||◌, ◌&&◌, refl, sym, ap, ◌∙◌}
+use Rattle.std.proofs.Common.{◌≡◌, ℕ, Bool, true, false, cond, eqb, Some, None, ◌||◌, ◌&&◌, refl, sym, ap, ◌∙◌}
 use Rattle.std.proofs.Common.{inl, inr}
-use Rattle.std.specs.Prelude.{is_some, not}
+use Rattle.std.specs.Prelude.{not}
 use Rattle.std.proofs.lemmas.Bool.Decides.{eqb_tells}
 use Rattle.cap_machine.specs.declared.cell.Cell.{Cell}
 use Rattle.cap_machine.specs.declared.cell.Op.{Op}
@@ -16,7 +16,7 @@ use Rattle.cap_summary.specs.declared.change.Process.{Process}
 use Rattle.cap_summary.specs.declared.change.Change.{Change}
 use Rattle.cap_summary.specs.Values.{read_cell, read_mode}
 use Rattle.cap_summary.specs.Tables.{process_at}
-use Rattle.cap_summary.specs.Changes.{value_in, value_of, mode_of, is_listed, untouched_at, is_untouched}
+use Rattle.cap_summary.specs.Changes.{value_in, value_of, mode_of, untouched_at, is_untouched}
 use Rattle.cap_summary.specs.Does.{Does}
 use Rattle.cap_summary.proofs.Untouched.{not_there}
 use Rattle.cap_summary.proofs.Joining.{applied_same}
@@ -32,15 +32,6 @@ only_mode change me process is s p = elim (eqb_tells p me) [
   | inl h ↦ rw (is.each p, h.0) (ap (read_mode s) is.mode ∙ ap s.mode (sym h.1))
   | inr h ↦ rw (is.each p, h.0) refl
 ]
-
-some_only : (b : Bool) (process : Process) → is_some (cond b (Some process) None) ≡ true → (b || false) ≡ true
-some_only true process e = refl
-some_only false process e = e
-
-only_listed : (change : Change) (me : ℕ) (process : Process) → IsOnly change me process → (p : ℕ)
-    → is_listed change p ≡ true → (eqb p me || false) ≡ true
-only_listed change me process is p e =
-    some_only (eqb p me) process (ap (λ (o : Option Process). is_some o) (sym (is.each p)) ∙ e)
 
 -- what is untouched: no cell of it but those that are listed
 only_untouched : (change : Change) (me : ℕ) (process : Process) (there : ℕ → Bool) (t : Touch)
@@ -60,7 +51,6 @@ pub does_change : (change : Change) (me to from : ℕ) (op : Op) (process : Proc
 does_change change me to from op process is cells untouched = record {
   cells = λ s p f. at s p f;
   modes = λ s p. only_mode change me process is s p;
-  listed = λ p e. only_listed change me process is p e;
   untouched = only_untouched change me process (λ f. eqb f to) (taken op me from) is untouched;
   unturned = λ p e. refl;
 }
@@ -84,7 +74,6 @@ pub does_two : (change : Change) (me first second : ℕ) (cell : Cell) (process 
 does_two change me first second cell process is cells untouched = record {
   cells = λ s p f. at s p f;
   modes = λ s p. only_mode change me process is s p;
-  listed = λ p e. only_listed change me process is p e;
   untouched = only_untouched change me process (λ f. eqb f first || eqb f second) (given cell) is untouched;
   unturned = λ p e. refl;
 }

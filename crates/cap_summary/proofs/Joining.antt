@@ -1,6 +1,6 @@
 -- One change after another.
 use Rattle.std.proofs.Common.{◌≡◌, ℕ, eqb, Option, Some, None, Bool, true, false, cond, ◌||◌, ◌&&◌, refl, sym, ap, ◌∙◌}
-use Rattle.std.specs.Prelude.{option_and_then, option_map, unwrap_or, is_some}
+use Rattle.std.specs.Prelude.{option_and_then, option_map, unwrap_or}
 use Rattle.std.proofs.lemmas.Bool.{eq-eqb}
 use Rattle.cap_machine.specs.declared.cell.OnExec.TheVariants.{Set, Clear, Unsure}
 use Rattle.cap_machine.specs.declared.cell.Cell.{Cell}
@@ -25,6 +25,7 @@ use Rattle.cap_summary.specs.Changes.{value_at, value_in, value_of, cell_in, mod
 use Rattle.cap_summary.specs.Changes.{untouched_in, is_untouched, is_unturned}
 use Rattle.cap_summary.specs.Images.{under}
 use Rattle.cap_summary.proofs.Untouched.{both_true}
+use Rattle.cap_summary.proofs.Naming.{listed_joined}
 
 pub applied_same : (c : Cell) → applied same c ≡ c
 applied_same Unknown = refl
@@ -135,12 +136,6 @@ mode_joined s a p None new is = ap (λ (o : Option Process). read_mode s (mode_i
 mode_joined s a p (Some d) None is = absurd is
 mode_joined s a p (Some d) (Some e) is = is.mode s
 
-listed_joined : (a : Change) (before old new : Option Process) → JoinsListed a before old new
-    → is_some new ≡ (is_some before || is_some old)
-listed_joined a before None new is = ap (λ (o : Option Process). is_some o) is ∙ sym (or_false (is_some before))
-listed_joined a before (Some d) None is = absurd is
-listed_joined a before (Some d) (Some e) is = sym (or_true (is_some before))
-
 and_true : (x : Bool) → x ≡ true → (x && true) ≡ true
 and_true x is = both_true x true is refl
 
@@ -166,8 +161,8 @@ joins_to a b whole each = record {
   changes = λ s. same_state (changed whole s) (changed b (changed a s))
       (λ p f. cell_joined s a p f (process_at b.processes p) (process_at whole.processes p) (each p))
       (λ p. mode_joined s a p (process_at b.processes p) (process_at whole.processes p) (each p));
-  listed = λ p.
-      listed_joined a (process_at a.processes p) (process_at b.processes p) (process_at whole.processes p) (each p);
   untouched = λ p f. untouched_joined a p f (process_at b.processes p) (process_at whole.processes p) (each p);
   unturned = λ p. unturned_joined a p (process_at b.processes p) (process_at whole.processes p) (each p);
+  names = λ names first second p. listed_joined names a p (process_at b.processes p) (process_at whole.processes p) first
+      (each p) (second p);
 }

@@ -1,36 +1,42 @@
 -- What is known of a step, and of a segment and then another.
 use Rattle.std.proofs.Common.{◌≡◌, ℕ, List, [], ◌∷◌, ◌++◌, Bool, true, false, ◌||◌, ◌&&◌, length, map, refl, sym, ap}
-use Rattle.std.proofs.Common.{◌∙◌}
-use Rattle.std.specs.Prelude.{◌==◌}
+use Rattle.std.proofs.Common.{◌∙◌, subst, cond}
+use Rattle.std.proofs.lemmas.Bool.{eq-eqb}
 use Rattle.std.specs.List.{list_any, All}
 use Rattle.std.proofs.lemmas.List.Folds.{list_any-append}
-use Rattle.std.proofs.lemmas.List.Elements.{All-nil, All-cons, All-append}
+use Rattle.std.proofs.lemmas.List.Elements.{All-nil, All-cons, All-append, All-weaker}
 use Rattle.cap_machine.specs.declared.step.Step.{Step}
 use Rattle.cap_machine.specs.declared.rule.Demand.{Demand}
 use Rattle.cap_machine.specs.declared.rule.Effect.{Effect}
 use Rattle.cap_machine.specs.declared.verdict.Found.{Found}
 use Rattle.cap_machine.specs.State.{State}
-use Rattle.cap_machine.specs.Touch.{Touch, kept, Turn, stays, touch, turn}
+use Rattle.cap_machine.specs.Touch.{Touch, kept, Turn, stays, follows, touch, turn}
 use Rattle.cap_machine.specs.Effect.{effect_touch, effect_turn}
 use Rattle.cap_machine.specs.Rule.{demand}
-use Rattle.cap_machine.specs.Named.{names_pid, item_makes}
+use Rattle.cap_machine.specs.Named.{names_pid, names_fd, item_makes, item_answer_names, args_name, fds_of}
+use Rattle.cap_machine.specs.Judge.{listed}
+use Rattle.cap_machine.specs.declared.rule.Check.{Check}
+use Rattle.cap_machine.specs.declared.rule.Effect.TheVariants as effects
 use Rattle.cap_machine.specs.History.{ended, touched, turned}
 use Rattle.cap_machine.specs.Check.{check, said, said_of, found_at}
 use Rattle.cap_machine.specs.Table.{effect_after}
 use Rattle.cap_machine.specs.Laws.{later}
 use Rattle.cap_machine.proofs.Turns.{ends_in_turn, checks_in_turn, same_state}
 use Rattle.cap_machine.proofs.Naming.{own_modes}
+use Rattle.cap_machine.proofs.NamedFds.{named_effects, named_checks}
 use Rattle.cap_summary.specs.declared.change.Change.{Change}
 use Rattle.cap_summary.specs.declared.conditions.Condition.{Condition}
 use Rattle.cap_summary.specs.declared.known.Known.{Known}
-use Rattle.cap_summary.specs.Changes.{changed, JoinsTo, is_listed, is_untouched, is_unturned}
-use Rattle.cap_summary.specs.Does.{Does, is_following}
+use Rattle.cap_summary.specs.Changes.{changed, JoinsTo, is_untouched, is_unturned}
+use Rattle.cap_summary.specs.Does.{Does}
+use Rattle.cap_summary.specs.Names.{Names, names_in, ChangeWithin, ConditionsWithin, ChildWithin, EffectWithin}
 use Rattle.cap_summary.specs.Conditions.{any_holds, has_any}
 use Rattle.cap_summary.specs.LineConditions.{line_always, line_conditions}
 use Rattle.cap_summary.specs.Knows.{Knows, Composes, IsLike, finds}
 use Rattle.cap_summary.proofs.Bools.{or_true, or_false}
 use Rattle.cap_summary.proofs.Untouched.{first_true, second_true}
 use Rattle.cap_summary.proofs.Holding.{has_any-append, has_any-map, line_holds}
+use Rattle.cap_summary.proofs.Naming.{AreAmong, change_more, conditions_more, line_within}
 
 pub found_in_turn : (s : State) (t u : List Step)
     → has_any (check s (t ++ u)) ≡ (has_any (check s t) || has_any (check (ended s t) u))
@@ -53,50 +59,73 @@ turned_round : (m x y : Bool) → (m || (x || y)) ≡ (x || (m || y))
 turned_round true x y = sym (or_true x)
 turned_round false x y = refl
 
-listed_in_turn : (a b c x y : Bool) → c ≡ (a || b) → (a ≡ true → x ≡ true) → (b ≡ true → y ≡ true) → c ≡ true
-    → (x || y) ≡ true
-listed_in_turn true b c x y is left right e = ap (λ r. r || y) (left refl)
-listed_in_turn false b c x y is left right e = ap (λ r. x || r) (right (sym is ∙ e)) ∙ or_true x
+-- what the lines of one segment name, those of both do
+among_left : (t u : List Step) → AreAmong (names_in t) (names_in (t ++ u))
+among_left t u = record {
+  pids = λ p e. list_any-append (λ (step : Step). names_pid p step.line) t u
+      ∙ ap (λ r. r || list_any (λ (step : Step). names_pid p step.line) u) e;
+  fds = λ f e. list_any-append (λ (step : Step). names_fd f step.line) t u
+      ∙ ap (λ r. r || list_any (λ (step : Step). names_fd f step.line) u) e;
+}
+
+among_right : (t u : List Step) → AreAmong (names_in u) (names_in (t ++ u))
+among_right t u = record {
+  pids = λ p e. list_any-append (λ (step : Step). names_pid p step.line) t u
+      ∙ ap (λ r. list_any (λ (step : Step). names_pid p step.line) t || r) e
+      ∙ or_true (list_any (λ (step : Step). names_pid p step.line) t);
+  fds = λ f e. list_any-append (λ (step : Step). names_fd f step.line) t u
+      ∙ ap (λ r. list_any (λ (step : Step). names_fd f step.line) t || r) e
+      ∙ or_true (list_any (λ (step : Step). names_fd f step.line) t);
+}
 
 -- what the parts of a whole give, and what is found in them
 pub composed_knows : (a b whole : Known) (t u : List Step) → Composes a b whole →
     whole.always ≡ (a.always || (b.always || whole.met)) → Knows a t → Knows b u → Knows whole (t ++ u)
-composed_knows a b whole t u composes always left right = record {
-  ends = λ s. composes.changes.changes s ∙ right.ends (changed a.change s) ∙ ap (λ r. ended r u) (left.ends s)
-      ∙ sym (ends_in_turn s t u);
-  found = λ s.
-      ap (λ r. r || any_holds s whole.conditions) always
-      ∙ shuffled a.always b.always whole.met (any_holds s whole.conditions)
-      ∙ ap (λ r. a.always || (b.always || r)) (composes.found s)
-      ∙ dealt a.always b.always (any_holds s a.conditions) (any_holds (changed a.change s) b.conditions)
-      ∙ ap (λ r. r || finds b (changed a.change s)) (left.found s)
-      ∙ ap (λ r. has_any (check s t) || r)
-      (right.found (changed a.change s) ∙ ap (λ r. has_any (check r u)) (left.ends s))
-      ∙ sym (found_in_turn s t u);
-  listed = λ p e. list_any-append (λ (step : Step). names_pid p step.line) t u
-      ∙ listed_in_turn (is_listed a.change p) (is_listed b.change p) (is_listed whole.change p)
-      (list_any (λ (step : Step). names_pid p step.line) t)
-      (list_any (λ (step : Step). names_pid p step.line) u) (composes.changes.listed p) (left.listed p)
-      (right.listed p) e;
-  untouched = λ p f e. let both = composes.changes.untouched p f e in
-      All-append (λ (step : Step). touch step p f ≡ kept) t u
-      (left.untouched p f (first_true (is_untouched a.change p f) (is_untouched b.change p f) both))
-      (right.untouched p f (second_true (is_untouched a.change p f) (is_untouched b.change p f) both));
-  unturned = λ p e. let both = composes.changes.unturned p e in
-      All-append (λ (step : Step). turn step p ≡ stays) t u
-      (left.unturned p (first_true (is_unturned a.change p) (is_unturned b.change p) both))
-      (right.unturned p (second_true (is_unturned a.change p) (is_unturned b.change p) both));
-}
+composed_knows a b whole t u composes always left right =
+    let names : Names = names_in (t ++ u) in
+    let first : ChangeWithin names a.change =
+    change_more (names_in t) names (among_left t u) a.change left.listed in
+    record {
+      ends = λ s. composes.changes.changes s ∙ right.ends (changed a.change s) ∙ ap (λ r. ended r u) (left.ends s)
+          ∙ sym (ends_in_turn s t u);
+      found = λ s.
+          ap (λ r. r || any_holds s whole.conditions) always
+          ∙ shuffled a.always b.always whole.met (any_holds s whole.conditions)
+          ∙ ap (λ r. a.always || (b.always || r)) (composes.found s)
+          ∙ dealt a.always b.always (any_holds s a.conditions) (any_holds (changed a.change s) b.conditions)
+          ∙ ap (λ r. r || finds b (changed a.change s)) (left.found s)
+          ∙ ap (λ r. has_any (check s t) || r)
+          (right.found (changed a.change s) ∙ ap (λ r. has_any (check r u)) (left.ends s))
+          ∙ sym (found_in_turn s t u);
+      listed = composes.changes.names names first
+          (change_more (names_in u) names (among_right t u) b.change right.listed);
+      asked = composes.asked names first
+          (conditions_more (names_in t) names (among_left t u) a.conditions left.asked)
+          (conditions_more (names_in u) names (among_right t u) b.conditions right.asked);
+      untouched = λ p f e. let both = composes.changes.untouched p f e in
+          All-append (λ (step : Step). touch step p f ≡ kept) t u
+          (left.untouched p f (first_true (is_untouched a.change p f) (is_untouched b.change p f) both))
+          (right.untouched p f (second_true (is_untouched a.change p f) (is_untouched b.change p f) both));
+      unturned = λ p e. let both = composes.changes.unturned p e in
+          All-append (λ (step : Step). turn step p ≡ stays) t u
+          (left.unturned p (first_true (is_unturned a.change p) (is_unturned b.change p) both))
+          (right.unturned p (second_true (is_unturned a.change p) (is_unturned b.change p) both));
+    }
 
 -- of the second's conditions behind the first's change
 pub composed : (a b whole : Known) (moved : List Condition) → JoinsTo a.change b.change whole.change →
     ((s : State) → (whole.met || any_holds s moved) ≡ any_holds (changed a.change s) b.conditions) →
-    ((s : State) → any_holds s whole.conditions ≡ (any_holds s a.conditions || any_holds s moved)) → Composes a b whole
-composed a b whole moved joins behind both = record {
+    ((s : State) → any_holds s whole.conditions ≡ (any_holds s a.conditions || any_holds s moved)) →
+    ((names : Names) → ChangeWithin names a.change → ConditionsWithin names b.conditions
+    → ConditionsWithin names moved) →
+    ((names : Names) → ConditionsWithin names a.conditions → ConditionsWithin names moved
+    → ConditionsWithin names whole.conditions) → Composes a b whole
+composed a b whole moved joins behind both behind_asked both_asked = record {
   changes = joins;
   found = λ s. ap (λ r. whole.met || r) (both s)
       ∙ turned_round whole.met (any_holds s a.conditions) (any_holds s moved)
       ∙ ap (λ r. any_holds s a.conditions || r) (behind s);
+  asked = λ names change first second. both_asked names first (behind_asked names change second);
 }
 
 -- one that is like a part, or like the whole, stands in its place
@@ -104,25 +133,31 @@ pub composed_left : (a b whole other : Known) → Composes a b whole → IsLike 
 composed_left a b whole other composes like = record {
   changes = record {
     changes = λ s. composes.changes.changes s ∙ ap (λ r. changed b.change r) (sym (like.changes s));
-    listed = λ p. composes.changes.listed p ∙ ap (λ r. r || is_listed b.change p) (sym (like.listed p));
     untouched = λ p f e. ap (λ r. r && is_untouched b.change p f) (like.untouched p f)
         ∙ composes.changes.untouched p f e;
     unturned = λ p e. ap (λ r. r && is_unturned b.change p) (like.unturned p) ∙ composes.changes.unturned p e;
+    names = λ names first second. composes.changes.names names ((like.names names).0 first) second;
   };
-  found = λ s. composes.found s ∙ ap (λ r. r || any_holds (changed a.change s) b.conditions) (sym (like.holds s))
+  found = λ s. composes.found s
+      ∙ ap (λ (r : List Condition). any_holds s r || any_holds (changed a.change s) b.conditions) (sym like.conditions)
       ∙ ap (λ r. any_holds s other.conditions || any_holds r b.conditions) (sym (like.changes s));
+  asked = λ names change first second. composes.asked names ((like.names names).0 change)
+      (subst (ConditionsWithin names) like.conditions first) second;
 }
 
 pub composed_right : (a b whole other : Known) → Composes a b whole → IsLike other b → Composes a other whole
 composed_right a b whole other composes like = record {
   changes = record {
     changes = λ s. composes.changes.changes s ∙ sym (like.changes (changed a.change s));
-    listed = λ p. composes.changes.listed p ∙ ap (λ r. is_listed a.change p || r) (sym (like.listed p));
     untouched = λ p f e. ap (λ r. is_untouched a.change p f && r) (like.untouched p f)
         ∙ composes.changes.untouched p f e;
     unturned = λ p e. ap (λ r. is_unturned a.change p && r) (like.unturned p) ∙ composes.changes.unturned p e;
+    names = λ names first second. composes.changes.names names first ((like.names names).0 second);
   };
-  found = λ s. composes.found s ∙ ap (λ r. any_holds s a.conditions || r) (sym (like.holds (changed a.change s)));
+  found = λ s. composes.found s
+      ∙ ap (λ (r : List Condition). any_holds s a.conditions || any_holds (changed a.change s) r) (sym like.conditions);
+  asked = λ names change first second. composes.asked names change first
+      (subst (ConditionsWithin names) like.conditions second);
 }
 
 pub composed_whole : (a b whole other : Known) → Composes a b whole → IsLike other whole → other.met ≡ whole.met
@@ -130,12 +165,14 @@ pub composed_whole : (a b whole other : Known) → Composes a b whole → IsLike
 composed_whole a b whole other composes like met = record {
   changes = record {
     changes = λ s. like.changes s ∙ composes.changes.changes s;
-    listed = λ p. like.listed p ∙ composes.changes.listed p;
     untouched = λ p f e. composes.changes.untouched p f (sym (like.untouched p f) ∙ e);
     unturned = λ p e. composes.changes.unturned p (sym (like.unturned p) ∙ e);
+    names = λ names first second. (like.names names).1 (composes.changes.names names first second);
   };
-  found = λ s. ap (λ r. r || any_holds s other.conditions) met ∙ ap (λ r. whole.met || r) (like.holds s)
-      ∙ composes.found s;
+  found = λ s. ap (λ r. r || any_holds s other.conditions) met
+      ∙ ap (λ (r : List Condition). whole.met || any_holds s r) like.conditions ∙ composes.found s;
+  asked = λ names change first second. subst (ConditionsWithin names) (sym like.conditions)
+      (composes.asked names change first second);
 }
 
 -- the state behind one step
@@ -155,28 +192,59 @@ effect_ends change step effect does cells modes s =
     same_state (changed change s) (effect_after effect step.line.pid s) (does.cells s) (does.modes s)
     ∙ step_ends step effect cells modes s
 
--- a process that the step's line names
-child_named : (step : Step) (p : ℕ) (own makes : Bool) → ((own || makes) ≡ false → turn step p ≡ stays)
-    → (own || is_following (turn step p)) ≡ true → (own || makes) ≡ true
-child_named step p true makes quiet is = refl
-child_named step p false true quiet is = refl
-child_named step p false false quiet is = sym (ap is_following (quiet refl)) ∙ is
+-- what the step's line names
+own_named : (step : Step) → names_pid step.line.pid step.line ≡ true
+own_named step = ap (λ r. r || item_makes step.line.pid step.line.item) (eq-eqb step.line.pid step.line.pid refl)
 
-pub named : (step : Step) (p : ℕ) → ((p == step.line.pid) || is_following (turn step p)) ≡ true
-    → names_pid p step.line ≡ true
-named step p is = child_named step p (p == step.line.pid) (item_makes p step.line.item) (own_modes step p) is
+following_named : (step : Step) (p q : ℕ) → turn step p ≡ follows q → names_pid p step.line ≡ true
+following_named step p q is = cases (names_pid p step.line) refl
+  where
+    cases : (b : Bool) → names_pid p step.line ≡ b → names_pid p step.line ≡ true
+    cases true e = e
+    cases false e = absurd (let quiet : turn step p ≡ stays = own_modes step p e in cc)
+
+child_named : (step : Step) (effect : Effect) → ((p : ℕ) → effect_turn effect step.line.pid p ≡ turn step p)
+    → ChildWithin (names_in (step ∷ [])) effect
+child_named step (effects.Fork child) modes = or_false (names_pid child step.line)
+    ∙ following_named step child step.line.pid (sym (modes child)
+    ∙ ap (λ b. cond b (follows step.line.pid) stays) (eq-eqb child child refl))
+child_named step (effects.ForkAs child f) modes = or_false (names_pid child step.line)
+    ∙ following_named step child step.line.pid (sym (modes child)
+    ∙ ap (λ b. cond b (follows step.line.pid) stays) (eq-eqb child child refl))
+child_named step effect modes = tt
+
+effect_named : (step : Step) (effect : Effect)
+    → ((p f : ℕ) → effect_touch effect step.line.pid p f ≡ touch step p f)
+    → ((p : ℕ) → effect_turn effect step.line.pid p ≡ turn step p)
+    → EffectWithin (names_in (step ∷ [])) step.line.pid effect
+effect_named step effect cells modes = record {
+  own = or_false (names_pid step.line.pid step.line) ∙ own_named step;
+  child = child_named step effect modes;
+  fds = All-weaker (λ (f : ℕ). names_fd f step.line ≡ true) (λ f. (names_fd f step.line || false) ≡ true)
+      (λ f e. or_false (names_fd f step.line) ∙ e) (fds_of effect) (named_effects step effect cells);
+}
+
+checks_named : (step : Step) (d : Demand) → d ≡ demand step.line
+    → All (λ (check : Check). (names_in (step ∷ [])).fds check.fd ≡ true) (listed d.checks)
+checks_named step d is = All-weaker (λ (check : Check). args_name check.fd step.line ≡ true)
+    (λ check. (names_fd check.fd step.line || false) ≡ true)
+    (λ check e. or_false (names_fd check.fd step.line)
+    ∙ ap (λ r. r || item_answer_names check.fd step.line.item) e) (listed d.checks)
+    (subst (λ (d : Demand). All (λ (check : Check). args_name check.fd step.line ≡ true) (listed d.checks)) (sym is)
+    (named_checks step.line))
 
 one_of_all : (P : Step → Type 0) (step : Step) → P step → All P (step ∷ [])
 one_of_all P step is = All-cons P step [] is (All-nil P)
 
 pub step_knows : (known : Known) (step : Step) (effect : Effect) (d : Demand) →
     Does known.change effect step.line.pid →
+    ((names : Names) → EffectWithin names step.line.pid effect → ChangeWithin names known.change) →
     ((p f : ℕ) → effect_touch effect step.line.pid p f ≡ touch step p f)
     → ((p : ℕ) → effect_turn effect step.line.pid p ≡ turn step p) →
     d ≡ demand step.line → known.always ≡ line_always d
     → known.conditions ≡ line_conditions d step.line.pid →
     Knows known (step ∷ [])
-step_knows known step effect d does cells modes is always conditions = record {
+step_knows known step effect d does names cells modes is always conditions = record {
   ends = effect_ends known.change step effect does cells modes;
   found = λ s.
       ap (λ r. r || any_holds s known.conditions) always
@@ -184,8 +252,10 @@ step_knows known step effect d does cells modes is always conditions = record {
       ∙ line_holds s step.line.pid d
       ∙ ap (λ (r : Demand). has_any (said_of r step.line.pid s)) is
       ∙ sym (has_any-map (found_at 1) (said step s));
-  listed = λ p e. or_false (names_pid p step.line)
-      ∙ named step p (ap (λ (r : Turn). (p == step.line.pid) || is_following r) (sym (modes p)) ∙ does.listed p e);
+  listed = names (names_in (step ∷ [])) (effect_named step effect cells modes);
+  asked = subst (ConditionsWithin (names_in (step ∷ []))) (sym conditions)
+      (line_within (names_in (step ∷ [])) step.line.pid d (or_false (names_pid step.line.pid step.line)
+      ∙ own_named step) (checks_named step d is));
   untouched = λ p f e. one_of_all (λ (step : Step). touch step p f ≡ kept) step
       (sym (cells p f) ∙ does.untouched p f e);
   unturned = λ p e. one_of_all (λ (step : Step). turn step p ≡ stays) step (sym (modes p) ∙ does.unturned p e);

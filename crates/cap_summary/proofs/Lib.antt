@@ -3,6 +3,7 @@ pub mod SortedFound
 pub mod SortedMerging
 pub mod SortedSetting
 pub mod Untouched
+pub mod Naming
 pub mod Joining
 pub mod Staying
 pub mod Comparing

@@ -1,6 +1,6 @@
 -- What a change leaves as it is, and what stands behind it as it is.
 use Rattle.std.proofs.Common.{◌≡◌, ℕ, ◌+◌, ◌<◌, eqb, List, [], ◌∷◌, ◌++◌, Option, Some, None, Bool, true, false}
-use Rattle.std.proofs.Common.{cond, ◌||◌}
+use Rattle.std.proofs.Common.{cond}
 use Rattle.std.proofs.Common.{take, get_or, length, inl, inr, refl, sym, ap, ◌∙◌}
 use Rattle.std.proofs.lemmas.List.{take_more}
 use Rattle.std.proofs.lemmas.Bool.Decides.{eqb_tells}
@@ -29,6 +29,7 @@ use Rattle.cap_summary.specs.Changes.{value_of, cell_in, mode_in, changed, Joins
 use Rattle.cap_summary.specs.Changes.{untouched_in, is_untouched, is_unturned}
 use Rattle.cap_summary.specs.Images.{under, passed_on}
 use Rattle.cap_summary.proofs.Untouched.{both_true, implied}
+use Rattle.cap_summary.proofs.Naming.{same_within}
 use Rattle.cap_summary.proofs.Joining.{applied_same, read-under}
 use Rattle.cap_summary.proofs.SortedMerging.{found-append}
 
@@ -187,6 +188,7 @@ process_stays a d base mode cells untouched unturned = record {
   untouched = λ p f e. implied (rest_untouched d.base p f) (not (is_some (listed_value d.cells f))) (is_untouched a p f)
       (untouched p f) e;
   unturned = λ p e. both_true (is_unturned a p) (is_own d.mode p) (unturned p e) e;
+  names = λ names first second. second;
 }
   where
     cell : (s : State) (f : ℕ) (o : Option Value) → option_map (under a) o ≡ o
@@ -209,12 +211,11 @@ joins_nothing a b whole none same_as = record {
       (λ p f. ap (λ (o : Option Process). read_cell s (cell_in o p f)) (same_as p))
       (λ p. ap (λ (o : Option Process). read_mode s (mode_in o p)) (same_as p))
       ∙ ap (changed b) (sym (unchanged a none s));
-  listed = λ p. ap (λ (o : Option Process). is_some o) (same_as p)
-      ∙ sym (ap (λ (o : Option Process). is_some o || is_some (process_at b.processes p)) (none p));
   untouched = λ p f e. both_true (is_untouched a p f) (is_untouched b p f)
       (ap (λ (o : Option Process). untouched_in o p f) (none p))
       (ap (λ (o : Option Process). untouched_in o p f) (sym (same_as p)) ∙ e);
   unturned = λ p e. both_true (is_unturned a p) (is_unturned b p)
       (ap (λ (o : Option Process). is_own (mode_in o p) p) (none p) ∙ eq-eqb p p refl)
       (ap (λ (o : Option Process). is_own (mode_in o p) p) (sym (same_as p)) ∙ e);
+  names = λ names first second. same_within names b whole same_as second;
 }

@@ -1,5 +1,5 @@
 -- What becomes of each cell and mode over a segment, whatever the state before it.
-use Rattle.std.specs.Prelude.{◌≡◌, ℕ, Option, unwrap_or, is_some, IsSomeAnd, MatchOption, ◌||◌, ◌&&◌, not, Bool, true}
+use Rattle.std.specs.Prelude.{◌≡◌, ℕ, Option, None, unwrap_or, is_some, IsSomeAnd, MatchOption, ◌&&◌, not, Bool, true}
 use Rattle.std.specs.Option.{option_map_or}
 use Rattle.cap_machine.specs.State.{State}
 use Rattle.cap_machine.specs.Op.{same}
@@ -13,6 +13,7 @@ use Rattle.cap_summary.specs.declared.change.Change.{Change}
 use Rattle.cap_summary.specs.declared.tables.Cells.{Cells}
 use Rattle.cap_summary.specs.Values.{read_cell, read_mode, unlisted, rest_untouched, is_own}
 use Rattle.cap_summary.specs.Tables.{listed_value, process_at}
+use Rattle.cap_summary.specs.Names.{Names, ProcessWithin, ChangeWithin}
 
 -- the value of each descriptor of a process: the one that is listed, or as the base says
 abbrev pub value_at : Base → Cells → ℕ → Value
@@ -41,10 +42,6 @@ changed change s = record {
   mode = λ p. read_mode s (mode_of change p);
 }
 
--- a process is listed
-abbrev pub is_listed : Change → ℕ → Bool
-is_listed change p = is_some (process_at change.processes p)
-
 -- No step touched a cell, as far as the change tells: its process isn't listed, or neither is the cell, and the base has
 -- its own cells as they were. A cell that is listed counts as touched
 abbrev pub untouched_at : Base → Cells → ℕ → ℕ → Bool
@@ -60,29 +57,33 @@ is_untouched change p f = untouched_in (process_at change.processes p) p f
 abbrev pub is_unturned : Change → ℕ → Bool
 is_unturned change p = is_own (mode_of change p) p
 
--- a process after a change, by what it is without it; what isn't touched is touched neither by the change nor behind it
+-- A process after a change, by what it is without it. What isn't touched is touched neither by the change nor behind
+-- it, and it names only what the change and the process name
 pub record JoinsProcess (change : Change) (old new : Process) : Type 0 where
   pub cells : (s : State) (f : ℕ) → read_cell s (value_in new f) ≡ read_cell (changed change s) (value_in old f)
   pub mode : (s : State) → read_mode s new.mode ≡ read_mode (changed change s) old.mode
   pub untouched : (p f : ℕ) → untouched_at new.base new.cells p f ≡ true
       → (is_untouched change p f && untouched_at old.base old.cells p f) ≡ true
   pub unturned : (p : ℕ) → is_own new.mode p ≡ true → (is_unturned change p && is_own old.mode p) ≡ true
+  pub names : (names : Names) → ChangeWithin names change → ProcessWithin names old → ProcessWithin names new
 
 -- the same of a process that may be listed: where it isn't, it is what it was before
 abbrev pub JoinsListed : Change → Option Process → Option Process → Option Process → Type 0
 JoinsListed change before old new = MatchOption old (new ≡ before) (λ d. IsSomeAnd new (λ e. JoinsProcess change d e))
 
--- a change that does what a and then b do, and leaves untouched only what both leave so
+-- a change that does what a and then b do, leaves untouched only what both leave so, and names only what they name
 pub record JoinsTo (a b c : Change) : Type 0 where
   pub changes : (s : State) → changed c s ≡ changed b (changed a s)
-  pub listed : (p : ℕ) → is_listed c p ≡ (is_listed a p || is_listed b p)
   pub untouched : (p f : ℕ) → is_untouched c p f ≡ true → (is_untouched a p f && is_untouched b p f) ≡ true
   pub unturned : (p : ℕ) → is_unturned c p ≡ true → (is_unturned a p && is_unturned b p) ≡ true
+  pub names : (names : Names) → ChangeWithin names a → ChangeWithin names b → ChangeWithin names c
 
--- what has become of a process by two changes: the same cells and the same mode, both list it or neither does, and the
--- same cells are untouched
-pub record AreAlike (p : ℕ) (own theirs : Option Process) : Type 0 where
-  pub cells : (f : ℕ) → cell_in own p f ≡ cell_in theirs p f
-  pub mode : mode_in own p ≡ mode_in theirs p
-  pub listed : is_some own ≡ is_some theirs
-  pub untouched : (f : ℕ) → untouched_in own p f ≡ untouched_in theirs p f
+-- two processes with the same listed cells, the same base and the same mode
+pub record IsSame (d e : Process) : Type 0 where
+  pub cells : (f : ℕ) → listed_value d.cells f ≡ listed_value e.cells f
+  pub base : d.base ≡ e.base
+  pub mode : d.mode ≡ e.mode
+
+-- what has become of a process by two changes: both list the same, or neither lists it
+abbrev pub AreAlike : Option Process → Option Process → Type 0
+AreAlike own theirs = MatchOption own (theirs ≡ None) (λ d. IsSomeAnd theirs (λ e. IsSame d e))

@@ -1,14 +1,13 @@
 -- What is known of a segment of a trace, under every state before it.
-use Rattle.std.specs.Prelude.{◌≡◌, ℕ, List, Bool, true, ◌||◌}
-use Rattle.std.specs.List.{list_any}
+use Rattle.std.specs.Prelude.{◌≡◌, ◌↔◌, ℕ, List, Bool, true, ◌||◌}
 use Rattle.cap_machine.specs.declared.step.Step.{Step}
 use Rattle.cap_machine.specs.State.{State}
 use Rattle.cap_machine.specs.History.{ended}
 use Rattle.cap_machine.specs.Check.{check}
-use Rattle.cap_machine.specs.Named.{names_pid}
 use Rattle.cap_machine.specs.Walks.{LeavesCell, LeavesMode}
 use Rattle.cap_summary.specs.declared.known.Known.{Known}
-use Rattle.cap_summary.specs.Changes.{changed, is_listed, is_untouched, is_unturned, JoinsTo}
+use Rattle.cap_summary.specs.Changes.{changed, is_untouched, is_unturned, JoinsTo}
+use Rattle.cap_summary.specs.Names.{Names, names_in, ChangeWithin, ConditionsWithin}
 use Rattle.cap_summary.specs.Conditions.{any_holds, has_any}
 
 -- the state that the segment leaves
@@ -19,10 +18,6 @@ state_after known s = changed known.change s
 abbrev pub finds : Known → State → Bool
 finds known s = known.always || any_holds s known.conditions
 
--- a process is listed
-abbrev pub lists : Known → ℕ → Bool
-lists known p = is_listed known.change p
-
 -- no step touches a cell, or turns a mode, as far as is known
 abbrev pub leaves_cell : Known → ℕ → ℕ → Bool
 leaves_cell known p f = is_untouched known.change p f
@@ -31,26 +26,31 @@ abbrev pub leaves_mode : Known → ℕ → Bool
 leaves_mode known p = is_unturned known.change p
 
 -- under every state before the segment: the state after it, each cell and each mode; and whether something is found in
--- it. A process is listed only where a line names it: as its own, or as the child that a fork made. What is said to be
--- untouched no step touches; of what isn't said to be nothing is promised
+-- it. Nothing is listed or asked about that isn't named: a process only where a line names it, as its own or as the
+-- child that a fork made; a descriptor only where it stands in an argument or the answer of a line, be it of another
+-- process.
+-- What is said to be untouched no step touches; of what isn't said to be nothing is promised
 pub record Knows (known : Known) (t : List Step) : Type 0 where
   pub ends : (s : State) → state_after known s ≡ ended s t
   pub found : (s : State) → finds known s ≡ has_any (check s t)
-  pub listed : (p : ℕ) → lists known p ≡ true → list_any (λ step. names_pid p step.line) t ≡ true
+  pub listed : ChangeWithin (names_in t) known.change
+  pub asked : ConditionsWithin (names_in t) known.conditions
   pub untouched : (p f : ℕ) → leaves_cell known p f ≡ true → LeavesCell t p f
   pub unturned : (p : ℕ) → leaves_mode known p ≡ true → LeavesMode t p
 
 -- what is known of a segment and then another: the second's conditions hold behind the first's change where one of the
--- whole that isn't the first's holds, or in any case
+-- whole that isn't the first's holds, or in any case. The whole asks only about what they name
 pub record Composes (a b whole : Known) : Type 0 where
   pub changes : JoinsTo a.change b.change whole.change
   pub found : (s : State) → (whole.met || any_holds s whole.conditions)
       ≡ (any_holds s a.conditions || any_holds (changed a.change s) b.conditions)
+  pub asked : (names : Names) → ChangeWithin names a.change → ConditionsWithin names a.conditions
+      → ConditionsWithin names b.conditions → ConditionsWithin names whole.conditions
 
--- the same changes and conditions
+-- the same changes and conditions, which name the same
 pub record IsLike (a b : Known) : Type 0 where
   pub changes : (s : State) → changed a.change s ≡ changed b.change s
-  pub listed : (p : ℕ) → is_listed a.change p ≡ is_listed b.change p
-  pub holds : (s : State) → any_holds s a.conditions ≡ any_holds s b.conditions
+  pub conditions : a.conditions ≡ b.conditions
   pub untouched : (p f : ℕ) → leaves_cell a p f ≡ leaves_cell b p f
   pub unturned : (p : ℕ) → leaves_mode a p ≡ leaves_mode b p
+  pub names : (names : Names) → ChangeWithin names a.change ↔ ChangeWithin names b.change

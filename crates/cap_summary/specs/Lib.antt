@@ -3,6 +3,7 @@ pub mod Place
 pub mod Shared
 pub mod Values
 pub mod Tables
+pub mod Names
 pub mod Changes
 pub mod Images
 pub mod Does

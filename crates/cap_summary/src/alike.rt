@@ -3,8 +3,10 @@
 
 ghost use Rattle.std.specs.Prelude.{◌≡◌, ℕ, true};
 ghost use Rattle.cap_machine.specs.State.{State};
+ghost use Rattle.std.specs.Prelude.{◌↔◌};
 ghost use Rattle.cap_summary.specs.Tables.{kept_value};
-ghost use Rattle.cap_summary.specs.Changes.{value_in, changed, is_listed, untouched_at, is_untouched, is_unturned};
+ghost use Rattle.cap_summary.specs.Changes.{changed, is_untouched, is_unturned, IsSame};
+ghost use Rattle.cap_summary.specs.Names.{Names, ChangeWithin};
 
 use crate::change::{Change, Process};
 use crate::conditions::{CellTest, HeldTest, Refused, Source};
@@ -99,12 +101,9 @@ impl Kept {
 }
 
 impl Process {
-    /// Whether another one has the same cells and the same mode. No is a safe answer.
+    /// Whether another one lists the same cells, and has the same base and the same mode. No is a safe answer.
     pub(crate) fn is_like(&self, other: &Process) -> bool
-        ensures cells { result ≡ true → (f : ℕ) → value_in self.now f ≡ value_in other.now f }
-        ensures mode { result ≡ true → self.now.mode ≡ other.now.mode }
-        ensures untouched { result ≡ true → (p f : ℕ) → untouched_at self.now.base self.now.cells p f
-            ≡ untouched_at other.now.base other.now.cells p f }
+        ensures { result ≡ true → IsSame self.now other.now }
     {
         self.mode == other.mode
             && equal_bases(&self.base, &other.base)
@@ -113,13 +112,12 @@ impl Process {
 }
 
 impl Change {
-    /// Whether another change does the same and lists the same processes, by comparing their entries. No is a safe
-    /// answer.
+    /// Whether another change does the same and names the same, by comparing their entries. No is a safe answer.
     pub(crate) fn is_like(&self, other: &Change) -> bool
         ensures changes { result ≡ true → (s : State) → changed self.now s ≡ changed other.now s }
-        ensures listed { result ≡ true → (p : ℕ) → is_listed self.now p ≡ is_listed other.now p }
         ensures untouched { result ≡ true → (p f : ℕ) → is_untouched self.now p f ≡ is_untouched other.now p f }
         ensures unturned { result ≡ true → (p : ℕ) → is_unturned self.now p ≡ is_unturned other.now p }
+        ensures names { result ≡ true → (names : Names) → ChangeWithin names self.now ↔ ChangeWithin names other.now }
     {
         self.processes.is_like(&other.processes)
     }

@@ -7,7 +7,8 @@ ghost use Rattle.cap_summary.specs.Values.{read_cell, read_mode, unlisted, rest_
 ghost use Rattle.cap_summary.specs.Changes.{value_at, value_in, value_of, mode_of, changed, JoinsProcess, JoinsTo};
 ghost use Rattle.cap_summary.specs.Changes.{untouched_at, is_untouched, is_unturned};
 ghost use Rattle.cap_summary.specs.Images.{under};
-ghost use Rattle.cap_summary.specs.Tables.{process_at};
+ghost use Rattle.cap_summary.specs.Tables.{listed_value, process_at};
+ghost use Rattle.cap_summary.specs.Names.{Names, cell_within, others_within, mode_within, ChangeWithin};
 
 use crate::tables::{Cells, Processes};
 use crate::values::{Base, ModeValue, Others, Value, lower_of};
@@ -174,6 +175,8 @@ impl Change {
         ensures mode { (s : State) → read_mode s result ≡ read_mode (changed self.now s) value.now }
         ensures unturned { (p : ℕ)
             → is_own result p ≡ true → (is_unturned self.now p && is_own value.now p) ≡ true }
+        ensures names { (names : Names) → ChangeWithin names self.now → mode_within names value.now ≡ true
+            → mode_within names result ≡ true }
     {
         match value {
             ModeValue::Fixed(mode) => ModeValue::Fixed(*mode),
@@ -234,6 +237,10 @@ impl Change {
             → read_cell s (value_at r.0 r.1 f) ≡ read_cell (changed self.now s) (unlisted base.now f)) }
         ensures untouched { IfOk result (λ r. (p f : ℕ) → untouched_at r.0 r.1 p f ≡ true
             → (is_untouched self.now p f && rest_untouched base.now p f) ≡ true) }
+        ensures others { IfOk result (λ r. (names : Names) → ChangeWithin names self.now
+            → others_within names base.now.others ≡ true → others_within names r.0.others ≡ true) }
+        ensures listed { IfOk result (λ r. (names : Names) → ChangeWithin names self.now → (f : ℕ)
+            → cell_within names f (listed_value r.1 f) ≡ true) }
     {
         match base.others {
             Others::Alike(_) => Ok((*base, Cells::new())),

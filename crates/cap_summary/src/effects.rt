@@ -6,7 +6,10 @@ ghost use Rattle.cap_machine.specs.Op.{same};
 ghost use Rattle.cap_machine.specs.Touch.{started as started_cell};
 ghost use Rattle.cap_summary.specs.Values.{unlisted, rest_untouched};
 ghost use Rattle.cap_summary.specs.Tables.{process_at};
-ghost use Rattle.cap_summary.specs.Changes.{value_in, value_of, mode_of, is_listed, untouched_at, is_untouched};
+ghost use Rattle.std.specs.List.{All};
+ghost use Rattle.cap_summary.specs.Changes.{value_in, value_of, mode_of, untouched_at, is_untouched};
+ghost use Rattle.cap_summary.specs.Names.{Names, value_within, cell_within, others_within, mode_within, ProcessWithin};
+ghost use Rattle.cap_summary.specs.Names.{ChangeWithin, EffectWithin};
 ghost use Rattle.cap_summary.specs.Does.{Does};
 
 use crate::change::{Change, Process};
@@ -24,6 +27,8 @@ impl Process {
         ensures cells { (f : ℕ) → value_in result f ≡ unlisted base f }
         ensures mode { result.mode ≡ mode }
         ensures untouched { (p f : ℕ) → untouched_at result.base result.cells p f ≡ rest_untouched base p f }
+        ensures names { (names : Names) → others_within names base.others ≡ true → mode_within names mode ≡ true
+            → ProcessWithin names result }
     {
         Process {
             base,
@@ -37,6 +42,7 @@ impl Process {
         ensures cells { (f : ℕ) → value_in result f ≡ Value.Of parent f same }
         ensures mode { result.mode ≡ ModeValue.Of parent }
         ensures touched { (p f : ℕ) → untouched_at result.base result.cells p f ≡ false }
+        ensures names { (names : Names) → names.pids parent ≡ true → ProcessWithin names result }
     {
         Process::over(Base::of(parent, Passing::Same), ModeValue::Of(parent))
     }
@@ -54,6 +60,9 @@ impl Process {
         ensures mode { IfOk result (λ new. new.mode ≡ mode) }
         ensures untouched { IfOk result
             (λ new. (p f : ℕ) → untouched_at new.base new.cells p f ≡ (rest_untouched base p f && not (f == fd))) }
+        ensures names { IfOk result (λ new. (names : Names) → others_within names base.others ≡ true
+            → mode_within names mode ≡ true → cell_within names fd (Some value.now) ≡ true
+            → ProcessWithin names new) }
     {
         let mut listing = Listing::new(alloc);
         listing.set(alloc, fd, value)?;
@@ -68,6 +77,8 @@ impl Process {
         ensures mode { IfOk result (λ new. new.mode ≡ ModeValue.Own pid) }
         ensures untouched { IfOk result
             (λ new. (p f : ℕ) → untouched_at new.base new.cells p f ≡ (pid == p && not (f == fd))) }
+        ensures names { IfOk result (λ new. (names : Names) → names.pids pid ≡ true
+            → cell_within names fd (Some value.now) ≡ true → ProcessWithin names new) }
     {
         let own = Base::own(pid);
         Process::listing_one(alloc, own, ModeValue::Own(pid), fd, value)
@@ -79,6 +90,8 @@ impl Process {
             (λ new. (f : ℕ) → value_in new f ≡ (if f == fd then value.now else Value.Of parent f same)) }
         ensures mode { IfOk result (λ new. new.mode ≡ ModeValue.Of parent) }
         ensures touched { IfOk result (λ new. (p f : ℕ) → untouched_at new.base new.cells p f ≡ false) }
+        ensures names { IfOk result (λ new. (names : Names) → names.pids parent ≡ true
+            → cell_within names fd (Some value.now) ≡ true → ProcessWithin names new) }
     {
         let passed = Base::of(parent, Passing::Same);
         Process::listing_one(alloc, passed, ModeValue::Of(parent), fd, value)
@@ -97,6 +110,9 @@ impl Process {
         ensures mode { IfOk result (λ new. new.mode ≡ ModeValue.Own pid) }
         ensures untouched { IfOk result (λ new. (p f : ℕ) → untouched_at new.base new.cells p f
             ≡ (pid == p && not (f == first || f == second))) }
+        ensures names { IfOk result (λ new. (names : Names) → names.pids pid ≡ true
+            → cell_within names first (Some value.now) ≡ true → cell_within names second (Some value.now) ≡ true
+            → ProcessWithin names new) }
     {
         let mut listing = Listing::new(alloc);
         listing.set(alloc, first, value)?;
@@ -135,9 +151,10 @@ impl Change {
             (λ change. (p f : ℕ) → value_of change p f ≡ (if p == me then unlisted base f else Value.Of p f same)) }
         ensures modes { IfOk result
             (λ change. (p : ℕ) → mode_of change p ≡ (if p == me then mode else ModeValue.Own p)) }
-        ensures listed { IfOk result (λ change. (p : ℕ) → is_listed change p ≡ (p == me)) }
         ensures untouched { IfOk result (λ change. (p f : ℕ)
             → is_untouched change p f ≡ (if p == me then rest_untouched base p f else true)) }
+        ensures names { IfOk result (λ change. (names : Names) → names.pids me ≡ true
+            → others_within names base.others ≡ true → mode_within names mode ≡ true → ChangeWithin names change) }
     {
         let change = Change::only(alloc, me, Process::over(base, mode))?;
         Ok(change)
@@ -151,7 +168,9 @@ impl Change {
         second: Fd,
         cell: Cell,
     ) -> Result<Change, NoMemory>
-        ensures { IfOk result (λ change. Does change (Effect.GiveTwo first second cell) me) }
+        ensures does { IfOk result (λ change. Does change (Effect.GiveTwo first second cell) me) }
+        ensures names { IfOk result (λ change. (names : Names)
+            → EffectWithin names me (Effect.GiveTwo first second cell) → ChangeWithin names change) }
     {
         let value = Value::Fixed(cell);
         let both = Process::with_two(alloc, me, first, second, &value)?;
@@ -161,7 +180,9 @@ impl Change {
 
     /// One descriptor has what an op makes of another.
     fn taken(alloc: Global, me: Pid, to: Fd, op: &Op, from: Fd) -> Result<Change, NoMemory>
-        ensures { IfOk result (λ change. Does change (Effect.Change to op.now from) me) }
+        ensures does { IfOk result (λ change. Does change (Effect.Change to op.now from) me) }
+        ensures names { IfOk result (λ change. (names : Names) → EffectWithin names me (Effect.Change to op.now from)
+            → ChangeWithin names change) }
     {
         let process = Process::with(alloc, me, to, &Value::Of(me, from, *op))?;
         let change = Change::only(alloc, me, process)?;
@@ -171,7 +192,9 @@ impl Change {
     /// What an effect of a line of a process does.
     #[tactic(auto, using(crate::proofs::Joining::applied_same))]
     pub(crate) fn of_effect(alloc: Global, me: Pid, effect: &Effect<'_>) -> Result<Change, NoMemory>
-        ensures { IfOk result (λ change. Does change effect.now me) }
+        ensures does { IfOk result (λ change. Does change effect.now me) }
+        ensures names { IfOk result (λ change. (names : Names) → EffectWithin names me effect.now
+            → ChangeWithin names change) }
     {
         match effect {
             Effect::Keep => Ok(Change::nothing()),
@@ -214,9 +237,10 @@ impl Change {
             then Value.Fixed Cell.Unknown else (if p == child then Value.Of me f same else Value.Of p f same))) }
         ensures modes { IfOk result
             (λ change. (p : ℕ) → mode_of change p ≡ (if p == child then ModeValue.Of me else ModeValue.Own p)) }
-        ensures listed { IfOk result (λ change. (p : ℕ) → is_listed change p ≡ (p == child || p == me)) }
         ensures untouched { IfOk result (λ change. (p f : ℕ) → is_untouched change p f
             ≡ (if p == child then false else not (p == me && f == fd))) }
+        ensures names { IfOk result (λ change. (names : Names) → EffectWithin names me (Effect.ForkAs child fd)
+            → ChangeWithin names change) }
     {
         let unknown = Value::Fixed(Cell::Unknown);
         let parent = Process::with(alloc, me, fd, &unknown)?;
@@ -232,6 +256,8 @@ fn started(alloc: Global, fds: &[Fd], held: &Value) -> Result<Process, NoMemory>
     ensures cells { IfOk result (λ process. (f : ℕ) → value_in process f ≡ Value.Fixed (started_cell fds.now f)) }
     ensures mode { IfOk result (λ process. process.mode ≡ ModeValue.Fixed Mode.Outside) }
     ensures touched { IfOk result (λ process. (p f : ℕ) → untouched_at process.base process.cells p f ≡ false) }
+    ensures names { IfOk result (λ process. (names : Names) → All (λ f. names.fds f ≡ true) fds.now
+        → ProcessWithin names process) }
 {
     let mut listing = Listing::new(alloc);
     for fd in fds {

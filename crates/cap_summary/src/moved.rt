@@ -1,12 +1,15 @@
 //! What becomes of conditions behind a change.
 
-ghost use Rattle.std.specs.Prelude.{◌≡◌, ◌<◌, ◌||◌, length, slice_index_or, IfOk, IfSome, IfNone, true, false};
+ghost use Rattle.std.specs.Prelude.{◌≡◌, ◌<◌, ◌||◌, length, slice_index_or, IfOk, OnOk, IfSome, IfNone, true, false};
 ghost use Rattle.cap_machine.specs.State.{State};
 ghost use Rattle.cap_summary.specs.Changes.{changed};
 ghost use Rattle.cap_summary.specs.Conditions.{source_holds, part_holds, outside_holds, refused_holds, holds};
 ghost use Rattle.cap_summary.specs.Conditions.{any_holds, passes};
 ghost use Rattle.cap_summary.specs.Values.{read_cell};
 ghost use Rattle.cap_summary.specs.Moved.{moved_holds, moved_source_holds};
+ghost use Rattle.cap_summary.specs.Names.{Names, ChangeWithin, ConditionsWithin, value_within, source_within};
+ghost use Rattle.cap_summary.specs.Names.{part_within, outside_within, refused_within, condition_within};
+ghost use Rattle.cap_summary.specs.Names.{moved_within, moved_source_within};
 
 use crate::change::{Change, Near};
 use crate::conditions::{Condition, Refused, Source};
@@ -37,7 +40,8 @@ pub(crate) enum MovedSource {
 /// What has become of a source whose cell has this value.
 #[tactic(auto, using(crate::proofs::Holding::passes_before))]
 fn source_at(source: &Source, value: &Value) -> MovedSource
-    ensures { (s : State) → moved_source_holds s result ≡ passes source.now.test (read_cell s value.now) }
+    ensures holds { (s : State) → moved_source_holds s result ≡ passes source.now.test (read_cell s value.now) }
+    ensures names { (names : Names) → value_within names value.now ≡ true → moved_source_within names result ≡ true }
 {
     match value {
         Value::Fixed(cell) => {
@@ -64,7 +68,9 @@ fn source_at(source: &Source, value: &Value) -> MovedSource
 impl Change {
     /// What has become of a source behind this change.
     fn moved_source(&self, source: &Source) -> MovedSource
-        ensures { (s : State) → moved_source_holds s result ≡ source_holds (changed self.now s) source.now }
+        ensures holds { (s : State) → moved_source_holds s result ≡ source_holds (changed self.now s) source.now }
+        ensures names { (names : Names) → ChangeWithin names self.now → source_within names source.now ≡ true
+            → moved_source_within names result ≡ true }
     {
         source_at(source, &self.value(source.pid, source.fd))
     }
@@ -74,6 +80,8 @@ impl Change {
         ensures left { IfSome result
             (λ new. (s : State) → part_holds s new ≡ part_holds (changed self.now s) part.now) }
         ensures never { IfNone result ((s : State) → part_holds (changed self.now s) part.now ≡ false) }
+        ensures names { IfSome result (λ new. (names : Names) → ChangeWithin names self.now
+            → part_within names part.now ≡ true → part_within names new ≡ true) }
     {
         let Some(source) = part else {
             return Some(None);
@@ -89,6 +97,8 @@ impl Change {
         ensures left { IfSome result
             (λ new. (s : State) → outside_holds s new ≡ outside_holds (changed self.now s) mode) }
         ensures never { IfNone result ((s : State) → outside_holds (changed self.now s) mode ≡ false) }
+        ensures names { IfSome result (λ new. (names : Names) → ChangeWithin names self.now
+            → outside_within names mode ≡ true → outside_within names new ≡ true) }
     {
         let Some(pid) = mode else {
             return Some(None);
@@ -102,7 +112,9 @@ impl Change {
 
     #[tactic(auto, using(crate::proofs::Bools::and_false))]
     fn moved_refused(&self, refused: &Refused) -> Moved
-        ensures { (s : State) → moved_holds s result ≡ refused_holds (changed self.now s) refused.now }
+        ensures holds { (s : State) → moved_holds s result ≡ refused_holds (changed self.now s) refused.now }
+        ensures names { (names : Names) → ChangeWithin names self.now → refused_within names refused.now ≡ true
+            → moved_within names result ≡ true }
     {
         let Some(mode) = self.moved_mode(refused.mode) else {
             return Moved::Never;
@@ -125,7 +137,9 @@ impl Change {
 
     /// What has become of a condition behind this change.
     fn moved(&self, condition: &Condition) -> Moved
-        ensures { (s : State) → moved_holds s result ≡ holds (changed self.now s) condition.now }
+        ensures holds { (s : State) → moved_holds s result ≡ holds (changed self.now s) condition.now }
+        ensures names { (names : Names) → ChangeWithin names self.now → condition_within names condition.now ≡ true
+            → moved_within names result ≡ true }
     {
         match condition {
             Condition::Cell(source) => match self.moved_source(source) {
@@ -225,8 +239,11 @@ impl Change {
     ) -> Result<bool, NoMemory>
         requires in_range { at < length conditions.now }
         requires there { slice_index_or conditions.now at (Condition.Cell source.now) ≡ Condition.Cell source.now }
-        ensures { IfOk result (λ always. (s : State) → (always || any_holds s left.new)
+        ensures holds { IfOk result (λ always. (s : State) → (always || any_holds s left.new)
             ≡ (any_holds s left.old || source_holds (changed self.now s) source.now)) }
+        ensures names { OnOk result ((names : Names) → ChangeWithin names self.now
+            → source_within names source.now ≡ true → ConditionsWithin names left.old
+            → ConditionsWithin names left.new) }
     {
         let Some(value) = self.seen(source.pid, source.fd, near) else {
             left.copy(conditions, at)?;
@@ -252,8 +269,11 @@ impl Change {
         left: &mut NewConditions,
     ) -> Result<bool, NoMemory>
         requires { at < length conditions.now }
-        ensures { IfOk result (λ always. (d : Condition) (s : State) → (always || any_holds s left.new)
+        ensures holds { IfOk result (λ always. (d : Condition) (s : State) → (always || any_holds s left.new)
             ≡ (any_holds s left.old || holds (changed self.now s) (slice_index_or conditions.now at d))) }
+        ensures names { OnOk result ((names : Names) → ChangeWithin names self.now
+            → ConditionsWithin names conditions.now → ConditionsWithin names left.old
+            → ConditionsWithin names left.new) }
     {
         if let Some(source) = conditions.source(at) {
             let always = self.put_source(alloc, conditions, at, &source, near, left)?;
@@ -281,8 +301,10 @@ impl Change {
         alloc: Global,
         conditions: &Conditions,
     ) -> Result<(bool, Conditions), NoMemory>
-        ensures { IfOk result
+        ensures holds { IfOk result
             (λ r. (s : State) → (r.0 || any_holds s r.1) ≡ any_holds (changed self.now s) conditions.now) }
+        ensures names { IfOk result (λ r. (names : Names) → ChangeWithin names self.now
+            → ConditionsWithin names conditions.now → ConditionsWithin names r.1) }
     {
         if self.leaves_all(conditions) {
             return Ok((false, conditions.share()?));

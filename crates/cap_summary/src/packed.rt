@@ -3,7 +3,7 @@
 ghost use Rattle.std.specs.Prelude.{◌≡◌, ◌<◌, ◌≤◌, ◌++◌, ◌∷◌, [], ◌||◌, length, slice_index_or, true, IfOk, IfSome, OnOk};
 ghost use Rattle.cap_summary.specs.declared.conditions.Condition.{Condition};
 ghost use Rattle.cap_machine.specs.State.{State};
-ghost use Rattle.cap_summary.specs.Conditions.{holds, any_holds};
+ghost use Rattle.cap_summary.specs.Conditions.{holds};
 ghost use Rattle.cap_summary.specs.Packed.{packed_condition, packed_conditions};
 
 use crate::alike::{equal_refusals, equal_sources};
@@ -358,7 +358,7 @@ impl Conditions {
 
     /// Whether another list has the same conditions, one by one. No is a safe answer.
     pub(crate) fn is_like(&self, other: &Conditions) -> bool
-        ensures { result ≡ true → (s : State) → any_holds s self.now ≡ any_holds s other.now }
+        ensures { result ≡ true → self.now ≡ other.now }
     {
         let (own, theirs) = (self.packed(), other.packed());
         if own.len() != theirs.len() {

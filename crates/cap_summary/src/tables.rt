@@ -347,7 +347,7 @@ impl Processes {
     /// answer.
     #[tactic(auto, unfolding(crate::specs::Tables::process_at))]
     pub(crate) fn is_like(&self, others: &Processes) -> bool
-        ensures { result ≡ true → (p : ℕ) → AreAlike p (process_at self.now p) (process_at others.now p) }
+        ensures { result ≡ true → (p : ℕ) → AreAlike (process_at self.now p) (process_at others.now p) }
     {
         let (own, theirs) = (self.table.entries(), others.table.entries());
         if own.len() != theirs.len() {

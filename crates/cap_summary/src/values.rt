@@ -5,6 +5,7 @@ ghost use Rattle.cap_machine.specs.State.{State};
 ghost use Rattle.cap_machine.specs.Op.{same, exec, applied};
 ghost use Rattle.cap_summary.specs.Values.{read_cell, read_mode, passing_op, rest_value, unlisted, is_from, op_on};
 ghost use Rattle.cap_summary.specs.Values.{are_of, rest_untouched, is_own};
+ghost use Rattle.cap_summary.specs.Names.{Names, others_within, mode_within};
 
 use cap_machine::{Cell, Mode, Op};
 use cap_trace::{Fd, Pid};
@@ -85,6 +86,7 @@ impl ModeValue {
     pub(crate) fn taken(&self) -> ModeValue
         ensures mode { (s : State) → read_mode s result ≡ read_mode s self.now }
         ensures untouched { (p : ℕ) → is_own result p ≡ false }
+        ensures names { (names : Names) → mode_within names result ≡ mode_within names self.now }
     {
         match self {
             ModeValue::Own(pid) => ModeValue::Of(*pid),
@@ -96,6 +98,7 @@ impl ModeValue {
     pub(crate) fn owned_by(&self, pid: Pid) -> ModeValue
         ensures mode { (s : State) → read_mode s result ≡ read_mode s self.now }
         ensures own { (p : ℕ) → is_own result p ≡ true → (is_own self.now p && pid == p) ≡ true }
+        ensures names { (names : Names) → mode_within names result ≡ mode_within names self.now }
     {
         if self.is_own(pid) {
             *self
@@ -133,6 +136,7 @@ impl Others {
         ensures cells { (s : State) (f : ℕ)
             → read_cell s (rest_value result f) ≡ applied (passing_op passing) (read_cell s (rest_value self.now f)) }
         ensures source { (p : ℕ) → are_of result p ≡ are_of self.now p }
+        ensures names { (names : Names) → others_within names result ≡ others_within names self.now }
     {
         match self {
             Others::Alike(cell) => Others::Alike(passing.op().on(*cell)),
@@ -167,6 +171,7 @@ impl Base {
     pub(crate) fn alike(cell: Cell) -> Base
         ensures cells { (f : ℕ) → unlisted result f ≡ Value.Fixed cell }
         ensures touched { (p f : ℕ) → rest_untouched result p f ≡ false }
+        ensures names { (names : Names) → others_within names result.others ≡ true }
     {
         Base {
             others: Others::Alike(cell),
@@ -179,6 +184,7 @@ impl Base {
     pub(crate) fn of(pid: Pid, passing: Passing) -> Base
         ensures cells { (f : ℕ) → unlisted result f ≡ Value.Of pid f (passing_op passing) }
         ensures touched { (p f : ℕ) → rest_untouched result p f ≡ false }
+        ensures names { (names : Names) → others_within names result.others ≡ names.pids pid }
     {
         Base {
             others: Others::Of(pid, passing),
@@ -191,6 +197,7 @@ impl Base {
     pub(crate) fn own(pid: Pid) -> Base
         ensures cells { (f : ℕ) → unlisted result f ≡ Value.Of pid f same }
         ensures untouched { (p f : ℕ) → rest_untouched result p f ≡ (pid == p) }
+        ensures names { (names : Names) → others_within names result.others ≡ names.pids pid }
     {
         Base {
             others: Others::Of(pid, Passing::Same),
@@ -204,6 +211,7 @@ impl Base {
         ensures cells { (f : ℕ)
             → unlisted result f ≡ (if nat_le fd f then Value.Fixed Cell.Closed else Value.Of pid f same) }
         ensures untouched { (p f : ℕ) → rest_untouched result p f ≡ (pid == p && not (nat_le fd f)) }
+        ensures names { (names : Names) → others_within names result.others ≡ names.pids pid }
     {
         Base {
             others: Others::Of(pid, Passing::Same),

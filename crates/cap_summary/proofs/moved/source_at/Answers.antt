@@ -7,8 +7,8 @@ use Rattle.cap_summary.specs.Conditions.{passes, before}
 use Rattle.cap_summary.proofs.Holding.{passes_before}
 use Rattle.cap_summary.proofs.moved.source_at.Goals as goal
 
-pub returns-then-is_empty : goal.returns-then-is_empty
-returns-then-is_empty c = λ s.
+pub returns-then-is_empty-clause-holds : goal.returns-then-is_empty-clause-holds
+returns-then-is_empty-clause-holds c = λ s.
     let never : passes c.before-test.result (s.cell c.in-Of.pid c.in-Of.fd) ≡ false =
     c.if-is_empty.ensures refl (s.cell c.in-Of.pid c.in-Of.fd) in
     let moved : passes (before c.args.source.now.test c.in-Of.op) (s.cell c.in-Of.pid c.in-Of.fd)

@@ -1,4 +1,4 @@
-use Rattle.std.proofs.Common.{◌≡◌, Option, Some, sym, ap}
+use Rattle.std.proofs.Common.{◌≡◌, Option, Some, sym, ap, ◌∙◌}
 use Rattle.cap_machine.specs.State.{State}
 use Rattle.cap_summary.specs.declared.change.Process.{Process}
 use Rattle.cap_summary.specs.declared.values.Base.{Base}
@@ -7,6 +7,8 @@ use Rattle.cap_summary.specs.Tables.{listed_value, process_at}
 use Rattle.cap_summary.specs.Changes.{cell_in, changed}
 use Rattle.cap_summary.proofs.Joining.{base_joined}
 use Rattle.cap_summary.proofs.Untouched.{base_untouched}
+use Rattle.cap_summary.proofs.Naming.{passed_within}
+use Rattle.cap_summary.specs.Names.{ListedWithin}
 use Rattle.cap_summary.proofs.change.Change.base_under.Goals as goal
 
 pub returns-in_ok-cells-in-Some-clause-cells : goal.returns-in_ok-cells-in-Some-clause-cells
@@ -32,3 +34,16 @@ returns-in_ok-cells-in-Some-clause-untouched c = λ p f.
     base_untouched c.args.self.now c.args.base.now new process c.in_ok-cells-in-Some.cells c.in-Of.passing c.in-Of.pid p
     f found c.in-Of.is c.stays_own.ensures (c.passed.ensures.source p) (c.lower_of.ensures f)
     (c.in_ok-cells-in-Some.ensures f)
+
+pub returns-in_ok-cells-in-Some-clause-others : goal.returns-in_ok-cells-in-Some-clause-others
+returns-in_ok-cells-in-Some-clause-others c = λ names within is.
+    let found : process_at c.args.self.now.processes c.in-Of.pid ≡ Some c.in-Some.process.now = sym c.in-Some.ensures in
+    let listed : ListedWithin names c.in-Of.pid (Some c.in-Some.process.now) = rw found at (within c.in-Of.pid) in
+    c.passed.ensures.names names ∙ listed.1.others
+
+pub returns-in_ok-cells-in-Some-clause-listed : goal.returns-in_ok-cells-in-Some-clause-listed
+returns-in_ok-cells-in-Some-clause-listed c = λ names within f.
+    let found : process_at c.args.self.now.processes c.in-Of.pid ≡ Some c.in-Some.process.now = sym c.in-Some.ensures in
+    let listed : ListedWithin names c.in-Of.pid (Some c.in-Some.process.now) = rw found at (within c.in-Of.pid) in
+    passed_within names c.in-Of.passing c.args.base.now.closed_from f (listed_value c.in-Some.process.now.cells f)
+    (listed_value c.in_ok-cells-in-Some.cells f) (c.in_ok-cells-in-Some.ensures f) (listed.1.cells f)

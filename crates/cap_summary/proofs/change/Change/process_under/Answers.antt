@@ -1,5 +1,7 @@
 use Rattle.cap_summary.proofs.Joining.{process_joined}
 use Rattle.cap_summary.proofs.Untouched.{process_untouched}
+use Rattle.cap_summary.proofs.Naming.{over_within}
+use Rattle.cap_summary.specs.Tables.{listed_value}
 use Rattle.cap_summary.proofs.change.Change.process_under.Goals as goal
 
 pub returns : goal.returns
@@ -10,4 +12,11 @@ returns c = record {
   untouched = λ p f. process_untouched c.args.self.now c.in_ok-base.base c.args.process.now c.in_ok-base.first
       c.in_ok-cells.cells p f (c.in_ok-cells.ensures f) (c.in_ok-base.ensures.untouched p f);
   unturned = c.mode_under.ensures.unturned;
+  names = λ names change old. record {
+    cells = λ f. over_within names c.args.self.now f (listed_value c.args.process.now.cells f)
+        (listed_value c.in_ok-cells.cells f) (listed_value c.in_ok-base.first f) change (c.in_ok-cells.ensures f)
+        (old.cells f) (c.in_ok-base.ensures.listed names change f);
+    others = c.in_ok-base.ensures.others names change old.others;
+    mode = c.mode_under.ensures.names names change old.mode;
+  };
 }

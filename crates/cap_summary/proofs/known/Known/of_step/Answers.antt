@@ -3,6 +3,7 @@ use Rattle.cap_trace.specs.Entry.{Entry}
 use Rattle.cap_machine.specs.declared.step.Step.{Step}
 use Rattle.cap_summary.specs.declared.known.Known.{Known}
 use Rattle.cap_summary.specs.Does.{Does}
+use Rattle.cap_summary.specs.Names.{Names, EffectWithin, ChangeWithin}
 use Rattle.cap_summary.specs.LineConditions.{line_conditions}
 use Rattle.cap_summary.proofs.Knowing.{step_knows}
 use Rattle.cap_summary.proofs.known.Known.of_step.Goals as goal
@@ -20,8 +21,10 @@ returns c =
     } in
     let me : c.line.inside.pid ≡ step.line.pid = ap (λ (e : Entry). e.pid) c.line.view_is in
     let does : Does c.in_ok-change.change c.rule_of-rule.result.effect step.line.pid =
-    rw (← me) c.in_ok-change.ensures in
+    rw (← me) c.in_ok-change.ensures.does in
+    let names : (names : Names) → EffectWithin names step.line.pid c.rule_of-rule.result.effect
+    → ChangeWithin names c.in_ok-change.change = rw (← me) c.in_ok-change.ensures.names in
     let conditions : c.in_ok-conditions.conditions ≡ line_conditions c.rule_of-rule.result.demand step.line.pid =
     rw (← me) c.in_ok-conditions.ensures in
-    step_knows known step c.rule_of-rule.result.effect c.rule_of-rule.result.demand does
+    step_knows known step c.rule_of-rule.result.effect c.rule_of-rule.result.demand does names
     c.rule_of-rule.ensures.cells c.rule_of-rule.ensures.modes c.rule_of-rule.ensures.demand c.always.ensures conditions

@@ -12,11 +12,7 @@ loop-at-preserved c =
     shows_more (entry_seen seen_shared) c.entries-own.result.now c.entries-theirs.result.now c.loop-at.at x y within
     within2 c.index-own-at.is c.index-theirs-at.is
     (entries_seen x y c.deref.result.now c.deref-else-a-b.result.now c.if-a-b.false c.deref.ensures
-    c.deref-else-a-b.ensures (record {
-      cells = is_like.cells c.if-not-is_like.false;
-      mode = is_like.mode c.if-not-is_like.false;
-      untouched = is_like.untouched c.if-not-is_like.false;
-    })) c.loop-at.invariant
+    c.deref-else-a-b.ensures (is_like c.if-not-is_like.false)) c.loop-at.invariant
 
 pub returns : goal.returns
 returns c = λ yes p. processes_alike c.args.self.now c.args.others.now c.entries-own.result.now

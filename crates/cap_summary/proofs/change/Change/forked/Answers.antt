@@ -1,0 +1,16 @@
+use Rattle.std.proofs.Common.{eqb, cond, Option, Some, None, sym, subst, arith}
+use Rattle.cap_summary.specs.declared.change.Process.{Process}
+use Rattle.cap_summary.specs.Names.{ListedWithin}
+use Rattle.cap_summary.proofs.Naming.{listed_over}
+use Rattle.cap_summary.proofs.Untouched.{with_true}
+use Rattle.cap_summary.proofs.change.Change.forked.Goals as goal
+
+pub returns-clause-names : goal.returns-clause-names
+returns-clause-names c = λ names is p.
+    let unknown = with_true (names.fds c.args.fd) (is.fds 0 0 (omega arith)) in
+    let rest : Option Process = cond (eqb p c.args.me) (Some c.in_ok-parent.parent) None in
+    subst (ListedWithin names p) (sym (c.in_ok-processes.ensures p))
+    (listed_over names c.args.child p c.in_ok-made.made rest is.child
+    (c.in_ok-made.ensures.names names is.own unknown)
+    (listed_over names c.args.me p c.in_ok-parent.parent None is.own
+    (c.in_ok-parent.ensures.names names is.own unknown) tt))
