@@ -40,6 +40,24 @@ fn a_line_is_judged(rt: HostRuntime) -> Result<(), Fail> {
     Ok(())
 }
 
+/// What a line does, in a word.
+fn word_of(profile: Profile, line: &Line) -> &'static str {
+    match rule_of(profile, line).effect {
+        Effect::Exec => "exec",
+        Effect::Forget => "forget",
+        _ => "another",
+    }
+}
+
+/// How many findings there are of a call without checks that succeeded in capability mode.
+fn said_inside(line: &Line) -> usize {
+    let rule = rule_of(Profile::One, line);
+    match rule.demand.checks {
+        Checks::Nothing => rule.demand.judge(Mode::Inside, &[]).len(),
+        _ => 0,
+    }
+}
+
 #[test]
 fn a_step_is_a_line_in_a_profile(rt: HostRuntime) -> Result<(), Fail> {
     let line = parse_line(rt.alloc(), b"100 execve(\"a\") RET 0")?;
@@ -47,21 +65,11 @@ fn a_step_is_a_line_in_a_profile(rt: HostRuntime) -> Result<(), Fail> {
         profile: Profile::Two,
         line,
     };
-    let rule = rule_of(step.profile, &step.line);
-    assert!(rt; matches!(rule.effect, Effect::Exec));
-    let rule = rule_of(Profile::One, &step.line);
-    assert!(rt; matches!(rule.effect, Effect::Forget));
-    assert_eq!(rt; said_inside(&rule), 1);
+    assert_eq!(rt; word_of(step.profile, &step.line), "exec");
+    assert_eq!(rt; word_of(Profile::One, &step.line), "forget");
+    assert_eq!(rt; said_inside(&step.line), 1);
     assert_eq!(rt; Verdict::silent().len(), 0);
     Ok(())
-}
-
-/// How many findings there are of a call without checks that succeeded in capability mode.
-fn said_inside(rule: &Rule<'_>) -> usize {
-    match rule.demand.checks {
-        Checks::Nothing => rule.demand.judge(Mode::Inside, &[]).len(),
-        _ => 0,
-    }
 }
 
 /// Each law may be called.

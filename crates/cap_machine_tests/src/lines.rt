@@ -17,12 +17,17 @@ pub fn lines_of(alloc: Global, trace: &[u8]) -> Result<Vec<Line>, Fail> {
     Ok(lines)
 }
 
-/// The report of a checker, once it was given these lines.
-pub fn report_of(mut checker: Checker, lines: &[Line]) -> Result<Vec<u8>, NoMemory> {
+/// A checker, once it was given these lines.
+pub fn checked(mut checker: Checker, lines: &[Line]) -> Result<Checker, NoMemory> {
     for line in lines {
         if checker.count() < 100 {
             checker.line(line)?;
         }
     }
-    checker.report()
+    Ok(checker)
+}
+
+/// Its report then.
+pub fn report_of(checker: Checker, lines: &[Line]) -> Result<Vec<u8>, NoMemory> {
+    checked(checker, lines)?.report()
 }

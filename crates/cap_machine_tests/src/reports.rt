@@ -1,6 +1,6 @@
 //! Worked traces have their reports.
 
-use crate::lines::{lines_of, report_of};
+use crate::lines::{checked, lines_of, report_of};
 use crate::traces::{BY_PROFILE, REPORTS};
 use cap_machine::{Checker, Finding, Profile, put_count, put_finding};
 use cap_trace::parse_line;
@@ -46,19 +46,11 @@ fn findings_are_written(rt: HostRuntime) -> Result<(), Fail> {
 /// The example at the crate's head.
 #[test]
 fn the_example_runs(rt: HostRuntime) -> Result<(), Fail> {
-    let alloc = rt.alloc();
-    let mut checker = Checker::new(alloc, Profile::One);
-    let texts = [
-        b"100 @start(0)".as_slice(),
-        b"100 cap_rights_limit(0,CAP_READ) RET 0".as_slice(),
-        b"100 write(0) RET 5".as_slice(),
-    ];
-    for text in texts {
-        let line = parse_line(alloc, text)?;
-        if checker.count() < 100 {
-            checker.line(&line)?;
-        }
-    }
+    let lines = lines_of(
+        rt.alloc(),
+        b"100 @start(0)\n100 cap_rights_limit(0,CAP_READ) RET 0\n100 write(0) RET 5",
+    )?;
+    let checker = checked(Checker::new(rt.alloc(), Profile::One), &lines)?;
     assert!(rt; !checker.is_clean());
     let report = checker.report()?;
     assert_eq!(rt;

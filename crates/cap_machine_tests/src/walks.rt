@@ -149,41 +149,49 @@ fn a_mode_walk_finds_the_lines_that_a_mode_comes_from(rt: HostRuntime) -> Result
     Ok(())
 }
 
-/// A line with this demand, which checks one descriptor.
-fn explained_by_cell(
-    alloc: Global,
-    demand: &Demand,
-    origin: CellOrigin,
-) -> Result<Option<Explanation>, NoMemory> {
+/// Where descriptor 4 of process 202 comes from.
+fn cells_of_202(alloc: Global) -> Result<Vec<CellOrigin>, Fail> {
+    let lines = lines_of(alloc, FORKS)?;
+    let walk = walked(alloc, &lines, 202, 4, &[8, 6, 4, 2])?;
+    let mut cells = Vec::new(alloc);
+    cells.push(walk.finish(alloc, &Start::unknown(alloc))?)?;
+    Ok(cells)
+}
+
+/// Where its mode comes from.
+fn mode_of_202(alloc: Global) -> Result<ModeOrigin, Fail> {
+    let lines = lines_of(alloc, FORKS)?;
+    let walk = mode_walked(alloc, &lines, 202, &[8, 5])?;
+    Ok(walk.finish(&Start::unknown(alloc)))
+}
+
+/// A line that checks one descriptor, for which the mode doesn't matter.
+fn explained_by_cell(line: &Line, cells: Vec<CellOrigin>) -> Option<Explanation> {
+    let demand = rule_of(Profile::Two, line).demand;
     match &demand.checks {
-        Checks::One(_) => {
-            let mut cells = Vec::new(alloc);
-            cells.push(origin)?;
-            Ok(Some(Explanation::of(demand, cells, None)))
+        Checks::One(_) if cells.len() == 1 && !demand.mode_matters() => {
+            Some(Explanation::of(&demand, cells, None))
         }
-        _ => Ok(None),
+        _ => None,
     }
 }
 
-/// The same where it checks none.
-fn explained_by_mode(alloc: Global, demand: &Demand, origin: ModeOrigin) -> Option<Explanation> {
+/// One that checks none, for which the mode matters.
+fn explained_by_mode(alloc: Global, line: &Line, origin: ModeOrigin) -> Option<Explanation> {
+    let demand = rule_of(Profile::Two, line).demand;
     match &demand.checks {
-        Checks::Nothing => Some(Explanation::of(demand, Vec::new(alloc), Some(origin))),
+        Checks::Nothing if demand.mode_matters() => {
+            Some(Explanation::of(&demand, Vec::new(alloc), Some(origin)))
+        }
         _ => None,
     }
 }
 
 #[test]
 fn an_explanation_is_made_of_a_cell(rt: HostRuntime) -> Result<(), Fail> {
-    let alloc = rt.alloc();
-    let lines = lines_of(alloc, FORKS)?;
-    let write = parse_line(alloc, b"202 write(4) RET 1")?;
-    let demand = rule_of(Profile::Two, &write).demand;
-    assert!(rt; !demand.mode_matters());
-    let walk = walked(alloc, &lines, 202, 4, &[8, 6, 4, 2])?;
-    let origin = walk.finish(alloc, &Start::unknown(alloc))?;
-    let found = explained_by_cell(alloc, &demand, origin)?;
-    let found = found.ok_or("another demand")?;
+    let write = parse_line(rt.alloc(), b"202 write(4) RET 1")?;
+    let cells = cells_of_202(rt.alloc())?;
+    let found = explained_by_cell(&write, cells).ok_or("another demand")?;
     let missing = Finding::Missing(4, parse_rights(b"CAP_WRITE")?);
     assert_eq!(rt; found.verdict.as_slice().first().copied(), Some(missing));
     assert_eq!(rt; found.cells.len(), 1);
@@ -193,13 +201,9 @@ fn an_explanation_is_made_of_a_cell(rt: HostRuntime) -> Result<(), Fail> {
 
 #[test]
 fn an_explanation_is_made_of_a_mode(rt: HostRuntime) -> Result<(), Fail> {
-    let alloc = rt.alloc();
-    let lines = lines_of(alloc, FORKS)?;
-    let open = parse_line(alloc, b"202 open(\"x\",O_RDONLY) RET 3")?;
-    let demand = rule_of(Profile::Two, &open).demand;
-    assert!(rt; demand.mode_matters());
-    let origin = mode_walked(alloc, &lines, 202, &[8, 5])?.finish(&Start::unknown(alloc));
-    let found = explained_by_mode(alloc, &demand, origin).ok_or("another demand")?;
+    let open = parse_line(rt.alloc(), b"202 open(\"x\",O_RDONLY) RET 3")?;
+    let mode = mode_of_202(rt.alloc())?;
+    let found = explained_by_mode(rt.alloc(), &open, mode).ok_or("another demand")?;
     assert_eq!(rt; found.verdict.len(), 1);
     assert!(rt; found.cells.is_empty());
     assert!(rt; found.mode.is_some());
