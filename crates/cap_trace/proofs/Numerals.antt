@@ -1,7 +1,8 @@
 -- A field that is read is spelled so, and what spells it is read.
 use Rattle.std.proofs.Common.{◌≡◌, ℕ, zero, suc, ◌^◌, ◌<◌, ◌≤◌, ◌≢◌, ◌&&◌, ◌||◌, Bool, true, false, cond, not, eqb, ltb}
 use Rattle.std.proofs.Common.{leb, List, length, get_or, Option, Some, None, Result, Ok, Err, refl, sym, ap, ◌∙◌, arith}
-use Rattle.std.proofs.Common.{tests}
+use Rattle.std.proofs.Common.{tests, ◌+◌, ◌-◌, [], ◌∷◌, ◌++◌, take, drop, ◌⊎◌, inl, inr}
+use Rattle.std.proofs.lemmas.List.{length-take-le, get_or-take, length-drop, take_all, drop_more, take-append-drop}
 use Rattle.std.specs.Str.{all_ascii_digits}
 use Rattle.std.specs.Str.Parse.{digits_value}
 use Rattle.std.specs.Fmt.{decimal}
@@ -112,3 +113,25 @@ num_found most t n e = (num_takes most t n (sym e)).0
 pub num_only : (most : ℕ) (t : List ℕ) (r : Option ℕ) → r ≡ num_at most t → most < 2 ^ 64 → (n : ℕ) → n ≤ most
     → t ≡ decimal n → r ≡ Some n
 num_only most t r e fits n le is = e ∙ ap (num_at most) is ∙ num_again most n le (omega (arith, le, fits))
+
+-- ---- a number, the byte that ends it, and the rest
+
+one_digit : (a i : ℕ) → (a ≡ 48 × i ≡ 1) ⊎ (a ≢ 48) → a ≡ 48 → i ≡ 1
+one_digit a i (inl p) e = p.1
+one_digit a i (inr f) e = absurd (f e)
+
+pub number_ends : (stop : ℕ) (t : List ℕ) (i n : ℕ) → i < length t → get_or t i 0 ≡ stop → i ≢ 0
+    → (get_or t 0 0 ≡ 48 × i ≡ 1) ⊎ (get_or t 0 0 ≢ 48) → all_ascii_digits (take i t) ≡ true
+    → n ≡ digits_value 10 (take i t) → n < 2 ^ 64 → t ≡ decimal n ++ (stop ∷ take (length t - (i + 1)) (drop (i + 1) t))
+number_ends stop t i n lt at some nought all e small =
+    let size : length (take i t) ≡ i = length-take-le i t (omega (arith, lt)) in
+    let first : get_or (take i t) 0 0 ≡ get_or t 0 0 = get_or-take i t 0 0 (omega (arith, some)) in
+    let lead : get_or (take i t) 0 0 ≡ 48 → length (take i t) ≡ 1 =
+    λ z. size ∙ one_digit (get_or t 0 0) i nought (sym first ∙ z) in
+    let digits : decimal n ≡ take i t = ap decimal e ∙ decimal-digits_value own (take i t) all
+    (omega (arith, size, some)) lead (omega (arith, e, small)) in
+    let whole = take_all (length t - (i + 1)) (drop (i + 1) t) (omega (arith, length-drop (i + 1) t)) in
+    let rest : drop i t ≡ stop ∷ drop (i + 1) t = drop_more t i 0 lt ∙ ap (λ (c : ℕ). c ∷ drop (i + 1) t) at in
+    sym (take-append-drop i t) ∙ ap (λ (s : List ℕ). take i t ++ s) rest
+    ∙ ap (λ (s : List ℕ). s ++ (stop ∷ drop (i + 1) t)) (sym digits)
+    ∙ ap (λ (s : List ℕ). decimal n ++ (stop ∷ s)) (sym whole)

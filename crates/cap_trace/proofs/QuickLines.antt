@@ -17,19 +17,19 @@ use Rattle.cap_trace.specs.declared.line.Call.{Call}
 use Rattle.cap_trace.specs.declared.line.Answer.{Answer}
 use Rattle.cap_trace.specs.Names.{Head, name_of, head_named}
 use Rattle.cap_trace.specs.Fields.{are_items, is_plain, is_between, item_step, quoted}
-use Rattle.cap_trace.specs.Entry.{head_of, an_fd, a_dir, some_flags, some_rights, a_command, free_text}
-use Rattle.cap_trace.specs.Entry.{Arg, head_of_call, args_of_call, kind_of, a_path}
+use Rattle.cap_trace.specs.Entry.{head_of, a_dir, some_flags, some_rights, a_command, free_text}
+use Rattle.cap_trace.specs.Entry.{Arg, IsPid, head_of_call, args_of_call, kind_of, a_path}
 use Rattle.cap_trace.specs.Spelling.{Spells, SpellsArg, SpellsArgs, IsHead}
 use Rattle.cap_trace.specs.Quotes.{cut_at_byte}
 use Rattle.cap_trace.specs.declared.fault.FirstFault.{FirstFault}
 use Rattle.cap_trace.specs.declared.line.Dir.{Dir}
-use Rattle.cap_trace.specs.Reading.{◌>>=◌, pid_at, fd_at, dir_at, flags_at, rights_at, command_at, free_at}
+use Rattle.cap_trace.specs.Reading.{◌>>=◌, dir_at, flags_at, rights_at, command_at, free_at}
 use Rattle.cap_trace.specs.Reading.{arg_at, answer_at, line_of}
-use Rattle.cap_trace.specs.Forms.{Slot, fd, dir, flags, rights, command, free}
+use Rattle.cap_trace.specs.Forms.{Slot, dir, flags, rights, command, free}
 use Rattle.cap_trace.specs.Quick.{Before, Between, SpellsAfter, Starts}
 use Rattle.cap_trace.proofs.Cuts.{both, both_true, cut_takes}
 use Rattle.cap_trace.proofs.Heads.{head_takes}
-use Rattle.cap_trace.proofs.Spelled.{pid_takes, arg_takes}
+use Rattle.cap_trace.proofs.Spelled.{arg_takes}
 use Rattle.cap_trace.proofs.Answered.{answer_takes}
 use Rattle.cap_trace.proofs.WholeLines.{line_again}
 
@@ -45,12 +45,6 @@ read_before : (s : Slot) (stop : ℕ) (text t rest : List ℕ) (a : Arg) → Som
     → arg_at s t ≡ Ok a → Before text a stop rest
 read_before s stop text t rest a at e =
     record { spelling = t; arg = arg_takes s t a e; parts = cut_takes stop text (t, rest) (sym at) }
-
-pub fd_before : (stop : ℕ) (text t rest : List ℕ) (f : ℕ) → Some (t, rest) ≡ cut_at_byte stop text → fd_at t ≡ Ok f
-    → Before text (an_fd f) stop rest
-unfolding arg_at
-fd_before stop text t rest f at e = read_before fd stop text t rest (an_fd f) at
-    (ap (λ (r : Result ℕ FirstFault). r >>= λ x. Ok (an_fd x)) e)
 
 pub dir_before : (stop : ℕ) (text t rest : List ℕ) (d : Dir) → Some (t, rest) ≡ cut_at_byte stop text
     → dir_at t ≡ Ok d → Before text (a_dir d) stop rest
@@ -179,17 +173,16 @@ call_after h text tail x c a same e b is_answer =
     })
 
 -- how a line begins
-pub starts : (bytes pid rest name text : List ℕ) (p : ℕ) (h : Head) → length bytes ≤ 1024
-    → Some (pid, rest) ≡ cut_at_byte 32 bytes → pid_at pid ≡ Ok p → Some (name, text) ≡ cut_at_byte 40 rest
+pub starts : (bytes rest name text : List ℕ) (p : ℕ) (h : Head) → length bytes ≤ 1024
+    → bytes ≡ decimal p ++ (32 ∷ rest) → IsPid p → Some (name, text) ≡ cut_at_byte 40 rest
     → Some h ≡ head_named name → Starts bytes p h text
-starts bytes pid rest name text p h short at is_pid after named =
-    let k = pid_takes pid p is_pid in
+starts bytes rest name text p h short at is_pid after named =
     let n = head_takes name h (sym named) in
     record {
       short = short;
-      pid = k.1;
+      pid = is_pid;
       head = n.1;
-      parts = cut_is 32 bytes pid rest (decimal p) _ (sym at) k.0
+      parts = at ∙ ap (λ (r : List ℕ). decimal p ++ (32 ∷ r))
           (cut_is 40 rest name text (name_of h) text (sym after) (sym n.0) refl);
     }
 

@@ -1,7 +1,8 @@
 //! The lines that most traces are made of, read in one pass: each field ends at the byte that follows it. What isn't
 //! read so is read with care.
 
-ghost use Rattle.std.specs.Prelude.{◌≡◌, ◌∷◌, ◌<◌, IfSome, Ok, length, not, position};
+ghost use Rattle.std.specs.Prelude.{◌≡◌, ◌∷◌, ◌++◌, ◌<◌, IfSome, Ok, length, not, position};
+ghost use Rattle.std.specs.Fmt.{decimal};
 ghost use Rattle.cap_trace.specs.Fields.{is_plain};
 ghost use Rattle.cap_trace.specs.declared.calls.Form.TheVariants as forms;
 ghost use Rattle.cap_trace.specs.declared.line.Call.TheVariants as calls;
@@ -15,12 +16,12 @@ ghost use Rattle.cap_trace.specs.Quick.{Before, SpellsAfter, Starts};
 use crate::answers::answer;
 use crate::calls::{AtFlagsCall, BareCall, FdCall, FlagsCall, Form, Kind, PathCall};
 use crate::fields::plain;
-use crate::limits::LONGEST_LINE;
+use crate::limits::{LARGEST_FD, LARGEST_PID, LONGEST_LINE};
 use crate::line::{Answer, Call, Dir, Fd, Item, Pid};
 use crate::names::{Head, head_of};
 use crate::owned;
 use crate::quotes::cut;
-use crate::scan_fields::{command_of, dir_of, fd_of, flags_of, free_of, pid_of, rights_of};
+use crate::scan_fields::{command_of, dir_of, flags_of, free_of, rights_of};
 use crate::seen::fcntl_kind;
 use std::alloc::Global;
 
@@ -35,16 +36,37 @@ fn behind(byte: u8, text: &[u8]) -> Option<&[u8]>
     }
 }
 
+/// A number before this byte, and what follows the byte.
+#[inline(always)]
+fn number_before(stop: u8, text: &[u8]) -> Option<(u32, &[u8])>
+    ensures { IfSome result (λ p. text.now ≡ decimal p.0 ++ (stop ∷ p.1.now)) }
+{
+    let mut number: u32 = 0;
+    for (i, byte) in text.iter().enumerate() {
+        if *byte == stop {
+            if i == 0 || (text[0] == b'0' && i != 1) {
+                return None;
+            }
+            return Some((number, &text[i + 1..]));
+        }
+        if !byte.is_ascii_digit() || number > LARGEST_FD / 10 {
+            return None;
+        }
+        number = number * 10 + u32::from(*byte - b'0');
+    }
+    None
+}
+
 /// A descriptor before this byte, and what follows the byte.
 #[inline(always)]
 fn fd_before(stop: u8, text: &[u8]) -> Option<(Fd, &[u8])>
     ensures { IfSome result (λ p. Before text.now (an_fd p.0) stop p.1.now) }
 {
-    let (fd, rest) = cut(stop, text)?;
-    match fd_of(fd) {
-        Ok(fd) => Some((fd, rest)),
-        Err(_) => None,
+    let (fd, rest) = number_before(stop, text)?;
+    if fd > LARGEST_FD {
+        return None;
     }
+    Some((fd, rest))
 }
 
 /// A directory before this byte, and what follows the byte.
@@ -308,10 +330,10 @@ pub(crate) fn start_of(bytes: &[u8]) -> Option<Start<'_>>
     if bytes.len() > LONGEST_LINE {
         return None;
     }
-    let (pid, rest) = cut(b' ', bytes)?;
-    let Ok(pid) = pid_of(pid) else {
+    let (pid, rest) = number_before(b' ', bytes)?;
+    if pid == 0 || pid > LARGEST_PID {
         return None;
-    };
+    }
     let (name, text) = cut(b'(', rest)?;
     let head = head_of(name)?;
     Some(Start { pid, head, text })

@@ -1,9 +1,10 @@
+use Rattle.std.proofs.Common.{arith}
 use Rattle.cap_trace.specs.Rows.{head_seen}
 use Rattle.cap_trace.proofs.QuickLines.{starts}
 use Rattle.cap_trace.proofs.quick.start_of.Goals as goal
 
 pub returns : goal.returns
 returns c =
-    starts c.args.bytes.now c.in_ok-pid.pid.now c.in_ok-pid.rest.now c.in_ok-name.name.now c.in_ok-name.text.now
-    c.in-Ok.pid (head_seen c.in_ok-head.head) c.if-bytes-gt-LONGEST_LINE.false c.in_ok-pid.ensures c.in-Ok.ensures
-    c.in_ok-name.ensures c.in_ok-head.ensures
+    starts c.args.bytes.now c.in_ok-pid.rest.now c.in_ok-name.name.now c.in_ok-name.text.now
+    c.in_ok-pid.pid (head_seen c.in_ok-head.head) c.if-bytes-gt-LONGEST_LINE.false c.in_ok-pid.ensures
+    (omega (arith, c.if-pid-eq0.false), c.if-pid-gt-LARGEST_PID.false) c.in_ok-name.ensures c.in_ok-head.ensures
