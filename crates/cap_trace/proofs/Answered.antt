@@ -203,3 +203,9 @@ answer_again Any (answers.Pair n m) h =
     pair_result Any n m h.0 ∙ ap (any_at (decimal n ++ (44 ∷ decimal m))) (pair_cut n m h.0)
     ∙ ap (pair_at (2 ^ 64 - 1) (2 ^ 64 - 1)) (sym (pair_cut n m h.0))
     ∙ pair_again (2 ^ 64 - 1) (2 ^ 64 - 1) n m (omega (arith, h.0)) (omega (arith, h.1)) h.0 h.1
+
+-- an answer that is this number
+pub made_again : (k j : Kind) (tail : List ℕ) (n : ℕ) → k ≡ j → tail ≡ codes " RET " ++ decimal n
+    → IsAnswer j (answers.Made n) → answer_at k tail ≡ Ok (answers.Made n)
+made_again k j tail n is at h = ap (λ (x : Kind). answer_at x tail) is ∙ ap (answer_at j) at
+    ∙ answer_again j (answers.Made n) h

@@ -1,7 +1,7 @@
 //! The lines that most traces are made of, read in one pass: each field ends at the byte that follows it. What isn't
 //! read so is read with care.
 
-ghost use Rattle.std.specs.Prelude.{◌≡◌, ◌∷◌, ◌++◌, ◌<◌, IfSome, Ok, length, not, position};
+ghost use Rattle.std.specs.Prelude.{◌≡◌, ◌∷◌, ◌++◌, ◌<◌, IfSome, codes, Ok, length, not, position};
 ghost use Rattle.std.specs.Fmt.{decimal};
 ghost use Rattle.cap_trace.specs.Fields.{is_plain};
 ghost use Rattle.cap_trace.specs.declared.calls.Form.TheVariants as forms;
@@ -142,6 +142,47 @@ fn answered(kind: Kind, tail: &[u8]) -> Option<Answer>
     }
 }
 
+/// The number, of few digits, that a text is.
+#[inline(always)]
+fn short_number(text: &[u8]) -> Option<u32>
+    ensures { IfSome result (λ n. text.now ≡ decimal n) }
+{
+    if text.is_empty() || (text[0] == b'0' && text.len() != 1) {
+        return None;
+    }
+    let mut number: u32 = 0;
+    for byte in text {
+        if !byte.is_ascii_digit() || number > LARGEST_FD / 10 {
+            return None;
+        }
+        number = number * 10 + u32::from(*byte - b'0');
+    }
+    Some(number)
+}
+
+/// The short number that is the whole answer.
+#[inline(always)]
+fn number_after(tail: &[u8]) -> Option<u32>
+    ensures { IfSome result (λ n. tail.now ≡ codes " RET " ++ decimal n) }
+{
+    match tail {
+        [b' ', b'R', b'E', b'T', b' ', text @ ..] => short_number(text),
+        _ => None,
+    }
+}
+
+/// The answer of a call of this kind, which mostly is a short number.
+#[inline(always)]
+fn short_answer(kind: Kind, tail: &[u8]) -> Option<Answer>
+    ensures { IfSome result (λ a. answer_at kind tail.now ≡ Ok a) }
+{
+    match (kind, number_after(tail)) {
+        (Kind::Count, Some(number)) => Some(Answer::Made(u64::from(number))),
+        (Kind::Zero, Some(0)) => Some(Answer::Made(0)),
+        _ => answered(kind, tail),
+    }
+}
+
 /// The answer of a call with this name.
 fn answer_of(name: Form, tail: &[u8]) -> Option<Answer>
     ensures { IfSome result (λ a. answer_at (row_of name).kind tail.now ≡ Ok a) }
@@ -156,10 +197,8 @@ pub(crate) fn on_fd(call: FdCall, text: &[u8]) -> Option<(Fd, Answer)>
         (items.Call (calls.OnFd call p.0) p.1)) }
 {
     let (fd, tail) = fd_before(b')', text)?;
-    match answer(call.kind(), tail) {
-        Ok(answer) => Some((fd, answer)),
-        Err(_) => None,
-    }
+    let answer = short_answer(call.kind(), tail)?;
+    Some((fd, answer))
 }
 
 /// `fcntl(fd,command)`
