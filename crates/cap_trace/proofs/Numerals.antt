@@ -1,7 +1,7 @@
 -- A field that is read is spelled so, and what spells it is read.
 use Rattle.std.proofs.Common.{◌≡◌, ℕ, zero, suc, ◌^◌, ◌<◌, ◌≤◌, ◌≢◌, ◌&&◌, ◌||◌, Bool, true, false, cond, not, eqb, ltb}
 use Rattle.std.proofs.Common.{leb, List, length, get_or, Option, Some, None, Result, Ok, Err, refl, sym, ap, ◌∙◌, arith}
-use Rattle.std.proofs.Common.{tests, ◌+◌, ◌-◌, [], ◌∷◌, ◌++◌, take, drop, ◌⊎◌, inl, inr}
+use Rattle.std.proofs.Common.{tests, ◌+◌, ◌-◌, ◌∷◌, ◌++◌, take, drop, ◌⊎◌, inl, inr}
 use Rattle.std.proofs.lemmas.List.{length-take-le, get_or-take, length-drop, take_all, drop_more, take-append-drop}
 use Rattle.std.specs.Str.{all_ascii_digits}
 use Rattle.std.specs.Str.Parse.{digits_value}
