@@ -29,14 +29,16 @@ use Rattle.cap_summary.specs.declared.conditions.Condition.{Condition}
 use Rattle.cap_summary.specs.declared.known.Known.{Known}
 use Rattle.cap_summary.specs.Changes.{changed, JoinsTo, is_untouched, is_unturned}
 use Rattle.cap_summary.specs.Does.{Does}
-use Rattle.cap_summary.specs.Names.{Names, names_in, ChangeWithin, ConditionsWithin, ChildWithin, EffectWithin}
+use Rattle.cap_summary.specs.Names.{Names, AreAmong, names_in, these, ChangeWithin, ConditionsWithin, ChildWithin}
+use Rattle.cap_summary.specs.Names.{EffectWithin}
+use Rattle.cap_summary.specs.Sizes.{IsSized, NamesMany, ListMuch}
 use Rattle.cap_summary.specs.Conditions.{any_holds, has_any}
 use Rattle.cap_summary.specs.LineConditions.{line_always, line_conditions}
 use Rattle.cap_summary.specs.Knows.{Knows, Composes, IsLike, finds}
 use Rattle.cap_summary.proofs.Bools.{or_true, or_false}
 use Rattle.cap_summary.proofs.Untouched.{first_true, second_true}
 use Rattle.cap_summary.proofs.Holding.{has_any-append, has_any-map, line_holds}
-use Rattle.cap_summary.proofs.Naming.{AreAmong, change_more, conditions_more, line_within}
+use Rattle.cap_summary.proofs.Naming.{change_more, conditions_more, line_within}
 
 pub found_in_turn : (s : State) (t u : List Step)
     → has_any (check s (t ++ u)) ≡ (has_any (check s t) || has_any (check (ended s t) u))
@@ -110,7 +112,33 @@ composed_knows a b whole t u composes always left right =
           All-append (λ (step : Step). turn step p ≡ stays) t u
           (left.unturned p (first_true (is_unturned a.change p) (is_unturned b.change p) both))
           (right.unturned p (second_true (is_unturned a.change p) (is_unturned b.change p) both));
+      sized = composes.sized;
     }
+
+-- what names many processes and descriptors does so with more lines
+among_too : (some names more : Names) → AreAmong some names → AreAmong names more → AreAmong some more
+among_too some names more first second = record {
+  pids = λ p is. second.pids p (first.pids p is);
+  fds = λ f is. second.fds f (first.fds f is);
+}
+
+pub many_left : (t u : List Step) → NamesMany t → NamesMany (t ++ u)
+many_left t u many pids fds among =
+    many pids fds (among_too (names_in t) (names_in (t ++ u)) (these pids fds) (among_left t u) among)
+
+pub many_right : (t u : List Step) → NamesMany u → NamesMany (t ++ u)
+many_right t u many pids fds among =
+    many pids fds (among_too (names_in u) (names_in (t ++ u)) (these pids fds) (among_right t u) among)
+
+-- where what is known of two segments may be too much, both name many
+pub much_many : (a b : Known) (t u : List Step) → Knows a t → Knows b u → ListMuch a b → NamesMany (t ++ u)
+much_many a b t u left right much pids fds among =
+    let first = among_too (names_in t) (names_in (t ++ u)) (these pids fds) (among_left t u) among in
+    let second = among_too (names_in u) (names_in (t ++ u)) (these pids fds) (among_right t u) among in
+    much pids fds (change_more (names_in t) (these pids fds) first a.change left.listed)
+    (conditions_more (names_in t) (these pids fds) first a.conditions left.asked)
+    (change_more (names_in u) (these pids fds) second b.change right.listed)
+    (conditions_more (names_in u) (these pids fds) second b.conditions right.asked)
 
 -- of the second's conditions behind the first's change
 pub composed : (a b whole : Known) (moved : List Condition) → JoinsTo a.change b.change whole.change →
@@ -119,13 +147,14 @@ pub composed : (a b whole : Known) (moved : List Condition) → JoinsTo a.change
     ((names : Names) → ChangeWithin names a.change → ConditionsWithin names b.conditions
     → ConditionsWithin names moved) →
     ((names : Names) → ConditionsWithin names a.conditions → ConditionsWithin names moved
-    → ConditionsWithin names whole.conditions) → Composes a b whole
-composed a b whole moved joins behind both behind_asked both_asked = record {
+    → ConditionsWithin names whole.conditions) → IsSized whole → Composes a b whole
+composed a b whole moved joins behind both behind_asked both_asked sized = record {
   changes = joins;
   found = λ s. ap (λ r. whole.met || r) (both s)
       ∙ turned_round whole.met (any_holds s a.conditions) (any_holds s moved)
       ∙ ap (λ r. any_holds s a.conditions || r) (behind s);
   asked = λ names change first second. both_asked names first (behind_asked names change second);
+  sized = sized;
 }
 
 -- one that is like a part, or like the whole, stands in its place
@@ -143,6 +172,7 @@ composed_left a b whole other composes like = record {
       ∙ ap (λ r. any_holds s other.conditions || any_holds r b.conditions) (sym (like.changes s));
   asked = λ names change first second. composes.asked names ((like.names names).0 change)
       (subst (ConditionsWithin names) like.conditions first) second;
+  sized = composes.sized;
 }
 
 pub composed_right : (a b whole other : Known) → Composes a b whole → IsLike other b → Composes a other whole
@@ -158,11 +188,12 @@ composed_right a b whole other composes like = record {
       ∙ ap (λ (r : List Condition). any_holds s a.conditions || any_holds (changed a.change s) r) (sym like.conditions);
   asked = λ names change first second. composes.asked names change first
       (subst (ConditionsWithin names) like.conditions second);
+  sized = composes.sized;
 }
 
 pub composed_whole : (a b whole other : Known) → Composes a b whole → IsLike other whole → other.met ≡ whole.met
-    → Composes a b other
-composed_whole a b whole other composes like met = record {
+    → other.size ≡ whole.size → Composes a b other
+composed_whole a b whole other composes like met size = record {
   changes = record {
     changes = λ s. like.changes s ∙ composes.changes.changes s;
     untouched = λ p f e. composes.changes.untouched p f (sym (like.untouched p f) ∙ e);
@@ -173,6 +204,8 @@ composed_whole a b whole other composes like met = record {
       ∙ ap (λ (r : List Condition). whole.met || any_holds s r) like.conditions ∙ composes.found s;
   asked = λ names change first second. subst (ConditionsWithin names) (sym like.conditions)
       (composes.asked names change first second);
+  sized = λ pids fds change conditions. rw size (composes.sized pids fds ((like.names (these pids fds)).0 change)
+      (subst (ConditionsWithin (these pids fds)) like.conditions conditions));
 }
 
 -- the state behind one step
@@ -242,9 +275,9 @@ pub step_knows : (known : Known) (step : Step) (effect : Effect) (d : Demand) �
     ((p f : ℕ) → effect_touch effect step.line.pid p f ≡ touch step p f)
     → ((p : ℕ) → effect_turn effect step.line.pid p ≡ turn step p) →
     d ≡ demand step.line → known.always ≡ line_always d
-    → known.conditions ≡ line_conditions d step.line.pid →
+    → known.conditions ≡ line_conditions d step.line.pid → IsSized known →
     Knows known (step ∷ [])
-step_knows known step effect d does names cells modes is always conditions = record {
+step_knows known step effect d does names cells modes is always conditions sized = record {
   ends = effect_ends known.change step effect does cells modes;
   found = λ s.
       ap (λ r. r || any_holds s known.conditions) always
@@ -259,4 +292,5 @@ step_knows known step effect d does names cells modes is always conditions = rec
   untouched = λ p f e. one_of_all (λ (step : Step). touch step p f ≡ kept) step
       (sym (cells p f) ∙ does.untouched p f e);
   unturned = λ p e. one_of_all (λ (step : Step). turn step p ≡ stays) step (sym (modes p) ∙ does.unturned p e);
+  sized = sized;
 }

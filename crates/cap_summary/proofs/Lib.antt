@@ -7,6 +7,7 @@ pub mod Naming
 pub mod Joining
 pub mod Staying
 pub mod Comparing
+pub mod Counting
 pub mod Runs
 pub mod Holding
 pub mod Merging

@@ -34,7 +34,7 @@ use Rattle.cap_summary.specs.Tables.{listed_value, process_at, or_else}
 use Rattle.cap_summary.specs.Images.{under, passed_on}
 use Rattle.cap_summary.specs.Changes.{value_in, value_of, cell_in, mode_in, mode_of, JoinsListed}
 use Rattle.cap_summary.specs.Names.{Names, has_cell, value_within, cell_within, others_within, mode_within}
-use Rattle.cap_summary.specs.Names.{ProcessWithin, ListedWithin, ChangeWithin, part_within}
+use Rattle.cap_summary.specs.Names.{AreAmong, ProcessWithin, ListedWithin, ChangeWithin, part_within}
 use Rattle.cap_summary.specs.Names.{outside_within, condition_within, ConditionsWithin}
 use Rattle.cap_summary.specs.LineConditions.{need_of, excused_of, both_excused, one_excused, refused_by}
 use Rattle.cap_summary.specs.LineConditions.{line_conditions, line_conditions_by}
@@ -180,11 +180,6 @@ copied_within names (x ∷ xs) old new i within is all before =
     put_within names old new (get_or (x ∷ xs) i x) (is x) (all i x within) before
 
 -- ---- more names
-
--- all of some names are among others
-pub record AreAmong (some names : Names) : Type 0 where
-  pub pids : (p : ℕ) → some.pids p ≡ true → names.pids p ≡ true
-  pub fds : (f : ℕ) → some.fds f ≡ true → names.fds f ≡ true
 
 module _ (some names : Names) (among : AreAmong some names) where
   cell_more : (p f : ℕ) → has_cell some p f ≡ true → has_cell names p f ≡ true

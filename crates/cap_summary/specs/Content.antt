@@ -6,6 +6,7 @@ use Rattle.cap_machine.specs.declared.step.Step.{Step}
 use Rattle.cap_tree.specs.Run.{values}
 use Rattle.cap_summary.specs.declared.known.Known.{Known}
 use Rattle.cap_summary.specs.Knows.{Knows, Composes}
+use Rattle.cap_summary.specs.Sizes.{NamesMany}
 use Rattle.cap_summary.specs.declared.node.Parts.{Parts}
 use Rattle.cap_summary.specs.declared.node.Whole.{Whole}
 use Rattle.cap_summary.specs.declared.node.Content.{Content}
@@ -53,3 +54,4 @@ pub record IsGood (size : ℕ) (kept : Option (Rc Known Global)) (kept_parts : O
   pub known_parts : IfSome kept (λ known. FitsParts kept_parts known.value content)
   pub wide : IfNone kept (IsBoth content)
   pub long : IfNone kept (256 < size)
+  pub many : IfNone kept (NamesMany (content_steps content))

@@ -8,6 +8,7 @@ use Rattle.cap_machine.specs.Walks.{LeavesCell, LeavesMode}
 use Rattle.cap_summary.specs.declared.known.Known.{Known}
 use Rattle.cap_summary.specs.Changes.{changed, is_untouched, is_unturned, JoinsTo}
 use Rattle.cap_summary.specs.Names.{Names, names_in, ChangeWithin, ConditionsWithin}
+use Rattle.cap_summary.specs.Sizes.{IsSized}
 use Rattle.cap_summary.specs.Conditions.{any_holds, has_any}
 
 -- the state that the segment leaves
@@ -29,7 +30,8 @@ leaves_mode known p = is_unturned known.change p
 -- it. Nothing is listed or asked about that isn't named: a process only where a line names it, as its own or as the
 -- child that a fork made; a descriptor only where it stands in an argument or the answer of a line, be it of another
 -- process.
--- What is said to be untouched no step touches; of what isn't said to be nothing is promised
+-- What is said to be untouched no step touches; of what isn't said to be nothing is promised.
+-- The size is no more than the named processes and descriptors allow
 pub record Knows (known : Known) (t : List Step) : Type 0 where
   pub ends : (s : State) → state_after known s ≡ ended s t
   pub found : (s : State) → finds known s ≡ has_any (check s t)
@@ -37,6 +39,7 @@ pub record Knows (known : Known) (t : List Step) : Type 0 where
   pub asked : ConditionsWithin (names_in t) known.conditions
   pub untouched : (p f : ℕ) → leaves_cell known p f ≡ true → LeavesCell t p f
   pub unturned : (p : ℕ) → leaves_mode known p ≡ true → LeavesMode t p
+  pub sized : IsSized known
 
 -- what is known of a segment and then another: the second's conditions hold behind the first's change where one of the
 -- whole that isn't the first's holds, or in any case. The whole asks only about what they name
@@ -46,6 +49,7 @@ pub record Composes (a b whole : Known) : Type 0 where
       ≡ (any_holds s a.conditions || any_holds (changed a.change s) b.conditions)
   pub asked : (names : Names) → ChangeWithin names a.change → ConditionsWithin names a.conditions
       → ConditionsWithin names b.conditions → ConditionsWithin names whole.conditions
+  pub sized : IsSized whole
 
 -- the same changes and conditions, which name the same
 pub record IsLike (a b : Known) : Type 0 where

@@ -4,6 +4,7 @@ pub mod Shared
 pub mod Values
 pub mod Tables
 pub mod Names
+pub mod Sizes
 pub mod Changes
 pub mod Images
 pub mod Does

@@ -1,5 +1,5 @@
 -- Which processes and descriptors values, processes, changes and conditions name.
-use Rattle.std.specs.Prelude.{◌≡◌, ℕ, ◌&&◌, Bool, true, List, Option, Some, None, IfSome}
+use Rattle.std.specs.Prelude.{◌≡◌, ◌==◌, ℕ, ◌&&◌, Bool, true, List, Option, Some, None, IfSome}
 use Rattle.std.specs.Option.{option_map_or}
 use Rattle.std.specs.List.{list_any, All}
 use Rattle.cap_machine.specs.declared.step.Step.{Step}
@@ -14,6 +14,7 @@ use Rattle.cap_summary.specs.declared.values.Others.{Others}
 use Rattle.cap_summary.specs.declared.values.Others.TheVariants.{Alike, Of}
 use Rattle.cap_summary.specs.declared.change.Process.{Process}
 use Rattle.cap_summary.specs.declared.change.Change.{Change}
+use Rattle.cap_summary.specs.declared.tables.Processes.{Processes}
 use Rattle.cap_summary.specs.declared.conditions.Source.{Source}
 use Rattle.cap_summary.specs.declared.conditions.Refused.{Refused}
 use Rattle.cap_summary.specs.declared.conditions.Condition.{Condition}
@@ -36,6 +37,19 @@ names_in t = record {
   pids = λ p. list_any (λ (step : Step). names_pid p step.line) t;
   fds = λ f. list_any (λ (step : Step). names_fd f step.line) t;
 }
+
+-- all of some names are among others
+pub record AreAmong (some names : Names) : Type 0 where
+  pub pids : (p : ℕ) → some.pids p ≡ true → names.pids p ≡ true
+  pub fds : (f : ℕ) → some.fds f ≡ true → names.fds f ≡ true
+
+-- a number is one of these
+abbrev pub is_one : List ℕ → ℕ → Bool
+is_one all n = list_any (λ m. m == n) all
+
+-- just these processes and these descriptors
+abbrev pub these : List ℕ → List ℕ → Names
+these pids fds = record { pids = is_one pids; fds = is_one fds }
 
 -- a cell is of a process and a descriptor among them
 abbrev pub has_cell : Names → ℕ → ℕ → Bool
@@ -73,9 +87,12 @@ pub record ProcessWithin (names : Names) (process : Process) : Type 0 where
 abbrev pub ListedWithin : Names → ℕ → Option Process → Type 0
 ListedWithin names p listed = IfSome listed (λ process. (names.pids p ≡ true) × ProcessWithin names process)
 
--- each process that a change lists is among them, with all that is said of it
+-- each process that is listed is among them, with all that is said of it
+abbrev pub AreWithin : Names → Processes → Type 0
+AreWithin names processes = (p : ℕ) → ListedWithin names p (process_at processes p)
+
 abbrev pub ChangeWithin : Names → Change → Type 0
-ChangeWithin names change = (p : ℕ) → ListedWithin names p (process_at change.processes p)
+ChangeWithin names change = AreWithin names change.processes
 
 -- ---- conditions
 

@@ -1,6 +1,6 @@
 //! What becomes of each cell and mode over a segment.
 
-ghost use Rattle.std.specs.Prelude.{◌≡◌, ℕ, ◌&&◌, true, None, IfOk, IfSome, IfNone};
+ghost use Rattle.std.specs.Prelude.{◌≡◌, ℕ, ◌≤◌, ◌&&◌, true, None, IfOk, IfSome, IfNone, List, length};
 ghost use Rattle.cap_machine.specs.Op.{same};
 ghost use Rattle.cap_machine.specs.State.{State};
 ghost use Rattle.cap_summary.specs.Values.{read_cell, read_mode, unlisted, rest_untouched, is_own};
@@ -8,7 +8,7 @@ ghost use Rattle.cap_summary.specs.Changes.{value_at, value_in, value_of, mode_o
 ghost use Rattle.cap_summary.specs.Changes.{untouched_at, is_untouched, is_unturned};
 ghost use Rattle.cap_summary.specs.Images.{under};
 ghost use Rattle.cap_summary.specs.Tables.{listed_value, process_at};
-ghost use Rattle.cap_summary.specs.Names.{Names, cell_within, others_within, mode_within, ChangeWithin};
+ghost use Rattle.cap_summary.specs.Names.{Names, cell_within, others_within, mode_within, these, ChangeWithin};
 
 use crate::tables::{Cells, Processes};
 use crate::values::{Base, ModeValue, Others, Value, lower_of};
@@ -106,7 +106,9 @@ impl Process {
     }
 
     /// How many cells of another process it copies where it stands behind a change.
-    pub(crate) fn copied(&self, pid: Pid, change: &Change) -> usize {
+    pub(crate) fn copied(&self, pid: Pid, change: &Change) -> usize
+        ensures few { (pids fds : List ℕ) → ChangeWithin (these pids fds) change.now → result ≤ length fds }
+    {
         let Others::Of(source, _) = self.base.others else {
             return 0;
         };

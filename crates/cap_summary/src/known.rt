@@ -2,6 +2,7 @@
 
 ghost use Rattle.std.specs.Prelude.{◌≡◌, ◌∷◌, [], ◌||◌, true, IfOk, IfSome};
 ghost use Rattle.cap_machine.specs.Table.{start_state};
+ghost use Rattle.cap_summary.specs.Sizes.{IsSizeOf, IsSized, ListMuch};
 ghost use Rattle.cap_summary.specs.Knows.{Knows, Composes, IsLike, finds, state_after, leaves_cell, leaves_mode};
 
 use crate::before::Before;
@@ -30,10 +31,12 @@ pub struct Known {
     forks: bool,
 }
 
-/// How many conditions, processes and cells are listed, and whether a process has its cells from another.
-fn size_of(change: &Change, conditions: &Conditions) -> (usize, bool) {
+/// How many processes, cells and places of conditions are listed, and whether a process has its cells from another.
+fn size_of(change: &Change, conditions: &Conditions) -> (usize, bool)
+    ensures { IsSizeOf result.0 change.now conditions.now }
+{
     let (size, forks) = change.processes.size();
-    (size.saturating_add(conditions.len()), forks)
+    (size.saturating_add(conditions.places()), forks)
 }
 
 fn one_of(a: bool, b: bool, c: bool) -> bool
@@ -77,7 +80,11 @@ impl Known {
     }
 
     /// Whether what is known of a segment and then another may be too large a table.
-    pub(crate) fn is_large(a: &Known, b: &Known) -> bool {
+    pub(crate) fn is_large(a: &Known, b: &Known) -> bool
+        requires first { IsSized a.now }
+        requires second { IsSized b.now }
+        ensures { result ≡ true → ListMuch a.now b.now }
+    {
         let both = a.size.saturating_add(b.size);
         if !b.forks {
             return both > LARGE;
@@ -115,6 +122,7 @@ impl Known {
     fn with_always(this: &Rc<Known>, alloc: Global, always: bool) -> Result<Rc<Known>, NoMemory>
         ensures like { IfOk result (λ new. IsLike new.value this.now.value) }
         ensures met { IfOk result (λ new. new.value.met ≡ this.now.value.met) }
+        ensures size { IfOk result (λ new. new.value.size ≡ this.now.value.size) }
         ensures always { IfOk result (λ new. new.value.always ≡ always) }
     {
         if this.always == always {

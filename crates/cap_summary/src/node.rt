@@ -5,6 +5,7 @@ ghost use Rattle.std.specs.Prelude.{take, slice_index_or, true};
 ghost use Rattle.cap_machine.specs.Walks.{LeavesCell, LeavesMode};
 ghost use Rattle.cap_summary.specs.Passes.{PassesCell, PassesMode};
 ghost use Rattle.cap_summary.specs.Knows.{Knows};
+ghost use Rattle.cap_summary.specs.Sizes.{NamesMany};
 ghost use Rattle.cap_machine.specs.declared.step.Step.{Step};
 ghost use Rattle.cap_machine.specs.Check.{check};
 ghost use Rattle.cap_machine.specs.History.{ended};
@@ -173,6 +174,7 @@ impl Node {
         requires few { length left.now.value + length right.now.value ≤ 2 ^ 30 }
         requires known { IfSome whole (λ whole. IsWhole whole left.now.value right.now.value) }
         requires long { IfNone whole (256 < length left.now.value + length right.now.value) }
+        requires many { IfNone whole (NamesMany (left.now.value ++ right.now.value)) }
         ensures steps { IfOk result (λ n. n.value ≡ left.now.value ++ right.now.value) }
     {
         let (known, parts) = match whole {
@@ -192,6 +194,7 @@ impl Node {
     fn whole_of(alloc: Global, left: &Node, right: &Node) -> Result<Option<Whole>, NoMemory>
         ensures known { IfOk result (λ o. IfSome o (λ whole. IsWhole whole left.now right.now)) }
         ensures short { IfOk result (λ o. IfNone o (256 < length left.now + length right.now)) }
+        ensures few { IfOk result (λ o. IfNone o (NamesMany (left.now ++ right.now))) }
     {
         let Some(a) = &left.known else {
             return Ok(None);
@@ -316,6 +319,7 @@ impl Node {
     pub(crate) fn known(&self) -> Option<&Known>
         ensures knows { IfSome result (λ known. Knows known.now self.now) }
         ensures short { IfNone result (256 < length self.now) }
+        ensures few { IfNone result (NamesMany self.now) }
     {
         match &self.known {
             Some(known) => Some(known),

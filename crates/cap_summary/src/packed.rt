@@ -1,10 +1,12 @@
 //! Lists of conditions. No other module knows how a condition is kept in one: a contract sees the conditions.
 
-ghost use Rattle.std.specs.Prelude.{◌≡◌, ◌<◌, ◌≤◌, ◌++◌, ◌∷◌, [], ◌||◌, length, slice_index_or, true, IfOk, IfSome, OnOk};
+ghost use Rattle.std.specs.Prelude.{◌≡◌, ℕ, ◌+◌, ◌*◌, ◌^◌, List, ◌<◌, ◌≤◌, ◌++◌, ◌∷◌, [], ◌||◌, length, slice_index_or, true, IfOk, IfSome, OnOk};
 ghost use Rattle.cap_summary.specs.declared.conditions.Condition.{Condition};
 ghost use Rattle.cap_machine.specs.State.{State};
 ghost use Rattle.cap_summary.specs.Conditions.{holds};
 ghost use Rattle.cap_summary.specs.Packed.{packed_condition, packed_conditions};
+ghost use Rattle.cap_summary.specs.Names.{these, ConditionsWithin};
+ghost use Rattle.cap_summary.specs.Sizes.{room, rank, part_rank, condition_rank};
 
 use crate::alike::{equal_refusals, equal_sources};
 use crate::conditions::{CellTest, Condition, HeldTest, Refused, Source};
@@ -134,6 +136,44 @@ fn order_of_refusals(a: &Refused, b: &Refused) -> Ordering {
     let firsts = place_of_part(&a.first).cmp(&place_of_part(&b.first));
     let seconds = place_of_part(&a.second).cmp(&place_of_part(&b.second));
     firsts.then(seconds).then(a.mode.cmp(&b.mode))
+}
+
+/// A number for a kind of conditions, and for a process and a descriptor.
+#[inline]
+fn rank(kind: u8, pid: Pid, fd: Fd) -> u128
+    ensures value { result ≡ rank kind pid fd }
+    ensures bound { result < 2 ^ 72 }
+{
+    u128::from(kind) * 18_446_744_073_709_551_616
+        + (u128::from(pid) * 4_294_967_296 + u128::from(fd))
+}
+
+/// The same for the part of a refusal.
+#[inline]
+fn rank_of_part(part: &Option<Source>) -> u128
+    ensures value { result ≡ part_rank part.now }
+    ensures bound { result < 2 ^ 72 }
+{
+    match part {
+        Some(source) => rank(3, source.pid, source.fd),
+        None => rank(3, 0, 0),
+    }
+}
+
+impl Packed {
+    /// A number for its kind, and for the process and the descriptor that it asks about first.
+    fn rank(&self) -> u128
+        ensures value { result ≡ condition_rank (packed_condition self.now) }
+        ensures bound { result < 2 ^ 72 }
+    {
+        match self {
+            Packed::Inside(pid) => rank(0, *pid, 0),
+            Packed::Outside(pid) => rank(1, *pid, 0),
+            Packed::Cell(lack) => rank(2, lack.pid, lack.fd),
+            Packed::Other(source) => rank(2, source.pid, source.fd),
+            Packed::Refused(refused) => rank_of_part(&refused.first),
+        }
+    }
 }
 
 impl Packed {
@@ -340,6 +380,23 @@ impl Conditions {
             Packed::Other(source) => Some(**source),
             _ => None,
         }
+    }
+
+    /// How many there are, where those of one kind that ask about the same process and descriptor first count as one.
+    pub(crate) fn places(&self) -> usize
+        ensures few { (pids fds : List ℕ) → ConditionsWithin (these pids fds) self.now
+            → result ≤ 2 * room pids fds + 1 }
+    {
+        let mut count = 0usize;
+        let mut next = 0u128;
+        for item in self.packed() {
+            let rank = item.rank();
+            if rank >= next {
+                count = count.saturating_add(1);
+                next = rank + 1;
+            }
+        }
+        count
     }
 
     /// Whether each of those from one place to another comes after the one before it in the order in which they are

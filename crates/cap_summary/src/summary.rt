@@ -5,6 +5,7 @@ ghost use Rattle.std.specs.Prelude.{IfNone, map};
 ghost use Rattle.cap_machine.specs.Check.{check};
 ghost use Rattle.cap_machine.specs.Table.{start_state};
 ghost use Rattle.cap_summary.specs.Knows.{Knows};
+ghost use Rattle.cap_summary.specs.Sizes.{NamesMany};
 ghost use Rattle.cap_summary.specs.Positions.{within};
 ghost use Rattle.cap_summary.specs.Stands.{Stands, summed_up};
 
@@ -26,10 +27,13 @@ pub struct Summary {
 }
 
 impl Summary {
-    /// What is known of the steps. Of more than 256 steps nothing may be known, where the tables would be too large.
+    /// What is known of the steps. Of more than 256 steps nothing may be known, where the tables would be too large: only
+    /// where the lines name so many processes, and so many descriptors, that there are more than 5,700 processes and cells
+    /// of these.
     pub fn known(&self) -> Option<&Known>
         ensures knows { IfSome result (λ known. Knows known.now (summed_up self.now)) }
         ensures short { IfNone result (256 < length (summed_up self.now)) }
+        ensures few { IfNone result (NamesMany (summed_up self.now)) }
     {
         self.node.known()
     }

@@ -1,12 +1,14 @@
 //! Tables of cells and of processes. No other module knows how they are kept: each call here says what its look-ups
 //! answer. A table never changes, and what a call leaves as it was is shared.
 
-ghost use Rattle.std.specs.Prelude.{◌≡◌, ℕ, ◌==◌, if◌then◌else◌, None, Some, true, OnOk, IfOk};
+ghost use Rattle.std.specs.Prelude.{◌≡◌, ℕ, ◌≤◌, ◌==◌, if◌then◌else◌, None, Some, true, OnOk, IfOk, List, length};
 ghost use Rattle.std.specs.Prelude.{option_map, option_and_then, is_some};
 ghost use Rattle.std.specs.Option.{option_copied};
 ghost use Rattle.cap_summary.specs.Tables.{listed_value, value_so_far, process_at, or_else};
 ghost use Rattle.cap_summary.specs.Changes.{JoinsListed, AreAlike};
 ghost use Rattle.cap_summary.specs.Images.{under, passed_on};
+ghost use Rattle.cap_summary.specs.Names.{is_one, these, AreWithin, ChangeWithin};
+ghost use Rattle.cap_summary.specs.Sizes.{room};
 
 use crate::change::{Change, Near, Process};
 use crate::kept::{Handing, Joining, Kept, Moving};
@@ -121,8 +123,12 @@ impl Cells {
     }
 
     /// How many are listed.
-    pub(crate) fn len(&self) -> usize {
-        self.table.len()
+    #[tactic(auto, unfolding(crate::specs::Tables::listed_value))]
+    pub(crate) fn len(&self) -> usize
+        ensures few { (fds : List ℕ) → ((f : ℕ) → is_some (listed_value self.now f) ≡ true → is_one fds f ≡ true)
+            → result ≤ length fds }
+    {
+        self.table.entries().len()
     }
 
     /// Whether none is listed.
@@ -315,21 +321,28 @@ impl Processes {
     }
 
     /// How many processes and cells are listed, and whether a process has its cells from another.
-    pub(crate) fn size(&self) -> (usize, bool) {
-        let mut size = self.table.len();
+    #[tactic(auto, unfolding(crate::specs::Tables::process_at))]
+    pub(crate) fn size(&self) -> (usize, bool)
+        ensures few { (pids fds : List ℕ) → AreWithin (these pids fds) self.now → result.0 ≤ room pids fds }
+    {
+        let mut size = 0usize;
         let mut forks = false;
-        for (pid, process) in self.table.entries() {
-            size = size.saturating_add(process.cells.len());
-            forks = forks || process.base.is_of_another(*pid);
+        for entry in self.table.entries() {
+            size = size.saturating_add(entry.1.cells.len()).saturating_add(1);
+            forks = forks || entry.1.base.is_of_another(entry.0);
         }
         (size, forks)
     }
 
     /// How many cells are listed twice where these processes stand behind a change: those that they have from others.
-    pub(crate) fn copied(&self, change: &Change) -> usize {
+    #[tactic(auto, unfolding(crate::specs::Tables::process_at))]
+    pub(crate) fn copied(&self, change: &Change) -> usize
+        ensures few { (pids fds : List ℕ) → AreWithin (these pids fds) self.now → ChangeWithin (these pids fds) change.now
+            → result ≤ room pids fds }
+    {
         let mut copied = 0usize;
-        for (pid, process) in self.table.entries() {
-            copied = copied.saturating_add(process.copied(*pid, change));
+        for entry in self.table.entries() {
+            copied = copied.saturating_add(entry.1.copied(entry.0, change));
         }
         copied
     }

@@ -13,4 +13,4 @@ returns-clause-composed c =
       forks = c.size_of-size.result.1;
     } in
     composed c.args.a.now c.args.b.now whole c.in_ok-met.moved c.in_ok-change.ensures c.in_ok-met.ensures.holds
-    c.in_ok-conditions.ensures.holds c.in_ok-met.ensures.names c.in_ok-conditions.ensures.names
+    c.in_ok-conditions.ensures.holds c.in_ok-met.ensures.names c.in_ok-conditions.ensures.names c.size_of-size.ensures

@@ -28,3 +28,4 @@ returns c =
     rw (← me) c.in_ok-conditions.ensures in
     step_knows known step c.rule_of-rule.result.effect c.rule_of-rule.result.demand does names
     c.rule_of-rule.ensures.cells c.rule_of-rule.ensures.modes c.rule_of-rule.ensures.demand c.always.ensures conditions
+    c.size_of-size.ensures

@@ -7,4 +7,4 @@ returns-clause-composed c =
     let here : Composes c.args.first.now c.args.other.now c.args.whole.now.value = composed_right c.args.first.now
     c.args.second.now c.args.whole.now.value c.args.other.now c.requires (c.is_like.ensures c.if-not-is_like.false) in
     composed_whole c.args.first.now c.args.other.now c.args.whole.now.value c.in_ok-new.new.value here
-    c.in_ok-new.ensures.like c.in_ok-new.ensures.met
+    c.in_ok-new.ensures.like c.in_ok-new.ensures.met c.in_ok-new.ensures.size

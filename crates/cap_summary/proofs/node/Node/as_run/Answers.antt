@@ -35,4 +35,5 @@ invariant_of-node c =
       known_parts = tt;
       wide = tt;
       long = tt;
+      many = tt;
     }

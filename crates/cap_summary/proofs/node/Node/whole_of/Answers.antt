@@ -1,7 +1,8 @@
 use Rattle.std.proofs.Common.{◌≡◌, ◌||◌}
 use Rattle.cap_summary.specs.declared.known.Known.{Known}
 use Rattle.cap_summary.specs.Knows.{Knows, Composes}
-use Rattle.cap_summary.proofs.Knowing.{composed_knows}
+use Rattle.cap_summary.specs.Sizes.{NamesMany, ListMuch}
+use Rattle.cap_summary.proofs.Knowing.{composed_knows, many_right, much_many}
 use Rattle.cap_summary.proofs.node.Node.whole_of.Goals as goal
 
 pub returns-clause-known : goal.returns-clause-known
@@ -22,3 +23,18 @@ returns-clause-known c =
       right = rw c.in_ok-clone-2.ensures.cases right;
       composes = rw (c.in_ok-new.ensures.ok, c.in_ok-clone.ensures.cases, c.in_ok-clone-2.ensures.cases) composes;
     }
+
+pub returns-in_default-known-clause-few : goal.returns-in_default-known-clause-few
+returns-in_default-known-clause-few c =
+    let many : NamesMany c.args.right.now = rw (c.in_default-known.is, c.right.view_is) at c.right.invariant.many in
+    many_right c.args.left.now c.args.right.now many
+
+pub returns-then-is_large-clause-few : goal.returns-then-is_large-clause-few
+returns-then-is_large-clause-few c =
+    let a : Known = c.in-Some.a.value in
+    let b : Known = c.in-Some-known.b.value in
+    let left : Knows a c.args.left.now = rw (c.in-Some.is, c.left.view_is) at c.left.invariant.known in
+    let right : Knows b c.args.right.now = rw (c.in-Some-known.is, c.right.view_is) at c.right.invariant.known in
+    let much : ListMuch a b = rw (c.deref.ensures, c.deref-then-left-right-gt-KNOWN_STEPS.ensures)
+    at (c.is_large.ensures c.if-is_large.true) in
+    much_many a b c.args.left.now c.args.right.now left right much

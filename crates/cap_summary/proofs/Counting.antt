@@ -1,0 +1,285 @@
+-- How many entries a table has, and how many conditions are counted, where all keys are among some numbers.
+use Rattle.std.proofs.Common.{◌≡◌, ℕ, zero, suc, ◌+◌, ◌*◌, ◌<◌, ◌≤◌, eqb, List, [], ◌∷◌, ◌++◌, length, map}
+use Rattle.std.proofs.Common.{Option, Some, None}
+use Rattle.std.proofs.Common.{Bool, true, false, cond, refl, ap, ◌∙◌, ◌||◌, arith}
+use Rattle.std.proofs.Common.{get_or, option_map, subst, ◌&&◌, length-append}
+use Rattle.std.specs.Prelude.{is_some, nat_le}
+use Rattle.std.proofs.Math.Nat.{mul-le-mul_right, add-mul, one-mul, suc-mul}
+use Rattle.std.proofs.lemmas.Bool.{eqb-true, eq-eqb}
+use Rattle.std.proofs.lemmas.List.{length-map}
+use Rattle.std.proofs.lemmas.List.Folds.{list_any-append}
+use Rattle.std.proofs.lemmas.List.Elements.{All-head, All-tail}
+use Rattle.std.proofs.lemmas.Bool.Decides.{nat_tests}
+use Rattle.std.proofs.lemmas.Option.{slice_get_read, get_or_from_slice_get}
+use Rattle.std.specs.declared.rc.Rc.{Rc}
+use Rattle.std.specs.declared.alloc.Global.{Global}
+use Rattle.cap_summary.specs.declared.kept.Kept.{Kept}
+use Rattle.cap_summary.specs.declared.values.Value.{Value}
+use Rattle.cap_summary.specs.declared.change.Process.{Process}
+use Rattle.cap_summary.specs.declared.tables.Cells.{Cells}
+use Rattle.cap_summary.specs.declared.tables.Processes.{Processes}
+use Rattle.cap_summary.specs.Sorted.{found, Rises, RisesFrom}
+use Rattle.cap_summary.specs.Place.{IsAt}
+use Rattle.cap_summary.specs.Tables.{listed_value, kept_values, process_at, processes_shared}
+use Rattle.cap_summary.specs.Names.{Names, is_one, these, cell_within, ProcessWithin, ListedWithin, AreWithin}
+use Rattle.cap_summary.specs.Names.{outside_within, part_within, condition_within, ConditionsWithin}
+use Rattle.cap_summary.specs.declared.conditions.Source.{Source}
+use Rattle.cap_summary.specs.declared.conditions.Condition.{Condition}
+use Rattle.cap_summary.specs.declared.conditions.Condition.TheVariants as condition
+use Rattle.cap_summary.specs.declared.packed.Packed.{Packed}
+use Rattle.cap_summary.specs.Packed.{packed_condition, packed_conditions}
+use Rattle.cap_summary.specs.Sizes.{room, rank, part_rank, condition_rank}
+use Rattle.cap_summary.proofs.Bools.{or_true}
+use Rattle.cap_summary.proofs.SortedFound.{found_is_at}
+use Rattle.cap_summary.proofs.Untouched.{first_true, second_true}
+
+-- how many of some numbers are not below a bound
+abbrev pub count_from : ℕ → List ℕ → ℕ
+count_from b [] = 0
+count_from b (n ∷ rest) = cond (nat_le b n) 1 0 + count_from b rest
+
+pub count_all : (b : ℕ) (all : List ℕ) → count_from b all ≤ length all
+count_all b [] = omega arith
+count_all b (n ∷ rest) = let later = count_all b rest in grind (arith, nat_tests, later)
+
+pub count_less : (b c : ℕ) (all : List ℕ) → b ≤ c → count_from c all ≤ count_from b all
+count_less b c [] le = omega arith
+count_less b c (n ∷ rest) le = let later = count_less b c rest le in grind (arith, nat_tests, later, le)
+
+one_taken : (b k n : ℕ) (rest : List ℕ) (same found : Bool) → b ≤ k → eqb n k ≡ same → (same || found) ≡ true
+    → (found ≡ true → count_from (k + 1) rest + 1 ≤ count_from b rest)
+    → count_from (k + 1) (n ∷ rest) + 1 ≤ count_from b (n ∷ rest)
+one_taken b k n rest true found le e is later =
+    let less = count_less b (k + 1) rest (omega (arith, le)) in grind (arith, nat_tests, less, le, e)
+one_taken b k n rest false found le e is later = let less = later is in grind (arith, nat_tests, less, le, e)
+
+-- one of them that isn't below the bound is counted, and those above it too
+pub count_taken : (b k : ℕ) (all : List ℕ) → b ≤ k → is_one all k ≡ true → count_from (k + 1) all + 1 ≤ count_from b all
+count_taken b k [] le is = absurd (let no : false ≡ true = is in cc)
+count_taken b k (n ∷ rest) le is =
+    one_taken b k n rest (eqb n k) (is_one rest k) le refl is (count_taken b k rest le)
+
+-- a key that is found in the rest is found
+found_more : {V : Type 0} (k : ℕ) (v : V) (rest : List (ℕ × V)) (key : ℕ) → is_some (found rest key) ≡ true
+    → is_some (found ((k, v) ∷ rest) key) ≡ true
+found_more k v rest key is = cases (eqb k key)
+  where
+    cases : (same : Bool) → is_some (cond same (Some v) (found rest key)) ≡ true
+    cases true = refl
+    cases false = is
+
+found_first : {V : Type 0} (k : ℕ) (v : V) (rest : List (ℕ × V)) → is_some (found ((k, v) ∷ rest) k) ≡ true
+found_first k v rest = grind (arith, nat_tests)
+
+pub few_keys : {V : Type 0} (b : ℕ) (entries : List (ℕ × V)) (all : List ℕ) → RisesFrom b entries
+    → ((key : ℕ) → is_some (found entries key) ≡ true → is_one all key ≡ true) → length entries ≤ count_from b all
+few_keys b [] all rises among = omega arith
+few_keys b ((k, v) ∷ rest) all rises among =
+    let later = few_keys (k + 1) rest all rises.1 (λ key is. among key (found_more k v rest key is)) in
+    let own = count_taken b k all rises.0 (among k (found_first k v rest)) in
+    omega (arith, later, own)
+
+-- ---- cells
+
+kept_some : (o : Option Kept) → is_some o ≡ true → is_some (kept_values o) ≡ true
+kept_some None is = is
+kept_some (Some kept) is = refl
+
+-- no more cells are listed than there are descriptors that may be
+pub few_cells : (cells : Cells) (fds : List ℕ) → Rises cells.table
+    → ((f : ℕ) → is_some (listed_value cells f) ≡ true → is_one fds f ≡ true) → length cells.table ≤ length fds
+unfolding listed_value
+few_cells cells fds rises among =
+    let some = few_keys 0 cells.table fds rises (λ f is. among f (kept_some (found cells.table f) is)) in
+    let all = count_all 0 fds in
+    omega (arith, some, all)
+
+-- ---- processes
+
+some_within : (names : Names) (p : ℕ) (o : Option (Rc Process Global)) → is_some o ≡ true
+    → ListedWithin names p (processes_shared o) → names.pids p ≡ true
+some_within names p None is within = absurd (let no : false ≡ true = is in cc)
+some_within names p (Some process) is within = within.0
+
+-- no more processes are listed than may be
+pub few_processes : (processes : Processes) (pids fds : List ℕ) → Rises processes.table
+    → AreWithin (these pids fds) processes → length processes.table ≤ length pids
+unfolding process_at
+few_processes processes pids fds rises within =
+    let some = few_keys 0 processes.table pids rises
+    (λ p is. some_within (these pids fds) p (found processes.table p) is (within p)) in
+    let all = count_all 0 pids in
+    omega (arith, some, all)
+
+-- the process of an entry
+pub entry_within : (names : Names) (processes : Processes) (i : ℕ) (x : ℕ × Rc Process Global) → Rises processes.table
+    → i < length processes.table → x ≡ get_or processes.table i x → AreWithin names processes
+    → ProcessWithin names x.1.value
+unfolding process_at
+entry_within names processes i x rises lt at within =
+    let is_at : IsAt processes.table x.0 i = record {
+      in_range = lt;
+      has_key = λ d. ap (λ (e : ℕ × Rc Process Global). e.0)
+          (get_or_from_slice_get processes.table i x d
+          (slice_get_read processes.table (length processes.table) i x refl lt at));
+    } in
+    let is : found processes.table x.0 ≡ Some x.1 = found_is_at 0 processes.table x.0 i rises is_at
+    ∙ ap (λ (o : Option (ℕ × Rc Process Global)). option_map (λ entry. entry.1) o)
+    (slice_get_read processes.table (length processes.table) i x refl lt at) in
+    (rw is at (within x.0)).1
+
+-- a cell that is listed is of a descriptor that may be
+pub listed_fd : (names : Names) (process : Process) (f : ℕ) → ProcessWithin names process
+    → is_some (listed_value process.cells f) ≡ true → names.fds f ≡ true
+listed_fd names process f within is = cases (listed_value process.cells f) is (within.cells f)
+  where
+    cases : (o : Option Value) → is_some o ≡ true → cell_within names f o ≡ true → names.fds f ≡ true
+    cases None is within = absurd (let no : false ≡ true = is in cc)
+    cases (Some v) is within = first_true (names.fds f) _ within
+
+-- so many processes, each with so many cells
+pub times_more : (n m r : ℕ) → n ≤ m → n * r ≤ m * r
+times_more n m r le = mul-le-mul_right r le
+
+pub one_more : (size len i r : ℕ) → size ≤ i * (r + 1) → len ≤ r → size + (len + 1) ≤ (i + 1) * (r + 1)
+one_more size len i r le less =
+    let parts = add-mul i 1 (r + 1) in
+    let one = one-mul (r + 1) in
+    omega (arith, parts, one, le, less)
+
+-- ---- conditions
+
+-- the numbers of the cells of these processes and descriptors, and of these processes, for a kind of conditions
+abbrev cell_ranks : ℕ → List ℕ → List ℕ → List ℕ
+cell_ranks kind [] fds = []
+cell_ranks kind (p ∷ rest) fds = map (rank kind p) fds ++ cell_ranks kind rest fds
+
+abbrev process_ranks : ℕ → List ℕ → List ℕ
+process_ranks kind pids = map (λ p. rank kind p 0) pids
+
+abbrev other_ranks : List ℕ → List ℕ → List ℕ
+other_ranks pids fds = (process_ranks 0 pids ++ process_ranks 1 pids)
+    ++ (cell_ranks 2 pids fds ++ cell_ranks 3 pids fds)
+
+-- the numbers of all conditions that ask about these
+pub ranks : List ℕ → List ℕ → List ℕ
+ranks pids fds = rank 3 0 0 ∷ other_ranks pids fds
+
+count_cells : (kind : ℕ) (pids fds : List ℕ) → length (cell_ranks kind pids fds) + length pids ≡ room pids fds
+count_cells kind [] fds = omega arith
+count_cells kind (p ∷ rest) fds =
+    let later = count_cells kind rest fds in
+    let both = length-append (map (rank kind p) fds) (cell_ranks kind rest fds) in
+    let own = length-map fds (rank kind p) in
+    let parts = suc-mul (length rest) (length fds + 1) in
+    omega (arith, later, both, own, parts)
+
+pub count_ranks : (pids fds : List ℕ) → length (ranks pids fds) ≡ 2 * room pids fds + 1
+unfolding ranks
+count_ranks pids fds =
+    let all = length-append (process_ranks 0 pids ++ process_ranks 1 pids)
+    (cell_ranks 2 pids fds ++ cell_ranks 3 pids fds) in
+    let processes = length-append (process_ranks 0 pids) (process_ranks 1 pids) in
+    let cells = length-append (cell_ranks 2 pids fds) (cell_ranks 3 pids fds) in
+    let first = length-map pids (λ p. rank 0 p 0) in
+    let second = length-map pids (λ p. rank 1 p 0) in
+    let third = count_cells 2 pids fds in
+    let fourth = count_cells 3 pids fds in
+    omega (arith, all, processes, cells, first, second, third, fourth)
+
+in_first : (a b : List ℕ) (n : ℕ) → is_one a n ≡ true → is_one (a ++ b) n ≡ true
+in_first a b n is = list_any-append (λ m. eqb m n) a b ∙ ap (λ r. r || is_one b n) is
+
+in_second : (a b : List ℕ) (n : ℕ) → is_one b n ≡ true → is_one (a ++ b) n ≡ true
+in_second a b n is = list_any-append (λ m. eqb m n) a b ∙ ap (λ r. is_one a n || r) is ∙ or_true (is_one a n)
+
+one_mapped : (g : ℕ → ℕ) (m n : ℕ) (rest : List ℕ) (same found : Bool) → eqb m n ≡ same → (same || found) ≡ true
+    → (found ≡ true → is_one (map g rest) (g n) ≡ true) → (eqb (g m) (g n) || is_one (map g rest) (g n)) ≡ true
+one_mapped g m n rest true found e is later =
+    ap (λ r. r || is_one (map g rest) (g n)) (eq-eqb (g m) (g n) (ap g (eqb-true m n e)))
+one_mapped g m n rest false found e is later =
+    ap (λ r. eqb (g m) (g n) || r) (later is) ∙ or_true (eqb (g m) (g n))
+
+is_one_mapped : (g : ℕ → ℕ) (all : List ℕ) (n : ℕ) → is_one all n ≡ true → is_one (map g all) (g n) ≡ true
+is_one_mapped g [] n is = is
+is_one_mapped g (m ∷ rest) n is =
+    one_mapped g m n rest (eqb m n) (is_one rest n) refl is (is_one_mapped g rest n)
+
+one_ranked : (kind q p f : ℕ) (rest fds : List ℕ) (same found : Bool) → eqb q p ≡ same → (same || found) ≡ true
+    → is_one fds f ≡ true → (found ≡ true → is_one (cell_ranks kind rest fds) (rank kind p f) ≡ true)
+    → is_one (map (rank kind q) fds ++ cell_ranks kind rest fds) (rank kind p f) ≡ true
+one_ranked kind q p f rest fds true found e is own later =
+    in_first (map (rank kind q) fds) (cell_ranks kind rest fds) (rank kind p f)
+    (subst (λ n. is_one (map (rank kind q) fds) (rank kind n f) ≡ true) (eqb-true q p e)
+    (is_one_mapped (rank kind q) fds f own))
+one_ranked kind q p f rest fds false found e is own later =
+    in_second (map (rank kind q) fds) (cell_ranks kind rest fds) (rank kind p f) (later is)
+
+cell_ranked : (kind : ℕ) (pids fds : List ℕ) (p f : ℕ) → is_one pids p ≡ true → is_one fds f ≡ true
+    → is_one (cell_ranks kind pids fds) (rank kind p f) ≡ true
+cell_ranked kind [] fds p f is own = is
+cell_ranked kind (q ∷ rest) fds p f is own =
+    one_ranked kind q p f rest fds (eqb q p) (is_one rest p) refl is own (λ e. cell_ranked kind rest fds p f e own)
+
+among_cells : (pids fds : List ℕ) (n : ℕ) → is_one (cell_ranks 2 pids fds ++ cell_ranks 3 pids fds) n ≡ true
+    → is_one (ranks pids fds) n ≡ true
+unfolding ranks
+among_cells pids fds n is = in_second (rank 3 0 0 ∷ []) (other_ranks pids fds) n
+    (in_second (process_ranks 0 pids ++ process_ranks 1 pids) (cell_ranks 2 pids fds ++ cell_ranks 3 pids fds) n is)
+
+among_processes : (pids fds : List ℕ) (n : ℕ) → is_one (process_ranks 0 pids ++ process_ranks 1 pids) n ≡ true
+    → is_one (ranks pids fds) n ≡ true
+unfolding ranks
+among_processes pids fds n is = in_second (rank 3 0 0 ∷ []) (other_ranks pids fds) n
+    (in_first (process_ranks 0 pids ++ process_ranks 1 pids) (cell_ranks 2 pids fds ++ cell_ranks 3 pids fds) n is)
+
+no_part_ranked : (pids fds : List ℕ) → is_one (ranks pids fds) (rank 3 0 0) ≡ true
+unfolding ranks
+no_part_ranked pids fds = ap (λ r. r || is_one (other_ranks pids fds) (rank 3 0 0))
+    (eq-eqb (rank 3 0 0) (rank 3 0 0) refl)
+
+part_ranked : (pids fds : List ℕ) (part : Option Source) → part_within (these pids fds) part ≡ true
+    → is_one (ranks pids fds) (part_rank part) ≡ true
+part_ranked pids fds None is = no_part_ranked pids fds
+part_ranked pids fds (Some x) is = among_cells pids fds (rank 3 x.pid x.fd)
+    (in_second (cell_ranks 2 pids fds) (cell_ranks 3 pids fds) (rank 3 x.pid x.fd)
+    (cell_ranked 3 pids fds x.pid x.fd (first_true (is_one pids x.pid) (is_one fds x.fd) is)
+    (second_true (is_one pids x.pid) (is_one fds x.fd) is)))
+
+-- the number of a condition that asks about these alone is one of theirs
+pub condition_ranked : (pids fds : List ℕ) (x : Condition) → condition_within (these pids fds) x ≡ true
+    → is_one (ranks pids fds) (condition_rank x) ≡ true
+condition_ranked pids fds (condition.Cell x) is = among_cells pids fds (rank 2 x.pid x.fd)
+    (in_first (cell_ranks 2 pids fds) (cell_ranks 3 pids fds) (rank 2 x.pid x.fd)
+    (cell_ranked 2 pids fds x.pid x.fd (first_true (is_one pids x.pid) (is_one fds x.fd) is)
+    (second_true (is_one pids x.pid) (is_one fds x.fd) is)))
+condition_ranked pids fds (condition.Inside p) is = among_processes pids fds (rank 0 p 0)
+    (in_first (process_ranks 0 pids) (process_ranks 1 pids) (rank 0 p 0)
+    (is_one_mapped (λ q. rank 0 q 0) pids p is))
+condition_ranked pids fds (condition.Outside p) is = among_processes pids fds (rank 1 p 0)
+    (in_second (process_ranks 0 pids) (process_ranks 1 pids) (rank 1 p 0)
+    (is_one_mapped (λ q. rank 1 q 0) pids p is))
+condition_ranked pids fds (condition.Refused r) is =
+    let parts = second_true (outside_within (these pids fds) r.mode)
+    (part_within (these pids fds) r.first && part_within (these pids fds) r.second) is in
+    part_ranked pids fds r.first (first_true (part_within (these pids fds) r.first)
+    (part_within (these pids fds) r.second) parts)
+
+-- the condition at a place of a list
+pub packed_within : (names : Names) (items : List Packed) (i : ℕ) (x : Packed)
+    → ConditionsWithin names (packed_conditions items) → i < length items → x ≡ get_or items i x → condition_within names (packed_condition x) ≡ true
+packed_within names [] i x within lt at = absurd (omega (arith, lt))
+packed_within names (y ∷ rest) zero x within lt at =
+    rw at (All-head (λ condition. condition_within names condition ≡ true) (packed_condition y)
+    (packed_conditions rest) within)
+packed_within names (y ∷ rest) (suc i) x within lt at =
+    packed_within names rest i x (All-tail (λ condition. condition_within names condition ≡ true) (packed_condition y)
+    (packed_conditions rest) within) (omega (arith, lt)) at
+
+-- one more is counted where its number is above those before
+pub counted_more : (count next : ℕ) (pids fds : List ℕ) (x : Condition) → next ≤ condition_rank x
+    → condition_within (these pids fds) x ≡ true → count + count_from next (ranks pids fds) ≤ length (ranks pids fds)
+    → count + 1 + count_from (condition_rank x + 1) (ranks pids fds) ≤ length (ranks pids fds)
+counted_more count next pids fds x le within before =
+    let taken = count_taken next (condition_rank x) (ranks pids fds) le (condition_ranked pids fds x within) in
+    omega (arith, taken, before)
