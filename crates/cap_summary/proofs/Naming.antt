@@ -22,7 +22,7 @@ use Rattle.cap_summary.specs.declared.values.ModeValue.{ModeValue}
 use Rattle.cap_summary.specs.declared.values.ModeValue.TheVariants as mode_value
 use Rattle.cap_summary.specs.declared.values.Passing.{Passing}
 use Rattle.cap_summary.specs.declared.values.Others.{Others}
-use Rattle.cap_summary.specs.declared.values.Others.TheVariants.{Alike, Of}
+use Rattle.cap_summary.specs.declared.values.Others.TheVariants as rest
 use Rattle.cap_summary.specs.declared.values.Base.{Base}
 use Rattle.cap_summary.specs.declared.change.Process.{Process}
 use Rattle.cap_summary.specs.declared.change.Change.{Change}
@@ -49,8 +49,9 @@ unlisted_within names base f is named = cases (is_from base.closed_from f) base.
     cases : (b : Bool) (others : Others) → others_within names others ≡ true
         → value_within names (cond b (value.Fixed Closed) (rest_value others f)) ≡ true
     cases true others is = refl
-    cases false (Alike c) is = refl
-    cases false (Of q passing) is = both_true (names.pids q) (names.fds f) is named
+    cases false rest.Unknown is = refl
+    cases false rest.Closed is = refl
+    cases false (rest.Of q passing) is = both_true (names.pids q) (names.fds f) is named
 
 value_in_within : (names : Names) (d : Process) (f : ℕ) → ProcessWithin names d → names.fds f ≡ true
     → value_within names (value_in d f) ≡ true
@@ -197,8 +198,9 @@ module _ (some names : Names) (among : AreAmong some names) where
       (value_more v (second_true (some.fds f) (value_within some v) is))
 
   others_more : (others : Others) → others_within some others ≡ true → others_within names others ≡ true
-  others_more (Alike c) is = refl
-  others_more (Of q passing) is = among.pids q is
+  others_more rest.Unknown is = refl
+  others_more rest.Closed is = refl
+  others_more (rest.Of q passing) is = among.pids q is
 
   mode_more : (m : ModeValue) → mode_within some m ≡ true → mode_within names m ≡ true
   mode_more (mode_value.Fixed m) is = refl

@@ -6,7 +6,7 @@ use Rattle.cap_machine.specs.Touch.{Touch, kept}
 use Rattle.cap_summary.specs.declared.values.Value.{Value}
 use Rattle.cap_summary.specs.declared.values.Passing.{Passing}
 use Rattle.cap_summary.specs.declared.values.Others.{Others}
-use Rattle.cap_summary.specs.declared.values.Others.TheVariants.{Alike, Of}
+use Rattle.cap_summary.specs.declared.values.Others.TheVariants as rest
 use Rattle.cap_summary.specs.declared.values.Base.{Base}
 use Rattle.cap_summary.specs.declared.change.Process.{Process}
 use Rattle.cap_summary.specs.declared.change.Change.{Change}
@@ -46,11 +46,12 @@ not_there false true t e = absurd cc
 -- ---- bases
 
 same_source : (others : Others) (q p : ℕ) → are_of others q ≡ true → are_of others p ≡ true → q ≡ p
-same_source (Alike c) q p first second = absurd cc
-same_source (Of source passing) q p first second = sym (eqb-true source q first) ∙ eqb-true source p second
+same_source rest.Unknown q p first second = absurd cc
+same_source rest.Closed q p first second = absurd cc
+same_source (rest.Of source passing) q p first second = sym (eqb-true source q first) ∙ eqb-true source p second
 
 -- the base of a process that isn't listed
-pub none_touched : (a : Change) (base : Base) (passing : Passing) (q p f : ℕ) → base.others ≡ Of q passing
+pub none_touched : (a : Change) (base : Base) (passing : Passing) (q p f : ℕ) → base.others ≡ rest.Of q passing
     → process_at a.processes q ≡ None → rest_untouched base p f ≡ true → is_untouched a p f ≡ true
 none_touched a base passing q p f is none e =
     let own = first_true (base.own && are_of base.others p) (not (is_from base.closed_from f)) e in
@@ -74,7 +75,7 @@ base_parts true true true true false false hand (Some v) e = absurd cc
 base_parts true true true true false false hand None e = (refl, refl, refl, refl, refl)
 
 pub base_untouched : (a : Change) (base new : Base) (process : Process) (cells : Cells) (passing : Passing) (q p f : ℕ)
-    → process_at a.processes q ≡ Some process → base.others ≡ Of q passing
+    → process_at a.processes q ≡ Some process → base.others ≡ rest.Of q passing
     → new.own ≡ (base.own && (process.base.own && are_of process.base.others q))
     → are_of new.others p ≡ are_of process.base.others p
     → is_from new.closed_from f ≡ (is_from process.base.closed_from f || is_from base.closed_from f)

@@ -11,7 +11,7 @@ use Rattle.cap_summary.specs.declared.values.Value.TheVariants as value
 use Rattle.cap_summary.specs.declared.values.ModeValue.{ModeValue}
 use Rattle.cap_summary.specs.declared.values.ModeValue.TheVariants as mode_value
 use Rattle.cap_summary.specs.declared.values.Others.{Others}
-use Rattle.cap_summary.specs.declared.values.Others.TheVariants.{Alike, Of}
+use Rattle.cap_summary.specs.declared.values.Others.TheVariants as rest
 use Rattle.cap_summary.specs.declared.change.Process.{Process}
 use Rattle.cap_summary.specs.declared.change.Change.{Change}
 use Rattle.cap_summary.specs.declared.tables.Processes.{Processes}
@@ -69,8 +69,9 @@ cell_within names f (Some v) = names.fds f && value_within names v
 
 -- the process that cells which aren't listed come from, and the one that a mode comes from
 abbrev pub others_within : Names → Others → Bool
-others_within names (Alike c) = true
-others_within names (Of q passing) = names.pids q
+others_within names rest.Unknown = true
+others_within names rest.Closed = true
+others_within names (rest.Of q passing) = names.pids q
 
 abbrev pub mode_within : Names → ModeValue → Bool
 mode_within names (mode_value.Fixed m) = true

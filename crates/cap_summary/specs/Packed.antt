@@ -1,24 +1,31 @@
 -- Conditions as a list keeps them.
-use Rattle.std.specs.Prelude.{List, map}
+use Rattle.std.specs.Prelude.{List, map, Bool, true, false}
 use Rattle.cap_summary.specs.declared.conditions.HeldTest.TheVariants.{Lacks}
+use Rattle.cap_summary.specs.declared.conditions.Source.{Source}
 use Rattle.cap_summary.specs.declared.conditions.Condition.{Condition}
 use Rattle.cap_summary.specs.declared.conditions.Condition.TheVariants as condition
+use Rattle.cap_summary.specs.declared.packed.Lack.{Lack}
 use Rattle.cap_summary.specs.declared.packed.Packed.{Packed}
 use Rattle.cap_summary.specs.declared.packed.Packed.TheVariants as packed
 
--- the condition that stands there
-abbrev pub packed_condition : Packed → Condition
-packed_condition (packed.Cell lack) = condition.Cell (record {
+-- a cell that lacks rights, or is closed where that is asked for
+abbrev pub lacking : Bool → Lack → Source
+lacking closed lack = record {
   pid = lack.pid;
   fd = lack.fd;
   test = record {
-    unknown = lack.unknown;
-    closed = lack.closed;
+    unknown = false;
+    closed = closed;
     set = Lacks lack.rights;
     clear = Lacks lack.rights;
     unsure = Lacks lack.rights;
   };
-})
+}
+
+-- the condition that stands there
+abbrev pub packed_condition : Packed → Condition
+packed_condition (packed.ClosedOrLacks lack) = condition.Cell (lacking true lack)
+packed_condition (packed.Lacks lack) = condition.Cell (lacking false lack)
 packed_condition (packed.Other x) = condition.Cell x.value
 packed_condition (packed.Inside p) = condition.Inside p
 packed_condition (packed.Outside p) = condition.Outside p

@@ -2,6 +2,8 @@
 use Rattle.std.specs.Prelude.{ℕ, Option, Some, None, option_map}
 use Rattle.std.specs.declared.rc.Rc.{Rc}
 use Rattle.std.specs.declared.alloc.Global.{Global}
+use Rattle.cap_machine.specs.declared.cell.Cell.TheVariants as cell
+use Rattle.cap_machine.specs.declared.cell.OnExec.TheVariants as flag
 use Rattle.cap_summary.specs.Sorted.{found}
 use Rattle.cap_summary.specs.declared.values.Value.{Value}
 use Rattle.cap_summary.specs.declared.values.Value.TheVariants as value
@@ -12,10 +14,14 @@ use Rattle.cap_summary.specs.declared.tables.Cells.{Cells}
 use Rattle.cap_summary.specs.declared.tables.Listing.{Listing}
 use Rattle.cap_summary.specs.declared.tables.Processes.{Processes}
 
--- the value that a table keeps, whose op is shared
+-- the value that a table keeps, shared where it is large
 abbrev pub kept_value : Kept → Value
-kept_value (kept.Fixed c) = value.Fixed c
-kept_value (kept.Of q g op) = value.Of q g op.value
+kept_value kept.Unknown = value.Fixed cell.Unknown
+kept_value kept.Closed = value.Fixed cell.Closed
+kept_value (kept.Set r) = value.Fixed (cell.Held r flag.Set)
+kept_value (kept.Clear r) = value.Fixed (cell.Held r flag.Clear)
+kept_value (kept.Unsure r) = value.Fixed (cell.Held r flag.Unsure)
+kept_value (kept.Of taken) = value.Of taken.value.pid taken.value.fd taken.value.op
 
 abbrev pub kept_values : Option Kept → Option Value
 kept_values o = option_map kept_value o

@@ -1,7 +1,7 @@
 -- What a cell or a mode is after a segment, read under the state before it.
 use Rattle.std.specs.Prelude.{ℕ, ◌==◌, ◌&&◌, not, Bool, false, Option, Some, None, nat_le, if◌then◌else◌}
 use Rattle.cap_machine.specs.declared.cell.Cell.{Cell}
-use Rattle.cap_machine.specs.declared.cell.Cell.TheVariants.{Closed}
+use Rattle.cap_machine.specs.declared.cell.Cell.TheVariants.{Unknown, Closed}
 use Rattle.cap_machine.specs.declared.cell.Mode.{Mode}
 use Rattle.cap_machine.specs.declared.cell.Op.{Op}
 use Rattle.cap_machine.specs.State.{State}
@@ -14,7 +14,7 @@ use Rattle.cap_summary.specs.declared.values.ModeValue.TheVariants as mode_value
 use Rattle.cap_summary.specs.declared.values.Passing.{Passing}
 use Rattle.cap_summary.specs.declared.values.Passing.TheVariants as passings
 use Rattle.cap_summary.specs.declared.values.Others.{Others}
-use Rattle.cap_summary.specs.declared.values.Others.TheVariants.{Alike, Of}
+use Rattle.cap_summary.specs.declared.values.Others.TheVariants as rest
 use Rattle.cap_summary.specs.declared.values.Base.{Base}
 
 -- the cell that a value stands for: a constant, or what its op makes of a cell before the segment
@@ -41,8 +41,9 @@ passing_op passings.Exec = exec
 
 -- a cell that isn't listed
 abbrev pub rest_value : Others → ℕ → Value
-rest_value (Alike c) f = value.Fixed c
-rest_value (Of q passing) f = value.Of q f (passing_op passing)
+rest_value rest.Unknown f = value.Fixed Unknown
+rest_value rest.Closed f = value.Fixed Closed
+rest_value (rest.Of q passing) f = value.Of q f (passing_op passing)
 
 -- a descriptor at or above the one that a closefrom(2) named, where there was one
 abbrev pub is_from : Option ℕ → ℕ → Bool
@@ -55,8 +56,9 @@ unlisted base f = if is_from base.closed_from f then value.Fixed Closed else res
 
 -- the cells that no list has are those of process p
 abbrev pub are_of : Others → ℕ → Bool
-are_of (Alike c) p = false
-are_of (Of q passing) p = q == p
+are_of rest.Unknown p = false
+are_of rest.Closed p = false
+are_of (rest.Of q passing) p = q == p
 
 -- no step of the segment touched a cell of process p that isn't listed and has this base
 abbrev pub rest_untouched : Base → ℕ → ℕ → Bool

@@ -10,7 +10,7 @@ ghost use Rattle.cap_summary.specs.Names.{Names, ChangeWithin};
 
 use crate::change::{Change, Process};
 use crate::conditions::{CellTest, HeldTest, Refused, Source};
-use crate::kept::Kept;
+use crate::kept::{Kept, Taken};
 use crate::values::Base;
 use cap_machine::{Cell, HeldOp, Op};
 
@@ -38,6 +38,13 @@ fn equal_ops(a: &Op, b: &Op) -> bool
         return false;
     }
     equal_held(&a.unsure, &b.unsure)
+}
+
+/// Whether two values are the same op's of the same cell. No is a safe answer.
+fn equal_taken(a: &Taken, b: &Taken) -> bool
+    ensures { result ≡ true → a.now ≡ b.now }
+{
+    a.pid == b.pid && a.fd == b.fd && equal_ops(&a.op, &b.op)
 }
 
 fn equal_bases(a: &Base, b: &Base) -> bool
@@ -93,8 +100,11 @@ impl Kept {
         ensures { result ≡ true → kept_value self.now ≡ kept_value other.now }
     {
         match (self, other) {
-            (Kept::Fixed(a), Kept::Fixed(b)) => a == b,
-            (Kept::Of(p, f, a), Kept::Of(q, g, b)) => p == q && f == g && equal_ops(a, b),
+            (Kept::Unknown, Kept::Unknown) | (Kept::Closed, Kept::Closed) => true,
+            (Kept::Set(a), Kept::Set(b)) => a == b,
+            (Kept::Clear(a), Kept::Clear(b)) => a == b,
+            (Kept::Unsure(a), Kept::Unsure(b)) => a == b,
+            (Kept::Of(a), Kept::Of(b)) => equal_taken(a, b),
             _ => false,
         }
     }

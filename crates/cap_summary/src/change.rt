@@ -217,7 +217,7 @@ impl Change {
             → rest_untouched base.now p f ≡ true → is_untouched self.now p f ≡ true }
     {
         match base.others {
-            Others::Alike(_) => true,
+            Others::Unknown | Others::Closed => true,
             Others::Of(pid, _) => self.processes.get(pid).is_none(),
         }
     }
@@ -245,7 +245,7 @@ impl Change {
             → cell_within names f (listed_value r.1 f) ≡ true) }
     {
         match base.others {
-            Others::Alike(_) => Ok((*base, Cells::new())),
+            Others::Unknown | Others::Closed => Ok((*base, Cells::new())),
             Others::Of(pid, passing) => match self.processes.get(pid) {
                 None => Ok((*base, Cells::new())),
                 Some(process) => {

@@ -207,12 +207,9 @@ impl Change {
                 Change::only(alloc, me, started(alloc, fds, &held)?)
             }
             Effect::Exit => {
-                let unknown = Base::alike(Cell::Unknown);
-                Change::whole(alloc, me, unknown, ModeValue::Fixed(Mode::Unsure))
+                Change::whole(alloc, me, Base::unknown(), ModeValue::Fixed(Mode::Unsure))
             }
-            Effect::Forget => {
-                Change::whole(alloc, me, Base::alike(Cell::Unknown), ModeValue::Own(me))
-            }
+            Effect::Forget => { Change::whole(alloc, me, Base::unknown(), ModeValue::Own(me)) }
             Effect::Exec => {
                 let passed = Base::of(me, Passing::Exec);
                 Change::whole(alloc, me, passed, ModeValue::Own(me))
@@ -264,7 +261,7 @@ fn started(alloc: Global, fds: &[Fd], held: &Value) -> Result<Process, NoMemory>
         listing.set(alloc, *fd, held)?;
     }
     Ok(Process {
-        base: Base::alike(Cell::Closed),
+        base: Base::closed(),
         mode: ModeValue::Fixed(Mode::Outside),
         cells: listing.finish()?,
     })

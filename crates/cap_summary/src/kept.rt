@@ -7,27 +7,65 @@ ghost use Rattle.cap_summary.specs.Images.{under};
 use crate::change::{Change, Near, Process};
 use crate::sorted::Combine;
 use crate::values::{Passing, Value, is_closed};
-use cap_machine::{Cell, Op};
+use cap_machine::{Cell, OnExec, Op};
+use cap_rights::RightSet;
 use cap_trace::{Fd, Pid};
 use cap_tree::NoMemory;
 use std::alloc::Global;
 use std::rc::Rc;
 
-/// A value as a table keeps it: its op is shared.
+/// What an op makes of the cell that a descriptor of a process had before.
+#[derive(Clone, Copy)]
+pub(crate) struct Taken {
+    pub(crate) pid: Pid,
+    pub(crate) fd: Fd,
+    pub(crate) op: Op,
+}
+
+/// A value as a table keeps it, in few bytes: a cell by its kind and flag, and else shared.
 #[derive(Drop)]
 pub(crate) enum Kept {
-    Fixed(Cell),
-    Of(Pid, Fd, Rc<Op>),
+    Unknown,
+    Closed,
+    Set(RightSet),
+    Clear(RightSet),
+    Unsure(RightSet),
+    Of(Rc<Taken>),
 }
 
 impl Kept {
+    /// A held cell, to be kept.
+    fn held(rights: &RightSet, flag: OnExec) -> Kept
+        ensures { kept_value result ≡ Value.Fixed (Cell.Held rights.now flag) }
+    {
+        match flag {
+            OnExec::Set => Kept::Set(*rights),
+            OnExec::Clear => Kept::Clear(*rights),
+            OnExec::Unsure => Kept::Unsure(*rights),
+        }
+    }
+
+    /// A cell, to be kept.
+    fn of_cell(cell: &Cell) -> Kept
+        ensures { kept_value result ≡ Value.Fixed cell.now }
+    {
+        match cell {
+            Cell::Unknown => Kept::Unknown,
+            Cell::Closed => Kept::Closed,
+            Cell::Held(rights, flag) => Kept::held(rights, *flag),
+        }
+    }
+
     /// The value, to be kept.
     pub(crate) fn of(alloc: Global, value: &Value) -> Result<Kept, NoMemory>
         ensures { IfOk result (λ kept. kept_value kept ≡ value.now) }
     {
         match value {
-            Value::Fixed(cell) => Ok(Kept::Fixed(*cell)),
-            Value::Of(pid, fd, op) => Ok(Kept::Of(*pid, *fd, Rc::new(alloc, *op)?)),
+            Value::Fixed(cell) => Ok(Kept::of_cell(cell)),
+            Value::Of(pid, fd, op) => {
+                let (pid, fd, op) = (*pid, *fd, *op);
+                Ok(Kept::Of(Rc::new(alloc, Taken { pid, fd, op })?))
+            }
         }
     }
 
@@ -36,18 +74,26 @@ impl Kept {
         ensures { result ≡ kept_value self.now }
     {
         match self {
-            Kept::Fixed(cell) => Value::Fixed(*cell),
-            Kept::Of(pid, fd, op) => Value::Of(*pid, *fd, **op),
+            Kept::Unknown => Value::Fixed(Cell::Unknown),
+            Kept::Closed => Value::Fixed(Cell::Closed),
+            Kept::Set(rights) => Value::Fixed(Cell::Held(*rights, OnExec::Set)),
+            Kept::Clear(rights) => Value::Fixed(Cell::Held(*rights, OnExec::Clear)),
+            Kept::Unsure(rights) => Value::Fixed(Cell::Held(*rights, OnExec::Unsure)),
+            Kept::Of(taken) => Value::Of(taken.pid, taken.fd, taken.op),
         }
     }
 
-    /// The same value, its op shared.
+    /// The same value, shared where it is large.
     fn share(&self) -> Result<Kept, NoMemory>
         ensures { IfOk result (λ same. kept_value same ≡ kept_value self.now) }
     {
         match self {
-            Kept::Fixed(cell) => Ok(Kept::Fixed(*cell)),
-            Kept::Of(pid, fd, op) => Ok(Kept::Of(*pid, *fd, op.clone()?)),
+            Kept::Unknown => Ok(Kept::Unknown),
+            Kept::Closed => Ok(Kept::Closed),
+            Kept::Set(rights) => Ok(Kept::Set(*rights)),
+            Kept::Clear(rights) => Ok(Kept::Clear(*rights)),
+            Kept::Unsure(rights) => Ok(Kept::Unsure(*rights)),
+            Kept::Of(taken) => Ok(Kept::Of(taken.clone()?)),
         }
     }
 
@@ -56,8 +102,8 @@ impl Kept {
         ensures { result ≡ true → under change.now (kept_value self.now) ≡ kept_value self.now }
     {
         match self {
-            Kept::Fixed(_) => true,
-            Kept::Of(pid, fd, _) => change.leaves(*pid, *fd, near),
+            Kept::Of(taken) => change.leaves(taken.pid, taken.fd, near),
+            _ => true,
         }
     }
 

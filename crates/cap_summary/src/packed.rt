@@ -1,10 +1,11 @@
 //! Lists of conditions. No other module knows how a condition is kept in one: a contract sees the conditions.
 
-ghost use Rattle.std.specs.Prelude.{◌≡◌, ℕ, ◌+◌, ◌*◌, ◌^◌, List, ◌<◌, ◌≤◌, ◌++◌, ◌∷◌, [], ◌||◌, length, slice_index_or, true, IfOk, IfSome, OnOk};
+ghost use Rattle.std.specs.Prelude.{◌≡◌, ℕ, ◌+◌, ◌*◌, ◌^◌, List, ◌<◌, ◌≤◌, ◌++◌, ◌∷◌, [], ◌||◌, length, slice_index_or};
+ghost use Rattle.std.specs.Prelude.{Bool, true, IfOk, IfSome, OnOk};
 ghost use Rattle.cap_summary.specs.declared.conditions.Condition.{Condition};
 ghost use Rattle.cap_machine.specs.State.{State};
-ghost use Rattle.cap_summary.specs.Conditions.{holds};
-ghost use Rattle.cap_summary.specs.Packed.{packed_condition, packed_conditions};
+ghost use Rattle.cap_summary.specs.Conditions.{holds, source_holds};
+ghost use Rattle.cap_summary.specs.Packed.{lacking, packed_condition, packed_conditions};
 ghost use Rattle.cap_summary.specs.Names.{these, ConditionsWithin};
 ghost use Rattle.cap_summary.specs.Sizes.{room, rank, part_rank, condition_rank};
 
@@ -18,45 +19,38 @@ use std::cmp::Ordering;
 use std::marker::Model;
 use std::rc::{Rc, RcSlice};
 
-/// A test of a cell that any held one fails by the same rights.
+/// A cell, and rights of which it lacks some.
 #[derive(Clone, Copy)]
 pub(crate) struct Lack {
     pid: Pid,
     fd: Fd,
-    unknown: bool,
-    closed: bool,
     rights: RightSet,
 }
 
-impl Lack {
-    #[tactic(auto, using(crate::proofs::Merging::lacks_covers))]
-    /// Whether it is a test of the same cell that passes where another one does. No is a safe answer.
-    #[inline]
-    fn covers(&self, other: &Lack) -> bool
-        ensures { result ≡ true → (s : State) → holds s (packed_condition (Packed.Cell self.now))
-            ≡ (holds s (packed_condition (Packed.Cell self.now)) || holds s (packed_condition (Packed.Cell other.now))) }
-    {
-        if self.pid != other.pid || self.fd != other.fd {
-            return false;
-        }
-        if other.unknown && !self.unknown {
-            return false;
-        }
-        if other.closed && !self.closed {
-            return false;
-        }
-        self.rights.has_all(&other.rights)
-    }
-}
-
-/// A condition as a list keeps it: the most common form in few bytes, and the large ones shared.
+/// A condition as a list keeps it: the most common forms in few bytes, and the large ones shared.
 #[derive(Drop)]
 pub(crate) enum Packed {
-    Cell(Lack),
+    /// The cell is closed, or held and lacks some of the rights.
+    ClosedOrLacks(Lack),
+    /// The cell is held and lacks some of the rights.
+    Lacks(Lack),
     Other(Rc<Source>),
     Inside(Pid),
     Outside(Pid),
     Refused(Rc<Refused>),
+}
+
+impl Lack {
+    #[tactic(auto, using(crate::proofs::Merging::lacks_covers))]
+    /// Whether it is of the same cell, and of all the rights that another one is of.
+    #[inline]
+    fn covers(&self, other: &Lack) -> bool
+        ensures { result ≡ true → (own others : Bool) → (others ≡ true → own ≡ true) → (s : State)
+            → source_holds s (lacking own self.now)
+            ≡ (source_holds s (lacking own self.now) || source_holds s (lacking others other.now)) }
+    {
+        self.pid == other.pid && self.fd == other.fd && self.rights.has_all(&other.rights)
+    }
 }
 
 #[tactic(auto, using(crate::proofs::Merging::same_sets))]
@@ -85,29 +79,25 @@ fn lacked_by(test: &CellTest) -> Option<RightSet>
 }
 
 impl Lack {
-    /// Whether another one is the same test of the same cell. No is a safe answer.
+    /// Whether another one is of the same cell and the same rights.
     #[inline]
     fn is_like(&self, other: &Lack) -> bool
-        ensures { result ≡ true → packed_condition (Packed.Cell self.now) ≡ packed_condition (Packed.Cell other.now) }
+        ensures { result ≡ true → self.now ≡ other.now }
     {
-        self.pid == other.pid
-            && self.fd == other.fd
-            && self.unknown == other.unknown
-            && self.closed == other.closed
-            && self.rights == other.rights
+        self.pid == other.pid && self.fd == other.fd && self.rights == other.rights
     }
 
-    /// The test in full.
+    /// The test in full, which a closed cell passes or not.
     #[inline]
-    fn source(&self) -> Source
-        ensures { Condition.Cell result ≡ packed_condition (Packed.Cell self.now) }
+    fn source(&self, closed: bool) -> Source
+        ensures { result ≡ lacking closed self.now }
     {
         Source {
             pid: self.pid,
             fd: self.fd,
             test: CellTest {
-                unknown: self.unknown,
-                closed: self.closed,
+                unknown: false,
+                closed,
                 set: HeldTest::Lacks(self.rights),
                 clear: HeldTest::Lacks(self.rights),
                 unsure: HeldTest::Lacks(self.rights),
@@ -169,7 +159,7 @@ impl Packed {
         match self {
             Packed::Inside(pid) => rank(0, *pid, 0),
             Packed::Outside(pid) => rank(1, *pid, 0),
-            Packed::Cell(lack) => rank(2, lack.pid, lack.fd),
+            Packed::ClosedOrLacks(lack) | Packed::Lacks(lack) => rank(2, lack.pid, lack.fd),
             Packed::Other(source) => rank(2, source.pid, source.fd),
             Packed::Refused(refused) => rank_of_part(&refused.first),
         }
@@ -182,7 +172,7 @@ impl Packed {
         match self {
             Packed::Inside(pid) => (0, place(*pid, 0)),
             Packed::Outside(pid) => (1, place(*pid, 0)),
-            Packed::Cell(lack) => (2, place(lack.pid, lack.fd)),
+            Packed::ClosedOrLacks(lack) | Packed::Lacks(lack) => (2, place(lack.pid, lack.fd)),
             Packed::Other(source) => (2, place(source.pid, source.fd)),
             Packed::Refused(refused) => (3, place_of_part(&refused.first)),
         }
@@ -192,25 +182,50 @@ impl Packed {
     #[inline(always)]
     fn order(&self, other: &Packed) -> Ordering {
         match (self, other) {
-            (Packed::Cell(a), Packed::Cell(b)) => place(a.pid, a.fd).cmp(&place(b.pid, b.fd)),
+            (
+                Packed::ClosedOrLacks(a) | Packed::Lacks(a),
+                Packed::ClosedOrLacks(b) | Packed::Lacks(b),
+            ) => place(a.pid, a.fd).cmp(&place(b.pid, b.fd)),
             (Packed::Refused(a), Packed::Refused(b)) => order_of_refusals(a, b),
             _ => self.key().cmp(&other.key()),
+        }
+    }
+
+    /// Whether it holds wherever another one does, by a look at the common forms alone. No is a safe answer.
+    #[inline]
+    fn covers(&self, other: &Packed) -> bool
+        ensures { result ≡ true → (s : State) → holds s (packed_condition self.now)
+            ≡ (holds s (packed_condition self.now) || holds s (packed_condition other.now)) }
+    {
+        match (self, other) {
+            (Packed::ClosedOrLacks(a), Packed::ClosedOrLacks(b)) => a.covers(b),
+            (Packed::ClosedOrLacks(a), Packed::Lacks(b)) => a.covers(b),
+            (Packed::Lacks(a), Packed::Lacks(b)) => a.covers(b),
+            _ => false,
+        }
+    }
+
+    /// A cell that lacks rights, or is closed where that is asked for.
+    fn of_lack(lack: Lack, closed: bool) -> Packed
+        ensures { packed_condition result ≡ Condition.Cell (lacking closed lack) }
+    {
+        if closed {
+            Packed::ClosedOrLacks(lack)
+        } else {
+            Packed::Lacks(lack)
         }
     }
 
     fn of_source(alloc: Global, source: &Source) -> Result<Packed, NoMemory>
         ensures { IfOk result (λ packed. packed_condition packed ≡ Condition.Cell source.now) }
     {
-        match lacked_by(&source.test) {
-            Some(rights) => Ok(Packed::Cell(Lack {
-                pid: source.pid,
-                fd: source.fd,
-                unknown: source.test.unknown,
-                closed: source.test.closed,
-                rights,
-            })),
-            None => Ok(Packed::Other(Rc::new(alloc, *source)?)),
+        if !source.test.unknown {
+            if let Some(rights) = lacked_by(&source.test) {
+                let (pid, fd) = (source.pid, source.fd);
+                return Ok(Packed::of_lack(Lack { pid, fd, rights }, source.test.closed));
+            }
         }
+        Ok(Packed::Other(Rc::new(alloc, *source)?))
     }
 
     /// A condition, to be kept.
@@ -231,7 +246,8 @@ impl Packed {
         ensures { result ≡ packed_condition self.now }
     {
         match self {
-            Packed::Cell(lack) => Condition::Cell(lack.source()),
+            Packed::ClosedOrLacks(lack) => Condition::Cell(lack.source(true)),
+            Packed::Lacks(lack) => Condition::Cell(lack.source(false)),
             Packed::Other(source) => Condition::Cell(**source),
             Packed::Inside(pid) => Condition::Inside(*pid),
             Packed::Outside(pid) => Condition::Outside(*pid),
@@ -244,7 +260,8 @@ impl Packed {
         ensures { result ≡ true → packed_condition self.now ≡ packed_condition other.now }
     {
         match (self, other) {
-            (Packed::Cell(a), Packed::Cell(b)) => a.is_like(b),
+            (Packed::ClosedOrLacks(a), Packed::ClosedOrLacks(b)) => a.is_like(b),
+            (Packed::Lacks(a), Packed::Lacks(b)) => a.is_like(b),
             (Packed::Other(a), Packed::Other(b)) => equal_sources(a, b),
             (Packed::Inside(p), Packed::Inside(q)) => p == q,
             (Packed::Outside(p), Packed::Outside(q)) => p == q,
@@ -259,7 +276,8 @@ impl Packed {
         ensures { IfOk result (λ same. packed_condition same ≡ packed_condition self.now) }
     {
         match self {
-            Packed::Cell(lack) => Ok(Packed::Cell(*lack)),
+            Packed::ClosedOrLacks(lack) => Ok(Packed::ClosedOrLacks(*lack)),
+            Packed::Lacks(lack) => Ok(Packed::Lacks(*lack)),
             Packed::Other(source) => Ok(Packed::Other(source.clone()?)),
             Packed::Inside(pid) => Ok(Packed::Inside(*pid)),
             Packed::Outside(pid) => Ok(Packed::Outside(*pid)),
@@ -363,10 +381,7 @@ impl Conditions {
         ensures { result ≡ true → (x y : Condition) (s : State) → holds s (slice_index_or self.now at x)
             ≡ (holds s (slice_index_or self.now at x) || holds s (slice_index_or others.now of y)) }
     {
-        match (&self.packed()[at], &others.packed()[of]) {
-            (Packed::Cell(a), Packed::Cell(b)) => a.covers(b),
-            _ => false,
-        }
+        self.packed()[at].covers(&others.packed()[of])
     }
 
     /// The test of a cell at a place; none only where there is another condition.
@@ -376,7 +391,8 @@ impl Conditions {
         ensures { IfSome result (λ source. (d : Condition) → slice_index_or self.now at d ≡ Condition.Cell source) }
     {
         match &self.packed()[at] {
-            Packed::Cell(lack) => Some(lack.source()),
+            Packed::ClosedOrLacks(lack) => Some(lack.source(true)),
+            Packed::Lacks(lack) => Some(lack.source(false)),
             Packed::Other(source) => Some(**source),
             _ => None,
         }

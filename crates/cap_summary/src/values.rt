@@ -42,8 +42,10 @@ pub enum Passing {
 /// The cells that no list has: all alike, or those of a process before the segment.
 #[derive(Clone, Copy, PartialEq, Eq)]
 pub enum Others {
-    /// Each is this cell.
-    Alike(Cell),
+    /// Nothing is known of any.
+    Unknown,
+    /// Each is closed.
+    Closed,
     /// Each is that of the same descriptor of this process, handed on so.
     Of(Pid, Passing),
 }
@@ -139,7 +141,8 @@ impl Others {
         ensures names { (names : Names) → others_within names result ≡ others_within names self.now }
     {
         match self {
-            Others::Alike(cell) => Others::Alike(passing.op().on(*cell)),
+            Others::Unknown => Others::Unknown,
+            Others::Closed => Others::Closed,
             Others::Of(pid, first) => Others::Of(*pid, first.then(passing)),
         }
     }
@@ -167,14 +170,27 @@ pub(crate) fn lower_of(a: Option<Fd>, b: Option<Fd>) -> Option<Fd>
 }
 
 impl Base {
-    /// All cells are alike.
-    pub(crate) fn alike(cell: Cell) -> Base
-        ensures cells { (f : ℕ) → unlisted result f ≡ Value.Fixed cell }
+    /// Nothing is known of any cell.
+    pub(crate) fn unknown() -> Base
+        ensures cells { (f : ℕ) → unlisted result f ≡ Value.Fixed Cell.Unknown }
         ensures touched { (p f : ℕ) → rest_untouched result p f ≡ false }
         ensures names { (names : Names) → others_within names result.others ≡ true }
     {
         Base {
-            others: Others::Alike(cell),
+            others: Others::Unknown,
+            closed_from: None,
+            own: false,
+        }
+    }
+
+    /// All cells are closed.
+    pub(crate) fn closed() -> Base
+        ensures cells { (f : ℕ) → unlisted result f ≡ Value.Fixed Cell.Closed }
+        ensures touched { (p f : ℕ) → rest_untouched result p f ≡ false }
+        ensures names { (names : Names) → others_within names result.others ≡ true }
+    {
+        Base {
+            others: Others::Closed,
             closed_from: None,
             own: false,
         }
@@ -226,7 +242,7 @@ impl Base {
     {
         match &self.others {
             Others::Of(source, _) => self.own && *source == pid,
-            Others::Alike(_) => false,
+            _ => false,
         }
     }
 
@@ -248,7 +264,7 @@ impl Base {
     pub(crate) fn is_of_another(&self, pid: Pid) -> bool {
         match &self.others {
             Others::Of(source, _) => *source != pid,
-            Others::Alike(_) => false,
+            _ => false,
         }
     }
 
@@ -270,7 +286,8 @@ impl Base {
             return Value::Fixed(Cell::Closed);
         }
         match &self.others {
-            Others::Alike(cell) => Value::Fixed(*cell),
+            Others::Unknown => Value::Fixed(Cell::Unknown),
+            Others::Closed => Value::Fixed(Cell::Closed),
             Others::Of(pid, passing) => Value::Of(*pid, fd, passing.op()),
         }
     }

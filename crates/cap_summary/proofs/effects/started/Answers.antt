@@ -27,6 +27,6 @@ returns-clause-names c = λ names named.
           (c.in_ok-finish.ensures f ∙ c.loop-fd.invariant f
           ∙ ap (λ (r : List ℕ). cond (list_any (λ g. eqb f g) r) (Some c.args.held.now) None) all)
           (ap (value_within names) c.requires) named;
-      others = c.alike.ensures.names names;
+      others = c.closed.ensures.names names;
       mode = refl;
     }
