@@ -178,9 +178,9 @@ pub(crate) fn demand_of(call: &Call, answer: &Answer) -> Demand
         Call::SymlinkAt(_, dir, path) => {
             at_one(true, &place(*dir, path, needs::symlink_needs_of()), answer)
         }
-        Call::RenameAt(dir, path, to, to_path) => rename_at(*dir, path, *to, to_path, answer),
+        Call::RenameAt(dir, path, to, to_path) => rename_at(*dir, path.get(), *to, to_path.get(), answer),
         Call::LinkAt(dir, path, to, to_path, flags) => {
-            link_at(*dir, path, *to, to_path, flags.as_bytes(), answer)
+            link_at(*dir, path.get(), *to, to_path.get(), flags.get().as_bytes(), answer)
         }
     }
 }
