@@ -1,9 +1,10 @@
 //! Worked lines: boundaries, refused lines, each name once, and what a line that was read says.
 
 use cap_trace::{
-    Answer, Args, Boxed, Call, Command, Dir, FdCall, Fds, Flags, Item, LARGEST_FD, LONGEST_LINE, Line,
-    LineFault, Name, Path, PathCall, faults_are_of_their_fields, number_of, one_line, one_path,
-    only_rights_are_rewritten, parse_line, reading_is_spelling, write_line, written_is_read,
+    Answer, Args, Boxed, Call, Command, Dir, FdCall, Fds, Flags, Item, LARGEST_FD, LONGEST_LINE,
+    Line, LineFault, Name, Path, PathCall, faults_are_of_their_fields, number_of, one_line,
+    one_path, only_rights_are_rewritten, parse_line, reading_is_spelling, write_line,
+    written_is_read,
 };
 use std::alloc::Global;
 use std::test::Fail;
