@@ -272,16 +272,20 @@ fn on_fd(line: &Line) -> Option<(u32, FdCall, u32, Answer)> {
     }
 }
 
+/// The same of a line that is read.
+fn read_on_fd(alloc: Global, bytes: &[u8]) -> Result<Option<(u32, FdCall, u32, Answer)>, Fail> {
+    let line = parse_line(alloc, bytes)?;
+    Ok(on_fd(&line))
+}
+
 #[test]
 fn a_call_on_a_descriptor_is_read(rt: HostRuntime) -> Result<(), Fail> {
-    let read = parse_line(rt.alloc(), b"99999 read(1048575) RET -1 errno 9")?;
     assert_eq!(rt;
-        on_fd(&read),
+        read_on_fd(rt.alloc(), b"99999 read(1048575) RET -1 errno 9")?,
         Some((99_999, FdCall::Read, 1_048_575, Answer::Fault(9)))
     );
-    let closed = parse_line(rt.alloc(), b"100 closefrom(3) RET 0")?;
     assert_eq!(rt;
-        on_fd(&closed),
+        read_on_fd(rt.alloc(), b"100 closefrom(3) RET 0")?,
         Some((100, FdCall::Closefrom, 3, Answer::Made(0)))
     );
     Ok(())
