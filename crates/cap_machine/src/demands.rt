@@ -15,7 +15,7 @@ use crate::needs;
 use crate::places::{Place, at_one, at_two};
 use crate::rule::{Check, Checks, Class, Demand, Reply, Word};
 use cap_rights::RightSet;
-use cap_trace::{Answer, AtFlagsCall, BareCall, Call, Dir, Fd, FdCall, Path};
+use cap_trace::{Answer, AtFlagsCall, BareCall, Boxed, Call, Dir, Fd, FdCall, Flags, Path};
 
 /// The kind of an answer (errno(2)).
 pub(crate) fn reply_of(answer: &Answer) -> Reply
@@ -180,7 +180,7 @@ pub(crate) fn demand_of(call: &Call, answer: &Answer) -> Demand
         }
         Call::RenameAt(dir, path, to, to_path) => rename_at(*dir, path, *to, to_path, answer),
         Call::LinkAt(dir, path, to, to_path, flags) => {
-            link_at(*dir, path, *to, to_path, flags.as_bytes(), answer)
+            link_at(*dir, path, *to, to_path, flags, answer)
         }
     }
 }
@@ -206,21 +206,39 @@ fn at_flags(call: AtFlagsCall, dir: Dir, path: &Path, flags: &[u8], answer: &Ans
 }
 
 /// renameat(2).
-fn rename_at(dir: Dir, path: &Path, to: Dir, to_path: &Path, answer: &Answer) -> Demand
+fn rename_at(
+    dir: Dir,
+    path: &Boxed<Path>,
+    to: Dir,
+    to_path: &Boxed<Path>,
+    answer: &Answer,
+) -> Demand
     ensures { result
         ≡ at_demand true (place dir path.now rename_from_needs ∷ place to to_path.now rename_to_needs ∷ []) answer.now }
 {
-    let from = place(dir, path, needs::rename_from_needs_of());
-    let to = place(to, to_path, needs::rename_to_needs_of());
+    let from = place(dir, path.get(), needs::rename_from_needs_of());
+    let to = place(to, to_path.get(), needs::rename_to_needs_of());
     at_two(true, &from, &to, answer)
 }
 
 /// linkat(2).
-fn link_at(dir: Dir, path: &Path, to: Dir, to_path: &Path, flags: &[u8], answer: &Answer) -> Demand
+fn link_at(
+    dir: Dir,
+    path: &Boxed<Path>,
+    to: Dir,
+    to_path: &Boxed<Path>,
+    flags: &Boxed<Flags>,
+    answer: &Answer,
+) -> Demand
     ensures { result ≡ at_demand (all_known plain_at_flags flags.now)
         (place dir path.now link_from_needs ∷ place to to_path.now link_to_needs ∷ []) answer.now }
 {
-    let from = place(dir, path, needs::link_from_needs_of());
-    let to = place(to, to_path, needs::link_to_needs_of());
-    at_two(needs::has_plain_link_flags(flags), &from, &to, answer)
+    let from = place(dir, path.get(), needs::link_from_needs_of());
+    let to = place(to, to_path.get(), needs::link_to_needs_of());
+    at_two(
+        needs::has_plain_link_flags(flags.get().as_bytes()),
+        &from,
+        &to,
+        answer,
+    )
 }

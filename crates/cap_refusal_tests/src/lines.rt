@@ -14,20 +14,20 @@ static RIGHTS: [&[u8]; 4] = [
     b"CAP_READ|CAP_WRITE|CAP_SEEK|CAP_FSTAT",
 ];
 
-/// Lines of each shape that takes memory, and some that take none.
+/// Lines of each shape that takes memory, and some that take none. A text takes some where it has more than 14 bytes.
 static LINES: [&[u8]; 12] = [
     b"100 @start()",
     b"100 @start(0,3,17)",
     b"100 @exit()",
     b"100 read(3) RET 1",
-    b"100 open(\"a\\\"b\",O_RDONLY|O_CREAT) RET 3",
-    b"100 openat(3,\"a/b\",O_RDONLY) RET 5",
-    b"100 renameat(3,\"a\",4,\"b\") RET 0",
+    b"100 open(\"a/long/path\\\"b\",O_RDONLY|O_CREAT) RET 3",
+    b"100 openat(3,\"a/longer/path/b\",O_RDONLY) RET 5",
+    b"100 renameat(3,\"a\",4,\"a/longer/path/b\") RET 0",
     b"100 linkat(AT_FDCWD,\"a\",4,\"b\",0) RET 0",
-    b"100 mmap(3,PROT_READ,MAP_SHARED) RET 4096",
+    b"100 mmap(3,PROT_READ|PROT_WRITE,MAP_SHARED|MAP_FIXED) RET 4096",
     b"100 cap_rights_limit(3,CAP_READ|CAP_SEEK) RET 0",
-    b"100 fcntl(3,F_GETFL) RET 2",
-    b"100 foo(anything) RET -1 errno 9",
+    b"100 fcntl(3,F_DUPFD_CLOEXEC) RET 4",
+    b"100 sched_setscheduler(any arguments at all) RET -1 errno 9",
 ];
 
 #[test]

@@ -21,15 +21,15 @@ enum Part {
     Args,
 }
 
-/// Parts, and their bytes.
+/// Parts, and their bytes: more than 14, so that they take memory.
 static PARTS: [(Part, &[u8]); 7] = [
-    (Part::Path, b"a\\x0ab"),
-    (Part::Escaped, b"a\\x0ab\\\""),
-    (Part::Unescaped, b"a\nb"),
+    (Part::Path, b"a/long/path\\x0ab"),
+    (Part::Escaped, b"a/long/path\\x0ab\\\""),
+    (Part::Unescaped, b"a/long/path\nb"),
     (Part::Flags, b"O_RDONLY|O_CLOEXEC"),
-    (Part::Command, b"F_GETFL"),
-    (Part::Name, b"kevent"),
-    (Part::Args, b"3,0"),
+    (Part::Command, b"F_DUPFD_CLOEXEC"),
+    (Part::Name, b"sched_setscheduler"),
+    (Part::Args, b"any arguments at all"),
 ];
 
 /// A copy of these bytes.
@@ -43,16 +43,16 @@ fn copied(alloc: Global, bytes: &[u8]) -> Result<Vec<u8>, LineFault> {
 /// The bytes of a part that is made.
 fn bytes_of(alloc: Global, part: Part) -> Result<Vec<u8>, LineFault> {
     match part {
-        Part::Path => copied(alloc, Path::new(alloc, b"a\\x0ab")?.as_bytes()),
-        Part::Escaped => copied(alloc, Path::escape(alloc, b"a\nb\"")?.as_bytes()),
-        Part::Unescaped => match Path::new(alloc, b"a\\x0ab")?.unescape(alloc) {
+        Part::Path => copied(alloc, Path::new(alloc, b"a/long/path\\x0ab")?.as_bytes()),
+        Part::Escaped => copied(alloc, Path::escape(alloc, b"a/long/path\nb\"")?.as_bytes()),
+        Part::Unescaped => match Path::new(alloc, b"a/long/path\\x0ab")?.unescape(alloc) {
             Ok(bytes) => Ok(bytes),
             Err(_) => Err(LineFault::Memory),
         },
         Part::Flags => copied(alloc, Flags::new(alloc, b"O_RDONLY|O_CLOEXEC")?.as_bytes()),
-        Part::Command => copied(alloc, Command::new(alloc, b"F_GETFL")?.as_bytes()),
-        Part::Name => copied(alloc, Name::new(alloc, b"kevent")?.as_bytes()),
-        Part::Args => copied(alloc, Args::new(alloc, b"3,0")?.as_bytes()),
+        Part::Command => copied(alloc, Command::new(alloc, b"F_DUPFD_CLOEXEC")?.as_bytes()),
+        Part::Name => copied(alloc, Name::new(alloc, b"sched_setscheduler")?.as_bytes()),
+        Part::Args => copied(alloc, Args::new(alloc, b"any arguments at all")?.as_bytes()),
     }
 }
 
@@ -98,7 +98,7 @@ fn fds_refused(rt: HostRuntime) -> Result<(), Fail> {
 
 /// What a call says that opens a file.
 fn opens(alloc: Global) -> Result<Item, LineFault> {
-    let path = Path::new(alloc, b"a\\x0a")?;
+    let path = Path::new(alloc, b"a/long/path\\x0a")?;
     let call = Call::Open(path, Flags::new(alloc, b"O_RDONLY")?);
     let answer = Answer::Made(3);
     Ok(Item::Call { call, answer })
@@ -122,7 +122,7 @@ fn line_new_refused(rt: HostRuntime) -> Result<(), Fail> {
     if let Some(line) = line {
         write_line(&line, &mut text)?;
     }
-    let wanted = b"100 open(\"a\\x0a\",O_RDONLY) RET 3";
+    let wanted = b"100 open(\"a/long/path\\x0a\",O_RDONLY) RET 3";
     assert_eq!(rt; text.as_slice(), wanted.as_slice());
     Mark::Right.set(alloc)?;
     Ok(())

@@ -76,7 +76,10 @@ impl<K: Keep> Entries<K> {
     {
         let is_kept = match &mut self.kept {
             Some(kept) => kept.keep(line).is_ok(),
-            None => false,
+            None => {
+                drop(line);
+                false
+            }
         };
         if !is_kept {
             self.lose(count + 1);

@@ -10,6 +10,7 @@ ghost use Rattle.cap_trace.specs.Making.{MakesWhere};
 use crate::fault::LineFault;
 use crate::fields::{hex_value, plain};
 use crate::line::Path;
+use crate::text::Text;
 use cap_rights::NoMemory;
 use std::alloc::{AllocError, Global};
 
@@ -45,6 +46,14 @@ fn escaped_bytes(alloc: Global, bytes: &[u8]) -> Result<Vec<u8>, AllocError>
         put_escaped(*byte, &mut items)?;
     }
     Ok(items)
+}
+
+/// The text of these bytes between quotes.
+fn escaped_text(alloc: Global, bytes: &[u8]) -> Result<Text, AllocError>
+    ensures { IfOk result (λ t. t ≡ escaped bytes.now) }
+{
+    let items = escaped_bytes(alloc, bytes)?;
+    Text::of(alloc, &items)
 }
 
 fn has_no_zero(bytes: &[u8]) -> bool
@@ -92,7 +101,7 @@ impl Path {
         if !has_no_zero(bytes) {
             return Err(LineFault::Argument);
         }
-        match escaped_bytes(alloc, bytes) {
+        match escaped_text(alloc, bytes) {
             Ok(items) => Ok(Path { items }),
             Err(_) => Err(LineFault::Memory),
         }

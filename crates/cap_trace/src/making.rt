@@ -19,6 +19,7 @@ use crate::limits::{LARGEST_FD, LARGEST_PID, LONGEST_LINE};
 use crate::line::{Answer, Args, Call, Command, Dir, Fd, Fds, Flags, Item, Line, Name, Path, Pid};
 use crate::names::{Head, form_of, is_call_name};
 use crate::seen::fcntl_kind;
+use crate::text::Text;
 use crate::write::put_text;
 use cap_rights::{NoMemory, RightSet, parse_rights, write_rights};
 use std::alloc::Global;
@@ -36,7 +37,7 @@ impl Path {
         if !items(text) {
             return Err(LineFault::Argument);
         }
-        match Vec::from_slice(alloc, text) {
+        match Text::of(alloc, text) {
             Ok(items) => Ok(Path { items }),
             Err(_) => Err(LineFault::Memory),
         }
@@ -55,7 +56,7 @@ impl Flags {
         if !flags(text) {
             return Err(LineFault::Argument);
         }
-        match Vec::from_slice(alloc, text) {
+        match Text::of(alloc, text) {
             Ok(names) => Ok(Flags { names }),
             Err(_) => Err(LineFault::Memory),
         }
@@ -75,7 +76,7 @@ impl Command {
         if !command(text) {
             return Err(LineFault::Argument);
         }
-        match Vec::from_slice(alloc, text) {
+        match Text::of(alloc, text) {
             Ok(word) => Ok(Command { word }),
             Err(_) => Err(LineFault::Memory),
         }
@@ -95,7 +96,7 @@ impl Name {
         if !is_other_name(text) {
             return Err(LineFault::Shape);
         }
-        match Vec::from_slice(alloc, text) {
+        match Text::of(alloc, text) {
             Ok(name) => Ok(Name { name }),
             Err(_) => Err(LineFault::Memory),
         }
@@ -114,7 +115,7 @@ impl Args {
         if !free(text) {
             return Err(LineFault::Shape);
         }
-        match Vec::from_slice(alloc, text) {
+        match Text::of(alloc, text) {
             Ok(args) => Ok(Args { args }),
             Err(_) => Err(LineFault::Memory),
         }
@@ -205,14 +206,17 @@ fn args_fit(call: &Call) -> bool
             items(target.as_bytes()) && dir_fits(*dir) && items(path.as_bytes())
         }
         Call::RenameAt(from, old, to, new) => {
-            dir_fits(*from) && items(old.as_bytes()) && dir_fits(*to) && items(new.as_bytes())
+            dir_fits(*from)
+                && items(old.get().as_bytes())
+                && dir_fits(*to)
+                && items(new.get().as_bytes())
         }
         Call::LinkAt(from, old, to, new, f) => {
             dir_fits(*from)
-                && items(old.as_bytes())
+                && items(old.get().as_bytes())
                 && dir_fits(*to)
-                && items(new.as_bytes())
-                && flags(f.as_bytes())
+                && items(new.get().as_bytes())
+                && flags(f.get().as_bytes())
         }
         Call::OnFlags(_, f) => flags(f.as_bytes()),
         Call::Bare(_) => true,

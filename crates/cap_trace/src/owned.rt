@@ -10,46 +10,61 @@ ghost use Rattle.cap_trace.specs.Quotes.{pieces};
 ghost use Rattle.cap_trace.specs.Seen.{fds_in, call_seen, line_seen, HavePaths};
 ghost use Rattle.cap_trace.specs.Spelling.{IsProper};
 
+use crate::boxed::Boxed;
 use crate::calls::{AtCall, AtFlagsCall, FlagsCall, PathCall, PathsCall};
 use crate::line::{Args, Call, Command, Dir, Fd, Fds, Flags, Item, Line, Name, Path};
 use crate::parts::Parts;
 use crate::scan_fields::fd_of;
 use crate::seen::{CallSeen, ItemSeen, LineSeen};
+use crate::text::Text;
 use std::alloc::{AllocError, Global};
 
 fn path(alloc: Global, text: &[u8]) -> Result<Path, AllocError>
     requires { IsTrue (are_items text.now) }
     ensures { IfOk result (λ p. p ≡ text.now) }
 {
-    let items = Vec::from_slice(alloc, text)?;
+    let items = Text::of(alloc, text)?;
     Ok(Path { items })
 }
 
 fn flags(alloc: Global, text: &[u8]) -> Result<Flags, AllocError>
     ensures { IfOk result (λ f. f ≡ text.now) }
 {
-    let names = Vec::from_slice(alloc, text)?;
+    let names = Text::of(alloc, text)?;
     Ok(Flags { names })
+}
+
+fn boxed_path(alloc: Global, text: &[u8]) -> Result<Boxed<Path>, AllocError>
+    requires { IsTrue (are_items text.now) }
+    ensures { IfOk result (λ p. p ≡ text.now) }
+{
+    Boxed::new(alloc, path(alloc, text)?).map_err(|_| AllocError)
+}
+
+fn boxed_flags(alloc: Global, text: &[u8]) -> Result<Boxed<Flags>, AllocError>
+    ensures { IfOk result (λ f. f ≡ text.now) }
+{
+    Boxed::new(alloc, flags(alloc, text)?).map_err(|_| AllocError)
 }
 
 fn command(alloc: Global, text: &[u8]) -> Result<Command, AllocError>
     ensures { IfOk result (λ c. c ≡ text.now) }
 {
-    let word = Vec::from_slice(alloc, text)?;
+    let word = Text::of(alloc, text)?;
     Ok(Command { word })
 }
 
 fn name(alloc: Global, text: &[u8]) -> Result<Name, AllocError>
     ensures { IfOk result (λ n. n ≡ text.now) }
 {
-    let name = Vec::from_slice(alloc, text)?;
+    let name = Text::of(alloc, text)?;
     Ok(Name { name })
 }
 
 fn args(alloc: Global, text: &[u8]) -> Result<Args, AllocError>
     ensures { IfOk result (λ a. a ≡ text.now) }
 {
-    let args = Vec::from_slice(alloc, text)?;
+    let args = Text::of(alloc, text)?;
     Ok(Args { args })
 }
 
@@ -157,7 +172,12 @@ fn rename_at(
     requires to { IsTrue (are_items to.now) }
     ensures { IfOk result (λ c. c ≡ calls.RenameAt from_dir from.now to_dir to.now) }
 {
-    Ok(Call::RenameAt(from_dir, path(alloc, from)?, to_dir, path(alloc, to)?))
+    Ok(Call::RenameAt(
+        from_dir,
+        boxed_path(alloc, from)?,
+        to_dir,
+        boxed_path(alloc, to)?,
+    ))
 }
 
 /// `linkat`.
@@ -175,10 +195,10 @@ fn link_at(
 {
     Ok(Call::LinkAt(
         from_dir,
-        path(alloc, from)?,
+        boxed_path(alloc, from)?,
         to_dir,
-        path(alloc, to)?,
-        flags(alloc, flags_text)?,
+        boxed_path(alloc, to)?,
+        boxed_flags(alloc, flags_text)?,
     ))
 }
 

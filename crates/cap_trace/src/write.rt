@@ -155,19 +155,19 @@ fn put_call(call: &Call, out: &mut Vec<u8>) -> Result<(), AllocError>
         Call::RenameAt(from, old, to, new) => put_arguments(
             &[
                 Shown::Dir(*from),
-                Shown::Path(old.as_bytes()),
+                Shown::Path(old.get().as_bytes()),
                 Shown::Dir(*to),
-                Shown::Path(new.as_bytes()),
+                Shown::Path(new.get().as_bytes()),
             ],
             out,
         ),
         Call::LinkAt(from, old, to, new, flags) => put_arguments(
             &[
                 Shown::Dir(*from),
-                Shown::Path(old.as_bytes()),
+                Shown::Path(old.get().as_bytes()),
                 Shown::Dir(*to),
-                Shown::Path(new.as_bytes()),
-                Shown::Text(flags.as_bytes()),
+                Shown::Path(new.get().as_bytes()),
+                Shown::Text(flags.get().as_bytes()),
             ],
             out,
         ),

@@ -1,9 +1,10 @@
 //! Worked lines: boundaries, refused lines, each name once, and what a line that was read says.
 
 use cap_trace::{
-    Answer, Args, Call, Command, FdCall, Fds, Flags, Item, LARGEST_FD, LONGEST_LINE, Line,
-    LineFault, Name, Path, PathCall, faults_are_of_their_fields, number_of, one_line, one_path,
-    only_rights_are_rewritten, parse_line, reading_is_spelling, write_line, written_is_read,
+    Answer, Args, Boxed, Call, Command, Dir, FdCall, Fds, Flags, Item, LARGEST_FD, LONGEST_LINE,
+    Line, LineFault, Name, Path, PathCall, faults_are_of_their_fields, number_of, one_line,
+    one_path, only_rights_are_rewritten, parse_line, reading_is_spelling, write_line,
+    written_is_read,
 };
 use std::alloc::Global;
 use std::test::Fail;
@@ -271,16 +272,20 @@ fn on_fd(line: &Line) -> Option<(u32, FdCall, u32, Answer)> {
     }
 }
 
+/// The same of a line that is read.
+fn read_on_fd(alloc: Global, bytes: &[u8]) -> Result<Option<(u32, FdCall, u32, Answer)>, Fail> {
+    let line = parse_line(alloc, bytes)?;
+    Ok(on_fd(&line))
+}
+
 #[test]
 fn a_call_on_a_descriptor_is_read(rt: HostRuntime) -> Result<(), Fail> {
-    let read = parse_line(rt.alloc(), b"99999 read(1048575) RET -1 errno 9")?;
     assert_eq!(rt;
-        on_fd(&read),
+        read_on_fd(rt.alloc(), b"99999 read(1048575) RET -1 errno 9")?,
         Some((99_999, FdCall::Read, 1_048_575, Answer::Fault(9)))
     );
-    let closed = parse_line(rt.alloc(), b"100 closefrom(3) RET 0")?;
     assert_eq!(rt;
-        on_fd(&closed),
+        read_on_fd(rt.alloc(), b"100 closefrom(3) RET 0")?,
         Some((100, FdCall::Closefrom, 3, Answer::Made(0)))
     );
     Ok(())
@@ -301,8 +306,18 @@ fn texts(line: &Line) -> Option<(&[u8], &[u8])> {
 }
 
 /// Lines with the texts that they keep.
-static KEPT: [(&[u8], &[u8], &[u8]); 3] = [
+static KEPT: [(&[u8], &[u8], &[u8]); 5] = [
     (b"100 open(\"/a\",O_RDONLY) RET 3", b"/a", b"O_RDONLY"),
+    (
+        b"100 open(\"/of/14/bytes/a\",O_RDONLY|O_SYNC) RET 3",
+        b"/of/14/bytes/a",
+        b"O_RDONLY|O_SYNC",
+    ),
+    (
+        b"100 open(\"/of/15/bytes/ab\",O_RDWR|O_CREAT) RET 3",
+        b"/of/15/bytes/ab",
+        b"O_RDWR|O_CREAT",
+    ),
     (b"100 fcntl(3,F_GETFL) RET 2", b"F_GETFL", b""),
     (b"100 foo(1,\"2) RET 0", b"foo", b"1,\"2"),
 ];
@@ -399,6 +414,25 @@ fn a_call_without_a_form_is_made(rt: HostRuntime) -> Result<(), Fail> {
     let answer = Answer::Made(3);
     let text = made(rt.alloc(), 100, Item::Call { call, answer })?;
     assert_eq!(rt; text.as_slice(), b"100 kevent(3,0) RET 3".as_slice());
+    Ok(())
+}
+
+/// A path in memory of its own.
+fn path(alloc: Global, text: &[u8]) -> Result<Boxed<Path>, Fail> {
+    Ok(Boxed::new(alloc, Path::new(alloc, text)?)?)
+}
+
+#[test]
+fn a_rename_between_directories_is_made(rt: HostRuntime) -> Result<(), Fail> {
+    let from = path(rt.alloc(), b"a")?;
+    let to = path(rt.alloc(), b"of/15/bytes/abc")?;
+    let call = Call::RenameAt(Dir::Fd(3), from, Dir::Cwd, to);
+    let answer = Answer::Made(0);
+    let text = made(rt.alloc(), 100, Item::Call { call, answer })?;
+    assert_eq!(rt;
+        text.as_slice(),
+        b"100 renameat(3,\"a\",AT_FDCWD,\"of/15/bytes/abc\") RET 0".as_slice()
+    );
     Ok(())
 }
 

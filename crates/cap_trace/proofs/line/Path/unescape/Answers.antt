@@ -7,7 +7,7 @@ use Rattle.cap_trace.proofs.line.Path.unescape.Goals as goal
 
 pub loop-byte-init : goal.loop-byte-init
 loop-byte-init c =
-    let text = c.as_slice-text.ensures.value in
+    let text = c.as_slice-text.ensures in
     let items : are_items c.as_slice-text.result.now ≡ true = ap are_items text ∙ c.self.invariant in
     let whole : c.as_slice-text.result.now ≡ c.args.self.now = text ∙ c.self.view_is in
     subst (λ (bs : List ℕ). Unescaped bs c.as_slice-text.result.now c.args.self.now) (sym c.new-bytes.ensures.items)
