@@ -27,6 +27,7 @@ mod line_conditions;
 mod merge;
 mod moved;
 mod node;
+mod ordering;
 mod packed;
 mod sorted;
 mod summary;

@@ -11,6 +11,7 @@ ghost use Rattle.cap_summary.specs.Sizes.{room, rank, part_rank, condition_rank}
 
 use crate::alike::{equal_refusals, equal_sources};
 use crate::conditions::{CellTest, Condition, HeldTest, Refused, Source};
+use crate::ordering::{order_of_cells, order_of_refusals, place, place_of_part};
 use cap_rights::RightSet;
 use cap_trace::{Fd, Pid};
 use cap_tree::NoMemory;
@@ -106,28 +107,6 @@ impl Lack {
     }
 }
 
-/// A process and a descriptor of it, as one number that rises with the process and then with the descriptor.
-#[inline]
-fn place(pid: Pid, fd: Fd) -> u64 {
-    (u64::from(pid) << 32) | u64::from(fd)
-}
-
-#[inline]
-fn place_of_part(part: &Option<Source>) -> u64 {
-    match part {
-        Some(source) => place(source.pid, source.fd),
-        None => 0,
-    }
-}
-
-/// How two refusals stand to one another in the order in which they are kept: by their cells, then by the process that
-/// is to be outside.
-fn order_of_refusals(a: &Refused, b: &Refused) -> Ordering {
-    let firsts = place_of_part(&a.first).cmp(&place_of_part(&b.first));
-    let seconds = place_of_part(&a.second).cmp(&place_of_part(&b.second));
-    firsts.then(seconds).then(a.mode.cmp(&b.mode))
-}
-
 /// A number for a kind of conditions, and for a process and a descriptor.
 #[inline]
 fn rank(kind: u8, pid: Pid, fd: Fd) -> u128
@@ -178,7 +157,7 @@ impl Packed {
         }
     }
 
-    /// How it stands to another one in the order in which conditions are kept.
+    /// How it stands to another one by its kind, its cells and its process.
     #[inline(always)]
     fn order(&self, other: &Packed) -> Ordering {
         match (self, other) {
@@ -186,8 +165,16 @@ impl Packed {
                 Packed::ClosedOrLacks(a) | Packed::Lacks(a),
                 Packed::ClosedOrLacks(b) | Packed::Lacks(b),
             ) => place(a.pid, a.fd).cmp(&place(b.pid, b.fd)),
-            (Packed::Refused(a), Packed::Refused(b)) => order_of_refusals(a, b),
+            (Packed::Refused(a), Packed::Refused(b)) => order_of_cells(a, b),
             _ => self.key().cmp(&other.key()),
+        }
+    }
+
+    /// Whether it stands before another one in the order in which conditions are kept.
+    fn comes_before(&self, other: &Packed) -> bool {
+        match (self, other) {
+            (Packed::Refused(a), Packed::Refused(b)) => order_of_refusals(a, b) == Ordering::Less,
+            _ => self.order(other) == Ordering::Less,
         }
     }
 
@@ -363,7 +350,7 @@ impl Conditions {
         self.packed()[at].condition()
     }
 
-    /// How the one at a place stands to one of others in the order in which they are kept.
+    /// How the one at a place stands to one of others by its kind, its cells and its process.
     #[inline]
     pub(crate) fn order_to(&self, at: usize, others: &Conditions, of: usize) -> Ordering
         requires own { at < length self.now }
@@ -422,7 +409,7 @@ impl Conditions {
     {
         let items = self.packed();
         for at in from..to {
-            if at > from && items[at - 1].order(&items[at]) != Ordering::Less {
+            if at > from && !items[at - 1].comes_before(&items[at]) {
                 return false;
             }
         }
@@ -482,7 +469,7 @@ impl NewConditions {
         requires { at < length others.now }
     {
         match self.items.last() {
-            Some(last) => last.order(&others.packed()[at]) == Ordering::Less,
+            Some(last) => last.comes_before(&others.packed()[at]),
             None => true,
         }
     }
