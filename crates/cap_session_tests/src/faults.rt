@@ -1,12 +1,10 @@
 //! In profile 2, with a start and with a script, each read and each byte that is written fails in turn, and each number of
 //! reads is allowed that is too small: what was written is what the bytes before that are answered with.
 
-ghost use Rattle.std.specs.Prelude.{◌≡◌, ◌-◌, ◌^◌, ◌≤◌};
-
-use crate::devices::{Kept, Pieces, ample};
-use bstr::ByteSlice;
+use crate::answers::{checked, checked_from, edited};
+use crate::devices::{Kept, Pieces};
 use cap_machine::{NoMemory, Profile};
-use cap_session::{Outcome, check_stream_as, check_stream_from_as, edit_stream_as};
+use cap_session::Outcome;
 use std::alloc::Global;
 use std::test::Fail;
 
@@ -37,114 +35,115 @@ fn without(read: u64) -> [(u64, u64, Outcome, u64); 2] {
     ]
 }
 
+/// Whether a read of the trace that is not answered ends a check.
+fn trace_ends(alloc: Global, read: u64) -> Result<bool, NoMemory> {
+    for (fails_at, turns, outcome, reads) in &without(read) {
+        let trace = Pieces::new(EXECUTED, 1, *fails_at);
+        let answer = checked(alloc, Profile::Two, *turns, trace, Kept::new(9, 256))?;
+        if !answer.is(*outcome, b"") || !answer.has_read(*reads, 0) {
+            return Ok(false);
+        }
+    }
+    Ok(true)
+}
+
 #[test]
 fn each_read_of_a_trace(rt: HostRuntime) -> Result<(), Fail> {
     for read in 1..EXECUTED.len() as u64 + 2 {
-        for (fails_at, turns, outcome, reads) in without(read) {
-            let mut trace = Pieces::new(EXECUTED, 1, fails_at);
-            let mut writer = Kept::new(9, 256);
-            let profile = Profile::Two;
-            let ended = check_stream_as(
-                rt.alloc(),
-                profile,
-                turns.min(4096),
-                &mut trace,
-                &mut writer,
-            );
-            assert_eq!(rt; ample(ended)?, outcome, "read {read}");
-            assert!(rt; writer.text().is_empty());
-            assert_eq!(rt; trace.calls, reads);
-        }
+        assert!(rt; trace_ends(rt.alloc(), read)?, "read {read}");
     }
     Ok(())
+}
+
+/// How many bytes may be written at once.
+static SIZES: [usize; 3] = [1, 3, 256];
+
+/// Whether a report is cut after so many bytes.
+fn cuts_report(alloc: Global, report: &[u8]) -> Result<bool, NoMemory> {
+    for size in &SIZES {
+        let trace = Pieces::new(EXECUTED, 64, 0);
+        let writer = Kept::new(*size, report.len());
+        let answer = checked(alloc, Profile::Two, 4096, trace, writer)?;
+        if !answer.is(Outcome::WriteFault, report) {
+            return Ok(false);
+        }
+    }
+    Ok(true)
 }
 
 #[test]
 fn each_byte_of_a_report(rt: HostRuntime) -> Result<(), Fail> {
     for most in 0..REPORT.len() {
-        for size in [1_usize, 3, 256] {
-            let mut trace = Pieces::new(EXECUTED, 64, 0);
-            let mut writer = Kept::new(size, most);
-            let profile = Profile::Two;
-            let ended = check_stream_as(rt.alloc(), profile, 4096, &mut trace, &mut writer);
-            assert_eq!(rt; ample(ended)?, Outcome::WriteFault, "byte {most}");
-            assert_eq!(rt; writer.text(), &REPORT[..most]);
-        }
+        assert!(rt; cuts_report(rt.alloc(), &REPORT[..most])?, "byte {most}");
     }
     Ok(())
 }
 
-/// What is answered to a start and the trace after it, in profile 2.
-fn started(
-    alloc: Global,
-    turns: u64,
-    start: &mut Pieces<'_>,
-    trace: &mut Pieces<'_>,
-    writer: &mut Kept,
-) -> Result<Outcome, NoMemory>
-    requires turns { turns ≤ 2 ^ 32 }
-    requires start { turns ≤ 2 ^ 64 - 1 - start.old.calls }
-    requires trace { turns ≤ 2 ^ 64 - 1 - trace.old.calls }
-    requires writer { 1 ≤ 2 ^ 64 - 1 - writer.old.faults }
-{
-    ample(check_stream_from_as(alloc, Profile::Two, turns, start, trace, writer))
+/// Whether a read of the start that is not answered ends a check.
+fn start_ends(alloc: Global, read: u64) -> Result<bool, NoMemory> {
+    for (fails_at, turns, outcome, reads) in &without(read) {
+        let start = Pieces::new(START, 1, *fails_at);
+        let trace = Pieces::new(STARTED, 1, 0);
+        let writer = Kept::new(9, 256);
+        let answer = checked_from(alloc, Profile::Two, *turns, start, trace, writer)?;
+        if !answer.is(*outcome, b"") || !answer.has_read(0, *reads) {
+            return Ok(false);
+        }
+    }
+    Ok(true)
 }
 
 #[test]
 fn each_read_of_a_start(rt: HostRuntime) -> Result<(), Fail> {
     for read in 1..START.len() as u64 + 2 {
-        for (fails_at, turns, outcome, reads) in without(read) {
-            let mut start = Pieces::new(START, 1, fails_at);
-            let mut trace = Pieces::new(STARTED, 1, 0);
-            let mut writer = Kept::new(9, 256);
-            let ended = started(
-                rt.alloc(),
-                turns.min(4096),
-                &mut start,
-                &mut trace,
-                &mut writer,
-            )?;
-            assert_eq!(rt; ended, outcome, "read {read}");
-            assert!(rt; writer.text().is_empty());
-            assert_eq!(rt; (start.calls, trace.calls), (reads, 0));
-        }
+        assert!(rt; start_ends(rt.alloc(), read)?, "read {read}");
     }
     Ok(())
+}
+
+/// Whether a read of the trace after the start that is not answered ends a check.
+fn started_ends(alloc: Global, read: u64) -> Result<bool, NoMemory> {
+    for (fails_at, turns, outcome, reads) in &without(read) {
+        let start = Pieces::new(START, 16, 0);
+        let trace = Pieces::new(STARTED, 1, *fails_at);
+        let writer = Kept::new(9, 256);
+        let answer = checked_from(alloc, Profile::Two, *turns, start, trace, writer)?;
+        if !answer.is(*outcome, b"") || !answer.has_read(*reads, 3) {
+            return Ok(false);
+        }
+    }
+    Ok(true)
 }
 
 #[test]
 fn each_read_of_a_trace_from_a_start(rt: HostRuntime) -> Result<(), Fail> {
     for read in 4..STARTED.len() as u64 + 2 {
-        for (fails_at, turns, outcome, reads) in without(read) {
-            let mut start = Pieces::new(START, 16, 0);
-            let mut trace = Pieces::new(STARTED, 1, fails_at);
-            let mut writer = Kept::new(9, 256);
-            let ended = started(
-                rt.alloc(),
-                turns.min(4096),
-                &mut start,
-                &mut trace,
-                &mut writer,
-            )?;
-            assert_eq!(rt; ended, outcome, "read {read}");
-            assert!(rt; writer.text().is_empty());
-            assert_eq!(rt; (start.calls, trace.calls), (3, reads));
-        }
+        assert!(rt; started_ends(rt.alloc(), read)?, "read {read}");
     }
     Ok(())
+}
+
+/// Whether a report from the start is cut after so many bytes.
+fn cuts_started(alloc: Global, report: &[u8]) -> Result<bool, NoMemory> {
+    for size in &SIZES {
+        let start = Pieces::new(START, 16, 0);
+        let trace = Pieces::new(STARTED, 64, 0);
+        let writer = Kept::new(*size, report.len());
+        let answer = checked_from(alloc, Profile::Two, 4096, start, trace, writer)?;
+        if !answer.is(Outcome::WriteFault, report) {
+            return Ok(false);
+        }
+    }
+    Ok(true)
 }
 
 #[test]
 fn each_byte_of_a_report_from_a_start(rt: HostRuntime) -> Result<(), Fail> {
     for most in 0..STARTED_REPORT.len() {
-        for size in [1_usize, 3, 256] {
-            let mut start = Pieces::new(START, 16, 0);
-            let mut trace = Pieces::new(STARTED, 64, 0);
-            let mut writer = Kept::new(size, most);
-            let ended = started(rt.alloc(), 4096, &mut start, &mut trace, &mut writer)?;
-            assert_eq!(rt; ended, Outcome::WriteFault, "byte {most}");
-            assert_eq!(rt; writer.text(), &STARTED_REPORT[..most]);
-        }
+        assert!(rt;
+            cuts_started(rt.alloc(), &STARTED_REPORT[..most])?,
+            "byte {most}"
+        );
     }
     Ok(())
 }
@@ -170,113 +169,111 @@ const ALL_REPLIES: &[u8] =
 /// What is replied to so many bytes of the script.
 fn replied(given: u64) -> &'static [u8] {
     let mut replies = b"".as_slice();
-    for (end, text) in REPLIES {
-        if end <= given {
-            replies = text;
+    for (end, text) in &REPLIES {
+        if *end <= given {
+            replies = *text;
         }
     }
     replies
 }
 
-/// What is answered to the script, in profile 2.
-fn edited(
-    alloc: Global,
-    turns: u64,
-    trace: &mut Pieces<'_>,
-    script: &mut Pieces<'_>,
-    writer: &mut Kept,
-) -> Result<Outcome, NoMemory>
-    requires turns { turns ≤ 2 ^ 32 }
-    requires trace { turns ≤ 2 ^ 64 - 1 - trace.old.calls }
-    requires script { turns ≤ 2 ^ 64 - 1 - script.old.calls }
-    requires writer { 1 ≤ 2 ^ 64 - 1 - writer.old.faults }
-{
-    let ended = edit_stream_as(alloc, Profile::Two, turns, trace, script, writer);
-    if writer.text().find(b"refused E9").is_some() {
-        return Err(NoMemory);
+/// Whether a read of the trace that is not answered ends a script.
+fn edited_ends(alloc: Global, read: u64) -> Result<bool, NoMemory> {
+    for (fails_at, turns, outcome, reads) in &without(read) {
+        let trace = Pieces::new(EXECUTED, 1, *fails_at);
+        let script = Pieces::new(SCRIPT, 1, 0);
+        let writer = Kept::new(9, 256);
+        let answer = edited(alloc, Profile::Two, *turns, trace, script, writer)?;
+        if !answer.is(*outcome, b"") || !answer.has_read(*reads, 0) {
+            return Ok(false);
+        }
     }
-    ample(ended)
+    Ok(true)
 }
 
 #[test]
 fn each_read_of_an_edited_trace(rt: HostRuntime) -> Result<(), Fail> {
     for read in 1..EXECUTED.len() as u64 + 2 {
-        for (fails_at, turns, outcome, reads) in without(read) {
-            let mut trace = Pieces::new(EXECUTED, 1, fails_at);
-            let mut script = Pieces::new(SCRIPT, 1, 0);
-            let mut writer = Kept::new(9, 256);
-            let ended = edited(
-                rt.alloc(),
-                turns.min(4096),
-                &mut trace,
-                &mut script,
-                &mut writer,
-            )?;
-            assert_eq!(rt; ended, outcome, "read {read}");
-            assert!(rt; writer.text().is_empty());
-            assert_eq!(rt; (trace.calls, script.calls), (reads, 0));
-        }
+        assert!(rt; edited_ends(rt.alloc(), read)?, "read {read}");
     }
     Ok(())
+}
+
+/// Whether a read of the script that is not answered ends it after these replies.
+fn script_ends(alloc: Global, read: u64, replies: &[u8]) -> Result<bool, NoMemory> {
+    for (fails_at, turns, outcome, reads) in &without(read) {
+        let trace = Pieces::new(EXECUTED, 256, 0);
+        let script = Pieces::new(SCRIPT, 1, *fails_at);
+        let writer = Kept::new(9, 256);
+        let answer = edited(alloc, Profile::Two, *turns, trace, script, writer)?;
+        if !answer.is(*outcome, replies) || !answer.has_read(2, *reads) {
+            return Ok(false);
+        }
+    }
+    Ok(true)
 }
 
 #[test]
 fn each_read_of_a_script(rt: HostRuntime) -> Result<(), Fail> {
     assert_eq!(rt; SCRIPT.len(), 48);
     for read in 3..SCRIPT.len() as u64 + 2 {
-        for (fails_at, turns, outcome, reads) in without(read) {
-            let mut trace = Pieces::new(EXECUTED, 256, 0);
-            let mut script = Pieces::new(SCRIPT, 1, fails_at);
-            let mut writer = Kept::new(9, 256);
-            let ended = edited(
-                rt.alloc(),
-                turns.min(4096),
-                &mut trace,
-                &mut script,
-                &mut writer,
-            )?;
-            assert_eq!(rt; ended, outcome, "read {read}");
-            assert_eq!(rt; writer.text(), replied(read - 1));
-            assert_eq!(rt; (trace.calls, script.calls), (2, reads));
-        }
+        assert!(rt;
+            script_ends(rt.alloc(), read, replied(read - 1))?,
+            "read {read}"
+        );
     }
     Ok(())
+}
+
+/// Whether the replies are cut after so many bytes.
+fn cuts_replies(alloc: Global, replies: &[u8]) -> Result<bool, NoMemory> {
+    for size in &SIZES {
+        let trace = Pieces::new(EXECUTED, 64, 0);
+        let script = Pieces::new(SCRIPT, 10, 0);
+        let writer = Kept::new(*size, replies.len());
+        let answer = edited(alloc, Profile::Two, 4096, trace, script, writer)?;
+        if !answer.is(Outcome::WriteFault, replies) {
+            return Ok(false);
+        }
+    }
+    Ok(true)
 }
 
 #[test]
 fn each_byte_of_the_replies(rt: HostRuntime) -> Result<(), Fail> {
     for most in 0..ALL_REPLIES.len() {
-        for size in [1_usize, 3, 256] {
-            let mut trace = Pieces::new(EXECUTED, 64, 0);
-            let mut script = Pieces::new(SCRIPT, 10, 0);
-            let mut writer = Kept::new(size, most);
-            let ended = edited(rt.alloc(), 4096, &mut trace, &mut script, &mut writer)?;
-            assert_eq!(rt; ended, Outcome::WriteFault, "byte {most}");
-            assert_eq!(rt; writer.text(), &ALL_REPLIES[..most]);
-        }
+        assert!(rt;
+            cuts_replies(rt.alloc(), &ALL_REPLIES[..most])?,
+            "byte {most}"
+        );
     }
     Ok(())
 }
 
-/// The same with nothing that fails.
 #[test]
-fn nothing_fails(rt: HostRuntime) -> Result<(), Fail> {
-    let mut trace = Pieces::new(EXECUTED, 1, 0);
-    let mut writer = Kept::new(1, 256);
-    let ended = ample(check_stream_as(rt.alloc(), Profile::Two, 4096, &mut trace, &mut writer))?;
-    assert_eq!(rt; ended, Outcome::Findings);
-    assert_eq!(rt; writer.text(), REPORT);
-    let mut start = Pieces::new(START, 1, 0);
-    let mut trace = Pieces::new(STARTED, 1, 0);
-    let mut writer = Kept::new(1, 256);
-    let ended = started(rt.alloc(), 4096, &mut start, &mut trace, &mut writer)?;
-    assert_eq!(rt; ended, Outcome::Findings);
-    assert_eq!(rt; writer.text(), STARTED_REPORT);
-    let mut trace = Pieces::new(EXECUTED, 1, 0);
-    let mut script = Pieces::new(SCRIPT, 1, 0);
-    let mut writer = Kept::new(1, 256);
-    let ended = edited(rt.alloc(), 4096, &mut trace, &mut script, &mut writer)?;
-    assert_eq!(rt; ended, Outcome::Clean);
-    assert_eq!(rt; writer.text(), ALL_REPLIES);
+fn nothing_fails_in_a_check(rt: HostRuntime) -> Result<(), Fail> {
+    let trace = Pieces::new(EXECUTED, 1, 0);
+    let answer = checked(rt.alloc(), Profile::Two, 4096, trace, Kept::new(1, 256))?;
+    assert!(rt; answer.is(Outcome::Findings, REPORT));
+    Ok(())
+}
+
+#[test]
+fn nothing_fails_from_a_start(rt: HostRuntime) -> Result<(), Fail> {
+    let start = Pieces::new(START, 1, 0);
+    let trace = Pieces::new(STARTED, 1, 0);
+    let writer = Kept::new(1, 256);
+    let answer = checked_from(rt.alloc(), Profile::Two, 4096, start, trace, writer)?;
+    assert!(rt; answer.is(Outcome::Findings, STARTED_REPORT));
+    Ok(())
+}
+
+#[test]
+fn nothing_fails_in_a_script(rt: HostRuntime) -> Result<(), Fail> {
+    let trace = Pieces::new(EXECUTED, 1, 0);
+    let script = Pieces::new(SCRIPT, 1, 0);
+    let writer = Kept::new(1, 256);
+    let answer = edited(rt.alloc(), Profile::Two, 4096, trace, script, writer)?;
+    assert!(rt; answer.is(Outcome::Clean, ALL_REPLIES));
     Ok(())
 }

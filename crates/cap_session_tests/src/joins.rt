@@ -1,9 +1,9 @@
 //! The joins of a session's edits, beside those of the same edits of a tree that the test keeps.
 
 use cap_machine::{Profile, Start, Step};
-use cap_session::Session;
+use cap_session::{Refused, Session};
 use cap_summary::{Summary, resolve};
-use cap_trace::parse_line;
+use cap_trace::{Line, parse_line};
 use cap_tree::{Meter, NoMemory, Segment, Tree};
 use std::alloc::Global;
 use std::rc::Rc;
@@ -78,68 +78,132 @@ impl Both {
     }
 }
 
+/// What is done with the call at a position.
+#[derive(Clone, Copy, Debug, Drop)]
+enum Change {
+    Insert,
+    Replace,
+    Delete,
+}
+
+/// Whether the joins of a session and a tree are the same after each of so many edits.
+fn join_alike(
+    both: &mut Both,
+    change: Change,
+    position: usize,
+    times: usize,
+) -> Result<bool, Fail> {
+    for _ in 0..times {
+        let joins = match change {
+            Change::Insert => both.insert(position)?,
+            Change::Replace => both.replace(position)?,
+            Change::Delete => both.delete(position)?,
+        };
+        if both.session.joins() as u64 != joins {
+            return Ok(false);
+        }
+    }
+    Ok(true)
+}
+
+/// Changes, where they are made, and how often.
+static CHANGES: [(Change, usize, usize); 3] = [
+    (Change::Insert, 1, 300),
+    (Change::Replace, 150, 20),
+    (Change::Delete, 1, 20),
+];
+
+/// Whether they are the same through all these changes.
+fn all_join_alike(both: &mut Both) -> Result<bool, Fail> {
+    for (change, position, times) in &CHANGES {
+        if !join_alike(both, *change, *position, *times)? {
+            return Ok(false);
+        }
+    }
+    Ok(true)
+}
+
 #[test]
 fn joins_are_those_of_the_same_edits_of_a_tree(rt: HostRuntime) -> Result<(), Fail> {
     let mut both = Both::new(rt.alloc())?;
     assert_eq!(rt; both.session.joins(), 0);
-    for count in 1usize..=300 {
-        let joins = both.insert(1)?;
-        assert_eq!(rt; both.session.joins() as u64, joins, "insert {count}");
-    }
-    for count in 1usize..=20 {
-        let joins = both.replace(150)?;
-        assert_eq!(rt; both.session.joins() as u64, joins, "replace {count}");
-    }
-    for count in 1usize..=20 {
-        let joins = both.delete(1)?;
-        assert_eq!(rt; both.session.joins() as u64, joins, "delete {count}");
-    }
-    assert_eq!(rt; both.session.count(), 280);
-    assert_eq!(rt; both.tree.len(), 280);
+    assert!(rt; all_join_alike(&mut both)?);
+    assert!(rt; both.session.count() == 280 && both.tree.len() == 280);
     Ok(())
+}
+
+/// So many calls in a session and a tree.
+fn both_of(alloc: Global, count: usize) -> Result<Both, Fail> {
+    let mut both = Both::new(alloc)?;
+    for _ in 0..count {
+        both.insert(1)?;
+    }
+    Ok(both)
+}
+
+/// Whether three edits are refused, and leave the joins of an insert.
+fn keeps_joins(both: &mut Both) -> Result<bool, Fail> {
+    let joins = both.insert(20)?;
+    let session = &mut both.session;
+    let is_refused = session.insert(50, CALL).is_err()
+        && session.replace(1, b"x").is_err()
+        && session.delete(42).is_err();
+    Ok(is_refused && session.joins() as u64 == joins)
 }
 
 #[test]
 fn a_refused_edit_leaves_the_joins(rt: HostRuntime) -> Result<(), Fail> {
-    let mut both = Both::new(rt.alloc())?;
-    for _ in 0usize..40 {
-        both.insert(1)?;
-    }
-    let joins = both.insert(20)?;
-    assert!(rt; both.session.insert(50, CALL).is_err());
-    assert!(rt; both.session.replace(1, b"x").is_err());
-    assert!(rt; both.session.delete(42).is_err());
-    assert_eq!(rt; both.session.joins() as u64, joins);
+    assert!(rt; keeps_joins(&mut both_of(rt.alloc(), 40)?)?);
     Ok(())
+}
+
+/// A hundred calls.
+fn hundred(alloc: Global) -> Result<Vec<Line>, Fail> {
+    let mut lines = Vec::new(alloc);
+    for _ in 0usize..100 {
+        lines.push(parse_line(alloc, CALL)?)?;
+    }
+    Ok(lines)
+}
+
+/// Whether a load of a hundred lines makes 99 joins, after none.
+fn joins_hundred(session: &mut Session, lines: Vec<Line>) -> Result<bool, Refused> {
+    let joins = session.joins();
+    let count = session.load(lines)?;
+    Ok(joins == 0 && count == 100 && session.joins() == 99)
 }
 
 #[test]
 fn a_load_makes_one_join_fewer_than_lines(rt: HostRuntime) -> Result<(), Fail> {
-    let mut lines = Vec::new(rt.alloc());
-    for _ in 0usize..100 {
-        lines.push(parse_line(rt.alloc(), CALL)?)?;
+    let lines = hundred(rt.alloc())?;
+    assert!(rt; joins_hundred(&mut Session::new(rt.alloc(), MOST)?, lines)?);
+    Ok(())
+}
+
+/// A session of a start and a call.
+fn session_of_two(alloc: Global) -> Result<Session, Fail> {
+    let mut session = Session::with_profile(alloc, MOST, Profile::Two)?;
+    session.insert(1, b"100 @start()")?;
+    session.insert(2, b"100 write(0) RET 5")?;
+    Ok(session)
+}
+
+#[test]
+fn the_tree_has_the_lines(rt: HostRuntime) -> Result<(), Fail> {
+    let session = session_of_two(rt.alloc())?;
+    assert_eq!(rt; session.tree().len(), 2);
+    for step in session.tree().iter() {
+        assert!(rt; step.profile == Profile::Two && step.line.pid == 100);
     }
-    let mut session = Session::new(rt.alloc(), MOST)?;
-    assert_eq!(rt; session.joins(), 0);
-    assert_eq!(rt; session.load(lines)?, 100);
-    assert_eq!(rt; session.joins(), 99);
     Ok(())
 }
 
 #[test]
-fn the_tree_has_the_lines_and_their_summary(rt: HostRuntime) -> Result<(), Fail> {
-    let alloc = rt.alloc();
-    let mut session = Session::with_profile(alloc, MOST, Profile::Two)?;
-    session.insert(1, b"100 @start()")?;
-    session.insert(2, b"100 write(0) RET 5")?;
-    let tree = session.tree();
-    assert_eq!(rt; tree.len(), 2);
-    for step in tree.iter() {
-        assert_eq!(rt; step.profile, Profile::Two);
-        assert_eq!(rt; step.line.pid, 100);
-    }
-    let found = resolve(alloc, tree.summary(), &Start::unknown(alloc))?;
+fn the_tree_has_the_summary_of_its_lines(rt: HostRuntime) -> Result<(), Fail> {
+    let session = session_of_two(rt.alloc())?;
+    let summary = session.tree().summary();
+    assert_eq!(rt; summary.len(), 2);
+    let found = resolve(rt.alloc(), summary, &Start::unknown(rt.alloc()))?;
     assert_eq!(rt; found.len(), 1);
-    assert_eq!(rt; tree.summary().len(), 2);
     Ok(())
 }

@@ -1,11 +1,11 @@
 //! Worked scripts, with the replies to them, over devices that are cut and broken at will.
 
-ghost use Rattle.std.specs.Prelude.{◌≡◌, ◌-◌, ◌^◌, ◌≤◌};
+ghost use Rattle.std.specs.Prelude.{◌≡◌};
 
+use crate::answers::{self, Answer, ample_for};
 use crate::devices::{Kept, Pieces, ample};
-use bstr::ByteSlice;
 use cap_machine::{NoMemory, Profile};
-use cap_session::{Outcome, edit_stream, edit_stream_as};
+use cap_session::{Outcome, edit_stream};
 use std::alloc::Global;
 use std::test::Fail;
 
@@ -14,7 +14,9 @@ const LIMITED: &[u8] =
     b"100 @start(0,3)\n100 cap_rights_limit(0,CAP_READ) RET 0\n100 write(0) RET 5\n";
 
 /// Traces and scripts, the outcome, and the replies.
-static SCRIPTS: [(&[u8], &[u8], Outcome, &[u8]); 9] = [
+type Script = (&'static [u8], &'static [u8], Outcome, &'static [u8]);
+
+static SCRIPTS: [Script; 9] = [
     (
         b"100 @start(0,3)\n100 cap_rights_limit(0,CAP_READ) RET 0\n100 cap_rights_limit(0,CAP_READ|CAP_WRITE) RET 0\n100 write(0) RET 1\n",
         b"delete 9\nreplace 2 100 read(4 RET 1\nreport\nreport 4 4\nundo\n",
@@ -61,29 +63,22 @@ static SCRIPTS: [(&[u8], &[u8], Outcome, &[u8]); 9] = [
     (b"", &[b'#'; 1057], Outcome::Clean, b"refused E1\n"),
 ];
 
-/// The outcome of a script, where memory was there for it.
-fn outcome_of(ended: Outcome, writer: &Kept) -> Result<Outcome, NoMemory> {
-    if writer.text().find(b"refused E9").is_some() {
-        return Err(NoMemory);
-    }
-    ample(ended)
-}
-
 /// Replies to a script, for which memory was there.
-fn reply(
+fn edited(
     alloc: Global,
     turns: u64,
-    traces: &mut Pieces<'_>,
-    scripts: &mut Pieces<'_>,
-    writer: &mut Kept,
-) -> Result<Outcome, NoMemory>
-    requires turns { turns ≤ 2 ^ 32 }
-    requires traces { turns ≤ 2 ^ 64 - 1 - traces.old.calls }
-    requires scripts { turns ≤ 2 ^ 64 - 1 - scripts.old.calls }
-    requires writer { 1 ≤ 2 ^ 64 - 1 - writer.old.faults }
+    mut traces: Pieces<'_>,
+    mut scripts: Pieces<'_>,
+    mut writer: Kept,
+) -> Result<Answer, NoMemory>
+    requires trace_unread { traces.calls ≡ 0 }
+    requires unread { scripts.calls ≡ 0 }
+    requires unwritten { writer.faults ≡ 0 }
 {
-    let ended = edit_stream(alloc, turns, traces, scripts, writer);
-    outcome_of(ended, writer)
+    let turns = turns.min(4096);
+    let ended = edit_stream(alloc, turns, &mut traces, &mut scripts, &mut writer);
+    let outcome = ample_for(ended, &writer)?;
+    Ok(Answer::new(outcome, writer, traces.calls, scripts.calls))
 }
 
 /// A descriptor that an exec closes is read from after it.
@@ -120,59 +115,58 @@ static PROFILES: [(Profile, &[u8], Outcome, &[u8]); 4] = [
 
 #[test]
 fn a_script_is_replied_to_in_each_profile(rt: HostRuntime) -> Result<(), Fail> {
-    for (profile, script, outcome, written) in PROFILES {
-        let mut traces = Pieces::new(EXECUTED, 64, 0);
-        let mut scripts = Pieces::new(script, 64, 0);
-        let mut writer = Kept::new(64, 256);
-        let ended = edit_stream_as(
-            rt.alloc(),
-            profile,
-            4096,
-            &mut traces,
-            &mut scripts,
-            &mut writer,
-        );
-        assert_eq!(rt;
-            outcome_of(ended, &writer)?,
-            outcome,
-            "{script:?} in {profile:?}"
-        );
-        assert_eq!(rt; writer.text(), written, "{script:?} in {profile:?}");
+    for (profile, script, outcome, written) in &PROFILES {
+        let trace = Pieces::new(EXECUTED, 64, 0);
+        let script = Pieces::new(script, 64, 0);
+        let writer = Kept::new(64, 256);
+        let answer = answers::edited(rt.alloc(), *profile, 4096, trace, script, writer)?;
+        assert!(rt; answer.is(*outcome, written), "{profile:?}");
     }
     Ok(())
+}
+
+/// Whether the script of a row is replied to so in pieces of any size.
+fn is_replied_to(alloc: Global, row: &Script) -> Result<bool, NoMemory> {
+    let (trace, script, outcome, written) = row;
+    for size in &[1_usize, 2, 7, 64, 65536] {
+        let trace = Pieces::new(trace, (*size).max(1), 0);
+        let script = Pieces::new(script, (*size).max(1), 0);
+        let answer = edited(alloc, 4096, trace, script, Kept::new(*size, 256))?;
+        if !answer.is(*outcome, written) {
+            return Ok(false);
+        }
+    }
+    Ok(true)
 }
 
 #[test]
 fn scripts_are_replied_to_in_pieces_of_any_size(rt: HostRuntime) -> Result<(), Fail> {
-    for (trace, script, outcome, written) in SCRIPTS {
-        for size in [1_usize, 2, 7, 64, 65536] {
-            let mut traces = Pieces::new(trace, size.max(1), 0);
-            let mut scripts = Pieces::new(script, size.max(1), 0);
-            let mut writer = Kept::new(size, 256);
-            let ended = reply(rt.alloc(), 4096, &mut traces, &mut scripts, &mut writer)?;
-            assert_eq!(rt; ended, outcome, "{script:?} by {size}");
-            assert_eq!(rt; writer.text(), written, "{script:?} by {size}");
-        }
+    for row in &SCRIPTS {
+        assert!(rt; is_replied_to(rt.alloc(), row)?, "{:?}", row.1);
     }
     Ok(())
 }
 
-/// A line of a script may hold a line of a trace that has as many bytes as it may.
-#[test]
-fn the_longest_line_is_inserted(rt: HostRuntime) -> Result<(), Fail> {
-    let mut script: Vec<u8> = Vec::new(rt.alloc());
+/// An insert of a line of 1,024 bytes.
+fn longest_insert(alloc: Global) -> Result<Vec<u8>, NoMemory> {
+    let mut script: Vec<u8> = Vec::new(alloc);
     script.extend_from_slice(b"insert 1 100 foo(")?;
     for _ in 0..1009 {
         script.push(b'x')?;
     }
     script.extend_from_slice(b") RET 0")?;
+    Ok(script)
+}
+
+/// A line of a script may hold a line of a trace that has as many bytes as it may.
+#[test]
+fn the_longest_line_is_inserted(rt: HostRuntime) -> Result<(), Fail> {
+    let script = longest_insert(rt.alloc())?;
     assert_eq!(rt; script.len(), 9 + 1024);
-    let mut traces = Pieces::new(b"", 500, 0);
-    let mut scripts = Pieces::new(script.as_slice(), 500, 0);
-    let mut writer = Kept::new(500, 256);
-    let ended = reply(rt.alloc(), 4096, &mut traces, &mut scripts, &mut writer)?;
-    assert_eq!(rt; ended, Outcome::Clean);
-    assert_eq!(rt; writer.text(), b"ok 1\n".as_slice());
+    let trace = Pieces::new(b"", 500, 0);
+    let scripts = Pieces::new(&script, 500, 0);
+    let answer = edited(rt.alloc(), 4096, trace, scripts, Kept::new(500, 256))?;
+    assert!(rt; answer.is(Outcome::Clean, b"ok 1\n"));
     Ok(())
 }
 
@@ -199,13 +193,11 @@ fn replied(given: u64) -> &'static [u8] {
 #[test]
 fn a_fault_of_the_trace_leaves_the_script_unread(rt: HostRuntime) -> Result<(), Fail> {
     for failing in 1..FORKED.len() as u64 + 2 {
-        let mut traces = Pieces::new(FORKED, 1, failing);
-        let mut scripts = Pieces::new(FORKED_SCRIPT, 1, 0);
-        let mut writer = Kept::new(1, 256);
-        let ended = reply(rt.alloc(), 4096, &mut traces, &mut scripts, &mut writer)?;
-        assert_eq!(rt; ended, Outcome::ReadFault, "read {failing} of the trace");
-        assert!(rt; writer.text().is_empty());
-        assert_eq!(rt; scripts.calls, 0);
+        let trace = Pieces::new(FORKED, 1, failing);
+        let script = Pieces::new(FORKED_SCRIPT, 1, 0);
+        let answer = edited(rt.alloc(), 4096, trace, script, Kept::new(1, 256))?;
+        assert!(rt; answer.is(Outcome::ReadFault, b""), "read {failing}");
+        assert_eq!(rt; answer.other_reads, 0);
     }
     Ok(())
 }
@@ -214,72 +206,84 @@ fn a_fault_of_the_trace_leaves_the_script_unread(rt: HostRuntime) -> Result<(), 
 #[test]
 fn a_fault_of_the_script_leaves_the_replies_before_it(rt: HostRuntime) -> Result<(), Fail> {
     for failing in 1..FORKED_SCRIPT.len() as u64 + 2 {
-        let mut traces = Pieces::new(FORKED, 50, 0);
-        let mut scripts = Pieces::new(FORKED_SCRIPT, 1, failing);
-        let mut writer = Kept::new(7, 256);
-        let ended = reply(rt.alloc(), 4096, &mut traces, &mut scripts, &mut writer)?;
-        assert_eq!(rt; ended, Outcome::ReadFault, "read {failing} of the script");
-        assert_eq!(rt; writer.text(), replied(failing - 1));
+        let trace = Pieces::new(FORKED, 50, 0);
+        let script = Pieces::new(FORKED_SCRIPT, 1, failing);
+        let answer = edited(rt.alloc(), 4096, trace, script, Kept::new(7, 256))?;
+        assert!(rt;
+            answer.is(Outcome::ReadFault, replied(failing - 1)),
+            "read {failing}"
+        );
     }
     Ok(())
+}
+
+/// The outcome and the replies where a writer takes only so many bytes; `None` where memory wasn't there for the report.
+fn cut_replies(alloc: Global, most: usize) -> Option<(Outcome, Kept)> {
+    let mut traces = Pieces::new(FORKED, 50, 0);
+    let mut scripts = Pieces::new(FORKED_SCRIPT, 5, 0);
+    let mut writer = Kept::new(3, most);
+    let ended = edit_stream(alloc, 4096, &mut traces, &mut scripts, &mut writer);
+    if b"ok 4\nrefused E9\n".starts_with(writer.text())
+        && !FORKED_REPLIES.starts_with(writer.text())
+    {
+        return None;
+    }
+    Some((ended, writer))
 }
 
 /// Each byte that is written fails in turn.
 #[test]
 fn a_fault_of_the_writer_leaves_a_prefix(rt: HostRuntime) -> Result<(), Fail> {
     for most in 0..FORKED_REPLIES.len() {
-        let mut traces = Pieces::new(FORKED, 50, 0);
-        let mut scripts = Pieces::new(FORKED_SCRIPT, 5, 0);
-        let mut writer = Kept::new(3, most);
-        let ended = edit_stream(rt.alloc(), 4096, &mut traces, &mut scripts, &mut writer);
-        if b"ok 4\nrefused E9\n".starts_with(writer.text())
-            && !FORKED_REPLIES.starts_with(writer.text())
-        {
-            return Err(Fail::from(NoMemory));
-        }
+        let (ended, writer) = cut_replies(rt.alloc(), most).ok_or(NoMemory)?;
         assert_eq!(rt; ample(ended)?, Outcome::WriteFault, "byte {most}");
         assert_eq!(rt; writer.text(), &FORKED_REPLIES[..most]);
     }
     Ok(())
 }
 
+/// A trace and a script of which one comes without end, and how many reads are made of each.
+static ENDLESS: [(&[u8], &[u8], (u64, u64)); 2] = [
+    (&[b'\n'; 200], b"count\n", (99, 0)),
+    (b"", &[b'\n'; 200], (1, 99)),
+];
+
 /// Neither text may be read without an end.
 #[test]
 fn a_text_without_end_is_left(rt: HostRuntime) -> Result<(), Fail> {
-    for (trace, script, reads) in [
-        ([b'\n'; 200].as_slice(), b"count\n".as_slice(), (99, 0)),
-        (b"".as_slice(), [b'\n'; 200].as_slice(), (1, 99)),
-    ] {
-        let mut traces = Pieces::new(trace, 1, 0);
-        let mut scripts = Pieces::new(script, 1, 0);
-        let mut writer = Kept::new(99, 256);
-        let ended = reply(rt.alloc(), 99, &mut traces, &mut scripts, &mut writer)?;
-        assert!(rt; writer.text().is_empty());
-        assert_eq!(rt; ended, Outcome::TooLong);
-        assert_eq!(rt; (traces.calls, scripts.calls), reads);
+    for (trace, script, reads) in &ENDLESS {
+        let trace = Pieces::new(trace, 1, 0);
+        let script = Pieces::new(script, 1, 0);
+        let answer = edited(rt.alloc(), 99, trace, script, Kept::new(99, 256))?;
+        assert!(rt; answer.is(Outcome::TooLong, b"") && answer.has_read(reads.0, reads.1));
     }
     Ok(())
 }
 
 /// A script, the read of it that fails, and how much all writes take: the outcome, what is written, and how many
 /// reads of the script were made.
-static BROKEN: [(&[u8], u64, usize, Outcome, &[u8], u64); 4] = [
+type Broken = (&'static [u8], u64, usize, Outcome, &'static [u8], u64);
+
+static BROKEN: [Broken; 4] = [
     (b"count\n", 7, 99, Outcome::ReadFault, b"3\n", 7),
     (b"count\ncount\n", 0, 0, Outcome::WriteFault, b"", 6),
     (b"count\ncount", 0, 3, Outcome::WriteFault, b"3\n3", 12),
     (b"count\nshow", 9, 99, Outcome::ReadFault, b"3\n", 9),
 ];
 
+/// Whether the script of a row ends so.
+fn ends_over_devices(alloc: Global, row: &Broken) -> Result<bool, NoMemory> {
+    let (script, fails_at, most, outcome, written, reads) = row;
+    let trace = Pieces::new(LIMITED, 99, 0);
+    let script = Pieces::new(script, 1, *fails_at);
+    let answer = edited(alloc, 99, trace, script, Kept::new(99, *most))?;
+    Ok(answer.is(*outcome, written) && answer.other_reads == *reads)
+}
+
 #[test]
 fn replies_before_a_fault_stand(rt: HostRuntime) -> Result<(), Fail> {
-    for (script, fails_at, most, outcome, written, reads) in BROKEN {
-        let mut traces = Pieces::new(LIMITED, 99, 0);
-        let mut scripts = Pieces::new(script, 1, fails_at);
-        let mut writer = Kept::new(99, most);
-        let ended = reply(rt.alloc(), 99, &mut traces, &mut scripts, &mut writer)?;
-        assert_eq!(rt; ended, outcome);
-        assert_eq!(rt; writer.text(), written);
-        assert_eq!(rt; scripts.calls, reads);
+    for row in &BROKEN {
+        assert!(rt; ends_over_devices(rt.alloc(), row)?, "{:?}", row.0);
     }
     Ok(())
 }

@@ -3,7 +3,7 @@
 use cap_machine::{Cell, Mode, OnExec, Profile, check};
 use cap_rights::parse_rights;
 use cap_session::{StartFault, parse_start};
-use cap_trace::parse_line;
+use cap_trace::{Line, parse_line};
 use std::alloc::Global;
 use std::test::Fail;
 
@@ -11,26 +11,59 @@ use std::test::Fail;
 const GOOD: &[u8] =
     b"# before\n100 out closed 0=ALL 3=CAP_READ|CAP_SEEK 5=unknown\n\n101 in NONE 0=closed";
 
+/// Processes and their modes in that text.
+static MODES: [(u32, Mode); 3] = [
+    (100, Mode::Outside),
+    (101, Mode::Inside),
+    (102, Mode::Unsure),
+];
+
 #[test]
-fn a_start_is_read(rt: HostRuntime) -> Result<(), Fail> {
+fn modes_of_a_start_are_read(rt: HostRuntime) -> Result<(), Fail> {
     let start = parse_start(rt.alloc(), GOOD)?;
-    let limited = parse_rights(b"CAP_READ|CAP_SEEK")?;
-    let never_limited = parse_rights(b"ALL")?;
-    let none = parse_rights(b"NONE")?;
-    assert_eq!(rt; start.mode(100), Mode::Outside);
-    assert_eq!(rt;
-        start.cell(100, 0),
-        Cell::Held(never_limited, OnExec::Unsure)
-    );
-    assert_eq!(rt; start.cell(100, 3), Cell::Held(limited, OnExec::Unsure));
-    assert_eq!(rt; start.cell(100, 5), Cell::Unknown);
-    assert_eq!(rt; start.cell(100, 4), Cell::Closed);
-    assert_eq!(rt; start.cell(100, 1_048_575), Cell::Closed);
-    assert_eq!(rt; start.mode(101), Mode::Inside);
-    assert_eq!(rt; start.cell(101, 0), Cell::Closed);
-    assert_eq!(rt; start.cell(101, 1), Cell::Held(none, OnExec::Unsure));
-    assert_eq!(rt; start.mode(102), Mode::Unsure);
-    assert_eq!(rt; start.cell(102, 0), Cell::Unknown);
+    for (pid, mode) in &MODES {
+        assert_eq!(rt; start.mode(*pid), *mode, "{pid}");
+    }
+    Ok(())
+}
+
+/// Descriptors in that text without rights, and whether they are closed: else nothing is known of them.
+static CELLS: [(u32, u32, bool); 5] = [
+    (100, 5, false),
+    (100, 4, true),
+    (100, 1_048_575, true),
+    (101, 0, true),
+    (102, 0, false),
+];
+
+#[test]
+fn cells_of_a_start_are_read(rt: HostRuntime) -> Result<(), Fail> {
+    let start = parse_start(rt.alloc(), GOOD)?;
+    for (pid, fd, is_closed) in &CELLS {
+        let cell = if *is_closed {
+            Cell::Closed
+        } else {
+            Cell::Unknown
+        };
+        assert_eq!(rt; start.cell(*pid, *fd), cell, "{pid} {fd}");
+    }
+    Ok(())
+}
+
+/// Descriptors in that text, with their rights.
+static HELD: [(u32, u32, &[u8]); 3] = [
+    (100, 0, b"ALL"),
+    (100, 3, b"CAP_READ|CAP_SEEK"),
+    (101, 1, b"NONE"),
+];
+
+#[test]
+fn rights_of_a_start_are_read(rt: HostRuntime) -> Result<(), Fail> {
+    let start = parse_start(rt.alloc(), GOOD)?;
+    for (pid, fd, rights) in &HELD {
+        let held = Cell::Held(parse_rights(rights)?, OnExec::Unsure);
+        assert_eq!(rt; start.cell(*pid, *fd), held, "{pid} {fd}");
+    }
     Ok(())
 }
 
@@ -49,7 +82,7 @@ static READ: [&[u8]; 9] = [
 
 #[test]
 fn good_texts_are_read(rt: HostRuntime) -> Result<(), Fail> {
-    for text in READ {
+    for text in &READ {
         parse_start(rt.alloc(), text)?;
     }
     Ok(())
@@ -115,50 +148,71 @@ static REFUSED: [(&[u8], u8, usize); 48] = [
     (b"100 out closed\n #", 3, 2),
 ];
 
+/// Why a text is refused.
+fn fault_of(alloc: Global, text: &[u8]) -> Option<StartFault> {
+    parse_start(alloc, text).err()
+}
+
 #[test]
 fn bad_texts_are_refused(rt: HostRuntime) -> Result<(), Fail> {
-    for (text, code, line) in REFUSED {
-        let fault = StartFault::Bad { code, line };
-        assert_eq!(rt;
-            parse_start(rt.alloc(), text).err(),
-            Some(fault),
-            "{text:?}"
-        );
+    for (text, code, line) in &REFUSED {
+        let fault = StartFault::Bad {
+            code: *code,
+            line: *line,
+        };
+        assert_eq!(rt; fault_of(rt.alloc(), text), Some(fault), "{text:?}");
     }
     Ok(())
 }
+
+/// Long lines, and why they are refused.
+static LONG: [(&[u8], Option<StartFault>); 4] = [
+    (&[b'#'; 1025], Some(StartFault::Bad { code: 1, line: 1 })),
+    (&[b'x'; 1025], Some(StartFault::Bad { code: 1, line: 1 })),
+    (&[b'x'; 1024], Some(StartFault::Bad { code: 3, line: 1 })),
+    (&[b'#'; 1024], None),
+];
 
 /// A line has at most 1,024 bytes, comments included.
 #[test]
 fn a_long_line_is_refused(rt: HostRuntime) -> Result<(), Fail> {
-    let long = StartFault::Bad { code: 1, line: 1 };
-    assert_eq!(rt; parse_start(rt.alloc(), &[b'#'; 1025]).err(), Some(long));
-    assert_eq!(rt; parse_start(rt.alloc(), &[b'x'; 1025]).err(), Some(long));
-    let pid = StartFault::Bad { code: 3, line: 1 };
-    assert_eq!(rt; parse_start(rt.alloc(), &[b'x'; 1024]).err(), Some(pid));
-    parse_start(rt.alloc(), &[b'#'; 1024])?;
+    for (text, fault) in &LONG {
+        assert_eq!(rt; fault_of(rt.alloc(), text), *fault);
+    }
     Ok(())
 }
 
-/// How many findings a trace has from a start.
-fn findings(alloc: Global, text: &[u8], trace: &[&[u8]]) -> Result<usize, Fail> {
-    let start = parse_start(alloc, text)?;
+/// These lines.
+fn lines_of(alloc: Global, trace: &[&[u8]]) -> Result<Vec<Line>, Fail> {
     let mut lines = Vec::new(alloc);
     for line in trace {
         lines.push(parse_line(alloc, line)?)?;
     }
-    Ok(check(alloc, Profile::One, &start, lines.as_slice())?.len())
+    Ok(lines)
 }
+
+/// How many findings lines have from a start.
+fn findings_of(alloc: Global, text: &[u8], lines: &[Line]) -> Result<usize, Fail> {
+    let start = parse_start(alloc, text)?;
+    Ok(check(alloc, Profile::One, &start, lines)?.len())
+}
+
+/// How many findings a trace of one line has from a start.
+fn findings(alloc: Global, text: &[u8], line: &[u8]) -> Result<usize, Fail> {
+    findings_of(alloc, text, &lines_of(alloc, &[line])?)
+}
+
+/// Starts, the one line of a trace, and how many findings it has.
+static CHECKED: [(&[u8], &[u8], usize); 3] = [
+    (b"100 out closed 0=ALL", b"100 read(3) RET 1", 1),
+    (b"100 in unknown", b"100 open(\"a\",O_RDONLY) RET 3", 1),
+    (b"", b"100 write(7) RET 5", 0),
+];
 
 #[test]
 fn a_trace_is_checked_from_a_start(rt: HostRuntime) -> Result<(), Fail> {
-    let read = [b"100 read(3) RET 1".as_slice()];
-    let open = [b"100 open(\"a\",O_RDONLY) RET 3".as_slice()];
-    assert_eq!(rt; findings(rt.alloc(), b"100 out closed 0=ALL", &read)?, 1);
-    assert_eq!(rt; findings(rt.alloc(), b"100 in unknown", &open)?, 1);
-    assert_eq!(rt;
-        findings(rt.alloc(), b"", &[b"100 write(7) RET 5".as_slice()])?,
-        0
-    );
+    for (text, line, count) in &CHECKED {
+        assert_eq!(rt; findings(rt.alloc(), text, line)?, *count, "{text:?}");
+    }
     Ok(())
 }
