@@ -1,7 +1,7 @@
 //! Rights and lines.
 
 use crate::marks::Mark;
-use cap_rights::{NoMemory, parse_rights, write_rights};
+use cap_rights::{NoMemory, RightSet, parse_rights, write_rights};
 use cap_trace::{Line, LineFault, parse_line, write_line};
 use std::alloc::Global;
 use std::test::Fail;
@@ -30,48 +30,62 @@ static LINES: [&[u8]; 12] = [
     b"100 sched_setscheduler(any arguments at all) RET -1 errno 9",
 ];
 
+/// A word and the text of rights; where the first call lacks memory, by a second one.
+fn rights_written(alloc: Global, rights: &RightSet) -> Result<Vec<u8>, NoMemory> {
+    let mut out = Vec::new(alloc);
+    out.extend_from_slice(b"before ")?;
+    Mark::Begin.set(alloc);
+    let first = write_rights(rights, &mut out);
+    Mark::End.set(alloc);
+    if first.is_err() {
+        Mark::Lacked.set(alloc);
+        if out.as_slice() != b"before ".as_slice() {
+            return Err(NoMemory);
+        }
+        write_rights(rights, &mut out)?;
+    }
+    Ok(out)
+}
+
 #[test]
 fn write_rights_refused(rt: HostRuntime) -> Result<(), Fail> {
     let alloc = rt.alloc();
-    for text in RIGHTS {
-        let rights = parse_rights(text)?;
-        let mut out = Vec::new(alloc);
-        out.extend_from_slice(b"before ")?;
-        Mark::Begin.set(alloc)?;
-        let first = write_rights(&rights, &mut out);
-        Mark::End.set(alloc)?;
-        if first.is_err() {
-            Mark::Lacked.set(alloc)?;
-            assert_eq!(rt; out.as_slice(), b"before ".as_slice());
-            write_rights(&rights, &mut out)?;
-        }
+    for text in &RIGHTS {
+        let out = rights_written(alloc, &parse_rights(text)?)?;
         assert!(rt; out.starts_with(b"before "));
         assert!(rt; out.ends_with(text));
         assert_eq!(rt; out.len(), 7 + text.len());
-        Mark::Right.set(alloc)?;
+        Mark::Right.set(alloc);
     }
     Ok(())
+}
+
+/// The line of a text; where the first call lacks memory, by a second one.
+fn parsed(alloc: Global, text: &[u8]) -> Result<Line, LineFault> {
+    Mark::Begin.set(alloc);
+    let first = parse_line(alloc, text);
+    Mark::End.set(alloc);
+    if !matches!(first, Err(LineFault::Memory)) {
+        return first;
+    }
+    Mark::Lacked.set(alloc);
+    parse_line(alloc, text)
+}
+
+/// The text of a line.
+fn text_of(alloc: Global, line: &Line) -> Result<Vec<u8>, NoMemory> {
+    let mut out = Vec::new(alloc);
+    write_line(line, &mut out)?;
+    Ok(out)
 }
 
 #[test]
 fn parse_line_refused(rt: HostRuntime) -> Result<(), Fail> {
     let alloc = rt.alloc();
-    for text in LINES {
-        Mark::Begin.set(alloc)?;
-        let first = parse_line(alloc, text);
-        Mark::End.set(alloc)?;
-        let line = match first {
-            Ok(line) => line,
-            Err(fault) => {
-                Mark::Lacked.set(alloc)?;
-                assert_eq!(rt; fault, LineFault::Memory);
-                parse_line(alloc, text)?
-            }
-        };
-        let mut out = Vec::new(alloc);
-        write_line(&line, &mut out)?;
-        assert_eq!(rt; out.as_slice(), text);
-        Mark::Right.set(alloc)?;
+    for text in &LINES {
+        let line = parsed(alloc, text)?;
+        assert_eq!(rt; text_of(alloc, &line)?.as_slice(), *text);
+        Mark::Right.set(alloc);
     }
     Ok(())
 }
@@ -79,11 +93,11 @@ fn parse_line_refused(rt: HostRuntime) -> Result<(), Fail> {
 /// The text of a line; where the first call lacks memory, by a second one.
 fn written(alloc: Global, line: &Line) -> Result<Vec<u8>, NoMemory> {
     let mut out = Vec::new(alloc);
-    Mark::Begin.set(alloc)?;
+    Mark::Begin.set(alloc);
     let first = write_line(line, &mut out);
-    Mark::End.set(alloc)?;
+    Mark::End.set(alloc);
     if first.is_err() {
-        Mark::Lacked.set(alloc)?;
+        Mark::Lacked.set(alloc);
         if !out.is_empty() {
             return Err(NoMemory);
         }
@@ -95,10 +109,10 @@ fn written(alloc: Global, line: &Line) -> Result<Vec<u8>, NoMemory> {
 #[test]
 fn write_line_refused(rt: HostRuntime) -> Result<(), Fail> {
     let alloc = rt.alloc();
-    for text in LINES {
+    for text in &LINES {
         let line = parse_line(alloc, text)?;
-        assert_eq!(rt; written(alloc, &line)?.as_slice(), text);
-        Mark::Right.set(alloc)?;
+        assert_eq!(rt; written(alloc, &line)?.as_slice(), *text);
+        Mark::Right.set(alloc);
     }
     Ok(())
 }

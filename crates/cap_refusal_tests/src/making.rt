@@ -3,7 +3,7 @@
 use crate::marks::Mark;
 use cap_machine::{Finding, NoMemory, put_count, put_finding};
 use cap_trace::{
-    Answer, Args, Call, Command, Fds, Flags, Item, Line, LineFault, Name, Path, parse_line,
+    Answer, Args, Call, Command, Fd, Fds, Flags, Item, Line, LineFault, Name, Path, parse_line,
     write_line,
 };
 use std::alloc::Global;
@@ -40,59 +40,68 @@ fn copied(alloc: Global, bytes: &[u8]) -> Result<Vec<u8>, LineFault> {
     }
 }
 
-/// The bytes of a part that is made.
-fn bytes_of(alloc: Global, part: Part) -> Result<Vec<u8>, LineFault> {
+/// The bytes of a path that is made in one of three ways.
+fn bytes_of_path(alloc: Global, part: Part) -> Result<Vec<u8>, LineFault> {
     match part {
-        Part::Path => copied(alloc, Path::new(alloc, b"a/long/path\\x0ab")?.as_bytes()),
         Part::Escaped => copied(alloc, Path::escape(alloc, b"a/long/path\nb\"")?.as_bytes()),
         Part::Unescaped => match Path::new(alloc, b"a/long/path\\x0ab")?.unescape(alloc) {
             Ok(bytes) => Ok(bytes),
             Err(_) => Err(LineFault::Memory),
         },
+        _ => copied(alloc, Path::new(alloc, b"a/long/path\\x0ab")?.as_bytes()),
+    }
+}
+
+/// The bytes of a part that is made.
+fn bytes_of(alloc: Global, part: Part) -> Result<Vec<u8>, LineFault> {
+    match part {
         Part::Flags => copied(alloc, Flags::new(alloc, b"O_RDONLY|O_CLOEXEC")?.as_bytes()),
         Part::Command => copied(alloc, Command::new(alloc, b"F_DUPFD_CLOEXEC")?.as_bytes()),
         Part::Name => copied(alloc, Name::new(alloc, b"sched_setscheduler")?.as_bytes()),
         Part::Args => copied(alloc, Args::new(alloc, b"any arguments at all")?.as_bytes()),
+        path => bytes_of_path(alloc, path),
     }
+}
+
+/// The same; where the first call lacks memory, by a second one.
+fn made(alloc: Global, part: Part) -> Result<Vec<u8>, LineFault> {
+    Mark::Begin.set(alloc);
+    let first = bytes_of(alloc, part);
+    Mark::End.set(alloc);
+    if !matches!(first, Err(LineFault::Memory)) {
+        return first;
+    }
+    Mark::Lacked.set(alloc);
+    bytes_of(alloc, part)
 }
 
 #[test]
 fn parts_refused(rt: HostRuntime) -> Result<(), Fail> {
-    let alloc = rt.alloc();
-    for (part, wanted) in PARTS {
-        Mark::Begin.set(alloc)?;
-        let first = bytes_of(alloc, part);
-        Mark::End.set(alloc)?;
-        let bytes = match first {
-            Ok(bytes) => bytes,
-            Err(fault) => {
-                Mark::Lacked.set(alloc)?;
-                assert_eq!(rt; fault, LineFault::Memory, "{part:?}");
-                bytes_of(alloc, part)?
-            }
-        };
-        assert_eq!(rt; bytes.as_slice(), wanted, "{part:?}");
-        Mark::Right.set(alloc)?;
+    for (part, wanted) in &PARTS {
+        let bytes = made(rt.alloc(), *part)?;
+        assert_eq!(rt; bytes.as_slice(), *wanted, "{part:?}");
+        Mark::Right.set(rt.alloc());
     }
     Ok(())
 }
 
+/// A list of descriptors; where the first call lacks memory, by a second one.
+fn fds_of(alloc: Global, fds: &[Fd]) -> Result<Fds, LineFault> {
+    Mark::Begin.set(alloc);
+    let first = Fds::new(alloc, fds);
+    Mark::End.set(alloc);
+    if !matches!(first, Err(LineFault::Memory)) {
+        return first;
+    }
+    Mark::Lacked.set(alloc);
+    Fds::new(alloc, fds)
+}
+
 #[test]
 fn fds_refused(rt: HostRuntime) -> Result<(), Fail> {
-    let alloc = rt.alloc();
-    Mark::Begin.set(alloc)?;
-    let first = Fds::new(alloc, &[0, 3]);
-    Mark::End.set(alloc)?;
-    let fds = match first {
-        Ok(fds) => fds,
-        Err(fault) => {
-            Mark::Lacked.set(alloc)?;
-            assert_eq!(rt; fault, LineFault::Memory);
-            Fds::new(alloc, &[0, 3])?
-        }
-    };
+    let fds = fds_of(rt.alloc(), &[0, 3])?;
     assert_eq!(rt; fds.as_slice(), [0, 3].as_slice());
-    Mark::Right.set(alloc)?;
+    Mark::Right.set(rt.alloc());
     Ok(())
 }
 
@@ -104,27 +113,33 @@ fn opens(alloc: Global) -> Result<Item, LineFault> {
     Ok(Item::Call { call, answer })
 }
 
+/// The line of that call; where the first call lacks memory, by a second one.
+fn line_of(alloc: Global) -> Result<Option<Line>, Fail> {
+    let item = opens(alloc)?;
+    Mark::Begin.set(alloc);
+    let first = Line::new(alloc, 100, item);
+    Mark::End.set(alloc);
+    if let Ok(line) = first {
+        return Ok(line);
+    }
+    Mark::Lacked.set(alloc);
+    Ok(Line::new(alloc, 100, opens(alloc)?)?)
+}
+
+/// The text of a line.
+fn text_of(alloc: Global, line: &Line) -> Result<Vec<u8>, NoMemory> {
+    let mut text = Vec::new(alloc);
+    write_line(line, &mut text)?;
+    Ok(text)
+}
+
 #[test]
 fn line_new_refused(rt: HostRuntime) -> Result<(), Fail> {
-    let alloc = rt.alloc();
-    let item = opens(alloc)?;
-    Mark::Begin.set(alloc)?;
-    let first = Line::new(alloc, 100, item);
-    Mark::End.set(alloc)?;
-    let line = match first {
-        Ok(line) => line,
-        Err(NoMemory) => {
-            Mark::Lacked.set(alloc)?;
-            Line::new(alloc, 100, opens(alloc)?)?
-        }
-    };
-    let mut text = Vec::new(alloc);
-    if let Some(line) = line {
-        write_line(&line, &mut text)?;
-    }
+    let line = line_of(rt.alloc())?.ok_or("no such line")?;
+    let text = text_of(rt.alloc(), &line)?;
     let wanted = b"100 open(\"a/long/path\\x0a\",O_RDONLY) RET 3";
     assert_eq!(rt; text.as_slice(), wanted.as_slice());
-    Mark::Right.set(alloc)?;
+    Mark::Right.set(rt.alloc());
     Ok(())
 }
 
@@ -135,11 +150,11 @@ static FOUND: [&[u8]; 2] = [b"100 read(3) RET 1", b"7 100 read forbidden\n"];
 fn finding_line(alloc: Global, line: &Line) -> Result<Vec<u8>, NoMemory> {
     let mut out = Vec::new(alloc);
     out.push(b' ')?;
-    Mark::Begin.set(alloc)?;
+    Mark::Begin.set(alloc);
     let first = put_finding(&mut out, 7, line, &Finding::Forbidden);
-    Mark::End.set(alloc)?;
+    Mark::End.set(alloc);
     if first.is_err() {
-        Mark::Lacked.set(alloc)?;
+        Mark::Lacked.set(alloc);
         if out.len() != 1 {
             return Err(NoMemory);
         }
@@ -155,7 +170,7 @@ fn put_finding_refused(rt: HostRuntime) -> Result<(), Fail> {
     let out = finding_line(alloc, &line)?;
     assert!(rt; out.ends_with(FOUND[1]));
     assert_eq!(rt; out.len(), 1 + FOUND[1].len());
-    Mark::Right.set(alloc)?;
+    Mark::Right.set(alloc);
     Ok(())
 }
 
@@ -163,11 +178,11 @@ fn put_finding_refused(rt: HostRuntime) -> Result<(), Fail> {
 fn last_line(alloc: Global) -> Result<Vec<u8>, NoMemory> {
     let mut out = Vec::new(alloc);
     out.push(b' ')?;
-    Mark::Begin.set(alloc)?;
+    Mark::Begin.set(alloc);
     let first = put_count(&mut out, 1);
-    Mark::End.set(alloc)?;
+    Mark::End.set(alloc);
     if first.is_err() {
-        Mark::Lacked.set(alloc)?;
+        Mark::Lacked.set(alloc);
         if out.len() != 1 {
             return Err(NoMemory);
         }
@@ -181,6 +196,6 @@ fn put_count_refused(rt: HostRuntime) -> Result<(), Fail> {
     let alloc = rt.alloc();
     let out = last_line(alloc)?;
     assert_eq!(rt; out.as_slice(), b" findings 1\n".as_slice());
-    Mark::Right.set(alloc)?;
+    Mark::Right.set(alloc);
     Ok(())
 }

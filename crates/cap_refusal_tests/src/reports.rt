@@ -1,8 +1,9 @@
 //! Reports of a session, and texts of starts.
 
-use crate::machine::{TRACE, cells_of, lines_of};
+use crate::machine::start_of;
 use crate::marks::Mark;
-use cap_machine::{Cell, Mode, Profile, Start};
+use crate::sessions::session_of;
+use cap_machine::{Cell, Mode, Start};
 use cap_session::{Refused, Session, StartFault, parse_start};
 use std::alloc::Global;
 use std::test::Fail;
@@ -27,59 +28,68 @@ fn asked(session: &Session, start: &Start, ask: Ask) -> Result<Vec<u8>, Refused>
     }
 }
 
+/// The same; where the first call lacks memory, by a second one.
+fn answered(alloc: Global, session: &Session, start: &Start, ask: Ask) -> Result<Vec<u8>, Refused> {
+    Mark::Begin.set(alloc);
+    let first = asked(session, start, ask);
+    Mark::End.set(alloc);
+    if !matches!(first, Err(Refused::Memory)) {
+        return first;
+    }
+    Mark::Lacked.set(alloc);
+    asked(session, start, ask)
+}
+
+/// What is asked, and the answer.
+static ASKED: [(Ask, &[u8]); 4] = [
+    (Ask::Whole, REPORT),
+    (Ask::From, REPORT),
+    (
+        Ask::Range(5, 7),
+        b"5 100 write missing 3 CAP_WRITE\nfindings 1\n",
+    ),
+    (Ask::Range(1, 4), b"findings 0\n"),
+];
+
+/// Whether a session of the trace answers all of it so.
+fn answers_all(alloc: Global, session: &Session, start: &Start) -> Result<bool, Refused> {
+    for (ask, report) in &ASKED {
+        let text = answered(alloc, session, start, *ask)?;
+        if text.as_slice() != *report || session.count() != 8 {
+            return Ok(false);
+        }
+        Mark::Right.set(alloc);
+    }
+    Ok(true)
+}
+
 #[test]
 fn reports_refused(rt: HostRuntime) -> Result<(), Fail> {
-    let alloc = rt.alloc();
-    let mut session = Session::with_profile(alloc, 100, Profile::Two)?;
-    session.load(lines_of(alloc, &TRACE)?)?;
-    let mut start = Start::unknown(alloc);
-    start.add(100, Mode::Outside, Cell::Closed, cells_of(alloc)?)?;
-    for (ask, report) in [
-        (Ask::Whole, REPORT),
-        (Ask::From, REPORT),
-        (
-            Ask::Range(5, 7),
-            b"5 100 write missing 3 CAP_WRITE\nfindings 1\n".as_slice(),
-        ),
-        (Ask::Range(1, 4), b"findings 0\n".as_slice()),
-    ] {
-        Mark::Begin.set(alloc)?;
-        let first = asked(&session, &start, ask);
-        Mark::End.set(alloc)?;
-        let text = match first {
-            Ok(text) => text,
-            Err(refused) => {
-                Mark::Lacked.set(alloc)?;
-                assert_eq!(rt; refused, Refused::Memory);
-                assert_eq!(rt; session.count(), 8);
-                asked(&session, &start, ask)?
-            }
-        };
-        assert_eq!(rt; text.as_slice(), report);
-        Mark::Right.set(alloc)?;
-    }
+    let start = start_of(rt.alloc())?;
+    assert!(rt; answers_all(rt.alloc(), &session_of(rt.alloc())?, &start)?);
     Ok(())
+}
+
+/// The start of a text; where the first call lacks memory, by a second one.
+fn parsed(alloc: Global, text: &[u8]) -> Result<Start, StartFault> {
+    Mark::Begin.set(alloc);
+    let first = parse_start(alloc, text);
+    Mark::End.set(alloc);
+    if !matches!(first, Err(StartFault::Memory)) {
+        return first;
+    }
+    Mark::Lacked.set(alloc);
+    parse_start(alloc, text)
 }
 
 #[test]
 fn parse_start_refused(rt: HostRuntime) -> Result<(), Fail> {
-    let alloc = rt.alloc();
     let text = b"100 out closed 0=CAP_READ 70=ALL\n101 in unknown 3=closed\n";
-    Mark::Begin.set(alloc)?;
-    let first = parse_start(alloc, text);
-    Mark::End.set(alloc)?;
-    let start = match first {
-        Ok(start) => start,
-        Err(fault) => {
-            Mark::Lacked.set(alloc)?;
-            assert!(rt; fault == StartFault::Memory);
-            parse_start(alloc, text)?
-        }
-    };
+    let start = parsed(rt.alloc(), text)?;
     assert_eq!(rt; start.cell(100, 1), Cell::Closed);
     assert_eq!(rt; start.cell(101, 3), Cell::Closed);
     assert_eq!(rt; start.cell(101, 0), Cell::Unknown);
     assert_eq!(rt; start.mode(101), Mode::Inside);
-    Mark::Right.set(alloc)?;
+    Mark::Right.set(rt.alloc());
     Ok(())
 }

@@ -64,28 +64,35 @@ fn streamed(alloc: Global, call: Call) -> (Outcome, Kept) {
     (outcome, kept)
 }
 
+/// The same; where the first call lacks memory, by a second one. `None` where the first wrote something all the same.
+fn checked(alloc: Global, call: Call) -> Option<(Outcome, Kept)> {
+    Mark::Begin.set(alloc);
+    let (outcome, kept) = streamed(alloc, call);
+    Mark::End.set(alloc);
+    if outcome != Outcome::Memory {
+        return Some((outcome, kept));
+    }
+    Mark::Lacked.set(alloc);
+    if !kept.text().is_empty() {
+        return None;
+    }
+    Some(streamed(alloc, call))
+}
+
+static CHECKS: [Call; 4] = [
+    Call::Check,
+    Call::CheckAs,
+    Call::CheckFrom,
+    Call::CheckFromAs,
+];
+
 #[test]
 fn check_streams_refused(rt: HostRuntime) -> Result<(), Fail> {
-    let alloc = rt.alloc();
-    for call in [
-        Call::Check,
-        Call::CheckAs,
-        Call::CheckFrom,
-        Call::CheckFromAs,
-    ] {
-        Mark::Begin.set(alloc)?;
-        let first = streamed(alloc, call);
-        Mark::End.set(alloc)?;
-        let (outcome, kept) = if first.0 == Outcome::Memory {
-            Mark::Lacked.set(alloc)?;
-            assert_eq!(rt; first.1.text(), b"".as_slice());
-            streamed(alloc, call)
-        } else {
-            first
-        };
+    for call in &CHECKS {
+        let (outcome, kept) = checked(rt.alloc(), *call).ok_or("written without memory")?;
         assert_eq!(rt; outcome, Outcome::Findings);
         assert_eq!(rt; kept.text(), REPORT);
-        Mark::Right.set(alloc)?;
+        Mark::Right.set(rt.alloc());
     }
     Ok(())
 }
@@ -112,56 +119,76 @@ fn explained(alloc: Global, profile: Option<Profile>, is_started: bool) -> (Expl
     (outcome, kept)
 }
 
+/// The same; where the first call lacks memory, by a second one. `None` where the first wrote something all the same.
+fn explained_or_again(
+    alloc: Global,
+    profile: Option<Profile>,
+    is_started: bool,
+) -> Option<(ExplainOutcome, Kept)> {
+    Mark::Begin.set(alloc);
+    let (outcome, kept) = explained(alloc, profile, is_started);
+    Mark::End.set(alloc);
+    if outcome != ExplainOutcome::Ended(Outcome::Memory) {
+        return Some((outcome, kept));
+    }
+    Mark::Lacked.set(alloc);
+    if !kept.text().is_empty() {
+        return None;
+    }
+    Some(explained(alloc, profile, is_started))
+}
+
+/// With a profile or without, and from a start or without.
+static WAYS: [(Option<Profile>, bool); 4] = [
+    (None, false),
+    (Some(Profile::Two), false),
+    (None, true),
+    (Some(Profile::Two), true),
+];
+
 #[test]
 fn explain_streams_refused(rt: HostRuntime) -> Result<(), Fail> {
-    let alloc = rt.alloc();
-    for (profile, is_started) in [
-        (None, false),
-        (Some(Profile::Two), false),
-        (None, true),
-        (Some(Profile::Two), true),
-    ] {
-        Mark::Begin.set(alloc)?;
-        let first = explained(alloc, profile, is_started);
-        Mark::End.set(alloc)?;
-        let (outcome, kept) = if first.0 == ExplainOutcome::Ended(Outcome::Memory) {
-            Mark::Lacked.set(alloc)?;
-            assert_eq!(rt; first.1.text(), b"".as_slice());
-            explained(alloc, profile, is_started)
-        } else {
-            first
-        };
+    for (profile, is_started) in &WAYS {
+        let answer = explained_or_again(rt.alloc(), *profile, *is_started);
+        let (outcome, kept) = answer.ok_or("written without memory")?;
         assert_eq!(rt; outcome, ExplainOutcome::Ended(Outcome::Findings));
         assert_eq!(rt; kept.text(), EXPLAINED);
-        Mark::Right.set(alloc)?;
+        Mark::Right.set(rt.alloc());
     }
     Ok(())
 }
 
+/// Whether this may be replied where memory runs out: one of the replies, or nothing after one of them.
+fn may_be_replied(outcome: Outcome, written: &[u8]) -> bool {
+    if outcome == Outcome::Memory {
+        written.is_empty() || REPLIES.iter().any(|(_, text)| *text == written)
+    } else {
+        REPLIES
+            .iter()
+            .any(|(ended, text)| *ended == outcome && *text == written)
+    }
+}
+
+/// Whether the first call of a script answers what is right, or what it may where memory runs out.
+fn is_replied(alloc: Global, call: Call) -> bool {
+    Mark::Begin.set(alloc);
+    let (outcome, kept) = streamed(alloc, call);
+    Mark::End.set(alloc);
+    if (outcome, kept.text()) == REPLIES[0] {
+        return true;
+    }
+    Mark::Lacked.set(alloc);
+    may_be_replied(outcome, kept.text())
+}
+
 #[test]
 fn edit_streams_refused(rt: HostRuntime) -> Result<(), Fail> {
-    let alloc = rt.alloc();
-    for call in [Call::Edit, Call::EditAs] {
-        Mark::Begin.set(alloc)?;
-        let (outcome, kept) = streamed(alloc, call);
-        Mark::End.set(alloc)?;
-        if (outcome, kept.text()) != REPLIES[0] {
-            Mark::Lacked.set(alloc)?;
-            if outcome == Outcome::Memory {
-                let written = kept.text();
-                assert!(rt; written.is_empty() || REPLIES.iter().any(|(_, text)| *text == written));
-            } else {
-                assert!(rt;
-                    REPLIES
-                        .iter()
-                        .any(|(ended, text)| *ended == outcome && *text == kept.text())
-                );
-            }
-        }
-        let (outcome, kept) = streamed(alloc, call);
+    for call in &[Call::Edit, Call::EditAs] {
+        assert!(rt; is_replied(rt.alloc(), *call));
+        let (outcome, kept) = streamed(rt.alloc(), *call);
         assert_eq!(rt; outcome, Outcome::Clean);
         assert_eq!(rt; kept.text(), REPLIES[0].1);
-        Mark::Right.set(alloc)?;
+        Mark::Right.set(rt.alloc());
     }
     Ok(())
 }
@@ -179,11 +206,11 @@ impl<S: Source> Source for Marked<S> {
 
     fn read(&mut self, buffer: &mut [u8]) -> Result<usize, Failed> {
         if self.reads == 1 {
-            let _ = Mark::End.set(self.alloc);
+            Mark::End.set(self.alloc);
         }
         let result = self.script.read(buffer);
         if self.reads == 0 {
-            let _ = Mark::Begin.set(self.alloc);
+            Mark::Begin.set(self.alloc);
         }
         self.reads = self.reads.saturating_add(1);
         result
@@ -217,9 +244,9 @@ fn delete_in_a_script_refused(rt: HostRuntime) -> Result<(), Fail> {
     if outcome == Outcome::Clean {
         assert_eq!(rt; kept.text(), REPLIES[0].1);
     } else {
-        Mark::Lacked.set(alloc)?;
+        Mark::Lacked.set(alloc);
         assert_eq!(rt; (outcome, kept.text()), REPLIES[1]);
     }
-    Mark::Right.set(alloc)?;
+    Mark::Right.set(alloc);
     Ok(())
 }

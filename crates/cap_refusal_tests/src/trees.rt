@@ -81,55 +81,85 @@ fn tree_to(alloc: Global, limit: u32) -> Result<Tree<Listed>, NoMemory> {
     Tree::from_list(alloc, &mut Meter::new(), items)
 }
 
+/// The tree of the numbers below a limit, at most 1000; where the first call lacks memory, by a second one.
+fn tree_of(alloc: Global, limit: u32) -> Result<Tree<Listed>, NoMemory> {
+    let items = items_to(alloc, limit)?;
+    if items.len() >= 1000 {
+        return Err(NoMemory);
+    }
+    Mark::Begin.set(alloc);
+    let first = Tree::from_list(alloc, &mut Meter::new(), items);
+    Mark::End.set(alloc);
+    if first.is_ok() {
+        return first;
+    }
+    Mark::Lacked.set(alloc);
+    tree_to(alloc, limit)
+}
+
+/// Whether a tree has the numbers below a limit.
+fn has_numbers(tree: &Tree<Listed>, limit: u32) -> bool {
+    let is_long = tree.len() == limit as usize && tree.summary().list.len() == limit as usize;
+    is_long
+        && (0..limit)
+            .zip(tree.iter())
+            .all(|(number, item)| number == *item)
+}
+
 #[test]
 fn from_list_refused(rt: HostRuntime) -> Result<(), Fail> {
-    let alloc = rt.alloc();
     for limit in [0, 1, 48, 49, FIRST] {
-        let items = items_to(alloc, limit)?;
-        assert!(rt; items.len() < 1000);
-        Mark::Begin.set(alloc)?;
-        let first = Tree::from_list(alloc, &mut Meter::new(), items);
-        Mark::End.set(alloc)?;
-        let tree: Tree<Listed> = match first {
-            Ok(tree) => tree,
-            Err(NoMemory) => {
-                Mark::Lacked.set(alloc)?;
-                tree_to(alloc, limit)?
-            }
-        };
-        for (number, item) in (0..limit).zip(tree.iter()) {
-            assert_eq!(rt; number, *item);
-        }
-        assert_eq!(rt; tree.len(), limit as usize);
-        assert_eq!(rt; tree.summary().list.len(), limit as usize);
-        Mark::Right.set(alloc)?;
+        assert!(rt;
+            has_numbers(&tree_of(rt.alloc(), limit)?, limit),
+            "to {limit}"
+        );
+        Mark::Right.set(rt.alloc());
     }
     Ok(())
 }
 
+/// Whether a tree has this list.
+fn has(tree: &Tree<Listed>, list: &[u32]) -> bool {
+    *tree.summary().list == *list
+}
+
+/// The tree after an edit; where the first call lacks memory, by a second one, if the tree still has its list.
+fn edited_or_again(
+    alloc: Global,
+    tree: &Tree<Listed>,
+    edit: &Edit,
+    list: &[u32],
+) -> Result<Tree<Listed>, NoMemory> {
+    Mark::Begin.set(alloc);
+    let first = edited(alloc, tree, edit);
+    Mark::End.set(alloc);
+    if first.is_err() {
+        Mark::Lacked.set(alloc);
+        if has(tree, list) {
+            return edited(alloc, tree, edit);
+        }
+    }
+    first
+}
+
+/// Edits a tree. Whether the new one has the list after the edit, and the old one was left as it was.
+fn step(alloc: Global, tree: &mut Tree<Listed>, turn: u32) -> Result<bool, NoMemory> {
+    let edit = edit_at(turn, tree.len());
+    let before = tree.summary().list.clone()?;
+    let new = edited_or_again(alloc, tree, &edit, &before)?;
+    let is_left = has(tree, &before);
+    let list = list_after(before, &edit)?;
+    let is_edited = has(&new, &list);
+    *tree = new;
+    Ok(is_left && is_edited)
+}
+
 #[test]
 fn tree_edits_refused(rt: HostRuntime) -> Result<(), Fail> {
-    let alloc = rt.alloc();
-    let mut tree = tree_to(alloc, FIRST)?;
+    let mut tree = tree_to(rt.alloc(), FIRST)?;
     for turn in 0..437 {
-        let before = tree.summary().list.clone()?;
-        let edit = edit_at(turn, tree.len());
-        Mark::Begin.set(alloc)?;
-        let first = edited(alloc, &tree, &edit);
-        Mark::End.set(alloc)?;
-        let new = match first {
-            Ok(new) => new,
-            Err(NoMemory) => {
-                Mark::Lacked.set(alloc)?;
-                assert_eq!(rt; *tree.summary().list, *before, "at {turn}");
-                edited(alloc, &tree, &edit)?
-            }
-        };
-        assert_eq!(rt; *tree.summary().list, *before, "at {turn}");
-        let list = list_after(before, &edit)?;
-        assert_eq!(rt; *new.summary().list, *list, "at {turn}");
-        Mark::Right.set(alloc)?;
-        tree = new;
+        assert!(rt; step(rt.alloc(), &mut tree, turn)?, "at {turn}");
+        Mark::Right.set(rt.alloc());
     }
     assert!(rt; tree.is_empty());
     Ok(())
