@@ -1,13 +1,11 @@
 -- What a look-up finds in a list whose keys rise.
-use Rattle.std.proofs.Common.{◌≡◌, ℕ, zero, suc, ◌+◌, ◌-◌, ◌<◌, ◌≤◌, ◌≢◌, List, [], ◌∷◌, length, get_or, None, Result, Ok}
+use Rattle.std.proofs.Common.{◌≡◌, ℕ, zero, suc, ◌+◌, ◌<◌, ◌≤◌, ◌≢◌, List, [], ◌∷◌, length, get_or, None, Result, Ok}
 use Rattle.std.proofs.Common.{Err, IfOk, IfErr, option_map, slice_get, refl, sym, ap, arith}
 use Rattle.std.specs.List.Sorted.{IsSearchInRange, IsBinarySearchResult, IsNonDecreasingBy}
-use Rattle.std.specs.Prelude.{nat_lt, true}
 use Rattle.std.specs.Ordering.{nat_cmp, ordering_index}
-use Rattle.std.proofs.lemmas.List.{get_or_default}
 use Rattle.std.proofs.lemmas.Cmp.{ranked}
 use Rattle.std.proofs.lemmas.Bool.Decides.{nat_tests}
-use Rattle.cap_summary.specs.Place.{IsAt, IsGap, AreBelow}
+use Rattle.cap_summary.specs.Place.{IsAt, IsGap}
 use Rattle.cap_summary.specs.Sorted.{found, RisesFrom, Rises}
 
 -- no key is below the bound
@@ -105,42 +103,3 @@ found_below_first key first rest rises other =
 pub found_nowhere : {V : Type 0} (l : List (ℕ × V)) (key : ℕ) → length l ≡ 0 → found l key ≡ None
 found_nowhere [] key none = refl
 found_nowhere (x ∷ rest) key none = absurd (omega arith)
-
--- where the last key before a place is smaller, all before it are
-pub all_below : {V : Type 0} (l : List (ℕ × V)) (key at : ℕ) (x : ℕ × V) → Rises l → 0 < at → at ≤ length l
-    → nat_lt (get_or l (at - 1) x).0 key ≡ true → AreBelow l key at
-all_below l key at x rises some le lower = record {
-  in_range = le;
-  smaller = λ i d before.
-      let last : (get_or l (at - 1) x).0 < key = grind (arith, nat_tests, lower) in
-      let own : (get_or l (at - 1) d).0 < key = rw (get_or_default l (at - 1) d x (omega (arith, some, le))) last in
-      grind (
-        arith,
-        keys_rise 0 l rises i (at - 1) d,
-        own,
-        before,
-        some,
-        le,
-        λ (same : i ≡ at - 1). ap (λ n. (get_or l n d).0) same,
-      );
-}
-
--- the key would go before the first greater one
-pub gap_before : {V : Type 0} (l : List (ℕ × V)) (key at : ℕ) (x : ℕ × V) → Rises l → at < length l
-    → key < (get_or l at x).0 → AreBelow l key at → IsGap l key at
-gap_before l key at x rises lt higher before = record {
-  in_range = omega (arith, lt);
-  smaller = before.smaller;
-  greater = λ i d le in_range.
-      let own : key < (get_or l at d).0 = rw (get_or_default l at d x lt) higher in
-      grind (arith, keys_rise 0 l rises at i d, own, le, in_range, λ (same : at ≡ i). ap (λ n. (get_or l n d).0) same);
-}
-
--- what is found where a look-up ends
-pub found_ended : {V : Type 0} (l : List (ℕ × V)) (key : ℕ) (r : Result ℕ ℕ) → Rises l → IfOk r (IsAt l key)
-    → IfErr r (IsGap l key) → record {
-      value : IfOk r (λ at. found l key ≡ option_map (λ entry. entry.1) (slice_get l at));
-      absent : IfErr r (λ _. found l key ≡ None);
-    }
-found_ended l key (Ok at) rises is_at gap = record { value = found_is_at 0 l key at rises is_at; absent = tt }
-found_ended l key (Err at) rises is_at gap = record { value = tt; absent = found_gap l key at gap }

@@ -10,11 +10,6 @@ pub record IsAt {V : Type 0} (entries : List (ℕ × V)) (key at : ℕ) : Type 0
   pub in_range : at < length entries
   pub has_key : (d : ℕ × V) → key_at entries at d ≡ key
 
--- all keys before this place are smaller
-pub record AreBelow {V : Type 0} (entries : List (ℕ × V)) (key at : ℕ) : Type 0 where
-  pub in_range : at ≤ length entries
-  pub smaller : (i : ℕ) (d : ℕ × V) → i < at → key_at entries i d < key
-
 -- the key would go to this place: smaller keys before it, and greater ones from it on
 pub record IsGap {V : Type 0} (entries : List (ℕ × V)) (key at : ℕ) : Type 0 where
   pub in_range : at ≤ length entries

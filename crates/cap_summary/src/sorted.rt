@@ -96,7 +96,7 @@ impl<V> Table<V> {
 }
 
 impl<V> Table<V> {
-    /// The same, and where the entry is or would be. It looks first at a few entries from the place that is given, as
+    /// The same, and where the entry is or would be. It looks first at the place that is given, as
     /// of an earlier look-up.
     pub fn get_near(&self, key: u32, near: usize) -> (Option<&V>, usize)
         ensures { option_copied result.0 ≡ found self.now key }

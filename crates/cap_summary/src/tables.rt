@@ -108,14 +108,14 @@ impl Cells {
         found.is_some()
     }
 
-    /// The value of a descriptor that is listed. It looks first where an earlier look-up ended, and notes where
+    /// The value of a descriptor that is listed. It looks first behind where an earlier look-up ended, and notes where
     /// this one did.
     #[tactic(auto, unfolding(crate::specs::Tables::listed_value))]
     pub(crate) fn get_near(&self, fd: Fd, near: &mut usize) -> Option<Value>
         ensures { result ≡ listed_value self.now fd }
     {
         let (found, at) = self.table.get_near(fd, *near);
-        *near = at;
+        *near = at.saturating_add(1);
         match found {
             Some(kept) => Some(kept.value()),
             None => None,
