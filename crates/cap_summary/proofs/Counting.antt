@@ -11,16 +11,15 @@ use Rattle.std.proofs.lemmas.List.Folds.{list_any-append}
 use Rattle.std.proofs.lemmas.List.Elements.{All-head, All-tail}
 use Rattle.std.proofs.lemmas.Bool.Decides.{nat_tests}
 use Rattle.std.proofs.lemmas.Option.{slice_get_read, get_or_from_slice_get}
-use Rattle.std.specs.declared.rc.Rc.{Rc}
-use Rattle.std.specs.declared.alloc.Global.{Global}
 use Rattle.cap_summary.specs.declared.kept.Kept.{Kept}
+use Rattle.cap_summary.specs.declared.kept.Listed.{Listed}
 use Rattle.cap_summary.specs.declared.values.Value.{Value}
 use Rattle.cap_summary.specs.declared.change.Process.{Process}
 use Rattle.cap_summary.specs.declared.tables.Cells.{Cells}
 use Rattle.cap_summary.specs.declared.tables.Processes.{Processes}
 use Rattle.cap_summary.specs.Sorted.{found, Rises, RisesFrom}
 use Rattle.cap_summary.specs.Place.{IsAt}
-use Rattle.cap_summary.specs.Tables.{listed_value, kept_values, process_at, processes_shared}
+use Rattle.cap_summary.specs.Tables.{listed_value, kept_values, process_at, listed_process}
 use Rattle.cap_summary.specs.Names.{Names, is_one, these, cell_within, ProcessWithin, ListedWithin, AreWithin}
 use Rattle.cap_summary.specs.Names.{outside_within, part_within, condition_within, ConditionsWithin}
 use Rattle.cap_summary.specs.declared.conditions.Source.{Source}
@@ -96,10 +95,10 @@ few_cells cells fds rises among =
 
 -- ---- processes
 
-some_within : (names : Names) (p : ℕ) (o : Option (Rc Process Global)) → is_some o ≡ true
-    → ListedWithin names p (processes_shared o) → names.pids p ≡ true
+some_within : (names : Names) (p : ℕ) (o : Option Listed) → is_some o ≡ true
+    → ListedWithin names p (option_map (listed_process p) o) → names.pids p ≡ true
 some_within names p None is within = absurd (let no : false ≡ true = is in cc)
-some_within names p (Some process) is within = within.0
+some_within names p (Some listed) is within = within.0
 
 -- no more processes are listed than may be
 pub few_processes : (processes : Processes) (pids fds : List ℕ) → Rises processes.table
@@ -112,19 +111,19 @@ few_processes processes pids fds rises within =
     omega (arith, some, all)
 
 -- the process of an entry
-pub entry_within : (names : Names) (processes : Processes) (i : ℕ) (x : ℕ × Rc Process Global) → Rises processes.table
+pub entry_within : (names : Names) (processes : Processes) (i : ℕ) (x : ℕ × Listed) → Rises processes.table
     → i < length processes.table → x ≡ get_or processes.table i x → AreWithin names processes
-    → ProcessWithin names x.1.value
+    → ProcessWithin names (listed_process x.0 x.1)
 unfolding process_at
 entry_within names processes i x rises lt at within =
     let is_at : IsAt processes.table x.0 i = record {
       in_range = lt;
-      has_key = λ d. ap (λ (e : ℕ × Rc Process Global). e.0)
+      has_key = λ d. ap (λ (e : ℕ × Listed). e.0)
           (get_or_from_slice_get processes.table i x d
           (slice_get_read processes.table (length processes.table) i x refl lt at));
     } in
     let is : found processes.table x.0 ≡ Some x.1 = found_is_at 0 processes.table x.0 i rises is_at
-    ∙ ap (λ (o : Option (ℕ × Rc Process Global)). option_map (λ entry. entry.1) o)
+    ∙ ap (λ (o : Option (ℕ × Listed)). option_map (λ entry. entry.1) o)
     (slice_get_read processes.table (length processes.table) i x refl lt at) in
     (rw is at (within x.0)).1
 

@@ -4,11 +4,11 @@
 ghost use Rattle.std.specs.Prelude.{◌≡◌, ℕ, true};
 ghost use Rattle.cap_machine.specs.State.{State};
 ghost use Rattle.std.specs.Prelude.{◌↔◌};
-ghost use Rattle.cap_summary.specs.Tables.{kept_value};
+ghost use Rattle.cap_summary.specs.Tables.{kept_value, process_of};
 ghost use Rattle.cap_summary.specs.Changes.{changed, is_untouched, is_unturned, IsSame};
 ghost use Rattle.cap_summary.specs.Names.{Names, ChangeWithin};
 
-use crate::change::{Change, Process};
+use crate::change::{Change, ProcessRef};
 use crate::conditions::{CellTest, HeldTest, Refused, Source};
 use crate::kept::{Kept, Taken};
 use crate::values::Base;
@@ -110,14 +110,14 @@ impl Kept {
     }
 }
 
-impl Process {
+impl ProcessRef<'_> {
     /// Whether another one lists the same cells, and has the same base and the same mode. No is a safe answer.
-    pub(crate) fn is_like(&self, other: &Process) -> bool
-        ensures { result ≡ true → IsSame self.now other.now }
+    pub(crate) fn is_like(&self, other: &ProcessRef<'_>) -> bool
+        ensures { result ≡ true → IsSame (process_of self.now) (process_of other.now) }
     {
         self.mode == other.mode
             && equal_bases(&self.base, &other.base)
-            && self.cells.is_like(&other.cells)
+            && self.cells.is_like(other.cells)
     }
 }
 

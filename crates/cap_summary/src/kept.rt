@@ -1,12 +1,13 @@
 //! What tables keep, and what becomes of it where two are made one.
 
 ghost use Rattle.std.specs.Prelude.{◌≡◌, ℕ, true, IfOk, option_map, option_and_then};
-ghost use Rattle.cap_summary.specs.Tables.{kept_value};
+ghost use Rattle.cap_summary.specs.Tables.{kept_value, listed_process, process_of};
 ghost use Rattle.cap_summary.specs.Images.{under};
 
-use crate::change::{Change, Near, Process};
+use crate::change::{Change, Near, Process, ProcessRef};
 use crate::sorted::Combine;
-use crate::values::{Passing, Value, is_closed};
+use crate::tables::Cells;
+use crate::values::{Base, ModeValue, Passing, Value, is_closed};
 use cap_machine::{Cell, OnExec, Op};
 use cap_rights::RightSet;
 use cap_trace::{Fd, Pid};
@@ -205,6 +206,56 @@ impl Combine for Moving<'_> {
     ghost neither = { λ s f. refl };
 }
 
+/// What has become of a process, as a table keeps it by its pid.
+#[derive(Drop)]
+pub(crate) enum Listed {
+    /// These cells are listed. All others are the process's own, and so is its mode, as no line touched them.
+    Own(Cells),
+    /// Anything else, shared.
+    Other(Rc<Process>),
+}
+
+impl Listed {
+    /// What has become of the process with this pid, to be kept.
+    pub(crate) fn of(alloc: Global, pid: Pid, process: Process) -> Result<Listed, NoMemory>
+        ensures { IfOk result (λ new. listed_process pid new ≡ process) }
+    {
+        if process.base.is_all_own(pid) && process.mode.is_own(pid) {
+            return Ok(Listed::Own(process.cells));
+        }
+        Ok(Listed::Other(Rc::new(alloc, process)?))
+    }
+
+    /// What has become of the process with this pid.
+    #[inline]
+    pub(crate) fn process(&self, pid: Pid) -> ProcessRef<'_>
+        ensures { process_of result ≡ listed_process pid self.now }
+    {
+        match self {
+            Listed::Own(cells) => ProcessRef {
+                base: Base::own(pid),
+                mode: ModeValue::Own(pid),
+                cells,
+            },
+            Listed::Other(process) => ProcessRef {
+                base: process.base,
+                mode: process.mode,
+                cells: &process.cells,
+            },
+        }
+    }
+
+    /// The same, shared.
+    pub(crate) fn share(&self) -> Result<Listed, NoMemory>
+        ensures { IfOk result (λ same. (p : ℕ) → listed_process p same ≡ listed_process p self.now) }
+    {
+        match self {
+            Listed::Own(cells) => Ok(Listed::Own(cells.share()?)),
+            Listed::Other(process) => Ok(Listed::Other(process.clone()?)),
+        }
+    }
+}
+
 /// Processes, and over them others that stand behind a change.
 #[derive(Clone, Copy)]
 pub(crate) struct Joining<'a> {
@@ -212,44 +263,34 @@ pub(crate) struct Joining<'a> {
 }
 
 impl Combine for Joining<'_> {
-    type Left = Rc<Process>;
+    type Left = Listed;
 
-    type Right = Rc<Process>;
+    type Right = Listed;
 
-    type Out = Rc<Process>;
+    type Out = Listed;
 
     ghost use Rattle.std.specs.Prelude.{refl};
-    ghost use Rattle.cap_summary.specs.Tables.{processes_shared};
+    ghost use Rattle.cap_summary.specs.Tables.{listed_process};
     ghost use Rattle.cap_summary.specs.Changes.{JoinsListed};
 
-    ghost gives = { λ s p left right out.
-        JoinsListed s.change.now (processes_shared left) (processes_shared right) (processes_shared out) };
+    ghost gives = { λ s p left right out. JoinsListed s.change.now (option_map (listed_process p) left)
+        (option_map (listed_process p) right) (option_map (listed_process p) out) };
 
-    fn left(
-        &self,
-        _alloc: Global,
-        _pid: u32,
-        left: &Rc<Process>,
-    ) -> Result<Option<Rc<Process>>, NoMemory> {
-        Ok(Some(left.clone()?))
+    fn left(&self, _alloc: Global, _pid: u32, left: &Listed) -> Result<Option<Listed>, NoMemory> {
+        Ok(Some(left.share()?))
     }
 
-    fn right(
-        &self,
-        alloc: Global,
-        _pid: u32,
-        right: &Rc<Process>,
-    ) -> Result<Option<Rc<Process>>, NoMemory> {
-        Ok(Some(self.change.shared_under(alloc, right)?))
+    fn right(&self, alloc: Global, pid: u32, right: &Listed) -> Result<Option<Listed>, NoMemory> {
+        Ok(Some(self.change.shared_under(alloc, pid, right)?))
     }
 
     fn both(
         &self,
         alloc: Global,
         pid: u32,
-        _left: &Rc<Process>,
-        right: &Rc<Process>,
-    ) -> Result<Option<Rc<Process>>, NoMemory> {
+        _left: &Listed,
+        right: &Listed,
+    ) -> Result<Option<Listed>, NoMemory> {
         self.right(alloc, pid, right)
     }
 

@@ -4,7 +4,7 @@ ghost use Rattle.std.specs.Prelude.{◌≡◌, ◌==◌, ℕ, ◌||◌, ◌&&◌
 ghost use Rattle.cap_machine.specs.State.{State};
 ghost use Rattle.cap_machine.specs.Op.{same, exec, applied};
 ghost use Rattle.cap_summary.specs.Values.{read_cell, read_mode, passing_op, rest_value, unlisted, is_from, op_on};
-ghost use Rattle.cap_summary.specs.Values.{are_of, rest_untouched, is_own};
+ghost use Rattle.cap_summary.specs.Values.{are_of, rest_untouched, is_own, own_base};
 ghost use Rattle.cap_summary.specs.Names.{Names, others_within, mode_within};
 
 use cap_machine::{Cell, Mode, Op};
@@ -211,6 +211,7 @@ impl Base {
 
     /// A process's own cells, which no line touched.
     pub(crate) fn own(pid: Pid) -> Base
+        ensures value { result ≡ own_base pid }
         ensures cells { (f : ℕ) → unlisted result f ≡ Value.Of pid f same }
         ensures untouched { (p f : ℕ) → rest_untouched result p f ≡ (pid == p) }
         ensures names { (names : Names) → others_within names result.others ≡ names.pids pid }
@@ -242,6 +243,18 @@ impl Base {
     {
         match &self.others {
             Others::Of(source, _) => self.own && *source == pid,
+            _ => false,
+        }
+    }
+
+    /// Whether all cells are those of the process with this pid, untouched.
+    pub(crate) fn is_all_own(&self, pid: Pid) -> bool
+        ensures { result ≡ true → self.now ≡ own_base pid }
+    {
+        match &self.others {
+            Others::Of(source, Passing::Same) => {
+                *source == pid && self.own && self.closed_from.is_none()
+            }
             _ => false,
         }
     }
