@@ -77,29 +77,6 @@ impl ProcessRef<'_> {
 }
 
 impl ProcessRef<'_> {
-    /// Whether a cell of the process with this pid is as it was. No is a safe answer.
-    fn leaves(&self, pid: Pid, fd: Fd, near: &mut usize) -> bool
-        ensures { result ≡ true → value_in (process_of self.now) fd ≡ Value.Of pid fd same }
-    {
-        !self.cells.lists_near(fd, near) && self.base.leaves(pid, fd)
-    }
-
-    /// What has become of a descriptor of the process with this pid; none only where it is as it was.
-    fn seen(&self, pid: Pid, fd: Fd, near: &mut usize) -> Option<Value>
-        ensures some { IfSome result (λ v. value_in (process_of self.now) fd ≡ v) }
-        ensures none { IfNone result (value_in (process_of self.now) fd ≡ Value.Of pid fd same) }
-    {
-        match self.cells.get_near(fd, near) {
-            Some(value) => Some(value),
-            None => {
-                if self.base.leaves(pid, fd) {
-                    return None;
-                }
-                Some(self.base.value(fd))
-            }
-        }
-    }
-
     /// Whether it stands behind a change as it is. No is a safe answer.
     pub(crate) fn stays_behind(&self, change: &Change) -> bool
         ensures { result ≡ true → JoinsProcess change.now (process_of self.now) (process_of self.now) }
@@ -202,7 +179,7 @@ impl Change {
         ensures none { IfNone result (value_of self.now pid fd ≡ Value.Of pid fd same) }
     {
         match self.processes.get_near(pid, &mut near.process) {
-            Some(process) => process.seen(pid, fd, &mut near.cell),
+            Some(listed) => listed.seen(pid, fd, &mut near.cell),
             None => None,
         }
     }
@@ -212,7 +189,7 @@ impl Change {
         ensures { result ≡ true → value_of self.now pid fd ≡ Value.Of pid fd same }
     {
         match self.processes.get_near(pid, &mut near.process) {
-            Some(process) => process.leaves(pid, fd, &mut near.cell),
+            Some(listed) => listed.leaves(pid, fd, &mut near.cell),
             None => true,
         }
     }

@@ -1,8 +1,11 @@
 //! What tables keep, and what becomes of it where two are made one.
 
-ghost use Rattle.std.specs.Prelude.{◌≡◌, ℕ, true, IfOk, option_map, option_and_then};
+ghost use Rattle.std.specs.Prelude.{◌≡◌, ℕ, true, IfOk, IfSome, IfNone, option_map, option_and_then};
 ghost use Rattle.cap_summary.specs.Tables.{kept_value, listed_process, process_of};
 ghost use Rattle.cap_summary.specs.Images.{under};
+ghost use Rattle.cap_summary.specs.Values.{unlisted};
+ghost use Rattle.cap_summary.specs.Changes.{value_in};
+ghost use Rattle.cap_machine.specs.Op.{same};
 
 use crate::change::{Change, Near, Process, ProcessRef};
 use crate::sorted::Combine;
@@ -227,7 +230,7 @@ impl Listed {
     }
 
     /// What has become of the process with this pid.
-    #[inline]
+    #[inline(always)]
     pub(crate) fn process(&self, pid: Pid) -> ProcessRef<'_>
         ensures { process_of result ≡ listed_process pid self.now }
     {
@@ -243,6 +246,53 @@ impl Listed {
                 cells: &process.cells,
             },
         }
+    }
+
+    /// The cells that are listed.
+    #[inline]
+    fn cells(&self) -> &Cells
+        ensures { (p : ℕ) → result.now ≡ (listed_process p self.now).cells }
+    {
+        match self {
+            Listed::Own(cells) => cells,
+            Listed::Other(process) => &process.cells,
+        }
+    }
+
+    /// What has become of a descriptor that isn't listed; none only where it is as it was.
+    #[inline]
+    fn seen_unlisted(&self, pid: Pid, fd: Fd) -> Option<Value>
+        ensures some { IfSome result (λ v. unlisted (listed_process pid self.now).base fd ≡ v) }
+        ensures none { IfNone result (unlisted (listed_process pid self.now).base fd ≡ Value.Of pid fd same) }
+    {
+        let Listed::Other(process) = self else {
+            return None;
+        };
+        if process.base.leaves(pid, fd) {
+            return None;
+        }
+        Some(process.base.value(fd))
+    }
+
+    /// What has become of a descriptor of the process with this pid; none only where it is as it was. It looks for the
+    /// descriptor first where an earlier look-up ended, and notes where this one did.
+    #[inline]
+    pub(crate) fn seen(&self, pid: Pid, fd: Fd, near: &mut usize) -> Option<Value>
+        ensures some { IfSome result (λ v. value_in (listed_process pid self.now) fd ≡ v) }
+        ensures none { IfNone result (value_in (listed_process pid self.now) fd ≡ Value.Of pid fd same) }
+    {
+        match self.cells().get_near(fd, near) {
+            Some(value) => Some(value),
+            None => self.seen_unlisted(pid, fd),
+        }
+    }
+
+    /// Whether a cell of the process with this pid is as it was. No is a safe answer.
+    #[inline]
+    pub(crate) fn leaves(&self, pid: Pid, fd: Fd, near: &mut usize) -> bool
+        ensures { result ≡ true → value_in (listed_process pid self.now) fd ≡ Value.Of pid fd same }
+    {
+        !self.cells().lists_near(fd, near) && self.seen_unlisted(pid, fd).is_none()
     }
 
     /// The same, shared.

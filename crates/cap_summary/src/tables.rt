@@ -4,7 +4,8 @@
 ghost use Rattle.std.specs.Prelude.{◌≡◌, ℕ, ◌≤◌, ◌==◌, if◌then◌else◌, None, Some, true, OnOk, IfOk, List, length};
 ghost use Rattle.std.specs.Prelude.{option_map, option_and_then, is_some};
 ghost use Rattle.std.specs.Option.{option_copied};
-ghost use Rattle.cap_summary.specs.Tables.{listed_value, value_so_far, process_at, process_of, or_else};
+ghost use Rattle.cap_summary.specs.Tables.{listed_value, value_so_far, process_at, process_of, listed_process};
+ghost use Rattle.cap_summary.specs.Tables.{or_else};
 ghost use Rattle.cap_summary.specs.Changes.{JoinsListed, AreAlike};
 ghost use Rattle.cap_summary.specs.Images.{under, passed_on};
 ghost use Rattle.cap_summary.specs.Names.{is_one, these, AreWithin, ChangeWithin};
@@ -288,6 +289,7 @@ impl Processes {
 
     /// A process that is listed.
     #[tactic(auto, unfolding(crate::specs::Tables::process_at))]
+    #[inline]
     pub(crate) fn get(&self, pid: Pid) -> Option<ProcessRef<'_>>
         ensures { option_map process_of result ≡ process_at self.now pid }
     {
@@ -299,15 +301,13 @@ impl Processes {
 
     /// The same. It looks first where an earlier look-up ended, and notes where this one did.
     #[tactic(auto, unfolding(crate::specs::Tables::process_at))]
-    pub(crate) fn get_near(&self, pid: Pid, near: &mut usize) -> Option<ProcessRef<'_>>
-        ensures { option_map process_of result ≡ process_at self.now pid }
+    #[inline]
+    pub(crate) fn get_near(&self, pid: Pid, near: &mut usize) -> Option<&Listed>
+        ensures { option_map (listed_process pid) (option_copied result) ≡ process_at self.now pid }
     {
         let (found, at) = self.table.get_near(pid, *near);
         *near = at;
-        match found {
-            Some(listed) => Some(listed.process(pid)),
-            None => None,
-        }
+        found
     }
 
     /// Whether a process is listed.
