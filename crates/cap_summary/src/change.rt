@@ -261,7 +261,7 @@ impl Change {
 
     /// The same change, shared.
     pub(crate) fn share(&self) -> Result<Change, NoMemory>
-        ensures { IfOk result (λ new. (p : ℕ) → process_at new.processes p ≡ process_at self.now.processes p) }
+        ensures { IfOk result (λ same. same ≡ self.now) }
     {
         let processes = self.processes.share()?;
         Ok(Change { processes })

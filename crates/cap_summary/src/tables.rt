@@ -356,9 +356,8 @@ impl Processes {
     }
 
     /// The same processes, shared.
-    #[tactic(auto, unfolding(crate::specs::Tables::process_at))]
     pub(crate) fn share(&self) -> Result<Processes, NoMemory>
-        ensures { IfOk result (λ same. (p : ℕ) → process_at same p ≡ process_at self.now p) }
+        ensures { IfOk result (λ same. same ≡ self.now) }
     {
         let table = self.table.clone()?;
         Ok(Processes { table })
