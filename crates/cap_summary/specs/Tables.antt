@@ -2,15 +2,18 @@
 use Rattle.std.specs.Prelude.{ℕ, Option, Some, None, option_map}
 use Rattle.cap_machine.specs.declared.cell.Cell.TheVariants as cell
 use Rattle.cap_machine.specs.declared.cell.OnExec.TheVariants as flag
+use Rattle.cap_machine.specs.Op.{same}
 use Rattle.cap_summary.specs.Sorted.{found}
 use Rattle.cap_summary.specs.declared.values.Value.{Value}
 use Rattle.cap_summary.specs.declared.values.Value.TheVariants as value
 use Rattle.cap_summary.specs.declared.kept.Kept.{Kept}
 use Rattle.cap_summary.specs.declared.kept.Kept.TheVariants as kept
+use Rattle.cap_summary.specs.declared.kept.Seen.{Seen}
+use Rattle.cap_summary.specs.declared.kept.Seen.TheVariants as seen
 use Rattle.cap_summary.specs.declared.kept.Listed.{Listed}
 use Rattle.cap_summary.specs.declared.kept.Listed.TheVariants as listed
 use Rattle.cap_summary.specs.declared.values.ModeValue.TheVariants as mode_value
-use Rattle.cap_summary.specs.Values.{own_base}
+use Rattle.cap_summary.specs.Values.{own_base, passing_op}
 use Rattle.cap_summary.specs.declared.change.Process.{Process}
 use Rattle.cap_summary.specs.declared.change.ProcessRef.{ProcessRef}
 use Rattle.cap_summary.specs.declared.tables.Cells.{Cells}
@@ -25,6 +28,13 @@ kept_value (kept.Set r) = value.Fixed (cell.Held r flag.Set)
 kept_value (kept.Clear r) = value.Fixed (cell.Held r flag.Clear)
 kept_value (kept.Unsure r) = value.Fixed (cell.Held r flag.Unsure)
 kept_value (kept.Of taken) = value.Of taken.value.pid taken.value.fd taken.value.op
+
+-- what is seen of the cell of a descriptor of a process: what has become of it
+abbrev pub seen_value : ℕ → ℕ → Seen → Value
+seen_value p f seen.Same = value.Of p f same
+seen_value p f (seen.Fixed c) = value.Fixed c
+seen_value p f (seen.Taken taken) = value.Of taken.now.pid taken.now.fd taken.now.op
+seen_value p f (seen.Passed q passing) = value.Of q f (passing_op passing)
 
 abbrev pub kept_values : Option Kept → Option Value
 kept_values o = option_map kept_value o

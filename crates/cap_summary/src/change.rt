@@ -8,9 +8,10 @@ ghost use Rattle.cap_summary.specs.Changes.{value_at, value_in, value_of, mode_o
 ghost use Rattle.cap_summary.specs.Changes.{untouched_at, is_untouched, is_unturned};
 ghost use Rattle.cap_summary.specs.Images.{under};
 ghost use Rattle.cap_summary.specs.Tables.{listed_value, process_at, listed_process, process_of};
+ghost use Rattle.cap_summary.specs.Tables.{seen_value};
 ghost use Rattle.cap_summary.specs.Names.{Names, cell_within, others_within, mode_within, these, ChangeWithin};
 
-use crate::kept::Listed;
+use crate::kept::{Listed, Seen};
 use crate::tables::{Cells, Processes};
 use crate::values::{Base, ModeValue, Others, Value, lower_of};
 use cap_machine::Op;
@@ -172,15 +173,14 @@ impl Change {
         }
     }
 
-    /// What has become of a descriptor of a process; none only where it is as it was. It looks for the process
-    /// first where an earlier look-up ended, and notes where this one did.
-    pub(crate) fn seen(&self, pid: Pid, fd: Fd, near: &mut Near) -> Option<Value>
-        ensures some { IfSome result (λ v. value_of self.now pid fd ≡ v) }
-        ensures none { IfNone result (value_of self.now pid fd ≡ Value.Of pid fd same) }
+    /// What has become of a descriptor of a process. It looks for the process first where an earlier look-up ended, and
+    /// notes where this one did.
+    pub(crate) fn seen(&self, pid: Pid, fd: Fd, near: &mut Near) -> Seen<'_>
+        ensures { seen_value pid fd result ≡ value_of self.now pid fd }
     {
         match self.processes.get_near(pid, &mut near.process) {
             Some(listed) => listed.seen(pid, fd, &mut near.cell),
-            None => None,
+            None => Seen::Same,
         }
     }
 

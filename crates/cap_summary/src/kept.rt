@@ -1,7 +1,7 @@
 //! What tables keep, and what becomes of it where two are made one.
 
-ghost use Rattle.std.specs.Prelude.{◌≡◌, ℕ, true, IfOk, IfSome, IfNone, option_map, option_and_then};
-ghost use Rattle.cap_summary.specs.Tables.{kept_value, listed_process, process_of};
+ghost use Rattle.std.specs.Prelude.{◌≡◌, ℕ, true, IfOk, option_map, option_and_then};
+ghost use Rattle.cap_summary.specs.Tables.{kept_value, seen_value, listed_process, process_of};
 ghost use Rattle.cap_summary.specs.Images.{under};
 ghost use Rattle.cap_summary.specs.Values.{unlisted};
 ghost use Rattle.cap_summary.specs.Changes.{value_in};
@@ -24,6 +24,19 @@ pub(crate) struct Taken {
     pub(crate) pid: Pid,
     pub(crate) fd: Fd,
     pub(crate) op: Op,
+}
+
+/// What has become of the cell of a descriptor of a process.
+#[derive(Clone, Copy)]
+pub(crate) enum Seen<'a> {
+    /// It is as it was.
+    Same,
+    /// It is this cell.
+    Fixed(Cell),
+    /// It is what an op makes of a cell.
+    Taken(&'a Taken),
+    /// It is the cell of the same descriptor of this process, handed on so.
+    Passed(Pid, Passing),
 }
 
 /// A value as a table keeps it, in few bytes: a cell by its kind and flag, and else shared.
@@ -84,6 +97,21 @@ impl Kept {
             Kept::Clear(rights) => Value::Fixed(Cell::Held(*rights, OnExec::Clear)),
             Kept::Unsure(rights) => Value::Fixed(Cell::Held(*rights, OnExec::Unsure)),
             Kept::Of(taken) => Value::Of(taken.pid, taken.fd, taken.op),
+        }
+    }
+
+    /// The same, to be looked at.
+    #[inline]
+    fn seen(&self) -> Seen<'_>
+        ensures { (p f : ℕ) → seen_value p f result ≡ kept_value self.now }
+    {
+        match self {
+            Kept::Unknown => Seen::Fixed(Cell::Unknown),
+            Kept::Closed => Seen::Fixed(Cell::Closed),
+            Kept::Set(rights) => Seen::Fixed(Cell::Held(*rights, OnExec::Set)),
+            Kept::Clear(rights) => Seen::Fixed(Cell::Held(*rights, OnExec::Clear)),
+            Kept::Unsure(rights) => Seen::Fixed(Cell::Held(*rights, OnExec::Unsure)),
+            Kept::Of(taken) => Seen::Taken(taken),
         }
     }
 
@@ -259,30 +287,25 @@ impl Listed {
         }
     }
 
-    /// What has become of a descriptor that isn't listed; none only where it is as it was.
+    /// What has become of a descriptor that isn't listed.
     #[inline]
-    fn seen_unlisted(&self, pid: Pid, fd: Fd) -> Option<Value>
-        ensures some { IfSome result (λ v. unlisted (listed_process pid self.now).base fd ≡ v) }
-        ensures none { IfNone result (unlisted (listed_process pid self.now).base fd ≡ Value.Of pid fd same) }
+    fn seen_unlisted(&self, pid: Pid, fd: Fd) -> Seen<'_>
+        ensures { seen_value pid fd result ≡ unlisted (listed_process pid self.now).base fd }
     {
-        let Listed::Other(process) = self else {
-            return None;
-        };
-        if process.base.leaves(pid, fd) {
-            return None;
+        match self {
+            Listed::Own(_) => Seen::Same,
+            Listed::Other(process) => process.base.seen(pid, fd),
         }
-        Some(process.base.value(fd))
     }
 
-    /// What has become of a descriptor of the process with this pid; none only where it is as it was. It looks for the
-    /// descriptor first where an earlier look-up ended, and notes where this one did.
+    /// What has become of a descriptor of the process with this pid. It looks for it first where an earlier look-up
+    /// ended, and notes where this one did.
     #[inline]
-    pub(crate) fn seen(&self, pid: Pid, fd: Fd, near: &mut usize) -> Option<Value>
-        ensures some { IfSome result (λ v. value_in (listed_process pid self.now) fd ≡ v) }
-        ensures none { IfNone result (value_in (listed_process pid self.now) fd ≡ Value.Of pid fd same) }
+    pub(crate) fn seen(&self, pid: Pid, fd: Fd, near: &mut usize) -> Seen<'_>
+        ensures { seen_value pid fd result ≡ value_in (listed_process pid self.now) fd }
     {
         match self.cells().get_near(fd, near) {
-            Some(value) => Some(value),
+            Some(kept) => kept.seen(),
             None => self.seen_unlisted(pid, fd),
         }
     }
@@ -292,7 +315,13 @@ impl Listed {
     pub(crate) fn leaves(&self, pid: Pid, fd: Fd, near: &mut usize) -> bool
         ensures { result ≡ true → value_in (listed_process pid self.now) fd ≡ Value.Of pid fd same }
     {
-        !self.cells().lists_near(fd, near) && self.seen_unlisted(pid, fd).is_none()
+        if self.cells().lists_near(fd, near) {
+            return false;
+        }
+        match self.seen_unlisted(pid, fd) {
+            Seen::Same => true,
+            _ => false,
+        }
     }
 
     /// The same, shared.

@@ -5,7 +5,7 @@ ghost use Rattle.std.specs.Prelude.{◌≡◌, ℕ, ◌≤◌, ◌==◌, if◌th
 ghost use Rattle.std.specs.Prelude.{option_map, option_and_then, is_some};
 ghost use Rattle.std.specs.Option.{option_copied};
 ghost use Rattle.cap_summary.specs.Tables.{listed_value, value_so_far, process_at, process_of, listed_process};
-ghost use Rattle.cap_summary.specs.Tables.{or_else};
+ghost use Rattle.cap_summary.specs.Tables.{kept_value, or_else};
 ghost use Rattle.cap_summary.specs.Changes.{JoinsListed, AreAlike};
 ghost use Rattle.cap_summary.specs.Images.{under, passed_on};
 ghost use Rattle.cap_summary.specs.Names.{is_one, these, AreWithin, ChangeWithin};
@@ -111,15 +111,13 @@ impl Cells {
     /// The value of a descriptor that is listed. It looks first behind where an earlier look-up ended, and notes where
     /// this one did.
     #[tactic(auto, unfolding(crate::specs::Tables::listed_value))]
-    pub(crate) fn get_near(&self, fd: Fd, near: &mut usize) -> Option<Value>
-        ensures { result ≡ listed_value self.now fd }
+    #[inline]
+    pub(crate) fn get_near(&self, fd: Fd, near: &mut usize) -> Option<&Kept>
+        ensures { option_map kept_value (option_copied result) ≡ listed_value self.now fd }
     {
         let (found, at) = self.table.get_near(fd, *near);
         *near = at.saturating_add(1);
-        match found {
-            Some(kept) => Some(kept.value()),
-            None => None,
-        }
+        found
     }
 
     /// How many are listed.

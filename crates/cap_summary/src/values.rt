@@ -5,8 +5,10 @@ ghost use Rattle.cap_machine.specs.State.{State};
 ghost use Rattle.cap_machine.specs.Op.{same, exec, applied};
 ghost use Rattle.cap_summary.specs.Values.{read_cell, read_mode, passing_op, rest_value, unlisted, is_from, op_on};
 ghost use Rattle.cap_summary.specs.Values.{are_of, rest_untouched, is_own, own_base};
+ghost use Rattle.cap_summary.specs.Tables.{seen_value};
 ghost use Rattle.cap_summary.specs.Names.{Names, others_within, mode_within};
 
+use crate::kept::Seen;
 use cap_machine::{Cell, Mode, Op};
 use cap_trace::{Fd, Pid};
 
@@ -288,6 +290,21 @@ impl Base {
         match &self.others {
             Others::Of(source, Passing::Same) => *source == pid && !is_closed(self.closed_from, fd),
             _ => false,
+        }
+    }
+
+    /// What has become of a descriptor of the process with this pid, if it isn't listed.
+    pub(crate) fn seen<'a>(&self, pid: Pid, fd: Fd) -> Seen<'a>
+        ensures { seen_value pid fd result ≡ unlisted self.now fd }
+    {
+        if is_closed(self.closed_from, fd) {
+            return Seen::Fixed(Cell::Closed);
+        }
+        match &self.others {
+            Others::Unknown => Seen::Fixed(Cell::Unknown),
+            Others::Closed => Seen::Fixed(Cell::Closed),
+            Others::Of(source, Passing::Same) if *source == pid => Seen::Same,
+            Others::Of(source, passing) => Seen::Passed(*source, *passing),
         }
     }
 
