@@ -7,6 +7,8 @@ use Rattle.cap_summary.specs.declared.conditions.Condition.TheVariants as condit
 use Rattle.cap_summary.specs.declared.packed.Lack.{Lack}
 use Rattle.cap_summary.specs.declared.packed.Packed.{Packed}
 use Rattle.cap_summary.specs.declared.packed.Packed.TheVariants as packed
+use Rattle.cap_summary.specs.declared.packed.Item.{Item}
+use Rattle.cap_summary.specs.declared.packed.Item.TheVariants as item
 
 -- a cell that lacks rights, or is closed where that is asked for
 abbrev pub lacking : Bool → Lack → Source
@@ -33,3 +35,15 @@ packed_condition (packed.Refused r) = condition.Refused r.value
 
 abbrev pub packed_conditions : List Packed → List Condition
 packed_conditions items = map packed_condition items
+
+-- that the cell is closed, or held and lacks rights
+abbrev pub lack_condition : Lack → Condition
+lack_condition lack = condition.Cell (lacking true lack)
+
+abbrev pub lack_conditions : List Lack → List Condition
+lack_conditions lacks = map lack_condition lacks
+
+-- the condition that stands at a place of a list
+abbrev pub item_condition : Item → Condition
+item_condition (item.Lack lack) = lack_condition lack
+item_condition (item.Other p) = packed_condition p.now
