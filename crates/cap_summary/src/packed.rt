@@ -194,6 +194,15 @@ impl Packed {
         }
     }
 
+    /// Whether it is of the most common form.
+    #[inline]
+    fn is_common(&self) -> bool {
+        match self {
+            Packed::ClosedOrLacks(_) => true,
+            _ => false,
+        }
+    }
+
     /// How it stands to another one by its kind, its cells and its process.
     #[inline(always)]
     fn order(&self, other: &Packed) -> Ordering {
@@ -566,6 +575,18 @@ impl Conditions {
         count
     }
 
+    /// The place behind the last one of the most common form.
+    pub(crate) fn commons_end(&self) -> usize {
+        let (lacks, others) = self.parts();
+        let mut end = lacks.len();
+        for at in 0..others.len() {
+            if others[at].is_common() {
+                end = lacks.len() + at + 1;
+            }
+        }
+        end
+    }
+
     /// Whether the one at a place comes before that at another one in the order in which they are kept.
     #[inline]
     fn comes_before(&self, at: usize, of: usize) -> bool
@@ -664,16 +685,25 @@ impl NewConditions {
     }
 
     /// Whether the condition at a place of others comes after all these in the order in which they are kept, where
-    /// these rise.
+    /// these rise. One that isn't of the most common form doesn't, where one of that form is behind it: `end` is the
+    /// place behind the last of those.
     #[inline]
-    pub(crate) fn go_on(&self, others: &Conditions, at: usize) -> bool
+    pub(crate) fn go_on(&self, others: &Conditions, at: usize, end: usize) -> bool
         requires { at < length others.now }
     {
         match (others.item(at), self.others.last(), self.lacks.last()) {
             (Item::Lack(next), Some(last), _) => next.order_to(last) == Ordering::Greater,
             (Item::Lack(next), None, Some(last)) => last.place() < next.place(),
-            (Item::Other(next), Some(last), _) => last.comes_before(next),
-            (Item::Other(next), None, Some(last)) => last.order_to(next) == Ordering::Less,
+            (Item::Other(next), last, lack) => {
+                if at < end && !next.is_common() {
+                    return false;
+                }
+                match (last, lack) {
+                    (Some(last), _) => last.comes_before(next),
+                    (None, Some(last)) => last.order_to(next) == Ordering::Less,
+                    (None, None) => true,
+                }
+            }
             (_, None, None) => true,
         }
     }
