@@ -5,6 +5,7 @@ use Rattle.cap_summary.specs.declared.conditions.Source.{Source}
 use Rattle.cap_summary.specs.declared.conditions.Condition.{Condition}
 use Rattle.cap_summary.specs.declared.conditions.Condition.TheVariants as condition
 use Rattle.cap_summary.specs.declared.packed.Lack.{Lack}
+use Rattle.cap_summary.specs.declared.packed.Low.{Low}
 use Rattle.cap_summary.specs.declared.packed.Packed.{Packed}
 use Rattle.cap_summary.specs.declared.packed.Packed.TheVariants as packed
 use Rattle.cap_summary.specs.declared.packed.Item.{Item}
@@ -36,14 +37,14 @@ packed_condition (packed.Refused r) = condition.Refused r.value
 abbrev pub packed_conditions : List Packed → List Condition
 packed_conditions items = map packed_condition items
 
--- that the cell is closed, or held and lacks rights
-abbrev pub lack_condition : Lack → Condition
-lack_condition lack = condition.Cell (lacking true lack)
+-- that the cell is held and lacks rights, or also that it is closed
+abbrev pub low_condition : Low → Condition
+low_condition low = condition.Cell (lacking low.closed (record { pid = low.pid; fd = low.fd; rights = low.rights }))
 
-abbrev pub lack_conditions : List Lack → List Condition
-lack_conditions lacks = map lack_condition lacks
+abbrev pub low_conditions : List Low → List Condition
+low_conditions lows = map low_condition lows
 
 -- the condition that stands at a place of a list
 abbrev pub item_condition : Item → Condition
-item_condition (item.Lack lack) = lack_condition lack
+item_condition (item.Low low) = low_condition low
 item_condition (item.Other p) = packed_condition p.now

@@ -5,7 +5,7 @@ ghost use Rattle.std.specs.Prelude.{Bool, true, IfOk, IfSome, OnOk, map};
 ghost use Rattle.cap_summary.specs.declared.conditions.Condition.{Condition};
 ghost use Rattle.cap_machine.specs.State.{State};
 ghost use Rattle.cap_summary.specs.Conditions.{holds, source_holds};
-ghost use Rattle.cap_summary.specs.Packed.{lacking, lack_condition, lack_conditions, packed_condition};
+ghost use Rattle.cap_summary.specs.Packed.{lacking, low_condition, low_conditions, packed_condition};
 ghost use Rattle.cap_summary.specs.Packed.{packed_conditions, item_condition};
 ghost use Rattle.cap_summary.specs.Names.{Names, these, ConditionsWithin};
 ghost use Rattle.cap_summary.specs.Shared.{shared_entries};
@@ -30,10 +30,19 @@ pub(crate) struct Lack {
     rights: RightSet,
 }
 
+/// The same of a low descriptor, and whether a closed cell counts too: the most common form, in few bytes.
+#[derive(Clone, Copy)]
+pub(crate) struct Low {
+    pid: Pid,
+    fd: u16,
+    closed: bool,
+    rights: RightSet,
+}
+
 /// A condition as a list keeps it behind those of the most common form: others in few bytes, and the large ones shared.
 #[derive(Drop)]
 pub(crate) enum Packed {
-    /// The cell is closed, or held and lacks some of the rights: of the most common form, but not among the first.
+    /// The cell is closed, or held and lacks some of the rights.
     ClosedOrLacks(Lack),
     /// The cell is held and lacks some of the rights.
     Lacks(Lack),
@@ -46,8 +55,7 @@ pub(crate) enum Packed {
 /// A condition of a list, where it stands.
 #[derive(Clone, Copy)]
 pub(crate) enum Item<'a> {
-    /// The cell is closed, or held and lacks some of the rights.
-    Lack(Lack),
+    Low(Low),
     Other(&'a Packed),
 }
 
@@ -104,13 +112,10 @@ impl Lack {
         place(self.pid, self.fd)
     }
 
-    /// How it stands to one that isn't among the first: before it, where that isn't of the same form.
+    /// Whether it may be kept as the most common form is.
     #[inline]
-    fn order_to(&self, other: &Packed) -> Ordering {
-        match other {
-            Packed::ClosedOrLacks(other) => self.place().cmp(&other.place()),
-            _ => Ordering::Less,
-        }
+    fn is_low(&self) -> bool {
+        self.fd < 65_536
     }
 
     /// The test in full, which a closed cell passes or not.
@@ -128,6 +133,84 @@ impl Lack {
                 clear: HeldTest::Lacks(self.rights),
                 unsure: HeldTest::Lacks(self.rights),
             },
+        }
+    }
+}
+
+impl Low {
+    /// The same of any descriptor; none where it isn't low.
+    #[inline]
+    fn of(lack: &Lack, closed: bool) -> Option<Low>
+        ensures { IfSome result (λ low. low_condition low ≡ Condition.Cell (lacking closed lack.now)) }
+    {
+        match u16::try_from(lack.fd) {
+            Ok(fd) => Some(Low {
+                pid: lack.pid,
+                fd,
+                closed,
+                rights: lack.rights,
+            }),
+            Err(_) => None,
+        }
+    }
+
+    /// The cell, and the rights.
+    #[inline]
+    fn lack(&self) -> Lack
+        ensures { Condition.Cell (lacking self.now.closed result) ≡ low_condition self.now }
+    {
+        Lack {
+            pid: self.pid,
+            fd: u32::from(self.fd),
+            rights: self.rights,
+        }
+    }
+
+    /// Its process and descriptor.
+    #[inline]
+    fn place(&self) -> u64 {
+        place(self.pid, u32::from(self.fd))
+    }
+
+    /// The test in full.
+    #[inline]
+    fn source(&self) -> Source
+        ensures { Condition.Cell result ≡ low_condition self.now }
+    {
+        self.lack().source(self.closed)
+    }
+
+    /// Whether it holds wherever another one does. No is a safe answer.
+    #[inline]
+    fn covers(&self, other: &Low) -> bool
+        ensures { result ≡ true → (s : State) → holds s (low_condition self.now)
+            ≡ (holds s (low_condition self.now) || holds s (low_condition other.now)) }
+    {
+        if other.closed && !self.closed {
+            return false;
+        }
+        self.lack().covers(&other.lack())
+    }
+
+    /// Whether another one is the same.
+    #[inline]
+    fn is_like(&self, other: &Low) -> bool
+        ensures { result ≡ true → self.now ≡ other.now }
+    {
+        self.pid == other.pid
+            && self.fd == other.fd
+            && self.closed == other.closed
+            && self.rights == other.rights
+    }
+
+    /// How it stands to one that isn't among the first: before it, where that isn't of the same form.
+    #[inline]
+    fn order_to(&self, other: &Packed) -> Ordering {
+        match other {
+            Packed::ClosedOrLacks(lack) | Packed::Lacks(lack) if lack.is_low() => {
+                self.place().cmp(&lack.place())
+            }
+            _ => Ordering::Less,
         }
     }
 }
@@ -154,14 +237,14 @@ fn rank_of_part(part: &Option<Source>) -> u128
     }
 }
 
-impl Lack {
+impl Low {
     /// A number for the kind, and for the process and the descriptor.
     #[inline]
     fn rank(&self) -> u128
-        ensures value { result ≡ condition_rank (lack_condition self.now) }
+        ensures value { result ≡ condition_rank (low_condition self.now) }
         ensures bound { result < 2 ^ 72 }
     {
-        rank(2, self.pid, self.fd)
+        rank(2, self.pid, u32::from(self.fd))
     }
 }
 
@@ -174,7 +257,7 @@ impl Packed {
         match self {
             Packed::Inside(pid) => rank(0, *pid, 0),
             Packed::Outside(pid) => rank(1, *pid, 0),
-            Packed::ClosedOrLacks(lack) | Packed::Lacks(lack) => lack.rank(),
+            Packed::ClosedOrLacks(lack) | Packed::Lacks(lack) => rank(2, lack.pid, lack.fd),
             Packed::Other(source) => rank(2, source.pid, source.fd),
             Packed::Refused(refused) => rank_of_part(&refused.first),
         }
@@ -185,12 +268,21 @@ impl Packed {
     /// What it is sorted by first: its kind, and a process and a descriptor. Those of the most common form come first.
     fn key(&self) -> (u8, u64) {
         match self {
-            Packed::ClosedOrLacks(lack) => (0, lack.place()),
+            Packed::ClosedOrLacks(lack) | Packed::Lacks(lack) if lack.is_low() => (0, lack.place()),
             Packed::Inside(pid) => (1, place(*pid, 0)),
             Packed::Outside(pid) => (2, place(*pid, 0)),
-            Packed::Lacks(lack) => (3, lack.place()),
+            Packed::ClosedOrLacks(lack) | Packed::Lacks(lack) => (3, lack.place()),
             Packed::Other(source) => (3, place(source.pid, source.fd)),
             Packed::Refused(refused) => (4, place_of_part(&refused.first)),
+        }
+    }
+
+    /// Whether it is of the most common form.
+    #[inline]
+    fn is_common(&self) -> bool {
+        match self {
+            Packed::ClosedOrLacks(lack) | Packed::Lacks(lack) => lack.is_low(),
+            _ => false,
         }
     }
 
@@ -219,6 +311,7 @@ impl Packed {
     {
         match (self, other) {
             (Packed::ClosedOrLacks(a), Packed::ClosedOrLacks(b)) => a.covers(b),
+            (Packed::ClosedOrLacks(a), Packed::Lacks(b)) => a.covers(b),
             (Packed::Lacks(a), Packed::Lacks(b)) => a.covers(b),
             _ => false,
         }
@@ -319,8 +412,8 @@ impl Packed {
 }
 
 /// Whether two lists of the most common form are the same.
-fn same_lacks(a: &[Lack], b: &[Lack]) -> bool
-    ensures { result ≡ true → lack_conditions a.now ≡ lack_conditions b.now }
+fn same_lows(a: &[Low], b: &[Low]) -> bool
+    ensures { result ≡ true → low_conditions a.now ≡ low_conditions b.now }
 {
     if a.len() != b.len() {
         return false;
@@ -357,12 +450,12 @@ pub(crate) struct Ranked {
 
 /// The number of the condition that comes next of two lists at these places: of two the lower.
 #[inline]
-fn lower(lacks: &[Lack], i: usize, others: &[Packed], j: usize) -> Option<Ranked>
+fn lower(lows: &[Low], i: usize, others: &[Packed], j: usize) -> Option<Ranked>
     ensures bound { IfSome result (λ next. next.rank < 2 ^ 72) }
-    ensures within { IfSome result (λ next. (names : Names) → ConditionsWithin names (lack_conditions lacks.now)
+    ensures within { IfSome result (λ next. (names : Names) → ConditionsWithin names (low_conditions lows.now)
         → ConditionsWithin names (packed_conditions others.now) → RankWithin names next.rank) }
 {
-    if i >= lacks.len() {
+    if i >= lows.len() {
         if j >= others.len() {
             return None;
         }
@@ -372,7 +465,7 @@ fn lower(lacks: &[Lack], i: usize, others: &[Packed], j: usize) -> Option<Ranked
             is_first: false,
         });
     }
-    let rank = lacks[i].rank();
+    let rank = lows[i].rank();
     if j < others.len() {
         let other = others[j].rank();
         if other < rank {
@@ -391,8 +484,8 @@ fn lower(lacks: &[Lack], i: usize, others: &[Packed], j: usize) -> Option<Ranked
 /// Conditions that are never changed. Copies share them.
 #[derive(Drop)]
 pub(crate) struct Conditions {
-    /// Those that come first: of each the cell is closed, or held and lacks some of the rights.
-    lacks: Option<RcSlice<Lack>>,
+    /// Those that come first, of the most common form.
+    lows: Option<RcSlice<Low>>,
     /// Those behind them.
     others: Option<RcSlice<Packed>>,
 }
@@ -400,29 +493,29 @@ pub(crate) struct Conditions {
 impl Model for Conditions {
     ghost use Rattle.std.specs.Prelude.{List, ◌++◌};
     ghost use Rattle.cap_summary.specs.declared.conditions.Condition.{Condition};
-    ghost use Rattle.cap_summary.specs.Packed.{lack_conditions, packed_conditions};
+    ghost use Rattle.cap_summary.specs.Packed.{low_conditions, packed_conditions};
     ghost use Rattle.cap_summary.specs.Shared.{shared_entries};
 
     ghost Value = { List Condition };
 
-    ghost view = { λ c. lack_conditions (shared_entries c.lacks) ++ packed_conditions (shared_entries c.others) };
+    ghost view = { λ c. low_conditions (shared_entries c.lows) ++ packed_conditions (shared_entries c.others) };
 }
 
 /// Conditions that are being put together.
 #[derive(Drop)]
 pub(crate) struct NewConditions {
-    lacks: Vec<Lack>,
+    lows: Vec<Low>,
     others: Vec<Packed>,
 }
 
 impl Model for NewConditions {
     ghost use Rattle.std.specs.Prelude.{List, ◌++◌};
     ghost use Rattle.cap_summary.specs.declared.conditions.Condition.{Condition};
-    ghost use Rattle.cap_summary.specs.Packed.{lack_conditions, packed_conditions};
+    ghost use Rattle.cap_summary.specs.Packed.{low_conditions, packed_conditions};
 
     ghost Value = { List Condition };
 
-    ghost view = { λ c. lack_conditions c.lacks.items ++ packed_conditions c.others.items };
+    ghost view = { λ c. low_conditions c.lows.items ++ packed_conditions c.others.items };
 }
 
 impl Conditions {
@@ -431,7 +524,7 @@ impl Conditions {
         ensures { result ≡ [] }
     {
         Conditions {
-            lacks: None,
+            lows: None,
             others: None,
         }
     }
@@ -447,18 +540,18 @@ impl Conditions {
 
     /// Those of the most common form that come first, and the others.
     #[inline(always)]
-    fn parts(&self) -> (&[Lack], &[Packed])
-        ensures { lack_conditions result.0.now ++ packed_conditions result.1.now ≡ self.now }
+    fn parts(&self) -> (&[Low], &[Packed])
+        ensures { low_conditions result.0.now ++ packed_conditions result.1.now ≡ self.now }
     {
-        let lacks: &[Lack] = match &self.lacks {
-            Some(lacks) => lacks.as_slice(),
+        let lows: &[Low] = match &self.lows {
+            Some(lows) => lows.as_slice(),
             None => &[],
         };
         let others: &[Packed] = match &self.others {
             Some(others) => others.as_slice(),
             None => &[],
         };
-        (lacks, others)
+        (lows, others)
     }
 
     /// How many there are.
@@ -466,8 +559,8 @@ impl Conditions {
     pub(crate) fn len(&self) -> usize
         ensures { result ≡ length self.now }
     {
-        let (lacks, others) = self.parts();
-        lacks.len() + others.len()
+        let (lows, others) = self.parts();
+        lows.len() + others.len()
     }
 
     /// The one at a place, as it stands there.
@@ -476,11 +569,11 @@ impl Conditions {
         requires { at < length self.now }
         ensures { (d : Condition) → slice_index_or self.now at d ≡ item_condition result }
     {
-        let (lacks, others) = self.parts();
-        if at < lacks.len() {
-            Item::Lack(lacks[at])
+        let (lows, others) = self.parts();
+        if at < lows.len() {
+            Item::Low(lows[at])
         } else {
-            Item::Other(&others[at - lacks.len()])
+            Item::Other(&others[at - lows.len()])
         }
     }
 
@@ -491,7 +584,7 @@ impl Conditions {
         ensures { result ≡ slice_index_or self.now at result }
     {
         match self.item(at) {
-            Item::Lack(lack) => Condition::Cell(lack.source(true)),
+            Item::Low(low) => Condition::Cell(low.source()),
             Item::Other(packed) => packed.condition(),
         }
     }
@@ -503,9 +596,9 @@ impl Conditions {
         requires other { of < length others.now }
     {
         match (self.item(at), others.item(of)) {
-            (Item::Lack(a), Item::Lack(b)) => a.place().cmp(&b.place()),
-            (Item::Lack(a), Item::Other(b)) => a.order_to(b),
-            (Item::Other(a), Item::Lack(b)) => b.order_to(a).reverse(),
+            (Item::Low(a), Item::Low(b)) => a.place().cmp(&b.place()),
+            (Item::Low(a), Item::Other(b)) => a.order_to(b),
+            (Item::Other(a), Item::Low(b)) => b.order_to(a).reverse(),
             (Item::Other(a), Item::Other(b)) => a.order(b),
         }
     }
@@ -520,7 +613,7 @@ impl Conditions {
             ≡ (holds s (slice_index_or self.now at x) || holds s (slice_index_or others.now of y)) }
     {
         match (self.item(at), others.item(of)) {
-            (Item::Lack(a), Item::Lack(b)) => a.covers(&b),
+            (Item::Low(a), Item::Low(b)) => a.covers(&b),
             (Item::Other(a), Item::Other(b)) => a.covers(b),
             _ => false,
         }
@@ -533,7 +626,7 @@ impl Conditions {
         ensures { IfSome result (λ source. (d : Condition) → slice_index_or self.now at d ≡ Condition.Cell source) }
     {
         match self.item(at) {
-            Item::Lack(lack) => Some(lack.source(true)),
+            Item::Low(low) => Some(low.source()),
             Item::Other(packed) => packed.source(),
         }
     }
@@ -544,13 +637,13 @@ impl Conditions {
         ensures few { (pids fds : List ℕ) → ConditionsWithin (these pids fds) self.now
             → result ≤ 2 * room pids fds + 1 }
     {
-        let (lacks, others) = self.parts();
+        let (lows, others) = self.parts();
         let mut i = 0usize;
         let mut j = 0usize;
         let mut count = 0usize;
         let mut next = 0u128;
         for _ in 0..self.len() {
-            let Some(lower) = lower(lacks, i, others, j) else {
+            let Some(lower) = lower(lows, i, others, j) else {
                 return count;
             };
             if lower.is_first {
@@ -566,6 +659,18 @@ impl Conditions {
         count
     }
 
+    /// The place behind the last one of the most common form.
+    pub(crate) fn commons_end(&self) -> usize {
+        let (lows, others) = self.parts();
+        let mut end = lows.len();
+        for at in 0..others.len() {
+            if others[at].is_common() {
+                end = lows.len() + at + 1;
+            }
+        }
+        end
+    }
+
     /// Whether the one at a place comes before that at another one in the order in which they are kept.
     #[inline]
     fn comes_before(&self, at: usize, of: usize) -> bool
@@ -573,9 +678,9 @@ impl Conditions {
         requires second { of < length self.now }
     {
         match (self.item(at), self.item(of)) {
-            (Item::Lack(a), Item::Lack(b)) => a.place() < b.place(),
-            (Item::Lack(a), Item::Other(b)) => a.order_to(b) == Ordering::Less,
-            (Item::Other(a), Item::Lack(b)) => b.order_to(a) == Ordering::Greater,
+            (Item::Low(a), Item::Low(b)) => a.place() < b.place(),
+            (Item::Low(a), Item::Other(b)) => a.order_to(b) == Ordering::Less,
+            (Item::Other(a), Item::Low(b)) => b.order_to(a) == Ordering::Greater,
             (Item::Other(a), Item::Other(b)) => a.comes_before(b),
         }
     }
@@ -599,22 +704,22 @@ impl Conditions {
     {
         let (own, own_others) = self.parts();
         let (theirs, their_others) = other.parts();
-        same_lacks(own, theirs) && same_packed(own_others, their_others)
+        same_lows(own, theirs) && same_packed(own_others, their_others)
     }
 
     /// The same conditions, shared.
     pub(crate) fn share(&self) -> Result<Conditions, NoMemory>
         ensures { IfOk result (λ same. same ≡ self.now) }
     {
-        let lacks = match &self.lacks {
-            Some(lacks) => Some(lacks.clone()?),
+        let lows = match &self.lows {
+            Some(lows) => Some(lows.clone()?),
             None => None,
         };
         let others = match &self.others {
             Some(others) => Some(others.clone()?),
             None => None,
         };
-        Ok(Conditions { lacks, others })
+        Ok(Conditions { lows, others })
     }
 }
 
@@ -624,22 +729,36 @@ impl NewConditions {
         ensures { IfOk result (λ new. new ≡ []) }
     {
         Ok(NewConditions {
-            lacks: Vec::with_capacity(alloc, room)?,
+            lows: Vec::with_capacity(alloc, room)?,
             others: Vec::new(alloc),
         })
     }
 
     /// Adds one of the most common form.
     #[inline(always)]
-    fn push_lack(&mut self, lack: Lack) -> Result<(), NoMemory>
-        ensures { OnOk result (self.new ≡ self.old ++ lack_condition lack ∷ []) }
+    fn push_low(&mut self, low: Low) -> Result<(), NoMemory>
+        ensures { OnOk result (self.new ≡ self.old ++ low_condition low ∷ []) }
     {
         if self.others.is_empty() {
-            self.lacks.push(lack)?;
+            self.lows.push(low)?;
         } else {
-            self.others.push(Packed::ClosedOrLacks(lack))?;
+            self.others.push(Packed::of_lack(low.lack(), low.closed))?;
         }
         Ok(())
+    }
+
+    /// Adds a cell that lacks rights, or is closed where that is asked for.
+    #[inline]
+    fn push_lack(&mut self, lack: &Lack, closed: bool) -> Result<(), NoMemory>
+        ensures { OnOk result (self.new ≡ self.old ++ Condition.Cell (lacking closed lack.now) ∷ []) }
+    {
+        match Low::of(lack, closed) {
+            Some(low) => self.push_low(low),
+            None => {
+                self.others.push(Packed::of_lack(*lack, closed))?;
+                Ok(())
+            }
+        }
     }
 
     /// Adds a condition that is packed.
@@ -648,7 +767,8 @@ impl NewConditions {
         ensures { OnOk result (self.new ≡ self.old ++ packed_condition packed ∷ []) }
     {
         match packed {
-            Packed::ClosedOrLacks(lack) => self.push_lack(lack),
+            Packed::ClosedOrLacks(lack) => self.push_lack(&lack, true),
+            Packed::Lacks(lack) => self.push_lack(&lack, false),
             packed => {
                 self.others.push(packed)?;
                 Ok(())
@@ -664,16 +784,25 @@ impl NewConditions {
     }
 
     /// Whether the condition at a place of others comes after all these in the order in which they are kept, where
-    /// these rise.
+    /// these rise. One that isn't of the most common form doesn't, where one of that form is behind it: `end` is the
+    /// place behind the last of those.
     #[inline]
-    pub(crate) fn go_on(&self, others: &Conditions, at: usize) -> bool
+    pub(crate) fn go_on(&self, others: &Conditions, at: usize, end: usize) -> bool
         requires { at < length others.now }
     {
-        match (others.item(at), self.others.last(), self.lacks.last()) {
-            (Item::Lack(next), Some(last), _) => next.order_to(last) == Ordering::Greater,
-            (Item::Lack(next), None, Some(last)) => last.place() < next.place(),
-            (Item::Other(next), Some(last), _) => last.comes_before(next),
-            (Item::Other(next), None, Some(last)) => last.order_to(next) == Ordering::Less,
+        match (others.item(at), self.others.last(), self.lows.last()) {
+            (Item::Low(next), Some(last), _) => next.order_to(last) == Ordering::Greater,
+            (Item::Low(next), None, Some(last)) => last.place() < next.place(),
+            (Item::Other(next), last, lack) => {
+                if at < end && !next.is_common() {
+                    return false;
+                }
+                match (last, lack) {
+                    (Some(last), _) => last.comes_before(next),
+                    (None, Some(last)) => last.order_to(next) == Ordering::Less,
+                    (None, None) => true,
+                }
+            }
             (_, None, None) => true,
         }
     }
@@ -686,7 +815,7 @@ impl NewConditions {
             ((d : Condition) → self.new ≡ self.old ++ slice_index_or others.now at d ∷ []) }
     {
         match others.item(at) {
-            Item::Lack(lack) => self.push_lack(lack),
+            Item::Low(low) => self.push_low(low),
             Item::Other(packed) => self.push(packed.share()?),
         }
     }
@@ -696,7 +825,7 @@ impl NewConditions {
         ensures { IfOk result (λ all. all ≡ self) }
     {
         Ok(Conditions {
-            lacks: shared(self.lacks)?,
+            lows: shared(self.lows)?,
             others: shared(self.others)?,
         })
     }

@@ -1,6 +1,6 @@
 use Rattle.std.proofs.Common.{◌≤◌, ◌++◌, arith}
 use Rattle.cap_summary.specs.Names.{these, ConditionsWithin}
-use Rattle.cap_summary.specs.Packed.{lack_conditions, packed_conditions}
+use Rattle.cap_summary.specs.Packed.{low_conditions, packed_conditions}
 use Rattle.cap_summary.specs.Sizes.{RankWithin}
 use Rattle.cap_summary.proofs.Counting.{count_all, count_ranks, counted_more, first_part, ranks, second_part}
 use Rattle.cap_summary.proofs.packed.Conditions.places.Goals as goal
@@ -21,12 +21,12 @@ loop-preserved c = (
       | else-lower w ↦ omega (arith, w.j-is, c.loop.invariant.1.0)
     ],
     λ pids fds within.
-        let lacks = lack_conditions c.parts.result.0.now in
+        let lows = low_conditions c.parts.result.0.now in
         let others = packed_conditions c.parts.result.1.now in
-        let both : ConditionsWithin (these pids fds) (lacks ++ others) = rw c.parts.ensures within in
+        let both : ConditionsWithin (these pids fds) (lows ++ others) = rw c.parts.ensures within in
         let own : RankWithin (these pids fds) c.in-Some.lower.rank =
-        c.in-Some.ensures.within (these pids fds) (first_part (these pids fds) lacks others both)
-        (second_part (these pids fds) lacks others both) in
+        c.in-Some.ensures.within (these pids fds) (first_part (these pids fds) lows others both)
+        (second_part (these pids fds) lows others both) in
         let before = c.loop.invariant.1.1 pids fds within in
         elim c.if-lower-next.branch [
           | then-lower-next w ↦
