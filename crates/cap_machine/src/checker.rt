@@ -9,7 +9,7 @@ use crate::report::put_count;
 use crate::start::Start;
 use crate::table::Table;
 use cap_rights::NoMemory;
-use cap_trace::Line;
+use cap_trace::{FdLine, Line};
 use std::alloc::Global;
 use std::marker::Model;
 
@@ -103,6 +103,22 @@ impl Checker {
         self.table.follow(self.profile, line)?;
         self.lines = at;
         self.findings += more;
+        Ok(())
+    }
+
+    /// Checks the next line, one with a call on one descriptor, as [`line`](Checker::line) does.
+    ///
+    /// `NoMemory` when out of memory. What the checker then answers isn't promised: drop it.
+    pub fn fd_line(&mut self, line: FdLine) -> Result<(), NoMemory>
+        requires room { lines_of self.old < 2 ^ 60 }
+        ensures checked { (profile : Profile) (s : State) (trace : List Entry) → HasChecked self.old profile s trace
+            → OnOk result (HasChecked self.new profile s (trace ++ line ∷ [])) }
+    {
+        if !self.table.is_silent_fd_line(&line) {
+            return self.line(&line.line());
+        }
+        self.table.follow_fd_line(self.profile, &line)?;
+        self.lines += 1;
         Ok(())
     }
 

@@ -15,7 +15,7 @@ use crate::refused::Refusal;
 use crate::short_text::ShortText;
 use crate::write::write_text;
 use cap_machine::{Checker, NoMemory, Profile};
-use cap_trace::Line;
+use cap_trace::{FdLine, Line};
 use std::alloc::Global;
 
 impl Keep for Checker {
@@ -29,6 +29,10 @@ impl Keep for Checker {
 
     fn keep(&mut self, line: Line) -> Result<(), NoMemory> {
         self.line(&line)
+    }
+
+    fn keep_fd_line(&mut self, line: FdLine) -> Result<(), NoMemory> {
+        self.fd_line(line)
     }
 }
 

@@ -1,11 +1,12 @@
 //! The lines of a trace, each read and given to what keeps them: a checker, which keeps none, or a session ([`Keep`]).
-ghost use Rattle.std.specs.Prelude.{◌≡◌, ◌<◌, ◌≤◌, ◌^◌, ℕ, ◌++◌, ◌∷◌, [], List, length, OnOk, None, MatchOption};
+ghost use Rattle.std.specs.Prelude.{◌≡◌, ◌<◌, ◌≤◌, ◌^◌, ℕ, ◌++◌, ◌∷◌, [], List, length, OnOk, None, MatchOption, false};
 ghost use Rattle.std.specs.Option.{ForSome};
 ghost use Rattle.cap_trace.specs.Entry.{Entry};
 ghost use Rattle.cap_session.specs.Limits.{most_lines};
 ghost use Rattle.cap_session.specs.Trace.{is_skipped, trace, soon};
 ghost use Rattle.cap_session.specs.Traced.{Setting, Traced, one_more, next_traced, Follows, Holds};
 ghost use Rattle.cap_session.specs.Reads.{Reads};
+ghost use Rattle.cap_session.specs.Feeds.{TakesLine};
 
 use crate::devices::Source;
 use crate::limits::MOST_LINES;
@@ -13,7 +14,7 @@ use crate::lines::{Lines, Stop};
 use crate::read::read_text;
 use crate::refused::Refused;
 use cap_machine::NoMemory;
-use cap_trace::{Line, LineFault, parse_line};
+use cap_trace::{FdLine, Line, LineFault, Unread, parse_fd_line};
 use std::alloc::Global;
 
 /// Whether a line is empty or a comment.
@@ -41,6 +42,12 @@ pub trait Keep: Drop {
 
     /// Keeps one line more.
     fn keep(&mut self, line: Line) -> Result<(), NoMemory>
+        requires { lines_of self.old < most_lines }
+        ensures { (s : Setting) (entries : List Entry) → keeps self.old s entries
+            → OnOk result (keeps self.new s (entries ++ line ∷ [])) };
+
+    /// Keeps one line more, with a call on one descriptor.
+    fn keep_fd_line(&mut self, line: FdLine) -> Result<(), NoMemory>
         requires { lines_of self.old < most_lines }
         ensures { (s : Setting) (entries : List Entry) → keeps self.old s entries
             → OnOk result (keeps self.new s (entries ++ line ∷ [])) };
@@ -86,6 +93,46 @@ impl<K: Keep> Entries<K> {
         }
     }
 
+    /// The same of a line with a call on one descriptor.
+    fn keep_fd_line(&mut self, count: usize, line: FdLine)
+        requires room { ForSome self.old.kept (λ k. K.lines_of k < most_lines) }
+        requires most { count < most_lines }
+        ensures { (known : Traced) → Follows K.keeps self.old.kept self.old.lost known → count ≡ length known.entries
+            → Follows K.keeps self.new.kept self.new.lost (one_more known line) }
+    {
+        let is_kept = match &mut self.kept {
+            Some(kept) => kept.keep_fd_line(line).is_ok(),
+            None => false,
+        };
+        if !is_kept {
+            self.lose(count + 1);
+        }
+    }
+
+    /// Keeps the next line, which isn't read yet and comes after `count` others.
+    #[inline(always)]
+    fn keep_unread(&mut self, count: usize, unread: Unread<'_>) -> Result<(), Refused>
+        requires room { ForSome self.old.kept (λ k. K.lines_of k < most_lines) }
+        requires most { count < most_lines }
+        requires counts { is_skipped unread ≡ false }
+        ensures { (known : Traced) → Follows K.keeps self.old.kept self.old.lost known → count ≡ length known.entries
+            → TakesLine (next_traced known unread.entry) (Follows K.keeps self.new.kept self.new.lost) result }
+    {
+        match unread.line(self.alloc) {
+            Ok(line) => {
+                self.keep(count, line);
+                Ok(())
+            }
+            Err(fault) => match fault {
+                LineFault::Memory => {
+                    self.lose(count + 1);
+                    Ok(())
+                }
+                _ => Err(Refused::from(fault)),
+            },
+        }
+    }
+
     /// Memory ran out for the last of so many lines.
     fn lose(&mut self, count: usize)
         ensures kept { self.new.kept ≡ None }
@@ -113,18 +160,12 @@ impl<K: Keep> Lines for Entries<K> {
         if count >= MOST_LINES {
             return Err(Refused::Full);
         }
-        match parse_line(self.alloc, line) {
+        match parse_fd_line(line) {
             Ok(line) => {
-                self.keep(count, line);
+                self.keep_fd_line(count, line);
                 Ok(())
             }
-            Err(fault) => match fault {
-                LineFault::Memory => {
-                    self.lose(count + 1);
-                    Ok(())
-                }
-                _ => Err(Refused::from(fault)),
-            },
+            Err(unread) => self.keep_unread(count, unread),
         }
     }
 

@@ -20,7 +20,7 @@ use crate::short_text::ShortText;
 use crate::start_text::read_start;
 use crate::write::write_text;
 use cap_machine::{NoMemory, Profile, Start};
-use cap_trace::Line;
+use cap_trace::{FdLine, Line};
 use std::alloc::Global;
 
 impl Keep for Vec<Line> {
@@ -37,6 +37,10 @@ impl Keep for Vec<Line> {
             Ok(()) => Ok(()),
             Err(_) => Err(NoMemory),
         }
+    }
+
+    fn keep_fd_line(&mut self, line: FdLine) -> Result<(), NoMemory> {
+        self.keep(line.line())
     }
 }
 

@@ -10,7 +10,7 @@ use crate::refused::Refused;
 use crate::session::Session;
 use crate::steps::step_of;
 use cap_machine::{NoMemory, Profile, Step};
-use cap_trace::Line;
+use cap_trace::{FdLine, Line};
 use std::alloc::Global;
 use std::marker::Model;
 use std::rc::Rc;
@@ -79,5 +79,9 @@ impl Keep for Loading {
             Ok(()) => Ok(()),
             Err(_) => Err(NoMemory),
         }
+    }
+
+    fn keep_fd_line(&mut self, line: FdLine) -> Result<(), NoMemory> {
+        self.keep(line.line())
     }
 }

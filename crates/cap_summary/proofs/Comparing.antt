@@ -2,10 +2,9 @@
 use Rattle.std.proofs.Common.{◌≡◌, ℕ, ◌+◌, ◌<◌, ◌≤◌, eqb, List, [], ◌∷◌, ◌++◌, Option, Some, None, Bool, true, false}
 use Rattle.std.proofs.Common.{take, get_or, length, map, cond, refl, sym, ap, subst, ◌∙◌, ◌&&◌}
 use Rattle.std.proofs.Math.Path.{fun_ext}
+use Rattle.std.proofs.lemmas.Bool.{eqb-true}
 use Rattle.std.proofs.lemmas.List.{map_more, take_all}
 use Rattle.std.specs.Prelude.{option_map, unwrap_or, is_some, not, ◌↔◌}
-use Rattle.std.specs.declared.rc.Rc.{Rc}
-use Rattle.std.specs.declared.alloc.Global.{Global}
 use Rattle.cap_machine.specs.State.{State}
 use Rattle.cap_machine.proofs.Turns.{same_state}
 use Rattle.cap_summary.specs.declared.values.Value.{Value}
@@ -13,11 +12,12 @@ use Rattle.cap_summary.specs.declared.values.ModeValue.{ModeValue}
 use Rattle.cap_summary.specs.declared.change.Process.{Process}
 use Rattle.cap_summary.specs.declared.change.Change.{Change}
 use Rattle.cap_summary.specs.declared.kept.Kept.{Kept}
+use Rattle.cap_summary.specs.declared.kept.Listed.{Listed}
 use Rattle.cap_summary.specs.declared.tables.Cells.{Cells}
 use Rattle.cap_summary.specs.declared.tables.Processes.{Processes}
 use Rattle.cap_summary.specs.Sorted.{found}
 use Rattle.cap_summary.specs.Values.{read_cell, read_mode}
-use Rattle.cap_summary.specs.Tables.{listed_value, process_at, kept_value, processes_shared}
+use Rattle.cap_summary.specs.Tables.{listed_value, process_at, kept_value, listed_process}
 use Rattle.cap_summary.specs.Values.{unlisted, rest_untouched}
 use Rattle.cap_summary.specs.Changes.{value_at, cell_in, mode_in, changed, untouched_at, untouched_in, IsSame, AreAlike}
 use Rattle.cap_summary.specs.Names.{Names, cell_within, others_within, mode_within, ListedWithin}
@@ -46,48 +46,54 @@ shows_all {X} show xs ys i all all2 is =
 
 -- ---- tables
 
--- an entry with what is seen of its value
-abbrev pub entry_seen : {V W : Type 0} → (V → W) → ℕ × V → ℕ × W
-entry_seen see entry = (entry.0, see entry.1)
+-- an entry with what is seen of its value at its key
+abbrev pub entry_seen : {V W : Type 0} → (ℕ → V → W) → ℕ × V → ℕ × W
+entry_seen see entry = (entry.0, see entry.0 entry.1)
 
-if_seen : {V W : Type 0} (see : V → W) (b : Bool) (v : V) (o : Option V) (r : Option W) → option_map see o ≡ r
-    → option_map see (cond b (Some v) o) ≡ cond b (Some (see v)) r
-if_seen see true v o r is = refl
-if_seen see false v o r is = is
+if_seen : {V W : Type 0} (see : ℕ → V → W) (k key : ℕ) (v : V) (b : Bool) (o : Option V) (r : Option W) → eqb k key ≡ b
+    → option_map (see key) o ≡ r → option_map (see key) (cond b (Some v) o) ≡ cond b (Some (see k v)) r
+if_seen {V} {W} see k key v true o r same is = ap (λ (n : ℕ). Some (see n v)) (sym (eqb-true k key same))
+if_seen see k key v false o r same is = is
 
 -- what is seen of the value that is found
-found_seen : {V W : Type 0} (see : V → W) (l : List (ℕ × V)) (key : ℕ)
-    → option_map see (found l key) ≡ found (map (entry_seen see) l) key
+found_seen : {V W : Type 0} (see : ℕ → V → W) (l : List (ℕ × V)) (key : ℕ)
+    → option_map (see key) (found l key) ≡ found (map (entry_seen see) l) key
 found_seen see [] key = refl
-found_seen see ((k, v) ∷ rest) key = if_seen see (eqb k key) v (found rest key) (found (map (entry_seen see) rest) key)
-    (found_seen see rest key)
+found_seen see ((k, v) ∷ rest) key = if_seen see k key v (eqb k key) (found rest key)
+    (found (map (entry_seen see) rest) key) refl (found_seen see rest key)
 
-found_alike : {V W : Type 0} (see : V → W) (xs ys : List (ℕ × V)) (key : ℕ)
-    → map (entry_seen see) xs ≡ map (entry_seen see) ys → option_map see (found xs key) ≡ option_map see (found ys key)
+found_alike : {V W : Type 0} (see : ℕ → V → W) (xs ys : List (ℕ × V)) (key : ℕ)
+    → map (entry_seen see) xs ≡ map (entry_seen see) ys
+    → option_map (see key) (found xs key) ≡ option_map (see key) (found ys key)
 found_alike {V} {W} see xs ys key is =
     found_seen see xs key ∙ ap (λ (l : List (ℕ × W)). found l key) is ∙ sym (found_seen see ys key)
 
 -- two tables, as far as a place; all their entries stand below it
-pub record TablesAlike {V W : Type 0} (see : V → W) (own theirs xs ys : List (ℕ × V)) (i : ℕ) : Type 0 where
+pub record TablesAlike {V W : Type 0} (see : ℕ → V → W) (own theirs xs ys : List (ℕ × V)) (i : ℕ) : Type 0 where
   pub own_is : xs ≡ own
   pub theirs_is : ys ≡ theirs
   pub own_all : length xs ≤ i
   pub theirs_all : length ys ≤ i
   pub same : ShowSame (entry_seen see) i xs ys
 
-tables_alike : {V W : Type 0} (see : V → W) (own theirs xs ys : List (ℕ × V)) (i : ℕ)
+tables_alike : {V W : Type 0} (see : ℕ → V → W) (own theirs xs ys : List (ℕ × V)) (i : ℕ)
     → TablesAlike see own theirs xs ys i → (key : ℕ)
-    → option_map see (found own key) ≡ option_map see (found theirs key)
+    → option_map (see key) (found own key) ≡ option_map (see key) (found theirs key)
 tables_alike {V} see own theirs xs ys i alike key =
     let entries : map (entry_seen see) xs ≡ map (entry_seen see) ys =
     shows_all (entry_seen see) xs ys i alike.own_all alike.theirs_all alike.same in
-    ap (λ (l : List (ℕ × V)). option_map see (found l key)) (sym alike.own_is) ∙ found_alike see xs ys key entries
-    ∙ ap (λ (l : List (ℕ × V)). option_map see (found l key)) alike.theirs_is
+    ap (λ (l : List (ℕ × V)). option_map (see key) (found l key)) (sym alike.own_is)
+    ∙ found_alike see xs ys key entries
+    ∙ ap (λ (l : List (ℕ × V)). option_map (see key) (found l key)) alike.theirs_is
+
+-- what is seen of a cell
+abbrev pub cell_seen : ℕ → Kept → Value
+cell_seen f kept = kept_value kept
 
 pub cells_alike : (own theirs : Cells) (xs ys : List (ℕ × Kept)) (i : ℕ)
-    → TablesAlike kept_value own.table theirs.table xs ys i → (f : ℕ) → listed_value own f ≡ listed_value theirs f
+    → TablesAlike cell_seen own.table theirs.table xs ys i → (f : ℕ) → listed_value own f ≡ listed_value theirs f
 unfolding listed_value
-cells_alike own theirs xs ys i alike f = tables_alike kept_value own.table theirs.table xs ys i alike f
+cells_alike own theirs xs ys i alike f = tables_alike cell_seen own.table theirs.table xs ys i alike f
 
 -- ---- processes
 
@@ -106,8 +112,8 @@ seen cells base mode = record { cells = cells; base = base; mode = mode }
 abbrev pub seen_of : Process → Seen
 seen_of d = seen (λ f. listed_value d.cells f) d.base d.mode
 
-abbrev pub seen_shared : Rc Process Global → Seen
-seen_shared process = seen_of process.value
+abbrev pub process_seen : ℕ → Listed → Seen
+process_seen p listed = seen_of (listed_process p listed)
 
 both_seen : (k l : ℕ) (d e : Process) → k ≡ l → IsSame d e → pair k (seen_of d) ≡ pair l (seen_of e)
 both_seen k l d e key same = ap (λ (n : ℕ). pair n (seen_of d)) key
@@ -115,8 +121,8 @@ both_seen k l d e key same = ap (λ (n : ℕ). pair n (seen_of d)) key
     ∙ ap (λ (r : Base). pair l (seen (λ f. listed_value e.cells f) r d.mode)) same.base
     ∙ ap (λ (r : ModeValue). pair l (seen (λ f. listed_value e.cells f) e.base r)) same.mode
 
-pub entries_seen : (x y : ℕ × Rc Process Global) (d e : Process) → x.0 ≡ y.0 → d ≡ x.1.value → e ≡ y.1.value
-    → IsSame d e → entry_seen seen_shared x ≡ entry_seen seen_shared y
+pub entries_seen : (x y : ℕ × Listed) (d e : Process) → x.0 ≡ y.0 → d ≡ listed_process x.0 x.1
+    → e ≡ listed_process y.0 y.1 → IsSame d e → entry_seen process_seen x ≡ entry_seen process_seen y
 entries_seen x y d e key first second same =
     ap (λ (r : Process). pair x.0 (seen_of r)) (sym first)
     ∙ both_seen x.0 y.0 d e key same
@@ -134,19 +140,20 @@ option_seen (Some d) (Some e) is = let both : seen_of d ≡ seen_of e = cc in re
   mode = ap (λ (r : Seen). r.mode) both;
 }
 
-option_shared : (o : Option (Rc Process Global)) → option_map seen_of (processes_shared o) ≡ option_map seen_shared o
-option_shared None = refl
-option_shared (Some process) = refl
+option_listed : (p : ℕ) (o : Option Listed)
+    → option_map seen_of (option_map (listed_process p) o) ≡ option_map (process_seen p) o
+option_listed p None = refl
+option_listed p (Some listed) = refl
 
-pub processes_alike : (own theirs : Processes) (xs ys : List (ℕ × Rc Process Global)) (i : ℕ)
-    → TablesAlike seen_shared own.table theirs.table xs ys i → (p : ℕ)
+pub processes_alike : (own theirs : Processes) (xs ys : List (ℕ × Listed)) (i : ℕ)
+    → TablesAlike process_seen own.table theirs.table xs ys i → (p : ℕ)
     → AreAlike (process_at own p) (process_at theirs p)
 unfolding process_at
 processes_alike own theirs xs ys i alike p =
     let a = found own.table p in
     let b = found theirs.table p in
-    option_seen (processes_shared a) (processes_shared b)
-    (option_shared a ∙ tables_alike seen_shared own.table theirs.table xs ys i alike p ∙ sym (option_shared b))
+    option_seen (option_map (listed_process p) a) (option_map (listed_process p) b)
+    (option_listed p a ∙ tables_alike process_seen own.table theirs.table xs ys i alike p ∙ sym (option_listed p b))
 
 -- what is the same of a process that both list
 alike_cell : (p f : ℕ) (own theirs : Option Process) → AreAlike own theirs → cell_in own p f ≡ cell_in theirs p f

@@ -1,34 +1,31 @@
 -- How many entries a table has, and how many conditions are counted, where all keys are among some numbers.
 use Rattle.std.proofs.Common.{◌≡◌, ℕ, zero, suc, ◌+◌, ◌*◌, ◌<◌, ◌≤◌, eqb, List, [], ◌∷◌, ◌++◌, length, map}
 use Rattle.std.proofs.Common.{Option, Some, None}
-use Rattle.std.proofs.Common.{Bool, true, false, cond, refl, ap, ◌∙◌, ◌||◌, arith}
+use Rattle.std.proofs.Common.{Bool, true, false, cond, refl, sym, ap, ◌∙◌, ◌||◌, arith}
 use Rattle.std.proofs.Common.{get_or, option_map, subst, ◌&&◌, length-append}
 use Rattle.std.specs.Prelude.{is_some, nat_le}
 use Rattle.std.proofs.Math.Nat.{mul-le-mul_right, add-mul, one-mul, suc-mul}
 use Rattle.std.proofs.lemmas.Bool.{eqb-true, eq-eqb}
 use Rattle.std.proofs.lemmas.List.{length-map}
 use Rattle.std.proofs.lemmas.List.Folds.{list_any-append}
-use Rattle.std.proofs.lemmas.List.Elements.{All-head, All-tail}
+use Rattle.std.proofs.lemmas.List.Elements.{All-nil, All-cons, All-head, All-tail}
 use Rattle.std.proofs.lemmas.Bool.Decides.{nat_tests}
 use Rattle.std.proofs.lemmas.Option.{slice_get_read, get_or_from_slice_get}
-use Rattle.std.specs.declared.rc.Rc.{Rc}
-use Rattle.std.specs.declared.alloc.Global.{Global}
 use Rattle.cap_summary.specs.declared.kept.Kept.{Kept}
+use Rattle.cap_summary.specs.declared.kept.Listed.{Listed}
 use Rattle.cap_summary.specs.declared.values.Value.{Value}
 use Rattle.cap_summary.specs.declared.change.Process.{Process}
 use Rattle.cap_summary.specs.declared.tables.Cells.{Cells}
 use Rattle.cap_summary.specs.declared.tables.Processes.{Processes}
 use Rattle.cap_summary.specs.Sorted.{found, Rises, RisesFrom}
 use Rattle.cap_summary.specs.Place.{IsAt}
-use Rattle.cap_summary.specs.Tables.{listed_value, kept_values, process_at, processes_shared}
+use Rattle.cap_summary.specs.Tables.{listed_value, kept_values, process_at, listed_process}
 use Rattle.cap_summary.specs.Names.{Names, is_one, these, cell_within, ProcessWithin, ListedWithin, AreWithin}
 use Rattle.cap_summary.specs.Names.{outside_within, part_within, condition_within, ConditionsWithin}
 use Rattle.cap_summary.specs.declared.conditions.Source.{Source}
 use Rattle.cap_summary.specs.declared.conditions.Condition.{Condition}
 use Rattle.cap_summary.specs.declared.conditions.Condition.TheVariants as condition
-use Rattle.cap_summary.specs.declared.packed.Packed.{Packed}
-use Rattle.cap_summary.specs.Packed.{packed_condition, packed_conditions}
-use Rattle.cap_summary.specs.Sizes.{room, rank, part_rank, condition_rank}
+use Rattle.cap_summary.specs.Sizes.{room, rank, part_rank, condition_rank, RankWithin}
 use Rattle.cap_summary.proofs.Bools.{or_true}
 use Rattle.cap_summary.proofs.SortedFound.{found_is_at}
 use Rattle.cap_summary.proofs.Untouched.{first_true, second_true}
@@ -96,10 +93,10 @@ few_cells cells fds rises among =
 
 -- ---- processes
 
-some_within : (names : Names) (p : ℕ) (o : Option (Rc Process Global)) → is_some o ≡ true
-    → ListedWithin names p (processes_shared o) → names.pids p ≡ true
+some_within : (names : Names) (p : ℕ) (o : Option Listed) → is_some o ≡ true
+    → ListedWithin names p (option_map (listed_process p) o) → names.pids p ≡ true
 some_within names p None is within = absurd (let no : false ≡ true = is in cc)
-some_within names p (Some process) is within = within.0
+some_within names p (Some listed) is within = within.0
 
 -- no more processes are listed than may be
 pub few_processes : (processes : Processes) (pids fds : List ℕ) → Rises processes.table
@@ -112,19 +109,19 @@ few_processes processes pids fds rises within =
     omega (arith, some, all)
 
 -- the process of an entry
-pub entry_within : (names : Names) (processes : Processes) (i : ℕ) (x : ℕ × Rc Process Global) → Rises processes.table
+pub entry_within : (names : Names) (processes : Processes) (i : ℕ) (x : ℕ × Listed) → Rises processes.table
     → i < length processes.table → x ≡ get_or processes.table i x → AreWithin names processes
-    → ProcessWithin names x.1.value
+    → ProcessWithin names (listed_process x.0 x.1)
 unfolding process_at
 entry_within names processes i x rises lt at within =
     let is_at : IsAt processes.table x.0 i = record {
       in_range = lt;
-      has_key = λ d. ap (λ (e : ℕ × Rc Process Global). e.0)
+      has_key = λ d. ap (λ (e : ℕ × Listed). e.0)
           (get_or_from_slice_get processes.table i x d
           (slice_get_read processes.table (length processes.table) i x refl lt at));
     } in
     let is : found processes.table x.0 ≡ Some x.1 = found_is_at 0 processes.table x.0 i rises is_at
-    ∙ ap (λ (o : Option (ℕ × Rc Process Global)). option_map (λ entry. entry.1) o)
+    ∙ ap (λ (o : Option (ℕ × Listed)). option_map (λ entry. entry.1) o)
     (slice_get_read processes.table (length processes.table) i x refl lt at) in
     (rw is at (within x.0)).1
 
@@ -265,21 +262,41 @@ condition_ranked pids fds (condition.Refused r) is =
     part_ranked pids fds r.first (first_true (part_within (these pids fds) r.first)
     (part_within (these pids fds) r.second) parts)
 
+-- two parts of a list
+pub first_part : (names : Names) (a b : List Condition) → ConditionsWithin names (a ++ b) → ConditionsWithin names a
+first_part names [] b within = All-nil (λ condition. condition_within names condition ≡ true)
+first_part names (x ∷ rest) b within = All-cons (λ condition. condition_within names condition ≡ true) x rest
+    (All-head (λ condition. condition_within names condition ≡ true) x (rest ++ b) within)
+    (first_part names rest b (All-tail (λ condition. condition_within names condition ≡ true) x (rest ++ b) within))
+
+pub second_part : (names : Names) (a b : List Condition) → ConditionsWithin names (a ++ b) → ConditionsWithin names b
+second_part names [] b within = within
+second_part names (x ∷ rest) b within =
+    second_part names rest b (All-tail (λ condition. condition_within names condition ≡ true) x (rest ++ b) within)
+
 -- the condition at a place of a list
-pub packed_within : (names : Names) (items : List Packed) (i : ℕ) (x : Packed)
-    → ConditionsWithin names (packed_conditions items) → i < length items → x ≡ get_or items i x → condition_within names (packed_condition x) ≡ true
-packed_within names [] i x within lt at = absurd (omega (arith, lt))
-packed_within names (y ∷ rest) zero x within lt at =
-    rw at (All-head (λ condition. condition_within names condition ≡ true) (packed_condition y)
-    (packed_conditions rest) within)
-packed_within names (y ∷ rest) (suc i) x within lt at =
-    packed_within names rest i x (All-tail (λ condition. condition_within names condition ≡ true) (packed_condition y)
-    (packed_conditions rest) within) (omega (arith, lt)) at
+shown_within : {X : Type 0} (show : X → Condition) (names : Names) (items : List X) (i : ℕ) (x : X)
+    → ConditionsWithin names (map show items) → i < length items → x ≡ get_or items i x
+    → condition_within names (show x) ≡ true
+shown_within show names [] i x within lt at = absurd (omega (arith, lt))
+shown_within show names (y ∷ rest) zero x within lt at =
+    rw at (All-head (λ condition. condition_within names condition ≡ true) (show y) (map show rest) within)
+shown_within show names (y ∷ rest) (suc i) x within lt at =
+    shown_within show names rest i x (All-tail (λ condition. condition_within names condition ≡ true) (show y)
+    (map show rest) within) (omega (arith, lt)) at
+
+-- the number of the condition at a place of a list
+pub ranked : {X : Type 0} (show : X → Condition) (names : Names) (items : List X) (i : ℕ) (x : X) (n : ℕ)
+    → ConditionsWithin names (map show items) → i < length items → x ≡ get_or items i x → n ≡ condition_rank (show x)
+    → RankWithin names n
+ranked show names items i x n within lt at is = (show x, (sym is, shown_within show names items i x within lt at))
 
 -- one more is counted where its number is above those before
-pub counted_more : (count next : ℕ) (pids fds : List ℕ) (x : Condition) → next ≤ condition_rank x
-    → condition_within (these pids fds) x ≡ true → count + count_from next (ranks pids fds) ≤ length (ranks pids fds)
-    → count + 1 + count_from (condition_rank x + 1) (ranks pids fds) ≤ length (ranks pids fds)
-counted_more count next pids fds x le within before =
-    let taken = count_taken next (condition_rank x) (ranks pids fds) le (condition_ranked pids fds x within) in
+pub counted_more : (count next : ℕ) (pids fds : List ℕ) (n : ℕ) → next ≤ n → RankWithin (these pids fds) n
+    → count + count_from next (ranks pids fds) ≤ length (ranks pids fds)
+    → count + 1 + count_from (n + 1) (ranks pids fds) ≤ length (ranks pids fds)
+counted_more count next pids fds n le (x, (is, within)) before =
+    let one : is_one (ranks pids fds) n ≡ true =
+    subst (λ m. is_one (ranks pids fds) m ≡ true) is (condition_ranked pids fds x within) in
+    let taken = count_taken next n (ranks pids fds) le one in
     omega (arith, taken, before)

@@ -27,7 +27,7 @@ use Rattle.cap_machine.proofs.NamedFds.{named_effects, named_checks}
 use Rattle.cap_summary.specs.declared.change.Change.{Change}
 use Rattle.cap_summary.specs.declared.conditions.Condition.{Condition}
 use Rattle.cap_summary.specs.declared.known.Known.{Known}
-use Rattle.cap_summary.specs.Changes.{changed, JoinsTo, is_untouched, is_unturned}
+use Rattle.cap_summary.specs.Changes.{changed, JoinsTo, is_untouched, is_unturned, DoSame}
 use Rattle.cap_summary.specs.Does.{Does}
 use Rattle.cap_summary.specs.Names.{Names, AreAmong, names_in, these, ChangeWithin, ConditionsWithin, ChildWithin}
 use Rattle.cap_summary.specs.Names.{EffectWithin}
@@ -157,33 +157,46 @@ composed a b whole moved joins behind both behind_asked both_asked sized = recor
   sized = sized;
 }
 
+-- a change that does the same as that of a part, or as the whole, stands in its place
+pub joins_left : (a b whole other : Change) → JoinsTo a b whole → DoSame other a → JoinsTo other b whole
+joins_left a b whole other joins same = record {
+  changes = λ s. joins.changes s ∙ ap (λ r. changed b r) (sym (same.changes s));
+  untouched = λ p f e. ap (λ r. r && is_untouched b p f) (same.untouched p f) ∙ joins.untouched p f e;
+  unturned = λ p e. ap (λ r. r && is_unturned b p) (same.unturned p) ∙ joins.unturned p e;
+  names = λ names first second. joins.names names ((same.names names).0 first) second;
+}
+
+pub joins_right : (a b whole other : Change) → JoinsTo a b whole → DoSame other b → JoinsTo a other whole
+joins_right a b whole other joins same = record {
+  changes = λ s. joins.changes s ∙ sym (same.changes (changed a s));
+  untouched = λ p f e. ap (λ r. is_untouched a p f && r) (same.untouched p f) ∙ joins.untouched p f e;
+  unturned = λ p e. ap (λ r. is_unturned a p && r) (same.unturned p) ∙ joins.unturned p e;
+  names = λ names first second. joins.names names first ((same.names names).0 second);
+}
+
+joins_whole : (a b whole other : Change) → JoinsTo a b whole → DoSame other whole → JoinsTo a b other
+joins_whole a b whole other joins same = record {
+  changes = λ s. same.changes s ∙ joins.changes s;
+  untouched = λ p f e. joins.untouched p f (sym (same.untouched p f) ∙ e);
+  unturned = λ p e. joins.unturned p (sym (same.unturned p) ∙ e);
+  names = λ names first second. (same.names names).1 (joins.names names first second);
+}
+
 -- one that is like a part, or like the whole, stands in its place
 pub composed_left : (a b whole other : Known) → Composes a b whole → IsLike other a → Composes other b whole
 composed_left a b whole other composes like = record {
-  changes = record {
-    changes = λ s. composes.changes.changes s ∙ ap (λ r. changed b.change r) (sym (like.changes s));
-    untouched = λ p f e. ap (λ r. r && is_untouched b.change p f) (like.untouched p f)
-        ∙ composes.changes.untouched p f e;
-    unturned = λ p e. ap (λ r. r && is_unturned b.change p) (like.unturned p) ∙ composes.changes.unturned p e;
-    names = λ names first second. composes.changes.names names ((like.names names).0 first) second;
-  };
+  changes = joins_left a.change b.change whole.change other.change composes.changes like.change;
   found = λ s. composes.found s
       ∙ ap (λ (r : List Condition). any_holds s r || any_holds (changed a.change s) b.conditions) (sym like.conditions)
-      ∙ ap (λ r. any_holds s other.conditions || any_holds r b.conditions) (sym (like.changes s));
-  asked = λ names change first second. composes.asked names ((like.names names).0 change)
+      ∙ ap (λ r. any_holds s other.conditions || any_holds r b.conditions) (sym (like.change.changes s));
+  asked = λ names change first second. composes.asked names ((like.change.names names).0 change)
       (subst (ConditionsWithin names) like.conditions first) second;
   sized = composes.sized;
 }
 
 pub composed_right : (a b whole other : Known) → Composes a b whole → IsLike other b → Composes a other whole
 composed_right a b whole other composes like = record {
-  changes = record {
-    changes = λ s. composes.changes.changes s ∙ sym (like.changes (changed a.change s));
-    untouched = λ p f e. ap (λ r. is_untouched a.change p f && r) (like.untouched p f)
-        ∙ composes.changes.untouched p f e;
-    unturned = λ p e. ap (λ r. is_unturned a.change p && r) (like.unturned p) ∙ composes.changes.unturned p e;
-    names = λ names first second. composes.changes.names names first ((like.names names).0 second);
-  };
+  changes = joins_right a.change b.change whole.change other.change composes.changes like.change;
   found = λ s. composes.found s
       ∙ ap (λ (r : List Condition). any_holds s a.conditions || any_holds (changed a.change s) r) (sym like.conditions);
   asked = λ names change first second. composes.asked names change first
@@ -194,17 +207,13 @@ composed_right a b whole other composes like = record {
 pub composed_whole : (a b whole other : Known) → Composes a b whole → IsLike other whole → other.met ≡ whole.met
     → other.size ≡ whole.size → Composes a b other
 composed_whole a b whole other composes like met size = record {
-  changes = record {
-    changes = λ s. like.changes s ∙ composes.changes.changes s;
-    untouched = λ p f e. composes.changes.untouched p f (sym (like.untouched p f) ∙ e);
-    unturned = λ p e. composes.changes.unturned p (sym (like.unturned p) ∙ e);
-    names = λ names first second. (like.names names).1 (composes.changes.names names first second);
-  };
+  changes = joins_whole a.change b.change whole.change other.change composes.changes like.change;
   found = λ s. ap (λ r. r || any_holds s other.conditions) met
       ∙ ap (λ (r : List Condition). whole.met || any_holds s r) like.conditions ∙ composes.found s;
   asked = λ names change first second. subst (ConditionsWithin names) (sym like.conditions)
       (composes.asked names change first second);
-  sized = λ pids fds change conditions. rw size (composes.sized pids fds ((like.names (these pids fds)).0 change)
+  sized = λ pids fds change conditions. rw size
+      (composes.sized pids fds ((like.change.names (these pids fds)).0 change)
       (subst (ConditionsWithin (these pids fds)) like.conditions conditions));
 }
 

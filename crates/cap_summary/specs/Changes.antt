@@ -1,5 +1,5 @@
 -- What becomes of each cell and mode over a segment, whatever the state before it.
-use Rattle.std.specs.Prelude.{◌≡◌, ℕ, Option, None, unwrap_or, is_some, IsSomeAnd, MatchOption, ◌&&◌, not, Bool, true}
+use Rattle.std.specs.Prelude.{◌≡◌, ◌↔◌, ℕ, Option, None, unwrap_or, is_some, IsSomeAnd, MatchOption, ◌&&◌, not, Bool, true}
 use Rattle.std.specs.Option.{option_map_or}
 use Rattle.cap_machine.specs.State.{State}
 use Rattle.cap_machine.specs.Op.{same}
@@ -77,6 +77,13 @@ pub record JoinsTo (a b c : Change) : Type 0 where
   pub untouched : (p f : ℕ) → is_untouched c p f ≡ true → (is_untouched a p f && is_untouched b p f) ≡ true
   pub unturned : (p : ℕ) → is_unturned c p ≡ true → (is_unturned a p && is_unturned b p) ≡ true
   pub names : (names : Names) → ChangeWithin names a → ChangeWithin names b → ChangeWithin names c
+
+-- two changes that do the same, leave the same untouched and name the same
+pub record DoSame (a b : Change) : Type 0 where
+  pub changes : (s : State) → changed a s ≡ changed b s
+  pub untouched : (p f : ℕ) → is_untouched a p f ≡ is_untouched b p f
+  pub unturned : (p : ℕ) → is_unturned a p ≡ is_unturned b p
+  pub names : (names : Names) → ChangeWithin names a ↔ ChangeWithin names b
 
 -- two processes with the same listed cells, the same base and the same mode
 pub record IsSame (d e : Process) : Type 0 where

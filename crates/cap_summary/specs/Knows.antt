@@ -1,12 +1,12 @@
 -- What is known of a segment of a trace, under every state before it.
-use Rattle.std.specs.Prelude.{◌≡◌, ◌↔◌, ℕ, List, Bool, true, ◌||◌}
+use Rattle.std.specs.Prelude.{◌≡◌, ℕ, List, Bool, true, ◌||◌}
 use Rattle.cap_machine.specs.declared.step.Step.{Step}
 use Rattle.cap_machine.specs.State.{State}
 use Rattle.cap_machine.specs.History.{ended}
 use Rattle.cap_machine.specs.Check.{check}
 use Rattle.cap_machine.specs.Walks.{LeavesCell, LeavesMode}
 use Rattle.cap_summary.specs.declared.known.Known.{Known}
-use Rattle.cap_summary.specs.Changes.{changed, is_untouched, is_unturned, JoinsTo}
+use Rattle.cap_summary.specs.Changes.{changed, is_untouched, is_unturned, JoinsTo, DoSame}
 use Rattle.cap_summary.specs.Names.{Names, names_in, ChangeWithin, ConditionsWithin}
 use Rattle.cap_summary.specs.Sizes.{IsSized}
 use Rattle.cap_summary.specs.Conditions.{any_holds, has_any}
@@ -53,8 +53,5 @@ pub record Composes (a b whole : Known) : Type 0 where
 
 -- the same changes and conditions, which name the same
 pub record IsLike (a b : Known) : Type 0 where
-  pub changes : (s : State) → changed a.change s ≡ changed b.change s
+  pub change : DoSame a.change b.change
   pub conditions : a.conditions ≡ b.conditions
-  pub untouched : (p f : ℕ) → leaves_cell a p f ≡ leaves_cell b p f
-  pub unturned : (p : ℕ) → leaves_mode a p ≡ leaves_mode b p
-  pub names : (names : Names) → ChangeWithin names a.change ↔ ChangeWithin names b.change

@@ -5,8 +5,11 @@ use Rattle.cap_summary.specs.declared.conditions.Source.{Source}
 use Rattle.cap_summary.specs.declared.conditions.Condition.{Condition}
 use Rattle.cap_summary.specs.declared.conditions.Condition.TheVariants as condition
 use Rattle.cap_summary.specs.declared.packed.Lack.{Lack}
+use Rattle.cap_summary.specs.declared.packed.Low.{Low}
 use Rattle.cap_summary.specs.declared.packed.Packed.{Packed}
 use Rattle.cap_summary.specs.declared.packed.Packed.TheVariants as packed
+use Rattle.cap_summary.specs.declared.packed.Item.{Item}
+use Rattle.cap_summary.specs.declared.packed.Item.TheVariants as item
 
 -- a cell that lacks rights, or is closed where that is asked for
 abbrev pub lacking : Bool → Lack → Source
@@ -33,3 +36,15 @@ packed_condition (packed.Refused r) = condition.Refused r.value
 
 abbrev pub packed_conditions : List Packed → List Condition
 packed_conditions items = map packed_condition items
+
+-- that the cell is held and lacks rights, or also that it is closed
+abbrev pub low_condition : Low → Condition
+low_condition low = condition.Cell (lacking low.closed (record { pid = low.pid; fd = low.fd; rights = low.rights }))
+
+abbrev pub low_conditions : List Low → List Condition
+low_conditions lows = map low_condition lows
+
+-- the condition that stands at a place of a list
+abbrev pub item_condition : Item → Condition
+item_condition (item.Low low) = low_condition low
+item_condition (item.Other p) = packed_condition p.now

@@ -1,12 +1,12 @@
 -- How much is listed at most, by how many processes and descriptors are named.
-use Rattle.std.specs.Prelude.{ℕ, ◌+◌, ◌*◌, ◌<◌, ◌≤◌, List, length, Option, Some, None}
+use Rattle.std.specs.Prelude.{◌≡◌, true, ℕ, ◌+◌, ◌*◌, ◌<◌, ◌≤◌, List, length, Option, Some, None}
 use Rattle.cap_machine.specs.declared.step.Step.{Step}
 use Rattle.cap_summary.specs.declared.conditions.Source.{Source}
 use Rattle.cap_summary.specs.declared.conditions.Condition.{Condition}
 use Rattle.cap_summary.specs.declared.conditions.Condition.TheVariants as condition
 use Rattle.cap_summary.specs.declared.change.Change.{Change}
 use Rattle.cap_summary.specs.declared.known.Known.{Known}
-use Rattle.cap_summary.specs.Names.{names_in, AreAmong, these, ChangeWithin, ConditionsWithin}
+use Rattle.cap_summary.specs.Names.{Names, condition_within, names_in, AreAmong, these, ChangeWithin, ConditionsWithin}
 
 -- these processes, each with the cells of these descriptors
 abbrev pub room : List ℕ → List ℕ → ℕ
@@ -31,6 +31,10 @@ condition_rank (condition.Inside p) = rank 0 p 0
 condition_rank (condition.Outside p) = rank 1 p 0
 condition_rank (condition.Cell x) = rank 2 x.pid x.fd
 condition_rank (condition.Refused r) = part_rank r.first
+
+-- a number is that of a condition that asks about these alone
+abbrev pub RankWithin : Names → ℕ → Type 0
+RankWithin names n = (x : Condition) × ((condition_rank x ≡ n) × (condition_within names x ≡ true))
 
 -- a number is at most what these processes and descriptors allow where a change and conditions name only these
 abbrev pub IsSizeOf : ℕ → Change → List Condition → Type 0

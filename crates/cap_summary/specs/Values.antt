@@ -1,5 +1,5 @@
 -- What a cell or a mode is after a segment, read under the state before it.
-use Rattle.std.specs.Prelude.{ℕ, ◌==◌, ◌&&◌, not, Bool, false, Option, Some, None, nat_le, if◌then◌else◌}
+use Rattle.std.specs.Prelude.{ℕ, ◌==◌, ◌&&◌, not, Bool, true, false, Option, Some, None, nat_le, if◌then◌else◌}
 use Rattle.cap_machine.specs.declared.cell.Cell.{Cell}
 use Rattle.cap_machine.specs.declared.cell.Cell.TheVariants.{Unknown, Closed}
 use Rattle.cap_machine.specs.declared.cell.Mode.{Mode}
@@ -59,6 +59,10 @@ abbrev pub are_of : Others → ℕ → Bool
 are_of rest.Unknown p = false
 are_of rest.Closed p = false
 are_of (rest.Of q passing) p = q == p
+
+-- a process's own cells, which no step touched
+abbrev pub own_base : ℕ → Base
+own_base p = record { others = rest.Of p passings.Same; closed_from = None; own = true }
 
 -- no step of the segment touched a cell of process p that isn't listed and has this base
 abbrev pub rest_untouched : Base → ℕ → ℕ → Bool

@@ -1,14 +1,11 @@
 //! Whether two changes are alike, and the parts of what a table or a list of conditions keeps. Entries are compared one
 //! by one, up to the first that differs; nothing is allocated.
 
-ghost use Rattle.std.specs.Prelude.{◌≡◌, ℕ, true};
-ghost use Rattle.cap_machine.specs.State.{State};
-ghost use Rattle.std.specs.Prelude.{◌↔◌};
-ghost use Rattle.cap_summary.specs.Tables.{kept_value};
-ghost use Rattle.cap_summary.specs.Changes.{changed, is_untouched, is_unturned, IsSame};
-ghost use Rattle.cap_summary.specs.Names.{Names, ChangeWithin};
+ghost use Rattle.std.specs.Prelude.{◌≡◌, true};
+ghost use Rattle.cap_summary.specs.Tables.{kept_value, process_of};
+ghost use Rattle.cap_summary.specs.Changes.{IsSame, DoSame};
 
-use crate::change::{Change, Process};
+use crate::change::{Change, ProcessRef};
 use crate::conditions::{CellTest, HeldTest, Refused, Source};
 use crate::kept::{Kept, Taken};
 use crate::values::Base;
@@ -110,24 +107,21 @@ impl Kept {
     }
 }
 
-impl Process {
+impl ProcessRef<'_> {
     /// Whether another one lists the same cells, and has the same base and the same mode. No is a safe answer.
-    pub(crate) fn is_like(&self, other: &Process) -> bool
-        ensures { result ≡ true → IsSame self.now other.now }
+    pub(crate) fn is_like(&self, other: &ProcessRef<'_>) -> bool
+        ensures { result ≡ true → IsSame (process_of self.now) (process_of other.now) }
     {
         self.mode == other.mode
             && equal_bases(&self.base, &other.base)
-            && self.cells.is_like(&other.cells)
+            && self.cells.is_like(other.cells)
     }
 }
 
 impl Change {
     /// Whether another change does the same and names the same, by comparing their entries. No is a safe answer.
     pub(crate) fn is_like(&self, other: &Change) -> bool
-        ensures changes { result ≡ true → (s : State) → changed self.now s ≡ changed other.now s }
-        ensures untouched { result ≡ true → (p f : ℕ) → is_untouched self.now p f ≡ is_untouched other.now p f }
-        ensures unturned { result ≡ true → (p : ℕ) → is_unturned self.now p ≡ is_unturned other.now p }
-        ensures names { result ≡ true → (names : Names) → ChangeWithin names self.now ↔ ChangeWithin names other.now }
+        ensures { result ≡ true → DoSame self.now other.now }
     {
         self.processes.is_like(&other.processes)
     }

@@ -13,9 +13,10 @@ ghost use Rattle.cap_summary.specs.Conditions.{any_holds};
 
 use crate::change::{Change, Near};
 use crate::conditions::{Condition, Refused, Source};
+use crate::kept::Seen;
 use crate::known::Known;
 use crate::packed::Conditions;
-use crate::values::{ModeValue, Value};
+use crate::values::ModeValue;
 use cap_machine::{
     Cell, Checks, Demand, Effect, Found, Mode, Start, Step, Touched, Turned, Verdict, rule_of,
 };
@@ -39,9 +40,10 @@ impl<'a> Before<'a> {
         match self {
             Before::At(start) => start.cell(pid, fd),
             Before::After(before, change) => match change.seen(pid, fd, &mut Near::first()) {
-                None => before.cell(pid, fd),
-                Some(Value::Fixed(cell)) => cell,
-                Some(Value::Of(source, of, op)) => op.on(before.cell(source, of)),
+                Seen::Same => before.cell(pid, fd),
+                Seen::Fixed(cell) => cell,
+                Seen::Taken(taken) => taken.op.on(before.cell(taken.pid, taken.fd)),
+                Seen::Passed(source, passing) => passing.op().on(before.cell(source, fd)),
             },
             Before::Behind(before, me, effect) => match effect.touch(*me, pid, fd) {
                 Touched::Kept => before.cell(pid, fd),

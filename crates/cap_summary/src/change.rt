@@ -7,16 +7,17 @@ ghost use Rattle.cap_summary.specs.Values.{read_cell, read_mode, unlisted, rest_
 ghost use Rattle.cap_summary.specs.Changes.{value_at, value_in, value_of, mode_of, changed, JoinsProcess, JoinsTo};
 ghost use Rattle.cap_summary.specs.Changes.{untouched_at, is_untouched, is_unturned};
 ghost use Rattle.cap_summary.specs.Images.{under};
-ghost use Rattle.cap_summary.specs.Tables.{listed_value, process_at};
+ghost use Rattle.cap_summary.specs.Tables.{listed_value, process_at, listed_process, process_of};
+ghost use Rattle.cap_summary.specs.Tables.{seen_value};
 ghost use Rattle.cap_summary.specs.Names.{Names, cell_within, others_within, mode_within, these, ChangeWithin};
 
+use crate::kept::{Listed, Seen};
 use crate::tables::{Cells, Processes};
 use crate::values::{Base, ModeValue, Others, Value, lower_of};
 use cap_machine::Op;
 use cap_trace::{Fd, Pid};
 use cap_tree::NoMemory;
 use std::alloc::Global;
-use std::rc::Rc;
 
 /// What has become of a process: its listed cells, all its others, and its mode.
 #[derive(Drop)]
@@ -24,6 +25,14 @@ pub struct Process {
     pub(crate) base: Base,
     pub(crate) mode: ModeValue,
     pub(crate) cells: Cells,
+}
+
+/// What has become of a process that a table lists.
+#[derive(Clone, Copy)]
+pub(crate) struct ProcessRef<'a> {
+    pub(crate) base: Base,
+    pub(crate) mode: ModeValue,
+    pub(crate) cells: &'a Cells,
 }
 
 /// Where an earlier look-up ended, which the next one looks at first.
@@ -49,10 +58,10 @@ pub struct Change {
     pub(crate) processes: Processes,
 }
 
-impl Process {
+impl ProcessRef<'_> {
     /// The cell of a descriptor.
     pub(crate) fn value(&self, fd: Fd) -> Value
-        ensures { result ≡ value_in self.now fd }
+        ensures { result ≡ value_in (process_of self.now) fd }
     {
         match self.cells.get(fd) {
             Some(value) => value,
@@ -62,39 +71,16 @@ impl Process {
 
     /// Whether no line touched a cell of the process with this pid. One that is listed counts as touched.
     pub(crate) fn is_untouched(&self, pid: Pid, fd: Fd) -> bool
-        ensures { result ≡ untouched_at self.now.base self.now.cells pid fd }
+        ensures { result ≡ untouched_at self.now.base self.now.cells.now pid fd }
     {
         self.base.is_untouched(pid, fd) && !self.cells.lists(fd)
     }
 }
 
-impl Process {
-    /// Whether a cell of the process with this pid is as it was. No is a safe answer.
-    fn leaves(&self, pid: Pid, fd: Fd, near: &mut usize) -> bool
-        ensures { result ≡ true → value_in self.now fd ≡ Value.Of pid fd same }
-    {
-        !self.cells.lists_near(fd, near) && self.base.leaves(pid, fd)
-    }
-
-    /// What has become of a descriptor of the process with this pid; none only where it is as it was.
-    fn seen(&self, pid: Pid, fd: Fd, near: &mut usize) -> Option<Value>
-        ensures some { IfSome result (λ v. value_in self.now fd ≡ v) }
-        ensures none { IfNone result (value_in self.now fd ≡ Value.Of pid fd same) }
-    {
-        match self.cells.get_near(fd, near) {
-            Some(value) => Some(value),
-            None => {
-                if self.base.leaves(pid, fd) {
-                    return None;
-                }
-                Some(self.base.value(fd))
-            }
-        }
-    }
-
+impl ProcessRef<'_> {
     /// Whether it stands behind a change as it is. No is a safe answer.
     pub(crate) fn stays_behind(&self, change: &Change) -> bool
-        ensures { result ≡ true → JoinsProcess change.now self.now self.now }
+        ensures { result ≡ true → JoinsProcess change.now (process_of self.now) (process_of self.now) }
     {
         if !change.leaves_base(&self.base) {
             return false;
@@ -187,15 +173,14 @@ impl Change {
         }
     }
 
-    /// What has become of a descriptor of a process; none only where it is as it was. It looks for the process
-    /// first where an earlier look-up ended, and notes where this one did.
-    pub(crate) fn seen(&self, pid: Pid, fd: Fd, near: &mut Near) -> Option<Value>
-        ensures some { IfSome result (λ v. value_of self.now pid fd ≡ v) }
-        ensures none { IfNone result (value_of self.now pid fd ≡ Value.Of pid fd same) }
+    /// What has become of a descriptor of a process. It looks for the process first where an earlier look-up ended, and
+    /// notes where this one did.
+    pub(crate) fn seen(&self, pid: Pid, fd: Fd, near: &mut Near) -> Seen<'_>
+        ensures { seen_value pid fd result ≡ value_of self.now pid fd }
     {
         match self.processes.get_near(pid, &mut near.process) {
-            Some(process) => process.seen(pid, fd, &mut near.cell),
-            None => None,
+            Some(listed) => listed.seen(pid, fd, &mut near.cell),
+            None => Seen::Same,
         }
     }
 
@@ -204,7 +189,7 @@ impl Change {
         ensures { result ≡ true → value_of self.now pid fd ≡ Value.Of pid fd same }
     {
         match self.processes.get_near(pid, &mut near.process) {
-            Some(process) => process.leaves(pid, fd, &mut near.cell),
+            Some(listed) => listed.leaves(pid, fd, &mut near.cell),
             None => true,
         }
     }
@@ -218,7 +203,7 @@ impl Change {
     {
         match base.others {
             Others::Unknown | Others::Closed => true,
-            Others::Of(pid, _) => self.processes.get(pid).is_none(),
+            Others::Of(pid, _) => !self.processes.lists(pid),
         }
     }
 
@@ -229,7 +214,7 @@ impl Change {
     {
         match mode {
             ModeValue::Fixed(_) => true,
-            ModeValue::Of(pid) | ModeValue::Own(pid) => self.processes.get(*pid).is_none(),
+            ModeValue::Of(pid) | ModeValue::Own(pid) => !self.processes.lists(*pid),
         }
     }
 
@@ -262,11 +247,11 @@ impl Change {
     }
 
     /// A process that stands behind this change.
-    fn process_under(&self, alloc: Global, process: &Process) -> Result<Process, NoMemory>
-        ensures { IfOk result (λ new. JoinsProcess self.now process.now new) }
+    fn process_under(&self, alloc: Global, process: &ProcessRef<'_>) -> Result<Process, NoMemory>
+        ensures { IfOk result (λ new. JoinsProcess self.now (process_of process.now) new) }
     {
         let (base, first) = self.base_under(alloc, &process.base)?;
-        let cells = first.under(alloc, &process.cells, self)?;
+        let cells = first.under(alloc, process.cells, self)?;
         Ok(Process {
             base,
             mode: self.mode_under(&process.mode),
@@ -276,25 +261,28 @@ impl Change {
 
     /// The same change, shared.
     pub(crate) fn share(&self) -> Result<Change, NoMemory>
-        ensures { IfOk result (λ new. (p : ℕ) → process_at new.processes p ≡ process_at self.now.processes p) }
+        ensures { IfOk result (λ same. same ≡ self.now) }
     {
         let processes = self.processes.share()?;
         Ok(Change { processes })
     }
 
-    /// The same, shared where it stays as it is.
+    /// What has become of a process that stands behind this change, shared where it stays as it is.
     pub(crate) fn shared_under(
         &self,
         alloc: Global,
-        process: &Rc<Process>,
-    ) -> Result<Rc<Process>, NoMemory>
-        ensures { IfOk result (λ new. JoinsProcess self.now process.now.value new.value) }
+        pid: Pid,
+        listed: &Listed,
+    ) -> Result<Listed, NoMemory>
+        ensures { IfOk result
+            (λ new. JoinsProcess self.now (listed_process pid listed.now) (listed_process pid new)) }
     {
+        let process = listed.process(pid);
         if process.stays_behind(self) {
-            return Ok(process.clone()?);
+            return listed.share();
         }
-        let new = self.process_under(alloc, process)?;
-        Ok(Rc::new(alloc, new)?)
+        let new = self.process_under(alloc, &process)?;
+        Listed::of(alloc, pid, new)
     }
 
     /// What this change and then another do. What the one leaves of the other as it is, is shared.

@@ -1,12 +1,16 @@
 //! What tables keep, and what becomes of it where two are made one.
 
 ghost use Rattle.std.specs.Prelude.{◌≡◌, ℕ, true, IfOk, option_map, option_and_then};
-ghost use Rattle.cap_summary.specs.Tables.{kept_value};
+ghost use Rattle.cap_summary.specs.Tables.{kept_value, seen_value, listed_process, process_of};
 ghost use Rattle.cap_summary.specs.Images.{under};
+ghost use Rattle.cap_summary.specs.Values.{unlisted};
+ghost use Rattle.cap_summary.specs.Changes.{value_in};
+ghost use Rattle.cap_machine.specs.Op.{same};
 
-use crate::change::{Change, Near, Process};
+use crate::change::{Change, Near, Process, ProcessRef};
 use crate::sorted::Combine;
-use crate::values::{Passing, Value, is_closed};
+use crate::tables::Cells;
+use crate::values::{Base, ModeValue, Passing, Value, is_closed};
 use cap_machine::{Cell, OnExec, Op};
 use cap_rights::RightSet;
 use cap_trace::{Fd, Pid};
@@ -20,6 +24,19 @@ pub(crate) struct Taken {
     pub(crate) pid: Pid,
     pub(crate) fd: Fd,
     pub(crate) op: Op,
+}
+
+/// What has become of the cell of a descriptor of a process.
+#[derive(Clone, Copy)]
+pub(crate) enum Seen<'a> {
+    /// It is as it was.
+    Same,
+    /// It is this cell.
+    Fixed(Cell),
+    /// It is what an op makes of a cell.
+    Taken(&'a Taken),
+    /// It is the cell of the same descriptor of this process, handed on so.
+    Passed(Pid, Passing),
 }
 
 /// A value as a table keeps it, in few bytes: a cell by its kind and flag, and else shared.
@@ -80,6 +97,21 @@ impl Kept {
             Kept::Clear(rights) => Value::Fixed(Cell::Held(*rights, OnExec::Clear)),
             Kept::Unsure(rights) => Value::Fixed(Cell::Held(*rights, OnExec::Unsure)),
             Kept::Of(taken) => Value::Of(taken.pid, taken.fd, taken.op),
+        }
+    }
+
+    /// The same, to be looked at.
+    #[inline]
+    fn seen(&self) -> Seen<'_>
+        ensures { (p f : ℕ) → seen_value p f result ≡ kept_value self.now }
+    {
+        match self {
+            Kept::Unknown => Seen::Fixed(Cell::Unknown),
+            Kept::Closed => Seen::Fixed(Cell::Closed),
+            Kept::Set(rights) => Seen::Fixed(Cell::Held(*rights, OnExec::Set)),
+            Kept::Clear(rights) => Seen::Fixed(Cell::Held(*rights, OnExec::Clear)),
+            Kept::Unsure(rights) => Seen::Fixed(Cell::Held(*rights, OnExec::Unsure)),
+            Kept::Of(taken) => Seen::Taken(taken),
         }
     }
 
@@ -205,6 +237,104 @@ impl Combine for Moving<'_> {
     ghost neither = { λ s f. refl };
 }
 
+/// What has become of a process, as a table keeps it by its pid.
+#[derive(Drop)]
+pub(crate) enum Listed {
+    /// These cells are listed. All others are the process's own, and so is its mode, as no line touched them.
+    Own(Cells),
+    /// Anything else, shared.
+    Other(Rc<Process>),
+}
+
+impl Listed {
+    /// What has become of the process with this pid, to be kept.
+    pub(crate) fn of(alloc: Global, pid: Pid, process: Process) -> Result<Listed, NoMemory>
+        ensures { IfOk result (λ new. listed_process pid new ≡ process) }
+    {
+        if process.base.is_all_own(pid) && process.mode.is_own(pid) {
+            return Ok(Listed::Own(process.cells));
+        }
+        Ok(Listed::Other(Rc::new(alloc, process)?))
+    }
+
+    /// What has become of the process with this pid.
+    #[inline(always)]
+    pub(crate) fn process(&self, pid: Pid) -> ProcessRef<'_>
+        ensures { process_of result ≡ listed_process pid self.now }
+    {
+        match self {
+            Listed::Own(cells) => ProcessRef {
+                base: Base::own(pid),
+                mode: ModeValue::Own(pid),
+                cells,
+            },
+            Listed::Other(process) => ProcessRef {
+                base: process.base,
+                mode: process.mode,
+                cells: &process.cells,
+            },
+        }
+    }
+
+    /// The cells that are listed.
+    #[inline]
+    fn cells(&self) -> &Cells
+        ensures { (p : ℕ) → result.now ≡ (listed_process p self.now).cells }
+    {
+        match self {
+            Listed::Own(cells) => cells,
+            Listed::Other(process) => &process.cells,
+        }
+    }
+
+    /// What has become of a descriptor that isn't listed.
+    #[inline]
+    fn seen_unlisted(&self, pid: Pid, fd: Fd) -> Seen<'_>
+        ensures { seen_value pid fd result ≡ unlisted (listed_process pid self.now).base fd }
+    {
+        match self {
+            Listed::Own(_) => Seen::Same,
+            Listed::Other(process) => process.base.seen(pid, fd),
+        }
+    }
+
+    /// What has become of a descriptor of the process with this pid. It looks for it first where an earlier look-up
+    /// ended, and notes where this one did.
+    #[inline]
+    pub(crate) fn seen(&self, pid: Pid, fd: Fd, near: &mut usize) -> Seen<'_>
+        ensures { seen_value pid fd result ≡ value_in (listed_process pid self.now) fd }
+    {
+        match self.cells().get_near(fd, near) {
+            Some(kept) => kept.seen(),
+            None => self.seen_unlisted(pid, fd),
+        }
+    }
+
+    /// Whether a cell of the process with this pid is as it was. No is a safe answer.
+    #[inline]
+    pub(crate) fn leaves(&self, pid: Pid, fd: Fd, near: &mut usize) -> bool
+        ensures { result ≡ true → value_in (listed_process pid self.now) fd ≡ Value.Of pid fd same }
+    {
+        if self.cells().lists_near(fd, near) {
+            return false;
+        }
+        match self.seen_unlisted(pid, fd) {
+            Seen::Same => true,
+            _ => false,
+        }
+    }
+
+    /// The same, shared.
+    pub(crate) fn share(&self) -> Result<Listed, NoMemory>
+        ensures { IfOk result (λ same. (p : ℕ) → listed_process p same ≡ listed_process p self.now) }
+    {
+        match self {
+            Listed::Own(cells) => Ok(Listed::Own(cells.share()?)),
+            Listed::Other(process) => Ok(Listed::Other(process.clone()?)),
+        }
+    }
+}
+
 /// Processes, and over them others that stand behind a change.
 #[derive(Clone, Copy)]
 pub(crate) struct Joining<'a> {
@@ -212,44 +342,34 @@ pub(crate) struct Joining<'a> {
 }
 
 impl Combine for Joining<'_> {
-    type Left = Rc<Process>;
+    type Left = Listed;
 
-    type Right = Rc<Process>;
+    type Right = Listed;
 
-    type Out = Rc<Process>;
+    type Out = Listed;
 
     ghost use Rattle.std.specs.Prelude.{refl};
-    ghost use Rattle.cap_summary.specs.Tables.{processes_shared};
+    ghost use Rattle.cap_summary.specs.Tables.{listed_process};
     ghost use Rattle.cap_summary.specs.Changes.{JoinsListed};
 
-    ghost gives = { λ s p left right out.
-        JoinsListed s.change.now (processes_shared left) (processes_shared right) (processes_shared out) };
+    ghost gives = { λ s p left right out. JoinsListed s.change.now (option_map (listed_process p) left)
+        (option_map (listed_process p) right) (option_map (listed_process p) out) };
 
-    fn left(
-        &self,
-        _alloc: Global,
-        _pid: u32,
-        left: &Rc<Process>,
-    ) -> Result<Option<Rc<Process>>, NoMemory> {
-        Ok(Some(left.clone()?))
+    fn left(&self, _alloc: Global, _pid: u32, left: &Listed) -> Result<Option<Listed>, NoMemory> {
+        Ok(Some(left.share()?))
     }
 
-    fn right(
-        &self,
-        alloc: Global,
-        _pid: u32,
-        right: &Rc<Process>,
-    ) -> Result<Option<Rc<Process>>, NoMemory> {
-        Ok(Some(self.change.shared_under(alloc, right)?))
+    fn right(&self, alloc: Global, pid: u32, right: &Listed) -> Result<Option<Listed>, NoMemory> {
+        Ok(Some(self.change.shared_under(alloc, pid, right)?))
     }
 
     fn both(
         &self,
         alloc: Global,
         pid: u32,
-        _left: &Rc<Process>,
-        right: &Rc<Process>,
-    ) -> Result<Option<Rc<Process>>, NoMemory> {
+        _left: &Listed,
+        right: &Listed,
+    ) -> Result<Option<Listed>, NoMemory> {
         self.right(alloc, pid, right)
     }
 

@@ -2,6 +2,7 @@
 
 ghost use Rattle.std.specs.Prelude.{◌≡◌, ◌∷◌, [], ◌||◌, true, IfOk, IfSome};
 ghost use Rattle.cap_machine.specs.Table.{start_state};
+ghost use Rattle.cap_summary.specs.Changes.{JoinsTo};
 ghost use Rattle.cap_summary.specs.Sizes.{IsSizeOf, IsSized, ListMuch};
 ghost use Rattle.cap_summary.specs.Knows.{Knows, Composes, IsLike, finds, state_after, leaves_cell, leaves_mode};
 
@@ -92,12 +93,12 @@ impl Known {
         both.saturating_add(b.change.processes.copied(&a.change)) > LARGE
     }
 
-    /// A segment and then another.
-    pub(crate) fn join(alloc: Global, a: &Known, b: &Known) -> Result<Known, NoMemory>
+    /// A segment and then another, whose changes together are this one.
+    fn over(alloc: Global, change: Change, a: &Known, b: &Known) -> Result<Known, NoMemory>
+        requires { JoinsTo a.now.change b.now.change change }
         ensures composed { IfOk result (λ whole. Composes a.now b.now whole) }
         ensures always { IfOk result (λ whole. whole.always ≡ (a.now.always || (b.now.always || whole.met))) }
     {
-        let change = a.change.join(alloc, &b.change)?;
         let (met, moved) = a.change.behind(alloc, &b.conditions)?;
         let conditions = merged(alloc, &a.conditions, &moved)?;
         let (size, forks) = size_of(&change, &conditions);
@@ -111,11 +112,14 @@ impl Known {
         })
     }
 
-    /// Whether another has the same change and conditions. No is a safe answer.
-    fn is_like(&self, other: &Known) -> bool
-        ensures { result ≡ true → IsLike self.now other.now }
+    /// A segment and then another.
+    pub(crate) fn join(alloc: Global, a: &Known, b: &Known) -> Result<Known, NoMemory>
+        ensures composed { IfOk result (λ whole. Composes a.now b.now whole) }
+        ensures always { IfOk result (λ whole. whole.always ≡ (a.now.always || (b.now.always || whole.met))) }
     {
-        self.conditions.is_like(&other.conditions) && self.change.is_like(&other.change)
+        let change = a.change.join(alloc, &b.change)?;
+        let whole = Known::over(alloc, change, a, b)?;
+        Ok(whole)
     }
 
     /// The same change and conditions, where something is found in any case or not.
@@ -139,8 +143,8 @@ impl Known {
         Ok(Rc::new(alloc, known)?)
     }
 
-    /// What is known of another segment and then the second, as `whole` is of the first and the second; none where the
-    /// other isn't like the first.
+    /// What is known of another segment and then the second, as `whole` is of the first and the second. What the other
+    /// leaves as it was is shared. None where the other's change isn't like the first's, or both may be too large.
     pub(crate) fn with_left(
         alloc: Global,
         whole: &Rc<Known>,
@@ -148,21 +152,30 @@ impl Known {
         second: &Known,
         other: &Known,
     ) -> Result<Option<Rc<Known>>, NoMemory>
-        requires { Composes first.now second.now whole.now.value }
+        requires composed { Composes first.now second.now whole.now.value }
+        requires other { IsSized other.now }
+        requires second { IsSized second.now }
         ensures composed { IfOk result (λ o. IfSome o (λ new. Composes other.now second.now new.value)) }
         ensures always { IfOk result (λ o. IfSome o
             (λ new. new.value.always ≡ (other.now.always || (second.now.always || new.value.met)))) }
     {
-        if !other.is_like(first) {
+        if !other.change.is_like(&first.change) {
             return Ok(None);
         }
-        let always = one_of(other.always, second.always, whole.met);
-        let new = Known::with_always(whole, alloc, always)?;
-        Ok(Some(new))
+        if other.conditions.is_like(&first.conditions) {
+            let always = one_of(other.always, second.always, whole.met);
+            let new = Known::with_always(whole, alloc, always)?;
+            return Ok(Some(new));
+        }
+        if Known::is_large(other, second) {
+            return Ok(None);
+        }
+        let new = Known::over(alloc, whole.change.share()?, other, second)?;
+        Ok(Some(Rc::new(alloc, new)?))
     }
 
-    /// What is known of the first segment and then another, as `whole` is of the first and the second; none where the
-    /// other isn't like the second.
+    /// What is known of the first segment and then another, as `whole` is of the first and the second. What the other
+    /// leaves as it was is shared. None where the other's change isn't like the second's, or both may be too large.
     pub(crate) fn with_right(
         alloc: Global,
         whole: &Rc<Known>,
@@ -170,17 +183,26 @@ impl Known {
         second: &Known,
         other: &Known,
     ) -> Result<Option<Rc<Known>>, NoMemory>
-        requires { Composes first.now second.now whole.now.value }
+        requires composed { Composes first.now second.now whole.now.value }
+        requires first { IsSized first.now }
+        requires other { IsSized other.now }
         ensures composed { IfOk result (λ o. IfSome o (λ new. Composes first.now other.now new.value)) }
         ensures always { IfOk result (λ o. IfSome o
             (λ new. new.value.always ≡ (first.now.always || (other.now.always || new.value.met)))) }
     {
-        if !other.is_like(second) {
+        if !other.change.is_like(&second.change) {
             return Ok(None);
         }
-        let always = one_of(first.always, other.always, whole.met);
-        let new = Known::with_always(whole, alloc, always)?;
-        Ok(Some(new))
+        if other.conditions.is_like(&second.conditions) {
+            let always = one_of(first.always, other.always, whole.met);
+            let new = Known::with_always(whole, alloc, always)?;
+            return Ok(Some(new));
+        }
+        if Known::is_large(first, other) {
+            return Ok(None);
+        }
+        let new = Known::over(alloc, whole.change.share()?, first, other)?;
+        Ok(Some(Rc::new(alloc, new)?))
     }
 
     /// Whether something is found in the steps from a start.

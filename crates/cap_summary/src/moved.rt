@@ -5,7 +5,10 @@ ghost use Rattle.cap_machine.specs.State.{State};
 ghost use Rattle.cap_summary.specs.Changes.{changed};
 ghost use Rattle.cap_summary.specs.Conditions.{source_holds, part_holds, outside_holds, refused_holds, holds};
 ghost use Rattle.cap_summary.specs.Conditions.{any_holds, passes};
-ghost use Rattle.cap_summary.specs.Values.{read_cell};
+ghost use Rattle.cap_summary.specs.Values.{read_cell, passing_op};
+ghost use Rattle.cap_summary.specs.Tables.{seen_value};
+ghost use Rattle.cap_summary.specs.declared.values.Value.TheVariants as value;
+ghost use Rattle.cap_machine.specs.Op.{same};
 ghost use Rattle.cap_summary.specs.Moved.{moved_holds, moved_source_holds};
 ghost use Rattle.cap_summary.specs.Names.{Names, ChangeWithin, ConditionsWithin, value_within, source_within};
 ghost use Rattle.cap_summary.specs.Names.{part_within, outside_within, refused_within, condition_within};
@@ -13,11 +16,12 @@ ghost use Rattle.cap_summary.specs.Names.{moved_within, moved_source_within};
 
 use crate::change::{Change, Near};
 use crate::conditions::{Condition, Refused, Source};
+use crate::kept::{Seen, Taken};
 use crate::merge::sorted;
 use crate::packed::{Conditions, NewConditions};
-use crate::values::{ModeValue, Value};
-use cap_machine::Mode;
-use cap_trace::Pid;
+use crate::values::{ModeValue, Passing};
+use cap_machine::{Cell, Mode, Op};
+use cap_trace::{Fd, Pid};
 use cap_tree::NoMemory;
 use std::alloc::Global;
 
@@ -37,30 +41,85 @@ pub(crate) enum MovedSource {
     To(Source),
 }
 
-/// What has become of a source whose cell has this value.
+/// What has become of a source of whose cell an op was made.
 #[tactic(auto, using(crate::proofs::Holding::passes_before))]
-fn source_at(source: &Source, value: &Value) -> MovedSource
-    ensures holds { (s : State) → moved_source_holds s result ≡ passes source.now.test (read_cell s value.now) }
-    ensures names { (names : Names) → value_within names value.now ≡ true → moved_source_within names result ≡ true }
+fn source_before(source: &Source, pid: Pid, fd: Fd, op: &Op) -> MovedSource
+    ensures holds { (s : State)
+        → moved_source_holds s result ≡ passes source.now.test (read_cell s (value.Of pid fd op.now)) }
+    ensures names { (names : Names) → value_within names (value.Of pid fd op.now) ≡ true
+        → moved_source_within names result ≡ true }
 {
-    match value {
-        Value::Fixed(cell) => {
-            if source.test.passes(*cell) {
-                MovedSource::Always
-            } else {
-                MovedSource::Never
-            }
-        }
-        Value::Of(pid, fd, op) => {
-            let test = source.test.before(op);
-            if test.is_empty() {
-                return MovedSource::Never;
-            }
-            MovedSource::To(Source {
-                pid: *pid,
-                fd: *fd,
-                test,
-            })
+    let test = source.test.before(op);
+    if test.is_empty() {
+        return MovedSource::Never;
+    }
+    MovedSource::To(Source { pid, fd, test })
+}
+
+/// The same where the cell was taken so.
+fn source_taken(source: &Source, taken: &Taken) -> MovedSource
+    ensures holds { (s : State) → moved_source_holds s result
+        ≡ passes source.now.test (read_cell s (value.Of taken.now.pid taken.now.fd taken.now.op)) }
+    ensures names { (names : Names) → value_within names (value.Of taken.now.pid taken.now.fd taken.now.op) ≡ true
+        → moved_source_within names result ≡ true }
+{
+    source_before(source, taken.pid, taken.fd, &taken.op)
+}
+
+/// The same test of the cell of this process, which was handed on as it was.
+#[tactic(auto, using(crate::proofs::Joining::applied_same))]
+fn source_of(source: &Source, pid: Pid) -> MovedSource
+    ensures holds { (s : State)
+        → moved_source_holds s result ≡ passes source.now.test (read_cell s (value.Of pid source.now.fd same)) }
+    ensures names { (names : Names) → value_within names (value.Of pid source.now.fd same) ≡ true
+        → moved_source_within names result ≡ true }
+{
+    MovedSource::To(Source {
+        pid,
+        fd: source.fd,
+        test: source.test,
+    })
+}
+
+/// The same of the cell of this process, which was handed on so.
+fn source_passed(source: &Source, pid: Pid, passing: Passing) -> MovedSource
+    ensures holds { (s : State) → moved_source_holds s result
+        ≡ passes source.now.test (read_cell s (value.Of pid source.now.fd (passing_op passing))) }
+    ensures names { (names : Names) → value_within names (value.Of pid source.now.fd (passing_op passing)) ≡ true
+        → moved_source_within names result ≡ true }
+{
+    match passing {
+        Passing::Same => source_of(source, pid),
+        Passing::Exec => source_before(source, pid, source.fd, &passing.op()),
+    }
+}
+
+/// The same where it is this cell.
+fn source_fixed(source: &Source, cell: Cell) -> MovedSource
+    ensures holds { (s : State) → moved_source_holds s result
+        ≡ passes source.now.test (read_cell s (value.Fixed cell)) }
+    ensures names { (names : Names) → moved_source_within names result ≡ true }
+{
+    if source.test.passes(cell) {
+        MovedSource::Always
+    } else {
+        MovedSource::Never
+    }
+}
+
+/// Adds what has become of a source, and answers whether it holds in any case.
+fn put_moved(alloc: Global, moved: MovedSource, left: &mut NewConditions) -> Result<bool, NoMemory>
+    ensures holds { IfOk result (λ always. (s : State)
+        → (always || any_holds s left.new) ≡ (any_holds s left.old || moved_source_holds s moved)) }
+    ensures names { OnOk result ((names : Names) → moved_source_within names moved ≡ true
+        → ConditionsWithin names left.old → ConditionsWithin names left.new) }
+{
+    match moved {
+        MovedSource::Never => Ok(false),
+        MovedSource::Always => Ok(true),
+        MovedSource::To(new) => {
+            left.put(alloc, &Condition::Cell(new))?;
+            Ok(false)
         }
     }
 }
@@ -72,7 +131,12 @@ impl Change {
         ensures names { (names : Names) → ChangeWithin names self.now → source_within names source.now ≡ true
             → moved_source_within names result ≡ true }
     {
-        source_at(source, &self.value(source.pid, source.fd))
+        match self.seen(source.pid, source.fd, &mut Near::first()) {
+            Seen::Same => source_of(source, source.pid),
+            Seen::Fixed(cell) => source_fixed(source, cell),
+            Seen::Taken(taken) => source_taken(source, taken),
+            Seen::Passed(pid, passing) => source_passed(source, pid, passing),
+        }
     }
 
     /// What is left of a part of a refusal; none where it never holds.
@@ -245,16 +309,15 @@ impl Change {
             → source_within names source.now ≡ true → ConditionsWithin names left.old
             → ConditionsWithin names left.new) }
     {
-        let Some(value) = self.seen(source.pid, source.fd, near) else {
-            left.copy(conditions, at)?;
-            return Ok(false);
-        };
-        match source_at(source, &value) {
-            MovedSource::Never => Ok(false),
-            MovedSource::Always => Ok(true),
-            MovedSource::To(new) => {
-                left.put(alloc, &Condition::Cell(new))?;
+        match self.seen(source.pid, source.fd, near) {
+            Seen::Same => {
+                left.copy(conditions, at)?;
                 Ok(false)
+            }
+            Seen::Fixed(cell) => put_moved(alloc, source_fixed(source, cell), left),
+            Seen::Taken(taken) => put_moved(alloc, source_taken(source, taken), left),
+            Seen::Passed(pid, passing) => {
+                put_moved(alloc, source_passed(source, pid, passing), left)
             }
         }
     }

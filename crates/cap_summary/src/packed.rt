@@ -1,13 +1,15 @@
 //! Lists of conditions. No other module knows how a condition is kept in one: a contract sees the conditions.
 
 ghost use Rattle.std.specs.Prelude.{◌≡◌, ℕ, ◌+◌, ◌*◌, ◌^◌, List, ◌<◌, ◌≤◌, ◌++◌, ◌∷◌, [], ◌||◌, length, slice_index_or};
-ghost use Rattle.std.specs.Prelude.{Bool, true, IfOk, IfSome, OnOk};
+ghost use Rattle.std.specs.Prelude.{Bool, true, IfOk, IfSome, OnOk, map};
 ghost use Rattle.cap_summary.specs.declared.conditions.Condition.{Condition};
 ghost use Rattle.cap_machine.specs.State.{State};
 ghost use Rattle.cap_summary.specs.Conditions.{holds, source_holds};
-ghost use Rattle.cap_summary.specs.Packed.{lacking, packed_condition, packed_conditions};
-ghost use Rattle.cap_summary.specs.Names.{these, ConditionsWithin};
-ghost use Rattle.cap_summary.specs.Sizes.{room, rank, part_rank, condition_rank};
+ghost use Rattle.cap_summary.specs.Packed.{lacking, low_condition, low_conditions, packed_condition};
+ghost use Rattle.cap_summary.specs.Packed.{packed_conditions, item_condition};
+ghost use Rattle.cap_summary.specs.Names.{Names, these, ConditionsWithin};
+ghost use Rattle.cap_summary.specs.Shared.{shared_entries};
+ghost use Rattle.cap_summary.specs.Sizes.{room, rank, part_rank, condition_rank, RankWithin};
 
 use crate::alike::{equal_refusals, equal_sources};
 use crate::conditions::{CellTest, Condition, HeldTest, Refused, Source};
@@ -28,7 +30,16 @@ pub(crate) struct Lack {
     rights: RightSet,
 }
 
-/// A condition as a list keeps it: the most common forms in few bytes, and the large ones shared.
+/// The same of a low descriptor, and whether a closed cell counts too: the most common form, in few bytes.
+#[derive(Clone, Copy)]
+pub(crate) struct Low {
+    pid: Pid,
+    fd: u16,
+    closed: bool,
+    rights: RightSet,
+}
+
+/// A condition as a list keeps it behind those of the most common form: others in few bytes, and the large ones shared.
 #[derive(Drop)]
 pub(crate) enum Packed {
     /// The cell is closed, or held and lacks some of the rights.
@@ -39,6 +50,13 @@ pub(crate) enum Packed {
     Inside(Pid),
     Outside(Pid),
     Refused(Rc<Refused>),
+}
+
+/// A condition of a list, where it stands.
+#[derive(Clone, Copy)]
+pub(crate) enum Item<'a> {
+    Low(Low),
+    Other(&'a Packed),
 }
 
 impl Lack {
@@ -88,6 +106,18 @@ impl Lack {
         self.pid == other.pid && self.fd == other.fd && self.rights == other.rights
     }
 
+    /// Its process and descriptor.
+    #[inline]
+    fn place(&self) -> u64 {
+        place(self.pid, self.fd)
+    }
+
+    /// Whether it may be kept as the most common form is.
+    #[inline]
+    fn is_low(&self) -> bool {
+        self.fd < 65_536
+    }
+
     /// The test in full, which a closed cell passes or not.
     #[inline]
     fn source(&self, closed: bool) -> Source
@@ -103,6 +133,84 @@ impl Lack {
                 clear: HeldTest::Lacks(self.rights),
                 unsure: HeldTest::Lacks(self.rights),
             },
+        }
+    }
+}
+
+impl Low {
+    /// The same of any descriptor; none where it isn't low.
+    #[inline]
+    fn of(lack: &Lack, closed: bool) -> Option<Low>
+        ensures { IfSome result (λ low. low_condition low ≡ Condition.Cell (lacking closed lack.now)) }
+    {
+        match u16::try_from(lack.fd) {
+            Ok(fd) => Some(Low {
+                pid: lack.pid,
+                fd,
+                closed,
+                rights: lack.rights,
+            }),
+            Err(_) => None,
+        }
+    }
+
+    /// The cell, and the rights.
+    #[inline]
+    fn lack(&self) -> Lack
+        ensures { Condition.Cell (lacking self.now.closed result) ≡ low_condition self.now }
+    {
+        Lack {
+            pid: self.pid,
+            fd: u32::from(self.fd),
+            rights: self.rights,
+        }
+    }
+
+    /// Its process and descriptor.
+    #[inline]
+    fn place(&self) -> u64 {
+        place(self.pid, u32::from(self.fd))
+    }
+
+    /// The test in full.
+    #[inline]
+    fn source(&self) -> Source
+        ensures { Condition.Cell result ≡ low_condition self.now }
+    {
+        self.lack().source(self.closed)
+    }
+
+    /// Whether it holds wherever another one does. No is a safe answer.
+    #[inline]
+    fn covers(&self, other: &Low) -> bool
+        ensures { result ≡ true → (s : State) → holds s (low_condition self.now)
+            ≡ (holds s (low_condition self.now) || holds s (low_condition other.now)) }
+    {
+        if other.closed && !self.closed {
+            return false;
+        }
+        self.lack().covers(&other.lack())
+    }
+
+    /// Whether another one is the same.
+    #[inline]
+    fn is_like(&self, other: &Low) -> bool
+        ensures { result ≡ true → self.now ≡ other.now }
+    {
+        self.pid == other.pid
+            && self.fd == other.fd
+            && self.closed == other.closed
+            && self.rights == other.rights
+    }
+
+    /// How it stands to one that isn't among the first: before it, where that isn't of the same form.
+    #[inline]
+    fn order_to(&self, other: &Packed) -> Ordering {
+        match other {
+            Packed::ClosedOrLacks(lack) | Packed::Lacks(lack) if lack.is_low() => {
+                self.place().cmp(&lack.place())
+            }
+            _ => Ordering::Less,
         }
     }
 }
@@ -129,6 +237,17 @@ fn rank_of_part(part: &Option<Source>) -> u128
     }
 }
 
+impl Low {
+    /// A number for the kind, and for the process and the descriptor.
+    #[inline]
+    fn rank(&self) -> u128
+        ensures value { result ≡ condition_rank (low_condition self.now) }
+        ensures bound { result < 2 ^ 72 }
+    {
+        rank(2, self.pid, u32::from(self.fd))
+    }
+}
+
 impl Packed {
     /// A number for its kind, and for the process and the descriptor that it asks about first.
     fn rank(&self) -> u128
@@ -146,14 +265,24 @@ impl Packed {
 }
 
 impl Packed {
-    /// What it is sorted by first: its kind, and a process and a descriptor.
+    /// What it is sorted by first: its kind, and a process and a descriptor. Those of the most common form come first.
     fn key(&self) -> (u8, u64) {
         match self {
-            Packed::Inside(pid) => (0, place(*pid, 0)),
-            Packed::Outside(pid) => (1, place(*pid, 0)),
-            Packed::ClosedOrLacks(lack) | Packed::Lacks(lack) => (2, place(lack.pid, lack.fd)),
-            Packed::Other(source) => (2, place(source.pid, source.fd)),
-            Packed::Refused(refused) => (3, place_of_part(&refused.first)),
+            Packed::ClosedOrLacks(lack) | Packed::Lacks(lack) if lack.is_low() => (0, lack.place()),
+            Packed::Inside(pid) => (1, place(*pid, 0)),
+            Packed::Outside(pid) => (2, place(*pid, 0)),
+            Packed::ClosedOrLacks(lack) | Packed::Lacks(lack) => (3, lack.place()),
+            Packed::Other(source) => (3, place(source.pid, source.fd)),
+            Packed::Refused(refused) => (4, place_of_part(&refused.first)),
+        }
+    }
+
+    /// Whether it is of the most common form.
+    #[inline]
+    fn is_common(&self) -> bool {
+        match self {
+            Packed::ClosedOrLacks(lack) | Packed::Lacks(lack) => lack.is_low(),
+            _ => false,
         }
     }
 
@@ -161,10 +290,6 @@ impl Packed {
     #[inline(always)]
     fn order(&self, other: &Packed) -> Ordering {
         match (self, other) {
-            (
-                Packed::ClosedOrLacks(a) | Packed::Lacks(a),
-                Packed::ClosedOrLacks(b) | Packed::Lacks(b),
-            ) => place(a.pid, a.fd).cmp(&place(b.pid, b.fd)),
             (Packed::Refused(a), Packed::Refused(b)) => order_of_cells(a, b),
             _ => self.key().cmp(&other.key()),
         }
@@ -227,6 +352,19 @@ impl Packed {
         }
     }
 
+    /// The test of a cell; none only where it is another condition.
+    #[inline]
+    fn source(&self) -> Option<Source>
+        ensures { IfSome result (λ source. packed_condition self.now ≡ Condition.Cell source) }
+    {
+        match self {
+            Packed::ClosedOrLacks(lack) => Some(lack.source(true)),
+            Packed::Lacks(lack) => Some(lack.source(false)),
+            Packed::Other(source) => Some(**source),
+            _ => None,
+        }
+    }
+
     /// The condition that is kept.
     #[inline]
     fn condition(&self) -> Condition
@@ -273,37 +411,111 @@ impl Packed {
     }
 }
 
+/// Whether two lists of the most common form are the same.
+fn same_lows(a: &[Low], b: &[Low]) -> bool
+    ensures { result ≡ true → low_conditions a.now ≡ low_conditions b.now }
+{
+    if a.len() != b.len() {
+        return false;
+    }
+    for at in 0..a.len() {
+        if !a[at].is_like(&b[at]) {
+            return false;
+        }
+    }
+    true
+}
+
+/// Whether two lists are the same, one by one. No is a safe answer.
+fn same_packed(a: &[Packed], b: &[Packed]) -> bool
+    ensures { result ≡ true → packed_conditions a.now ≡ packed_conditions b.now }
+{
+    if a.len() != b.len() {
+        return false;
+    }
+    for at in 0..a.len() {
+        if !a[at].is_like(&b[at]) {
+            return false;
+        }
+    }
+    true
+}
+
+/// The number of a condition, and whether it is among the first.
+#[derive(Clone, Copy)]
+pub(crate) struct Ranked {
+    rank: u128,
+    is_first: bool,
+}
+
+/// The number of the condition that comes next of two lists at these places: of two the lower.
+#[inline]
+fn lower(lows: &[Low], i: usize, others: &[Packed], j: usize) -> Option<Ranked>
+    ensures bound { IfSome result (λ next. next.rank < 2 ^ 72) }
+    ensures within { IfSome result (λ next. (names : Names) → ConditionsWithin names (low_conditions lows.now)
+        → ConditionsWithin names (packed_conditions others.now) → RankWithin names next.rank) }
+{
+    if i >= lows.len() {
+        if j >= others.len() {
+            return None;
+        }
+        let rank = others[j].rank();
+        return Some(Ranked {
+            rank,
+            is_first: false,
+        });
+    }
+    let rank = lows[i].rank();
+    if j < others.len() {
+        let other = others[j].rank();
+        if other < rank {
+            return Some(Ranked {
+                rank: other,
+                is_first: false,
+            });
+        }
+    }
+    Some(Ranked {
+        rank,
+        is_first: true,
+    })
+}
+
 /// Conditions that are never changed. Copies share them.
 #[derive(Drop)]
 pub(crate) struct Conditions {
-    items: Option<RcSlice<Packed>>,
+    /// Those that come first, of the most common form.
+    lows: Option<RcSlice<Low>>,
+    /// Those behind them.
+    others: Option<RcSlice<Packed>>,
 }
 
 impl Model for Conditions {
-    ghost use Rattle.std.specs.Prelude.{List};
+    ghost use Rattle.std.specs.Prelude.{List, ◌++◌};
     ghost use Rattle.cap_summary.specs.declared.conditions.Condition.{Condition};
-    ghost use Rattle.cap_summary.specs.Packed.{packed_conditions};
+    ghost use Rattle.cap_summary.specs.Packed.{low_conditions, packed_conditions};
     ghost use Rattle.cap_summary.specs.Shared.{shared_entries};
 
     ghost Value = { List Condition };
 
-    ghost view = { λ c. packed_conditions (shared_entries c.items) };
+    ghost view = { λ c. low_conditions (shared_entries c.lows) ++ packed_conditions (shared_entries c.others) };
 }
 
 /// Conditions that are being put together.
 #[derive(Drop)]
 pub(crate) struct NewConditions {
-    items: Vec<Packed>,
+    lows: Vec<Low>,
+    others: Vec<Packed>,
 }
 
 impl Model for NewConditions {
-    ghost use Rattle.std.specs.Prelude.{List};
+    ghost use Rattle.std.specs.Prelude.{List, ◌++◌};
     ghost use Rattle.cap_summary.specs.declared.conditions.Condition.{Condition};
-    ghost use Rattle.cap_summary.specs.Packed.{packed_conditions};
+    ghost use Rattle.cap_summary.specs.Packed.{low_conditions, packed_conditions};
 
     ghost Value = { List Condition };
 
-    ghost view = { λ c. packed_conditions c.items.items };
+    ghost view = { λ c. low_conditions c.lows.items ++ packed_conditions c.others.items };
 }
 
 impl Conditions {
@@ -311,7 +523,10 @@ impl Conditions {
     pub(crate) fn none() -> Conditions
         ensures { result ≡ [] }
     {
-        Conditions { items: None }
+        Conditions {
+            lows: None,
+            others: None,
+        }
     }
 
     /// One condition.
@@ -323,14 +538,20 @@ impl Conditions {
         new.finish()
     }
 
-    #[inline]
-    fn packed(&self) -> &[Packed]
-        ensures { packed_conditions result.now ≡ self.now }
+    /// Those of the most common form that come first, and the others.
+    #[inline(always)]
+    fn parts(&self) -> (&[Low], &[Packed])
+        ensures { low_conditions result.0.now ++ packed_conditions result.1.now ≡ self.now }
     {
-        match &self.items {
-            Some(items) => items.as_slice(),
+        let lows: &[Low] = match &self.lows {
+            Some(lows) => lows.as_slice(),
             None => &[],
-        }
+        };
+        let others: &[Packed] = match &self.others {
+            Some(others) => others.as_slice(),
+            None => &[],
+        };
+        (lows, others)
     }
 
     /// How many there are.
@@ -338,7 +559,22 @@ impl Conditions {
     pub(crate) fn len(&self) -> usize
         ensures { result ≡ length self.now }
     {
-        self.packed().len()
+        let (lows, others) = self.parts();
+        lows.len() + others.len()
+    }
+
+    /// The one at a place, as it stands there.
+    #[inline(always)]
+    fn item(&self, at: usize) -> Item<'_>
+        requires { at < length self.now }
+        ensures { (d : Condition) → slice_index_or self.now at d ≡ item_condition result }
+    {
+        let (lows, others) = self.parts();
+        if at < lows.len() {
+            Item::Low(lows[at])
+        } else {
+            Item::Other(&others[at - lows.len()])
+        }
     }
 
     /// The one at a place.
@@ -347,7 +583,10 @@ impl Conditions {
         requires { at < length self.now }
         ensures { result ≡ slice_index_or self.now at result }
     {
-        self.packed()[at].condition()
+        match self.item(at) {
+            Item::Low(low) => Condition::Cell(low.source()),
+            Item::Other(packed) => packed.condition(),
+        }
     }
 
     /// How the one at a place stands to one of others by its kind, its cells and its process.
@@ -356,7 +595,12 @@ impl Conditions {
         requires own { at < length self.now }
         requires other { of < length others.now }
     {
-        self.packed()[at].order(&others.packed()[of])
+        match (self.item(at), others.item(of)) {
+            (Item::Low(a), Item::Low(b)) => a.place().cmp(&b.place()),
+            (Item::Low(a), Item::Other(b)) => a.order_to(b),
+            (Item::Other(a), Item::Low(b)) => b.order_to(a).reverse(),
+            (Item::Other(a), Item::Other(b)) => a.order(b),
+        }
     }
 
     /// Whether the one at a place holds wherever one of others does, by a look at those kept in few bytes alone. No is a
@@ -368,7 +612,11 @@ impl Conditions {
         ensures { result ≡ true → (x y : Condition) (s : State) → holds s (slice_index_or self.now at x)
             ≡ (holds s (slice_index_or self.now at x) || holds s (slice_index_or others.now of y)) }
     {
-        self.packed()[at].covers(&others.packed()[of])
+        match (self.item(at), others.item(of)) {
+            (Item::Low(a), Item::Low(b)) => a.covers(&b),
+            (Item::Other(a), Item::Other(b)) => a.covers(b),
+            _ => false,
+        }
     }
 
     /// The test of a cell at a place; none only where there is another condition.
@@ -377,29 +625,64 @@ impl Conditions {
         requires { at < length self.now }
         ensures { IfSome result (λ source. (d : Condition) → slice_index_or self.now at d ≡ Condition.Cell source) }
     {
-        match &self.packed()[at] {
-            Packed::ClosedOrLacks(lack) => Some(lack.source(true)),
-            Packed::Lacks(lack) => Some(lack.source(false)),
-            Packed::Other(source) => Some(**source),
-            _ => None,
+        match self.item(at) {
+            Item::Low(low) => Some(low.source()),
+            Item::Other(packed) => packed.source(),
         }
     }
 
     /// How many there are, where those of one kind that ask about the same process and descriptor first count as one.
+    /// Both parts are gone through side by side.
     pub(crate) fn places(&self) -> usize
         ensures few { (pids fds : List ℕ) → ConditionsWithin (these pids fds) self.now
             → result ≤ 2 * room pids fds + 1 }
     {
+        let (lows, others) = self.parts();
+        let mut i = 0usize;
+        let mut j = 0usize;
         let mut count = 0usize;
         let mut next = 0u128;
-        for item in self.packed() {
-            let rank = item.rank();
-            if rank >= next {
+        for _ in 0..self.len() {
+            let Some(lower) = lower(lows, i, others, j) else {
+                return count;
+            };
+            if lower.is_first {
+                i += 1;
+            } else {
+                j += 1;
+            }
+            if lower.rank >= next {
                 count = count.saturating_add(1);
-                next = rank + 1;
+                next = lower.rank + 1;
             }
         }
         count
+    }
+
+    /// The place behind the last one of the most common form.
+    pub(crate) fn commons_end(&self) -> usize {
+        let (lows, others) = self.parts();
+        let mut end = lows.len();
+        for at in 0..others.len() {
+            if others[at].is_common() {
+                end = lows.len() + at + 1;
+            }
+        }
+        end
+    }
+
+    /// Whether the one at a place comes before that at another one in the order in which they are kept.
+    #[inline]
+    fn comes_before(&self, at: usize, of: usize) -> bool
+        requires first { at < length self.now }
+        requires second { of < length self.now }
+    {
+        match (self.item(at), self.item(of)) {
+            (Item::Low(a), Item::Low(b)) => a.place() < b.place(),
+            (Item::Low(a), Item::Other(b)) => a.order_to(b) == Ordering::Less,
+            (Item::Other(a), Item::Low(b)) => b.order_to(a) == Ordering::Greater,
+            (Item::Other(a), Item::Other(b)) => a.comes_before(b),
+        }
     }
 
     /// Whether each of those from one place to another comes after the one before it in the order in which they are
@@ -407,9 +690,8 @@ impl Conditions {
     pub(crate) fn rise(&self, from: usize, to: usize) -> bool
         requires { to ≤ length self.now }
     {
-        let items = self.packed();
         for at in from..to {
-            if at > from && !items[at - 1].comes_before(&items[at]) {
+            if at > from && !self.comes_before(at - 1, at) {
                 return false;
             }
         }
@@ -420,57 +702,108 @@ impl Conditions {
     pub(crate) fn is_like(&self, other: &Conditions) -> bool
         ensures { result ≡ true → self.now ≡ other.now }
     {
-        let (own, theirs) = (self.packed(), other.packed());
-        if own.len() != theirs.len() {
-            return false;
-        }
-        for at in 0..own.len() {
-            if !own[at].is_like(&theirs[at]) {
-                return false;
-            }
-        }
-        true
+        let (own, own_others) = self.parts();
+        let (theirs, their_others) = other.parts();
+        same_lows(own, theirs) && same_packed(own_others, their_others)
     }
 
     /// The same conditions, shared.
     pub(crate) fn share(&self) -> Result<Conditions, NoMemory>
         ensures { IfOk result (λ same. same ≡ self.now) }
     {
-        let items = match &self.items {
-            Some(items) => Some(items.clone()?),
+        let lows = match &self.lows {
+            Some(lows) => Some(lows.clone()?),
             None => None,
         };
-        Ok(Conditions { items })
+        let others = match &self.others {
+            Some(others) => Some(others.clone()?),
+            None => None,
+        };
+        Ok(Conditions { lows, others })
     }
 }
 
 impl NewConditions {
-    /// None so far, with room for so many.
+    /// None so far, with room for so many of the most common form.
     pub(crate) fn with_room(alloc: Global, room: usize) -> Result<NewConditions, NoMemory>
         ensures { IfOk result (λ new. new ≡ []) }
     {
         Ok(NewConditions {
-            items: Vec::with_capacity(alloc, room)?,
+            lows: Vec::with_capacity(alloc, room)?,
+            others: Vec::new(alloc),
         })
+    }
+
+    /// Adds one of the most common form.
+    #[inline(always)]
+    fn push_low(&mut self, low: Low) -> Result<(), NoMemory>
+        ensures { OnOk result (self.new ≡ self.old ++ low_condition low ∷ []) }
+    {
+        if self.others.is_empty() {
+            self.lows.push(low)?;
+        } else {
+            self.others.push(Packed::of_lack(low.lack(), low.closed))?;
+        }
+        Ok(())
+    }
+
+    /// Adds a cell that lacks rights, or is closed where that is asked for.
+    #[inline]
+    fn push_lack(&mut self, lack: &Lack, closed: bool) -> Result<(), NoMemory>
+        ensures { OnOk result (self.new ≡ self.old ++ Condition.Cell (lacking closed lack.now) ∷ []) }
+    {
+        match Low::of(lack, closed) {
+            Some(low) => self.push_low(low),
+            None => {
+                self.others.push(Packed::of_lack(*lack, closed))?;
+                Ok(())
+            }
+        }
+    }
+
+    /// Adds a condition that is packed.
+    #[inline]
+    fn push(&mut self, packed: Packed) -> Result<(), NoMemory>
+        ensures { OnOk result (self.new ≡ self.old ++ packed_condition packed ∷ []) }
+    {
+        match packed {
+            Packed::ClosedOrLacks(lack) => self.push_lack(&lack, true),
+            Packed::Lacks(lack) => self.push_lack(&lack, false),
+            packed => {
+                self.others.push(packed)?;
+                Ok(())
+            }
+        }
     }
 
     /// Adds a condition.
     pub(crate) fn put(&mut self, alloc: Global, condition: &Condition) -> Result<(), NoMemory>
         ensures { OnOk result (self.new ≡ self.old ++ condition.now ∷ []) }
     {
-        self.items.push(Packed::of(alloc, condition)?)?;
-        Ok(())
+        self.push(Packed::of(alloc, condition)?)
     }
 
     /// Whether the condition at a place of others comes after all these in the order in which they are kept, where
-    /// these rise.
+    /// these rise. One that isn't of the most common form doesn't, where one of that form is behind it: `end` is the
+    /// place behind the last of those.
     #[inline]
-    pub(crate) fn go_on(&self, others: &Conditions, at: usize) -> bool
+    pub(crate) fn go_on(&self, others: &Conditions, at: usize, end: usize) -> bool
         requires { at < length others.now }
     {
-        match self.items.last() {
-            Some(last) => last.comes_before(&others.packed()[at]),
-            None => true,
+        match (others.item(at), self.others.last(), self.lows.last()) {
+            (Item::Low(next), Some(last), _) => next.order_to(last) == Ordering::Greater,
+            (Item::Low(next), None, Some(last)) => last.place() < next.place(),
+            (Item::Other(next), last, lack) => {
+                if at < end && !next.is_common() {
+                    return false;
+                }
+                match (last, lack) {
+                    (Some(last), _) => last.comes_before(next),
+                    (None, Some(last)) => last.order_to(next) == Ordering::Less,
+                    (None, None) => true,
+                }
+            }
+            (_, None, None) => true,
         }
     }
 
@@ -481,21 +814,31 @@ impl NewConditions {
         ensures { OnOk result
             ((d : Condition) → self.new ≡ self.old ++ slice_index_or others.now at d ∷ []) }
     {
-        self.items.push(others.packed()[at].share()?)?;
-        Ok(())
+        match others.item(at) {
+            Item::Low(low) => self.push_low(low),
+            Item::Other(packed) => self.push(packed.share()?),
+        }
     }
 
     /// The conditions, without spare room.
     pub(crate) fn finish(self) -> Result<Conditions, NoMemory>
         ensures { IfOk result (λ all. all ≡ self) }
     {
-        let mut items = self.items;
-        if items.is_empty() {
-            return Ok(Conditions::none());
-        }
-        items.shrink_to_fit();
         Ok(Conditions {
-            items: Some(RcSlice::from_vec(items)?),
+            lows: shared(self.lows)?,
+            others: shared(self.others)?,
         })
     }
+}
+
+/// What a vector holds, without spare room; none where it holds nothing.
+fn shared<T: Drop>(items: Vec<T>) -> Result<Option<RcSlice<T>>, NoMemory>
+    ensures { IfOk result (λ o. shared_entries o ≡ items.items) }
+{
+    if items.is_empty() {
+        return Ok(None);
+    }
+    let mut items = items;
+    items.shrink_to_fit();
+    Ok(Some(RcSlice::from_vec(items)?))
 }

@@ -4,20 +4,20 @@
 ghost use Rattle.std.specs.Prelude.{◌≡◌, ℕ, ◌≤◌, ◌==◌, if◌then◌else◌, None, Some, true, OnOk, IfOk, List, length};
 ghost use Rattle.std.specs.Prelude.{option_map, option_and_then, is_some};
 ghost use Rattle.std.specs.Option.{option_copied};
-ghost use Rattle.cap_summary.specs.Tables.{listed_value, value_so_far, process_at, or_else};
+ghost use Rattle.cap_summary.specs.Tables.{listed_value, value_so_far, process_at, process_of, listed_process};
+ghost use Rattle.cap_summary.specs.Tables.{kept_value, or_else};
 ghost use Rattle.cap_summary.specs.Changes.{JoinsListed, AreAlike};
 ghost use Rattle.cap_summary.specs.Images.{under, passed_on};
 ghost use Rattle.cap_summary.specs.Names.{is_one, these, AreWithin, ChangeWithin};
 ghost use Rattle.cap_summary.specs.Sizes.{room};
 
-use crate::change::{Change, Near, Process};
-use crate::kept::{Handing, Joining, Kept, Moving};
+use crate::change::{Change, Near, Process, ProcessRef};
+use crate::kept::{Handing, Joining, Kept, Listed, Moving};
 use crate::sorted::{Builder, Table, merge};
 use crate::values::{Passing, Value};
 use cap_trace::{Fd, Pid};
 use cap_tree::NoMemory;
 use std::alloc::Global;
-use std::rc::Rc;
 
 /// Cells of a process by descriptor.
 #[derive(Drop)]
@@ -31,10 +31,10 @@ pub(crate) struct Listing {
     builder: Builder<Kept>,
 }
 
-/// Processes by pid, each shared.
+/// Processes by pid.
 #[derive(Drop)]
 pub struct Processes {
-    table: Table<Rc<Process>>,
+    table: Table<Listed>,
 }
 
 impl Listing {
@@ -111,15 +111,13 @@ impl Cells {
     /// The value of a descriptor that is listed. It looks first behind where an earlier look-up ended, and notes where
     /// this one did.
     #[tactic(auto, unfolding(crate::specs::Tables::listed_value))]
-    pub(crate) fn get_near(&self, fd: Fd, near: &mut usize) -> Option<Value>
-        ensures { result ≡ listed_value self.now fd }
+    #[inline]
+    pub(crate) fn get_near(&self, fd: Fd, near: &mut usize) -> Option<&Kept>
+        ensures { option_map kept_value (option_copied result) ≡ listed_value self.now fd }
     {
         let (found, at) = self.table.get_near(fd, *near);
         *near = at.saturating_add(1);
-        match found {
-            Some(kept) => Some(kept.value()),
-            None => None,
-        }
+        found
     }
 
     /// How many are listed.
@@ -140,9 +138,8 @@ impl Cells {
     }
 
     /// The same cells, shared.
-    #[tactic(auto, unfolding(crate::specs::Tables::listed_value))]
     pub(crate) fn share(&self) -> Result<Cells, NoMemory>
-        ensures { IfOk result (λ same. (f : ℕ) → listed_value same f ≡ listed_value self.now f) }
+        ensures { IfOk result (λ same. same ≡ self.now) }
     {
         let table = self.table.clone()?;
         Ok(Cells { table })
@@ -264,8 +261,8 @@ impl Processes {
         ensures { IfOk result
             (λ new. (p : ℕ) → process_at new p ≡ (if p == pid then Some process else None)) }
     {
-        let shared = Rc::new(alloc, process)?;
-        let table = Table::one(alloc, pid, shared)?;
+        let listed = Listed::of(alloc, pid, process)?;
+        let table = Table::one(alloc, pid, listed)?;
         Ok(Processes { table })
     }
 
@@ -282,34 +279,41 @@ impl Processes {
             ≡ (if p == second then Some of_second else (if p == first then Some of_first else None))) }
     {
         let mut builder = Builder::new(alloc);
-        builder.set(first, Rc::new(alloc, of_first)?)?;
-        builder.set(second, Rc::new(alloc, of_second)?)?;
+        builder.set(first, Listed::of(alloc, first, of_first)?)?;
+        builder.set(second, Listed::of(alloc, second, of_second)?)?;
         let table = builder.finish()?;
         Ok(Processes { table })
     }
 
     /// A process that is listed.
     #[tactic(auto, unfolding(crate::specs::Tables::process_at))]
-    pub(crate) fn get(&self, pid: Pid) -> Option<&Process>
-        ensures { option_copied result ≡ process_at self.now pid }
+    #[inline]
+    pub(crate) fn get(&self, pid: Pid) -> Option<ProcessRef<'_>>
+        ensures { option_map process_of result ≡ process_at self.now pid }
     {
         match self.table.get(pid) {
-            Some(process) => Some(&**process),
+            Some(listed) => Some(listed.process(pid)),
             None => None,
         }
     }
 
     /// The same. It looks first where an earlier look-up ended, and notes where this one did.
     #[tactic(auto, unfolding(crate::specs::Tables::process_at))]
-    pub(crate) fn get_near(&self, pid: Pid, near: &mut usize) -> Option<&Process>
-        ensures { option_copied result ≡ process_at self.now pid }
+    #[inline]
+    pub(crate) fn get_near(&self, pid: Pid, near: &mut usize) -> Option<&Listed>
+        ensures { option_map (listed_process pid) (option_copied result) ≡ process_at self.now pid }
     {
         let (found, at) = self.table.get_near(pid, *near);
         *near = at;
-        match found {
-            Some(process) => Some(&**process),
-            None => None,
-        }
+        found
+    }
+
+    /// Whether a process is listed.
+    #[tactic(auto, unfolding(crate::specs::Tables::process_at))]
+    pub(crate) fn lists(&self, pid: Pid) -> bool
+        ensures { result ≡ is_some (process_at self.now pid) }
+    {
+        self.table.get(pid).is_some()
     }
 
     /// Whether no process is listed.
@@ -328,8 +332,9 @@ impl Processes {
         let mut size = 0usize;
         let mut forks = false;
         for entry in self.table.entries() {
-            size = size.saturating_add(entry.1.cells.len()).saturating_add(1);
-            forks = forks || entry.1.base.is_of_another(entry.0);
+            let process = entry.1.process(entry.0);
+            size = size.saturating_add(process.cells.len()).saturating_add(1);
+            forks = forks || process.base.is_of_another(entry.0);
         }
         (size, forks)
     }
@@ -342,15 +347,15 @@ impl Processes {
     {
         let mut copied = 0usize;
         for entry in self.table.entries() {
-            copied = copied.saturating_add(entry.1.copied(entry.0, change));
+            let process = entry.1.process(entry.0);
+            copied = copied.saturating_add(process.copied(entry.0, change));
         }
         copied
     }
 
     /// The same processes, shared.
-    #[tactic(auto, unfolding(crate::specs::Tables::process_at))]
     pub(crate) fn share(&self) -> Result<Processes, NoMemory>
-        ensures { IfOk result (λ same. (p : ℕ) → process_at same p ≡ process_at self.now p) }
+        ensures { IfOk result (λ same. same ≡ self.now) }
     {
         let table = self.table.clone()?;
         Ok(Processes { table })
@@ -368,7 +373,7 @@ impl Processes {
         }
         for at in 0..own.len() {
             let (a, b) = (&own[at], &theirs[at]);
-            if a.0 != b.0 || !a.1.is_like(&b.1) {
+            if a.0 != b.0 || !a.1.process(a.0).is_like(&b.1.process(b.0)) {
                 return false;
             }
         }

@@ -4,9 +4,11 @@ ghost use Rattle.std.specs.Prelude.{◌≡◌, ◌==◌, ℕ, ◌||◌, ◌&&◌
 ghost use Rattle.cap_machine.specs.State.{State};
 ghost use Rattle.cap_machine.specs.Op.{same, exec, applied};
 ghost use Rattle.cap_summary.specs.Values.{read_cell, read_mode, passing_op, rest_value, unlisted, is_from, op_on};
-ghost use Rattle.cap_summary.specs.Values.{are_of, rest_untouched, is_own};
+ghost use Rattle.cap_summary.specs.Values.{are_of, rest_untouched, is_own, own_base};
+ghost use Rattle.cap_summary.specs.Tables.{seen_value};
 ghost use Rattle.cap_summary.specs.Names.{Names, others_within, mode_within};
 
+use crate::kept::Seen;
 use cap_machine::{Cell, Mode, Op};
 use cap_trace::{Fd, Pid};
 
@@ -211,6 +213,7 @@ impl Base {
 
     /// A process's own cells, which no line touched.
     pub(crate) fn own(pid: Pid) -> Base
+        ensures value { result ≡ own_base pid }
         ensures cells { (f : ℕ) → unlisted result f ≡ Value.Of pid f same }
         ensures untouched { (p f : ℕ) → rest_untouched result p f ≡ (pid == p) }
         ensures names { (names : Names) → others_within names result.others ≡ names.pids pid }
@@ -246,6 +249,18 @@ impl Base {
         }
     }
 
+    /// Whether all cells are those of the process with this pid, untouched.
+    pub(crate) fn is_all_own(&self, pid: Pid) -> bool
+        ensures { result ≡ true → self.now ≡ own_base pid }
+    {
+        match &self.others {
+            Others::Of(source, Passing::Same) => {
+                *source == pid && self.own && self.closed_from.is_none()
+            }
+            _ => false,
+        }
+    }
+
     /// The same where this base stands behind that of the process.
     pub(crate) fn stays_own(&self, pid: Pid, first: &Base) -> bool
         ensures { result ≡ (self.now.own && (first.now.own && are_of first.now.others pid)) }
@@ -275,6 +290,21 @@ impl Base {
         match &self.others {
             Others::Of(source, Passing::Same) => *source == pid && !is_closed(self.closed_from, fd),
             _ => false,
+        }
+    }
+
+    /// What has become of a descriptor of the process with this pid, if it isn't listed.
+    pub(crate) fn seen<'a>(&self, pid: Pid, fd: Fd) -> Seen<'a>
+        ensures { seen_value pid fd result ≡ unlisted self.now fd }
+    {
+        if is_closed(self.closed_from, fd) {
+            return Seen::Fixed(Cell::Closed);
+        }
+        match &self.others {
+            Others::Unknown => Seen::Fixed(Cell::Unknown),
+            Others::Closed => Seen::Fixed(Cell::Closed),
+            Others::Of(source, Passing::Same) if *source == pid => Seen::Same,
+            Others::Of(source, passing) => Seen::Passed(*source, *passing),
         }
     }
 

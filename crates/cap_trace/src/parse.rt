@@ -1,6 +1,7 @@
 //! Reading a line.
 
-ghost use Rattle.std.specs.Prelude.{◌≡◌, IfOk, Err};
+ghost use Rattle.std.specs.Prelude.{◌≡◌, IfOk, IfErr, Ok, Err};
+ghost use Rattle.cap_trace.specs.Reading.{line_of};
 ghost use Rattle.cap_trace.specs.declared.fault.LineFault.TheVariants.{Memory};
 ghost use Rattle.cap_trace.specs.Spelling.{Spells};
 ghost use Rattle.cap_trace.specs.Parsing.{SpellsSome, FaultsAreExact, ReadsOnly, MatchesReading, OneLine};
@@ -11,12 +12,14 @@ ghost use Rattle.cap_trace.specs.Rewriting.{OnlyRightsAreRewritten};
 
 use crate::calls::Form;
 use crate::fault::LineFault;
-use crate::line::{Call, Item, Line};
+use crate::fd_line::FdLine;
+use crate::line::Line;
 use crate::names::Head;
 use crate::owned::owned;
 use crate::quick::{Start, item_after, on_fd, start_of};
 use crate::scan::line;
 use std::alloc::Global;
+use std::marker::Model;
 
 /// The line that the bytes spell, read with care.
 #[inline(never)]
@@ -47,6 +50,79 @@ fn read_rest(alloc: Global, bytes: &[u8], start: Start<'_>) -> Result<Line, Line
     }
 }
 
+/// A line that isn't read yet, but maybe for how it begins.
+#[derive(Drop)]
+pub struct Unread<'a> {
+    bytes: &'a [u8],
+    start: Option<Start<'a>>,
+}
+
+impl<'a> Model for Unread<'a> {
+    ghost use Rattle.std.specs.Prelude.{List, ℕ};
+    ghost use Rattle.std.specs.Option.{ForSome};
+    ghost use Rattle.cap_trace.specs.Rows.{head_seen};
+    ghost use Rattle.cap_trace.specs.Quick.{Starts};
+
+    ghost Value = { List ℕ };
+
+    ghost view = { λ u. u.bytes.now };
+
+    ghost invariant = { λ u. ForSome u.start (λ s. Starts u.bytes.now s.pid (head_seen s.head) s.text.now) };
+}
+
+impl<'a> Unread<'a> {
+    /// The line that the bytes spell, as [`parse_line`] reads it.
+    ///
+    /// # Errors
+    ///
+    /// Those of [`parse_line`].
+    pub fn line(self, alloc: Global) -> Result<Line, LineFault>
+        ensures { MatchesReading self.entry result }
+    {
+        match self.start {
+            Some(start) => read_rest(alloc, self.bytes, start),
+            None => read_with_care(alloc, self.bytes),
+        }
+    }
+}
+
+/// The line that the bytes spell, where its call is on one descriptor and it is read in one pass. It takes no memory.
+///
+/// # Errors
+///
+/// The same bytes, of whatever they are.
+#[inline(always)]
+pub fn parse_fd_line(bytes: &[u8]) -> Result<FdLine, Unread<'_>>
+    // What is read is what reading from the left gives.
+    ensures read { IfOk result (λ l. line_of bytes.now ≡ Ok l) }
+    ensures unread { IfErr result (λ u. u ≡ bytes.now) }
+{
+    let Some(start) = start_of(bytes) else {
+        return Err(Unread { bytes, start: None });
+    };
+    let Head::Listed(form) = start.head else {
+        return Err(Unread {
+            bytes,
+            start: Some(start),
+        });
+    };
+    let Form::OnFd(call) = form else {
+        return Err(Unread {
+            bytes,
+            start: Some(start),
+        });
+    };
+    let Some((fd, answer)) = on_fd(call, start.text) else {
+        return Err(Unread { bytes, start: None });
+    };
+    Ok(FdLine {
+        pid: start.pid,
+        call,
+        fd,
+        answer,
+    })
+}
+
 /// The line that the bytes spell: at most 1,024 of them, without a line feed at their end.
 ///
 /// Reading takes no memory but for what is kept of the text: the descriptors of a start, paths, flags,
@@ -69,23 +145,10 @@ pub fn parse_line(alloc: Global, bytes: &[u8]) -> Result<Line, LineFault>
     // The same by the function that reads from the left.
     ensures reads { MatchesReading bytes.now result }
 {
-    let Some(start) = start_of(bytes) else {
-        return read_with_care(alloc, bytes);
-    };
-    let Head::Listed(form) = start.head else {
-        return read_rest(alloc, bytes, start);
-    };
-    let Form::OnFd(call) = form else {
-        return read_rest(alloc, bytes, start);
-    };
-    let Some((fd, answer)) = on_fd(call, start.text) else {
-        return read_with_care(alloc, bytes);
-    };
-    let call = Call::OnFd(call, fd);
-    Ok(Line {
-        pid: start.pid,
-        item: Item::Call { call, answer },
-    })
+    match parse_fd_line(bytes) {
+        Ok(line) => Ok(line.line()),
+        Err(unread) => unread.line(alloc),
+    }
 }
 
 /// Bytes spell at most one line.

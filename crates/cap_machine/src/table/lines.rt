@@ -24,7 +24,9 @@ use crate::rule::{Reply, demand_of_line};
 use crate::table::Table;
 use crate::verdict::Verdict;
 use cap_rights::{NoMemory, RightSet};
-use cap_trace::{Answer, AtFlagsCall, Call, Dir, Fd, FdCall, FlagsCall, Item, Line, PathCall, Pid};
+use cap_trace::{
+    Answer, AtFlagsCall, Call, Dir, Fd, FdCall, FdLine, FlagsCall, Item, Line, PathCall, Pid,
+};
 
 /// The cell of a file that was opened below no descriptor (openat(2)).
 fn opened_cell(dir: Dir, path: &[u8], flag: OnExec) -> Cell
@@ -53,14 +55,25 @@ impl Table {
         }
     }
 
+    /// The same of a call on one descriptor that succeeded.
+    #[inline(always)]
+    fn is_silent_on_fd(&self, pid: Pid, call: FdCall, fd: Fd) -> bool
+        ensures { IsTrue result → (answer : Answer) → reply answer ≡ Reply.Success
+            → said_of (call_demand (Call.OnFd call fd) answer) pid (state_of self.now) ≡ [] }
+    {
+        match call {
+            FdCall::Closefrom => true,
+            _ => self.may_have(pid, fd, &fd_needs_of(call)),
+        }
+    }
+
     /// Whether nothing is said of a call that succeeded, where that is seen without its rule.
     fn is_silent_success(&self, pid: Pid, call: &Call) -> bool
         ensures { IsTrue result → (answer : Answer) → reply answer ≡ Reply.Success
             → said_of (call_demand call.now answer) pid (state_of self.now) ≡ [] }
     {
         match call {
-            Call::OnFd(FdCall::Closefrom, _) => true,
-            Call::OnFd(call, fd) => self.may_have(pid, *fd, &fd_needs_of(*call)),
+            Call::OnFd(call, fd) => self.is_silent_on_fd(pid, *call, *fd),
             Call::Send(_, fd) => self.may_have(pid, *fd, &send_needs_of()),
             Call::Dup2(fd, _) | Call::FcntlDup(_, fd, _) | Call::FcntlSetFd(fd, _) => {
                 self.may_have(pid, *fd, &RightSet::none())
@@ -115,6 +128,18 @@ impl Table {
                 _ => self.is_silent_success(line.pid, call),
             },
             _ => true,
+        }
+    }
+
+    /// The same of a line with a call on one descriptor.
+    #[inline(always)]
+    pub(crate) fn is_silent_fd_line(&self, line: &FdLine) -> bool
+        ensures { IsTrue result → said_of (demand line.now) line.now.pid (state_of self.now) ≡ [] }
+    {
+        match line.answer {
+            Answer::Fault(93) | Answer::Fault(94) => false,
+            Answer::Fault(_) => true,
+            _ => self.is_silent_on_fd(line.pid, line.call, line.fd),
         }
     }
 
@@ -246,28 +271,30 @@ impl Table {
     }
 
     /// A call on one descriptor.
-    fn follow_fd_call(
+    #[inline(always)]
+    fn follow_on_fd(
         &mut self,
         profile: Profile,
         pid: Pid,
-        call: &Call,
+        call: FdCall,
+        fd: Fd,
         answer: &Answer,
     ) -> Result<(), NoMemory>
-        requires { IsAnswer (kind_of call.now) answer.now }
-        ensures { OnOk result (Keeps self.new (call_after profile call.now answer.now pid (state_of self.old))) }
+        requires { IsAnswer (kind_of (Call.OnFd call fd)) answer.now }
+        ensures { OnOk result (Keeps self.new
+            (call_after profile (Call.OnFd call fd) answer.now pid (state_of self.old))) }
     {
         match call {
-            Call::OnFd(call_of, fd) => match call_of {
-                FdCall::Close => self.close(pid, *fd, answer),
-                FdCall::Dup => self.copy_made(pid, *fd, OnExec::Clear, answer),
-                FdCall::Closefrom
-                | FdCall::Accept
-                | FdCall::Fexecve
-                | FdCall::CapIoctlsLimit
-                | FdCall::CapFcntlsLimit => self.follow_rule(profile, pid, call, answer),
-                _ => Ok(()),
-            },
-            _ => self.follow_rule(profile, pid, call, answer),
+            FdCall::Close => self.close(pid, fd, answer),
+            FdCall::Dup => self.copy_made(pid, fd, OnExec::Clear, answer),
+            FdCall::Closefrom
+            | FdCall::Accept
+            | FdCall::Fexecve
+            | FdCall::CapIoctlsLimit
+            | FdCall::CapFcntlsLimit => {
+                self.follow_rule(profile, pid, &Call::OnFd(call, fd), answer)
+            }
+            _ => Ok(()),
         }
     }
 
@@ -283,7 +310,7 @@ impl Table {
         ensures { OnOk result (Keeps self.new (call_after profile call.now answer.now pid (state_of self.old))) }
     {
         match call {
-            Call::OnFd(_, _) => self.follow_fd_call(profile, pid, call, answer),
+            Call::OnFd(call, fd) => self.follow_on_fd(profile, pid, *call, *fd, answer),
             Call::RightsLimit(fd, asked) => self.limit(pid, *fd, asked, answer),
             Call::Open(_, flags) => {
                 let flag = open_flag_of(flags.as_bytes());
@@ -320,5 +347,13 @@ impl Table {
             Item::Exit => self.exit(line.pid),
             Item::Foreign(fd) => self.write(line.pid, *fd, Cell::Unknown),
         }
+    }
+    /// What is known after a line with a call on one descriptor.
+    #[inline(always)]
+    pub(crate) fn follow_fd_line(&mut self, profile: Profile, line: &FdLine) -> Result<(), NoMemory>
+        ensures { OnOk result (Keeps self.new (step_after (step profile line.now) (state_of self.old))) }
+    {
+        self.remains.free_some();
+        self.follow_on_fd(profile, line.pid, line.call, line.fd, &line.answer)
     }
 }

@@ -1,5 +1,5 @@
 use Rattle.std.proofs.Common.{◌<◌, ◌≤◌, length, arith, sym, ◌∙◌}
-use Rattle.cap_session.proofs.NextEntry.{skips, is_full, reads, reads_some, is_faulty, is_lost}
+use Rattle.cap_session.proofs.NextEntry.{skips, is_full, reads}
 use Rattle.cap_session.specs.Traced.{one_more}
 use Rattle.cap_session.proofs.entries.EntriesLines.line.Goals as goal
 
@@ -19,24 +19,11 @@ returns-in-Ok g c = λ known has.
     let room : length known.entries < 1000000 = omega arith in (
       one_more known c.in-Ok.line,
       reads known c.args.line.now c.in-Ok.line
-          (sym c.is_skipped.ensures ∙ c.if-is_skipped.false) room c.in-Ok.ensures.reads,
-      c.keep.ensures known has count,
+          (sym c.is_skipped.ensures ∙ c.if-is_skipped.false) room c.in-Ok.ensures.read,
+      c.keep_fd_line.ensures known has count,
     )
 
-pub returns-in-Memory : goal.returns-in-Memory
-returns-in-Memory g c = λ known has.
+pub returns-in-Err : goal.returns-in-Err
+returns-in-Err g c = λ known has.
     let count = c.count-count.ensures.lines known has in
-    let room : length known.entries < 1000000 = omega arith in
-    let some = reads_some known c.args.line.now (sym c.is_skipped.ensures ∙ c.if-is_skipped.false) room
-    (rw c.in-Memory.is at c.in-Err.ensures.reads) in (
-      one_more known some.0,
-      some.1,
-      is_lost g.K.Keep.keeps known some.0 _ _ _ c.lose.ensures.kept c.lose.ensures.lost count,
-    )
-
-pub returns-in_default : goal.returns-in_default
-returns-in_default g c = λ known has.
-    let count = c.count-count.ensures.lines known has in
-    let room : length known.entries < 1000000 = omega arith in
-    rw c.from.ensures (is_faulty known c.args.line.now c.in-Err.fault
-    (sym c.is_skipped.ensures ∙ c.if-is_skipped.false) room c.in_default.not-Memory c.in-Err.ensures.reads)
+    rw (sym c.in-Err.ensures.unread) (c.keep_unread.ensures known has count)

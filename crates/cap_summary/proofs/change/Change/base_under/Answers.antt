@@ -3,7 +3,7 @@ use Rattle.cap_machine.specs.State.{State}
 use Rattle.cap_summary.specs.declared.change.Process.{Process}
 use Rattle.cap_summary.specs.declared.values.Base.{Base}
 use Rattle.cap_summary.specs.Values.{read_cell, is_from}
-use Rattle.cap_summary.specs.Tables.{listed_value, process_at}
+use Rattle.cap_summary.specs.Tables.{listed_value, process_at, process_of}
 use Rattle.cap_summary.specs.Changes.{cell_in, changed}
 use Rattle.cap_summary.proofs.Joining.{base_joined}
 use Rattle.cap_summary.proofs.Untouched.{base_untouched}
@@ -13,7 +13,7 @@ use Rattle.cap_summary.proofs.change.Change.base_under.Goals as goal
 
 pub returns-in_ok-cells-in-Some-clause-cells : goal.returns-in_ok-cells-in-Some-clause-cells
 returns-in_ok-cells-in-Some-clause-cells c = λ s f.
-    let process : Process = c.in-Some.process.now in
+    let process : Process = process_of c.in-Some.process in
     let t : State = changed c.args.self.now s in
     let found : process_at c.args.self.now.processes c.in-Of.pid ≡ Some process = sym c.in-Some.ensures in
     rw c.in-Of.is (base_joined s t c.in-Of.passing c.in-Of.pid f
@@ -24,7 +24,7 @@ returns-in_ok-cells-in-Some-clause-cells c = λ s f.
 
 pub returns-in_ok-cells-in-Some-clause-untouched : goal.returns-in_ok-cells-in-Some-clause-untouched
 returns-in_ok-cells-in-Some-clause-untouched c = λ p f.
-    let process : Process = c.in-Some.process.now in
+    let process : Process = process_of c.in-Some.process in
     let new : Base = record {
       others = c.passed.result;
       closed_from = c.lower_of.result;
@@ -37,13 +37,15 @@ returns-in_ok-cells-in-Some-clause-untouched c = λ p f.
 
 pub returns-in_ok-cells-in-Some-clause-others : goal.returns-in_ok-cells-in-Some-clause-others
 returns-in_ok-cells-in-Some-clause-others c = λ names within is.
-    let found : process_at c.args.self.now.processes c.in-Of.pid ≡ Some c.in-Some.process.now = sym c.in-Some.ensures in
-    let listed : ListedWithin names c.in-Of.pid (Some c.in-Some.process.now) = rw found at (within c.in-Of.pid) in
+    let process : Process = process_of c.in-Some.process in
+    let found : process_at c.args.self.now.processes c.in-Of.pid ≡ Some process = sym c.in-Some.ensures in
+    let listed : ListedWithin names c.in-Of.pid (Some process) = rw found at (within c.in-Of.pid) in
     c.passed.ensures.names names ∙ listed.1.others
 
 pub returns-in_ok-cells-in-Some-clause-listed : goal.returns-in_ok-cells-in-Some-clause-listed
 returns-in_ok-cells-in-Some-clause-listed c = λ names within f.
-    let found : process_at c.args.self.now.processes c.in-Of.pid ≡ Some c.in-Some.process.now = sym c.in-Some.ensures in
-    let listed : ListedWithin names c.in-Of.pid (Some c.in-Some.process.now) = rw found at (within c.in-Of.pid) in
-    passed_within names c.in-Of.passing c.args.base.now.closed_from f (listed_value c.in-Some.process.now.cells f)
+    let process : Process = process_of c.in-Some.process in
+    let found : process_at c.args.self.now.processes c.in-Of.pid ≡ Some process = sym c.in-Some.ensures in
+    let listed : ListedWithin names c.in-Of.pid (Some process) = rw found at (within c.in-Of.pid) in
+    passed_within names c.in-Of.passing c.args.base.now.closed_from f (listed_value c.in-Some.process.cells.now f)
     (listed_value c.in_ok-cells-in-Some.cells f) (c.in_ok-cells-in-Some.ensures f) (listed.1.cells f)

@@ -1,19 +1,19 @@
 use Rattle.cap_summary.proofs.Joining.{process_joined}
 use Rattle.cap_summary.proofs.Untouched.{process_untouched}
 use Rattle.cap_summary.proofs.Naming.{over_within}
-use Rattle.cap_summary.specs.Tables.{listed_value}
+use Rattle.cap_summary.specs.Tables.{listed_value, process_of}
 use Rattle.cap_summary.proofs.change.Change.process_under.Goals as goal
 
 pub returns : goal.returns
 returns c = record {
-  cells = λ s f. process_joined s c.args.self.now c.in_ok-base.base c.args.process.now f c.in_ok-base.first
+  cells = λ s f. process_joined s c.args.self.now c.in_ok-base.base (process_of c.args.process.now) f c.in_ok-base.first
       c.in_ok-cells.cells (c.in_ok-cells.ensures f) (c.in_ok-base.ensures.cells s f);
   mode = c.mode_under.ensures.mode;
-  untouched = λ p f. process_untouched c.args.self.now c.in_ok-base.base c.args.process.now c.in_ok-base.first
+  untouched = λ p f. process_untouched c.args.self.now c.in_ok-base.base (process_of c.args.process.now) c.in_ok-base.first
       c.in_ok-cells.cells p f (c.in_ok-cells.ensures f) (c.in_ok-base.ensures.untouched p f);
   unturned = c.mode_under.ensures.unturned;
   names = λ names change old. record {
-    cells = λ f. over_within names c.args.self.now f (listed_value c.args.process.now.cells f)
+    cells = λ f. over_within names c.args.self.now f (listed_value c.args.process.now.cells.now f)
         (listed_value c.in_ok-cells.cells f) (listed_value c.in_ok-base.first f) change (c.in_ok-cells.ensures f)
         (old.cells f) (c.in_ok-base.ensures.listed names change f);
     others = c.in_ok-base.ensures.others names change old.others;

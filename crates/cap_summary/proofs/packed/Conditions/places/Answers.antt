@@ -1,35 +1,55 @@
-use Rattle.std.proofs.Common.{◌≡◌, ◌≤◌, true, arith}
-use Rattle.cap_summary.specs.declared.packed.Packed.{Packed}
-use Rattle.cap_summary.specs.Names.{these, condition_within}
-use Rattle.cap_summary.specs.Packed.{packed_condition}
-use Rattle.cap_summary.specs.Sizes.{condition_rank}
-use Rattle.cap_summary.proofs.Counting.{count_all, count_ranks, counted_more, packed_within, ranks}
+use Rattle.std.proofs.Common.{◌≤◌, ◌++◌, arith}
+use Rattle.cap_summary.specs.Names.{these, ConditionsWithin}
+use Rattle.cap_summary.specs.Packed.{low_conditions, packed_conditions}
+use Rattle.cap_summary.specs.Sizes.{RankWithin}
+use Rattle.cap_summary.proofs.Counting.{count_all, count_ranks, counted_more, first_part, ranks, second_part}
 use Rattle.cap_summary.proofs.packed.Conditions.places.Goals as goal
-use Rattle.cap_summary.proofs.packed.Conditions.places.Goals.{then-rank-next, else-rank-next}
+use Rattle.cap_summary.proofs.packed.Conditions.places.Goals.{then-lower, else-lower, then-lower-next, else-lower-next}
 
-pub loop-item-init : goal.loop-item-init
-loop-item-init c = λ pids fds within. omega (arith, count_all 0 (ranks pids fds))
+pub loop-init : goal.loop-init
+loop-init c = (omega arith, (omega arith, λ pids fds within. omega (arith, count_all 0 (ranks pids fds))))
 
-pub loop-item-preserved : goal.loop-item-preserved
-loop-item-preserved c = λ pids fds within.
-    let item : Packed = c.item-item.result in
-    let own : condition_within (these pids fds) (packed_condition item) ≡ true =
-    packed_within (these pids fds) c.packed-item-items.result.now c.loop-item.item-index item
-    (rw c.packed-item-items.ensures within) c.loop-item-test.true c.item-item.is in
-    let before = c.loop-item.invariant pids fds within in
-    elim c.if-rank-next.branch [
-      | then-rank-next w ↦
-          let le : c.loop-item.next ≤ condition_rank (packed_condition item) =
-          omega (arith, w.if-rank-next, c.rank-rank.ensures.value) in
-          let more = counted_more c.loop-item.count c.loop-item.next pids fds (packed_condition item) le own before in
-          rw (w.count-is, w.next-is, c.rank-rank.ensures.value) (omega (arith, more, w.saturating_add-count.ensures))
-      | else-rank-next w ↦ rw (w.count-is, w.next-is) before
-    ]
+pub loop-preserved : goal.loop-preserved
+loop-preserved c = (
+  elim c.if-lower.branch [
+    | then-lower w ↦ omega (arith, w.i-is, c.loop.invariant.0)
+    | else-lower w ↦ omega (arith, w.i-is, c.loop.invariant.0)
+  ],
+  (
+    elim c.if-lower.branch [
+      | then-lower w ↦ omega (arith, w.j-is, c.loop.invariant.1.0)
+      | else-lower w ↦ omega (arith, w.j-is, c.loop.invariant.1.0)
+    ],
+    λ pids fds within.
+        let lows = low_conditions c.parts.result.0.now in
+        let others = packed_conditions c.parts.result.1.now in
+        let both : ConditionsWithin (these pids fds) (lows ++ others) = rw c.parts.ensures within in
+        let own : RankWithin (these pids fds) c.in-Some.lower.rank =
+        c.in-Some.ensures.within (these pids fds) (first_part (these pids fds) lows others both)
+        (second_part (these pids fds) lows others both) in
+        let before = c.loop.invariant.1.1 pids fds within in
+        elim c.if-lower-next.branch [
+          | then-lower-next w ↦
+              let le : c.loop.next ≤ c.in-Some.lower.rank = omega (arith, w.if-lower-next) in
+              let more = counted_more c.loop.count c.loop.next pids fds c.in-Some.lower.rank le own before in
+              rw (w.count-is, w.next-is) (omega (arith, more, w.saturating_add-count.ensures))
+          | else-lower-next w ↦ rw (w.count-is, w.next-is) before
+        ],
+  ),
+)
+
+pub returns-in_default : goal.returns-in_default
+returns-in_default c = record {
+  few = λ pids fds within.
+      let before = c.loop.invariant.1.1 pids fds within in
+      let all = count_ranks pids fds in
+      omega (arith, before, all);
+}
 
 pub returns : goal.returns
 returns c = record {
   few = λ pids fds within.
-      let before = c.loop-item.invariant pids fds within in
+      let before = c.loop.invariant.1.1 pids fds within in
       let all = count_ranks pids fds in
       omega (arith, before, all);
 }

@@ -1,7 +1,6 @@
-use Rattle.cap_summary.specs.Tables.{kept_value}
-use Rattle.cap_summary.proofs.Comparing.{ShowSame, entry_seen}
+use Rattle.cap_summary.proofs.Comparing.{ShowSame, entry_seen, cell_seen}
 use Rattle.cap_summary.proofs.tables.Cells.is_like.Given as goal
 
 -- the cells so far are the same
 abbrev pub invariant-loop-at : goal.invariant-loop-at
-invariant-loop-at l = ShowSame (entry_seen kept_value) l.at l.own l.theirs
+invariant-loop-at l = ShowSame (entry_seen cell_seen) l.at l.own l.theirs

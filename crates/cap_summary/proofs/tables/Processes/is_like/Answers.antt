@@ -1,5 +1,6 @@
 use Rattle.std.proofs.Common.{◌<◌, length, arith}
-use Rattle.cap_summary.proofs.Comparing.{entry_seen, seen_shared, shows_more, entries_seen, processes_alike}
+use Rattle.cap_summary.specs.Tables.{process_of}
+use Rattle.cap_summary.proofs.Comparing.{entry_seen, process_seen, shows_more, entries_seen, processes_alike}
 use Rattle.cap_summary.proofs.tables.Processes.is_like.Goals as goal
 
 pub loop-at-preserved : goal.loop-at-preserved
@@ -9,10 +10,10 @@ loop-at-preserved c =
     let within : c.loop-at.at < length c.entries-own.result.now = omega arith in
     let within2 : c.loop-at.at < length c.entries-theirs.result.now = omega arith in
     let is_like = c.is_like.ensures in
-    shows_more (entry_seen seen_shared) c.entries-own.result.now c.entries-theirs.result.now c.loop-at.at x y within
+    shows_more (entry_seen process_seen) c.entries-own.result.now c.entries-theirs.result.now c.loop-at.at x y within
     within2 c.index-own-at.is c.index-theirs-at.is
-    (entries_seen x y c.deref.result.now c.deref-else-a-b.result.now c.if-a-b.false c.deref.ensures
-    c.deref-else-a-b.ensures (is_like c.if-not-is_like.false)) c.loop-at.invariant
+    (entries_seen x y (process_of c.process.result) (process_of c.process-else-a-b.result) c.if-a-b.false
+    c.process.ensures c.process-else-a-b.ensures (is_like c.if-not-is_like.false)) c.loop-at.invariant
 
 pub returns : goal.returns
 returns c = λ yes p. processes_alike c.args.self.now c.args.others.now c.entries-own.result.now
