@@ -160,8 +160,8 @@ fn a_long_trace_is_walked_back(rt: HostRuntime) -> Result<(), Fail> {
     Ok(())
 }
 
-/// What is known of a trace in profile 2 is that these cells, of a process and a descriptor, are untouched or not.
-fn says(known: &Known, cells: &[(u32, u32, bool)]) -> bool {
+/// What is known of a trace in profile 2 is that two cells, of a process and a descriptor, are untouched or not.
+fn says(known: &Known, cells: &[(u32, u32, bool); 2]) -> bool {
     cells.iter().all(|(pid, fd, untouched)| known.is_untouched(*pid, *fd) == *untouched)
 }
 
