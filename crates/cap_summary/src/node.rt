@@ -1,10 +1,10 @@
 //! The nodes of a summary. A contract sees a node as its steps.
 
 ghost use Rattle.std.specs.Prelude.{◌≡◌, ℕ, ◌+◌, ◌^◌, ◌<◌, ◌≤◌, ◌++◌, ◌∷◌, [], List, length, map, IfOk, OnOk, IfSome, IfNone};
-ghost use Rattle.std.specs.Prelude.{take, slice_index_or, true};
+ghost use Rattle.std.specs.Prelude.{take, slice_index_or, true, false};
 ghost use Rattle.cap_machine.specs.Walks.{LeavesCell, LeavesMode};
 ghost use Rattle.cap_summary.specs.Passes.{PassesCell, PassesMode};
-ghost use Rattle.cap_summary.specs.Knows.{Knows};
+ghost use Rattle.cap_summary.specs.Knows.{Knows, finds};
 ghost use Rattle.cap_summary.specs.Sizes.{NamesMany};
 ghost use Rattle.cap_machine.specs.declared.step.Step.{Step};
 ghost use Rattle.cap_machine.specs.Check.{check};
@@ -33,6 +33,9 @@ const RUN_STEPS: usize = 48;
 
 /// Something is known of all that are no more steps than this.
 const KNOWN_STEPS: usize = 256;
+
+/// Of so many steps, one is few: then it isn't asked whether something is found in all of them.
+const STEPS_ASKED: usize = 16;
 
 #[cycle(node)]
 #[derive(Drop)]
@@ -327,6 +330,17 @@ impl Node {
         }
     }
 
+    /// Whether something may be found in the steps from this state. Where few of them are asked for it isn't looked at: to
+    /// go down to those takes less than to ask about all.
+    fn may_find(&self, known: &Known, before: &Before<'_>, asked: &Asked) -> bool
+        ensures { result ≡ false → finds known.now (state_before before.now) ≡ false }
+    {
+        if asked.to.saturating_sub(asked.from) < self.len / STEPS_ASKED {
+            return true;
+        }
+        before.finds(known)
+    }
+
     /// Notes what is found in the steps and then in the rest, which begin in this state behind so many others, at the
     /// positions that are asked for. It visits only parts that have such positions, and stops where more was found than is
     /// looked up one by one.
@@ -350,7 +364,7 @@ impl Node {
         }
         if let Some(known) = &self.known {
             let known: &Known = known;
-            if at + self.len >= asked.from && before.finds(known) {
+            if at + self.len >= asked.from && self.may_find(known, before, asked) {
                 match &self.content {
                     Content::Run(run) => judge_run(run, before, at, asked, found)?,
                     Content::Both(a, b) => {
