@@ -49,7 +49,7 @@ bench: capcheck
 	bench/run ./capcheck
 	bench/edits ./capcheck
 	bench/reading
-	if command -v valgrind >/dev/null; then bench/instructions ./capcheck; bench/replaced ./capcheck; fi
+	if command -v valgrind >/dev/null; then bench/instructions ./capcheck; bench/edited ./capcheck; bench/replaced ./capcheck; fi
 
 install: capcheck
 	install -d $(DESTDIR)$(PREFIX)/bin
