@@ -3,6 +3,8 @@
 
 ghost use Rattle.std.specs.Prelude.{◌≡◌, ℕ, ◌<◌, ◌^◌, if◌then◌else◌};
 ghost use Rattle.cap_trace.specs.Entry.{IsAnswer, kind_of, fcntl_kind};
+ghost use Rattle.cap_trace.specs.Seen.{call_seen};
+ghost use Rattle.cap_trace.specs.declared.line.Call.TheVariants as calls;
 ghost use Rattle.cap_machine.specs.Places.{below};
 ghost use Rattle.cap_machine.specs.Touch.{kept, given, taken, on_fd, on_made, on_both, on_success, closing, copied};
 ghost use Rattle.cap_machine.specs.Touch.{copied_to, whole, unknown, exec_touch, closefrom_touch, open_flag};
@@ -18,7 +20,7 @@ use crate::places::below_of;
 use crate::rule::Effect;
 use cap_rights::RightSet;
 use cap_trace::{
-    Answer, AtFlagsCall, BareCall, Call, Dir, DupCommand, Fd, FdCall, FlagsCall, PathCall, Pid,
+    Answer, AtFlagsCall, BareCall, CallSeen, Dir, DupCommand, Fd, FdCall, FlagsCall, PathCall, Pid,
 };
 
 /// The flag of a descriptor, by whether it was asked to be closed on exec.
@@ -182,7 +184,7 @@ fn closed_from(profile: Profile, fd: Fd, answer: &Answer) -> Effect<'static>
 
 /// A call whose one argument is a descriptor.
 fn fd_effect(profile: Profile, call: FdCall, fd: Fd, answer: &Answer) -> Effect<'static>
-    requires { IsAnswer (kind_of (Call.OnFd call fd)) answer.now }
+    requires { IsAnswer (kind_of (calls.OnFd call fd)) answer.now }
     ensures cells { (me p f : ℕ) → effect_touch result me p f ≡ fd_touch profile call fd answer.now me p f }
     ensures modes { OnlyCells result }
 {
@@ -255,7 +257,7 @@ fn at_flags_effect(
     flags: &[u8],
     answer: &Answer,
 ) -> Effect<'static>
-    requires { IsAnswer (kind_of (Call.AtFlags call dir path.now flags.now)) answer.now }
+    requires { IsAnswer (kind_of (calls.AtFlags call dir path.now flags.now)) answer.now }
     ensures cells { (me p f : ℕ) → effect_touch result me p f ≡ at_touch call dir path.now flags.now answer.now me p f }
     ensures modes { OnlyCells result }
 {
@@ -304,9 +306,9 @@ fn entered(answer: &Answer) -> Effect<'static>
 
 /// A call without arguments.
 fn bare_effect(call: BareCall, answer: &Answer) -> Effect<'static>
-    requires { IsAnswer (kind_of (Call.Bare call)) answer.now }
+    requires { IsAnswer (kind_of (calls.Bare call)) answer.now }
     ensures cells { (me p f : ℕ) → effect_touch result me p f ≡ bare_touch call answer.now me p f }
-    ensures modes { (me p : ℕ) → effect_turn result me p ≡ call_turn (Call.Bare call) answer.now me p }
+    ensures modes { (me p : ℕ) → effect_turn result me p ≡ call_turn (calls.Bare call) answer.now me p }
 {
     match call {
         BareCall::Pipe => made_both(OnExec::Clear, answer),
@@ -321,7 +323,7 @@ fn bare_effect(call: BareCall, answer: &Answer) -> Effect<'static>
 
 /// A call whose one argument is flags.
 fn flags_effect(call: FlagsCall, flags: &[u8], answer: &Answer) -> Effect<'static>
-    requires { IsAnswer (kind_of (Call.OnFlags call flags.now)) answer.now }
+    requires { IsAnswer (kind_of (calls.OnFlags call flags.now)) answer.now }
     ensures cells { (me p f : ℕ) → effect_touch result me p f ≡ flags_touch call flags.now answer.now me p f }
     ensures modes { OnlyCells result }
 {
@@ -333,28 +335,29 @@ fn flags_effect(call: FlagsCall, flags: &[u8], answer: &Answer) -> Effect<'stati
 }
 
 /// What a call does.
-pub(crate) fn effect_of(profile: Profile, call: &Call, answer: &Answer) -> Effect<'static>
-    requires { IsAnswer (kind_of call.now) answer.now }
-    ensures cells { (me p f : ℕ) → effect_touch result me p f ≡ call_touch profile call.now answer.now me p f }
-    ensures modes { (me p : ℕ) → effect_turn result me p ≡ call_turn call.now answer.now me p }
+pub(crate) fn effect_of(profile: Profile, call: &CallSeen<'_>, answer: &Answer) -> Effect<'static>
+    requires { IsAnswer (kind_of (call_seen call.now)) answer.now }
+    ensures cells { (me p f : ℕ)
+        → effect_touch result me p f ≡ call_touch profile (call_seen call.now) answer.now me p f }
+    ensures modes { (me p : ℕ) → effect_turn result me p ≡ call_turn (call_seen call.now) answer.now me p }
 {
     match call {
-        Call::OnFd(call, fd) => fd_effect(profile, *call, *fd, answer),
-        Call::Accept4(_, _) => made(answer, Cell::Unknown),
-        Call::Dup2(fd, to) => {
+        CallSeen::OnFd(call, fd) => fd_effect(profile, *call, *fd, answer),
+        CallSeen::Accept4(_, _) => made(answer, Cell::Unknown),
+        CallSeen::Dup2(fd, to) => {
             copied_to_number(Op::copy_to_itself(), OnExec::Clear, *fd, *to, answer)
         }
-        Call::FcntlDup(command, fd, to) => fcntl_copied(*command, *fd, *to, answer),
-        Call::Fcntl(fd, command) => fcntl_effect(*fd, command.as_bytes(), answer),
-        Call::FcntlSetFd(fd, flags) => changed(*fd, set_fd_op_of(flags.as_bytes()), answer),
-        Call::RightsLimit(fd, asked) => changed(*fd, Op::limit(asked), answer),
-        Call::Open(_, flags) => made_whole(open_flag_of(flags.as_bytes()), answer),
-        Call::OnPath(PathCall::Execve, _) => executed(profile, answer),
-        Call::AtFlags(call, dir, path, flags) => {
-            at_flags_effect(*call, *dir, path.as_bytes(), flags.as_bytes(), answer)
+        CallSeen::FcntlDup(command, fd, to) => fcntl_copied(*command, *fd, *to, answer),
+        CallSeen::Fcntl(fd, command) => fcntl_effect(*fd, command, answer),
+        CallSeen::FcntlSetFd(fd, flags) => changed(*fd, set_fd_op_of(flags), answer),
+        CallSeen::RightsLimit(fd, asked) => changed(*fd, Op::limit(asked), answer),
+        CallSeen::Open(_, flags) => made_whole(open_flag_of(flags), answer),
+        CallSeen::OnPath(PathCall::Execve, _) => executed(profile, answer),
+        CallSeen::AtFlags(call, dir, path, flags) => {
+            at_flags_effect(*call, *dir, path, flags, answer)
         }
-        Call::OnFlags(call, flags) => flags_effect(*call, flags.as_bytes(), answer),
-        Call::Bare(call) => bare_effect(*call, answer),
+        CallSeen::OnFlags(call, flags) => flags_effect(*call, flags, answer),
+        CallSeen::Bare(call) => bare_effect(*call, answer),
         _ => Effect::Keep,
     }
 }

@@ -130,7 +130,7 @@ pub fn rule_of(profile: Profile, line: &Line) -> Rule<'_>
     match &line.item {
         Item::Call { call, answer } => Rule {
             demand: demand_of(call, answer),
-            effect: effect_of(profile, call, answer),
+            effect: effect_of(profile, &call.seen(), answer),
         },
         Item::Start(fds) => Rule {
             demand: unjudged_demand(),

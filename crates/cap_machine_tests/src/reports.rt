@@ -1,6 +1,6 @@
 //! Worked traces have their reports.
 
-use crate::lines::{checked, lines_of, report_of};
+use crate::lines::{checked, lines_of, report_of, report_where_they_lie};
 use crate::traces::{BY_PROFILE, REPORTS};
 use cap_machine::{Checker, Finding, Profile, put_count, put_finding};
 use cap_trace::parse_line;
@@ -26,6 +26,24 @@ fn a_trace_has_its_report_in_each_profile(rt: HostRuntime) -> Result<(), Fail> {
         assert_eq!(rt; text.as_slice(), one, "profile 1: {two:?}");
         let text = report_of(Checker::new(rt.alloc(), Profile::Two), &lines)?;
         assert_eq!(rt; text.as_slice(), two, "profile 2");
+    }
+    Ok(())
+}
+
+#[test]
+fn lines_are_checked_where_they_lie(rt: HostRuntime) -> Result<(), Fail> {
+    for (trace, one, two) in BY_PROFILE {
+        let checker = Checker::new(rt.alloc(), Profile::One);
+        let text = report_where_they_lie(rt.alloc(), checker, trace)?;
+        assert_eq!(rt; text.as_slice(), one, "profile 1: {two:?}");
+        let checker = Checker::new(rt.alloc(), Profile::Two);
+        let text = report_where_they_lie(rt.alloc(), checker, trace)?;
+        assert_eq!(rt; text.as_slice(), two, "profile 2");
+    }
+    for (trace, report) in REPORTS {
+        let checker = Checker::new(rt.alloc(), Profile::One);
+        let text = report_where_they_lie(rt.alloc(), checker, trace)?;
+        assert_eq!(rt; text.as_slice(), report);
     }
     Ok(())
 }

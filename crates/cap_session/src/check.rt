@@ -15,7 +15,7 @@ use crate::refused::Refusal;
 use crate::short_text::ShortText;
 use crate::write::write_text;
 use cap_machine::{Checker, NoMemory, Profile};
-use cap_trace::{FdLine, Line};
+use cap_trace::{CallLine, FdLine, Line};
 use std::alloc::Global;
 
 impl Keep for Checker {
@@ -33,6 +33,10 @@ impl Keep for Checker {
 
     fn keep_fd_line(&mut self, line: FdLine) -> Result<(), NoMemory> {
         self.fd_line(line)
+    }
+
+    fn keep_call_line(&mut self, alloc: Global, line: &CallLine<'_>) -> Result<(), NoMemory> {
+        self.call_line(alloc, line)
     }
 }
 

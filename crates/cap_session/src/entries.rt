@@ -14,7 +14,7 @@ use crate::lines::{Lines, Stop};
 use crate::read::read_text;
 use crate::refused::Refused;
 use cap_machine::NoMemory;
-use cap_trace::{FdLine, Line, LineFault, Unread, parse_fd_line};
+use cap_trace::{CallLine, FdLine, Line, LineFault, Unread, parse_fd_line};
 use std::alloc::Global;
 
 /// Whether a line is empty or a comment.
@@ -51,6 +51,12 @@ pub trait Keep: Drop {
         requires { lines_of self.old < most_lines }
         ensures { (s : Setting) (entries : List Entry) → keeps self.old s entries
             → OnOk result (keeps self.new s (entries ++ line ∷ [])) };
+
+    /// Keeps one line more, with a call whose texts lie elsewhere.
+    fn keep_call_line(&mut self, alloc: Global, line: &CallLine<'_>) -> Result<(), NoMemory>
+        requires { lines_of self.old < most_lines }
+        ensures { (s : Setting) (entries : List Entry) → keeps self.old s entries
+            → OnOk result (keeps self.new s (entries ++ line.now ∷ [])) };
 }
 
 /// The lines of a trace so far. They are kept until memory runs out, and counted from then on.
@@ -109,9 +115,25 @@ impl<K: Keep> Entries<K> {
         }
     }
 
+    /// The same of a line with a call whose texts lie elsewhere.
+    fn keep_call_line(&mut self, count: usize, line: &CallLine<'_>)
+        requires room { ForSome self.old.kept (λ k. K.lines_of k < most_lines) }
+        requires most { count < most_lines }
+        ensures { (known : Traced) → Follows K.keeps self.old.kept self.old.lost known → count ≡ length known.entries
+            → Follows K.keeps self.new.kept self.new.lost (one_more known line.now) }
+    {
+        let is_kept = match &mut self.kept {
+            Some(kept) => kept.keep_call_line(self.alloc, line).is_ok(),
+            None => false,
+        };
+        if !is_kept {
+            self.lose(count + 1);
+        }
+    }
+
     /// Keeps the next line, which isn't read yet and comes after `count` others.
-    #[inline(always)]
-    fn keep_unread(&mut self, count: usize, unread: Unread<'_>) -> Result<(), Refused>
+    #[inline(never)]
+    fn keep_with_care(&mut self, count: usize, unread: Unread<'_>) -> Result<(), Refused>
         requires room { ForSome self.old.kept (λ k. K.lines_of k < most_lines) }
         requires most { count < most_lines }
         requires counts { is_skipped unread ≡ false }
@@ -130,6 +152,24 @@ impl<K: Keep> Entries<K> {
                 }
                 _ => Err(Refused::from(fault)),
             },
+        }
+    }
+
+    /// The same, where the line may have a call that is read in one pass.
+    #[inline(always)]
+    fn keep_unread(&mut self, count: usize, unread: Unread<'_>) -> Result<(), Refused>
+        requires room { ForSome self.old.kept (λ k. K.lines_of k < most_lines) }
+        requires most { count < most_lines }
+        requires counts { is_skipped unread ≡ false }
+        ensures { (known : Traced) → Follows K.keeps self.old.kept self.old.lost known → count ≡ length known.entries
+            → TakesLine (next_traced known unread.entry) (Follows K.keeps self.new.kept self.new.lost) result }
+    {
+        match unread.call_line() {
+            Ok(line) => {
+                self.keep_call_line(count, &line);
+                Ok(())
+            }
+            Err(unread) => self.keep_with_care(count, unread),
         }
     }
 

@@ -20,7 +20,7 @@ use crate::short_text::ShortText;
 use crate::start_text::read_start;
 use crate::write::write_text;
 use cap_machine::{NoMemory, Profile, Start};
-use cap_trace::{FdLine, Line};
+use cap_trace::{CallLine, FdLine, Line};
 use std::alloc::Global;
 
 impl Keep for Vec<Line> {
@@ -41,6 +41,10 @@ impl Keep for Vec<Line> {
 
     fn keep_fd_line(&mut self, line: FdLine) -> Result<(), NoMemory> {
         self.keep(line.line())
+    }
+
+    fn keep_call_line(&mut self, alloc: Global, line: &CallLine<'_>) -> Result<(), NoMemory> {
+        self.keep(line.line(alloc)?)
     }
 }
 

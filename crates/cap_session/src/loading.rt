@@ -10,7 +10,7 @@ use crate::refused::Refused;
 use crate::session::Session;
 use crate::steps::step_of;
 use cap_machine::{NoMemory, Profile, Step};
-use cap_trace::{FdLine, Line};
+use cap_trace::{CallLine, FdLine, Line};
 use std::alloc::Global;
 use std::marker::Model;
 use std::rc::Rc;
@@ -83,5 +83,9 @@ impl Keep for Loading {
 
     fn keep_fd_line(&mut self, line: FdLine) -> Result<(), NoMemory> {
         self.keep(line.line())
+    }
+
+    fn keep_call_line(&mut self, alloc: Global, line: &CallLine<'_>) -> Result<(), NoMemory> {
+        self.keep(line.line(alloc)?)
     }
 }

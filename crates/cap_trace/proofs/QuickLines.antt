@@ -158,11 +158,11 @@ next text more rest a b others x y =
 -- ---- calls and lines
 
 -- a call with its answer
-pub call_after : (h : Head) (text tail : List ℕ) (x c : Call) (a : Answer) → x ≡ c → head_of_call c ≡ h
-    → Between text (args_of_call c) tail → answer_at (kind_of c) tail ≡ Ok a → SpellsAfter h text (items.Call x a)
-call_after h text tail x c a same e b is_answer =
+pub call_after : (h : Head) (text tail : List ℕ) (c : Call) (a : Answer) → head_of_call c ≡ h
+    → Between text (args_of_call c) tail → answer_at (kind_of c) tail ≡ Ok a → SpellsAfter h text (items.Call c a)
+call_after h text tail c a e b is_answer =
     let k = answer_takes (kind_of c) tail a is_answer in
-    subst (λ (y : Call). SpellsAfter h text (items.Call y a)) (sym same) (record {
+    record {
       head = e;
       args = record {
         texts = b.texts;
@@ -170,7 +170,7 @@ call_after h text tail x c a same e b is_answer =
         parts = b.parts ∙ ap (λ (r : List ℕ). join_with_byte 44 b.texts ++ (41 ∷ r)) k.0;
       };
       whole = k.1;
-    })
+    }
 
 -- how a line begins
 pub starts : (bytes rest name text : List ℕ) (p : ℕ) (h : Head) → length bytes ≤ 1024

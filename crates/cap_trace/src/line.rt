@@ -9,6 +9,7 @@ use crate::calls::{
     SendCall,
 };
 use crate::names::Head;
+use crate::seen::CallSeen;
 use crate::text::Text;
 use cap_rights::RightSet;
 use std::marker::Model;
@@ -260,6 +261,56 @@ impl Model for Line {
 impl Call {
     ghost use Rattle.cap_trace.specs.Entry.{head_of_call};
     ghost use Rattle.cap_trace.specs.Rows.{head_seen};
+    ghost use Rattle.cap_trace.specs.Seen.{call_seen};
+
+    /// The same call, with its texts where this one keeps them.
+    #[inline(always)]
+    pub fn seen(&self) -> CallSeen<'_>
+        ensures { call_seen result ≡ self.now }
+    {
+        match self {
+            Call::OnFd(call, fd) => CallSeen::OnFd(*call, *fd),
+            Call::Send(call, fd) => CallSeen::Send(*call, *fd),
+            Call::SendTo(call, fd) => CallSeen::SendTo(*call, *fd),
+            Call::Accept4(fd, flags) => CallSeen::Accept4(*fd, flags.as_bytes()),
+            Call::Dup2(fd, made) => CallSeen::Dup2(*fd, *made),
+            Call::Fcntl(fd, command) => CallSeen::Fcntl(*fd, command.as_bytes()),
+            Call::FcntlDup(command, fd, made) => CallSeen::FcntlDup(*command, *fd, *made),
+            Call::FcntlSetFd(fd, flags) => CallSeen::FcntlSetFd(*fd, flags.as_bytes()),
+            Call::Mmap(fd, protection, mapping) => {
+                CallSeen::Mmap(*fd, protection.as_bytes(), mapping.as_bytes())
+            }
+            Call::RightsLimit(fd, rights) => CallSeen::RightsLimit(*fd, *rights),
+            Call::Open(path, flags) => CallSeen::Open(path.as_bytes(), flags.as_bytes()),
+            Call::OnPath(call, path) => CallSeen::OnPath(*call, path.as_bytes()),
+            Call::OnPaths(call, from, to) => {
+                CallSeen::OnPaths(*call, from.as_bytes(), to.as_bytes())
+            }
+            Call::At(call, dir, path) => CallSeen::At(*call, *dir, path.as_bytes()),
+            Call::AtFlags(call, dir, path, flags) => {
+                CallSeen::AtFlags(*call, *dir, path.as_bytes(), flags.as_bytes())
+            }
+            Call::SymlinkAt(target, dir, link) => {
+                CallSeen::SymlinkAt(target.as_bytes(), *dir, link.as_bytes())
+            }
+            Call::RenameAt(from_dir, from, to_dir, to) => CallSeen::RenameAt(
+                *from_dir,
+                from.get().as_bytes(),
+                *to_dir,
+                to.get().as_bytes(),
+            ),
+            Call::LinkAt(from_dir, from, to_dir, to, flags) => CallSeen::LinkAt(
+                *from_dir,
+                from.get().as_bytes(),
+                *to_dir,
+                to.get().as_bytes(),
+                flags.get().as_bytes(),
+            ),
+            Call::OnFlags(call, flags) => CallSeen::OnFlags(*call, flags.as_bytes()),
+            Call::Bare(call) => CallSeen::Bare(*call),
+            Call::Other { name, args } => CallSeen::Other(name.as_bytes(), args.as_bytes()),
+        }
+    }
 
     /// What stands before the arguments.
     pub(crate) fn head(&self) -> Head<'_>

@@ -90,7 +90,7 @@ fn accept4(alloc: Global, fd: Fd, flags_text: &[u8]) -> Result<Call, AllocError>
 }
 
 /// `fcntl` with a command that asks for no third argument.
-pub(crate) fn fcntl(alloc: Global, fd: Fd, word: &[u8]) -> Result<Call, AllocError>
+fn fcntl(alloc: Global, fd: Fd, word: &[u8]) -> Result<Call, AllocError>
     ensures { IfOk result (λ c. c ≡ calls.Fcntl fd word.now) }
 {
     Ok(Call::Fcntl(fd, command(alloc, word)?))
@@ -104,19 +104,14 @@ fn fcntl_set_fd(alloc: Global, fd: Fd, flags_text: &[u8]) -> Result<Call, AllocE
 }
 
 /// `mmap`.
-pub(crate) fn mmap(
-    alloc: Global,
-    fd: Fd,
-    protection: &[u8],
-    mapping: &[u8],
-) -> Result<Call, AllocError>
+fn mmap(alloc: Global, fd: Fd, protection: &[u8], mapping: &[u8]) -> Result<Call, AllocError>
     ensures { IfOk result (λ c. c ≡ calls.Mmap fd protection.now mapping.now) }
 {
     Ok(Call::Mmap(fd, flags(alloc, protection)?, flags(alloc, mapping)?))
 }
 
 /// `open`.
-pub(crate) fn open(alloc: Global, path_text: &[u8], flags_text: &[u8]) -> Result<Call, AllocError>
+fn open(alloc: Global, path_text: &[u8], flags_text: &[u8]) -> Result<Call, AllocError>
     requires { IsTrue (are_items path_text.now) }
     ensures { IfOk result (λ c. c ≡ calls.Open path_text.now flags_text.now) }
 {
@@ -133,7 +128,7 @@ fn on_paths(alloc: Global, call: PathsCall, from: &[u8], to: &[u8]) -> Result<Ca
 }
 
 /// A call on a path at a directory, with flags.
-pub(crate) fn at_flags(
+fn at_flags(
     alloc: Global,
     call: AtFlagsCall,
     dir: Dir,
@@ -203,7 +198,7 @@ fn link_at(
 }
 
 /// A call without a form of its own.
-pub(crate) fn other(alloc: Global, name_text: &[u8], args_text: &[u8]) -> Result<Call, AllocError>
+fn other(alloc: Global, name_text: &[u8], args_text: &[u8]) -> Result<Call, AllocError>
     ensures { IfOk result (λ c. c ≡ calls.Other name_text.now args_text.now) }
 {
     Ok(Call::Other {
@@ -213,7 +208,7 @@ pub(crate) fn other(alloc: Global, name_text: &[u8], args_text: &[u8]) -> Result
 }
 
 /// A call on a path.
-pub(crate) fn on_path(alloc: Global, call: PathCall, path_text: &[u8]) -> Result<Call, AllocError>
+fn on_path(alloc: Global, call: PathCall, path_text: &[u8]) -> Result<Call, AllocError>
     requires { IsTrue (are_items path_text.now) }
     ensures { IfOk result (λ c. c ≡ calls.OnPath call path_text.now) }
 {
@@ -229,18 +224,14 @@ fn at(alloc: Global, call: AtCall, dir: Dir, path_text: &[u8]) -> Result<Call, A
 }
 
 /// A call on flags.
-pub(crate) fn on_flags(
-    alloc: Global,
-    call: FlagsCall,
-    flags_text: &[u8],
-) -> Result<Call, AllocError>
+fn on_flags(alloc: Global, call: FlagsCall, flags_text: &[u8]) -> Result<Call, AllocError>
     ensures { IfOk result (λ c. c ≡ calls.OnFlags call flags_text.now) }
 {
     Ok(Call::OnFlags(call, flags(alloc, flags_text)?))
 }
 
 /// A call, in memory of its own.
-fn call_of(alloc: Global, seen: &CallSeen<'_>) -> Result<Call, AllocError>
+pub(crate) fn call_of(alloc: Global, seen: &CallSeen<'_>) -> Result<Call, AllocError>
     requires { HavePaths (args_of_call (call_seen seen.now)) }
     ensures { IfOk result (λ c. c ≡ call_seen seen.now) }
 {

@@ -6,17 +6,16 @@ ghost use Rattle.cap_trace.specs.declared.fault.LineFault.TheVariants.{Memory};
 ghost use Rattle.cap_trace.specs.Spelling.{Spells};
 ghost use Rattle.cap_trace.specs.Parsing.{SpellsSome, FaultsAreExact, ReadsOnly, MatchesReading, OneLine};
 ghost use Rattle.cap_trace.specs.Parsing.{ReadingIsSpelling, WrittenIsRead};
-ghost use Rattle.cap_trace.specs.Rows.{head_seen};
-ghost use Rattle.cap_trace.specs.Quick.{Starts};
 ghost use Rattle.cap_trace.specs.Rewriting.{OnlyRightsAreRewritten};
 
+use crate::call_line::CallLine;
 use crate::calls::Form;
 use crate::fault::LineFault;
 use crate::fd_line::FdLine;
 use crate::line::Line;
 use crate::names::Head;
 use crate::owned::owned;
-use crate::quick::{Start, item_after, on_fd, start_of};
+use crate::quick::{Start, call_after, on_fd, start_of};
 use crate::scan::line;
 use std::alloc::Global;
 use std::marker::Model;
@@ -32,21 +31,6 @@ fn read_with_care(alloc: Global, bytes: &[u8]) -> Result<Line, LineFault>
             Ok(line) => Ok(line),
             Err(_) => Err(LineFault::Memory),
         },
-    }
-}
-
-/// The line that begins so, in one pass where that can be.
-#[inline(never)]
-fn read_rest(alloc: Global, bytes: &[u8], start: Start<'_>) -> Result<Line, LineFault>
-    requires { Starts bytes.now start.pid (head_seen start.head) start.text.now }
-    ensures { MatchesReading bytes.now result }
-{
-    match item_after(alloc, start.head, start.text) {
-        Some(item) => Ok(Line {
-            pid: start.pid,
-            item,
-        }),
-        None => read_with_care(alloc, bytes),
     }
 }
 
@@ -71,6 +55,32 @@ impl<'a> Model for Unread<'a> {
 }
 
 impl<'a> Unread<'a> {
+    /// The line that the bytes spell, with its texts still in them, where it has a call and is read in one pass. It
+    /// takes no memory.
+    ///
+    /// # Errors
+    ///
+    /// The same bytes, of whatever they are.
+    #[inline(always)]
+    pub fn call_line(self) -> Result<CallLine<'a>, Unread<'a>>
+        // What is read is what reading from the left gives.
+        ensures read { IfOk result (λ l. line_of self.entry ≡ Ok l) }
+        ensures unread { IfErr result (λ u. u ≡ self.entry) }
+    {
+        let bytes = self.bytes;
+        let Some(start) = self.start else {
+            return Err(Unread { bytes, start: None });
+        };
+        match call_after(start.head, start.text) {
+            Some((call, answer)) => Ok(CallLine {
+                pid: start.pid,
+                call,
+                answer,
+            }),
+            None => Err(Unread { bytes, start: None }),
+        }
+    }
+
     /// The line that the bytes spell, as [`parse_line`] reads it.
     ///
     /// # Errors
@@ -79,9 +89,12 @@ impl<'a> Unread<'a> {
     pub fn line(self, alloc: Global) -> Result<Line, LineFault>
         ensures { MatchesReading self.entry result }
     {
-        match self.start {
-            Some(start) => read_rest(alloc, self.bytes, start),
-            None => read_with_care(alloc, self.bytes),
+        match self.call_line() {
+            Ok(seen) => match seen.line(alloc) {
+                Ok(line) => Ok(line),
+                Err(_) => Err(LineFault::Memory),
+            },
+            Err(unread) => read_with_care(alloc, unread.bytes),
         }
     }
 }

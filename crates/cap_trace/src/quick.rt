@@ -9,6 +9,7 @@ ghost use Rattle.cap_trace.specs.declared.line.Call.TheVariants as calls;
 ghost use Rattle.cap_trace.specs.declared.line.Item.TheVariants as items;
 ghost use Rattle.cap_trace.specs.Names.{listed, unlisted, row_of};
 ghost use Rattle.cap_trace.specs.Rows.{head_seen};
+ghost use Rattle.cap_trace.specs.Seen.{call_seen};
 ghost use Rattle.cap_trace.specs.Entry.{an_fd, a_dir, some_flags, a_path, a_command, free_text};
 ghost use Rattle.cap_trace.specs.Reading.{answer_at};
 ghost use Rattle.cap_trace.specs.Quick.{Before, SpellsAfter, Starts};
@@ -17,13 +18,11 @@ use crate::answers::answer;
 use crate::calls::{AtFlagsCall, BareCall, FdCall, FlagsCall, Form, Kind, PathCall};
 use crate::fields::plain;
 use crate::limits::{LARGEST_FD, LARGEST_PID, LONGEST_LINE};
-use crate::line::{Answer, Call, Dir, Fd, Item, Pid};
+use crate::line::{Answer, Dir, Fd, Pid};
 use crate::names::{Head, head_of};
-use crate::owned;
 use crate::quotes::cut;
 use crate::scan_fields::{command_of, dir_of, flags_of, free_of, rights_of};
-use crate::seen::fcntl_kind;
-use std::alloc::Global;
+use crate::seen::{CallSeen, fcntl_kind};
 
 /// What follows this byte, where a text begins with it.
 #[inline(always)]
@@ -203,37 +202,31 @@ pub(crate) fn on_fd(call: FdCall, text: &[u8]) -> Option<(Fd, Answer)>
 
 /// `fcntl(fd,command)`
 #[inline(always)]
-fn fcntl(alloc: Global, text: &[u8]) -> Option<Item>
-    ensures { IfSome result (λ i. SpellsAfter (listed forms.Fcntl) text.now i) }
+fn fcntl(text: &[u8]) -> Option<(CallSeen<'_>, Answer)>
+    ensures { IfSome result (λ p. SpellsAfter (listed forms.Fcntl) text.now (items.Call (call_seen p.0) p.1)) }
 {
     let (fd, rest) = fd_before(b',', text)?;
     let (command, tail) = command_before(b')', rest)?;
     let answer = answered(fcntl_kind(command), tail)?;
-    let Ok(call) = owned::fcntl(alloc, fd, command) else {
-        return None;
-    };
-    Some(Item::Call { call, answer })
+    Some((CallSeen::Fcntl(fd, command), answer))
 }
 
 /// `mmap(fd,flags,flags)`
 #[inline(always)]
-fn mmap(alloc: Global, text: &[u8]) -> Option<Item>
-    ensures { IfSome result (λ i. SpellsAfter (listed forms.Mmap) text.now i) }
+fn mmap(text: &[u8]) -> Option<(CallSeen<'_>, Answer)>
+    ensures { IfSome result (λ p. SpellsAfter (listed forms.Mmap) text.now (items.Call (call_seen p.0) p.1)) }
 {
     let (fd, rest) = fd_before(b',', text)?;
     let (protection, rest) = flags_before(b',', rest)?;
     let (mapping, tail) = flags_before(b')', rest)?;
     let answer = answered(Kind::Count, tail)?;
-    let Ok(call) = owned::mmap(alloc, fd, protection, mapping) else {
-        return None;
-    };
-    Some(Item::Call { call, answer })
+    Some((CallSeen::Mmap(fd, protection, mapping), answer))
 }
 
 /// `cap_rights_limit(fd,rights)`
 #[inline(always)]
-fn rights_limit(text: &[u8]) -> Option<Item>
-    ensures { IfSome result (λ i. SpellsAfter (listed forms.RightsLimit) text.now i) }
+fn rights_limit(text: &[u8]) -> Option<(CallSeen<'_>, Answer)>
+    ensures { IfSome result (λ p. SpellsAfter (listed forms.RightsLimit) text.now (items.Call (call_seen p.0) p.1)) }
 {
     let (fd, rest) = fd_before(b',', text)?;
     let (rights, tail) = cut(b')', rest)?;
@@ -241,115 +234,98 @@ fn rights_limit(text: &[u8]) -> Option<Item>
         return None;
     };
     let answer = answered(Kind::Zero, tail)?;
-    let call = Call::RightsLimit(fd, rights);
-    Some(Item::Call { call, answer })
+    Some((CallSeen::RightsLimit(fd, rights), answer))
 }
 
 /// `open(path,flags)`
 #[inline(always)]
-fn open(alloc: Global, text: &[u8]) -> Option<Item>
-    ensures { IfSome result (λ i. SpellsAfter (listed forms.Open) text.now i) }
+fn open(text: &[u8]) -> Option<(CallSeen<'_>, Answer)>
+    ensures { IfSome result (λ p. SpellsAfter (listed forms.Open) text.now (items.Call (call_seen p.0) p.1)) }
 {
     let (path, rest) = path_before(b',', text)?;
     let (flags, tail) = flags_before(b')', rest)?;
     let answer = answered(Kind::Fd, tail)?;
-    let Ok(call) = owned::open(alloc, path, flags) else {
-        return None;
-    };
-    Some(Item::Call { call, answer })
+    Some((CallSeen::Open(path, flags), answer))
 }
 
 /// `name(path)`
 #[inline(always)]
-fn on_path(alloc: Global, call: PathCall, text: &[u8]) -> Option<Item>
-    ensures { IfSome result (λ i. SpellsAfter (listed (forms.OnPath call)) text.now i) }
+fn on_path(call: PathCall, text: &[u8]) -> Option<(CallSeen<'_>, Answer)>
+    ensures { IfSome result (λ p. SpellsAfter (listed (forms.OnPath call)) text.now (items.Call (call_seen p.0) p.1)) }
 {
     let (path, tail) = path_before(b')', text)?;
     let answer = answer_of(Form::OnPath(call), tail)?;
-    let Ok(call) = owned::on_path(alloc, call, path) else {
-        return None;
-    };
-    Some(Item::Call { call, answer })
+    Some((CallSeen::OnPath(call, path), answer))
 }
 
 /// `name(dir,path,flags)`
 #[inline(always)]
-fn at_flags(alloc: Global, call: AtFlagsCall, text: &[u8]) -> Option<Item>
-    ensures { IfSome result (λ i. SpellsAfter (listed (forms.AtFlags call)) text.now i) }
+fn at_flags(call: AtFlagsCall, text: &[u8]) -> Option<(CallSeen<'_>, Answer)>
+    ensures { IfSome result (λ p. SpellsAfter (listed (forms.AtFlags call)) text.now (items.Call (call_seen p.0) p.1)) }
 {
     let (dir, rest) = dir_before(b',', text)?;
     let (path, rest) = path_before(b',', rest)?;
     let (flags, tail) = flags_before(b')', rest)?;
     let answer = answer_of(Form::AtFlags(call), tail)?;
-    let Ok(call) = owned::at_flags(alloc, call, dir, path, flags) else {
-        return None;
-    };
-    Some(Item::Call { call, answer })
+    Some((CallSeen::AtFlags(call, dir, path, flags), answer))
 }
 
 /// `name(flags)`
 #[inline(always)]
-fn on_flags(alloc: Global, call: FlagsCall, text: &[u8]) -> Option<Item>
-    ensures { IfSome result (λ i. SpellsAfter (listed (forms.OnFlags call)) text.now i) }
+fn on_flags(call: FlagsCall, text: &[u8]) -> Option<(CallSeen<'_>, Answer)>
+    ensures { IfSome result (λ p. SpellsAfter (listed (forms.OnFlags call)) text.now (items.Call (call_seen p.0) p.1)) }
 {
     let (flags, tail) = flags_before(b')', text)?;
     let answer = answer_of(Form::OnFlags(call), tail)?;
-    let Ok(call) = owned::on_flags(alloc, call, flags) else {
-        return None;
-    };
-    Some(Item::Call { call, answer })
+    Some((CallSeen::OnFlags(call, flags), answer))
 }
 
 /// `name()`
 #[inline(always)]
-fn bare(call: BareCall, text: &[u8]) -> Option<Item>
-    ensures { IfSome result (λ i. SpellsAfter (listed (forms.Bare call)) text.now i) }
+fn bare<'a>(call: BareCall, text: &'a [u8]) -> Option<(CallSeen<'a>, Answer)>
+    ensures { IfSome result (λ p. SpellsAfter (listed (forms.Bare call)) text.now (items.Call (call_seen p.0) p.1)) }
 {
     let tail = behind(b')', text)?;
     let answer = answer_of(Form::Bare(call), tail)?;
-    let call = Call::Bare(call);
-    Some(Item::Call { call, answer })
+    Some((CallSeen::Bare(call), answer))
 }
 
 /// A name that has no form of its own.
 #[inline(always)]
-fn other(alloc: Global, name: &[u8], text: &[u8]) -> Option<Item>
-    ensures { IfSome result (λ i. SpellsAfter (unlisted name.now) text.now i) }
+fn other<'a>(name: &'a [u8], text: &'a [u8]) -> Option<(CallSeen<'a>, Answer)>
+    ensures { IfSome result (λ p. SpellsAfter (unlisted name.now) text.now (items.Call (call_seen p.0) p.1)) }
 {
     let (args, tail) = free_before(b')', text)?;
     let answer = answered(Kind::Any, tail)?;
-    let Ok(call) = owned::other(alloc, name, args) else {
-        return None;
-    };
-    Some(Item::Call { call, answer })
+    Some((CallSeen::Other(name, args), answer))
 }
 
 /// What follows the opening bracket of a name of the table.
 #[inline(always)]
-fn listed_item(alloc: Global, form: Form, text: &[u8]) -> Option<Item>
-    ensures { IfSome result (λ i. SpellsAfter (listed form) text.now i) }
+fn listed_call(form: Form, text: &[u8]) -> Option<(CallSeen<'_>, Answer)>
+    ensures { IfSome result (λ p. SpellsAfter (listed form) text.now (items.Call (call_seen p.0) p.1)) }
 {
     match form {
-        Form::Fcntl => fcntl(alloc, text),
-        Form::Mmap => mmap(alloc, text),
+        Form::Fcntl => fcntl(text),
+        Form::Mmap => mmap(text),
         Form::RightsLimit => rights_limit(text),
-        Form::Open => open(alloc, text),
-        Form::OnPath(call) => on_path(alloc, call, text),
-        Form::AtFlags(call) => at_flags(alloc, call, text),
-        Form::OnFlags(call) => on_flags(alloc, call, text),
+        Form::Open => open(text),
+        Form::OnPath(call) => on_path(call, text),
+        Form::AtFlags(call) => at_flags(call, text),
+        Form::OnFlags(call) => on_flags(call, text),
         Form::Bare(call) => bare(call, text),
         _ => None,
     }
 }
 
-/// What follows the opening bracket.
+/// What follows the opening bracket: a call, still in its text, and what it answered.
 #[inline(always)]
-pub(crate) fn item_after(alloc: Global, head: Head<'_>, text: &[u8]) -> Option<Item>
-    ensures { IfSome result (λ i. SpellsAfter (head_seen head.entry) text.now i) }
+pub(crate) fn call_after<'a>(head: Head<'a>, text: &'a [u8]) -> Option<(CallSeen<'a>, Answer)>
+    ensures { IfSome result (λ p. SpellsAfter (head_seen head.entry) text.now (items.Call (call_seen p.0) p.1)) }
 {
     match head {
-        Head::Listed(form) => listed_item(alloc, form, text),
-        Head::Unlisted(name) => other(alloc, name, text),
+        Head::Listed(form) => listed_call(form, text),
+        Head::Unlisted(name) => other(name, text),
     }
 }
 

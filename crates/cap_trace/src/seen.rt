@@ -10,9 +10,9 @@ use crate::calls::{
 use crate::line::{Answer, Dir, Fd, Pid};
 use cap_rights::RightSet;
 
-/// A call with its arguments.
+/// A call with its arguments, whose texts lie elsewhere: each variant is that of [`crate::Call`] with the same name.
 #[derive(Clone, Copy)]
-pub(crate) enum CallSeen<'a> {
+pub enum CallSeen<'a> {
     OnFd(FdCall, Fd),
     Send(SendCall, Fd),
     SendTo(SendCall, Fd),
@@ -33,6 +33,7 @@ pub(crate) enum CallSeen<'a> {
     LinkAt(Dir, &'a [u8], Dir, &'a [u8], &'a [u8]),
     OnFlags(FlagsCall, &'a [u8]),
     Bare(BareCall),
+    /// The name, and the arguments.
     Other(&'a [u8], &'a [u8]),
 }
 

@@ -1,10 +1,10 @@
 //! Worked lines: boundaries, refused lines, each name once, and what a line that was read says.
 
 use cap_trace::{
-    Answer, Args, Boxed, Call, Command, Dir, FdCall, Fds, Flags, Item, LARGEST_FD, LONGEST_LINE,
-    Line, LineFault, Name, Path, PathCall, faults_are_of_their_fields, number_of, one_line,
-    one_path, only_rights_are_rewritten, parse_line, reading_is_spelling, write_line,
-    written_is_read,
+    Answer, Args, Boxed, Call, CallSeen, Command, Dir, FdCall, Fds, Flags, Item, LARGEST_FD,
+    LONGEST_LINE, Line, LineFault, Name, Path, PathCall, faults_are_of_their_fields, number_of,
+    one_line, one_path, only_rights_are_rewritten, parse_fd_line, parse_line, reading_is_spelling,
+    write_line, written_is_read,
 };
 use std::alloc::Global;
 use std::test::Fail;
@@ -215,6 +215,54 @@ fn each_name_is_read_and_written(rt: HostRuntime) -> Result<(), Fail> {
         let text = written(rt.alloc(), bytes)?;
         assert_eq!(rt; text.as_slice(), bytes);
     }
+    Ok(())
+}
+
+/// The text that is written for a line that is read where it lies, and then kept.
+fn written_where_it_lies(alloc: Global, bytes: &[u8]) -> Result<Vec<u8>, Fail> {
+    let mut out = Vec::new(alloc);
+    if let Err(unread) = parse_fd_line(bytes) {
+        if let Ok(line) = unread.call_line() {
+            write_line(&line.line(alloc)?, &mut out)?;
+        }
+    }
+    Ok(out)
+}
+
+/// Lines of the forms that are read where they lie.
+static LYING: [&[u8]; 9] = [
+    b"100 fcntl(3,F_GETFL) RET 2",
+    b"100 mmap(3,PROT_READ,MAP_PRIVATE) RET 34366001152",
+    b"100 cap_rights_limit(3,CAP_READ) RET 0",
+    b"100 open(\"/etc/passwd\",O_RDONLY|O_CLOEXEC) RET 3",
+    b"100 access(\"/etc/passwd\") RET -1 errno 94",
+    b"100 openat(AT_FDCWD,\"a\",O_RDONLY) RET 3",
+    b"100 socket(SOCK_STREAM) RET 4",
+    b"100 cap_enter() RET 0",
+    b"100 clock_gettime(4) RET 0",
+];
+
+#[test]
+fn a_call_is_read_where_it_lies(rt: HostRuntime) -> Result<(), Fail> {
+    for bytes in LYING {
+        let text = written_where_it_lies(rt.alloc(), bytes)?;
+        assert_eq!(rt; text.as_slice(), bytes);
+    }
+    Ok(())
+}
+
+#[test]
+fn a_call_shows_its_texts(rt: HostRuntime) -> Result<(), Fail> {
+    let line = parse_line(rt.alloc(), b"100 open(\"/etc/passwd\",O_RDONLY) RET 3")?;
+    let (path, flags) = match &line.item {
+        Item::Call { call, .. } => match call.seen() {
+            CallSeen::Open(path, flags) => (path, flags),
+            _ => (b"".as_slice(), b"".as_slice()),
+        },
+        _ => (b"".as_slice(), b"".as_slice()),
+    };
+    assert_eq!(rt; path, b"/etc/passwd".as_slice());
+    assert_eq!(rt; flags, b"O_RDONLY".as_slice());
     Ok(())
 }
 

@@ -3,6 +3,8 @@
 
 ghost use Rattle.std.specs.Prelude.{◌≡◌, ℕ, [], OnOk, IsTrue, Option, None};
 ghost use Rattle.cap_trace.specs.Entry.{IsAnswer, kind_of, fcntl_kind};
+ghost use Rattle.cap_trace.specs.Seen.{call_seen};
+ghost use Rattle.cap_trace.specs.declared.line.Call.TheVariants as calls;
 ghost use Rattle.cap_machine.specs.Steps.{step};
 ghost use Rattle.cap_machine.specs.Touch.{on_fd, on_made, on_success, given, taken, closing, copied};
 ghost use Rattle.cap_machine.specs.Touch.{opened_below, open_flag, at_touch, fcntl_touch};
@@ -25,7 +27,8 @@ use crate::table::Table;
 use crate::verdict::Verdict;
 use cap_rights::{NoMemory, RightSet};
 use cap_trace::{
-    Answer, AtFlagsCall, Call, Dir, Fd, FdCall, FdLine, FlagsCall, Item, Line, PathCall, Pid,
+    Answer, AtFlagsCall, CallLine, CallSeen, Dir, Fd, FdCall, FdLine, FlagsCall, Item, Line,
+    PathCall, Pid,
 };
 
 /// The cell of a file that was opened below no descriptor (openat(2)).
@@ -59,7 +62,7 @@ impl Table {
     #[inline(always)]
     fn is_silent_on_fd(&self, pid: Pid, call: FdCall, fd: Fd) -> bool
         ensures { IsTrue result → (answer : Answer) → reply answer ≡ Reply.Success
-            → said_of (call_demand (Call.OnFd call fd) answer) pid (state_of self.now) ≡ [] }
+            → said_of (call_demand (calls.OnFd call fd) answer) pid (state_of self.now) ≡ [] }
     {
         match call {
             FdCall::Closefrom => true,
@@ -68,67 +71,81 @@ impl Table {
     }
 
     /// Whether nothing is said of a call that succeeded, where that is seen without its rule.
-    fn is_silent_success(&self, pid: Pid, call: &Call) -> bool
+    fn is_silent_success(&self, pid: Pid, call: &CallSeen<'_>) -> bool
         ensures { IsTrue result → (answer : Answer) → reply answer ≡ Reply.Success
-            → said_of (call_demand call.now answer) pid (state_of self.now) ≡ [] }
+            → said_of (call_demand (call_seen call.now) answer) pid (state_of self.now) ≡ [] }
     {
         match call {
-            Call::OnFd(call, fd) => self.is_silent_on_fd(pid, *call, *fd),
-            Call::Send(_, fd) => self.may_have(pid, *fd, &send_needs_of()),
-            Call::Dup2(fd, _) | Call::FcntlDup(_, fd, _) | Call::FcntlSetFd(fd, _) => {
+            CallSeen::OnFd(call, fd) => self.is_silent_on_fd(pid, *call, *fd),
+            CallSeen::Send(_, fd) => self.may_have(pid, *fd, &send_needs_of()),
+            CallSeen::Dup2(fd, _) | CallSeen::FcntlDup(_, fd, _) | CallSeen::FcntlSetFd(fd, _) => {
                 self.may_have(pid, *fd, &RightSet::none())
             }
-            Call::Fcntl(fd, command) => match fcntl_needs_of(command.as_bytes()) {
+            CallSeen::Fcntl(fd, command) => match fcntl_needs_of(command) {
                 None => true,
                 Some(needs) => self.may_have(pid, *fd, &needs),
             },
-            Call::Mmap(fd, protection, kind) => {
-                let needs = mmap_needs_of(protection.as_bytes(), kind.as_bytes());
-                self.may_have(pid, *fd, &needs)
+            CallSeen::Mmap(fd, protection, kind) => {
+                self.may_have(pid, *fd, &mmap_needs_of(protection, kind))
             }
-            Call::RightsLimit(fd, asked) => self.may_have(pid, *fd, &without_full_of(asked)),
-            Call::At(call, dir, path) => match below_of(*dir, path.as_bytes()) {
+            CallSeen::RightsLimit(fd, asked) => self.may_have(pid, *fd, &without_full_of(asked)),
+            CallSeen::At(call, dir, path) => match below_of(*dir, path) {
                 None => self.mode(pid) != Mode::Inside,
                 Some(fd) => self.may_have(pid, fd, &at_needs_of(*call)),
             },
-            Call::AtFlags(call, dir, path, flags) => match below_of(*dir, path.as_bytes()) {
+            CallSeen::AtFlags(call, dir, path, flags) => match below_of(*dir, path) {
                 None => self.mode(pid) != Mode::Inside,
-                Some(fd) => self.may_have(pid, fd, &at_flags_needs_of(*call, flags.as_bytes())),
+                Some(fd) => self.may_have(pid, fd, &at_flags_needs_of(*call, flags)),
             },
-            Call::Open(_, _) | Call::OnPath(_, _) | Call::OnPaths(_, _, _) => {
+            CallSeen::Open(_, _) | CallSeen::OnPath(_, _) | CallSeen::OnPaths(_, _, _) => {
                 self.mode(pid) != Mode::Inside
             }
-            Call::OnFlags(_, _) | Call::Bare(_) | Call::Other { .. } => true,
+            CallSeen::OnFlags(_, _) | CallSeen::Bare(_) | CallSeen::Other(_, _) => true,
             _ => false,
         }
     }
 
     /// Whether nothing is said of a call that capability mode refused, where that is seen without its rule.
-    fn is_silent_refusal(&self, pid: Pid, call: &Call) -> bool
+    fn is_silent_refusal(&self, pid: Pid, call: &CallSeen<'_>) -> bool
         ensures { IsTrue result → (answer : Answer) → reply answer ≡ Reply.NotPermitted
-            → said_of (call_demand call.now answer) pid (state_of self.now) ≡ [] }
+            → said_of (call_demand (call_seen call.now) answer) pid (state_of self.now) ≡ [] }
     {
         match call {
-            Call::Open(_, _) | Call::OnPath(_, _) | Call::OnPaths(_, _, _) => {
+            CallSeen::Open(_, _) | CallSeen::OnPath(_, _) | CallSeen::OnPaths(_, _, _) => {
                 self.mode(pid) != Mode::Outside
             }
             _ => false,
         }
     }
 
-    /// Whether nothing is said of a line, where that is seen without its rule; `false` says nothing.
+    /// Whether nothing is said of a call, where that is seen without its rule; `false` says nothing.
+    #[inline(always)]
+    fn is_silent_call(&self, pid: Pid, call: &CallSeen<'_>, answer: &Answer) -> bool
+        ensures { IsTrue result → said_of (call_demand (call_seen call.now) answer.now) pid (state_of self.now) ≡ [] }
+    {
+        match answer {
+            Answer::Fault(93) => false,
+            Answer::Fault(94) => self.is_silent_refusal(pid, call),
+            Answer::Fault(_) => true,
+            _ => self.is_silent_success(pid, call),
+        }
+    }
+
+    /// The same of a line.
     pub(crate) fn is_silent(&self, line: &Line) -> bool
         ensures { IsTrue result → said_of (demand line.now) line.now.pid (state_of self.now) ≡ [] }
     {
         match &line.item {
-            Item::Call { call, answer } => match answer {
-                Answer::Fault(93) => false,
-                Answer::Fault(94) => self.is_silent_refusal(line.pid, call),
-                Answer::Fault(_) => true,
-                _ => self.is_silent_success(line.pid, call),
-            },
+            Item::Call { call, answer } => self.is_silent_call(line.pid, &call.seen(), answer),
             _ => true,
         }
+    }
+
+    /// The same of a line whose texts lie elsewhere.
+    pub(crate) fn is_silent_call_line(&self, line: &CallLine<'_>) -> bool
+        ensures { IsTrue result → said_of (demand line.now) line.now.pid (state_of self.now) ≡ [] }
+    {
+        self.is_silent_call(line.pid, &line.call, &line.answer)
     }
 
     /// The same of a line with a call on one descriptor.
@@ -157,11 +174,12 @@ impl Table {
         &mut self,
         profile: Profile,
         pid: Pid,
-        call: &Call,
+        call: &CallSeen<'_>,
         answer: &Answer,
     ) -> Result<(), NoMemory>
-        requires { IsAnswer (kind_of call.now) answer.now }
-        ensures { OnOk result (Keeps self.new (call_after profile call.now answer.now pid (state_of self.old))) }
+        requires { IsAnswer (kind_of (call_seen call.now)) answer.now }
+        ensures { OnOk result (Keeps self.new
+            (call_after profile (call_seen call.now) answer.now pid (state_of self.old))) }
     {
         let effect = effect_of(profile, call, answer);
         self.apply(pid, &effect)
@@ -230,7 +248,7 @@ impl Table {
         flags: &[u8],
         answer: &Answer,
     ) -> Result<(), NoMemory>
-        requires { IsAnswer (kind_of (Call.AtFlags call dir path.now flags.now)) answer.now }
+        requires { IsAnswer (kind_of (calls.AtFlags call dir path.now flags.now)) answer.now }
         ensures { OnOk result (Keeps self.new (touched_by (at_touch call dir path.now flags.now answer.now pid)
             (state_of self.old))) }
     {
@@ -280,9 +298,9 @@ impl Table {
         fd: Fd,
         answer: &Answer,
     ) -> Result<(), NoMemory>
-        requires { IsAnswer (kind_of (Call.OnFd call fd)) answer.now }
+        requires { IsAnswer (kind_of (calls.OnFd call fd)) answer.now }
         ensures { OnOk result (Keeps self.new
-            (call_after profile (Call.OnFd call fd) answer.now pid (state_of self.old))) }
+            (call_after profile (calls.OnFd call fd) answer.now pid (state_of self.old))) }
     {
         match call {
             FdCall::Close => self.close(pid, fd, answer),
@@ -292,7 +310,7 @@ impl Table {
             | FdCall::Fexecve
             | FdCall::CapIoctlsLimit
             | FdCall::CapFcntlsLimit => {
-                self.follow_rule(profile, pid, &Call::OnFd(call, fd), answer)
+                self.follow_rule(profile, pid, &CallSeen::OnFd(call, fd), answer)
             }
             _ => Ok(()),
         }
@@ -303,35 +321,36 @@ impl Table {
         &mut self,
         profile: Profile,
         pid: Pid,
-        call: &Call,
+        call: &CallSeen<'_>,
         answer: &Answer,
     ) -> Result<(), NoMemory>
-        requires { IsAnswer (kind_of call.now) answer.now }
-        ensures { OnOk result (Keeps self.new (call_after profile call.now answer.now pid (state_of self.old))) }
+        requires { IsAnswer (kind_of (call_seen call.now)) answer.now }
+        ensures { OnOk result (Keeps self.new
+            (call_after profile (call_seen call.now) answer.now pid (state_of self.old))) }
     {
         match call {
-            Call::OnFd(call, fd) => self.follow_on_fd(profile, pid, *call, *fd, answer),
-            Call::RightsLimit(fd, asked) => self.limit(pid, *fd, asked, answer),
-            Call::Open(_, flags) => {
-                let flag = open_flag_of(flags.as_bytes());
+            CallSeen::OnFd(call, fd) => self.follow_on_fd(profile, pid, *call, *fd, answer),
+            CallSeen::RightsLimit(fd, asked) => self.limit(pid, *fd, asked, answer),
+            CallSeen::Open(_, flags) => {
+                let flag = open_flag_of(flags);
                 self.give_made(pid, Cell::Held(RightSet::all(), flag), answer)
             }
-            Call::AtFlags(call, dir, path, flags) => {
-                self.follow_at(pid, *call, *dir, path.as_bytes(), flags.as_bytes(), answer)
+            CallSeen::AtFlags(call, dir, path, flags) => {
+                self.follow_at(pid, *call, *dir, path, flags, answer)
             }
-            Call::Fcntl(fd, command) => self.fcntl(pid, *fd, command.as_bytes(), answer),
-            Call::OnFlags(FlagsCall::Socket, flags) => {
-                let flag = socket_flag_of(flags.as_bytes());
+            CallSeen::Fcntl(fd, command) => self.fcntl(pid, *fd, command, answer),
+            CallSeen::OnFlags(FlagsCall::Socket, flags) => {
+                let flag = socket_flag_of(flags);
                 self.give_made(pid, Cell::Held(RightSet::all(), flag), answer)
             }
-            Call::OnPath(PathCall::Execve, _) => self.follow_rule(profile, pid, call, answer),
-            Call::OnPath(_, _)
-            | Call::OnPaths(_, _, _)
-            | Call::At(_, _, _)
-            | Call::Mmap(_, _, _)
-            | Call::Send(_, _)
-            | Call::SendTo(_, _)
-            | Call::Other { .. } => Ok(()),
+            CallSeen::OnPath(PathCall::Execve, _) => self.follow_rule(profile, pid, call, answer),
+            CallSeen::OnPath(_, _)
+            | CallSeen::OnPaths(_, _, _)
+            | CallSeen::At(_, _, _)
+            | CallSeen::Mmap(_, _, _)
+            | CallSeen::Send(_, _)
+            | CallSeen::SendTo(_, _)
+            | CallSeen::Other(_, _) => Ok(()),
             _ => self.follow_rule(profile, pid, call, answer),
         }
     }
@@ -342,13 +361,28 @@ impl Table {
     {
         self.remains.free_some();
         match &line.item {
-            Item::Call { call, answer } => self.follow_call(profile, line.pid, call, answer),
+            Item::Call { call, answer } => {
+                self.follow_call(profile, line.pid, &call.seen(), answer)
+            }
             Item::Start(fds) => self.start(line.pid, fds.as_slice()),
             Item::Exit => self.exit(line.pid),
             Item::Foreign(fd) => self.write(line.pid, *fd, Cell::Unknown),
         }
     }
-    /// What is known after a line with a call on one descriptor.
+
+    /// The same after a line whose texts lie elsewhere.
+    pub(crate) fn follow_call_line(
+        &mut self,
+        profile: Profile,
+        line: &CallLine<'_>,
+    ) -> Result<(), NoMemory>
+        ensures { OnOk result (Keeps self.new (step_after (step profile line.now) (state_of self.old))) }
+    {
+        self.remains.free_some();
+        self.follow_call(profile, line.pid, &line.call, &line.answer)
+    }
+
+    /// The same after a line with a call on one descriptor.
     #[inline(always)]
     pub(crate) fn follow_fd_line(&mut self, profile: Profile, line: &FdLine) -> Result<(), NoMemory>
         ensures { OnOk result (Keeps self.new (step_after (step profile line.now) (state_of self.old))) }

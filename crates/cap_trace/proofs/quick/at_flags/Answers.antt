@@ -6,14 +6,11 @@ use Rattle.cap_trace.specs.Entry.{a_dir, some_flags, a_path}
 use Rattle.cap_trace.proofs.QuickLines.{last, next, call_after}
 use Rattle.cap_trace.proofs.quick.at_flags.Goals as goal
 
-pub at_flags-requires : goal.at_flags-requires
-at_flags-requires c = c.in_ok-path.ensures.arg.1
-
 pub returns : goal.returns
 returns c =
-    call_after (listed (forms.AtFlags c.args.call)) c.args.text.now (c.in_ok-flags.tail.now) (c.in-Ok.call)
+    call_after (listed (forms.AtFlags c.args.call)) c.args.text.now (c.in_ok-flags.tail.now)
     (calls.AtFlags c.args.call c.in_ok-dir.dir c.in_ok-path.path.now c.in_ok-flags.flags.now) c.in_ok-answer.answer
-    c.in-Ok.ensures refl
+    refl
     (next (c.args.text.now) (c.in_ok-dir.rest.now) (c.in_ok-flags.tail.now) (a_dir c.in_ok-dir.dir) (a_path
     c.in_ok-path.path.now) (some_flags c.in_ok-flags.flags.now ∷ []) c.in_ok-dir.ensures
     (next (c.in_ok-dir.rest.now) (c.in_ok-path.rest.now) (c.in_ok-flags.tail.now) (a_path c.in_ok-path.path.now)

@@ -8,5 +8,5 @@ use Rattle.cap_trace.proofs.quick.bare.Goals as goal
 pub returns : goal.returns
 returns c =
     call_after (listed (forms.Bare c.args.call)) c.args.text.now c.in_ok-tail.tail.now (calls.Bare c.args.call)
-    (calls.Bare c.args.call) c.in_ok-answer.answer refl refl
+    c.in_ok-answer.answer refl
     (record { texts = []; args = tt; parts = c.in_ok-tail.ensures }) c.in_ok-answer.ensures

@@ -10,9 +10,9 @@ use Rattle.cap_trace.proofs.quick.fcntl.Goals as goal
 
 pub returns : goal.returns
 returns c =
-    call_after (listed forms.Fcntl) c.args.text.now (c.in_ok-command.tail.now) (c.in-Ok.call) (calls.Fcntl
+    call_after (listed forms.Fcntl) c.args.text.now (c.in_ok-command.tail.now) (calls.Fcntl
     c.in_ok-fd.fd c.in_ok-command.command.now) c.in_ok-answer.answer
-    c.in-Ok.ensures refl
+    refl
     (next (c.args.text.now) (c.in_ok-fd.rest.now) (c.in_ok-command.tail.now) (an_fd c.in_ok-fd.fd) (a_command
     c.in_ok-command.command.now) [] c.in_ok-fd.ensures
     (last (c.in_ok-fd.rest.now) (c.in_ok-command.tail.now) (a_command c.in_ok-command.command.now)

@@ -8,9 +8,9 @@ use Rattle.cap_trace.proofs.quick.mmap.Goals as goal
 
 pub returns : goal.returns
 returns c =
-    call_after (listed forms.Mmap) c.args.text.now (c.in_ok-mapping.tail.now) (c.in-Ok.call) (calls.Mmap
+    call_after (listed forms.Mmap) c.args.text.now (c.in_ok-mapping.tail.now) (calls.Mmap
     c.in_ok-fd.fd c.in_ok-protection.protection.now c.in_ok-mapping.mapping.now) c.in_ok-answer.answer
-    c.in-Ok.ensures refl
+    refl
     (next (c.args.text.now) (c.in_ok-fd.rest.now) (c.in_ok-mapping.tail.now) (an_fd c.in_ok-fd.fd) (some_flags
     c.in_ok-protection.protection.now) (some_flags c.in_ok-mapping.mapping.now ∷ []) c.in_ok-fd.ensures
     (next (c.in_ok-fd.rest.now) (c.in_ok-protection.rest.now) (c.in_ok-mapping.tail.now) (some_flags

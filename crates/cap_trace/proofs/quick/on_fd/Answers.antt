@@ -11,8 +11,8 @@ use Rattle.cap_trace.proofs.quick.on_fd.Goals as goal
 pub returns : goal.returns
 returns c =
     call_after (listed (forms.OnFd c.args.call)) c.args.text.now (c.in_ok-fd.tail.now) (calls.OnFd c.args.call
-    c.in_ok-fd.fd) (calls.OnFd c.args.call c.in_ok-fd.fd) c.in_ok-answer.answer
-    refl refl
+    c.in_ok-fd.fd) c.in_ok-answer.answer
+    refl
     (last (c.args.text.now) (c.in_ok-fd.tail.now) (an_fd c.in_ok-fd.fd) c.in_ok-fd.ensures)
     (subst (λ (k : Kind). answer_at k c.in_ok-fd.tail.now ≡ Ok c.in_ok-answer.answer) c.kind.ensures
     c.in_ok-answer.ensures)

@@ -8,8 +8,8 @@ use Rattle.cap_trace.proofs.quick.on_flags.Goals as goal
 
 pub returns : goal.returns
 returns c =
-    call_after (listed (forms.OnFlags c.args.call)) c.args.text.now (c.in_ok-flags.tail.now) (c.in-Ok.call)
+    call_after (listed (forms.OnFlags c.args.call)) c.args.text.now (c.in_ok-flags.tail.now)
     (calls.OnFlags c.args.call c.in_ok-flags.flags.now) c.in_ok-answer.answer
-    c.in-Ok.ensures refl
+    refl
     (last (c.args.text.now) (c.in_ok-flags.tail.now) (some_flags c.in_ok-flags.flags.now) c.in_ok-flags.ensures)
     c.in_ok-answer.ensures

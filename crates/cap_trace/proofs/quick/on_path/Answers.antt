@@ -6,13 +6,10 @@ use Rattle.cap_trace.specs.Entry.{a_path}
 use Rattle.cap_trace.proofs.QuickLines.{last, call_after}
 use Rattle.cap_trace.proofs.quick.on_path.Goals as goal
 
-pub on_path-requires : goal.on_path-requires
-on_path-requires c = c.in_ok-path.ensures.arg.1
-
 pub returns : goal.returns
 returns c =
-    call_after (listed (forms.OnPath c.args.call)) c.args.text.now (c.in_ok-path.tail.now) (c.in-Ok.call)
+    call_after (listed (forms.OnPath c.args.call)) c.args.text.now (c.in_ok-path.tail.now)
     (calls.OnPath c.args.call c.in_ok-path.path.now) c.in_ok-answer.answer
-    c.in-Ok.ensures refl
+    refl
     (last (c.args.text.now) (c.in_ok-path.tail.now) (a_path c.in_ok-path.path.now) c.in_ok-path.ensures)
     c.in_ok-answer.ensures

@@ -6,14 +6,11 @@ use Rattle.cap_trace.specs.Entry.{some_flags, a_path}
 use Rattle.cap_trace.proofs.QuickLines.{last, next, call_after}
 use Rattle.cap_trace.proofs.quick.open.Goals as goal
 
-pub open-requires : goal.open-requires
-open-requires c = c.in_ok-path.ensures.arg.1
-
 pub returns : goal.returns
 returns c =
-    call_after (listed forms.Open) c.args.text.now (c.in_ok-flags.tail.now) (c.in-Ok.call) (calls.Open
+    call_after (listed forms.Open) c.args.text.now (c.in_ok-flags.tail.now) (calls.Open
     c.in_ok-path.path.now c.in_ok-flags.flags.now) c.in_ok-answer.answer
-    c.in-Ok.ensures refl
+    refl
     (next (c.args.text.now) (c.in_ok-path.rest.now) (c.in_ok-flags.tail.now) (a_path c.in_ok-path.path.now)
     (some_flags c.in_ok-flags.flags.now) [] c.in_ok-path.ensures
     (last (c.in_ok-path.rest.now) (c.in_ok-flags.tail.now) (some_flags c.in_ok-flags.flags.now) c.in_ok-flags.ensures))

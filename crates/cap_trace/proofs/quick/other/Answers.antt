@@ -7,8 +7,8 @@ use Rattle.cap_trace.proofs.quick.other.Goals as goal
 
 pub returns : goal.returns
 returns c =
-    call_after (unlisted c.args.name.now) c.args.text.now (c.in_ok-args.tail.now) (c.in-Ok.call) (calls.Other
+    call_after (unlisted c.args.name.now) c.args.text.now (c.in_ok-args.tail.now) (calls.Other
     c.args.name.now c.in_ok-args.args.now) c.in_ok-answer.answer
-    c.in-Ok.ensures refl
+    refl
     (last (c.args.text.now) (c.in_ok-args.tail.now) (free_text c.in_ok-args.args.now) c.in_ok-args.ensures)
     c.in_ok-answer.ensures

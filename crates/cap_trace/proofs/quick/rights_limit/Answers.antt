@@ -9,8 +9,8 @@ use Rattle.cap_trace.proofs.quick.rights_limit.Goals as goal
 pub returns : goal.returns
 returns c =
     call_after (listed forms.RightsLimit) c.args.text.now (c.in_ok-rights.tail.now) (calls.RightsLimit c.in_ok-fd.fd
-    c.in-Ok.rights) (calls.RightsLimit c.in_ok-fd.fd c.in-Ok.rights) c.in_ok-answer.answer
-    refl refl
+    c.in-Ok.rights) c.in_ok-answer.answer
+    refl
     (next (c.args.text.now) (c.in_ok-fd.rest.now) (c.in_ok-rights.tail.now) (an_fd c.in_ok-fd.fd) (some_rights
     c.in-Ok.rights) [] c.in_ok-fd.ensures
     (last (c.in_ok-fd.rest.now) (c.in_ok-rights.tail.now) (some_rights c.in-Ok.rights) (rights_before 41
