@@ -2,7 +2,7 @@
 
 ghost use Rattle.std.specs.Prelude.{◌≡◌, ◌==◌, ◌<◌, IfSome};
 ghost use Rattle.std.specs.List.{list_all, slice_split};
-ghost use Rattle.cap_trace.specs.FlagSteps.{flag_step};
+ghost use Rattle.cap_trace.specs.FlagSteps.{flag_step, flag_class, class_step};
 ghost use Rattle.cap_trace.specs.Fields.{is_flag_byte, is_word, is_flags, is_plain, hex_digit, is_escaped, item_step};
 ghost use Rattle.cap_trace.specs.Fields.{is_between, are_items, is_free};
 ghost use Rattle.cap_trace.specs.Spelling.{is_command};
@@ -29,21 +29,52 @@ fn word(text: &[u8]) -> bool
     }
 }
 
+// What a byte is among flags.
+const LETTER: u8 = 1;
+
+const DIGIT: u8 = 2;
+
+const BAR: u8 = 3;
+
+/// Each byte among flags: a letter, a digit or `_`, a bar, or 0 for any other.
+static FLAG_BYTES: [u8; 256] = [
+    0, 0, 0, 0, 0, 0, 0, 0, 0, 0, 0, 0, 0, 0, 0, 0, 0, 0, 0, 0, 0, 0, 0, 0, 0, 0, 0, 0, 0, 0, 0, 0,
+    0, 0, 0, 0, 0, 0, 0, 0, 0, 0, 0, 0, 0, 0, 0, 0, 2, 2, 2, 2, 2, 2, 2, 2, 2, 2, 0, 0, 0, 0, 0, 0,
+    0, 1, 1, 1, 1, 1, 1, 1, 1, 1, 1, 1, 1, 1, 1, 1, 1, 1, 1, 1, 1, 1, 1, 1, 1, 1, 1, 0, 0, 0, 0, 2,
+    0, 0, 0, 0, 0, 0, 0, 0, 0, 0, 0, 0, 0, 0, 0, 0, 0, 0, 0, 0, 0, 0, 0, 0, 0, 0, 0, 0, 3, 0, 0, 0,
+    0, 0, 0, 0, 0, 0, 0, 0, 0, 0, 0, 0, 0, 0, 0, 0, 0, 0, 0, 0, 0, 0, 0, 0, 0, 0, 0, 0, 0, 0, 0, 0,
+    0, 0, 0, 0, 0, 0, 0, 0, 0, 0, 0, 0, 0, 0, 0, 0, 0, 0, 0, 0, 0, 0, 0, 0, 0, 0, 0, 0, 0, 0, 0, 0,
+    0, 0, 0, 0, 0, 0, 0, 0, 0, 0, 0, 0, 0, 0, 0, 0, 0, 0, 0, 0, 0, 0, 0, 0, 0, 0, 0, 0, 0, 0, 0, 0,
+    0, 0, 0, 0, 0, 0, 0, 0, 0, 0, 0, 0, 0, 0, 0, 0, 0, 0, 0, 0, 0, 0, 0, 0, 0, 0, 0, 0, 0, 0, 0, 0,
+];
+
+/// What a byte is among flags.
+#[inline(always)]
+fn flag_class_of(byte: u8) -> u8
+    ensures { result ≡ flag_class byte }
+{
+    FLAG_BYTES[usize::from(byte)]
+}
+
+/// Whether after such a byte a name has to begin, where the byte may stand there.
+#[inline(always)]
+fn after_class(begins: bool, class: u8) -> Option<bool>
+    ensures { result ≡ class_step begins class }
+{
+    match class {
+        LETTER => Some(false),
+        DIGIT if !begins => Some(false),
+        BAR if !begins => Some(true),
+        _ => None,
+    }
+}
+
 /// Whether after this byte a name has to begin, where the byte may stand there.
+#[inline(always)]
 fn after_flag_byte(begins: bool, byte: u8) -> Option<bool>
     ensures { result ≡ flag_step begins byte }
 {
-    if byte.is_ascii_uppercase() {
-        Some(false)
-    } else if begins {
-        None
-    } else if byte == b'|' {
-        Some(true)
-    } else if byte == b'_' || byte.is_ascii_digit() {
-        Some(false)
-    } else {
-        None
-    }
+    after_class(begins, flag_class_of(byte))
 }
 
 /// Whether a text is names joined by a bar.
@@ -90,10 +121,34 @@ enum Place {
     OneDigit(u8),
 }
 
+/// Whether each byte stands for itself in a path.
+static PLAIN_BYTES: [bool; 256] = [
+    false, false, false, false, false, false, false, false, false, false, false, false, false,
+    false, false, false, false, false, false, false, false, false, false, false, false, false,
+    false, false, false, false, false, false, true, true, false, true, true, true, true, true,
+    true, true, true, true, true, true, true, true, true, true, true, true, true, true, true, true,
+    true, true, true, true, true, true, true, true, true, true, true, true, true, true, true, true,
+    true, true, true, true, true, true, true, true, true, true, true, true, true, true, true, true,
+    true, true, true, true, false, true, true, true, true, true, true, true, true, true, true,
+    true, true, true, true, true, true, true, true, true, true, true, true, true, true, true, true,
+    true, true, true, true, true, true, true, true, false, false, false, false, false, false,
+    false, false, false, false, false, false, false, false, false, false, false, false, false,
+    false, false, false, false, false, false, false, false, false, false, false, false, false,
+    false, false, false, false, false, false, false, false, false, false, false, false, false,
+    false, false, false, false, false, false, false, false, false, false, false, false, false,
+    false, false, false, false, false, false, false, false, false, false, false, false, false,
+    false, false, false, false, false, false, false, false, false, false, false, false, false,
+    false, false, false, false, false, false, false, false, false, false, false, false, false,
+    false, false, false, false, false, false, false, false, false, false, false, false, false,
+    false, false, false, false, false, false, false, false, false, false, false, false, false,
+    false, false, false, false, false, false,
+];
+
+#[inline(always)]
 pub(crate) fn plain(byte: u8) -> bool
     ensures { result ≡ is_plain byte }
 {
-    (32..=126).contains(&byte) && byte != b'"' && byte != b'\\'
+    PLAIN_BYTES[usize::from(byte)]
 }
 
 /// The value of a hexadecimal digit in lower case.

@@ -1,18 +1,19 @@
 //! The table of names: each call and marker that has a form of its own, with the kind of its result.
 
-ghost use Rattle.std.specs.Prelude.{◌≡◌, ◌<◌, ◌↔◌, ◌⊎◌, length, slice_index, IfSome, IsNone};
-ghost use Rattle.std.specs.Option.{option_map};
+ghost use Rattle.std.specs.Prelude.{◌≡◌, ◌<◌, ◌↔◌, ◌⊎◌, [], length, map, slice_index, IfSome, IsNone};
+ghost use Rattle.std.specs.Option.{option_map, unwrap_or};
 ghost use Rattle.std.specs.List.{list_all, slice_get};
 ghost use Rattle.cap_trace.specs.Names.{row_of, dup_command_name, form_named, all_forms, is_name, is_name_byte, name_of};
 ghost use Rattle.cap_trace.specs.Names.{head_named};
 ghost use Rattle.cap_trace.specs.Names as names;
-ghost use Rattle.cap_trace.specs.Slots.{slot_at, slots};
+ghost use Rattle.cap_trace.specs.Slots.{slot_at, slots, name_in};
 ghost use Rattle.cap_trace.specs.Rows.{row_seen, head_seen};
 
 use crate::calls::{
     AtCall, AtFlagsCall, BareCall, DupCommand, FdCall, FlagsCall, Form, Kind, PathCall, PathsCall,
     SendCall,
 };
+use crate::equal::same_text;
 
 /// A row of the table: the name, and the result of a call that doesn't fail.
 #[derive(Clone, Copy)]
@@ -362,6 +363,110 @@ static FORMS: [Form; 98] = [
 ];
 // the end of forms
 
+/// The names of the table, in the order of the forms.
+// tools/name_slots: names
+static NAMES: [&[u8]; 98] = [
+    b"read",
+    b"readv",
+    b"recvfrom",
+    b"recvmsg",
+    b"pread",
+    b"preadv",
+    b"write",
+    b"writev",
+    b"pwrite",
+    b"pwritev",
+    b"lseek",
+    b"fstat",
+    b"fstatfs",
+    b"fsync",
+    b"fdatasync",
+    b"ftruncate",
+    b"fchmod",
+    b"fchown",
+    b"fchflags",
+    b"fchdir",
+    b"flock",
+    b"fpathconf",
+    b"futimes",
+    b"futimens",
+    b"ioctl",
+    b"accept",
+    b"bind",
+    b"connect",
+    b"listen",
+    b"shutdown",
+    b"getpeername",
+    b"getsockname",
+    b"getsockopt",
+    b"setsockopt",
+    b"fexecve",
+    b"close",
+    b"closefrom",
+    b"dup",
+    b"cap_ioctls_limit",
+    b"cap_fcntls_limit",
+    b"sendto",
+    b"sendmsg",
+    b"execve",
+    b"access",
+    b"chdir",
+    b"chflags",
+    b"chmod",
+    b"chown",
+    b"lchown",
+    b"lstat",
+    b"mkdir",
+    b"mkfifo",
+    b"mknod",
+    b"readlink",
+    b"rmdir",
+    b"stat",
+    b"statfs",
+    b"truncate",
+    b"unlink",
+    b"link",
+    b"rename",
+    b"symlink",
+    b"mkdirat",
+    b"mkfifoat",
+    b"mknodat",
+    b"readlinkat",
+    b"futimesat",
+    b"openat",
+    b"unlinkat",
+    b"fstatat",
+    b"fchmodat",
+    b"fchownat",
+    b"chflagsat",
+    b"utimensat",
+    b"socket",
+    b"socketpair",
+    b"pipe2",
+    b"pipe",
+    b"kqueue",
+    b"shm_open",
+    b"mq_open",
+    b"fhopen",
+    b"fork",
+    b"vfork",
+    b"pdfork",
+    b"cap_enter",
+    b"accept4",
+    b"dup2",
+    b"fcntl",
+    b"mmap",
+    b"cap_rights_limit",
+    b"open",
+    b"symlinkat",
+    b"renameat",
+    b"linkat",
+    b"@start",
+    b"@exit",
+    b"@foreign",
+];
+// the end of names
+
 /// The number of the form whose name has this slot, or 255.
 // tools/name_slots: slots
 static SLOTS: [u8; 512] = [
@@ -424,6 +529,27 @@ fn in_slot(slot: usize) -> Option<Form>
     FORMS.get(usize::from(SLOTS[slot])).copied()
 }
 
+/// The text at a place of a list, or nothing.
+#[inline(always)]
+fn text_at(texts: &[&'static [u8]], place: usize) -> &'static [u8]
+    ensures { result.now ≡ unwrap_or (slice_get (map (λ t. t.now) texts.now) place) [] }
+{
+    match texts.get(place) {
+        Some(text) => text,
+        None => b"",
+    }
+}
+
+/// The name in a slot, or nothing.
+#[inline(always)]
+#[tactic(auto, unfolding(crate::specs::Slots::slots, crate::specs::Names::all_forms))]
+fn name_in_slot(slot: usize) -> &'static [u8]
+    requires { slot < 512 }
+    ensures { result.now ≡ name_in (slice_get all_forms (slice_index slots slot)) }
+{
+    text_at(&NAMES, usize::from(SLOTS[slot]))
+}
+
 /// The form of a name of the table.
 #[inline(always)]
 pub(crate) fn form_of(name: &[u8]) -> Option<Form>
@@ -433,7 +559,7 @@ pub(crate) fn form_of(name: &[u8]) -> Option<Form>
         return None;
     };
     match in_slot(slot) {
-        Some(form) if form.row().name == name => Some(form),
+        Some(form) if same_text(name_in_slot(slot), name) => Some(form),
         _ => None,
     }
 }

@@ -16,6 +16,7 @@ ghost use Rattle.cap_trace.specs.Quick.{Before, SpellsAfter, Starts};
 
 use crate::answers::answer;
 use crate::calls::{AtFlagsCall, BareCall, FdCall, FlagsCall, Form, Kind, PathCall};
+use crate::equal::same_text;
 use crate::fields::plain;
 use crate::limits::{LARGEST_FD, LARGEST_PID, LONGEST_LINE};
 use crate::line::{Answer, Dir, Fd, Pid};
@@ -164,9 +165,11 @@ fn short_number(text: &[u8]) -> Option<u32>
 fn number_after(tail: &[u8]) -> Option<u32>
     ensures { IfSome result (λ n. tail.now ≡ codes " RET " ++ decimal n) }
 {
-    match tail {
-        [b' ', b'R', b'E', b'T', b' ', text @ ..] => short_number(text),
-        _ => None,
+    let (word, text) = tail.split_at_checked(5)?;
+    if same_text(word, b" RET ") {
+        short_number(text)
+    } else {
+        None
     }
 }
 

@@ -1,0 +1,72 @@
+-- Two texts of one length are the same where their first bytes are, and their last, and these are all of them.
+use Rattle.std.proofs.Common.{◌≡◌, ℕ, ◌+◌, ◌<◌, ◌≤◌, ◌-◌, List, length, get_or, take, drop, refl, sym, ap, ◌∙◌, arith, ⊎_elim, nat_eq, length-drop}
+use Rattle.std.proofs.lemmas.List.{get_or-take, get_or-drop, get_or_past, length-take-le, ext_get_or}
+use Rattle.std.proofs.lemmas.Nat.{le_bytes_4, le_bytes_8}
+use Rattle.std.proofs.lemmas.Bool.{cases_lt}
+use Rattle.std.proofs.lemmas.Bool.Decides.{Decides-eqb, same_from_decides}
+use Rattle.std.proofs.lemmas.Slice.Eq.{bytes_eq-Decides}
+use Rattle.std.specs.Str.{bytes_eq}
+use Rattle.std.specs.Int.{w32, w64, from_le_bytes}
+
+taken : (k : ℕ) (a b : List ℕ) (i : ℕ) → take k a ≡ take k b → i < k → get_or a i 0 ≡ get_or b i 0
+taken k a b i e h = sym (get_or-take k a i 0 h) ∙ ap (λ (l : List ℕ). get_or l i 0) e ∙ get_or-take k b i 0 h
+
+late : (from i j : ℕ) (a b : List ℕ) → i ≡ from + j → get_or (drop from a) j 0 ≡ get_or (drop from b) j 0
+    → get_or a i 0 ≡ get_or b i 0
+late from i j a b e h = rw e (sym (get_or-drop from a j 0) ∙ h ∙ get_or-drop from b j 0)
+
+pub ends_agree : (k from : ℕ) (a b : List ℕ) → length a ≡ length b → length a ≤ from + k → from ≤ k
+    → take k a ≡ take k b → take k (drop from a) ≡ take k (drop from b) → a ≡ b
+ends_agree k from a b s most over first last = ext_get_or 0 a b s (λ i h. ⊎_elim
+    (λ early. taken k a b i first early)
+    (λ past. late from i (i - from) a b (omega (arith, past, over))
+    (taken k (drop from a) (drop from b) (i - from) last (omega (arith, h, most, past, over))))
+    (cases_lt i k))
+
+at_end : (l : List ℕ) (i : ℕ) → length l ≤ i → get_or l i 0 < 256
+at_end l i h = let e = get_or_past l i 0 h in rw e (omega arith)
+
+early_byte : (k : ℕ) (l : List ℕ) (i : ℕ) → i < k → get_or l i 0 < 256 → get_or (take k l) i 0 < 256
+early_byte k l i h b = let e = get_or-take k l i 0 h in rw e b
+
+late_byte : (k : ℕ) (l : List ℕ) (i : ℕ) → get_or l (k + i) 0 < 256 → get_or (drop k l) i 0 < 256
+late_byte k l i b = let e = get_or-drop k l i 0 in rw e b
+
+pub in_bytes : (k : ℕ) (l : List ℕ) → k ≤ length l → ((i : ℕ) → get_or l i 0 < 256) → (i : ℕ) → get_or (take k l) i 0 < 256
+in_bytes k l h b i = ⊎_elim (λ early. early_byte k l i early (b i))
+    (λ past. at_end (take k l) i (omega (arith, length-take-le k l h, past))) (cases_lt i k)
+
+pub four_bytes : (a b : List ℕ) → length a ≡ 4 → length b ≡ 4 → ((i : ℕ) → get_or a i 0 < 256)
+    → ((i : ℕ) → get_or b i 0 < 256) → from_le_bytes w32 a ≡ from_le_bytes w32 b → a ≡ b
+four_bytes a b m n x y e = sym (le_bytes_4 a (from_le_bytes w32 a) m x refl) ∙ le_bytes_4 b (from_le_bytes w32 a) n y e
+
+pub eight_bytes : (a b : List ℕ) → length a ≡ 8 → length b ≡ 8 → ((i : ℕ) → get_or a i 0 < 256)
+    → ((i : ℕ) → get_or b i 0 < 256) → from_le_bytes w64 a ≡ from_le_bytes w64 b → a ≡ b
+eight_bytes a b m n x y e = sym (le_bytes_8 a (from_le_bytes w64 a) m x refl) ∙ le_bytes_8 b (from_le_bytes w64 a) n y e
+
+-- the bytes of a text
+abbrev pub Bytes : List ℕ → Type 0
+Bytes l = (i : ℕ) → get_or l i 0 < 256
+
+-- numbers that read k bytes at the beginning, and k at the end
+pub ends_decide : (k : ℕ) (read : List ℕ → ℕ) (a b : List ℕ) (last p q x y : ℕ)
+    → ((s t : List ℕ) → length s ≡ k → length t ≡ k → Bytes s → Bytes t → read s ≡ read t → s ≡ t)
+    → length a ≡ length b → last + k ≡ length a → last ≤ k → Bytes a → Bytes b
+    → p ≡ read (take k a) → q ≡ read (take k b) → p ≡ q
+    → x ≡ read (take k (drop last a)) → y ≡ read (take k (drop last b)) → nat_eq x y ≡ bytes_eq a b
+ends_decide k read a b last p q x y same sizes all over u v first second equal third fourth =
+    let size_a : length (drop last a) ≡ k = omega (arith, all, length-drop last a) in
+    let size_b : length (drop last b) ≡ k = omega (arith, all, sizes, length-drop last b) in
+    same_from_decides (nat_eq x y) (bytes_eq a b) (
+      (λ h. ends_agree k last a b sizes (omega (arith, all)) over
+          (same (take k a) (take k b) (length-take-le k a (omega (arith, all)))
+          (length-take-le k b (omega (arith, all, sizes))) (in_bytes k a (omega (arith, all)) u)
+          (in_bytes k b (omega (arith, all, sizes)) v) (sym first ∙ equal ∙ second))
+          (same (take k (drop last a)) (take k (drop last b)) (length-take-le k (drop last a) (omega (arith, size_a)))
+          (length-take-le k (drop last b) (omega (arith, size_b)))
+          (in_bytes k (drop last a) (omega (arith, size_a)) (λ i. late_byte last a i (u (last + i))))
+          (in_bytes k (drop last b) (omega (arith, size_b)) (λ i. late_byte last b i (v (last + i))))
+          (sym third ∙ (Decides-eqb x y).0 h ∙ fourth))),
+      (λ e. (Decides-eqb x y).1 (third ∙ ap (λ (l : List ℕ). read (take k (drop last l))) e ∙ sym fourth)),
+    )
+    (bytes_eq-Decides a b)

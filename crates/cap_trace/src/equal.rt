@@ -1,0 +1,67 @@
+//! Whether two short texts are the same, by comparing four or eight bytes at a time.
+
+ghost use Rattle.std.specs.Prelude.{◌≡◌, ◌≤◌, ◌+◌, length, take, drop};
+ghost use Rattle.std.specs.Int.{w32, w64, from_le_bytes};
+ghost use Rattle.std.specs.Str.{bytes_eq};
+
+/// Four bytes as one number.
+#[inline(always)]
+fn four(text: &[u8], from: usize) -> u32
+    requires { from + 4 ≤ length text.now }
+    ensures { result ≡ from_le_bytes w32 (take 4 (drop from text.now)) }
+{
+    let mut bytes = [0u8; 4];
+    bytes.copy_from_slice(&text[from..from + 4]);
+    u32::from_le_bytes(bytes)
+}
+
+/// Eight bytes as one number.
+#[inline(always)]
+fn eight(text: &[u8], from: usize) -> u64
+    requires { from + 8 ≤ length text.now }
+    ensures { result ≡ from_le_bytes w64 (take 8 (drop from text.now)) }
+{
+    let mut bytes = [0u8; 8];
+    bytes.copy_from_slice(&text[from..from + 8]);
+    u64::from_le_bytes(bytes)
+}
+
+/// Whether two texts of 4 to 8 bytes are the same: the first four bytes, and the last four.
+#[inline(always)]
+fn same_by_fours(left: &[u8], right: &[u8]) -> bool
+    requires sizes { length left.now ≡ length right.now }
+    requires least { 4 ≤ length left.now }
+    requires most { length left.now ≤ 8 }
+    ensures { result ≡ bytes_eq left.now right.now }
+{
+    let last = left.len() - 4;
+    four(left, 0) == four(right, 0) && four(left, last) == four(right, last)
+}
+
+/// Whether two texts of 8 to 16 bytes are the same: the first eight bytes, and the last eight.
+#[inline(always)]
+fn same_by_eights(left: &[u8], right: &[u8]) -> bool
+    requires sizes { length left.now ≡ length right.now }
+    requires least { 8 ≤ length left.now }
+    requires most { length left.now ≤ 16 }
+    ensures { result ≡ bytes_eq left.now right.now }
+{
+    let last = left.len() - 8;
+    eight(left, 0) == eight(right, 0) && eight(left, last) == eight(right, last)
+}
+
+/// Whether two texts are the same.
+#[inline(always)]
+pub(crate) fn same_text(left: &[u8], right: &[u8]) -> bool
+    ensures { result ≡ bytes_eq left.now right.now }
+{
+    let size = left.len();
+    if size != right.len() {
+        return false;
+    }
+    match size {
+        4..=7 => same_by_fours(left, right),
+        8..=16 => same_by_eights(left, right),
+        _ => left == right,
+    }
+}
