@@ -1,8 +1,20 @@
-//! Whether two short texts are the same, by comparing four or eight bytes at a time.
+//! Short texts by four or eight bytes at a time: whether two are the same, and their first and last bytes as numbers.
 
 ghost use Rattle.std.specs.Prelude.{◌≡◌, ◌≤◌, ◌+◌, length, take, drop};
-ghost use Rattle.std.specs.Int.{w32, w64, from_le_bytes};
+ghost use Rattle.std.specs.Int.{w16, w32, w64, from_le_bytes};
 ghost use Rattle.std.specs.Str.{bytes_eq};
+ghost use Rattle.cap_trace.specs.Slots.{first_word, last_word};
+
+/// Two bytes as one number.
+#[inline(always)]
+fn two(text: &[u8], from: usize) -> u16
+    requires { from + 2 ≤ length text.now }
+    ensures { result ≡ from_le_bytes w16 (take 2 (drop from text.now)) }
+{
+    let mut bytes = [0u8; 2];
+    bytes.copy_from_slice(&text[from..from + 2]);
+    u16::from_le_bytes(bytes)
+}
 
 /// Four bytes as one number.
 #[inline(always)]
@@ -63,5 +75,22 @@ pub(crate) fn same_text(left: &[u8], right: &[u8]) -> bool
         4..=7 => same_by_fours(left, right),
         8..=16 => same_by_eights(left, right),
         _ => left == right,
+    }
+}
+
+/// The first bytes of a text as one number, and the last: eight bytes, or four or two of a shorter text.
+#[inline(always)]
+pub(crate) fn ends(text: &[u8]) -> (u64, u64)
+    requires { 2 ≤ length text.now }
+    ensures first { result.0 ≡ first_word text.now }
+    ensures last { result.1 ≡ last_word text.now }
+{
+    let size = text.len();
+    if size >= 8 {
+        (eight(text, 0), eight(text, size - 8))
+    } else if size >= 4 {
+        (u64::from(four(text, 0)), u64::from(four(text, size - 4)))
+    } else {
+        (u64::from(two(text, 0)), u64::from(two(text, size - 2)))
     }
 }
