@@ -13,11 +13,10 @@ use Rattle.cap_summary.specs.declared.change.Process.{Process}
 use Rattle.cap_summary.specs.declared.change.Change.{Change}
 use Rattle.cap_summary.specs.declared.kept.Kept.{Kept}
 use Rattle.cap_summary.specs.declared.kept.Listed.{Listed}
-use Rattle.cap_summary.specs.declared.tables.Cells.{Cells}
 use Rattle.cap_summary.specs.declared.tables.Processes.{Processes}
 use Rattle.cap_summary.specs.Sorted.{found}
 use Rattle.cap_summary.specs.Values.{read_cell, read_mode}
-use Rattle.cap_summary.specs.Tables.{listed_value, process_at, kept_value, listed_process}
+use Rattle.cap_summary.specs.Tables.{listed_value, process_at, kept_value, kept_values, listed_process}
 use Rattle.cap_summary.specs.Values.{unlisted, rest_untouched}
 use Rattle.cap_summary.specs.Changes.{value_at, cell_in, mode_in, changed, untouched_at, untouched_in, IsSame, AreAlike}
 use Rattle.cap_summary.specs.Names.{Names, cell_within, others_within, mode_within, ListedWithin}
@@ -90,10 +89,15 @@ tables_alike {V} see own theirs xs ys i alike key =
 abbrev pub cell_seen : ℕ → Kept → Value
 cell_seen f kept = kept_value kept
 
-pub cells_alike : (own theirs : Cells) (xs ys : List (ℕ × Kept)) (i : ℕ)
-    → TablesAlike cell_seen own.table theirs.table xs ys i → (f : ℕ) → listed_value own f ≡ listed_value theirs f
-unfolding listed_value
-cells_alike own theirs xs ys i alike f = tables_alike cell_seen own.table theirs.table xs ys i alike f
+pub cells_alike : (own theirs : List (ℕ × Kept)) (i : ℕ) → length own ≤ i → length theirs ≤ i
+    → ShowSame (entry_seen cell_seen) i own theirs → (f : ℕ) → kept_values (found own f) ≡ kept_values (found theirs f)
+cells_alike own theirs i own_all theirs_all same f = tables_alike cell_seen own theirs own theirs i (record {
+  own_is = refl;
+  theirs_is = refl;
+  own_all = own_all;
+  theirs_all = theirs_all;
+  same = same;
+}) f
 
 -- ---- processes
 

@@ -3,7 +3,7 @@ use Rattle.std.proofs.Common.{◌≡◌, ℕ, zero, suc, ◌+◌, ◌*◌, ◌<�
 use Rattle.std.proofs.Common.{Option, Some, None}
 use Rattle.std.proofs.Common.{Bool, true, false, cond, refl, sym, ap, ◌∙◌, ◌||◌, arith}
 use Rattle.std.proofs.Common.{get_or, option_map, subst, ◌&&◌, length-append}
-use Rattle.std.specs.Prelude.{is_some, nat_le}
+use Rattle.std.specs.Prelude.{is_some, nat_le, option_and_then}
 use Rattle.std.proofs.Math.Nat.{mul-le-mul_right, add-mul, one-mul, suc-mul}
 use Rattle.std.proofs.lemmas.Bool.{eqb-true, eq-eqb}
 use Rattle.std.proofs.lemmas.List.{length-map}
@@ -19,7 +19,10 @@ use Rattle.cap_summary.specs.declared.tables.Cells.{Cells}
 use Rattle.cap_summary.specs.declared.tables.Processes.{Processes}
 use Rattle.cap_summary.specs.Sorted.{found, Rises, RisesFrom}
 use Rattle.cap_summary.specs.Place.{IsAt}
-use Rattle.cap_summary.specs.Tables.{listed_value, kept_values, process_at, listed_process}
+use Rattle.cap_summary.specs.Tables.{listed_value, kept_values, process_at, listed_process, or_else, parts_value, passed_value}
+use Rattle.cap_summary.specs.Values.{passed_on}
+use Rattle.cap_summary.specs.declared.values.Passing.{Passing}
+use Rattle.cap_summary.specs.declared.layers.Parts.{Parts}
 use Rattle.cap_summary.specs.Names.{Names, is_one, these, cell_within, ProcessWithin, ListedWithin, AreWithin}
 use Rattle.cap_summary.specs.Names.{outside_within, part_within, condition_within, ConditionsWithin}
 use Rattle.cap_summary.specs.declared.conditions.Source.{Source}
@@ -83,13 +86,38 @@ kept_some None is = is
 kept_some (Some kept) is = refl
 
 -- no more cells are listed than there are descriptors that may be
-pub few_cells : (cells : Cells) (fds : List ℕ) → Rises cells.table
-    → ((f : ℕ) → is_some (listed_value cells f) ≡ true → is_one fds f ≡ true) → length cells.table ≤ length fds
-unfolding listed_value
-few_cells cells fds rises among =
-    let some = few_keys 0 cells.table fds rises (λ f is. among f (kept_some (found cells.table f) is)) in
+few_entries : (entries : List (ℕ × Kept)) (fds : List ℕ) → Rises entries
+    → ((f : ℕ) → is_some (kept_values (found entries f)) ≡ true → is_one fds f ≡ true) → length entries ≤ length fds
+few_entries entries fds rises among =
+    let some = few_keys 0 entries fds rises (λ f is. among f (kept_some (found entries f) is)) in
     let all = count_all 0 fds in
     omega (arith, some, all)
+
+some_top : (t l : Option Value) → is_some t ≡ true → is_some (or_else t l) ≡ true
+some_top None l is = absurd (let no : false ≡ true = is in cc)
+some_top (Some v) l is = refl
+
+some_lower : (t l : Option Value) (passing : Passing) (f : ℕ) → is_some l ≡ true
+    → is_some (or_else t (option_and_then (passed_on passing None f) l)) ≡ true
+some_lower (Some v) l passing f is = refl
+some_lower None None passing f is = absurd (let no : false ≡ true = is in cc)
+some_lower None (Some v) passing f is = refl
+
+pub few_of_top : (parts : Parts) (cells : Cells) (fds : List ℕ)
+    → ((f : ℕ) → parts_value parts f ≡ listed_value cells f) → Rises parts.top.now
+    → ((f : ℕ) → is_some (listed_value cells f) ≡ true → is_one fds f ≡ true) → length parts.top.now ≤ length fds
+few_of_top parts cells fds is rises among = few_entries parts.top.now fds rises
+    (λ f some. among f (ap (λ (o : Option Value). is_some o) (sym (is f)) ∙ some_top (kept_values (found parts.top.now f))
+    (passed_value parts.passing parts.closed_from parts.lower.now f) some))
+
+pub few_of_lower : (parts : Parts) (cells : Cells) (fds : List ℕ) → parts.closed_from ≡ None
+    → ((f : ℕ) → parts_value parts f ≡ listed_value cells f) → Rises parts.lower.now
+    → ((f : ℕ) → is_some (listed_value cells f) ≡ true → is_one fds f ≡ true) → length parts.lower.now ≤ length fds
+few_of_lower parts cells fds none is rises among = few_entries parts.lower.now fds rises
+    (λ f some. among f (ap (λ (o : Option Value). is_some o) (sym (is f))
+    ∙ ap (λ (c : Option ℕ). is_some (or_else (kept_values (found parts.top.now f))
+    (passed_value parts.passing c parts.lower.now f))) none
+    ∙ some_lower (kept_values (found parts.top.now f)) (kept_values (found parts.lower.now f)) parts.passing f some))
 
 -- ---- processes
 

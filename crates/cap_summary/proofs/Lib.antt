@@ -6,6 +6,7 @@ pub mod Untouched
 pub mod Naming
 pub mod Joining
 pub mod Staying
+pub mod Layered
 pub mod Comparing
 pub mod Counting
 pub mod Runs

@@ -29,9 +29,9 @@ use Rattle.cap_summary.specs.declared.change.Change.{Change}
 use Rattle.cap_summary.specs.declared.conditions.Source.{Source}
 use Rattle.cap_summary.specs.declared.conditions.Condition.{Condition}
 use Rattle.cap_summary.specs.declared.conditions.Condition.TheVariants as condition
-use Rattle.cap_summary.specs.Values.{is_from, rest_value, unlisted, op_on, passing_op}
+use Rattle.cap_summary.specs.Values.{is_from, rest_value, unlisted, op_on, passing_op, passed_on}
 use Rattle.cap_summary.specs.Tables.{listed_value, process_at, or_else}
-use Rattle.cap_summary.specs.Images.{under, passed_on}
+use Rattle.cap_summary.specs.Images.{under}
 use Rattle.cap_summary.specs.Changes.{value_in, value_of, cell_in, mode_in, mode_of, JoinsListed}
 use Rattle.cap_summary.specs.Names.{Names, has_cell, value_within, cell_within, others_within, mode_within}
 use Rattle.cap_summary.specs.Names.{AreAmong, ProcessWithin, ListedWithin, ChangeWithin, part_within}

@@ -18,16 +18,17 @@ use Rattle.cap_machine.specs.Composed.{in_turn, held_then, kept_then, both_masks
 use Rattle.cap_machine.proofs.Turns.{same_state}
 use Rattle.cap_summary.specs.declared.values.Value.{Value}
 use Rattle.cap_summary.specs.declared.values.Value.TheVariants as value
+use Rattle.cap_summary.specs.declared.values.Passing.{Passing}
 use Rattle.cap_summary.specs.declared.values.Passing.TheVariants as passings
 use Rattle.cap_summary.specs.declared.change.Process.{Process}
 use Rattle.cap_summary.specs.declared.change.Change.{Change}
 use Rattle.cap_summary.specs.declared.kept.Kept.{Kept}
 use Rattle.cap_summary.specs.Sorted.{found}
-use Rattle.cap_summary.specs.Values.{read_cell, read_mode, unlisted, op_on, rest_untouched, is_own}
-use Rattle.cap_summary.specs.Tables.{listed_value, process_at, or_else, kept_value, kept_values}
+use Rattle.cap_summary.specs.Values.{read_cell, read_mode, unlisted, op_on, passing_op, rest_untouched, is_own, passed_on}
+use Rattle.cap_summary.specs.Tables.{listed_value, process_at, or_else, kept_value, kept_values, Hides}
 use Rattle.cap_summary.specs.Changes.{value_of, cell_in, mode_in, changed, JoinsProcess, JoinsTo}
 use Rattle.cap_summary.specs.Changes.{untouched_in, is_untouched, is_unturned}
-use Rattle.cap_summary.specs.Images.{under, passed_on}
+use Rattle.cap_summary.specs.Images.{under, Stays}
 use Rattle.cap_summary.proofs.Untouched.{both_true, implied}
 use Rattle.cap_summary.proofs.Naming.{same_within}
 use Rattle.cap_summary.proofs.Joining.{applied_same, read-under}
@@ -35,7 +36,7 @@ use Rattle.cap_summary.proofs.SortedMerging.{found-append}
 
 -- ---- ops
 
-no_mask : (mask : Option ℕ) → both_masks mask None ≡ mask
+pub no_mask : (mask : Option ℕ) → both_masks mask None ≡ mask
 no_mask None = refl
 no_mask (Some m) = refl
 
@@ -84,7 +85,7 @@ same_parts a b u k x y z =
       unsure = r;
     } in op) z
 
-in_turn-same : (op : Op) → in_turn op same ≡ op
+pub in_turn-same : (op : Op) → in_turn op same ≡ op
 in_turn-same op = same_parts (in_turn op same) op (applied_same op.unknown) (applied_same op.closed) (held-same op.set)
     (held-same op.clear) (held-same op.unsure)
 
@@ -99,7 +100,7 @@ same-in_turn op =
 -- ---- values
 
 -- handed on as they are, none closed
-op_on-same : (v : Value) → op_on same v ≡ v
+pub op_on-same : (v : Value) → op_on same v ≡ v
 op_on-same (value.Fixed c) = ap value.Fixed (applied_same c)
 op_on-same (value.Of q g op) = ap (value.Of q g) (in_turn-same op)
 
@@ -121,58 +122,65 @@ found-more {V} xs i x f within at =
     ap (λ (l : List (ℕ × V)). found l f) (take_more xs i x within ∙ ap (λ (y : ℕ × V). take i xs ++ y ∷ []) (sym at))
     ∙ found-append (take i xs) x.0 x.1 f
 
--- a value that stays as it is, where there is one
-abbrev pub Stays : Change → Option Kept → Type 0
-Stays a o = option_map (under a) (kept_values o) ≡ kept_values o
+one_stays : (a : Change) (passing : Passing) (v : Kept) (b : Bool)
+    → under a (op_on (passing_op passing) (kept_value v)) ≡ op_on (passing_op passing) (kept_value v)
+    → Stays a passing (kept_values (cond b (Some v) None))
+one_stays a passing v true is = ap Some is
+one_stays a passing v false is = refl
 
-one_stays : (a : Change) (v : Kept) (b : Bool) → under a (kept_value v) ≡ kept_value v → Stays a (cond b (Some v) None)
-one_stays a v true is = ap Some is
-one_stays a v false is = refl
-
-either_stays : (a : Change) (o n : Option Kept) → Stays a o → Stays a n → Stays a (option_or o n)
-either_stays a None n first second = second
-either_stays a (Some v) n first second = first
+either_stays : (a : Change) (passing : Passing) (o n : Option Kept) → Stays a passing (kept_values o)
+    → Stays a passing (kept_values n) → Stays a passing (kept_values (option_or o n))
+either_stays a passing None n first second = second
+either_stays a passing (Some v) n first second = first
 
 pub stays_more : (a : Change) (xs : List (ℕ × Kept)) (i : ℕ) (x : ℕ × Kept) → i < length xs → x ≡ get_or xs i x
-    → under a (kept_value x.1) ≡ kept_value x.1 → ((f : ℕ) → Stays a (found (take i xs) f)) → (f : ℕ)
-    → Stays a (found (take (i + 1) xs) f)
-stays_more a xs i x within at is before f = rw (found-more xs i x f within at)
-    (either_stays a (found (take i xs) f) (cond (eqb x.0 f) (Some x.1) None) (before f)
-    (one_stays a x.1 (eqb x.0 f) is))
+    → ((passing : Passing)
+    → under a (op_on (passing_op passing) (kept_value x.1)) ≡ op_on (passing_op passing) (kept_value x.1))
+    → ((passing : Passing) (f : ℕ) → Stays a passing (kept_values (found (take i xs) f))) → (passing : Passing) (f : ℕ)
+    → Stays a passing (kept_values (found (take (i + 1) xs) f))
+stays_more a xs i x within at is before passing f = rw (found-more xs i x f within at)
+    (either_stays a passing (found (take i xs) f) (cond (eqb x.0 f) (Some x.1) None) (before passing f)
+    (one_stays a passing x.1 (eqb x.0 f) (is passing)))
 
--- what hides a listed value, where there is one
-abbrev pub Hides : Option Kept → Option Kept → Type 0
-Hides o n = or_else (kept_values o) (kept_values n) ≡ kept_values o
+some_hides : (o n : Option Value) → is_some o ≡ true → Hides o n
+some_hides None n is = absurd (let no : false ≡ true = is in cc)
+some_hides (Some v) n is = refl
 
-some_hides : (v : Kept) (o n : Option Kept) → o ≡ Some v → Hides o n
-some_hides v o n is = rw is refl
-
-none_hidden : (o : Option Kept) → Hides o None
+none_hidden : (o : Option Value) → Hides o None
 none_hidden None = refl
 none_hidden (Some v) = refl
 
-one_hidden : (others : List (ℕ × Kept)) (k f : ℕ) (v w : Kept) → found others k ≡ Some w
-    → Hides (found others f) (cond (eqb k f) (Some v) None)
-one_hidden others k f v w is = elim (eqb_tells k f) [
-  | inl h ↦ some_hides w (found others f) (cond (eqb k f) (Some v) None) (ap (found others) (sym h.1) ∙ is)
-  | inr h ↦ rw h.0 (none_hidden (found others f))
+one_hidden : (o : ℕ → Option Value) (k f : ℕ) (v : Kept) → is_some (o k) ≡ true
+    → Hides (o f) (kept_values (cond (eqb k f) (Some v) None))
+one_hidden o k f v is = elim (eqb_tells k f) [
+  | inl h ↦ some_hides (o f) (kept_values (cond (eqb k f) (Some v) None))
+      (ap (λ (r : ℕ). is_some (o r)) (sym h.1) ∙ is)
+  | inr h ↦ rw h.0 (none_hidden (o f))
 ]
 
-either_hidden : (o m n : Option Kept) → Hides o m → Hides o n → Hides o (option_or m n)
+either_hidden : (o : Option Value) (m n : Option Kept) → Hides o (kept_values m) → Hides o (kept_values n)
+    → Hides o (kept_values (option_or m n))
 either_hidden o None n first second = second
 either_hidden o (Some v) n first second = first
 
-pub hides_more : (others xs : List (ℕ × Kept)) (i : ℕ) (x : ℕ × Kept) (w : Kept) → i < length xs → x ≡ get_or xs i x
-    → found others x.0 ≡ Some w → ((f : ℕ) → Hides (found others f) (found (take i xs) f)) → (f : ℕ)
-    → Hides (found others f) (found (take (i + 1) xs) f)
-hides_more others xs i x w within at is before f = rw (found-more xs i x f within at)
-    (either_hidden (found others f) (found (take i xs) f) (cond (eqb x.0 f) (Some x.1) None) (before f)
-    (one_hidden others x.0 f x.1 w is))
+-- what is listed hides the entries so far, and one more
+pub hides_more : (o : ℕ → Option Value) (xs : List (ℕ × Kept)) (i : ℕ) (x : ℕ × Kept) → i < length xs
+    → x ≡ get_or xs i x → is_some (o x.0) ≡ true → ((f : ℕ) → Hides (o f) (kept_values (found (take i xs) f))) → (f : ℕ)
+    → Hides (o f) (kept_values (found (take (i + 1) xs) f))
+hides_more o xs i x within at is before f = rw (found-more xs i x f within at)
+    (either_hidden (o f) (found (take i xs) f) (cond (eqb x.0 f) (Some x.1) None) (before f)
+    (one_hidden o x.0 f x.1 is))
 
--- cells over others that hide them, and that stay as they are
-pub over_hidden : (a : Change) (others own new : Option Value) → or_else others own ≡ others
-    → option_map (under a) others ≡ others → new ≡ others → new ≡ or_else (option_map (under a) others) own
-over_hidden a others own new hides stays is = is ∙ sym (ap (λ (r : Option Value). or_else r own) stays ∙ hides)
+-- cells over others that hide them
+pub over_hidden : (a : Change) (others own new : Option Value) → Hides others own → new ≡ option_map (under a) others
+    → new ≡ or_else (option_map (under a) others) own
+over_hidden a None own new hides is = is ∙ sym hides
+over_hidden a (Some v) own new hides is = is
+
+-- those that stay as they are
+pub over_stays : (a : Change) (others own new : Option Value) → Hides others own → option_map (under a) others ≡ others
+    → new ≡ others → new ≡ or_else (option_map (under a) others) own
+over_stays a others own new hides stays is = over_hidden a others own new hides (is ∙ sym stays)
 
 -- ---- processes
 

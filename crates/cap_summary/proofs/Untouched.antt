@@ -11,9 +11,9 @@ use Rattle.cap_summary.specs.declared.values.Base.{Base}
 use Rattle.cap_summary.specs.declared.change.Process.{Process}
 use Rattle.cap_summary.specs.declared.change.Change.{Change}
 use Rattle.cap_summary.specs.declared.tables.Cells.{Cells}
-use Rattle.cap_summary.specs.Values.{is_from, is_own, are_of, rest_untouched, op_on, passing_op}
+use Rattle.cap_summary.specs.Values.{is_from, is_own, are_of, rest_untouched, op_on, passing_op, passed_on}
 use Rattle.cap_summary.specs.Tables.{listed_value, process_at, or_else}
-use Rattle.cap_summary.specs.Images.{under, passed_on}
+use Rattle.cap_summary.specs.Images.{under}
 use Rattle.cap_summary.specs.Changes.{untouched_at, untouched_in, is_untouched, is_unturned, mode_of, mode_in}
 
 -- ---- Booleans

@@ -1,8 +1,9 @@
 -- Tables of cells and of processes, by look-up.
-use Rattle.std.specs.Prelude.{ℕ, Option, Some, None, option_map}
+use Rattle.std.specs.Prelude.{◌≡◌, ℕ, List, Option, Some, None, option_map, option_and_then}
 use Rattle.cap_machine.specs.declared.cell.Cell.TheVariants as cell
 use Rattle.cap_machine.specs.declared.cell.OnExec.TheVariants as flag
-use Rattle.cap_machine.specs.Op.{same}
+use Rattle.cap_machine.specs.Op.{same, exec}
+use Rattle.cap_machine.specs.Composed.{in_turn}
 use Rattle.cap_summary.specs.Sorted.{found}
 use Rattle.cap_summary.specs.declared.values.Value.{Value}
 use Rattle.cap_summary.specs.declared.values.Value.TheVariants as value
@@ -13,9 +14,14 @@ use Rattle.cap_summary.specs.declared.kept.Seen.TheVariants as seen
 use Rattle.cap_summary.specs.declared.kept.Listed.{Listed}
 use Rattle.cap_summary.specs.declared.kept.Listed.TheVariants as listed
 use Rattle.cap_summary.specs.declared.values.ModeValue.TheVariants as mode_value
-use Rattle.cap_summary.specs.Values.{own_base, passing_op}
+use Rattle.cap_summary.specs.declared.values.Passing.{Passing}
+use Rattle.cap_summary.specs.Values.{own_base, passing_op, passed_on}
 use Rattle.cap_summary.specs.declared.change.Process.{Process}
 use Rattle.cap_summary.specs.declared.change.ProcessRef.{ProcessRef}
+use Rattle.cap_summary.specs.declared.layers.Layers.{Layers}
+use Rattle.cap_summary.specs.declared.layers.Parts.{Parts}
+use Rattle.cap_summary.specs.declared.tables.Form.{Form}
+use Rattle.cap_summary.specs.declared.tables.Form.TheVariants as form
 use Rattle.cap_summary.specs.declared.tables.Cells.{Cells}
 use Rattle.cap_summary.specs.declared.tables.Listing.{Listing}
 use Rattle.cap_summary.specs.declared.tables.Processes.{Processes}
@@ -34,14 +40,41 @@ abbrev pub seen_value : ℕ → ℕ → Seen → Value
 seen_value p f seen.Same = value.Of p f same
 seen_value p f (seen.Fixed c) = value.Fixed c
 seen_value p f (seen.Taken taken) = value.Of taken.now.pid taken.now.fd taken.now.op
+seen_value p f (seen.Executed taken) = value.Of taken.now.pid taken.now.fd (in_turn taken.now.op exec)
 seen_value p f (seen.Passed q passing) = value.Of q f (passing_op passing)
 
 abbrev pub kept_values : Option Kept → Option Value
 kept_values o = option_map kept_value o
 
+-- the first where there is one, and else the second
+abbrev pub or_else : {X : Type 0} → Option X → Option X → Option X
+or_else (Some x) y = Some x
+or_else None y = y
+
+-- the first hides the second, where there is one
+abbrev pub Hides : Option Value → Option Value → Type 0
+Hides o n = or_else o n ≡ o
+
+-- what is handed on of a table
+abbrev pub passed_value : Passing → Option ℕ → List (ℕ × Kept) → ℕ → Option Value
+passed_value passing closed_from entries f = option_and_then (passed_on passing closed_from f) (kept_values (found entries f))
+
+-- the top's, and else what is handed on of the lower table
+abbrev pub layered_value : Layers → ℕ → Option Value
+layered_value l f = or_else (kept_values (found l.top f)) (passed_value l.passing l.closed_from l.lower f)
+
+abbrev pub parts_value : Parts → ℕ → Option Value
+parts_value parts f = or_else (kept_values (found parts.top.now f))
+    (passed_value parts.passing parts.closed_from parts.lower.now f)
+
+abbrev pub form_value : Form → ℕ → Option Value
+form_value form.Empty f = None
+form_value (form.Flat table) f = kept_values (found table f)
+form_value (form.Layered layers) f = layered_value layers f
+
 -- the value of a descriptor that is listed
 unfoldable pub listed_value : Cells → ℕ → Option Value
-listed_value cells f = kept_values (found cells.table f)
+listed_value cells f = form_value cells.form f
 
 -- the same of cells that are being listed
 unfoldable pub value_so_far : Listing → ℕ → Option Value
@@ -59,8 +92,3 @@ listed_process p (listed.Other process) = process.value
 -- a process that is listed
 unfoldable pub process_at : Processes → ℕ → Option Process
 process_at processes p = option_map (listed_process p) (found processes.table p)
-
--- the first where there is one, and else the second
-abbrev pub or_else : {X : Type 0} → Option X → Option X → Option X
-or_else (Some x) y = Some x
-or_else None y = y

@@ -72,3 +72,7 @@ rest_untouched base p f = (base.own && are_of base.others p) && not (is_from bas
 abbrev pub op_on : Op → Value → Value
 op_on op (value.Fixed c) = value.Fixed (applied op c)
 op_on op (value.Of q g first) = value.Of q g (in_turn first op)
+
+-- a value where it is handed on, below the descriptor from which cells are closed
+abbrev pub passed_on : Passing → Option ℕ → ℕ → Value → Option Value
+passed_on passing closed_from f v = if is_from closed_from f then None else Some (op_on (passing_op passing) v)

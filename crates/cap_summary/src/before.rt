@@ -18,7 +18,7 @@ use crate::known::Known;
 use crate::packed::Conditions;
 use crate::values::ModeValue;
 use cap_machine::{
-    Cell, Checks, Demand, Effect, Found, Mode, Start, Step, Touched, Turned, Verdict, rule_of,
+    Cell, Checks, Demand, Effect, Found, Mode, Op, Start, Step, Touched, Turned, Verdict, rule_of,
 };
 use cap_trace::{Fd, Pid};
 use cap_tree::NoMemory;
@@ -43,6 +43,9 @@ impl<'a> Before<'a> {
                 Seen::Same => before.cell(pid, fd),
                 Seen::Fixed(cell) => cell,
                 Seen::Taken(taken) => taken.op.on(before.cell(taken.pid, taken.fd)),
+                Seen::Executed(taken) => {
+                    Op::exec().on(taken.op.on(before.cell(taken.pid, taken.fd)))
+                }
                 Seen::Passed(source, passing) => passing.op().on(before.cell(source, fd)),
             },
             Before::Behind(before, me, effect) => match effect.touch(*me, pid, fd) {

@@ -3,9 +3,9 @@
 ghost use Rattle.std.specs.Prelude.{◌≡◌, ℕ, true, IfOk, option_map, option_and_then};
 ghost use Rattle.cap_summary.specs.Tables.{kept_value, seen_value, listed_process, process_of};
 ghost use Rattle.cap_summary.specs.Images.{under};
-ghost use Rattle.cap_summary.specs.Values.{unlisted};
+ghost use Rattle.cap_summary.specs.Values.{unlisted, op_on, passing_op};
 ghost use Rattle.cap_summary.specs.Changes.{value_in};
-ghost use Rattle.cap_machine.specs.Op.{same};
+ghost use Rattle.cap_machine.specs.Op.{same, exec};
 
 use crate::change::{Change, Near, Process, ProcessRef};
 use crate::sorted::Combine;
@@ -35,6 +35,8 @@ pub(crate) enum Seen<'a> {
     Fixed(Cell),
     /// It is what an op makes of a cell.
     Taken(&'a Taken),
+    /// It is what an exec makes of that.
+    Executed(&'a Taken),
     /// It is the cell of the same descriptor of this process, handed on so.
     Passed(Pid, Passing),
 }
@@ -102,7 +104,7 @@ impl Kept {
 
     /// The same, to be looked at.
     #[inline]
-    fn seen(&self) -> Seen<'_>
+    pub(crate) fn seen(&self) -> Seen<'_>
         ensures { (p f : ℕ) → seen_value p f result ≡ kept_value self.now }
     {
         match self {
@@ -112,6 +114,31 @@ impl Kept {
             Kept::Clear(rights) => Seen::Fixed(Cell::Held(*rights, OnExec::Clear)),
             Kept::Unsure(rights) => Seen::Fixed(Cell::Held(*rights, OnExec::Unsure)),
             Kept::Of(taken) => Seen::Taken(taken),
+        }
+    }
+
+    /// The same where it was handed on, to be looked at.
+    pub(crate) fn seen_passed(&self, passing: Passing) -> Seen<'_>
+        ensures { (p f : ℕ) → seen_value p f result ≡ op_on (passing_op passing) (kept_value self.now) }
+    {
+        match passing {
+            Passing::Same => self.seen(),
+            Passing::Exec => self.seen_executed(),
+        }
+    }
+
+    /// The same after an exec.
+    fn seen_executed(&self) -> Seen<'_>
+        ensures { (p f : ℕ) → seen_value p f result ≡ op_on exec (kept_value self.now) }
+    {
+        let exec = Op::exec();
+        match self {
+            Kept::Unknown => Seen::Fixed(exec.on(Cell::Unknown)),
+            Kept::Closed => Seen::Fixed(exec.on(Cell::Closed)),
+            Kept::Set(rights) => Seen::Fixed(exec.on(Cell::Held(*rights, OnExec::Set))),
+            Kept::Clear(rights) => Seen::Fixed(exec.on(Cell::Held(*rights, OnExec::Clear))),
+            Kept::Unsure(rights) => Seen::Fixed(exec.on(Cell::Held(*rights, OnExec::Unsure))),
+            Kept::Of(taken) => Seen::Executed(taken),
         }
     }
 
@@ -131,11 +158,23 @@ impl Kept {
 
     /// Whether it stands behind a change as it is. No is a safe answer.
     pub(crate) fn stays_behind(&self, change: &Change, near: &mut Near) -> bool
-        ensures { result ≡ true → under change.now (kept_value self.now) ≡ kept_value self.now }
+        ensures stays { result ≡ true → under change.now (kept_value self.now) ≡ kept_value self.now }
+        ensures passed { result ≡ true → (passing : Passing) → under change.now (op_on (passing_op passing) (kept_value self.now))
+            ≡ op_on (passing_op passing) (kept_value self.now) }
     {
         match self {
             Kept::Of(taken) => change.leaves(taken.pid, taken.fd, near),
             _ => true,
+        }
+    }
+
+    /// The value where it was handed on, shared where it stays as it is.
+    fn passed(&self, alloc: Global, passing: Passing) -> Result<Kept, NoMemory>
+        ensures { IfOk result (λ new. kept_value new ≡ op_on (passing_op passing) (kept_value self.now)) }
+    {
+        match passing {
+            Passing::Same => self.share(),
+            Passing::Exec => Kept::of(alloc, &self.value().after(&passing.op())),
         }
     }
 
@@ -150,7 +189,7 @@ impl Kept {
     }
 }
 
-/// The cells of a table, handed on; those from a descriptor up are closed.
+/// Cells, and below them others that were handed on; of those the ones from a descriptor up are closed.
 #[derive(Clone, Copy)]
 pub(crate) struct Handing {
     pub(crate) passing: Passing,
@@ -165,22 +204,21 @@ impl Combine for Handing {
     type Out = Kept;
 
     ghost use Rattle.std.specs.Prelude.{refl};
-    ghost use Rattle.cap_summary.specs.Tables.{kept_values};
-    ghost use Rattle.cap_summary.specs.Images.{passed_on};
+    ghost use Rattle.cap_summary.specs.Tables.{kept_values, or_else};
+    ghost use Rattle.cap_summary.specs.Values.{passed_on};
 
-    ghost gives = { λ s f left right out.
-        kept_values out ≡ option_and_then (passed_on s.passing s.closed_from f) (kept_values left) };
+    ghost gives = { λ s f left right out. kept_values out
+        ≡ or_else (kept_values left) (option_and_then (passed_on s.passing s.closed_from f) (kept_values right)) };
 
-    fn left(&self, alloc: Global, fd: u32, left: &Kept) -> Result<Option<Kept>, NoMemory> {
+    fn left(&self, _alloc: Global, _fd: u32, left: &Kept) -> Result<Option<Kept>, NoMemory> {
+        Ok(Some(left.share()?))
+    }
+
+    fn right(&self, alloc: Global, fd: u32, right: &Kept) -> Result<Option<Kept>, NoMemory> {
         if is_closed(self.closed_from, fd) {
             return Ok(None);
         }
-        let value = left.value().after(&self.passing.op());
-        Ok(Some(Kept::of(alloc, &value)?))
-    }
-
-    fn right(&self, _alloc: Global, _fd: u32, _right: &Kept) -> Result<Option<Kept>, NoMemory> {
-        Ok(None)
+        Ok(Some(right.passed(alloc, self.passing)?))
     }
 
     fn both(
@@ -305,7 +343,7 @@ impl Listed {
         ensures { seen_value pid fd result ≡ value_in (listed_process pid self.now) fd }
     {
         match self.cells().get_near(fd, near) {
-            Some(kept) => kept.seen(),
+            Some(seen) => seen,
             None => self.seen_unlisted(pid, fd),
         }
     }

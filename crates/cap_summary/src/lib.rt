@@ -23,6 +23,7 @@ mod explaining;
 mod in_order;
 mod kept;
 mod known;
+mod layers;
 mod line_conditions;
 mod merge;
 mod moved;

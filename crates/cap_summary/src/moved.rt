@@ -8,7 +8,8 @@ ghost use Rattle.cap_summary.specs.Conditions.{any_holds, passes};
 ghost use Rattle.cap_summary.specs.Values.{read_cell, passing_op};
 ghost use Rattle.cap_summary.specs.Tables.{seen_value};
 ghost use Rattle.cap_summary.specs.declared.values.Value.TheVariants as value;
-ghost use Rattle.cap_machine.specs.Op.{same};
+ghost use Rattle.cap_machine.specs.Op.{same, exec};
+ghost use Rattle.cap_machine.specs.Composed.{in_turn};
 ghost use Rattle.cap_summary.specs.Moved.{moved_holds, moved_source_holds};
 ghost use Rattle.cap_summary.specs.Names.{Names, ChangeWithin, ConditionsWithin, value_within, source_within};
 ghost use Rattle.cap_summary.specs.Names.{part_within, outside_within, refused_within, condition_within};
@@ -64,6 +65,17 @@ fn source_taken(source: &Source, taken: &Taken) -> MovedSource
         → moved_source_within names result ≡ true }
 {
     source_before(source, taken.pid, taken.fd, &taken.op)
+}
+
+/// The same where it is what an exec makes of the cell that was taken so.
+fn source_executed(source: &Source, taken: &Taken) -> MovedSource
+    ensures holds { (s : State) → moved_source_holds s result ≡ passes source.now.test
+        (read_cell s (value.Of taken.now.pid taken.now.fd (in_turn taken.now.op exec))) }
+    ensures names { (names : Names)
+        → value_within names (value.Of taken.now.pid taken.now.fd (in_turn taken.now.op exec)) ≡ true
+        → moved_source_within names result ≡ true }
+{
+    source_before(source, taken.pid, taken.fd, &taken.op.then(&Op::exec()))
 }
 
 /// The same test of the cell of this process, which was handed on as it was.
@@ -135,6 +147,7 @@ impl Change {
             Seen::Same => source_of(source, source.pid),
             Seen::Fixed(cell) => source_fixed(source, cell),
             Seen::Taken(taken) => source_taken(source, taken),
+            Seen::Executed(taken) => source_executed(source, taken),
             Seen::Passed(pid, passing) => source_passed(source, pid, passing),
         }
     }
@@ -316,6 +329,7 @@ impl Change {
             }
             Seen::Fixed(cell) => put_moved(alloc, source_fixed(source, cell), left),
             Seen::Taken(taken) => put_moved(alloc, source_taken(source, taken), left),
+            Seen::Executed(taken) => put_moved(alloc, source_executed(source, taken), left),
             Seen::Passed(pid, passing) => {
                 put_moved(alloc, source_passed(source, pid, passing), left)
             }

@@ -1,7 +1,7 @@
 //! Sorted tables.
-ghost use Rattle.std.specs.Prelude.{◌≡◌, ℕ, ◌==◌, [], ◌∷◌, length, IfOk, Some};
+ghost use Rattle.std.specs.Prelude.{◌≡◌, ℕ, ◌==◌, [], ◌∷◌, length, IfOk, Some, Option, List};
 ghost use Rattle.std.specs.Option.{option_copied};
-ghost use Rattle.cap_summary.specs.Sorted.{found, Rises};
+ghost use Rattle.cap_summary.specs.Sorted.{found, Rises, entries_of};
 
 use cap_tree::NoMemory;
 use place::{place_near, place_of};
@@ -16,24 +16,92 @@ mod place;
 pub(crate) use builder::Builder;
 pub(crate) use merging::{Combine, merge};
 
+/// A table that has an entry. A contract sees the list of its entries, each a key and a value, whose keys strictly rise.
+///
+/// A table never changes. Its clones share its entries.
+#[derive(Drop)]
+pub struct Filled<V> {
+    entries: RcSlice<(u32, V)>,
+}
+
+impl<V> Model for Filled<V> {
+    ghost use Rattle.std.specs.Prelude.{List, ℕ};
+    ghost use Rattle.std.specs.Rc.{rc_slice_items};
+    ghost use Rattle.cap_summary.specs.Sorted.{Rises};
+
+    ghost Value = { List (ℕ × V) };
+
+    ghost view = { λ t. rc_slice_items t.entries };
+
+    ghost invariant = { λ t. Rises (rc_slice_items t.entries) };
+}
+
+/// A clone is the same table. It shares the entries, takes constant time and allocates nothing. It fails only if there
+/// are so many clones that they can't be counted.
+impl<V: Drop> Clone for Filled<V> {
+    ghost is_clone = { λ table copy. copy ≡ table };
+
+    fn clone(&self) -> Result<Filled<V>, AllocError> {
+        let entries = self.entries.clone()?;
+        Ok(Filled { entries })
+    }
+}
+
+impl<V> Filled<V> {
+    /// The entries in the order of their keys. Allocates nothing.
+    pub fn entries(&self) -> &[(u32, V)]
+        ensures all { result.now ≡ self.now }
+        ensures rising { Rises self.now }
+    {
+        self.entries.as_slice()
+    }
+
+    /// How many entries there are. Allocates nothing.
+    pub fn len(&self) -> usize
+        ensures { result ≡ length self.now }
+    {
+        self.entries().len()
+    }
+
+    /// The value at a key, if there is one. Halves the table at each step, and allocates nothing.
+    pub fn get(&self, key: u32) -> Option<&V>
+        ensures { option_copied result ≡ found self.now key }
+    {
+        let entries = self.entries();
+        match place_of(entries, key) {
+            Ok(at) => Some(&entries[at].1),
+            Err(_) => None,
+        }
+    }
+
+    /// The same, and where the entry is or would be. It looks first at the place that is given, as
+    /// of an earlier look-up.
+    pub fn get_near(&self, key: u32, near: usize) -> (Option<&V>, usize)
+        ensures { option_copied result.0 ≡ found self.now key }
+    {
+        let entries = self.entries();
+        match place_near(entries, key, near) {
+            Ok(at) => (Some(&entries[at].1), at),
+            Err(at) => (None, at),
+        }
+    }
+}
+
 /// A table of values by key. A contract sees the list of its entries, each a key and a value, whose keys strictly rise.
 ///
 /// A table never changes. Its clones share its entries.
 #[derive(Drop)]
 pub struct Table<V> {
-    entries: Option<RcSlice<(u32, V)>>,
+    filled: Option<Filled<V>>,
 }
 
 impl<V> Model for Table<V> {
     ghost use Rattle.std.specs.Prelude.{List, ℕ};
-    ghost use Rattle.cap_summary.specs.Sorted.{Rises};
-    ghost use Rattle.cap_summary.specs.Shared.{shared_entries};
+    ghost use Rattle.cap_summary.specs.Sorted.{entries_of};
 
     ghost Value = { List (ℕ × V) };
 
-    ghost view = { λ t. shared_entries t.entries };
-
-    ghost invariant = { λ t. Rises (shared_entries t.entries) };
+    ghost view = { λ t. entries_of t.filled };
 }
 
 /// A clone is the same table. It shares the entries, takes constant time and allocates nothing. It fails only if there
@@ -42,11 +110,11 @@ impl<V: Drop> Clone for Table<V> {
     ghost is_clone = { λ table copy. copy ≡ table };
 
     fn clone(&self) -> Result<Table<V>, AllocError> {
-        let entries = match &self.entries {
-            Some(entries) => Some(entries.clone()?),
+        let filled = match &self.filled {
+            Some(filled) => Some(filled.clone()?),
             None => None,
         };
-        Ok(Table { entries })
+        Ok(Table { filled })
     }
 }
 
@@ -55,7 +123,21 @@ impl<V> Table<V> {
     pub fn empty() -> Table<V>
         ensures { result ≡ [] }
     {
-        Table { entries: None }
+        Table { filled: None }
+    }
+
+    /// The table of these entries, or the one without any. Allocates nothing.
+    pub fn of(filled: Option<Filled<V>>) -> Table<V>
+        ensures { result ≡ entries_of filled }
+    {
+        Table { filled }
+    }
+
+    /// The same, where there is an entry. Allocates nothing.
+    pub fn filled(self) -> Option<Filled<V>>
+        ensures { entries_of result ≡ self }
+    {
+        self.filled
     }
 
     /// The entries in the order of their keys. Allocates nothing.
@@ -63,8 +145,8 @@ impl<V> Table<V> {
         ensures all { result.now ≡ self.now }
         ensures rising { Rises self.now }
     {
-        match &self.entries {
-            Some(entries) => entries.as_slice(),
+        match &self.filled {
+            Some(filled) => filled.entries(),
             None => &[],
         }
     }
@@ -87,24 +169,20 @@ impl<V> Table<V> {
     pub fn get(&self, key: u32) -> Option<&V>
         ensures { option_copied result ≡ found self.now key }
     {
-        let entries = self.entries();
-        match place_of(entries, key) {
-            Ok(at) => Some(&entries[at].1),
-            Err(_) => None,
+        match &self.filled {
+            Some(filled) => filled.get(key),
+            None => None,
         }
     }
-}
 
-impl<V> Table<V> {
     /// The same, and where the entry is or would be. It looks first at the place that is given, as
     /// of an earlier look-up.
     pub fn get_near(&self, key: u32, near: usize) -> (Option<&V>, usize)
         ensures { option_copied result.0 ≡ found self.now key }
     {
-        let entries = self.entries();
-        match place_near(entries, key, near) {
-            Ok(at) => (Some(&entries[at].1), at),
-            Err(at) => (None, at),
+        match &self.filled {
+            Some(filled) => filled.get_near(key, near),
+            None => (None, near),
         }
     }
 }
@@ -129,8 +207,11 @@ impl<V: Drop> Table<V> {
         }
         let mut exact = entries;
         exact.shrink_to_fit();
+        let filled = Filled {
+            entries: RcSlice::from_vec(exact)?,
+        };
         Ok(Table {
-            entries: Some(RcSlice::from_vec(exact)?),
+            filled: Some(filled),
         })
     }
 }

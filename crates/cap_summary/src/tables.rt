@@ -5,15 +5,18 @@ ghost use Rattle.std.specs.Prelude.{◌≡◌, ℕ, ◌≤◌, ◌==◌, if◌th
 ghost use Rattle.std.specs.Prelude.{option_map, option_and_then, is_some};
 ghost use Rattle.std.specs.Option.{option_copied};
 ghost use Rattle.cap_summary.specs.Tables.{listed_value, value_so_far, process_at, process_of, listed_process};
-ghost use Rattle.cap_summary.specs.Tables.{kept_value, or_else};
+ghost use Rattle.cap_summary.specs.Tables.{kept_values, seen_value, layered_value, parts_value, or_else, Hides};
+ghost use Rattle.cap_summary.specs.Sorted.{found, Rises};
 ghost use Rattle.cap_summary.specs.Changes.{JoinsListed, AreAlike};
-ghost use Rattle.cap_summary.specs.Images.{under, passed_on};
+ghost use Rattle.cap_summary.specs.Images.{under};
+ghost use Rattle.cap_summary.specs.Values.{passed_on, passing_op, op_on};
 ghost use Rattle.cap_summary.specs.Names.{is_one, these, AreWithin, ChangeWithin};
 ghost use Rattle.cap_summary.specs.Sizes.{room};
 
 use crate::change::{Change, Near, Process, ProcessRef};
-use crate::kept::{Handing, Joining, Kept, Listed, Moving};
-use crate::sorted::{Builder, Table, merge};
+use crate::kept::{Handing, Joining, Kept, Listed, Moving, Seen};
+use crate::layers::{LARGE, Layers, Parts, Shared, are_like, has_room, stay_behind};
+use crate::sorted::{Builder, Filled, Table, merge};
 use crate::values::{Passing, Value};
 use cap_trace::{Fd, Pid};
 use cap_tree::NoMemory;
@@ -22,7 +25,17 @@ use std::alloc::Global;
 /// Cells of a process by descriptor.
 #[derive(Drop)]
 pub struct Cells {
-    table: Table<Kept>,
+    form: Form,
+}
+
+/// How cells are kept.
+#[derive(Drop)]
+enum Form {
+    Empty,
+    /// As one table.
+    Flat(Filled<Kept>),
+    /// As a small table over a large one.
+    Layered(Shared),
 }
 
 /// Cells that are being listed.
@@ -64,7 +77,7 @@ impl Listing {
         ensures { IfOk result (λ cells. (f : ℕ) → listed_value cells f ≡ value_so_far self f) }
     {
         let table = self.builder.finish()?;
-        Ok(Cells { table })
+        Ok(Cells::of(table))
     }
 }
 
@@ -74,9 +87,28 @@ impl Cells {
     pub(crate) fn new() -> Cells
         ensures { (f : ℕ) → listed_value result f ≡ None }
     {
-        Cells {
-            table: Table::empty(),
-        }
+        Cells { form: Form::Empty }
+    }
+
+    /// The cells of a table.
+    #[tactic(auto, unfolding(crate::specs::Tables::listed_value))]
+    fn of(table: Table<Kept>) -> Cells
+        ensures { (f : ℕ) → listed_value result f ≡ kept_values (found table f) }
+    {
+        let form = match table.filled() {
+            Some(table) => Form::Flat(table),
+            None => Form::Empty,
+        };
+        Cells { form }
+    }
+
+    /// The cells of layers.
+    #[tactic(auto, unfolding(crate::specs::Tables::listed_value))]
+    fn layered(alloc: Global, layers: Layers) -> Result<Cells, NoMemory>
+        ensures { IfOk result (λ new. (f : ℕ) → listed_value new f ≡ layered_value layers f) }
+    {
+        let form = Form::Layered(Shared::new(alloc, layers)?);
+        Ok(Cells { form })
     }
 
     /// The value of a descriptor that is listed.
@@ -84,9 +116,13 @@ impl Cells {
     pub(crate) fn get(&self, fd: Fd) -> Option<Value>
         ensures { result ≡ listed_value self.now fd }
     {
-        match self.table.get(fd) {
-            Some(kept) => Some(kept.value()),
-            None => None,
+        match &self.form {
+            Form::Empty => None,
+            Form::Flat(table) => match table.get(fd) {
+                Some(kept) => Some(kept.value()),
+                None => None,
+            },
+            Form::Layered(layers) => layers.layers().get(fd),
         }
     }
 
@@ -95,7 +131,11 @@ impl Cells {
     pub(crate) fn lists(&self, fd: Fd) -> bool
         ensures { result ≡ is_some (listed_value self.now fd) }
     {
-        self.table.get(fd).is_some()
+        match &self.form {
+            Form::Empty => false,
+            Form::Flat(table) => table.get(fd).is_some(),
+            Form::Layered(layers) => layers.layers().lists(fd),
+        }
     }
 
     /// The same. It looks first where an earlier look-up ended, and notes where this one did.
@@ -103,30 +143,68 @@ impl Cells {
     pub(crate) fn lists_near(&self, fd: Fd, near: &mut usize) -> bool
         ensures { result ≡ is_some (listed_value self.now fd) }
     {
-        let (found, at) = self.table.get_near(fd, *near);
-        *near = at;
-        found.is_some()
+        match &self.form {
+            Form::Empty => false,
+            Form::Flat(table) => {
+                let (found, at) = table.get_near(fd, *near);
+                *near = at;
+                found.is_some()
+            }
+            Form::Layered(layers) => layers.layers().lists(fd),
+        }
     }
 
-    /// The value of a descriptor that is listed. It looks first behind where an earlier look-up ended, and notes where
+    /// What is seen of a descriptor that is listed. It looks first behind where an earlier look-up ended, and notes where
     /// this one did.
     #[tactic(auto, unfolding(crate::specs::Tables::listed_value))]
     #[inline]
-    pub(crate) fn get_near(&self, fd: Fd, near: &mut usize) -> Option<&Kept>
-        ensures { option_map kept_value (option_copied result) ≡ listed_value self.now fd }
+    pub(crate) fn get_near(&self, fd: Fd, near: &mut usize) -> Option<Seen<'_>>
+        ensures { (p g : ℕ) → option_map (seen_value p g) result ≡ listed_value self.now fd }
     {
-        let (found, at) = self.table.get_near(fd, *near);
-        *near = at.saturating_add(1);
-        found
+        match &self.form {
+            Form::Empty => None,
+            Form::Flat(table) => {
+                let (found, at) = table.get_near(fd, *near);
+                *near = at.saturating_add(1);
+                match found {
+                    Some(kept) => Some(kept.seen()),
+                    None => None,
+                }
+            }
+            Form::Layered(layers) => layers.layers().get_near(fd, near),
+        }
     }
 
-    /// How many are listed.
+    /// The tables, to be gone through.
     #[tactic(auto, unfolding(crate::specs::Tables::listed_value))]
+    fn parts(&self) -> Parts<'_>
+        ensures value { (f : ℕ) → parts_value result f ≡ listed_value self.now f }
+        ensures top { Rises result.top.now }
+        ensures lower { Rises result.lower.now }
+    {
+        match &self.form {
+            Form::Empty => Parts::one(&[]),
+            Form::Flat(table) => Parts::one(table.entries()),
+            Form::Layered(layers) => layers.layers().parts(),
+        }
+    }
+
+    /// How many are listed, or fewer.
     pub(crate) fn len(&self) -> usize
         ensures few { (fds : List ℕ) → ((f : ℕ) → is_some (listed_value self.now f) ≡ true → is_one fds f ≡ true)
             → result ≤ length fds }
     {
-        self.table.entries().len()
+        let parts = self.parts();
+        match parts.closed_from {
+            None => parts.top.len().max(parts.lower.len()),
+            Some(_) => parts.top.len(),
+        }
+    }
+
+    /// How many are listed, or more.
+    fn most(&self) -> usize {
+        let parts = self.parts();
+        parts.top.len().saturating_add(parts.lower.len())
     }
 
     /// Whether none is listed.
@@ -134,15 +212,22 @@ impl Cells {
     fn is_empty(&self) -> bool
         ensures { result ≡ true → (f : ℕ) → listed_value self.now f ≡ None }
     {
-        self.table.is_empty()
+        match &self.form {
+            Form::Empty => true,
+            _ => false,
+        }
     }
 
     /// The same cells, shared.
     pub(crate) fn share(&self) -> Result<Cells, NoMemory>
         ensures { IfOk result (λ same. same ≡ self.now) }
     {
-        let table = self.table.clone()?;
-        Ok(Cells { table })
+        let form = match &self.form {
+            Form::Empty => Form::Empty,
+            Form::Flat(table) => Form::Flat(table.clone()?),
+            Form::Layered(layers) => Form::Layered(layers.clone()?),
+        };
+        Ok(Cells { form })
     }
 
     /// What becomes of these cells where they are handed on, those from a descriptor up closed.
@@ -158,72 +243,85 @@ impl Cells {
     {
         match (passing, closed_from) {
             (Passing::Same, None) => self.share(),
-            _ => {
-                let handing = Handing {
+            _ => self.passed(
+                alloc,
+                Handing {
                     passing,
                     closed_from,
-                };
-                let table = merge(alloc, &handing, &self.table, &Table::empty())?;
-                Ok(Cells { table })
+                },
+            ),
+        }
+    }
+
+    /// The same, so handed on.
+    #[tactic(auto, unfolding(crate::specs::Tables::listed_value))]
+    fn passed(&self, alloc: Global, handing: Handing) -> Result<Cells, NoMemory>
+        ensures { IfOk result (λ new. (f : ℕ) → listed_value new f
+            ≡ option_and_then (passed_on handing.passing handing.closed_from f) (listed_value self.now f)) }
+    {
+        match &self.form {
+            Form::Empty => Ok(Cells::new()),
+            Form::Flat(table) if table.len() < LARGE => {
+                let table = merge(alloc, &handing, &[], table.entries())?;
+                Ok(Cells::of(table))
+            }
+            Form::Flat(table) => {
+                let layers = Layers::below(Table::empty(), table, handing)?;
+                Cells::layered(alloc, layers)
+            }
+            Form::Layered(layers) => {
+                let layers = layers.layers().handed_on(alloc, handing)?;
+                Cells::layered(alloc, layers)
             }
         }
     }
 
     /// Whether each cell stands behind a change as it is. No is a safe answer.
-    #[tactic(auto, unfolding(crate::specs::Tables::listed_value))]
     pub(crate) fn stay_behind(&self, change: &Change) -> bool
         ensures { result ≡ true
             → (f : ℕ) → option_map (under change.now) (listed_value self.now f) ≡ listed_value self.now f }
     {
-        let mut near = Near::first();
-        for entry in self.table.entries() {
-            if !entry.1.stays_behind(change, &mut near) {
-                return false;
-            }
-        }
-        true
+        let parts = self.parts();
+        stay_behind(parts.top, change) && stay_behind(parts.lower, change)
     }
 
     /// Whether each listed descriptor is listed in others.
-    #[tactic(auto, unfolding(crate::specs::Tables::listed_value))]
     fn are_within(&self, others: &Cells) -> bool
         ensures { result ≡ true
-            → (f : ℕ) → or_else (listed_value others.now f) (listed_value self.now f) ≡ listed_value others.now f }
+            → (f : ℕ) → Hides (listed_value others.now f) (listed_value self.now f) }
     {
-        if others.len() < self.len() {
+        if others.most() < self.len() {
             return false;
         }
+        let parts = self.parts();
+        others.list_all(parts.top) && others.list_all(parts.lower)
+    }
+
+    /// Whether the keys of all these entries are listed.
+    fn list_all(&self, entries: &[(u32, Kept)]) -> bool
+        ensures { result ≡ true → (f : ℕ) → Hides (listed_value self.now f) (kept_values (found entries.now f)) }
+    {
         let mut near = 0usize;
-        for entry in self.table.entries() {
-            let (found, at) = others.table.get_near(entry.0, near);
-            let Some(_) = found else {
+        for entry in entries {
+            let Some(_) = self.get_near(entry.0, &mut near) else {
                 return false;
             };
-            near = at.saturating_add(1);
         }
         true
     }
 
     /// Whether others have the same values, by comparing their entries. No is a safe answer.
-    #[tactic(auto, unfolding(crate::specs::Tables::listed_value))]
     pub(crate) fn is_like(&self, others: &Cells) -> bool
         ensures { result ≡ true → (f : ℕ) → listed_value self.now f ≡ listed_value others.now f }
     {
-        let (own, theirs) = (self.table.entries(), others.table.entries());
-        if own.len() != theirs.len() {
+        let (own, theirs) = (self.parts(), others.parts());
+        if own.passing != theirs.passing || own.closed_from != theirs.closed_from {
             return false;
         }
-        for at in 0..own.len() {
-            let (a, b) = (&own[at], &theirs[at]);
-            if a.0 != b.0 || !a.1.is_like(&b.1) {
-                return false;
-            }
-        }
-        true
+        are_like(own.top, theirs.top) && are_like(own.lower, theirs.lower)
     }
 
     /// These cells, and over them what others are behind a change.
-    #[tactic(auto, unfolding(crate::specs::Tables::listed_value))]
     pub(crate) fn under(
         &self,
         alloc: Global,
@@ -236,11 +334,76 @@ impl Cells {
         if others.is_empty() {
             return self.share();
         }
-        if self.are_within(others) && others.stay_behind(change) {
+        if !self.are_within(others) {
+            return self.beneath(alloc, others, change);
+        }
+        if others.stay_behind(change) {
             return others.share();
         }
-        let table = merge(alloc, &Moving { change }, &self.table, &others.table)?;
-        Ok(Cells { table })
+        others.moved(alloc, change)
+    }
+
+    /// These cells behind a change.
+    #[tactic(auto, unfolding(crate::specs::Tables::listed_value))]
+    fn moved(&self, alloc: Global, change: &Change) -> Result<Cells, NoMemory>
+        ensures { IfOk result
+            (λ new. (f : ℕ) → listed_value new f ≡ option_map (under change.now) (listed_value self.now f)) }
+    {
+        let moving = Moving { change };
+        match &self.form {
+            Form::Empty => Ok(Cells::new()),
+            Form::Flat(table) => {
+                let table = merge(alloc, &moving, &[], table.entries())?;
+                Ok(Cells::of(table))
+            }
+            Form::Layered(layers) => {
+                let layers = layers.layers().moved(alloc, change)?;
+                Cells::layered(alloc, layers)
+            }
+        }
+    }
+
+    /// The same where these may list cells that the others don't.
+    #[tactic(auto, unfolding(crate::specs::Tables::listed_value))]
+    fn beneath(&self, alloc: Global, others: &Cells, change: &Change) -> Result<Cells, NoMemory>
+        ensures { IfOk result (λ new. (f : ℕ) → listed_value new f
+            ≡ or_else (option_map (under change.now) (listed_value others.now f)) (listed_value self.now f)) }
+    {
+        let moving = Moving { change };
+        let over = others.flat(alloc)?;
+        match &self.form {
+            Form::Flat(table) if has_room(table.len(), over.len()) => {
+                let entries = over.entries();
+                let top = merge(alloc, &moving, &[], entries)?;
+                let handing = Handing {
+                    passing: Passing::Same,
+                    closed_from: None,
+                };
+                let layers = Layers::below(top, table, handing)?;
+                Cells::layered(alloc, layers)
+            }
+            Form::Layered(layers) if layers.layers().has_room(over.len()) => {
+                let layers = layers.layers().under(alloc, &over, change)?;
+                Cells::layered(alloc, layers)
+            }
+            _ => {
+                let below = self.flat(alloc)?;
+                let table = merge(alloc, &moving, below.entries(), over.entries())?;
+                Ok(Cells::of(table))
+            }
+        }
+    }
+
+    /// These cells as one table.
+    #[tactic(auto, unfolding(crate::specs::Tables::listed_value))]
+    fn flat(&self, alloc: Global) -> Result<Table<Kept>, NoMemory>
+        ensures { IfOk result (λ table. (f : ℕ) → kept_values (found table f) ≡ listed_value self.now f) }
+    {
+        match &self.form {
+            Form::Empty => Ok(Table::empty()),
+            Form::Flat(table) => Ok(Table::of(Some(table.clone()?))),
+            Form::Layered(layers) => layers.layers().flat(alloc),
+        }
     }
 }
 
@@ -394,7 +557,12 @@ impl Processes {
         if others.is_empty() {
             return self.share();
         }
-        let table = merge(alloc, &Joining { change }, &self.table, &others.table)?;
+        let table = merge(
+            alloc,
+            &Joining { change },
+            self.table.entries(),
+            others.table.entries(),
+        )?;
         Ok(Processes { table })
     }
 }

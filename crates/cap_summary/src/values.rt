@@ -123,9 +123,11 @@ impl Passing {
     }
 
     /// One after another.
-    fn then(self, later: Passing) -> Passing
-        ensures { (c : Cell)
+    pub(crate) fn then(self, later: Passing) -> Passing
+        ensures cells { (c : Cell)
             → applied (passing_op result) c ≡ applied (passing_op later) (applied (passing_op self) c) }
+        ensures values { (v : Value)
+            → op_on (passing_op result) v ≡ op_on (passing_op later) (op_on (passing_op self) v) }
     {
         match self {
             Passing::Same => later,

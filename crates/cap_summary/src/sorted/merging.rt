@@ -51,21 +51,24 @@ pub trait Combine {
     ghost neither: { (s : Self) (k : ℕ) → gives s k None None None };
 }
 
-/// The table that has at each key what `step` makes of the values that the two have there. It goes once over both,
+/// The table that has at each key what `step` makes of the values that two lists of entries have there, whose keys must
+/// strictly rise. It goes once over both,
 /// which stay as they are, and fails only where an allocation is refused.
 pub fn merge<M: Combine>(
     alloc: Global,
     step: &M,
-    left: &Table<M::Left>,
-    right: &Table<M::Right>,
+    left: &[(u32, M::Left)],
+    right: &[(u32, M::Right)],
 ) -> Result<Table<M::Out>, NoMemory>
+    requires left { Rises left.now }
+    requires right { Rises right.now }
     ensures each { IfOk result
         (λ merged. (k : ℕ) → M.gives step.now k (found left.now k) (found right.now k) (found merged k)) }
     ensures few { IfOk result (λ merged. length merged ≤ length left.now + length right.now) }
 {
     let mut merged = Vec::with_capacity(alloc, left.len().saturating_add(right.len()))?;
-    let mut lefts = left.entries();
-    let mut rights = right.entries();
+    let mut lefts = left;
+    let mut rights = right;
     while let Some(key) = first_key(lefts, rights) {
         let (a, after_a) = split_key(lefts, key);
         let (b, after_b) = split_key(rights, key);

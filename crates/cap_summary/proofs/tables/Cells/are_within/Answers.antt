@@ -1,11 +1,8 @@
-use Rattle.std.proofs.Common.{◌<◌, length, sym, ap, ◌∙◌}
-use Rattle.std.specs.Option.{option_copied}
-use Rattle.cap_summary.proofs.Staying.{hides_more}
+use Rattle.cap_summary.specs.Tables.{listed_value}
+use Rattle.cap_summary.proofs.Layered.{parts_hidden}
 use Rattle.cap_summary.proofs.tables.Cells.are_within.Goals as goal
 
-pub loop-entry-preserved : goal.loop-entry-preserved
-loop-entry-preserved c =
-    let within : c.loop-entry.entry-index < length c.entries-entry-items.result.now = c.loop-entry-test.true in
-    hides_more c.args.others.now.table c.entries-entry-items.result.now c.loop-entry.entry-index c.entry-item.result
-    c.in-Some.field-0.now within c.entry-item.is (sym (ap option_copied (sym c.in-Some.is) ∙ c.get_near-at.ensures))
-    c.loop-entry.invariant
+pub returns-then-list_all : goal.returns-then-list_all
+returns-then-list_all c = λ yes f.
+    parts_hidden (listed_value c.args.others.now f) c.parts-parts.result (listed_value c.args.self.now f) f
+    (c.parts-parts.ensures.value f) (c.list_all.ensures c.if-list_all.true f) (c.list_all-then-list_all.ensures yes f)

@@ -1,9 +1,9 @@
-use Rattle.std.proofs.Common.{◌<◌, length}
-use Rattle.cap_summary.proofs.Staying.{stays_more}
+use Rattle.cap_summary.specs.Tables.{listed_value}
+use Rattle.cap_summary.proofs.Layered.{parts_stay}
 use Rattle.cap_summary.proofs.tables.Cells.stay_behind.Goals as goal
 
-pub loop-entry-preserved : goal.loop-entry-preserved
-loop-entry-preserved c =
-    let within : c.loop-entry.entry-index < length c.entries-entry-items.result.now = c.loop-entry-test.true in
-    stays_more c.args.change.now c.entries-entry-items.result.now c.loop-entry.entry-index c.entry-item.result within
-    c.entry-item.is (c.stays_behind.ensures c.if-not-stays_behind.false) c.loop-entry.invariant
+pub returns-then-stay_behind : goal.returns-then-stay_behind
+returns-then-stay_behind c = λ yes f.
+    let parts = c.parts-parts.result in
+    parts_stay c.args.change.now parts (listed_value c.args.self.now f) f (c.parts-parts.ensures.value f)
+    (c.stay_behind.ensures c.if-stay_behind.true) (c.stay_behind-then-stay_behind.ensures yes)

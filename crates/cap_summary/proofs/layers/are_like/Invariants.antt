@@ -1,5 +1,5 @@
 use Rattle.cap_summary.proofs.Comparing.{ShowSame, entry_seen, cell_seen}
-use Rattle.cap_summary.proofs.tables.Cells.is_like.Given as goal
+use Rattle.cap_summary.proofs.layers.are_like.Given as goal
 
 -- the cells so far are the same
 abbrev pub invariant-loop-at : goal.invariant-loop-at
