@@ -303,7 +303,7 @@ second_part names (x ∷ rest) b within =
     second_part names rest b (All-tail (λ condition. condition_within names condition ≡ true) x (rest ++ b) within)
 
 -- the condition at a place of a list
-shown_within : {X : Type 0} (show : X → Condition) (names : Names) (items : List X) (i : ℕ) (x : X)
+pub shown_within : {X : Type 0} (show : X → Condition) (names : Names) (items : List X) (i : ℕ) (x : X)
     → ConditionsWithin names (map show items) → i < length items → x ≡ get_or items i x
     → condition_within names (show x) ≡ true
 shown_within show names [] i x within lt at = absurd (omega (arith, lt))

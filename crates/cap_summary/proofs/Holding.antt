@@ -1,14 +1,13 @@
 -- Which conditions hold behind an op and a change; and that a line's conditions hold exactly where something is said of
 -- it.
 use Rattle.std.proofs.Common.{◌≡◌, ℕ, ◌+◌, ◌<◌, List, [], ◌∷◌, ◌++◌, Option, Some, None, Bool, true, false, ◌&&◌, ◌||◌}
-use Rattle.std.proofs.Common.{map, cond, refl, sym, ap, ◌∙◌, bit_and, eqb, take, length, get_or, arith}
-use Rattle.std.proofs.lemmas.List.{get_or_default}
+use Rattle.std.proofs.Common.{map, cond, refl, sym, ap, ◌∙◌, bit_and, eqb, take, length, get_or}
 use Rattle.std.specs.Prelude.{not, option_to_list}
 use Rattle.std.specs.List.{list_any}
 use Rattle.std.proofs.lemmas.Nat.{and_assoc, and_comm}
 use Rattle.std.specs.Int.Bits.{and_self}
 use Rattle.std.proofs.lemmas.Bool.{eqb-true, eq-eqb}
-use Rattle.std.proofs.lemmas.List.Folds.{list_any-append, list_any_more}
+use Rattle.std.proofs.lemmas.List.Folds.{list_any-append}
 use Rattle.cap_rights.specs.Rights.{meet, minus, has_all}
 use Rattle.cap_machine.specs.declared.cell.Cell.{Cell}
 use Rattle.cap_machine.specs.declared.cell.Cell.TheVariants.{Unknown, Closed, Held}
@@ -30,11 +29,11 @@ use Rattle.cap_machine.specs.Op.{applied, masked, held, same}
 use Rattle.cap_machine.specs.Check.{said_of}
 use Rattle.cap_machine.specs.Judge.{listed, fault, shortfall, faults, judged_by, is_excused, all_excused, has_check}
 use Rattle.cap_machine.specs.Judge.{is_forbidden, is_allowed, is_inside, is_outside}
-use Rattle.cap_summary.proofs.Bools.{and_false, or_false, or_true, or_assoc}
+use Rattle.cap_summary.proofs.Merging.{more}
+use Rattle.cap_summary.proofs.Bools.{and_false, or_false, or_true}
 use Rattle.cap_summary.specs.declared.conditions.HeldTest.{HeldTest}
 use Rattle.cap_summary.specs.declared.conditions.HeldTest.TheVariants.{Never, Always, Lacks, Has}
 use Rattle.cap_summary.specs.declared.conditions.CellTest.{CellTest}
-use Rattle.cap_summary.specs.declared.conditions.Condition.{Condition}
 use Rattle.cap_summary.specs.declared.conditions.Source.{Source}
 use Rattle.cap_summary.specs.declared.change.Change.{Change}
 use Rattle.cap_summary.specs.declared.values.Value.{Value}
@@ -247,45 +246,12 @@ pub line_holds : (s : State) (me : ℕ) (d : Demand)
 line_holds s me d = judged_holds s me d d.reply
 
 -- ---- a walk over conditions
-seen_more : (g : Condition → Bool) (xs : List Condition) (i : ℕ) (x : Condition) → i < length xs → x ≡ get_or xs i x
-    → list_any g (take (i + 1) xs) ≡ (list_any g (take i xs) || g x)
-seen_more g xs i x within at = list_any_more g xs i x within
-    ∙ ap (λ (y : Condition). list_any g (take i xs) || g y) (sym at)
-
--- a list of which one more condition was seen, and of which what becomes of it was put into another list
-pub turn_put : (f g : Condition → Bool) (xs : List Condition) (i : ℕ) (seen met always : Bool)
-    (old new : List Condition) → i < length xs
-    → ((d : Condition) → (met || list_any f new) ≡ (list_any f old || g (get_or xs i d)))
-    → always ≡ (seen || met) → (seen || list_any f old) ≡ list_any g (take i xs)
-    → (always || list_any f new) ≡ list_any g (take (i + 1) xs)
-turn_put f g [] i seen met always old new within put both before = absurd (omega arith)
-turn_put f g (y ∷ ys) i seen met always old new within put both before =
-    let x : Condition = get_or (y ∷ ys) i y in
-    ap (λ r. r || list_any f new) both ∙ or_assoc seen met (list_any f new)
-    ∙ ap (λ r. seen || r) (put y) ∙ sym (or_assoc seen (list_any f old) (g x))
-    ∙ ap (λ r. r || g x) before
-    ∙ sym (seen_more g (y ∷ ys) i x within (get_or_default (y ∷ ys) i y x within))
-
--- what becomes of a condition: nothing, something found in any case, or another one
-pub put_never : (f g : Condition → Bool) (old : List Condition) (x : Condition) → false ≡ g x
-    → (false || list_any f old) ≡ (list_any f old || g x)
-put_never f g old x never = sym (or_false (list_any f old)) ∙ ap (λ r. list_any f old || r) never
-
-pub put_always : (f g : Condition → Bool) (old : List Condition) (x : Condition) → true ≡ g x
-    → (true || list_any f old) ≡ (list_any f old || g x)
-put_always f g old x always = sym (or_true (list_any f old)) ∙ ap (λ r. list_any f old || r) always
-
-pub put_to : (f g : Condition → Bool) (old new : List Condition) (x y : Condition) → new ≡ old ++ y ∷ []
-    → f y ≡ g x → (false || list_any f new) ≡ (list_any f old || g x)
-put_to f g old new x y is same = ap (list_any f) is ∙ list_any-append f old (y ∷ [])
-    ∙ ap (λ r. list_any f old || r) (or_false (f y) ∙ same)
-
--- one more condition of a list holds where it held
-pub stays_more : (f g : Condition → Bool) (xs : List Condition) (i : ℕ) (x : Condition) → i < length xs
+-- one more of a list holds where it held
+pub stays_more : {X : Type 0} (f g : X → Bool) (xs : List X) (i : ℕ) (x : X) → i < length xs
     → x ≡ get_or xs i x → g x ≡ f x → list_any g (take i xs) ≡ list_any f (take i xs)
     → list_any g (take (i + 1) xs) ≡ list_any f (take (i + 1) xs)
-stays_more f g xs i x within at same before = seen_more g xs i x within at
-    ∙ ap (λ r. r || g x) before ∙ ap (λ r. list_any f (take i xs) || r) same ∙ sym (seen_more f xs i x within at)
+stays_more f g xs i x within at same before = more g xs i x within at
+    ∙ ap (λ r. r || g x) before ∙ ap (λ r. list_any f (take i xs) || r) same ∙ sym (more f xs i x within at)
 
 -- a test of a cell that a change leaves as it was
 pub source_stays : (s : State) (a : Change) (x : Source) → value_of a x.pid x.fd ≡ value.Of x.pid x.fd same

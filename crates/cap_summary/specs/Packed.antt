@@ -1,15 +1,17 @@
 -- Conditions as a list keeps them.
-use Rattle.std.specs.Prelude.{List, map, Bool, true, false}
+use Rattle.std.specs.Prelude.{◌≡◌, List, map, Bool, true, false}
+use Rattle.std.specs.List.{list_any, All}
+use Rattle.cap_machine.specs.State.{State}
 use Rattle.cap_summary.specs.declared.conditions.HeldTest.TheVariants.{Lacks}
 use Rattle.cap_summary.specs.declared.conditions.Source.{Source}
 use Rattle.cap_summary.specs.declared.conditions.Condition.{Condition}
 use Rattle.cap_summary.specs.declared.conditions.Condition.TheVariants as condition
+use Rattle.cap_summary.specs.Conditions.{holds}
+use Rattle.cap_summary.specs.Names.{Names, condition_within}
 use Rattle.cap_summary.specs.declared.packed.Lack.{Lack}
 use Rattle.cap_summary.specs.declared.packed.Low.{Low}
 use Rattle.cap_summary.specs.declared.packed.Packed.{Packed}
 use Rattle.cap_summary.specs.declared.packed.Packed.TheVariants as packed
-use Rattle.cap_summary.specs.declared.packed.Item.{Item}
-use Rattle.cap_summary.specs.declared.packed.Item.TheVariants as item
 
 -- a cell that lacks rights, or is closed where that is asked for
 abbrev pub lacking : Bool → Lack → Source
@@ -38,13 +40,22 @@ abbrev pub packed_conditions : List Packed → List Condition
 packed_conditions items = map packed_condition items
 
 -- that the cell is held and lacks rights, or also that it is closed
+abbrev pub low_source : Low → Source
+low_source low = lacking low.closed (record { pid = low.pid; fd = low.fd; rights = low.rights })
+
 abbrev pub low_condition : Low → Condition
-low_condition low = condition.Cell (lacking low.closed (record { pid = low.pid; fd = low.fd; rights = low.rights }))
+low_condition low = condition.Cell (low_source low)
 
 abbrev pub low_conditions : List Low → List Condition
 low_conditions lows = map low_condition lows
 
--- the condition that stands at a place of a list
-abbrev pub item_condition : Item → Condition
-item_condition (item.Low low) = low_condition low
-item_condition (item.Other p) = packed_condition p.now
+-- one of those holds in a state
+abbrev pub low_holds : State → Low → Bool
+low_holds s low = holds s (low_condition low)
+
+abbrev pub any_low_holds : State → List Low → Bool
+any_low_holds s lows = list_any (low_holds s) lows
+
+-- each process and each descriptor that they ask about is among them
+abbrev pub LowsWithin : Names → List Low → Type 0
+LowsWithin names lows = All (λ low. condition_within names (low_condition low) ≡ true) lows

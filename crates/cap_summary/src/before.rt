@@ -10,12 +10,13 @@ ghost use Rattle.cap_tree.specs.Run.{values};
 ghost use Rattle.cap_summary.specs.Positions.{within};
 ghost use Rattle.cap_summary.specs.Conditions.{source_holds, part_holds, outside_holds, refused_holds, holds};
 ghost use Rattle.cap_summary.specs.Conditions.{any_holds};
+ghost use Rattle.cap_summary.specs.Packed.{any_low_holds};
 
 use crate::change::{Change, Near};
 use crate::conditions::{Condition, Refused, Source};
 use crate::kept::Seen;
 use crate::known::Known;
-use crate::packed::Conditions;
+use crate::packed::{Conditions, Low, Others};
 use crate::values::ModeValue;
 use cap_machine::{
     Cell, Checks, Demand, Effect, Found, Mode, Op, Start, Step, Touched, Turned, Verdict, rule_of,
@@ -116,15 +117,34 @@ impl<'a> Before<'a> {
         }
     }
 
-    fn any_holds(&self, conditions: &Conditions) -> bool
-        ensures { result ≡ any_holds (state_before self.now) conditions.now }
+    fn any_low_holds(&self, lows: &[Low]) -> bool
+        ensures { result ≡ any_low_holds (state_before self.now) lows.now }
     {
-        for at in 0..conditions.len() {
-            if self.holds(&conditions.get(at)) {
+        for at in 0..lows.len() {
+            let low = &lows[at];
+            if low.passes(self.cell(low.pid(), low.fd())) {
                 return true;
             }
         }
         false
+    }
+
+    fn any_other_holds(&self, others: &Others) -> bool
+        ensures { result ≡ any_holds (state_before self.now) others.now }
+    {
+        for at in 0..others.len() {
+            if self.holds(&others.get(at)) {
+                return true;
+            }
+        }
+        false
+    }
+
+    fn any_holds(&self, conditions: &Conditions) -> bool
+        ensures { result ≡ any_holds (state_before self.now) conditions.now }
+    {
+        let (lows, others) = conditions.parts();
+        self.any_low_holds(lows.as_slice()) || self.any_other_holds(others)
     }
 
     /// Whether something is found in a segment that begins in this state.

@@ -50,7 +50,7 @@ fn excused(me: Pid, fd: Fd, excuse: &RightSet) -> Source
 fn conditions_of_success(alloc: Global, me: Pid, demand: &Demand) -> Result<Conditions, NoMemory>
     ensures { IfOk result (λ conditions. conditions ≡ success_conditions demand.now me) }
 {
-    let mut conditions = NewConditions::with_room(alloc, 0)?;
+    let mut conditions = NewConditions::empty(alloc);
     if demand.class == Class::Forbidden {
         conditions.put(alloc, &Condition::Inside(me))?;
     }

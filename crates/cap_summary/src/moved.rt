@@ -14,12 +14,13 @@ ghost use Rattle.cap_summary.specs.Moved.{moved_holds, moved_source_holds};
 ghost use Rattle.cap_summary.specs.Names.{Names, ChangeWithin, ConditionsWithin, value_within, source_within};
 ghost use Rattle.cap_summary.specs.Names.{part_within, outside_within, refused_within, condition_within};
 ghost use Rattle.cap_summary.specs.Names.{moved_within, moved_source_within};
+ghost use Rattle.cap_summary.specs.Packed.{low_condition, low_holds, any_low_holds, LowsWithin};
 
 use crate::change::{Change, Near};
 use crate::conditions::{Condition, Refused, Source};
 use crate::kept::{Seen, Taken};
 use crate::merge::sorted;
-use crate::packed::{Conditions, NewConditions};
+use crate::packed::{Conditions, Gathered, Low, Others};
 use crate::values::{ModeValue, Passing};
 use cap_machine::{Cell, Mode, Op};
 use cap_trace::{Fd, Pid};
@@ -120,7 +121,7 @@ fn source_fixed(source: &Source, cell: Cell) -> MovedSource
 }
 
 /// Adds what has become of a source, and answers whether it holds in any case.
-fn put_moved(alloc: Global, moved: MovedSource, left: &mut NewConditions) -> Result<bool, NoMemory>
+fn put_moved(alloc: Global, moved: MovedSource, left: &mut Gathered) -> Result<bool, NoMemory>
     ensures holds { IfOk result (λ always. (s : State)
         → (always || any_holds s left.new) ≡ (any_holds s left.old || moved_source_holds s moved)) }
     ensures names { OnOk result ((names : Names) → moved_source_within names moved ≡ true
@@ -130,7 +131,7 @@ fn put_moved(alloc: Global, moved: MovedSource, left: &mut NewConditions) -> Res
         MovedSource::Never => Ok(false),
         MovedSource::Always => Ok(true),
         MovedSource::To(new) => {
-            left.put(alloc, &Condition::Cell(new))?;
+            left.add(alloc, &Condition::Cell(new))?;
             Ok(false)
         }
     }
@@ -138,12 +139,12 @@ fn put_moved(alloc: Global, moved: MovedSource, left: &mut NewConditions) -> Res
 
 impl Change {
     /// What has become of a source behind this change.
-    fn moved_source(&self, source: &Source) -> MovedSource
+    fn moved_source(&self, source: &Source, near: &mut Near) -> MovedSource
         ensures holds { (s : State) → moved_source_holds s result ≡ source_holds (changed self.now s) source.now }
         ensures names { (names : Names) → ChangeWithin names self.now → source_within names source.now ≡ true
             → moved_source_within names result ≡ true }
     {
-        match self.seen(source.pid, source.fd, &mut Near::first()) {
+        match self.seen(source.pid, source.fd, near) {
             Seen::Same => source_of(source, source.pid),
             Seen::Fixed(cell) => source_fixed(source, cell),
             Seen::Taken(taken) => source_taken(source, taken),
@@ -163,7 +164,7 @@ impl Change {
         let Some(source) = part else {
             return Some(None);
         };
-        match self.moved_source(source) {
+        match self.moved_source(source, &mut Near::first()) {
             MovedSource::Never => None,
             MovedSource::Always => Some(None),
             MovedSource::To(new) => Some(Some(new)),
@@ -219,7 +220,7 @@ impl Change {
             → moved_within names result ≡ true }
     {
         match condition {
-            Condition::Cell(source) => match self.moved_source(source) {
+            Condition::Cell(source) => match self.moved_source(source, &mut Near::first()) {
                 MovedSource::Never => Moved::Never,
                 MovedSource::Always => Moved::Always,
                 MovedSource::To(new) => Moved::To(Condition::Cell(new)),
@@ -290,85 +291,143 @@ impl Change {
         }
     }
 
-    /// The same of all conditions.
-    fn leaves_all(&self, conditions: &Conditions) -> bool
+    /// The same of conditions of the most common form.
+    fn leaves_lows(&self, lows: &[Low]) -> bool
         ensures { result ≡ true
-            → (s : State) → any_holds (changed self.now s) conditions.now ≡ any_holds s conditions.now }
+            → (s : State) → any_low_holds (changed self.now s) lows.now ≡ any_low_holds s lows.now }
     {
-        for at in 0..conditions.len() {
-            if !self.leaves_condition(&conditions.get(at)) {
+        let mut near = Near::first();
+        for at in 0..lows.len() {
+            let low = &lows[at];
+            if !self.leaves(low.pid(), low.fd(), &mut near) {
                 return false;
             }
         }
         true
     }
 
-    /// Adds what becomes of a test of a cell, the condition at a place, behind this change, and answers whether
-    /// it holds in any case.
-    fn put_source(
+    /// The same of others.
+    fn leaves_others(&self, others: &Others) -> bool
+        ensures { result ≡ true
+            → (s : State) → any_holds (changed self.now s) others.now ≡ any_holds s others.now }
+    {
+        for at in 0..others.len() {
+            if !self.leaves_condition(&others.get(at)) {
+                return false;
+            }
+        }
+        true
+    }
+
+    /// The same of all conditions.
+    fn leaves_all(&self, conditions: &Conditions) -> bool
+        ensures { result ≡ true
+            → (s : State) → any_holds (changed self.now s) conditions.now ≡ any_holds s conditions.now }
+    {
+        let (lows, others) = conditions.parts();
+        self.leaves_lows(lows.as_slice()) && self.leaves_others(others)
+    }
+
+    /// Adds what becomes of a condition of the most common form behind this change, and answers whether it holds in any
+    /// case.
+    fn put_low(
         &self,
         alloc: Global,
-        conditions: &Conditions,
-        at: usize,
-        source: &Source,
+        low: &Low,
         near: &mut Near,
-        left: &mut NewConditions,
+        left: &mut Gathered,
     ) -> Result<bool, NoMemory>
-        requires in_range { at < length conditions.now }
-        requires there { slice_index_or conditions.now at (Condition.Cell source.now) ≡ Condition.Cell source.now }
         ensures holds { IfOk result (λ always. (s : State) → (always || any_holds s left.new)
-            ≡ (any_holds s left.old || source_holds (changed self.now s) source.now)) }
+            ≡ (any_holds s left.old || low_holds (changed self.now s) low.now)) }
         ensures names { OnOk result ((names : Names) → ChangeWithin names self.now
-            → source_within names source.now ≡ true → ConditionsWithin names left.old
+            → condition_within names (low_condition low.now) ≡ true → ConditionsWithin names left.old
             → ConditionsWithin names left.new) }
     {
-        match self.seen(source.pid, source.fd, near) {
+        match self.seen(low.pid(), low.fd(), near) {
             Seen::Same => {
-                left.copy(conditions, at)?;
+                left.add_low(low)?;
                 Ok(false)
             }
-            Seen::Fixed(cell) => put_moved(alloc, source_fixed(source, cell), left),
-            Seen::Taken(taken) => put_moved(alloc, source_taken(source, taken), left),
-            Seen::Executed(taken) => put_moved(alloc, source_executed(source, taken), left),
+            Seen::Fixed(cell) => Ok(low.passes(cell)),
+            Seen::Taken(taken) => put_moved(alloc, source_taken(&low.source(), taken), left),
+            Seen::Passed(pid, Passing::Same) => {
+                left.add_low(&low.of_process(pid))?;
+                Ok(false)
+            }
+            Seen::Executed(taken) => put_moved(alloc, source_executed(&low.source(), taken), left),
             Seen::Passed(pid, passing) => {
-                put_moved(alloc, source_passed(source, pid, passing), left)
+                put_moved(alloc, source_passed(&low.source(), pid, passing), left)
             }
         }
     }
 
-    /// The same of any condition.
-    fn put_behind(
+    /// The same of conditions of that form, one after the other.
+    fn put_lows(&self, alloc: Global, lows: &[Low], left: &mut Gathered) -> Result<bool, NoMemory>
+        ensures holds { IfOk result (λ always. (s : State) → (always || any_holds s left.new)
+            ≡ (any_holds s left.old || any_low_holds (changed self.now s) lows.now)) }
+        ensures names { OnOk result ((names : Names) → ChangeWithin names self.now
+            → LowsWithin names lows.now → ConditionsWithin names left.old → ConditionsWithin names left.new) }
+    {
+        let mut always = false;
+        let mut near = Near::first();
+        for at in 0..lows.len() {
+            if self.put_low(alloc, &lows[at], &mut near, left)? {
+                always = true;
+            }
+        }
+        Ok(always)
+    }
+
+    /// The same of another condition, that at a place. One that stays as it is is shared.
+    fn put_other(
         &self,
         alloc: Global,
-        conditions: &Conditions,
+        others: &Others,
         at: usize,
-        near: &mut Near,
-        left: &mut NewConditions,
+        left: &mut Gathered,
     ) -> Result<bool, NoMemory>
-        requires { at < length conditions.now }
+        requires { at < length others.now }
         ensures holds { IfOk result (λ always. (d : Condition) (s : State) → (always || any_holds s left.new)
-            ≡ (any_holds s left.old || holds (changed self.now s) (slice_index_or conditions.now at d))) }
+            ≡ (any_holds s left.old || holds (changed self.now s) (slice_index_or others.now at d))) }
         ensures names { OnOk result ((names : Names) → ChangeWithin names self.now
-            → ConditionsWithin names conditions.now → ConditionsWithin names left.old
+            → ConditionsWithin names others.now → ConditionsWithin names left.old
             → ConditionsWithin names left.new) }
     {
-        if let Some(source) = conditions.source(at) {
-            let always = self.put_source(alloc, conditions, at, &source, near, left)?;
-            return Ok(always);
-        }
-        let condition = conditions.get(at);
+        let condition = others.get(at);
         if self.leaves_condition(&condition) {
-            left.copy(conditions, at)?;
+            left.copy(others, at)?;
             return Ok(false);
         }
         match self.moved(&condition) {
             Moved::Never => Ok(false),
             Moved::Always => Ok(true),
             Moved::To(new) => {
-                left.put(alloc, &new)?;
+                left.add(alloc, &new)?;
                 Ok(false)
             }
         }
+    }
+
+    /// The same of others, one after the other.
+    fn put_others(
+        &self,
+        alloc: Global,
+        others: &Others,
+        left: &mut Gathered,
+    ) -> Result<bool, NoMemory>
+        ensures holds { IfOk result (λ always. (s : State) → (always || any_holds s left.new)
+            ≡ (any_holds s left.old || any_holds (changed self.now s) others.now)) }
+        ensures names { OnOk result ((names : Names) → ChangeWithin names self.now
+            → ConditionsWithin names others.now → ConditionsWithin names left.old
+            → ConditionsWithin names left.new) }
+    {
+        let mut always = false;
+        for at in 0..others.len() {
+            if self.put_other(alloc, others, at, left)? {
+                always = true;
+            }
+        }
+        Ok(always)
     }
 
     /// The conditions behind this change, and whether one of them holds in any case. Those that stay as they are are
@@ -386,15 +445,13 @@ impl Change {
         if self.leaves_all(conditions) {
             return Ok((false, conditions.share()?));
         }
-        let mut always = false;
-        let mut near = Near::first();
-        let mut left = NewConditions::with_room(alloc, conditions.len())?;
-        for at in 0..conditions.len() {
-            if self.put_behind(alloc, conditions, at, &mut near, &mut left)? {
-                always = true;
-            }
-        }
-        let sorted = sorted(alloc, left.finish()?)?;
-        Ok((always, sorted))
+        let (lows, others) = conditions.parts();
+        let lows = lows.as_slice();
+        let mut left = Gathered::with_room(alloc, lows.len())?;
+        let low_met = self.put_lows(alloc, lows, &mut left)?;
+        let other_met = self.put_others(alloc, others, &mut left)?;
+        let (lows, others) = left.finish(alloc)?;
+        let others = sorted(alloc, others)?;
+        Ok((low_met || other_met, Conditions::of(lows, others)))
     }
 }

@@ -4,9 +4,10 @@ ghost use Rattle.std.specs.Prelude.{◌≡◌, ℕ, ◌+◌, ◌*◌, ◌^◌, L
 ghost use Rattle.std.specs.Prelude.{Bool, true, IfOk, IfSome, OnOk, map};
 ghost use Rattle.cap_summary.specs.declared.conditions.Condition.{Condition};
 ghost use Rattle.cap_machine.specs.State.{State};
-ghost use Rattle.cap_summary.specs.Conditions.{holds, source_holds};
+ghost use Rattle.cap_summary.specs.Conditions.{holds, any_holds, passes, source_holds};
 ghost use Rattle.cap_summary.specs.Packed.{lacking, low_condition, low_conditions, packed_condition};
-ghost use Rattle.cap_summary.specs.Packed.{packed_conditions, item_condition};
+ghost use Rattle.cap_summary.specs.Packed.{low_source, packed_conditions};
+ghost use Rattle.cap_summary.specs.Merging.{HasOneMore};
 ghost use Rattle.cap_summary.specs.Names.{Names, these, ConditionsWithin};
 ghost use Rattle.cap_summary.specs.Shared.{shared_entries};
 ghost use Rattle.cap_summary.specs.Sizes.{room, rank, part_rank, condition_rank, RankWithin};
@@ -14,13 +15,19 @@ ghost use Rattle.cap_summary.specs.Sizes.{room, rank, part_rank, condition_rank,
 use crate::alike::{equal_refusals, equal_sources};
 use crate::conditions::{CellTest, Condition, HeldTest, Refused, Source};
 use crate::ordering::{order_of_cells, order_of_refusals, place, place_of_part};
+use cap_machine::Cell;
 use cap_rights::RightSet;
 use cap_trace::{Fd, Pid};
 use cap_tree::NoMemory;
+use lows::in_order;
 use std::alloc::Global;
 use std::cmp::Ordering;
 use std::marker::Model;
 use std::rc::{Rc, RcSlice};
+
+mod lows;
+
+pub(crate) use lows::Lows;
 
 /// A cell, and rights of which it lacks some.
 #[derive(Clone, Copy)]
@@ -50,13 +57,6 @@ pub(crate) enum Packed {
     Inside(Pid),
     Outside(Pid),
     Refused(Rc<Refused>),
-}
-
-/// A condition of a list, where it stands.
-#[derive(Clone, Copy)]
-pub(crate) enum Item<'a> {
-    Low(Low),
-    Other(&'a Packed),
 }
 
 impl Lack {
@@ -112,12 +112,6 @@ impl Lack {
         place(self.pid, self.fd)
     }
 
-    /// Whether it may be kept as the most common form is.
-    #[inline]
-    fn is_low(&self) -> bool {
-        self.fd < 65_536
-    }
-
     /// The test in full, which a closed cell passes or not.
     #[inline]
     fn source(&self, closed: bool) -> Source
@@ -157,7 +151,7 @@ impl Low {
     /// The cell, and the rights.
     #[inline]
     fn lack(&self) -> Lack
-        ensures { Condition.Cell (lacking self.now.closed result) ≡ low_condition self.now }
+        ensures { lacking self.now.closed result ≡ low_source self.now }
     {
         Lack {
             pid: self.pid,
@@ -174,10 +168,53 @@ impl Low {
 
     /// The test in full.
     #[inline]
-    fn source(&self) -> Source
-        ensures { Condition.Cell result ≡ low_condition self.now }
+    pub(crate) fn source(&self) -> Source
+        ensures { result ≡ low_source self.now }
     {
         self.lack().source(self.closed)
+    }
+
+    /// Its process.
+    #[inline]
+    pub(crate) fn pid(&self) -> Pid
+        ensures { result ≡ (low_source self.now).pid }
+    {
+        self.pid
+    }
+
+    /// Its descriptor.
+    #[inline]
+    pub(crate) fn fd(&self) -> Fd
+        ensures { result ≡ (low_source self.now).fd }
+    {
+        u32::from(self.fd)
+    }
+
+    /// The same test of the descriptor of another process.
+    #[inline]
+    pub(crate) fn of_process(&self, pid: Pid) -> Low
+        ensures process { (low_source result).pid ≡ pid }
+        ensures descriptor { (low_source result).fd ≡ (low_source self.now).fd }
+        ensures test { (low_source result).test ≡ (low_source self.now).test }
+    {
+        Low {
+            pid,
+            fd: self.fd,
+            closed: self.closed,
+            rights: self.rights,
+        }
+    }
+
+    /// Whether a cell passes the test.
+    #[inline]
+    pub(crate) fn passes(&self, cell: Cell) -> bool
+        ensures { result ≡ passes (low_source self.now).test cell }
+    {
+        match cell {
+            Cell::Unknown => false,
+            Cell::Closed => self.closed,
+            Cell::Held(rights, _) => !rights.has_all(&self.rights),
+        }
     }
 
     /// Whether it holds wherever another one does. No is a safe answer.
@@ -201,17 +238,6 @@ impl Low {
             && self.fd == other.fd
             && self.closed == other.closed
             && self.rights == other.rights
-    }
-
-    /// How it stands to one that isn't among the first: before it, where that isn't of the same form.
-    #[inline]
-    fn order_to(&self, other: &Packed) -> Ordering {
-        match other {
-            Packed::ClosedOrLacks(lack) | Packed::Lacks(lack) if lack.is_low() => {
-                self.place().cmp(&lack.place())
-            }
-            _ => Ordering::Less,
-        }
     }
 }
 
@@ -265,24 +291,14 @@ impl Packed {
 }
 
 impl Packed {
-    /// What it is sorted by first: its kind, and a process and a descriptor. Those of the most common form come first.
+    /// What it is sorted by first: its kind, and a process and a descriptor.
     fn key(&self) -> (u8, u64) {
         match self {
-            Packed::ClosedOrLacks(lack) | Packed::Lacks(lack) if lack.is_low() => (0, lack.place()),
-            Packed::Inside(pid) => (1, place(*pid, 0)),
-            Packed::Outside(pid) => (2, place(*pid, 0)),
-            Packed::ClosedOrLacks(lack) | Packed::Lacks(lack) => (3, lack.place()),
-            Packed::Other(source) => (3, place(source.pid, source.fd)),
-            Packed::Refused(refused) => (4, place_of_part(&refused.first)),
-        }
-    }
-
-    /// Whether it is of the most common form.
-    #[inline]
-    fn is_common(&self) -> bool {
-        match self {
-            Packed::ClosedOrLacks(lack) | Packed::Lacks(lack) => lack.is_low(),
-            _ => false,
+            Packed::Inside(pid) => (0, place(*pid, 0)),
+            Packed::Outside(pid) => (1, place(*pid, 0)),
+            Packed::ClosedOrLacks(lack) | Packed::Lacks(lack) => (2, lack.place()),
+            Packed::Other(source) => (2, place(source.pid, source.fd)),
+            Packed::Refused(refused) => (3, place_of_part(&refused.first)),
         }
     }
 
@@ -411,21 +427,6 @@ impl Packed {
     }
 }
 
-/// Whether two lists of the most common form are the same.
-fn same_lows(a: &[Low], b: &[Low]) -> bool
-    ensures { result ≡ true → low_conditions a.now ≡ low_conditions b.now }
-{
-    if a.len() != b.len() {
-        return false;
-    }
-    for at in 0..a.len() {
-        if !a[at].is_like(&b[at]) {
-            return false;
-        }
-    }
-    true
-}
-
 /// Whether two lists are the same, one by one. No is a safe answer.
 fn same_packed(a: &[Packed], b: &[Packed]) -> bool
     ensures { result ≡ true → packed_conditions a.now ≡ packed_conditions b.now }
@@ -481,77 +482,56 @@ fn lower(lows: &[Low], i: usize, others: &[Packed], j: usize) -> Option<Ranked>
     })
 }
 
-/// Conditions that are never changed. Copies share them.
+/// Conditions that aren't of the most common form, and are never changed. Copies share them.
 #[derive(Drop)]
-pub(crate) struct Conditions {
-    /// Those that come first, of the most common form.
-    lows: Option<RcSlice<Low>>,
-    /// Those behind them.
-    others: Option<RcSlice<Packed>>,
+pub(crate) struct Others {
+    items: Option<RcSlice<Packed>>,
 }
 
-impl Model for Conditions {
-    ghost use Rattle.std.specs.Prelude.{List, ◌++◌};
+impl Model for Others {
+    ghost use Rattle.std.specs.Prelude.{List};
     ghost use Rattle.cap_summary.specs.declared.conditions.Condition.{Condition};
-    ghost use Rattle.cap_summary.specs.Packed.{low_conditions, packed_conditions};
+    ghost use Rattle.cap_summary.specs.Packed.{packed_conditions};
     ghost use Rattle.cap_summary.specs.Shared.{shared_entries};
 
     ghost Value = { List Condition };
 
-    ghost view = { λ c. low_conditions (shared_entries c.lows) ++ packed_conditions (shared_entries c.others) };
+    ghost view = { λ c. packed_conditions (shared_entries c.items) };
 }
 
-/// Conditions that are being put together.
+/// Such conditions that are being put together.
 #[derive(Drop)]
-pub(crate) struct NewConditions {
-    lows: Vec<Low>,
-    others: Vec<Packed>,
+pub(crate) struct NewOthers {
+    items: Vec<Packed>,
 }
 
-impl Model for NewConditions {
-    ghost use Rattle.std.specs.Prelude.{List, ◌++◌};
+impl Model for NewOthers {
+    ghost use Rattle.std.specs.Prelude.{List};
     ghost use Rattle.cap_summary.specs.declared.conditions.Condition.{Condition};
-    ghost use Rattle.cap_summary.specs.Packed.{low_conditions, packed_conditions};
+    ghost use Rattle.cap_summary.specs.Packed.{packed_conditions};
 
     ghost Value = { List Condition };
 
-    ghost view = { λ c. low_conditions c.lows.items ++ packed_conditions c.others.items };
+    ghost view = { λ c. packed_conditions c.items.items };
 }
 
-impl Conditions {
+impl Others {
     /// None. It takes no memory.
-    pub(crate) fn none() -> Conditions
+    fn none() -> Others
         ensures { result ≡ [] }
     {
-        Conditions {
-            lows: None,
-            others: None,
-        }
+        Others { items: None }
     }
 
-    /// One condition.
-    pub(crate) fn one(alloc: Global, condition: &Condition) -> Result<Conditions, NoMemory>
-        ensures { IfOk result (λ all. all ≡ condition.now ∷ []) }
-    {
-        let mut new = NewConditions::with_room(alloc, 1)?;
-        new.put(alloc, condition)?;
-        new.finish()
-    }
-
-    /// Those of the most common form that come first, and the others.
+    /// The conditions, as they are kept.
     #[inline(always)]
-    fn parts(&self) -> (&[Low], &[Packed])
-        ensures { low_conditions result.0.now ++ packed_conditions result.1.now ≡ self.now }
+    fn as_slice(&self) -> &[Packed]
+        ensures { packed_conditions result.now ≡ self.now }
     {
-        let lows: &[Low] = match &self.lows {
-            Some(lows) => lows.as_slice(),
+        match &self.items {
+            Some(items) => items.as_slice(),
             None => &[],
-        };
-        let others: &[Packed] = match &self.others {
-            Some(others) => others.as_slice(),
-            None => &[],
-        };
-        (lows, others)
+        }
     }
 
     /// How many there are.
@@ -559,22 +539,7 @@ impl Conditions {
     pub(crate) fn len(&self) -> usize
         ensures { result ≡ length self.now }
     {
-        let (lows, others) = self.parts();
-        lows.len() + others.len()
-    }
-
-    /// The one at a place, as it stands there.
-    #[inline(always)]
-    fn item(&self, at: usize) -> Item<'_>
-        requires { at < length self.now }
-        ensures { (d : Condition) → slice_index_or self.now at d ≡ item_condition result }
-    {
-        let (lows, others) = self.parts();
-        if at < lows.len() {
-            Item::Low(lows[at])
-        } else {
-            Item::Other(&others[at - lows.len()])
-        }
+        self.as_slice().len()
     }
 
     /// The one at a place.
@@ -583,52 +548,173 @@ impl Conditions {
         requires { at < length self.now }
         ensures { result ≡ slice_index_or self.now at result }
     {
-        match self.item(at) {
-            Item::Low(low) => Condition::Cell(low.source()),
-            Item::Other(packed) => packed.condition(),
-        }
+        self.as_slice()[at].condition()
     }
 
     /// How the one at a place stands to one of others by its kind, its cells and its process.
     #[inline]
-    pub(crate) fn order_to(&self, at: usize, others: &Conditions, of: usize) -> Ordering
+    pub(crate) fn order_to(&self, at: usize, others: &Others, of: usize) -> Ordering
         requires own { at < length self.now }
         requires other { of < length others.now }
     {
-        match (self.item(at), others.item(of)) {
-            (Item::Low(a), Item::Low(b)) => a.place().cmp(&b.place()),
-            (Item::Low(a), Item::Other(b)) => a.order_to(b),
-            (Item::Other(a), Item::Low(b)) => b.order_to(a).reverse(),
-            (Item::Other(a), Item::Other(b)) => a.order(b),
-        }
+        self.as_slice()[at].order(&others.as_slice()[of])
     }
 
     /// Whether the one at a place holds wherever one of others does, by a look at those kept in few bytes alone. No is a
     /// safe answer.
     #[inline]
-    pub(crate) fn covers(&self, at: usize, others: &Conditions, of: usize) -> bool
+    pub(crate) fn covers(&self, at: usize, others: &Others, of: usize) -> bool
         requires own { at < length self.now }
         requires other { of < length others.now }
         ensures { result ≡ true → (x y : Condition) (s : State) → holds s (slice_index_or self.now at x)
             ≡ (holds s (slice_index_or self.now at x) || holds s (slice_index_or others.now of y)) }
     {
-        match (self.item(at), others.item(of)) {
-            (Item::Low(a), Item::Low(b)) => a.covers(&b),
-            (Item::Other(a), Item::Other(b)) => a.covers(b),
-            _ => false,
+        self.as_slice()[at].covers(&others.as_slice()[of])
+    }
+
+    /// Whether each of those from one place to another comes after the one before it in the order in which they are
+    /// kept.
+    pub(crate) fn rise(&self, from: usize, to: usize) -> bool
+        requires { to ≤ length self.now }
+    {
+        let items = self.as_slice();
+        for at in from..to {
+            if at > from && !items[at - 1].comes_before(&items[at]) {
+                return false;
+            }
+        }
+        true
+    }
+
+    /// Whether another list has the same conditions, one by one. No is a safe answer.
+    fn is_like(&self, other: &Others) -> bool
+        ensures { result ≡ true → self.now ≡ other.now }
+    {
+        same_packed(self.as_slice(), other.as_slice())
+    }
+
+    /// The same conditions, shared.
+    pub(crate) fn share(&self) -> Result<Others, NoMemory>
+        ensures { IfOk result (λ same. same ≡ self.now) }
+    {
+        let items = match &self.items {
+            Some(items) => Some(items.clone()?),
+            None => None,
+        };
+        Ok(Others { items })
+    }
+}
+
+impl NewOthers {
+    /// None so far, with room for so many.
+    pub(crate) fn with_room(alloc: Global, room: usize) -> Result<NewOthers, NoMemory>
+        ensures { IfOk result (λ new. new ≡ []) }
+    {
+        Ok(NewOthers {
+            items: Vec::with_capacity(alloc, room)?,
+        })
+    }
+
+    /// Adds a condition that is packed.
+    #[inline]
+    fn push(&mut self, packed: Packed) -> Result<(), NoMemory>
+        ensures { OnOk result (self.new ≡ self.old ++ packed_condition packed ∷ []) }
+    {
+        self.items.push(packed)?;
+        Ok(())
+    }
+
+    /// Adds a condition.
+    pub(crate) fn put(&mut self, alloc: Global, condition: &Condition) -> Result<(), NoMemory>
+        ensures { OnOk result (self.new ≡ self.old ++ condition.now ∷ []) }
+    {
+        self.push(Packed::of(alloc, condition)?)
+    }
+
+    /// Whether the condition at a place of others comes after all these in the order in which they are kept, where
+    /// these rise.
+    #[inline]
+    pub(crate) fn go_on(&self, others: &Others, at: usize) -> bool
+        requires { at < length others.now }
+    {
+        match self.items.last() {
+            Some(last) => last.comes_before(&others.as_slice()[at]),
+            None => true,
         }
     }
 
-    /// The test of a cell at a place; none only where there is another condition.
-    #[inline]
-    pub(crate) fn source(&self, at: usize) -> Option<Source>
-        requires { at < length self.now }
-        ensures { IfSome result (λ source. (d : Condition) → slice_index_or self.now at d ≡ Condition.Cell source) }
+    /// Adds the condition at a place of others, shared.
+    #[inline(always)]
+    pub(crate) fn copy(&mut self, others: &Others, at: usize) -> Result<(), NoMemory>
+        requires { at < length others.now }
+        ensures { OnOk result
+            ((d : Condition) → self.new ≡ self.old ++ slice_index_or others.now at d ∷ []) }
     {
-        match self.item(at) {
-            Item::Low(low) => Some(low.source()),
-            Item::Other(packed) => packed.source(),
+        self.push(others.as_slice()[at].share()?)
+    }
+
+    /// The conditions, without spare room.
+    pub(crate) fn finish(self) -> Result<Others, NoMemory>
+        ensures { IfOk result (λ all. all ≡ self) }
+    {
+        Ok(Others {
+            items: shared(self.items)?,
+        })
+    }
+}
+
+/// Conditions that are never changed. Copies share them.
+#[derive(Drop)]
+pub(crate) struct Conditions {
+    /// Those that come first, of the most common form.
+    lows: Lows,
+    /// Those behind them.
+    others: Others,
+}
+
+impl Model for Conditions {
+    ghost use Rattle.std.specs.Prelude.{List, ◌++◌};
+    ghost use Rattle.cap_summary.specs.declared.conditions.Condition.{Condition};
+    ghost use Rattle.cap_summary.specs.Packed.{low_conditions};
+
+    ghost Value = { List Condition };
+
+    ghost view = { λ c. low_conditions c.lows ++ c.others };
+}
+
+impl Conditions {
+    /// None. It takes no memory.
+    pub(crate) fn none() -> Conditions
+        ensures { result ≡ [] }
+    {
+        Conditions {
+            lows: Lows::none(),
+            others: Others::none(),
         }
+    }
+
+    /// One condition.
+    pub(crate) fn one(alloc: Global, condition: &Condition) -> Result<Conditions, NoMemory>
+        ensures { IfOk result (λ all. all ≡ condition.now ∷ []) }
+    {
+        let mut new = NewConditions::empty(alloc);
+        new.put(alloc, condition)?;
+        new.finish()
+    }
+
+    /// These of the most common form, and behind them others.
+    pub(crate) fn of(lows: Lows, others: Others) -> Conditions
+        ensures { result ≡ low_conditions lows ++ others }
+    {
+        Conditions { lows, others }
+    }
+
+    /// Those of the most common form that come first, and the others.
+    #[inline(always)]
+    pub(crate) fn parts(&self) -> (&Lows, &Others)
+        ensures { low_conditions result.0.now ++ result.1.now ≡ self.now }
+    {
+        (&self.lows, &self.others)
     }
 
     /// How many there are, where those of one kind that ask about the same process and descriptor first count as one.
@@ -637,12 +723,13 @@ impl Conditions {
         ensures few { (pids fds : List ℕ) → ConditionsWithin (these pids fds) self.now
             → result ≤ 2 * room pids fds + 1 }
     {
-        let (lows, others) = self.parts();
+        let (lows, others) = (self.lows.as_slice(), self.others.as_slice());
+        let all = lows.len() + others.len();
         let mut i = 0usize;
         let mut j = 0usize;
         let mut count = 0usize;
         let mut next = 0u128;
-        for _ in 0..self.len() {
+        for _ in 0..all {
             let Some(lower) = lower(lows, i, others, j) else {
                 return count;
             };
@@ -659,110 +746,66 @@ impl Conditions {
         count
     }
 
-    /// The place behind the last one of the most common form.
-    pub(crate) fn commons_end(&self) -> usize {
-        let (lows, others) = self.parts();
-        let mut end = lows.len();
-        for at in 0..others.len() {
-            if others[at].is_common() {
-                end = lows.len() + at + 1;
-            }
-        }
-        end
-    }
-
-    /// Whether the one at a place comes before that at another one in the order in which they are kept.
-    #[inline]
-    fn comes_before(&self, at: usize, of: usize) -> bool
-        requires first { at < length self.now }
-        requires second { of < length self.now }
-    {
-        match (self.item(at), self.item(of)) {
-            (Item::Low(a), Item::Low(b)) => a.place() < b.place(),
-            (Item::Low(a), Item::Other(b)) => a.order_to(b) == Ordering::Less,
-            (Item::Other(a), Item::Low(b)) => b.order_to(a) == Ordering::Greater,
-            (Item::Other(a), Item::Other(b)) => a.comes_before(b),
-        }
-    }
-
-    /// Whether each of those from one place to another comes after the one before it in the order in which they are
-    /// kept.
-    pub(crate) fn rise(&self, from: usize, to: usize) -> bool
-        requires { to ≤ length self.now }
-    {
-        for at in from..to {
-            if at > from && !self.comes_before(at - 1, at) {
-                return false;
-            }
-        }
-        true
-    }
-
     /// Whether another list has the same conditions, one by one. No is a safe answer.
     pub(crate) fn is_like(&self, other: &Conditions) -> bool
         ensures { result ≡ true → self.now ≡ other.now }
     {
-        let (own, own_others) = self.parts();
-        let (theirs, their_others) = other.parts();
-        same_lows(own, theirs) && same_packed(own_others, their_others)
+        self.lows.is_like(&other.lows) && self.others.is_like(&other.others)
     }
 
     /// The same conditions, shared.
     pub(crate) fn share(&self) -> Result<Conditions, NoMemory>
         ensures { IfOk result (λ same. same ≡ self.now) }
     {
-        let lows = match &self.lows {
-            Some(lows) => Some(lows.clone()?),
-            None => None,
-        };
-        let others = match &self.others {
-            Some(others) => Some(others.clone()?),
-            None => None,
-        };
+        let lows = self.lows.share()?;
+        let others = self.others.share()?;
         Ok(Conditions { lows, others })
     }
 }
 
-impl NewConditions {
-    /// None so far, with room for so many of the most common form.
-    pub(crate) fn with_room(alloc: Global, room: usize) -> Result<NewConditions, NoMemory>
-        ensures { IfOk result (λ new. new ≡ []) }
-    {
-        Ok(NewConditions {
-            lows: Vec::with_capacity(alloc, room)?,
-            others: Vec::new(alloc),
-        })
-    }
+/// Conditions that are being put together, one behind the other.
+#[derive(Drop)]
+pub(crate) struct NewConditions {
+    lows: Vec<Low>,
+    others: Vec<Packed>,
+}
 
-    /// Adds one of the most common form.
-    #[inline(always)]
-    fn push_low(&mut self, low: Low) -> Result<(), NoMemory>
-        ensures { OnOk result (self.new ≡ self.old ++ low_condition low ∷ []) }
+impl Model for NewConditions {
+    ghost use Rattle.std.specs.Prelude.{List, ◌++◌};
+    ghost use Rattle.cap_summary.specs.declared.conditions.Condition.{Condition};
+    ghost use Rattle.cap_summary.specs.Packed.{low_conditions, packed_conditions};
+
+    ghost Value = { List Condition };
+
+    ghost view = { λ c. low_conditions c.lows.items ++ packed_conditions c.others.items };
+}
+
+impl NewConditions {
+    /// None so far.
+    pub(crate) fn empty(alloc: Global) -> NewConditions
+        ensures { result ≡ [] }
     {
-        if self.others.is_empty() {
-            self.lows.push(low)?;
-        } else {
-            self.others.push(Packed::of_lack(low.lack(), low.closed))?;
+        NewConditions {
+            lows: Vec::new(alloc),
+            others: Vec::new(alloc),
         }
-        Ok(())
     }
 
     /// Adds a cell that lacks rights, or is closed where that is asked for.
-    #[inline]
     fn push_lack(&mut self, lack: &Lack, closed: bool) -> Result<(), NoMemory>
         ensures { OnOk result (self.new ≡ self.old ++ Condition.Cell (lacking closed lack.now) ∷ []) }
     {
-        match Low::of(lack, closed) {
-            Some(low) => self.push_low(low),
-            None => {
-                self.others.push(Packed::of_lack(*lack, closed))?;
-                Ok(())
+        if self.others.is_empty() {
+            if let Some(low) = Low::of(lack, closed) {
+                self.lows.push(low)?;
+                return Ok(());
             }
         }
+        self.others.push(Packed::of_lack(*lack, closed))?;
+        Ok(())
     }
 
     /// Adds a condition that is packed.
-    #[inline]
     fn push(&mut self, packed: Packed) -> Result<(), NoMemory>
         ensures { OnOk result (self.new ≡ self.old ++ packed_condition packed ∷ []) }
     {
@@ -783,51 +826,130 @@ impl NewConditions {
         self.push(Packed::of(alloc, condition)?)
     }
 
-    /// Whether the condition at a place of others comes after all these in the order in which they are kept, where
-    /// these rise. One that isn't of the most common form doesn't, where one of that form is behind it: `end` is the
-    /// place behind the last of those.
-    #[inline]
-    pub(crate) fn go_on(&self, others: &Conditions, at: usize, end: usize) -> bool
-        requires { at < length others.now }
-    {
-        match (others.item(at), self.others.last(), self.lows.last()) {
-            (Item::Low(next), Some(last), _) => next.order_to(last) == Ordering::Greater,
-            (Item::Low(next), None, Some(last)) => last.place() < next.place(),
-            (Item::Other(next), last, lack) => {
-                if at < end && !next.is_common() {
-                    return false;
-                }
-                match (last, lack) {
-                    (Some(last), _) => last.comes_before(next),
-                    (None, Some(last)) => last.order_to(next) == Ordering::Less,
-                    (None, None) => true,
-                }
-            }
-            (_, None, None) => true,
-        }
-    }
-
-    /// Adds the condition at a place of others, shared.
-    #[inline(always)]
-    pub(crate) fn copy(&mut self, others: &Conditions, at: usize) -> Result<(), NoMemory>
-        requires { at < length others.now }
-        ensures { OnOk result
-            ((d : Condition) → self.new ≡ self.old ++ slice_index_or others.now at d ∷ []) }
-    {
-        match others.item(at) {
-            Item::Low(low) => self.push_low(low),
-            Item::Other(packed) => self.push(packed.share()?),
-        }
-    }
-
     /// The conditions, without spare room.
     pub(crate) fn finish(self) -> Result<Conditions, NoMemory>
         ensures { IfOk result (λ all. all ≡ self) }
     {
         Ok(Conditions {
-            lows: shared(self.lows)?,
-            others: shared(self.others)?,
+            lows: Lows::of(self.lows)?,
+            others: Others {
+                items: shared(self.others)?,
+            },
         })
+    }
+}
+
+/// Conditions that are gathered in any order. Those of the most common form are kept apart as they come.
+#[derive(Drop)]
+pub(crate) struct Gathered {
+    /// Of the most common form, each of a cell behind those of the ones before it.
+    rising: Vec<Low>,
+    /// Of that form too.
+    strays: Vec<Low>,
+    others: Vec<Packed>,
+}
+
+impl Model for Gathered {
+    ghost use Rattle.std.specs.Prelude.{List, ◌++◌};
+    ghost use Rattle.cap_summary.specs.declared.conditions.Condition.{Condition};
+    ghost use Rattle.cap_summary.specs.Packed.{low_conditions, packed_conditions};
+
+    ghost Value = { List Condition };
+
+    ghost view = { λ c. low_conditions c.rising.items
+        ++ (low_conditions c.strays.items ++ packed_conditions c.others.items) };
+}
+
+impl Gathered {
+    /// None so far, with room for so many of the most common form.
+    pub(crate) fn with_room(alloc: Global, room: usize) -> Result<Gathered, NoMemory>
+        ensures { IfOk result (λ new. new ≡ []) }
+    {
+        Ok(Gathered {
+            rising: Vec::with_capacity(alloc, room)?,
+            strays: Vec::new(alloc),
+            others: Vec::new(alloc),
+        })
+    }
+
+    /// Whether the cell of one is behind those of all that rise.
+    #[inline]
+    fn goes_on(&self, low: &Low) -> bool {
+        match self.rising.last() {
+            Some(last) => last.place() < low.place(),
+            None => true,
+        }
+    }
+
+    /// Adds one of the most common form.
+    #[inline]
+    pub(crate) fn add_low(&mut self, low: &Low) -> Result<(), NoMemory>
+        ensures { OnOk result (HasOneMore self.old (low_condition low.now) self.new) }
+    {
+        if !self.goes_on(low) {
+            self.strays.push(*low)?;
+            return Ok(());
+        }
+        self.rising.push(*low)?;
+        Ok(())
+    }
+
+    /// Adds one that isn't, or isn't known to be.
+    fn add_other(&mut self, packed: Packed) -> Result<(), NoMemory>
+        ensures { OnOk result (HasOneMore self.old (packed_condition packed) self.new) }
+    {
+        self.others.push(packed)?;
+        Ok(())
+    }
+
+    /// Adds a cell that lacks rights, or is closed where that is asked for.
+    fn add_lack(&mut self, lack: &Lack, closed: bool) -> Result<(), NoMemory>
+        ensures { OnOk result (HasOneMore self.old (Condition.Cell (lacking closed lack.now)) self.new) }
+    {
+        match Low::of(lack, closed) {
+            Some(low) => self.add_low(&low),
+            None => self.add_other(Packed::of_lack(*lack, closed)),
+        }
+    }
+
+    /// Adds a condition that is packed.
+    fn add_packed(&mut self, packed: Packed) -> Result<(), NoMemory>
+        ensures { OnOk result (HasOneMore self.old (packed_condition packed) self.new) }
+    {
+        match packed {
+            Packed::ClosedOrLacks(lack) => self.add_lack(&lack, true),
+            Packed::Lacks(lack) => self.add_lack(&lack, false),
+            packed => self.add_other(packed),
+        }
+    }
+
+    /// Adds a condition.
+    pub(crate) fn add(&mut self, alloc: Global, condition: &Condition) -> Result<(), NoMemory>
+        ensures { OnOk result (HasOneMore self.old condition.now self.new) }
+    {
+        self.add_packed(Packed::of(alloc, condition)?)
+    }
+
+    /// Adds the condition at a place of others, shared.
+    pub(crate) fn copy(&mut self, others: &Others, at: usize) -> Result<(), NoMemory>
+        requires { at < length others.now }
+        ensures { OnOk result ((d : Condition) → HasOneMore self.old (slice_index_or others.now at d) self.new) }
+    {
+        self.add_packed(others.as_slice()[at].share()?)
+    }
+
+    /// Those of the most common form in the order of their cells, and the others as they came.
+    pub(crate) fn finish(self, alloc: Global) -> Result<(Lows, Others), NoMemory>
+        ensures holds { IfOk result (λ r. (s : State)
+            → any_holds s (low_conditions r.0 ++ r.1) ≡ any_holds s self) }
+        ensures names { IfOk result (λ r. (names : Names) → ConditionsWithin names self
+            → ConditionsWithin names (low_conditions r.0 ++ r.1)) }
+    {
+        let lows = in_order(alloc, self.rising, &self.strays)?;
+        let others = Others {
+            items: shared(self.others)?,
+        };
+        Ok((lows, others))
     }
 }
 

@@ -1,20 +1,21 @@
-use Rattle.std.proofs.Common.{◌<◌, ◌≤◌, List, length, arith, ap, sym, ◌∙◌}
-use Rattle.std.proofs.lemmas.List.{take_all}
+use Rattle.std.proofs.Common.{◌≡◌, ◌||◌, List, ap, sym, ◌∙◌}
+use Rattle.cap_machine.specs.State.{State}
 use Rattle.cap_summary.specs.declared.conditions.Condition.{Condition}
+use Rattle.cap_summary.specs.declared.packed.Low.{Low}
 use Rattle.cap_summary.specs.Changes.{changed}
-use Rattle.cap_summary.specs.Conditions.{holds, any_holds}
-use Rattle.cap_summary.proofs.Holding.{stays_more}
+use Rattle.cap_summary.specs.Conditions.{any_holds}
+use Rattle.cap_summary.specs.Packed.{any_low_holds}
+use Rattle.cap_summary.proofs.Gathering.{parts_hold}
 use Rattle.cap_summary.proofs.change.Change.leaves_all.Goals as goal
 
-pub loop-at-preserved : goal.loop-at-preserved
-loop-at-preserved c = λ s.
-    let within : c.loop-at.at < length c.args.conditions.now = omega arith in
-    stays_more (holds s) (holds (changed c.args.self.now s)) c.args.conditions.now c.loop-at.at c.get.result within
-    c.get.ensures (c.leaves_condition.ensures c.if-not-leaves_condition.false s) (c.loop-at.invariant s)
-
-pub returns : goal.returns
-returns c = λ yes s.
-    let all : length c.args.conditions.now ≤ c.loop-at.at = omega arith in
-    let whole = take_all c.loop-at.at c.args.conditions.now all in
-    ap (λ (r : List Condition). any_holds (changed c.args.self.now s) r) (sym whole) ∙ c.loop-at.invariant s
-    ∙ ap (λ (r : List Condition). any_holds s r) whole
+pub returns-then-leaves_lows : goal.returns-then-leaves_lows
+returns-then-leaves_lows c = λ yes s.
+    let after : State = changed c.args.self.now s in
+    let p = c.parts.result in
+    let lows : any_low_holds after p.0.now ≡ any_low_holds s p.0.now =
+    ap (λ (r : List Low). any_low_holds after r) (sym c.as_slice.ensures)
+    ∙ c.leaves_lows.ensures c.if-leaves_lows.true s ∙ ap (λ (r : List Low). any_low_holds s r) c.as_slice.ensures in
+    ap (λ (r : List Condition). any_holds after r) (sym c.parts.ensures) ∙ parts_hold after p.0.now p.1.now
+    ∙ ap (λ r. r || any_holds after p.1.now) lows
+    ∙ ap (λ r. any_low_holds s p.0.now || r) (c.leaves_others.ensures yes s)
+    ∙ sym (parts_hold s p.0.now p.1.now) ∙ ap (λ (r : List Condition). any_holds s r) c.parts.ensures

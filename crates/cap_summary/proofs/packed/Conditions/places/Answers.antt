@@ -21,9 +21,10 @@ loop-preserved c = (
       | else-lower w ↦ omega (arith, w.j-is, c.loop.invariant.1.0)
     ],
     λ pids fds within.
-        let lows = low_conditions c.parts.result.0.now in
-        let others = packed_conditions c.parts.result.1.now in
-        let both : ConditionsWithin (these pids fds) (lows ++ others) = rw c.parts.ensures within in
+        let lows = low_conditions c.as_slice-lows.result.now in
+        let others = packed_conditions c.as_slice-others.result.now in
+        let both : ConditionsWithin (these pids fds) (lows ++ others) =
+        rw (c.as_slice-lows.ensures, c.as_slice-others.ensures) (rw (← c.self.view_is) at within) in
         let own : RankWithin (these pids fds) c.in-Some.lower.rank =
         c.in-Some.ensures.within (these pids fds) (first_part (these pids fds) lows others both)
         (second_part (these pids fds) lows others both) in
