@@ -29,4 +29,5 @@ pub mod Walks
 pub mod Following
 pub mod Explain
 pub mod ExplainLaws
+pub mod MayHave
 pub mod OriginLaws

@@ -58,6 +58,21 @@ pub enum HeldOp {
     Keeps(Option<RightSet>, OnExec),
 }
 
+impl Cell {
+    ghost use Rattle.cap_machine.specs.MayHave.{may_have};
+
+    /// Whether it is known to have these rights, or nothing is known of it.
+    pub(crate) fn may_have(&self, needs: &RightSet) -> bool
+        ensures { result ≡ may_have self.now needs.now }
+    {
+        match self {
+            Cell::Unknown => true,
+            Cell::Closed => false,
+            Cell::Held(held, _) => held.has_all(needs),
+        }
+    }
+}
+
 impl HeldOp {
     /// The cell stays held, with those of its rights that are in the mask and with this flag.
     fn keeps(mask: &Option<RightSet>, flag: OnExec) -> HeldOp

@@ -5,6 +5,7 @@ ghost use Rattle.std.specs.Prelude.{◌≡◌, ℕ, ◌+◌, ◌≤◌, OnOk, If
 ghost use Rattle.cap_machine.specs.Cells.Pending.{settled};
 ghost use Rattle.cap_machine.specs.Cells.{cell_in_cells};
 ghost use Rattle.cap_machine.specs.Cells.Remains.{left_at_most};
+ghost use Rattle.cap_machine.specs.MayHave.{may_have};
 ghost use Rattle.cap_machine.specs.Touch.{started};
 
 mod block;
@@ -26,7 +27,7 @@ pub(crate) use crate::cells::pending::Pending;
 pub(crate) use crate::cells::remains::Remains;
 use crate::cells::started::Started;
 use crate::cells::tree::Tree;
-use cap_rights::NoMemory;
+use cap_rights::{NoMemory, RightSet};
 use cap_trace::Fd;
 use std::alloc::{AllocError, Global};
 
@@ -58,6 +59,19 @@ impl Cells {
             self.started.cell()
         } else {
             self.tree.cell(fd)
+        }
+    }
+
+    /// Whether a descriptor is known to have these rights, or nothing is known of it.
+    #[tactic(auto, unfolding(crate::specs::Cells::cell_in_cells))]
+    #[inline(always)]
+    pub(crate) fn may_have(&self, fd: Fd, needs: &RightSet) -> bool
+        ensures { result ≡ may_have (cell_in_cells self.now fd) needs.now }
+    {
+        if self.started.lists(fd) {
+            self.started.cell().may_have(needs)
+        } else {
+            self.tree.may_have(fd, needs)
         }
     }
 

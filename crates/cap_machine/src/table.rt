@@ -11,6 +11,7 @@ ghost use Rattle.cap_machine.specs.Table.{with_mode, with_process, with_started,
 ghost use Rattle.cap_machine.specs.Table.{with_op, with_closed_from, effect_after};
 ghost use Rattle.cap_machine.specs.Op.{exec};
 ghost use Rattle.cap_machine.specs.Cells.Pending.{settled};
+ghost use Rattle.cap_machine.specs.MayHave.{may_have};
 
 mod index;
 mod lines;
@@ -20,7 +21,7 @@ use crate::cells::{Cells, Pending, Remains};
 use crate::rule::{Checks, Demand, Effect};
 use crate::table::index::Index;
 use crate::verdict::Verdict;
-use cap_rights::NoMemory;
+use cap_rights::{NoMemory, RightSet};
 use cap_trace::{Fd, Pid};
 use std::alloc::{AllocError, Global};
 
@@ -71,6 +72,14 @@ impl Process {
         ensures { result ≡ cell_in self.now fd }
     {
         self.cells.cell(fd)
+    }
+
+    /// Whether a descriptor is known to have these rights, or nothing is known of it.
+    #[inline(always)]
+    fn may_have(&self, fd: Fd, needs: &RightSet) -> bool
+        ensures { result ≡ may_have (cell_in self.now fd) needs.now }
+    {
+        self.cells.may_have(fd, needs)
     }
 
     /// Writes one cell.

@@ -19,6 +19,7 @@ pub(crate) struct Leaf<const N: usize> {
 
 impl<const N: usize> Leaf<N> {
     ghost use Rattle.cap_machine.specs.Cells.Parts.{in_leaf};
+    ghost use Rattle.cap_machine.specs.MayHave.{may_have};
 
     /// The cell at a place.
     fn at(&self, place: usize) -> Cell
@@ -26,6 +27,19 @@ impl<const N: usize> Leaf<N> {
         ensures { result ≡ in_leaf self.now place }
     {
         self.kinds[place].with(self.rights[place])
+    }
+
+    /// Whether the cell at a place is known to have these rights, or nothing is known of it.
+    #[inline(always)]
+    pub(crate) fn may_have(&self, place: usize, needs: &RightSet) -> bool
+        requires { place < N }
+        ensures { result ≡ may_have (in_leaf self.now place) needs.now }
+    {
+        match self.kinds[place] {
+            Kind::Unknown => true,
+            Kind::Closed => false,
+            _ => self.rights[place].has_all(needs),
+        }
     }
 
     /// Writes the cell at a place.

@@ -71,6 +71,21 @@ impl<T: Drop> Shared<T> {
     }
 }
 
+impl<T: Subtree> Shared<T> {
+    ghost use Rattle.cap_machine.specs.Cells.Parts.{in_shared};
+
+    /// The part, where nothing is pending.
+    #[inline(always)]
+    pub(crate) fn settled(&self) -> Option<&T>
+        ensures { IfSome result (λ part. (f : ℕ) → T.cell_at part.now f ≡ in_shared T.cell_at self.now f) }
+    {
+        match self.pending {
+            Pending::Nothing => Some(&*self.part),
+            _ => None,
+        }
+    }
+}
+
 impl<T: Subtree> Clone for Shared<T> {
     ghost use Rattle.cap_machine.specs.Cells.Parts.{in_shared};
 

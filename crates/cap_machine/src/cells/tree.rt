@@ -4,6 +4,7 @@ ghost use Rattle.std.specs.Prelude.{◌≡◌, ℕ, ◌+◌, ◌≤◌, OnOk, If
 ghost use Rattle.cap_machine.specs.Cells.Pending.{settled};
 ghost use Rattle.cap_machine.specs.Cells.Tree.{cell_in_tree};
 ghost use Rattle.cap_machine.specs.Cells.Remains.{left_at_most};
+ghost use Rattle.cap_machine.specs.MayHave.{may_have};
 
 use crate::cell::Cell;
 use crate::cells::far::Far;
@@ -13,7 +14,7 @@ use crate::cells::pending::Pending;
 use crate::cells::remains::Remains;
 use crate::cells::shared::Shared;
 use crate::cells::subtree::Subtree;
-use cap_rights::NoMemory;
+use cap_rights::{NoMemory, RightSet};
 use cap_trace::Fd;
 use std::alloc::{AllocError, Global};
 
@@ -50,6 +51,20 @@ impl Tree {
         } else {
             self.far.cell(fd)
         }
+    }
+
+    /// Whether a descriptor is known to have these rights, or nothing is known of it.
+    #[tactic(auto, unfolding(crate::specs::Cells::Tree::cell_in_tree))]
+    #[inline(always)]
+    pub(crate) fn may_have(&self, fd: Fd, needs: &RightSet) -> bool
+        ensures { result ≡ may_have (cell_in_tree self.now fd) needs.now }
+    {
+        if fd < 64 {
+            if let Some(leaf) = self.low.settled() {
+                return leaf.may_have(fd as usize, needs);
+            }
+        }
+        self.cell(fd).may_have(needs)
     }
 
     /// Writes one cell.

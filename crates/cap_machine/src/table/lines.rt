@@ -51,10 +51,9 @@ impl Table {
         ensures { IsTrue result → (word : Word) (excuse : Option ℕ)
             → fault word (check_of fd needs.now excuse) (cell_of self.now pid fd) ≡ [] }
     {
-        match self.cell(pid, fd) {
-            Cell::Unknown => true,
-            Cell::Closed => false,
-            Cell::Held(held, _) => held.has_all(needs),
+        match self.find(pid) {
+            None => true,
+            Some(process) => process.may_have(fd, needs),
         }
     }
 
