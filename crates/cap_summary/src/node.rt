@@ -1,10 +1,10 @@
 //! The nodes of a summary. A contract sees a node as its steps.
 
 ghost use Rattle.std.specs.Prelude.{◌≡◌, ℕ, ◌+◌, ◌^◌, ◌<◌, ◌≤◌, ◌++◌, ◌∷◌, [], List, length, map, IfOk, OnOk, IfSome, IfNone};
-ghost use Rattle.std.specs.Prelude.{take, slice_index_or, true};
+ghost use Rattle.std.specs.Prelude.{take, slice_index_or, true, false};
 ghost use Rattle.cap_machine.specs.Walks.{LeavesCell, LeavesMode};
 ghost use Rattle.cap_summary.specs.Passes.{PassesCell, PassesMode};
-ghost use Rattle.cap_summary.specs.Knows.{Knows};
+ghost use Rattle.cap_summary.specs.Knows.{Knows, finds};
 ghost use Rattle.cap_summary.specs.Sizes.{NamesMany};
 ghost use Rattle.cap_machine.specs.declared.step.Step.{Step};
 ghost use Rattle.cap_machine.specs.Check.{check};
@@ -327,6 +327,18 @@ impl Node {
         }
     }
 
+    /// Whether something may be found in the steps, of which this is known: a no is sure. Where few of many steps are asked
+    /// for, it answers yes without a look, since to go down to these steps takes less than to ask each condition of them
+    /// all.
+    fn may_find(&self, before: &Before<'_>, known: &Known, asked: &Asked) -> bool
+        ensures { result ≡ false → finds known.now (state_before before.now) ≡ false }
+    {
+        match &self.content {
+            Content::Both(_, _) if asked.are_few_of(self.len) => true,
+            _ => before.finds(known),
+        }
+    }
+
     /// Notes what is found in the steps and then in the rest, which begin in this state behind so many others, at the
     /// positions that are asked for. It visits only parts that have such positions, and stops where more was found than is
     /// looked up one by one.
@@ -350,7 +362,7 @@ impl Node {
         }
         if let Some(known) = &self.known {
             let known: &Known = known;
-            if at + self.len >= asked.from && before.finds(known) {
+            if at + self.len >= asked.from && self.may_find(before, known, asked) {
                 match &self.content {
                     Content::Run(run) => judge_run(run, before, at, asked, found)?,
                     Content::Both(a, b) => {

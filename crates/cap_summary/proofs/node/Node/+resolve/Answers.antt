@@ -7,15 +7,15 @@ use Rattle.cap_machine.specs.declared.verdict.Found.{Found}
 use Rattle.cap_machine.specs.Check.{check}
 use Rattle.cap_machine.specs.Laws.{later}
 use Rattle.cap_summary.specs.Before.{state_before}
-use Rattle.cap_summary.specs.Knows.{Knows}
+use Rattle.cap_summary.specs.Knows.{Knows, finds}
 use Rattle.cap_summary.specs.Rest.{rest_steps}
 use Rattle.cap_tree.specs.Run.{values}
 use Rattle.cap_summary.specs.Content.{content_steps}
 use Rattle.cap_summary.proofs.Resolving.{not_many, parts_or_many, found_none, found_before, found_behind}
 use Rattle.cap_summary.proofs.node.Node.+resolve.Goals as goal
-use Rattle.cap_summary.proofs.node.Node.+resolve.Goals.{then-at-self+then-finds+in-Run+in_ok-judge_run-in-Run}
-use Rattle.cap_summary.proofs.node.Node.+resolve.Goals.{then-at-self+then-finds+in-Both+in_ok-resolve-in-Both}
-use Rattle.cap_summary.proofs.node.Node.+resolve.Goals.{else-at-self, else-at-self-via-then-at-self+else-finds}
+use Rattle.cap_summary.proofs.node.Node.+resolve.Goals.{then-at-self+then-may_find+in-Run+in_ok-judge_run-in-Run}
+use Rattle.cap_summary.proofs.node.Node.+resolve.Goals.{then-at-self+then-may_find+in-Both+in_ok-resolve-in-Both}
+use Rattle.cap_summary.proofs.node.Node.+resolve.Goals.{else-at-self, else-at-self-via-then-at-self+else-may_find}
 use Rattle.cap_summary.proofs.node.Node.+resolve.Goals.{else-at-self-via-else-at-self}
 use Rattle.cap_summary.specs.Positions.{within, AllOrMany}
 
@@ -39,20 +39,20 @@ returns-in-End t c =
     let all : List Found = old ++ within from to (map (later c.args.at) (check s steps)) in
     let some : AllOrMany most c.if-at-self.found.items all =
     elim c.if-at-self.branch [
-      | then-at-self+then-finds+in-Run+in_ok-judge_run-in-Run w ↦
+      | then-at-self+then-may_find+in-Run+in_ok-judge_run-in-Run w ↦
           let run : values w.in-Run.run'.items ≡ steps = sym (ap content_steps w.in-Run.is) ∙ c.self.view_is in
           inl (rw w.found-is (rw w.deref.ensures.value at w.in_ok-judge_run-in-Run.ensures)
           ∙ ap (λ r. old ++ within from to (map (later c.args.at) (check s r))) run)
-      | then-at-self+then-finds+in-Both+in_ok-resolve-in-Both w ↦
+      | then-at-self+then-may_find+in-Both+in_ok-resolve-in-Both w ↦
           let parts : w.in-Both.a.value ++ (w.in-Both.b.value ++ []) ≡ steps =
           ap (λ r. w.in-Both.a.value ++ r) (append-nil w.in-Both.b.value)
           ∙ sym (ap content_steps w.in-Both.is) ∙ c.self.view_is in
           rw w.found-is
           (rw (w.deref-in-Both.ensures, w.deref-in-Both-2.ensures, parts) at w.in_ok-resolve-in-Both.ensures)
       | else-at-self w ↦ elim w.else-at-self.branch [
-        | else-at-self-via-then-at-self+else-finds v ↦ inl (rw w.found-is
-            (found_none s steps c.args.at from to old v.finds.result (v.finds.ensures ∙ knows.found s)
-            v.if-finds.false))
+        | else-at-self-via-then-at-self+else-may_find v ↦ inl (rw w.found-is
+            (found_none s steps c.args.at from to old (finds c.deref-known.result.now s) (knows.found s)
+            (v.may_find.ensures v.if-may_find.false)))
         | else-at-self-via-else-at-self v ↦
             let before : c.args.at + length steps < from = omega (arith, v.if-at-self.false, len) in
             inl (rw w.found-is (found_before s steps c.args.at from to old before))
@@ -78,20 +78,20 @@ returns-in-Then t c =
     let all : List Found = old ++ within from to (map (later c.args.at) (check s steps)) in
     let some : AllOrMany most c.if-at-self.found.items all =
     elim c.if-at-self.branch [
-      | then-at-self+then-finds+in-Run+in_ok-judge_run-in-Run w ↦
+      | then-at-self+then-may_find+in-Run+in_ok-judge_run-in-Run w ↦
           let run : values w.in-Run.run'.items ≡ steps = sym (ap content_steps w.in-Run.is) ∙ c.self.view_is in
           inl (rw w.found-is (rw w.deref.ensures.value at w.in_ok-judge_run-in-Run.ensures)
           ∙ ap (λ r. old ++ within from to (map (later c.args.at) (check s r))) run)
-      | then-at-self+then-finds+in-Both+in_ok-resolve-in-Both w ↦
+      | then-at-self+then-may_find+in-Both+in_ok-resolve-in-Both w ↦
           let parts : w.in-Both.a.value ++ (w.in-Both.b.value ++ []) ≡ steps =
           ap (λ r. w.in-Both.a.value ++ r) (append-nil w.in-Both.b.value)
           ∙ sym (ap content_steps w.in-Both.is) ∙ c.self.view_is in
           rw w.found-is
           (rw (w.deref-in-Both.ensures, w.deref-in-Both-2.ensures, parts) at w.in_ok-resolve-in-Both.ensures)
       | else-at-self w ↦ elim w.else-at-self.branch [
-        | else-at-self-via-then-at-self+else-finds v ↦ inl (rw w.found-is
-            (found_none s steps c.args.at from to old v.finds.result (v.finds.ensures ∙ knows.found s)
-            v.if-finds.false))
+        | else-at-self-via-then-at-self+else-may_find v ↦ inl (rw w.found-is
+            (found_none s steps c.args.at from to old (finds c.deref-known.result.now s) (knows.found s)
+            (v.may_find.ensures v.if-may_find.false)))
         | else-at-self-via-else-at-self v ↦
             let before : c.args.at + length steps < from = omega (arith, v.if-at-self.false, len) in
             inl (rw w.found-is (found_before s steps c.args.at from to old before))
