@@ -1,11 +1,12 @@
 -- What a look-up finds in a list whose keys rise.
 use Rattle.std.proofs.Common.{◌≡◌, ℕ, zero, suc, ◌+◌, ◌<◌, ◌≤◌, ◌≢◌, List, [], ◌∷◌, length, get_or, None, Result, Ok}
-use Rattle.std.proofs.Common.{Err, IfOk, IfErr, option_map, slice_get, refl, sym, ap, arith}
+use Rattle.std.proofs.Common.{Err, IfOk, IfErr, option_map, slice_get, refl, sym, ap, ◌∙◌, arith}
 use Rattle.std.specs.List.Sorted.{IsSearchInRange, IsBinarySearchResult, IsNonDecreasingBy}
 use Rattle.std.specs.Ordering.{nat_cmp, ordering_index}
 use Rattle.std.proofs.lemmas.Cmp.{ranked}
 use Rattle.std.proofs.lemmas.Bool.Decides.{nat_tests}
-use Rattle.cap_summary.specs.Place.{IsAt, IsGap}
+use Rattle.std.proofs.lemmas.List.{get_or_default}
+use Rattle.cap_summary.specs.Place.{IsAt, IsGap, key_at}
 use Rattle.cap_summary.specs.Sorted.{found, RisesFrom, Rises}
 
 -- no key is below the bound
@@ -59,16 +60,20 @@ found_absent ((k, v) ∷ rest) key absent =
     let later = found_absent rest key (λ i d lt. absent (suc i) d (omega arith)) in
     grind (arith, nat_tests, first, later)
 
+keys_in_order : {V : Type 0} (l : List (ℕ × V)) → Rises l → (i j : ℕ) (d : ℕ × V) → i ≤ j → j < length l
+    → (get_or l i d).0 ≤ (get_or l j d).0
+keys_in_order l rises i j d le in_range =
+    grind (arith, keys_rise 0 l rises i j d, λ (same : i ≡ j). ap (λ n. (get_or l n d).0) same)
+
 -- comparisons with a key rise along the list, as a binary search asks
 pub comparisons_rise : {V : Type 0} (l : List (ℕ × V)) (key : ℕ) → Rises l
     → IsNonDecreasingBy (λ entry. ordering_index (nat_cmp entry.0 key)) l
 comparisons_rise l key rises i j d le in_range =
-    let keys : (get_or l i d).0 ≤ (get_or l j d).0 =
-    grind (arith, keys_rise 0 l rises i j d, λ (same : i ≡ j). ap (λ n. (get_or l n d).0) same) in
+    let keys : (get_or l i d).0 ≤ (get_or l j d).0 = keys_in_order l rises i j d le in_range in
     grind (arith, nat_tests)
 
 -- a key that has a gap isn't found
-found_gap : {V : Type 0} (l : List (ℕ × V)) (key at : ℕ) → IsGap l key at → found l key ≡ None
+pub found_gap : {V : Type 0} (l : List (ℕ × V)) (key at : ℕ) → IsGap l key at → found l key ≡ None
 found_gap l key at gap = found_absent l key (λ i d lt same. grind (arith, gap.smaller i d, gap.greater i d))
 
 -- a binary search ends at the key, or at the gap for it
@@ -103,3 +108,18 @@ found_below_first key first rest rises other =
 pub found_nowhere : {V : Type 0} (l : List (ℕ × V)) (key : ℕ) → length l ≡ 0 → found l key ≡ None
 found_nowhere [] key none = refl
 found_nowhere (x ∷ rest) key none = absurd (omega arith)
+
+-- a key above one that stands at a place is above those before it; one below it is below those behind it
+pub smaller_before : {V : Type 0} (l : List (ℕ × V)) → Rises l → (key at : ℕ) (x : ℕ × V) → at < length l
+    → x ≡ get_or l at x → x.0 < key → (i : ℕ) (d : ℕ × V) → i < at + 1 → key_at l i d < key
+smaller_before {V} l rises key at x in_range is below i d lt =
+    let same : x.0 ≡ (get_or l at d).0 = ap (λ (e : ℕ × V). e.0) (is ∙ get_or_default l at x d in_range) in
+    let keys : (get_or l i d).0 ≤ (get_or l at d).0 = keys_in_order l rises i at d (omega arith) in_range in
+    omega (arith, same, keys, below)
+
+pub greater_behind : {V : Type 0} (l : List (ℕ × V)) → Rises l → (key at : ℕ) (x : ℕ × V) → at < length l
+    → x ≡ get_or l at x → key < x.0 → (i : ℕ) (d : ℕ × V) → at ≤ i → i < length l → key < key_at l i d
+greater_behind {V} l rises key at x in_range is above i d le lt =
+    let same : x.0 ≡ (get_or l at d).0 = ap (λ (e : ℕ × V). e.0) (is ∙ get_or_default l at x d in_range) in
+    let keys : (get_or l at d).0 ≤ (get_or l i d).0 = keys_in_order l rises at i d le lt in
+    omega (arith, same, keys, above)

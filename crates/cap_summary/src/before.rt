@@ -187,6 +187,11 @@ impl Asked {
     {
         self.from <= at && at <= self.to
     }
+
+    /// Whether there are few of them, beside a number of steps.
+    pub(crate) fn are_few_of(&self, steps: usize) -> bool {
+        self.to.saturating_sub(self.from) < steps / 16
+    }
 }
 
 /// Notes what is said of the line at a position.

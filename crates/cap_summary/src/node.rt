@@ -34,9 +34,6 @@ const RUN_STEPS: usize = 48;
 /// Something is known of all that are no more steps than this.
 const KNOWN_STEPS: usize = 256;
 
-/// Of so many steps, one is few: then it isn't asked whether something is found in all of them.
-const STEPS_ASKED: usize = 16;
-
 #[cycle(node)]
 #[derive(Drop)]
 pub(crate) struct Node {
@@ -330,15 +327,16 @@ impl Node {
         }
     }
 
-    /// Whether something may be found in the steps from this state. Where few of them are asked for it isn't looked at: to
-    /// go down to those takes less than to ask about all.
-    fn may_find(&self, known: &Known, before: &Before<'_>, asked: &Asked) -> bool
+    /// Whether something may be found in the steps, of which this is known: a no is sure. Where few of many steps are asked
+    /// for, it answers yes without a look, since to go down to these steps takes less than to ask each condition of them
+    /// all.
+    fn may_find(&self, before: &Before<'_>, known: &Known, asked: &Asked) -> bool
         ensures { result ≡ false → finds known.now (state_before before.now) ≡ false }
     {
-        if asked.to.saturating_sub(asked.from) < self.len / STEPS_ASKED {
-            return true;
+        match &self.content {
+            Content::Both(_, _) if asked.are_few_of(self.len) => true,
+            _ => before.finds(known),
         }
-        before.finds(known)
     }
 
     /// Notes what is found in the steps and then in the rest, which begin in this state behind so many others, at the
@@ -364,7 +362,7 @@ impl Node {
         }
         if let Some(known) = &self.known {
             let known: &Known = known;
-            if at + self.len >= asked.from && self.may_find(known, before, asked) {
+            if at + self.len >= asked.from && self.may_find(before, known, asked) {
                 match &self.content {
                     Content::Run(run) => judge_run(run, before, at, asked, found)?,
                     Content::Both(a, b) => {

@@ -1,6 +1,6 @@
 //! The place of a key among sorted entries.
-ghost use Rattle.std.specs.Prelude.{◌≡◌, true, Some, None, slice_get, option_map, IfOk, IfErr};
-ghost use Rattle.cap_summary.specs.Place.{IsAt, IsGap};
+ghost use Rattle.std.specs.Prelude.{◌≡◌, ℕ, ◌<◌, ◌≤◌, length, true, Some, None, slice_get, option_map, IfOk, IfErr};
+ghost use Rattle.cap_summary.specs.Place.{IsAt, IsGap, key_at};
 ghost use Rattle.cap_summary.specs.Sorted.{found, Rises};
 
 /// The index of the entry that has the key, or else where it would go. Halves the entries at each step.
@@ -25,7 +25,42 @@ fn is_at<V>(entries: &[(u32, V)], key: u32, at: usize) -> bool
     entries[at].0 == key
 }
 
-/// The same as [`place_of`]. It looks at one place first.
+/// Whether the keys before a place are smaller.
+fn are_smaller<V>(entries: &[(u32, V)], key: u32, at: usize) -> bool
+    requires rising { Rises entries.now }
+    requires within { at ≤ length entries.now }
+    ensures { result ≡ true → (i : ℕ) (d : ℕ × V) → i < at → key_at entries.now i d < key }
+{
+    if at == 0 {
+        return true;
+    }
+    entries[at - 1].0 < key
+}
+
+/// Whether those from a place on are greater.
+fn are_greater<V>(entries: &[(u32, V)], key: u32, at: usize) -> bool
+    requires { Rises entries.now }
+    ensures { result ≡ true
+        → (i : ℕ) (d : ℕ × V) → at ≤ i → i < length entries.now → key < key_at entries.now i d }
+{
+    if at >= entries.len() {
+        return true;
+    }
+    key < entries[at].0
+}
+
+/// Whether the key would go to a place, between the entry before it and the one that stands there.
+fn is_gap<V>(entries: &[(u32, V)], key: u32, at: usize) -> bool
+    requires { Rises entries.now }
+    ensures { result ≡ true → IsGap entries.now key at }
+{
+    if at > entries.len() || !are_smaller(entries, key, at) {
+        return false;
+    }
+    are_greater(entries, key, at)
+}
+
+/// The same as [`place_of`]. It looks at one place first, and whether the key would go there.
 pub(super) fn place_near<V>(entries: &[(u32, V)], key: u32, near: usize) -> Result<usize, usize>
     requires { Rises entries.now }
     ensures at { IfOk result (IsAt entries.now key) }
@@ -35,6 +70,9 @@ pub(super) fn place_near<V>(entries: &[(u32, V)], key: u32, near: usize) -> Resu
 {
     if is_at(entries, key, near) {
         return Ok(near);
+    }
+    if is_gap(entries, key, near) {
+        return Err(near);
     }
     place_of(entries, key)
 }
