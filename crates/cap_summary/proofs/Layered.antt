@@ -1,6 +1,6 @@
 -- Cells in two layers: what is handed on, and what stands behind a change.
-use Rattle.std.proofs.Common.{◌≡◌, ℕ, ◌≤◌, List, Option, Some, None, Bool, true, false, cond, length, refl, sym, ap, ◌∙◌, ◌||◌}
-use Rattle.std.specs.Prelude.{option_map, option_and_then, is_some}
+use Rattle.std.proofs.Common.{◌≡◌, ℕ, Option, Some, None, Bool, true, false, cond, refl, sym, ap, ◌∙◌, ◌||◌}
+use Rattle.std.specs.Prelude.{option_map, option_and_then}
 use Rattle.cap_machine.specs.declared.cell.OnExec.TheVariants.{Set, Clear, Unsure}
 use Rattle.cap_machine.specs.declared.cell.Cell.{Cell}
 use Rattle.cap_machine.specs.declared.cell.Cell.TheVariants.{Unknown, Closed, Held}
@@ -16,7 +16,7 @@ use Rattle.cap_summary.specs.declared.values.Passing.{Passing}
 use Rattle.cap_summary.specs.declared.values.Passing.TheVariants as passings
 use Rattle.cap_summary.specs.declared.change.Change.{Change}
 use Rattle.cap_summary.specs.declared.layers.Parts.{Parts}
-use Rattle.cap_summary.specs.Sorted.{found, Rises}
+use Rattle.cap_summary.specs.Sorted.{found}
 use Rattle.cap_summary.specs.Values.{op_on, passing_op, passed_on, is_from}
 use Rattle.cap_summary.specs.Tables.{or_else, kept_values, parts_value, Hides}
 use Rattle.cap_summary.specs.Changes.{value_of}
@@ -128,33 +128,59 @@ handed_layers first later both c d e f t l n is same_as from =
     ap (λ (b : Bool). or_else n (given b (passing_op both) l)) from
     ∙ handed (is_from c f) (is_from d f) (passing_op first) (passing_op later) (passing_op both) t l n is same_as
 
--- a lower table behind a change
-pub moves : (a : Change) (passing : Passing) (old new : Option Value) → new ≡ option_map (under a) old
-    → option_map (op_on (passing_op passing)) new ≡ option_map (under a) (option_map (op_on (passing_op passing)) old)
-moves a passing None new is = rw is refl
-moves a passing (Some v) new is = rw is (ap Some (passed_under a passing v))
+-- a lower table behind a change, over another one, however both are handed on
+pub lowers : (a : Change) (passing : Passing) (below lower new : Option Value)
+    → new ≡ or_else (option_map (under a) lower) below
+    → option_map (op_on (passing_op passing)) new
+    ≡ or_else (option_map (under a) (option_map (op_on (passing_op passing)) lower))
+    (option_map (op_on (passing_op passing)) below)
+lowers a passing below None new is = rw is refl
+lowers a passing below (Some v) new is = rw is (ap Some (passed_under a passing v))
 
-moved_lower : (a : Change) (b : Bool) (op : Op) (old new : Option Value)
-    → option_map (op_on op) new ≡ option_map (under a) (option_map (op_on op) old)
-    → given b op new ≡ option_map (under a) (given b op old)
-moved_lower a true op None None is = refl
-moved_lower a true op None (Some w) is = refl
-moved_lower a true op (Some v) None is = refl
-moved_lower a true op (Some v) (Some w) is = refl
-moved_lower a false op None None is = refl
-moved_lower a false op None (Some w) is = is
-moved_lower a false op (Some v) None is = is
-moved_lower a false op (Some v) (Some w) is = is
+-- one that was made before, of tables that are alike
+pub made_before : (a : Change) (b below l lower n new : Option Value) → b ≡ below → l ≡ lower → new ≡ n
+    → n ≡ or_else (option_map (under a) l) b → new ≡ or_else (option_map (under a) lower) below
+made_before a b below l lower n new same_below same_lower same_new is = rw (← same_below, ← same_lower, same_new) is
 
--- layers behind a change
-pub moved_layers : (a : Change) (passing : Passing) (closed_from : Option ℕ) (f : ℕ) (t l n m : Option Value)
+-- one that stays as it is, where there is none below
+pub stays_lowered : (a : Change) (passing : Passing) (below lower new : Option Value) → below ≡ None → new ≡ lower
+    → Stays a passing lower
+    → option_map (op_on (passing_op passing)) new
+    ≡ or_else (option_map (under a) (option_map (op_on (passing_op passing)) lower))
+    (option_map (op_on (passing_op passing)) below)
+stays_lowered a passing below lower new none is stays =
+    rw (none, is) (sym (or_none (option_map (under a) (option_map (op_on (passing_op passing)) lower)) ∙ stays))
+
+all_closed : (op : Op) (o : Option Value) → given true op o ≡ None
+all_closed op None = refl
+all_closed op (Some v) = refl
+
+none_closed : (op : Op) (o : Option Value) → given false op o ≡ option_map (op_on op) o
+none_closed op None = refl
+none_closed op (Some v) = refl
+
+given_over : (a : Change) (b : Bool) (op : Op) (below lower new : Option Value)
+    → option_map (op_on op) new ≡ or_else (option_map (under a) (option_map (op_on op) lower)) (option_map (op_on op) below)
+    → given b op new ≡ or_else (option_map (under a) (given b op lower)) (given b op below)
+given_over a true op below lower new is = all_closed op new
+    ∙ sym (ap (λ (o : Option Value). or_else (option_map (under a) o) (given true op below)) (all_closed op lower)
+    ∙ all_closed op below)
+given_over a false op below lower new is = none_closed op new ∙ is
+    ∙ sym (ap (λ (o : Option Value). or_else (option_map (under a) o) (given false op below)) (none_closed op lower)
+    ∙ ap (or_else (option_map (under a) (option_map (op_on op) lower))) (none_closed op below))
+
+-- layers behind a change, over those of another lower table
+pub layers_over : (a : Change) (passing : Passing) (closed_from : Option ℕ) (f : ℕ) (t l below n m : Option Value)
     → n ≡ option_map (under a) t
-    → option_map (op_on (passing_op passing)) m ≡ option_map (under a) (option_map (op_on (passing_op passing)) l)
+    → option_map (op_on (passing_op passing)) m
+    ≡ or_else (option_map (under a) (option_map (op_on (passing_op passing)) l))
+    (option_map (op_on (passing_op passing)) below)
     → or_else n (option_and_then (passed_on passing closed_from f) m)
-    ≡ option_map (under a) (or_else t (option_and_then (passed_on passing closed_from f) l))
-moved_layers a passing closed_from f (Some v) l n m is lower = rw is refl
-moved_layers a passing closed_from f None l n m is lower =
-    rw is (moved_lower a (is_from closed_from f) (passing_op passing) l m lower)
+    ≡ or_else (option_map (under a) (or_else t (option_and_then (passed_on passing closed_from f) l)))
+    (option_and_then (passed_on passing closed_from f) below)
+layers_over a passing closed_from f (Some v) l below n m is lower = rw is refl
+layers_over a passing closed_from f None l below n m is lower =
+    rw is (given_over a (is_from closed_from f) (passing_op passing) below l m lower)
 
 -- ---- the tables of cells
 

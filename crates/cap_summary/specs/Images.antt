@@ -6,8 +6,9 @@ use Rattle.cap_summary.specs.declared.values.Value.TheVariants as value
 use Rattle.cap_summary.specs.declared.change.Change.{Change}
 use Rattle.cap_summary.specs.Values.{op_on, passing_op}
 use Rattle.cap_summary.specs.declared.kept.Kept.{Kept}
+use Rattle.cap_summary.specs.declared.layers.Lowered.{Lowered}
 use Rattle.cap_summary.specs.Sorted.{found}
-use Rattle.cap_summary.specs.Tables.{kept_values}
+use Rattle.cap_summary.specs.Tables.{kept_values, or_else}
 use Rattle.cap_summary.specs.Changes.{value_of}
 
 -- behind a change
@@ -20,8 +21,18 @@ abbrev pub Stays : Change → Passing → Option Value → Type 0
 Stays change passing o = option_map (under change) (option_map (op_on (passing_op passing)) o)
     ≡ option_map (op_on (passing_op passing)) o
 
--- the values of a table behind a change are those of another, however they are handed on
-abbrev pub MovesTo : Change → List (ℕ × Kept) → List (ℕ × Kept) → Type 0
-MovesTo change old new = (passing : Passing) (f : ℕ)
+-- a table that has the values of one behind a change, and below them those of another
+abbrev pub StandsOver : Change → List (ℕ × Kept) → List (ℕ × Kept) → List (ℕ × Kept) → Type 0
+StandsOver change below lower new = (f : ℕ) → kept_values (found new f)
+    ≡ or_else (option_map (under change) (kept_values (found lower f))) (kept_values (found below f))
+
+-- the same, however they are handed on
+abbrev pub LowersTo : Change → List (ℕ × Kept) → List (ℕ × Kept) → List (ℕ × Kept) → Type 0
+LowersTo change below lower new = (passing : Passing) (f : ℕ)
     → option_map (op_on (passing_op passing)) (kept_values (found new f))
-    ≡ option_map (under change) (option_map (op_on (passing_op passing)) (kept_values (found old f)))
+    ≡ or_else (option_map (under change) (option_map (op_on (passing_op passing)) (kept_values (found lower f))))
+    (option_map (op_on (passing_op passing)) (kept_values (found below f)))
+
+-- a table that was made so
+abbrev pub IsLowered : Change → Lowered → Type 0
+IsLowered change l = StandsOver change l.below l.lower l.new

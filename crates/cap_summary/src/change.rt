@@ -1,17 +1,19 @@
 //! What becomes of each cell and mode over a segment.
 
-ghost use Rattle.std.specs.Prelude.{◌≡◌, ℕ, ◌≤◌, ◌&&◌, true, None, IfOk, IfSome, IfNone, List, length};
+ghost use Rattle.std.specs.Prelude.{◌≡◌, ℕ, ◌≤◌, ◌&&◌, true, None, IfOk, OnOk, IfSome, IfNone, List, length};
 ghost use Rattle.cap_machine.specs.Op.{same};
 ghost use Rattle.cap_machine.specs.State.{State};
 ghost use Rattle.cap_summary.specs.Values.{read_cell, read_mode, unlisted, rest_untouched, is_own};
 ghost use Rattle.cap_summary.specs.Changes.{value_at, value_in, value_of, mode_of, changed, JoinsProcess, JoinsTo};
 ghost use Rattle.cap_summary.specs.Changes.{untouched_at, is_untouched, is_unturned};
-ghost use Rattle.cap_summary.specs.Images.{under};
+ghost use Rattle.cap_summary.specs.Images.{under, IsLowered};
+ghost use Rattle.std.specs.List.{All};
 ghost use Rattle.cap_summary.specs.Tables.{listed_value, process_at, listed_process, process_of};
 ghost use Rattle.cap_summary.specs.Tables.{seen_value};
 ghost use Rattle.cap_summary.specs.Names.{Names, cell_within, others_within, mode_within, these, ChangeWithin};
 
 use crate::kept::{Listed, Seen};
+use crate::layers::Lowered;
 use crate::tables::{Cells, Processes};
 use crate::values::{Base, ModeValue, Others, Value, lower_of};
 use cap_machine::Op;
@@ -247,16 +249,36 @@ impl Change {
     }
 
     /// A process that stands behind this change.
-    fn process_under(&self, alloc: Global, process: &ProcessRef<'_>) -> Result<Process, NoMemory>
+    fn process_under(
+        &self,
+        alloc: Global,
+        process: &ProcessRef<'_>,
+        made: &[Lowered],
+    ) -> Result<Process, NoMemory>
+        requires { All (IsLowered self.now) made.now }
         ensures { IfOk result (λ new. JoinsProcess self.now (process_of process.now) new) }
     {
         let (base, first) = self.base_under(alloc, &process.base)?;
-        let cells = first.under(alloc, process.cells, self)?;
+        let cells = first.under(alloc, process.cells, self, made)?;
         Ok(Process {
             base,
             mode: self.mode_under(&process.mode),
             cells,
         })
+    }
+
+    /// Adds what becomes of the lower table of a process that stands behind this change.
+    pub(crate) fn note_lowered(
+        &self,
+        alloc: Global,
+        process: &ProcessRef<'_>,
+        made: &mut Vec<Lowered>,
+    ) -> Result<(), NoMemory>
+        requires { All (IsLowered self.now) made.old.items }
+        ensures { OnOk result (All (IsLowered self.now) made.new.items) }
+    {
+        let (_, below) = self.base_under(alloc, &process.base)?;
+        process.cells.note_lowered(alloc, &below, self, made)
     }
 
     /// The same change, shared.
@@ -273,7 +295,9 @@ impl Change {
         alloc: Global,
         pid: Pid,
         listed: &Listed,
+        made: &[Lowered],
     ) -> Result<Listed, NoMemory>
+        requires { All (IsLowered self.now) made.now }
         ensures { IfOk result
             (λ new. JoinsProcess self.now (listed_process pid listed.now) (listed_process pid new)) }
     {
@@ -281,7 +305,7 @@ impl Change {
         if process.stays_behind(self) {
             return listed.share();
         }
-        let new = self.process_under(alloc, &process)?;
+        let new = self.process_under(alloc, &process, made)?;
         Listed::of(alloc, pid, new)
     }
 

@@ -2,12 +2,14 @@
 
 ghost use Rattle.std.specs.Prelude.{◌≡◌, ℕ, true, IfOk, option_map, option_and_then};
 ghost use Rattle.cap_summary.specs.Tables.{kept_value, seen_value, listed_process, process_of};
-ghost use Rattle.cap_summary.specs.Images.{under};
+ghost use Rattle.cap_summary.specs.Images.{under, IsLowered};
+ghost use Rattle.std.specs.List.{All};
 ghost use Rattle.cap_summary.specs.Values.{unlisted, op_on, passing_op};
 ghost use Rattle.cap_summary.specs.Changes.{value_in};
 ghost use Rattle.cap_machine.specs.Op.{same, exec};
 
 use crate::change::{Change, Near, Process, ProcessRef};
+use crate::layers::Lowered;
 use crate::sorted::Combine;
 use crate::tables::Cells;
 use crate::values::{Base, ModeValue, Passing, Value, is_closed};
@@ -377,6 +379,9 @@ impl Listed {
 #[derive(Clone, Copy)]
 pub(crate) struct Joining<'a> {
     pub(crate) change: &'a Change,
+    /// Tables that stand behind the change over others.
+    pub(crate) made: &'a [Lowered],
+    ghost lowered: { All (IsLowered change.now) made.now },
 }
 
 impl Combine for Joining<'_> {
@@ -398,7 +403,7 @@ impl Combine for Joining<'_> {
     }
 
     fn right(&self, alloc: Global, pid: u32, right: &Listed) -> Result<Option<Listed>, NoMemory> {
-        Ok(Some(self.change.shared_under(alloc, pid, right)?))
+        Ok(Some(self.change.shared_under(alloc, pid, right, self.made)?))
     }
 
     fn both(

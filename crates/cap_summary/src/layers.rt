@@ -1,9 +1,10 @@
 //! Cells in two layers: a small table over a large one that other processes share.
 
-ghost use Rattle.std.specs.Prelude.{◌≡◌, ℕ, true, [], IfOk, option_map, option_and_then, is_some};
+ghost use Rattle.std.specs.Prelude.{◌≡◌, ℕ, true, None, [], IfOk, OnOk, IfSome, option_map, option_and_then, is_some};
+ghost use Rattle.std.specs.List.{All};
 ghost use Rattle.cap_summary.specs.Sorted.{found, Rises};
 ghost use Rattle.cap_summary.specs.Tables.{kept_values, seen_value, or_else, parts_value, layered_value, passed_value};
-ghost use Rattle.cap_summary.specs.Images.{under, Stays, MovesTo};
+ghost use Rattle.cap_summary.specs.Images.{under, Stays, StandsOver, LowersTo, IsLowered};
 ghost use Rattle.cap_summary.specs.Values.{passed_on, passing_op, op_on};
 
 use crate::change::{Change, Near};
@@ -197,20 +198,58 @@ impl Layers {
         })
     }
 
-    /// These cells behind a change.
-    pub(crate) fn moved(&self, alloc: Global, change: &Change) -> Result<Layers, NoMemory>
-        ensures { IfOk result
-            (λ new. (f : ℕ) → layered_value new f ≡ option_map (under change.now) (layered_value self.now f)) }
+    /// These cells behind a change, and below them those of a table that are handed on as the lower table's are.
+    pub(crate) fn over(
+        &self,
+        alloc: Global,
+        below: &Table<Kept>,
+        change: &Change,
+        made: &[Lowered],
+    ) -> Result<Layers, NoMemory>
+        requires { All (IsLowered change.now) made.now }
+        ensures { IfOk result (λ new. (f : ℕ) → layered_value new f
+            ≡ or_else (option_map (under change.now) (layered_value self.now f))
+            (passed_value self.now.passing self.now.closed_from below.now f)) }
     {
         let entries = self.top.entries();
         let top = merge(alloc, &Moving { change }, &[], entries)?;
-        let lower = moved(alloc, &self.lower, change)?;
+        let lower = lower_over(alloc, below, &self.lower, change, made)?;
         Ok(Layers {
             top,
             lower,
             passing: self.passing,
             closed_from: self.closed_from,
         })
+    }
+
+    /// The lower table.
+    pub(crate) fn lower(&self) -> &Table<Kept> {
+        &self.lower
+    }
+
+    /// How it is handed on.
+    pub(crate) fn handing(&self) -> Handing
+        ensures passing { result.passing ≡ self.now.passing }
+        ensures closed { result.closed_from ≡ self.now.closed_from }
+    {
+        Handing {
+            passing: self.passing,
+            closed_from: self.closed_from,
+        }
+    }
+
+    /// The lower table, where no other cell is listed and it is handed on so.
+    pub(crate) fn lower_alone(&self, handing: Handing) -> Option<&Table<Kept>>
+        ensures { IfSome result (λ lower. (f : ℕ)
+            → passed_value handing.passing handing.closed_from lower.now f ≡ layered_value self.now f) }
+    {
+        if !self.top.is_empty() {
+            return None;
+        }
+        if self.passing != handing.passing || self.closed_from != handing.closed_from {
+            return None;
+        }
+        Some(&self.lower)
     }
 
     /// These cells, and over them others behind a change.
@@ -246,22 +285,122 @@ impl Layers {
     }
 }
 
+/// A table that stands behind a change over another one.
+#[derive(Drop)]
+pub(crate) struct Lowered {
+    below: Table<Kept>,
+    lower: Table<Kept>,
+    new: Table<Kept>,
+}
+
+/// The most of them that are kept for one change.
+const MOST: usize = 4;
+
+impl Lowered {
+    fn new(
+        alloc: Global,
+        below: Table<Kept>,
+        lower: Table<Kept>,
+        change: &Change,
+    ) -> Result<Lowered, NoMemory>
+        ensures { IfOk result (IsLowered change.now) }
+    {
+        let (first, second) = (below.entries(), lower.entries());
+        let new = merge(alloc, &Moving { change }, first, second)?;
+        Ok(Lowered { below, lower, new })
+    }
+
+    /// Whether it was made of such tables. No is a safe answer.
+    fn is_of(&self, below: &[(u32, Kept)], lower: &[(u32, Kept)]) -> bool
+        ensures below { result ≡ true
+            → (f : ℕ) → kept_values (found self.now.below f) ≡ kept_values (found below.now f) }
+        ensures lower { result ≡ true
+            → (f : ℕ) → kept_values (found self.now.lower f) ≡ kept_values (found lower.now f) }
+    {
+        are_like(self.lower.entries(), lower) && are_like(self.below.entries(), below)
+    }
+}
+
+/// Whether one of them was made of such tables.
+fn is_made(made: &[Lowered], below: &[(u32, Kept)], lower: &[(u32, Kept)]) -> bool {
+    for one in made {
+        if one.is_of(below, lower) {
+            return true;
+        }
+    }
+    false
+}
+
+/// Adds what becomes of a table that stands behind a change over another one, so that several processes share it.
+pub(crate) fn note_lowered(
+    alloc: Global,
+    below: Table<Kept>,
+    lower: &Table<Kept>,
+    change: &Change,
+    made: &mut Vec<Lowered>,
+) -> Result<(), NoMemory>
+    requires { All (IsLowered change.now) made.old.items }
+    ensures { OnOk result (All (IsLowered change.now) made.new.items) }
+{
+    if made.len() >= MOST || is_made(made, below.entries(), lower.entries()) {
+        return Ok(());
+    }
+    let lower = same_table(lower)?;
+    let new = Lowered::new(alloc, below, lower, change)?;
+    made.push(new)?;
+    Ok(())
+}
+
+/// A table behind a change, over another one; shared where it was made before.
+pub(crate) fn made_of(
+    alloc: Global,
+    below: &[(u32, Kept)],
+    lower: &[(u32, Kept)],
+    change: &Change,
+    made: &[Lowered],
+) -> Result<Table<Kept>, NoMemory>
+    requires below { Rises below.now }
+    requires lower { Rises lower.now }
+    requires made { All (IsLowered change.now) made.now }
+    ensures { IfOk result (StandsOver change.now below.now lower.now) }
+{
+    for one in made {
+        if one.is_of(below, lower) {
+            return same_table(&one.new);
+        }
+    }
+    merge(alloc, &Moving { change }, below, lower)
+}
+
+fn are_none(entries: &[(u32, Kept)]) -> bool
+    ensures { result ≡ true → (f : ℕ) → kept_values (found entries.now f) ≡ None }
+{
+    entries.is_empty()
+}
+
+/// The same of a table that is handed on; shared also where it stays as it is.
+fn lower_over(
+    alloc: Global,
+    below: &Table<Kept>,
+    lower: &Table<Kept>,
+    change: &Change,
+    made: &[Lowered],
+) -> Result<Table<Kept>, NoMemory>
+    requires { All (IsLowered change.now) made.now }
+    ensures { IfOk result (LowersTo change.now below.now lower.now) }
+{
+    let (first, second) = (below.entries(), lower.entries());
+    if are_none(first) && stay_behind(second, change) {
+        return same_table(lower);
+    }
+    made_of(alloc, first, second, change, made)
+}
+
 fn same_table(table: &Table<Kept>) -> Result<Table<Kept>, NoMemory>
     ensures { IfOk result (λ same. same ≡ table.now) }
 {
     let same = table.clone()?;
     Ok(same)
-}
-
-/// A lower table behind a change, shared where it stays as it is.
-fn moved(alloc: Global, lower: &Table<Kept>, change: &Change) -> Result<Table<Kept>, NoMemory>
-    ensures { IfOk result (λ new. MovesTo change.now lower.now new) }
-{
-    let entries = lower.entries();
-    if stay_behind(entries, change) {
-        return same_table(lower);
-    }
-    merge(alloc, &Moving { change }, &[], entries)
 }
 
 /// Whether the values of all entries stand behind a change as they are, also where they are handed on. No is a safe

@@ -1,21 +1,25 @@
 //! Tables of cells and of processes. No other module knows how they are kept: each call here says what its look-ups
 //! answer. A table never changes, and what a call leaves as it was is shared.
 
-ghost use Rattle.std.specs.Prelude.{◌≡◌, ℕ, ◌≤◌, ◌==◌, if◌then◌else◌, None, Some, true, OnOk, IfOk, List, length};
+ghost use Rattle.std.specs.Prelude.{◌≡◌, ℕ, ◌≤◌, ◌==◌, if◌then◌else◌, None, Some, true, OnOk, IfOk, IfSome, List, length};
 ghost use Rattle.std.specs.Prelude.{option_map, option_and_then, is_some};
 ghost use Rattle.std.specs.Option.{option_copied};
 ghost use Rattle.cap_summary.specs.Tables.{listed_value, value_so_far, process_at, process_of, listed_process};
-ghost use Rattle.cap_summary.specs.Tables.{kept_values, seen_value, layered_value, parts_value, or_else, Hides};
+ghost use Rattle.cap_summary.specs.Tables.{kept_values, seen_value, layered_value, parts_value, passed_value};
+ghost use Rattle.cap_summary.specs.Tables.{or_else, Hides};
 ghost use Rattle.cap_summary.specs.Sorted.{found, Rises};
 ghost use Rattle.cap_summary.specs.Changes.{JoinsListed, AreAlike};
-ghost use Rattle.cap_summary.specs.Images.{under};
+ghost use Rattle.cap_summary.specs.Images.{under, IsLowered};
+ghost use Rattle.std.specs.List.{All};
 ghost use Rattle.cap_summary.specs.Values.{passed_on, passing_op, op_on};
 ghost use Rattle.cap_summary.specs.Names.{is_one, these, AreWithin, ChangeWithin};
 ghost use Rattle.cap_summary.specs.Sizes.{room};
 
 use crate::change::{Change, Near, Process, ProcessRef};
 use crate::kept::{Handing, Joining, Kept, Listed, Moving, Seen};
-use crate::layers::{LARGE, Layers, Parts, Shared, are_like, has_room, stay_behind};
+use crate::layers::{
+    LARGE, Layers, Lowered, Parts, Shared, are_like, has_room, made_of, note_lowered, stay_behind,
+};
 use crate::sorted::{Builder, Filled, Table, merge};
 use crate::values::{Passing, Value};
 use cap_trace::{Fd, Pid};
@@ -157,7 +161,7 @@ impl Cells {
     /// What is seen of a descriptor that is listed. It looks first behind where an earlier look-up ended, and notes where
     /// this one did.
     #[tactic(auto, unfolding(crate::specs::Tables::listed_value))]
-    #[inline]
+    #[inline(always)]
     pub(crate) fn get_near(&self, fd: Fd, near: &mut usize) -> Option<Seen<'_>>
         ensures { (p g : ℕ) → option_map (seen_value p g) result ≡ listed_value self.now fd }
     {
@@ -327,7 +331,9 @@ impl Cells {
         alloc: Global,
         others: &Cells,
         change: &Change,
+        made: &[Lowered],
     ) -> Result<Cells, NoMemory>
+        requires { All (IsLowered change.now) made.now }
         ensures { IfOk result (λ new. (f : ℕ) → listed_value new f
             ≡ or_else (option_map (under change.now) (listed_value others.now f)) (listed_value self.now f)) }
     {
@@ -335,46 +341,54 @@ impl Cells {
             return self.share();
         }
         if !self.are_within(others) {
-            return self.beneath(alloc, others, change);
+            return self.beneath(alloc, others, change, made);
         }
         if others.stay_behind(change) {
             return others.share();
         }
-        others.moved(alloc, change)
+        others.moved(alloc, change, made)
     }
 
     /// These cells behind a change.
     #[tactic(auto, unfolding(crate::specs::Tables::listed_value))]
-    fn moved(&self, alloc: Global, change: &Change) -> Result<Cells, NoMemory>
+    fn moved(&self, alloc: Global, change: &Change, made: &[Lowered]) -> Result<Cells, NoMemory>
+        requires { All (IsLowered change.now) made.now }
         ensures { IfOk result
             (λ new. (f : ℕ) → listed_value new f ≡ option_map (under change.now) (listed_value self.now f)) }
     {
-        let moving = Moving { change };
         match &self.form {
             Form::Empty => Ok(Cells::new()),
             Form::Flat(table) => {
-                let table = merge(alloc, &moving, &[], table.entries())?;
+                let entries = table.entries();
+                let table = made_of(alloc, &[], entries, change, made)?;
                 Ok(Cells::of(table))
             }
             Form::Layered(layers) => {
-                let layers = layers.layers().moved(alloc, change)?;
+                let none = Table::empty();
+                let layers = layers.layers().over(alloc, &none, change, made)?;
                 Cells::layered(alloc, layers)
             }
         }
     }
 
-    /// The same where these may list cells that the others don't.
+    /// The same as [`Cells::under`], where these may list cells that the others don't.
     #[tactic(auto, unfolding(crate::specs::Tables::listed_value))]
-    fn beneath(&self, alloc: Global, others: &Cells, change: &Change) -> Result<Cells, NoMemory>
+    fn beneath(
+        &self,
+        alloc: Global,
+        others: &Cells,
+        change: &Change,
+        made: &[Lowered],
+    ) -> Result<Cells, NoMemory>
+        requires { All (IsLowered change.now) made.now }
         ensures { IfOk result (λ new. (f : ℕ) → listed_value new f
             ≡ or_else (option_map (under change.now) (listed_value others.now f)) (listed_value self.now f)) }
     {
-        let moving = Moving { change };
-        let over = others.flat(alloc)?;
         match &self.form {
-            Form::Flat(table) if has_room(table.len(), over.len()) => {
+            Form::Flat(table) if has_room(table.len(), others.most()) => {
+                let over = others.flat(alloc)?;
                 let entries = over.entries();
-                let top = merge(alloc, &moving, &[], entries)?;
+                let top = merge(alloc, &Moving { change }, &[], entries)?;
                 let handing = Handing {
                     passing: Passing::Same,
                     closed_from: None,
@@ -382,15 +396,92 @@ impl Cells {
                 let layers = Layers::below(top, table, handing)?;
                 Cells::layered(alloc, layers)
             }
-            Form::Layered(layers) if layers.layers().has_room(over.len()) => {
+            Form::Layered(layers) if layers.layers().has_room(others.most()) => {
+                let over = others.flat(alloc)?;
                 let layers = layers.layers().under(alloc, &over, change)?;
                 Cells::layered(alloc, layers)
             }
-            _ => {
-                let below = self.flat(alloc)?;
-                let table = merge(alloc, &moving, below.entries(), over.entries())?;
-                Ok(Cells::of(table))
+            _ => self.far_beneath(alloc, others, change, made),
+        }
+    }
+
+    /// The same where the others don't come into a small table.
+    #[tactic(auto, unfolding(crate::specs::Tables::listed_value))]
+    fn far_beneath(
+        &self,
+        alloc: Global,
+        others: &Cells,
+        change: &Change,
+        made: &[Lowered],
+    ) -> Result<Cells, NoMemory>
+        requires { All (IsLowered change.now) made.now }
+        ensures { IfOk result (λ new. (f : ℕ) → listed_value new f
+            ≡ or_else (option_map (under change.now) (listed_value others.now f)) (listed_value self.now f)) }
+    {
+        if let Form::Layered(layers) = &others.form {
+            let handing = layers.layers().handing();
+            if let Some(below) = self.as_lower(alloc, handing)? {
+                let layers = layers.layers().over(alloc, &below, change, made)?;
+                return Cells::layered(alloc, layers);
             }
+        }
+        let (below, over) = (self.flat(alloc)?, others.flat(alloc)?);
+        let (first, second) = (below.entries(), over.entries());
+        let table = made_of(alloc, first, second, change, made)?;
+        Ok(Cells::of(table))
+    }
+
+    /// A table of which these cells are handed on so.
+    #[tactic(auto, unfolding(crate::specs::Tables::listed_value))]
+    fn as_lower(&self, alloc: Global, handing: Handing) -> Result<Option<Table<Kept>>, NoMemory>
+        ensures { IfOk result (λ o. IfSome o (λ table. (f : ℕ)
+            → passed_value handing.passing handing.closed_from table f ≡ listed_value self.now f)) }
+    {
+        if let (Passing::Same, None) = (handing.passing, handing.closed_from) {
+            return Ok(Some(self.flat(alloc)?));
+        }
+        let Form::Layered(layers) = &self.form else {
+            return Ok(None);
+        };
+        match layers.layers().lower_alone(handing) {
+            Some(lower) => Ok(Some(lower.clone()?)),
+            None => Ok(None),
+        }
+    }
+
+    /// Whether they are kept in layers.
+    pub(crate) fn are_layered(&self) -> bool {
+        match &self.form {
+            Form::Layered(_) => true,
+            _ => false,
+        }
+    }
+
+    /// Adds what becomes of their lower table where these cells stand over others and behind a change, so that several
+    /// processes share it.
+    pub(crate) fn note_lowered(
+        &self,
+        alloc: Global,
+        below: &Cells,
+        change: &Change,
+        made: &mut Vec<Lowered>,
+    ) -> Result<(), NoMemory>
+        requires { All (IsLowered change.now) made.old.items }
+        ensures { OnOk result (All (IsLowered change.now) made.new.items) }
+    {
+        let Form::Layered(layers) = &self.form else {
+            return Ok(());
+        };
+        let layers = layers.layers();
+        if below.are_within(self) {
+            if self.stay_behind(change) {
+                return Ok(());
+            }
+            return note_lowered(alloc, Table::empty(), layers.lower(), change, made);
+        }
+        match below.as_lower(alloc, layers.handing())? {
+            Some(table) => note_lowered(alloc, table, layers.lower(), change, made),
+            None => Ok(()),
         }
     }
 
@@ -543,6 +634,20 @@ impl Processes {
         true
     }
 
+    /// What becomes of lower tables of these processes behind a change, where several may share it.
+    fn lowered(&self, alloc: Global, change: &Change) -> Result<Vec<Lowered>, NoMemory>
+        ensures { IfOk result (λ made. All (IsLowered change.now) made.items) }
+    {
+        let mut made = Vec::new(alloc);
+        for entry in self.table.entries() {
+            let process = entry.1.process(entry.0);
+            if process.cells.are_layered() {
+                change.note_lowered(alloc, &process, &mut made)?;
+            }
+        }
+        Ok(made)
+    }
+
     /// These processes, and over them what others are behind a change.
     #[tactic(auto, unfolding(crate::specs::Tables::process_at))]
     pub(crate) fn under(
@@ -557,9 +662,14 @@ impl Processes {
         if others.is_empty() {
             return self.share();
         }
+        let made = others.lowered(alloc, change)?;
+        let joining = Joining {
+            change,
+            made: &made,
+        };
         let table = merge(
             alloc,
-            &Joining { change },
+            &joining,
             self.table.entries(),
             others.table.entries(),
         )?;

@@ -6,12 +6,12 @@ use Rattle.cap_summary.specs.Tables.{listed_value, kept_values, form_value}
 use Rattle.cap_summary.proofs.Layered.{over_table}
 use Rattle.cap_summary.proofs.tables.Cells.beneath.Goals as goal
 
-pub returns-in-Flat : goal.returns-in-Flat
+pub returns-in_ok-layers-in-Flat : goal.returns-in_ok-layers-in-Flat
 unfolding listed_value
-returns-in-Flat c = IfOk-weaker c.layered.result _ _
+returns-in_ok-layers-in-Flat c = IfOk-weaker c.layered.result _ _
     (λ new is f. rw (ap (λ (form : Form). form_value form f) c.in-Flat.is)
-    (over_table c.args.change.now f (listed_value c.args.others.now f) (kept_values (found c.in_ok-over.over f))
+    (over_table c.args.change.now f (listed_value c.args.others.now f) (kept_values (found c.in_ok-over-in-Flat.over f))
     (kept_values (found c.in_ok-top-in-Flat.top f)) (kept_values (found c.in-Flat.table f)) (listed_value new f)
-    (c.in_ok-over.ensures f)
+    (c.in_ok-over-in-Flat.ensures f)
     (rw c.entries-entries.ensures.all at (c.in_ok-top-in-Flat.ensures.each f))
     (is f ∙ c.in_ok-layers-in-Flat.ensures f))) c.layered.ensures
