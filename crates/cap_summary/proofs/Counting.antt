@@ -19,7 +19,8 @@ use Rattle.cap_summary.specs.declared.tables.Cells.{Cells}
 use Rattle.cap_summary.specs.declared.tables.Processes.{Processes}
 use Rattle.cap_summary.specs.Sorted.{found, Rises, RisesFrom}
 use Rattle.cap_summary.specs.Place.{IsAt}
-use Rattle.cap_summary.specs.Tables.{listed_value, kept_values, process_at, listed_process, or_else, parts_value, passed_value}
+use Rattle.cap_summary.specs.Tables.{listed_value, kept_values, process_at, listed_process}
+use Rattle.cap_summary.specs.Tables.{or_else, parts_value, passed_value}
 use Rattle.cap_summary.specs.Values.{passed_on}
 use Rattle.cap_summary.specs.declared.values.Passing.{Passing}
 use Rattle.cap_summary.specs.declared.layers.Parts.{Parts}

@@ -185,7 +185,7 @@ layers_over a passing closed_from f None l below n m is lower =
 -- ---- the tables of cells
 
 -- a value that stays as it is, by how it is handed on
-plain_stays : (a : Change) (o : Option Value) → Stays a passings.Same o → option_map (under a) o ≡ o
+pub plain_stays : (a : Change) (o : Option Value) → Stays a passings.Same o → option_map (under a) o ≡ o
 plain_stays a None is = refl
 plain_stays a (Some v) is = rw (op_on-same v) at is
 
@@ -229,3 +229,10 @@ over_table a f others over top own new over_is top_is is =
     ∙ ap (λ (o : Option Value). or_else o (option_and_then (passed_on passings.Same None f) own))
     (top_is ∙ or_none (option_map (under a) over) ∙ ap (option_map (under a)) over_is)
     ∙ ap (or_else (option_map (under a) others)) (sym (passed_same f own own refl))
+
+-- a table that is shared below others that stand behind a change
+pub shared_below : (a : Change) (f : ℕ) (over below top lower : Option Value) → top ≡ option_map (under a) over
+    → lower ≡ below
+    → or_else top (option_and_then (passed_on passings.Same None f) lower) ≡ or_else (option_map (under a) over) below
+shared_below a f over below top lower top_is lower_is =
+    rw top_is (ap (or_else (option_map (under a) over)) (sym (passed_same f lower below (sym lower_is))))

@@ -24,7 +24,8 @@ use Rattle.cap_summary.specs.declared.change.Process.{Process}
 use Rattle.cap_summary.specs.declared.change.Change.{Change}
 use Rattle.cap_summary.specs.declared.kept.Kept.{Kept}
 use Rattle.cap_summary.specs.Sorted.{found}
-use Rattle.cap_summary.specs.Values.{read_cell, read_mode, unlisted, op_on, passing_op, rest_untouched, is_own, passed_on}
+use Rattle.cap_summary.specs.Values.{read_cell, read_mode, unlisted, op_on, passing_op, rest_untouched, is_own}
+use Rattle.cap_summary.specs.Values.{passed_on}
 use Rattle.cap_summary.specs.Tables.{listed_value, process_at, or_else, kept_value, kept_values, Hides}
 use Rattle.cap_summary.specs.Changes.{value_of, cell_in, mode_in, changed, JoinsProcess, JoinsTo}
 use Rattle.cap_summary.specs.Changes.{untouched_in, is_untouched, is_unturned}

@@ -57,7 +57,8 @@ Hides o n = or_else o n ≡ o
 
 -- what is handed on of a table
 abbrev pub passed_value : Passing → Option ℕ → List (ℕ × Kept) → ℕ → Option Value
-passed_value passing closed_from entries f = option_and_then (passed_on passing closed_from f) (kept_values (found entries f))
+passed_value passing closed_from entries f =
+    option_and_then (passed_on passing closed_from f) (kept_values (found entries f))
 
 -- the top's, and else what is handed on of the lower table
 abbrev pub layered_value : Layers → ℕ → Option Value

@@ -187,7 +187,11 @@ impl Kept {
         if self.stays_behind(change, &mut Near::first()) {
             return self.share();
         }
-        Kept::of(alloc, &change.under(&self.value()))
+        let value = change.under(&self.value());
+        if self.is(&value) {
+            return self.share();
+        }
+        Kept::of(alloc, &value)
     }
 }
 

@@ -98,10 +98,33 @@ impl Parts<'_> {
 
 /// Whether so many cells may stand over a table of so many: a table that is made anew takes them all.
 pub(crate) fn has_room(lower: usize, top: usize) -> bool {
-    lower >= LARGE && top <= lower / 4
+    lower >= LARGE && top <= lower / 2
 }
 
 impl Layers {
+    /// The cells of a table that others may share, and over them those of another behind a change.
+    pub(crate) fn over_shared(
+        alloc: Global,
+        below: &Table<Kept>,
+        over: &Table<Kept>,
+        change: &Change,
+        made: &[Lowered],
+    ) -> Result<Layers, NoMemory>
+        requires { All (IsLowered change.now) made.now }
+        ensures { IfOk result (λ new. (f : ℕ) → layered_value new f
+            ≡ or_else (option_map (under change.now) (kept_values (found over.now f))) (kept_values (found below.now f))) }
+    {
+        let top = top_behind(alloc, over, change)?;
+        let entries = below.entries();
+        let lower = made_of(alloc, entries, &[], change, made)?;
+        Ok(Layers {
+            top,
+            lower,
+            passing: Passing::Same,
+            closed_from: None,
+        })
+    }
+
     /// Cells over those of a table that are handed on.
     pub(crate) fn below(
         top: Table<Kept>,
@@ -211,8 +234,7 @@ impl Layers {
             ≡ or_else (option_map (under change.now) (layered_value self.now f))
             (passed_value self.now.passing self.now.closed_from below.now f)) }
     {
-        let entries = self.top.entries();
-        let top = merge(alloc, &Moving { change }, &[], entries)?;
+        let top = top_behind(alloc, &self.top, change)?;
         let lower = lower_over(alloc, below, &self.lower, change, made)?;
         Ok(Layers {
             top,
@@ -394,6 +416,18 @@ fn lower_over(
         return same_table(lower);
     }
     made_of(alloc, first, second, change, made)
+}
+
+/// The table of a top behind a change, shared where it stays as it is.
+fn top_behind(alloc: Global, top: &Table<Kept>, change: &Change) -> Result<Table<Kept>, NoMemory>
+    ensures { IfOk result (λ new. (f : ℕ)
+        → kept_values (found new f) ≡ option_map (under change.now) (kept_values (found top.now f))) }
+{
+    let entries = top.entries();
+    if stay_behind(entries, change) {
+        return same_table(top);
+    }
+    merge(alloc, &Moving { change }, &[], entries)
 }
 
 fn same_table(table: &Table<Kept>) -> Result<Table<Kept>, NoMemory>

@@ -426,9 +426,28 @@ impl Cells {
             }
         }
         let (below, over) = (self.flat(alloc)?, others.flat(alloc)?);
+        if has_room(below.len(), over.len()) {
+            return Cells::over_shared(alloc, &below, &over, change, made);
+        }
         let (first, second) = (below.entries(), over.entries());
         let table = made_of(alloc, first, second, change, made)?;
         Ok(Cells::of(table))
+    }
+
+    /// The cells of a table that others may share, and over them those of another behind a change.
+    fn over_shared(
+        alloc: Global,
+        below: &Table<Kept>,
+        over: &Table<Kept>,
+        change: &Change,
+        made: &[Lowered],
+    ) -> Result<Cells, NoMemory>
+        requires { All (IsLowered change.now) made.now }
+        ensures { IfOk result (λ new. (f : ℕ) → listed_value new f
+            ≡ or_else (option_map (under change.now) (kept_values (found over.now f))) (kept_values (found below.now f))) }
+    {
+        let layers = Layers::over_shared(alloc, below, over, change, made)?;
+        Cells::layered(alloc, layers)
     }
 
     /// A table of which these cells are handed on so.
@@ -457,6 +476,26 @@ impl Cells {
         }
     }
 
+    /// Adds the cells below, as one table, where these come over them and have no room in their top.
+    fn note_below(
+        &self,
+        alloc: Global,
+        below: &Cells,
+        change: &Change,
+        made: &mut Vec<Lowered>,
+    ) -> Result<(), NoMemory>
+        requires { All (IsLowered change.now) made.old.items }
+        ensures { OnOk result (All (IsLowered change.now) made.new.items) }
+    {
+        let Form::Layered(layers) = &below.form else {
+            return Ok(());
+        };
+        if layers.layers().has_room(self.most()) || below.are_within(self) {
+            return Ok(());
+        }
+        note_lowered(alloc, below.flat(alloc)?, &Table::empty(), change, made)
+    }
+
     /// Adds what becomes of their lower table where these cells stand over others and behind a change, so that several
     /// processes share it.
     pub(crate) fn note_lowered(
@@ -470,7 +509,7 @@ impl Cells {
         ensures { OnOk result (All (IsLowered change.now) made.new.items) }
     {
         let Form::Layered(layers) = &self.form else {
-            return Ok(());
+            return self.note_below(alloc, below, change, made);
         };
         let layers = layers.layers();
         if below.are_within(self) {
@@ -641,7 +680,7 @@ impl Processes {
         let mut made = Vec::new(alloc);
         for entry in self.table.entries() {
             let process = entry.1.process(entry.0);
-            if process.cells.are_layered() {
+            if process.cells.are_layered() || process.base.is_of_another(entry.0) {
                 change.note_lowered(alloc, &process, &mut made)?;
             }
         }

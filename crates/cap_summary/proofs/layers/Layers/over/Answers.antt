@@ -1,9 +1,6 @@
-use Rattle.std.proofs.Common.{◌∙◌}
-use Rattle.std.specs.Prelude.{option_map}
 use Rattle.cap_summary.specs.Sorted.{found}
 use Rattle.cap_summary.specs.Tables.{kept_values}
-use Rattle.cap_summary.specs.Images.{under}
-use Rattle.cap_summary.proofs.Layered.{layers_over, or_none}
+use Rattle.cap_summary.proofs.Layered.{layers_over}
 use Rattle.cap_summary.proofs.layers.Layers.over.Goals as goal
 
 pub returns : goal.returns
@@ -11,7 +8,4 @@ returns c = λ f.
     let old = c.args.self.now in
     layers_over c.args.change.now old.passing old.closed_from f (kept_values (found old.top f))
     (kept_values (found old.lower f)) (kept_values (found c.args.below.now f)) (kept_values (found c.in_ok-top.top f))
-    (kept_values (found c.in_ok-lower.lower f))
-    (rw c.entries-entries.ensures.all at (c.in_ok-top.ensures.each f)
-    ∙ or_none (option_map (under c.args.change.now) (kept_values (found old.top f))))
-    (c.in_ok-lower.ensures old.passing f)
+    (kept_values (found c.in_ok-lower.lower f)) (c.in_ok-top.ensures f) (c.in_ok-lower.ensures old.passing f)
