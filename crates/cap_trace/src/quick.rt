@@ -1,7 +1,7 @@
 //! The lines that most traces are made of, read in one pass: each field ends at the byte that follows it. What isn't
 //! read so is read with care.
 
-ghost use Rattle.std.specs.Prelude.{◌≡◌, ◌∷◌, ◌++◌, ◌<◌, IfSome, codes, Ok, length, not, position};
+ghost use Rattle.std.specs.Prelude.{◌≡◌, ◌∷◌, ◌++◌, ◌<◌, ◌^◌, IfSome, codes, Ok, length, not, position};
 ghost use Rattle.std.specs.Fmt.{decimal};
 ghost use Rattle.cap_trace.specs.Fields.{is_plain};
 ghost use Rattle.cap_trace.specs.declared.calls.Form.TheVariants as forms;
@@ -21,6 +21,7 @@ use crate::fields::plain;
 use crate::limits::{LARGEST_FD, LARGEST_PID, LONGEST_LINE};
 use crate::line::{Answer, Dir, Fd, Pid};
 use crate::names::{Head, head_of};
+use crate::number::number_of;
 use crate::quotes::cut;
 use crate::scan_fields::{command_of, dir_of, flags_of, free_of, rights_of};
 use crate::seen::{CallSeen, fcntl_kind};
@@ -36,14 +37,21 @@ fn behind(byte: u8, text: &[u8]) -> Option<&[u8]>
     }
 }
 
+/// The most digits that a process or a descriptor has.
+const MOST_DIGITS: usize = 7;
+
 /// A number before this byte, and what follows the byte.
 #[inline(always)]
 fn number_before(stop: u8, text: &[u8]) -> Option<(u32, &[u8])>
     ensures { IfSome result (λ p. text.now ≡ decimal p.0 ++ (stop ∷ p.1.now)) }
 {
     let mut number: u32 = 0;
-    for (i, byte) in text.iter().enumerate() {
-        if *byte == stop {
+    for i in 0..MOST_DIGITS + 1 {
+        if i >= text.len() {
+            return None;
+        }
+        let byte = text[i];
+        if byte == stop {
             if i == 0 || (text[0] == b'0' && i != 1) {
                 return None;
             }
@@ -52,7 +60,7 @@ fn number_before(stop: u8, text: &[u8]) -> Option<(u32, &[u8])>
         if !byte.is_ascii_digit() || number > LARGEST_FD / 10 {
             return None;
         }
-        number = number * 10 + u32::from(*byte - b'0');
+        number = number * 10 + u32::from(byte - b'0');
     }
     None
 }
@@ -142,32 +150,15 @@ fn answered(kind: Kind, tail: &[u8]) -> Option<Answer>
     }
 }
 
-/// The number, of few digits, that a text is.
+/// The number that is the whole answer.
 #[inline(always)]
-fn short_number(text: &[u8]) -> Option<u32>
-    ensures { IfSome result (λ n. text.now ≡ decimal n) }
-{
-    if text.is_empty() || (text[0] == b'0' && text.len() != 1) {
-        return None;
-    }
-    let mut number: u32 = 0;
-    for byte in text {
-        if !byte.is_ascii_digit() || number > LARGEST_FD / 10 {
-            return None;
-        }
-        number = number * 10 + u32::from(*byte - b'0');
-    }
-    Some(number)
-}
-
-/// The short number that is the whole answer.
-#[inline(always)]
-fn number_after(tail: &[u8]) -> Option<u32>
-    ensures { IfSome result (λ n. tail.now ≡ codes " RET " ++ decimal n) }
+fn number_after(tail: &[u8]) -> Option<u64>
+    ensures text { IfSome result (λ n. tail.now ≡ codes " RET " ++ decimal n) }
+    ensures fits { IfSome result (λ n. n < 2 ^ 64) }
 {
     let (word, text) = tail.split_at_checked(5)?;
     if same_text(word, b" RET ") {
-        short_number(text)
+        number_of(u64::MAX, text)
     } else {
         None
     }
@@ -179,8 +170,9 @@ fn short_answer(kind: Kind, tail: &[u8]) -> Option<Answer>
     ensures { IfSome result (λ a. answer_at kind tail.now ≡ Ok a) }
 {
     match (kind, number_after(tail)) {
-        (Kind::Count, Some(number)) => Some(Answer::Made(u64::from(number))),
+        (Kind::Count, Some(number)) => Some(Answer::Made(number)),
         (Kind::Zero, Some(0)) => Some(Answer::Made(0)),
+        (Kind::Fd, Some(fd)) if fd <= u64::from(LARGEST_FD) => Some(Answer::Made(fd)),
         _ => answered(kind, tail),
     }
 }
@@ -189,7 +181,7 @@ fn short_answer(kind: Kind, tail: &[u8]) -> Option<Answer>
 fn answer_of(name: Form, tail: &[u8]) -> Option<Answer>
     ensures { IfSome result (λ a. answer_at (row_of name).kind tail.now ≡ Ok a) }
 {
-    answered(name.row().kind, tail)
+    short_answer(name.row().kind, tail)
 }
 
 /// `name(fd)`, its descriptor and its answer.
@@ -210,7 +202,7 @@ fn fcntl(text: &[u8]) -> Option<(CallSeen<'_>, Answer)>
 {
     let (fd, rest) = fd_before(b',', text)?;
     let (command, tail) = command_before(b')', rest)?;
-    let answer = answered(fcntl_kind(command), tail)?;
+    let answer = short_answer(fcntl_kind(command), tail)?;
     Some((CallSeen::Fcntl(fd, command), answer))
 }
 
@@ -222,7 +214,7 @@ fn mmap(text: &[u8]) -> Option<(CallSeen<'_>, Answer)>
     let (fd, rest) = fd_before(b',', text)?;
     let (protection, rest) = flags_before(b',', rest)?;
     let (mapping, tail) = flags_before(b')', rest)?;
-    let answer = answered(Kind::Count, tail)?;
+    let answer = short_answer(Kind::Count, tail)?;
     Some((CallSeen::Mmap(fd, protection, mapping), answer))
 }
 
@@ -236,7 +228,7 @@ fn rights_limit(text: &[u8]) -> Option<(CallSeen<'_>, Answer)>
     let Ok(rights) = rights_of(rights) else {
         return None;
     };
-    let answer = answered(Kind::Zero, tail)?;
+    let answer = short_answer(Kind::Zero, tail)?;
     Some((CallSeen::RightsLimit(fd, rights), answer))
 }
 
@@ -247,7 +239,7 @@ fn open(text: &[u8]) -> Option<(CallSeen<'_>, Answer)>
 {
     let (path, rest) = path_before(b',', text)?;
     let (flags, tail) = flags_before(b')', rest)?;
-    let answer = answered(Kind::Fd, tail)?;
+    let answer = short_answer(Kind::Fd, tail)?;
     Some((CallSeen::Open(path, flags), answer))
 }
 
@@ -299,7 +291,7 @@ fn other<'a>(name: &'a [u8], text: &'a [u8]) -> Option<(CallSeen<'a>, Answer)>
     ensures { IfSome result (λ p. SpellsAfter (unlisted name.now) text.now (items.Call (call_seen p.0) p.1)) }
 {
     let (args, tail) = free_before(b')', text)?;
-    let answer = answered(Kind::Any, tail)?;
+    let answer = short_answer(Kind::Any, tail)?;
     Some((CallSeen::Other(name, args), answer))
 }
 
