@@ -254,9 +254,57 @@ def socketpairs(lines):
     return out[:lines]
 
 
+def chain(lines):
+    """A process is started with two hundred descriptors; it forks, and then 126 times the last child does; each child closes one.
+    And so on, with other pids while there are any."""
+    fds = ",".join(map(str, range(200)))
+    out = []
+    turn = 0
+    while len(out) < lines:
+        first = turn * 128 % 90_000 + 1
+        out.append(f"{first} @start({fds})")
+        for child in range(127):
+            out += [f"{first + child} fork() RET {first + child + 1}", f"{first + child + 1} close({child * 37 % 200}) RET 0"]
+        turn += 1
+    return out[:lines]
+
+
+def limits(lines):
+    """A process limits 120 descriptors and forks 64 times, and each child closes one; and so on, with other pids while there are
+    any."""
+    out = []
+    turn = 0
+    while len(out) < lines:
+        parent = turn * 65 % 90_000 + 1
+        out += [f"{parent} cap_rights_limit({fd},CAP_READ) RET 0" for fd in range(120)]
+        for child in range(64):
+            out += [f"{parent} fork() RET {parent + child + 1}", f"{parent + child + 1} close({child * 37 % 120}) RET 0"]
+        turn += 1
+    return out[:lines]
+
+
+def heirs(lines):
+    """The same as `socketpairs`, where the process that forks has forty descriptors above the first 64."""
+    made = socketpairs(lines)
+    return (made[:1] + [f"1 socket(0) RET {100 + fd}" for fd in range(40)] + made[1:])[:lines]
+
+
+def lineage(lines):
+    """Each process makes eighteen descriptors far from one another by nine calls, and forks; its child goes on."""
+    out = ["1 @start()"]
+    pid = 1
+    while len(out) < lines:
+        fds = scattered(18, pid)
+        child = pid + 1 if pid < LAST_PID else 1
+        out += [f"{pid} socketpair(0) RET {a},{b}" for a, b in zip(fds[::2], fds[1::2])]
+        out.append(f"{pid} fork() RET {child}")
+        pid = child
+    return out[:lines]
+
+
 def strangers(lines):
     """As many processes as there can be, of which nothing is known before; each makes twenty descriptors far from one another,
-    by ten calls. No trace of so many lines was found that takes more memory."""
+    by ten calls."""
     each = lines // LAST_PID
     out = []
     for pid in range(1, LAST_PID + 1):
@@ -358,7 +406,10 @@ def held(count, call, times):
 
 TRACES = {
     make.__name__: make
-    for make in (quiet, loud, wide, forms, mixed, crowd, hostile, pairs, spread, closes, socketpairs, strangers, starts, packed, execs, turns)
+    for make in (
+        quiet, loud, wide, forms, mixed, crowd, hostile, pairs, spread, closes, socketpairs, chain, limits, heirs, lineage, strangers, starts,
+        packed, execs, turns,
+    )
 }
 
 

@@ -15,6 +15,7 @@ pub mod ReportLines
 pub mod OneMore
 pub mod PartsOf
 pub mod FarSteps
+pub mod FewCells
 pub mod Owners
 pub mod Leaves
 pub mod Starts

@@ -6,6 +6,7 @@ pub mod Block
 pub mod Region
 pub mod High
 pub mod Far
+pub mod Few
 pub mod Tree
 pub mod Started
 pub mod Remains

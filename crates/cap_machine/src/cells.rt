@@ -10,6 +10,7 @@ ghost use Rattle.cap_machine.specs.Touch.{started};
 
 mod block;
 mod far;
+mod few;
 mod high;
 mod kind;
 mod leaf;

@@ -1,6 +1,6 @@
 //! The cells of a process without its list of `@start`.
 
-ghost use Rattle.std.specs.Prelude.{◌≡◌, ℕ, ◌+◌, ◌≤◌, OnOk, IfOk, ◌==◌, nat_le, if◌then◌else◌};
+ghost use Rattle.std.specs.Prelude.{◌≡◌, ℕ, ◌+◌, ◌≤◌, ◌<◌, OnOk, IfOk, ◌==◌, nat_le, if◌then◌else◌};
 ghost use Rattle.cap_machine.specs.Cells.Pending.{settled};
 ghost use Rattle.cap_machine.specs.Cells.Tree.{cell_in_tree};
 ghost use Rattle.cap_machine.specs.Cells.Remains.{left_at_most};
@@ -8,6 +8,7 @@ ghost use Rattle.cap_machine.specs.MayHave.{may_have};
 
 use crate::cell::Cell;
 use crate::cells::far::Far;
+use crate::cells::few::Few;
 use crate::cells::high::High;
 use crate::cells::leaf::Leaf;
 use crate::cells::pending::Pending;
@@ -18,10 +19,12 @@ use cap_rights::{NoMemory, RightSet};
 use cap_trace::Fd;
 use std::alloc::{AllocError, Global};
 
-/// One cell for each descriptor: those of the first 64 stand in one leaf, those of the others below 2 ^ 20 in a tree.
+/// One cell for each descriptor: those of the first 64 stand in one leaf, those of the others below 2 ^ 20 in a tree, or in a
+/// list over it while few of them were written.
 #[derive(Drop)]
 pub(crate) struct Tree {
     low: Shared<Leaf<64>>,
+    few: Few,
     high: Shared<High>,
     far: Far,
 }
@@ -34,6 +37,7 @@ impl Tree {
     {
         Ok(Tree {
             low: Shared::all(alloc, cell)?,
+            few: Few::none(alloc),
             high: Shared::all(alloc, cell)?,
             far: Far::all(alloc, cell),
         })
@@ -47,7 +51,7 @@ impl Tree {
         if fd < 64 {
             self.low.cell(fd as usize)
         } else if fd < 1_048_576 {
-            self.high.cell(fd as usize)
+            self.few.over(self.high.cell(fd as usize), fd)
         } else {
             self.far.cell(fd)
         }
@@ -76,10 +80,25 @@ impl Tree {
         if fd < 64 {
             self.low.write(fd as usize, cell)
         } else if fd < 1_048_576 {
-            self.high.write(fd as usize, cell)
+            self.write_high(fd, cell)
         } else {
             self.far.write(fd, cell)
         }
+    }
+
+    /// Writes one cell at or above 64, in the list while it has room.
+    #[tactic(auto, unfolding(crate::specs::Cells::Tree::cell_in_tree))]
+    fn write_high(&mut self, fd: Fd, cell: Cell) -> Result<(), NoMemory>
+        requires low { 64 ≤ fd }
+        requires high { fd < 1048576 }
+        ensures { OnOk result
+            ((f : ℕ) → cell_in_tree self.new f ≡ (if f == fd then cell else cell_in_tree self.old f)) }
+    {
+        self.few.strike(fd);
+        if self.few.has_room() {
+            return self.few.list(fd, cell);
+        }
+        self.high.write(fd as usize, cell)
     }
 
     /// Does this to each cell.
@@ -88,6 +107,7 @@ impl Tree {
         ensures { OnOk result ((f : ℕ) → cell_in_tree self.new f ≡ settled pending (cell_in_tree self.old f)) }
     {
         self.low.settle(pending);
+        self.few.settle(pending)?;
         self.high.settle(pending);
         self.far.settle(pending)
     }
@@ -100,9 +120,11 @@ impl Tree {
     {
         if fd < 64 {
             self.low.close_from(fd as usize)?;
+            self.few.strike_from(fd);
             self.high.settle(Pending::Close);
             self.far.settle(Pending::Close)
         } else if fd < 1_048_576 {
+            self.few.strike_from(fd);
             self.high.close_from(fd as usize)?;
             self.far.settle(Pending::Close)
         } else {
@@ -128,6 +150,7 @@ impl Clone for Tree {
     fn clone(&self) -> Result<Tree, AllocError> {
         Ok(Tree {
             low: self.low.clone()?,
+            few: self.few.clone()?,
             high: self.high.clone()?,
             far: self.far.clone()?,
         })

@@ -1,0 +1,136 @@
+//! The cells of a process that were written while there were few of them, in a list that stands over its tree.
+
+ghost use Rattle.std.specs.Prelude.{◌≡◌, ℕ, OnOk, IfOk, ◌==◌, nat_le, if◌then◌else◌};
+ghost use Rattle.cap_machine.specs.Cells.Pending.{settled};
+ghost use Rattle.cap_machine.specs.Cells.Few.{written, in_few};
+
+use crate::cell::Cell;
+use crate::cells::kind::{Kind, rights_of};
+use crate::cells::pending::Pending;
+use cap_rights::{NoMemory, RightSet};
+use cap_trace::Fd;
+use std::alloc::{AllocError, Global};
+
+/// The most cells that are listed: few enough to look through. A path of the tree takes as much memory as 30 of them.
+const MOST: usize = 24;
+
+/// A cell that was written.
+#[derive(Clone, Copy)]
+struct Written {
+    fd: Fd,
+    kind: Kind,
+    rights: RightSet,
+}
+
+impl Written {
+    /// What becomes of the cell of a descriptor.
+    fn on(self, cell: Cell, fd: Fd) -> Cell
+        ensures { result ≡ written self cell fd }
+    {
+        if fd == self.fd {
+            self.kind.with(self.rights)
+        } else {
+            cell
+        }
+    }
+}
+
+/// A few cells that stand over others.
+#[derive(Drop)]
+pub(crate) struct Few {
+    alloc: Global,
+    cells: Vec<Written>,
+}
+
+impl Few {
+    /// None is listed. It takes no memory.
+    pub(crate) fn none(alloc: Global) -> Few
+        ensures { (c : Cell) (f : ℕ) → in_few result c f ≡ c }
+    {
+        Few {
+            alloc,
+            cells: Vec::new(alloc),
+        }
+    }
+
+    /// The cell of a descriptor that has this one below.
+    #[tactic(auto, using(crate::proofs::FewCells::after_next))]
+    pub(crate) fn over(&self, below: Cell, fd: Fd) -> Cell
+        ensures { result ≡ in_few self.now below fd }
+    {
+        let mut cell = below;
+        for one in &self.cells {
+            cell = one.on(cell, fd);
+        }
+        cell
+    }
+
+    /// Whether one more may be listed.
+    pub(crate) fn has_room(&self) -> bool {
+        self.cells.len() < MOST
+    }
+
+    /// Lists one more.
+    #[tactic(auto, using(crate::proofs::FewCells::after_more, crate::specs::Cells::Kind::kept_cell))]
+    pub(crate) fn list(&mut self, fd: Fd, cell: Cell) -> Result<(), NoMemory>
+        ensures { OnOk result
+            ((c : Cell) (f : ℕ) → in_few self.new c f ≡ (if f == fd then cell else in_few self.old c f)) }
+    {
+        let (kind, rights) = (Kind::of(&cell), rights_of(&cell));
+        self.cells.push(Written { fd, kind, rights })?;
+        Ok(())
+    }
+
+    /// Strikes a descriptor off the list.
+    pub(crate) fn strike(&mut self, fd: Fd)
+        ensures { (c : Cell) (f : ℕ) → in_few self.new c f ≡ (if f == fd then c else in_few self.old c f) }
+    {
+        self.cells.retain(|one| one.fd != fd);
+    }
+
+    /// Strikes those from a descriptor on off the list.
+    pub(crate) fn strike_from(&mut self, fd: Fd)
+        ensures { (c : Cell) (f : ℕ) → in_few self.new c f ≡ (if nat_le fd f then c else in_few self.old c f) }
+    {
+        self.cells.retain(|one| one.fd < fd);
+    }
+
+    /// Does this to each.
+    pub(crate) fn settle(&mut self, pending: Pending) -> Result<(), NoMemory>
+        ensures { OnOk result ((c : Cell) (f : ℕ)
+            → in_few self.new (settled pending c) f ≡ settled pending (in_few self.old c f)) }
+    {
+        match pending {
+            Pending::Nothing => {}
+            Pending::Exec => *self = self.executed()?,
+            Pending::Close | Pending::Forget => *self = Few::none(self.alloc),
+        }
+        Ok(())
+    }
+
+    /// What a successful exec leaves of them.
+    fn executed(&self) -> Result<Few, NoMemory>
+        ensures { IfOk result (λ new. (c : Cell) (f : ℕ)
+            → in_few new (settled Pending.Exec c) f ≡ settled Pending.Exec (in_few self.now c f)) }
+    {
+        let mut new = Few::none(self.alloc);
+        for one in &self.cells {
+            let cell = Pending::Exec.on(one.kind.with(one.rights));
+            new.list(one.fd, cell)?;
+        }
+        Ok(new)
+    }
+}
+
+impl Clone for Few {
+    ghost use Rattle.cap_machine.specs.declared.cell.Cell.{Cell};
+
+    ghost is_clone = { λ a b. (c : Cell) (f : ℕ) → in_few b c f ≡ in_few a c f };
+
+    fn clone(&self) -> Result<Few, AllocError> {
+        Ok(Few {
+            alloc: self.alloc,
+            cells: self.cells.clone()?,
+        })
+    }
+}
