@@ -125,12 +125,11 @@ both_seen k l d e key same = ap (λ (n : ℕ). pair n (seen_of d)) key
     ∙ ap (λ (r : Base). pair l (seen (λ f. listed_value e.cells f) r d.mode)) same.base
     ∙ ap (λ (r : ModeValue). pair l (seen (λ f. listed_value e.cells f) e.base r)) same.mode
 
-pub entries_seen : (x y : ℕ × Listed) (d e : Process) → x.0 ≡ y.0 → d ≡ listed_process x.0 x.1
-    → e ≡ listed_process y.0 y.1 → IsSame d e → entry_seen process_seen x ≡ entry_seen process_seen y
-entries_seen x y d e key first second same =
-    ap (λ (r : Process). pair x.0 (seen_of r)) (sym first)
-    ∙ both_seen x.0 y.0 d e key same
-    ∙ ap (λ (r : Process). pair y.0 (seen_of r)) second
+pub entries_seen : (x y : ℕ × Listed) → x.0 ≡ y.0
+    → ((p : ℕ) → IsSame (listed_process p x.1) (listed_process p y.1))
+    → entry_seen process_seen x ≡ entry_seen process_seen y
+entries_seen x y key same = both_seen x.0 y.0 (listed_process x.0 x.1) (listed_process y.0 y.1) key
+    (subst (λ p. IsSame (listed_process x.0 x.1) (listed_process p y.1)) key (same x.0))
 
 -- ---- changes
 

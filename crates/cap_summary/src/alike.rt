@@ -1,13 +1,13 @@
 //! Whether two changes are alike, and the parts of what a table or a list of conditions keeps. Entries are compared one
 //! by one, up to the first that differs; nothing is allocated.
 
-ghost use Rattle.std.specs.Prelude.{◌≡◌, true};
-ghost use Rattle.cap_summary.specs.Tables.{kept_value, process_of};
+ghost use Rattle.std.specs.Prelude.{◌≡◌, ℕ, true};
+ghost use Rattle.cap_summary.specs.Tables.{kept_value, listed_process};
 ghost use Rattle.cap_summary.specs.Changes.{IsSame, DoSame};
 
-use crate::change::{Change, ProcessRef};
+use crate::change::{Change, Process};
 use crate::conditions::{CellTest, HeldTest, Refused, Source};
-use crate::kept::{Kept, Taken};
+use crate::kept::{Kept, Listed, Taken};
 use crate::values::{Base, Value};
 use cap_machine::{Cell, HeldOp, Op};
 
@@ -120,14 +120,27 @@ impl Kept {
     }
 }
 
-impl ProcessRef<'_> {
+impl Process {
     /// Whether another one lists the same cells, and has the same base and the same mode. No is a safe answer.
-    pub(crate) fn is_like(&self, other: &ProcessRef<'_>) -> bool
-        ensures { result ≡ true → IsSame (process_of self.now) (process_of other.now) }
+    fn is_like(&self, other: &Process) -> bool
+        ensures { result ≡ true → IsSame self.now other.now }
     {
         self.mode == other.mode
             && equal_bases(&self.base, &other.base)
-            && self.cells.is_like(other.cells)
+            && self.cells.is_like(&other.cells)
+    }
+}
+
+impl Listed {
+    /// Whether another one is the same of the process with the same pid. No is a safe answer.
+    pub(crate) fn is_like(&self, other: &Listed) -> bool
+        ensures { result ≡ true → (p : ℕ) → IsSame (listed_process p self.now) (listed_process p other.now) }
+    {
+        match (self, other) {
+            (Listed::Own(a), Listed::Own(b)) => a.is_like(b),
+            (Listed::Other(a), Listed::Other(b)) => a.is_like(b),
+            _ => false,
+        }
     }
 }
 

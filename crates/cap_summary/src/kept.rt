@@ -7,6 +7,8 @@ ghost use Rattle.std.specs.List.{All};
 ghost use Rattle.cap_summary.specs.Values.{unlisted, op_on, passing_op};
 ghost use Rattle.cap_summary.specs.Changes.{value_in};
 ghost use Rattle.cap_machine.specs.Op.{same, exec};
+ghost use Rattle.cap_machine.specs.Composed.{in_turn};
+ghost use Rattle.cap_summary.specs.declared.values.Value.TheVariants as value;
 
 use crate::change::{Change, Near, Process, ProcessRef};
 use crate::layers::Lowered;
@@ -180,18 +182,41 @@ impl Kept {
         }
     }
 
-    /// The value behind a change, shared where it stays as it is.
-    fn under(&self, alloc: Global, change: &Change) -> Result<Kept, NoMemory>
+    /// The value behind a change, shared where it is a cell that is known or stays as it is. It looks for the cell that it
+    /// comes from first where an earlier look-up ended, and notes where this one did.
+    #[inline]
+    pub(crate) fn under(
+        &self,
+        alloc: Global,
+        change: &Change,
+        near: &mut Near,
+    ) -> Result<Kept, NoMemory>
         ensures { IfOk result (λ new. kept_value new ≡ under change.now (kept_value self.now)) }
     {
-        if self.stays_behind(change, &mut Near::first()) {
-            return self.share();
+        match self {
+            Kept::Of(taken) => match change.seen(taken.pid, taken.fd, near) {
+                Seen::Same => self.share(),
+                Seen::Fixed(cell) => Ok(Kept::of_cell(&taken.op.on(cell))),
+                Seen::Taken(first) => Kept::after(alloc, first.pid, first.fd, &first.op, &taken.op),
+                Seen::Executed(first) => {
+                    let op = first.op.then(&Op::exec());
+                    Kept::after(alloc, first.pid, first.fd, &op, &taken.op)
+                }
+                Seen::Passed(pid, passing) => {
+                    Kept::after(alloc, pid, taken.fd, &passing.op(), &taken.op)
+                }
+            },
+            _ => self.share(),
         }
-        let value = change.under(&self.value());
-        if self.is(&value) {
-            return self.share();
-        }
-        Kept::of(alloc, &value)
+    }
+
+    /// What one op after another makes of a cell, to be kept.
+    #[inline(never)]
+    fn after(alloc: Global, pid: Pid, fd: Fd, first: &Op, second: &Op) -> Result<Kept, NoMemory>
+        ensures { IfOk result (λ kept. kept_value kept ≡ value.Of pid fd (in_turn first.now second.now)) }
+    {
+        let op = first.then(second);
+        Ok(Kept::Of(Rc::new(alloc, Taken { pid, fd, op })?))
     }
 }
 
@@ -265,7 +290,7 @@ impl Combine for Moving<'_> {
     }
 
     fn right(&self, alloc: Global, _fd: u32, right: &Kept) -> Result<Option<Kept>, NoMemory> {
-        Ok(Some(right.under(alloc, self.change)?))
+        Ok(Some(right.under(alloc, self.change, &mut Near::first())?))
     }
 
     fn both(

@@ -200,6 +200,17 @@ impl Layers {
         }
     }
 
+    /// Whether others have the same cells in the same layers. No is a safe answer.
+    pub(crate) fn is_like(&self, others: &Layers) -> bool
+        ensures { result ≡ true → (f : ℕ) → layered_value self.now f ≡ layered_value others.now f }
+    {
+        if self.passing != others.passing || self.closed_from != others.closed_from {
+            return false;
+        }
+        are_like(self.top.entries(), others.top.entries())
+            && are_like(self.lower.entries(), others.lower.entries())
+    }
+
     /// Whether so many cells may come over the top.
     pub(crate) fn has_room(&self, more: usize) -> bool {
         has_room(self.lower.len(), self.top.len().saturating_add(more))

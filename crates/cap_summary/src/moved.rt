@@ -137,6 +137,61 @@ fn put_moved(alloc: Global, moved: MovedSource, left: &mut Gathered) -> Result<b
     }
 }
 
+/// The same of a source of which the cell was taken so.
+#[inline(never)]
+fn put_taken(
+    alloc: Global,
+    source: &Source,
+    taken: &Taken,
+    left: &mut Gathered,
+) -> Result<bool, NoMemory>
+    ensures holds { IfOk result (λ always. (s : State)
+        → (always || any_holds s left.new) ≡ (any_holds s left.old || passes source.now.test
+        (read_cell s (value.Of taken.now.pid taken.now.fd taken.now.op)))) }
+    ensures names { OnOk result ((names : Names)
+        → value_within names (value.Of taken.now.pid taken.now.fd taken.now.op) ≡ true
+        → ConditionsWithin names left.old → ConditionsWithin names left.new) }
+{
+    put_moved(alloc, source_taken(source, taken), left)
+}
+
+/// The same where an exec was made of that.
+#[inline(never)]
+fn put_executed(
+    alloc: Global,
+    source: &Source,
+    taken: &Taken,
+    left: &mut Gathered,
+) -> Result<bool, NoMemory>
+    ensures holds { IfOk result (λ always. (s : State)
+        → (always || any_holds s left.new) ≡ (any_holds s left.old || passes source.now.test
+        (read_cell s (value.Of taken.now.pid taken.now.fd (in_turn taken.now.op exec))))) }
+    ensures names { OnOk result ((names : Names)
+        → value_within names (value.Of taken.now.pid taken.now.fd (in_turn taken.now.op exec)) ≡ true
+        → ConditionsWithin names left.old → ConditionsWithin names left.new) }
+{
+    put_moved(alloc, source_executed(source, taken), left)
+}
+
+/// The same where the cell is that of this process, which was handed on so.
+#[inline(never)]
+fn put_passed(
+    alloc: Global,
+    source: &Source,
+    pid: Pid,
+    passing: Passing,
+    left: &mut Gathered,
+) -> Result<bool, NoMemory>
+    ensures holds { IfOk result (λ always. (s : State)
+        → (always || any_holds s left.new) ≡ (any_holds s left.old || passes source.now.test
+        (read_cell s (value.Of pid source.now.fd (passing_op passing))))) }
+    ensures names { OnOk result ((names : Names)
+        → value_within names (value.Of pid source.now.fd (passing_op passing)) ≡ true
+        → ConditionsWithin names left.old → ConditionsWithin names left.new) }
+{
+    put_moved(alloc, source_passed(source, pid, passing), left)
+}
+
 impl Change {
     /// What has become of a source behind this change.
     fn moved_source(&self, source: &Source, near: &mut Near) -> MovedSource
@@ -349,15 +404,13 @@ impl Change {
                 Ok(false)
             }
             Seen::Fixed(cell) => Ok(low.passes(cell)),
-            Seen::Taken(taken) => put_moved(alloc, source_taken(&low.source(), taken), left),
             Seen::Passed(pid, Passing::Same) => {
                 left.add_low(&low.of_process(pid))?;
                 Ok(false)
             }
-            Seen::Executed(taken) => put_moved(alloc, source_executed(&low.source(), taken), left),
-            Seen::Passed(pid, passing) => {
-                put_moved(alloc, source_passed(&low.source(), pid, passing), left)
-            }
+            Seen::Taken(taken) => put_taken(alloc, &low.source(), taken, left),
+            Seen::Executed(taken) => put_executed(alloc, &low.source(), taken, left),
+            Seen::Passed(pid, passing) => put_passed(alloc, &low.source(), pid, passing, left),
         }
     }
 

@@ -945,7 +945,7 @@ impl Gathered {
         ensures names { IfOk result (λ r. (names : Names) → ConditionsWithin names self
             → ConditionsWithin names (low_conditions r.0 ++ r.1)) }
     {
-        let lows = in_order(alloc, self.rising, &self.strays)?;
+        let lows = in_order(alloc, self.rising, self.strays)?;
         let others = Others {
             items: shared(self.others)?,
         };

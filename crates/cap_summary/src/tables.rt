@@ -315,14 +315,16 @@ impl Cells {
     }
 
     /// Whether others have the same values, by comparing their entries. No is a safe answer.
+    #[tactic(auto, unfolding(crate::specs::Tables::listed_value))]
     pub(crate) fn is_like(&self, others: &Cells) -> bool
         ensures { result ≡ true → (f : ℕ) → listed_value self.now f ≡ listed_value others.now f }
     {
-        let (own, theirs) = (self.parts(), others.parts());
-        if own.passing != theirs.passing || own.closed_from != theirs.closed_from {
-            return false;
+        match (&self.form, &others.form) {
+            (Form::Empty, Form::Empty) => true,
+            (Form::Flat(a), Form::Flat(b)) => are_like(a.entries(), b.entries()),
+            (Form::Layered(a), Form::Layered(b)) => a.layers().is_like(b.layers()),
+            _ => false,
         }
-        are_like(own.top, theirs.top) && are_like(own.lower, theirs.lower)
     }
 
     /// These cells, and over them what others are behind a change.
@@ -666,7 +668,7 @@ impl Processes {
         }
         for at in 0..own.len() {
             let (a, b) = (&own[at], &theirs[at]);
-            if a.0 != b.0 || !a.1.process(a.0).is_like(&b.1.process(b.0)) {
+            if a.0 != b.0 || !a.1.is_like(&b.1) {
                 return false;
             }
         }

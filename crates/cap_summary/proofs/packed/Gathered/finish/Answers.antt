@@ -1,6 +1,4 @@
-use Rattle.std.proofs.Common.{◌||◌, List, ap, ◌∙◌}
-use Rattle.cap_summary.specs.declared.packed.Low.{Low}
-use Rattle.cap_summary.specs.Packed.{any_low_holds, packed_conditions}
+use Rattle.cap_summary.specs.Packed.{packed_conditions}
 use Rattle.cap_summary.proofs.Gathering.{three_parts, three_within}
 use Rattle.cap_summary.proofs.packed.Gathered.finish.Goals as goal
 
@@ -9,12 +7,11 @@ returns-clause-holds c = λ s.
     let old = c.self.inside in
     rw (c.in_ok-shared.ensures, ← c.self.view_is)
     (three_parts s c.in_ok-lows.lows old.rising.items old.strays.items (packed_conditions old.others.items)
-    (c.in_ok-lows.ensures.holds s
-    ∙ ap (λ (r : List Low). any_low_holds s old.rising.items || any_low_holds s r) c.deref.ensures.value))
+    (c.in_ok-lows.ensures.holds s))
 
 pub returns-clause-names : goal.returns-clause-names
 returns-clause-names c = λ names.
     let old = c.self.inside in
     rw (c.in_ok-shared.ensures, ← c.self.view_is)
     (three_within names c.in_ok-lows.lows old.rising.items old.strays.items (packed_conditions old.others.items)
-    (λ first second. c.in_ok-lows.ensures.names names first (rw c.deref.ensures.value second)))
+    (c.in_ok-lows.ensures.names names))

@@ -1,5 +1,4 @@
 use Rattle.std.proofs.Common.{◌<◌, length, arith}
-use Rattle.cap_summary.specs.Tables.{process_of}
 use Rattle.cap_summary.proofs.Comparing.{entry_seen, process_seen, shows_more, entries_seen, processes_alike}
 use Rattle.cap_summary.proofs.tables.Processes.is_like.Goals as goal
 
@@ -9,11 +8,9 @@ loop-at-preserved c =
     let y = c.index-theirs-at.result in
     let within : c.loop-at.at < length c.entries-own.result.now = omega arith in
     let within2 : c.loop-at.at < length c.entries-theirs.result.now = omega arith in
-    let is_like = c.is_like.ensures in
     shows_more (entry_seen process_seen) c.entries-own.result.now c.entries-theirs.result.now c.loop-at.at x y within
     within2 c.index-own-at.is c.index-theirs-at.is
-    (entries_seen x y (process_of c.process.result) (process_of c.process-else-a-b.result) c.if-a-b.false
-    c.process.ensures c.process-else-a-b.ensures (is_like c.if-not-is_like.false)) c.loop-at.invariant
+    (entries_seen x y c.if-a-b.false (c.is_like.ensures c.if-not-is_like.false)) c.loop-at.invariant
 
 pub returns : goal.returns
 returns c = λ yes p. processes_alike c.args.self.now c.args.others.now c.entries-own.result.now
