@@ -20,6 +20,12 @@ use std::rc::Rc;
 /// A table with so many cells is shared where others come to stand over it.
 pub(crate) const LARGE: usize = 24;
 
+/// Over a table with so many cells as many others may stand; over a smaller one half as many.
+const WIDE: usize = 96;
+
+/// Over a wide table a top is small with at most one cell for so many of the table.
+const SMALL: usize = 16;
+
 /// Cells of a process: those of the top, and then those of the lower table that are handed on.
 #[derive(Drop)]
 pub(crate) struct Layers {
@@ -98,7 +104,8 @@ impl Parts<'_> {
 
 /// Whether so many cells may stand over a table of so many: a table that is made anew takes them all.
 pub(crate) fn has_room(lower: usize, top: usize) -> bool {
-    lower >= LARGE && top <= lower / 2
+    let most = if lower < WIDE { lower / 2 } else { lower };
+    lower >= LARGE && top <= most
 }
 
 impl Layers {
@@ -211,9 +218,12 @@ impl Layers {
             && are_like(self.lower.entries(), others.lower.entries())
     }
 
-    /// Whether so many cells may come over the top.
+    /// Whether so many cells may come over the top. Over a wide table only a small top is copied for that: else the two
+    /// become one table, which all processes that come over them share.
     pub(crate) fn has_room(&self, more: usize) -> bool {
-        has_room(self.lower.len(), self.top.len().saturating_add(more))
+        let (lower, top) = (self.lower.len(), self.top.len());
+        let is_copied = lower < WIDE || top <= lower / SMALL;
+        is_copied && has_room(lower, top.saturating_add(more))
     }
 
     /// What becomes of these cells where they are handed on.
