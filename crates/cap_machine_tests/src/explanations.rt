@@ -2,49 +2,64 @@
 
 use crate::lines::lines_of;
 use cap_machine::{
-    Cell, CellEnd, CellOrigin, Explanation, Mode, ModeEnd, ModeOrigin, NoMemory, OnExec, Profile,
-    Start, chains_are_enough, chains_skip_no_line, explain, mode_matters_where_it_decides,
-    named_lines_matter, origin_of_cell, origin_of_mode,
+    Cell, CellEnd, CellLink, CellOrigin, Explanation, Mode, ModeEnd, ModeLink, ModeOrigin,
+    NoMemory, OnExec, Profile, Start, chains_are_enough, chains_skip_no_line, explain,
+    mode_matters_where_it_decides, named_lines_matter, origin_of_cell, origin_of_mode,
 };
 use cap_rights::parse_rights;
+use cap_trace::Line;
 use std::alloc::Global;
 use std::test::Fail;
 
-/// Adds the lines of a chain of cells, as position, pid and descriptor, and how it ends.
+/// The line of a chain of cells, as position, pid and descriptor.
+fn put_cell(alloc: Global, text: &mut String, link: &CellLink) -> Result<(), NoMemory> {
+    Ok(text.push_str(&format!(in alloc; "{} {} {}, ", link.at, link.pid, link.fd)?)?)
+}
+
+/// How a chain of cells ends.
+fn put_cell_end(alloc: Global, text: &mut String, end: &CellEnd) -> Result<(), NoMemory> {
+    match end {
+        CellEnd::Given(_) => Ok(text.push_str("given; ")?),
+        CellEnd::Start(pid, fd, _) => Ok(text.push_str(&format!(in alloc; "start {pid} {fd}; ")?)?),
+    }
+}
+
 fn put_cells(alloc: Global, text: &mut String, origin: &CellOrigin) -> Result<(), NoMemory> {
     for link in &origin.links {
-        text.push_str(&format!(in alloc; "{} {} {}, ", link.at, link.pid, link.fd)?)?;
+        put_cell(alloc, text, link)?;
     }
-    match &origin.end {
-        CellEnd::Given(_) => text.push_str("given; ")?,
-        CellEnd::Start(pid, fd, _) => text.push_str(&format!(in alloc; "start {pid} {fd}; ")?)?,
-    }
-    Ok(())
+    put_cell_end(alloc, text, &origin.end)
 }
 
-/// The same of a chain of modes, with position and pid.
+/// The line of a chain of modes, as position and pid.
+fn put_mode(alloc: Global, text: &mut String, link: &ModeLink) -> Result<(), NoMemory> {
+    Ok(text.push_str(&format!(in alloc; "{} {}, ", link.at, link.pid)?)?)
+}
+
+/// How a chain of modes ends.
+fn put_mode_end(alloc: Global, text: &mut String, end: &ModeEnd) -> Result<(), NoMemory> {
+    match end {
+        ModeEnd::Given(_) => Ok(text.push_str("mode given; ")?),
+        ModeEnd::Start(pid, _) => Ok(text.push_str(&format!(in alloc; "mode start {pid}; ")?)?),
+    }
+}
+
 fn put_modes(alloc: Global, text: &mut String, origin: &ModeOrigin) -> Result<(), NoMemory> {
     for link in &origin.links {
-        text.push_str(&format!(in alloc; "{} {}, ", link.at, link.pid)?)?;
+        put_mode(alloc, text, link)?;
     }
-    match &origin.end {
-        ModeEnd::Given(_) => text.push_str("mode given; ")?,
-        ModeEnd::Start(pid, _) => text.push_str(&format!(in alloc; "mode start {pid}; ")?)?,
-    }
-    Ok(())
+    put_mode_end(alloc, text, &origin.end)
 }
 
-/// The chains of an explanation, and its findings.
-fn text_of(alloc: Global, found: &Explanation) -> Result<String, NoMemory> {
-    let mut text = String::new(alloc);
+/// The chains of an explanation, and how many findings it has.
+fn put_explanation(alloc: Global, text: &mut String, found: &Explanation) -> Result<(), NoMemory> {
     for origin in &found.cells {
-        put_cells(alloc, &mut text, origin)?;
+        put_cells(alloc, text, origin)?;
     }
     if let Some(origin) = &found.mode {
-        put_modes(alloc, &mut text, origin)?;
+        put_modes(alloc, text, origin)?;
     }
-    text.push_str(&format!(in alloc; "{}", found.verdict.len())?)?;
-    Ok(text)
+    Ok(text.push_str(&format!(in alloc; "{}", found.verdict.len())?)?)
 }
 
 /// A server whose worker gives up its rights.
@@ -71,73 +86,131 @@ const LIMITS: &[u8] =
 const RENAME: &[u8] =
     b"100 @start(3)\n100 dup(3) RET 9\n100 close(9) RET 0\n100 renameat(3,\"a\",9,\"b\") RET 0";
 
-/// Of a trace in a profile, from the usual start, the explanation of the line at a position.
-static EXPLAINED: [(&[u8], Profile, usize, &str); 12] = [
+/// A trace, a profile, a position, and what is said of the line there from the usual start, if there is such a line.
+type Row = (&'static [u8], Profile, usize, Option<&'static str>);
+
+static EXPLAINED: [Row; 14] = [
     (
         SERVER,
         Profile::One,
         9,
-        "4 201 4, 3 201 4, 2 200 4, given; 1",
+        Some("4 201 4, 3 201 4, 2 200 4, given; 1"),
     ),
     // The parent's descriptor has nothing to do with the limit.
-    (SERVER, Profile::One, 8, "2 200 4, given; 0"),
+    (SERVER, Profile::One, 8, Some("2 200 4, given; 0")),
+    (SERVER, Profile::One, 0, None),
+    (SERVER, Profile::One, 10, None),
     (
         COPIES,
         Profile::Two,
         8,
-        "6 102 7, 5 101 7, 4 101 5, 3 100 5, 2 100 3, 1 100 3, given; 1",
+        Some("6 102 7, 5 101 7, 4 101 5, 3 100 5, 2 100 3, 1 100 3, given; 1"),
     ),
-    (b"101 read(7) RET 1", Profile::One, 1, "start 101 7; 0"),
-    (MODES, Profile::One, 5, "4 102, 3 101, 2 100, mode given; 1"),
-    (MODES, Profile::One, 7, "6 300, mode given; 1"),
+    (
+        b"101 read(7) RET 1",
+        Profile::One,
+        1,
+        Some("start 101 7; 0"),
+    ),
+    (
+        MODES,
+        Profile::One,
+        5,
+        Some("4 102, 3 101, 2 100, mode given; 1"),
+    ),
+    (MODES, Profile::One, 7, Some("6 300, mode given; 1")),
     // No mode has anything to do with what is said of a read that succeeded.
-    (MODES, Profile::One, 8, "5 102 3, given; 0"),
+    (MODES, Profile::One, 8, Some("5 102 3, given; 0")),
     // The exec is named where it changed the cell.
-    (EXEC, Profile::Two, 6, "4 100 4, 2 100 4, given; 1"),
-    (EXEC, Profile::Two, 7, "5 100 5, 3 100 5, given; 1"),
-    (EXEC, Profile::One, 6, "5 100 4, given; 0"),
-    (LIMITS, Profile::One, 6, "2 100 3, 1 100 3, given; 1"),
-    (RENAME, Profile::One, 4, "1 100 3, given; 3 100 9, given; 1"),
+    (EXEC, Profile::Two, 6, Some("4 100 4, 2 100 4, given; 1")),
+    (EXEC, Profile::Two, 7, Some("5 100 5, 3 100 5, given; 1")),
+    (EXEC, Profile::One, 6, Some("5 100 4, given; 0")),
+    (LIMITS, Profile::One, 6, Some("2 100 3, 1 100 3, given; 1")),
+    (
+        RENAME,
+        Profile::One,
+        4,
+        Some("1 100 3, given; 3 100 9, given; 1"),
+    ),
 ];
+
+/// The explanation of a row's line.
+fn explained(alloc: Global, row: &Row) -> Result<Option<Explanation>, Fail> {
+    let lines = lines_of(alloc, row.0)?;
+    Ok(explain(alloc, row.1, &Start::unknown(alloc), &lines, row.2)?)
+}
+
+/// Whether this is the text of an explanation.
+fn has_text(alloc: Global, found: &Explanation, wanted: &str) -> Result<bool, NoMemory> {
+    let mut text = String::new(alloc);
+    put_explanation(alloc, &mut text, found)?;
+    Ok(text.as_str() == wanted)
+}
+
+/// Whether there is an explanation with that text, or none.
+fn is_text(
+    alloc: Global,
+    found: &Option<Explanation>,
+    wanted: Option<&str>,
+) -> Result<bool, NoMemory> {
+    match (found, wanted) {
+        (Some(found), Some(wanted)) => has_text(alloc, found, wanted),
+        (None, None) => Ok(true),
+        _ => Ok(false),
+    }
+}
+
+/// Whether the line of a row is explained so.
+fn is_explained(alloc: Global, row: &Row) -> Result<bool, Fail> {
+    Ok(is_text(alloc, &explained(alloc, row)?, row.3)?)
+}
 
 #[test]
 fn a_line_has_its_explanation(rt: HostRuntime) -> Result<(), Fail> {
-    let alloc = rt.alloc();
-    for (trace, profile, at, wanted) in EXPLAINED {
-        let lines = lines_of(alloc, trace)?;
-        let found = explain(alloc, profile, &Start::unknown(alloc), &lines, at)?;
-        let text = text_of(alloc, &found.ok_or("no such line")?)?;
-        assert_eq!(rt; text.as_str(), wanted);
+    for row in &EXPLAINED {
+        assert!(rt; is_explained(rt.alloc(), row)?, "{:?}", row.3);
     }
     Ok(())
 }
 
-#[test]
-fn a_chain_reaches_the_start(rt: HostRuntime) -> Result<(), Fail> {
-    let alloc = rt.alloc();
-    let lines = lines_of(alloc, b"100 dup(0) RET 4\n100 fork() RET 101")?;
-    let read = Cell::Held(parse_rights(b"CAP_READ")?, OnExec::Unsure);
+/// A start in which process 100 has this cell of descriptor 0, and no other.
+fn start_of(alloc: Global, cell: Cell) -> Result<Start, NoMemory> {
     let mut cells = Vec::new(alloc);
-    cells.push((0, read))?;
+    cells.push((0, cell))?;
     let mut start = Start::unknown(alloc);
     start.add(100, Mode::Outside, Cell::Closed, cells)?;
-    let origin = origin_of_cell(alloc, Profile::One, &start, &lines, 101, 4)?;
-    assert_eq!(rt; origin.end, CellEnd::Start(100, 0, read));
-    let origin = origin_of_cell(alloc, Profile::One, &start, &lines, 100, 5)?;
-    assert_eq!(rt; origin.cell, Cell::Closed);
-    let origin = origin_of_mode(alloc, Profile::One, &start, &lines, 101)?;
-    assert_eq!(rt; origin.mode, Mode::Outside);
-    assert_eq!(rt; origin.end, ModeEnd::Start(100, Mode::Outside));
-    Ok(())
+    Ok(start)
+}
+
+/// Whether a cell comes from that of the start, which is this one, and another from the others.
+fn cells_reach(alloc: Global, start: &Start, lines: &[Line], cell: Cell) -> Result<bool, NoMemory> {
+    let copied = origin_of_cell(alloc, Profile::One, start, lines, 101, 4)?;
+    let other = origin_of_cell(alloc, Profile::One, start, lines, 100, 5)?;
+    Ok(copied.end == CellEnd::Start(100, 0, cell) && other.cell == Cell::Closed)
+}
+
+/// Whether a mode comes from that of the start.
+fn mode_reaches(alloc: Global, start: &Start, lines: &[Line]) -> Result<bool, NoMemory> {
+    let origin = origin_of_mode(alloc, Profile::One, start, lines, 101)?;
+    Ok(origin.mode == Mode::Outside && origin.end == ModeEnd::Start(100, Mode::Outside))
+}
+
+/// Whether both do, of lines and from a start with this cell.
+fn chains_reach(alloc: Global, lines: &[Line], cell: Cell) -> Result<bool, NoMemory> {
+    let start = start_of(alloc, cell)?;
+    Ok(cells_reach(alloc, &start, lines, cell)? && mode_reaches(alloc, &start, lines)?)
+}
+
+/// Whether both do of a copy in a child.
+fn chains_of_a_copy_reach(alloc: Global) -> Result<bool, Fail> {
+    let read = Cell::Held(parse_rights(b"CAP_READ")?, OnExec::Unsure);
+    let lines = lines_of(alloc, b"100 dup(0) RET 4\n100 fork() RET 101")?;
+    Ok(chains_reach(alloc, &lines, read)?)
 }
 
 #[test]
-fn there_is_no_other_line(rt: HostRuntime) -> Result<(), Fail> {
-    let alloc = rt.alloc();
-    let lines = lines_of(alloc, SERVER)?;
-    let start = Start::unknown(alloc);
-    assert!(rt; explain(alloc, Profile::One, &start, &lines, 0)?.is_none());
-    assert!(rt; explain(alloc, Profile::One, &start, &lines, 10)?.is_none());
+fn a_chain_reaches_the_start(rt: HostRuntime) -> Result<(), Fail> {
+    assert!(rt; chains_of_a_copy_reach(rt.alloc())?);
     Ok(())
 }
 

@@ -1,7 +1,10 @@
 //! Lines of a trace, and the report of a checker.
 
+ghost use Rattle.cap_machine.specs.Checked.{lines_of};
+ghost use Rattle.std.specs.Prelude.{◌<◌, ◌^◌};
+
 use cap_machine::{Checker, NoMemory};
-use cap_trace::{Line, parse_fd_line, parse_line};
+use cap_trace::{Line, Unread, parse_fd_line, parse_line};
 use std::alloc::Global;
 use std::test::Fail;
 
@@ -17,13 +20,19 @@ pub fn lines_of(alloc: Global, trace: &[u8]) -> Result<Vec<Line>, Fail> {
     Ok(lines)
 }
 
-/// A checker, once it was given these lines.
-pub fn checked(mut checker: Checker, lines: &[Line]) -> Result<Checker, NoMemory> {
+/// Gives a checker these lines.
+fn check_all(checker: &mut Checker, lines: &[Line]) -> Result<(), NoMemory> {
     for line in lines {
         if checker.count() < 100 {
             checker.line(line)?;
         }
     }
+    Ok(())
+}
+
+/// A checker, once it was given these lines.
+pub fn checked(mut checker: Checker, lines: &[Line]) -> Result<Checker, NoMemory> {
+    check_all(&mut checker, lines)?;
     Ok(checker)
 }
 
@@ -32,22 +41,42 @@ pub fn report_of(checker: Checker, lines: &[Line]) -> Result<Vec<u8>, NoMemory> 
     checked(checker, lines)?.report()
 }
 
-/// The same of a trace of less than 100 lines that are checked where they lie, where that can be.
+/// Checks a line that is no call on a descriptor, where it lies, if that can be.
+fn check_unread(alloc: Global, checker: &mut Checker, unread: Unread<'_>) -> Result<(), Fail>
+    requires { lines_of checker.old < 2 ^ 60 }
+{
+    match unread.call_line() {
+        Ok(line) => Ok(checker.call_line(alloc, &line)?),
+        Err(unread) => Ok(checker.line(&unread.line(alloc)?)?),
+    }
+}
+
+/// Checks a line where it lies, if that can be.
+fn check_where_it_lies(alloc: Global, checker: &mut Checker, text: &[u8]) -> Result<(), Fail>
+    requires { lines_of checker.old < 2 ^ 60 }
+{
+    match parse_fd_line(text) {
+        Ok(line) => Ok(checker.fd_line(line)?),
+        Err(unread) => check_unread(alloc, checker, unread),
+    }
+}
+
+/// The same of each line of a trace of less than 100.
+fn check_trace(alloc: Global, checker: &mut Checker, trace: &[u8]) -> Result<(), Fail> {
+    for text in trace.split(|byte| *byte == b'\n') {
+        if !text.is_empty() && checker.count() < 100 {
+            check_where_it_lies(alloc, checker, text)?;
+        }
+    }
+    Ok(())
+}
+
+/// The report of a trace of less than 100 lines that are checked where they lie, where that can be.
 pub fn report_where_they_lie(
     alloc: Global,
     mut checker: Checker,
     trace: &[u8],
 ) -> Result<Vec<u8>, Fail> {
-    for text in trace.split(|byte| *byte == b'\n') {
-        if !text.is_empty() && checker.count() < 100 {
-            match parse_fd_line(text) {
-                Ok(line) => checker.fd_line(line)?,
-                Err(unread) => match unread.call_line() {
-                    Ok(line) => checker.call_line(alloc, &line)?,
-                    Err(unread) => checker.line(&unread.line(alloc)?)?,
-                },
-            }
-        }
-    }
+    check_trace(alloc, &mut checker, trace)?;
     Ok(checker.report()?)
 }

@@ -1,6 +1,7 @@
 //! Walks back, which are handed only the lines that matter.
 
 use crate::lines::lines_of;
+use crate::starts::start_of;
 use cap_machine::{
     Cell, CellEnd, CellLink, CellOrigin, CellWalk, Checks, Demand, Explanation, Finding, Mode,
     ModeEnd, ModeLink, ModeOrigin, ModeWalk, NoMemory, OnExec, Op, Profile, Start, Touched, Turned,
@@ -48,114 +49,233 @@ fn mode_walked(
     Ok(walk)
 }
 
-fn cell_link(at: usize, pid: u32, fd: u32) -> CellLink {
-    CellLink { at, pid, fd }
+/// The lines that descriptor 4 of process 202 comes from.
+static CELL_LINKS: [CellLink; 4] = [
+    CellLink {
+        at: 8,
+        pid: 202,
+        fd: 4,
+    },
+    CellLink {
+        at: 6,
+        pid: 201,
+        fd: 4,
+    },
+    CellLink {
+        at: 4,
+        pid: 201,
+        fd: 4,
+    },
+    CellLink {
+        at: 2,
+        pid: 200,
+        fd: 4,
+    },
+];
+
+/// Whether a cell is this one, and comes from those lines.
+fn is_limited(origin: &CellOrigin, limited: Cell) -> bool {
+    origin.cell == limited
+        && origin.end == CellEnd::Given(Cell::Unknown)
+        && origin.links.as_slice() == CELL_LINKS.as_slice()
 }
 
-fn mode_link(at: usize, pid: u32) -> ModeLink {
-    ModeLink { at, pid }
+/// Whether a walk from there over these positions has ended, and found those lines and what was limited.
+fn finds_cell(
+    alloc: Global,
+    lines: &[Line],
+    positions: &[usize],
+    limited: Cell,
+) -> Result<bool, NoMemory> {
+    let walk = walked(alloc, lines, 202, 4, positions)?;
+    let has_ended = walk.has_ended();
+    let origin = walk.finish(alloc, &Start::unknown(alloc))?;
+    Ok(has_ended && is_limited(&origin, limited))
 }
 
-/// With every line, and with those alone that touched the cell.
+/// Whether that is so of the limit to CAP_READ.
+fn finds_limit(alloc: Global, positions: &[usize]) -> Result<bool, Fail> {
+    let limited = Cell::Held(parse_rights(b"CAP_READ")?, OnExec::Unsure);
+    let lines = lines_of(alloc, FORKS)?;
+    Ok(finds_cell(alloc, &lines, positions, limited)?)
+}
+
+/// Every line, and those alone that touched the cell.
+static CELL_POSITIONS: [&[usize]; 2] = [&[8, 7, 6, 5, 4, 3, 2, 1], &[8, 6, 4, 2]];
+
 #[test]
 fn a_walk_finds_the_lines_that_a_cell_comes_from(rt: HostRuntime) -> Result<(), Fail> {
-    let alloc = rt.alloc();
-    let lines = lines_of(alloc, FORKS)?;
-    let start = Start::unknown(alloc);
-    let every: &[usize] = &[8, 7, 6, 5, 4, 3, 2, 1];
-    for positions in [every, &[8, 6, 4, 2]] {
-        let walk = walked(alloc, &lines, 202, 4, positions)?;
-        assert!(rt; walk.has_ended());
-        let origin = walk.finish(alloc, &start)?;
-        let limited = Cell::Held(parse_rights(b"CAP_READ")?, OnExec::Unsure);
-        assert_eq!(rt; origin.cell, limited);
-        assert_eq!(rt; origin.end, CellEnd::Given(Cell::Unknown));
-        let wanted = [
-            cell_link(8, 202, 4),
-            cell_link(6, 201, 4),
-            cell_link(4, 201, 4),
-            cell_link(2, 200, 4),
-        ];
-        assert_eq!(rt; origin.links.as_slice(), wanted.as_slice());
+    for positions in &CELL_POSITIONS {
+        assert!(rt; finds_limit(rt.alloc(), positions)?);
     }
     Ok(())
+}
+
+/// The positions that a walk from descriptor 7 of process 101 has passed, where it is then, and whether it has ended.
+static PLACES: [(&[usize], u32, u32, bool); 4] = [
+    (&[], 101, 7, false),
+    (&[3], 100, 7, false),
+    (&[3, 2], 100, 3, false),
+    (&[3, 2, 1], 100, 3, true),
+];
+
+/// Whether it is there.
+fn is_there(
+    alloc: Global,
+    lines: &[Line],
+    row: &(&[usize], u32, u32, bool),
+) -> Result<bool, NoMemory> {
+    let (positions, pid, fd, has_ended) = row;
+    let walk = walked(alloc, lines, 101, 7, positions)?;
+    Ok(walk.pid() == *pid && walk.fd() == *fd && walk.has_ended() == *has_ended)
 }
 
 /// Where it is after each line, and that it hasn't ended before its last.
 #[test]
 fn a_walk_says_where_it_is(rt: HostRuntime) -> Result<(), Fail> {
-    let alloc = rt.alloc();
     let lines = lines_of(
-        alloc,
+        rt.alloc(),
         b"100 @start(3)\n100 dup(3) RET 7\n100 fork() RET 101",
     )?;
-    let walk = walked(alloc, &lines, 101, 7, &[])?;
-    assert_eq!(rt; (walk.pid(), walk.fd()), (101, 7));
-    let walk = walked(alloc, &lines, 101, 7, &[3])?;
-    assert_eq!(rt; (walk.pid(), walk.fd()), (100, 7));
-    let walk = walked(alloc, &lines, 101, 7, &[3, 2])?;
-    assert_eq!(rt; (walk.pid(), walk.fd()), (100, 3));
-    assert!(rt; !walk.has_ended());
-    assert!(rt; walked(alloc, &lines, 101, 7, &[3, 2, 1])?.has_ended());
+    for row in &PLACES {
+        assert!(rt; is_there(rt.alloc(), &lines, row)?);
+    }
     Ok(())
 }
 
-/// Without a line that gave the cell, and after one that did: no older line is taken.
-#[test]
-fn a_walk_ends_at_the_start_or_where_the_cell_was_given(rt: HostRuntime) -> Result<(), Fail> {
-    let alloc = rt.alloc();
-    let read = Cell::Held(parse_rights(b"CAP_READ")?, OnExec::Unsure);
-    let mut cells = Vec::new(alloc);
-    cells.push((3, read))?;
-    let mut start = Start::unknown(alloc);
-    start.add(100, Mode::Outside, Cell::Closed, cells)?;
+/// Whether a walk from a descriptor of process 100 over three lines ends so, with so many of them.
+fn ends_so(
+    alloc: Global,
+    lines: &[Line],
+    start: &Start,
+    fd: u32,
+    end: CellEnd,
+    links: &[CellLink],
+) -> Result<bool, NoMemory> {
+    let origin = walked(alloc, lines, 100, fd, &[3, 2, 1])?.finish(alloc, start)?;
+    Ok(origin.end == end && origin.links.as_slice() == links)
+}
+
+/// Whether that is so of three lines where process 100 begins with this cell of descriptor 3.
+fn copy_ends_so(
+    alloc: Global,
+    cell: Cell,
+    fd: u32,
+    end: CellEnd,
+    links: &[CellLink],
+) -> Result<bool, Fail> {
+    let start = start_of(alloc, Mode::Outside, Cell::Closed, 3, cell)?;
     let lines = lines_of(
         alloc,
         b"100 dup(3) RET 5\n100 close(5) RET 0\n100 fork() RET 101",
     )?;
-    let origin = walked(alloc, &lines, 100, 3, &[3, 2, 1])?.finish(alloc, &start)?;
-    assert_eq!(rt; origin.end, CellEnd::Start(100, 3, read));
-    assert!(rt; origin.links.is_empty());
-    let origin = walked(alloc, &lines, 100, 5, &[3, 2, 1])?.finish(alloc, &start)?;
-    assert_eq!(rt; origin.end, CellEnd::Given(Cell::Closed));
-    assert_eq!(rt; origin.links.as_slice(), [cell_link(2, 100, 5)].as_slice());
+    Ok(ends_so(alloc, &lines, &start, fd, end, links)?)
+}
+
+/// The line that closes the copy.
+static CLOSED: [CellLink; 1] = [CellLink {
+    at: 2,
+    pid: 100,
+    fd: 5,
+}];
+
+/// Without a line that gave the cell, and after one that did: no older line is taken.
+#[test]
+fn a_walk_ends_at_the_start_or_where_the_cell_was_given(rt: HostRuntime) -> Result<(), Fail> {
+    let read = Cell::Held(parse_rights(b"CAP_READ")?, OnExec::Unsure);
+    assert!(rt; copy_ends_so(rt.alloc(), read, 3, CellEnd::Start(100, 3, read), &[])?);
+    assert!(rt; copy_ends_so(rt.alloc(), read, 5, CellEnd::Given(Cell::Closed), &CLOSED)?);
     Ok(())
+}
+
+/// A walk from the mode of a process over these positions.
+struct ModeRow {
+    pid: u32,
+    positions: &'static [usize],
+    /// The process that it is at then.
+    at: u32,
+    has_ended: bool,
+    mode: Mode,
+    end: ModeEnd,
+    links: &'static [ModeLink],
+}
+
+const INSIDE_LINKS: &[ModeLink] = &[ModeLink { at: 8, pid: 202 }, ModeLink { at: 5, pid: 201 }];
+
+static MODES: [ModeRow; 3] = [
+    ModeRow {
+        pid: 202,
+        positions: &[8, 7, 6, 5, 4, 3, 2, 1],
+        at: 201,
+        has_ended: true,
+        mode: Mode::Inside,
+        end: ModeEnd::Given(Mode::Inside),
+        links: INSIDE_LINKS,
+    },
+    ModeRow {
+        pid: 202,
+        positions: &[8, 5],
+        at: 201,
+        has_ended: true,
+        mode: Mode::Inside,
+        end: ModeEnd::Given(Mode::Inside),
+        links: INSIDE_LINKS,
+    },
+    ModeRow {
+        pid: 201,
+        positions: &[4],
+        at: 200,
+        has_ended: false,
+        mode: Mode::Outside,
+        end: ModeEnd::Start(200, Mode::Outside),
+        links: &[ModeLink { at: 4, pid: 201 }],
+    },
+];
+
+/// Whether a mode comes from where a row says.
+fn is_from(origin: &ModeOrigin, row: &ModeRow) -> bool {
+    origin.mode == row.mode && origin.end == row.end && origin.links.as_slice() == row.links
+}
+
+/// Whether the walk of a row finds what it says.
+fn finds_mode(
+    alloc: Global,
+    lines: &[Line],
+    start: &Start,
+    row: &ModeRow,
+) -> Result<bool, NoMemory> {
+    let walk = mode_walked(alloc, lines, row.pid, row.positions)?;
+    let is_there = walk.pid() == row.at && walk.has_ended() == row.has_ended;
+    Ok(is_there && is_from(&walk.finish(start), row))
+}
+
+/// A start in which process 200 is outside.
+fn outside(alloc: Global) -> Result<Start, NoMemory> {
+    let mut start = Start::unknown(alloc);
+    start.add(200, Mode::Outside, Cell::Unknown, Vec::new(alloc))?;
+    Ok(start)
+}
+
+/// The same of the forks from that start.
+fn finds_mode_of_forks(alloc: Global, row: &ModeRow) -> Result<bool, Fail> {
+    let start = outside(alloc)?;
+    let lines = lines_of(alloc, FORKS)?;
+    Ok(finds_mode(alloc, &lines, &start, row)?)
 }
 
 #[test]
 fn a_mode_walk_finds_the_lines_that_a_mode_comes_from(rt: HostRuntime) -> Result<(), Fail> {
-    let alloc = rt.alloc();
-    let lines = lines_of(alloc, FORKS)?;
-    let mut start = Start::unknown(alloc);
-    start.add(200, Mode::Outside, Cell::Unknown, Vec::new(alloc))?;
-    let every: &[usize] = &[8, 7, 6, 5, 4, 3, 2, 1];
-    for positions in [every, &[8, 5]] {
-        let walk = mode_walked(alloc, &lines, 202, positions)?;
-        assert!(rt; walk.has_ended());
-        let origin = walk.finish(&start);
-        assert_eq!(rt; origin.mode, Mode::Inside);
-        assert_eq!(rt; origin.end, ModeEnd::Given(Mode::Inside));
-        assert_eq!(rt;
-            origin.links.as_slice(),
-            [mode_link(8, 202), mode_link(5, 201)].as_slice()
-        );
+    for row in &MODES {
+        assert!(rt; finds_mode_of_forks(rt.alloc(), row)?);
     }
-    let walk = mode_walked(alloc, &lines, 201, &[4])?;
-    assert_eq!(rt; walk.pid(), 200);
-    assert!(rt; !walk.has_ended());
-    let origin = walk.finish(&start);
-    assert_eq!(rt; origin.end, ModeEnd::Start(200, Mode::Outside));
-    assert_eq!(rt; origin.links.as_slice(), [mode_link(4, 201)].as_slice());
     Ok(())
 }
 
 /// Where descriptor 4 of process 202 comes from.
-fn cells_of_202(alloc: Global) -> Result<Vec<CellOrigin>, Fail> {
+fn cell_of_202(alloc: Global) -> Result<CellOrigin, Fail> {
     let lines = lines_of(alloc, FORKS)?;
     let walk = walked(alloc, &lines, 202, 4, &[8, 6, 4, 2])?;
-    let mut cells = Vec::new(alloc);
-    cells.push(walk.finish(alloc, &Start::unknown(alloc))?)?;
-    Ok(cells)
+    Ok(walk.finish(alloc, &Start::unknown(alloc))?)
 }
 
 /// Where its mode comes from.
@@ -187,26 +307,35 @@ fn explained_by_mode(alloc: Global, line: &Line, origin: ModeOrigin) -> Option<E
     }
 }
 
+/// Whether an explanation is of one cell, with this finding.
+fn is_of_cell(found: &Explanation, finding: Finding) -> bool {
+    found.verdict.as_slice() == [finding].as_slice()
+        && found.cells.len() == 1
+        && found.mode.is_none()
+}
+
 #[test]
 fn an_explanation_is_made_of_a_cell(rt: HostRuntime) -> Result<(), Fail> {
-    let write = parse_line(rt.alloc(), b"202 write(4) RET 1")?;
-    let cells = cells_of_202(rt.alloc())?;
-    let found = explained_by_cell(&write, cells).ok_or("another demand")?;
     let missing = Finding::Missing(4, parse_rights(b"CAP_WRITE")?);
-    assert_eq!(rt; found.verdict.as_slice().first().copied(), Some(missing));
-    assert_eq!(rt; found.cells.len(), 1);
-    assert!(rt; found.mode.is_none());
+    let mut cells = Vec::new(rt.alloc());
+    cells.push(cell_of_202(rt.alloc())?)?;
+    let write = parse_line(rt.alloc(), b"202 write(4) RET 1")?;
+    let found = explained_by_cell(&write, cells).ok_or("another demand")?;
+    assert!(rt; is_of_cell(&found, missing));
     Ok(())
+}
+
+/// Whether an explanation is of a mode, with one finding.
+fn is_of_mode(found: &Explanation) -> bool {
+    found.verdict.len() == 1 && found.cells.is_empty() && found.mode.is_some()
 }
 
 #[test]
 fn an_explanation_is_made_of_a_mode(rt: HostRuntime) -> Result<(), Fail> {
-    let open = parse_line(rt.alloc(), b"202 open(\"x\",O_RDONLY) RET 3")?;
     let mode = mode_of_202(rt.alloc())?;
+    let open = parse_line(rt.alloc(), b"202 open(\"x\",O_RDONLY) RET 3")?;
     let found = explained_by_mode(rt.alloc(), &open, mode).ok_or("another demand")?;
-    assert_eq!(rt; found.verdict.len(), 1);
-    assert!(rt; found.cells.is_empty());
-    assert!(rt; found.mode.is_some());
+    assert!(rt; is_of_mode(&found));
     Ok(())
 }
 
@@ -242,24 +371,34 @@ static TOUCHES: [(&[u8], u32, u32, &str); 10] = [
     (b"100 pdfork() RET 101,5", 100, 4, "kept"),
 ];
 
+/// Whether a line does that.
+fn touches(alloc: Global, row: &(&[u8], u32, u32, &str)) -> Result<bool, Fail> {
+    let (text, pid, fd, wanted) = row;
+    let line = parse_line(alloc, text)?;
+    Ok(word_of(&touched_by(&line, *pid, *fd)) == *wanted)
+}
+
 #[test]
 fn an_effect_touches_cells(rt: HostRuntime) -> Result<(), Fail> {
-    for (text, pid, fd, wanted) in TOUCHES {
-        let line = parse_line(rt.alloc(), text)?;
-        assert_eq!(rt; word_of(&touched_by(&line, pid, fd)), wanted);
+    for row in &TOUCHES {
+        assert!(rt; touches(rt.alloc(), row)?, "{row:?}");
     }
     Ok(())
+}
+
+/// Whether a line takes the cell of a descriptor from that of another one by an op.
+fn takes(alloc: Global, text: &[u8], pid: u32, fd: u32, op: Op, from: u32) -> Result<bool, Fail> {
+    let line = parse_line(alloc, text)?;
+    Ok(touched_by(&line, pid, fd) == Touched::Taken(op, from))
 }
 
 /// Of the cell of another descriptor, or of the parent.
 #[test]
 fn an_effect_takes_cells(rt: HostRuntime) -> Result<(), Fail> {
-    let fork = parse_line(rt.alloc(), b"100 fork() RET 101")?;
-    assert_eq!(rt; touched_by(&fork, 101, 4), Touched::Taken(Op::same(), 4));
-    let dup = parse_line(rt.alloc(), b"100 dup(3) RET 7")?;
     let derived = Op::derive(OnExec::Clear);
-    assert_eq!(rt; touched_by(&dup, 100, 7), Touched::Taken(derived, 3));
-    assert_eq!(rt; Op::same().on(Cell::Closed), Cell::Closed);
+    assert!(rt; takes(rt.alloc(), b"100 fork() RET 101", 101, 4, Op::same(), 4)?);
+    assert!(rt; takes(rt.alloc(), b"100 dup(3) RET 7", 100, 7, derived, 3)?);
+    assert!(rt; Op::same().on(Cell::Closed) == Cell::Closed);
     Ok(())
 }
 
@@ -272,11 +411,17 @@ static TURNS: [(&[u8], u32, Turned); 5] = [
     (b"100 @start(3)", 100, Turned::Turns(Mode::Outside)),
 ];
 
+/// Whether a line does that.
+fn turns(alloc: Global, row: &(&[u8], u32, Turned)) -> Result<bool, Fail> {
+    let (text, pid, wanted) = row;
+    let line = parse_line(alloc, text)?;
+    Ok(turned_by(&line, *pid) == *wanted)
+}
+
 #[test]
 fn an_effect_turns_modes(rt: HostRuntime) -> Result<(), Fail> {
-    for (text, pid, wanted) in TURNS {
-        let line = parse_line(rt.alloc(), text)?;
-        assert_eq!(rt; turned_by(&line, pid), wanted);
+    for row in &TURNS {
+        assert!(rt; turns(rt.alloc(), row)?, "{row:?}");
     }
     Ok(())
 }
