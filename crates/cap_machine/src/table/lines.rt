@@ -180,8 +180,17 @@ impl Table {
         ensures { OnOk result (Keeps self.new
             (call_after profile (call_seen call.now) answer.now pid (state_of self.old))) }
     {
+        self.remains.free_some();
         let effect = effect_of(profile, call, answer);
         self.apply(pid, &effect)
+    }
+
+    /// Writes one cell. Some of what is left of others is freed first.
+    fn write_one(&mut self, pid: Pid, fd: Fd, cell: Cell) -> Result<(), NoMemory>
+        ensures { OnOk result (Keeps self.new (touched_by (on_fd fd (given cell) pid) (state_of self.old))) }
+    {
+        self.remains.free_some();
+        self.write(pid, fd, cell)
     }
 
     /// close(2).
@@ -190,8 +199,8 @@ impl Table {
     {
         match answer {
             Answer::Fault(9) => Ok(()),
-            Answer::Fault(_) => self.write(pid, fd, Cell::Unknown),
-            _ => self.write(pid, fd, Cell::Closed),
+            Answer::Fault(_) => self.write_one(pid, fd, Cell::Unknown),
+            _ => self.write_one(pid, fd, Cell::Closed),
         }
     }
 
@@ -201,7 +210,7 @@ impl Table {
         ensures { OnOk result (Keeps self.new (touched_by (on_made answer.now (given cell) pid) (state_of self.old))) }
     {
         match answer {
-            Answer::Made(fd) => self.write(pid, *fd as Fd, cell),
+            Answer::Made(fd) => self.write_one(pid, *fd as Fd, cell),
             _ => Ok(()),
         }
     }
@@ -282,9 +291,26 @@ impl Table {
             Answer::Fault(_) => Ok(()),
             _ => {
                 let cell = Op::limit(asked).on(self.cell(pid, fd));
-                self.write(pid, fd, cell)
+                self.write_one(pid, fd, cell)
             }
         }
+    }
+
+    /// A call on one descriptor does what its rule says.
+    #[inline(never)]
+    fn follow_fd_rule(
+        &mut self,
+        profile: Profile,
+        pid: Pid,
+        call: FdCall,
+        fd: Fd,
+        answer: &Answer,
+    ) -> Result<(), NoMemory>
+        requires { IsAnswer (kind_of (calls.OnFd call fd)) answer.now }
+        ensures { OnOk result (Keeps self.new
+            (call_after profile (calls.OnFd call fd) answer.now pid (state_of self.old))) }
+    {
+        self.follow_rule(profile, pid, &CallSeen::OnFd(call, fd), answer)
     }
 
     /// A call on one descriptor.
@@ -308,9 +334,7 @@ impl Table {
             | FdCall::Accept
             | FdCall::Fexecve
             | FdCall::CapIoctlsLimit
-            | FdCall::CapFcntlsLimit => {
-                self.follow_rule(profile, pid, &CallSeen::OnFd(call, fd), answer)
-            }
+            | FdCall::CapFcntlsLimit => self.follow_fd_rule(profile, pid, call, fd, answer),
             _ => Ok(()),
         }
     }
@@ -377,7 +401,6 @@ impl Table {
     ) -> Result<(), NoMemory>
         ensures { OnOk result (Keeps self.new (step_after (step profile line.now) (state_of self.old))) }
     {
-        self.remains.free_some();
         self.follow_call(profile, line.pid, &line.call, &line.answer)
     }
 
@@ -386,7 +409,6 @@ impl Table {
     pub(crate) fn follow_fd_line(&mut self, profile: Profile, line: &FdLine) -> Result<(), NoMemory>
         ensures { OnOk result (Keeps self.new (step_after (step profile line.now) (state_of self.old))) }
     {
-        self.remains.free_some();
         self.follow_on_fd(profile, line.pid, line.call, line.fd, &line.answer)
     }
 }
