@@ -24,8 +24,8 @@ after_next below cells i f d within =
 
 -- what is left by a test: none of this descriptor, or all of it
 module _ (p : Written → Bool) (f : ℕ) where
-  none_at : ((one : Written) → p one ≡ true → (f == one.fd) ≡ false) → (one : Written) (left : List Written) (below : Cell)
-      (b : Bool) → p one ≡ b → ((c : Cell) → after_writes c left f ≡ c)
+  none_at : ((one : Written) → p one ≡ true → (f == one.fd) ≡ false) → (one : Written) (left : List Written)
+      (below : Cell) (b : Bool) → p one ≡ b → ((c : Cell) → after_writes c left f ≡ c)
       → after_writes below (if b then one ∷ left else left) f ≡ below
   none_at other one left below true e rest =
       rest (written one below f)

@@ -19,8 +19,8 @@ use cap_rights::{NoMemory, RightSet};
 use cap_trace::Fd;
 use std::alloc::{AllocError, Global};
 
-/// One cell for each descriptor: those of the first 64 stand in one leaf, those of the others below 2 ^ 20 in a tree, or in a
-/// list over it while few of them were written.
+/// One cell for each descriptor: those of the first 64 stand in one leaf, those of the others below 2 ^ 20 in a tree,
+/// or in a list over it while few of them were written.
 #[derive(Drop)]
 pub(crate) struct Tree {
     low: Shared<Leaf<64>>,
