@@ -8,7 +8,7 @@ ghost use Rattle.cap_summary.specs.Changes.{IsSame, DoSame};
 use crate::change::{Change, Process};
 use crate::conditions::{CellTest, HeldTest, Refused, Source};
 use crate::kept::{Kept, Listed, Taken};
-use crate::values::{Base, Value};
+use crate::values::Base;
 use cap_machine::{Cell, HeldOp, Op};
 
 fn equal_cells(a: &Cell, b: &Cell) -> bool
@@ -92,19 +92,6 @@ pub(crate) fn equal_refusals(a: &Refused, b: &Refused) -> bool
 }
 
 impl Kept {
-    /// Whether it keeps this value of a cell before. No is a safe answer.
-    pub(crate) fn is(&self, value: &Value) -> bool
-        ensures { result ≡ true → kept_value self.now ≡ value.now }
-    {
-        match (self, value) {
-            (Kept::Of(taken), Value::Of(pid, fd, op)) => {
-                let (pid, fd, op) = (*pid, *fd, *op);
-                equal_taken(taken, &Taken { pid, fd, op })
-            }
-            _ => false,
-        }
-    }
-
     /// Whether another one keeps the same value. No is a safe answer.
     pub(crate) fn is_like(&self, other: &Kept) -> bool
         ensures { result ≡ true → kept_value self.now ≡ kept_value other.now }

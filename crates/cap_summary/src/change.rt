@@ -150,16 +150,6 @@ impl Change {
 }
 
 impl Change {
-    /// A value that stands behind this change.
-    pub(crate) fn under(&self, value: &Value) -> Value
-        ensures { result ≡ under self.now value.now }
-    {
-        match value {
-            Value::Fixed(cell) => Value::Fixed(*cell),
-            Value::Of(pid, fd, op) => self.value(*pid, *fd).after(op),
-        }
-    }
-
     /// A mode that stands behind this change.
     fn mode_under(&self, value: &ModeValue) -> ModeValue
         ensures mode { (s : State) → read_mode s result ≡ read_mode (changed self.now s) value.now }
