@@ -86,12 +86,18 @@ static CHECKS: [Call; 4] = [
     Call::CheckFromAs,
 ];
 
+/// Whether a call finds and reports what is right.
+fn is_reported(alloc: Global, call: Call) -> bool {
+    match checked(alloc, call) {
+        Some((outcome, kept)) => outcome == Outcome::Findings && kept.text() == REPORT,
+        None => false,
+    }
+}
+
 #[test]
 fn check_streams_refused(rt: HostRuntime) -> Result<(), Fail> {
     for call in &CHECKS {
-        let (outcome, kept) = checked(rt.alloc(), *call).ok_or("written without memory")?;
-        assert_eq!(rt; outcome, Outcome::Findings);
-        assert_eq!(rt; kept.text(), REPORT);
+        assert!(rt; is_reported(rt.alloc(), *call));
         Mark::Right.set(rt.alloc());
     }
     Ok(())
@@ -146,13 +152,18 @@ static WAYS: [(Option<Profile>, bool); 4] = [
     (Some(Profile::Two), true),
 ];
 
+/// Whether the last line is explained as is right.
+fn is_explained(alloc: Global, profile: Option<Profile>, is_started: bool) -> bool {
+    match explained_or_again(alloc, profile, is_started) {
+        Some((ExplainOutcome::Ended(Outcome::Findings), kept)) => kept.text() == EXPLAINED,
+        _ => false,
+    }
+}
+
 #[test]
 fn explain_streams_refused(rt: HostRuntime) -> Result<(), Fail> {
     for (profile, is_started) in &WAYS {
-        let answer = explained_or_again(rt.alloc(), *profile, *is_started);
-        let (outcome, kept) = answer.ok_or("written without memory")?;
-        assert_eq!(rt; outcome, ExplainOutcome::Ended(Outcome::Findings));
-        assert_eq!(rt; kept.text(), EXPLAINED);
+        assert!(rt; is_explained(rt.alloc(), *profile, *is_started));
         Mark::Right.set(rt.alloc());
     }
     Ok(())
@@ -181,13 +192,16 @@ fn is_replied(alloc: Global, call: Call) -> bool {
     may_be_replied(outcome, kept.text())
 }
 
+/// Whether a script is replied to with memory for all.
+fn is_edited(alloc: Global, call: Call) -> bool {
+    let (outcome, kept) = streamed(alloc, call);
+    (outcome, kept.text()) == REPLIES[0]
+}
+
 #[test]
 fn edit_streams_refused(rt: HostRuntime) -> Result<(), Fail> {
     for call in &[Call::Edit, Call::EditAs] {
-        assert!(rt; is_replied(rt.alloc(), *call));
-        let (outcome, kept) = streamed(rt.alloc(), *call);
-        assert_eq!(rt; outcome, Outcome::Clean);
-        assert_eq!(rt; kept.text(), REPLIES[0].1);
+        assert!(rt; is_replied(rt.alloc(), *call) && is_edited(rt.alloc(), *call));
         Mark::Right.set(rt.alloc());
     }
     Ok(())
@@ -221,11 +235,8 @@ impl<S: Source> Source for Marked<S> {
     }
 }
 
-/// Each allocation inside `delete 2` is refused in turn. Where the command can't do without it, it is answered so, and
-/// the trace is reported as it was.
-#[test]
-fn delete_in_a_script_refused(rt: HostRuntime) -> Result<(), Fail> {
-    let alloc = rt.alloc();
+/// The outcome of the script with those marks, and what it wrote.
+fn with_marks(alloc: Global) -> (Outcome, Kept) {
     let mut trace = Pieces::new(TRACE, 64, 0);
     let mut script = Marked {
         script: Pieces::new(SCRIPT, 9, 0),
@@ -241,12 +252,24 @@ fn delete_in_a_script_refused(rt: HostRuntime) -> Result<(), Fail> {
         &mut script,
         &mut kept,
     );
+    (outcome, kept)
+}
+
+/// Whether the script is replied to with memory for all, or as it is where `delete 2` lacks some.
+fn deletes(alloc: Global) -> bool {
+    let (outcome, kept) = with_marks(alloc);
     if outcome == Outcome::Clean {
-        assert_eq!(rt; kept.text(), REPLIES[0].1);
-    } else {
-        Mark::Lacked.set(alloc);
-        assert_eq!(rt; (outcome, kept.text()), REPLIES[1]);
+        return kept.text() == REPLIES[0].1;
     }
-    Mark::Right.set(alloc);
+    Mark::Lacked.set(alloc);
+    (outcome, kept.text()) == REPLIES[1]
+}
+
+/// Each allocation inside `delete 2` is refused in turn. Where the command can't do without it, it is answered so, and
+/// the trace is reported as it was.
+#[test]
+fn delete_in_a_script_refused(rt: HostRuntime) -> Result<(), Fail> {
+    assert!(rt; deletes(rt.alloc()));
+    Mark::Right.set(rt.alloc());
     Ok(())
 }
