@@ -47,17 +47,15 @@ fn rights_written(alloc: Global, rights: &RightSet) -> Result<Vec<u8>, NoMemory>
     Ok(out)
 }
 
-/// Whether a text of rights is written after a word.
-fn writes_rights(alloc: Global, text: &[u8]) -> Result<bool, Fail> {
-    let out = rights_written(alloc, &parse_rights(text)?)?;
-    Ok(out.starts_with(b"before ") && out.ends_with(text) && out.len() == 7 + text.len())
-}
-
 #[test]
 fn write_rights_refused(rt: HostRuntime) -> Result<(), Fail> {
+    let alloc = rt.alloc();
     for text in &RIGHTS {
-        assert!(rt; writes_rights(rt.alloc(), text)?, "{text:?}");
-        Mark::Right.set(rt.alloc());
+        let out = rights_written(alloc, &parse_rights(text)?)?;
+        assert!(rt; out.starts_with(b"before "));
+        assert!(rt; out.ends_with(text));
+        assert_eq!(rt; out.len(), 7 + text.len());
+        Mark::Right.set(alloc);
     }
     Ok(())
 }
@@ -81,17 +79,13 @@ fn text_of(alloc: Global, line: &Line) -> Result<Vec<u8>, NoMemory> {
     Ok(out)
 }
 
-/// Whether a line is read from a text that is its own.
-fn parses(alloc: Global, text: &[u8]) -> Result<bool, Fail> {
-    let line = parsed(alloc, text)?;
-    Ok(text_of(alloc, &line)?.as_slice() == text)
-}
-
 #[test]
 fn parse_line_refused(rt: HostRuntime) -> Result<(), Fail> {
+    let alloc = rt.alloc();
     for text in &LINES {
-        assert!(rt; parses(rt.alloc(), text)?, "{text:?}");
-        Mark::Right.set(rt.alloc());
+        let line = parsed(alloc, text)?;
+        assert_eq!(rt; text_of(alloc, &line)?.as_slice(), *text);
+        Mark::Right.set(alloc);
     }
     Ok(())
 }
@@ -119,17 +113,13 @@ fn kept_text(alloc: Global, text: &[u8]) -> Result<Vec<u8>, NoMemory> {
     }
 }
 
-/// Whether the call of a text is kept, where it is one that is.
-fn keeps(alloc: Global, text: &[u8]) -> Result<bool, NoMemory> {
-    let out = kept_text(alloc, text)?;
-    Ok(out.is_empty() || out.as_slice() == text)
-}
-
 #[test]
 fn call_line_refused(rt: HostRuntime) -> Result<(), Fail> {
+    let alloc = rt.alloc();
     for text in &LINES {
-        assert!(rt; keeps(rt.alloc(), text)?, "{text:?}");
-        Mark::Right.set(rt.alloc());
+        let out = kept_text(alloc, text)?;
+        assert!(rt; out.is_empty() || out.as_slice() == *text);
+        Mark::Right.set(alloc);
     }
     Ok(())
 }
@@ -150,17 +140,13 @@ fn written(alloc: Global, line: &Line) -> Result<Vec<u8>, NoMemory> {
     Ok(out)
 }
 
-/// Whether the line of a text is written so.
-fn writes(alloc: Global, text: &[u8]) -> Result<bool, Fail> {
-    let line = parse_line(alloc, text)?;
-    Ok(written(alloc, &line)?.as_slice() == text)
-}
-
 #[test]
 fn write_line_refused(rt: HostRuntime) -> Result<(), Fail> {
+    let alloc = rt.alloc();
     for text in &LINES {
-        assert!(rt; writes(rt.alloc(), text)?, "{text:?}");
-        Mark::Right.set(rt.alloc());
+        let line = parse_line(alloc, text)?;
+        assert_eq!(rt; written(alloc, &line)?.as_slice(), *text);
+        Mark::Right.set(alloc);
     }
     Ok(())
 }

@@ -83,16 +83,12 @@ fn adds_all(alloc: Global, start: &mut Start) -> Result<bool, Fail> {
     Ok(true)
 }
 
-/// A start in which process 7 has those cells.
-fn start_of_7(alloc: Global) -> Result<Start, Fail> {
-    let mut start = Start::unknown(alloc);
-    start.add(7, Mode::Inside, Cell::Closed, cells_of(alloc)?)?;
-    Ok(start)
-}
-
 #[test]
 fn start_add_refused(rt: HostRuntime) -> Result<(), Fail> {
-    assert!(rt; adds_all(rt.alloc(), &mut start_of_7(rt.alloc())?)?);
+    let cells = cells_of(rt.alloc())?;
+    let mut start = Start::unknown(rt.alloc());
+    start.add(7, Mode::Inside, Cell::Closed, cells)?;
+    assert!(rt; adds_all(rt.alloc(), &mut start)?);
     Ok(())
 }
 
@@ -132,15 +128,10 @@ fn checks_all(alloc: Global, start: &Start, lines: &[Line]) -> Result<bool, Fail
     Ok(true)
 }
 
-/// Whether it does of the trace.
-fn checks_trace(alloc: Global) -> Result<bool, Fail> {
-    let lines = lines_of(alloc, &TRACE)?;
-    checks_all(alloc, &start_of(alloc)?, &lines)
-}
-
 #[test]
 fn check_refused(rt: HostRuntime) -> Result<(), Fail> {
-    assert!(rt; checks_trace(rt.alloc())?);
+    let lines = lines_of(rt.alloc(), &TRACE)?;
+    assert!(rt; checks_all(rt.alloc(), &start_of(rt.alloc())?, &lines)?);
     Ok(())
 }
 
@@ -171,17 +162,14 @@ fn report_of(alloc: Global, start: &Start, lines: &[Line]) -> Result<Vec<u8>, No
     reported(alloc, start, lines)
 }
 
-/// Whether the trace has its report.
-fn reports_trace(alloc: Global) -> Result<bool, Fail> {
-    let report = b"5 100 write missing 3 CAP_WRITE\n8 101 read closed 3\nfindings 2\n";
-    let lines = lines_of(alloc, &TRACE)?;
-    Ok(report_of(alloc, &start_of(alloc)?, &lines)?.as_slice() == report.as_slice())
-}
-
 #[test]
 fn checker_refused(rt: HostRuntime) -> Result<(), Fail> {
-    assert!(rt; reports_trace(rt.alloc())?);
-    Mark::Right.set(rt.alloc());
+    let alloc = rt.alloc();
+    let lines = lines_of(alloc, &TRACE)?;
+    let text = report_of(alloc, &start_of(alloc)?, &lines)?;
+    let report = b"5 100 write missing 3 CAP_WRITE\n8 101 read closed 3\nfindings 2\n";
+    assert_eq!(rt; text.as_slice(), report.as_slice());
+    Mark::Right.set(alloc);
     Ok(())
 }
 
@@ -211,16 +199,12 @@ fn count_of(alloc: Global, start: &Start, lines: &[Line]) -> Result<usize, NoMem
     found_by_steps(alloc, start, lines)
 }
 
-/// How many findings the trace has.
-fn count_of_trace(alloc: Global) -> Result<usize, Fail> {
-    let lines = lines_of(alloc, &TRACE)?;
-    Ok(count_of(alloc, &start_of(alloc)?, &lines)?)
-}
-
 #[test]
 fn machine_refused(rt: HostRuntime) -> Result<(), Fail> {
-    assert!(rt; count_of_trace(rt.alloc())? == 2);
-    Mark::Right.set(rt.alloc());
+    let alloc = rt.alloc();
+    let lines = lines_of(alloc, &TRACE)?;
+    assert_eq!(rt; count_of(alloc, &start_of(alloc)?, &lines)?, 2);
+    Mark::Right.set(alloc);
     Ok(())
 }
 
@@ -285,22 +269,19 @@ fn links_of_cell(alloc: Global, lines: &[Line]) -> Result<usize, NoMemory> {
     )
 }
 
-/// The same; where the first call lacks memory, by a second one.
-fn cell_links(alloc: Global, lines: &[Line]) -> Result<usize, NoMemory> {
-    Mark::Begin.set(alloc);
-    let first = links_of_cell(alloc, lines);
-    Mark::End.set(alloc);
-    if first.is_ok() {
-        return first;
-    }
-    Mark::Lacked.set(alloc);
-    links_of_cell(alloc, lines)
-}
-
 #[test]
 fn origin_of_cell_refused(rt: HostRuntime) -> Result<(), Fail> {
-    assert!(rt; cell_links(rt.alloc(), &lines_of(rt.alloc(), &TRACE)?)? == 2);
-    Mark::Right.set(rt.alloc());
+    let alloc = rt.alloc();
+    let lines = lines_of(alloc, &TRACE)?;
+    Mark::Begin.set(alloc);
+    let mut links = links_of_cell(alloc, &lines);
+    Mark::End.set(alloc);
+    if links.is_err() {
+        Mark::Lacked.set(alloc);
+        links = links_of_cell(alloc, &lines);
+    }
+    assert_eq!(rt; links?, 2);
+    Mark::Right.set(alloc);
     Ok(())
 }
 
@@ -314,21 +295,18 @@ fn links_of_mode(alloc: Global, lines: &[Line]) -> Result<usize, NoMemory> {
     )
 }
 
-/// The same; where the first call lacks memory, by a second one.
-fn mode_links(alloc: Global, lines: &[Line]) -> Result<usize, NoMemory> {
-    Mark::Begin.set(alloc);
-    let first = links_of_mode(alloc, lines);
-    Mark::End.set(alloc);
-    if first.is_ok() {
-        return first;
-    }
-    Mark::Lacked.set(alloc);
-    links_of_mode(alloc, lines)
-}
-
 #[test]
 fn origin_of_mode_refused(rt: HostRuntime) -> Result<(), Fail> {
-    assert!(rt; mode_links(rt.alloc(), &lines_of(rt.alloc(), &TRACE)?)? == 2);
-    Mark::Right.set(rt.alloc());
+    let alloc = rt.alloc();
+    let lines = lines_of(alloc, &TRACE)?;
+    Mark::Begin.set(alloc);
+    let mut links = links_of_mode(alloc, &lines);
+    Mark::End.set(alloc);
+    if links.is_err() {
+        Mark::Lacked.set(alloc);
+        links = links_of_mode(alloc, &lines);
+    }
+    assert_eq!(rt; links?, 2);
+    Mark::Right.set(alloc);
     Ok(())
 }

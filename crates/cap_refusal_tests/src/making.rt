@@ -78,7 +78,8 @@ fn made(alloc: Global, part: Part) -> Result<Vec<u8>, LineFault> {
 #[test]
 fn parts_refused(rt: HostRuntime) -> Result<(), Fail> {
     for (part, wanted) in &PARTS {
-        assert!(rt; made(rt.alloc(), *part)?.as_slice() == *wanted, "{part:?}");
+        let bytes = made(rt.alloc(), *part)?;
+        assert_eq!(rt; bytes.as_slice(), *wanted, "{part:?}");
         Mark::Right.set(rt.alloc());
     }
     Ok(())
@@ -98,7 +99,8 @@ fn fds_of(alloc: Global, fds: &[Fd]) -> Result<Fds, LineFault> {
 
 #[test]
 fn fds_refused(rt: HostRuntime) -> Result<(), Fail> {
-    assert!(rt; fds_of(rt.alloc(), &[0, 3])?.as_slice() == [0, 3].as_slice());
+    let fds = fds_of(rt.alloc(), &[0, 3])?;
+    assert_eq!(rt; fds.as_slice(), [0, 3].as_slice());
     Mark::Right.set(rt.alloc());
     Ok(())
 }
@@ -131,23 +133,12 @@ fn text_of(alloc: Global, line: &Line) -> Result<Vec<u8>, NoMemory> {
     Ok(text)
 }
 
-/// Whether there is a line with that text.
-fn is_text(alloc: Global, line: Option<Line>, text: &[u8]) -> Result<bool, NoMemory> {
-    match &line {
-        Some(line) => Ok(text_of(alloc, line)?.as_slice() == text),
-        None => Ok(false),
-    }
-}
-
-/// Whether that line is made.
-fn makes_line(alloc: Global) -> Result<bool, Fail> {
-    let wanted = b"100 open(\"a/long/path\\x0a\",O_RDONLY) RET 3";
-    Ok(is_text(alloc, line_of(alloc)?, wanted)?)
-}
-
 #[test]
 fn line_new_refused(rt: HostRuntime) -> Result<(), Fail> {
-    assert!(rt; makes_line(rt.alloc())?);
+    let line = line_of(rt.alloc())?.ok_or("no such line")?;
+    let text = text_of(rt.alloc(), &line)?;
+    let wanted = b"100 open(\"a/long/path\\x0a\",O_RDONLY) RET 3";
+    assert_eq!(rt; text.as_slice(), wanted.as_slice());
     Mark::Right.set(rt.alloc());
     Ok(())
 }
@@ -172,17 +163,14 @@ fn finding_line(alloc: Global, line: &Line) -> Result<Vec<u8>, NoMemory> {
     Ok(out)
 }
 
-/// Whether a finding on the line of a text has that line.
-fn puts_finding(alloc: Global, text: &[u8], wanted: &[u8]) -> Result<bool, Fail> {
-    let line = parse_line(alloc, text)?;
-    let out = finding_line(alloc, &line)?;
-    Ok(out.ends_with(wanted) && out.len() == 1 + wanted.len())
-}
-
 #[test]
 fn put_finding_refused(rt: HostRuntime) -> Result<(), Fail> {
-    assert!(rt; puts_finding(rt.alloc(), FOUND[0], FOUND[1])?);
-    Mark::Right.set(rt.alloc());
+    let alloc = rt.alloc();
+    let line = parse_line(alloc, FOUND[0])?;
+    let out = finding_line(alloc, &line)?;
+    assert!(rt; out.ends_with(FOUND[1]));
+    assert_eq!(rt; out.len(), 1 + FOUND[1].len());
+    Mark::Right.set(alloc);
     Ok(())
 }
 
@@ -205,7 +193,9 @@ fn last_line(alloc: Global) -> Result<Vec<u8>, NoMemory> {
 
 #[test]
 fn put_count_refused(rt: HostRuntime) -> Result<(), Fail> {
-    assert!(rt; last_line(rt.alloc())?.as_slice() == b" findings 1\n".as_slice());
-    Mark::Right.set(rt.alloc());
+    let alloc = rt.alloc();
+    let out = last_line(alloc)?;
+    assert_eq!(rt; out.as_slice(), b" findings 1\n".as_slice());
+    Mark::Right.set(alloc);
     Ok(())
 }

@@ -63,14 +63,10 @@ fn answers_all(alloc: Global, session: &Session, start: &Start) -> Result<bool, 
     Ok(true)
 }
 
-/// Whether a session of the trace does, from a start.
-fn answers_all_from(alloc: Global, start: &Start) -> Result<bool, Fail> {
-    Ok(answers_all(alloc, &session_of(alloc)?, start)?)
-}
-
 #[test]
 fn reports_refused(rt: HostRuntime) -> Result<(), Fail> {
-    assert!(rt; answers_all_from(rt.alloc(), &start_of(rt.alloc())?)?);
+    let start = start_of(rt.alloc())?;
+    assert!(rt; answers_all(rt.alloc(), &session_of(rt.alloc())?, &start)?);
     Ok(())
 }
 
@@ -86,18 +82,14 @@ fn parsed(alloc: Global, text: &[u8]) -> Result<Start, StartFault> {
     parse_start(alloc, text)
 }
 
-/// Whether a start says what the text does.
-fn says(start: &Start) -> bool {
-    start.cell(100, 1) == Cell::Closed
-        && start.cell(101, 3) == Cell::Closed
-        && start.cell(101, 0) == Cell::Unknown
-        && start.mode(101) == Mode::Inside
-}
-
 #[test]
 fn parse_start_refused(rt: HostRuntime) -> Result<(), Fail> {
     let text = b"100 out closed 0=CAP_READ 70=ALL\n101 in unknown 3=closed\n";
-    assert!(rt; says(&parsed(rt.alloc(), text)?));
+    let start = parsed(rt.alloc(), text)?;
+    assert_eq!(rt; start.cell(100, 1), Cell::Closed);
+    assert_eq!(rt; start.cell(101, 3), Cell::Closed);
+    assert_eq!(rt; start.cell(101, 0), Cell::Unknown);
+    assert_eq!(rt; start.mode(101), Mode::Inside);
     Mark::Right.set(rt.alloc());
     Ok(())
 }

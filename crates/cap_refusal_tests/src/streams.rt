@@ -86,18 +86,12 @@ static CHECKS: [Call; 4] = [
     Call::CheckFromAs,
 ];
 
-/// Whether a call finds and reports what is right.
-fn is_reported(alloc: Global, call: Call) -> bool {
-    match checked(alloc, call) {
-        Some((outcome, kept)) => outcome == Outcome::Findings && kept.text() == REPORT,
-        None => false,
-    }
-}
-
 #[test]
 fn check_streams_refused(rt: HostRuntime) -> Result<(), Fail> {
     for call in &CHECKS {
-        assert!(rt; is_reported(rt.alloc(), *call));
+        let (outcome, kept) = checked(rt.alloc(), *call).ok_or("written without memory")?;
+        assert_eq!(rt; outcome, Outcome::Findings);
+        assert_eq!(rt; kept.text(), REPORT);
         Mark::Right.set(rt.alloc());
     }
     Ok(())
@@ -152,18 +146,13 @@ static WAYS: [(Option<Profile>, bool); 4] = [
     (Some(Profile::Two), true),
 ];
 
-/// Whether the last line is explained as is right.
-fn is_explained(alloc: Global, profile: Option<Profile>, is_started: bool) -> bool {
-    match explained_or_again(alloc, profile, is_started) {
-        Some((ExplainOutcome::Ended(Outcome::Findings), kept)) => kept.text() == EXPLAINED,
-        _ => false,
-    }
-}
-
 #[test]
 fn explain_streams_refused(rt: HostRuntime) -> Result<(), Fail> {
     for (profile, is_started) in &WAYS {
-        assert!(rt; is_explained(rt.alloc(), *profile, *is_started));
+        let answer = explained_or_again(rt.alloc(), *profile, *is_started);
+        let (outcome, kept) = answer.ok_or("written without memory")?;
+        assert_eq!(rt; outcome, ExplainOutcome::Ended(Outcome::Findings));
+        assert_eq!(rt; kept.text(), EXPLAINED);
         Mark::Right.set(rt.alloc());
     }
     Ok(())
@@ -192,16 +181,13 @@ fn is_replied(alloc: Global, call: Call) -> bool {
     may_be_replied(outcome, kept.text())
 }
 
-/// Whether a script is replied to with memory for all.
-fn is_edited(alloc: Global, call: Call) -> bool {
-    let (outcome, kept) = streamed(alloc, call);
-    (outcome, kept.text()) == REPLIES[0]
-}
-
 #[test]
 fn edit_streams_refused(rt: HostRuntime) -> Result<(), Fail> {
     for call in &[Call::Edit, Call::EditAs] {
-        assert!(rt; is_replied(rt.alloc(), *call) && is_edited(rt.alloc(), *call));
+        assert!(rt; is_replied(rt.alloc(), *call));
+        let (outcome, kept) = streamed(rt.alloc(), *call);
+        assert_eq!(rt; outcome, Outcome::Clean);
+        assert_eq!(rt; kept.text(), REPLIES[0].1);
         Mark::Right.set(rt.alloc());
     }
     Ok(())
@@ -235,8 +221,11 @@ impl<S: Source> Source for Marked<S> {
     }
 }
 
-/// The outcome of the script with those marks, and what it wrote.
-fn with_marks(alloc: Global) -> (Outcome, Kept) {
+/// Each allocation inside `delete 2` is refused in turn. Where the command can't do without it, it is answered so, and
+/// the trace is reported as it was.
+#[test]
+fn delete_in_a_script_refused(rt: HostRuntime) -> Result<(), Fail> {
+    let alloc = rt.alloc();
     let mut trace = Pieces::new(TRACE, 64, 0);
     let mut script = Marked {
         script: Pieces::new(SCRIPT, 9, 0),
@@ -252,24 +241,12 @@ fn with_marks(alloc: Global) -> (Outcome, Kept) {
         &mut script,
         &mut kept,
     );
-    (outcome, kept)
-}
-
-/// Whether the script is replied to with memory for all, or as it is where `delete 2` lacks some.
-fn deletes(alloc: Global) -> bool {
-    let (outcome, kept) = with_marks(alloc);
     if outcome == Outcome::Clean {
-        return kept.text() == REPLIES[0].1;
+        assert_eq!(rt; kept.text(), REPLIES[0].1);
+    } else {
+        Mark::Lacked.set(alloc);
+        assert_eq!(rt; (outcome, kept.text()), REPLIES[1]);
     }
-    Mark::Lacked.set(alloc);
-    (outcome, kept.text()) == REPLIES[1]
-}
-
-/// Each allocation inside `delete 2` is refused in turn. Where the command can't do without it, it is answered so, and
-/// the trace is reported as it was.
-#[test]
-fn delete_in_a_script_refused(rt: HostRuntime) -> Result<(), Fail> {
-    assert!(rt; deletes(rt.alloc()));
-    Mark::Right.set(rt.alloc());
+    Mark::Right.set(alloc);
     Ok(())
 }

@@ -72,7 +72,7 @@ fn empty(alloc: Global) -> Result<Summary, NoMemory> {
 
 #[test]
 fn empty_refused(rt: HostRuntime) -> Result<(), Fail> {
-    assert!(rt; empty(rt.alloc())?.len() == 0);
+    assert_eq!(rt; empty(rt.alloc())?.len(), 0);
     Mark::Right.set(rt.alloc());
     Ok(())
 }
@@ -89,20 +89,12 @@ fn one(alloc: Global, step: &Rc<Step>) -> Result<Summary, NoMemory> {
     Summary::one(alloc, step)
 }
 
-/// Whether the summary of each step has one.
-fn summarizes_all(alloc: Global, steps: &[Rc<Step>]) -> Result<bool, NoMemory> {
-    for step in steps {
-        if one(alloc, step)?.len() != 1 {
-            return Ok(false);
-        }
-        Mark::Right.set(alloc);
-    }
-    Ok(true)
-}
-
 #[test]
 fn one_refused(rt: HostRuntime) -> Result<(), Fail> {
-    assert!(rt; summarizes_all(rt.alloc(), &steps_of(rt.alloc())?)?);
+    for step in &steps_of(rt.alloc())? {
+        assert_eq!(rt; one(rt.alloc(), step)?.len(), 1);
+        Mark::Right.set(rt.alloc());
+    }
     Ok(())
 }
 
@@ -137,16 +129,11 @@ fn found_from(alloc: Global, summary: &Summary) -> Result<Vec<usize>, Fail> {
     positions(alloc, &resolve(alloc, summary, &start)?)
 }
 
-/// Whether all is found in the summary that is joined there.
-fn finds_all(alloc: Global, place: usize) -> Result<bool, Fail> {
-    let found = found_from(alloc, &joined_at(alloc, place)?)?;
-    Ok(found.as_slice() == [5, 8].as_slice())
-}
-
 #[test]
 fn join_refused(rt: HostRuntime) -> Result<(), Fail> {
     for place in 0..=TRACE.len() {
-        assert!(rt; finds_all(rt.alloc(), place)?, "cut at {place}");
+        let found = found_from(rt.alloc(), &joined_at(rt.alloc(), place)?)?;
+        assert_eq!(rt; found.as_slice(), [5, 8].as_slice(), "cut at {place}");
         Mark::Right.set(rt.alloc());
     }
     Ok(())
