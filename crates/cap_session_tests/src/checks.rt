@@ -240,34 +240,27 @@ fn a_broken_device_ends_the_call(rt: HostRuntime) -> Result<(), Fail> {
     Ok(())
 }
 
-/// Whether nothing is written where a read fails.
-fn leaves_nothing(alloc: Global, failing: u64) -> Result<bool, NoMemory> {
-    let reader = Pieces::new(LIMITED, 1, failing);
-    let answer = checked(alloc, 4096, reader, Kept::new(1, 256))?;
-    Ok(answer.is(Outcome::ReadFault, b""))
-}
-
 /// Each read fails in turn.
 #[test]
 fn a_fault_of_the_reader_leaves_nothing(rt: HostRuntime) -> Result<(), Fail> {
     for failing in 1..LIMITED.len() as u64 + 2 {
-        assert!(rt; leaves_nothing(rt.alloc(), failing)?, "read {failing}");
+        let reader = Pieces::new(LIMITED, 1, failing);
+        let answer = checked(rt.alloc(), 4096, reader, Kept::new(1, 256))?;
+        assert!(rt; answer.is(Outcome::ReadFault, b""), "read {failing}");
     }
     Ok(())
-}
-
-/// Whether a writer that takes so many bytes has these, and then fails.
-fn is_cut(alloc: Global, report: &[u8]) -> Result<bool, NoMemory> {
-    let reader = Pieces::new(LIMITED, 20, 0);
-    let answer = checked(alloc, 4096, reader, Kept::new(3, report.len()))?;
-    Ok(answer.is(Outcome::WriteFault, report))
 }
 
 /// Each byte that is written fails in turn.
 #[test]
 fn a_fault_of_the_writer_leaves_a_prefix(rt: HostRuntime) -> Result<(), Fail> {
     for most in 0..LIMITED_REPORT.len() {
-        assert!(rt; is_cut(rt.alloc(), &LIMITED_REPORT[..most])?, "byte {most}");
+        let reader = Pieces::new(LIMITED, 20, 0);
+        let answer = checked(rt.alloc(), 4096, reader, Kept::new(3, most))?;
+        assert!(rt;
+            answer.is(Outcome::WriteFault, &LIMITED_REPORT[..most]),
+            "byte {most}"
+        );
     }
     Ok(())
 }
@@ -450,11 +443,12 @@ fn a_counted_reader_counts_its_calls(rt: HostRuntime) -> Result<(), Fail> {
         reads: 0,
     });
     let mut buffer = [0_u8; 2];
-    for (calls, answer) in (0..).zip(&[Ok(2), Err(Failed), Ok(1), Ok(0)]) {
-        assert!(rt; Source::room(&reader) == u64::MAX - calls);
-        assert!(rt; Source::read(&mut reader, &mut buffer) == *answer);
-    }
-    assert!(rt; Source::room(&reader) == u64::MAX - 4);
+    assert_eq!(rt; Source::room(&reader), u64::MAX);
+    assert_eq!(rt; Source::read(&mut reader, &mut buffer), Ok(2));
+    assert_eq!(rt; Source::read(&mut reader, &mut buffer), Err(Failed));
+    assert_eq!(rt; Source::read(&mut reader, &mut buffer), Ok(1));
+    assert_eq!(rt; Source::read(&mut reader, &mut buffer), Ok(0));
+    assert_eq!(rt; Source::room(&reader), u64::MAX - 4);
     Ok(())
 }
 

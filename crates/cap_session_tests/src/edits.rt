@@ -24,7 +24,7 @@ fn session_of(alloc: Global, limit: usize, lines: &[&[u8]]) -> Result<Session, R
 }
 
 /// These lines.
-pub fn lines_of(alloc: Global, texts: &[&[u8]]) -> Result<Vec<Line>, Refused> {
+fn lines_of(alloc: Global, texts: &[&[u8]]) -> Result<Vec<Line>, Refused> {
     let mut lines = Vec::new(alloc);
     for text in texts {
         lines.push(parse_line(alloc, text)?)?;
@@ -33,7 +33,7 @@ pub fn lines_of(alloc: Global, texts: &[&[u8]]) -> Result<Vec<Line>, Refused> {
 }
 
 /// The session with these lines.
-pub fn loaded(mut session: Session, lines: Vec<Line>) -> Result<Session, Refused> {
+fn loaded(mut session: Session, lines: Vec<Line>) -> Result<Session, Refused> {
     match session.load(lines) {
         Ok(_) => Ok(session),
         Err(refused) => Err(refused),
@@ -83,16 +83,12 @@ fn session_of_inserts(alloc: Global) -> Result<Session, Refused> {
     Ok(session)
 }
 
-/// Whether something is found in a session until its limit is deleted.
-fn finds_until_deleted(session: &mut Session) -> Result<bool, Refused> {
-    let is_found = reports(session, FINDS_ONE)?;
-    session.delete(2)?;
-    Ok(is_found && reports(session, FINDS_NONE)?)
-}
-
 #[test]
 fn the_example_of_the_crate(rt: HostRuntime) -> Result<(), Fail> {
-    assert!(rt; finds_until_deleted(&mut session_of_inserts(rt.alloc())?)?);
+    let mut session = session_of_inserts(rt.alloc())?;
+    assert!(rt; reports(&session, FINDS_ONE)?);
+    session.delete(2)?;
+    assert!(rt; reports(&session, FINDS_NONE)?);
     Ok(())
 }
 
@@ -117,11 +113,8 @@ static ACCEPTED: [(Edit<'static>, usize, &[u8]); 3] = [
     ),
 ];
 
-/// Whether a session has the report of that trace, and answers those edits so.
+/// Whether a session answers those edits so.
 fn accepts(session: &mut Session) -> Result<bool, Refused> {
-    if !reports(session, FINDS_ONE)? {
-        return Ok(false);
-    }
     for (edit, count, report) in &ACCEPTED {
         if !gives(session, edit, *count, report)? {
             return Ok(false);
@@ -132,7 +125,8 @@ fn accepts(session: &mut Session) -> Result<bool, Refused> {
 
 #[test]
 fn accepted_edits_change_the_report(rt: HostRuntime) -> Result<(), Fail> {
-    assert!(rt; accepts(&mut session_of(rt.alloc(), 10, &LIMITED)?)?);
+    let mut session = session_of(rt.alloc(), 10, &LIMITED)?;
+    assert!(rt; reports(&session, FINDS_ONE)? && accepts(&mut session)?);
     Ok(())
 }
 
@@ -217,31 +211,22 @@ static IN_ORDER: [(Edit<'static>, Result<usize, Refused>); 7] = [
     ),
 ];
 
-/// Whether an edit is answered so, with the count after it.
-fn answers(session: &mut Session, edit: &Edit<'_>, answer: Result<usize, Refused>) -> bool {
-    let count = session.count();
-    session.edit(edit) == answer && session.count() == answer.unwrap_or(count)
-}
-
-/// Whether a session answers those edits so.
+/// Whether a session answers those edits so, with the counts after them.
 fn answers_in_order(session: &mut Session) -> bool {
     for (edit, answer) in &IN_ORDER {
-        if !answers(session, edit, *answer) {
+        let count = session.count();
+        if session.edit(edit) != *answer || session.count() != answer.unwrap_or(count) {
             return false;
         }
     }
     true
 }
 
-/// Whether a session of two lines does, and finds nothing then.
-fn refuses_in_order(session: &mut Session) -> Result<bool, Refused> {
-    let is_answered = session.count() == 2 && answers_in_order(session);
-    Ok(is_answered && reports(session, FINDS_NONE)?)
-}
-
 #[test]
 fn refusals_come_in_order(rt: HostRuntime) -> Result<(), Fail> {
-    assert!(rt; refuses_in_order(&mut session_of(rt.alloc(), 2, &LIMITED[..2])?)?);
+    let mut session = session_of(rt.alloc(), 2, &LIMITED[..2])?;
+    assert!(rt; session.count() == 2 && answers_in_order(&mut session));
+    assert!(rt; reports(&session, FINDS_NONE)?);
     Ok(())
 }
 
@@ -254,27 +239,24 @@ fn count_within(alloc: Global, limit: usize) -> Result<usize, Refused>
 
 #[test]
 fn a_list_past_the_limit_is_refused(rt: HostRuntime) -> Result<(), Fail> {
-    assert!(rt; count_within(rt.alloc(), 3)? == 3);
-    assert!(rt; count_within(rt.alloc(), 2) == Err(Refused::Full));
+    assert_eq!(rt; count_within(rt.alloc(), 3)?, 3);
+    assert_eq!(rt; count_within(rt.alloc(), 2), Err(Refused::Full));
     Ok(())
-}
-
-/// Whether a session has no lines, and may be loaded with none.
-fn has_no_lines(session: &mut Session, none: Vec<Line>) -> Result<bool, Refused> {
-    let is_empty = session.count() == 0 && reports(session, FINDS_NONE)?;
-    Ok(session.load(none)? == 0 && is_empty)
 }
 
 #[test]
 fn a_session_begins_with_no_lines(rt: HostRuntime) -> Result<(), Fail> {
-    assert!(rt; has_no_lines(&mut Session::new(rt.alloc(), 0)?, Vec::new(rt.alloc()))?);
+    let mut session = Session::new(rt.alloc(), 0)?;
+    assert_eq!(rt; session.count(), 0);
+    assert!(rt; reports(&session, FINDS_NONE)?);
+    assert_eq!(rt; session.load(Vec::new(rt.alloc()))?, 0);
     Ok(())
 }
 
 #[test]
 fn a_session_in_a_profile_begins_with_no_lines(rt: HostRuntime) -> Result<(), Fail> {
     for profile in &[Profile::One, Profile::Two] {
-        assert!(rt; Session::with_profile(rt.alloc(), 10, *profile)?.count() == 0);
+        assert_eq!(rt; Session::with_profile(rt.alloc(), 10, *profile)?.count(), 0);
     }
     Ok(())
 }
@@ -293,15 +275,11 @@ fn a_line_is_shown_in_its_one_spelling(rt: HostRuntime) -> Result<(), Fail> {
     Ok(())
 }
 
-/// Whether a session of one line shows no other.
-fn shows_no_other(session: &Session) -> bool {
-    let is_before = shows(session, 0, b"") == Err(Refused::Position);
-    is_before && shows(session, 2, b"") == Err(Refused::Position)
-}
-
 #[test]
 fn no_other_line_is_shown(rt: HostRuntime) -> Result<(), Fail> {
-    assert!(rt; shows_no_other(&session_of(rt.alloc(), 1, &SPELLED)?));
+    let session = session_of(rt.alloc(), 1, &SPELLED)?;
+    assert_eq!(rt; shows(&session, 0, b""), Err(Refused::Position));
+    assert_eq!(rt; shows(&session, 2, b""), Err(Refused::Position));
     Ok(())
 }
 
@@ -338,22 +316,13 @@ fn a_range_has_the_findings_at_its_positions(rt: HostRuntime) -> Result<(), Fail
     Ok(())
 }
 
-/// Ranges that a session of four lines doesn't have.
-static NO_RANGES: [(usize, usize); 3] = [(0, 1), (2, 1), (4, 5)];
-
-/// Whether a session has none of those ranges.
-fn has_no_such_range(session: &Session) -> bool {
-    for (first, last) in &NO_RANGES {
-        if reports_of_range(session, *first, *last, b"") != Err(Refused::Position) {
-            return false;
-        }
-    }
-    true
-}
-
 #[test]
 fn there_is_no_other_range(rt: HostRuntime) -> Result<(), Fail> {
-    assert!(rt; has_no_such_range(&session_of(rt.alloc(), 10, &EXPANDED)?));
+    let session = session_of(rt.alloc(), 10, &EXPANDED)?;
+    for (first, last) in &[(0, 1), (2, 1), (4, 5)] {
+        let answer = reports_of_range(&session, *first, *last, b"");
+        assert!(rt; answer == Err(Refused::Position), "{first} to {last}");
+    }
     Ok(())
 }
 
@@ -385,15 +354,11 @@ fn applies(
     Ok(session.apply(edits)?.as_slice() == answers)
 }
 
-/// Whether the mixed edits are, and what is found then is found.
-fn applies_mixed(session: &mut Session) -> Result<bool, Refused> {
-    let is_answered = applies(session, &MIXED, &MIXED_ANSWERS)?;
-    Ok(is_answered && reports(session, FINDS_ONE)?)
-}
-
 #[test]
 fn edits_are_made_one_after_the_other(rt: HostRuntime) -> Result<(), Fail> {
-    assert!(rt; applies_mixed(&mut session_of(rt.alloc(), 10, &LIMITED)?)?);
+    let mut session = session_of(rt.alloc(), 10, &LIMITED)?;
+    let is_answered = applies(&mut session, &MIXED, &MIXED_ANSWERS)?;
+    assert!(rt; is_answered && reports(&session, FINDS_ONE)?);
     Ok(())
 }
 
@@ -409,15 +374,11 @@ fn reports_after(
     Ok(is_answered && edited.report?.as_slice() == report)
 }
 
-/// Whether that is so of two of the mixed edits, and the session has their report.
-fn reports_after_mixed(session: &mut Session) -> Result<bool, Refused> {
-    let is_answered = reports_after(session, &MIXED[..2], &MIXED_ANSWERS[..2], FINDS_NONE)?;
-    Ok(is_answered && reports(session, FINDS_NONE)?)
-}
-
 #[test]
 fn the_report_after_edits_is_that_of_their_trace(rt: HostRuntime) -> Result<(), Fail> {
-    assert!(rt; reports_after_mixed(&mut session_of(rt.alloc(), 10, &LIMITED)?)?);
+    let mut session = session_of(rt.alloc(), 10, &LIMITED)?;
+    let is_answered = reports_after(&mut session, &MIXED[..2], &MIXED_ANSWERS[..2], FINDS_NONE)?;
+    assert!(rt; is_answered && reports(&session, FINDS_NONE)?);
     Ok(())
 }
 
@@ -450,10 +411,8 @@ fn reports_exec(session: &mut Session, report: &[u8]) -> Result<bool, Refused> {
 #[test]
 fn an_exec_closes_descriptors_in_profile_2(rt: HostRuntime) -> Result<(), Fail> {
     for (profile, report) in &BY_PROFILE {
-        assert!(rt;
-            reports_exec(&mut executed(rt.alloc(), *profile)?, report)?,
-            "{profile:?}"
-        );
+        let mut session = executed(rt.alloc(), *profile)?;
+        assert!(rt; reports_exec(&mut session, report)?, "{profile:?}");
     }
     Ok(())
 }
@@ -474,20 +433,13 @@ fn reading(alloc: Global) -> Result<Start, Fail> {
     Ok(start)
 }
 
-/// Whether a write is found from a start.
-fn reports_write_from(session: &Session, start: &Start) -> Result<bool, Refused> {
-    let report = b"1 100 write missing 0 CAP_WRITE\nfindings 1\n".as_slice();
-    Ok(session.report_from(start)?.as_slice() == report)
-}
-
-/// Inserts a write: whether it is found from that start, and not from the usual one.
+/// Inserts a write: whether it is found from that start.
 fn reports_write(alloc: Global, session: &mut Session) -> Result<bool, Fail> {
     let count = session.insert(1, b"100 write(0) RET 1")?;
-    Ok(
-        count == 1
-            && reports_write_from(session, &reading(alloc)?)?
-            && reports(session, FINDS_NONE)?,
-    )
+    let start = reading(alloc)?;
+    let text = session.report_from(&start)?;
+    let report = b"1 100 write missing 0 CAP_WRITE\nfindings 1\n".as_slice();
+    Ok(count == 1 && text.as_slice() == report)
 }
 
 #[test]
@@ -495,6 +447,7 @@ fn a_report_is_under_its_start(rt: HostRuntime) -> Result<(), Fail> {
     for profile in &[Profile::One, Profile::Two] {
         let mut session = Session::with_profile(rt.alloc(), 1, *profile)?;
         assert!(rt; reports_write(rt.alloc(), &mut session)?);
+        assert!(rt; reports(&session, FINDS_NONE)?);
     }
     Ok(())
 }

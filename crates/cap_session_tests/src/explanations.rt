@@ -3,7 +3,6 @@
 ghost use Rattle.std.specs.Prelude.{◌<◌};
 
 use crate::devices::{Kept, Pieces};
-use crate::edits::loaded;
 use cap_machine::{NoMemory, Profile};
 use cap_session::{
     ExplainOutcome, ExplainedLine, Outcome, Refused, Session, explain_stream, explain_stream_as,
@@ -214,17 +213,13 @@ fn explained_as(alloc: Global, row: &Row) -> Result<Explained, NoMemory> {
     Ok((ample(ended)?, writer))
 }
 
-/// Whether the line of a row is explained so without its start.
-fn is_explained_as(alloc: Global, row: &Row) -> Result<bool, NoMemory> {
-    let (ended, writer) = explained_as(alloc, row)?;
-    Ok(ended == row.4 && writer.text() == row.5)
-}
-
 #[test]
 fn without_a_start_it_is_the_usual_one(rt: HostRuntime) -> Result<(), Fail> {
     for row in &ROWS {
         if row.0.is_empty() {
-            assert!(rt; is_explained_as(rt.alloc(), row)?, "{:?}", row.5);
+            let (ended, writer) = explained_as(rt.alloc(), row)?;
+            assert_eq!(rt; ended, row.4);
+            assert_eq!(rt; writer.text(), row.5);
         }
     }
     Ok(())
@@ -232,32 +227,24 @@ fn without_a_start_it_is_the_usual_one(rt: HostRuntime) -> Result<(), Fail> {
 
 const EXPLAINED: &[u8] = b"3 100 read(5) RET 1\n5 2 100 execve(\"/bin/x\") RET 0\n";
 
-/// Whether that is written without a profile.
-fn is_explained_plainly(alloc: Global) -> Result<bool, NoMemory> {
-    let mut reader = Pieces::new(EXEC, 100, 0);
-    let mut writer = Kept::new(100, 256);
-    let ended = explain_stream(alloc, 4096, 3, &mut reader, &mut writer);
-    Ok(ample(ended)? == CLEAN && writer.text() == EXPLAINED)
-}
-
 #[test]
 fn without_a_profile_it_is_the_first(rt: HostRuntime) -> Result<(), Fail> {
-    assert!(rt; is_explained_plainly(rt.alloc())?);
-    Ok(())
-}
-
-/// Whether that is written from a start without a profile.
-fn is_explained_from(alloc: Global) -> Result<bool, NoMemory> {
-    let mut from = Pieces::new(b"", 100, 0);
     let mut reader = Pieces::new(EXEC, 100, 0);
     let mut writer = Kept::new(100, 256);
-    let ended = explain_stream_from(alloc, 4096, 3, &mut from, &mut reader, &mut writer);
-    Ok(ample(ended)? == CLEAN && writer.text() == EXPLAINED)
+    let ended = explain_stream(rt.alloc(), 4096, 3, &mut reader, &mut writer);
+    assert_eq!(rt; ample(ended)?, CLEAN);
+    assert_eq!(rt; writer.text(), EXPLAINED);
+    Ok(())
 }
 
 #[test]
 fn from_a_start_without_a_profile_it_is_the_first(rt: HostRuntime) -> Result<(), Fail> {
-    assert!(rt; is_explained_from(rt.alloc())?);
+    let mut from = Pieces::new(b"", 100, 0);
+    let mut reader = Pieces::new(EXEC, 100, 0);
+    let mut writer = Kept::new(100, 256);
+    let ended = explain_stream_from(rt.alloc(), 4096, 3, &mut from, &mut reader, &mut writer);
+    assert_eq!(rt; ample(ended)?, CLEAN);
+    assert_eq!(rt; writer.text(), EXPLAINED);
     Ok(())
 }
 
@@ -277,6 +264,14 @@ fn session_of(alloc: Global, row: &Row) -> Result<Session, Refused> {
     let (_, profile, trace, ..) = row;
     let lines = lines_of(alloc, trace)?;
     loaded(Session::with_profile(alloc, 10, *profile)?, lines)
+}
+
+/// The session with these lines.
+fn loaded(mut session: Session, lines: Vec<Line>) -> Result<Session, Refused> {
+    match session.load(lines) {
+        Ok(_) => Ok(session),
+        Err(refused) => Err(refused),
+    }
 }
 
 /// Whether a session answers with the outcome and the text of a row.
@@ -326,18 +321,11 @@ fn a_session_explains_a_line(rt: HostRuntime) -> Result<(), Fail> {
     Ok(())
 }
 
-/// Outcomes, and the status of each.
-static STATUSES: [(ExplainOutcome, u8); 4] = [
-    (CLEAN, 0),
-    (FINDINGS, 1),
-    (ExplainOutcome::OutOfRange, 2),
-    (ExplainOutcome::Ended(Outcome::Memory), 3),
-];
-
 #[test]
 fn a_status_for_each_outcome(rt: HostRuntime) -> Result<(), Fail> {
-    for (outcome, status) in &STATUSES {
-        assert!(rt; outcome.status() == *status, "{status}");
-    }
+    assert_eq!(rt; CLEAN.status(), 0);
+    assert_eq!(rt; FINDINGS.status(), 1);
+    assert_eq!(rt; ExplainOutcome::OutOfRange.status(), 2);
+    assert_eq!(rt; ExplainOutcome::Ended(Outcome::Memory).status(), 3);
     Ok(())
 }

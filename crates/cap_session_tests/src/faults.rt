@@ -215,7 +215,7 @@ fn script_ends(alloc: Global, read: u64, replies: &[u8]) -> Result<bool, NoMemor
 
 #[test]
 fn each_read_of_a_script(rt: HostRuntime) -> Result<(), Fail> {
-    assert!(rt; SCRIPT.len() == 48);
+    assert_eq!(rt; SCRIPT.len(), 48);
     for read in 3..SCRIPT.len() as u64 + 2 {
         assert!(rt;
             script_ends(rt.alloc(), read, replied(read - 1))?,

@@ -137,34 +137,26 @@ fn a_trace_is_checked_from_a_start_in_pieces_of_any_size(rt: HostRuntime) -> Res
     Ok(())
 }
 
-/// Whether nothing is found after an exec without a profile.
-fn is_clean_from(alloc: Global) -> Result<bool, NoMemory> {
-    let mut start = Pieces::new(b"100 out closed 5=ALL", 9, 0);
-    let mut reader = Pieces::new(EXEC, 9, 0);
-    let mut writer = Kept::new(9, 256);
-    let ended = check_stream_from(alloc, 4096, &mut start, &mut reader, &mut writer);
-    Ok(ample(ended)? == Outcome::Clean && writer.text() == b"findings 0\n".as_slice())
-}
-
 /// Without a profile it is profile 1.
 #[test]
 fn a_profile_that_is_left_out_is_the_first(rt: HostRuntime) -> Result<(), Fail> {
-    assert!(rt; is_clean_from(rt.alloc())?);
-    Ok(())
-}
-
-/// Whether nothing is found in a write without a start.
-fn is_clean(alloc: Global) -> Result<bool, NoMemory> {
-    let mut reader = Pieces::new(b"100 write(0) RET 1", 9, 0);
+    let mut start = Pieces::new(b"100 out closed 5=ALL", 9, 0);
+    let mut reader = Pieces::new(EXEC, 9, 0);
     let mut writer = Kept::new(9, 256);
-    let ended = check_stream(alloc, 4096, &mut reader, &mut writer);
-    Ok(ample(ended)? == Outcome::Clean && writer.text() == b"findings 0\n".as_slice())
+    let ended = check_stream_from(rt.alloc(), 4096, &mut start, &mut reader, &mut writer);
+    assert_eq!(rt; ample(ended)?, Outcome::Clean);
+    assert_eq!(rt; writer.text(), b"findings 0\n".as_slice());
+    Ok(())
 }
 
 /// Without a start it is the usual one.
 #[test]
 fn a_start_that_is_left_out_is_the_usual_one(rt: HostRuntime) -> Result<(), Fail> {
-    assert!(rt; is_clean(rt.alloc())?);
+    let mut reader = Pieces::new(b"100 write(0) RET 1", 9, 0);
+    let mut writer = Kept::new(9, 256);
+    let ended = check_stream(rt.alloc(), 4096, &mut reader, &mut writer);
+    assert_eq!(rt; ample(ended)?, Outcome::Clean);
+    assert_eq!(rt; writer.text(), b"findings 0\n".as_slice());
     Ok(())
 }
 

@@ -113,22 +113,22 @@ static CHANGES: [(Change, usize, usize); 3] = [
     (Change::Delete, 1, 20),
 ];
 
-/// Whether there are none at first, and they are the same through all these changes, which leave 280 lines.
+/// Whether they are the same through all these changes.
 fn all_join_alike(both: &mut Both) -> Result<bool, Fail> {
-    if both.session.joins() != 0 {
-        return Ok(false);
-    }
     for (change, position, times) in &CHANGES {
         if !join_alike(both, *change, *position, *times)? {
             return Ok(false);
         }
     }
-    Ok(both.session.count() == 280 && both.tree.len() == 280)
+    Ok(true)
 }
 
 #[test]
 fn joins_are_those_of_the_same_edits_of_a_tree(rt: HostRuntime) -> Result<(), Fail> {
-    assert!(rt; all_join_alike(&mut Both::new(rt.alloc())?)?);
+    let mut both = Both::new(rt.alloc())?;
+    assert_eq!(rt; both.session.joins(), 0);
+    assert!(rt; all_join_alike(&mut both)?);
+    assert!(rt; both.session.count() == 280 && both.tree.len() == 280);
     Ok(())
 }
 
@@ -188,26 +188,22 @@ fn session_of_two(alloc: Global) -> Result<Session, Fail> {
     Ok(session)
 }
 
-/// Whether a tree has two steps of process 100 in profile 2.
-fn has_both(tree: &Tree<Summary>) -> bool {
-    let is_of_100 = |step: &Step| step.profile == Profile::Two && step.line.pid == 100;
-    tree.len() == 2 && tree.iter().all(is_of_100)
-}
-
 #[test]
 fn the_tree_has_the_lines(rt: HostRuntime) -> Result<(), Fail> {
-    assert!(rt; has_both(session_of_two(rt.alloc())?.tree()));
+    let session = session_of_two(rt.alloc())?;
+    assert_eq!(rt; session.tree().len(), 2);
+    for step in session.tree().iter() {
+        assert!(rt; step.profile == Profile::Two && step.line.pid == 100);
+    }
     Ok(())
-}
-
-/// Whether one thing is found in a summary of two lines.
-fn finds_one(alloc: Global, summary: &Summary) -> Result<bool, NoMemory> {
-    let found = resolve(alloc, summary, &Start::unknown(alloc))?;
-    Ok(summary.len() == 2 && found.len() == 1)
 }
 
 #[test]
 fn the_tree_has_the_summary_of_its_lines(rt: HostRuntime) -> Result<(), Fail> {
-    assert!(rt; finds_one(rt.alloc(), session_of_two(rt.alloc())?.tree().summary())?);
+    let session = session_of_two(rt.alloc())?;
+    let summary = session.tree().summary();
+    assert_eq!(rt; summary.len(), 2);
+    let found = resolve(rt.alloc(), summary, &Start::unknown(rt.alloc()))?;
+    assert_eq!(rt; found.len(), 1);
     Ok(())
 }

@@ -162,10 +162,11 @@ fn longest_insert(alloc: Global) -> Result<Vec<u8>, NoMemory> {
 #[test]
 fn the_longest_line_is_inserted(rt: HostRuntime) -> Result<(), Fail> {
     let script = longest_insert(rt.alloc())?;
+    assert_eq!(rt; script.len(), 9 + 1024);
     let trace = Pieces::new(b"", 500, 0);
     let scripts = Pieces::new(&script, 500, 0);
     let answer = edited(rt.alloc(), 4096, trace, scripts, Kept::new(500, 256))?;
-    assert!(rt; script.len() == 9 + 1024 && answer.is(Outcome::Clean, b"ok 1\n"));
+    assert!(rt; answer.is(Outcome::Clean, b"ok 1\n"));
     Ok(())
 }
 
@@ -195,8 +196,8 @@ fn a_fault_of_the_trace_leaves_the_script_unread(rt: HostRuntime) -> Result<(), 
         let trace = Pieces::new(FORKED, 1, failing);
         let script = Pieces::new(FORKED_SCRIPT, 1, 0);
         let answer = edited(rt.alloc(), 4096, trace, script, Kept::new(1, 256))?;
-        let is_left = answer.is(Outcome::ReadFault, b"") && answer.other_reads == 0;
-        assert!(rt; is_left, "read {failing}");
+        assert!(rt; answer.is(Outcome::ReadFault, b""), "read {failing}");
+        assert_eq!(rt; answer.other_reads, 0);
     }
     Ok(())
 }
@@ -230,17 +231,13 @@ fn cut_replies(alloc: Global, most: usize) -> Option<(Outcome, Kept)> {
     Some((ended, writer))
 }
 
-/// Whether a writer that takes so many bytes has these, and then fails.
-fn is_cut(alloc: Global, replies: &[u8]) -> Result<bool, NoMemory> {
-    let (ended, writer) = cut_replies(alloc, replies.len()).ok_or(NoMemory)?;
-    Ok(ample(ended)? == Outcome::WriteFault && writer.text() == replies)
-}
-
 /// Each byte that is written fails in turn.
 #[test]
 fn a_fault_of_the_writer_leaves_a_prefix(rt: HostRuntime) -> Result<(), Fail> {
     for most in 0..FORKED_REPLIES.len() {
-        assert!(rt; is_cut(rt.alloc(), &FORKED_REPLIES[..most])?, "byte {most}");
+        let (ended, writer) = cut_replies(rt.alloc(), most).ok_or(NoMemory)?;
+        assert_eq!(rt; ample(ended)?, Outcome::WriteFault, "byte {most}");
+        assert_eq!(rt; writer.text(), &FORKED_REPLIES[..most]);
     }
     Ok(())
 }

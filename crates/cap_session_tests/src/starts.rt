@@ -1,10 +1,9 @@
 //! Worked start texts: what is known of each process, and the fault of each text that isn't good.
 
-use crate::edits::lines_of;
-use cap_machine::{Cell, Mode, OnExec, Profile, Start, check};
+use cap_machine::{Cell, Mode, OnExec, Profile, check};
 use cap_rights::parse_rights;
 use cap_session::{StartFault, parse_start};
-use cap_trace::Line;
+use cap_trace::{Line, parse_line};
 use std::alloc::Global;
 use std::test::Fail;
 
@@ -23,7 +22,7 @@ static MODES: [(u32, Mode); 3] = [
 fn modes_of_a_start_are_read(rt: HostRuntime) -> Result<(), Fail> {
     let start = parse_start(rt.alloc(), GOOD)?;
     for (pid, mode) in &MODES {
-        assert!(rt; start.mode(*pid) == *mode, "{pid}");
+        assert_eq!(rt; start.mode(*pid), *mode, "{pid}");
     }
     Ok(())
 }
@@ -37,21 +36,16 @@ static CELLS: [(u32, u32, bool); 5] = [
     (102, 0, false),
 ];
 
-/// Whether a start knows that a descriptor is closed, or nothing of it.
-fn knows(start: &Start, pid: u32, fd: u32, is_closed: bool) -> bool {
-    start.cell(pid, fd)
-        == if is_closed {
-            Cell::Closed
-        } else {
-            Cell::Unknown
-        }
-}
-
 #[test]
 fn cells_of_a_start_are_read(rt: HostRuntime) -> Result<(), Fail> {
     let start = parse_start(rt.alloc(), GOOD)?;
     for (pid, fd, is_closed) in &CELLS {
-        assert!(rt; knows(&start, *pid, *fd, *is_closed), "{pid} {fd}");
+        let cell = if *is_closed {
+            Cell::Closed
+        } else {
+            Cell::Unknown
+        };
+        assert_eq!(rt; start.cell(*pid, *fd), cell, "{pid} {fd}");
     }
     Ok(())
 }
@@ -63,16 +57,12 @@ static HELD: [(u32, u32, &[u8]); 3] = [
     (101, 1, b"NONE"),
 ];
 
-/// Whether a start knows that a descriptor is held with these rights.
-fn holds(start: &Start, pid: u32, fd: u32, rights: &[u8]) -> Result<bool, Fail> {
-    Ok(start.cell(pid, fd) == Cell::Held(parse_rights(rights)?, OnExec::Unsure))
-}
-
 #[test]
 fn rights_of_a_start_are_read(rt: HostRuntime) -> Result<(), Fail> {
     let start = parse_start(rt.alloc(), GOOD)?;
     for (pid, fd, rights) in &HELD {
-        assert!(rt; holds(&start, *pid, *fd, rights)?, "{pid} {fd}");
+        let held = Cell::Held(parse_rights(rights)?, OnExec::Unsure);
+        assert_eq!(rt; start.cell(*pid, *fd), held, "{pid} {fd}");
     }
     Ok(())
 }
@@ -93,7 +83,7 @@ static READ: [&[u8]; 9] = [
 #[test]
 fn good_texts_are_read(rt: HostRuntime) -> Result<(), Fail> {
     for text in &READ {
-        assert!(rt; fault_of(rt.alloc(), text).is_none(), "{text:?}");
+        parse_start(rt.alloc(), text)?;
     }
     Ok(())
 }
@@ -170,7 +160,7 @@ fn bad_texts_are_refused(rt: HostRuntime) -> Result<(), Fail> {
             code: *code,
             line: *line,
         };
-        assert!(rt; fault_of(rt.alloc(), text) == Some(fault), "{text:?}");
+        assert_eq!(rt; fault_of(rt.alloc(), text), Some(fault), "{text:?}");
     }
     Ok(())
 }
@@ -187,9 +177,18 @@ static LONG: [(&[u8], Option<StartFault>); 4] = [
 #[test]
 fn a_long_line_is_refused(rt: HostRuntime) -> Result<(), Fail> {
     for (text, fault) in &LONG {
-        assert!(rt; fault_of(rt.alloc(), text) == *fault);
+        assert_eq!(rt; fault_of(rt.alloc(), text), *fault);
     }
     Ok(())
+}
+
+/// These lines.
+fn lines_of(alloc: Global, trace: &[&[u8]]) -> Result<Vec<Line>, Fail> {
+    let mut lines = Vec::new(alloc);
+    for line in trace {
+        lines.push(parse_line(alloc, line)?)?;
+    }
+    Ok(lines)
 }
 
 /// How many findings lines have from a start.
@@ -213,7 +212,7 @@ static CHECKED: [(&[u8], &[u8], usize); 3] = [
 #[test]
 fn a_trace_is_checked_from_a_start(rt: HostRuntime) -> Result<(), Fail> {
     for (text, line, count) in &CHECKED {
-        assert!(rt; findings(rt.alloc(), text, line)? == *count, "{text:?}");
+        assert_eq!(rt; findings(rt.alloc(), text, line)?, *count, "{text:?}");
     }
     Ok(())
 }
