@@ -37,28 +37,25 @@ fn behind(byte: u8, text: &[u8]) -> Option<&[u8]>
     }
 }
 
-/// The most digits that a process or a descriptor has.
-const MOST_DIGITS: usize = 7;
+/// The most bytes that a process or a descriptor and its end take.
+const MOST_BYTES: usize = 8;
 
 /// A number before this byte, and what follows the byte.
 #[inline(always)]
 fn number_before(stop: u8, text: &[u8]) -> Option<(u32, &[u8])>
     ensures { IfSome result (λ p. text.now ≡ decimal p.0 ++ (stop ∷ p.1.now)) }
 {
+    if text.len() < MOST_BYTES {
+        return None;
+    }
     let mut number: u32 = 0;
-    for i in 0..MOST_DIGITS + 1 {
-        if i >= text.len() {
-            return None;
-        }
+    for i in 0..MOST_BYTES {
         let byte = text[i];
-        if byte == stop {
-            if i == 0 || (text[0] == b'0' && i != 1) {
+        if !byte.is_ascii_digit() {
+            if byte != stop || i == 0 || (text[0] == b'0' && i != 1) {
                 return None;
             }
             return Some((number, &text[i + 1..]));
-        }
-        if !byte.is_ascii_digit() || number > LARGEST_FD / 10 {
-            return None;
         }
         number = number * 10 + u32::from(byte - b'0');
     }
