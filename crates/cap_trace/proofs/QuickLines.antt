@@ -1,10 +1,10 @@
 -- What is read in one pass is what the line spells.
 use Rattle.std.proofs.Common.{◌≡◌, ℕ, ◌≤◌, List, [], ◌∷◌, ◌++◌, length, Some, Result, Ok, refl, sym, ap, subst, ◌∙◌}
-use Rattle.std.proofs.Common.{append_assoc, Bool, true, false, not, cond, eqb, ltb}
-use Rattle.std.proofs.Common.{◌&&◌, ◌+◌, ◌-◌, suc, take, drop, None, arith}
+use Rattle.std.proofs.Common.{append_assoc, Bool, true, false, not, cond, eqb}
+use Rattle.std.proofs.Common.{◌&&◌, ◌-◌, take, drop, None, arith}
 use Rattle.std.proofs.lemmas.List.{take-append-drop, take_all, length-drop}
-use Rattle.std.specs.Prelude.{nat_le, position}
-use Rattle.std.specs.List.{list_all, position_or_len}
+use Rattle.std.specs.Prelude.{nat_le}
+use Rattle.std.specs.List.{list_all}
 use Rattle.cap_trace.specs.Steps.{takes_all}
 use Rattle.std.proofs.Common.{Option}
 use Rattle.cap_trace.specs.declared.fields.Place.{Place}
@@ -17,20 +17,23 @@ use Rattle.cap_trace.specs.declared.line.Call.{Call}
 use Rattle.cap_trace.specs.declared.line.Answer.{Answer}
 use Rattle.cap_trace.specs.Names.{Head, name_of, head_named}
 use Rattle.cap_trace.specs.Fields.{are_items, is_plain, is_between, item_step, quoted}
-use Rattle.cap_trace.specs.Entry.{head_of, a_dir, some_flags, some_rights, a_command, free_text}
+use Rattle.cap_trace.specs.Entry.{head_of, a_dir, some_rights, a_command, free_text}
 use Rattle.cap_trace.specs.Entry.{Arg, IsPid, head_of_call, args_of_call, kind_of, a_path}
 use Rattle.cap_trace.specs.Spelling.{Spells, SpellsArg, SpellsArgs, IsHead}
 use Rattle.cap_trace.specs.Quotes.{cut_at_byte}
 use Rattle.cap_trace.specs.declared.fault.FirstFault.{FirstFault}
 use Rattle.cap_trace.specs.declared.line.Dir.{Dir}
-use Rattle.cap_trace.specs.Reading.{◌>>=◌, dir_at, flags_at, rights_at, command_at, free_at}
+use Rattle.cap_trace.specs.Reading.{◌>>=◌, dir_at, rights_at, command_at, free_at}
 use Rattle.cap_trace.specs.Reading.{arg_at, answer_at, line_of}
-use Rattle.cap_trace.specs.Forms.{Slot, dir, flags, rights, command, free}
+use Rattle.cap_trace.specs.Forms.{Slot, dir, rights, command, free}
 use Rattle.cap_trace.specs.Quick.{Before, Between, SpellsAfter, Starts}
-use Rattle.cap_trace.proofs.Cuts.{both, both_true, cut_takes}
+use Rattle.cap_trace.proofs.Cuts.{both, cut_takes}
 use Rattle.cap_trace.proofs.Heads.{head_takes}
 use Rattle.cap_trace.proofs.Spelled.{arg_takes}
 use Rattle.cap_trace.proofs.Answered.{answer_takes}
+use Rattle.cap_trace.specs.Runs.{Runs}
+use Rattle.cap_trace.specs.declared.runs.Run.TheVariants.{Path}
+use Rattle.cap_trace.proofs.ByteRuns.{plain_run}
 use Rattle.cap_trace.proofs.WholeLines.{line_again}
 
 -- a cut, where what was cut is known better
@@ -52,12 +55,6 @@ unfolding arg_at
 dir_before stop text t rest d at e = read_before dir stop text t rest (a_dir d) at
     (ap (λ (r : Result Dir FirstFault). r >>= λ x. Ok (a_dir x)) e)
 
-pub flags_before : (stop : ℕ) (text t rest w : List ℕ) → Some (t, rest) ≡ cut_at_byte stop text → flags_at t ≡ Ok w
-    → Before text (some_flags w) stop rest
-unfolding arg_at
-flags_before stop text t rest w at e = read_before flags stop text t rest (some_flags w) at
-    (ap (λ (r : Result (List ℕ) FirstFault). r >>= λ x. Ok (some_flags x)) e)
-
 pub command_before : (stop : ℕ) (text t rest w : List ℕ) → Some (t, rest) ≡ cut_at_byte stop text
     → command_at t ≡ Ok w → Before text (a_command w) stop rest
 unfolding arg_at
@@ -77,19 +74,6 @@ free_before stop text t rest a at e = read_before free stop text t rest (free_te
     (ap (λ (r : Result (List ℕ) FirstFault). r >>= λ x. Ok (free_text x)) e)
 
 -- ---- a path without escapes
-
-abbrev is_odd_byte : ℕ → Bool
-is_odd_byte c = not (is_plain c)
-
-plain_step : (x : ℕ) (xs : List ℕ) (n : ℕ) (b : Bool) → is_plain x ≡ b → list_all is_plain (take n xs) ≡ true
-    → list_all is_plain (take (cond (not (not b)) (1 + n) 0) (x ∷ xs)) ≡ true
-plain_step x xs n true e h =
-    let one : 1 + n ≡ suc n = omega arith in rw one (both_true (is_plain x) (list_all is_plain (take n xs)) e h)
-plain_step x xs n false e h = refl
-
-plain_before : (t : List ℕ) → list_all is_plain (take (position_or_len is_odd_byte t) t) ≡ true
-plain_before [] = refl
-plain_before (x ∷ xs) = plain_step x xs (position_or_len is_odd_byte xs) (is_plain x) refl (plain_before xs)
 
 not_true : (b : Bool) → not b ≡ true → b ≡ false
 not_true true e = absurd cc
@@ -112,22 +96,16 @@ plain_items (c ∷ cs) h =
     ] ≡ true)
     (sym (plain_place c (eqb c 92) (is_plain c) slash k.0)) (plain_items cs k.1)
 
-place_is : (t : List ℕ) (b : Bool) (n i : ℕ) → Some i ≡ cond b (Some n) None → i ≡ n
-place_is t true n i e = cc
-place_is t false n i e = absurd cc
-
 -- a path, its closing quote and the byte
-pub path_before : (stop : ℕ) (text inside behind rest : List ℕ) (end : ℕ) → text ≡ 34 ∷ inside
-    → Some end ≡ position (λ c. not (is_plain c)) inside → take (length inside - end) (drop end inside) ≡ 34 ∷ behind
+pub path_before : (stop : ℕ) (text inside behind rest : List ℕ) (end : ℕ) → text ≡ 34 ∷ inside → end ≤ length inside
+    → Runs Path inside 0 end → take (length inside - end) (drop end inside) ≡ 34 ∷ behind
     → behind ≡ stop ∷ rest → Before text (a_path (take end inside)) stop rest
-path_before stop text inside behind rest end e at f g =
-    let same = place_is inside (ltb (position_or_len is_odd_byte inside) (length inside))
-    (position_or_len is_odd_byte inside) end at in
+path_before stop text inside behind rest end e within run f g =
     let path = take end inside in
     let whole = take_all (length inside - end) (drop end inside) (omega (arith, length-drop end inside)) in
     record {
       spelling = quoted path;
-      arg = (refl, plain_items path (ap (λ (i : ℕ). list_all is_plain (take i inside)) same ∙ plain_before inside));
+      arg = (refl, plain_items path (plain_run inside end within run));
       parts = e ∙ ap (λ (s : List ℕ). 34 ∷ s) (sym (take-append-drop end inside))
           ∙ ap (λ (s : List ℕ). 34 ∷ (path ++ s)) (sym whole ∙ f) ∙ ap (λ (s : List ℕ). 34 ∷ (path ++ (34 ∷ s))) g
           ∙ ap (λ (s : List ℕ). 34 ∷ s) (sym (append_assoc path (34 ∷ []) (stop ∷ rest)));

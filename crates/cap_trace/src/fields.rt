@@ -2,15 +2,40 @@
 
 ghost use Rattle.std.specs.Prelude.{◌≡◌, ◌==◌, ◌<◌, IfSome};
 ghost use Rattle.std.specs.List.{list_all, slice_split};
-ghost use Rattle.cap_trace.specs.FlagSteps.{flag_step, flag_class, class_step};
+ghost use Rattle.cap_trace.specs.FlagSteps.{flag_step};
 ghost use Rattle.cap_trace.specs.Fields.{is_flag_byte, is_word, is_flags, is_plain, hex_digit, is_escaped, item_step};
 ghost use Rattle.cap_trace.specs.Fields.{is_between, are_items, is_free};
 ghost use Rattle.cap_trace.specs.Spelling.{is_command};
 
-fn flag_byte(byte: u8) -> bool
+/// Whether each byte may stand in the name of a flag.
+static FLAG_BYTES: [bool; 256] = [
+    false, false, false, false, false, false, false, false, false, false, false, false, false,
+    false, false, false, false, false, false, false, false, false, false, false, false, false,
+    false, false, false, false, false, false, false, false, false, false, false, false, false,
+    false, false, false, false, false, false, false, false, false, true, true, true, true, true,
+    true, true, true, true, true, false, false, false, false, false, false, false, true, true,
+    true, true, true, true, true, true, true, true, true, true, true, true, true, true, true, true,
+    true, true, true, true, true, true, true, true, false, false, false, false, true, false, false,
+    false, false, false, false, false, false, false, false, false, false, false, false, false,
+    false, false, false, false, false, false, false, false, false, false, false, false, false,
+    false, false, false, false, false, false, false, false, false, false, false, false, false,
+    false, false, false, false, false, false, false, false, false, false, false, false, false,
+    false, false, false, false, false, false, false, false, false, false, false, false, false,
+    false, false, false, false, false, false, false, false, false, false, false, false, false,
+    false, false, false, false, false, false, false, false, false, false, false, false, false,
+    false, false, false, false, false, false, false, false, false, false, false, false, false,
+    false, false, false, false, false, false, false, false, false, false, false, false, false,
+    false, false, false, false, false, false, false, false, false, false, false, false, false,
+    false, false, false, false, false, false, false, false, false, false, false, false, false,
+    false, false, false, false, false, false, false, false, false, false, false, false, false,
+    false, false,
+];
+
+#[inline(always)]
+pub(crate) fn flag_byte(byte: u8) -> bool
     ensures { result ≡ is_flag_byte byte }
 {
-    byte.is_ascii_uppercase() || byte.is_ascii_digit() || byte == b'_'
+    FLAG_BYTES[usize::from(byte)]
 }
 
 fn all_flag_bytes(text: &[u8]) -> bool
@@ -29,52 +54,16 @@ fn word(text: &[u8]) -> bool
     }
 }
 
-// What a byte is among flags.
-const LETTER: u8 = 1;
-
-const DIGIT: u8 = 2;
-
-const BAR: u8 = 3;
-
-/// Each byte among flags: a letter, a digit or `_`, a bar, or 0 for any other.
-static FLAG_BYTES: [u8; 256] = [
-    0, 0, 0, 0, 0, 0, 0, 0, 0, 0, 0, 0, 0, 0, 0, 0, 0, 0, 0, 0, 0, 0, 0, 0, 0, 0, 0, 0, 0, 0, 0, 0,
-    0, 0, 0, 0, 0, 0, 0, 0, 0, 0, 0, 0, 0, 0, 0, 0, 2, 2, 2, 2, 2, 2, 2, 2, 2, 2, 0, 0, 0, 0, 0, 0,
-    0, 1, 1, 1, 1, 1, 1, 1, 1, 1, 1, 1, 1, 1, 1, 1, 1, 1, 1, 1, 1, 1, 1, 1, 1, 1, 1, 0, 0, 0, 0, 2,
-    0, 0, 0, 0, 0, 0, 0, 0, 0, 0, 0, 0, 0, 0, 0, 0, 0, 0, 0, 0, 0, 0, 0, 0, 0, 0, 0, 0, 3, 0, 0, 0,
-    0, 0, 0, 0, 0, 0, 0, 0, 0, 0, 0, 0, 0, 0, 0, 0, 0, 0, 0, 0, 0, 0, 0, 0, 0, 0, 0, 0, 0, 0, 0, 0,
-    0, 0, 0, 0, 0, 0, 0, 0, 0, 0, 0, 0, 0, 0, 0, 0, 0, 0, 0, 0, 0, 0, 0, 0, 0, 0, 0, 0, 0, 0, 0, 0,
-    0, 0, 0, 0, 0, 0, 0, 0, 0, 0, 0, 0, 0, 0, 0, 0, 0, 0, 0, 0, 0, 0, 0, 0, 0, 0, 0, 0, 0, 0, 0, 0,
-    0, 0, 0, 0, 0, 0, 0, 0, 0, 0, 0, 0, 0, 0, 0, 0, 0, 0, 0, 0, 0, 0, 0, 0, 0, 0, 0, 0, 0, 0, 0, 0,
-];
-
-/// What a byte is among flags.
-#[inline(always)]
-fn flag_class_of(byte: u8) -> u8
-    ensures { result ≡ flag_class byte }
-{
-    FLAG_BYTES[usize::from(byte)]
-}
-
-/// Whether after such a byte a name has to begin, where the byte may stand there.
-#[inline(always)]
-fn after_class(begins: bool, class: u8) -> Option<bool>
-    ensures { result ≡ class_step begins class }
-{
-    match class {
-        LETTER => Some(false),
-        DIGIT if !begins => Some(false),
-        BAR if !begins => Some(true),
-        _ => None,
-    }
-}
-
 /// Whether after this byte a name has to begin, where the byte may stand there.
-#[inline(always)]
 fn after_flag_byte(begins: bool, byte: u8) -> Option<bool>
     ensures { result ≡ flag_step begins byte }
 {
-    after_class(begins, flag_class_of(byte))
+    match byte {
+        _ if begins && byte.is_ascii_uppercase() => Some(false),
+        b'|' if !begins => Some(true),
+        _ if !begins && flag_byte(byte) => Some(false),
+        _ => None,
+    }
 }
 
 /// Whether a text is names joined by a bar.

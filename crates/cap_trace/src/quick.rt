@@ -1,9 +1,8 @@
 //! The lines that most traces are made of, read in one pass: each field ends at the byte that follows it. What isn't
 //! read so is read with care.
 
-ghost use Rattle.std.specs.Prelude.{◌≡◌, ◌∷◌, ◌++◌, ◌<◌, ◌^◌, IfSome, codes, Ok, length, not, position};
+ghost use Rattle.std.specs.Prelude.{◌≡◌, ◌∷◌, ◌++◌, ◌<◌, ◌^◌, IfSome, codes, Ok};
 ghost use Rattle.std.specs.Fmt.{decimal};
-ghost use Rattle.cap_trace.specs.Fields.{is_plain};
 ghost use Rattle.cap_trace.specs.declared.calls.Form.TheVariants as forms;
 ghost use Rattle.cap_trace.specs.declared.line.Call.TheVariants as calls;
 ghost use Rattle.cap_trace.specs.declared.line.Item.TheVariants as items;
@@ -17,13 +16,13 @@ ghost use Rattle.cap_trace.specs.Quick.{Before, SpellsAfter, Starts};
 use crate::answers::answer;
 use crate::calls::{AtFlagsCall, BareCall, FdCall, FlagsCall, Form, Kind, PathCall};
 use crate::equal::same_text;
-use crate::fields::plain;
 use crate::limits::{LARGEST_FD, LARGEST_PID, LONGEST_LINE};
 use crate::line::{Answer, Dir, Fd, Pid};
 use crate::names::{Head, head_of};
 use crate::number::number_of;
 use crate::quotes::cut;
-use crate::scan_fields::{command_of, dir_of, flags_of, free_of, rights_of};
+use crate::runs::Run;
+use crate::scan_fields::{command_of, dir_of, free_of, rights_of};
 use crate::seen::{CallSeen, fcntl_kind};
 
 /// What follows this byte, where a text begins with it.
@@ -85,14 +84,32 @@ fn dir_before(stop: u8, text: &[u8]) -> Option<(Dir, &[u8])>
     }
 }
 
+/// Names of flags with bars between them before this byte, and what follows the byte.
+#[inline(always)]
+fn names_before(stop: u8, text: &[u8]) -> Option<(&[u8], &[u8])>
+    ensures { IfSome result (λ p. Before text.now (some_flags p.0.now) stop p.1.now) }
+{
+    let mut from = 0;
+    while from < text.len() && text[from].is_ascii_uppercase() {
+        let end = Run::Name.end(text, from + 1)?;
+        if text[end] == stop {
+            return Some((&text[..end], &text[end + 1..]));
+        }
+        if text[end] != b'|' {
+            return None;
+        }
+        from = end + 1;
+    }
+    None
+}
+
 /// Flags before this byte, and what follows the byte.
 fn flags_before(stop: u8, text: &[u8]) -> Option<(&[u8], &[u8])>
     ensures { IfSome result (λ p. Before text.now (some_flags p.0.now) stop p.1.now) }
 {
-    let (flags, rest) = cut(stop, text)?;
-    match flags_of(flags) {
-        Ok(flags) => Some((flags, rest)),
-        Err(_) => None,
+    match text {
+        [b'0', byte, rest @ ..] if *byte == stop => Some((&text[..1], rest)),
+        _ => names_before(stop, text),
     }
 }
 
@@ -118,20 +135,12 @@ fn free_before(stop: u8, text: &[u8]) -> Option<(&[u8], &[u8])>
     }
 }
 
-/// The place of the first byte that doesn't stand for itself in a path.
-fn first_odd(text: &[u8]) -> Option<usize>
-    ensures value { result ≡ position (λ c. not (is_plain c)) text.now }
-    ensures bound { IfSome result (λ i. i < length text.now) }
-{
-    text.iter().position(|byte| !plain(*byte))
-}
-
 /// A path without escapes in its quotes before this byte, and what follows the byte.
 fn path_before(stop: u8, text: &[u8]) -> Option<(&[u8], &[u8])>
     ensures { IfSome result (λ p. Before text.now (a_path p.0.now) stop p.1.now) }
 {
     let inside = behind(b'"', text)?;
-    let end = first_odd(inside)?;
+    let end = Run::Path.end(inside, 0)?;
     let rest = behind(stop, behind(b'"', &inside[end..])?)?;
     Some((&inside[..end], rest))
 }
