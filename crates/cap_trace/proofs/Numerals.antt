@@ -136,13 +136,12 @@ number_ends stop t i n lt at some nought all e small =
     ∙ ap (λ (s : List ℕ). s ++ (stop ∷ drop (i + 1) t)) (sym digits)
     ∙ ap (λ (s : List ℕ). decimal n ++ (stop ∷ s)) (sym whole)
 
-pub number_whole : (t : List ℕ) (i n : ℕ) → length t ≤ i → eqb (length t) 0 ≡ false
-    → (get_or t 0 0 ≡ 48 × length t ≡ 1) ⊎ (get_or t 0 0 ≢ 48) → all_ascii_digits (take i t) ≡ true
+pub number_whole : (t : List ℕ) (i n : ℕ) → length t ≤ i → i ≤ length t → i ≢ 0
+    → (get_or t 0 0 ≡ 48 × i ≡ 1) ⊎ (get_or t 0 0 ≢ 48) → all_ascii_digits (take i t) ≡ true
     → n ≡ digits_value 10 (take i t) → n < 2 ^ 64 → t ≡ decimal n
-number_whole t i n le there nought all e small =
+number_whole t i n le within some nought all e small =
     let whole : take i t ≡ t = take_all i t le in
     let all' : all_ascii_digits t ≡ true = rw (← whole) all in
     let e' : n ≡ digits_value 10 t = rw whole at e in
-    let some : 0 < length t = grind (arith, tests) in
-    sym (ap decimal e' ∙ decimal-digits_value own t all' some (one_digit (get_or t 0 0) (length t) nought)
-    (omega (arith, e', small)))
+    sym (ap decimal e' ∙ decimal-digits_value own t all' (omega (arith, le, within, some))
+    (λ z. omega (arith, le, within, one_digit (get_or t 0 0) i nought z)) (omega (arith, e', small)))

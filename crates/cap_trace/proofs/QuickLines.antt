@@ -36,11 +36,6 @@ use Rattle.cap_trace.specs.declared.runs.Run.TheVariants.{Path}
 use Rattle.cap_trace.proofs.ByteRuns.{plain_run}
 use Rattle.cap_trace.proofs.WholeLines.{line_again}
 
--- a cut, where what was cut is known better
-cut_is : (c : ℕ) (t a b x y : List ℕ) → cut_at_byte c t ≡ Some (a, b) → a ≡ x → b ≡ y → t ≡ x ++ (c ∷ y)
-cut_is c t a b x y at e f = cut_takes c t (a, b) at ∙ ap (λ (s : List ℕ). s ++ (c ∷ b)) e ∙ ap (λ (s : List ℕ). x ++
-    (c ∷ s)) f
-
 -- ---- arguments
 
 -- an argument that is read before a byte
@@ -152,7 +147,7 @@ call_after h text tail c a e b is_answer =
 
 -- how a line begins
 pub starts : (bytes rest name text : List ℕ) (p : ℕ) (h : Head) → length bytes ≤ 1024
-    → bytes ≡ decimal p ++ (32 ∷ rest) → IsPid p → Some (name, text) ≡ cut_at_byte 40 rest
+    → bytes ≡ decimal p ++ (32 ∷ rest) → IsPid p → rest ≡ name ++ (40 ∷ text)
     → Some h ≡ head_named name → Starts bytes p h text
 starts bytes rest name text p h short at is_pid after named =
     let n = head_takes name h (sym named) in
@@ -161,7 +156,7 @@ starts bytes rest name text p h short at is_pid after named =
       pid = is_pid;
       head = n.1;
       parts = at ∙ ap (λ (r : List ℕ). decimal p ++ (32 ∷ r))
-          (cut_is 40 rest name text (name_of h) text (sym after) (sym n.0) refl);
+          (after ∙ ap (λ (s : List ℕ). s ++ (40 ∷ text)) (sym n.0));
     }
 
 -- the line, by what follows its bracket

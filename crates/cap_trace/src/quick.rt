@@ -9,7 +9,7 @@ ghost use Rattle.cap_trace.specs.declared.line.Item.TheVariants as items;
 ghost use Rattle.cap_trace.specs.Names.{listed, unlisted, row_of};
 ghost use Rattle.cap_trace.specs.Rows.{head_seen};
 ghost use Rattle.cap_trace.specs.Seen.{call_seen};
-ghost use Rattle.cap_trace.specs.Entry.{an_fd, a_dir, some_flags, a_path, a_command, free_text};
+ghost use Rattle.cap_trace.specs.Entry.{an_fd, a_dir, some_flags, a_path, a_command, a_word, free_text, set_fd};
 ghost use Rattle.cap_trace.specs.Reading.{answer_at};
 ghost use Rattle.cap_trace.specs.Quick.{Before, SpellsAfter, Starts};
 
@@ -19,8 +19,7 @@ use crate::equal::same_text;
 use crate::limits::{LARGEST_FD, LARGEST_PID, LONGEST_LINE};
 use crate::line::{Answer, Dir, Fd, Pid};
 use crate::names::{Head, head_of};
-use crate::number::number_of;
-use crate::quotes::cut;
+use crate::quotes::{cut, early_place};
 use crate::runs::Run;
 use crate::scan_fields::{command_of, dir_of, free_of, rights_of};
 use crate::seen::{CallSeen, fcntl_kind};
@@ -156,15 +155,35 @@ fn answered(kind: Kind, tail: &[u8]) -> Option<Answer>
     }
 }
 
-/// The number that is the whole answer.
+/// The number of a few digits that a text spells.
 #[inline(always)]
-fn number_after(tail: &[u8]) -> Option<u64>
-    ensures text { IfSome result (λ n. tail.now ≡ codes " RET " ++ decimal n) }
-    ensures fits { IfSome result (λ n. n < 2 ^ 64) }
+fn short_number_of(text: &[u8]) -> Option<u32>
+    ensures { IfSome result (λ n. text.now ≡ decimal n) }
+{
+    let mut number: u32 = 0;
+    for i in 0..MOST_BYTES {
+        if i >= text.len() {
+            if i == 0 || (text[0] == b'0' && i != 1) {
+                return None;
+            }
+            return Some(number);
+        }
+        if !text[i].is_ascii_digit() {
+            return None;
+        }
+        number = number * 10 + u32::from(text[i] - b'0');
+    }
+    None
+}
+
+/// The short number that is the whole answer.
+#[inline(always)]
+fn number_after(tail: &[u8]) -> Option<u32>
+    ensures { IfSome result (λ n. tail.now ≡ codes " RET " ++ decimal n) }
 {
     let (word, text) = tail.split_at_checked(5)?;
     if same_text(word, b" RET ") {
-        number_of(u64::MAX, text)
+        short_number_of(text)
     } else {
         None
     }
@@ -175,10 +194,13 @@ fn number_after(tail: &[u8]) -> Option<u64>
 fn short_answer(kind: Kind, tail: &[u8]) -> Option<Answer>
     ensures { IfSome result (λ a. answer_at kind tail.now ≡ Ok a) }
 {
-    match (kind, number_after(tail)) {
-        (Kind::Count, Some(number)) => Some(Answer::Made(number)),
-        (Kind::Zero, Some(0)) => Some(Answer::Made(0)),
-        (Kind::Fd, Some(fd)) if fd <= u64::from(LARGEST_FD) => Some(Answer::Made(fd)),
+    let Some(number) = number_after(tail) else {
+        return answered(kind, tail);
+    };
+    match kind {
+        Kind::Count => Some(Answer::Made(u64::from(number))),
+        Kind::Zero if number == 0 => Some(Answer::Made(0)),
+        Kind::Fd if number <= LARGEST_FD => Some(Answer::Made(u64::from(number))),
         _ => answered(kind, tail),
     }
 }
@@ -201,12 +223,25 @@ pub(crate) fn on_fd(call: FdCall, text: &[u8]) -> Option<(Fd, Answer)>
     Some((fd, answer))
 }
 
-/// `fcntl(fd,command)`
+/// What follows `F_SETFD` and its comma.
+#[inline(always)]
+fn set_fd_before(text: &[u8]) -> Option<&[u8]>
+    ensures { IfSome result (λ r. Before text.now (a_word set_fd) 44 r.now) }
+{
+    text.strip_prefix(b"F_SETFD,".as_slice())
+}
+
+/// `fcntl(fd,F_SETFD,flags)`, or `fcntl(fd,command)`
 #[inline(always)]
 fn fcntl(text: &[u8]) -> Option<(CallSeen<'_>, Answer)>
     ensures { IfSome result (λ p. SpellsAfter (listed forms.Fcntl) text.now (items.Call (call_seen p.0) p.1)) }
 {
     let (fd, rest) = fd_before(b',', text)?;
+    if let Some(rest) = set_fd_before(rest) {
+        let (flags, tail) = flags_before(b')', rest)?;
+        let answer = short_answer(Kind::Count, tail)?;
+        return Some((CallSeen::FcntlSetFd(fd, flags), answer));
+    }
     let (command, tail) = command_before(b')', rest)?;
     let answer = short_answer(fcntl_kind(command), tail)?;
     Some((CallSeen::Fcntl(fd, command), answer))
@@ -338,6 +373,21 @@ pub(crate) struct Start<'a> {
     pub(crate) text: &'a [u8],
 }
 
+/// The fewest bytes of a name in the table.
+const SHORTEST_NAME: usize = 3;
+
+/// What stands before a bracket, and what follows it. A name that is shorter than any in the table isn't found.
+#[inline(always)]
+fn name_before_bracket(text: &[u8]) -> Option<(&[u8], &[u8])>
+    ensures { IfSome result (λ p. text.now ≡ p.0.now ++ (40 ∷ p.1.now)) }
+{
+    if text.len() < SHORTEST_NAME {
+        return None;
+    }
+    let at = early_place(b'(', text, SHORTEST_NAME)?;
+    Some((&text[..at], &text[at + 1..]))
+}
+
 /// How a line begins.
 #[inline(always)]
 pub(crate) fn start_of(bytes: &[u8]) -> Option<Start<'_>>
@@ -350,7 +400,7 @@ pub(crate) fn start_of(bytes: &[u8]) -> Option<Start<'_>>
     if pid == 0 || pid > LARGEST_PID {
         return None;
     }
-    let (name, text) = cut(b'(', rest)?;
+    let (name, text) = name_before_bracket(rest)?;
     let head = head_of(name)?;
     Some(Start { pid, head, text })
 }
