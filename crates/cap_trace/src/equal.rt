@@ -40,7 +40,7 @@ fn eight(text: &[u8], from: usize) -> u64
 
 /// Whether two texts of 4 to 8 bytes are the same: the first four bytes, and the last four.
 #[inline(always)]
-fn same_by_fours(left: &[u8], right: &[u8]) -> bool
+pub(crate) fn same_by_fours(left: &[u8], right: &[u8]) -> bool
     requires sizes { length left.now ≡ length right.now }
     requires least { 4 ≤ length left.now }
     requires most { length left.now ≤ 8 }
@@ -48,34 +48,6 @@ fn same_by_fours(left: &[u8], right: &[u8]) -> bool
 {
     let last = left.len() - 4;
     four(left, 0) == four(right, 0) && four(left, last) == four(right, last)
-}
-
-/// Whether two texts of 8 to 16 bytes are the same: the first eight bytes, and the last eight.
-#[inline(always)]
-fn same_by_eights(left: &[u8], right: &[u8]) -> bool
-    requires sizes { length left.now ≡ length right.now }
-    requires least { 8 ≤ length left.now }
-    requires most { length left.now ≤ 16 }
-    ensures { result ≡ bytes_eq left.now right.now }
-{
-    let last = left.len() - 8;
-    eight(left, 0) == eight(right, 0) && eight(left, last) == eight(right, last)
-}
-
-/// Whether two texts are the same.
-#[inline(always)]
-pub(crate) fn same_text(left: &[u8], right: &[u8]) -> bool
-    ensures { result ≡ bytes_eq left.now right.now }
-{
-    let size = left.len();
-    if size != right.len() {
-        return false;
-    }
-    match size {
-        4..=7 => same_by_fours(left, right),
-        8..=16 => same_by_eights(left, right),
-        _ => left == right,
-    }
 }
 
 /// The first bytes of a text as one number, and the last: eight bytes, or four or two of a shorter text.
@@ -93,4 +65,19 @@ pub(crate) fn ends(text: &[u8]) -> (u64, u64)
     } else {
         (u64::from(two(text, 0)), u64::from(two(text, size - 2)))
     }
+}
+
+/// Whether a text is another, of 2 to 16 bytes: their sizes, and their first and last bytes.
+#[inline(always)]
+pub(crate) fn same_by_ends(left: &[u8], right: &[u8]) -> bool
+    requires least { 2 ≤ length right.now }
+    requires most { length right.now ≤ 16 }
+    ensures { result ≡ bytes_eq left.now right.now }
+{
+    if left.len() != right.len() {
+        return false;
+    }
+    let (first, last) = ends(left);
+    let (other_first, other_last) = ends(right);
+    first == other_first && last == other_last
 }

@@ -13,7 +13,7 @@ use crate::calls::{
     AtCall, AtFlagsCall, BareCall, DupCommand, FdCall, FlagsCall, Form, Kind, PathCall, PathsCall,
     SendCall,
 };
-use crate::equal::{ends, same_text};
+use crate::equal::{ends, same_by_ends};
 
 /// A row of the table: the name, and the result of a call that doesn't fail.
 #[derive(Clone, Copy)]
@@ -551,7 +551,7 @@ pub(crate) fn form_of(name: &[u8]) -> Option<Form>
         return None;
     };
     match in_slot(slot) {
-        Some(form) if same_text(name_in_slot(slot), name) => Some(form),
+        Some(form) if same_by_ends(name_in_slot(slot), name) => Some(form),
         _ => None,
     }
 }

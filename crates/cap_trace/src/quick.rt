@@ -15,7 +15,7 @@ ghost use Rattle.cap_trace.specs.Quick.{Before, SpellsAfter, Starts};
 
 use crate::answers::answer;
 use crate::calls::{AtFlagsCall, BareCall, FdCall, FlagsCall, Form, Kind, PathCall};
-use crate::equal::same_text;
+use crate::equal::same_by_fours;
 use crate::limits::{LARGEST_FD, LARGEST_PID, LONGEST_LINE};
 use crate::line::{Answer, Dir, Fd, Pid};
 use crate::names::{Head, head_of};
@@ -182,7 +182,7 @@ fn number_after(tail: &[u8]) -> Option<u32>
     ensures { IfSome result (λ n. tail.now ≡ codes " RET " ++ decimal n) }
 {
     let (word, text) = tail.split_at_checked(5)?;
-    if same_text(word, b" RET ") {
+    if same_by_fours(word, b" RET ") {
         short_number_of(text)
     } else {
         None

@@ -18,14 +18,14 @@ returns-in-Some-in_slot c =
     this_named c.args.name.now c.in-Some.slot c.in-Some-in_slot.form true c.in-Some.ensures.some.0
     c.in-Some-in_slot.ensures
     (named_in c.args.name.now c.name_in_slot.result.now c.in-Some-in_slot.form c.in-Some-in_slot.ensures
-    c.name_in_slot.ensures ∙ sym c.same_text.ensures ∙ c.if-same_text.true)
+    c.name_in_slot.ensures ∙ sym c.same_by_ends.ensures ∙ c.if-same_by_ends.true)
 
 pub returns-in_default-in_slot : goal.returns-in_default-in_slot
 returns-in_default-in_slot c =
     this_named c.args.name.now c.in-Some.slot c.in-Some-in_slot.form false c.in-Some.ensures.some.0
     c.in-Some-in_slot.ensures
     (named_in c.args.name.now c.name_in_slot.result.now c.in-Some-in_slot.form c.in-Some-in_slot.ensures
-    c.name_in_slot.ensures ∙ sym c.same_text.ensures ∙ c.if-same_text.false)
+    c.name_in_slot.ensures ∙ sym c.same_by_ends.ensures ∙ c.if-same_by_ends.false)
 
 pub returns-in_default-in_slot-2 : goal.returns-in_default-in_slot-2
 returns-in_default-in_slot-2 c = named_is c.args.name.now c.in-Some.slot None c.in-Some.ensures.some.0
