@@ -1,7 +1,7 @@
 //! The cells of a process: what is known of each of its descriptors. Those of the first 64 stand in one leaf, the
 //! others in a tree whose parts are shared between processes until they are written.
 
-ghost use Rattle.std.specs.Prelude.{◌≡◌, ℕ, ◌+◌, ◌≤◌, OnOk, IfOk, ◌==◌, nat_le, if◌then◌else◌};
+ghost use Rattle.std.specs.Prelude.{◌≡◌, ℕ, ◌+◌, ◌≤◌, ◌<◌, OnOk, IfOk, ◌==◌, nat_le, if◌then◌else◌};
 ghost use Rattle.cap_machine.specs.Cells.Pending.{settled};
 ghost use Rattle.cap_machine.specs.Cells.{cell_in_cells};
 ghost use Rattle.cap_machine.specs.Cells.Remains.{left_at_most};
@@ -32,7 +32,7 @@ use cap_rights::{NoMemory, RightSet};
 use cap_trace::Fd;
 use std::alloc::{AllocError, Global};
 
-/// The cells of a process: those that are still as `@start` listed them, and all others.
+/// The cells of a process: those from 64 on that are still as `@start` listed them, and all others.
 #[derive(Drop)]
 pub(crate) struct Cells {
     started: Started,
@@ -56,7 +56,7 @@ impl Cells {
     pub(crate) fn cell(&self, fd: Fd) -> Cell
         ensures { result ≡ cell_in_cells self.now fd }
     {
-        if self.started.lists(fd) {
+        if 64 <= fd && self.started.lists(fd) {
             self.started.cell()
         } else {
             self.tree.cell(fd)
@@ -69,11 +69,20 @@ impl Cells {
     pub(crate) fn may_have(&self, fd: Fd, needs: &RightSet) -> bool
         ensures { result ≡ may_have (cell_in_cells self.now fd) needs.now }
     {
-        if self.started.lists(fd) {
-            self.started.cell().may_have(needs)
-        } else {
-            self.tree.may_have(fd, needs)
+        if fd < 64 {
+            if let Some(leaf) = self.tree.low_leaf() {
+                return leaf.may_have(fd as usize, needs);
+            }
         }
+        self.cell_may_have(fd, needs)
+    }
+
+    /// The same, by the cell.
+    #[inline(never)]
+    fn cell_may_have(&self, fd: Fd, needs: &RightSet) -> bool
+        ensures { result ≡ may_have (cell_in_cells self.now fd) needs.now }
+    {
+        self.cell(fd).may_have(needs)
     }
 
     /// Writes one cell.
@@ -82,8 +91,23 @@ impl Cells {
         ensures { OnOk result
             ((f : ℕ) → cell_in_cells self.new f ≡ (if f == fd then cell else cell_in_cells self.old f)) }
     {
+        if fd < 64 {
+            self.tree.write_low(fd, cell)
+        } else {
+            self.write_high(fd, cell)
+        }
+    }
+
+    /// Writes one cell at or above 64.
+    #[tactic(auto, unfolding(crate::specs::Cells::cell_in_cells))]
+    #[inline(never)]
+    fn write_high(&mut self, fd: Fd, cell: Cell) -> Result<(), NoMemory>
+        requires { 64 ≤ fd }
+        ensures { OnOk result
+            ((f : ℕ) → cell_in_cells self.new f ≡ (if f == fd then cell else cell_in_cells self.old f)) }
+    {
         self.started.strike(fd);
-        self.tree.write(fd, cell)
+        self.tree.write_high(fd, cell)
     }
 
     /// Does this to each cell.
@@ -111,7 +135,7 @@ impl Cells {
         ensures { OnOk result ((f : ℕ) → cell_in_cells self.new f ≡ started fds.now f) }
     {
         self.started = Started::of(alloc, fds)?;
-        self.tree.settle(Pending::Close)
+        self.tree.start(fds)
     }
 
     /// Hands on what nobody else has of these cells, as they are to be dropped.

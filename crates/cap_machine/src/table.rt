@@ -280,6 +280,7 @@ impl Table {
     }
 
     /// Adds a process of which nothing was known, and nothing is; where it stands.
+    #[inline(never)]
     fn enter_new(&mut self, pid: Pid) -> Result<usize, NoMemory>
         requires { found self.old pid ≡ None }
         ensures kept { OnOk result (Keeps self.new (state_of self.old)) }
@@ -293,6 +294,7 @@ impl Table {
     }
 
     /// Where a process stands; one of which nothing was known is added.
+    #[inline(always)]
     fn enter(&mut self, pid: Pid) -> Result<usize, NoMemory>
         ensures kept { OnOk result (Keeps self.new (state_of self.old)) }
         ensures place { IfOk result (λ place. StandsAt self.new pid place) }
@@ -320,6 +322,7 @@ impl Table {
     }
 
     /// Writes one cell.
+    #[inline(always)]
     fn write(&mut self, pid: Pid, fd: Fd, cell: Cell) -> Result<(), NoMemory>
         ensures { OnOk result (Keeps self.new (with_cell (state_of self.old) pid fd cell)) }
     {
