@@ -1,11 +1,11 @@
 //! The cells of a process: what is known of each of its descriptors. Those of the first 64 stand in one leaf, the
 //! others in a tree whose parts are shared between processes until they are written.
 
-ghost use Rattle.std.specs.Prelude.{◌≡◌, ℕ, ◌+◌, ◌≤◌, ◌<◌, OnOk, IfOk, ◌==◌, nat_le, if◌then◌else◌};
+ghost use Rattle.std.specs.Prelude.{◌≡◌, ℕ, ◌+◌, ◌≤◌, ◌<◌, OnOk, IfOk, IfSome, ◌==◌, nat_le, if◌then◌else◌};
 ghost use Rattle.cap_machine.specs.Cells.Pending.{settled};
 ghost use Rattle.cap_machine.specs.Cells.{cell_in_cells};
 ghost use Rattle.cap_machine.specs.Cells.Remains.{left_at_most};
-ghost use Rattle.cap_machine.specs.MayHave.{may_have};
+ghost use Rattle.cap_machine.specs.Cells.Parts.{in_leaf};
 ghost use Rattle.cap_machine.specs.Touch.{started};
 
 mod block;
@@ -24,11 +24,12 @@ mod subtree;
 mod tree;
 
 use crate::cell::Cell;
+pub(crate) use crate::cells::leaf::Leaf;
 pub(crate) use crate::cells::pending::Pending;
 pub(crate) use crate::cells::remains::Remains;
 use crate::cells::started::Started;
 use crate::cells::tree::Tree;
-use cap_rights::{NoMemory, RightSet};
+use cap_rights::NoMemory;
 use cap_trace::Fd;
 use std::alloc::{AllocError, Global};
 
@@ -63,30 +64,19 @@ impl Cells {
         }
     }
 
-    /// Whether a descriptor is known to have these rights, or nothing is known of it.
+    /// The leaf that has the cell of a descriptor, if it is one of the first 64 and nothing is pending.
     #[tactic(auto, unfolding(crate::specs::Cells::cell_in_cells))]
     #[inline(always)]
-    pub(crate) fn may_have(&self, fd: Fd, needs: &RightSet) -> bool
-        ensures { result ≡ may_have (cell_in_cells self.now fd) needs.now }
+    pub(crate) fn leaf_of(&self, fd: Fd) -> Option<&Leaf<64>>
+        ensures low { IfSome result (λ leaf. fd < 64) }
+        ensures cell { IfSome result (λ leaf. in_leaf leaf.now fd ≡ cell_in_cells self.now fd) }
     {
-        if fd < 64 {
-            if let Some(leaf) = self.tree.low_leaf() {
-                return leaf.may_have(fd as usize, needs);
-            }
-        }
-        self.cell_may_have(fd, needs)
-    }
-
-    /// The same, by the cell.
-    #[inline(never)]
-    fn cell_may_have(&self, fd: Fd, needs: &RightSet) -> bool
-        ensures { result ≡ may_have (cell_in_cells self.now fd) needs.now }
-    {
-        self.cell(fd).may_have(needs)
+        if fd < 64 { self.tree.low_leaf() } else { None }
     }
 
     /// Writes one cell.
     #[tactic(auto, unfolding(crate::specs::Cells::cell_in_cells))]
+    #[inline(always)]
     pub(crate) fn write(&mut self, fd: Fd, cell: Cell) -> Result<(), NoMemory>
         ensures { OnOk result
             ((f : ℕ) → cell_in_cells self.new f ≡ (if f == fd then cell else cell_in_cells self.old f)) }
