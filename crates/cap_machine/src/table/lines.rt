@@ -7,7 +7,7 @@ ghost use Rattle.cap_trace.specs.Seen.{call_seen};
 ghost use Rattle.cap_trace.specs.declared.line.Call.TheVariants as calls;
 ghost use Rattle.cap_machine.specs.Steps.{step};
 ghost use Rattle.cap_machine.specs.Touch.{on_fd, on_made, on_success, given, taken, whole, closing, copied};
-ghost use Rattle.cap_machine.specs.Touch.{opened_below, open_flag, at_touch, fcntl_touch};
+ghost use Rattle.cap_machine.specs.Touch.{opened_below, open_flag, socket_flag, at_touch, fcntl_touch};
 ghost use Rattle.cap_machine.specs.Places.{below};
 ghost use Rattle.cap_machine.specs.Effect.{FitsMade};
 ghost use Rattle.cap_machine.specs.Op.{limit};
@@ -254,6 +254,7 @@ impl Table {
     }
 
     /// open(2).
+    #[inline(never)]
     fn open(&mut self, pid: Pid, flags: &[u8], answer: &Answer) -> Result<(), NoMemory>
         requires { FitsMade answer.now }
         ensures { OnOk result (Keeps self.new (touched_by (on_made answer.now (whole (open_flag flags.now)) pid)
@@ -288,7 +289,43 @@ impl Table {
         }
     }
 
+    /// socket(2).
+    fn socket(&mut self, pid: Pid, flags: &[u8], answer: &Answer) -> Result<(), NoMemory>
+        requires { FitsMade answer.now }
+        ensures { OnOk result (Keeps self.new (touched_by (on_made answer.now (whole (socket_flag flags.now)) pid)
+            (state_of self.old))) }
+    {
+        match answer {
+            Answer::Made(fd) => {
+                let flag = socket_flag_of(flags);
+                self.write_one(pid, *fd as Fd, Cell::Held(RightSet::all(), flag))
+            }
+            _ => Ok(()),
+        }
+    }
+
+    /// A call of flags.
+    #[inline(never)]
+    fn follow_flags(
+        &mut self,
+        profile: Profile,
+        pid: Pid,
+        call: FlagsCall,
+        flags: &[u8],
+        answer: &Answer,
+    ) -> Result<(), NoMemory>
+        requires { IsAnswer (kind_of (calls.OnFlags call flags.now)) answer.now }
+        ensures { OnOk result (Keeps self.new
+            (call_after profile (calls.OnFlags call flags.now) answer.now pid (state_of self.old))) }
+    {
+        match call {
+            FlagsCall::Socket => self.socket(pid, flags, answer),
+            _ => self.follow_rule(profile, pid, &CallSeen::OnFlags(call, flags), answer),
+        }
+    }
+
     /// A call at a directory, with flags.
+    #[inline(never)]
     fn follow_at(
         &mut self,
         pid: Pid,
@@ -309,6 +346,7 @@ impl Table {
     }
 
     /// A command of fcntl(2) that names no descriptor.
+    #[inline(never)]
     fn fcntl(&mut self, pid: Pid, fd: Fd, command: &[u8], answer: &Answer) -> Result<(), NoMemory>
         requires { IsAnswer (fcntl_kind command.now) answer.now }
         ensures { OnOk result (Keeps self.new (touched_by (fcntl_touch command.now fd answer.now pid)
@@ -381,6 +419,23 @@ impl Table {
         }
     }
 
+    /// The same, as a function of its own.
+    #[inline(never)]
+    fn follow_seen_fd(
+        &mut self,
+        profile: Profile,
+        pid: Pid,
+        call: FdCall,
+        fd: Fd,
+        answer: &Answer,
+    ) -> Result<(), NoMemory>
+        requires { IsAnswer (kind_of (calls.OnFd call fd)) answer.now }
+        ensures { OnOk result (Keeps self.new
+            (call_after profile (calls.OnFd call fd) answer.now pid (state_of self.old))) }
+    {
+        self.follow_on_fd(profile, pid, call, fd, answer)
+    }
+
     /// A call.
     fn follow_call(
         &mut self,
@@ -394,16 +449,15 @@ impl Table {
             (call_after profile (call_seen call.now) answer.now pid (state_of self.old))) }
     {
         match call {
-            CallSeen::OnFd(call, fd) => self.follow_on_fd(profile, pid, *call, *fd, answer),
+            CallSeen::OnFd(call, fd) => self.follow_seen_fd(profile, pid, *call, *fd, answer),
             CallSeen::RightsLimit(fd, asked) => self.limit(pid, *fd, asked, answer),
             CallSeen::Open(_, flags) => self.open(pid, flags, answer),
             CallSeen::AtFlags(call, dir, path, flags) => {
                 self.follow_at(pid, *call, *dir, path, flags, answer)
             }
             CallSeen::Fcntl(fd, command) => self.fcntl(pid, *fd, command, answer),
-            CallSeen::OnFlags(FlagsCall::Socket, flags) => {
-                let flag = socket_flag_of(flags);
-                self.give_made(pid, Cell::Held(RightSet::all(), flag), answer)
+            CallSeen::OnFlags(call, flags) => {
+                self.follow_flags(profile, pid, *call, flags, answer)
             }
             CallSeen::OnPath(PathCall::Execve, _) => self.follow_rule(profile, pid, call, answer),
             CallSeen::OnPath(_, _)
