@@ -22,6 +22,7 @@ use Rattle.cap_machine.specs.declared.table.Process.{Process}
 use Rattle.cap_machine.specs.declared.table.Table.{Table}
 use Rattle.cap_machine.specs.Cells.{cell_in_cells}
 use Rattle.cap_machine.specs.Cells.Far.{stepped, after_steps}
+use Rattle.cap_machine.specs.Cells.Started.{in_started}
 use Rattle.cap_machine.specs.Cells.Tree.{cell_in_tree}
 use Rattle.cap_machine.specs.Cells.Pending.{settled}
 use Rattle.cap_machine.specs.State.{State, Added, listed_cell, with_all, with_listed, usual}
@@ -79,7 +80,9 @@ cells_far : (cells : Cells) (f : ℕ) → 1048576 ≤ f → top_of cells.started
     → cell_in_cells cells f ≡ after_steps cells.tree.far.first cells.tree.far.steps.items f
 unfolding cell_in_cells
 cells_far cells f above small large =
-    ap (λ (b : Bool). if b then settled cells.started.pending (Held all flags.Unsure) else cell_in_tree cells.tree f)
+    ap (λ (b : Bool). if b then cell_in_tree cells.tree f else in_started cells.started (cell_in_tree cells.tree f) f)
+    (not_below f 64 (omega arith))
+    ∙ ap (λ (b : Bool). if b then settled cells.started.pending (Held all flags.Unsure) else cell_in_tree cells.tree f)
     (ap (λ (b : Bool). b || list_any (λ g. f == g) cells.started.large.items)
     (none_above cells.started.small.items f small)
     ∙ none_above cells.started.large.items f large)

@@ -8,6 +8,7 @@ pub mod Ops
 pub mod Naming
 pub mod NamedFds
 pub mod OpenFlags
+pub mod LastFlag
 pub mod Positions
 pub mod Tables
 pub mod Wording

@@ -1,11 +1,11 @@
 //! The cells of a process: what is known of each of its descriptors. Those of the first 64 stand in one leaf, the
 //! others in a tree whose parts are shared between processes until they are written.
 
-ghost use Rattle.std.specs.Prelude.{◌≡◌, ℕ, ◌+◌, ◌≤◌, OnOk, IfOk, ◌==◌, nat_le, if◌then◌else◌};
+ghost use Rattle.std.specs.Prelude.{◌≡◌, ℕ, ◌+◌, ◌≤◌, ◌<◌, OnOk, IfOk, IfSome, ◌==◌, nat_le, if◌then◌else◌};
 ghost use Rattle.cap_machine.specs.Cells.Pending.{settled};
 ghost use Rattle.cap_machine.specs.Cells.{cell_in_cells};
 ghost use Rattle.cap_machine.specs.Cells.Remains.{left_at_most};
-ghost use Rattle.cap_machine.specs.MayHave.{may_have};
+ghost use Rattle.cap_machine.specs.Cells.Parts.{in_leaf};
 ghost use Rattle.cap_machine.specs.Touch.{started};
 
 mod block;
@@ -24,15 +24,16 @@ mod subtree;
 mod tree;
 
 use crate::cell::Cell;
+pub(crate) use crate::cells::leaf::Leaf;
 pub(crate) use crate::cells::pending::Pending;
 pub(crate) use crate::cells::remains::Remains;
 use crate::cells::started::Started;
 use crate::cells::tree::Tree;
-use cap_rights::{NoMemory, RightSet};
+use cap_rights::NoMemory;
 use cap_trace::Fd;
 use std::alloc::{AllocError, Global};
 
-/// The cells of a process: those that are still as `@start` listed them, and all others.
+/// The cells of a process: those from 64 on that are still as `@start` listed them, and all others.
 #[derive(Drop)]
 pub(crate) struct Cells {
     started: Started,
@@ -56,34 +57,47 @@ impl Cells {
     pub(crate) fn cell(&self, fd: Fd) -> Cell
         ensures { result ≡ cell_in_cells self.now fd }
     {
-        if self.started.lists(fd) {
+        if 64 <= fd && self.started.lists(fd) {
             self.started.cell()
         } else {
             self.tree.cell(fd)
         }
     }
 
-    /// Whether a descriptor is known to have these rights, or nothing is known of it.
+    /// The leaf that has the cell of a descriptor, if it is one of the first 64 and nothing is pending.
     #[tactic(auto, unfolding(crate::specs::Cells::cell_in_cells))]
     #[inline(always)]
-    pub(crate) fn may_have(&self, fd: Fd, needs: &RightSet) -> bool
-        ensures { result ≡ may_have (cell_in_cells self.now fd) needs.now }
+    pub(crate) fn leaf_of(&self, fd: Fd) -> Option<&Leaf<64>>
+        ensures low { IfSome result (λ leaf. fd < 64) }
+        ensures cell { IfSome result (λ leaf. in_leaf leaf.now fd ≡ cell_in_cells self.now fd) }
     {
-        if self.started.lists(fd) {
-            self.started.cell().may_have(needs)
-        } else {
-            self.tree.may_have(fd, needs)
-        }
+        if fd < 64 { self.tree.low_leaf() } else { None }
     }
 
     /// Writes one cell.
     #[tactic(auto, unfolding(crate::specs::Cells::cell_in_cells))]
+    #[inline(always)]
     pub(crate) fn write(&mut self, fd: Fd, cell: Cell) -> Result<(), NoMemory>
         ensures { OnOk result
             ((f : ℕ) → cell_in_cells self.new f ≡ (if f == fd then cell else cell_in_cells self.old f)) }
     {
+        if fd < 64 {
+            self.tree.write_low(fd, cell)
+        } else {
+            self.write_high(fd, cell)
+        }
+    }
+
+    /// Writes one cell at or above 64.
+    #[tactic(auto, unfolding(crate::specs::Cells::cell_in_cells))]
+    #[inline(never)]
+    fn write_high(&mut self, fd: Fd, cell: Cell) -> Result<(), NoMemory>
+        requires { 64 ≤ fd }
+        ensures { OnOk result
+            ((f : ℕ) → cell_in_cells self.new f ≡ (if f == fd then cell else cell_in_cells self.old f)) }
+    {
         self.started.strike(fd);
-        self.tree.write(fd, cell)
+        self.tree.write_high(fd, cell)
     }
 
     /// Does this to each cell.
@@ -111,7 +125,7 @@ impl Cells {
         ensures { OnOk result ((f : ℕ) → cell_in_cells self.new f ≡ started fds.now f) }
     {
         self.started = Started::of(alloc, fds)?;
-        self.tree.settle(Pending::Close)
+        self.tree.start(fds)
     }
 
     /// Hands on what nobody else has of these cells, as they are to be dropped.

@@ -1,10 +1,11 @@
 //! What each form of call does to the cells and the mode of its process and of a child, by what the line records. The
 //! tables stand in `docs/RULES.md`.
 
-ghost use Rattle.std.specs.Prelude.{◌≡◌, ℕ, ◌<◌, ◌^◌, if◌then◌else◌};
+ghost use Rattle.std.specs.Prelude.{◌≡◌, ℕ, ◌<◌, ◌^◌, codes, if◌then◌else◌};
 ghost use Rattle.cap_trace.specs.Entry.{IsAnswer, kind_of, fcntl_kind};
 ghost use Rattle.cap_trace.specs.Seen.{call_seen};
 ghost use Rattle.cap_trace.specs.declared.line.Call.TheVariants as calls;
+ghost use Rattle.cap_machine.specs.Flags.{has_flag};
 ghost use Rattle.cap_machine.specs.Places.{below};
 ghost use Rattle.cap_machine.specs.Touch.{kept, given, taken, on_fd, on_made, on_both, on_success, closing, copied};
 ghost use Rattle.cap_machine.specs.Touch.{copied_to, whole, unknown, exec_touch, closefrom_touch, open_flag};
@@ -30,11 +31,18 @@ fn flag_where(is_asked: bool) -> OnExec
     if is_asked { OnExec::Set } else { OnExec::Clear }
 }
 
+/// Whether flags of open(2) ask for the descriptor to be closed on exec. That flag mostly stands last.
+fn closes_on_exec(flags: &[u8]) -> bool
+    ensures { result ≡ has_flag flags.now (codes "O_CLOEXEC") }
+{
+    flags.ends_with(b"|O_CLOEXEC") || has_flag_of(flags, b"O_CLOEXEC")
+}
+
 /// open(2), openat(2), pipe2(2).
 pub(crate) fn open_flag_of(flags: &[u8]) -> OnExec
     ensures { result ≡ open_flag flags.now }
 {
-    flag_where(has_flag_of(flags, b"O_CLOEXEC"))
+    flag_where(closes_on_exec(flags))
 }
 
 /// socket(2), socketpair(2).

@@ -1,6 +1,6 @@
 //! The processes of which something is known, going forward: the meaning of a table is what its look-ups answer.
 
-ghost use Rattle.std.specs.Prelude.{◌≡◌, ℕ, None, IfOk, OnOk, OnErr, ◌==◌, nat_le, if◌then◌else◌};
+ghost use Rattle.std.specs.Prelude.{◌≡◌, ℕ, ◌<◌, None, Some, IfOk, IfSome, OnOk, OnErr, ◌==◌, nat_le, if◌then◌else◌};
 ghost use Rattle.std.specs.Option.{option_copied, option_map_or};
 ghost use Rattle.std.specs.Vec.{vec_len};
 ghost use Rattle.cap_machine.specs.State.{usual, listed_cell, with_listed};
@@ -11,13 +11,13 @@ ghost use Rattle.cap_machine.specs.Table.{with_mode, with_process, with_started,
 ghost use Rattle.cap_machine.specs.Table.{with_op, with_closed_from, effect_after};
 ghost use Rattle.cap_machine.specs.Op.{exec};
 ghost use Rattle.cap_machine.specs.Cells.Pending.{settled};
-ghost use Rattle.cap_machine.specs.MayHave.{may_have};
+ghost use Rattle.cap_machine.specs.Cells.Parts.{in_leaf};
 
 mod index;
 mod lines;
 
 use crate::cell::{Cell, Mode};
-use crate::cells::{Cells, Pending, Remains};
+use crate::cells::{Cells, Leaf, Pending, Remains};
 use crate::rule::{Checks, Demand, Effect};
 use crate::table::index::Index;
 use crate::verdict::Verdict;
@@ -74,15 +74,17 @@ impl Process {
         self.cells.cell(fd)
     }
 
-    /// Whether a descriptor is known to have these rights, or nothing is known of it.
+    /// The leaf that has the cell of a descriptor, if it is one of the first 64 and nothing is pending.
     #[inline(always)]
-    fn may_have(&self, fd: Fd, needs: &RightSet) -> bool
-        ensures { result ≡ may_have (cell_in self.now fd) needs.now }
+    fn leaf_of(&self, fd: Fd) -> Option<&Leaf<64>>
+        ensures low { IfSome result (λ leaf. fd < 64) }
+        ensures cell { IfSome result (λ leaf. in_leaf leaf.now fd ≡ cell_in self.now fd) }
     {
-        self.cells.may_have(fd, needs)
+        self.cells.leaf_of(fd)
     }
 
     /// Writes one cell.
+    #[inline(always)]
     fn write(&mut self, fd: Fd, cell: Cell) -> Result<(), NoMemory>
         ensures cells { OnOk result ((f : ℕ) → cell_in self.new f ≡ (if f == fd then cell else cell_in self.old f)) }
         ensures mode { OnOk result (self.new.mode ≡ self.old.mode) }
@@ -214,6 +216,34 @@ impl Table {
         }
     }
 
+    /// What is known of a process, where that is found at once; `None` says nothing.
+    #[inline(always)]
+    fn find_soon(&self, pid: Pid) -> Option<&Process>
+        ensures { IfSome result (λ process. found self.now pid ≡ Some process.now) }
+    {
+        match self.index.place_soon(pid) {
+            Some(place) => match self.processes.get(place) {
+                Some(process) if process.pid == pid => Some(process),
+                _ => None,
+            },
+            None => None,
+        }
+    }
+
+    /// Where a process stands, where that is found at once; `None` says nothing.
+    #[inline(always)]
+    fn place_soon(&self, pid: Pid) -> Option<usize>
+        ensures { IfSome result (λ place. StandsAt self.now pid place) }
+    {
+        match self.index.place_soon(pid) {
+            Some(place) => match self.processes.get(place) {
+                Some(process) if process.pid == pid => Some(place),
+                _ => None,
+            },
+            None => None,
+        }
+    }
+
     pub(crate) fn cell(&self, pid: Pid, fd: Fd) -> Cell
         ensures { result ≡ cell_of self.now pid fd }
     {
@@ -280,6 +310,7 @@ impl Table {
     }
 
     /// Adds a process of which nothing was known, and nothing is; where it stands.
+    #[inline(never)]
     fn enter_new(&mut self, pid: Pid) -> Result<usize, NoMemory>
         requires { found self.old pid ≡ None }
         ensures kept { OnOk result (Keeps self.new (state_of self.old)) }
@@ -293,6 +324,7 @@ impl Table {
     }
 
     /// Where a process stands; one of which nothing was known is added.
+    #[inline(always)]
     fn enter(&mut self, pid: Pid) -> Result<usize, NoMemory>
         ensures kept { OnOk result (Keeps self.new (state_of self.old)) }
         ensures place { IfOk result (λ place. StandsAt self.new pid place) }
@@ -320,10 +352,21 @@ impl Table {
     }
 
     /// Writes one cell.
+    #[inline(always)]
     fn write(&mut self, pid: Pid, fd: Fd, cell: Cell) -> Result<(), NoMemory>
         ensures { OnOk result (Keeps self.new (with_cell (state_of self.old) pid fd cell)) }
     {
         let place = self.enter(pid)?;
+        self.write_at(place, pid, fd, cell)?;
+        Ok(())
+    }
+
+    /// Writes one cell of the process at a place.
+    #[inline(always)]
+    fn write_at(&mut self, place: usize, pid: Pid, fd: Fd, cell: Cell) -> Result<(), NoMemory>
+        requires { StandsAt self.old pid place }
+        ensures { OnOk result (Keeps self.new (with_cell (state_of self.old) pid fd cell)) }
+    {
         let process = &mut self.processes[place];
         process.write(fd, cell)?;
         Ok(())

@@ -6,6 +6,7 @@ use Rattle.std.proofs.lemmas.List.{append-nil, take-append-drop, length-drop}
 use Rattle.memchr.specs.Find.{IsFirstByte, is_byte}
 use Rattle.cap_session.specs.Texts.{with_line, refused_so_far}
 use Rattle.cap_session.specs.Feeds.{Completes, Reached, Feeds}
+use Rattle.cap_session.specs.LineEnds.{IsCut}
 use Rattle.cap_session.specs.declared.refused.Refused.{Refused}
 use Rattle.cap_session.specs.declared.refused.Refused.TheVariants.{LongLine}
 use Rattle.cap_session.specs.declared.lines.Stop.{Stop}
@@ -32,7 +33,7 @@ fed_first next follows number held piece = record {
 }
 
 -- a line was taken
-pub fed_line : {A : Type 0} (next : A → List ℕ → Result A Refused) (before now after : A → Type 0) (number0 : ℕ)
+fed_line : {A : Type 0} (next : A → List ℕ → Result A Refused) (before now after : A → Type 0) (number0 : ℕ)
     (held0 piece : List ℕ) (number : ℕ) (held rest : List ℕ) (at : ℕ) →
     Fed next before now number0 held0 piece number held rest → IsFirstByte (is_byte 10) rest (Some at) →
     ((known : A) → now known → (k : A) × (with_line next known (held ++ take at rest) ≡ Ok k) × after k) →
@@ -53,12 +54,24 @@ fed_line next before now after number0 held0 piece number held rest at fed found
           (reached_line next start now after (given ++ fed.front) held rest number at r found k.0 k.1 k.2);
     }
 
+-- the same of a line that was cut off
+pub fed_cut : {A : Type 0} (next : A → List ℕ → Result A Refused) (before now after : A → Type 0) (number0 : ℕ)
+    (held0 piece : List ℕ) (number : ℕ) (held rest line left : List ℕ) →
+    Fed next before now number0 held0 piece number held rest → IsCut rest line left →
+    ((known : A) → now known → (k : A) × (with_line next known (held ++ line) ≡ Ok k) × after k) →
+    Fed next before after number0 held0 piece (number + 1) [] left
+fed_cut {A = A} next before now after number0 held0 piece number held rest line left fed cut does =
+    subst (λ (r : List ℕ). Fed next before after number0 held0 piece (number + 1) [] r) (sym cut.leaves)
+    (fed_line next before now after number0 held0 piece number held rest (length line) fed cut.first
+    (subst (λ (l : List ℕ). (known : A) → now known → (k : A) × (with_line next known (held ++ l) ≡ Ok k) × after k)
+    cut.begins does))
+
 -- the text so far, of the part that was worked through and the rest
 joins : (given front rest piece : List ℕ) → piece ≡ front ++ rest → given ++ front ++ rest ≡ given ++ piece
 joins given front rest piece cut = append_assoc given front rest ∙ ap (λ l. given ++ l) (sym cut)
 
 -- a line stopped it
-pub fed_stopped : {A : Type 0} (T : Type 0) (next : A → List ℕ → Result A Refused) (before now after : A → Type 0)
+fed_stopped : {A : Type 0} (T : Type 0) (next : A → List ℕ → Result A Refused) (before now after : A → Type 0)
     (number0 : ℕ)
     (held0 piece : List ℕ) (number : ℕ) (held rest : List ℕ) (at : ℕ) (stop : Stop) (later : ℕ) (last : List ℕ) →
     Fed next before now number0 held0 piece number held rest → IsFirstByte (is_byte 10) rest (Some at) →
@@ -81,6 +94,21 @@ fed_stopped T next before now after number0 held0 piece number held rest at stop
     start given r0 = let r = fed.reached start given r0 in absurd (does r.known r.does)
 fed_stopped T next before now after number0 held0 piece number held rest at stops.TooLong later last fed found does
     start given r0 = let r = fed.reached start given r0 in absurd (does r.known r.does)
+
+-- the same of a line that was cut off
+pub cut_stopped : {A : Type 0} (T : Type 0) (next : A → List ℕ → Result A Refused) (before now after : A → Type 0)
+    (number0 : ℕ)
+    (held0 piece : List ℕ) (number : ℕ) (held rest line left : List ℕ) (stop : Stop) (later : ℕ) (last : List ℕ) →
+    Fed next before now number0 held0 piece number held rest → IsCut rest line left →
+    ((known : A) → now known → Completes {T = T} (with_line next known (held ++ line)) after number (Err stop))
+    →
+    (start : A) (given : List ℕ) → Reached next start before given number0 held0
+    → Feeds {T = T} next start after (given ++ piece) later last (Err stop)
+cut_stopped {A = A} T next before now after number0 held0 piece number held rest line left stop later last fed cut
+    does =
+    fed_stopped T next before now after number0 held0 piece number held rest (length line) stop later last fed cut.first
+    (subst (λ (l : List ℕ). (known : A) → now known
+    → Completes {T = T} (with_line next known (held ++ l)) after number (Err stop)) cut.begins does)
 
 -- the last piece
 pub fed_piece : {A : Type 0} (next : A → List ℕ → Result A Refused) (before now : A → Type 0) (number0 : ℕ)

@@ -11,6 +11,7 @@ pub mod Fed
 pub mod FoundText
 pub mod Goes
 pub mod Joins
+pub mod LineMarks
 pub mod Lined
 pub mod Listing
 pub mod Performed

@@ -10,6 +10,7 @@ pub mod Feeds
 pub mod Gives
 pub mod Laws
 pub mod Limits
+pub mod LineEnds
 pub mod Lines
 pub mod Outcome
 pub mod Performs

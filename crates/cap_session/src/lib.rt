@@ -30,6 +30,7 @@ mod from_start;
 mod held;
 mod laws;
 mod limits;
+mod line_ends;
 mod lines;
 mod loading;
 mod number;

@@ -10,8 +10,8 @@ ghost use Rattle.cap_session.specs.Feeds.{TakesLine, Completes, Reached, Feeds, 
 
 use crate::held::Held;
 use crate::limits::LONGEST_LINE;
+use crate::line_ends::LineEnds;
 use crate::refused::{Refusal, Refused};
-use memchr::memchr;
 use std::alloc::{AllocError, Global};
 
 /// Why a text or a script isn't worked through to its end.
@@ -153,12 +153,11 @@ impl<L: Lines> Reading<L> {
             → Feeds L.next start (L.follows self.new.lines) (given ++ piece.now) self.new.number self.new.held result }
         ensures number { OnOk result (self.new.number ≤ self.old.number + length piece.now) }
     {
-        let mut rest = piece;
-        while let Some(at) = memchr(b'\n', rest) {
-            self.complete(&rest[..at])?;
-            rest = &rest[at + 1..];
+        let mut ends = LineEnds::of(piece);
+        while let Some(line) = ends.next() {
+            self.complete(line)?;
         }
-        self.hold(rest)?;
+        self.hold(ends.rest())?;
         if self.lines.is_out_of_memory() {
             return Err(Stop::Memory);
         }

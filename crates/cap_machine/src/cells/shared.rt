@@ -21,6 +21,7 @@ fn settle_part<T: Subtree>(part: &mut T, pending: Pending)
 }
 
 /// Writes one cell of a shared part with something pending, in a part of its own, in which then nothing is pending.
+#[inline(never)]
 pub(crate) fn write_part<T: Subtree>(
     part: &mut Rc<T>,
     pending: Pending,
@@ -117,7 +118,13 @@ impl<T: Subtree> Subtree for Shared<T> {
         self.pending.on(self.part.cell(fd))
     }
 
+    #[inline(always)]
     fn write(&mut self, fd: usize, cell: Cell) -> Result<(), NoMemory> {
+        if let Pending::Nothing = self.pending {
+            if let Some(part) = Rc::get_mut(&mut self.part) {
+                return part.write(fd, cell);
+            }
+        }
         write_part(&mut self.part, self.pending, fd, cell)?;
         self.pending = Pending::Nothing;
         Ok(())

@@ -1,6 +1,6 @@
 //! The descriptors that a process began with.
 
-ghost use Rattle.std.specs.Prelude.{◌≡◌, ℕ, IfOk, OnOk, ◌==◌, ◌||◌, nat_le, if◌then◌else◌};
+ghost use Rattle.std.specs.Prelude.{◌≡◌, ℕ, ◌≤◌, IfOk, OnOk, ◌==◌, ◌||◌, nat_le, if◌then◌else◌};
 ghost use Rattle.std.specs.List.{list_any};
 ghost use Rattle.cap_rights.specs.Rights.{all};
 ghost use Rattle.cap_machine.specs.Cells.Pending.{settled};
@@ -12,9 +12,9 @@ use cap_rights::{NoMemory, RightSet};
 use cap_trace::Fd;
 use std::alloc::{AllocError, Global};
 
-/// The descriptors that `@start` listed and that weren't written since, and what was done to all of them since. A line
-/// lists few enough to look through, and many more than a line of another kind could write in the tree. Those that fit
-/// two bytes are kept in two.
+/// The descriptors from 64 on that `@start` listed and that weren't written since, and what was done to all of them
+/// since. A line lists few enough to look through, and many more than a line of another kind could write in the tree.
+/// Those that fit two bytes are kept in two.
 #[derive(Drop)]
 pub(crate) struct Started {
     small: Vec<u16>,
@@ -34,11 +34,14 @@ impl Started {
         }
     }
 
-    /// Lists one descriptor more.
+    /// Lists one descriptor more, if it isn't one of the first 64.
     fn list(&mut self, fd: Fd) -> Result<(), NoMemory>
-        ensures listed { OnOk result ((f : ℕ) → is_listed self.new f ≡ (is_listed self.old f || f == fd)) }
+        ensures listed { OnOk result ((f : ℕ) → 64 ≤ f → is_listed self.new f ≡ (is_listed self.old f || f == fd)) }
         ensures pending { OnOk result (self.new.pending ≡ self.old.pending) }
     {
+        if fd < 64 {
+            return Ok(());
+        }
         match u16::try_from(fd) {
             Ok(small) => self.small.push(small)?,
             Err(_) => self.large.push(fd)?,
@@ -46,15 +49,16 @@ impl Started {
         Ok(())
     }
 
-    /// These are listed, and nothing was done to them.
+    /// Those of these from 64 on are listed, and nothing was done to them.
     pub(crate) fn of(alloc: Global, fds: &[Fd]) -> Result<Started, NoMemory>
-        ensures { IfOk result (λ new. (c : Cell) (f : ℕ)
+        ensures { IfOk result (λ new. (c : Cell) (f : ℕ) → 64 ≤ f
             → in_started new c f ≡ (if list_any (λ g. f == g) fds.now then Cell.Held all OnExec.Unsure else c)) }
     {
-        let small = fds.iter().filter(|fd| **fd < 65_536).count();
+        let small = fds.iter().filter(|fd| 64 <= **fd && **fd < 65_536).count();
+        let large = fds.iter().filter(|fd| 65_536 <= **fd).count();
         let mut started = Started {
             small: Vec::with_capacity(alloc, small)?,
-            large: Vec::with_capacity(alloc, fds.len().saturating_sub(small))?,
+            large: Vec::with_capacity(alloc, large)?,
             pending: Pending::Nothing,
         };
         for fd in fds {

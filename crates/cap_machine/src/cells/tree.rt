@@ -1,12 +1,14 @@
 //! The cells of a process without its list of `@start`.
 
-ghost use Rattle.std.specs.Prelude.{◌≡◌, ℕ, ◌+◌, ◌≤◌, ◌<◌, OnOk, IfOk, ◌==◌, nat_le, if◌then◌else◌};
+ghost use Rattle.std.specs.Prelude.{◌≡◌, ℕ, ◌+◌, ◌≤◌, ◌<◌, OnOk, IfOk, IfSome, ◌==◌, nat_le, if◌then◌else◌};
+ghost use Rattle.cap_rights.specs.Rights.{all};
+ghost use Rattle.cap_machine.specs.Touch.{started};
 ghost use Rattle.cap_machine.specs.Cells.Pending.{settled};
 ghost use Rattle.cap_machine.specs.Cells.Tree.{cell_in_tree};
 ghost use Rattle.cap_machine.specs.Cells.Remains.{left_at_most};
-ghost use Rattle.cap_machine.specs.MayHave.{may_have};
+ghost use Rattle.cap_machine.specs.Cells.Parts.{in_leaf};
 
-use crate::cell::Cell;
+use crate::cell::{Cell, OnExec};
 use crate::cells::far::Far;
 use crate::cells::few::Few;
 use crate::cells::high::High;
@@ -57,38 +59,68 @@ impl Tree {
         }
     }
 
-    /// Whether a descriptor is known to have these rights, or nothing is known of it.
+    /// The leaf of the first 64 descriptors, where nothing is pending.
     #[tactic(auto, unfolding(crate::specs::Cells::Tree::cell_in_tree))]
     #[inline(always)]
-    pub(crate) fn may_have(&self, fd: Fd, needs: &RightSet) -> bool
-        ensures { result ≡ may_have (cell_in_tree self.now fd) needs.now }
+    pub(crate) fn low_leaf(&self) -> Option<&Leaf<64>>
+        ensures { IfSome result (λ leaf. (f : ℕ) → f < 64 → in_leaf leaf.now f ≡ cell_in_tree self.now f) }
     {
-        if fd < 64 {
-            if let Some(leaf) = self.low.settled() {
-                return leaf.may_have(fd as usize, needs);
-            }
-        }
-        self.cell(fd).may_have(needs)
+        self.low.settled()
     }
 
-    /// Writes one cell.
+    /// Writes one cell below 64.
     #[tactic(auto, unfolding(crate::specs::Cells::Tree::cell_in_tree))]
-    pub(crate) fn write(&mut self, fd: Fd, cell: Cell) -> Result<(), NoMemory>
+    #[inline(always)]
+    pub(crate) fn write_low(&mut self, fd: Fd, cell: Cell) -> Result<(), NoMemory>
+        requires { fd < 64 }
         ensures { OnOk result
             ((f : ℕ) → cell_in_tree self.new f ≡ (if f == fd then cell else cell_in_tree self.old f)) }
     {
-        if fd < 64 {
-            self.low.write(fd as usize, cell)
-        } else if fd < 1_048_576 {
-            self.write_high(fd, cell)
+        self.low.write(fd as usize, cell)
+    }
+
+    /// Writes one cell at or above 64.
+    #[tactic(auto, unfolding(crate::specs::Cells::Tree::cell_in_tree))]
+    pub(crate) fn write_high(&mut self, fd: Fd, cell: Cell) -> Result<(), NoMemory>
+        requires { 64 ≤ fd }
+        ensures { OnOk result
+            ((f : ℕ) → cell_in_tree self.new f ≡ (if f == fd then cell else cell_in_tree self.old f)) }
+    {
+        if fd < 1_048_576 {
+            self.write_middle(fd, cell)
         } else {
             self.far.write(fd, cell)
         }
     }
 
+    /// Holds a descriptor that was never limited, if it is below 64.
+    fn start_one(&mut self, fd: Fd) -> Result<(), NoMemory>
+        ensures low { OnOk result ((f : ℕ) → f < 64 → cell_in_tree self.new f
+            ≡ (if f == fd then Cell.Held all OnExec.Unsure else cell_in_tree self.old f)) }
+        ensures high { OnOk result ((f : ℕ) → 64 ≤ f → cell_in_tree self.new f ≡ cell_in_tree self.old f) }
+    {
+        if fd < 64 {
+            self.write_low(fd, Cell::Held(RightSet::all(), OnExec::Unsure))
+        } else {
+            Ok(())
+        }
+    }
+
+    /// Holds those of these descriptors that are below 64, and no others. They were never limited.
+    pub(crate) fn start(&mut self, fds: &[Fd]) -> Result<(), NoMemory>
+        ensures low { OnOk result ((f : ℕ) → f < 64 → cell_in_tree self.new f ≡ started fds.now f) }
+        ensures high { OnOk result ((f : ℕ) → 64 ≤ f → cell_in_tree self.new f ≡ Cell.Closed) }
+    {
+        self.settle(Pending::Close)?;
+        for fd in fds {
+            self.start_one(*fd)?;
+        }
+        Ok(())
+    }
+
     /// Writes one cell at or above 64, in the list while it has room.
     #[tactic(auto, unfolding(crate::specs::Cells::Tree::cell_in_tree))]
-    fn write_high(&mut self, fd: Fd, cell: Cell) -> Result<(), NoMemory>
+    fn write_middle(&mut self, fd: Fd, cell: Cell) -> Result<(), NoMemory>
         requires low { 64 ≤ fd }
         requires high { fd < 1048576 }
         ensures { OnOk result

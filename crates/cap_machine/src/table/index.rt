@@ -1,6 +1,6 @@
 //! Where processes stand in a list, by pid.
 
-ghost use Rattle.std.specs.Prelude.{◌≡◌, ℕ, ◌<◌, OnOk, OnErr, ◌==◌, if◌then◌else◌};
+ghost use Rattle.std.specs.Prelude.{◌≡◌, ℕ, ◌<◌, OnOk, OnErr, IfSome, ◌==◌, if◌then◌else◌};
 ghost use Rattle.cap_machine.specs.Index.{place_in};
 
 use cap_rights::NoMemory;
@@ -41,6 +41,18 @@ impl Index {
         match place {
             Some(place) => *place,
             None => 0,
+        }
+    }
+
+    /// The place of a process, if that is seen at once.
+    #[inline(always)]
+    pub(crate) fn place_soon(&self, pid: Pid) -> Option<usize>
+        ensures { IfSome result (λ place. place ≡ place_in self.now pid) }
+    {
+        if pid < LIMIT && (pid as usize) < self.places.len() {
+            Some(self.places[pid as usize])
+        } else {
+            None
         }
     }
 

@@ -6,8 +6,8 @@ ghost use Rattle.cap_trace.specs.Entry.{IsAnswer, kind_of, fcntl_kind};
 ghost use Rattle.cap_trace.specs.Seen.{call_seen};
 ghost use Rattle.cap_trace.specs.declared.line.Call.TheVariants as calls;
 ghost use Rattle.cap_machine.specs.Steps.{step};
-ghost use Rattle.cap_machine.specs.Touch.{on_fd, on_made, on_success, given, taken, closing, copied};
-ghost use Rattle.cap_machine.specs.Touch.{opened_below, open_flag, at_touch, fcntl_touch};
+ghost use Rattle.cap_machine.specs.Touch.{on_fd, on_made, on_success, given, taken, whole, closing, copied};
+ghost use Rattle.cap_machine.specs.Touch.{opened_below, open_flag, socket_flag, at_touch, fcntl_touch};
 ghost use Rattle.cap_machine.specs.Places.{below};
 ghost use Rattle.cap_machine.specs.Effect.{FitsMade};
 ghost use Rattle.cap_machine.specs.Op.{limit};
@@ -47,14 +47,26 @@ impl Table {
     ghost use Rattle.cap_machine.specs.declared.rule.Word.{Word};
 
     /// Whether a descriptor is known to have these rights, or nothing is known of it.
-    fn may_have(&self, pid: Pid, fd: Fd, needs: &RightSet) -> bool
+    #[inline(always)]
+    fn may_have(&self, pid: Pid, fd: Fd, needs: RightSet) -> bool
         ensures { IsTrue result → (word : Word) (excuse : Option ℕ)
-            → fault word (check_of fd needs.now excuse) (cell_of self.now pid fd) ≡ [] }
+            → fault word (check_of fd needs excuse) (cell_of self.now pid fd) ≡ [] }
     {
-        match self.find(pid) {
-            None => true,
-            Some(process) => process.may_have(fd, needs),
+        if let Some(process) = self.find_soon(pid) {
+            if let Some(leaf) = process.leaf_of(fd) {
+                return leaf.may_have(fd as usize, &needs);
+            }
         }
+        self.cell_may_have(pid, fd, needs)
+    }
+
+    /// The same, by the cell.
+    #[inline(never)]
+    fn cell_may_have(&self, pid: Pid, fd: Fd, needs: RightSet) -> bool
+        ensures { IsTrue result → (word : Word) (excuse : Option ℕ)
+            → fault word (check_of fd needs excuse) (cell_of self.now pid fd) ≡ [] }
+    {
+        self.cell(pid, fd).may_have(&needs)
     }
 
     /// The same of a call on one descriptor that succeeded.
@@ -65,7 +77,7 @@ impl Table {
     {
         match call {
             FdCall::Closefrom => true,
-            _ => self.may_have(pid, fd, &fd_needs_of(call)),
+            _ => self.may_have(pid, fd, fd_needs_of(call)),
         }
     }
 
@@ -76,25 +88,25 @@ impl Table {
     {
         match call {
             CallSeen::OnFd(call, fd) => self.is_silent_on_fd(pid, *call, *fd),
-            CallSeen::Send(_, fd) => self.may_have(pid, *fd, &send_needs_of()),
+            CallSeen::Send(_, fd) => self.may_have(pid, *fd, send_needs_of()),
             CallSeen::Dup2(fd, _) | CallSeen::FcntlDup(_, fd, _) | CallSeen::FcntlSetFd(fd, _) => {
-                self.may_have(pid, *fd, &RightSet::none())
+                self.may_have(pid, *fd, RightSet::none())
             }
             CallSeen::Fcntl(fd, command) => match fcntl_needs_of(command) {
                 None => true,
-                Some(needs) => self.may_have(pid, *fd, &needs),
+                Some(needs) => self.may_have(pid, *fd, needs),
             },
             CallSeen::Mmap(fd, protection, kind) => {
-                self.may_have(pid, *fd, &mmap_needs_of(protection, kind))
+                self.may_have(pid, *fd, mmap_needs_of(protection, kind))
             }
-            CallSeen::RightsLimit(fd, asked) => self.may_have(pid, *fd, &without_full_of(asked)),
+            CallSeen::RightsLimit(fd, asked) => self.may_have(pid, *fd, without_full_of(asked)),
             CallSeen::At(call, dir, path) => match below_of(*dir, path) {
                 None => self.mode(pid) != Mode::Inside,
-                Some(fd) => self.may_have(pid, fd, &at_needs_of(*call)),
+                Some(fd) => self.may_have(pid, fd, at_needs_of(*call)),
             },
             CallSeen::AtFlags(call, dir, path, flags) => match below_of(*dir, path) {
                 None => self.mode(pid) != Mode::Inside,
-                Some(fd) => self.may_have(pid, fd, &at_flags_needs_of(*call, flags)),
+                Some(fd) => self.may_have(pid, fd, at_flags_needs_of(*call, flags)),
             },
             CallSeen::Open(_, _) | CallSeen::OnPath(_, _) | CallSeen::OnPaths(_, _, _) => {
                 self.mode(pid) != Mode::Inside
@@ -185,8 +197,22 @@ impl Table {
         self.apply(pid, &effect)
     }
 
-    /// Writes one cell. Some of what is left of others is freed first.
+    /// Writes one cell.
+    #[inline(always)]
     fn write_one(&mut self, pid: Pid, fd: Fd, cell: Cell) -> Result<(), NoMemory>
+        ensures { OnOk result (Keeps self.new (touched_by (on_fd fd (given cell) pid) (state_of self.old))) }
+    {
+        if fd < 64 {
+            if let Some(place) = self.place_soon(pid) {
+                return self.write_at(place, pid, fd, cell);
+            }
+        }
+        self.write_with_care(pid, fd, cell)
+    }
+
+    /// The same. Some of what is left of others is freed first.
+    #[inline(never)]
+    fn write_with_care(&mut self, pid: Pid, fd: Fd, cell: Cell) -> Result<(), NoMemory>
         ensures { OnOk result (Keeps self.new (touched_by (on_fd fd (given cell) pid) (state_of self.old))) }
     {
         self.remains.free_some();
@@ -194,8 +220,9 @@ impl Table {
     }
 
     /// close(2).
-    fn close(&mut self, pid: Pid, fd: Fd, answer: &Answer) -> Result<(), NoMemory>
-        ensures { OnOk result (Keeps self.new (touched_by (on_fd fd (closing answer.now) pid) (state_of self.old))) }
+    #[inline(never)]
+    fn close(&mut self, pid: Pid, fd: Fd, answer: Answer) -> Result<(), NoMemory>
+        ensures { OnOk result (Keeps self.new (touched_by (on_fd fd (closing answer) pid) (state_of self.old))) }
     {
         match answer {
             Answer::Fault(9) => Ok(()),
@@ -217,13 +244,29 @@ impl Table {
 
     /// The descriptor that a call made has the rights of this one, and this flag.
     #[inline(never)]
-    fn copy_made(&mut self, pid: Pid, fd: Fd, flag: OnExec, answer: &Answer) -> Result<(), NoMemory>
-        requires { FitsMade answer.now }
-        ensures { OnOk result (Keeps self.new (touched_by (on_made answer.now (copied flag fd pid) pid)
+    fn copy_made(&mut self, pid: Pid, fd: Fd, flag: OnExec, answer: Answer) -> Result<(), NoMemory>
+        requires { FitsMade answer }
+        ensures { OnOk result (Keeps self.new (touched_by (on_made answer (copied flag fd pid) pid)
             (state_of self.old))) }
     {
         let cell = Op::derive(flag).on(self.cell(pid, fd));
-        self.give_made(pid, cell, answer)
+        self.give_made(pid, cell, &answer)
+    }
+
+    /// open(2).
+    #[inline(never)]
+    fn open(&mut self, pid: Pid, flags: &[u8], answer: &Answer) -> Result<(), NoMemory>
+        requires { FitsMade answer.now }
+        ensures { OnOk result (Keeps self.new (touched_by (on_made answer.now (whole (open_flag flags.now)) pid)
+            (state_of self.old))) }
+    {
+        match answer {
+            Answer::Made(fd) => {
+                let flag = open_flag_of(flags);
+                self.write_one(pid, *fd as Fd, Cell::Held(RightSet::all(), flag))
+            }
+            _ => Ok(()),
+        }
     }
 
     /// openat(2).
@@ -241,12 +284,48 @@ impl Table {
     {
         let flag = open_flag_of(flags);
         match below_of(dir, path) {
-            Some(fd) => self.copy_made(pid, fd, flag, answer),
+            Some(fd) => self.copy_made(pid, fd, flag, *answer),
             None => self.give_made(pid, opened_cell(dir, path, flag), answer),
         }
     }
 
+    /// socket(2).
+    fn socket(&mut self, pid: Pid, flags: &[u8], answer: &Answer) -> Result<(), NoMemory>
+        requires { FitsMade answer.now }
+        ensures { OnOk result (Keeps self.new (touched_by (on_made answer.now (whole (socket_flag flags.now)) pid)
+            (state_of self.old))) }
+    {
+        match answer {
+            Answer::Made(fd) => {
+                let flag = socket_flag_of(flags);
+                self.write_one(pid, *fd as Fd, Cell::Held(RightSet::all(), flag))
+            }
+            _ => Ok(()),
+        }
+    }
+
+    /// A call of flags.
+    #[inline(never)]
+    fn follow_flags(
+        &mut self,
+        profile: Profile,
+        pid: Pid,
+        call: FlagsCall,
+        flags: &[u8],
+        answer: &Answer,
+    ) -> Result<(), NoMemory>
+        requires { IsAnswer (kind_of (calls.OnFlags call flags.now)) answer.now }
+        ensures { OnOk result (Keeps self.new
+            (call_after profile (calls.OnFlags call flags.now) answer.now pid (state_of self.old))) }
+    {
+        match call {
+            FlagsCall::Socket => self.socket(pid, flags, answer),
+            _ => self.follow_rule(profile, pid, &CallSeen::OnFlags(call, flags), answer),
+        }
+    }
+
     /// A call at a directory, with flags.
+    #[inline(never)]
     fn follow_at(
         &mut self,
         pid: Pid,
@@ -267,15 +346,16 @@ impl Table {
     }
 
     /// A command of fcntl(2) that names no descriptor.
+    #[inline(never)]
     fn fcntl(&mut self, pid: Pid, fd: Fd, command: &[u8], answer: &Answer) -> Result<(), NoMemory>
         requires { IsAnswer (fcntl_kind command.now) answer.now }
         ensures { OnOk result (Keeps self.new (touched_by (fcntl_touch command.now fd answer.now pid)
             (state_of self.old))) }
     {
         if command == b"F_DUPFD".as_slice() {
-            self.copy_made(pid, fd, OnExec::Clear, answer)
+            self.copy_made(pid, fd, OnExec::Clear, *answer)
         } else if command == b"F_DUPFD_CLOEXEC".as_slice() {
-            self.copy_made(pid, fd, OnExec::Set, answer)
+            self.copy_made(pid, fd, OnExec::Set, *answer)
         } else {
             Ok(())
         }
@@ -304,13 +384,13 @@ impl Table {
         pid: Pid,
         call: FdCall,
         fd: Fd,
-        answer: &Answer,
+        answer: Answer,
     ) -> Result<(), NoMemory>
-        requires { IsAnswer (kind_of (calls.OnFd call fd)) answer.now }
+        requires { IsAnswer (kind_of (calls.OnFd call fd)) answer }
         ensures { OnOk result (Keeps self.new
-            (call_after profile (calls.OnFd call fd) answer.now pid (state_of self.old))) }
+            (call_after profile (calls.OnFd call fd) answer pid (state_of self.old))) }
     {
-        self.follow_rule(profile, pid, &CallSeen::OnFd(call, fd), answer)
+        self.follow_rule(profile, pid, &CallSeen::OnFd(call, fd), &answer)
     }
 
     /// A call on one descriptor.
@@ -328,15 +408,32 @@ impl Table {
             (call_after profile (calls.OnFd call fd) answer.now pid (state_of self.old))) }
     {
         match call {
-            FdCall::Close => self.close(pid, fd, answer),
-            FdCall::Dup => self.copy_made(pid, fd, OnExec::Clear, answer),
+            FdCall::Close => self.close(pid, fd, *answer),
+            FdCall::Dup => self.copy_made(pid, fd, OnExec::Clear, *answer),
             FdCall::Closefrom
             | FdCall::Accept
             | FdCall::Fexecve
             | FdCall::CapIoctlsLimit
-            | FdCall::CapFcntlsLimit => self.follow_fd_rule(profile, pid, call, fd, answer),
+            | FdCall::CapFcntlsLimit => self.follow_fd_rule(profile, pid, call, fd, *answer),
             _ => Ok(()),
         }
+    }
+
+    /// The same, as a function of its own.
+    #[inline(never)]
+    fn follow_seen_fd(
+        &mut self,
+        profile: Profile,
+        pid: Pid,
+        call: FdCall,
+        fd: Fd,
+        answer: &Answer,
+    ) -> Result<(), NoMemory>
+        requires { IsAnswer (kind_of (calls.OnFd call fd)) answer.now }
+        ensures { OnOk result (Keeps self.new
+            (call_after profile (calls.OnFd call fd) answer.now pid (state_of self.old))) }
+    {
+        self.follow_on_fd(profile, pid, call, fd, answer)
     }
 
     /// A call.
@@ -352,19 +449,15 @@ impl Table {
             (call_after profile (call_seen call.now) answer.now pid (state_of self.old))) }
     {
         match call {
-            CallSeen::OnFd(call, fd) => self.follow_on_fd(profile, pid, *call, *fd, answer),
+            CallSeen::OnFd(call, fd) => self.follow_seen_fd(profile, pid, *call, *fd, answer),
             CallSeen::RightsLimit(fd, asked) => self.limit(pid, *fd, asked, answer),
-            CallSeen::Open(_, flags) => {
-                let flag = open_flag_of(flags);
-                self.give_made(pid, Cell::Held(RightSet::all(), flag), answer)
-            }
+            CallSeen::Open(_, flags) => self.open(pid, flags, answer),
             CallSeen::AtFlags(call, dir, path, flags) => {
                 self.follow_at(pid, *call, *dir, path, flags, answer)
             }
             CallSeen::Fcntl(fd, command) => self.fcntl(pid, *fd, command, answer),
-            CallSeen::OnFlags(FlagsCall::Socket, flags) => {
-                let flag = socket_flag_of(flags);
-                self.give_made(pid, Cell::Held(RightSet::all(), flag), answer)
+            CallSeen::OnFlags(call, flags) => {
+                self.follow_flags(profile, pid, *call, flags, answer)
             }
             CallSeen::OnPath(PathCall::Execve, _) => self.follow_rule(profile, pid, call, answer),
             CallSeen::OnPath(_, _)

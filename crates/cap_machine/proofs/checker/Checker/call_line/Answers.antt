@@ -1,4 +1,4 @@
-use Rattle.std.proofs.Common.{◌≡◌, ℕ, ◌+◌, [], arith, refl, sym, subst}
+use Rattle.std.proofs.Common.{◌≡◌, ◌+◌, [], arith, refl, sym, subst}
 use Rattle.std.proofs.lemmas.List.{append-nil}
 use Rattle.cap_machine.specs.Checked.{CheckerState, HasChecked}
 use Rattle.cap_machine.proofs.OneMore.{checked_more}

@@ -1,30 +1,14 @@
-use Rattle.std.proofs.Common.{rules, ◌<◌, ◌==◌, if◌then◌else◌, length, ◌∙◌}
+use Rattle.std.proofs.Common.{◌==◌, ◌&&◌, if◌then◌else◌, ap, ◌∙◌}
 use Rattle.cap_machine.specs.declared.cell.Cell.{Cell}
-use Rattle.cap_machine.specs.declared.cell.Cell.TheVariants.{Unknown}
-use Rattle.cap_machine.specs.declared.cell.Mode.{Mode}
-use Rattle.cap_machine.specs.declared.cell.Mode.TheVariants.{Unsure}
-use Rattle.cap_machine.specs.declared.table.Process.{Process}
-use Rattle.cap_machine.specs.Index.{place_in}
-use Rattle.cap_machine.specs.Table.{cell_in, cell_of, mode_of, Keeps, StandsAt, state_of}
-use Rattle.cap_machine.proofs.Owners.{changed, both_tests, either_way}
+use Rattle.cap_machine.specs.Table.{Keeps, state_of}
 use Rattle.cap_machine.proofs.table.Table.write.Goals as goal
 
 pub returns : goal.returns
 returns c =
-    let stands : StandsAt c.enter.new.self c.args.pid c.in_ok-place.place = c.in_ok-place.ensures.place in
     let kept : Keeps c.enter.new.self (state_of c.args.self.now) = c.in_ok-place.ensures.kept in
-    let within : c.in_ok-place.place < length c.enter.new.self.processes.items = search rules in
-    let q : Process = c.write.new.self in
+    let written = c.in_ok-write_at.ensures in
     record {
-      cells = λ r f. changed (λ x. cell_in x f) Unknown (λ (x : Cell). if f == c.args.fd then c.args.cell else x)
-          (place_in c.enter.new.self.index) c.enter.new.self.processes.items c.args.pid
-          c.in_ok-place.place c.index_mut-process.result.now q (λ r. cell_of c.args.self.now r f) stands.place within
-          c.index_mut-process.ensures.value (stands.owner c.index_mut-process.result.now) c.in_ok-write.ensures.pid
-          (c.in_ok-write.ensures.cells f) (λ r. kept.cells r f) r
-          ∙ both_tests (r == c.args.pid) (f == c.args.fd) c.args.cell (cell_of c.args.self.now r f);
-      modes = λ r. changed (λ (x : Process). x.mode) Unsure (λ (m : Mode). m) (place_in c.enter.new.self.index)
-          c.enter.new.self.processes.items c.args.pid c.in_ok-place.place c.index_mut-process.result.now q
-          (mode_of c.args.self.now) stands.place within c.index_mut-process.ensures.value
-          (stands.owner c.index_mut-process.result.now) c.in_ok-write.ensures.pid
-          (c.in_ok-write.ensures.mode) kept.modes r ∙ either_way (r == c.args.pid) (mode_of c.args.self.now r);
+      cells = λ r f. written.cells r f
+          ∙ ap (λ (x : Cell). if r == c.args.pid && f == c.args.fd then c.args.cell else x) (kept.cells r f);
+      modes = λ r. written.modes r ∙ kept.modes r;
     }

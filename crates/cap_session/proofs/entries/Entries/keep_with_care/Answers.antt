@@ -1,4 +1,4 @@
-use Rattle.std.proofs.Common.{◌<◌, length, arith, sym}
+use Rattle.std.proofs.Common.{◌<◌, length, arith}
 use Rattle.cap_session.proofs.NextEntry.{reads, reads_some, is_faulty, is_lost}
 use Rattle.cap_session.specs.Traced.{one_more}
 use Rattle.cap_session.proofs.entries.Entries.keep_with_care.Goals as goal
