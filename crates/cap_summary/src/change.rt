@@ -12,7 +12,8 @@ ghost use Rattle.cap_summary.specs.Tables.{listed_value, process_at, listed_proc
 ghost use Rattle.cap_summary.specs.Tables.{seen_value};
 ghost use Rattle.cap_summary.specs.Names.{Names, cell_within, others_within, mode_within, these, ChangeWithin};
 
-use crate::kept::{Listed, Seen};
+use crate::kept::{Fate, Listed, Seen};
+use crate::packed::Low;
 use crate::layers::Lowered;
 use crate::tables::{Cells, Processes};
 use crate::values::{Base, ModeValue, Others, Value, lower_of};
@@ -173,6 +174,16 @@ impl Change {
         match self.processes.get_near(pid, &mut near.process) {
             Some(listed) => listed.seen(pid, fd, &mut near.cell),
             None => Seen::Same,
+        }
+    }
+
+    /// What becomes of a condition behind this change. It looks for the process first where an earlier look-up ended, and
+    /// notes where this one did.
+    #[inline]
+    pub(crate) fn fate(&self, low: &Low, near: &mut Near) -> Fate {
+        match self.processes.get_near(low.pid(), &mut near.process) {
+            Some(listed) => listed.fate(low.pid(), low, &mut near.cell),
+            None => Fate::Stays,
         }
     }
 

@@ -12,10 +12,11 @@ ghost use Rattle.cap_summary.specs.declared.values.Value.TheVariants as value;
 
 use crate::change::{Change, Near, Process, ProcessRef};
 use crate::layers::Lowered;
+use crate::packed::Low;
 use crate::sorted::Combine;
 use crate::tables::Cells;
 use crate::values::{Base, ModeValue, Passing, Value, is_closed};
-use cap_machine::{Cell, OnExec, Op};
+use cap_machine::{Cell, Mode, OnExec, Op};
 use cap_rights::RightSet;
 use cap_trace::{Fd, Pid};
 use cap_tree::NoMemory;
@@ -43,6 +44,26 @@ pub(crate) enum Seen<'a> {
     Executed(&'a Taken),
     /// It is the cell of the same descriptor of this process, handed on so.
     Passed(Pid, Passing),
+}
+
+/// What becomes of a condition of the most common form behind a change.
+#[derive(Clone, Copy)]
+pub(crate) enum Fate {
+    /// It stays as it is.
+    Stays,
+    Never,
+    Always,
+    /// It is the same of the cell of this process.
+    Of(Pid),
+    /// Something else: what has become of the cell says it.
+    Unsure,
+}
+
+impl Fate {
+    /// Of a condition that holds or doesn't.
+    fn of(holds: bool) -> Fate {
+        if holds { Fate::Always } else { Fate::Never }
+    }
 }
 
 /// A value as a table keeps it, in few bytes: a cell by its kind and flag, and else shared.
@@ -118,6 +139,19 @@ impl Kept {
             Kept::Clear(rights) => Seen::Fixed(Cell::Held(*rights, OnExec::Clear)),
             Kept::Unsure(rights) => Seen::Fixed(Cell::Held(*rights, OnExec::Unsure)),
             Kept::Of(taken) => Seen::Taken(taken),
+        }
+    }
+
+    /// What becomes of a condition on a cell of which this is kept.
+    #[inline]
+    pub(crate) fn fate(&self, low: &Low) -> Fate {
+        match self {
+            Kept::Unknown => Fate::Never,
+            Kept::Closed => Fate::of(low.closed()),
+            Kept::Set(rights) | Kept::Clear(rights) | Kept::Unsure(rights) => {
+                Fate::of(low.is_lacked_by(rights))
+            }
+            Kept::Of(_) => Fate::Unsure,
         }
     }
 
@@ -311,6 +345,8 @@ impl Combine for Moving<'_> {
 pub(crate) enum Listed {
     /// These cells are listed. All others are the process's own, and so is its mode, as no line touched them.
     Own(Cells),
+    /// These cells are listed. Nothing is known of any other, nor of the mode, as after an exit.
+    Ended(Cells),
     /// Anything else, shared.
     Other(Rc<Process>),
 }
@@ -322,6 +358,9 @@ impl Listed {
     {
         if process.base.is_all_own(pid) && process.mode.is_own(pid) {
             return Ok(Listed::Own(process.cells));
+        }
+        if process.base.is_all_unknown() && process.mode.is_unsure() {
+            return Ok(Listed::Ended(process.cells));
         }
         Ok(Listed::Other(Rc::new(alloc, process)?))
     }
@@ -335,6 +374,11 @@ impl Listed {
             Listed::Own(cells) => ProcessRef {
                 base: Base::own(pid),
                 mode: ModeValue::Own(pid),
+                cells,
+            },
+            Listed::Ended(cells) => ProcessRef {
+                base: Base::unknown(),
+                mode: ModeValue::Fixed(Mode::Unsure),
                 cells,
             },
             Listed::Other(process) => ProcessRef {
@@ -351,7 +395,7 @@ impl Listed {
         ensures { (p : ℕ) → result.now ≡ (listed_process p self.now).cells }
     {
         match self {
-            Listed::Own(cells) => cells,
+            Listed::Own(cells) | Listed::Ended(cells) => cells,
             Listed::Other(process) => &process.cells,
         }
     }
@@ -363,6 +407,7 @@ impl Listed {
     {
         match self {
             Listed::Own(_) => Seen::Same,
+            Listed::Ended(_) => Seen::Fixed(Cell::Unknown),
             Listed::Other(process) => process.base.seen(pid, fd),
         }
     }
@@ -376,6 +421,20 @@ impl Listed {
         match self.cells().get_near(fd, near) {
             Some(seen) => seen,
             None => self.seen_unlisted(pid, fd),
+        }
+    }
+
+    /// What becomes of a condition on a descriptor of the process with this pid. It looks for it first where an earlier
+    /// look-up ended, and notes where this one did.
+    #[inline]
+    pub(crate) fn fate(&self, pid: Pid, low: &Low, near: &mut usize) -> Fate {
+        if let Some(fate) = self.cells().fate(low, near) {
+            return fate;
+        }
+        match self {
+            Listed::Own(_) => Fate::Stays,
+            Listed::Ended(_) => Fate::Never,
+            Listed::Other(process) => process.base.fate(pid, low),
         }
     }
 
@@ -399,6 +458,7 @@ impl Listed {
     {
         match self {
             Listed::Own(cells) => Ok(Listed::Own(cells.share()?)),
+            Listed::Ended(cells) => Ok(Listed::Ended(cells.share()?)),
             Listed::Other(process) => Ok(Listed::Other(process.clone()?)),
         }
     }

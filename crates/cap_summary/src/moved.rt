@@ -18,7 +18,7 @@ ghost use Rattle.cap_summary.specs.Packed.{low_condition, low_holds, any_low_hol
 
 use crate::change::{Change, Near};
 use crate::conditions::{Condition, Refused, Source};
-use crate::kept::{Seen, Taken};
+use crate::kept::{Fate, Seen, Taken};
 use crate::merge::sorted;
 use crate::packed::{Conditions, Gathered, Low, Others};
 use crate::values::{ModeValue, Passing};
@@ -386,6 +386,40 @@ impl Change {
     /// Adds what becomes of a condition of the most common form behind this change, and answers whether it holds in any
     /// case.
     fn put_low(
+        &self,
+        alloc: Global,
+        low: &Low,
+        near: &mut Near,
+        left: &mut Gathered,
+    ) -> Result<bool, NoMemory>
+        ensures holds { IfOk result (λ always. (s : State) → (always || any_holds s left.new)
+            ≡ (any_holds s left.old || low_holds (changed self.now s) low.now)) }
+        ensures names { OnOk result ((names : Names) → ChangeWithin names self.now
+            → condition_within names (low_condition low.now) ≡ true → ConditionsWithin names left.old
+            → ConditionsWithin names left.new) }
+    {
+        let before = *near;
+        match self.fate(low, near) {
+            Fate::Never => Ok(false),
+            Fate::Always => Ok(true),
+            Fate::Stays => {
+                left.add_low(low)?;
+                Ok(false)
+            }
+            Fate::Of(pid) => {
+                left.add_low(&low.of_process(pid))?;
+                Ok(false)
+            }
+            Fate::Unsure => {
+                *near = before;
+                self.put_seen(alloc, low, near, left)
+            }
+        }
+    }
+
+    /// The same by what has become of the cell.
+    #[inline(never)]
+    fn put_seen(
         &self,
         alloc: Global,
         low: &Low,

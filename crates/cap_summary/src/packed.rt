@@ -205,6 +205,18 @@ impl Low {
         }
     }
 
+    /// Whether a closed cell passes the test.
+    #[inline]
+    pub(crate) fn closed(&self) -> bool {
+        self.closed
+    }
+
+    /// Whether a held cell of these rights passes the test.
+    #[inline]
+    pub(crate) fn is_lacked_by(&self, rights: &RightSet) -> bool {
+        !rights.has_all(&self.rights)
+    }
+
     /// Whether a cell passes the test.
     #[inline]
     pub(crate) fn passes(&self, cell: Cell) -> bool
@@ -441,6 +453,9 @@ fn same_packed(a: &[Packed], b: &[Packed]) -> bool
     }
     true
 }
+
+/// A list of so many conditions is too short to be counted.
+const FEW: usize = 4096;
 
 /// The number of a condition, and whether it is among the first.
 #[derive(Clone, Copy)]
@@ -717,14 +732,17 @@ impl Conditions {
         (&self.lows, &self.others)
     }
 
-    /// How many there are, where those of one kind that ask about the same process and descriptor first count as one.
-    /// Both parts are gone through side by side.
+    /// How many there are, where those of one kind that ask about the same process and descriptor first count as one; a
+    /// list of few isn't counted. Both parts are gone through side by side.
     pub(crate) fn places(&self) -> usize
         ensures few { (pids fds : List ℕ) → ConditionsWithin (these pids fds) self.now
             → result ≤ 2 * room pids fds + 1 }
     {
         let (lows, others) = (self.lows.as_slice(), self.others.as_slice());
         let all = lows.len() + others.len();
+        if all <= FEW {
+            return 0;
+        }
         let mut i = 0usize;
         let mut j = 0usize;
         let mut count = 0usize;

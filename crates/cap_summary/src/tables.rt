@@ -16,9 +16,11 @@ ghost use Rattle.cap_summary.specs.Names.{is_one, these, AreWithin, ChangeWithin
 ghost use Rattle.cap_summary.specs.Sizes.{room};
 
 use crate::change::{Change, Near, Process, ProcessRef};
-use crate::kept::{Handing, Joining, Kept, Listed, Moving, Seen};
+use crate::kept::{Fate, Handing, Joining, Kept, Listed, Seen};
+use crate::packed::Low;
 use crate::layers::{
     LARGE, Layers, Lowered, Parts, Shared, are_like, has_room, made_of, note_lowered, stay_behind,
+    top_behind,
 };
 use crate::sorted::{Builder, Filled, Table, merge};
 use crate::values::{Passing, Value};
@@ -176,6 +178,26 @@ impl Cells {
                 }
             }
             Form::Layered(layers) => layers.layers().get_near(fd, near),
+        }
+    }
+
+    /// What becomes of a condition on the cell of a descriptor that is listed. It looks first behind where an earlier
+    /// look-up ended, and notes where this one did.
+    #[tactic(auto, unfolding(crate::specs::Tables::listed_value))]
+    #[inline(always)]
+    pub(crate) fn fate(&self, low: &Low, near: &mut usize) -> Option<Fate>
+    {
+        match &self.form {
+            Form::Empty => None,
+            Form::Flat(table) => {
+                let (found, at) = table.get_near(low.fd(), *near);
+                *near = at.saturating_add(1);
+                match found {
+                    Some(kept) => Some(kept.fate(low)),
+                    None => None,
+                }
+            }
+            Form::Layered(_) => Some(Fate::Unsure),
         }
     }
 
@@ -373,6 +395,18 @@ impl Cells {
         }
     }
 
+    /// Whether they come as a top over a table: few of them do, and as many as the table has where they are one table that
+    /// stays as it is, since that is shared.
+    fn fit_over(&self, table: &Filled<Kept>, change: &Change) -> bool {
+        if has_room(table.len(), self.most()) {
+            return true;
+        }
+        let Form::Flat(own) = &self.form else {
+            return false;
+        };
+        table.len() >= LARGE && own.len() <= table.len() && stay_behind(own.entries(), change)
+    }
+
     /// The same as [`Cells::under`], where these may list cells that the others don't.
     #[tactic(auto, unfolding(crate::specs::Tables::listed_value))]
     fn beneath(
@@ -387,10 +421,9 @@ impl Cells {
             ≡ or_else (option_map (under change.now) (listed_value others.now f)) (listed_value self.now f)) }
     {
         match &self.form {
-            Form::Flat(table) if has_room(table.len(), others.most()) => {
+            Form::Flat(table) if others.fit_over(table, change) => {
                 let over = others.flat(alloc)?;
-                let entries = over.entries();
-                let top = merge(alloc, &Moving { change }, &[], entries)?;
+                let top = top_behind(alloc, &over, change)?;
                 let handing = Handing {
                     passing: Passing::Same,
                     closed_from: None,
