@@ -53,8 +53,8 @@ pub(crate) enum Fate {
     Stays,
     Never,
     Always,
-    /// It is the same of the cell of this process.
-    Of(Pid),
+    /// It is that the cell of this descriptor of this process lacks the same rights, or also that it is closed.
+    To(Pid, Fd, bool),
     /// Something else: what has become of the cell says it.
     Unsure,
 }
@@ -150,6 +150,9 @@ impl Kept {
             Kept::Closed => Fate::of(low.closed()),
             Kept::Set(rights) | Kept::Clear(rights) | Kept::Unsure(rights) => {
                 Fate::of(low.is_lacked_by(rights))
+            }
+            Kept::Of(taken) if low.stays_before(&taken.op) => {
+                Fate::To(taken.pid, taken.fd, low.passes(taken.op.closed))
             }
             Kept::Of(_) => Fate::Unsure,
         }

@@ -406,8 +406,8 @@ impl Change {
                 left.add_low(low)?;
                 Ok(false)
             }
-            Fate::Of(pid) => {
-                left.add_low(&low.of_process(pid))?;
+            Fate::To(pid, fd, closed) => {
+                left.add_at(low, pid, fd, closed)?;
                 Ok(false)
             }
             Fate::Unsure => {

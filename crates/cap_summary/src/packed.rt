@@ -15,7 +15,7 @@ ghost use Rattle.cap_summary.specs.Sizes.{room, rank, part_rank, condition_rank,
 use crate::alike::{equal_refusals, equal_sources};
 use crate::conditions::{CellTest, Condition, HeldTest, Refused, Source};
 use crate::ordering::{order_of_cells, order_of_refusals, place, place_of_part};
-use cap_machine::Cell;
+use cap_machine::{Cell, HeldOp, Op};
 use cap_rights::RightSet;
 use cap_trace::{Fd, Pid};
 use cap_tree::NoMemory;
@@ -215,6 +215,22 @@ impl Low {
     #[inline]
     pub(crate) fn is_lacked_by(&self, rights: &RightSet) -> bool {
         !rights.has_all(&self.rights)
+    }
+
+    /// Whether it is the same test of a cell as of what an op makes of it. No is a safe answer.
+    pub(crate) fn stays_before(&self, op: &Op) -> bool {
+        !self.passes(op.unknown)
+            && self.stays_before_held(&op.set)
+            && self.stays_before_held(&op.clear)
+            && self.stays_before_held(&op.unsure)
+    }
+
+    fn stays_before_held(&self, op: &HeldOp) -> bool {
+        match op {
+            HeldOp::Becomes(_) => false,
+            HeldOp::Keeps(None, _) => true,
+            HeldOp::Keeps(Some(mask), _) => mask.has_all(&self.rights),
+        }
     }
 
     /// Whether a cell passes the test.
@@ -928,6 +944,23 @@ impl Gathered {
             Some(low) => self.add_low(&low),
             None => self.add_other(Packed::of_lack(*lack, closed)),
         }
+    }
+
+    /// Adds one of the most common form, of the cell of this descriptor of this process.
+    #[inline]
+    pub(crate) fn add_at(
+        &mut self,
+        low: &Low,
+        pid: Pid,
+        fd: Fd,
+        closed: bool,
+    ) -> Result<(), NoMemory> {
+        let lack = Lack {
+            pid,
+            fd,
+            rights: low.rights,
+        };
+        self.add_lack(&lack, closed)
     }
 
     /// Adds a condition that is packed.

@@ -340,7 +340,7 @@ impl Base {
         match &self.others {
             Others::Unknown => Fate::Never,
             Others::Of(source, Passing::Same) if *source == pid => Fate::Stays,
-            Others::Of(source, Passing::Same) => Fate::Of(*source),
+            Others::Of(source, Passing::Same) => Fate::To(*source, low.fd(), low.closed()),
             _ => Fate::Unsure,
         }
     }
