@@ -6,12 +6,17 @@ ghost use Rattle.cap_summary.specs.Images.{under, IsLowered};
 ghost use Rattle.std.specs.List.{All};
 ghost use Rattle.cap_summary.specs.Values.{unlisted, op_on, passing_op};
 ghost use Rattle.cap_summary.specs.Changes.{value_in};
+ghost use Rattle.cap_machine.specs.State.{State};
+ghost use Rattle.cap_summary.specs.Names.{Names, value_within};
+ghost use Rattle.cap_summary.specs.Packed.{low_source};
+ghost use Rattle.cap_summary.specs.MovedLow.{MovedLowHolds, MovedLowWithin};
 ghost use Rattle.cap_machine.specs.Op.{same, exec};
 ghost use Rattle.cap_machine.specs.Composed.{in_turn};
 ghost use Rattle.cap_summary.specs.declared.values.Value.TheVariants as value;
 
 use crate::change::{Change, Near, Process, ProcessRef};
 use crate::layers::Lowered;
+use crate::moved_low::MovedLow;
 use crate::packed::Low;
 use crate::sorted::Combine;
 use crate::tables::Cells;
@@ -46,26 +51,6 @@ pub(crate) enum Seen<'a> {
     Passed(Pid, Passing),
 }
 
-/// What becomes of a condition of the most common form behind a change.
-#[derive(Clone, Copy)]
-pub(crate) enum Fate {
-    /// It stays as it is.
-    Stays,
-    Never,
-    Always,
-    /// It is that the cell of this descriptor of this process lacks the same rights, or also that it is closed.
-    To(Pid, Fd, bool),
-    /// Something else: what has become of the cell says it.
-    Unsure,
-}
-
-impl Fate {
-    /// Of a condition that holds or doesn't.
-    fn of(holds: bool) -> Fate {
-        if holds { Fate::Always } else { Fate::Never }
-    }
-}
-
 /// A value as a table keeps it, in few bytes: a cell by its kind and flag, and else shared.
 #[derive(Drop)]
 pub(crate) enum Kept {
@@ -75,6 +60,23 @@ pub(crate) enum Kept {
     Clear(RightSet),
     Unsure(RightSet),
     Of(Rc<Taken>),
+}
+
+impl Taken {
+    /// What has become of a condition on a cell that was taken so.
+    #[inline]
+    fn moved_low(&self, low: &Low) -> MovedLow
+        ensures holds { (s : State)
+            → MovedLowHolds s low.now (value.Of self.now.pid self.now.fd self.now.op) result }
+        ensures names { (names : Names) → value_within names (value.Of self.now.pid self.now.fd self.now.op) ≡ true
+            → MovedLowWithin names low.now result }
+    {
+        if low.stays_before(&self.op) {
+            MovedLow::To(self.pid, self.fd, low.passes(self.op.closed))
+        } else {
+            MovedLow::Unsure
+        }
+    }
 }
 
 impl Kept {
@@ -142,19 +144,20 @@ impl Kept {
         }
     }
 
-    /// What becomes of a condition on a cell of which this is kept.
+    /// What has become of a condition on a cell of which this is kept.
     #[inline]
-    pub(crate) fn fate(&self, low: &Low) -> Fate {
+    pub(crate) fn moved_low(&self, low: &Low) -> MovedLow
+        ensures holds { (s : State) → MovedLowHolds s low.now (kept_value self.now) result }
+        ensures names { (names : Names) → value_within names (kept_value self.now) ≡ true
+            → MovedLowWithin names low.now result }
+    {
         match self {
-            Kept::Unknown => Fate::Never,
-            Kept::Closed => Fate::of(low.closed()),
-            Kept::Set(rights) | Kept::Clear(rights) | Kept::Unsure(rights) => {
-                Fate::of(low.is_lacked_by(rights))
-            }
-            Kept::Of(taken) if low.stays_before(&taken.op) => {
-                Fate::To(taken.pid, taken.fd, low.passes(taken.op.closed))
-            }
-            Kept::Of(_) => Fate::Unsure,
+            Kept::Unknown => MovedLow::Never,
+            Kept::Closed => MovedLow::fixed(low.closed()),
+            Kept::Set(rights) => MovedLow::fixed(low.is_lacked_by(rights)),
+            Kept::Clear(rights) => MovedLow::fixed(low.is_lacked_by(rights)),
+            Kept::Unsure(rights) => MovedLow::fixed(low.is_lacked_by(rights)),
+            Kept::Of(taken) => taken.moved_low(low),
         }
     }
 
@@ -427,17 +430,35 @@ impl Listed {
         }
     }
 
-    /// What becomes of a condition on a descriptor of the process with this pid. It looks for it first where an earlier
-    /// look-up ended, and notes where this one did.
+    /// What has become of a condition on a descriptor that isn't listed.
     #[inline]
-    pub(crate) fn fate(&self, pid: Pid, low: &Low, near: &mut usize) -> Fate {
-        if let Some(fate) = self.cells().fate(low, near) {
-            return fate;
-        }
+    fn unlisted_low(&self, low: &Low) -> MovedLow
+        ensures holds { (s : State) → MovedLowHolds s low.now
+            (unlisted (listed_process (low_source low.now).pid self.now).base (low_source low.now).fd) result }
+        ensures names { (names : Names) → value_within names
+            (unlisted (listed_process (low_source low.now).pid self.now).base (low_source low.now).fd) ≡ true
+            → MovedLowWithin names low.now result }
+    {
         match self {
-            Listed::Own(_) => Fate::Stays,
-            Listed::Ended(_) => Fate::Never,
-            Listed::Other(process) => process.base.fate(pid, low),
+            Listed::Own(_) => MovedLow::Stays,
+            Listed::Ended(_) => MovedLow::Never,
+            Listed::Other(process) => process.base.moved_low(low),
+        }
+    }
+
+    /// What has become of a condition on a cell of this process. It looks for the cell first where an earlier look-up
+    /// ended, and notes where this one did.
+    #[inline]
+    pub(crate) fn moved_low(&self, low: &Low, near: &mut usize) -> MovedLow
+        ensures holds { (s : State) → MovedLowHolds s low.now
+            (value_in (listed_process (low_source low.now).pid self.now) (low_source low.now).fd) result }
+        ensures names { (names : Names) → value_within names
+            (value_in (listed_process (low_source low.now).pid self.now) (low_source low.now).fd) ≡ true
+            → MovedLowWithin names low.now result }
+    {
+        match self.cells().moved_low(low, near) {
+            Some(moved) => moved,
+            None => self.unlisted_low(low),
         }
     }
 

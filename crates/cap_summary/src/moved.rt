@@ -18,8 +18,9 @@ ghost use Rattle.cap_summary.specs.Packed.{low_condition, low_holds, any_low_hol
 
 use crate::change::{Change, Near};
 use crate::conditions::{Condition, Refused, Source};
-use crate::kept::{Fate, Seen, Taken};
+use crate::kept::{Seen, Taken};
 use crate::merge::sorted;
+use crate::moved_low::MovedLow;
 use crate::packed::{Conditions, Gathered, Low, Others};
 use crate::values::{ModeValue, Passing};
 use cap_machine::{Cell, Mode, Op};
@@ -399,25 +400,25 @@ impl Change {
             → ConditionsWithin names left.new) }
     {
         let before = *near;
-        match self.fate(low, near) {
-            Fate::Never => Ok(false),
-            Fate::Always => Ok(true),
-            Fate::Stays => {
+        match self.moved_low(low, near) {
+            MovedLow::Never => Ok(false),
+            MovedLow::Always => Ok(true),
+            MovedLow::Stays => {
                 left.add_low(low)?;
                 Ok(false)
             }
-            Fate::To(pid, fd, closed) => {
+            MovedLow::To(pid, fd, closed) => {
                 left.add_at(low, pid, fd, closed)?;
                 Ok(false)
             }
-            Fate::Unsure => {
+            MovedLow::Unsure => {
                 *near = before;
                 self.put_seen(alloc, low, near, left)
             }
         }
     }
 
-    /// The same by what has become of the cell.
+    /// The same where it takes what has become of the cell.
     #[inline(never)]
     fn put_seen(
         &self,

@@ -14,14 +14,21 @@ ghost use Rattle.std.specs.List.{All};
 ghost use Rattle.cap_summary.specs.Values.{passed_on, passing_op, op_on};
 ghost use Rattle.cap_summary.specs.Names.{is_one, these, AreWithin, ChangeWithin};
 ghost use Rattle.cap_summary.specs.Sizes.{room};
+ghost use Rattle.cap_machine.specs.State.{State};
+ghost use Rattle.std.specs.Prelude.{unwrap_or, IfNone};
+ghost use Rattle.cap_summary.specs.declared.values.Value.{Value};
+ghost use Rattle.cap_summary.specs.Names.{Names, value_within};
+ghost use Rattle.cap_summary.specs.Packed.{low_source};
+ghost use Rattle.cap_summary.specs.MovedLow.{MovedLowHolds, MovedLowWithin};
 
 use crate::change::{Change, Near, Process, ProcessRef};
-use crate::kept::{Fate, Handing, Joining, Kept, Listed, Seen};
-use crate::packed::Low;
+use crate::kept::{Handing, Joining, Kept, Listed, Seen};
 use crate::layers::{
     LARGE, Layers, Lowered, Parts, Shared, are_like, has_room, made_of, note_lowered, stay_behind,
     top_behind,
 };
+use crate::moved_low::MovedLow;
+use crate::packed::Low;
 use crate::sorted::{Builder, Filled, Table, merge};
 use crate::values::{Passing, Value};
 use cap_trace::{Fd, Pid};
@@ -181,11 +188,17 @@ impl Cells {
         }
     }
 
-    /// What becomes of a condition on the cell of a descriptor that is listed. It looks first behind where an earlier
-    /// look-up ended, and notes where this one did.
+    /// What has become of a condition on a cell; none where its descriptor isn't listed. It looks for it first behind where
+    /// an earlier look-up ended, and notes where this one did.
     #[tactic(auto, unfolding(crate::specs::Tables::listed_value))]
     #[inline(always)]
-    pub(crate) fn fate(&self, low: &Low, near: &mut usize) -> Option<Fate>
+    pub(crate) fn moved_low(&self, low: &Low, near: &mut usize) -> Option<MovedLow>
+        ensures holds { IfSome result (λ moved. (s : State) (v : Value)
+            → MovedLowHolds s low.now (unwrap_or (listed_value self.now (low_source low.now).fd) v) moved) }
+        ensures names { IfSome result (λ moved. (names : Names) (v : Value)
+            → value_within names (unwrap_or (listed_value self.now (low_source low.now).fd) v) ≡ true
+            → MovedLowWithin names low.now moved) }
+        ensures none { IfNone result (listed_value self.now (low_source low.now).fd ≡ None) }
     {
         match &self.form {
             Form::Empty => None,
@@ -193,11 +206,11 @@ impl Cells {
                 let (found, at) = table.get_near(low.fd(), *near);
                 *near = at.saturating_add(1);
                 match found {
-                    Some(kept) => Some(kept.fate(low)),
+                    Some(kept) => Some(kept.moved_low(low)),
                     None => None,
                 }
             }
-            Form::Layered(_) => Some(Fate::Unsure),
+            Form::Layered(_) => Some(MovedLow::Unsure),
         }
     }
 

@@ -6,9 +6,12 @@ ghost use Rattle.cap_machine.specs.Op.{same, exec, applied};
 ghost use Rattle.cap_summary.specs.Values.{read_cell, read_mode, passing_op, rest_value, unlisted, is_from, op_on};
 ghost use Rattle.cap_summary.specs.Values.{are_of, rest_untouched, is_own, own_base, unknown_base};
 ghost use Rattle.cap_summary.specs.Tables.{seen_value};
-ghost use Rattle.cap_summary.specs.Names.{Names, others_within, mode_within};
+ghost use Rattle.cap_summary.specs.Names.{Names, others_within, mode_within, value_within};
+ghost use Rattle.cap_summary.specs.Packed.{low_source};
+ghost use Rattle.cap_summary.specs.MovedLow.{MovedLowHolds, MovedLowWithin};
 
-use crate::kept::{Fate, Seen};
+use crate::kept::Seen;
+use crate::moved_low::MovedLow;
 use crate::packed::Low;
 use cap_machine::{Cell, Mode, Op};
 use cap_trace::{Fd, Pid};
@@ -332,16 +335,19 @@ impl Base {
         }
     }
 
-    /// What becomes of a condition on a descriptor of the process with this pid, if it isn't listed.
-    pub(crate) fn fate(&self, pid: Pid, low: &Low) -> Fate {
+    /// What has become of a condition on a descriptor that isn't listed.
+    pub(crate) fn moved_low(&self, low: &Low) -> MovedLow
+        ensures holds { (s : State) → MovedLowHolds s low.now (unlisted self.now (low_source low.now).fd) result }
+        ensures names { (names : Names) → value_within names (unlisted self.now (low_source low.now).fd) ≡ true
+            → MovedLowWithin names low.now result }
+    {
         if self.closed_from.is_some() {
-            return Fate::Unsure;
+            return MovedLow::Unsure;
         }
         match &self.others {
-            Others::Unknown => Fate::Never,
-            Others::Of(source, Passing::Same) if *source == pid => Fate::Stays,
-            Others::Of(source, Passing::Same) => Fate::To(*source, low.fd(), low.closed()),
-            _ => Fate::Unsure,
+            Others::Unknown => MovedLow::Never,
+            Others::Of(source, Passing::Same) => MovedLow::To(*source, low.fd(), low.closed()),
+            _ => MovedLow::Unsure,
         }
     }
 
