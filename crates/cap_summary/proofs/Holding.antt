@@ -35,6 +35,9 @@ use Rattle.cap_summary.specs.declared.conditions.HeldTest.{HeldTest}
 use Rattle.cap_summary.specs.declared.conditions.HeldTest.TheVariants.{Never, Always, Lacks, Has}
 use Rattle.cap_summary.specs.declared.conditions.CellTest.{CellTest}
 use Rattle.cap_summary.specs.declared.conditions.Source.{Source}
+use Rattle.cap_summary.specs.declared.packed.Low.{Low}
+use Rattle.cap_summary.specs.Packed.{low_source}
+use Rattle.cap_summary.specs.MovedLow.{LacksBefore}
 use Rattle.cap_summary.specs.declared.change.Change.{Change}
 use Rattle.cap_summary.specs.declared.values.Value.{Value}
 use Rattle.cap_summary.specs.declared.values.Value.TheVariants as value
@@ -107,6 +110,20 @@ passes_before t op Closed = refl
 passes_before t op (Held r Set) = held_passes t op.set r
 passes_before t op (Held r Clear) = held_passes t op.clear r
 passes_before t op (Held r Unsure) = held_passes t op.unsure r
+
+-- a test for rights is one for the same rights before an op that keeps these
+pub lacks_before : (low : Low) (op : Op) → passes (low_source low).test op.unknown ≡ false
+    → held_before (low_source low).test op.set ≡ Lacks low.rights
+    → held_before (low_source low).test op.clear ≡ Lacks low.rights
+    → held_before (low_source low).test op.unsure ≡ Lacks low.rights → LacksBefore low op
+lacks_before low op unknown set clear unsure Unknown = unknown
+lacks_before low op unknown set clear unsure Closed = refl
+lacks_before low op unknown set clear unsure (Held r Set) =
+    sym (passes_before (low_source low).test op (Held r Set)) ∙ ap (λ h. passes_held h r) set
+lacks_before low op unknown set clear unsure (Held r Clear) =
+    sym (passes_before (low_source low).test op (Held r Clear)) ∙ ap (λ h. passes_held h r) clear
+lacks_before low op unknown set clear unsure (Held r Unsure) =
+    sym (passes_before (low_source low).test op (Held r Unsure)) ∙ ap (λ h. passes_held h r) unsure
 
 -- ---- lists
 pub has_any-append : {X : Type 0} (xs ys : List X) → has_any (xs ++ ys) ≡ (has_any xs || has_any ys)

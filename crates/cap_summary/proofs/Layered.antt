@@ -221,13 +221,12 @@ parts_hidden others parts o f is top lower = rw (← is) (hidden_layers others (
 
 -- a table below others that stand behind a change
 pub over_table : (a : Change) (f : ℕ) (others over top own new : Option Value) → over ≡ others
-    → top ≡ or_else (option_map (under a) over) None
-    → new ≡ or_else top (option_and_then (passed_on passings.Same None f) own)
+    → top ≡ option_map (under a) over → new ≡ or_else top (option_and_then (passed_on passings.Same None f) own)
     → new ≡ or_else (option_map (under a) others) own
 over_table a f others over top own new over_is top_is is =
     is
     ∙ ap (λ (o : Option Value). or_else o (option_and_then (passed_on passings.Same None f) own))
-    (top_is ∙ or_none (option_map (under a) over) ∙ ap (option_map (under a)) over_is)
+    (top_is ∙ ap (option_map (under a)) over_is)
     ∙ ap (or_else (option_map (under a) others)) (sym (passed_same f own own refl))
 
 -- a table that is shared below others that stand behind a change

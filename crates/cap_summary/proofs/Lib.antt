@@ -12,6 +12,7 @@ pub mod Counting
 pub mod Runs
 pub mod Holding
 pub mod Merging
+pub mod MovedLow
 pub mod Gathering
 pub mod Knowing
 pub mod Standing

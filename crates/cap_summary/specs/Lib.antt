@@ -11,6 +11,7 @@ pub mod Does
 pub mod Conditions
 pub mod Packed
 pub mod Moved
+pub mod MovedLow
 pub mod LineConditions
 pub mod Merging
 pub mod Knows

@@ -2,6 +2,7 @@
 use Rattle.std.specs.Prelude.{◌≡◌, ℕ, List, Option, Some, None, option_map, option_and_then}
 use Rattle.cap_machine.specs.declared.cell.Cell.TheVariants as cell
 use Rattle.cap_machine.specs.declared.cell.OnExec.TheVariants as flag
+use Rattle.cap_machine.specs.declared.cell.Mode.TheVariants as modes
 use Rattle.cap_machine.specs.Op.{same, exec}
 use Rattle.cap_machine.specs.Composed.{in_turn}
 use Rattle.cap_summary.specs.Sorted.{found}
@@ -15,7 +16,7 @@ use Rattle.cap_summary.specs.declared.kept.Listed.{Listed}
 use Rattle.cap_summary.specs.declared.kept.Listed.TheVariants as listed
 use Rattle.cap_summary.specs.declared.values.ModeValue.TheVariants as mode_value
 use Rattle.cap_summary.specs.declared.values.Passing.{Passing}
-use Rattle.cap_summary.specs.Values.{own_base, passing_op, passed_on}
+use Rattle.cap_summary.specs.Values.{own_base, unknown_base, passing_op, passed_on}
 use Rattle.cap_summary.specs.declared.change.Process.{Process}
 use Rattle.cap_summary.specs.declared.change.ProcessRef.{ProcessRef}
 use Rattle.cap_summary.specs.declared.layers.Layers.{Layers}
@@ -88,6 +89,7 @@ process_of process = record { base = process.base; mode = process.mode; cells = 
 -- what has become of the process of an entry
 abbrev pub listed_process : ℕ → Listed → Process
 listed_process p (listed.Own cells) = record { base = own_base p; mode = mode_value.Own p; cells = cells }
+listed_process p (listed.Ended cells) = record { base = unknown_base; mode = mode_value.Fixed modes.Unsure; cells = cells }
 listed_process p (listed.Other process) = process.value
 
 -- a process that is listed

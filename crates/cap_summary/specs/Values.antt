@@ -64,6 +64,10 @@ are_of (rest.Of q passing) p = q == p
 abbrev pub own_base : ℕ → Base
 own_base p = record { others = rest.Of p passings.Same; closed_from = None; own = true }
 
+-- nothing is known of any cell
+abbrev pub unknown_base : Base
+unknown_base = record { others = rest.Unknown; closed_from = None; own = false }
+
 -- no step of the segment touched a cell of process p that isn't listed and has this base
 abbrev pub rest_untouched : Base → ℕ → ℕ → Bool
 rest_untouched base p f = (base.own && are_of base.others p) && not (is_from base.closed_from f)

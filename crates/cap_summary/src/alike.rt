@@ -125,6 +125,7 @@ impl Listed {
     {
         match (self, other) {
             (Listed::Own(a), Listed::Own(b)) => a.is_like(b),
+            (Listed::Ended(a), Listed::Ended(b)) => a.is_like(b),
             (Listed::Other(a), Listed::Other(b)) => a.is_like(b),
             _ => false,
         }

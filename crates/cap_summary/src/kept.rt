@@ -6,16 +6,22 @@ ghost use Rattle.cap_summary.specs.Images.{under, IsLowered};
 ghost use Rattle.std.specs.List.{All};
 ghost use Rattle.cap_summary.specs.Values.{unlisted, op_on, passing_op};
 ghost use Rattle.cap_summary.specs.Changes.{value_in};
+ghost use Rattle.cap_machine.specs.State.{State};
+ghost use Rattle.cap_summary.specs.Names.{Names, value_within};
+ghost use Rattle.cap_summary.specs.Packed.{low_source};
+ghost use Rattle.cap_summary.specs.MovedLow.{MovedLowHolds, MovedLowWithin};
 ghost use Rattle.cap_machine.specs.Op.{same, exec};
 ghost use Rattle.cap_machine.specs.Composed.{in_turn};
 ghost use Rattle.cap_summary.specs.declared.values.Value.TheVariants as value;
 
 use crate::change::{Change, Near, Process, ProcessRef};
 use crate::layers::Lowered;
+use crate::moved_low::MovedLow;
+use crate::packed::Low;
 use crate::sorted::Combine;
 use crate::tables::Cells;
 use crate::values::{Base, ModeValue, Passing, Value, is_closed};
-use cap_machine::{Cell, OnExec, Op};
+use cap_machine::{Cell, Mode, OnExec, Op};
 use cap_rights::RightSet;
 use cap_trace::{Fd, Pid};
 use cap_tree::NoMemory;
@@ -54,6 +60,23 @@ pub(crate) enum Kept {
     Clear(RightSet),
     Unsure(RightSet),
     Of(Rc<Taken>),
+}
+
+impl Taken {
+    /// What has become of a condition on a cell that was taken so.
+    #[inline]
+    fn moved_low(&self, low: &Low) -> MovedLow
+        ensures holds { (s : State)
+            → MovedLowHolds s low.now (value.Of self.now.pid self.now.fd self.now.op) result }
+        ensures names { (names : Names) → value_within names (value.Of self.now.pid self.now.fd self.now.op) ≡ true
+            → MovedLowWithin names low.now result }
+    {
+        if low.stays_before(&self.op) {
+            MovedLow::To(self.pid, self.fd, low.passes(self.op.closed))
+        } else {
+            MovedLow::Unsure
+        }
+    }
 }
 
 impl Kept {
@@ -118,6 +141,23 @@ impl Kept {
             Kept::Clear(rights) => Seen::Fixed(Cell::Held(*rights, OnExec::Clear)),
             Kept::Unsure(rights) => Seen::Fixed(Cell::Held(*rights, OnExec::Unsure)),
             Kept::Of(taken) => Seen::Taken(taken),
+        }
+    }
+
+    /// What has become of a condition on a cell of which this is kept.
+    #[inline]
+    pub(crate) fn moved_low(&self, low: &Low) -> MovedLow
+        ensures holds { (s : State) → MovedLowHolds s low.now (kept_value self.now) result }
+        ensures names { (names : Names) → value_within names (kept_value self.now) ≡ true
+            → MovedLowWithin names low.now result }
+    {
+        match self {
+            Kept::Unknown => MovedLow::Never,
+            Kept::Closed => MovedLow::fixed(low.closed()),
+            Kept::Set(rights) => MovedLow::fixed(low.is_lacked_by(rights)),
+            Kept::Clear(rights) => MovedLow::fixed(low.is_lacked_by(rights)),
+            Kept::Unsure(rights) => MovedLow::fixed(low.is_lacked_by(rights)),
+            Kept::Of(taken) => taken.moved_low(low),
         }
     }
 
@@ -311,6 +351,8 @@ impl Combine for Moving<'_> {
 pub(crate) enum Listed {
     /// These cells are listed. All others are the process's own, and so is its mode, as no line touched them.
     Own(Cells),
+    /// These cells are listed. Nothing is known of any other, nor of the mode, as after an exit.
+    Ended(Cells),
     /// Anything else, shared.
     Other(Rc<Process>),
 }
@@ -322,6 +364,9 @@ impl Listed {
     {
         if process.base.is_all_own(pid) && process.mode.is_own(pid) {
             return Ok(Listed::Own(process.cells));
+        }
+        if process.base.is_all_unknown() && process.mode.is_unsure() {
+            return Ok(Listed::Ended(process.cells));
         }
         Ok(Listed::Other(Rc::new(alloc, process)?))
     }
@@ -335,6 +380,11 @@ impl Listed {
             Listed::Own(cells) => ProcessRef {
                 base: Base::own(pid),
                 mode: ModeValue::Own(pid),
+                cells,
+            },
+            Listed::Ended(cells) => ProcessRef {
+                base: Base::unknown(),
+                mode: ModeValue::Fixed(Mode::Unsure),
                 cells,
             },
             Listed::Other(process) => ProcessRef {
@@ -351,7 +401,7 @@ impl Listed {
         ensures { (p : ℕ) → result.now ≡ (listed_process p self.now).cells }
     {
         match self {
-            Listed::Own(cells) => cells,
+            Listed::Own(cells) | Listed::Ended(cells) => cells,
             Listed::Other(process) => &process.cells,
         }
     }
@@ -363,6 +413,7 @@ impl Listed {
     {
         match self {
             Listed::Own(_) => Seen::Same,
+            Listed::Ended(_) => Seen::Fixed(Cell::Unknown),
             Listed::Other(process) => process.base.seen(pid, fd),
         }
     }
@@ -376,6 +427,38 @@ impl Listed {
         match self.cells().get_near(fd, near) {
             Some(seen) => seen,
             None => self.seen_unlisted(pid, fd),
+        }
+    }
+
+    /// What has become of a condition on a descriptor that isn't listed.
+    #[inline]
+    fn unlisted_low(&self, low: &Low) -> MovedLow
+        ensures holds { (s : State) → MovedLowHolds s low.now
+            (unlisted (listed_process (low_source low.now).pid self.now).base (low_source low.now).fd) result }
+        ensures names { (names : Names) → value_within names
+            (unlisted (listed_process (low_source low.now).pid self.now).base (low_source low.now).fd) ≡ true
+            → MovedLowWithin names low.now result }
+    {
+        match self {
+            Listed::Own(_) => MovedLow::Stays,
+            Listed::Ended(_) => MovedLow::Never,
+            Listed::Other(process) => process.base.moved_low(low),
+        }
+    }
+
+    /// What has become of a condition on a cell of this process. It looks for the cell first where an earlier look-up
+    /// ended, and notes where this one did.
+    #[inline]
+    pub(crate) fn moved_low(&self, low: &Low, near: &mut usize) -> MovedLow
+        ensures holds { (s : State) → MovedLowHolds s low.now
+            (value_in (listed_process (low_source low.now).pid self.now) (low_source low.now).fd) result }
+        ensures names { (names : Names) → value_within names
+            (value_in (listed_process (low_source low.now).pid self.now) (low_source low.now).fd) ≡ true
+            → MovedLowWithin names low.now result }
+    {
+        match self.cells().moved_low(low, near) {
+            Some(moved) => moved,
+            None => self.unlisted_low(low),
         }
     }
 
@@ -399,6 +482,7 @@ impl Listed {
     {
         match self {
             Listed::Own(cells) => Ok(Listed::Own(cells.share()?)),
+            Listed::Ended(cells) => Ok(Listed::Ended(cells.share()?)),
             Listed::Other(process) => Ok(Listed::Other(process.clone()?)),
         }
     }

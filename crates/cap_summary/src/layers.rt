@@ -440,7 +440,11 @@ fn lower_over(
 }
 
 /// The table of a top behind a change, shared where it stays as it is.
-fn top_behind(alloc: Global, top: &Table<Kept>, change: &Change) -> Result<Table<Kept>, NoMemory>
+pub(crate) fn top_behind(
+    alloc: Global,
+    top: &Table<Kept>,
+    change: &Change,
+) -> Result<Table<Kept>, NoMemory>
     ensures { IfOk result (λ new. (f : ℕ)
         → kept_values (found new f) ≡ option_map (under change.now) (kept_values (found top.now f))) }
 {

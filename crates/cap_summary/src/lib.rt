@@ -27,6 +27,7 @@ mod layers;
 mod line_conditions;
 mod merge;
 mod moved;
+mod moved_low;
 mod node;
 mod ordering;
 mod packed;

@@ -20,6 +20,7 @@ use crate::change::{Change, Near};
 use crate::conditions::{Condition, Refused, Source};
 use crate::kept::{Seen, Taken};
 use crate::merge::sorted;
+use crate::moved_low::MovedLow;
 use crate::packed::{Conditions, Gathered, Low, Others};
 use crate::values::{ModeValue, Passing};
 use cap_machine::{Cell, Mode, Op};
@@ -386,6 +387,40 @@ impl Change {
     /// Adds what becomes of a condition of the most common form behind this change, and answers whether it holds in any
     /// case.
     fn put_low(
+        &self,
+        alloc: Global,
+        low: &Low,
+        near: &mut Near,
+        left: &mut Gathered,
+    ) -> Result<bool, NoMemory>
+        ensures holds { IfOk result (λ always. (s : State) → (always || any_holds s left.new)
+            ≡ (any_holds s left.old || low_holds (changed self.now s) low.now)) }
+        ensures names { OnOk result ((names : Names) → ChangeWithin names self.now
+            → condition_within names (low_condition low.now) ≡ true → ConditionsWithin names left.old
+            → ConditionsWithin names left.new) }
+    {
+        let before = *near;
+        match self.moved_low(low, near) {
+            MovedLow::Never => Ok(false),
+            MovedLow::Always => Ok(true),
+            MovedLow::Stays => {
+                left.add_low(low)?;
+                Ok(false)
+            }
+            MovedLow::To(pid, fd, closed) => {
+                left.add_at(low, pid, fd, closed)?;
+                Ok(false)
+            }
+            MovedLow::Unsure => {
+                *near = before;
+                self.put_seen(alloc, low, near, left)
+            }
+        }
+    }
+
+    /// The same where it takes what has become of the cell.
+    #[inline(never)]
+    fn put_seen(
         &self,
         alloc: Global,
         low: &Low,

@@ -4,7 +4,8 @@ ghost use Rattle.std.specs.Prelude.{◌≡◌, ℕ, ◌+◌, ◌*◌, ◌^◌, L
 ghost use Rattle.std.specs.Prelude.{Bool, true, IfOk, IfSome, OnOk, map};
 ghost use Rattle.cap_summary.specs.declared.conditions.Condition.{Condition};
 ghost use Rattle.cap_machine.specs.State.{State};
-ghost use Rattle.cap_summary.specs.Conditions.{holds, any_holds, passes, source_holds};
+ghost use Rattle.cap_summary.specs.Conditions.{holds, any_holds, passes, source_holds, held_before};
+ghost use Rattle.cap_summary.specs.MovedLow.{LacksBefore};
 ghost use Rattle.cap_summary.specs.Packed.{lacking, low_condition, low_conditions, packed_condition};
 ghost use Rattle.cap_summary.specs.Packed.{low_source, packed_conditions};
 ghost use Rattle.cap_summary.specs.Merging.{HasOneMore};
@@ -15,7 +16,7 @@ ghost use Rattle.cap_summary.specs.Sizes.{room, rank, part_rank, condition_rank,
 use crate::alike::{equal_refusals, equal_sources};
 use crate::conditions::{CellTest, Condition, HeldTest, Refused, Source};
 use crate::ordering::{order_of_cells, order_of_refusals, place, place_of_part};
-use cap_machine::Cell;
+use cap_machine::{Cell, HeldOp, OnExec, Op};
 use cap_rights::RightSet;
 use cap_trace::{Fd, Pid};
 use cap_tree::NoMemory;
@@ -202,6 +203,44 @@ impl Low {
             fd: self.fd,
             closed: self.closed,
             rights: self.rights,
+        }
+    }
+
+    /// Whether a closed cell passes the test.
+    #[inline]
+    pub(crate) fn closed(&self) -> bool
+        ensures { result ≡ (low_source self.now).test.closed }
+    {
+        self.closed
+    }
+
+    /// Whether a held cell of these rights passes the test.
+    #[inline]
+    pub(crate) fn is_lacked_by(&self, rights: &RightSet) -> bool
+        ensures { (flag : OnExec) → result ≡ passes (low_source self.now).test (Cell.Held rights.now flag) }
+    {
+        !rights.has_all(&self.rights)
+    }
+
+    /// Whether what an op makes of a cell is tested by a test for the same rights of the cell. No is a safe answer.
+    #[tactic(auto, using(crate::proofs::Holding::lacks_before))]
+    pub(crate) fn stays_before(&self, op: &Op) -> bool
+        ensures { result ≡ true → LacksBefore self.now op.now }
+    {
+        !self.passes(op.unknown)
+            && self.stays_before_held(&op.set)
+            && self.stays_before_held(&op.clear)
+            && self.stays_before_held(&op.unsure)
+    }
+
+    /// The same of what is made of a held cell.
+    fn stays_before_held(&self, op: &HeldOp) -> bool
+        ensures { result ≡ true → held_before (low_source self.now).test op.now ≡ HeldTest.Lacks self.now.rights }
+    {
+        match op {
+            HeldOp::Becomes(_) => false,
+            HeldOp::Keeps(None, _) => true,
+            HeldOp::Keeps(Some(mask), _) => mask.has_all(&self.rights),
         }
     }
 
@@ -441,6 +480,9 @@ fn same_packed(a: &[Packed], b: &[Packed]) -> bool
     }
     true
 }
+
+/// A list of so many conditions is too short to be counted.
+const FEW: usize = 4096;
 
 /// The number of a condition, and whether it is among the first.
 #[derive(Clone, Copy)]
@@ -717,14 +759,17 @@ impl Conditions {
         (&self.lows, &self.others)
     }
 
-    /// How many there are, where those of one kind that ask about the same process and descriptor first count as one.
-    /// Both parts are gone through side by side.
+    /// How many there are, where those of one kind that ask about the same process and descriptor first count as one; a
+    /// list of few isn't counted. Both parts are gone through side by side.
     pub(crate) fn places(&self) -> usize
         ensures few { (pids fds : List ℕ) → ConditionsWithin (these pids fds) self.now
             → result ≤ 2 * room pids fds + 1 }
     {
         let (lows, others) = (self.lows.as_slice(), self.others.as_slice());
         let all = lows.len() + others.len();
+        if all <= FEW {
+            return 0;
+        }
         let mut i = 0usize;
         let mut j = 0usize;
         let mut count = 0usize;
@@ -910,6 +955,26 @@ impl Gathered {
             Some(low) => self.add_low(&low),
             None => self.add_other(Packed::of_lack(*lack, closed)),
         }
+    }
+
+    /// Adds that the cell of this descriptor of this process lacks the rights of a condition, or also that it is closed.
+    #[inline]
+    pub(crate) fn add_at(
+        &mut self,
+        low: &Low,
+        pid: Pid,
+        fd: Fd,
+        closed: bool,
+    ) -> Result<(), NoMemory>
+        ensures { OnOk result (HasOneMore self.old
+            (Condition.Cell (lacking closed (record { pid = pid; fd = fd; rights = low.now.rights }))) self.new) }
+    {
+        let lack = Lack {
+            pid,
+            fd,
+            rights: low.rights,
+        };
+        self.add_lack(&lack, closed)
     }
 
     /// Adds a condition that is packed.

@@ -14,12 +14,21 @@ ghost use Rattle.std.specs.List.{All};
 ghost use Rattle.cap_summary.specs.Values.{passed_on, passing_op, op_on};
 ghost use Rattle.cap_summary.specs.Names.{is_one, these, AreWithin, ChangeWithin};
 ghost use Rattle.cap_summary.specs.Sizes.{room};
+ghost use Rattle.cap_machine.specs.State.{State};
+ghost use Rattle.std.specs.Prelude.{unwrap_or, IfNone};
+ghost use Rattle.cap_summary.specs.declared.values.Value.{Value};
+ghost use Rattle.cap_summary.specs.Names.{Names, value_within};
+ghost use Rattle.cap_summary.specs.Packed.{low_source};
+ghost use Rattle.cap_summary.specs.MovedLow.{MovedLowHolds, MovedLowWithin};
 
 use crate::change::{Change, Near, Process, ProcessRef};
-use crate::kept::{Handing, Joining, Kept, Listed, Moving, Seen};
+use crate::kept::{Handing, Joining, Kept, Listed, Seen};
 use crate::layers::{
     LARGE, Layers, Lowered, Parts, Shared, are_like, has_room, made_of, note_lowered, stay_behind,
+    top_behind,
 };
+use crate::moved_low::MovedLow;
+use crate::packed::Low;
 use crate::sorted::{Builder, Filled, Table, merge};
 use crate::values::{Passing, Value};
 use cap_trace::{Fd, Pid};
@@ -176,6 +185,32 @@ impl Cells {
                 }
             }
             Form::Layered(layers) => layers.layers().get_near(fd, near),
+        }
+    }
+
+    /// What has become of a condition on a cell; none where its descriptor isn't listed. It looks for it first behind where
+    /// an earlier look-up ended, and notes where this one did.
+    #[tactic(auto, unfolding(crate::specs::Tables::listed_value))]
+    #[inline(always)]
+    pub(crate) fn moved_low(&self, low: &Low, near: &mut usize) -> Option<MovedLow>
+        ensures holds { IfSome result (λ moved. (s : State) (v : Value)
+            → MovedLowHolds s low.now (unwrap_or (listed_value self.now (low_source low.now).fd) v) moved) }
+        ensures names { IfSome result (λ moved. (names : Names) (v : Value)
+            → value_within names (unwrap_or (listed_value self.now (low_source low.now).fd) v) ≡ true
+            → MovedLowWithin names low.now moved) }
+        ensures none { IfNone result (listed_value self.now (low_source low.now).fd ≡ None) }
+    {
+        match &self.form {
+            Form::Empty => None,
+            Form::Flat(table) => {
+                let (found, at) = table.get_near(low.fd(), *near);
+                *near = at.saturating_add(1);
+                match found {
+                    Some(kept) => Some(kept.moved_low(low)),
+                    None => None,
+                }
+            }
+            Form::Layered(_) => Some(MovedLow::Unsure),
         }
     }
 
@@ -373,6 +408,18 @@ impl Cells {
         }
     }
 
+    /// Whether they come as a top over a table: few of them do, and as many as the table has where they are one table that
+    /// stays as it is, since that is shared.
+    fn fit_over(&self, table: &Filled<Kept>, change: &Change) -> bool {
+        if has_room(table.len(), self.most()) {
+            return true;
+        }
+        let Form::Flat(own) = &self.form else {
+            return false;
+        };
+        table.len() >= LARGE && own.len() <= table.len() && stay_behind(own.entries(), change)
+    }
+
     /// The same as [`Cells::under`], where these may list cells that the others don't.
     #[tactic(auto, unfolding(crate::specs::Tables::listed_value))]
     fn beneath(
@@ -387,10 +434,9 @@ impl Cells {
             ≡ or_else (option_map (under change.now) (listed_value others.now f)) (listed_value self.now f)) }
     {
         match &self.form {
-            Form::Flat(table) if has_room(table.len(), others.most()) => {
+            Form::Flat(table) if others.fit_over(table, change) => {
                 let over = others.flat(alloc)?;
-                let entries = over.entries();
-                let top = merge(alloc, &Moving { change }, &[], entries)?;
+                let top = top_behind(alloc, &over, change)?;
                 let handing = Handing {
                     passing: Passing::Same,
                     closed_from: None,

@@ -4,11 +4,15 @@ ghost use Rattle.std.specs.Prelude.{◌≡◌, ◌==◌, ℕ, ◌||◌, ◌&&◌
 ghost use Rattle.cap_machine.specs.State.{State};
 ghost use Rattle.cap_machine.specs.Op.{same, exec, applied};
 ghost use Rattle.cap_summary.specs.Values.{read_cell, read_mode, passing_op, rest_value, unlisted, is_from, op_on};
-ghost use Rattle.cap_summary.specs.Values.{are_of, rest_untouched, is_own, own_base};
+ghost use Rattle.cap_summary.specs.Values.{are_of, rest_untouched, is_own, own_base, unknown_base};
 ghost use Rattle.cap_summary.specs.Tables.{seen_value};
-ghost use Rattle.cap_summary.specs.Names.{Names, others_within, mode_within};
+ghost use Rattle.cap_summary.specs.Names.{Names, others_within, mode_within, value_within};
+ghost use Rattle.cap_summary.specs.Packed.{low_source};
+ghost use Rattle.cap_summary.specs.MovedLow.{MovedLowHolds, MovedLowWithin};
 
 use crate::kept::Seen;
+use crate::moved_low::MovedLow;
+use crate::packed::Low;
 use cap_machine::{Cell, Mode, Op};
 use cap_trace::{Fd, Pid};
 
@@ -82,6 +86,16 @@ impl ModeValue {
     {
         match self {
             ModeValue::Own(own) => *own == pid,
+            _ => false,
+        }
+    }
+
+    /// Whether nothing is known of it, whatever the state before.
+    pub(crate) fn is_unsure(&self) -> bool
+        ensures { result ≡ true → self.now ≡ ModeValue.Fixed Mode.Unsure }
+    {
+        match self {
+            ModeValue::Fixed(Mode::Unsure) => true,
             _ => false,
         }
     }
@@ -179,6 +193,7 @@ impl Base {
         ensures cells { (f : ℕ) → unlisted result f ≡ Value.Fixed Cell.Unknown }
         ensures touched { (p f : ℕ) → rest_untouched result p f ≡ false }
         ensures names { (names : Names) → others_within names result.others ≡ true }
+        ensures value { result ≡ unknown_base }
     {
         Base {
             others: Others::Unknown,
@@ -263,6 +278,16 @@ impl Base {
         }
     }
 
+    /// Whether nothing is known of any cell.
+    pub(crate) fn is_all_unknown(&self) -> bool
+        ensures { result ≡ true → self.now ≡ unknown_base }
+    {
+        match &self.others {
+            Others::Unknown => !self.own && self.closed_from.is_none(),
+            _ => false,
+        }
+    }
+
     /// The same where this base stands behind that of the process.
     pub(crate) fn stays_own(&self, pid: Pid, first: &Base) -> bool
         ensures { result ≡ (self.now.own && (first.now.own && are_of first.now.others pid)) }
@@ -307,6 +332,22 @@ impl Base {
             Others::Closed => Seen::Fixed(Cell::Closed),
             Others::Of(source, Passing::Same) if *source == pid => Seen::Same,
             Others::Of(source, passing) => Seen::Passed(*source, *passing),
+        }
+    }
+
+    /// What has become of a condition on a descriptor that isn't listed.
+    pub(crate) fn moved_low(&self, low: &Low) -> MovedLow
+        ensures holds { (s : State) → MovedLowHolds s low.now (unlisted self.now (low_source low.now).fd) result }
+        ensures names { (names : Names) → value_within names (unlisted self.now (low_source low.now).fd) ≡ true
+            → MovedLowWithin names low.now result }
+    {
+        if self.closed_from.is_some() {
+            return MovedLow::Unsure;
+        }
+        match &self.others {
+            Others::Unknown => MovedLow::Never,
+            Others::Of(source, Passing::Same) => MovedLow::To(*source, low.fd(), low.closed()),
+            _ => MovedLow::Unsure,
         }
     }
 

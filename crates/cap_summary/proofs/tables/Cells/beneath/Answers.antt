@@ -13,5 +13,4 @@ returns-in_ok-layers-in-Flat c = IfOk-weaker c.layered.result _ _
     (over_table c.args.change.now f (listed_value c.args.others.now f) (kept_values (found c.in_ok-over-in-Flat.over f))
     (kept_values (found c.in_ok-top-in-Flat.top f)) (kept_values (found c.in-Flat.table f)) (listed_value new f)
     (c.in_ok-over-in-Flat.ensures f)
-    (rw c.entries-entries.ensures.all at (c.in_ok-top-in-Flat.ensures.each f))
-    (is f ∙ c.in_ok-layers-in-Flat.ensures f))) c.layered.ensures
+    (c.in_ok-top-in-Flat.ensures f) (is f ∙ c.in_ok-layers-in-Flat.ensures f))) c.layered.ensures

@@ -1,0 +1,15 @@
+use Rattle.std.proofs.Common.{sym, ap, ◌∙◌}
+use Rattle.cap_summary.specs.declared.change.Process.{Process}
+use Rattle.cap_summary.specs.declared.kept.Listed.{Listed}
+use Rattle.cap_summary.specs.Tables.{listed_process}
+use Rattle.cap_summary.specs.Values.{unlisted}
+use Rattle.cap_summary.proofs.MovedLow.{holds_same}
+use Rattle.cap_summary.proofs.kept.Listed.unlisted_low.Goals as goal
+
+pub returns-in-Other-clause-holds : goal.returns-in-Other-clause-holds
+returns-in-Other-clause-holds c = λ s.
+    let low = c.args.low.now in
+    holds_same s low c.moved_low.result (unlisted (listed_process low.pid c.args.self.now).base low.fd)
+    (unlisted c.deref.result.now.base low.fd)
+    (ap (λ (l : Listed). unlisted (listed_process low.pid l).base low.fd) c.in-Other.is
+    ∙ ap (λ (d : Process). unlisted d.base low.fd) (sym c.deref.ensures)) (c.moved_low.ensures.holds s)
