@@ -254,19 +254,39 @@ def socketpairs(lines):
     return out[:lines]
 
 
-def chain(lines):
-    """A process is started with two hundred descriptors; it forks, and then 126 times the last child does; each child closes one.
-    And so on, with other pids while there are any."""
+def descents(lines, forks, call):
+    """A process is started with two hundred descriptors; it forks, and then so many times the last child does; each child makes a
+    call on one of them. And so on, with other pids while there are any."""
     fds = ",".join(map(str, range(200)))
     out = []
     turn = 0
     while len(out) < lines:
-        first = turn * 128 % 90_000 + 1
+        first = turn * (forks + 1) % 90_000 + 1
         out.append(f"{first} @start({fds})")
-        for child in range(127):
-            out += [f"{first + child} fork() RET {first + child + 1}", f"{first + child + 1} close({child * 37 % 200}) RET 0"]
+        for child in range(forks):
+            out += [f"{first + child} fork() RET {first + child + 1}", f"{first + child + 1} {call.format(child * 37 % 200)} RET 0"]
         turn += 1
     return out[:lines]
+
+
+def chain(lines):
+    """A start and 127 forks, each of the last child, with a close in each child."""
+    return descents(lines, 127, "close({})")
+
+
+def long_chain(lines):
+    """The same with 1,000 forks."""
+    return descents(lines, 1_000, "close({})")
+
+
+def narrowing(lines):
+    """A start and 127 forks, each of the last child, with a limit in each child."""
+    return descents(lines, 127, "cap_rights_limit({},CAP_READ)")
+
+
+def long_narrowing(lines):
+    """The same with 1,000 forks."""
+    return descents(lines, 1_000, "cap_rights_limit({},CAP_READ)")
 
 
 def limits(lines):
@@ -407,8 +427,8 @@ def held(count, call, times):
 TRACES = {
     make.__name__: make
     for make in (
-        quiet, loud, wide, forms, mixed, crowd, hostile, pairs, spread, closes, socketpairs, chain, limits, heirs, lineage, strangers, starts,
-        packed, execs, turns,
+        quiet, loud, wide, forms, mixed, crowd, hostile, pairs, spread, closes, socketpairs, chain, long_chain, narrowing, long_narrowing,
+        limits, heirs, lineage, strangers, starts, packed, execs, turns,
     )
 }
 
