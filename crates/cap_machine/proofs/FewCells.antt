@@ -22,6 +22,16 @@ after_next below cells i f d within =
     ap (λ (r : List Written). after_writes below r f) (take_more cells i d within)
     ∙ after_more below (take i cells) (get_or cells i d) f
 
+-- nothing of a descriptor that none has
+pub not_there : (below : Cell) (cells : List Written) (i f : ℕ) (d : Written) → i < length cells
+    → (f == (get_or cells i d).fd) ≡ false → after_writes below (take i cells) f ≡ below
+    → after_writes below (take (i + 1) cells) f ≡ below
+not_there below cells i f d within other rest =
+    let one : Written = get_or cells i d in
+    after_next below cells i f d within
+    ∙ ap (λ (b : Bool). if b then cell_of_kind one.kind one.rights else after_writes below (take i cells) f) other
+    ∙ rest
+
 -- what is left by a test: none of this descriptor, or all of it
 module _ (p : Written → Bool) (f : ℕ) where
   none_at : ((one : Written) → p one ≡ true → (f == one.fd) ≡ false) → (one : Written) (left : List Written)

@@ -14,6 +14,7 @@ mod few;
 mod high;
 mod kind;
 mod leaf;
+mod listed;
 mod node;
 mod pending;
 mod region;

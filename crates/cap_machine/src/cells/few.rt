@@ -1,6 +1,6 @@
 //! The cells of a process that were written while there were few of them, in a list that stands over its tree.
 
-ghost use Rattle.std.specs.Prelude.{◌≡◌, ℕ, OnOk, IfOk, ◌==◌, nat_le, if◌then◌else◌};
+ghost use Rattle.std.specs.Prelude.{◌≡◌, ℕ, OnOk, IfOk, IsFalse, ◌==◌, nat_le, if◌then◌else◌};
 ghost use Rattle.cap_machine.specs.Cells.Pending.{settled};
 ghost use Rattle.cap_machine.specs.Cells.Few.{written, in_few};
 
@@ -35,7 +35,7 @@ impl Written {
     }
 }
 
-/// A few cells that stand over others.
+/// The cells that were written, which stand over others.
 #[derive(Drop)]
 pub(crate) struct Few {
     alloc: Global,
@@ -63,6 +63,18 @@ impl Few {
             cell = one.on(cell, fd);
         }
         cell
+    }
+
+    /// Whether a descriptor is listed.
+    pub(crate) fn lists(&self, fd: Fd) -> bool
+        ensures { IsFalse result → ((c : Cell) → in_few self.now c fd ≡ c) }
+    {
+        for one in &self.cells {
+            if one.fd == fd {
+                return true;
+            }
+        }
+        false
     }
 
     /// Whether one more may be listed.
@@ -95,21 +107,8 @@ impl Few {
         self.cells.retain(|one| one.fd < fd);
     }
 
-    /// Does this to each.
-    pub(crate) fn settle(&mut self, pending: Pending) -> Result<(), NoMemory>
-        ensures { OnOk result ((c : Cell) (f : ℕ)
-            → in_few self.new (settled pending c) f ≡ settled pending (in_few self.old c f)) }
-    {
-        match pending {
-            Pending::Nothing => {}
-            Pending::Exec => *self = self.executed()?,
-            Pending::Close | Pending::Forget => *self = Few::none(self.alloc),
-        }
-        Ok(())
-    }
-
     /// What a successful exec leaves of them.
-    fn executed(&self) -> Result<Few, NoMemory>
+    pub(crate) fn executed(&self) -> Result<Few, NoMemory>
         ensures { IfOk result (λ new. (c : Cell) (f : ℕ)
             → in_few new (settled Pending.Exec c) f ≡ settled Pending.Exec (in_few self.now c f)) }
     {

@@ -10,9 +10,9 @@ ghost use Rattle.cap_machine.specs.Cells.Parts.{in_leaf};
 
 use crate::cell::{Cell, OnExec};
 use crate::cells::far::Far;
-use crate::cells::few::Few;
 use crate::cells::high::High;
 use crate::cells::leaf::Leaf;
+use crate::cells::listed::Listed;
 use crate::cells::pending::Pending;
 use crate::cells::remains::Remains;
 use crate::cells::shared::Shared;
@@ -26,7 +26,7 @@ use std::alloc::{AllocError, Global};
 #[derive(Drop)]
 pub(crate) struct Tree {
     low: Shared<Leaf<64>>,
-    few: Few,
+    few: Listed,
     high: Shared<High>,
     far: Far,
 }
@@ -39,7 +39,7 @@ impl Tree {
     {
         Ok(Tree {
             low: Shared::all(alloc, cell)?,
-            few: Few::none(alloc),
+            few: Listed::none(alloc),
             high: Shared::all(alloc, cell)?,
             far: Far::all(alloc, cell),
         })
@@ -126,11 +126,11 @@ impl Tree {
         ensures { OnOk result
             ((f : ℕ) → cell_in_tree self.new f ≡ (if f == fd then cell else cell_in_tree self.old f)) }
     {
-        self.few.strike(fd);
-        if self.few.has_room() {
-            return self.few.list(fd, cell);
+        if self.few.takes(fd) {
+            self.few.write(fd, cell)
+        } else {
+            self.high.write(fd as usize, cell)
         }
-        self.high.write(fd as usize, cell)
     }
 
     /// Does this to each cell.
@@ -152,11 +152,11 @@ impl Tree {
     {
         if fd < 64 {
             self.low.close_from(fd as usize)?;
-            self.few.strike_from(fd);
+            self.few.strike_from(fd)?;
             self.high.settle(Pending::Close);
             self.far.settle(Pending::Close)
         } else if fd < 1_048_576 {
-            self.few.strike_from(fd);
+            self.few.strike_from(fd)?;
             self.high.close_from(fd as usize)?;
             self.far.settle(Pending::Close)
         } else {
