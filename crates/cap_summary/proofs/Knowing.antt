@@ -30,6 +30,7 @@ use Rattle.cap_summary.specs.declared.known.Known.{Known}
 use Rattle.cap_summary.specs.Changes.{changed, JoinsTo, is_untouched, is_unturned, DoSame}
 use Rattle.cap_summary.specs.Does.{Does}
 use Rattle.cap_summary.specs.Names.{Names, AreAmong, names_in, these, ChangeWithin, ConditionsWithin, ChildWithin}
+use Rattle.cap_summary.specs.Names.{condition_within}
 use Rattle.cap_summary.specs.Names.{EffectWithin}
 use Rattle.cap_summary.specs.Sizes.{IsSized, NamesMany, ListMuch}
 use Rattle.cap_summary.specs.Conditions.{any_holds, has_any}
@@ -47,19 +48,15 @@ found_in_turn s t u =
     ∙ has_any-append (check s t) (map (later (length t)) (check (ended s t) u))
     ∙ ap (λ r. has_any (check s t) || r) (has_any-map (later (length t)) (check (ended s t) u))
 
-shuffled : (a b m x : Bool) → ((a || (b || m)) || x) ≡ (a || (b || (m || x)))
-shuffled true b m x = refl
-shuffled false true m x = refl
-shuffled false false m x = refl
+one_found : (x y m n : Bool) → (x || y) ≡ true → ((x || m) || (y || n)) ≡ true
+one_found true y m n is = refl
+one_found false true m n is = or_true m
+one_found false false m n is = absurd cc
 
-dealt : (a b x y : Bool) → (a || (b || (x || y))) ≡ ((a || x) || (b || y))
-dealt true b x y = refl
-dealt false true x y = sym (or_true x)
-dealt false false x y = refl
-
-turned_round : (m x y : Bool) → (m || (x || y)) ≡ (x || (m || y))
-turned_round true x y = sym (or_true x)
-turned_round false x y = refl
+none_found : (x y m n : Bool) → (x || y) ≡ false → ((x || m) || (y || n)) ≡ (m || n)
+none_found true y m n is = absurd cc
+none_found false true m n is = absurd cc
+none_found false false m n is = refl
 
 -- what the lines of one segment name, those of both do
 among_left : (t u : List Step) → AreAmong (names_in t) (names_in (t ++ u))
@@ -81,9 +78,9 @@ among_right t u = record {
 }
 
 -- what the parts of a whole give, and what is found in them
-pub composed_knows : (a b whole : Known) (t u : List Step) → Composes a b whole →
-    whole.always ≡ (a.always || (b.always || whole.met)) → Knows a t → Knows b u → Knows whole (t ++ u)
-composed_knows a b whole t u composes always left right =
+pub composed_knows : (a b whole : Known) (t u : List Step) → Composes a b whole → Knows a t → Knows b u
+    → Knows whole (t ++ u)
+composed_knows a b whole t u composes left right =
     let names : Names = names_in (t ++ u) in
     let first : ChangeWithin names a.change =
     change_more (names_in t) names (among_left t u) a.change left.listed in
@@ -91,10 +88,7 @@ composed_knows a b whole t u composes always left right =
       ends = λ s. composes.changes.changes s ∙ right.ends (changed a.change s) ∙ ap (λ r. ended r u) (left.ends s)
           ∙ sym (ends_in_turn s t u);
       found = λ s.
-          ap (λ r. r || any_holds s whole.conditions) always
-          ∙ shuffled a.always b.always whole.met (any_holds s whole.conditions)
-          ∙ ap (λ r. a.always || (b.always || r)) (composes.found s)
-          ∙ dealt a.always b.always (any_holds s a.conditions) (any_holds (changed a.change s) b.conditions)
+          composes.found s
           ∙ ap (λ r. r || finds b (changed a.change s)) (left.found s)
           ∙ ap (λ r. has_any (check s t) || r)
           (right.found (changed a.change s) ∙ ap (λ r. has_any (check r u)) (left.ends s))
@@ -140,24 +134,50 @@ much_many a b t u left right much pids fds among =
     (change_more (names_in u) (these pids fds) second b.change right.listed)
     (conditions_more (names_in u) (these pids fds) second b.conditions right.asked)
 
--- of the second's conditions behind the first's change
+-- where something is found in any case, in one of the two
+pub always_found : (a b : Known) (s : State) → (a.always || b.always) ≡ true
+    → (finds a s || finds b (changed a.change s)) ≡ true
+always_found a b s always =
+    one_found a.always b.always (any_holds s a.conditions) (any_holds (changed a.change s) b.conditions) always
+
+-- where a condition of the second holds in any case behind the first's change
+pub met_found : (a b : Known) (s : State) → any_holds (changed a.change s) b.conditions ≡ true
+    → (finds a s || finds b (changed a.change s)) ≡ true
+met_found a b s met =
+    ap (λ r. finds a s || (b.always || r)) met ∙ ap (λ r. finds a s || r) (or_true b.always) ∙ or_true (finds a s)
+
+-- the whole needs no condition then
+pub composed_certain : (a b whole : Known) → JoinsTo a.change b.change whole.change →
+    ((s : State) → (finds a s || finds b (changed a.change s)) ≡ true) → whole.always ≡ true
+    → whole.conditions ≡ [] → IsSized whole → Composes a b whole
+composed_certain a b whole joins found always none sized = record {
+  changes = joins;
+  found = λ s. ap (λ r. r || any_holds s whole.conditions) always ∙ sym (found s);
+  asked = λ names change first second. subst (ConditionsWithin names) (sym none)
+      (All-nil (λ (condition : Condition). condition_within names condition ≡ true));
+  sized = sized;
+}
+
+-- else its conditions are those of the first and the second's behind the first's change
 pub composed : (a b whole : Known) (moved : List Condition) → JoinsTo a.change b.change whole.change →
-    ((s : State) → (whole.met || any_holds s moved) ≡ any_holds (changed a.change s) b.conditions) →
+    (a.always || b.always) ≡ false → whole.always ≡ false →
+    ((s : State) → any_holds s moved ≡ any_holds (changed a.change s) b.conditions) →
     ((s : State) → any_holds s whole.conditions ≡ (any_holds s a.conditions || any_holds s moved)) →
     ((names : Names) → ChangeWithin names a.change → ConditionsWithin names b.conditions
     → ConditionsWithin names moved) →
     ((names : Names) → ConditionsWithin names a.conditions → ConditionsWithin names moved
     → ConditionsWithin names whole.conditions) → IsSized whole → Composes a b whole
-composed a b whole moved joins behind both behind_asked both_asked sized = record {
+composed a b whole moved joins parts always behind both behind_asked both_asked sized = record {
   changes = joins;
-  found = λ s. ap (λ r. whole.met || r) (both s)
-      ∙ turned_round whole.met (any_holds s a.conditions) (any_holds s moved)
-      ∙ ap (λ r. any_holds s a.conditions || r) (behind s);
+  found = λ s. ap (λ r. r || any_holds s whole.conditions) always
+      ∙ both s
+      ∙ ap (λ r. any_holds s a.conditions || r) (behind s)
+      ∙ sym (none_found a.always b.always (any_holds s a.conditions) (any_holds (changed a.change s) b.conditions) parts);
   asked = λ names change first second. both_asked names first (behind_asked names change second);
   sized = sized;
 }
 
--- a change that does the same as that of a part, or as the whole, stands in its place
+-- a change that does the same as that of a part stands in its place
 pub joins_left : (a b whole other : Change) → JoinsTo a b whole → DoSame other a → JoinsTo other b whole
 joins_left a b whole other joins same = record {
   changes = λ s. joins.changes s ∙ ap (λ r. changed b r) (sym (same.changes s));
@@ -174,21 +194,14 @@ joins_right a b whole other joins same = record {
   names = λ names first second. joins.names names first ((same.names names).0 second);
 }
 
-joins_whole : (a b whole other : Change) → JoinsTo a b whole → DoSame other whole → JoinsTo a b other
-joins_whole a b whole other joins same = record {
-  changes = λ s. same.changes s ∙ joins.changes s;
-  untouched = λ p f e. joins.untouched p f (sym (same.untouched p f) ∙ e);
-  unturned = λ p e. joins.unturned p (sym (same.unturned p) ∙ e);
-  names = λ names first second. (same.names names).1 (joins.names names first second);
-}
-
--- one that is like a part, or like the whole, stands in its place
+-- one that is like a part stands in its place
 pub composed_left : (a b whole other : Known) → Composes a b whole → IsLike other a → Composes other b whole
 composed_left a b whole other composes like = record {
   changes = joins_left a.change b.change whole.change other.change composes.changes like.change;
   found = λ s. composes.found s
-      ∙ ap (λ (r : List Condition). any_holds s r || any_holds (changed a.change s) b.conditions) (sym like.conditions)
-      ∙ ap (λ r. any_holds s other.conditions || any_holds r b.conditions) (sym (like.change.changes s));
+      ∙ ap (λ (r : List Condition). (a.always || any_holds s r) || finds b (changed a.change s)) (sym like.conditions)
+      ∙ ap (λ r. (r || any_holds s other.conditions) || finds b (changed a.change s)) (sym like.always)
+      ∙ ap (λ r. finds other s || finds b r) (sym (like.change.changes s));
   asked = λ names change first second. composes.asked names ((like.change.names names).0 change)
       (subst (ConditionsWithin names) like.conditions first) second;
   sized = composes.sized;
@@ -198,23 +211,11 @@ pub composed_right : (a b whole other : Known) → Composes a b whole → IsLike
 composed_right a b whole other composes like = record {
   changes = joins_right a.change b.change whole.change other.change composes.changes like.change;
   found = λ s. composes.found s
-      ∙ ap (λ (r : List Condition). any_holds s a.conditions || any_holds (changed a.change s) r) (sym like.conditions);
+      ∙ ap (λ (r : List Condition). finds a s || (b.always || any_holds (changed a.change s) r)) (sym like.conditions)
+      ∙ ap (λ r. finds a s || (r || any_holds (changed a.change s) other.conditions)) (sym like.always);
   asked = λ names change first second. composes.asked names change first
       (subst (ConditionsWithin names) like.conditions second);
   sized = composes.sized;
-}
-
-pub composed_whole : (a b whole other : Known) → Composes a b whole → IsLike other whole → other.met ≡ whole.met
-    → other.size ≡ whole.size → Composes a b other
-composed_whole a b whole other composes like met size = record {
-  changes = joins_whole a.change b.change whole.change other.change composes.changes like.change;
-  found = λ s. ap (λ r. r || any_holds s other.conditions) met
-      ∙ ap (λ (r : List Condition). whole.met || any_holds s r) like.conditions ∙ composes.found s;
-  asked = λ names change first second. subst (ConditionsWithin names) (sym like.conditions)
-      (composes.asked names change first second);
-  sized = λ pids fds change conditions. rw size
-      (composes.sized pids fds ((like.change.names (these pids fds)).0 change)
-      (subst (ConditionsWithin (these pids fds)) like.conditions conditions));
 }
 
 -- the state behind one step

@@ -41,17 +41,17 @@ pub record Knows (known : Known) (t : List Step) : Type 0 where
   pub unturned : (p : ℕ) → leaves_mode known p ≡ true → LeavesMode t p
   pub sized : IsSized known
 
--- what is known of a segment and then another: the second's conditions hold behind the first's change where one of the
--- whole that isn't the first's holds, or in any case. The whole asks only about what they name
+-- what is known of a segment and then another: something is found in the whole where it is found in the first, or in the
+-- second behind the first's change. The whole asks only about what they name
 pub record Composes (a b whole : Known) : Type 0 where
   pub changes : JoinsTo a.change b.change whole.change
-  pub found : (s : State) → (whole.met || any_holds s whole.conditions)
-      ≡ (any_holds s a.conditions || any_holds (changed a.change s) b.conditions)
+  pub found : (s : State) → finds whole s ≡ (finds a s || finds b (changed a.change s))
   pub asked : (names : Names) → ChangeWithin names a.change → ConditionsWithin names a.conditions
       → ConditionsWithin names b.conditions → ConditionsWithin names whole.conditions
   pub sized : IsSized whole
 
--- the same changes and conditions, which name the same
+-- the same change, which names the same, and something is found under the same states
 pub record IsLike (a b : Known) : Type 0 where
   pub change : DoSame a.change b.change
+  pub always : a.always ≡ b.always
   pub conditions : a.conditions ≡ b.conditions

@@ -4,7 +4,7 @@ ghost use Rattle.std.specs.Prelude.{◌≡◌, ◌∷◌, [], ◌||◌, true, If
 ghost use Rattle.cap_machine.specs.Table.{start_state};
 ghost use Rattle.cap_summary.specs.Changes.{JoinsTo};
 ghost use Rattle.cap_summary.specs.Sizes.{IsSizeOf, IsSized, ListMuch};
-ghost use Rattle.cap_summary.specs.Knows.{Knows, Composes, IsLike, finds, state_after, leaves_cell, leaves_mode};
+ghost use Rattle.cap_summary.specs.Knows.{Knows, Composes, finds, state_after, leaves_cell, leaves_mode};
 
 use crate::before::Before;
 use crate::change::Change;
@@ -24,9 +24,8 @@ const LARGE: usize = 40_000;
 #[derive(Drop)]
 pub struct Known {
     pub(crate) change: Change,
+    /// Where something is found in any case, conditions say no more: of two parts that are joined none is kept then.
     pub(crate) always: bool,
-    /// Of a segment and then another: whether a condition of the second holds in any case behind the first.
-    met: bool,
     pub(crate) conditions: Conditions,
     size: usize,
     forks: bool,
@@ -40,10 +39,11 @@ fn size_of(change: &Change, conditions: &Conditions) -> (usize, bool)
     (size.saturating_add(conditions.places()), forks)
 }
 
-fn one_of(a: bool, b: bool, c: bool) -> bool
-    ensures { result ≡ (a || (b || c)) }
+/// Whether one of the two is so.
+fn one_of(a: bool, b: bool) -> bool
+    ensures { result ≡ (a || b) }
 {
-    a || b || c
+    a || b
 }
 
 impl Known {
@@ -54,7 +54,6 @@ impl Known {
         Known {
             change: Change::nothing(),
             always: false,
-            met: false,
             conditions: Conditions::none(),
             size: 0,
             forks: false,
@@ -73,7 +72,6 @@ impl Known {
         Ok(Known {
             change,
             always: always(&rule.demand),
-            met: false,
             conditions,
             size,
             forks,
@@ -93,19 +91,41 @@ impl Known {
         both.saturating_add(b.change.processes.copied(&a.change)) > LARGE
     }
 
+    /// A segment that has this change, and in which something is found in any case.
+    fn certain(change: Change) -> Known
+        ensures change { result.change ≡ change }
+        ensures always { result.always ≡ true }
+        ensures conditions { result.conditions ≡ [] }
+        ensures sized { IsSized result }
+    {
+        let conditions = Conditions::none();
+        let (size, forks) = size_of(&change, &conditions);
+        Known {
+            change,
+            always: true,
+            conditions,
+            size,
+            forks,
+        }
+    }
+
     /// A segment and then another, whose changes together are this one.
     fn over(alloc: Global, change: Change, a: &Known, b: &Known) -> Result<Known, NoMemory>
         requires { JoinsTo a.now.change b.now.change change }
-        ensures composed { IfOk result (λ whole. Composes a.now b.now whole) }
-        ensures always { IfOk result (λ whole. whole.always ≡ (a.now.always || (b.now.always || whole.met))) }
+        ensures { IfOk result (λ whole. Composes a.now b.now whole) }
     {
+        if one_of(a.always, b.always) {
+            return Ok(Known::certain(change));
+        }
         let (met, moved) = a.change.behind(alloc, &b.conditions)?;
+        if met {
+            return Ok(Known::certain(change));
+        }
         let conditions = merged(alloc, &a.conditions, &moved)?;
         let (size, forks) = size_of(&change, &conditions);
         Ok(Known {
             change,
-            always: one_of(a.always, b.always, met),
-            met,
+            always: false,
             conditions,
             size,
             forks,
@@ -114,33 +134,34 @@ impl Known {
 
     /// A segment and then another.
     pub(crate) fn join(alloc: Global, a: &Known, b: &Known) -> Result<Known, NoMemory>
-        ensures composed { IfOk result (λ whole. Composes a.now b.now whole) }
-        ensures always { IfOk result (λ whole. whole.always ≡ (a.now.always || (b.now.always || whole.met))) }
+        ensures { IfOk result (λ whole. Composes a.now b.now whole) }
     {
         let change = a.change.join(alloc, &b.change)?;
         let whole = Known::over(alloc, change, a, b)?;
         Ok(whole)
     }
 
-    /// The same change and conditions, where something is found in any case or not.
-    fn with_always(this: &Rc<Known>, alloc: Global, always: bool) -> Result<Rc<Known>, NoMemory>
-        ensures like { IfOk result (λ new. IsLike new.value this.now.value) }
-        ensures met { IfOk result (λ new. new.value.met ≡ this.now.value.met) }
-        ensures size { IfOk result (λ new. new.value.size ≡ this.now.value.size) }
-        ensures always { IfOk result (λ new. new.value.always ≡ always) }
+    /// The same change, of a segment in which something is found in any case; shared where it was so.
+    fn made_certain(this: &Rc<Known>, alloc: Global) -> Result<Rc<Known>, NoMemory>
+        requires sized { IsSized this.now.value }
+        ensures change { IfOk result (λ new. new.value.change ≡ this.now.value.change) }
+        ensures always { IfOk result (λ new. new.value.always ≡ true) }
+        ensures conditions { IfOk result (λ new. new.value.conditions ≡ []) }
+        ensures sized { IfOk result (λ new. IsSized new.value) }
     {
-        if this.always == always {
+        if this.always && this.conditions.is_like(&Conditions::none()) {
             return Ok(this.clone()?);
         }
-        let known = Known {
-            change: this.change.share()?,
-            always,
-            met: this.met,
-            conditions: this.conditions.share()?,
-            size: this.size,
-            forks: this.forks,
-        };
+        let known = Known::certain(this.change.share()?);
         Ok(Rc::new(alloc, known)?)
+    }
+
+    /// Whether another one has the same conditions, and finds something in any case where this one does. No is a safe answer.
+    fn finds_alike(&self, other: &Known) -> bool
+        ensures always { result ≡ true → self.now.always ≡ other.now.always }
+        ensures conditions { result ≡ true → self.now.conditions ≡ other.now.conditions }
+    {
+        self.always == other.always && self.conditions.is_like(&other.conditions)
     }
 
     /// What is known of another segment and then the second, as `whole` is of the first and the second. What the other
@@ -155,17 +176,17 @@ impl Known {
         requires composed { Composes first.now second.now whole.now.value }
         requires other { IsSized other.now }
         requires second { IsSized second.now }
-        ensures composed { IfOk result (λ o. IfSome o (λ new. Composes other.now second.now new.value)) }
-        ensures always { IfOk result (λ o. IfSome o
-            (λ new. new.value.always ≡ (other.now.always || (second.now.always || new.value.met)))) }
+        ensures { IfOk result (λ o. IfSome o (λ new. Composes other.now second.now new.value)) }
     {
         if !other.change.is_like(&first.change) {
             return Ok(None);
         }
-        if other.conditions.is_like(&first.conditions) {
-            let always = one_of(other.always, second.always, whole.met);
-            let new = Known::with_always(whole, alloc, always)?;
+        if one_of(other.always, second.always) {
+            let new = Known::made_certain(whole, alloc)?;
             return Ok(Some(new));
+        }
+        if other.finds_alike(first) {
+            return Ok(Some(whole.clone()?));
         }
         if Known::is_large(other, second) {
             return Ok(None);
@@ -186,17 +207,17 @@ impl Known {
         requires composed { Composes first.now second.now whole.now.value }
         requires first { IsSized first.now }
         requires other { IsSized other.now }
-        ensures composed { IfOk result (λ o. IfSome o (λ new. Composes first.now other.now new.value)) }
-        ensures always { IfOk result (λ o. IfSome o
-            (λ new. new.value.always ≡ (first.now.always || (other.now.always || new.value.met)))) }
+        ensures { IfOk result (λ o. IfSome o (λ new. Composes first.now other.now new.value)) }
     {
         if !other.change.is_like(&second.change) {
             return Ok(None);
         }
-        if other.conditions.is_like(&second.conditions) {
-            let always = one_of(first.always, other.always, whole.met);
-            let new = Known::with_always(whole, alloc, always)?;
+        if one_of(first.always, other.always) {
+            let new = Known::made_certain(whole, alloc)?;
             return Ok(Some(new));
+        }
+        if other.finds_alike(second) {
+            return Ok(Some(whole.clone()?));
         }
         if Known::is_large(first, other) {
             return Ok(None);

@@ -1,4 +1,4 @@
-use Rattle.std.proofs.Common.{◌≡◌, false, ap}
+use Rattle.std.proofs.Common.{◌≡◌, ap}
 use Rattle.cap_trace.specs.Entry.{Entry}
 use Rattle.cap_machine.specs.declared.step.Step.{Step}
 use Rattle.cap_summary.specs.declared.known.Known.{Known}
@@ -14,7 +14,6 @@ returns c =
     let known : Known = record {
       change = c.in_ok-change.change;
       always = c.always.result;
-      met = false;
       conditions = c.in_ok-conditions.conditions;
       size = c.size_of-size.result.0;
       forks = c.size_of-size.result.1;

@@ -1,16 +1,36 @@
+use Rattle.std.proofs.Common.{refl, sym, ap, subst, ◌∙◌, ◌||◌, false}
+use Rattle.cap_machine.specs.State.{State}
+use Rattle.cap_summary.specs.declared.change.Change.{Change}
 use Rattle.cap_summary.specs.declared.known.Known.{Known}
-use Rattle.cap_summary.proofs.Knowing.{composed}
+use Rattle.cap_summary.specs.Changes.{JoinsTo}
+use Rattle.cap_summary.specs.Conditions.{any_holds}
+use Rattle.cap_summary.proofs.Knowing.{composed, composed_certain, always_found, met_found}
 use Rattle.cap_summary.proofs.known.Known.over.Goals as goal
 
-pub returns-clause-composed : goal.returns-clause-composed
-returns-clause-composed c =
+pub returns-then-one_of : goal.returns-then-one_of
+returns-then-one_of c =
+    composed_certain c.args.a.now c.args.b.now c.certain.result
+    (subst (λ (r : Change). JoinsTo c.args.a.now.change c.args.b.now.change r) (sym c.certain.ensures.change) c.requires)
+    (λ s. always_found c.args.a.now c.args.b.now s (sym c.one_of.ensures ∙ c.if-one_of.true))
+    c.certain.ensures.always c.certain.ensures.conditions c.certain.ensures.sized
+
+pub returns-then-met : goal.returns-then-met
+returns-then-met c =
+    composed_certain c.args.a.now c.args.b.now c.certain-then-met.result
+    (subst (λ (r : Change). JoinsTo c.args.a.now.change c.args.b.now.change r) (sym c.certain-then-met.ensures.change) c.requires)
+    (λ (s : State). met_found c.args.a.now c.args.b.now s
+    (sym (c.in_ok-met.ensures.holds s) ∙ ap (λ r. r || any_holds s c.in_ok-met.moved) c.if-met.true))
+    c.certain-then-met.ensures.always c.certain-then-met.ensures.conditions c.certain-then-met.ensures.sized
+
+pub returns : goal.returns
+returns c =
     let whole : Known = record {
       change = c.args.change;
-      always = c.one_of.result;
-      met = c.in_ok-met.met;
+      always = false;
       conditions = c.in_ok-conditions.conditions;
       size = c.size_of-size.result.0;
       forks = c.size_of-size.result.1;
     } in
-    composed c.args.a.now c.args.b.now whole c.in_ok-met.moved c.requires c.in_ok-met.ensures.holds
+    composed c.args.a.now c.args.b.now whole c.in_ok-met.moved c.requires (sym c.one_of.ensures ∙ c.if-one_of.false) refl
+    (λ (s : State). ap (λ r. r || any_holds s c.in_ok-met.moved) (sym c.if-met.false) ∙ c.in_ok-met.ensures.holds s)
     c.in_ok-conditions.ensures.holds c.in_ok-met.ensures.names c.in_ok-conditions.ensures.names c.size_of-size.ensures

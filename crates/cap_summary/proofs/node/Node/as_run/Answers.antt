@@ -1,4 +1,4 @@
-use Rattle.std.proofs.Common.{◌≡◌, ◌+◌, ◌++◌, List, length, ap, sym, ◌∙◌, ◌||◌, arith, length-append}
+use Rattle.std.proofs.Common.{◌≡◌, ◌+◌, ◌++◌, List, length, ap, sym, ◌∙◌, arith, length-append}
 use Rattle.cap_machine.specs.declared.step.Step.{Step}
 use Rattle.cap_tree.specs.Run.{values}
 use Rattle.cap_summary.specs.declared.known.Known.{Known}
@@ -18,15 +18,13 @@ invariant_of-node c =
     let back : values c.in-Run-Run.back.items ≡ u = sym (ap content_steps c.in-Run-Run.is-1) ∙ c.right.view_is in
     let left : Knows a t = rw (c.in-Some-Some.is-0, c.left.view_is) at c.left.invariant.known in
     let right : Knows b u = rw (c.in-Some-Some.is-1, c.right.view_is) at c.right.invariant.known in
-    let composes : Composes a b whole = rw (c.deref.ensures, c.deref-2.ensures) at c.in_ok-known.ensures.composed in
-    let always : whole.always ≡ (a.always || (b.always || whole.met)) =
-    rw (c.deref.ensures, c.deref-2.ensures) at c.in_ok-known.ensures.always in
+    let composes : Composes a b whole = rw (c.deref.ensures, c.deref-2.ensures) at c.in_ok-known.ensures in
     let run : values c.in_ok-run.run'.items ≡ t ++ u =
     rw (c.deref-3.ensures.value, c.deref-4.ensures.value) at c.in_ok-run.ensures
     ∙ ap (λ r. r ++ values c.in-Run-Run.back.items) front ∙ ap (λ r. t ++ r) back in
     let long : length (values c.in_ok-run.run'.items) ≡ length t + length u =
     ap (λ (r : List Step). length r) run ∙ length-append t u in
-    let knows : Knows whole (t ++ u) = composed_knows a b whole t u composes always left right in
+    let knows : Knows whole (t ++ u) = composed_knows a b whole t u composes left right in
     record {
       len = omega (arith, c.len.ensures.count, c.len-2.ensures.count, long);
       parts = tt;

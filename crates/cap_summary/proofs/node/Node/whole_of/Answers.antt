@@ -1,4 +1,3 @@
-use Rattle.std.proofs.Common.{◌≡◌, ◌||◌}
 use Rattle.cap_summary.specs.declared.known.Known.{Known}
 use Rattle.cap_summary.specs.Knows.{Knows, Composes}
 use Rattle.cap_summary.specs.Sizes.{NamesMany, ListMuch}
@@ -13,12 +12,10 @@ returns-clause-known c =
     let left : Knows a c.args.left.now = rw (c.in-Some.is, c.left.view_is) at c.left.invariant.known in
     let right : Knows b c.args.right.now = rw (c.in-Some-known.is, c.right.view_is) at c.right.invariant.known in
     let composes : Composes a b whole =
-    rw (c.deref-2.ensures, c.deref-3.ensures) at c.in_ok-known.ensures.composed in
-    let always : whole.always ≡ (a.always || (b.always || whole.met)) =
-    rw (c.deref-2.ensures, c.deref-3.ensures) at c.in_ok-known.ensures.always in
+    rw (c.deref-2.ensures, c.deref-3.ensures) at c.in_ok-known.ensures in
     record {
       both = rw c.in_ok-new.ensures.ok
-          (composed_knows a b whole c.args.left.now c.args.right.now composes always left right);
+          (composed_knows a b whole c.args.left.now c.args.right.now composes left right);
       left = rw c.in_ok-clone.ensures.cases left;
       right = rw c.in_ok-clone-2.ensures.cases right;
       composes = rw (c.in_ok-new.ensures.ok, c.in_ok-clone.ensures.cases, c.in_ok-clone-2.ensures.cases) composes;

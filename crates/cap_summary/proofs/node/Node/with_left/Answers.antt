@@ -1,4 +1,4 @@
-use Rattle.std.proofs.Common.{◌≡◌, ◌++◌, List, length, ap, sym, ◌∙◌, ◌||◌}
+use Rattle.std.proofs.Common.{◌≡◌, ◌++◌, List, length, ap, sym, ◌∙◌}
 use Rattle.cap_machine.specs.declared.step.Step.{Step}
 use Rattle.cap_summary.specs.declared.known.Known.{Known}
 use Rattle.cap_summary.specs.declared.node.Parts.{Parts}
@@ -20,11 +20,9 @@ over-requires-clause-known c =
     let here : Knows other c.args.left.now.value =
     rw (c.in-Some.is, c.behind-left.view_is, c.deref.ensures) at c.behind-left.invariant.known in
     let composes : Composes other kept whole =
-    rw (c.in-Some-2.is, c.deref-4.ensures, c.deref-5.ensures) at c.in_ok-known.ensures.composed in
-    let always : whole.always ≡ (other.always || (kept.always || whole.met)) =
-    rw (c.in-Some-2.is, c.deref-4.ensures, c.deref-5.ensures) at c.in_ok-known.ensures.always in
+    rw (c.in-Some-2.is, c.deref-4.ensures, c.deref-5.ensures) at c.in_ok-known.ensures in
     record {
-      both = composed_knows other kept whole c.args.left.now.value c.in-Both.right.value composes always here are.1.0;
+      both = composed_knows other kept whole c.args.left.now.value c.in-Both.right.value composes here are.1.0;
       left = rw c.in_ok-clone.ensures.cases here;
       right = rw c.in_ok-clone-2.ensures.cases are.1.0;
       composes = rw (c.in_ok-clone.ensures.cases, c.in_ok-clone-2.ensures.cases) composes;

@@ -1,4 +1,4 @@
-use Rattle.std.proofs.Common.{◌≡◌, ◌++◌, List, length, ap, sym, ◌∙◌, ◌||◌}
+use Rattle.std.proofs.Common.{◌≡◌, ◌++◌, List, length, ap, sym, ◌∙◌}
 use Rattle.cap_machine.specs.declared.step.Step.{Step}
 use Rattle.cap_summary.specs.declared.known.Known.{Known}
 use Rattle.cap_summary.specs.declared.node.Parts.{Parts}
@@ -20,11 +20,9 @@ over-requires-clause-known c =
     let here : Knows other c.args.right.now.value =
     rw (c.in-Some.is, c.behind-right.view_is, c.deref.ensures) at c.behind-right.invariant.known in
     let composes : Composes kept other whole =
-    rw (c.in-Some-2.is, c.deref-3.ensures, c.deref-5.ensures) at c.in_ok-known.ensures.composed in
-    let always : whole.always ≡ (kept.always || (other.always || whole.met)) =
-    rw (c.in-Some-2.is, c.deref-3.ensures, c.deref-5.ensures) at c.in_ok-known.ensures.always in
+    rw (c.in-Some-2.is, c.deref-3.ensures, c.deref-5.ensures) at c.in_ok-known.ensures in
     record {
-      both = composed_knows kept other whole c.in-Both.left.value c.args.right.now.value composes always are.0 here;
+      both = composed_knows kept other whole c.in-Both.left.value c.args.right.now.value composes are.0 here;
       left = rw c.in_ok-clone.ensures.cases are.0;
       right = rw c.in_ok-clone-2.ensures.cases here;
       composes = rw (c.in_ok-clone.ensures.cases, c.in_ok-clone-2.ensures.cases) composes;
