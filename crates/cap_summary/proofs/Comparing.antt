@@ -12,11 +12,12 @@ use Rattle.cap_summary.specs.declared.values.ModeValue.{ModeValue}
 use Rattle.cap_summary.specs.declared.change.Process.{Process}
 use Rattle.cap_summary.specs.declared.change.Change.{Change}
 use Rattle.cap_summary.specs.declared.kept.Kept.{Kept}
+use Rattle.cap_summary.specs.declared.kept.Kept.TheVariants as kept
 use Rattle.cap_summary.specs.declared.kept.Listed.{Listed}
 use Rattle.cap_summary.specs.declared.tables.Processes.{Processes}
 use Rattle.cap_summary.specs.Sorted.{found}
 use Rattle.cap_summary.specs.Values.{read_cell, read_mode}
-use Rattle.cap_summary.specs.Tables.{listed_value, process_at, kept_value, kept_values, listed_process}
+use Rattle.cap_summary.specs.Tables.{listed_value, process_at, kept_kind, kept_rights, kept_value, kept_values, listed_process}
 use Rattle.cap_summary.specs.Values.{unlisted, rest_untouched}
 use Rattle.cap_summary.specs.Changes.{value_at, cell_in, mode_in, changed, untouched_at, untouched_in, IsSame, AreAlike}
 use Rattle.cap_summary.specs.Names.{Names, cell_within, others_within, mode_within, ListedWithin}
@@ -35,6 +36,13 @@ shows_more {X} {Y} show xs ys i x y within within2 at at2 is before =
     ∙ ap (λ (l : List Y). l ++ show (get_or xs i x) ∷ []) before
     ∙ ap (λ (v : Y). map show (take i ys) ++ v ∷ []) (ap show (sym at) ∙ is ∙ ap show at2)
     ∙ sym (map_more show ys i y within2)
+
+-- the same at a place that is named
+pub shows_next : {X Y : Type 0} (show : X → Y) (xs ys : List X) (i j : ℕ) (x y : X) → j ≡ i + 1 → i < length xs
+    → i < length ys → x ≡ get_or xs i x → y ≡ get_or ys i y → show x ≡ show y → ShowSame show i xs ys
+    → ShowSame show j xs ys
+shows_next show xs ys i j x y next within within2 at at2 is before =
+    subst (λ n. ShowSame show n xs ys) (sym next) (shows_more show xs ys i x y within within2 at at2 is before)
 
 pub shows_all : {X Y : Type 0} (show : X → Y) (xs ys : List X) (i : ℕ) → length xs ≤ i → length ys ≤ i
     → ShowSame show i xs ys → map show xs ≡ map show ys
@@ -98,6 +106,14 @@ cells_alike own theirs i own_all theirs_all same f = tables_alike cell_seen own 
   theirs_all = theirs_all;
   same = same;
 }) f
+
+-- two held cells of one kind and with the same rights
+pub same_held : (a b : Kept) (r : ℕ) → kept_kind a ≡ kept_kind b → kept_rights a ≡ Some r → kept_rights b ≡ Some r
+    → kept_value a ≡ kept_value b
+same_held (kept.Set n) (kept.Set m) r kind own other = cc
+same_held (kept.Clear n) (kept.Clear m) r kind own other = cc
+same_held (kept.Unsure n) (kept.Unsure m) r kind own other = cc
+same_held a b r kind own other = cc
 
 -- ---- processes
 

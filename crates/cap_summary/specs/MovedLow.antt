@@ -10,7 +10,7 @@ use Rattle.cap_summary.specs.declared.moved_low.MovedLow.TheVariants as moved_lo
 use Rattle.cap_summary.specs.declared.values.Value.{Value}
 use Rattle.cap_summary.specs.Values.{read_cell}
 use Rattle.cap_summary.specs.Conditions.{passes, source_holds}
-use Rattle.cap_summary.specs.Packed.{lacking, low_source, low_condition}
+use Rattle.cap_summary.specs.Packed.{key_pid, key_fd, lacking, low_source, low_condition}
 use Rattle.cap_summary.specs.Names.{Names, has_cell, condition_within}
 
 -- the cell of a condition has this value, and passes its test
@@ -21,7 +21,7 @@ low_passes s low v = passes (low_source low).test (read_cell s v)
 -- after the op
 abbrev pub LacksBefore : Low → Op → Type 0
 LacksBefore low op = (c : Cell) → passes (low_source low).test (applied op c)
-    ≡ passes (lacking (passes (low_source low).test op.closed) (record { pid = low.pid; fd = low.fd; rights = low.rights })).test c
+    ≡ passes (lacking (passes (low_source low).test op.closed) (record { pid = key_pid low.key; fd = key_fd low.key; rights = low.rights })).test c
 
 -- what it has become holds where the cell passes
 abbrev pub MovedLowHolds : State → Low → Value → MovedLow → Type 0

@@ -1,5 +1,5 @@
 -- Conditions as a list keeps them.
-use Rattle.std.specs.Prelude.{◌≡◌, List, map, Bool, true, false}
+use Rattle.std.specs.Prelude.{◌≡◌, ℕ, ◌/◌, ◌%◌, ◌==◌, List, map, Bool, true, false}
 use Rattle.std.specs.List.{list_any, All}
 use Rattle.cap_machine.specs.State.{State}
 use Rattle.cap_summary.specs.declared.conditions.HeldTest.TheVariants.{Lacks}
@@ -39,9 +39,21 @@ packed_condition (packed.Refused r) = condition.Refused r.value
 abbrev pub packed_conditions : List Packed → List Condition
 packed_conditions items = map packed_condition items
 
+-- what a number stands for by which a condition of the most common form is kept: its process, its descriptor, and whether
+-- a closed cell counts
+unfoldable pub key_pid : ℕ → ℕ
+key_pid key = key / 65536 / 65536
+
+unfoldable pub key_fd : ℕ → ℕ
+key_fd key = key / 65536 % 65536
+
+unfoldable pub key_closed : ℕ → Bool
+key_closed key = key % 2 == 1
+
 -- that the cell is held and lacks rights, or also that it is closed
 abbrev pub low_source : Low → Source
-low_source low = lacking low.closed (record { pid = low.pid; fd = low.fd; rights = low.rights })
+low_source low = lacking (key_closed low.key)
+    (record { pid = key_pid low.key; fd = key_fd low.key; rights = low.rights })
 
 abbrev pub low_condition : Low → Condition
 low_condition low = condition.Cell (low_source low)

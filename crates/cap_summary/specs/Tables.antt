@@ -36,6 +36,24 @@ kept_value (kept.Clear r) = value.Fixed (cell.Held r flag.Clear)
 kept_value (kept.Unsure r) = value.Fixed (cell.Held r flag.Unsure)
 kept_value (kept.Of taken) = value.Of taken.value.pid taken.value.fd taken.value.op
 
+-- a number for the kind of what a table keeps
+abbrev pub kept_kind : Kept → ℕ
+kept_kind kept.Unknown = 0
+kept_kind kept.Closed = 1
+kept_kind (kept.Set r) = 2
+kept_kind (kept.Clear r) = 3
+kept_kind (kept.Unsure r) = 4
+kept_kind (kept.Of taken) = 5
+
+-- the rights of a held cell
+abbrev pub kept_rights : Kept → Option ℕ
+kept_rights (kept.Set r) = Some r
+kept_rights (kept.Clear r) = Some r
+kept_rights (kept.Unsure r) = Some r
+kept_rights kept.Unknown = None
+kept_rights kept.Closed = None
+kept_rights (kept.Of taken) = None
+
 -- what is seen of the cell of a descriptor of a process: what has become of it
 abbrev pub seen_value : ℕ → ℕ → Seen → Value
 seen_value p f seen.Same = value.Of p f same

@@ -2,7 +2,8 @@
 //! by one, up to the first that differs; nothing is allocated.
 
 ghost use Rattle.std.specs.Prelude.{◌≡◌, ℕ, true};
-ghost use Rattle.cap_summary.specs.Tables.{kept_value, listed_process};
+ghost use Rattle.std.specs.Option.{option_copied};
+ghost use Rattle.cap_summary.specs.Tables.{kept_kind, kept_rights, kept_value, listed_process};
 ghost use Rattle.cap_summary.specs.Changes.{IsSame, DoSame};
 
 use crate::change::{Change, Process};
@@ -10,6 +11,7 @@ use crate::conditions::{CellTest, HeldTest, Refused, Source};
 use crate::kept::{Kept, Listed, Taken};
 use crate::values::Base;
 use cap_machine::{Cell, HeldOp, Op};
+use cap_rights::RightSet;
 
 fn equal_cells(a: &Cell, b: &Cell) -> bool
     ensures { result ≡ true → a.now ≡ b.now }
@@ -92,15 +94,55 @@ pub(crate) fn equal_refusals(a: &Refused, b: &Refused) -> bool
 }
 
 impl Kept {
-    /// Whether another one keeps the same value. No is a safe answer.
+    /// A number for its kind.
+    #[inline]
+    fn kind(&self) -> u8
+        ensures { result ≡ kept_kind self.now }
+    {
+        match self {
+            Kept::Unknown => 0,
+            Kept::Closed => 1,
+            Kept::Set(_) => 2,
+            Kept::Clear(_) => 3,
+            Kept::Unsure(_) => 4,
+            Kept::Of(_) => 5,
+        }
+    }
+
+    /// The rights of a held cell.
+    #[inline]
+    fn rights(&self) -> Option<&RightSet>
+        ensures { option_copied result ≡ kept_rights self.now }
+    {
+        match self {
+            Kept::Set(rights) | Kept::Clear(rights) | Kept::Unsure(rights) => Some(rights),
+            _ => None,
+        }
+    }
+
+    /// Whether another one keeps the same value. No is a safe answer. It is asked of most cells behind an edit, so the kinds
+    /// are compared first: what is left then takes no jump by a table.
+    #[inline]
+    #[tactic(auto, using(crate::proofs::Comparing::same_held))]
     pub(crate) fn is_like(&self, other: &Kept) -> bool
+        ensures { result ≡ true → kept_value self.now ≡ kept_value other.now }
+    {
+        if self.kind() != other.kind() {
+            return false;
+        }
+        match (self.rights(), other.rights()) {
+            (Some(a), Some(b)) => a == b,
+            _ => self.is_like_unheld(other),
+        }
+    }
+
+    /// The same of one that isn't a held cell.
+    #[inline]
+    fn is_like_unheld(&self, other: &Kept) -> bool
         ensures { result ≡ true → kept_value self.now ≡ kept_value other.now }
     {
         match (self, other) {
             (Kept::Unknown, Kept::Unknown) | (Kept::Closed, Kept::Closed) => true,
-            (Kept::Set(a), Kept::Set(b)) => a == b,
-            (Kept::Clear(a), Kept::Clear(b)) => a == b,
-            (Kept::Unsure(a), Kept::Unsure(b)) => a == b,
             (Kept::Of(a), Kept::Of(b)) => equal_taken(a, b),
             _ => false,
         }
@@ -119,8 +161,28 @@ impl Process {
 }
 
 impl Listed {
+    /// Whether of this process and of another one nothing is known, as of most at the top of a long trace.
+    #[inline]
+    fn are_gone(&self, other: &Listed) -> bool
+        ensures { result ≡ true → (p : ℕ) → IsSame (listed_process p self.now) (listed_process p other.now) }
+    {
+        match (self, other) {
+            (Listed::Ended(a), Listed::Ended(b)) => a.is_empty() && b.is_empty(),
+            _ => false,
+        }
+    }
+
     /// Whether another one is the same of the process with the same pid. No is a safe answer.
+    #[inline]
     pub(crate) fn is_like(&self, other: &Listed) -> bool
+        ensures { result ≡ true → (p : ℕ) → IsSame (listed_process p self.now) (listed_process p other.now) }
+    {
+        self.are_gone(other) || self.is_like_listed(other)
+    }
+
+    /// The same of one of which something is known.
+    #[inline(never)]
+    fn is_like_listed(&self, other: &Listed) -> bool
         ensures { result ≡ true → (p : ℕ) → IsSame (listed_process p self.now) (listed_process p other.now) }
     {
         match (self, other) {

@@ -1,12 +1,12 @@
 //! Lists of conditions. No other module knows how a condition is kept in one: a contract sees the conditions.
 
-ghost use Rattle.std.specs.Prelude.{◌≡◌, ℕ, ◌+◌, ◌*◌, ◌^◌, List, ◌<◌, ◌≤◌, ◌++◌, ◌∷◌, [], ◌||◌, length, slice_index_or};
+ghost use Rattle.std.specs.Prelude.{◌≡◌, ℕ, ◌+◌, ◌*◌, ◌/◌, ◌^◌, List, ◌<◌, ◌≤◌, ◌++◌, ◌∷◌, [], ◌||◌, length, slice_index_or};
 ghost use Rattle.std.specs.Prelude.{Bool, true, IfOk, IfSome, OnOk, map};
 ghost use Rattle.cap_summary.specs.declared.conditions.Condition.{Condition};
 ghost use Rattle.cap_machine.specs.State.{State};
 ghost use Rattle.cap_summary.specs.Conditions.{holds, any_holds, passes, source_holds, held_before};
 ghost use Rattle.cap_summary.specs.MovedLow.{LacksBefore};
-ghost use Rattle.cap_summary.specs.Packed.{lacking, low_condition, low_conditions, packed_condition};
+ghost use Rattle.cap_summary.specs.Packed.{key_pid, key_fd, key_closed, lacking, low_condition, low_conditions, packed_condition};
 ghost use Rattle.cap_summary.specs.Packed.{low_source, packed_conditions};
 ghost use Rattle.cap_summary.specs.Merging.{HasOneMore};
 ghost use Rattle.cap_summary.specs.Names.{Names, these, ConditionsWithin};
@@ -41,9 +41,8 @@ pub(crate) struct Lack {
 /// The same of a low descriptor, and whether a closed cell counts too: the most common form, in few bytes.
 #[derive(Clone, Copy)]
 pub(crate) struct Low {
-    pid: Pid,
-    fd: u16,
-    closed: bool,
+    /// The process, the descriptor, and whether a closed cell counts, as one number: two are compared at once.
+    key: u64,
     rights: RightSet,
 }
 
@@ -132,6 +131,17 @@ impl Lack {
     }
 }
 
+/// The number by which a condition of the most common form is kept.
+#[tactic(auto, unfolding(crate::specs::Packed::key_pid, crate::specs::Packed::key_fd, crate::specs::Packed::key_closed))]
+#[inline]
+fn low_key(pid: Pid, fd: u16, closed: bool) -> u64
+    ensures pid { key_pid result ≡ pid }
+    ensures fd { key_fd result ≡ fd }
+    ensures closed { key_closed result ≡ closed }
+{
+    (u64::from(pid) * 65_536 + u64::from(fd)) * 65_536 + u64::from(closed)
+}
+
 impl Low {
     /// The same of any descriptor; none where it isn't low.
     #[inline]
@@ -140,9 +150,7 @@ impl Low {
     {
         match u16::try_from(lack.fd) {
             Ok(fd) => Some(Low {
-                pid: lack.pid,
-                fd,
-                closed,
+                key: low_key(lack.pid, fd, closed),
                 rights: lack.rights,
             }),
             Err(_) => None,
@@ -152,11 +160,11 @@ impl Low {
     /// The cell, and the rights.
     #[inline]
     fn lack(&self) -> Lack
-        ensures { lacking self.now.closed result ≡ low_source self.now }
+        ensures { lacking (key_closed self.now.key) result ≡ low_source self.now }
     {
         Lack {
-            pid: self.pid,
-            fd: u32::from(self.fd),
+            pid: self.pid(),
+            fd: self.fd(),
             rights: self.rights,
         }
     }
@@ -164,7 +172,7 @@ impl Low {
     /// Its process and descriptor.
     #[inline]
     fn place(&self) -> u64 {
-        place(self.pid, u32::from(self.fd))
+        self.key / 65_536
     }
 
     /// The test in full.
@@ -172,15 +180,25 @@ impl Low {
     pub(crate) fn source(&self) -> Source
         ensures { result ≡ low_source self.now }
     {
-        self.lack().source(self.closed)
+        self.lack().source(self.closed())
     }
 
     /// Its process.
+    #[tactic(auto, unfolding(crate::specs::Packed::key_pid))]
     #[inline]
     pub(crate) fn pid(&self) -> Pid
         ensures { result ≡ (low_source self.now).pid }
     {
-        self.pid
+        (self.key / 65_536 / 65_536) as u32
+    }
+
+    /// Its descriptor, which is low.
+    #[tactic(auto, unfolding(crate::specs::Packed::key_fd))]
+    #[inline]
+    fn low_fd(&self) -> u16
+        ensures { result ≡ key_fd self.now.key }
+    {
+        (self.key / 65_536 % 65_536) as u16
     }
 
     /// Its descriptor.
@@ -188,7 +206,7 @@ impl Low {
     pub(crate) fn fd(&self) -> Fd
         ensures { result ≡ (low_source self.now).fd }
     {
-        u32::from(self.fd)
+        u32::from(self.low_fd())
     }
 
     /// The same test of the descriptor of another process.
@@ -199,19 +217,18 @@ impl Low {
         ensures test { (low_source result).test ≡ (low_source self.now).test }
     {
         Low {
-            pid,
-            fd: self.fd,
-            closed: self.closed,
+            key: low_key(pid, self.low_fd(), self.closed()),
             rights: self.rights,
         }
     }
 
     /// Whether a closed cell passes the test.
+    #[tactic(auto, unfolding(crate::specs::Packed::key_closed))]
     #[inline]
     pub(crate) fn closed(&self) -> bool
         ensures { result ≡ (low_source self.now).test.closed }
     {
-        self.closed
+        self.key % 2 == 1
     }
 
     /// Whether a held cell of these rights passes the test.
@@ -251,7 +268,7 @@ impl Low {
     {
         match cell {
             Cell::Unknown => false,
-            Cell::Closed => self.closed,
+            Cell::Closed => self.closed(),
             Cell::Held(rights, _) => !rights.has_all(&self.rights),
         }
     }
@@ -262,7 +279,7 @@ impl Low {
         ensures { result ≡ true → (s : State) → holds s (low_condition self.now)
             ≡ (holds s (low_condition self.now) || holds s (low_condition other.now)) }
     {
-        if other.closed && !self.closed {
+        if other.closed() && !self.closed() {
             return false;
         }
         self.lack().covers(&other.lack())
@@ -273,10 +290,7 @@ impl Low {
     fn is_like(&self, other: &Low) -> bool
         ensures { result ≡ true → self.now ≡ other.now }
     {
-        self.pid == other.pid
-            && self.fd == other.fd
-            && self.closed == other.closed
-            && self.rights == other.rights
+        (self.key == other.key) & (self.rights == other.rights)
     }
 }
 
@@ -309,7 +323,7 @@ impl Low {
         ensures value { result ≡ condition_rank (low_condition self.now) }
         ensures bound { result < 2 ^ 72 }
     {
-        rank(2, self.pid, u32::from(self.fd))
+        rank(2, self.pid(), self.fd())
     }
 }
 

@@ -248,7 +248,8 @@ impl Cells {
 
     /// Whether none is listed.
     #[tactic(auto, unfolding(crate::specs::Tables::listed_value))]
-    fn is_empty(&self) -> bool
+    #[inline]
+    pub(crate) fn is_empty(&self) -> bool
         ensures { result ≡ true → (f : ℕ) → listed_value self.now f ≡ None }
     {
         match &self.form {
