@@ -12,7 +12,11 @@ use Rattle.cap_trace.specs.declared.seen.ItemSeen.{ItemSeen}
 use Rattle.cap_trace.specs.declared.seen.ItemSeen.TheVariants as seen_items
 use Rattle.cap_trace.specs.declared.seen.LineSeen.{LineSeen}
 use Rattle.cap_trace.specs.Entry.{Entry, Arg, an_fd, a_dir, some_flags, some_rights, a_path, a_command, a_word}
-use Rattle.cap_trace.specs.Entry.{free_text}
+use Rattle.cap_trace.specs.Entry.{free_text, dest, set_fd, dup_to}
+use Rattle.cap_trace.specs.declared.args.ArgSeen.{ArgSeen}
+use Rattle.cap_trace.specs.declared.args.ArgSeen.TheVariants as seen_args
+use Rattle.cap_trace.specs.declared.few.Few.{Few}
+use Rattle.cap_trace.specs.Few.{few_items}
 use Rattle.cap_trace.specs.Fields.{are_items}
 use Rattle.cap_trace.specs.Forms.{Said, a_call, a_marker}
 use Rattle.cap_trace.specs.Quotes.{pieces}
@@ -22,6 +26,21 @@ use Rattle.cap_trace.specs.Reading.{fd_at}
 unfoldable pub fds_in : List (List ℕ) → List ℕ
 fds_in [] = []
 fds_in (t ∷ ts) = elim (fd_at t) [ Ok f ↦ f ∷ fds_in ts | Err e ↦ fds_in ts ]
+
+abbrev pub arg_seen : ArgSeen → Arg
+arg_seen (seen_args.Fd f) = an_fd f
+arg_seen (seen_args.Dir d) = a_dir d
+arg_seen (seen_args.Flags w) = some_flags w.now
+arg_seen (seen_args.Rights r) = some_rights r
+arg_seen (seen_args.Path p) = a_path p.now
+arg_seen (seen_args.Command w) = a_command w.now
+arg_seen seen_args.Dest = a_word dest
+arg_seen seen_args.SetFd = a_word set_fd
+arg_seen (seen_args.DupTo c) = a_word (dup_to c)
+arg_seen (seen_args.Free a) = free_text a.now
+
+abbrev pub args_seen : Few ArgSeen → List Arg
+args_seen args = few_items arg_seen args
 
 abbrev pub call_seen : CallSeen → Call
 call_seen (seen.OnFd c x) = calls.OnFd c x

@@ -6,6 +6,7 @@ ghost use Rattle.std.specs.List.{list_all, slice_get};
 ghost use Rattle.cap_trace.specs.Names.{row_of, dup_command_name, form_named, all_forms, is_name, is_name_byte, name_of};
 ghost use Rattle.cap_trace.specs.Names.{head_named};
 ghost use Rattle.cap_trace.specs.Names as names;
+ghost use Rattle.cap_trace.specs.Entry.{head_kind};
 ghost use Rattle.cap_trace.specs.Slots.{slot_at, slots, name_in};
 ghost use Rattle.cap_trace.specs.Rows.{row_seen, head_seen};
 
@@ -595,6 +596,16 @@ impl<'a> Head<'a> {
         match self {
             Head::Listed(form) => form.row().name,
             Head::Unlisted(name) => name,
+        }
+    }
+
+    /// What a call with this name answers where it doesn't fail, if its arguments don't decide.
+    pub(crate) fn kind(self) -> Kind
+        ensures { result ≡ head_kind (head_seen self.entry) }
+    {
+        match self {
+            Head::Listed(form) => form.row().kind,
+            Head::Unlisted(_) => Kind::Any,
         }
     }
 }
