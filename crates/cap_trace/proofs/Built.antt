@@ -140,45 +140,7 @@ slots_in rising_fds = []
 pub said_takes : (h : Head) (ts : List (List ℕ)) (s : Said) → said_at h ts ≡ Ok s → Spelled h ts s
 unfolding said_at
 said_takes (listed forms.Start) ts s e = start_takes ts s e
-said_takes (listed (forms.OnFd c)) ts s e =
-    these_take (listed (forms.OnFd c)) (slots_in (shape_of (listed (forms.OnFd c)) ts)) ts s e
-said_takes (listed (forms.Send c)) ts s e =
-    these_take (listed (forms.Send c)) (slots_in (shape_of (listed (forms.Send c)) ts)) ts s e
-said_takes (listed (forms.OnPath c)) ts s e =
-    these_take (listed (forms.OnPath c)) (slots_in (shape_of (listed (forms.OnPath c)) ts)) ts s e
-said_takes (listed (forms.OnPaths c)) ts s e =
-    these_take (listed (forms.OnPaths c)) (slots_in (shape_of (listed (forms.OnPaths c)) ts)) ts s e
-said_takes (listed (forms.At c)) ts s e =
-    these_take (listed (forms.At c)) (slots_in (shape_of (listed (forms.At c)) ts)) ts s e
-said_takes (listed (forms.AtFlags c)) ts s e =
-    these_take (listed (forms.AtFlags c)) (slots_in (shape_of (listed (forms.AtFlags c)) ts)) ts s e
-said_takes (listed (forms.OnFlags c)) ts s e =
-    these_take (listed (forms.OnFlags c)) (slots_in (shape_of (listed (forms.OnFlags c)) ts)) ts s e
-said_takes (listed (forms.Bare c)) ts s e =
-    these_take (listed (forms.Bare c)) (slots_in (shape_of (listed (forms.Bare c)) ts)) ts s e
-said_takes (listed forms.Accept4) ts s e =
-    these_take (listed forms.Accept4) (slots_in (shape_of (listed forms.Accept4) ts)) ts s e
-said_takes (listed forms.Dup2) ts s e =
-    these_take (listed forms.Dup2) (slots_in (shape_of (listed forms.Dup2) ts)) ts s e
-said_takes (listed forms.Fcntl) ts s e =
-    these_take (listed forms.Fcntl) (slots_in (shape_of (listed forms.Fcntl) ts)) ts s e
-said_takes (listed forms.Mmap) ts s e =
-    these_take (listed forms.Mmap) (slots_in (shape_of (listed forms.Mmap) ts)) ts s e
-said_takes (listed forms.RightsLimit) ts s e =
-    these_take (listed forms.RightsLimit) (slots_in (shape_of (listed forms.RightsLimit) ts)) ts s e
-said_takes (listed forms.Open) ts s e =
-    these_take (listed forms.Open) (slots_in (shape_of (listed forms.Open) ts)) ts s e
-said_takes (listed forms.SymlinkAt) ts s e =
-    these_take (listed forms.SymlinkAt) (slots_in (shape_of (listed forms.SymlinkAt) ts)) ts s e
-said_takes (listed forms.RenameAt) ts s e =
-    these_take (listed forms.RenameAt) (slots_in (shape_of (listed forms.RenameAt) ts)) ts s e
-said_takes (listed forms.LinkAt) ts s e =
-    these_take (listed forms.LinkAt) (slots_in (shape_of (listed forms.LinkAt) ts)) ts s e
-said_takes (listed forms.Exit) ts s e =
-    these_take (listed forms.Exit) (slots_in (shape_of (listed forms.Exit) ts)) ts s e
-said_takes (listed forms.Foreign) ts s e =
-    these_take (listed forms.Foreign) (slots_in (shape_of (listed forms.Foreign) ts)) ts s e
-said_takes (unlisted n) ts s e = these_take (unlisted n) (slots_in (shape_of (unlisted n) ts)) ts s e
+said_takes h ts s e = these_take h (slots_in (shape_of h ts)) ts s e
 
 -- ---- the other way
 
@@ -192,38 +154,6 @@ these_again h ts given s ss same e h2 =
 pub call_again : (c : Call) (ts : List (List ℕ)) → SpellsArgs ts (args_of_call c)
     → said_at (head_of_call c) ts ≡ Ok (a_call c)
 unfolding said_at slot_of
-call_again (calls.OnFd c x) ts h = these_again (head_of_call (calls.OnFd c x)) ts (args_of_call (calls.OnFd c x))
-    (a_call (calls.OnFd c x)) _ refl refl h
-call_again (calls.Accept4 x y) ts h = these_again (head_of_call (calls.Accept4 x y)) ts
-    (args_of_call (calls.Accept4 x y)) (a_call (calls.Accept4 x y)) _ refl refl h
-call_again (calls.Dup2 x y) ts h = these_again (head_of_call (calls.Dup2 x y)) ts (args_of_call (calls.Dup2 x y))
-    (a_call (calls.Dup2 x y)) _ refl refl h
-call_again (calls.Mmap x y z) ts h = these_again (head_of_call (calls.Mmap x y z)) ts (args_of_call (calls.Mmap x y z))
-    (a_call (calls.Mmap x y z)) _ refl refl h
-call_again (calls.RightsLimit x y) ts h = these_again (head_of_call (calls.RightsLimit x y)) ts
-    (args_of_call (calls.RightsLimit x y)) (a_call (calls.RightsLimit x y)) _ refl refl h
-call_again (calls.Open x y) ts h = these_again (head_of_call (calls.Open x y)) ts (args_of_call (calls.Open x y))
-    (a_call (calls.Open x y)) _ refl refl h
-call_again (calls.OnPath c x) ts h = these_again (head_of_call (calls.OnPath c x)) ts (args_of_call (calls.OnPath c x))
-    (a_call (calls.OnPath c x)) _ refl refl h
-call_again (calls.OnPaths c x y) ts h = these_again (head_of_call (calls.OnPaths c x y)) ts
-    (args_of_call (calls.OnPaths c x y)) (a_call (calls.OnPaths c x y)) _ refl refl h
-call_again (calls.At c x y) ts h = these_again (head_of_call (calls.At c x y)) ts (args_of_call (calls.At c x y))
-    (a_call (calls.At c x y)) _ refl refl h
-call_again (calls.AtFlags c x y z) ts h = these_again (head_of_call (calls.AtFlags c x y z)) ts
-    (args_of_call (calls.AtFlags c x y z)) (a_call (calls.AtFlags c x y z)) _ refl refl h
-call_again (calls.SymlinkAt x y z) ts h = these_again (head_of_call (calls.SymlinkAt x y z)) ts
-    (args_of_call (calls.SymlinkAt x y z)) (a_call (calls.SymlinkAt x y z)) _ refl refl h
-call_again (calls.RenameAt x y z u) ts h = these_again (head_of_call (calls.RenameAt x y z u)) ts
-    (args_of_call (calls.RenameAt x y z u)) (a_call (calls.RenameAt x y z u)) _ refl refl h
-call_again (calls.LinkAt x y z u v) ts h = these_again (head_of_call (calls.LinkAt x y z u v)) ts
-    (args_of_call (calls.LinkAt x y z u v)) (a_call (calls.LinkAt x y z u v)) _ refl refl h
-call_again (calls.OnFlags c x) ts h = these_again (head_of_call (calls.OnFlags c x)) ts
-    (args_of_call (calls.OnFlags c x)) (a_call (calls.OnFlags c x)) _ refl refl h
-call_again (calls.Bare c) ts h =
-    these_again (head_of_call (calls.Bare c)) ts (args_of_call (calls.Bare c)) (a_call (calls.Bare c)) _ refl refl h
-call_again (calls.Other n a) ts h = these_again (head_of_call (calls.Other n a)) ts (args_of_call (calls.Other n a))
-    (a_call (calls.Other n a)) _ refl refl h
 call_again (calls.Send c x) [] h = absurd h
 call_again (calls.Send c x) (t ∷ []) h =
     these_again (listed (forms.Send c)) (t ∷ []) (an_fd x ∷ []) (a_call (calls.Send c x)) _ refl refl h
@@ -259,6 +189,7 @@ call_again (calls.FcntlDup dup_commands.FDup2fdCloexec x y) (t ∷ u ∷ v ∷ t
     ∙ these_again (listed forms.Fcntl) (t ∷ codes "F_DUP2FD_CLOEXEC" ∷ v ∷ ts)
     (an_fd x ∷ a_word (dup_to dup_commands.FDup2fdCloexec) ∷ an_fd y ∷ [])
     (a_call (calls.FcntlDup dup_commands.FDup2fdCloexec x y)) _ refl refl (h.0, (refl, h.1.1))
+call_again c ts h = these_again (head_of_call c) ts (args_of_call c) (a_call c) _ refl refl h
 
 pub start_again : (fs : List ℕ) (ts : List (List ℕ)) → SpellsArgs ts (fds fs) → RisesFrom 0 fs
     → said_at (listed forms.Start) ts ≡ Ok (a_marker (items.Start fs))
