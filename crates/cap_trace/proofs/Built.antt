@@ -1,6 +1,6 @@
 -- What a name says of its arguments has that name and these arguments, and is said of them again.
 use Rattle.std.proofs.Common.{◌≡◌, ℕ, Bool, true, false, cond, eqb, List, [], ◌∷◌, length, Result, Ok, Err, refl, sym}
-use Rattle.std.proofs.Common.{ap, subst, ◌∙◌}
+use Rattle.std.proofs.Common.{ap, subst, ◌∙◌, arith}
 use Rattle.std.specs.Prelude.{codes}
 use Rattle.cap_trace.specs.declared.fault.FirstFault.{FirstFault}
 use Rattle.cap_trace.specs.declared.fault.FirstFault.TheVariants as faults
@@ -10,14 +10,14 @@ use Rattle.cap_trace.specs.declared.line.Call.TheVariants as calls
 use Rattle.cap_trace.specs.declared.calls.DupCommand.TheVariants as dup_commands
 use Rattle.cap_trace.specs.declared.calls.Form.TheVariants as forms
 use Rattle.cap_trace.specs.Names.{Head, listed, unlisted}
-use Rattle.cap_trace.specs.Entry.{Arg, an_fd, a_dir, some_flags, some_rights, a_path, a_command, a_word, free_text}
+use Rattle.cap_trace.specs.Entry.{Arg, an_fd, some_flags, a_command, a_word}
 use Rattle.cap_trace.specs.Entry.{dest, set_fd, dup_to, fds, args_of_call, args_of, head_of_call, head_of, RisesFrom}
 use Rattle.cap_trace.specs.Spelling.{SpellsArgs}
 use Rattle.cap_trace.specs.Forms.{Slot, Shape, these, rising_fds, Said, a_call, a_marker, built, shape_of}
 use Rattle.cap_trace.specs.Reading.{◌>>=◌, args_at, fds_from, shaped, said_at}
 use Rattle.cap_trace.proofs.Cuts.{eqb_same}
 use Rattle.cap_trace.proofs.Numerals.{bind_ok}
-use Rattle.cap_trace.proofs.Spelled.{ok_is, bind_made, slot_of, slots_of, args_take, args_again, as_many, fds_take}
+use Rattle.cap_trace.proofs.Spelled.{bind_made, slot_of, slots_of, args_take, args_again, as_many, fds_take}
 use Rattle.cap_trace.proofs.Spelled.{fds_again}
 
 abbrev pub said_args : Said → List Arg
@@ -41,66 +41,56 @@ pub record Says (h : Head) (given : List Arg) (s : Said) : Type 0 where
   pub head : said_head s ≡ h
   pub whole : SaidWhole s
 
-said_is : (h : Head) (given : List Arg) (s r : Said) → ◌≡◌ {A = Result Said FirstFault} (Ok s) (Ok r) → Says h given s
-    → Says h given r
-said_is h given s r e k = subst (λ (x : Said). Says h given x) (ok_is s r e) k
+args_or : List Arg → Result Said FirstFault → List Arg
+args_or given (Ok s) = said_args s
+args_or given (Err d) = given
+
+head_or : Head → Result Said FirstFault → Head
+head_or h (Ok s) = said_head s
+head_or h (Err d) = h
+
+-- only a start says more than its arguments
+says_more : Result Said FirstFault → Bool
+says_more (Ok (a_call c)) = false
+says_more (Ok (a_marker (items.Start fs))) = true
+says_more (Ok (a_marker (items.Call c a))) = true
+says_more (Ok (a_marker items.Exit)) = false
+says_more (Ok (a_marker (items.Foreign f))) = false
+says_more (Err d) = false
+
+built_args : (h : Head) (given : List Arg) → args_or given (built h given) ≡ given
+unfolding args_or
+built_args (listed (forms.OnFd c)) given = grind arith
+built_args (listed f) given = grind arith
+built_args (unlisted n) given = grind arith
+
+built_head : (h : Head) (given : List Arg) → head_or h (built h given) ≡ h
+unfolding head_or
+built_head (listed (forms.OnFd c)) given = grind arith
+built_head (listed f) given = grind arith
+built_head (unlisted n) given = grind arith
+
+built_less : (h : Head) (given : List Arg) → says_more (built h given) ≡ false
+unfolding says_more
+built_less (listed (forms.OnFd c)) given = grind arith
+built_less (listed f) given = grind arith
+built_less (unlisted n) given = grind arith
+
+whole_of : (s : Said) → says_more (Ok s) ≡ false → SaidWhole s
+unfolding says_more
+whole_of (a_call c) e = tt
+whole_of (a_marker (items.Start fs)) e = absurd cc
+whole_of (a_marker (items.Call c a)) e = absurd cc
+whole_of (a_marker items.Exit) e = tt
+whole_of (a_marker (items.Foreign f)) e = tt
 
 built_takes : (h : Head) (given : List Arg) (s : Said) → built h given ≡ Ok s → Says h given s
-built_takes (listed (forms.OnFd c)) (an_fd x ∷ []) s e = said_is (listed (forms.OnFd c)) (an_fd x ∷ [])
-    (a_call (calls.OnFd c x)) s e (record { args = refl; head = refl; whole = tt })
-built_takes (listed (forms.Send c)) (an_fd x ∷ []) s e = said_is (listed (forms.Send c)) (an_fd x ∷ [])
-    (a_call (calls.Send c x)) s e (record { args = refl; head = refl; whole = tt })
-built_takes (listed (forms.Send c)) (an_fd x ∷ a_word dest ∷ []) s e = said_is (listed (forms.Send c))
-    (an_fd x ∷ a_word dest ∷ []) (a_call (calls.SendTo c x)) s e (record { args = refl; head = refl; whole = tt })
-built_takes (listed forms.Accept4) (an_fd x ∷ some_flags y ∷ []) s e = said_is (listed forms.Accept4)
-    (an_fd x ∷ some_flags y ∷ []) (a_call (calls.Accept4 x y)) s e (record { args = refl; head = refl; whole = tt })
-built_takes (listed forms.Dup2) (an_fd x ∷ an_fd y ∷ []) s e = said_is (listed forms.Dup2) (an_fd x ∷ an_fd y ∷ [])
-    (a_call (calls.Dup2 x y)) s e (record { args = refl; head = refl; whole = tt })
-built_takes (listed forms.Fcntl) (an_fd x ∷ a_command y ∷ []) s e = said_is (listed forms.Fcntl)
-    (an_fd x ∷ a_command y ∷ []) (a_call (calls.Fcntl x y)) s e (record { args = refl; head = refl; whole = tt })
-built_takes (listed forms.Fcntl) (an_fd x ∷ a_word (dup_to c) ∷ an_fd y ∷ []) s e =
-    said_is (listed forms.Fcntl) (an_fd x ∷ a_word (dup_to c) ∷ an_fd y ∷ [])
-    (a_call (calls.FcntlDup c x y)) s e (record { args = refl; head = refl; whole = tt })
-built_takes (listed forms.Fcntl) (an_fd x ∷ a_word set_fd ∷ some_flags y ∷ []) s e =
-    said_is (listed forms.Fcntl) (an_fd x ∷ a_word set_fd ∷ some_flags y ∷ [])
-    (a_call (calls.FcntlSetFd x y)) s e (record { args = refl; head = refl; whole = tt })
-built_takes (listed forms.Mmap) (an_fd x ∷ some_flags y ∷ some_flags z ∷ []) s e =
-    said_is (listed forms.Mmap) (an_fd x ∷ some_flags y ∷ some_flags z ∷ [])
-    (a_call (calls.Mmap x y z)) s e (record { args = refl; head = refl; whole = tt })
-built_takes (listed forms.RightsLimit) (an_fd x ∷ some_rights y ∷ []) s e =
-    said_is (listed forms.RightsLimit) (an_fd x ∷ some_rights y ∷ [])
-    (a_call (calls.RightsLimit x y)) s e (record { args = refl; head = refl; whole = tt })
-built_takes (listed forms.Open) (a_path x ∷ some_flags y ∷ []) s e = said_is (listed forms.Open)
-    (a_path x ∷ some_flags y ∷ []) (a_call (calls.Open x y)) s e (record { args = refl; head = refl; whole = tt })
-built_takes (listed (forms.OnPath c)) (a_path x ∷ []) s e = said_is (listed (forms.OnPath c)) (a_path x ∷ [])
-    (a_call (calls.OnPath c x)) s e (record { args = refl; head = refl; whole = tt })
-built_takes (listed (forms.OnPaths c)) (a_path x ∷ a_path y ∷ []) s e = said_is (listed (forms.OnPaths c))
-    (a_path x ∷ a_path y ∷ []) (a_call (calls.OnPaths c x y)) s e (record { args = refl; head = refl; whole = tt })
-built_takes (listed (forms.At c)) (a_dir x ∷ a_path y ∷ []) s e = said_is (listed (forms.At c))
-    (a_dir x ∷ a_path y ∷ []) (a_call (calls.At c x y)) s e (record { args = refl; head = refl; whole = tt })
-built_takes (listed (forms.AtFlags c)) (a_dir x ∷ a_path y ∷ some_flags z ∷ []) s e =
-    said_is (listed (forms.AtFlags c)) (a_dir x ∷ a_path y ∷ some_flags z ∷ [])
-    (a_call (calls.AtFlags c x y z)) s e (record { args = refl; head = refl; whole = tt })
-built_takes (listed forms.SymlinkAt) (a_path x ∷ a_dir y ∷ a_path z ∷ []) s e =
-    said_is (listed forms.SymlinkAt) (a_path x ∷ a_dir y ∷ a_path z ∷ [])
-    (a_call (calls.SymlinkAt x y z)) s e (record { args = refl; head = refl; whole = tt })
-built_takes (listed forms.RenameAt) (a_dir x ∷ a_path y ∷ a_dir z ∷ a_path u ∷ []) s e =
-    said_is (listed forms.RenameAt) (a_dir x ∷ a_path y ∷ a_dir z ∷ a_path u ∷ [])
-    (a_call (calls.RenameAt x y z u)) s e (record { args = refl; head = refl; whole = tt })
-built_takes (listed forms.LinkAt) (a_dir x ∷ a_path y ∷ a_dir z ∷ a_path u ∷ some_flags v ∷ []) s e =
-    said_is (listed forms.LinkAt) (a_dir x ∷ a_path y ∷ a_dir z ∷ a_path u ∷ some_flags v ∷ [])
-    (a_call (calls.LinkAt x y z u v)) s e (record { args = refl; head = refl; whole = tt })
-built_takes (listed (forms.OnFlags c)) (some_flags x ∷ []) s e = said_is (listed (forms.OnFlags c)) (some_flags x ∷ [])
-    (a_call (calls.OnFlags c x)) s e (record { args = refl; head = refl; whole = tt })
-built_takes (listed (forms.Bare c)) [] s e =
-    said_is (listed (forms.Bare c)) [] (a_call (calls.Bare c)) s e (record { args = refl; head = refl; whole = tt })
-built_takes (unlisted n) (free_text a ∷ []) s e = said_is (unlisted n) (free_text a ∷ []) (a_call (calls.Other n a)) s e
-    (record { args = refl; head = refl; whole = tt })
-built_takes (listed forms.Exit) [] s e =
-    said_is (listed forms.Exit) [] (a_marker items.Exit) s e (record { args = refl; head = refl; whole = tt })
-built_takes (listed forms.Foreign) (an_fd x ∷ []) s e = said_is (listed forms.Foreign) (an_fd x ∷ [])
-    (a_marker (items.Foreign x)) s e (record { args = refl; head = refl; whole = tt })
-built_takes h given s e = absurd cc
+unfolding args_or head_or
+built_takes h given s e = record {
+  args = sym (ap (args_or given) e) ∙ built_args h given;
+  head = sym (ap (head_or h) e) ∙ built_head h given;
+  whole = whole_of s (sym (ap says_more e) ∙ built_less h given);
+}
 
 -- ---- step 5
 

@@ -1,4 +1,5 @@
 //! Reading the arguments of each form of call and marker. Nothing here takes memory.
+#![tactic(auto, unfolding(crate::specs::Reading::said_at, crate::specs::Reading::args_at, crate::specs::Reading::arg_at))]
 
 ghost use Rattle.std.specs.Prelude.{[], ◌∷◌, IsTrue};
 ghost use Rattle.cap_trace.specs.declared.calls.Form.TheVariants as forms;
@@ -16,7 +17,6 @@ use crate::scan_fields::{command_of, dir_of, fd_of, flags_of, free_of, path_of, 
 use crate::seen::{CallSeen, SaidSeen};
 
 /// `sendto(fd,DEST)`
-#[tactic(auto, unfolding(crate::specs::Reading::said_at, crate::specs::Reading::args_at, crate::specs::Reading::arg_at))]
 fn send_to<'a>(call: SendCall, fd: &[u8], word: &[u8]) -> Result<CallSeen<'a>, FirstFault>
     ensures { Gives (λ c. a_call (call_seen c)) result
         (said_at (listed (forms.Send call)) (fd.now ∷ word.now ∷ [])) }
@@ -29,7 +29,6 @@ fn send_to<'a>(call: SendCall, fd: &[u8], word: &[u8]) -> Result<CallSeen<'a>, F
 }
 
 /// `fcntl(fd,F_SETFD,flags)`, `fcntl(fd,F_DUP2FD,fd)`, `fcntl(fd,F_DUP2FD_CLOEXEC,fd)`
-#[tactic(auto, unfolding(crate::specs::Reading::said_at, crate::specs::Reading::args_at, crate::specs::Reading::arg_at))]
 fn fcntl_three<'a>(fd: &[u8], word: &[u8], third: &'a [u8]) -> Result<CallSeen<'a>, FirstFault>
     ensures { Gives (λ c. a_call (call_seen c)) result
         (said_at (listed forms.Fcntl) (fd.now ∷ word.now ∷ third.now ∷ [])) }
@@ -65,7 +64,6 @@ fn rising(args: &[u8]) -> Result<(), FirstFault>
 }
 
 /// The arguments of a call that has no form of its own.
-#[tactic(auto, unfolding(crate::specs::Reading::said_at, crate::specs::Reading::args_at, crate::specs::Reading::arg_at))]
 pub(crate) fn other<'a>(name: &'a [u8], args: &'a [u8]) -> Result<CallSeen<'a>, FirstFault>
     ensures { Gives (λ c. a_call (call_seen c)) result (said_at (unlisted name.now) (args.now ∷ [])) }
 {
@@ -73,7 +71,6 @@ pub(crate) fn other<'a>(name: &'a [u8], args: &'a [u8]) -> Result<CallSeen<'a>, 
 }
 
 /// What a call that has a form of its own says, of its arguments.
-#[tactic(auto, unfolding(crate::specs::Reading::said_at, crate::specs::Reading::args_at, crate::specs::Reading::arg_at))]
 fn call<'a>(form: Form, args: &'a [u8]) -> Result<CallSeen<'a>, FirstFault>
     requires { IsTrue (is_call_form form) }
     ensures { Gives (λ c. a_call (call_seen c)) result (said_at (listed form) (pieces args.now)) }
@@ -131,7 +128,6 @@ fn call<'a>(form: Form, args: &'a [u8]) -> Result<CallSeen<'a>, FirstFault>
 }
 
 /// What a call or a marker that has a form of its own says, without its answer.
-#[tactic(auto, unfolding(crate::specs::Reading::said_at, crate::specs::Reading::args_at, crate::specs::Reading::arg_at))]
 pub(crate) fn said<'a>(form: Form, args: &'a [u8]) -> Result<SaidSeen<'a>, FirstFault>
     ensures { Gives said_seen result (said_at (listed form) (pieces args.now)) }
 {

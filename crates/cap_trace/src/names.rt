@@ -3,8 +3,8 @@
 ghost use Rattle.std.specs.Prelude.{◌≡◌, ◌<◌, ◌↔◌, ◌⊎◌, Some, length, map, slice_index, IfSome, IsNone};
 ghost use Rattle.std.specs.Option.{option_map};
 ghost use Rattle.std.specs.List.{list_all, slice_get};
-ghost use Rattle.cap_trace.specs.Names.{row_of, dup_command_name, form_named, all_forms, is_name, is_name_byte, name_of};
-ghost use Rattle.cap_trace.specs.Names.{head_named, on_fd};
+ghost use Rattle.cap_trace.specs.Names.{row_of, dup_command_name, form_named, all_forms, is_name, is_name_byte};
+ghost use Rattle.cap_trace.specs.Names.{name_of, head_named, on_fd};
 ghost use Rattle.cap_trace.specs.Entry.{head_kind};
 ghost use Rattle.cap_trace.specs.Slots.{slot_at, slots};
 ghost use Rattle.cap_trace.specs.Rows.{table_row, in_table, head_seen};
@@ -294,7 +294,8 @@ fn slot_of(name: &[u8]) -> Option<usize>
 #[inline(always)]
 fn in_slot(slot: usize) -> Option<&'static Row>
     requires { slot < 512 }
-    ensures { option_map (λ r. table_row r.now) result ≡ option_map in_table (slice_get all_forms (slice_index slots slot)) }
+    ensures { option_map (λ r. table_row r.now) result
+        ≡ option_map in_table (slice_get all_forms (slice_index slots slot)) }
 {
     listed_at(usize::from(SLOTS[slot]))
 }

@@ -43,4 +43,5 @@ returns c =
     c.then_some.ensures ∙ then_is c.same_by_ends.result r.1
     ∙ this_named c.args.name.now c.in_ok-slot.slot r.1 c.same_by_ends.result c.in_ok-slot.ensures.some.0
     (form_is r _ c.in_ok-row_name.ensures)
-    (ap (λ (n : List ℕ). bytes_eq n c.args.name.now) (name_is r _ c.in_ok-row_name.ensures) ∙ sym c.same_by_ends.ensures)
+    (ap (λ (n : List ℕ). bytes_eq n c.args.name.now) (name_is r _ c.in_ok-row_name.ensures)
+    ∙ sym c.same_by_ends.ensures)
