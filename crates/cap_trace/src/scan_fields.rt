@@ -54,22 +54,14 @@ pub(crate) fn dir_of(text: &[u8]) -> Result<Dir, FirstFault>
 pub(crate) fn flags_of(text: &[u8]) -> Result<&[u8], FirstFault>
     ensures { Gives (λ f. f.now) result (flags_at text.now) }
 {
-    if flags(text) {
-        Ok(text)
-    } else {
-        Err(FirstFault::Argument)
-    }
+    flags(text).then_some(text).ok_or(FirstFault::Argument)
 }
 
 #[tactic(auto, unfolding(crate::specs::Reading::command_at))]
 pub(crate) fn command_of(text: &[u8]) -> Result<&[u8], FirstFault>
     ensures { Gives (λ c. c.now) result (command_at text.now) }
 {
-    if command(text) {
-        Ok(text)
-    } else {
-        Err(FirstFault::Argument)
-    }
+    command(text).then_some(text).ok_or(FirstFault::Argument)
 }
 
 /// What stands between the quotes.
@@ -90,9 +82,5 @@ pub(crate) fn path_of(text: &[u8]) -> Result<&[u8], FirstFault>
 pub(crate) fn free_of(text: &[u8]) -> Result<&[u8], FirstFault>
     ensures { Gives (λ a. a.now) result (free_at text.now) }
 {
-    if free(text) {
-        Ok(text)
-    } else {
-        Err(FirstFault::Shape)
-    }
+    free(text).then_some(text).ok_or(FirstFault::Shape)
 }

@@ -188,14 +188,6 @@ pub(crate) fn put_text(pid: Pid, item: &Item, out: &mut Vec<u8>) -> Result<(), A
     put_tail(item, out)
 }
 
-fn put_line(line: &Line, out: &mut Vec<u8>) -> Result<(), AllocError>
-    ensures ok { OnOk result (out.new.items ≡ out.old.items ++ canon line.now) }
-    ensures spelled { Spells (canon line.now) line.now }
-    ensures err { OnErr result (take (length out.old.items) out.new.items ≡ out.old.items) }
-{
-    put_text(line.pid, &line.item, out)
-}
-
 /// Appends the one canonical text of a line, without a line feed. It spells the line, so it has at most
 /// 1,024 bytes. But for rights, which are named in the order of their table, it is the text that was read.
 ///
@@ -208,7 +200,7 @@ pub fn write_line(line: &Line, out: &mut Vec<u8>) -> Result<(), NoMemory>
     ensures err { OnErr result (out.new.items ≡ out.old.items) }
 {
     let start = out.len();
-    match put_line(line, out) {
+    match put_text(line.pid, &line.item, out) {
         Ok(()) => Ok(()),
         Err(_) => {
             out.truncate(start);
