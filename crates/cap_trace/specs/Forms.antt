@@ -1,6 +1,5 @@
 -- The form of each name: the arguments that it asks for, and the call that they make.
-use Rattle.std.specs.Prelude.{ℕ, Bool, true, false, List, [], ◌∷◌, codes, Result, Ok, Err}
-use Rattle.std.specs.Prelude.{if◌then◌else◌}
+use Rattle.std.specs.Prelude.{ℕ, List, [], ◌∷◌, codes, Result, Ok, Err, if◌then◌else◌}
 use Rattle.std.specs.Str.{bytes_eq}
 use Rattle.cap_trace.specs.declared.fault.FirstFault.{FirstFault}
 use Rattle.cap_trace.specs.declared.fault.FirstFault.TheVariants as faults
@@ -72,13 +71,6 @@ form_shape (forms.Bare c) ts = these []
 form_shape forms.Start ts = rising_fds
 form_shape forms.Exit ts = these []
 form_shape forms.Foreign ts = these (fd ∷ [])
-
--- whether a form is of a call, and not of a marker
-abbrev pub is_call_form : Form → Bool
-is_call_form forms.Start = false
-is_call_form forms.Exit = false
-is_call_form forms.Foreign = false
-is_call_form f = true
 
 -- what a name asks for, where these texts stand in its brackets
 abbrev pub shape_of : Head → List (List ℕ) → Shape

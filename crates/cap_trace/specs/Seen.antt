@@ -1,7 +1,9 @@
 -- What a line says while its texts still lie in its bytes, seen as the entry of Entry.
-use Rattle.std.specs.Prelude.{ℕ, List, [], ◌∷◌, Ok, Err, IsTrue}
+use Rattle.std.specs.Prelude.{ℕ, Bool, true, false, List, [], ◌∷◌, Ok, Err, IsTrue}
 use Rattle.cap_trace.specs.declared.line.Call.{Call}
 use Rattle.cap_trace.specs.declared.line.Call.TheVariants as calls
+use Rattle.cap_trace.specs.declared.calls.Form.{Form}
+use Rattle.cap_trace.specs.declared.calls.Form.TheVariants as forms
 use Rattle.cap_trace.specs.declared.line.Item.{Item}
 use Rattle.cap_trace.specs.declared.line.Item.TheVariants as items
 use Rattle.cap_trace.specs.declared.seen.CallSeen.{CallSeen}
@@ -64,6 +66,13 @@ call_seen (seen.LinkAt x y z u v) = calls.LinkAt x y.now z u.now v.now
 call_seen (seen.OnFlags c x) = calls.OnFlags c x.now
 call_seen (seen.Bare c) = calls.Bare c
 call_seen (seen.Other n a) = calls.Other n.now a.now
+
+-- whether a form is of a call, and not of a marker
+abbrev pub is_call_form : Form → Bool
+is_call_form forms.Start = false
+is_call_form forms.Exit = false
+is_call_form forms.Foreign = false
+is_call_form f = true
 
 abbrev pub said_seen : SaidSeen → Said
 said_seen (seen_said.Call c) = a_call (call_seen c)

@@ -5,9 +5,9 @@ ghost use Rattle.std.specs.Prelude.{[], ◌∷◌, IsTrue};
 ghost use Rattle.cap_trace.specs.declared.calls.Form.TheVariants as forms;
 ghost use Rattle.cap_trace.specs.Names.{listed, unlisted};
 ghost use Rattle.cap_trace.specs.Quotes.{pieces};
-ghost use Rattle.cap_trace.specs.Forms.{a_call, is_call_form};
+ghost use Rattle.cap_trace.specs.Forms.{a_call};
 ghost use Rattle.cap_trace.specs.Reading.{Gives, said_at, fds_from};
-ghost use Rattle.cap_trace.specs.Seen.{call_seen, said_seen, fds_in};
+ghost use Rattle.cap_trace.specs.Seen.{call_seen, said_seen, fds_in, is_call_form};
 
 use crate::calls::{DupCommand, Form, SendCall};
 use crate::fault::FirstFault;
