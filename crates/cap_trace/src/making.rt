@@ -127,10 +127,8 @@ impl Fds {
         if !rise(fds) {
             return Err(LineFault::Argument);
         }
-        match Vec::from_slice(alloc, fds) {
-            Ok(fds) => Ok(Fds { fds }),
-            Err(_) => Err(LineFault::Memory),
-        }
+        let fds = Vec::from_slice(alloc, fds).map_err(|_| LineFault::Memory)?;
+        Ok(Fds { fds })
     }
 }
 
