@@ -7,6 +7,11 @@ use Rattle.cap_trace.specs.Fields.{is_flag_byte, is_word}
 use Rattle.cap_trace.specs.Steps.{takes_all}
 use Rattle.cap_trace.specs.FlagSteps.{flag_step}
 
+-- a test of a byte, as the tables of bytes keep it
+pub is_one : (b : Bool) → eqb (cond b 1 0) 1 ≡ b
+is_one true = refl
+is_one false = refl
+
 abbrev cut_at_bars : List ℕ → List (List ℕ)
 cut_at_bars t = slice_split (λ c. eqb c 124) t
 

@@ -1,6 +1,6 @@
 -- What a name says of its arguments has that name and these arguments, and is said of them again.
 use Rattle.std.proofs.Common.{◌≡◌, ℕ, Bool, true, false, cond, eqb, List, [], ◌∷◌, length, Result, Ok, Err, refl, sym}
-use Rattle.std.proofs.Common.{ap, subst, ◌∙◌}
+use Rattle.std.proofs.Common.{ap, subst, ◌∙◌, arith}
 use Rattle.std.specs.Prelude.{codes}
 use Rattle.cap_trace.specs.declared.fault.FirstFault.{FirstFault}
 use Rattle.cap_trace.specs.declared.fault.FirstFault.TheVariants as faults
@@ -10,14 +10,14 @@ use Rattle.cap_trace.specs.declared.line.Call.TheVariants as calls
 use Rattle.cap_trace.specs.declared.calls.DupCommand.TheVariants as dup_commands
 use Rattle.cap_trace.specs.declared.calls.Form.TheVariants as forms
 use Rattle.cap_trace.specs.Names.{Head, listed, unlisted}
-use Rattle.cap_trace.specs.Entry.{Arg, an_fd, a_dir, some_flags, some_rights, a_path, a_command, a_word, free_text}
+use Rattle.cap_trace.specs.Entry.{Arg, an_fd, some_flags, a_command, a_word}
 use Rattle.cap_trace.specs.Entry.{dest, set_fd, dup_to, fds, args_of_call, args_of, head_of_call, head_of, RisesFrom}
 use Rattle.cap_trace.specs.Spelling.{SpellsArgs}
 use Rattle.cap_trace.specs.Forms.{Slot, Shape, these, rising_fds, Said, a_call, a_marker, built, shape_of}
 use Rattle.cap_trace.specs.Reading.{◌>>=◌, args_at, fds_from, shaped, said_at}
 use Rattle.cap_trace.proofs.Cuts.{eqb_same}
 use Rattle.cap_trace.proofs.Numerals.{bind_ok}
-use Rattle.cap_trace.proofs.Spelled.{ok_is, bind_made, slot_of, slots_of, args_take, args_again, as_many, fds_take}
+use Rattle.cap_trace.proofs.Spelled.{bind_made, slot_of, slots_of, args_take, args_again, as_many, fds_take}
 use Rattle.cap_trace.proofs.Spelled.{fds_again}
 
 abbrev pub said_args : Said → List Arg
@@ -41,66 +41,56 @@ pub record Says (h : Head) (given : List Arg) (s : Said) : Type 0 where
   pub head : said_head s ≡ h
   pub whole : SaidWhole s
 
-said_is : (h : Head) (given : List Arg) (s r : Said) → ◌≡◌ {A = Result Said FirstFault} (Ok s) (Ok r) → Says h given s
-    → Says h given r
-said_is h given s r e k = subst (λ (x : Said). Says h given x) (ok_is s r e) k
+args_or : List Arg → Result Said FirstFault → List Arg
+args_or given (Ok s) = said_args s
+args_or given (Err d) = given
+
+head_or : Head → Result Said FirstFault → Head
+head_or h (Ok s) = said_head s
+head_or h (Err d) = h
+
+-- only a start says more than its arguments
+says_more : Result Said FirstFault → Bool
+says_more (Ok (a_call c)) = false
+says_more (Ok (a_marker (items.Start fs))) = true
+says_more (Ok (a_marker (items.Call c a))) = true
+says_more (Ok (a_marker items.Exit)) = false
+says_more (Ok (a_marker (items.Foreign f))) = false
+says_more (Err d) = false
+
+built_args : (h : Head) (given : List Arg) → args_or given (built h given) ≡ given
+unfolding args_or
+built_args (listed (forms.OnFd c)) given = grind arith
+built_args (listed f) given = grind arith
+built_args (unlisted n) given = grind arith
+
+built_head : (h : Head) (given : List Arg) → head_or h (built h given) ≡ h
+unfolding head_or
+built_head (listed (forms.OnFd c)) given = grind arith
+built_head (listed f) given = grind arith
+built_head (unlisted n) given = grind arith
+
+built_less : (h : Head) (given : List Arg) → says_more (built h given) ≡ false
+unfolding says_more
+built_less (listed (forms.OnFd c)) given = grind arith
+built_less (listed f) given = grind arith
+built_less (unlisted n) given = grind arith
+
+whole_of : (s : Said) → says_more (Ok s) ≡ false → SaidWhole s
+unfolding says_more
+whole_of (a_call c) e = tt
+whole_of (a_marker (items.Start fs)) e = absurd cc
+whole_of (a_marker (items.Call c a)) e = absurd cc
+whole_of (a_marker items.Exit) e = tt
+whole_of (a_marker (items.Foreign f)) e = tt
 
 built_takes : (h : Head) (given : List Arg) (s : Said) → built h given ≡ Ok s → Says h given s
-built_takes (listed (forms.OnFd c)) (an_fd x ∷ []) s e = said_is (listed (forms.OnFd c)) (an_fd x ∷ [])
-    (a_call (calls.OnFd c x)) s e (record { args = refl; head = refl; whole = tt })
-built_takes (listed (forms.Send c)) (an_fd x ∷ []) s e = said_is (listed (forms.Send c)) (an_fd x ∷ [])
-    (a_call (calls.Send c x)) s e (record { args = refl; head = refl; whole = tt })
-built_takes (listed (forms.Send c)) (an_fd x ∷ a_word dest ∷ []) s e = said_is (listed (forms.Send c))
-    (an_fd x ∷ a_word dest ∷ []) (a_call (calls.SendTo c x)) s e (record { args = refl; head = refl; whole = tt })
-built_takes (listed forms.Accept4) (an_fd x ∷ some_flags y ∷ []) s e = said_is (listed forms.Accept4)
-    (an_fd x ∷ some_flags y ∷ []) (a_call (calls.Accept4 x y)) s e (record { args = refl; head = refl; whole = tt })
-built_takes (listed forms.Dup2) (an_fd x ∷ an_fd y ∷ []) s e = said_is (listed forms.Dup2) (an_fd x ∷ an_fd y ∷ [])
-    (a_call (calls.Dup2 x y)) s e (record { args = refl; head = refl; whole = tt })
-built_takes (listed forms.Fcntl) (an_fd x ∷ a_command y ∷ []) s e = said_is (listed forms.Fcntl)
-    (an_fd x ∷ a_command y ∷ []) (a_call (calls.Fcntl x y)) s e (record { args = refl; head = refl; whole = tt })
-built_takes (listed forms.Fcntl) (an_fd x ∷ a_word (dup_to c) ∷ an_fd y ∷ []) s e =
-    said_is (listed forms.Fcntl) (an_fd x ∷ a_word (dup_to c) ∷ an_fd y ∷ [])
-    (a_call (calls.FcntlDup c x y)) s e (record { args = refl; head = refl; whole = tt })
-built_takes (listed forms.Fcntl) (an_fd x ∷ a_word set_fd ∷ some_flags y ∷ []) s e =
-    said_is (listed forms.Fcntl) (an_fd x ∷ a_word set_fd ∷ some_flags y ∷ [])
-    (a_call (calls.FcntlSetFd x y)) s e (record { args = refl; head = refl; whole = tt })
-built_takes (listed forms.Mmap) (an_fd x ∷ some_flags y ∷ some_flags z ∷ []) s e =
-    said_is (listed forms.Mmap) (an_fd x ∷ some_flags y ∷ some_flags z ∷ [])
-    (a_call (calls.Mmap x y z)) s e (record { args = refl; head = refl; whole = tt })
-built_takes (listed forms.RightsLimit) (an_fd x ∷ some_rights y ∷ []) s e =
-    said_is (listed forms.RightsLimit) (an_fd x ∷ some_rights y ∷ [])
-    (a_call (calls.RightsLimit x y)) s e (record { args = refl; head = refl; whole = tt })
-built_takes (listed forms.Open) (a_path x ∷ some_flags y ∷ []) s e = said_is (listed forms.Open)
-    (a_path x ∷ some_flags y ∷ []) (a_call (calls.Open x y)) s e (record { args = refl; head = refl; whole = tt })
-built_takes (listed (forms.OnPath c)) (a_path x ∷ []) s e = said_is (listed (forms.OnPath c)) (a_path x ∷ [])
-    (a_call (calls.OnPath c x)) s e (record { args = refl; head = refl; whole = tt })
-built_takes (listed (forms.OnPaths c)) (a_path x ∷ a_path y ∷ []) s e = said_is (listed (forms.OnPaths c))
-    (a_path x ∷ a_path y ∷ []) (a_call (calls.OnPaths c x y)) s e (record { args = refl; head = refl; whole = tt })
-built_takes (listed (forms.At c)) (a_dir x ∷ a_path y ∷ []) s e = said_is (listed (forms.At c))
-    (a_dir x ∷ a_path y ∷ []) (a_call (calls.At c x y)) s e (record { args = refl; head = refl; whole = tt })
-built_takes (listed (forms.AtFlags c)) (a_dir x ∷ a_path y ∷ some_flags z ∷ []) s e =
-    said_is (listed (forms.AtFlags c)) (a_dir x ∷ a_path y ∷ some_flags z ∷ [])
-    (a_call (calls.AtFlags c x y z)) s e (record { args = refl; head = refl; whole = tt })
-built_takes (listed forms.SymlinkAt) (a_path x ∷ a_dir y ∷ a_path z ∷ []) s e =
-    said_is (listed forms.SymlinkAt) (a_path x ∷ a_dir y ∷ a_path z ∷ [])
-    (a_call (calls.SymlinkAt x y z)) s e (record { args = refl; head = refl; whole = tt })
-built_takes (listed forms.RenameAt) (a_dir x ∷ a_path y ∷ a_dir z ∷ a_path u ∷ []) s e =
-    said_is (listed forms.RenameAt) (a_dir x ∷ a_path y ∷ a_dir z ∷ a_path u ∷ [])
-    (a_call (calls.RenameAt x y z u)) s e (record { args = refl; head = refl; whole = tt })
-built_takes (listed forms.LinkAt) (a_dir x ∷ a_path y ∷ a_dir z ∷ a_path u ∷ some_flags v ∷ []) s e =
-    said_is (listed forms.LinkAt) (a_dir x ∷ a_path y ∷ a_dir z ∷ a_path u ∷ some_flags v ∷ [])
-    (a_call (calls.LinkAt x y z u v)) s e (record { args = refl; head = refl; whole = tt })
-built_takes (listed (forms.OnFlags c)) (some_flags x ∷ []) s e = said_is (listed (forms.OnFlags c)) (some_flags x ∷ [])
-    (a_call (calls.OnFlags c x)) s e (record { args = refl; head = refl; whole = tt })
-built_takes (listed (forms.Bare c)) [] s e =
-    said_is (listed (forms.Bare c)) [] (a_call (calls.Bare c)) s e (record { args = refl; head = refl; whole = tt })
-built_takes (unlisted n) (free_text a ∷ []) s e = said_is (unlisted n) (free_text a ∷ []) (a_call (calls.Other n a)) s e
-    (record { args = refl; head = refl; whole = tt })
-built_takes (listed forms.Exit) [] s e =
-    said_is (listed forms.Exit) [] (a_marker items.Exit) s e (record { args = refl; head = refl; whole = tt })
-built_takes (listed forms.Foreign) (an_fd x ∷ []) s e = said_is (listed forms.Foreign) (an_fd x ∷ [])
-    (a_marker (items.Foreign x)) s e (record { args = refl; head = refl; whole = tt })
-built_takes h given s e = absurd cc
+unfolding args_or head_or
+built_takes h given s e = record {
+  args = sym (ap (args_or given) e) ∙ built_args h given;
+  head = sym (ap (head_or h) e) ∙ built_head h given;
+  whole = whole_of s (sym (ap says_more e) ∙ built_less h given);
+}
 
 -- ---- step 5
 
@@ -140,45 +130,7 @@ slots_in rising_fds = []
 pub said_takes : (h : Head) (ts : List (List ℕ)) (s : Said) → said_at h ts ≡ Ok s → Spelled h ts s
 unfolding said_at
 said_takes (listed forms.Start) ts s e = start_takes ts s e
-said_takes (listed (forms.OnFd c)) ts s e =
-    these_take (listed (forms.OnFd c)) (slots_in (shape_of (listed (forms.OnFd c)) ts)) ts s e
-said_takes (listed (forms.Send c)) ts s e =
-    these_take (listed (forms.Send c)) (slots_in (shape_of (listed (forms.Send c)) ts)) ts s e
-said_takes (listed (forms.OnPath c)) ts s e =
-    these_take (listed (forms.OnPath c)) (slots_in (shape_of (listed (forms.OnPath c)) ts)) ts s e
-said_takes (listed (forms.OnPaths c)) ts s e =
-    these_take (listed (forms.OnPaths c)) (slots_in (shape_of (listed (forms.OnPaths c)) ts)) ts s e
-said_takes (listed (forms.At c)) ts s e =
-    these_take (listed (forms.At c)) (slots_in (shape_of (listed (forms.At c)) ts)) ts s e
-said_takes (listed (forms.AtFlags c)) ts s e =
-    these_take (listed (forms.AtFlags c)) (slots_in (shape_of (listed (forms.AtFlags c)) ts)) ts s e
-said_takes (listed (forms.OnFlags c)) ts s e =
-    these_take (listed (forms.OnFlags c)) (slots_in (shape_of (listed (forms.OnFlags c)) ts)) ts s e
-said_takes (listed (forms.Bare c)) ts s e =
-    these_take (listed (forms.Bare c)) (slots_in (shape_of (listed (forms.Bare c)) ts)) ts s e
-said_takes (listed forms.Accept4) ts s e =
-    these_take (listed forms.Accept4) (slots_in (shape_of (listed forms.Accept4) ts)) ts s e
-said_takes (listed forms.Dup2) ts s e =
-    these_take (listed forms.Dup2) (slots_in (shape_of (listed forms.Dup2) ts)) ts s e
-said_takes (listed forms.Fcntl) ts s e =
-    these_take (listed forms.Fcntl) (slots_in (shape_of (listed forms.Fcntl) ts)) ts s e
-said_takes (listed forms.Mmap) ts s e =
-    these_take (listed forms.Mmap) (slots_in (shape_of (listed forms.Mmap) ts)) ts s e
-said_takes (listed forms.RightsLimit) ts s e =
-    these_take (listed forms.RightsLimit) (slots_in (shape_of (listed forms.RightsLimit) ts)) ts s e
-said_takes (listed forms.Open) ts s e =
-    these_take (listed forms.Open) (slots_in (shape_of (listed forms.Open) ts)) ts s e
-said_takes (listed forms.SymlinkAt) ts s e =
-    these_take (listed forms.SymlinkAt) (slots_in (shape_of (listed forms.SymlinkAt) ts)) ts s e
-said_takes (listed forms.RenameAt) ts s e =
-    these_take (listed forms.RenameAt) (slots_in (shape_of (listed forms.RenameAt) ts)) ts s e
-said_takes (listed forms.LinkAt) ts s e =
-    these_take (listed forms.LinkAt) (slots_in (shape_of (listed forms.LinkAt) ts)) ts s e
-said_takes (listed forms.Exit) ts s e =
-    these_take (listed forms.Exit) (slots_in (shape_of (listed forms.Exit) ts)) ts s e
-said_takes (listed forms.Foreign) ts s e =
-    these_take (listed forms.Foreign) (slots_in (shape_of (listed forms.Foreign) ts)) ts s e
-said_takes (unlisted n) ts s e = these_take (unlisted n) (slots_in (shape_of (unlisted n) ts)) ts s e
+said_takes h ts s e = these_take h (slots_in (shape_of h ts)) ts s e
 
 -- ---- the other way
 
@@ -192,38 +144,6 @@ these_again h ts given s ss same e h2 =
 pub call_again : (c : Call) (ts : List (List ℕ)) → SpellsArgs ts (args_of_call c)
     → said_at (head_of_call c) ts ≡ Ok (a_call c)
 unfolding said_at slot_of
-call_again (calls.OnFd c x) ts h = these_again (head_of_call (calls.OnFd c x)) ts (args_of_call (calls.OnFd c x))
-    (a_call (calls.OnFd c x)) _ refl refl h
-call_again (calls.Accept4 x y) ts h = these_again (head_of_call (calls.Accept4 x y)) ts
-    (args_of_call (calls.Accept4 x y)) (a_call (calls.Accept4 x y)) _ refl refl h
-call_again (calls.Dup2 x y) ts h = these_again (head_of_call (calls.Dup2 x y)) ts (args_of_call (calls.Dup2 x y))
-    (a_call (calls.Dup2 x y)) _ refl refl h
-call_again (calls.Mmap x y z) ts h = these_again (head_of_call (calls.Mmap x y z)) ts (args_of_call (calls.Mmap x y z))
-    (a_call (calls.Mmap x y z)) _ refl refl h
-call_again (calls.RightsLimit x y) ts h = these_again (head_of_call (calls.RightsLimit x y)) ts
-    (args_of_call (calls.RightsLimit x y)) (a_call (calls.RightsLimit x y)) _ refl refl h
-call_again (calls.Open x y) ts h = these_again (head_of_call (calls.Open x y)) ts (args_of_call (calls.Open x y))
-    (a_call (calls.Open x y)) _ refl refl h
-call_again (calls.OnPath c x) ts h = these_again (head_of_call (calls.OnPath c x)) ts (args_of_call (calls.OnPath c x))
-    (a_call (calls.OnPath c x)) _ refl refl h
-call_again (calls.OnPaths c x y) ts h = these_again (head_of_call (calls.OnPaths c x y)) ts
-    (args_of_call (calls.OnPaths c x y)) (a_call (calls.OnPaths c x y)) _ refl refl h
-call_again (calls.At c x y) ts h = these_again (head_of_call (calls.At c x y)) ts (args_of_call (calls.At c x y))
-    (a_call (calls.At c x y)) _ refl refl h
-call_again (calls.AtFlags c x y z) ts h = these_again (head_of_call (calls.AtFlags c x y z)) ts
-    (args_of_call (calls.AtFlags c x y z)) (a_call (calls.AtFlags c x y z)) _ refl refl h
-call_again (calls.SymlinkAt x y z) ts h = these_again (head_of_call (calls.SymlinkAt x y z)) ts
-    (args_of_call (calls.SymlinkAt x y z)) (a_call (calls.SymlinkAt x y z)) _ refl refl h
-call_again (calls.RenameAt x y z u) ts h = these_again (head_of_call (calls.RenameAt x y z u)) ts
-    (args_of_call (calls.RenameAt x y z u)) (a_call (calls.RenameAt x y z u)) _ refl refl h
-call_again (calls.LinkAt x y z u v) ts h = these_again (head_of_call (calls.LinkAt x y z u v)) ts
-    (args_of_call (calls.LinkAt x y z u v)) (a_call (calls.LinkAt x y z u v)) _ refl refl h
-call_again (calls.OnFlags c x) ts h = these_again (head_of_call (calls.OnFlags c x)) ts
-    (args_of_call (calls.OnFlags c x)) (a_call (calls.OnFlags c x)) _ refl refl h
-call_again (calls.Bare c) ts h =
-    these_again (head_of_call (calls.Bare c)) ts (args_of_call (calls.Bare c)) (a_call (calls.Bare c)) _ refl refl h
-call_again (calls.Other n a) ts h = these_again (head_of_call (calls.Other n a)) ts (args_of_call (calls.Other n a))
-    (a_call (calls.Other n a)) _ refl refl h
 call_again (calls.Send c x) [] h = absurd h
 call_again (calls.Send c x) (t ∷ []) h =
     these_again (listed (forms.Send c)) (t ∷ []) (an_fd x ∷ []) (a_call (calls.Send c x)) _ refl refl h
@@ -259,6 +179,7 @@ call_again (calls.FcntlDup dup_commands.FDup2fdCloexec x y) (t ∷ u ∷ v ∷ t
     ∙ these_again (listed forms.Fcntl) (t ∷ codes "F_DUP2FD_CLOEXEC" ∷ v ∷ ts)
     (an_fd x ∷ a_word (dup_to dup_commands.FDup2fdCloexec) ∷ an_fd y ∷ [])
     (a_call (calls.FcntlDup dup_commands.FDup2fdCloexec x y)) _ refl refl (h.0, (refl, h.1.1))
+call_again c ts h = these_again (head_of_call c) ts (args_of_call c) (a_call c) _ refl refl h
 
 pub start_again : (fs : List ℕ) (ts : List (List ℕ)) → SpellsArgs ts (fds fs) → RisesFrom 0 fs
     → said_at (listed forms.Start) ts ≡ Ok (a_marker (items.Start fs))

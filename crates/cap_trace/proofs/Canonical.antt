@@ -134,27 +134,8 @@ short_call : (bytes : List ℕ) (p : ℕ) (c : Call) (a : Answer) (texts : List 
     → SpellsBy bytes (record { pid = p; item = items.Call c a }) texts
     → length (canon (record { pid = p; item = items.Call c a })) ≤ 1024
 unfolding is_settled
-short_call bytes p (calls.OnFd c x) a texts h = settled_short bytes _ texts refl h
-short_call bytes p (calls.Send c x) a texts h = settled_short bytes _ texts refl h
-short_call bytes p (calls.SendTo c x) a texts h = settled_short bytes _ texts refl h
-short_call bytes p (calls.Accept4 x y) a texts h = settled_short bytes _ texts refl h
-short_call bytes p (calls.Dup2 x y) a texts h = settled_short bytes _ texts refl h
-short_call bytes p (calls.Fcntl x y) a texts h = settled_short bytes _ texts refl h
-short_call bytes p (calls.FcntlDup c x y) a texts h = settled_short bytes _ texts refl h
-short_call bytes p (calls.FcntlSetFd x y) a texts h = settled_short bytes _ texts refl h
-short_call bytes p (calls.Mmap x y z) a texts h = settled_short bytes _ texts refl h
-short_call bytes p (calls.Open x y) a texts h = settled_short bytes _ texts refl h
-short_call bytes p (calls.OnPath c x) a texts h = settled_short bytes _ texts refl h
-short_call bytes p (calls.OnPaths c x y) a texts h = settled_short bytes _ texts refl h
-short_call bytes p (calls.At c x y) a texts h = settled_short bytes _ texts refl h
-short_call bytes p (calls.AtFlags c x y z) a texts h = settled_short bytes _ texts refl h
-short_call bytes p (calls.SymlinkAt x y z) a texts h = settled_short bytes _ texts refl h
-short_call bytes p (calls.RenameAt x y z u) a texts h = settled_short bytes _ texts refl h
-short_call bytes p (calls.LinkAt x y z u v) a texts h = settled_short bytes _ texts refl h
-short_call bytes p (calls.OnFlags c x) a texts h = settled_short bytes _ texts refl h
-short_call bytes p (calls.Bare c) a texts h = settled_short bytes _ texts refl h
-short_call bytes p (calls.Other n b) a texts h = settled_short bytes _ texts refl h
 short_call bytes p (calls.RightsLimit x y) a texts h = limit_short bytes _ texts x y a refl h
+short_call bytes p c a texts h = settled_short bytes _ texts refl h
 
 short_item : (bytes : List ℕ) (p : ℕ) (i : Item) (texts : List (List ℕ))
     → SpellsBy bytes (record { pid = p; item = i }) texts → length (canon (record { pid = p; item = i })) ≤ 1024

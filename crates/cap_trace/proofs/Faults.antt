@@ -1,6 +1,6 @@
 -- The faults that reading a part of a line can have.
 use Rattle.std.proofs.Common.{◌≡◌, ℕ, ◌+◌, ◌&&◌, Bool, true, false, cond, eqb, ltb, List, [], ◌∷◌, length, Option, Some}
-use Rattle.std.proofs.Common.{None, Result, Ok, Err, refl, sym, ap, ◌∙◌, ◌⊎◌, inl, inr}
+use Rattle.std.proofs.Common.{None, Result, Ok, Err, refl, sym, ap, ◌∙◌, ◌⊎◌, inl, inr, arith}
 use Rattle.std.specs.Prelude.{codes}
 use Rattle.std.specs.List.{list_all}
 use Rattle.std.specs.Str.{bytes_eq}
@@ -19,10 +19,9 @@ use Rattle.cap_trace.specs.Number.{num_at}
 use Rattle.cap_trace.specs.Quotes.{cut_at_byte}
 use Rattle.cap_trace.specs.Fields.{is_flags, are_items, is_free}
 use Rattle.cap_trace.specs.Entry.{Arg, an_fd, a_dir, some_flags, some_rights, a_path, a_command, a_word, free_text}
-use Rattle.cap_trace.specs.Entry.{dest, set_fd, dup_to}
 use Rattle.cap_trace.specs.Spelling.{word_text, is_command}
 use Rattle.cap_trace.specs.Forms.{Slot, fd, dir, flags, rights, path, command, word, free, Shape, these, rising_fds}
-use Rattle.cap_trace.specs.Forms.{shape_of, Said, a_marker, built}
+use Rattle.cap_trace.specs.Forms.{shape_of, a_marker, built}
 use Rattle.cap_trace.specs.Reading.{◌>>=◌, need, positive, kept, after_prefix, before_suffix, pid_at, fd_at, rights_at}
 use Rattle.cap_trace.specs.Reading.{dir_at, flags_at, command_at, path_at, free_at, arg_at, args_at, fds_from, shaped}
 use Rattle.cap_trace.specs.Reading.{said_at, number_at, same_at, pair_at, any_at, made_at, result_at}
@@ -163,30 +162,9 @@ fds_err low (t ∷ ts) d e =
     ]
 
 pub built_err : (h : Head) (given : List Arg) (d : FirstFault) → built h given ≡ Err d → d ≡ faults.Argument
-built_err (listed (forms.OnFd c)) (an_fd x ∷ []) d e = absurd cc
-built_err (listed (forms.Send c)) (an_fd x ∷ []) d e = absurd cc
-built_err (listed (forms.Send c)) (an_fd x ∷ a_word dest ∷ []) d e = absurd cc
-built_err (listed forms.Accept4) (an_fd x ∷ some_flags y ∷ []) d e = absurd cc
-built_err (listed forms.Dup2) (an_fd x ∷ an_fd y ∷ []) d e = absurd cc
-built_err (listed forms.Fcntl) (an_fd x ∷ a_command y ∷ []) d e = absurd cc
-built_err (listed forms.Fcntl) (an_fd x ∷ a_word (dup_to c) ∷ an_fd y ∷ []) d e = absurd cc
-built_err (listed forms.Fcntl) (an_fd x ∷ a_word set_fd ∷ some_flags y ∷ []) d e = absurd cc
-built_err (listed forms.Mmap) (an_fd x ∷ some_flags y ∷ some_flags z ∷ []) d e = absurd cc
-built_err (listed forms.RightsLimit) (an_fd x ∷ some_rights y ∷ []) d e = absurd cc
-built_err (listed forms.Open) (a_path x ∷ some_flags y ∷ []) d e = absurd cc
-built_err (listed (forms.OnPath c)) (a_path x ∷ []) d e = absurd cc
-built_err (listed (forms.OnPaths c)) (a_path x ∷ a_path y ∷ []) d e = absurd cc
-built_err (listed (forms.At c)) (a_dir x ∷ a_path y ∷ []) d e = absurd cc
-built_err (listed (forms.AtFlags c)) (a_dir x ∷ a_path y ∷ some_flags z ∷ []) d e = absurd cc
-built_err (listed forms.SymlinkAt) (a_path x ∷ a_dir y ∷ a_path z ∷ []) d e = absurd cc
-built_err (listed forms.RenameAt) (a_dir x ∷ a_path y ∷ a_dir z ∷ a_path u ∷ []) d e = absurd cc
-built_err (listed forms.LinkAt) (a_dir x ∷ a_path y ∷ a_dir z ∷ a_path u ∷ some_flags v ∷ []) d e = absurd cc
-built_err (listed (forms.OnFlags c)) (some_flags x ∷ []) d e = absurd cc
-built_err (listed (forms.Bare c)) [] d e = absurd cc
-built_err (unlisted n) (free_text a ∷ []) d e = absurd cc
-built_err (listed forms.Exit) [] d e = absurd cc
-built_err (listed forms.Foreign) (an_fd x ∷ []) d e = absurd cc
-built_err h given d e = sym (err_is {A = Said} faults.Argument d e)
+built_err (listed (forms.OnFd c)) given d e = grind arith
+built_err (listed f) given d e = grind arith
+built_err (unlisted n) given d e = grind arith
 
 counted_err : {A : Type 0} (b : Bool) (r : Result A FirstFault) (d : FirstFault)
     → cond b r (Err faults.Argument) ≡ Err d

@@ -17,7 +17,7 @@ use Rattle.cap_trace.specs.declared.line.Item.TheVariants as items
 use Rattle.cap_trace.specs.declared.calls.Kind.{Kind}
 use Rattle.cap_trace.specs.declared.calls.Kind.TheVariants.{Count, Zero, Fd, Same, FdPair, Child, ChildAndFd, Any}
 use Rattle.cap_trace.specs.declared.calls.Form.TheVariants as forms
-use Rattle.cap_trace.specs.Names.{Head, listed, unlisted, name_of, head_named}
+use Rattle.cap_trace.specs.Names.{Head, listed, name_of, head_named}
 use Rattle.cap_trace.specs.Number.{num_at}
 use Rattle.cap_trace.specs.Quotes.{cut_at_byte, around}
 use Rattle.cap_trace.specs.Entry.{Entry, an_fd, some_rights, IsPid, IsFd, kind_of}
@@ -340,24 +340,7 @@ unfolding LimitOr no_right
 limit_or (listed forms.RightsLimit) = inl refl
 limit_or (listed (forms.Send c)) = inr send_passes
 limit_or (listed forms.Fcntl) = inr fcntl_passes
-limit_or (listed (forms.OnFd c)) = inr (λ ts. refl)
-limit_or (listed (forms.OnPath c)) = inr (λ ts. refl)
-limit_or (listed (forms.OnPaths c)) = inr (λ ts. refl)
-limit_or (listed (forms.At c)) = inr (λ ts. refl)
-limit_or (listed (forms.AtFlags c)) = inr (λ ts. refl)
-limit_or (listed (forms.OnFlags c)) = inr (λ ts. refl)
-limit_or (listed (forms.Bare c)) = inr (λ ts. refl)
-limit_or (listed forms.Accept4) = inr (λ ts. refl)
-limit_or (listed forms.Dup2) = inr (λ ts. refl)
-limit_or (listed forms.Mmap) = inr (λ ts. refl)
-limit_or (listed forms.Open) = inr (λ ts. refl)
-limit_or (listed forms.SymlinkAt) = inr (λ ts. refl)
-limit_or (listed forms.RenameAt) = inr (λ ts. refl)
-limit_or (listed forms.LinkAt) = inr (λ ts. refl)
-limit_or (listed forms.Start) = inr (λ ts. refl)
-limit_or (listed forms.Exit) = inr (λ ts. refl)
-limit_or (listed forms.Foreign) = inr (λ ts. refl)
-limit_or (unlisted n) = inr (λ ts. refl)
+limit_or h = inr (λ ts. refl)
 
 -- the arguments of a limit whose rights are wrong
 pub record NoRights (texts : List (List ℕ)) : Type 0 where

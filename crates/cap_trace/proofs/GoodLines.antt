@@ -206,27 +206,8 @@ abbrev IsWritten : Item → Type 0
 IsWritten i = SpellsArgs (map arg_text (args_of i)) (args_of i) × (IsHead (head_of i) × IsWhole i)
 
 named_call : (c : Call) (a : Answer) → has_named_rights (items.Call c a) ≡ true → named_args (args_of_call c) ≡ true
-named_call (calls.OnFd c x) a h = refl
-named_call (calls.Send c x) a h = refl
-named_call (calls.SendTo c x) a h = refl
-named_call (calls.Accept4 x y) a h = refl
-named_call (calls.Dup2 x y) a h = refl
-named_call (calls.Fcntl x y) a h = refl
-named_call (calls.FcntlDup c x y) a h = refl
-named_call (calls.FcntlSetFd x y) a h = refl
-named_call (calls.Mmap x y z) a h = refl
-named_call (calls.Open x y) a h = refl
-named_call (calls.OnPath c x) a h = refl
-named_call (calls.OnPaths c x y) a h = refl
-named_call (calls.At c x y) a h = refl
-named_call (calls.AtFlags c x y z) a h = refl
-named_call (calls.SymlinkAt x y z) a h = refl
-named_call (calls.RenameAt x y z u) a h = refl
-named_call (calls.LinkAt x y z u v) a h = refl
-named_call (calls.OnFlags c x) a h = refl
-named_call (calls.Bare c) a h = refl
-named_call (calls.Other n b) a h = refl
 named_call (calls.RightsLimit x y) a h = rw h refl
+named_call c a h = refl
 
 item_from : (i : Item) → is_good_item i ≡ true → has_named_rights i ≡ true → IsWritten i
 item_from (items.Call c a) h n =
@@ -266,30 +247,8 @@ limit_named (t ∷ u ∷ ts) x y h = named_to u y h.1.0
 
 named_item : (p : ℕ) (i : Item) (bytes : List ℕ) (texts : List (List ℕ))
     → SpellsBy bytes (record { pid = p; item = i }) texts → has_named_rights i ≡ true
-named_item p (items.Call (calls.OnFd c x) a) bytes texts h = refl
-named_item p (items.Call (calls.Send c x) a) bytes texts h = refl
-named_item p (items.Call (calls.SendTo c x) a) bytes texts h = refl
-named_item p (items.Call (calls.Accept4 x y) a) bytes texts h = refl
-named_item p (items.Call (calls.Dup2 x y) a) bytes texts h = refl
-named_item p (items.Call (calls.Fcntl x y) a) bytes texts h = refl
-named_item p (items.Call (calls.FcntlDup c x y) a) bytes texts h = refl
-named_item p (items.Call (calls.FcntlSetFd x y) a) bytes texts h = refl
-named_item p (items.Call (calls.Mmap x y z) a) bytes texts h = refl
-named_item p (items.Call (calls.Open x y) a) bytes texts h = refl
-named_item p (items.Call (calls.OnPath c x) a) bytes texts h = refl
-named_item p (items.Call (calls.OnPaths c x y) a) bytes texts h = refl
-named_item p (items.Call (calls.At c x y) a) bytes texts h = refl
-named_item p (items.Call (calls.AtFlags c x y z) a) bytes texts h = refl
-named_item p (items.Call (calls.SymlinkAt x y z) a) bytes texts h = refl
-named_item p (items.Call (calls.RenameAt x y z u) a) bytes texts h = refl
-named_item p (items.Call (calls.LinkAt x y z u v) a) bytes texts h = refl
-named_item p (items.Call (calls.OnFlags c x) a) bytes texts h = refl
-named_item p (items.Call (calls.Bare c) a) bytes texts h = refl
-named_item p (items.Call (calls.Other n b) a) bytes texts h = refl
 named_item p (items.Call (calls.RightsLimit x y) a) bytes texts h = limit_named texts x y h.args
-named_item p (items.Start fs) bytes texts h = refl
-named_item p items.Exit bytes texts h = refl
-named_item p (items.Foreign f) bytes texts h = refl
+named_item p i bytes texts h = refl
 
 pub text_proper : (e : Entry) → has_text e ≡ true → IsProper e
 text_proper e h =

@@ -42,27 +42,8 @@ call_differs : (bytes : List ℕ) (p : ℕ) (c : Call) (a : Answer) (texts : Lis
     → SpellsBy bytes (record { pid = p; item = items.Call c a }) texts
     → OnlyRightsDiffer (items.Call c a) p bytes (canon (record { pid = p; item = items.Call c a }))
 unfolding is_settled
-call_differs bytes p (calls.OnFd c x) a texts h = settled_same bytes _ texts refl h
-call_differs bytes p (calls.Send c x) a texts h = settled_same bytes _ texts refl h
-call_differs bytes p (calls.SendTo c x) a texts h = settled_same bytes _ texts refl h
-call_differs bytes p (calls.Accept4 x y) a texts h = settled_same bytes _ texts refl h
-call_differs bytes p (calls.Dup2 x y) a texts h = settled_same bytes _ texts refl h
-call_differs bytes p (calls.Fcntl x y) a texts h = settled_same bytes _ texts refl h
-call_differs bytes p (calls.FcntlDup c x y) a texts h = settled_same bytes _ texts refl h
-call_differs bytes p (calls.FcntlSetFd x y) a texts h = settled_same bytes _ texts refl h
-call_differs bytes p (calls.Mmap x y z) a texts h = settled_same bytes _ texts refl h
-call_differs bytes p (calls.Open x y) a texts h = settled_same bytes _ texts refl h
-call_differs bytes p (calls.OnPath c x) a texts h = settled_same bytes _ texts refl h
-call_differs bytes p (calls.OnPaths c x y) a texts h = settled_same bytes _ texts refl h
-call_differs bytes p (calls.At c x y) a texts h = settled_same bytes _ texts refl h
-call_differs bytes p (calls.AtFlags c x y z) a texts h = settled_same bytes _ texts refl h
-call_differs bytes p (calls.SymlinkAt x y z) a texts h = settled_same bytes _ texts refl h
-call_differs bytes p (calls.RenameAt x y z u) a texts h = settled_same bytes _ texts refl h
-call_differs bytes p (calls.LinkAt x y z u v) a texts h = settled_same bytes _ texts refl h
-call_differs bytes p (calls.OnFlags c x) a texts h = settled_same bytes _ texts refl h
-call_differs bytes p (calls.Bare c) a texts h = settled_same bytes _ texts refl h
-call_differs bytes p (calls.Other n b) a texts h = settled_same bytes _ texts refl h
 call_differs bytes p (calls.RightsLimit x y) a texts h = limit_differs bytes p x y a texts h.args h.parts
+call_differs bytes p c a texts h = settled_same bytes _ texts refl h
 
 item_differs : (bytes : List ℕ) (p : ℕ) (i : Item) (texts : List (List ℕ))
     → SpellsBy bytes (record { pid = p; item = i }) texts

@@ -273,36 +273,6 @@ cloexec_spoiled x y (t ∷ u ∷ v ∷ []) f h =
 call_spoiled : (c : Call) (ts : List (List ℕ)) (f : FirstFault) → SpoilsOne ts (args_of_call c) f
     → said_at (head_of_call c) ts ≡ Err f
 unfolding said_at slot_of is_closed
-call_spoiled (calls.OnFd c x) ts f h =
-    these_spoiled (head_of_call (calls.OnFd c x)) ts (args_of_call (calls.OnFd c x)) f _ refl refl h
-call_spoiled (calls.Accept4 x y) ts f h =
-    these_spoiled (head_of_call (calls.Accept4 x y)) ts (args_of_call (calls.Accept4 x y)) f _ refl refl h
-call_spoiled (calls.Dup2 x y) ts f h =
-    these_spoiled (head_of_call (calls.Dup2 x y)) ts (args_of_call (calls.Dup2 x y)) f _ refl refl h
-call_spoiled (calls.Mmap x y z) ts f h =
-    these_spoiled (head_of_call (calls.Mmap x y z)) ts (args_of_call (calls.Mmap x y z)) f _ refl refl h
-call_spoiled (calls.RightsLimit x y) ts f h =
-    these_spoiled (head_of_call (calls.RightsLimit x y)) ts (args_of_call (calls.RightsLimit x y)) f _ refl refl h
-call_spoiled (calls.Open x y) ts f h =
-    these_spoiled (head_of_call (calls.Open x y)) ts (args_of_call (calls.Open x y)) f _ refl refl h
-call_spoiled (calls.OnPath c x) ts f h =
-    these_spoiled (head_of_call (calls.OnPath c x)) ts (args_of_call (calls.OnPath c x)) f _ refl refl h
-call_spoiled (calls.OnPaths c x y) ts f h =
-    these_spoiled (head_of_call (calls.OnPaths c x y)) ts (args_of_call (calls.OnPaths c x y)) f _ refl refl h
-call_spoiled (calls.At c x y) ts f h =
-    these_spoiled (head_of_call (calls.At c x y)) ts (args_of_call (calls.At c x y)) f _ refl refl h
-call_spoiled (calls.AtFlags c x y z) ts f h =
-    these_spoiled (head_of_call (calls.AtFlags c x y z)) ts (args_of_call (calls.AtFlags c x y z)) f _ refl refl h
-call_spoiled (calls.SymlinkAt x y z) ts f h =
-    these_spoiled (head_of_call (calls.SymlinkAt x y z)) ts (args_of_call (calls.SymlinkAt x y z)) f _ refl refl h
-call_spoiled (calls.RenameAt x y z u) ts f h =
-    these_spoiled (head_of_call (calls.RenameAt x y z u)) ts (args_of_call (calls.RenameAt x y z u)) f _ refl refl h
-call_spoiled (calls.LinkAt x y z u v) ts f h =
-    these_spoiled (head_of_call (calls.LinkAt x y z u v)) ts (args_of_call (calls.LinkAt x y z u v)) f _ refl refl h
-call_spoiled (calls.OnFlags c x) ts f h =
-    these_spoiled (head_of_call (calls.OnFlags c x)) ts (args_of_call (calls.OnFlags c x)) f _ refl refl h
-call_spoiled (calls.Bare c) ts f h =
-    these_spoiled (head_of_call (calls.Bare c)) ts (args_of_call (calls.Bare c)) f _ refl refl h
 call_spoiled (calls.Other n a) [] f h = absurd h
 call_spoiled (calls.Other n a) (t ∷ ts) f h = absurd h
 call_spoiled (calls.Send c x) [] f h = absurd h
@@ -324,6 +294,7 @@ call_spoiled (calls.Fcntl x y) (t ∷ u ∷ v ∷ ts) f h =
 call_spoiled (calls.FcntlSetFd x y) ts f h = set_fd_spoiled x y ts f h
 call_spoiled (calls.FcntlDup dup_commands.FDup2fd x y) ts f h = dup_spoiled x y ts f h
 call_spoiled (calls.FcntlDup dup_commands.FDup2fdCloexec x y) ts f h = cloexec_spoiled x y ts f h
+call_spoiled c ts f h = these_spoiled (head_of_call c) ts (args_of_call c) f _ refl refl h
 
 fd_spoiled : (t : List ℕ) (g : ℕ) (r : Result ℕ FirstFault) → fd_at t ≡ r → Spoils t (an_fd g) → r ≡ Err faults.Argument
 fd_spoiled t g (Ok f) e s = absurd (s.none (an_fd f) tt (fd_takes t f e))
@@ -358,28 +329,9 @@ Listed i = (g : Form) × ((head_of i ≡ listed g) × (are_closed (args_of i) �
 call_listed : (c : Call) (a : Answer) (ts : List (List ℕ)) (f : FirstFault) → SpoilsOne ts (args_of_call c) f
     → Listed (items.Call c a)
 unfolding is_closed
-call_listed (calls.OnFd c x) a ts f h = ((forms.OnFd c), (refl, refl))
-call_listed (calls.Send c x) a ts f h = ((forms.Send c), (refl, refl))
-call_listed (calls.SendTo c x) a ts f h = ((forms.Send c), (refl, refl))
-call_listed (calls.Accept4 x y) a ts f h = (forms.Accept4, (refl, refl))
-call_listed (calls.Dup2 x y) a ts f h = (forms.Dup2, (refl, refl))
-call_listed (calls.Fcntl x y) a ts f h = (forms.Fcntl, (refl, refl))
-call_listed (calls.FcntlDup c x y) a ts f h = (forms.Fcntl, (refl, refl))
-call_listed (calls.FcntlSetFd x y) a ts f h = (forms.Fcntl, (refl, refl))
-call_listed (calls.Mmap x y z) a ts f h = (forms.Mmap, (refl, refl))
-call_listed (calls.RightsLimit x y) a ts f h = (forms.RightsLimit, (refl, refl))
-call_listed (calls.Open x y) a ts f h = (forms.Open, (refl, refl))
-call_listed (calls.OnPath c x) a ts f h = ((forms.OnPath c), (refl, refl))
-call_listed (calls.OnPaths c x y) a ts f h = ((forms.OnPaths c), (refl, refl))
-call_listed (calls.At c x y) a ts f h = ((forms.At c), (refl, refl))
-call_listed (calls.AtFlags c x y z) a ts f h = ((forms.AtFlags c), (refl, refl))
-call_listed (calls.SymlinkAt x y z) a ts f h = (forms.SymlinkAt, (refl, refl))
-call_listed (calls.RenameAt x y z u) a ts f h = (forms.RenameAt, (refl, refl))
-call_listed (calls.LinkAt x y z u v) a ts f h = (forms.LinkAt, (refl, refl))
-call_listed (calls.OnFlags c x) a ts f h = ((forms.OnFlags c), (refl, refl))
-call_listed (calls.Bare c) a ts f h = ((forms.Bare c), (refl, refl))
 call_listed (calls.Other n b) a [] f h = absurd h
 call_listed (calls.Other n b) a (t ∷ ts) f h = absurd h
+call_listed c a ts f h = (_, (refl, refl))
 
 item_listed : (i : Item) (ts : List (List ℕ)) (f : FirstFault) → SpoilsOne ts (args_of i) f → Listed i
 unfolding is_closed

@@ -125,40 +125,7 @@ other_again n a answer (t ∷ u ∷ ts) h tail = absurd h.1
 call_cuts : (c : Call) (a : Answer) → Cuts (items.Call c a)
 unfolding Cuts is_closed
 call_cuts (calls.Other n a) answer = other_again n a answer
-call_cuts (calls.OnFd c x) answer = λ ts h tail. listed_again forms.Exit ts (args_of_call (calls.OnFd c x)) tail refl h
-call_cuts (calls.Send c x) answer = λ ts h tail. listed_again forms.Exit ts (args_of_call (calls.Send c x)) tail refl h
-call_cuts (calls.SendTo c x) answer =
-    λ ts h tail. listed_again forms.Exit ts (args_of_call (calls.SendTo c x)) tail refl h
-call_cuts (calls.Accept4 x y) answer =
-    λ ts h tail. listed_again forms.Exit ts (args_of_call (calls.Accept4 x y)) tail refl h
-call_cuts (calls.Dup2 x y) answer = λ ts h tail. listed_again forms.Exit ts (args_of_call (calls.Dup2 x y)) tail refl h
-call_cuts (calls.Fcntl x y) answer =
-    λ ts h tail. listed_again forms.Exit ts (args_of_call (calls.Fcntl x y)) tail refl h
-call_cuts (calls.FcntlDup c x y) answer =
-    λ ts h tail. listed_again forms.Exit ts (args_of_call (calls.FcntlDup c x y)) tail refl h
-call_cuts (calls.FcntlSetFd x y) answer =
-    λ ts h tail. listed_again forms.Exit ts (args_of_call (calls.FcntlSetFd x y)) tail refl h
-call_cuts (calls.Mmap x y z) answer =
-    λ ts h tail. listed_again forms.Exit ts (args_of_call (calls.Mmap x y z)) tail refl h
-call_cuts (calls.RightsLimit x y) answer =
-    λ ts h tail. listed_again forms.Exit ts (args_of_call (calls.RightsLimit x y)) tail refl h
-call_cuts (calls.Open x y) answer = λ ts h tail. listed_again forms.Exit ts (args_of_call (calls.Open x y)) tail refl h
-call_cuts (calls.OnPath c x) answer =
-    λ ts h tail. listed_again forms.Exit ts (args_of_call (calls.OnPath c x)) tail refl h
-call_cuts (calls.OnPaths c x y) answer =
-    λ ts h tail. listed_again forms.Exit ts (args_of_call (calls.OnPaths c x y)) tail refl h
-call_cuts (calls.At c x y) answer = λ ts h tail. listed_again forms.Exit ts (args_of_call (calls.At c x y)) tail refl h
-call_cuts (calls.AtFlags c x y z) answer =
-    λ ts h tail. listed_again forms.Exit ts (args_of_call (calls.AtFlags c x y z)) tail refl h
-call_cuts (calls.SymlinkAt x y z) answer =
-    λ ts h tail. listed_again forms.Exit ts (args_of_call (calls.SymlinkAt x y z)) tail refl h
-call_cuts (calls.RenameAt x y z u) answer =
-    λ ts h tail. listed_again forms.Exit ts (args_of_call (calls.RenameAt x y z u)) tail refl h
-call_cuts (calls.LinkAt x y z u v) answer =
-    λ ts h tail. listed_again forms.Exit ts (args_of_call (calls.LinkAt x y z u v)) tail refl h
-call_cuts (calls.OnFlags c x) answer =
-    λ ts h tail. listed_again forms.Exit ts (args_of_call (calls.OnFlags c x)) tail refl h
-call_cuts (calls.Bare c) answer = λ ts h tail. listed_again forms.Exit ts (args_of_call (calls.Bare c)) tail refl h
+call_cuts c answer = λ ts h tail. listed_again forms.Exit ts (args_of_call c) tail refl h
 
 pub between_again : (i : Item) → Cuts i
 unfolding Cuts is_closed

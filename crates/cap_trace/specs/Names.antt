@@ -193,42 +193,44 @@ is_name (c ∷ cs) = is_name_byte c && not (is_ascii_digit c) && list_all is_nam
 
 -- ---- looking a name up
 
+-- every row's form, from above
+-- tools/name_slots: forms
 unfoldable pub all_forms : List Form
 all_forms =
-    forms.OnFd on_fd_calls.Read ∷ forms.OnFd on_fd_calls.Readv ∷ forms.OnFd on_fd_calls.Recvfrom
-    ∷ forms.OnFd on_fd_calls.Recvmsg
-    ∷ forms.OnFd on_fd_calls.Pread ∷ forms.OnFd on_fd_calls.Preadv ∷ forms.OnFd on_fd_calls.Write
-    ∷ forms.OnFd on_fd_calls.Writev ∷ forms.OnFd on_fd_calls.Pwrite ∷ forms.OnFd on_fd_calls.Pwritev
-    ∷ forms.OnFd on_fd_calls.Lseek ∷ forms.OnFd on_fd_calls.Fstat ∷ forms.OnFd on_fd_calls.Fstatfs
-    ∷ forms.OnFd on_fd_calls.Fsync ∷ forms.OnFd on_fd_calls.Fdatasync ∷ forms.OnFd on_fd_calls.Ftruncate
-    ∷ forms.OnFd on_fd_calls.Fchmod ∷ forms.OnFd on_fd_calls.Fchown ∷ forms.OnFd on_fd_calls.Fchflags
-    ∷ forms.OnFd on_fd_calls.Fchdir ∷ forms.OnFd on_fd_calls.Flock ∷ forms.OnFd on_fd_calls.Fpathconf
-    ∷ forms.OnFd on_fd_calls.Futimes ∷ forms.OnFd on_fd_calls.Futimens ∷ forms.OnFd on_fd_calls.Ioctl
-    ∷ forms.OnFd on_fd_calls.Accept ∷ forms.OnFd on_fd_calls.Bind ∷ forms.OnFd on_fd_calls.Connect
-    ∷ forms.OnFd on_fd_calls.Listen ∷ forms.OnFd on_fd_calls.Shutdown ∷ forms.OnFd on_fd_calls.Getpeername
-    ∷ forms.OnFd on_fd_calls.Getsockname ∷ forms.OnFd on_fd_calls.Getsockopt ∷ forms.OnFd on_fd_calls.Setsockopt
-    ∷ forms.OnFd on_fd_calls.Fexecve ∷ forms.OnFd on_fd_calls.Close ∷ forms.OnFd on_fd_calls.Closefrom
-    ∷ forms.OnFd on_fd_calls.Dup ∷ forms.OnFd on_fd_calls.CapIoctlsLimit ∷ forms.OnFd on_fd_calls.CapFcntlsLimit ∷
-    forms.Send sends_calls.Sendto ∷ forms.Send sends_calls.Sendmsg ∷
-    forms.OnPath on_path_calls.Execve ∷ forms.OnPath on_path_calls.Access ∷ forms.OnPath on_path_calls.Chdir
-    ∷ forms.OnPath on_path_calls.Chflags ∷ forms.OnPath on_path_calls.Chmod
-    ∷ forms.OnPath on_path_calls.Chown ∷ forms.OnPath on_path_calls.Lchown ∷ forms.OnPath on_path_calls.Lstat
-    ∷ forms.OnPath on_path_calls.Mkdir ∷ forms.OnPath on_path_calls.Mkfifo ∷ forms.OnPath on_path_calls.Mknod
-    ∷ forms.OnPath on_path_calls.Readlink ∷ forms.OnPath on_path_calls.Rmdir ∷ forms.OnPath on_path_calls.Stat
-    ∷ forms.OnPath on_path_calls.Statfs ∷ forms.OnPath on_path_calls.Truncate ∷ forms.OnPath on_path_calls.Unlink ∷
-    forms.OnPaths on_paths_calls.Link ∷ forms.OnPaths on_paths_calls.Rename ∷ forms.OnPaths on_paths_calls.Symlink ∷
-    forms.At at_dir_calls.Mkdirat ∷ forms.At at_dir_calls.Mkfifoat ∷ forms.At at_dir_calls.Mknodat
-    ∷ forms.At at_dir_calls.Readlinkat ∷ forms.At at_dir_calls.Futimesat ∷
-    forms.AtFlags at_dir_with_flags_calls.Openat ∷ forms.AtFlags at_dir_with_flags_calls.Unlinkat
-    ∷ forms.AtFlags at_dir_with_flags_calls.Fstatat
-    ∷ forms.AtFlags at_dir_with_flags_calls.Fchmodat ∷ forms.AtFlags at_dir_with_flags_calls.Fchownat
-    ∷ forms.AtFlags at_dir_with_flags_calls.Chflagsat ∷ forms.AtFlags at_dir_with_flags_calls.Utimensat ∷
-    forms.OnFlags on_flags_calls.Socket ∷ forms.OnFlags on_flags_calls.Socketpair ∷ forms.OnFlags on_flags_calls.Pipe2 ∷
-    forms.Bare bare_calls.Pipe ∷ forms.Bare bare_calls.Kqueue ∷ forms.Bare bare_calls.ShmOpen
-    ∷ forms.Bare bare_calls.MqOpen ∷ forms.Bare bare_calls.Fhopen ∷ forms.Bare bare_calls.Fork
-    ∷ forms.Bare bare_calls.Vfork ∷ forms.Bare bare_calls.Pdfork ∷ forms.Bare bare_calls.CapEnter ∷
-    forms.Accept4 ∷ forms.Dup2 ∷ forms.Fcntl ∷ forms.Mmap ∷ forms.RightsLimit ∷ forms.Open ∷ forms.SymlinkAt
-    ∷ forms.RenameAt ∷ forms.LinkAt ∷ forms.Start ∷ forms.Exit ∷ forms.Foreign ∷ []
+    forms.OnFd on_fd_calls.Read ∷ forms.OnFd on_fd_calls.Readv ∷ forms.OnFd on_fd_calls.Recvfrom ∷
+    forms.OnFd on_fd_calls.Recvmsg ∷ forms.OnFd on_fd_calls.Pread ∷ forms.OnFd on_fd_calls.Preadv ∷
+    forms.OnFd on_fd_calls.Write ∷ forms.OnFd on_fd_calls.Writev ∷ forms.OnFd on_fd_calls.Pwrite ∷
+    forms.OnFd on_fd_calls.Pwritev ∷ forms.OnFd on_fd_calls.Lseek ∷ forms.OnFd on_fd_calls.Fstat ∷
+    forms.OnFd on_fd_calls.Fstatfs ∷ forms.OnFd on_fd_calls.Fsync ∷ forms.OnFd on_fd_calls.Fdatasync ∷
+    forms.OnFd on_fd_calls.Ftruncate ∷ forms.OnFd on_fd_calls.Fchmod ∷ forms.OnFd on_fd_calls.Fchown ∷
+    forms.OnFd on_fd_calls.Fchflags ∷ forms.OnFd on_fd_calls.Fchdir ∷ forms.OnFd on_fd_calls.Flock ∷
+    forms.OnFd on_fd_calls.Fpathconf ∷ forms.OnFd on_fd_calls.Futimes ∷ forms.OnFd on_fd_calls.Futimens ∷
+    forms.OnFd on_fd_calls.Ioctl ∷ forms.OnFd on_fd_calls.Accept ∷ forms.OnFd on_fd_calls.Bind ∷
+    forms.OnFd on_fd_calls.Connect ∷ forms.OnFd on_fd_calls.Listen ∷ forms.OnFd on_fd_calls.Shutdown ∷
+    forms.OnFd on_fd_calls.Getpeername ∷ forms.OnFd on_fd_calls.Getsockname ∷ forms.OnFd on_fd_calls.Getsockopt ∷
+    forms.OnFd on_fd_calls.Setsockopt ∷ forms.OnFd on_fd_calls.Fexecve ∷ forms.OnFd on_fd_calls.Close ∷
+    forms.OnFd on_fd_calls.Closefrom ∷ forms.OnFd on_fd_calls.Dup ∷ forms.OnFd on_fd_calls.CapIoctlsLimit ∷
+    forms.OnFd on_fd_calls.CapFcntlsLimit ∷ forms.Send sends_calls.Sendto ∷ forms.Send sends_calls.Sendmsg ∷
+    forms.OnPath on_path_calls.Execve ∷ forms.OnPath on_path_calls.Access ∷ forms.OnPath on_path_calls.Chdir ∷
+    forms.OnPath on_path_calls.Chflags ∷ forms.OnPath on_path_calls.Chmod ∷ forms.OnPath on_path_calls.Chown ∷
+    forms.OnPath on_path_calls.Lchown ∷ forms.OnPath on_path_calls.Lstat ∷ forms.OnPath on_path_calls.Mkdir ∷
+    forms.OnPath on_path_calls.Mkfifo ∷ forms.OnPath on_path_calls.Mknod ∷ forms.OnPath on_path_calls.Readlink ∷
+    forms.OnPath on_path_calls.Rmdir ∷ forms.OnPath on_path_calls.Stat ∷ forms.OnPath on_path_calls.Statfs ∷
+    forms.OnPath on_path_calls.Truncate ∷ forms.OnPath on_path_calls.Unlink ∷ forms.OnPaths on_paths_calls.Link ∷
+    forms.OnPaths on_paths_calls.Rename ∷ forms.OnPaths on_paths_calls.Symlink ∷ forms.At at_dir_calls.Mkdirat ∷
+    forms.At at_dir_calls.Mkfifoat ∷ forms.At at_dir_calls.Mknodat ∷ forms.At at_dir_calls.Readlinkat ∷
+    forms.At at_dir_calls.Futimesat ∷ forms.AtFlags at_dir_with_flags_calls.Openat ∷
+    forms.AtFlags at_dir_with_flags_calls.Unlinkat ∷ forms.AtFlags at_dir_with_flags_calls.Fstatat ∷
+    forms.AtFlags at_dir_with_flags_calls.Fchmodat ∷ forms.AtFlags at_dir_with_flags_calls.Fchownat ∷
+    forms.AtFlags at_dir_with_flags_calls.Chflagsat ∷ forms.AtFlags at_dir_with_flags_calls.Utimensat ∷
+    forms.OnFlags on_flags_calls.Socket ∷ forms.OnFlags on_flags_calls.Socketpair ∷
+    forms.OnFlags on_flags_calls.Pipe2 ∷ forms.Bare bare_calls.Pipe ∷ forms.Bare bare_calls.Kqueue ∷
+    forms.Bare bare_calls.ShmOpen ∷ forms.Bare bare_calls.MqOpen ∷ forms.Bare bare_calls.Fhopen ∷
+    forms.Bare bare_calls.Fork ∷ forms.Bare bare_calls.Vfork ∷ forms.Bare bare_calls.Pdfork ∷
+    forms.Bare bare_calls.CapEnter ∷ forms.Accept4 ∷ forms.Dup2 ∷ forms.Fcntl ∷ forms.Mmap ∷ forms.RightsLimit ∷
+    forms.Open ∷ forms.SymlinkAt ∷ forms.RenameAt ∷ forms.LinkAt ∷ forms.Start ∷ forms.Exit ∷ forms.Foreign ∷ []
+
+-- the end of forms
 
 -- the form of a name of the table
 abbrev pub form_named : List ℕ → Option Form

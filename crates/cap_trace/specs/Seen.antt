@@ -1,7 +1,9 @@
 -- What a line says while its texts still lie in its bytes, seen as the entry of Entry.
-use Rattle.std.specs.Prelude.{ℕ, List, [], ◌∷◌, Ok, Err, IsTrue}
+use Rattle.std.specs.Prelude.{ℕ, Bool, true, false, List, [], ◌∷◌, Ok, Err, IsTrue}
 use Rattle.cap_trace.specs.declared.line.Call.{Call}
 use Rattle.cap_trace.specs.declared.line.Call.TheVariants as calls
+use Rattle.cap_trace.specs.declared.calls.Form.{Form}
+use Rattle.cap_trace.specs.declared.calls.Form.TheVariants as forms
 use Rattle.cap_trace.specs.declared.line.Item.{Item}
 use Rattle.cap_trace.specs.declared.line.Item.TheVariants as items
 use Rattle.cap_trace.specs.declared.seen.CallSeen.{CallSeen}
@@ -12,7 +14,11 @@ use Rattle.cap_trace.specs.declared.seen.ItemSeen.{ItemSeen}
 use Rattle.cap_trace.specs.declared.seen.ItemSeen.TheVariants as seen_items
 use Rattle.cap_trace.specs.declared.seen.LineSeen.{LineSeen}
 use Rattle.cap_trace.specs.Entry.{Entry, Arg, an_fd, a_dir, some_flags, some_rights, a_path, a_command, a_word}
-use Rattle.cap_trace.specs.Entry.{free_text}
+use Rattle.cap_trace.specs.Entry.{free_text, dest, set_fd, dup_to}
+use Rattle.cap_trace.specs.declared.args.ArgSeen.{ArgSeen}
+use Rattle.cap_trace.specs.declared.args.ArgSeen.TheVariants as seen_args
+use Rattle.cap_trace.specs.declared.few.Few.{Few}
+use Rattle.cap_trace.specs.Few.{few_items}
 use Rattle.cap_trace.specs.Fields.{are_items}
 use Rattle.cap_trace.specs.Forms.{Said, a_call, a_marker}
 use Rattle.cap_trace.specs.Quotes.{pieces}
@@ -22,6 +28,21 @@ use Rattle.cap_trace.specs.Reading.{fd_at}
 unfoldable pub fds_in : List (List ℕ) → List ℕ
 fds_in [] = []
 fds_in (t ∷ ts) = elim (fd_at t) [ Ok f ↦ f ∷ fds_in ts | Err e ↦ fds_in ts ]
+
+abbrev pub arg_seen : ArgSeen → Arg
+arg_seen (seen_args.Fd f) = an_fd f
+arg_seen (seen_args.Dir d) = a_dir d
+arg_seen (seen_args.Flags w) = some_flags w.now
+arg_seen (seen_args.Rights r) = some_rights r
+arg_seen (seen_args.Path p) = a_path p.now
+arg_seen (seen_args.Command w) = a_command w.now
+arg_seen seen_args.Dest = a_word dest
+arg_seen seen_args.SetFd = a_word set_fd
+arg_seen (seen_args.DupTo c) = a_word (dup_to c)
+arg_seen (seen_args.Free a) = free_text a.now
+
+abbrev pub args_seen : Few ArgSeen → List Arg
+args_seen args = few_items arg_seen args
 
 abbrev pub call_seen : CallSeen → Call
 call_seen (seen.OnFd c x) = calls.OnFd c x
@@ -45,6 +66,13 @@ call_seen (seen.LinkAt x y z u v) = calls.LinkAt x y.now z u.now v.now
 call_seen (seen.OnFlags c x) = calls.OnFlags c x.now
 call_seen (seen.Bare c) = calls.Bare c
 call_seen (seen.Other n a) = calls.Other n.now a.now
+
+-- whether a form is of a call, and not of a marker
+abbrev pub is_call_form : Form → Bool
+is_call_form forms.Start = false
+is_call_form forms.Exit = false
+is_call_form forms.Foreign = false
+is_call_form f = true
 
 abbrev pub said_seen : SaidSeen → Said
 said_seen (seen_said.Call c) = a_call (call_seen c)

@@ -77,8 +77,3 @@ form_at name = slice_get all_forms (slice_index slots (slot_at name))
 abbrev pub if_named : List ℕ → Option Form → Option Form
 if_named name None = None
 if_named name (Some f) = if bytes_eq (row_of f).name name then Some f else None
-
--- the name of a form, or nothing
-abbrev pub name_in : Option Form → List ℕ
-name_in None = []
-name_in (Some f) = (row_of f).name

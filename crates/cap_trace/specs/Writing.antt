@@ -1,19 +1,11 @@
--- The text of each kind of argument, as it is written.
-use Rattle.std.specs.Prelude.{ℕ, List, [], ◌∷◌, ◌++◌, codes}
-use Rattle.std.specs.Fmt.{decimal}
-use Rattle.cap_rights.specs.Text.{text}
-use Rattle.cap_trace.specs.declared.write.Shown.{Shown}
-use Rattle.cap_trace.specs.declared.write.Shown.TheVariants as shown
-use Rattle.cap_trace.specs.declared.line.Dir.TheVariants as dirs
-use Rattle.cap_trace.specs.Fields.{quoted}
+-- The text of an argument that is seen where it lies, and texts with commas.
+use Rattle.std.specs.Prelude.{ℕ, List, [], ◌∷◌, ◌++◌}
+use Rattle.cap_trace.specs.declared.args.ArgSeen.{ArgSeen}
+use Rattle.cap_trace.specs.Seen.{arg_seen}
+use Rattle.cap_trace.specs.Spelling.{arg_text}
 
-abbrev pub shown_text : Shown → List ℕ
-shown_text (shown.Fd f) = decimal f
-shown_text (shown.Dir (dirs.Fd f)) = decimal f
-shown_text (shown.Dir dirs.Cwd) = codes "AT_FDCWD"
-shown_text (shown.Text t) = t.now
-shown_text (shown.Path p) = quoted p.now
-shown_text (shown.Rights r) = text r.now
+abbrev pub shown_text : ArgSeen → List ℕ
+shown_text a = arg_text (arg_seen a)
 
 -- texts, each after a comma
 unfoldable pub with_commas : List (List ℕ) → List ℕ

@@ -32,10 +32,9 @@ fn pair(most: u64, most_second: u64, text: &[u8]) -> Result<Answer, FirstFault>
 fn number(most: u64, text: &[u8]) -> Result<Answer, FirstFault>
     ensures { Gives (λ a. a) result (number_at (num_at most text.now)) }
 {
-    match number_of(most, text) {
-        Some(number) => Ok(Answer::Made(number)),
-        None => Err(FirstFault::Answer),
-    }
+    number_of(most, text)
+        .map(Answer::Made)
+        .ok_or(FirstFault::Answer)
 }
 
 /// The descriptor that the call was given.

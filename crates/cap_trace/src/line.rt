@@ -259,8 +259,6 @@ impl Model for Line {
 }
 
 impl Call {
-    ghost use Rattle.cap_trace.specs.Entry.{head_of_call};
-    ghost use Rattle.cap_trace.specs.Rows.{head_seen};
     ghost use Rattle.cap_trace.specs.Seen.{call_seen};
 
     /// The same call, with its texts where this one keeps them.
@@ -311,32 +309,6 @@ impl Call {
             Call::Other { name, args } => CallSeen::Other(name.as_bytes(), args.as_bytes()),
         }
     }
-
-    /// What stands before the arguments.
-    pub(crate) fn head(&self) -> Head<'_>
-        ensures { head_seen result ≡ head_of_call self.now }
-    {
-        Head::Listed(match self {
-            Call::OnFd(call, _) => Form::OnFd(*call),
-            Call::Send(call, _) | Call::SendTo(call, _) => Form::Send(*call),
-            Call::Accept4(_, _) => Form::Accept4,
-            Call::Dup2(_, _) => Form::Dup2,
-            Call::Fcntl(_, _) | Call::FcntlDup(_, _, _) | Call::FcntlSetFd(_, _) => Form::Fcntl,
-            Call::Mmap(_, _, _) => Form::Mmap,
-            Call::RightsLimit(_, _) => Form::RightsLimit,
-            Call::Open(_, _) => Form::Open,
-            Call::OnPath(call, _) => Form::OnPath(*call),
-            Call::OnPaths(call, _, _) => Form::OnPaths(*call),
-            Call::At(call, _, _) => Form::At(*call),
-            Call::AtFlags(call, _, _, _) => Form::AtFlags(*call),
-            Call::SymlinkAt(_, _, _) => Form::SymlinkAt,
-            Call::RenameAt(_, _, _, _) => Form::RenameAt,
-            Call::LinkAt(_, _, _, _, _) => Form::LinkAt,
-            Call::OnFlags(call, _) => Form::OnFlags(*call),
-            Call::Bare(call) => Form::Bare(*call),
-            Call::Other { name, .. } => return Head::Unlisted(name.as_bytes()),
-        })
-    }
 }
 
 impl Item {
@@ -348,7 +320,7 @@ impl Item {
         ensures { head_seen result ≡ head_of self.now }
     {
         match self {
-            Item::Call { call, .. } => call.head(),
+            Item::Call { call, .. } => call.seen().head(),
             Item::Start(_) => Head::Listed(Form::Start),
             Item::Exit => Head::Listed(Form::Exit),
             Item::Foreign(_) => Head::Listed(Form::Foreign),

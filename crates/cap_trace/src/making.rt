@@ -7,22 +7,40 @@ ghost use Rattle.cap_trace.specs.declared.line.Answer.TheVariants as answers;
 ghost use Rattle.cap_trace.specs.Limits.{longest_line};
 ghost use Rattle.cap_trace.specs.Fields.{is_flags, are_items, is_free};
 ghost use Rattle.cap_trace.specs.Names.{unlisted};
-ghost use Rattle.cap_trace.specs.Entry.{args_of_call, head_of_call, kind_of, a_dir};
+ghost use Rattle.cap_trace.specs.Entry.{args_of_call, head_of_call};
+ghost use Rattle.cap_trace.specs.Seen.{arg_seen};
 ghost use Rattle.cap_trace.specs.Spelling.{is_command, canon};
 ghost use Rattle.cap_trace.specs.Making.{MakesWhere, IsLineOf, is_fd, is_pid, is_good, are_good, is_head, is_answer};
 ghost use Rattle.cap_trace.specs.Making.{all_rise, is_good_item, is_named, has_named_rights, has_text};
 
-use crate::calls::{Form, Kind};
+use crate::args::ArgSeen;
+use crate::calls::Kind;
 use crate::fault::LineFault;
+use crate::few::Few;
 use crate::fields::{command, flags, free, items};
 use crate::limits::{LARGEST_FD, LARGEST_PID, LONGEST_LINE};
 use crate::line::{Answer, Args, Call, Command, Dir, Fd, Fds, Flags, Item, Line, Name, Path, Pid};
-use crate::names::{Head, form_of, is_call_name};
-use crate::seen::fcntl_kind;
+use crate::names::{form_of, is_call_name};
 use crate::text::Text;
 use crate::write::put_text;
 use cap_rights::{NoMemory, RightSet, parse_rights, write_rights};
 use std::alloc::Global;
+
+/// This text, where it is of its form.
+fn text_where(
+    is_good: bool,
+    fault: LineFault,
+    alloc: Global,
+    text: &[u8],
+) -> Result<Text, LineFault>
+    requires { fault ≡ faults.Memory → ⊥ }
+    ensures { MakesWhere is_good fault text.now result }
+{
+    if !is_good {
+        return Err(fault);
+    }
+    Text::of(alloc, text).map_err(|_| LineFault::Memory)
+}
 
 impl Path {
     /// The path with this text between its quotes: printable bytes, and `\"`, `\\` and `\x` with two lower case
@@ -34,13 +52,8 @@ impl Path {
     pub fn new(alloc: Global, text: &[u8]) -> Result<Path, LineFault>
         ensures { MakesWhere (are_items text.now) faults.Argument text.now result }
     {
-        if !items(text) {
-            return Err(LineFault::Argument);
-        }
-        match Text::of(alloc, text) {
-            Ok(items) => Ok(Path { items }),
-            Err(_) => Err(LineFault::Memory),
-        }
+        let items = text_where(items(text), LineFault::Argument, alloc, text)?;
+        Ok(Path { items })
     }
 }
 
@@ -53,13 +66,8 @@ impl Flags {
     pub fn new(alloc: Global, text: &[u8]) -> Result<Flags, LineFault>
         ensures { MakesWhere (is_flags text.now) faults.Argument text.now result }
     {
-        if !flags(text) {
-            return Err(LineFault::Argument);
-        }
-        match Text::of(alloc, text) {
-            Ok(names) => Ok(Flags { names }),
-            Err(_) => Err(LineFault::Memory),
-        }
+        let names = text_where(flags(text), LineFault::Argument, alloc, text)?;
+        Ok(Flags { names })
     }
 }
 
@@ -73,13 +81,8 @@ impl Command {
     pub fn new(alloc: Global, text: &[u8]) -> Result<Command, LineFault>
         ensures { MakesWhere (is_command text.now) faults.Argument text.now result }
     {
-        if !command(text) {
-            return Err(LineFault::Argument);
-        }
-        match Text::of(alloc, text) {
-            Ok(word) => Ok(Command { word }),
-            Err(_) => Err(LineFault::Memory),
-        }
+        let word = text_where(command(text), LineFault::Argument, alloc, text)?;
+        Ok(Command { word })
     }
 }
 
@@ -93,13 +96,8 @@ impl Name {
     pub fn new(alloc: Global, text: &[u8]) -> Result<Name, LineFault>
         ensures { MakesWhere (is_head (unlisted text.now)) faults.Shape text.now result }
     {
-        if !is_other_name(text) {
-            return Err(LineFault::Shape);
-        }
-        match Text::of(alloc, text) {
-            Ok(name) => Ok(Name { name }),
-            Err(_) => Err(LineFault::Memory),
-        }
+        let name = text_where(is_other_name(text), LineFault::Shape, alloc, text)?;
+        Ok(Name { name })
     }
 }
 
@@ -112,13 +110,8 @@ impl Args {
     pub fn new(alloc: Global, text: &[u8]) -> Result<Args, LineFault>
         ensures { MakesWhere (list_all is_free text.now) faults.Shape text.now result }
     {
-        if !free(text) {
-            return Err(LineFault::Shape);
-        }
-        match Text::of(alloc, text) {
-            Ok(args) => Ok(Args { args }),
-            Err(_) => Err(LineFault::Memory),
-        }
+        let args = text_where(free(text), LineFault::Shape, alloc, text)?;
+        Ok(Args { args })
     }
 }
 
@@ -134,10 +127,8 @@ impl Fds {
         if !rise(fds) {
             return Err(LineFault::Argument);
         }
-        match Vec::from_slice(alloc, fds) {
-            Ok(fds) => Ok(Fds { fds }),
-            Err(_) => Err(LineFault::Memory),
-        }
+        let fds = Vec::from_slice(alloc, fds).map_err(|_| LineFault::Memory)?;
+        Ok(Fds { fds })
     }
 }
 
@@ -160,15 +151,6 @@ fn pid_fits(pid: Pid) -> bool
     0 < pid && pid <= LARGEST_PID
 }
 
-fn dir_fits(dir: Dir) -> bool
-    ensures { result ≡ is_good (a_dir dir) }
-{
-    match dir {
-        Dir::Fd(fd) => fd_fits(fd),
-        Dir::Cwd => true,
-    }
-}
-
 /// Whether each descriptor is above the one before it.
 #[tactic(auto, unfolding(crate::specs::Making::all_rise))]
 fn rise(fds: &[Fd]) -> bool
@@ -184,44 +166,41 @@ fn rise(fds: &[Fd]) -> bool
     true
 }
 
-/// Whether each argument has a text; of rights see `rights_are_named`.
+/// Whether an argument has a text; of rights see `rights_are_named`.
+fn arg_fits(arg: &ArgSeen<'_>) -> bool
+    ensures { result ≡ is_good (arg_seen arg.now) }
+{
+    match arg {
+        ArgSeen::Fd(fd) | ArgSeen::Dir(Dir::Fd(fd)) => fd_fits(*fd),
+        ArgSeen::Flags(text) => flags(text),
+        ArgSeen::Path(text) => items(text),
+        ArgSeen::Command(text) => command(text),
+        ArgSeen::Free(text) => free(text),
+        ArgSeen::Dir(Dir::Cwd)
+        | ArgSeen::Rights(_)
+        | ArgSeen::Dest
+        | ArgSeen::SetFd
+        | ArgSeen::DupTo(_) => true,
+    }
+}
+
 fn args_fit(call: &Call) -> bool
     ensures { result ≡ are_good (args_of_call call.now) }
 {
-    match call {
-        Call::OnFd(_, fd) | Call::Send(_, fd) | Call::SendTo(_, fd) | Call::RightsLimit(fd, _) =>
-            fd_fits(*fd),
-        Call::Accept4(fd, f) | Call::FcntlSetFd(fd, f) => fd_fits(*fd) && flags(f.as_bytes()),
-        Call::Dup2(fd, made) | Call::FcntlDup(_, fd, made) => fd_fits(*fd) && fd_fits(*made),
-        Call::Fcntl(fd, word) => fd_fits(*fd) && command(word.as_bytes()),
-        Call::Mmap(fd, f, g) => fd_fits(*fd) && flags(f.as_bytes()) && flags(g.as_bytes()),
-        Call::Open(path, f) => items(path.as_bytes()) && flags(f.as_bytes()),
-        Call::OnPath(_, path) => items(path.as_bytes()),
-        Call::OnPaths(_, from, to) => items(from.as_bytes()) && items(to.as_bytes()),
-        Call::At(_, dir, path) => dir_fits(*dir) && items(path.as_bytes()),
-        Call::AtFlags(_, dir, path, f) => {
-            dir_fits(*dir) && items(path.as_bytes()) && flags(f.as_bytes())
-        }
-        Call::SymlinkAt(target, dir, path) => {
-            items(target.as_bytes()) && dir_fits(*dir) && items(path.as_bytes())
-        }
-        Call::RenameAt(from, old, to, new) => {
-            dir_fits(*from)
-                && items(old.get().as_bytes())
-                && dir_fits(*to)
-                && items(new.get().as_bytes())
-        }
-        Call::LinkAt(from, old, to, new, f) => {
-            dir_fits(*from)
-                && items(old.get().as_bytes())
-                && dir_fits(*to)
-                && items(new.get().as_bytes())
-                && flags(f.get().as_bytes())
-        }
-        Call::OnFlags(_, f) => flags(f.as_bytes()),
-        Call::Bare(_) => true,
-        Call::Other { args, .. } => free(args.as_bytes()),
+    match call.seen().args() {
+        Few::Zero => true,
+        Few::One(a) => all_fit(&[a]),
+        Few::Two(a, b) => all_fit(&[a, b]),
+        Few::Three(a, b, c) => all_fit(&[a, b, c]),
+        Few::Four(a, b, c, d) => all_fit(&[a, b, c, d]),
+        Few::Five(a, b, c, d, e) => all_fit(&[a, b, c, d, e]),
     }
+}
+
+fn all_fit(args: &[ArgSeen<'_>]) -> bool
+    ensures { result ≡ list_all (λ a. is_good (arg_seen a)) args.now }
+{
+    args.iter().all(|arg| arg_fits(arg))
 }
 
 fn name_fits(call: &Call) -> bool
@@ -231,34 +210,6 @@ fn name_fits(call: &Call) -> bool
         Call::Other { name, .. } => is_other_name(name.as_bytes()),
         _ => true,
     }
-}
-
-/// What a call answers where it doesn't fail.
-fn kind_of_call(call: &Call) -> Kind
-    ensures { result ≡ kind_of call.now }
-{
-    let form = match call {
-        Call::Dup2(_, fd) | Call::FcntlDup(_, _, fd) => return Kind::Same(*fd),
-        Call::Fcntl(_, command) => return fcntl_kind(command.as_bytes()),
-        Call::Other { .. } => return Kind::Any,
-        Call::FcntlSetFd(_, _) => Form::Fcntl,
-        Call::OnFd(call, _) => Form::OnFd(*call),
-        Call::Send(call, _) | Call::SendTo(call, _) => Form::Send(*call),
-        Call::Accept4(_, _) => Form::Accept4,
-        Call::Mmap(_, _, _) => Form::Mmap,
-        Call::RightsLimit(_, _) => Form::RightsLimit,
-        Call::Open(_, _) => Form::Open,
-        Call::OnPath(call, _) => Form::OnPath(*call),
-        Call::OnPaths(call, _, _) => Form::OnPaths(*call),
-        Call::At(call, _, _) => Form::At(*call),
-        Call::AtFlags(call, _, _, _) => Form::AtFlags(*call),
-        Call::SymlinkAt(_, _, _) => Form::SymlinkAt,
-        Call::RenameAt(_, _, _, _) => Form::RenameAt,
-        Call::LinkAt(_, _, _, _, _) => Form::LinkAt,
-        Call::OnFlags(call, _) => Form::OnFlags(*call),
-        Call::Bare(call) => Form::Bare(*call),
-    };
-    form.row().kind
 }
 
 /// Whether a number is an answer of this kind.
@@ -302,7 +253,7 @@ fn item_fits(item: &Item) -> bool
 {
     match item {
         Item::Call { call, answer } => {
-            args_fit(call) && name_fits(call) && answer_fits(kind_of_call(call), *answer)
+            args_fit(call) && name_fits(call) && answer_fits(call.seen().kind(), *answer)
         }
         Item::Start(fds) => rise(fds.as_slice()),
         Item::Exit => true,

@@ -1,236 +1,223 @@
 //! The table of names: each call and marker that has a form of its own, with the kind of its result.
 
-ghost use Rattle.std.specs.Prelude.{◌≡◌, ◌<◌, ◌↔◌, ◌⊎◌, [], length, map, slice_index, IfSome, IsNone};
-ghost use Rattle.std.specs.Option.{option_map, unwrap_or};
+ghost use Rattle.std.specs.Prelude.{◌≡◌, ◌<◌, ◌↔◌, ◌⊎◌, Some, length, map, slice_index, IfSome, IsNone};
+ghost use Rattle.std.specs.Option.{option_map};
 ghost use Rattle.std.specs.List.{list_all, slice_get};
-ghost use Rattle.cap_trace.specs.Names.{row_of, dup_command_name, form_named, all_forms, is_name, is_name_byte, name_of};
-ghost use Rattle.cap_trace.specs.Names.{head_named};
-ghost use Rattle.cap_trace.specs.Names as names;
-ghost use Rattle.cap_trace.specs.Slots.{slot_at, slots, name_in};
-ghost use Rattle.cap_trace.specs.Rows.{row_seen, head_seen};
+ghost use Rattle.cap_trace.specs.Names.{row_of, dup_command_name, form_named, all_forms, is_name, is_name_byte};
+ghost use Rattle.cap_trace.specs.Names.{name_of, head_named, on_fd};
+ghost use Rattle.cap_trace.specs.Entry.{head_kind};
+ghost use Rattle.cap_trace.specs.Slots.{slot_at, slots};
+ghost use Rattle.cap_trace.specs.Rows.{table_row, in_table, head_seen};
 
+use crate::calls::Kind::{self, Child, ChildAndFd, Count, Fd, FdPair, Zero};
 use crate::calls::{
-    AtCall, AtFlagsCall, BareCall, DupCommand, FdCall, FlagsCall, Form, Kind, PathCall, PathsCall,
+    AtCall, AtFlagsCall, BareCall, DupCommand, FdCall, FlagsCall, Form, PathCall, PathsCall,
     SendCall,
 };
 use crate::equal::{ends, same_by_ends};
 
-/// A row of the table: the name, and the result of a call that doesn't fail.
+/// A row of the table: the name, its form, and the result of a call that doesn't fail.
 #[derive(Clone, Copy)]
-pub(crate) struct Row {
-    pub(crate) name: &'static [u8],
-    pub(crate) kind: Kind,
-}
+pub(crate) struct Row(pub(crate) &'static [u8], pub(crate) Form, pub(crate) Kind);
 
-/// A row.
-fn make_row(name: &'static [u8], kind: Kind) -> Row
-    ensures { row_seen result ≡ names.row name.now kind }
+/// The table.
+// tools/name_slots: rows
+static ROWS: [Row; 98] = [
+    Row(b"read", Form::OnFd(FdCall::Read), Count),
+    Row(b"readv", Form::OnFd(FdCall::Readv), Count),
+    Row(b"recvfrom", Form::OnFd(FdCall::Recvfrom), Count),
+    Row(b"recvmsg", Form::OnFd(FdCall::Recvmsg), Count),
+    Row(b"pread", Form::OnFd(FdCall::Pread), Count),
+    Row(b"preadv", Form::OnFd(FdCall::Preadv), Count),
+    Row(b"write", Form::OnFd(FdCall::Write), Count),
+    Row(b"writev", Form::OnFd(FdCall::Writev), Count),
+    Row(b"pwrite", Form::OnFd(FdCall::Pwrite), Count),
+    Row(b"pwritev", Form::OnFd(FdCall::Pwritev), Count),
+    Row(b"lseek", Form::OnFd(FdCall::Lseek), Count),
+    Row(b"fstat", Form::OnFd(FdCall::Fstat), Count),
+    Row(b"fstatfs", Form::OnFd(FdCall::Fstatfs), Count),
+    Row(b"fsync", Form::OnFd(FdCall::Fsync), Count),
+    Row(b"fdatasync", Form::OnFd(FdCall::Fdatasync), Count),
+    Row(b"ftruncate", Form::OnFd(FdCall::Ftruncate), Count),
+    Row(b"fchmod", Form::OnFd(FdCall::Fchmod), Count),
+    Row(b"fchown", Form::OnFd(FdCall::Fchown), Count),
+    Row(b"fchflags", Form::OnFd(FdCall::Fchflags), Count),
+    Row(b"fchdir", Form::OnFd(FdCall::Fchdir), Count),
+    Row(b"flock", Form::OnFd(FdCall::Flock), Count),
+    Row(b"fpathconf", Form::OnFd(FdCall::Fpathconf), Count),
+    Row(b"futimes", Form::OnFd(FdCall::Futimes), Count),
+    Row(b"futimens", Form::OnFd(FdCall::Futimens), Count),
+    Row(b"ioctl", Form::OnFd(FdCall::Ioctl), Count),
+    Row(b"accept", Form::OnFd(FdCall::Accept), Fd),
+    Row(b"bind", Form::OnFd(FdCall::Bind), Count),
+    Row(b"connect", Form::OnFd(FdCall::Connect), Count),
+    Row(b"listen", Form::OnFd(FdCall::Listen), Count),
+    Row(b"shutdown", Form::OnFd(FdCall::Shutdown), Count),
+    Row(b"getpeername", Form::OnFd(FdCall::Getpeername), Count),
+    Row(b"getsockname", Form::OnFd(FdCall::Getsockname), Count),
+    Row(b"getsockopt", Form::OnFd(FdCall::Getsockopt), Count),
+    Row(b"setsockopt", Form::OnFd(FdCall::Setsockopt), Count),
+    Row(b"fexecve", Form::OnFd(FdCall::Fexecve), Zero),
+    Row(b"close", Form::OnFd(FdCall::Close), Zero),
+    Row(b"closefrom", Form::OnFd(FdCall::Closefrom), Zero),
+    Row(b"dup", Form::OnFd(FdCall::Dup), Fd),
+    Row(
+        b"cap_ioctls_limit",
+        Form::OnFd(FdCall::CapIoctlsLimit),
+        Zero,
+    ),
+    Row(
+        b"cap_fcntls_limit",
+        Form::OnFd(FdCall::CapFcntlsLimit),
+        Zero,
+    ),
+    Row(b"sendto", Form::Send(SendCall::Sendto), Count),
+    Row(b"sendmsg", Form::Send(SendCall::Sendmsg), Count),
+    Row(b"execve", Form::OnPath(PathCall::Execve), Zero),
+    Row(b"access", Form::OnPath(PathCall::Access), Count),
+    Row(b"chdir", Form::OnPath(PathCall::Chdir), Count),
+    Row(b"chflags", Form::OnPath(PathCall::Chflags), Count),
+    Row(b"chmod", Form::OnPath(PathCall::Chmod), Count),
+    Row(b"chown", Form::OnPath(PathCall::Chown), Count),
+    Row(b"lchown", Form::OnPath(PathCall::Lchown), Count),
+    Row(b"lstat", Form::OnPath(PathCall::Lstat), Count),
+    Row(b"mkdir", Form::OnPath(PathCall::Mkdir), Count),
+    Row(b"mkfifo", Form::OnPath(PathCall::Mkfifo), Count),
+    Row(b"mknod", Form::OnPath(PathCall::Mknod), Count),
+    Row(b"readlink", Form::OnPath(PathCall::Readlink), Count),
+    Row(b"rmdir", Form::OnPath(PathCall::Rmdir), Count),
+    Row(b"stat", Form::OnPath(PathCall::Stat), Count),
+    Row(b"statfs", Form::OnPath(PathCall::Statfs), Count),
+    Row(b"truncate", Form::OnPath(PathCall::Truncate), Count),
+    Row(b"unlink", Form::OnPath(PathCall::Unlink), Count),
+    Row(b"link", Form::OnPaths(PathsCall::Link), Count),
+    Row(b"rename", Form::OnPaths(PathsCall::Rename), Count),
+    Row(b"symlink", Form::OnPaths(PathsCall::Symlink), Count),
+    Row(b"mkdirat", Form::At(AtCall::Mkdirat), Count),
+    Row(b"mkfifoat", Form::At(AtCall::Mkfifoat), Count),
+    Row(b"mknodat", Form::At(AtCall::Mknodat), Count),
+    Row(b"readlinkat", Form::At(AtCall::Readlinkat), Count),
+    Row(b"futimesat", Form::At(AtCall::Futimesat), Count),
+    Row(b"openat", Form::AtFlags(AtFlagsCall::Openat), Fd),
+    Row(b"unlinkat", Form::AtFlags(AtFlagsCall::Unlinkat), Count),
+    Row(b"fstatat", Form::AtFlags(AtFlagsCall::Fstatat), Count),
+    Row(b"fchmodat", Form::AtFlags(AtFlagsCall::Fchmodat), Count),
+    Row(b"fchownat", Form::AtFlags(AtFlagsCall::Fchownat), Count),
+    Row(b"chflagsat", Form::AtFlags(AtFlagsCall::Chflagsat), Count),
+    Row(b"utimensat", Form::AtFlags(AtFlagsCall::Utimensat), Count),
+    Row(b"socket", Form::OnFlags(FlagsCall::Socket), Fd),
+    Row(b"socketpair", Form::OnFlags(FlagsCall::Socketpair), FdPair),
+    Row(b"pipe2", Form::OnFlags(FlagsCall::Pipe2), FdPair),
+    Row(b"pipe", Form::Bare(BareCall::Pipe), FdPair),
+    Row(b"kqueue", Form::Bare(BareCall::Kqueue), Fd),
+    Row(b"shm_open", Form::Bare(BareCall::ShmOpen), Fd),
+    Row(b"mq_open", Form::Bare(BareCall::MqOpen), Fd),
+    Row(b"fhopen", Form::Bare(BareCall::Fhopen), Fd),
+    Row(b"fork", Form::Bare(BareCall::Fork), Child),
+    Row(b"vfork", Form::Bare(BareCall::Vfork), Child),
+    Row(b"pdfork", Form::Bare(BareCall::Pdfork), ChildAndFd),
+    Row(b"cap_enter", Form::Bare(BareCall::CapEnter), Zero),
+    Row(b"accept4", Form::Accept4, Fd),
+    Row(b"dup2", Form::Dup2, Fd),
+    Row(b"fcntl", Form::Fcntl, Count),
+    Row(b"mmap", Form::Mmap, Count),
+    Row(b"cap_rights_limit", Form::RightsLimit, Zero),
+    Row(b"open", Form::Open, Fd),
+    Row(b"symlinkat", Form::SymlinkAt, Count),
+    Row(b"renameat", Form::RenameAt, Count),
+    Row(b"linkat", Form::LinkAt, Count),
+    Row(b"@start", Form::Start, Zero),
+    Row(b"@exit", Form::Exit, Zero),
+    Row(b"@foreign", Form::Foreign, Zero),
+];
+// the end of rows
+
+// tools/name_slots: places
+impl Form {
+    /// The place of its row in the table.
+    #[tactic(auto, unfolding(crate::specs::Names::all_forms))]
+    #[inline(always)]
+    fn place(self) -> usize
+        ensures { slice_get all_forms result ≡ Some self }
+    {
+        match self {
+            Form::OnFd(call) => call as usize,
+            Form::Send(call) => call as usize + 40,
+            Form::OnPath(call) => call as usize + 42,
+            Form::OnPaths(call) => call as usize + 59,
+            Form::At(call) => call as usize + 62,
+            Form::AtFlags(call) => call as usize + 67,
+            Form::OnFlags(call) => call as usize + 74,
+            Form::Bare(call) => call as usize + 77,
+            Form::Accept4 => 86,
+            Form::Dup2 => 87,
+            Form::Fcntl => 88,
+            Form::Mmap => 89,
+            Form::RightsLimit => 90,
+            Form::Open => 91,
+            Form::SymlinkAt => 92,
+            Form::RenameAt => 93,
+            Form::LinkAt => 94,
+            Form::Start => 95,
+            Form::Exit => 96,
+            Form::Foreign => 97,
+        }
+    }
+}
+// the end of places
+
+/// The row at a place, where there is one.
+#[inline(always)]
+fn row_at(rows: &[Row], place: usize) -> Option<&Row>
+    ensures { option_map (λ r. table_row r.now) result ≡ slice_get (map table_row rows.now) place }
 {
-    Row { name, kind }
+    rows.get(place)
 }
 
-impl FdCall {
-    #[inline(always)]
-    fn row(self) -> Row
-        ensures { row_seen result ≡ names.on_fd self }
-    {
-        match self {
-            FdCall::Read => make_row(b"read", Kind::Count),
-            FdCall::Readv => make_row(b"readv", Kind::Count),
-            FdCall::Recvfrom => make_row(b"recvfrom", Kind::Count),
-            FdCall::Recvmsg => make_row(b"recvmsg", Kind::Count),
-            FdCall::Pread => make_row(b"pread", Kind::Count),
-            FdCall::Preadv => make_row(b"preadv", Kind::Count),
-            FdCall::Write => make_row(b"write", Kind::Count),
-            FdCall::Writev => make_row(b"writev", Kind::Count),
-            FdCall::Pwrite => make_row(b"pwrite", Kind::Count),
-            FdCall::Pwritev => make_row(b"pwritev", Kind::Count),
-            FdCall::Lseek => make_row(b"lseek", Kind::Count),
-            FdCall::Fstat => make_row(b"fstat", Kind::Count),
-            FdCall::Fstatfs => make_row(b"fstatfs", Kind::Count),
-            FdCall::Fsync => make_row(b"fsync", Kind::Count),
-            FdCall::Fdatasync => make_row(b"fdatasync", Kind::Count),
-            FdCall::Ftruncate => make_row(b"ftruncate", Kind::Count),
-            FdCall::Fchmod => make_row(b"fchmod", Kind::Count),
-            FdCall::Fchown => make_row(b"fchown", Kind::Count),
-            FdCall::Fchflags => make_row(b"fchflags", Kind::Count),
-            FdCall::Fchdir => make_row(b"fchdir", Kind::Count),
-            FdCall::Flock => make_row(b"flock", Kind::Count),
-            FdCall::Fpathconf => make_row(b"fpathconf", Kind::Count),
-            FdCall::Futimes => make_row(b"futimes", Kind::Count),
-            FdCall::Futimens => make_row(b"futimens", Kind::Count),
-            FdCall::Ioctl => make_row(b"ioctl", Kind::Count),
-            FdCall::Accept => make_row(b"accept", Kind::Fd),
-            FdCall::Bind => make_row(b"bind", Kind::Count),
-            FdCall::Connect => make_row(b"connect", Kind::Count),
-            FdCall::Listen => make_row(b"listen", Kind::Count),
-            FdCall::Shutdown => make_row(b"shutdown", Kind::Count),
-            FdCall::Getpeername => make_row(b"getpeername", Kind::Count),
-            FdCall::Getsockname => make_row(b"getsockname", Kind::Count),
-            FdCall::Getsockopt => make_row(b"getsockopt", Kind::Count),
-            FdCall::Setsockopt => make_row(b"setsockopt", Kind::Count),
-            FdCall::Fexecve => make_row(b"fexecve", Kind::Zero),
-            FdCall::Close => make_row(b"close", Kind::Zero),
-            FdCall::Closefrom => make_row(b"closefrom", Kind::Zero),
-            FdCall::Dup => make_row(b"dup", Kind::Fd),
-            FdCall::CapIoctlsLimit => make_row(b"cap_ioctls_limit", Kind::Zero),
-            FdCall::CapFcntlsLimit => make_row(b"cap_fcntls_limit", Kind::Zero),
-        }
-    }
-}
-
-impl FdCall {
-    /// What the call answers where it doesn't fail.
-    pub(crate) fn kind(self) -> Kind
-        ensures { result ≡ (names.on_fd self).kind }
-    {
-        self.row().kind
-    }
-}
-
-impl SendCall {
-    #[inline(always)]
-    fn row(self) -> Row
-        ensures { row_seen result ≡ names.sends self }
-    {
-        match self {
-            SendCall::Sendto => make_row(b"sendto", Kind::Count),
-            SendCall::Sendmsg => make_row(b"sendmsg", Kind::Count),
-        }
-    }
-}
-
-impl PathCall {
-    #[inline(always)]
-    fn row(self) -> Row
-        ensures { row_seen result ≡ names.on_path self }
-    {
-        match self {
-            PathCall::Execve => make_row(b"execve", Kind::Zero),
-            PathCall::Access => make_row(b"access", Kind::Count),
-            PathCall::Chdir => make_row(b"chdir", Kind::Count),
-            PathCall::Chflags => make_row(b"chflags", Kind::Count),
-            PathCall::Chmod => make_row(b"chmod", Kind::Count),
-            PathCall::Chown => make_row(b"chown", Kind::Count),
-            PathCall::Lchown => make_row(b"lchown", Kind::Count),
-            PathCall::Lstat => make_row(b"lstat", Kind::Count),
-            PathCall::Mkdir => make_row(b"mkdir", Kind::Count),
-            PathCall::Mkfifo => make_row(b"mkfifo", Kind::Count),
-            PathCall::Mknod => make_row(b"mknod", Kind::Count),
-            PathCall::Readlink => make_row(b"readlink", Kind::Count),
-            PathCall::Rmdir => make_row(b"rmdir", Kind::Count),
-            PathCall::Stat => make_row(b"stat", Kind::Count),
-            PathCall::Statfs => make_row(b"statfs", Kind::Count),
-            PathCall::Truncate => make_row(b"truncate", Kind::Count),
-            PathCall::Unlink => make_row(b"unlink", Kind::Count),
-        }
-    }
-}
-
-impl PathsCall {
-    #[inline(always)]
-    fn row(self) -> Row
-        ensures { row_seen result ≡ names.on_paths self }
-    {
-        match self {
-            PathsCall::Link => make_row(b"link", Kind::Count),
-            PathsCall::Rename => make_row(b"rename", Kind::Count),
-            PathsCall::Symlink => make_row(b"symlink", Kind::Count),
-        }
-    }
-}
-
-impl AtCall {
-    #[inline(always)]
-    fn row(self) -> Row
-        ensures { row_seen result ≡ names.at_dir self }
-    {
-        match self {
-            AtCall::Mkdirat => make_row(b"mkdirat", Kind::Count),
-            AtCall::Mkfifoat => make_row(b"mkfifoat", Kind::Count),
-            AtCall::Mknodat => make_row(b"mknodat", Kind::Count),
-            AtCall::Readlinkat => make_row(b"readlinkat", Kind::Count),
-            AtCall::Futimesat => make_row(b"futimesat", Kind::Count),
-        }
-    }
-}
-
-impl AtFlagsCall {
-    #[inline(always)]
-    fn row(self) -> Row
-        ensures { row_seen result ≡ names.at_dir_with_flags self }
-    {
-        match self {
-            AtFlagsCall::Openat => make_row(b"openat", Kind::Fd),
-            AtFlagsCall::Unlinkat => make_row(b"unlinkat", Kind::Count),
-            AtFlagsCall::Fstatat => make_row(b"fstatat", Kind::Count),
-            AtFlagsCall::Fchmodat => make_row(b"fchmodat", Kind::Count),
-            AtFlagsCall::Fchownat => make_row(b"fchownat", Kind::Count),
-            AtFlagsCall::Chflagsat => make_row(b"chflagsat", Kind::Count),
-            AtFlagsCall::Utimensat => make_row(b"utimensat", Kind::Count),
-        }
-    }
-}
-
-impl FlagsCall {
-    #[inline(always)]
-    fn row(self) -> Row
-        ensures { row_seen result ≡ names.on_flags self }
-    {
-        match self {
-            FlagsCall::Socket => make_row(b"socket", Kind::Fd),
-            FlagsCall::Socketpair => make_row(b"socketpair", Kind::FdPair),
-            FlagsCall::Pipe2 => make_row(b"pipe2", Kind::FdPair),
-        }
-    }
-}
-
-impl BareCall {
-    #[inline(always)]
-    fn row(self) -> Row
-        ensures { row_seen result ≡ names.bare self }
-    {
-        match self {
-            BareCall::Pipe => make_row(b"pipe", Kind::FdPair),
-            BareCall::Kqueue => make_row(b"kqueue", Kind::Fd),
-            BareCall::ShmOpen => make_row(b"shm_open", Kind::Fd),
-            BareCall::MqOpen => make_row(b"mq_open", Kind::Fd),
-            BareCall::Fhopen => make_row(b"fhopen", Kind::Fd),
-            BareCall::Fork => make_row(b"fork", Kind::Child),
-            BareCall::Vfork => make_row(b"vfork", Kind::Child),
-            BareCall::Pdfork => make_row(b"pdfork", Kind::ChildAndFd),
-            BareCall::CapEnter => make_row(b"cap_enter", Kind::Zero),
-        }
-    }
+/// The row at a place of the table, where there is one.
+#[inline(always)]
+fn listed_at(place: usize) -> Option<&'static Row>
+    ensures { option_map (λ r. table_row r.now) result ≡ option_map in_table (slice_get all_forms place) }
+{
+    row_at(&ROWS, place)
 }
 
 impl Form {
-    /// The row of the table that has this form.
+    /// Its row.
     #[inline(always)]
-    pub(crate) fn row(self) -> Row
-        ensures { row_seen result ≡ row_of self }
+    fn row(self) -> &'static Row
+        ensures { table_row result.now ≡ in_table self }
+    {
+        listed_at(self.place()).unwrap()
+    }
+
+    /// The name that has this form.
+    #[inline(always)]
+    fn name(self) -> &'static [u8]
+        ensures { result.now ≡ (row_of self).name }
+    {
+        self.row().0
+    }
+
+    /// What a call of this form answers where it doesn't fail, if its arguments don't decide.
+    #[inline(always)]
+    pub(crate) fn kind(self) -> Kind
+        ensures { result ≡ (row_of self).kind }
+    {
+        self.row().2
+    }
+}
+
+impl FdCall {
+    /// What the call answers where it doesn't fail. The table says the same, with more instructions.
+    pub(crate) fn kind(self) -> Kind
+        ensures { result ≡ (on_fd self).kind }
     {
         match self {
-            Form::OnFd(call) => call.row(),
-            Form::Send(call) => call.row(),
-            Form::OnPath(call) => call.row(),
-            Form::OnPaths(call) => call.row(),
-            Form::At(call) => call.row(),
-            Form::AtFlags(call) => call.row(),
-            Form::OnFlags(call) => call.row(),
-            Form::Bare(call) => call.row(),
-            Form::Accept4 => make_row(b"accept4", Kind::Fd),
-            Form::Dup2 => make_row(b"dup2", Kind::Fd),
-            Form::Fcntl => make_row(b"fcntl", Kind::Count),
-            Form::Mmap => make_row(b"mmap", Kind::Count),
-            Form::RightsLimit => make_row(b"cap_rights_limit", Kind::Zero),
-            Form::Open => make_row(b"open", Kind::Fd),
-            Form::SymlinkAt => make_row(b"symlinkat", Kind::Count),
-            Form::RenameAt => make_row(b"renameat", Kind::Count),
-            Form::LinkAt => make_row(b"linkat", Kind::Count),
-            Form::Start => make_row(b"@start", Kind::Zero),
-            Form::Exit => make_row(b"@exit", Kind::Zero),
-            Form::Foreign => make_row(b"@foreign", Kind::Zero),
+            FdCall::Accept | FdCall::Dup => Fd,
+            FdCall::Close | FdCall::Closefrom | FdCall::Fexecve => Zero,
+            FdCall::CapIoctlsLimit | FdCall::CapFcntlsLimit => Zero,
+            _ => Count,
         }
     }
 }
@@ -252,214 +239,6 @@ const FIRST_FACTOR: u64 = 13191425951303302721;
 
 const LAST_FACTOR: u64 = 9016636173579439701;
 // the end of factors
-
-/// The forms of the table.
-// tools/name_slots: forms
-static FORMS: [Form; 98] = [
-    Form::OnFd(FdCall::Read),
-    Form::OnFd(FdCall::Readv),
-    Form::OnFd(FdCall::Recvfrom),
-    Form::OnFd(FdCall::Recvmsg),
-    Form::OnFd(FdCall::Pread),
-    Form::OnFd(FdCall::Preadv),
-    Form::OnFd(FdCall::Write),
-    Form::OnFd(FdCall::Writev),
-    Form::OnFd(FdCall::Pwrite),
-    Form::OnFd(FdCall::Pwritev),
-    Form::OnFd(FdCall::Lseek),
-    Form::OnFd(FdCall::Fstat),
-    Form::OnFd(FdCall::Fstatfs),
-    Form::OnFd(FdCall::Fsync),
-    Form::OnFd(FdCall::Fdatasync),
-    Form::OnFd(FdCall::Ftruncate),
-    Form::OnFd(FdCall::Fchmod),
-    Form::OnFd(FdCall::Fchown),
-    Form::OnFd(FdCall::Fchflags),
-    Form::OnFd(FdCall::Fchdir),
-    Form::OnFd(FdCall::Flock),
-    Form::OnFd(FdCall::Fpathconf),
-    Form::OnFd(FdCall::Futimes),
-    Form::OnFd(FdCall::Futimens),
-    Form::OnFd(FdCall::Ioctl),
-    Form::OnFd(FdCall::Accept),
-    Form::OnFd(FdCall::Bind),
-    Form::OnFd(FdCall::Connect),
-    Form::OnFd(FdCall::Listen),
-    Form::OnFd(FdCall::Shutdown),
-    Form::OnFd(FdCall::Getpeername),
-    Form::OnFd(FdCall::Getsockname),
-    Form::OnFd(FdCall::Getsockopt),
-    Form::OnFd(FdCall::Setsockopt),
-    Form::OnFd(FdCall::Fexecve),
-    Form::OnFd(FdCall::Close),
-    Form::OnFd(FdCall::Closefrom),
-    Form::OnFd(FdCall::Dup),
-    Form::OnFd(FdCall::CapIoctlsLimit),
-    Form::OnFd(FdCall::CapFcntlsLimit),
-    Form::Send(SendCall::Sendto),
-    Form::Send(SendCall::Sendmsg),
-    Form::OnPath(PathCall::Execve),
-    Form::OnPath(PathCall::Access),
-    Form::OnPath(PathCall::Chdir),
-    Form::OnPath(PathCall::Chflags),
-    Form::OnPath(PathCall::Chmod),
-    Form::OnPath(PathCall::Chown),
-    Form::OnPath(PathCall::Lchown),
-    Form::OnPath(PathCall::Lstat),
-    Form::OnPath(PathCall::Mkdir),
-    Form::OnPath(PathCall::Mkfifo),
-    Form::OnPath(PathCall::Mknod),
-    Form::OnPath(PathCall::Readlink),
-    Form::OnPath(PathCall::Rmdir),
-    Form::OnPath(PathCall::Stat),
-    Form::OnPath(PathCall::Statfs),
-    Form::OnPath(PathCall::Truncate),
-    Form::OnPath(PathCall::Unlink),
-    Form::OnPaths(PathsCall::Link),
-    Form::OnPaths(PathsCall::Rename),
-    Form::OnPaths(PathsCall::Symlink),
-    Form::At(AtCall::Mkdirat),
-    Form::At(AtCall::Mkfifoat),
-    Form::At(AtCall::Mknodat),
-    Form::At(AtCall::Readlinkat),
-    Form::At(AtCall::Futimesat),
-    Form::AtFlags(AtFlagsCall::Openat),
-    Form::AtFlags(AtFlagsCall::Unlinkat),
-    Form::AtFlags(AtFlagsCall::Fstatat),
-    Form::AtFlags(AtFlagsCall::Fchmodat),
-    Form::AtFlags(AtFlagsCall::Fchownat),
-    Form::AtFlags(AtFlagsCall::Chflagsat),
-    Form::AtFlags(AtFlagsCall::Utimensat),
-    Form::OnFlags(FlagsCall::Socket),
-    Form::OnFlags(FlagsCall::Socketpair),
-    Form::OnFlags(FlagsCall::Pipe2),
-    Form::Bare(BareCall::Pipe),
-    Form::Bare(BareCall::Kqueue),
-    Form::Bare(BareCall::ShmOpen),
-    Form::Bare(BareCall::MqOpen),
-    Form::Bare(BareCall::Fhopen),
-    Form::Bare(BareCall::Fork),
-    Form::Bare(BareCall::Vfork),
-    Form::Bare(BareCall::Pdfork),
-    Form::Bare(BareCall::CapEnter),
-    Form::Accept4,
-    Form::Dup2,
-    Form::Fcntl,
-    Form::Mmap,
-    Form::RightsLimit,
-    Form::Open,
-    Form::SymlinkAt,
-    Form::RenameAt,
-    Form::LinkAt,
-    Form::Start,
-    Form::Exit,
-    Form::Foreign,
-];
-// the end of forms
-
-/// The names of the table, in the order of the forms.
-// tools/name_slots: names
-static NAMES: [&[u8]; 98] = [
-    b"read",
-    b"readv",
-    b"recvfrom",
-    b"recvmsg",
-    b"pread",
-    b"preadv",
-    b"write",
-    b"writev",
-    b"pwrite",
-    b"pwritev",
-    b"lseek",
-    b"fstat",
-    b"fstatfs",
-    b"fsync",
-    b"fdatasync",
-    b"ftruncate",
-    b"fchmod",
-    b"fchown",
-    b"fchflags",
-    b"fchdir",
-    b"flock",
-    b"fpathconf",
-    b"futimes",
-    b"futimens",
-    b"ioctl",
-    b"accept",
-    b"bind",
-    b"connect",
-    b"listen",
-    b"shutdown",
-    b"getpeername",
-    b"getsockname",
-    b"getsockopt",
-    b"setsockopt",
-    b"fexecve",
-    b"close",
-    b"closefrom",
-    b"dup",
-    b"cap_ioctls_limit",
-    b"cap_fcntls_limit",
-    b"sendto",
-    b"sendmsg",
-    b"execve",
-    b"access",
-    b"chdir",
-    b"chflags",
-    b"chmod",
-    b"chown",
-    b"lchown",
-    b"lstat",
-    b"mkdir",
-    b"mkfifo",
-    b"mknod",
-    b"readlink",
-    b"rmdir",
-    b"stat",
-    b"statfs",
-    b"truncate",
-    b"unlink",
-    b"link",
-    b"rename",
-    b"symlink",
-    b"mkdirat",
-    b"mkfifoat",
-    b"mknodat",
-    b"readlinkat",
-    b"futimesat",
-    b"openat",
-    b"unlinkat",
-    b"fstatat",
-    b"fchmodat",
-    b"fchownat",
-    b"chflagsat",
-    b"utimensat",
-    b"socket",
-    b"socketpair",
-    b"pipe2",
-    b"pipe",
-    b"kqueue",
-    b"shm_open",
-    b"mq_open",
-    b"fhopen",
-    b"fork",
-    b"vfork",
-    b"pdfork",
-    b"cap_enter",
-    b"accept4",
-    b"dup2",
-    b"fcntl",
-    b"mmap",
-    b"cap_rights_limit",
-    b"open",
-    b"symlinkat",
-    b"renameat",
-    b"linkat",
-    b"@start",
-    b"@exit",
-    b"@foreign",
-];
-// the end of names
 
 /// The number of the form whose name has this slot, or 255.
 // tools/name_slots: slots
@@ -511,35 +290,14 @@ fn slot_of(name: &[u8]) -> Option<usize>
     Some((sum >> 55) as usize)
 }
 
-/// The form in a slot.
+/// The row in a slot, where it has one.
 #[inline(always)]
-#[tactic(auto, unfolding(crate::specs::Slots::slots, crate::specs::Names::all_forms))]
-fn in_slot(slot: usize) -> Option<Form>
+fn in_slot(slot: usize) -> Option<&'static Row>
     requires { slot < 512 }
-    ensures { result ≡ slice_get all_forms (slice_index slots slot) }
+    ensures { option_map (λ r. table_row r.now) result
+        ≡ option_map in_table (slice_get all_forms (slice_index slots slot)) }
 {
-    FORMS.get(usize::from(SLOTS[slot])).copied()
-}
-
-/// The text at a place of a list, or nothing.
-#[inline(always)]
-fn text_at(texts: &[&'static [u8]], place: usize) -> &'static [u8]
-    ensures { result.now ≡ unwrap_or (slice_get (map (λ t. t.now) texts.now) place) [] }
-{
-    match texts.get(place) {
-        Some(text) => text,
-        None => b"",
-    }
-}
-
-/// The name in a slot, or nothing.
-#[inline(always)]
-#[tactic(auto, unfolding(crate::specs::Slots::slots, crate::specs::Names::all_forms))]
-fn name_in_slot(slot: usize) -> &'static [u8]
-    requires { slot < 512 }
-    ensures { result.now ≡ name_in (slice_get all_forms (slice_index slots slot)) }
-{
-    text_at(&NAMES, usize::from(SLOTS[slot]))
+    listed_at(usize::from(SLOTS[slot]))
 }
 
 /// The form of a name of the table.
@@ -547,13 +305,9 @@ fn name_in_slot(slot: usize) -> &'static [u8]
 pub(crate) fn form_of(name: &[u8]) -> Option<Form>
     ensures { result ≡ form_named name.now }
 {
-    let Some(slot) = slot_of(name) else {
-        return None;
-    };
-    match in_slot(slot) {
-        Some(form) if same_by_ends(name_in_slot(slot), name) => Some(form),
-        _ => None,
-    }
+    let slot = slot_of(name)?;
+    let Row(row_name, form, _) = in_slot(slot)?;
+    same_by_ends(row_name, name).then_some(*form)
 }
 
 fn name_byte(byte: u8) -> bool
@@ -593,8 +347,18 @@ impl<'a> Head<'a> {
         ensures { result.now ≡ name_of (head_seen self.entry) }
     {
         match self {
-            Head::Listed(form) => form.row().name,
+            Head::Listed(form) => form.name(),
             Head::Unlisted(name) => name,
+        }
+    }
+
+    /// What a call with this name answers where it doesn't fail, if its arguments don't decide.
+    pub(crate) fn kind(self) -> Kind
+        ensures { result ≡ head_kind (head_seen self.entry) }
+    {
+        match self {
+            Head::Listed(form) => form.kind(),
+            Head::Unlisted(_) => Kind::Any,
         }
     }
 }

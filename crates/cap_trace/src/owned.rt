@@ -1,9 +1,6 @@
 //! Copying what was seen of a line into memory of its own.
-//!
-//! Each form that keeps a text has a function: one match with them all takes a minute to prove.
 
 ghost use Rattle.std.specs.Prelude.{◌≡◌, IfOk, IsTrue};
-ghost use Rattle.cap_trace.specs.declared.line.Call.TheVariants as calls;
 ghost use Rattle.cap_trace.specs.Entry.{args_of_call};
 ghost use Rattle.cap_trace.specs.Fields.{are_items};
 ghost use Rattle.cap_trace.specs.Quotes.{pieces};
@@ -11,8 +8,7 @@ ghost use Rattle.cap_trace.specs.Seen.{fds_in, call_seen, line_seen, HavePaths};
 ghost use Rattle.cap_trace.specs.Spelling.{IsProper};
 
 use crate::boxed::Boxed;
-use crate::calls::{AtCall, AtFlagsCall, FlagsCall, PathCall, PathsCall};
-use crate::line::{Args, Call, Command, Dir, Fd, Fds, Flags, Item, Line, Name, Path};
+use crate::line::{Args, Call, Command, Fds, Flags, Item, Line, Name, Path};
 use crate::parts::Parts;
 use crate::scan_fields::fd_of;
 use crate::seen::{CallSeen, ItemSeen, LineSeen};
@@ -34,38 +30,38 @@ fn flags(alloc: Global, text: &[u8]) -> Result<Flags, AllocError>
     Ok(Flags { names })
 }
 
-fn boxed_path(alloc: Global, text: &[u8]) -> Result<Boxed<Path>, AllocError>
-    requires { IsTrue (are_items text.now) }
-    ensures { IfOk result (λ p. p ≡ text.now) }
+fn two_paths(alloc: Global, from: &[u8], to: &[u8]) -> Result<(Path, Path), AllocError>
+    requires from { IsTrue (are_items from.now) }
+    requires to { IsTrue (are_items to.now) }
+    ensures { IfOk result (λ p. (p.0 ≡ from.now) × (p.1 ≡ to.now)) }
 {
-    Boxed::new(alloc, path(alloc, text)?).map_err(|_| AllocError)
+    Ok((path(alloc, from)?, path(alloc, to)?))
 }
 
-fn boxed_flags(alloc: Global, text: &[u8]) -> Result<Boxed<Flags>, AllocError>
-    ensures { IfOk result (λ f. f ≡ text.now) }
+fn path_and_flags(alloc: Global, file: &[u8], text: &[u8]) -> Result<(Path, Flags), AllocError>
+    requires { IsTrue (are_items file.now) }
+    ensures { IfOk result (λ p. (p.0 ≡ file.now) × (p.1 ≡ text.now)) }
 {
-    Boxed::new(alloc, flags(alloc, text)?).map_err(|_| AllocError)
+    Ok((path(alloc, file)?, flags(alloc, text)?))
 }
 
-fn command(alloc: Global, text: &[u8]) -> Result<Command, AllocError>
-    ensures { IfOk result (λ c. c ≡ text.now) }
+fn boxed<T: Drop>(alloc: Global, value: T) -> Result<Boxed<T>, AllocError>
+    ensures { IfOk result (λ b. b ≡ value) }
 {
-    let word = Text::of(alloc, text)?;
-    Ok(Command { word })
+    Boxed::new(alloc, value).map_err(|_| AllocError)
 }
 
-fn name(alloc: Global, text: &[u8]) -> Result<Name, AllocError>
-    ensures { IfOk result (λ n. n ≡ text.now) }
+fn boxed_paths(
+    alloc: Global,
+    from: &[u8],
+    to: &[u8],
+) -> Result<(Boxed<Path>, Boxed<Path>), AllocError>
+    requires from { IsTrue (are_items from.now) }
+    requires to { IsTrue (are_items to.now) }
+    ensures { IfOk result (λ p. (p.0 ≡ from.now) × (p.1 ≡ to.now)) }
 {
-    let name = Text::of(alloc, text)?;
-    Ok(Name { name })
-}
-
-fn args(alloc: Global, text: &[u8]) -> Result<Args, AllocError>
-    ensures { IfOk result (λ a. a ≡ text.now) }
-{
-    let args = Text::of(alloc, text)?;
-    Ok(Args { args })
+    let from = boxed(alloc, path(alloc, from)?)?;
+    Ok((from, boxed(alloc, path(alloc, to)?)?))
 }
 
 /// The descriptors among the arguments.
@@ -82,185 +78,64 @@ fn fds_of(alloc: Global, args: &[u8]) -> Result<Fds, AllocError>
     Ok(Fds { fds })
 }
 
-/// `accept4`.
-fn accept4(alloc: Global, fd: Fd, flags_text: &[u8]) -> Result<Call, AllocError>
-    ensures { IfOk result (λ c. c ≡ calls.Accept4 fd flags_text.now) }
-{
-    Ok(Call::Accept4(fd, flags(alloc, flags_text)?))
-}
-
-/// `fcntl` with a command that asks for no third argument.
-fn fcntl(alloc: Global, fd: Fd, word: &[u8]) -> Result<Call, AllocError>
-    ensures { IfOk result (λ c. c ≡ calls.Fcntl fd word.now) }
-{
-    Ok(Call::Fcntl(fd, command(alloc, word)?))
-}
-
-/// `fcntl` with `F_SETFD`.
-fn fcntl_set_fd(alloc: Global, fd: Fd, flags_text: &[u8]) -> Result<Call, AllocError>
-    ensures { IfOk result (λ c. c ≡ calls.FcntlSetFd fd flags_text.now) }
-{
-    Ok(Call::FcntlSetFd(fd, flags(alloc, flags_text)?))
-}
-
-/// `mmap`.
-fn mmap(alloc: Global, fd: Fd, protection: &[u8], mapping: &[u8]) -> Result<Call, AllocError>
-    ensures { IfOk result (λ c. c ≡ calls.Mmap fd protection.now mapping.now) }
-{
-    Ok(Call::Mmap(fd, flags(alloc, protection)?, flags(alloc, mapping)?))
-}
-
-/// `open`.
-fn open(alloc: Global, path_text: &[u8], flags_text: &[u8]) -> Result<Call, AllocError>
-    requires { IsTrue (are_items path_text.now) }
-    ensures { IfOk result (λ c. c ≡ calls.Open path_text.now flags_text.now) }
-{
-    Ok(Call::Open(path(alloc, path_text)?, flags(alloc, flags_text)?))
-}
-
-/// A call on two paths.
-fn on_paths(alloc: Global, call: PathsCall, from: &[u8], to: &[u8]) -> Result<Call, AllocError>
-    requires from { IsTrue (are_items from.now) }
-    requires to { IsTrue (are_items to.now) }
-    ensures { IfOk result (λ c. c ≡ calls.OnPaths call from.now to.now) }
-{
-    Ok(Call::OnPaths(call, path(alloc, from)?, path(alloc, to)?))
-}
-
-/// A call on a path at a directory, with flags.
-fn at_flags(
-    alloc: Global,
-    call: AtFlagsCall,
-    dir: Dir,
-    path_text: &[u8],
-    flags_text: &[u8],
-) -> Result<Call, AllocError>
-    requires { IsTrue (are_items path_text.now) }
-    ensures { IfOk result (λ c. c ≡ calls.AtFlags call dir path_text.now flags_text.now) }
-{
-    Ok(Call::AtFlags(
-        call,
-        dir,
-        path(alloc, path_text)?,
-        flags(alloc, flags_text)?,
-    ))
-}
-
-/// `symlinkat`.
-fn symlink_at(alloc: Global, target: &[u8], dir: Dir, link: &[u8]) -> Result<Call, AllocError>
-    requires target { IsTrue (are_items target.now) }
-    requires link { IsTrue (are_items link.now) }
-    ensures { IfOk result (λ c. c ≡ calls.SymlinkAt target.now dir link.now) }
-{
-    Ok(Call::SymlinkAt(path(alloc, target)?, dir, path(alloc, link)?))
-}
-
-/// `renameat`.
-fn rename_at(
-    alloc: Global,
-    from_dir: Dir,
-    from: &[u8],
-    to_dir: Dir,
-    to: &[u8],
-) -> Result<Call, AllocError>
-    requires from { IsTrue (are_items from.now) }
-    requires to { IsTrue (are_items to.now) }
-    ensures { IfOk result (λ c. c ≡ calls.RenameAt from_dir from.now to_dir to.now) }
-{
-    Ok(Call::RenameAt(
-        from_dir,
-        boxed_path(alloc, from)?,
-        to_dir,
-        boxed_path(alloc, to)?,
-    ))
-}
-
-/// `linkat`.
-fn link_at(
-    alloc: Global,
-    from_dir: Dir,
-    from: &[u8],
-    to_dir: Dir,
-    to: &[u8],
-    flags_text: &[u8],
-) -> Result<Call, AllocError>
-    requires from { IsTrue (are_items from.now) }
-    requires to { IsTrue (are_items to.now) }
-    ensures { IfOk result (λ c. c ≡ calls.LinkAt from_dir from.now to_dir to.now flags_text.now) }
-{
-    Ok(Call::LinkAt(
-        from_dir,
-        boxed_path(alloc, from)?,
-        to_dir,
-        boxed_path(alloc, to)?,
-        boxed_flags(alloc, flags_text)?,
-    ))
-}
-
-/// A call without a form of its own.
-fn other(alloc: Global, name_text: &[u8], args_text: &[u8]) -> Result<Call, AllocError>
-    ensures { IfOk result (λ c. c ≡ calls.Other name_text.now args_text.now) }
-{
-    Ok(Call::Other {
-        name: name(alloc, name_text)?,
-        args: args(alloc, args_text)?,
-    })
-}
-
-/// A call on a path.
-fn on_path(alloc: Global, call: PathCall, path_text: &[u8]) -> Result<Call, AllocError>
-    requires { IsTrue (are_items path_text.now) }
-    ensures { IfOk result (λ c. c ≡ calls.OnPath call path_text.now) }
-{
-    Ok(Call::OnPath(call, path(alloc, path_text)?))
-}
-
-/// A call on a path at a directory.
-fn at(alloc: Global, call: AtCall, dir: Dir, path_text: &[u8]) -> Result<Call, AllocError>
-    requires { IsTrue (are_items path_text.now) }
-    ensures { IfOk result (λ c. c ≡ calls.At call dir path_text.now) }
-{
-    Ok(Call::At(call, dir, path(alloc, path_text)?))
-}
-
-/// A call on flags.
-fn on_flags(alloc: Global, call: FlagsCall, flags_text: &[u8]) -> Result<Call, AllocError>
-    ensures { IfOk result (λ c. c ≡ calls.OnFlags call flags_text.now) }
-{
-    Ok(Call::OnFlags(call, flags(alloc, flags_text)?))
-}
-
 /// A call, in memory of its own.
 pub(crate) fn call_of(alloc: Global, seen: &CallSeen<'_>) -> Result<Call, AllocError>
     requires { HavePaths (args_of_call (call_seen seen.now)) }
     ensures { IfOk result (λ c. c ≡ call_seen seen.now) }
 {
-    match seen {
-        CallSeen::OnFd(call, fd) => Ok(Call::OnFd(*call, *fd)),
-        CallSeen::Send(call, fd) => Ok(Call::Send(*call, *fd)),
-        CallSeen::SendTo(call, fd) => Ok(Call::SendTo(*call, *fd)),
-        CallSeen::Accept4(fd, flags) => accept4(alloc, *fd, flags),
-        CallSeen::Dup2(fd, made) => Ok(Call::Dup2(*fd, *made)),
-        CallSeen::Fcntl(fd, word) => fcntl(alloc, *fd, word),
-        CallSeen::FcntlDup(call, fd, made) => Ok(Call::FcntlDup(*call, *fd, *made)),
-        CallSeen::FcntlSetFd(fd, flags) => fcntl_set_fd(alloc, *fd, flags),
-        CallSeen::Mmap(fd, protection, mapping) => mmap(alloc, *fd, protection, mapping),
-        CallSeen::RightsLimit(fd, rights) => Ok(Call::RightsLimit(*fd, *rights)),
-        CallSeen::Open(path, flags) => open(alloc, path, flags),
-        CallSeen::OnPath(call, path) => on_path(alloc, *call, path),
-        CallSeen::OnPaths(call, from, to) => on_paths(alloc, *call, from, to),
-        CallSeen::At(call, dir, path) => at(alloc, *call, *dir, path),
-        CallSeen::AtFlags(call, dir, path, flags) => at_flags(alloc, *call, *dir, path, flags),
-        CallSeen::SymlinkAt(target, dir, link) => symlink_at(alloc, target, *dir, link),
-        CallSeen::RenameAt(from_dir, from, to_dir, to) => rename_at(
-            alloc, *from_dir, from, *to_dir, to,
-        ),
-        CallSeen::LinkAt(from_dir, from, to_dir, to, flags) => link_at(
-            alloc, *from_dir, from, *to_dir, to, flags,
-        ),
-        CallSeen::OnFlags(call, flags) => on_flags(alloc, *call, flags),
-        CallSeen::Bare(call) => Ok(Call::Bare(*call)),
-        CallSeen::Other(name, args) => other(alloc, name, args),
+    match *seen {
+        CallSeen::OnFd(call, fd) => Ok(Call::OnFd(call, fd)),
+        CallSeen::Send(call, fd) => Ok(Call::Send(call, fd)),
+        CallSeen::SendTo(call, fd) => Ok(Call::SendTo(call, fd)),
+        CallSeen::Accept4(fd, text) => Ok(Call::Accept4(fd, flags(alloc, text)?)),
+        CallSeen::Dup2(fd, made) => Ok(Call::Dup2(fd, made)),
+        CallSeen::Fcntl(fd, text) => {
+            let word = Text::of(alloc, text)?;
+            Ok(Call::Fcntl(fd, Command { word }))
+        }
+        CallSeen::FcntlDup(command, fd, made) => Ok(Call::FcntlDup(command, fd, made)),
+        CallSeen::FcntlSetFd(fd, text) => Ok(Call::FcntlSetFd(fd, flags(alloc, text)?)),
+        CallSeen::Mmap(fd, protection, mapping) => {
+            Ok(Call::Mmap(fd, flags(alloc, protection)?, flags(alloc, mapping)?))
+        }
+        CallSeen::RightsLimit(fd, rights) => Ok(Call::RightsLimit(fd, rights)),
+        CallSeen::Open(file, text) => {
+            let (path, flags) = path_and_flags(alloc, file, text)?;
+            Ok(Call::Open(path, flags))
+        }
+        CallSeen::OnPath(call, file) => Ok(Call::OnPath(call, path(alloc, file)?)),
+        CallSeen::OnPaths(call, from, to) => {
+            let (from, to) = two_paths(alloc, from, to)?;
+            Ok(Call::OnPaths(call, from, to))
+        }
+        CallSeen::At(call, dir, file) => Ok(Call::At(call, dir, path(alloc, file)?)),
+        CallSeen::AtFlags(call, dir, file, text) => {
+            let (path, flags) = path_and_flags(alloc, file, text)?;
+            Ok(Call::AtFlags(call, dir, path, flags))
+        }
+        CallSeen::SymlinkAt(target, dir, link) => {
+            let (target, link) = two_paths(alloc, target, link)?;
+            Ok(Call::SymlinkAt(target, dir, link))
+        }
+        CallSeen::RenameAt(from_dir, from, to_dir, to) => {
+            let (from, to) = boxed_paths(alloc, from, to)?;
+            Ok(Call::RenameAt(from_dir, from, to_dir, to))
+        }
+        CallSeen::LinkAt(from_dir, from, to_dir, to, text) => {
+            let flags = boxed(alloc, flags(alloc, text)?)?;
+            let (from, to) = boxed_paths(alloc, from, to)?;
+            Ok(Call::LinkAt(from_dir, from, to_dir, to, flags))
+        }
+        CallSeen::OnFlags(call, text) => Ok(Call::OnFlags(call, flags(alloc, text)?)),
+        CallSeen::Bare(call) => Ok(Call::Bare(call)),
+        CallSeen::Other(name, args) => {
+            let name = Text::of(alloc, name)?;
+            let args = Text::of(alloc, args)?;
+            Ok(Call::Other {
+                name: Name { name },
+                args: Args { args },
+            })
+        }
     }
 }
 

@@ -209,7 +209,7 @@ fn short_answer(kind: Kind, tail: &[u8]) -> Option<Answer>
 fn answer_of(name: Form, tail: &[u8]) -> Option<Answer>
     ensures { IfSome result (λ a. answer_at (row_of name).kind tail.now ≡ Ok a) }
 {
-    short_answer(name.row().kind, tail)
+    short_answer(name.kind(), tail)
 }
 
 /// `name(fd)`, its descriptor and its answer.

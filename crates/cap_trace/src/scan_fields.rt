@@ -1,9 +1,7 @@
 //! Reading the fields of a line over its bytes. Nothing here takes memory.
 
-ghost use Rattle.std.specs.Prelude.{◌≡◌, ◌≤◌, ◌==◌, ◌∷◌, [], false, length, IfOk, MatchResult};
-ghost use Rattle.cap_trace.specs.declared.fault.FirstFault.TheVariants.{Argument};
+ghost use Rattle.std.specs.Prelude.{◌≤◌, IfOk};
 ghost use Rattle.cap_trace.specs.Limits.{largest_fd};
-ghost use Rattle.cap_trace.specs.Quotes.{pieces};
 ghost use Rattle.cap_trace.specs.Reading.{Gives, pid_at, fd_at, rights_at, dir_at, flags_at, command_at, path_at};
 ghost use Rattle.cap_trace.specs.Reading.{free_at};
 
@@ -12,7 +10,6 @@ use crate::fields::{command, flags, free, items};
 use crate::limits::{LARGEST_FD, LARGEST_PID};
 use crate::line::{Dir, Fd, Pid};
 use crate::number::number_of;
-use crate::parts::Parts;
 use cap_rights::{RightSet, parse_rights};
 
 #[tactic(auto, unfolding(crate::specs::Reading::pid_at))]
@@ -57,22 +54,14 @@ pub(crate) fn dir_of(text: &[u8]) -> Result<Dir, FirstFault>
 pub(crate) fn flags_of(text: &[u8]) -> Result<&[u8], FirstFault>
     ensures { Gives (λ f. f.now) result (flags_at text.now) }
 {
-    if flags(text) {
-        Ok(text)
-    } else {
-        Err(FirstFault::Argument)
-    }
+    flags(text).then_some(text).ok_or(FirstFault::Argument)
 }
 
 #[tactic(auto, unfolding(crate::specs::Reading::command_at))]
 pub(crate) fn command_of(text: &[u8]) -> Result<&[u8], FirstFault>
     ensures { Gives (λ c. c.now) result (command_at text.now) }
 {
-    if command(text) {
-        Ok(text)
-    } else {
-        Err(FirstFault::Argument)
-    }
+    command(text).then_some(text).ok_or(FirstFault::Argument)
 }
 
 /// What stands between the quotes.
@@ -93,95 +82,5 @@ pub(crate) fn path_of(text: &[u8]) -> Result<&[u8], FirstFault>
 pub(crate) fn free_of(text: &[u8]) -> Result<&[u8], FirstFault>
     ensures { Gives (λ a. a.now) result (free_at text.now) }
 {
-    if free(text) {
-        Ok(text)
-    } else {
-        Err(FirstFault::Shape)
-    }
-}
-
-// ---- how many arguments there are
-
-/// No argument.
-pub(crate) fn no_part(args: &[u8]) -> Result<(), FirstFault>
-    ensures { MatchResult result (λ _. pieces args.now ≡ [])
-        (λ e. (e ≡ Argument) × ((length (pieces args.now) == 0) ≡ false)) }
-{
-    match Parts::of(args).next() {
-        None => Ok(()),
-        Some(_) => Err(FirstFault::Argument),
-    }
-}
-
-/// The one argument.
-pub(crate) fn one_part(args: &[u8]) -> Result<&[u8], FirstFault>
-    ensures { MatchResult result (λ a. pieces args.now ≡ a.now ∷ [])
-        (λ e. (e ≡ Argument) × ((length (pieces args.now) == 1) ≡ false)) }
-{
-    let mut parts = Parts::of(args);
-    match (parts.next(), parts.next()) {
-        (Some(a), None) => Ok(a),
-        _ => Err(FirstFault::Argument),
-    }
-}
-
-/// The two arguments.
-pub(crate) fn two_parts(args: &[u8]) -> Result<(&[u8], &[u8]), FirstFault>
-    ensures { MatchResult result (λ p. pieces args.now ≡ p.0.now ∷ p.1.now ∷ [])
-        (λ e. (e ≡ Argument) × ((length (pieces args.now) == 2) ≡ false)) }
-{
-    let mut parts = Parts::of(args);
-    match (parts.next(), parts.next(), parts.next()) {
-        (Some(a), Some(b), None) => Ok((a, b)),
-        _ => Err(FirstFault::Argument),
-    }
-}
-
-/// The three arguments.
-pub(crate) fn three_parts(args: &[u8]) -> Result<(&[u8], &[u8], &[u8]), FirstFault>
-    ensures { MatchResult result (λ p. pieces args.now ≡ p.0.now ∷ p.1.now ∷ p.2.now ∷ [])
-        (λ e. (e ≡ Argument) × ((length (pieces args.now) == 3) ≡ false)) }
-{
-    let mut parts = Parts::of(args);
-    match (parts.next(), parts.next(), parts.next(), parts.next()) {
-        (Some(a), Some(b), Some(c), None) => Ok((a, b, c)),
-        _ => Err(FirstFault::Argument),
-    }
-}
-
-/// The four arguments.
-pub(crate) fn four_parts(args: &[u8]) -> Result<(&[u8], &[u8], &[u8], &[u8]), FirstFault>
-    ensures { MatchResult result (λ p. pieces args.now ≡ p.0.now ∷ p.1.now ∷ p.2.now ∷ p.3.now ∷ [])
-        (λ e. (e ≡ Argument) × ((length (pieces args.now) == 4) ≡ false)) }
-{
-    let mut parts = Parts::of(args);
-    match (
-        parts.next(),
-        parts.next(),
-        parts.next(),
-        parts.next(),
-        parts.next(),
-    ) {
-        (Some(a), Some(b), Some(c), Some(d), None) => Ok((a, b, c, d)),
-        _ => Err(FirstFault::Argument),
-    }
-}
-
-/// The five arguments.
-pub(crate) fn five_parts(args: &[u8]) -> Result<(&[u8], &[u8], &[u8], &[u8], &[u8]), FirstFault>
-    ensures { MatchResult result (λ p. pieces args.now ≡ p.0.now ∷ p.1.now ∷ p.2.now ∷ p.3.now ∷ p.4.now ∷ [])
-        (λ e. (e ≡ Argument) × ((length (pieces args.now) == 5) ≡ false)) }
-{
-    let mut parts = Parts::of(args);
-    match (
-        parts.next(),
-        parts.next(),
-        parts.next(),
-        parts.next(),
-        parts.next(),
-        parts.next(),
-    ) {
-        (Some(a), Some(b), Some(c), Some(d), Some(e), None) => Ok((a, b, c, d, e)),
-        _ => Err(FirstFault::Argument),
-    }
+    free(text).then_some(text).ok_or(FirstFault::Shape)
 }

@@ -8,6 +8,7 @@ use crate::calls::{
     SendCall,
 };
 use crate::line::{Answer, Dir, Fd, Pid};
+use crate::names::Head;
 use cap_rights::RightSet;
 
 /// A call with its arguments, whose texts lie elsewhere: each variant is that of [`crate::Call`] with the same name.
@@ -74,21 +75,21 @@ pub(crate) fn fcntl_kind(command: &[u8]) -> Kind
 }
 
 impl<'a> CallSeen<'a> {
-    ghost use Rattle.cap_trace.specs.Entry.{kind_of};
+    ghost use Rattle.cap_trace.specs.Entry.{head_of_call, kind_of};
+    ghost use Rattle.cap_trace.specs.Rows.{head_seen};
     ghost use Rattle.cap_trace.specs.Seen.{call_seen};
 
-    /// What the call answers where it doesn't fail.
-    pub(crate) fn kind(&self) -> Kind
-        ensures { result ≡ kind_of (call_seen self.now) }
+    /// What stands before the arguments.
+    pub(crate) fn head(&self) -> Head<'a>
+        ensures { head_seen result ≡ head_of_call (call_seen self.now) }
     {
-        let form = match self {
-            CallSeen::Dup2(_, fd) | CallSeen::FcntlDup(_, _, fd) => return Kind::Same(*fd),
-            CallSeen::Fcntl(_, command) => return fcntl_kind(command),
-            CallSeen::Other(_, _) => return Kind::Any,
-            CallSeen::FcntlSetFd(_, _) => Form::Fcntl,
+        Head::Listed(match self {
             CallSeen::OnFd(call, _) => Form::OnFd(*call),
             CallSeen::Send(call, _) | CallSeen::SendTo(call, _) => Form::Send(*call),
             CallSeen::Accept4(_, _) => Form::Accept4,
+            CallSeen::Dup2(_, _) => Form::Dup2,
+            CallSeen::Fcntl(_, _) | CallSeen::FcntlDup(_, _, _) | CallSeen::FcntlSetFd(_, _) =>
+                Form::Fcntl,
             CallSeen::Mmap(_, _, _) => Form::Mmap,
             CallSeen::RightsLimit(_, _) => Form::RightsLimit,
             CallSeen::Open(_, _) => Form::Open,
@@ -101,7 +102,18 @@ impl<'a> CallSeen<'a> {
             CallSeen::LinkAt(_, _, _, _, _) => Form::LinkAt,
             CallSeen::OnFlags(call, _) => Form::OnFlags(*call),
             CallSeen::Bare(call) => Form::Bare(*call),
-        };
-        form.row().kind
+            CallSeen::Other(name, _) => return Head::Unlisted(name),
+        })
+    }
+
+    /// What the call answers where it doesn't fail.
+    pub(crate) fn kind(&self) -> Kind
+        ensures { result ≡ kind_of (call_seen self.now) }
+    {
+        match self {
+            CallSeen::Dup2(_, fd) | CallSeen::FcntlDup(_, _, fd) => Kind::Same(*fd),
+            CallSeen::Fcntl(_, command) => fcntl_kind(command),
+            _ => self.head().kind(),
+        }
     }
 }

@@ -2,7 +2,7 @@
 //!
 //! What a function here wrote before memory ran out stays in the vector; `write_line` takes it off again.
 
-ghost use Rattle.std.specs.Prelude.{◌≡◌, ◌++◌, ◌∷◌, [], codes, length, map, take, OnOk, OnErr, if◌then◌else◌, is_ok};
+ghost use Rattle.std.specs.Prelude.{◌≡◌, ◌++◌, ◌∷◌, [], length, map, take, OnOk, OnErr, if◌then◌else◌, is_ok};
 ghost use Rattle.std.specs.Fmt.{decimal};
 ghost use Rattle.std.specs.List.{join_with_byte};
 ghost use Rattle.cap_trace.specs.Names.{name_of};
@@ -11,20 +11,12 @@ ghost use Rattle.cap_trace.specs.Entry.{args_of_call, args_of, fds as fd_args, h
 ghost use Rattle.cap_trace.specs.Spelling.{Spells, arg_text, answer_text, tail_text, canon};
 ghost use Rattle.cap_trace.specs.Writing.{shown_text, with_commas};
 
+use crate::args::ArgSeen;
+use crate::few::Few;
 use crate::line::{Answer, Call, Dir, Fd, Item, Line, Pid};
-use cap_rights::{NoMemory, RightSet, write_rights};
+use cap_rights::{NoMemory, write_rights};
 use itoa::Buffer;
 use std::alloc::AllocError;
-
-/// An argument, to be written.
-#[derive(Clone, Copy)]
-enum Shown<'a> {
-    Fd(Fd),
-    Dir(Dir),
-    Text(&'a [u8]),
-    Path(&'a [u8]),
-    Rights(&'a RightSet),
-}
 
 fn put_number(number: u64, out: &mut Vec<u8>) -> Result<(), AllocError>
     ensures { out.new.items ≡ (if is_ok result then out.old.items ++ decimal number else out.old.items) }
@@ -42,21 +34,26 @@ fn put_path(path: &[u8], out: &mut Vec<u8>) -> Result<(), AllocError>
     out.extend_from_slice(b"\"")
 }
 
-fn put_argument(argument: &Shown<'_>, out: &mut Vec<u8>) -> Result<(), AllocError>
+fn put_argument(argument: &ArgSeen<'_>, out: &mut Vec<u8>) -> Result<(), AllocError>
     ensures ok { OnOk result (out.new.items ≡ out.old.items ++ shown_text argument.now) }
     ensures err { OnErr result (take (length out.old.items) out.new.items ≡ out.old.items) }
 {
     match argument {
-        Shown::Fd(fd) | Shown::Dir(Dir::Fd(fd)) => put_number(u64::from(*fd), out),
-        Shown::Dir(Dir::Cwd) => out.extend_from_slice(b"AT_FDCWD"),
-        Shown::Text(text) => out.extend_from_slice(text),
-        Shown::Path(path) => put_path(path, out),
-        Shown::Rights(rights) => write_rights(rights, out).map_err(|_| AllocError),
+        ArgSeen::Fd(fd) | ArgSeen::Dir(Dir::Fd(fd)) => put_number(u64::from(*fd), out),
+        ArgSeen::Dir(Dir::Cwd) => out.extend_from_slice(b"AT_FDCWD"),
+        ArgSeen::Flags(text) | ArgSeen::Command(text) | ArgSeen::Free(text) => {
+            out.extend_from_slice(text)
+        }
+        ArgSeen::Path(path) => put_path(path, out),
+        ArgSeen::Rights(rights) => write_rights(rights, out).map_err(|_| AllocError),
+        ArgSeen::Dest => out.extend_from_slice(b"DEST"),
+        ArgSeen::SetFd => out.extend_from_slice(b"F_SETFD"),
+        ArgSeen::DupTo(command) => out.extend_from_slice(command.name()),
     }
 }
 
 /// Each argument after a comma.
-fn put_others(others: &[Shown<'_>], out: &mut Vec<u8>) -> Result<(), AllocError>
+fn put_others(others: &[ArgSeen<'_>], out: &mut Vec<u8>) -> Result<(), AllocError>
     ensures ok { OnOk result (out.new.items ≡ out.old.items ++ with_commas (map shown_text others.now)) }
     ensures err { OnErr result (take (length out.old.items) out.new.items ≡ out.old.items) }
 {
@@ -68,7 +65,7 @@ fn put_others(others: &[Shown<'_>], out: &mut Vec<u8>) -> Result<(), AllocError>
 }
 
 /// The arguments, with commas between them.
-fn put_arguments(arguments: &[Shown<'_>], out: &mut Vec<u8>) -> Result<(), AllocError>
+fn put_arguments(arguments: &[ArgSeen<'_>], out: &mut Vec<u8>) -> Result<(), AllocError>
     ensures ok { OnOk result (out.new.items ≡ out.old.items ++ join_with_byte 44 (map shown_text arguments.now)) }
     ensures err { OnErr result (take (length out.old.items) out.new.items ≡ out.old.items) }
 {
@@ -87,93 +84,13 @@ fn put_call(call: &Call, out: &mut Vec<u8>) -> Result<(), AllocError>
         (out.new.items ≡ out.old.items ++ join_with_byte 44 (map arg_text (args_of_call call.now))) }
     ensures err { OnErr result (take (length out.old.items) out.new.items ≡ out.old.items) }
 {
-    match call {
-        Call::OnFd(_, fd) | Call::Send(_, fd) => put_arguments(&[Shown::Fd(*fd)], out),
-        Call::SendTo(_, fd) => put_arguments(&[Shown::Fd(*fd), Shown::Text(b"DEST")], out),
-        Call::Accept4(fd, flags) => {
-            put_arguments(&[Shown::Fd(*fd), Shown::Text(flags.as_bytes())], out)
-        }
-        Call::Dup2(fd, made) => put_arguments(&[Shown::Fd(*fd), Shown::Fd(*made)], out),
-        Call::Fcntl(fd, command) => {
-            put_arguments(&[Shown::Fd(*fd), Shown::Text(command.as_bytes())], out)
-        }
-        Call::FcntlDup(command, fd, made) => put_arguments(
-            &[
-                Shown::Fd(*fd),
-                Shown::Text(command.name()),
-                Shown::Fd(*made),
-            ],
-            out,
-        ),
-        Call::FcntlSetFd(fd, flags) => put_arguments(
-            &[
-                Shown::Fd(*fd),
-                Shown::Text(b"F_SETFD"),
-                Shown::Text(flags.as_bytes()),
-            ],
-            out,
-        ),
-        Call::Mmap(fd, protection, kind) => put_arguments(
-            &[
-                Shown::Fd(*fd),
-                Shown::Text(protection.as_bytes()),
-                Shown::Text(kind.as_bytes()),
-            ],
-            out,
-        ),
-        Call::RightsLimit(fd, rights) => {
-            put_arguments(&[Shown::Fd(*fd), Shown::Rights(rights)], out)
-        }
-        Call::Open(path, flags) => put_arguments(
-            &[Shown::Path(path.as_bytes()), Shown::Text(flags.as_bytes())],
-            out,
-        ),
-        Call::OnPath(_, path) => put_arguments(&[Shown::Path(path.as_bytes())], out),
-        Call::OnPaths(_, from, to) => put_arguments(
-            &[Shown::Path(from.as_bytes()), Shown::Path(to.as_bytes())],
-            out,
-        ),
-        Call::At(_, dir, path) => {
-            put_arguments(&[Shown::Dir(*dir), Shown::Path(path.as_bytes())], out)
-        }
-        Call::AtFlags(_, dir, path, flags) => put_arguments(
-            &[
-                Shown::Dir(*dir),
-                Shown::Path(path.as_bytes()),
-                Shown::Text(flags.as_bytes()),
-            ],
-            out,
-        ),
-        Call::SymlinkAt(target, dir, path) => put_arguments(
-            &[
-                Shown::Path(target.as_bytes()),
-                Shown::Dir(*dir),
-                Shown::Path(path.as_bytes()),
-            ],
-            out,
-        ),
-        Call::RenameAt(from, old, to, new) => put_arguments(
-            &[
-                Shown::Dir(*from),
-                Shown::Path(old.get().as_bytes()),
-                Shown::Dir(*to),
-                Shown::Path(new.get().as_bytes()),
-            ],
-            out,
-        ),
-        Call::LinkAt(from, old, to, new, flags) => put_arguments(
-            &[
-                Shown::Dir(*from),
-                Shown::Path(old.get().as_bytes()),
-                Shown::Dir(*to),
-                Shown::Path(new.get().as_bytes()),
-                Shown::Text(flags.get().as_bytes()),
-            ],
-            out,
-        ),
-        Call::OnFlags(_, flags) => put_arguments(&[Shown::Text(flags.as_bytes())], out),
-        Call::Bare(_) => Ok(()),
-        Call::Other { args, .. } => out.extend_from_slice(args.as_bytes()),
+    match call.seen().args() {
+        Few::Zero => Ok(()),
+        Few::One(a) => put_arguments(&[a], out),
+        Few::Two(a, b) => put_arguments(&[a, b], out),
+        Few::Three(a, b, c) => put_arguments(&[a, b, c], out),
+        Few::Four(a, b, c, d) => put_arguments(&[a, b, c, d], out),
+        Few::Five(a, b, c, d, e) => put_arguments(&[a, b, c, d, e], out),
     }
 }
 
@@ -271,14 +188,6 @@ pub(crate) fn put_text(pid: Pid, item: &Item, out: &mut Vec<u8>) -> Result<(), A
     put_tail(item, out)
 }
 
-fn put_line(line: &Line, out: &mut Vec<u8>) -> Result<(), AllocError>
-    ensures ok { OnOk result (out.new.items ≡ out.old.items ++ canon line.now) }
-    ensures spelled { Spells (canon line.now) line.now }
-    ensures err { OnErr result (take (length out.old.items) out.new.items ≡ out.old.items) }
-{
-    put_text(line.pid, &line.item, out)
-}
-
 /// Appends the one canonical text of a line, without a line feed. It spells the line, so it has at most
 /// 1,024 bytes. But for rights, which are named in the order of their table, it is the text that was read.
 ///
@@ -291,7 +200,7 @@ pub fn write_line(line: &Line, out: &mut Vec<u8>) -> Result<(), NoMemory>
     ensures err { OnErr result (out.new.items ≡ out.old.items) }
 {
     let start = out.len();
-    match put_line(line, out) {
+    match put_text(line.pid, &line.item, out) {
         Ok(()) => Ok(()),
         Err(_) => {
             out.truncate(start);

@@ -1,0 +1,68 @@
+//! The arguments of a call, by kind, with their texts where they lie.
+
+ghost use Rattle.std.specs.Prelude.{◌≡◌};
+
+use crate::args::ArgSeen::{Command, Dest, Dir, DupTo, Fd, Flags, Free, Path, Rights, SetFd};
+use crate::calls::DupCommand;
+use crate::few::Few::{self, Five, Four, One, Three, Two, Zero};
+use crate::line;
+use crate::seen::CallSeen;
+use cap_rights::RightSet;
+
+/// An argument.
+#[derive(Clone, Copy)]
+pub(crate) enum ArgSeen<'a> {
+    Fd(line::Fd),
+    Dir(line::Dir),
+    Flags(&'a [u8]),
+    Rights(RightSet),
+    Path(&'a [u8]),
+    Command(&'a [u8]),
+    /// `DEST`.
+    Dest,
+    /// `F_SETFD`.
+    SetFd,
+    /// `F_DUP2FD`, `F_DUP2FD_CLOEXEC`.
+    DupTo(DupCommand),
+    /// What stands between the brackets of a call without a form of its own.
+    Free(&'a [u8]),
+}
+
+impl<'a> CallSeen<'a> {
+    ghost use Rattle.cap_trace.specs.Entry.{args_of_call};
+    ghost use Rattle.cap_trace.specs.Seen.{args_seen, call_seen};
+
+    /// The arguments.
+    pub(crate) fn args(&self) -> Few<ArgSeen<'a>>
+        ensures { args_seen result ≡ args_of_call (call_seen self.now) }
+    {
+        match *self {
+            CallSeen::OnFd(_, fd) | CallSeen::Send(_, fd) => One(Fd(fd)),
+            CallSeen::SendTo(_, fd) => Two(Fd(fd), Dest),
+            CallSeen::Accept4(fd, flags) => Two(Fd(fd), Flags(flags)),
+            CallSeen::Dup2(fd, made) => Two(Fd(fd), Fd(made)),
+            CallSeen::Fcntl(fd, command) => Two(Fd(fd), Command(command)),
+            CallSeen::FcntlDup(command, fd, made) => Three(Fd(fd), DupTo(command), Fd(made)),
+            CallSeen::FcntlSetFd(fd, flags) => Three(Fd(fd), SetFd, Flags(flags)),
+            CallSeen::Mmap(fd, protection, mapping) => {
+                Three(Fd(fd), Flags(protection), Flags(mapping))
+            }
+            CallSeen::RightsLimit(fd, rights) => Two(Fd(fd), Rights(rights)),
+            CallSeen::Open(path, flags) => Two(Path(path), Flags(flags)),
+            CallSeen::OnPath(_, path) => One(Path(path)),
+            CallSeen::OnPaths(_, from, to) => Two(Path(from), Path(to)),
+            CallSeen::At(_, dir, path) => Two(Dir(dir), Path(path)),
+            CallSeen::AtFlags(_, dir, path, flags) => Three(Dir(dir), Path(path), Flags(flags)),
+            CallSeen::SymlinkAt(target, dir, link) => Three(Path(target), Dir(dir), Path(link)),
+            CallSeen::RenameAt(dir, from, to_dir, to) => {
+                Four(Dir(dir), Path(from), Dir(to_dir), Path(to))
+            }
+            CallSeen::LinkAt(dir, from, to_dir, to, flags) => {
+                Five(Dir(dir), Path(from), Dir(to_dir), Path(to), Flags(flags))
+            }
+            CallSeen::OnFlags(_, flags) => One(Flags(flags)),
+            CallSeen::Bare(_) => Zero,
+            CallSeen::Other(_, args) => One(Free(args)),
+        }
+    }
+}
