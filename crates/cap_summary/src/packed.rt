@@ -4,11 +4,10 @@ ghost use Rattle.std.specs.Prelude.{◌≡◌, ℕ, ◌+◌, ◌*◌, ◌/◌, �
 ghost use Rattle.std.specs.Prelude.{Bool, true, IfOk, IfSome, OnOk, map};
 ghost use Rattle.cap_summary.specs.declared.conditions.Condition.{Condition};
 ghost use Rattle.cap_machine.specs.State.{State};
-ghost use Rattle.cap_summary.specs.Conditions.{holds, any_holds, passes, source_holds, held_before};
+ghost use Rattle.cap_summary.specs.Conditions.{holds, passes, source_holds, held_before};
 ghost use Rattle.cap_summary.specs.MovedLow.{LacksBefore};
 ghost use Rattle.cap_summary.specs.Packed.{key_pid, key_fd, key_closed, lacking, low_condition, low_conditions, packed_condition};
 ghost use Rattle.cap_summary.specs.Packed.{low_source, packed_conditions};
-ghost use Rattle.cap_summary.specs.Merging.{HasOneMore};
 ghost use Rattle.cap_summary.specs.Names.{Names, these, ConditionsWithin};
 ghost use Rattle.cap_summary.specs.Shared.{shared_entries};
 ghost use Rattle.cap_summary.specs.Sizes.{room, rank, part_rank, condition_rank, RankWithin};
