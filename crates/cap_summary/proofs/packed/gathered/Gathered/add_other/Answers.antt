@@ -1,7 +1,7 @@
 use Rattle.std.proofs.Common.{◌++◌}
 use Rattle.cap_summary.specs.Packed.{low_conditions, packed_condition, packed_conditions}
 use Rattle.cap_summary.proofs.Gathering.{more_behind, shown_more}
-use Rattle.cap_summary.proofs.packed.Gathered.add_other.Goals as goal
+use Rattle.cap_summary.proofs.packed.gathered.Gathered.add_other.Goals as goal
 
 pub returns : goal.returns
 returns c =

@@ -1,7 +1,7 @@
 use Rattle.std.proofs.Common.{◌++◌}
 use Rattle.cap_summary.specs.Packed.{low_condition, low_conditions, packed_conditions}
 use Rattle.cap_summary.proofs.Gathering.{more_behind, shown_more_within}
-use Rattle.cap_summary.proofs.packed.Gathered.add_low.Goals as goal
+use Rattle.cap_summary.proofs.packed.gathered.Gathered.add_low.Goals as goal
 
 pub returns-then-not-goes_on : goal.returns-then-not-goes_on
 returns-then-not-goes_on c =

@@ -1,6 +1,6 @@
 use Rattle.cap_summary.specs.Packed.{packed_conditions}
 use Rattle.cap_summary.proofs.Gathering.{three_parts, three_within}
-use Rattle.cap_summary.proofs.packed.Gathered.finish.Goals as goal
+use Rattle.cap_summary.proofs.packed.gathered.Gathered.finish.Goals as goal
 
 pub returns-clause-holds : goal.returns-clause-holds
 returns-clause-holds c = λ s.
