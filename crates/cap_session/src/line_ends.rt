@@ -62,6 +62,7 @@ fn next_marks(text: &[u8], from: usize) -> (usize, u64)
 }
 
 impl<'a> LineEnds<'a> {
+    /// The whole text, of which nothing was looked at yet.
     pub fn of(text: &'a [u8]) -> LineEnds<'a>
         ensures { result ≡ text.now }
     {
