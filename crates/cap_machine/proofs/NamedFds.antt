@@ -7,10 +7,11 @@ use Rattle.std.specs.Str.{bytes_eq}
 use Rattle.std.proofs.lemmas.Bool.{ne_eqb, eqb-true}
 use Rattle.std.proofs.lemmas.Bool.Decides.{nat_tests}
 use Rattle.std.proofs.lemmas.List.Elements.{All-cons, All-nil}
-use Rattle.cap_trace.specs.declared.line.Item.{Item}
-use Rattle.cap_trace.specs.declared.line.Item.TheVariants as items
-use Rattle.cap_trace.specs.declared.line.Call.{Call}
-use Rattle.cap_trace.specs.declared.line.Call.TheVariants as calls
+use Rattle.cap_trace.specs.Seen.{fds_spelled}
+use Rattle.cap_trace.specs.Item.{Item}
+use Rattle.cap_trace.specs.Item as items
+use Rattle.cap_trace.specs.Call.{Call}
+use Rattle.cap_trace.specs.Call as calls
 use Rattle.cap_trace.specs.declared.line.Dir.{Dir}
 use Rattle.cap_trace.specs.declared.line.Dir.TheVariants as dirs
 use Rattle.cap_trace.specs.declared.line.Answer.{Answer}
@@ -577,8 +578,8 @@ module _ (step : Step) where
 
 pub named_effects : NamedEffects
 named_effects step (effects.Start fs) does =
-    start_effect step fs.now
-    (λ f. sym (picked (step.line.pid == step.line.pid) (given (started fs.now f)) kept (itself step.line.pid))
+    start_effect step (fds_spelled fs.now)
+    (λ f. sym (picked (step.line.pid == step.line.pid) (given (started (fds_spelled fs.now) f)) kept (itself step.line.pid))
     ∙ does step.line.pid f)
 named_effects step (effects.Give g c) does =
     one_named step g (give_effect step g (given c) (λ e. cc) (does step.line.pid))

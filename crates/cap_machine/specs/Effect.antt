@@ -1,5 +1,6 @@
 -- What an effect does to one cell and to one mode; me is the process of the line.
 use Rattle.std.specs.Prelude.{◌≡◌, ℕ, ◌==◌, ◌&&◌, ◌||◌, ◌<◌, ◌^◌, nat_le, if◌then◌else◌}
+use Rattle.cap_trace.specs.Seen.{fds_spelled}
 use Rattle.cap_trace.specs.declared.line.Answer.{Answer}
 use Rattle.cap_trace.specs.declared.line.Answer.TheVariants as answers
 use Rattle.cap_machine.specs.declared.cell.Cell.TheVariants.{Unknown, Closed}
@@ -13,7 +14,7 @@ use Rattle.cap_machine.specs.Touch.{Touch, kept, given, taken, Turn, stays, turn
 abbrev pub effect_touch : Effect → ℕ → ℕ → ℕ → Touch
 effect_touch Keep me p f = kept
 effect_touch Enter me p f = kept
-effect_touch (Start fds) me p f = if p == me then given (started fds.now f) else kept
+effect_touch (Start fds) me p f = if p == me then given (started (fds_spelled fds.now) f) else kept
 effect_touch Exit me p f = if p == me then given Unknown else kept
 effect_touch Forget me p f = if p == me then given Unknown else kept
 effect_touch Exec me p f = if p == me then taken exec me f else kept

@@ -1,10 +1,11 @@
 -- What a line can touch: its process and a child, and of single descriptors those that it names.
 use Rattle.std.specs.Prelude.{◌≡◌, ℕ, ◌≤◌, ◌==◌, ◌&&◌, ◌||◌, not, Bool, true, false, List, [], ◌∷◌, length}
 use Rattle.std.specs.List.{list_any, All}
-use Rattle.cap_trace.specs.declared.line.Item.{Item}
-use Rattle.cap_trace.specs.declared.line.Item.TheVariants as items
-use Rattle.cap_trace.specs.declared.line.Call.{Call}
-use Rattle.cap_trace.specs.declared.line.Call.TheVariants as calls
+use Rattle.cap_trace.specs.Seen.{fds_spelled}
+use Rattle.cap_trace.specs.Item.{Item}
+use Rattle.cap_trace.specs.Item as items
+use Rattle.cap_trace.specs.Call.{Call}
+use Rattle.cap_trace.specs.Call as calls
 use Rattle.cap_trace.specs.declared.line.Dir.{Dir}
 use Rattle.cap_trace.specs.declared.line.Dir.TheVariants as dirs
 use Rattle.cap_trace.specs.declared.line.Answer.{Answer}
@@ -104,7 +105,7 @@ NamedSources = (step : Step) (op : Op) (p f q g : ℕ) → touch step p f ≡ ta
 
 -- the descriptors that an effect has one by one
 abbrev pub fds_of : Effect → List ℕ
-fds_of (Start fds) = fds.now
+fds_of (Start fds) = fds_spelled fds.now
 fds_of (Give f c) = f ∷ []
 fds_of (GiveTwo f g c) = f ∷ g ∷ []
 fds_of (Change f op g) = f ∷ g ∷ []

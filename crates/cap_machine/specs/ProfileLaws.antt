@@ -1,10 +1,10 @@
 -- The two profiles side by side: when they report the same, and when profile 1 finds nothing where profile 2 doesn't.
 use Rattle.std.specs.Prelude.{◌≡◌, Bool, true, false, ◌&&◌, List, []}
 use Rattle.std.specs.List.{list_any}
-use Rattle.cap_trace.specs.declared.line.Item.{Item}
-use Rattle.cap_trace.specs.declared.line.Item.TheVariants as items
-use Rattle.cap_trace.specs.declared.line.Call.{Call}
-use Rattle.cap_trace.specs.declared.line.Call.TheVariants as calls
+use Rattle.cap_trace.specs.Item.{Item}
+use Rattle.cap_trace.specs.Item as items
+use Rattle.cap_trace.specs.Call.{Call}
+use Rattle.cap_trace.specs.Call as calls
 use Rattle.cap_trace.specs.declared.calls.FdCall.TheVariants.{Fexecve, Closefrom}
 use Rattle.cap_trace.specs.declared.calls.PathCall.TheVariants.{Execve}
 use Rattle.cap_trace.specs.Entry.{Entry}

@@ -4,7 +4,7 @@ use Rattle.std.specs.Prelude.{slice_index_or}
 use Rattle.std.specs.Option.{option_map_or}
 use Rattle.std.specs.Vec.{vec_len}
 use Rattle.cap_trace.specs.declared.line.Answer.{Answer}
-use Rattle.cap_trace.specs.declared.line.Call.{Call}
+use Rattle.cap_trace.specs.Call.{Call}
 use Rattle.cap_machine.specs.declared.cell.Profile.{Profile}
 use Rattle.cap_machine.specs.declared.step.Step.{Step}
 use Rattle.cap_machine.specs.declared.cell.Cell.{Cell}

@@ -9,7 +9,7 @@ use crate::report::put_count;
 use crate::start::Start;
 use crate::table::Table;
 use cap_rights::NoMemory;
-use cap_trace::{CallLine, FdLine, Line};
+use cap_trace::{FdLine, Line, LineRef};
 use std::alloc::Global;
 use std::marker::Model;
 
@@ -98,6 +98,17 @@ impl Checker {
         ensures checked { (profile : Profile) (s : State) (trace : List Entry) → HasChecked self.old profile s trace
             → OnOk result (HasChecked self.new profile s (trace ++ line.now ∷ [])) }
     {
+        self.line_ref(&line.seen())
+    }
+
+    /// Checks the next line, whose texts lie elsewhere, as [`line`](Checker::line) does.
+    ///
+    /// `NoMemory` when out of memory. What the checker then answers isn't promised: drop it.
+    pub fn line_ref(&mut self, line: &LineRef<'_>) -> Result<(), NoMemory>
+        requires room { lines_of self.old < 2 ^ 60 }
+        ensures checked { (profile : Profile) (s : State) (trace : List Entry) → HasChecked self.old profile s trace
+            → OnOk result (HasChecked self.new profile s (trace ++ line.now ∷ [])) }
+    {
         let at = self.lines + 1;
         let more = put_said(&mut self.text, at, line, &self.table)?;
         self.table.follow(self.profile, line)?;
@@ -115,26 +126,9 @@ impl Checker {
             → OnOk result (HasChecked self.new profile s (trace ++ line ∷ [])) }
     {
         if !self.table.is_silent_fd_line(&line) {
-            return self.line(&line.line());
+            return self.line_ref(&line.seen());
         }
         self.table.follow_fd_line(self.profile, &line)?;
-        self.lines += 1;
-        Ok(())
-    }
-
-    /// Checks the next line, one with a call whose texts lie elsewhere, as [`line`](Checker::line) does. It takes no
-    /// memory for the line where nothing is found.
-    ///
-    /// `NoMemory` when out of memory. What the checker then answers isn't promised: drop it.
-    pub fn call_line(&mut self, alloc: Global, line: &CallLine<'_>) -> Result<(), NoMemory>
-        requires room { lines_of self.old < 2 ^ 60 }
-        ensures checked { (profile : Profile) (s : State) (trace : List Entry) → HasChecked self.old profile s trace
-            → OnOk result (HasChecked self.new profile s (trace ++ line.now ∷ [])) }
-    {
-        if !self.table.is_silent_call_line(line) {
-            return self.line(&line.line(alloc)?);
-        }
-        self.table.follow_call_line(self.profile, line)?;
         self.lines += 1;
         Ok(())
     }

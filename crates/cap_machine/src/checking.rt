@@ -13,11 +13,11 @@ use crate::start::Start;
 use crate::table::Table;
 use crate::verdict::{Found, Verdict};
 use cap_rights::NoMemory;
-use cap_trace::Line;
+use cap_trace::{Line, LineRef};
 use std::alloc::Global;
 
 /// What is said of a line by what is known before it.
-fn said_in(table: &Table, line: &Line) -> Verdict
+fn said_in(table: &Table, line: &LineRef<'_>) -> Verdict
     ensures { result ≡ said_of (demand line.now) line.now.pid (state_of table.now) }
 {
     if table.is_silent(line) {
@@ -31,7 +31,7 @@ fn said_in(table: &Table, line: &Line) -> Verdict
 pub(crate) fn put_said(
     out: &mut Vec<u8>,
     at: usize,
-    line: &Line,
+    line: &LineRef<'_>,
     table: &Table,
 ) -> Result<usize, NoMemory>
     ensures few { IfOk result (λ count. count ≤ 3) }
@@ -47,6 +47,16 @@ pub(crate) fn put_said(
 }
 
 /// Judges a line by what is known before it, and moves what is known on.
+fn take_ref(table: &mut Table, profile: Profile, line: &LineRef<'_>) -> Result<Verdict, NoMemory>
+    ensures says { IfOk result (λ verdict. verdict ≡ said (step profile line.now) (state_of table.old)) }
+    ensures moved { OnOk result (Keeps table.new (step_after (step profile line.now) (state_of table.old))) }
+{
+    let verdict = said_in(table, line);
+    table.follow(profile, line)?;
+    Ok(verdict)
+}
+
+/// The same of a line that is kept.
 pub(crate) fn take_line(
     table: &mut Table,
     profile: Profile,
@@ -55,9 +65,7 @@ pub(crate) fn take_line(
     ensures says { IfOk result (λ verdict. verdict ≡ said (step profile line.now) (state_of table.old)) }
     ensures moved { OnOk result (Keeps table.new (step_after (step profile line.now) (state_of table.old))) }
 {
-    let verdict = said_in(table, line);
-    table.follow(profile, line)?;
-    Ok(verdict)
+    take_ref(table, profile, &line.seen())
 }
 
 /// Adds what is said of the line at a position.

@@ -2,6 +2,7 @@
 //! mode allows or forbids the call, and how it ended (rights(4), capsicum(4)).
 
 ghost use Rattle.std.specs.Prelude.{◌≡◌, [], ◌∷◌, true};
+ghost use Rattle.cap_trace.specs.Seen.{call_seen};
 ghost use Rattle.cap_machine.specs.Flags.{all_known};
 ghost use Rattle.cap_machine.specs.Needs.{at_flags_needs, plain_flags, plain_at_flags, rename_from_needs};
 ghost use Rattle.cap_machine.specs.Needs.{rename_to_needs, link_from_needs, link_to_needs};
@@ -15,7 +16,7 @@ use crate::needs;
 use crate::places::{Place, at_one, at_two};
 use crate::rule::{Check, Checks, Class, Demand, Reply, Word};
 use cap_rights::RightSet;
-use cap_trace::{Answer, AtFlagsCall, BareCall, Boxed, Call, Dir, Fd, FdCall, Flags, Path};
+use cap_trace::{Answer, AtFlagsCall, BareCall, Call, Dir, Fd, FdCall};
 
 /// The kind of an answer (errno(2)).
 pub(crate) fn reply_of(answer: &Answer) -> Reply
@@ -134,8 +135,8 @@ fn bare_class_of(call: BareCall) -> Class
 }
 
 /// What a call is judged by.
-pub(crate) fn demand_of(call: &Call, answer: &Answer) -> Demand
-    ensures { result ≡ call_demand call.now answer.now }
+pub(crate) fn demand_of(call: &Call<'_>, answer: &Answer) -> Demand
+    ensures { result ≡ call_demand (call_seen call.now) answer.now }
 {
     match call {
         Call::OnFd(call, fd) => on_fd(*call, *fd, answer),
@@ -155,11 +156,11 @@ pub(crate) fn demand_of(call: &Call, answer: &Answer) -> Demand
             let none = RightSet::none();
             one(Class::Allowed, *fd, none, Some(none), answer)
         }
-        Call::Fcntl(fd, command) => fcntl(needs::fcntl_needs_of(command.as_bytes()), *fd, answer),
+        Call::Fcntl(fd, command) => fcntl(needs::fcntl_needs_of(command), *fd, answer),
         Call::FcntlDup(_, fd, _) => fcntl(Some(RightSet::none()), *fd, answer),
         Call::FcntlSetFd(fd, _) => fcntl(Some(RightSet::none()), *fd, answer),
         Call::Mmap(fd, protection, kind) => {
-            let needs = needs::mmap_needs_of(protection.as_bytes(), kind.as_bytes());
+            let needs = needs::mmap_needs_of(protection, kind);
             let excuse = needs::mmap_excuse_of();
             one(Class::Either, *fd, needs, Some(excuse), answer)
         }
@@ -168,13 +169,11 @@ pub(crate) fn demand_of(call: &Call, answer: &Answer) -> Demand
             unchecked(Class::Forbidden, answer)
         }
         Call::Bare(call) => unchecked(bare_class_of(*call), answer),
-        Call::OnFlags(_, _) | Call::Other { .. } => unchecked(Class::Either, answer),
+        Call::OnFlags(_, _) | Call::Other(_, _) => unchecked(Class::Either, answer),
         Call::At(call, dir, path) => {
             at_one(true, &place(*dir, path, needs::at_needs_of(*call)), answer)
         }
-        Call::AtFlags(call, dir, path, flags) => {
-            at_flags(*call, *dir, path, flags.as_bytes(), answer)
-        }
+        Call::AtFlags(call, dir, path, flags) => { at_flags(*call, *dir, path, flags, answer) }
         Call::SymlinkAt(_, dir, path) => {
             at_one(true, &place(*dir, path, needs::symlink_needs_of()), answer)
         }
@@ -186,18 +185,14 @@ pub(crate) fn demand_of(call: &Call, answer: &Answer) -> Demand
 }
 
 /// A directory, a path there, and what its lookup needs.
-fn place<'a>(dir: Dir, path: &'a Path, needs: RightSet) -> Place<'a>
+fn place<'a>(dir: Dir, path: &'a [u8], needs: RightSet) -> Place<'a>
     ensures { place_seen result ≡ place dir path.now needs }
 {
-    Place {
-        dir,
-        path: path.as_bytes(),
-        needs,
-    }
+    Place { dir, path, needs }
 }
 
 /// A call at a directory, with flags.
-fn at_flags(call: AtFlagsCall, dir: Dir, path: &Path, flags: &[u8], answer: &Answer) -> Demand
+fn at_flags(call: AtFlagsCall, dir: Dir, path: &[u8], flags: &[u8], answer: &Answer) -> Demand
     ensures { result ≡ at_demand (all_known (plain_flags call) flags.now)
         (place dir path.now (at_flags_needs call flags.now) ∷ []) answer.now }
 {
@@ -206,39 +201,21 @@ fn at_flags(call: AtFlagsCall, dir: Dir, path: &Path, flags: &[u8], answer: &Ans
 }
 
 /// renameat(2).
-fn rename_at(
-    dir: Dir,
-    path: &Boxed<Path>,
-    to: Dir,
-    to_path: &Boxed<Path>,
-    answer: &Answer,
-) -> Demand
+fn rename_at(dir: Dir, path: &[u8], to: Dir, to_path: &[u8], answer: &Answer) -> Demand
     ensures { result
         ≡ at_demand true (place dir path.now rename_from_needs ∷ place to to_path.now rename_to_needs ∷ []) answer.now }
 {
-    let from = place(dir, path.get(), needs::rename_from_needs_of());
-    let to = place(to, to_path.get(), needs::rename_to_needs_of());
+    let from = place(dir, path, needs::rename_from_needs_of());
+    let to = place(to, to_path, needs::rename_to_needs_of());
     at_two(true, &from, &to, answer)
 }
 
 /// linkat(2).
-fn link_at(
-    dir: Dir,
-    path: &Boxed<Path>,
-    to: Dir,
-    to_path: &Boxed<Path>,
-    flags: &Boxed<Flags>,
-    answer: &Answer,
-) -> Demand
+fn link_at(dir: Dir, path: &[u8], to: Dir, to_path: &[u8], flags: &[u8], answer: &Answer) -> Demand
     ensures { result ≡ at_demand (all_known plain_at_flags flags.now)
         (place dir path.now link_from_needs ∷ place to to_path.now link_to_needs ∷ []) answer.now }
 {
-    let from = place(dir, path.get(), needs::link_from_needs_of());
-    let to = place(to, to_path.get(), needs::link_to_needs_of());
-    at_two(
-        needs::has_plain_link_flags(flags.get().as_bytes()),
-        &from,
-        &to,
-        answer,
-    )
+    let from = place(dir, path, needs::link_from_needs_of());
+    let to = place(to, to_path, needs::link_to_needs_of());
+    at_two(needs::has_plain_link_flags(flags), &from, &to, answer)
 }

@@ -4,7 +4,7 @@
 ghost use Rattle.std.specs.Prelude.{◌≡◌, ℕ, ◌<◌, ◌^◌, codes, if◌then◌else◌};
 ghost use Rattle.cap_trace.specs.Entry.{IsAnswer, kind_of, fcntl_kind};
 ghost use Rattle.cap_trace.specs.Seen.{call_seen};
-ghost use Rattle.cap_trace.specs.declared.line.Call.TheVariants as calls;
+ghost use Rattle.cap_trace.specs.Call as calls;
 ghost use Rattle.cap_machine.specs.Flags.{has_flag};
 ghost use Rattle.cap_machine.specs.Places.{below};
 ghost use Rattle.cap_machine.specs.Touch.{kept, given, taken, on_fd, on_made, on_both, on_success, closing, copied};
@@ -21,7 +21,7 @@ use crate::places::below_of;
 use crate::rule::Effect;
 use cap_rights::RightSet;
 use cap_trace::{
-    Answer, AtFlagsCall, BareCall, CallSeen, Dir, DupCommand, Fd, FdCall, FlagsCall, PathCall, Pid,
+    Answer, AtFlagsCall, BareCall, Call, Dir, DupCommand, Fd, FdCall, FlagsCall, PathCall, Pid,
 };
 
 /// The flag of a descriptor, by whether it was asked to be closed on exec.
@@ -343,29 +343,29 @@ fn flags_effect(call: FlagsCall, flags: &[u8], answer: &Answer) -> Effect<'stati
 }
 
 /// What a call does.
-pub(crate) fn effect_of(profile: Profile, call: &CallSeen<'_>, answer: &Answer) -> Effect<'static>
+pub(crate) fn effect_of(profile: Profile, call: &Call<'_>, answer: &Answer) -> Effect<'static>
     requires { IsAnswer (kind_of (call_seen call.now)) answer.now }
     ensures cells { (me p f : ℕ)
         → effect_touch result me p f ≡ call_touch profile (call_seen call.now) answer.now me p f }
     ensures modes { (me p : ℕ) → effect_turn result me p ≡ call_turn (call_seen call.now) answer.now me p }
 {
     match call {
-        CallSeen::OnFd(call, fd) => fd_effect(profile, *call, *fd, answer),
-        CallSeen::Accept4(_, _) => made(answer, Cell::Unknown),
-        CallSeen::Dup2(fd, to) => {
+        Call::OnFd(call, fd) => fd_effect(profile, *call, *fd, answer),
+        Call::Accept4(_, _) => made(answer, Cell::Unknown),
+        Call::Dup2(fd, to) => {
             copied_to_number(Op::copy_to_itself(), OnExec::Clear, *fd, *to, answer)
         }
-        CallSeen::FcntlDup(command, fd, to) => fcntl_copied(*command, *fd, *to, answer),
-        CallSeen::Fcntl(fd, command) => fcntl_effect(*fd, command, answer),
-        CallSeen::FcntlSetFd(fd, flags) => changed(*fd, set_fd_op_of(flags), answer),
-        CallSeen::RightsLimit(fd, asked) => changed(*fd, Op::limit(asked), answer),
-        CallSeen::Open(_, flags) => made_whole(open_flag_of(flags), answer),
-        CallSeen::OnPath(PathCall::Execve, _) => executed(profile, answer),
-        CallSeen::AtFlags(call, dir, path, flags) => {
+        Call::FcntlDup(command, fd, to) => fcntl_copied(*command, *fd, *to, answer),
+        Call::Fcntl(fd, command) => fcntl_effect(*fd, command, answer),
+        Call::FcntlSetFd(fd, flags) => changed(*fd, set_fd_op_of(flags), answer),
+        Call::RightsLimit(fd, asked) => changed(*fd, Op::limit(asked), answer),
+        Call::Open(_, flags) => made_whole(open_flag_of(flags), answer),
+        Call::OnPath(PathCall::Execve, _) => executed(profile, answer),
+        Call::AtFlags(call, dir, path, flags) => {
             at_flags_effect(*call, *dir, path, flags, answer)
         }
-        CallSeen::OnFlags(call, flags) => flags_effect(*call, flags, answer),
-        CallSeen::Bare(call) => bare_effect(*call, answer),
+        Call::OnFlags(call, flags) => flags_effect(*call, flags, answer),
+        Call::Bare(call) => bare_effect(*call, answer),
         _ => Effect::Keep,
     }
 }

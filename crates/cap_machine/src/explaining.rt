@@ -175,7 +175,7 @@ fn explain_demand(
 fn demand_by(profile: Profile, line: &Line) -> Demand
     ensures { result ≡ demand line.now }
 {
-    rule_of(profile, line).demand
+    rule_of(profile, &line.seen()).demand
 }
 
 /// What a line rests on that follows these.
@@ -190,7 +190,7 @@ fn explain_next(
         ≡ explained (start_state start.now) (reverse (steps profile before.now)) (step profile line.now)) }
 {
     let demand = demand_by(profile, line);
-    explain_demand(alloc, profile, start, before, line.pid, &demand)
+    explain_demand(alloc, profile, start, before, line.pid(), &demand)
 }
 
 /// What the line at a position of a trace rests on; positions are from 1. `None` where the trace has no such line.

@@ -8,7 +8,7 @@ ghost use Rattle.cap_machine.specs.Report.{finding_words, finding_line, last_lin
 
 use crate::verdict::{Finding, Verdict};
 use cap_rights::{NoMemory, RightSet, write_rights};
-use cap_trace::{Fd, Line};
+use cap_trace::{Fd, LineRef};
 use itoa::Buffer;
 
 /// Appends a number.
@@ -58,7 +58,12 @@ fn put_words(out: &mut Vec<u8>, finding: &Finding) -> Result<(), NoMemory>
 
 /// Appends the position, the process, the name of the call, and what was found. On an `Err` a part of it may have been
 /// appended.
-fn put_all(out: &mut Vec<u8>, at: usize, line: &Line, finding: &Finding) -> Result<(), NoMemory>
+fn put_all(
+    out: &mut Vec<u8>,
+    at: usize,
+    line: &LineRef<'_>,
+    finding: &Finding,
+) -> Result<(), NoMemory>
     ensures ok { OnOk result (out.new.items ≡ out.old.items ++ finding_line line.now (found_at at finding.now)) }
     ensures err { OnErr result (take (length out.old.items) out.new.items ≡ out.old.items) }
 {
@@ -80,7 +85,7 @@ fn put_all(out: &mut Vec<u8>, at: usize, line: &Line, finding: &Finding) -> Resu
 pub fn put_finding(
     out: &mut Vec<u8>,
     at: usize,
-    line: &Line,
+    line: &LineRef<'_>,
     finding: &Finding,
 ) -> Result<(), NoMemory>
     ensures ok { OnOk result (out.new.items ≡ out.old.items ++ finding_line line.now (found_at at finding.now)) }
@@ -100,7 +105,7 @@ pub fn put_finding(
 pub(crate) fn put_verdict(
     out: &mut Vec<u8>,
     at: usize,
-    line: &Line,
+    line: &LineRef<'_>,
     verdict: &Verdict,
 ) -> Result<usize, NoMemory>
     ensures text { OnOk result

@@ -10,7 +10,7 @@ use crate::cell::{Cell, Op, Profile};
 use crate::demands::demand_of;
 use crate::effects::effect_of;
 use cap_rights::RightSet;
-use cap_trace::{Fd, Item, Line, Pid};
+use cap_trace::{Fd, Item, LineRef, Pid};
 
 /// How a call stands to capability mode (cap_enter(2)).
 #[derive(Clone, Copy, Debug, PartialEq, Eq)]
@@ -84,8 +84,8 @@ pub struct Demand {
 pub enum Effect<'a> {
     /// Nothing.
     Keep,
-    /// These descriptors are held and were never limited, all others are closed, and the mode is outside.
-    Start(&'a [Fd]),
+    /// These descriptors, as they are spelled ([`cap_trace::fds_of`]), are held and were never limited, all others are closed, and the mode is outside.
+    Start(&'a [u8]),
     /// Nothing more is known of the process.
     Exit,
     /// Nothing more is known of its cells.
@@ -121,7 +121,7 @@ pub struct Rule<'a> {
 ///
 /// The demand follows rights(4) and cap_enter(2); the effect follows what the line records, close(2) and
 /// cap_rights_limit(2) among others, whatever is said of the line.
-pub fn rule_of(profile: Profile, line: &Line) -> Rule<'_>
+pub fn rule_of<'a>(profile: Profile, line: &LineRef<'a>) -> Rule<'a>
     ensures demand { result.demand ≡ demand line.now }
     // The effect does to each cell and to each mode what the line does.
     ensures cells { (p f : ℕ) → effect_touch result.effect line.now.pid p f ≡ touch (step profile line.now) p f }
@@ -130,11 +130,11 @@ pub fn rule_of(profile: Profile, line: &Line) -> Rule<'_>
     match &line.item {
         Item::Call { call, answer } => Rule {
             demand: demand_of(call, answer),
-            effect: effect_of(profile, &call.seen(), answer),
+            effect: effect_of(profile, call, answer),
         },
         Item::Start(fds) => Rule {
             demand: unjudged_demand(),
-            effect: Effect::Start(fds.as_slice()),
+            effect: Effect::Start(fds),
         },
         Item::Exit => Rule {
             demand: unjudged_demand(),
@@ -148,7 +148,7 @@ pub fn rule_of(profile: Profile, line: &Line) -> Rule<'_>
 }
 
 /// What a line is judged by.
-pub(crate) fn demand_of_line(line: &Line) -> Demand
+pub(crate) fn demand_of_line(line: &LineRef<'_>) -> Demand
     ensures { result ≡ demand line.now }
 {
     match &line.item {

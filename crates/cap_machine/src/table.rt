@@ -3,6 +3,7 @@
 ghost use Rattle.std.specs.Prelude.{◌≡◌, ℕ, ◌<◌, None, Some, IfOk, IfSome, OnOk, OnErr, ◌==◌, nat_le, if◌then◌else◌};
 ghost use Rattle.std.specs.Option.{option_copied, option_map_or};
 ghost use Rattle.std.specs.Vec.{vec_len};
+ghost use Rattle.cap_trace.specs.Seen.{fds_spelled};
 ghost use Rattle.cap_machine.specs.State.{usual, listed_cell, with_listed};
 ghost use Rattle.cap_machine.specs.Touch.{started};
 ghost use Rattle.cap_machine.specs.Check.{said_of};
@@ -22,7 +23,7 @@ use crate::rule::{Checks, Demand, Effect};
 use crate::table::index::Index;
 use crate::verdict::Verdict;
 use cap_rights::{NoMemory, RightSet};
-use cap_trace::{Fd, Pid};
+use cap_trace::{Fd, Pid, fds_of};
 use std::alloc::{AllocError, Global};
 
 /// What is known of a process: its mode, and its cells. A clone shares the cells until one of the two writes one.
@@ -464,6 +465,14 @@ impl Table {
         Ok(())
     }
 
+    /// The same of descriptors as they are spelled.
+    pub(crate) fn start_spelled(&mut self, pid: Pid, spelled: &[u8]) -> Result<(), NoMemory>
+        ensures { OnOk result (Keeps self.new (with_started (state_of self.old) pid (fds_spelled spelled.now))) }
+    {
+        let fds = fds_of(self.alloc, spelled)?;
+        self.start(pid, &fds)
+    }
+
     /// A process ends.
     fn exit(&mut self, pid: Pid) -> Result<(), NoMemory>
         ensures { OnOk result (Keeps self.new (with_unknown (state_of self.old) pid)) }
@@ -497,7 +506,7 @@ impl Table {
         match effect {
             Effect::Keep => Ok(()),
             Effect::Enter => self.set_mode(pid, Mode::Inside),
-            Effect::Start(fds) => self.start(pid, fds),
+            Effect::Start(fds) => self.start_spelled(pid, fds),
             Effect::Exit => self.exit(pid),
             Effect::Forget => self.forget(pid),
             Effect::Exec => self.exec(pid),

@@ -1,7 +1,7 @@
 //! What one line does to one cell and to one mode.
 
-ghost use Rattle.std.specs.Prelude.{◌≡◌, ◌==◌};
-ghost use Rattle.std.specs.List.{list_any};
+ghost use Rattle.std.specs.Prelude.{◌≡◌};
+ghost use Rattle.cap_trace.specs.Seen.{fds_spelled};
 ghost use Rattle.cap_machine.specs.Steps.{step};
 ghost use Rattle.cap_machine.specs.Touch.{touch, turn, started};
 ghost use Rattle.cap_machine.specs.Effect.{effect_touch, effect_turn};
@@ -10,7 +10,7 @@ ghost use Rattle.cap_machine.specs.Touched.{touch_seen, turn_seen};
 use crate::cell::{Cell, Mode, OnExec, Op, Profile};
 use crate::rule::{Effect, rule_of};
 use cap_rights::RightSet;
-use cap_trace::{Fd, Line, Pid};
+use cap_trace::{Fd, Line, Pid, has_fd};
 
 /// What a line does to one cell.
 #[derive(Clone, Copy, Debug, PartialEq, Eq)]
@@ -34,15 +34,9 @@ pub enum Turned {
     Follows,
 }
 
-fn has_fd(fds: &[Fd], fd: Fd) -> bool
-    ensures { result ≡ list_any (λ g. fd == g) fds.now }
-{
-    fds.iter().any(|listed| fd == *listed)
-}
-
 /// The cell of a descriptor of a process that starts with these.
-fn started_with(fds: &[Fd], fd: Fd) -> Cell
-    ensures { result ≡ started fds.now fd }
+fn started_with(fds: &[u8], fd: Fd) -> Cell
+    ensures { result ≡ started (fds_spelled fds.now) fd }
 {
     if has_fd(fds, fd) {
         Cell::Held(RightSet::all(), OnExec::Unsure)
@@ -113,12 +107,14 @@ impl Effect<'_> {
 pub(crate) fn touch_of(profile: Profile, line: &Line, pid: Pid, fd: Fd) -> Touched
     ensures { touch_seen line.now.pid result ≡ touch (step profile line.now) pid fd }
 {
-    rule_of(profile, line).effect.touch(line.pid, pid, fd)
+    rule_of(profile, &line.seen())
+        .effect
+        .touch(line.pid(), pid, fd)
 }
 
 /// What a line does to the mode of one process.
 pub(crate) fn turn_of(profile: Profile, line: &Line, pid: Pid) -> Turned
     ensures { turn_seen line.now.pid result ≡ turn (step profile line.now) pid }
 {
-    rule_of(profile, line).effect.turn(line.pid, pid)
+    rule_of(profile, &line.seen()).effect.turn(line.pid(), pid)
 }

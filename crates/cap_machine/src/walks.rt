@@ -190,7 +190,7 @@ impl CellWalk {
             Some(_) => Ok(()),
             None => {
                 let touched = touch_of(profile, line, self.pid, self.fd);
-                self.follow(at, line.pid, &touched)
+                self.follow(at, line.pid(), &touched)
             }
         }
     }
@@ -300,7 +300,7 @@ impl ModeWalk {
             Some(_) => Ok(()),
             None => {
                 let turn = turn_of(profile, line, self.pid);
-                self.follow(at, line.pid, turn)
+                self.follow(at, line.pid(), turn)
             }
         }
     }

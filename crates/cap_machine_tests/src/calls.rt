@@ -22,7 +22,7 @@ fn said_of(rule: &Rule<'_>, cell: Cell) -> Option<Finding> {
 
 /// What is said of the one check of a line that does nothing.
 fn said_of_line(line: &Line, cell: Cell) -> Option<Finding> {
-    let rule = rule_of(Profile::Two, line);
+    let rule = rule_of(Profile::Two, &line.seen());
     match &rule.effect {
         Effect::Keep => said_of(&rule, cell),
         _ => None,
@@ -47,7 +47,7 @@ fn a_line_is_judged(rt: HostRuntime) -> Result<(), Fail> {
 
 /// What a line does, in a word.
 fn word_of(profile: Profile, line: &Line) -> &'static str {
-    match rule_of(profile, line).effect {
+    match rule_of(profile, &line.seen()).effect {
         Effect::Exec => "exec",
         Effect::Forget => "forget",
         _ => "another",
@@ -56,7 +56,7 @@ fn word_of(profile: Profile, line: &Line) -> &'static str {
 
 /// How many findings there are of a call without checks that succeeded in capability mode.
 fn said_inside(line: &Line) -> usize {
-    let rule = rule_of(Profile::One, line);
+    let rule = rule_of(Profile::One, &line.seen());
     match rule.demand.checks {
         Checks::Nothing => rule.demand.judge(Mode::Inside, &[]).len(),
         _ => 0,

@@ -41,42 +41,36 @@ pub fn report_of(checker: Checker, lines: &[Line]) -> Result<Vec<u8>, NoMemory> 
     checked(checker, lines)?.report()
 }
 
-/// Checks a line that is no call on a descriptor, where it lies, if that can be.
-fn check_unread(alloc: Global, checker: &mut Checker, unread: Unread<'_>) -> Result<(), Fail>
+/// Checks a line that is no call on a descriptor, where it lies.
+fn check_unread(checker: &mut Checker, unread: Unread<'_>) -> Result<(), Fail>
     requires { lines_of checker.old < 2 ^ 60 }
 {
-    match unread.call_line() {
-        Ok(line) => Ok(checker.call_line(alloc, &line)?),
-        Err(unread) => Ok(checker.line(&unread.line(alloc)?)?),
-    }
+    let line = unread.line()?;
+    Ok(checker.line_ref(&line)?)
 }
 
-/// Checks a line where it lies, if that can be.
-fn check_where_it_lies(alloc: Global, checker: &mut Checker, text: &[u8]) -> Result<(), Fail>
+/// Checks a line where it lies.
+fn check_where_it_lies(checker: &mut Checker, text: &[u8]) -> Result<(), Fail>
     requires { lines_of checker.old < 2 ^ 60 }
 {
     match parse_fd_line(text) {
         Ok(line) => Ok(checker.fd_line(line)?),
-        Err(unread) => check_unread(alloc, checker, unread),
+        Err(unread) => check_unread(checker, unread),
     }
 }
 
 /// The same of each line of a trace of less than 100.
-fn check_trace(alloc: Global, checker: &mut Checker, trace: &[u8]) -> Result<(), Fail> {
+fn check_trace(checker: &mut Checker, trace: &[u8]) -> Result<(), Fail> {
     for text in trace.split(|byte| *byte == b'\n') {
         if !text.is_empty() && checker.count() < 100 {
-            check_where_it_lies(alloc, checker, text)?;
+            check_where_it_lies(checker, text)?;
         }
     }
     Ok(())
 }
 
 /// The report of a trace of less than 100 lines that are checked where they lie, where that can be.
-pub fn report_where_they_lie(
-    alloc: Global,
-    mut checker: Checker,
-    trace: &[u8],
-) -> Result<Vec<u8>, Fail> {
-    check_trace(alloc, &mut checker, trace)?;
+pub fn report_where_they_lie(mut checker: Checker, trace: &[u8]) -> Result<Vec<u8>, Fail> {
+    check_trace(&mut checker, trace)?;
     Ok(checker.report()?)
 }

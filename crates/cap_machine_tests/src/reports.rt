@@ -20,7 +20,7 @@ fn reports_where_they_lie(
     trace: &[u8],
     report: &[u8],
 ) -> Result<bool, Fail> {
-    let text = report_where_they_lie(alloc, Checker::new(alloc, profile), trace)?;
+    let text = report_where_they_lie(Checker::new(alloc, profile), trace)?;
     Ok(text.as_slice() == report)
 }
 
@@ -47,7 +47,7 @@ fn a_trace_has_its_report_in_each_profile(rt: HostRuntime) -> Result<(), Fail> {
 /// What is written of a finding, and the count.
 fn written(alloc: Global, line: &Line, finding: Finding) -> Result<Vec<u8>, NoMemory> {
     let mut out = Vec::new(alloc);
-    put_finding(&mut out, 7, line, &finding)?;
+    put_finding(&mut out, 7, &line.seen(), &finding)?;
     put_count(&mut out, 1)?;
     Ok(out)
 }

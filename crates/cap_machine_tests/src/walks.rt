@@ -287,7 +287,7 @@ fn mode_of_202(alloc: Global) -> Result<ModeOrigin, Fail> {
 
 /// A line that checks one descriptor, for which the mode doesn't matter.
 fn explained_by_cell(line: &Line, cells: Vec<CellOrigin>) -> Option<Explanation> {
-    let demand = rule_of(Profile::Two, line).demand;
+    let demand = rule_of(Profile::Two, &line.seen()).demand;
     match &demand.checks {
         Checks::One(_) if cells.len() == 1 && !demand.mode_matters() => {
             Some(Explanation::of(&demand, cells, None))
@@ -298,7 +298,7 @@ fn explained_by_cell(line: &Line, cells: Vec<CellOrigin>) -> Option<Explanation>
 
 /// One that checks none, for which the mode matters.
 fn explained_by_mode(alloc: Global, line: &Line, origin: ModeOrigin) -> Option<Explanation> {
-    let demand = rule_of(Profile::Two, line).demand;
+    let demand = rule_of(Profile::Two, &line.seen()).demand;
     match &demand.checks {
         Checks::Nothing if demand.mode_matters() => {
             Some(Explanation::of(&demand, Vec::new(alloc), Some(origin)))
@@ -340,11 +340,15 @@ fn an_explanation_is_made_of_a_mode(rt: HostRuntime) -> Result<(), Fail> {
 }
 
 fn touched_by(line: &Line, pid: u32, fd: u32) -> Touched {
-    rule_of(Profile::Two, line).effect.touch(line.pid, pid, fd)
+    rule_of(Profile::Two, &line.seen())
+        .effect
+        .touch(line.pid(), pid, fd)
 }
 
 fn turned_by(line: &Line, pid: u32) -> Turned {
-    rule_of(Profile::Two, line).effect.turn(line.pid, pid)
+    rule_of(Profile::Two, &line.seen())
+        .effect
+        .turn(line.pid(), pid)
 }
 
 fn word_of(touched: &Touched) -> &'static str {

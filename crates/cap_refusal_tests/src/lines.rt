@@ -2,7 +2,7 @@
 
 use crate::marks::Mark;
 use cap_rights::{NoMemory, RightSet, parse_rights, write_rights};
-use cap_trace::{CallLine, Line, LineFault, parse_fd_line, parse_line, write_line};
+use cap_trace::{Line, LineFault, parse_line, write_line};
 use std::alloc::Global;
 use std::test::Fail;
 
@@ -14,7 +14,7 @@ static RIGHTS: [&[u8]; 4] = [
     b"CAP_READ|CAP_WRITE|CAP_SEEK|CAP_FSTAT",
 ];
 
-/// Lines of each shape that takes memory, and some that take none. A text takes some where it has more than 14 bytes.
+/// Lines of several shapes.
 static LINES: [&[u8]; 12] = [
     b"100 @start()",
     b"100 @start(0,3,17)",
@@ -85,40 +85,6 @@ fn parse_line_refused(rt: HostRuntime) -> Result<(), Fail> {
     for text in &LINES {
         let line = parsed(alloc, text)?;
         assert_eq!(rt; text_of(alloc, &line)?.as_slice(), *text);
-        Mark::Right.set(alloc);
-    }
-    Ok(())
-}
-
-/// The line of a call that lies in its text; where the first call lacks memory, by a second one.
-fn kept(alloc: Global, line: &CallLine<'_>) -> Result<Line, NoMemory> {
-    Mark::Begin.set(alloc);
-    let first = line.line(alloc);
-    Mark::End.set(alloc);
-    if first.is_ok() {
-        return first;
-    }
-    Mark::Lacked.set(alloc);
-    line.line(alloc)
-}
-
-/// The text of the call that lies in a text, where it is one that is kept so.
-fn kept_text(alloc: Global, text: &[u8]) -> Result<Vec<u8>, NoMemory> {
-    let Err(unread) = parse_fd_line(text) else {
-        return Ok(Vec::new(alloc));
-    };
-    match unread.call_line() {
-        Ok(line) => text_of(alloc, &kept(alloc, &line)?),
-        Err(_) => Ok(Vec::new(alloc)),
-    }
-}
-
-#[test]
-fn call_line_refused(rt: HostRuntime) -> Result<(), Fail> {
-    let alloc = rt.alloc();
-    for text in &LINES {
-        let out = kept_text(alloc, text)?;
-        assert!(rt; out.is_empty() || out.as_slice() == *text);
         Mark::Right.set(alloc);
     }
     Ok(())

@@ -2,10 +2,7 @@
 
 use crate::marks::Mark;
 use cap_machine::{Finding, NoMemory, put_count, put_finding};
-use cap_trace::{
-    Answer, Args, Call, Command, Fd, Fds, Flags, Item, Line, LineFault, Name, Path, parse_line,
-    write_line,
-};
+use cap_trace::{Answer, Call, Fd, Item, Line, LineFault, Path, fds_of, parse_line, write_line};
 use std::alloc::Global;
 use std::test::Fail;
 
@@ -15,21 +12,13 @@ enum Part {
     Path,
     Escaped,
     Unescaped,
-    Flags,
-    Command,
-    Name,
-    Args,
 }
 
-/// Parts, and their bytes: more than 14, so that they take memory.
-static PARTS: [(Part, &[u8]); 7] = [
+/// Parts, and their bytes.
+static PARTS: [(Part, &[u8]); 3] = [
     (Part::Path, b"a/long/path\\x0ab"),
     (Part::Escaped, b"a/long/path\\x0ab\\\""),
     (Part::Unescaped, b"a/long/path\nb"),
-    (Part::Flags, b"O_RDONLY|O_CLOEXEC"),
-    (Part::Command, b"F_DUPFD_CLOEXEC"),
-    (Part::Name, b"sched_setscheduler"),
-    (Part::Args, b"any arguments at all"),
 ];
 
 /// A copy of these bytes.
@@ -41,25 +30,14 @@ fn copied(alloc: Global, bytes: &[u8]) -> Result<Vec<u8>, LineFault> {
 }
 
 /// The bytes of a path that is made in one of three ways.
-fn bytes_of_path(alloc: Global, part: Part) -> Result<Vec<u8>, LineFault> {
+fn bytes_of(alloc: Global, part: Part) -> Result<Vec<u8>, LineFault> {
     match part {
         Part::Escaped => copied(alloc, Path::escape(alloc, b"a/long/path\nb\"")?.as_bytes()),
         Part::Unescaped => match Path::new(alloc, b"a/long/path\\x0ab")?.unescape(alloc) {
             Ok(bytes) => Ok(bytes),
             Err(_) => Err(LineFault::Memory),
         },
-        _ => copied(alloc, Path::new(alloc, b"a/long/path\\x0ab")?.as_bytes()),
-    }
-}
-
-/// The bytes of a part that is made.
-fn bytes_of(alloc: Global, part: Part) -> Result<Vec<u8>, LineFault> {
-    match part {
-        Part::Flags => copied(alloc, Flags::new(alloc, b"O_RDONLY|O_CLOEXEC")?.as_bytes()),
-        Part::Command => copied(alloc, Command::new(alloc, b"F_DUPFD_CLOEXEC")?.as_bytes()),
-        Part::Name => copied(alloc, Name::new(alloc, b"sched_setscheduler")?.as_bytes()),
-        Part::Args => copied(alloc, Args::new(alloc, b"any arguments at all")?.as_bytes()),
-        path => bytes_of_path(alloc, path),
+        Part::Path => copied(alloc, Path::new(alloc, b"a/long/path\\x0ab")?.as_bytes()),
     }
 }
 
@@ -85,45 +63,43 @@ fn parts_refused(rt: HostRuntime) -> Result<(), Fail> {
     Ok(())
 }
 
-/// A list of descriptors; where the first call lacks memory, by a second one.
-fn fds_of(alloc: Global, fds: &[Fd]) -> Result<Fds, LineFault> {
+/// The descriptors of a start; where the first call lacks memory, by a second one.
+fn listed(alloc: Global, spelled: &[u8]) -> Result<Vec<Fd>, NoMemory> {
     Mark::Begin.set(alloc);
-    let first = Fds::new(alloc, fds);
+    let first = fds_of(alloc, spelled);
     Mark::End.set(alloc);
-    if !matches!(first, Err(LineFault::Memory)) {
+    if first.is_ok() {
         return first;
     }
     Mark::Lacked.set(alloc);
-    Fds::new(alloc, fds)
+    fds_of(alloc, spelled)
 }
 
 #[test]
 fn fds_refused(rt: HostRuntime) -> Result<(), Fail> {
-    let fds = fds_of(rt.alloc(), &[0, 3])?;
+    let fds = listed(rt.alloc(), b"0,3")?;
     assert_eq!(rt; fds.as_slice(), [0, 3].as_slice());
     Mark::Right.set(rt.alloc());
     Ok(())
 }
 
-/// What a call says that opens a file.
-fn opens(alloc: Global) -> Result<Item, LineFault> {
-    let path = Path::new(alloc, b"a/long/path\\x0a")?;
-    let call = Call::Open(path, Flags::new(alloc, b"O_RDONLY")?);
+/// The line of a call that opens a file.
+fn open_line(alloc: Global) -> Result<Option<Line>, NoMemory> {
+    let call = Call::Open(b"a/long/path\\x0a", b"O_RDONLY");
     let answer = Answer::Made(3);
-    Ok(Item::Call { call, answer })
+    Line::new(alloc, 100, &Item::Call { call, answer })
 }
 
-/// The line of that call; where the first call lacks memory, by a second one.
-fn line_of(alloc: Global) -> Result<Option<Line>, Fail> {
-    let item = opens(alloc)?;
+/// The same; where the first call lacks memory, by a second one.
+fn line_of(alloc: Global) -> Result<Option<Line>, NoMemory> {
     Mark::Begin.set(alloc);
-    let first = Line::new(alloc, 100, item);
+    let first = open_line(alloc);
     Mark::End.set(alloc);
-    if let Ok(line) = first {
-        return Ok(line);
+    if first.is_ok() {
+        return first;
     }
     Mark::Lacked.set(alloc);
-    Ok(Line::new(alloc, 100, opens(alloc)?)?)
+    open_line(alloc)
 }
 
 /// The text of a line.
@@ -151,14 +127,14 @@ fn finding_line(alloc: Global, line: &Line) -> Result<Vec<u8>, NoMemory> {
     let mut out = Vec::new(alloc);
     out.push(b' ')?;
     Mark::Begin.set(alloc);
-    let first = put_finding(&mut out, 7, line, &Finding::Forbidden);
+    let first = put_finding(&mut out, 7, &line.seen(), &Finding::Forbidden);
     Mark::End.set(alloc);
     if first.is_err() {
         Mark::Lacked.set(alloc);
         if out.len() != 1 {
             return Err(NoMemory);
         }
-        put_finding(&mut out, 7, line, &Finding::Forbidden)?;
+        put_finding(&mut out, 7, &line.seen(), &Finding::Forbidden)?;
     }
     Ok(out)
 }

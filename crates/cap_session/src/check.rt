@@ -15,7 +15,7 @@ use crate::refused::Refusal;
 use crate::short_text::ShortText;
 use crate::write::write_text;
 use cap_machine::{Checker, NoMemory, Profile};
-use cap_trace::{CallLine, FdLine, Line};
+use cap_trace::{FdLine, LineRef};
 use std::alloc::Global;
 
 impl Keep for Checker {
@@ -27,16 +27,16 @@ impl Keep for Checker {
         self.count()
     }
 
-    fn keep(&mut self, line: Line) -> Result<(), NoMemory> {
-        self.line(&line)
+    fn keep(&mut self, alloc: Global, text: &[u8], line: &LineRef<'_>) -> Result<(), NoMemory> {
+        let _ = alloc;
+        let _ = text;
+        self.line_ref(line)
     }
 
-    fn keep_fd_line(&mut self, line: FdLine) -> Result<(), NoMemory> {
+    fn keep_fd_line(&mut self, alloc: Global, text: &[u8], line: FdLine) -> Result<(), NoMemory> {
+        let _ = alloc;
+        let _ = text;
         self.fd_line(line)
-    }
-
-    fn keep_call_line(&mut self, alloc: Global, line: &CallLine<'_>) -> Result<(), NoMemory> {
-        self.call_line(alloc, line)
     }
 }
 

@@ -1,7 +1,8 @@
 //! The lines of a trace, each read and given to what keeps them: a checker, which keeps none, or a session ([`Keep`]).
-ghost use Rattle.std.specs.Prelude.{◌≡◌, ◌<◌, ◌≤◌, ◌^◌, ℕ, ◌++◌, ◌∷◌, [], List, length, OnOk, None, MatchOption, false};
+ghost use Rattle.std.specs.Prelude.{◌≡◌, ◌<◌, ◌≤◌, ◌^◌, ℕ, ◌++◌, ◌∷◌, [], List, length, OnOk, Ok, None, MatchOption, false};
 ghost use Rattle.std.specs.Option.{ForSome};
 ghost use Rattle.cap_trace.specs.Entry.{Entry};
+ghost use Rattle.cap_trace.specs.Reading.{line_of};
 ghost use Rattle.cap_session.specs.Limits.{most_lines};
 ghost use Rattle.cap_session.specs.Trace.{is_skipped, trace, soon};
 ghost use Rattle.cap_session.specs.Traced.{Setting, Traced, one_more, next_traced, Follows, Holds};
@@ -14,7 +15,7 @@ use crate::lines::{Lines, Stop};
 use crate::read::read_text;
 use crate::refused::Refused;
 use cap_machine::NoMemory;
-use cap_trace::{CallLine, FdLine, Line, LineFault, Unread, parse_fd_line};
+use cap_trace::{FdLine, LineRef, Unread, parse_fd_line};
 use std::alloc::Global;
 
 /// Whether a line is empty or a comment.
@@ -40,23 +41,19 @@ pub trait Keep: Drop {
         ensures count { result ≡ lines_of self.now }
         ensures lines { (s : Setting) (entries : List Entry) → keeps self.now s entries → result ≡ length entries };
 
-    /// Keeps one line more.
-    fn keep(&mut self, line: Line) -> Result<(), NoMemory>
-        requires { lines_of self.old < most_lines }
-        ensures { (s : Setting) (entries : List Entry) → keeps self.old s entries
-            → OnOk result (keeps self.new s (entries ++ line ∷ [])) };
-
-    /// Keeps one line more, with a call on one descriptor.
-    fn keep_fd_line(&mut self, line: FdLine) -> Result<(), NoMemory>
-        requires { lines_of self.old < most_lines }
-        ensures { (s : Setting) (entries : List Entry) → keeps self.old s entries
-            → OnOk result (keeps self.new s (entries ++ line ∷ [])) };
-
-    /// Keeps one line more, with a call whose texts lie elsewhere.
-    fn keep_call_line(&mut self, alloc: Global, line: &CallLine<'_>) -> Result<(), NoMemory>
-        requires { lines_of self.old < most_lines }
+    /// Keeps one line more, which this text spells.
+    fn keep(&mut self, alloc: Global, text: &[u8], line: &LineRef<'_>) -> Result<(), NoMemory>
+        requires room { lines_of self.old < most_lines }
+        requires spelled { line_of text.now ≡ Ok line.now }
         ensures { (s : Setting) (entries : List Entry) → keeps self.old s entries
             → OnOk result (keeps self.new s (entries ++ line.now ∷ [])) };
+
+    /// The same of a line with a call on one descriptor.
+    fn keep_fd_line(&mut self, alloc: Global, text: &[u8], line: FdLine) -> Result<(), NoMemory>
+        requires room { lines_of self.old < most_lines }
+        requires spelled { line_of text.now ≡ Ok line }
+        ensures { (s : Setting) (entries : List Entry) → keeps self.old s entries
+            → OnOk result (keeps self.new s (entries ++ line ∷ [])) };
 }
 
 /// The lines of a trace so far. They are kept until memory runs out, and counted from then on.
@@ -80,19 +77,17 @@ impl<K: Keep> Entries<K> {
         }
     }
 
-    /// Keeps the next line, which comes after `count` others.
-    fn keep(&mut self, count: usize, line: Line)
+    /// Keeps the next line, which this text spells and which comes after `count` others.
+    fn keep(&mut self, count: usize, text: &[u8], line: &LineRef<'_>)
         requires room { ForSome self.old.kept (λ k. K.lines_of k < most_lines) }
         requires most { count < most_lines }
+        requires spelled { line_of text.now ≡ Ok line.now }
         ensures { (known : Traced) → Follows K.keeps self.old.kept self.old.lost known → count ≡ length known.entries
-            → Follows K.keeps self.new.kept self.new.lost (one_more known line) }
+            → Follows K.keeps self.new.kept self.new.lost (one_more known line.now) }
     {
         let is_kept = match &mut self.kept {
-            Some(kept) => kept.keep(line).is_ok(),
-            None => {
-                drop(line);
-                false
-            }
+            Some(kept) => kept.keep(self.alloc, text, line).is_ok(),
+            None => false,
         };
         if !is_kept {
             self.lose(count + 1);
@@ -100,14 +95,15 @@ impl<K: Keep> Entries<K> {
     }
 
     /// The same of a line with a call on one descriptor.
-    fn keep_fd_line(&mut self, count: usize, line: FdLine)
+    fn keep_fd_line(&mut self, count: usize, text: &[u8], line: FdLine)
         requires room { ForSome self.old.kept (λ k. K.lines_of k < most_lines) }
         requires most { count < most_lines }
+        requires spelled { line_of text.now ≡ Ok line }
         ensures { (known : Traced) → Follows K.keeps self.old.kept self.old.lost known → count ≡ length known.entries
             → Follows K.keeps self.new.kept self.new.lost (one_more known line) }
     {
         let is_kept = match &mut self.kept {
-            Some(kept) => kept.keep_fd_line(line).is_ok(),
+            Some(kept) => kept.keep_fd_line(self.alloc, text, line).is_ok(),
             None => false,
         };
         if !is_kept {
@@ -115,61 +111,22 @@ impl<K: Keep> Entries<K> {
         }
     }
 
-    /// The same of a line with a call whose texts lie elsewhere.
-    fn keep_call_line(&mut self, count: usize, line: &CallLine<'_>)
-        requires room { ForSome self.old.kept (λ k. K.lines_of k < most_lines) }
-        requires most { count < most_lines }
-        ensures { (known : Traced) → Follows K.keeps self.old.kept self.old.lost known → count ≡ length known.entries
-            → Follows K.keeps self.new.kept self.new.lost (one_more known line.now) }
-    {
-        let is_kept = match &mut self.kept {
-            Some(kept) => kept.keep_call_line(self.alloc, line).is_ok(),
-            None => false,
-        };
-        if !is_kept {
-            self.lose(count + 1);
-        }
-    }
-
-    /// Keeps the next line, which isn't read yet and comes after `count` others.
-    #[inline(never)]
-    fn keep_with_care(&mut self, count: usize, unread: Unread<'_>) -> Result<(), Refused>
-        requires room { ForSome self.old.kept (λ k. K.lines_of k < most_lines) }
-        requires most { count < most_lines }
-        requires counts { is_skipped unread ≡ false }
-        ensures { (known : Traced) → Follows K.keeps self.old.kept self.old.lost known → count ≡ length known.entries
-            → TakesLine (next_traced known unread.entry) (Follows K.keeps self.new.kept self.new.lost) result }
-    {
-        match unread.line(self.alloc) {
-            Ok(line) => {
-                self.keep(count, line);
-                Ok(())
-            }
-            Err(fault) => match fault {
-                LineFault::Memory => {
-                    self.lose(count + 1);
-                    Ok(())
-                }
-                _ => Err(Refused::from(fault)),
-            },
-        }
-    }
-
-    /// The same, where the line may have a call that is read in one pass.
+    /// Keeps the next line, of which no more is read than how it begins.
     #[inline(always)]
-    fn keep_unread(&mut self, count: usize, unread: Unread<'_>) -> Result<(), Refused>
+    fn keep_unread(&mut self, count: usize, text: &[u8], unread: Unread<'_>) -> Result<(), Refused>
         requires room { ForSome self.old.kept (λ k. K.lines_of k < most_lines) }
         requires most { count < most_lines }
-        requires counts { is_skipped unread ≡ false }
+        requires same { unread ≡ text.now }
+        requires counts { is_skipped text.now ≡ false }
         ensures { (known : Traced) → Follows K.keeps self.old.kept self.old.lost known → count ≡ length known.entries
-            → TakesLine (next_traced known unread.entry) (Follows K.keeps self.new.kept self.new.lost) result }
+            → TakesLine (next_traced known text.now) (Follows K.keeps self.new.kept self.new.lost) result }
     {
-        match unread.call_line() {
+        match unread.line() {
             Ok(line) => {
-                self.keep_call_line(count, &line);
+                self.keep(count, text, &line);
                 Ok(())
             }
-            Err(unread) => self.keep_with_care(count, unread),
+            Err(fault) => Err(Refused::from(fault)),
         }
     }
 
@@ -201,11 +158,11 @@ impl<K: Keep> Lines for Entries<K> {
             return Err(Refused::Full);
         }
         match parse_fd_line(line) {
-            Ok(line) => {
-                self.keep_fd_line(count, line);
+            Ok(read) => {
+                self.keep_fd_line(count, line, read);
                 Ok(())
             }
-            Err(unread) => self.keep_unread(count, unread),
+            Err(unread) => self.keep_unread(count, line, unread),
         }
     }
 

@@ -85,7 +85,7 @@ fn put_mode<T: Trace>(
 fn checks_of(line: &Line) -> Checks
     ensures { listed result ≡ listed (demand line.now).checks }
 {
-    rule_of(Profile::One, line).demand.checks
+    rule_of(Profile::One, &line.seen()).demand.checks
 }
 
 /// The text of what the line at a position rests on.

@@ -20,7 +20,7 @@ use crate::short_text::ShortText;
 use crate::start_text::read_start;
 use crate::write::write_text;
 use cap_machine::{NoMemory, Profile, Start};
-use cap_trace::{CallLine, FdLine, Line};
+use cap_trace::{FdLine, Line, LineRef};
 use std::alloc::Global;
 
 impl Keep for Vec<Line> {
@@ -32,19 +32,16 @@ impl Keep for Vec<Line> {
         self.len()
     }
 
-    fn keep(&mut self, line: Line) -> Result<(), NoMemory> {
+    fn keep(&mut self, alloc: Global, text: &[u8], line: &LineRef<'_>) -> Result<(), NoMemory> {
+        let line = line.kept(alloc, text)?;
         match self.push(line) {
             Ok(()) => Ok(()),
             Err(_) => Err(NoMemory),
         }
     }
 
-    fn keep_fd_line(&mut self, line: FdLine) -> Result<(), NoMemory> {
-        self.keep(line.line())
-    }
-
-    fn keep_call_line(&mut self, alloc: Global, line: &CallLine<'_>) -> Result<(), NoMemory> {
-        self.keep(line.line(alloc)?)
+    fn keep_fd_line(&mut self, alloc: Global, text: &[u8], line: FdLine) -> Result<(), NoMemory> {
+        self.keep(alloc, text, &line.seen())
     }
 }
 

@@ -17,7 +17,7 @@ pub fn text_of(alloc: Global, tree: &Tree<Summary>, found: &[Found]) -> Result<V
     let mut text = Vec::new(alloc);
     for one in found {
         let step = tree.get(one.at - 1);
-        put_finding(&mut text, one.at, &step.line, &one.finding)?;
+        put_finding(&mut text, one.at, &step.line.seen(), &one.finding)?;
     }
     put_count(&mut text, found.len())?;
     Ok(text)

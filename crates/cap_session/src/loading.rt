@@ -10,7 +10,7 @@ use crate::refused::Refused;
 use crate::session::Session;
 use crate::steps::step_of;
 use cap_machine::{NoMemory, Profile, Step};
-use cap_trace::{CallLine, FdLine, Line};
+use cap_trace::{FdLine, Line, LineRef};
 use std::alloc::Global;
 use std::marker::Model;
 use std::rc::Rc;
@@ -74,18 +74,15 @@ impl Keep for Loading {
         self.steps.len()
     }
 
-    fn keep(&mut self, line: Line) -> Result<(), NoMemory> {
+    fn keep(&mut self, alloc: Global, text: &[u8], line: &LineRef<'_>) -> Result<(), NoMemory> {
+        let line = line.kept(alloc, text)?;
         match self.push(line) {
             Ok(()) => Ok(()),
             Err(_) => Err(NoMemory),
         }
     }
 
-    fn keep_fd_line(&mut self, line: FdLine) -> Result<(), NoMemory> {
-        self.keep(line.line())
-    }
-
-    fn keep_call_line(&mut self, alloc: Global, line: &CallLine<'_>) -> Result<(), NoMemory> {
-        self.keep(line.line(alloc)?)
+    fn keep_fd_line(&mut self, alloc: Global, text: &[u8], line: FdLine) -> Result<(), NoMemory> {
+        self.keep(alloc, text, &line.seen())
     }
 }

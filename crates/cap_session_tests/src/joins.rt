@@ -193,7 +193,7 @@ fn the_tree_has_the_lines(rt: HostRuntime) -> Result<(), Fail> {
     let session = session_of_two(rt.alloc())?;
     assert_eq!(rt; session.tree().len(), 2);
     for step in session.tree().iter() {
-        assert!(rt; step.profile == Profile::Two && step.line.pid == 100);
+        assert!(rt; step.profile == Profile::Two && step.line.pid() == 100);
     }
     Ok(())
 }

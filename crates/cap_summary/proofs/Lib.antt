@@ -11,6 +11,7 @@ pub mod Comparing
 pub mod Counting
 pub mod Runs
 pub mod Holding
+pub mod InStep
 pub mod LowMerging
 pub mod Merging
 pub mod MovedLow

@@ -1,12 +1,12 @@
 -- Runs of shared steps.
-use Rattle.std.proofs.Common.{◌≡◌, ℕ, List, [], ◌∷◌, ◌++◌, ◌<◌, length, get_or, slice_range, take, drop, refl, sym, ap}
-use Rattle.std.proofs.Common.{◌∙◌, length-append, arith}
-use Rattle.std.proofs.Math.Seq.{take-append_seam, drop-append_seam}
+use Rattle.std.proofs.Common.{◌≡◌, ℕ, List, [], ◌∷◌, ◌++◌, ◌<◌, length, get_or, slice_range, take, refl, sym, ap}
+use Rattle.std.proofs.Common.{◌∙◌, arith}
 use Rattle.std.proofs.lemmas.List.{map-append, append-nil, take-map}
 use Rattle.std.proofs.lemmas.Slice.{between_to_end}
 use Rattle.std.specs.declared.rc.Rc.{Rc}
 use Rattle.std.specs.List.{AllZip, AppendsClones}
 use Rattle.cap_tree.specs.Run.{values}
+use Rattle.cap_summary.specs.View.{NodeView}
 
 -- a copy shares the item
 values_from_clones : {X Z : Type 0} (xs ys : List (Rc X Z)) → AllZip (λ x y. y.value ≡ x.value) xs ys
@@ -34,17 +34,6 @@ pub none_behind : {X : Type 0} (a b n : List X) → n ≡ a → length b ≡ 0 �
 none_behind a [] n is none = is ∙ sym (append-nil a)
 none_behind a (x ∷ xs) n is none = absurd (omega arith)
 
--- two parts of one list, by the length of one
-pub same_front : {X : Type 0} (a b t u : List X) → a ++ b ≡ t ++ u → length a ≡ length t → a ≡ t
-same_front a b t u is long = sym (take-append_seam a b) ∙ ap (take (length a)) is
-    ∙ ap (λ n. take n (t ++ u)) long ∙ take-append_seam t u
-
-pub same_back : {X : Type 0} (a b t u : List X) → a ++ b ≡ t ++ u → length b ≡ length u → b ≡ u
-same_back a b t u is long =
-    let all : length (a ++ b) ≡ length (t ++ u) = ap (λ xs. length xs) is in
-    let front : length a ≡ length t = omega (arith, all, length-append a b, length-append t u, long) in
-    sym (drop-append_seam a b) ∙ ap (drop (length a)) is ∙ ap (λ n. drop n (t ++ u)) front ∙ drop-append_seam t u
-
 -- the first of a run
 pub values-take : {X Z : Type 0} (n : ℕ) (run : List (Rc X Z)) → take n (values run) ≡ values (take n run)
 values-take n run = take-map (λ item. item.value) n run
@@ -55,3 +44,7 @@ pub head_tail : {X Z : Type 0} (run : List (Rc X Z)) (x : Rc X Z) → 0 < length
 head_tail [] x some at = absurd (omega arith)
 head_tail (y ∷ ys) x some at = ap (λ r. r.value ∷ values ys) (sym at)
     ∙ ap (λ r. x.value ∷ values r) (sym (between_to_end (y ∷ ys) 1 (length (y ∷ ys)) (omega arith)))
+
+-- one node is seen as the steps that are seen of it
+pub same_steps : {a b : NodeView} → a ≡ b → a.steps ≡ b.steps
+same_steps is = ap (λ (n : NodeView). n.steps) is

@@ -7,8 +7,8 @@ use Rattle.cap_summary.specs.declared.explaining.Behind.{Behind}
 
 -- the node has so many steps, and not too many to be counted
 pub record IsPlace (behind : Behind) : Type 0 where
-  pub within : behind.count ≤ length behind.node.now
-  pub few : length behind.node.now ≤ 2 ^ 30
+  pub within : behind.count ≤ length behind.node.now.steps
+  pub few : length behind.node.now.steps ≤ 2 ^ 30
 
 -- the state before the steps
 abbrev pub state_at_start : Behind → State
@@ -16,4 +16,4 @@ state_at_start behind = start_state behind.start.now
 
 -- the steps before the place, the newest first
 abbrev pub history : Behind → List Step
-history behind = reverse (take behind.count behind.node.now)
+history behind = reverse (take behind.count behind.node.now.steps)

@@ -9,4 +9,4 @@ use Rattle.cap_summary.specs.Content.{content_steps, HasParts}
 pub deep_le_length : (content : Content) → HasParts content
     → max (deep-Content content) 0 ≤ length (content_steps content)
 deep_le_length (Run run) has = omega arith
-deep_le_length (Both a b) has = omega (arith, length-append a.value b.value)
+deep_le_length (Both a b) has = omega (arith, length-append a.value.steps b.value.steps)

@@ -6,6 +6,8 @@ use Rattle.cap_machine.specs.History.{ended}
 use Rattle.cap_machine.specs.Check.{check}
 use Rattle.cap_machine.specs.Walks.{LeavesCell, LeavesMode}
 use Rattle.cap_summary.specs.declared.known.Known.{Known}
+use Rattle.cap_summary.specs.declared.known.Likeness.{Likeness}
+use Rattle.cap_summary.specs.declared.known.Likeness.TheVariants as likeness
 use Rattle.cap_summary.specs.Changes.{changed, is_untouched, is_unturned, JoinsTo, DoSame}
 use Rattle.cap_summary.specs.Names.{Names, names_in, ChangeWithin, ConditionsWithin}
 use Rattle.cap_summary.specs.Sizes.{IsSized}
@@ -55,3 +57,9 @@ pub record IsLike (a b : Known) : Type 0 where
   pub change : DoSame a.change b.change
   pub always : a.always ≡ b.always
   pub conditions : a.conditions ≡ b.conditions
+
+-- how far what is known of a segment, and then of another in its place, is alike
+abbrev pub AreAlike : Likeness → Known → Known → Type 0
+AreAlike likeness.Unknown old new = Unit {0}
+AreAlike likeness.Change old new = DoSame new.change old.change
+AreAlike likeness.All old new = IsLike new old

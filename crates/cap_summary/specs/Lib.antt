@@ -15,6 +15,7 @@ pub mod MovedLow
 pub mod LineConditions
 pub mod Merging
 pub mod Knows
+pub mod View
 pub mod Content
 pub mod Falls
 pub mod Stands

@@ -71,3 +71,7 @@ any_low_holds s lows = list_any (low_holds s) lows
 -- each process and each descriptor that they ask about is among them
 abbrev pub LowsWithin : Names → List Low → Type 0
 LowsWithin names lows = All (λ low. condition_within names (low_condition low) ≡ true) lows
+
+-- they are on cells of a process
+abbrev pub AreOf : ℕ → List Low → Type 0
+AreOf p lows = All (λ low. key_pid low.key ≡ p) lows

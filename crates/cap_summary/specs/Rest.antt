@@ -7,9 +7,9 @@ use Rattle.cap_summary.specs.declared.node.Rest.TheVariants.{End, Then'}
 -- their steps
 abbrev pub rest_steps : Rest → List Step
 rest_steps End = []
-rest_steps (Then' node p rest) = node.now ++ rest_steps rest
+rest_steps (Then' node p rest) = node.now.steps ++ rest_steps rest
 
 -- each has steps
 abbrev pub AllSome : Rest → Type 0
 AllSome End = Unit {0}
-AllSome (Then' node p rest) = (0 < length node.now) × AllSome rest
+AllSome (Then' node p rest) = (0 < length node.now.steps) × AllSome rest

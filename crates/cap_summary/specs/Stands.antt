@@ -5,7 +5,7 @@ use Rattle.cap_summary.specs.declared.summary.Summary.{Summary}
 
 -- the steps that a summary sums up, from the first
 abbrev pub summed_up : Summary → List Step
-summed_up z = z.node.value
+summed_up z = z.node.value.steps
 
 -- a summary stands for a list of steps where it sums up just these
 pub record Stands (z : Summary) (t : List Step) : Type 0 where

@@ -11,14 +11,9 @@ ghost use Rattle.std.specs.List.{All};
 ghost use Rattle.cap_summary.specs.Tables.{listed_value, process_at, listed_process, process_of};
 ghost use Rattle.cap_summary.specs.Tables.{seen_value};
 ghost use Rattle.cap_summary.specs.Names.{Names, cell_within, others_within, mode_within, these, ChangeWithin};
-ghost use Rattle.cap_summary.specs.Names.{value_within};
-ghost use Rattle.cap_summary.specs.Packed.{low_source};
-ghost use Rattle.cap_summary.specs.MovedLow.{MovedLowHolds, MovedLowWithin};
 
 use crate::kept::{Listed, Seen};
 use crate::layers::Lowered;
-use crate::moved_low::MovedLow;
-use crate::packed::Low;
 use crate::tables::{Cells, Processes};
 use crate::values::{Base, ModeValue, Others, Value, lower_of};
 use cap_machine::Op;
@@ -178,22 +173,6 @@ impl Change {
         match self.processes.get_near(pid, &mut near.process) {
             Some(listed) => listed.seen(pid, fd, &mut near.cell),
             None => Seen::Same,
-        }
-    }
-
-    /// What has become of a condition behind this change, where a look tells it. It looks for the process first where an
-    /// earlier look-up ended, and notes where this one did.
-    #[inline]
-    pub(crate) fn moved_low(&self, low: &Low, near: &mut Near) -> MovedLow
-        ensures holds { (s : State) → MovedLowHolds s low.now
-            (value_of self.now (low_source low.now).pid (low_source low.now).fd) result }
-        ensures names { (names : Names) → value_within names
-            (value_of self.now (low_source low.now).pid (low_source low.now).fd) ≡ true
-            → MovedLowWithin names low.now result }
-    {
-        match self.processes.get_near(low.pid(), &mut near.process) {
-            Some(listed) => listed.moved_low(low, &mut near.cell),
-            None => MovedLow::Stays,
         }
     }
 

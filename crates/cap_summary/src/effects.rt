@@ -17,7 +17,7 @@ use crate::tables::{Cells, Listing, Processes};
 use crate::values::{Base, ModeValue, Passing, Value};
 use cap_machine::{Cell, Effect, Mode, OnExec, Op};
 use cap_rights::RightSet;
-use cap_trace::{Fd, Pid};
+use cap_trace::{Fd, Pid, fds_of};
 use cap_tree::NoMemory;
 use std::alloc::Global;
 
@@ -202,9 +202,12 @@ impl Change {
                 let inside = ModeValue::Fixed(Mode::Inside);
                 Change::whole(alloc, me, Base::own(me), inside)
             }
-            Effect::Start(fds) => {
+            Effect::Start(spelled) => {
                 let held = Value::Fixed(Cell::Held(RightSet::all(), OnExec::Unsure));
-                Change::only(alloc, me, started(alloc, fds, &held)?)
+                let Ok(fds) = fds_of(alloc, spelled) else {
+                    return Err(NoMemory);
+                };
+                Change::only(alloc, me, started(alloc, &fds, &held)?)
             }
             Effect::Exit => {
                 Change::whole(alloc, me, Base::unknown(), ModeValue::Fixed(Mode::Unsure))

@@ -110,11 +110,11 @@ impl Behind<'_> {
         ensures { IfOk result
             (λ e. explained_by e ≡ explained (state_at_start self.now) (history self.now) step.now) }
     {
-        let line = &step.line;
-        let rule = rule_of(step.profile, line);
-        let cells = self.origins(alloc, line.pid, &rule.demand.checks)?;
-        let mode = self.mode_where(alloc, line.pid, &rule.demand)?;
-        Ok(Explanation::of(&rule.demand, cells, mode))
+        let pid = step.line.pid();
+        let demand = rule_of(step.profile, &step.line.seen()).demand;
+        let cells = self.origins(alloc, pid, &demand.checks)?;
+        let mode = self.mode_where(alloc, pid, &demand)?;
+        Ok(Explanation::of(&demand, cells, mode))
     }
 }
 

@@ -1,7 +1,8 @@
 //! What tables keep, and what becomes of it where two are made one.
 
 ghost use Rattle.std.specs.Prelude.{◌≡◌, ℕ, true, IfOk, option_map, option_and_then};
-ghost use Rattle.cap_summary.specs.Tables.{kept_value, seen_value, listed_process, process_of};
+ghost use Rattle.cap_summary.specs.Tables.{kept_value, kept_values, listed_value, seen_value};
+ghost use Rattle.cap_summary.specs.Tables.{listed_process, process_of};
 ghost use Rattle.cap_summary.specs.Images.{under, IsLowered};
 ghost use Rattle.std.specs.List.{All};
 ghost use Rattle.cap_summary.specs.Values.{unlisted, op_on, passing_op};
@@ -9,7 +10,8 @@ ghost use Rattle.cap_summary.specs.Changes.{value_in};
 ghost use Rattle.cap_machine.specs.State.{State};
 ghost use Rattle.cap_summary.specs.Names.{Names, value_within};
 ghost use Rattle.cap_summary.specs.Packed.{low_source};
-ghost use Rattle.cap_summary.specs.MovedLow.{MovedLowHolds, MovedLowWithin};
+ghost use Rattle.cap_summary.specs.MovedLow.{MovedLowHolds, MovedLowWithin, low_value};
+ghost use Rattle.std.specs.Option.{option_copied};
 ghost use Rattle.cap_machine.specs.Op.{same, exec};
 ghost use Rattle.cap_machine.specs.Composed.{in_turn};
 ghost use Rattle.cap_summary.specs.declared.values.Value.TheVariants as value;
@@ -234,19 +236,33 @@ impl Kept {
         ensures { IfOk result (λ new. kept_value new ≡ under change.now (kept_value self.now)) }
     {
         match self {
-            Kept::Of(taken) => match change.seen(taken.pid, taken.fd, near) {
-                Seen::Same => self.share(),
-                Seen::Fixed(cell) => Ok(Kept::of_cell(&taken.op.on(cell))),
-                Seen::Taken(first) => Kept::after(alloc, first.pid, first.fd, &first.op, &taken.op),
-                Seen::Executed(first) => {
-                    let op = first.op.then(&Op::exec());
-                    Kept::after(alloc, first.pid, first.fd, &op, &taken.op)
-                }
-                Seen::Passed(pid, passing) => {
-                    Kept::after(alloc, pid, taken.fd, &passing.op(), &taken.op)
-                }
-            },
+            Kept::Of(taken) => Kept::taken_under(alloc, taken, change, near),
             _ => self.share(),
+        }
+    }
+
+    /// The same of one that comes from a cell.
+    #[inline(never)]
+    fn taken_under(
+        alloc: Global,
+        taken: &Rc<Taken>,
+        change: &Change,
+        near: &mut Near,
+    ) -> Result<Kept, NoMemory>
+        ensures { IfOk result (λ new. kept_value new
+            ≡ under change.now (value.Of taken.now.value.pid taken.now.value.fd taken.now.value.op)) }
+    {
+        match change.seen(taken.pid, taken.fd, near) {
+            Seen::Same => Ok(Kept::Of(taken.clone()?)),
+            Seen::Fixed(cell) => Ok(Kept::of_cell(&taken.op.on(cell))),
+            Seen::Taken(first) => Kept::after(alloc, first.pid, first.fd, &first.op, &taken.op),
+            Seen::Executed(first) => {
+                let op = first.op.then(&Op::exec());
+                Kept::after(alloc, first.pid, first.fd, &op, &taken.op)
+            }
+            Seen::Passed(pid, passing) => {
+                Kept::after(alloc, pid, taken.fd, &passing.op(), &taken.op)
+            }
         }
     }
 
@@ -306,9 +322,23 @@ impl Combine for Handing {
 }
 
 /// Cells, and over them others that stand behind a change.
-#[derive(Clone, Copy)]
+#[derive(Drop)]
 pub(crate) struct Moving<'a> {
-    pub(crate) change: &'a Change,
+    change: &'a Change,
+    /// Where the last look-up in the change ended.
+    near: std::cell::Cell<Near>,
+}
+
+impl Moving<'_> {
+    /// Those that stand behind this change.
+    pub(crate) fn behind<'a>(change: &'a Change) -> Moving<'a>
+        ensures { result.change.now ≡ change.now }
+    {
+        Moving {
+            change,
+            near: std::cell::Cell::new(Near::first()),
+        }
+    }
 }
 
 impl Combine for Moving<'_> {
@@ -330,7 +360,10 @@ impl Combine for Moving<'_> {
     }
 
     fn right(&self, alloc: Global, _fd: u32, right: &Kept) -> Result<Option<Kept>, NoMemory> {
-        Ok(Some(right.under(alloc, self.change, &mut Near::first())?))
+        let mut near = self.near.get();
+        let new = right.under(alloc, self.change, &mut near)?;
+        self.near.set(near);
+        Ok(Some(new))
     }
 
     fn both(
@@ -397,7 +430,7 @@ impl Listed {
 
     /// The cells that are listed.
     #[inline]
-    fn cells(&self) -> &Cells
+    pub(crate) fn cells(&self) -> &Cells
         ensures { (p : ℕ) → result.now ≡ (listed_process p self.now).cells }
     {
         match self {
@@ -420,7 +453,7 @@ impl Listed {
 
     /// What has become of a descriptor of the process with this pid. It looks for it first where an earlier look-up
     /// ended, and notes where this one did.
-    #[inline]
+    #[inline(always)]
     pub(crate) fn seen(&self, pid: Pid, fd: Fd, near: &mut usize) -> Seen<'_>
         ensures { seen_value pid fd result ≡ value_in (listed_process pid self.now) fd }
     {
@@ -446,18 +479,17 @@ impl Listed {
         }
     }
 
-    /// What has become of a condition on a cell of this process. It looks for the cell first where an earlier look-up
-    /// ended, and notes where this one did.
+    /// What has become of a condition on a cell of this process, by what its cells list there.
     #[inline]
-    pub(crate) fn moved_low(&self, low: &Low, near: &mut usize) -> MovedLow
-        ensures holds { (s : State) → MovedLowHolds s low.now
-            (value_in (listed_process (low_source low.now).pid self.now) (low_source low.now).fd) result }
-        ensures names { (names : Names) → value_within names
-            (value_in (listed_process (low_source low.now).pid self.now) (low_source low.now).fd) ≡ true
+    pub(crate) fn moved_low(&self, kept: Option<&Kept>, low: &Low) -> MovedLow
+        requires { (p : ℕ) → kept_values (option_copied kept)
+            ≡ listed_value (listed_process p self.now).cells (low_source low.now).fd }
+        ensures holds { (s : State) → MovedLowHolds s low.now (low_value self.now low.now) result }
+        ensures names { (names : Names) → value_within names (low_value self.now low.now) ≡ true
             → MovedLowWithin names low.now result }
     {
-        match self.cells().moved_low(low, near) {
-            Some(moved) => moved,
+        match kept {
+            Some(kept) => kept.moved_low(low),
             None => self.unlisted_low(low),
         }
     }

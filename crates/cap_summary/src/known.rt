@@ -1,18 +1,19 @@
 //! What is known of a segment, whatever the state before it.
 
 ghost use Rattle.std.specs.Prelude.{◌≡◌, ◌∷◌, [], ◌||◌, true, IfOk, IfSome};
+ghost use Rattle.cap_machine.specs.Steps.{step};
 ghost use Rattle.cap_machine.specs.Table.{start_state};
-ghost use Rattle.cap_summary.specs.Changes.{JoinsTo};
+ghost use Rattle.cap_summary.specs.Changes.{JoinsTo, DoSame};
 ghost use Rattle.cap_summary.specs.Sizes.{IsSizeOf, IsSized, ListMuch};
-ghost use Rattle.cap_summary.specs.Knows.{Knows, Composes, finds, state_after, leaves_cell, leaves_mode};
+ghost use Rattle.cap_summary.specs.Knows.{Knows, Composes, AreAlike, finds, state_after, leaves_cell, leaves_mode};
 
 use crate::before::Before;
 use crate::change::Change;
 use crate::line_conditions::{always, conditions_of};
 use crate::merge::merged;
 use crate::packed::Conditions;
-use cap_machine::{Cell, Mode, Start, Step, rule_of};
-use cap_trace::{Fd, Pid};
+use cap_machine::{Cell, Mode, Profile, Start, Step, rule_of};
+use cap_trace::{Fd, LineRef, Pid};
 use cap_tree::NoMemory;
 use std::alloc::Global;
 use std::rc::Rc;
@@ -29,6 +30,17 @@ pub struct Known {
     pub(crate) conditions: Conditions,
     size: usize,
     forks: bool,
+}
+
+/// How far what is known of a segment, and of one in its place, is known to be alike.
+#[derive(Clone, Copy)]
+pub enum Likeness {
+    /// Nothing is known of it.
+    Unknown,
+    /// Both have the same change.
+    Change,
+    /// Both have the same change and the same conditions, and something is found in any case in both or in neither.
+    All,
 }
 
 /// How many processes, cells and places of conditions are listed, and whether a process has its cells from another.
@@ -64,8 +76,14 @@ impl Known {
     pub(crate) fn of_step(alloc: Global, step: &Step) -> Result<Known, NoMemory>
         ensures { IfOk result (λ known. Knows known (step.now ∷ [])) }
     {
-        let line = &step.line;
-        let rule = rule_of(step.profile, line);
+        Known::of_line(alloc, step.profile, &step.line.seen())
+    }
+
+    /// One step, a line in a profile.
+    fn of_line(alloc: Global, profile: Profile, line: &LineRef<'_>) -> Result<Known, NoMemory>
+        ensures { IfOk result (λ known. Knows known (step profile line.now ∷ [])) }
+    {
+        let rule = rule_of(profile, line);
         let change = Change::of_effect(alloc, line.pid, &rule.effect)?;
         let conditions = conditions_of(alloc, line.pid, &rule.demand)?;
         let (size, forks) = size_of(&change, &conditions);
@@ -112,7 +130,8 @@ impl Known {
     /// A segment and then another, whose changes together are this one.
     fn over(alloc: Global, change: Change, a: &Known, b: &Known) -> Result<Known, NoMemory>
         requires { JoinsTo a.now.change b.now.change change }
-        ensures { IfOk result (λ whole. Composes a.now b.now whole) }
+        ensures composed { IfOk result (λ whole. Composes a.now b.now whole) }
+        ensures change { IfOk result (λ whole. whole.change ≡ change) }
     {
         if one_of(a.always, b.always) {
             return Ok(Known::certain(change));
@@ -141,19 +160,21 @@ impl Known {
         Ok(whole)
     }
 
-    /// The same change, of a segment in which something is found in any case; shared where it was so.
-    fn made_certain(this: &Rc<Known>, alloc: Global) -> Result<Rc<Known>, NoMemory>
+    /// The same change, of a segment in which something is found in any case, and how far that is like this one; shared
+    /// where it was so.
+    fn made_certain(this: &Rc<Known>, alloc: Global) -> Result<(Rc<Known>, Likeness), NoMemory>
         requires sized { IsSized this.now.value }
-        ensures change { IfOk result (λ new. new.value.change ≡ this.now.value.change) }
-        ensures always { IfOk result (λ new. new.value.always ≡ true) }
-        ensures conditions { IfOk result (λ new. new.value.conditions ≡ []) }
-        ensures sized { IfOk result (λ new. IsSized new.value) }
+        ensures change { IfOk result (λ new. new.0.value.change ≡ this.now.value.change) }
+        ensures always { IfOk result (λ new. new.0.value.always ≡ true) }
+        ensures conditions { IfOk result (λ new. new.0.value.conditions ≡ []) }
+        ensures sized { IfOk result (λ new. IsSized new.0.value) }
+        ensures alike { IfOk result (λ new. AreAlike new.1 this.now.value new.0.value) }
     {
         if this.always && this.conditions.is_like(&Conditions::none()) {
-            return Ok(this.clone()?);
+            return Ok((this.clone()?, Likeness::All));
         }
         let known = Known::certain(this.change.share()?);
-        Ok(Rc::new(alloc, known)?)
+        Ok((Rc::new(alloc, known)?, Likeness::Change))
     }
 
     /// Whether another one has the same conditions, and finds something in any case where this one does. No is a safe answer.
@@ -164,21 +185,40 @@ impl Known {
         self.always == other.always && self.conditions.is_like(&other.conditions)
     }
 
-    /// What is known of another segment and then the second, as `whole` is of the first and the second. What the other
-    /// leaves as it was is shared. None where the other's change isn't like the first's, or both may be too large.
+    /// Whether the change is the same as the old one's; where that isn't known, the two are compared. No is a safe
+    /// answer.
+    fn changes_alike(&self, old: &Known, likeness: Likeness) -> bool
+        requires { AreAlike likeness old.now self.now }
+        ensures { result ≡ true → DoSame self.now.change old.now.change }
+    {
+        match likeness {
+            Likeness::Unknown => self.change.is_like(&old.change),
+            Likeness::Change | Likeness::All => true,
+        }
+    }
+
+    /// What is known of another segment and then the second, as `whole` is of the first and the second, and how far the
+    /// two wholes are alike; `likeness` says it of the first and the other. What the other leaves as it was is shared.
+    /// None where the other's change isn't like the first's, or both may be too large.
     pub(crate) fn with_left(
         alloc: Global,
         whole: &Rc<Known>,
         first: &Known,
         second: &Known,
         other: &Known,
-    ) -> Result<Option<Rc<Known>>, NoMemory>
+        likeness: Likeness,
+    ) -> Result<Option<(Rc<Known>, Likeness)>, NoMemory>
         requires composed { Composes first.now second.now whole.now.value }
         requires other { IsSized other.now }
         requires second { IsSized second.now }
-        ensures { IfOk result (λ o. IfSome o (λ new. Composes other.now second.now new.value)) }
+        requires like { AreAlike likeness first.now other.now }
+        ensures composed { IfOk result (λ o. IfSome o (λ new. Composes other.now second.now new.0.value)) }
+        ensures alike { IfOk result (λ o. IfSome o (λ new. AreAlike new.1 whole.now.value new.0.value)) }
     {
-        if !other.change.is_like(&first.change) {
+        if let Likeness::All = likeness {
+            return Ok(Some((whole.clone()?, Likeness::All)));
+        }
+        if !other.changes_alike(first, likeness) {
             return Ok(None);
         }
         if one_of(other.always, second.always) {
@@ -186,30 +226,35 @@ impl Known {
             return Ok(Some(new));
         }
         if other.finds_alike(first) {
-            return Ok(Some(whole.clone()?));
+            return Ok(Some((whole.clone()?, Likeness::All)));
         }
         if Known::is_large(other, second) {
             return Ok(None);
         }
         let new = Known::over(alloc, whole.change.share()?, other, second)?;
-        Ok(Some(Rc::new(alloc, new)?))
+        Ok(Some((Rc::new(alloc, new)?, Likeness::Change)))
     }
 
-    /// What is known of the first segment and then another, as `whole` is of the first and the second. What the other
-    /// leaves as it was is shared. None where the other's change isn't like the second's, or both may be too large.
+    /// The same of the first segment and then another one; `likeness` says how far the second and the other are alike.
     pub(crate) fn with_right(
         alloc: Global,
         whole: &Rc<Known>,
         first: &Known,
         second: &Known,
         other: &Known,
-    ) -> Result<Option<Rc<Known>>, NoMemory>
+        likeness: Likeness,
+    ) -> Result<Option<(Rc<Known>, Likeness)>, NoMemory>
         requires composed { Composes first.now second.now whole.now.value }
         requires first { IsSized first.now }
         requires other { IsSized other.now }
-        ensures { IfOk result (λ o. IfSome o (λ new. Composes first.now other.now new.value)) }
+        requires like { AreAlike likeness second.now other.now }
+        ensures composed { IfOk result (λ o. IfSome o (λ new. Composes first.now other.now new.0.value)) }
+        ensures alike { IfOk result (λ o. IfSome o (λ new. AreAlike new.1 whole.now.value new.0.value)) }
     {
-        if !other.change.is_like(&second.change) {
+        if let Likeness::All = likeness {
+            return Ok(Some((whole.clone()?, Likeness::All)));
+        }
+        if !other.changes_alike(second, likeness) {
             return Ok(None);
         }
         if one_of(first.always, other.always) {
@@ -217,13 +262,13 @@ impl Known {
             return Ok(Some(new));
         }
         if other.finds_alike(second) {
-            return Ok(Some(whole.clone()?));
+            return Ok(Some((whole.clone()?, Likeness::All)));
         }
         if Known::is_large(first, other) {
             return Ok(None);
         }
         let new = Known::over(alloc, whole.change.share()?, first, other)?;
-        Ok(Some(Rc::new(alloc, new)?))
+        Ok(Some((Rc::new(alloc, new)?, Likeness::Change)))
     }
 
     /// Whether something is found in the steps from a start.

@@ -306,7 +306,7 @@ impl Layers {
             ≡ or_else (option_map (under change.now) (kept_values (found others.now f))) (layered_value self.now f)) }
     {
         let (own, over) = (self.top.entries(), others.entries());
-        let top = merge(alloc, &Moving { change }, own, over)?;
+        let top = merge(alloc, &Moving::behind(change), own, over)?;
         let lower = same_table(&self.lower)?;
         Ok(Layers {
             top,
@@ -349,7 +349,7 @@ impl Lowered {
         ensures { IfOk result (IsLowered change.now) }
     {
         let (first, second) = (below.entries(), lower.entries());
-        let new = merge(alloc, &Moving { change }, first, second)?;
+        let new = merge(alloc, &Moving::behind(change), first, second)?;
         Ok(Lowered { below, lower, new })
     }
 
@@ -412,7 +412,7 @@ pub(crate) fn made_of(
             return same_table(&one.new);
         }
     }
-    merge(alloc, &Moving { change }, below, lower)
+    merge(alloc, &Moving::behind(change), below, lower)
 }
 
 fn are_none(entries: &[(u32, Kept)]) -> bool
@@ -452,7 +452,7 @@ pub(crate) fn top_behind(
     if stay_behind(entries, change) {
         return same_table(top);
     }
-    merge(alloc, &Moving { change }, &[], entries)
+    merge(alloc, &Moving::behind(change), &[], entries)
 }
 
 fn same_table(table: &Table<Kept>) -> Result<Table<Kept>, NoMemory>

@@ -40,7 +40,7 @@ mod walking;
 pub use change::{Change, Process};
 pub use conditions::{CellTest, Condition, HeldTest, Refused, Source};
 pub use explaining::explain;
-pub use known::Known;
+pub use known::{Known, Likeness};
 pub use summary::{Summary, resolve, resolve_range};
 pub use tables::{Cells, Processes};
 pub use values::{Base, ModeValue, Others, Passing, Value};

@@ -1,6 +1,7 @@
 //! What becomes of conditions behind a change.
 
-ghost use Rattle.std.specs.Prelude.{◌≡◌, ◌<◌, ◌||◌, length, slice_index_or, IfOk, OnOk, IfSome, IfNone, true, false};
+ghost use Rattle.std.specs.Prelude.{◌≡◌, ℕ, ◌<◌, ◌≤◌, ◌||◌, ◌++◌, length, slice_index_or, slice_get, Some, true, false};
+ghost use Rattle.std.specs.Prelude.{IfOk, OnOk, IfSome, IfNone};
 ghost use Rattle.cap_machine.specs.State.{State};
 ghost use Rattle.cap_summary.specs.Changes.{changed};
 ghost use Rattle.cap_summary.specs.Conditions.{source_holds, part_holds, outside_holds, refused_holds, holds};
@@ -14,19 +15,28 @@ ghost use Rattle.cap_summary.specs.Moved.{moved_holds, moved_source_holds};
 ghost use Rattle.cap_summary.specs.Names.{Names, ChangeWithin, ConditionsWithin, value_within, source_within};
 ghost use Rattle.cap_summary.specs.Names.{part_within, outside_within, refused_within, condition_within};
 ghost use Rattle.cap_summary.specs.Names.{moved_within, moved_source_within};
-ghost use Rattle.cap_summary.specs.Packed.{low_condition, low_holds, any_low_holds, LowsWithin};
+ghost use Rattle.cap_summary.specs.Packed.{key_pid, any_low_holds, LowsWithin, AreOf};
+ghost use Rattle.cap_summary.specs.MovedLow.{MovedLowHolds, MovedLowWithin, low_passes, low_value, any_passes};
+ghost use Rattle.cap_summary.specs.MovedLow.{ValuesWithin};
+ghost use Rattle.cap_summary.specs.Sorted.{found, Rises};
+ghost use Rattle.cap_summary.specs.Tables.{kept_values, listed_value, listed_process};
+ghost use Rattle.cap_summary.specs.declared.packed.Low.{Low};
 
 use crate::change::{Change, Near};
 use crate::conditions::{Condition, Refused, Source};
-use crate::kept::{Seen, Taken};
+use crate::kept::{Kept, Listed, Seen, Taken};
 use crate::merge::sorted;
 use crate::moved_low::MovedLow;
 use crate::packed::{Conditions, Gathered, Low, Others};
+use crate::sorted::found_ahead;
 use crate::values::{ModeValue, Passing};
 use cap_machine::{Cell, Mode, Op};
 use cap_trace::{Fd, Pid};
 use cap_tree::NoMemory;
 use std::alloc::Global;
+
+/// A table with more than so many cells for each condition isn't gone through in step with them.
+const MANY: usize = 32;
 
 /// What has become of a condition behind a change.
 #[derive(Clone, Copy)]
@@ -384,86 +394,51 @@ impl Change {
         self.leaves_lows(lows.as_slice()) && self.leaves_others(others)
     }
 
-    /// Adds what becomes of a condition of the most common form behind this change, and answers whether it holds in any
-    /// case.
-    fn put_low(
+    /// Adds what becomes of conditions of the most common form on cells of a process behind this change, and answers
+    /// whether one of them holds in any case. It looks for the process first where an earlier look-up ended, and notes
+    /// where this one did.
+    fn put_of_process(
         &self,
         alloc: Global,
-        low: &Low,
-        near: &mut Near,
+        pid: Pid,
+        lows: &[Low],
+        near: &mut usize,
         left: &mut Gathered,
     ) -> Result<bool, NoMemory>
+        requires { AreOf pid lows.now }
         ensures holds { IfOk result (λ always. (s : State) → (always || any_holds s left.new)
-            ≡ (any_holds s left.old || low_holds (changed self.now s) low.now)) }
+            ≡ (any_holds s left.old || any_low_holds (changed self.now s) lows.now)) }
         ensures names { OnOk result ((names : Names) → ChangeWithin names self.now
-            → condition_within names (low_condition low.now) ≡ true → ConditionsWithin names left.old
-            → ConditionsWithin names left.new) }
+            → LowsWithin names lows.now → ConditionsWithin names left.old → ConditionsWithin names left.new) }
     {
-        let before = *near;
-        match self.moved_low(low, near) {
-            MovedLow::Never => Ok(false),
-            MovedLow::Always => Ok(true),
-            MovedLow::Stays => {
-                left.add_low(low)?;
+        match self.processes.get_from(pid, near) {
+            Some(listed) => listed.put_lows(alloc, lows, left),
+            None => {
+                left.add_lows(lows)?;
                 Ok(false)
-            }
-            MovedLow::To(pid, fd, closed) => {
-                left.add_at(low, pid, fd, closed)?;
-                Ok(false)
-            }
-            MovedLow::Unsure => {
-                *near = before;
-                self.put_seen(alloc, low, near, left)
             }
         }
     }
 
-    /// The same where it takes what has become of the cell.
+    /// The same of conditions of that form, process by process. It ends at one that holds in any case.
     #[inline(never)]
-    fn put_seen(
-        &self,
-        alloc: Global,
-        low: &Low,
-        near: &mut Near,
-        left: &mut Gathered,
-    ) -> Result<bool, NoMemory>
-        ensures holds { IfOk result (λ always. (s : State) → (always || any_holds s left.new)
-            ≡ (any_holds s left.old || low_holds (changed self.now s) low.now)) }
-        ensures names { OnOk result ((names : Names) → ChangeWithin names self.now
-            → condition_within names (low_condition low.now) ≡ true → ConditionsWithin names left.old
-            → ConditionsWithin names left.new) }
-    {
-        match self.seen(low.pid(), low.fd(), near) {
-            Seen::Same => {
-                left.add_low(low)?;
-                Ok(false)
-            }
-            Seen::Fixed(cell) => Ok(low.passes(cell)),
-            Seen::Passed(pid, Passing::Same) => {
-                left.add_low(&low.of_process(pid))?;
-                Ok(false)
-            }
-            Seen::Taken(taken) => put_taken(alloc, &low.source(), taken, left),
-            Seen::Executed(taken) => put_executed(alloc, &low.source(), taken, left),
-            Seen::Passed(pid, passing) => put_passed(alloc, &low.source(), pid, passing, left),
-        }
-    }
-
-    /// The same of conditions of that form, one after the other.
     fn put_lows(&self, alloc: Global, lows: &[Low], left: &mut Gathered) -> Result<bool, NoMemory>
         ensures holds { IfOk result (λ always. (s : State) → (always || any_holds s left.new)
             ≡ (any_holds s left.old || any_low_holds (changed self.now s) lows.now)) }
         ensures names { OnOk result ((names : Names) → ChangeWithin names self.now
             → LowsWithin names lows.now → ConditionsWithin names left.old → ConditionsWithin names left.new) }
     {
-        let mut always = false;
-        let mut near = Near::first();
-        for at in 0..lows.len() {
-            if self.put_low(alloc, &lows[at], &mut near, left)? {
-                always = true;
+        let mut near = 0usize;
+        let mut rest = lows;
+        while let Some(first) = rest.first() {
+            let pid = first.pid();
+            let (own, others) = of_process(pid, rest);
+            if self.put_of_process(alloc, pid, own, &mut near, left)? {
+                return Ok(true);
             }
+            rest = others;
         }
-        Ok(always)
+        Ok(false)
     }
 
     /// The same of another condition, that at a place. One that stays as it is is shared.
@@ -533,13 +508,198 @@ impl Change {
         if self.leaves_all(conditions) {
             return Ok((false, conditions.share()?));
         }
+        self.moved_anew(alloc, conditions)
+    }
+
+    /// The same where not all of them stay as they are.
+    #[inline(never)]
+    fn moved_anew(
+        &self,
+        alloc: Global,
+        conditions: &Conditions,
+    ) -> Result<(bool, Conditions), NoMemory>
+        ensures holds { IfOk result
+            (λ r. (s : State) → (r.0 || any_holds s r.1) ≡ any_holds (changed self.now s) conditions.now) }
+        ensures names { IfOk result (λ r. (names : Names) → ChangeWithin names self.now
+            → ConditionsWithin names conditions.now → ConditionsWithin names r.1) }
+    {
         let (lows, others) = conditions.parts();
         let lows = lows.as_slice();
         let mut left = Gathered::with_room(alloc, lows.len())?;
-        let low_met = self.put_lows(alloc, lows, &mut left)?;
-        let other_met = self.put_others(alloc, others, &mut left)?;
+        if self.put_lows(alloc, lows, &mut left)? {
+            return Ok((true, Conditions::none()));
+        }
+        let met = self.put_others(alloc, others, &mut left)?;
         let (lows, others) = left.finish(alloc)?;
         let others = sorted(alloc, others)?;
-        Ok((low_met || other_met, Conditions::of(lows, others)))
+        Ok((met, Conditions::of(lows, others)))
+    }
+}
+
+/// Those of the first conditions that are on cells of a process, and the ones behind them.
+#[inline]
+fn of_process(pid: Pid, lows: &[Low]) -> (&[Low], &[Low])
+    requires some { 0 < length lows.now }
+    requires first { (x : Low) → Some x ≡ slice_get lows.now 0 → key_pid x.key ≡ pid }
+    ensures parts { lows.now ≡ result.0.now ++ result.1.now }
+    ensures own { AreOf pid result.0.now }
+    ensures fewer { length result.1.now < length lows.now }
+{
+    for at in 1..lows.len() {
+        if lows[at].pid() != pid {
+            return lows.split_at(at);
+        }
+    }
+    lows.split_at(lows.len())
+}
+
+/// The entries among which a descriptor is looked for: the rest of them, which has those from a bound on, or all
+/// where it is below that.
+#[inline]
+fn start_at<'a>(
+    entries: &'a [(u32, Kept)],
+    rest: &'a [(u32, Kept)],
+    bound: Fd,
+    fd: Fd,
+) -> &'a [(u32, Kept)]
+    requires entries { Rises entries.now }
+    requires rest { Rises rest.now }
+    requires bound { (f : ℕ) → bound ≤ f → found rest.now f ≡ found entries.now f }
+    ensures rising { Rises result.now }
+    ensures found { (f : ℕ) → fd ≤ f → found result.now f ≡ found entries.now f }
+{
+    if fd < bound { entries } else { rest }
+}
+
+impl Listed {
+    /// Adds what becomes of conditions of the most common form on cells of this process, and answers whether one of
+    /// them holds in any case.
+    #[inline]
+    fn put_lows(&self, alloc: Global, lows: &[Low], left: &mut Gathered) -> Result<bool, NoMemory>
+        ensures holds { IfOk result (λ always. (s : State) → (always || any_holds s left.new)
+            ≡ (any_holds s left.old || any_passes s self.now lows.now)) }
+        ensures names { OnOk result ((names : Names) → ValuesWithin names self.now lows.now
+            → ConditionsWithin names left.old → ConditionsWithin names left.new) }
+    {
+        match self.cells().as_table() {
+            Some(entries) if entries.len() / MANY <= lows.len() => {
+                self.put_by_table(alloc, entries, lows, left)
+            }
+            _ => self.put_one_by_one(alloc, lows, left),
+        }
+    }
+
+    /// The same where its cells are one table, which is gone through in step with the conditions. It ends at one that
+    /// holds in any case.
+    fn put_by_table(
+        &self,
+        alloc: Global,
+        entries: &[(u32, Kept)],
+        lows: &[Low],
+        left: &mut Gathered,
+    ) -> Result<bool, NoMemory>
+        requires rising { Rises entries.now }
+        requires cells { (p f : ℕ)
+            → kept_values (found entries.now f) ≡ listed_value (listed_process p self.now).cells f }
+        ensures holds { IfOk result (λ always. (s : State) → (always || any_holds s left.new)
+            ≡ (any_holds s left.old || any_passes s self.now lows.now)) }
+        ensures names { OnOk result ((names : Names) → ValuesWithin names self.now lows.now
+            → ConditionsWithin names left.old → ConditionsWithin names left.new) }
+    {
+        let mut rest = entries;
+        let mut bound = 0u32;
+        for at in 0..lows.len() {
+            let low = &lows[at];
+            let fd = low.fd();
+            let (kept, ahead) = found_ahead(start_at(entries, rest, bound, fd), fd);
+            rest = ahead;
+            bound = fd;
+            let moved = self.moved_low(kept, low);
+            if self.put_moved(alloc, low, moved, left)? {
+                return Ok(true);
+            }
+        }
+        Ok(false)
+    }
+
+    /// The same, each by a look-up of its own.
+    #[inline(never)]
+    fn put_one_by_one(
+        &self,
+        alloc: Global,
+        lows: &[Low],
+        left: &mut Gathered,
+    ) -> Result<bool, NoMemory>
+        ensures holds { IfOk result (λ always. (s : State) → (always || any_holds s left.new)
+            ≡ (any_holds s left.old || any_passes s self.now lows.now)) }
+        ensures names { OnOk result ((names : Names) → ValuesWithin names self.now lows.now
+            → ConditionsWithin names left.old → ConditionsWithin names left.new) }
+    {
+        for at in 0..lows.len() {
+            if self.put_seen(alloc, &lows[at], left)? {
+                return Ok(true);
+            }
+        }
+        Ok(false)
+    }
+
+    /// Adds what has become of one of them, and answers whether it holds in any case.
+    #[inline]
+    fn put_moved(
+        &self,
+        alloc: Global,
+        low: &Low,
+        moved: MovedLow,
+        left: &mut Gathered,
+    ) -> Result<bool, NoMemory>
+        requires holds { (s : State) → MovedLowHolds s low.now (low_value self.now low.now) moved }
+        requires names { (names : Names) → value_within names (low_value self.now low.now) ≡ true
+            → MovedLowWithin names low.now moved }
+        ensures holds { IfOk result (λ always. (s : State) → (always || any_holds s left.new)
+            ≡ (any_holds s left.old || low_passes s low.now (low_value self.now low.now))) }
+        ensures names { OnOk result ((names : Names) → value_within names (low_value self.now low.now) ≡ true
+            → ConditionsWithin names left.old → ConditionsWithin names left.new) }
+    {
+        match moved {
+            MovedLow::Never => Ok(false),
+            MovedLow::Always => Ok(true),
+            MovedLow::Stays => {
+                left.add_low(low)?;
+                Ok(false)
+            }
+            MovedLow::Of(pid) => {
+                left.add_low(&low.of_process(pid))?;
+                Ok(false)
+            }
+            MovedLow::To(pid, fd, closed) => {
+                left.add_at(low, pid, fd, closed)?;
+                Ok(false)
+            }
+            MovedLow::Unsure => self.put_seen(alloc, low, left),
+        }
+    }
+
+    /// The same where it takes a look at what has become of the cell.
+    #[inline(never)]
+    fn put_seen(&self, alloc: Global, low: &Low, left: &mut Gathered) -> Result<bool, NoMemory>
+        ensures holds { IfOk result (λ always. (s : State) → (always || any_holds s left.new)
+            ≡ (any_holds s left.old || low_passes s low.now (low_value self.now low.now))) }
+        ensures names { OnOk result ((names : Names) → value_within names (low_value self.now low.now) ≡ true
+            → ConditionsWithin names left.old → ConditionsWithin names left.new) }
+    {
+        match self.seen(low.pid(), low.fd(), &mut 0usize) {
+            Seen::Same => {
+                left.add_low(low)?;
+                Ok(false)
+            }
+            Seen::Fixed(cell) => Ok(low.passes(cell)),
+            Seen::Passed(pid, Passing::Same) => {
+                left.add_low(&low.of_process(pid))?;
+                Ok(false)
+            }
+            Seen::Taken(taken) => put_taken(alloc, &low.source(), taken, left),
+            Seen::Executed(taken) => put_executed(alloc, &low.source(), taken, left),
+            Seen::Passed(pid, passing) => put_passed(alloc, &low.source(), pid, passing, left),
+        }
     }
 }

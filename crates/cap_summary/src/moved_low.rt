@@ -12,6 +12,8 @@ pub(crate) enum MovedLow {
     Always,
     /// It is as it was.
     Stays,
+    /// It is the same test of the cell of the same descriptor of this process.
+    Of(Pid),
     /// It is that the cell of this descriptor of this process lacks the same rights, or also that it is closed.
     To(Pid, Fd, bool),
     /// A look doesn't tell.

@@ -1,4 +1,4 @@
-//! The nodes of a summary. A contract sees a node as its steps.
+//! The nodes of a summary. A contract sees a node as its steps, and what is known of them.
 
 ghost use Rattle.std.specs.Prelude.{◌≡◌, ℕ, ◌+◌, ◌^◌, ◌<◌, ◌≤◌, ◌++◌, ◌∷◌, [], List, length, map, IfOk, OnOk, IfSome, IfNone};
 ghost use Rattle.std.specs.Prelude.{take, slice_index_or, true, false};
@@ -15,11 +15,12 @@ ghost use Rattle.cap_summary.specs.Before.{state_before};
 ghost use Rattle.cap_summary.specs.Positions.{within, AllOrMany};
 ghost use Rattle.cap_summary.specs.Rest.{rest_steps, AllSome};
 ghost use Rattle.cap_tree.specs.Run.{values};
-ghost use Rattle.cap_summary.specs.Content.{IsWhole};
+ghost use Rattle.cap_summary.specs.View.{ComposeTo, NodesCompose, NodesAlike};
+ghost use Rattle.cap_summary.specs.Content.{known_of};
 
 use crate::before::{Asked, Before, judge_run};
 use crate::in_order::judge_in_order;
-use crate::known::Known;
+use crate::known::{Known, Likeness};
 use crate::walking::{walk_cell, walk_mode};
 use cap_machine::{CellWalk, Found, Machine, ModeWalk, Step};
 use cap_trace::{Fd, Pid};
@@ -39,22 +40,7 @@ const KNOWN_STEPS: usize = 256;
 pub(crate) struct Node {
     len: usize,
     known: Option<Rc<Known>>,
-    parts: Option<Parts>,
     content: Content,
-}
-
-/// What is known of the two parts of a node.
-#[derive(Drop)]
-pub(crate) struct Parts {
-    left: Rc<Known>,
-    right: Rc<Known>,
-}
-
-/// What is known of two parts, and of both together.
-#[derive(Drop)]
-struct Whole {
-    known: Rc<Known>,
-    parts: Parts,
 }
 
 #[cycle(node)]
@@ -66,18 +52,17 @@ pub(crate) enum Content {
 
 impl Model for Node {
     ghost use Rattle.std.specs.Prelude.{length};
-    ghost use Rattle.std.specs.Prelude.{List};
-    ghost use Rattle.cap_machine.specs.declared.step.Step.{Step};
+    ghost use Rattle.cap_summary.specs.View.{NodeView};
 
-    ghost Value = { List Step };
+    ghost Value = { NodeView };
 
-    ghost use Rattle.cap_summary.specs.Content.{content_steps, IsGood};
+    ghost use Rattle.cap_summary.specs.Content.{node_view, IsGood};
 
-    ghost view = { λ a. content_steps a.content };
+    ghost view = { λ a. node_view a.known a.content };
 
-    ghost invariant = { λ a. IsGood a.len a.known a.parts a.content };
+    ghost invariant = { λ a. IsGood a.len a.known a.content };
 
-    ghost size = { length };
+    ghost size = { λ n. length n.steps };
 
     ghost use Rattle.cap_summary.specs.Falls.{deep_le_length};
 
@@ -86,7 +71,7 @@ impl Model for Node {
 
 impl Node {
     pub(crate) fn len(&self) -> usize
-        ensures count { result ≡ length self.now }
+        ensures count { result ≡ length self.now.steps }
         ensures few { result ≤ 2 ^ 30 }
     {
         self.len
@@ -117,7 +102,8 @@ impl Node {
 
     /// Two runs as one, where it can hold all their steps.
     fn as_run(alloc: Global, left: &Node, right: &Node) -> Result<Option<Rc<Node>>, NoMemory>
-        ensures { IfOk result (λ o. IfSome o (λ n. n.value ≡ left.now ++ right.now)) }
+        ensures steps { IfOk result (λ o. IfSome o (λ n. n.value.steps ≡ left.now.steps ++ right.now.steps)) }
+        ensures composed { IfOk result (λ o. IfSome o (λ n. NodesCompose left.now right.now n.value)) }
     {
         let (Content::Run(front), Content::Run(back)) = (&left.content, &right.content) else {
             return Ok(None);
@@ -134,7 +120,6 @@ impl Node {
         let node = Node {
             len,
             known: Some(Rc::new(alloc, known)?),
-            parts: None,
             content: Content::Run(run),
         };
         Ok(Some(Rc::new(alloc, node)?))
@@ -146,8 +131,9 @@ impl Node {
         left: &Rc<Node>,
         right: &Rc<Node>,
     ) -> Result<Rc<Node>, NoMemory>
-        requires few { length left.now.value + length right.now.value ≤ 2 ^ 30 }
-        ensures steps { IfOk result (λ n. n.value ≡ left.now.value ++ right.now.value) }
+        requires few { length left.now.value.steps + length right.now.value.steps ≤ 2 ^ 30 }
+        ensures steps { IfOk result (λ n. n.value.steps ≡ left.now.value.steps ++ right.now.value.steps) }
+        ensures composed { IfOk result (λ n. NodesCompose left.now.value right.now.value n.value) }
     {
         if left.len() == 0 {
             return Ok(right.clone()?);
@@ -158,43 +144,45 @@ impl Node {
         if let Some(node) = Node::as_run(alloc, left, right)? {
             return Ok(node);
         }
-        let whole = Node::whole_of(alloc, left, right)?;
-        Node::over(alloc, whole, left, right)
+        let known = Node::known_of_both(alloc, left, right)?;
+        Node::over(alloc, known, left, right)
     }
 
     /// The node of two parts that have steps.
     fn over(
         alloc: Global,
-        whole: Option<Whole>,
+        known: Option<Rc<Known>>,
         left: &Rc<Node>,
         right: &Rc<Node>,
     ) -> Result<Rc<Node>, NoMemory>
-        requires first { 0 < length left.now.value }
-        requires second { 0 < length right.now.value }
-        requires few { length left.now.value + length right.now.value ≤ 2 ^ 30 }
-        requires known { IfSome whole (λ whole. IsWhole whole left.now.value right.now.value) }
-        requires long { IfNone whole (256 < length left.now.value + length right.now.value) }
-        requires many { IfNone whole (NamesMany (left.now.value ++ right.now.value)) }
-        ensures steps { IfOk result (λ n. n.value ≡ left.now.value ++ right.now.value) }
+        requires first { 0 < length left.now.value.steps }
+        requires second { 0 < length right.now.value.steps }
+        requires few { length left.now.value.steps + length right.now.value.steps ≤ 2 ^ 30 }
+        requires known { IfSome known
+            (λ known. Knows known.value (left.now.value.steps ++ right.now.value.steps)) }
+        requires long { IfNone known (256 < length left.now.value.steps + length right.now.value.steps) }
+        requires many { IfNone known (NamesMany (left.now.value.steps ++ right.now.value.steps)) }
+        ensures steps { IfOk result (λ n. n.value.steps ≡ left.now.value.steps ++ right.now.value.steps) }
+        ensures known { IfOk result (λ n. n.value.known ≡ known_of known) }
     {
-        let (known, parts) = match whole {
-            Some(whole) => (Some(whole.known), Some(whole.parts)),
-            None => (None, None),
-        };
         let node = Node {
             len: left.len() + right.len(),
             known,
-            parts,
             content: Content::Both(left.clone()?, right.clone()?),
         };
         Ok(Rc::new(alloc, node)?)
     }
 
     /// What is known of the steps of two nodes; none where there are many and the tables would be too large.
-    fn whole_of(alloc: Global, left: &Node, right: &Node) -> Result<Option<Whole>, NoMemory>
-        ensures known { IfOk result (λ o. IfSome o (λ whole. IsWhole whole left.now right.now)) }
-        ensures short { IfOk result (λ o. IfNone o (256 < length left.now + length right.now)) }
-        ensures few { IfOk result (λ o. IfNone o (NamesMany (left.now ++ right.now))) }
+    fn known_of_both(
+        alloc: Global,
+        left: &Node,
+        right: &Node,
+    ) -> Result<Option<Rc<Known>>, NoMemory>
+        ensures known { IfOk result (λ o. IfSome o (λ whole. Knows whole.value (left.now.steps ++ right.now.steps))) }
+        ensures composed { IfOk result (λ o. IfSome o (λ whole. ComposeTo left.now.known right.now.known whole.value)) }
+        ensures short { IfOk result (λ o. IfNone o (256 < length left.now.steps + length right.now.steps)) }
+        ensures few { IfOk result (λ o. IfNone o (NamesMany (left.now.steps ++ right.now.steps))) }
     {
         let Some(a) = &left.known else {
             return Ok(None);
@@ -206,94 +194,99 @@ impl Node {
             return Ok(None);
         }
         let known = Known::join(alloc, a, b)?;
-        Ok(Some(Whole {
-            known: Rc::new(alloc, known)?,
-            parts: Parts {
-                left: a.clone()?,
-                right: b.clone()?,
-            },
-        }))
+        Ok(Some(Rc::new(alloc, known)?))
     }
 
-    /// The node with another part in place of the left, before a right part of so many steps. None where the node has no
-    /// such right part, or what is known of the other left part isn't like what was known of the one that it had.
+    /// The left and the right part in order, where this node is `was` and the right part, and how far this node and the
+    /// new one are alike; `likeness` says it of `was` and the left part. What is known is shared where it is the same.
+    /// None where nothing can be shared.
     pub(crate) fn with_left(
         &self,
         alloc: Global,
+        was: &Node,
         left: &Rc<Node>,
-        count: usize,
-    ) -> Result<Option<Rc<Node>>, NoMemory>
-        requires { length left.now.value + count ≤ 2 ^ 30 }
-        ensures { IfOk result (λ o. IfSome o (λ n. (t u : List Step) → self.now ≡ t ++ u → length u ≡ count
-            → n.value ≡ left.now.value ++ u)) }
+        right: &Rc<Node>,
+        likeness: Likeness,
+    ) -> Result<Option<(Rc<Node>, Likeness)>, NoMemory>
+        requires few { length left.now.value.steps + length right.now.value.steps ≤ 2 ^ 30 }
+        requires old { NodesCompose was.now right.now.value self.now }
+        requires like { NodesAlike likeness was.now left.now.value }
+        ensures steps { IfOk result
+            (λ o. IfSome o (λ new. new.0.value.steps ≡ left.now.value.steps ++ right.now.value.steps)) }
+        ensures composed { IfOk result
+            (λ o. IfSome o (λ new. NodesCompose left.now.value right.now.value new.0.value)) }
+        ensures alike { IfOk result (λ o. IfSome o (λ new. NodesAlike new.1 self.now new.0.value)) }
     {
-        let Content::Both(_, right) = &self.content else {
+        let Content::Both(_, _) = &self.content else {
             return Ok(None);
         };
-        let (Some(known), Some(parts)) = (&self.known, &self.parts) else {
+        let (Some(whole), Some(first)) = (&self.known, &was.known) else {
             return Ok(None);
         };
-        let Some(other) = &left.known else {
+        let (Some(other), Some(second)) = (&left.known, &right.known) else {
             return Ok(None);
         };
-        if right.len() != count || left.len() == 0 {
+        if was.len() == 0 || left.len() == 0 || right.len() == 0 {
             return Ok(None);
         }
-        let Some(known) = Known::with_left(alloc, known, &parts.left, &parts.right, other)? else {
+        let Some((known, likeness)) = Known::with_left(
+            alloc, whole, first, second, other, likeness,
+        )?
+        else {
             return Ok(None);
         };
-        let parts = Parts {
-            left: other.clone()?,
-            right: parts.right.clone()?,
-        };
-        let node = Node::over(alloc, Some(Whole { known, parts }), left, right)?;
-        Ok(Some(node))
+        let node = Node::over(alloc, Some(known), left, right)?;
+        Ok(Some((node, likeness)))
     }
 
-    /// The node with another part in place of the right, behind a left part of so many steps. None where the node has no
-    /// such left part, or what is known of the other right part isn't like what was known of the one that it had.
+    /// The same where this node is the left part and `was`; `likeness` says how far `was` and the right part are alike.
     pub(crate) fn with_right(
         &self,
         alloc: Global,
+        was: &Node,
+        left: &Rc<Node>,
         right: &Rc<Node>,
-        count: usize,
-    ) -> Result<Option<Rc<Node>>, NoMemory>
-        requires { count + length right.now.value ≤ 2 ^ 30 }
-        ensures { IfOk result (λ o. IfSome o (λ n. (t u : List Step) → self.now ≡ t ++ u → length t ≡ count
-            → n.value ≡ t ++ right.now.value)) }
+        likeness: Likeness,
+    ) -> Result<Option<(Rc<Node>, Likeness)>, NoMemory>
+        requires few { length left.now.value.steps + length right.now.value.steps ≤ 2 ^ 30 }
+        requires old { NodesCompose left.now.value was.now self.now }
+        requires like { NodesAlike likeness was.now right.now.value }
+        ensures steps { IfOk result
+            (λ o. IfSome o (λ new. new.0.value.steps ≡ left.now.value.steps ++ right.now.value.steps)) }
+        ensures composed { IfOk result
+            (λ o. IfSome o (λ new. NodesCompose left.now.value right.now.value new.0.value)) }
+        ensures alike { IfOk result (λ o. IfSome o (λ new. NodesAlike new.1 self.now new.0.value)) }
     {
-        let Content::Both(left, _) = &self.content else {
+        let Content::Both(_, _) = &self.content else {
             return Ok(None);
         };
-        let (Some(known), Some(parts)) = (&self.known, &self.parts) else {
+        let (Some(whole), Some(second)) = (&self.known, &was.known) else {
             return Ok(None);
         };
-        let Some(other) = &right.known else {
+        let (Some(first), Some(other)) = (&left.known, &right.known) else {
             return Ok(None);
         };
-        if left.len() != count || right.len() == 0 {
+        if was.len() == 0 || left.len() == 0 || right.len() == 0 {
             return Ok(None);
         }
-        let Some(known) = Known::with_right(alloc, known, &parts.left, &parts.right, other)? else {
+        let Some((known, likeness)) = Known::with_right(
+            alloc, whole, first, second, other, likeness,
+        )?
+        else {
             return Ok(None);
         };
-        let parts = Parts {
-            left: parts.left.clone()?,
-            right: other.clone()?,
-        };
-        let node = Node::over(alloc, Some(Whole { known, parts }), left, right)?;
-        Ok(Some(node))
+        let node = Node::over(alloc, Some(known), left, right)?;
+        Ok(Some((node, likeness)))
     }
 
     /// No step.
     pub(crate) fn empty(alloc: Global) -> Result<Rc<Node>, NoMemory>
-        ensures { IfOk result (λ n. n.value ≡ []) }
+        ensures { IfOk result (λ n. n.value.steps ≡ []) }
     {
         let known = Known::empty();
         let node = Node {
             len: 0,
             known: Some(Rc::new(alloc, known)?),
-            parts: None,
             content: Content::Run(Vec::new(alloc)),
         };
         Ok(Rc::new(alloc, node)?)
@@ -301,7 +294,7 @@ impl Node {
 
     /// One step.
     pub(crate) fn one(alloc: Global, step: &Rc<Step>) -> Result<Rc<Node>, NoMemory>
-        ensures { IfOk result (λ n. n.value ≡ step.now.value ∷ []) }
+        ensures { IfOk result (λ n. n.value.steps ≡ step.now.value ∷ []) }
     {
         let known = Known::of_step(alloc, step)?;
         let mut run = Vec::with_capacity(alloc, 1)?;
@@ -309,7 +302,6 @@ impl Node {
         let node = Node {
             len: 1,
             known: Some(Rc::new(alloc, known)?),
-            parts: None,
             content: Content::Run(run),
         };
         Ok(Rc::new(alloc, node)?)
@@ -317,9 +309,9 @@ impl Node {
 
     /// What is known of the steps, where it is kept.
     pub(crate) fn known(&self) -> Option<&Known>
-        ensures knows { IfSome result (λ known. Knows known.now self.now) }
-        ensures short { IfNone result (256 < length self.now) }
-        ensures few { IfNone result (NamesMany self.now) }
+        ensures knows { IfSome result (λ known. Knows known.now self.now.steps) }
+        ensures short { IfNone result (256 < length self.now.steps) }
+        ensures few { IfNone result (NamesMany self.now.steps) }
     {
         match &self.known {
             Some(known) => Some(known),
@@ -350,12 +342,12 @@ impl Node {
         asked: &Asked,
         found: &mut Vec<Found>,
     ) -> Result<(), NoMemory>
-        requires short { at + (length self.now + length (rest_steps rest.now)) ≤ 2 ^ 31 }
-        requires some { 0 < length self.now }
+        requires short { at + (length self.now.steps + length (rest_steps rest.now)) ≤ 2 ^ 31 }
+        requires some { 0 < length self.now.steps }
         requires each { AllSome rest.now }
         ensures { OnOk result (AllOrMany asked.now.most found.new.items (found.old.items
             ++ within asked.now.from asked.now.to
-            (map (later at) (check (state_before before.now) (self.now ++ rest_steps rest.now))))) }
+            (map (later at) (check (state_before before.now) (self.now.steps ++ rest_steps rest.now))))) }
     {
         if asked.to <= at {
             return Ok(());
@@ -399,10 +391,10 @@ impl Node {
         asked: &Asked,
         found: &mut Vec<Found>,
     ) -> Result<(), NoMemory>
-        requires short { at + length self.now ≤ 2 ^ 31 }
+        requires short { at + length self.now.steps ≤ 2 ^ 31 }
         ensures found { OnOk result (found.new.items ≡ found.old.items ++ within asked.now.from asked.now.to
-            (map (later at) (check (start_state machine.old) self.now))) }
-        ensures moves { OnOk result (start_state machine.new ≡ ended (start_state machine.old) self.now) }
+            (map (later at) (check (start_state machine.old) self.now.steps))) }
+        ensures moves { OnOk result (start_state machine.new ≡ ended (start_state machine.old) self.now.steps) }
     {
         match &self.content {
             Content::Run(run) => judge_in_order(run, machine, at, asked, found),
@@ -417,8 +409,8 @@ impl Node {
 impl Node {
     /// The step behind so many others.
     pub(crate) fn step(&self, count: usize) -> &Step
-        requires { count < length self.now }
-        ensures { slice_index_or self.now count result.now ≡ result.now }
+        requires { count < length self.now.steps }
+        ensures { slice_index_or self.now.steps count result.now ≡ result.now }
     {
         match &self.content {
             Content::Run(run) => &run[count],
@@ -434,7 +426,7 @@ impl Node {
 
     /// Whether it is known that no step touches a cell. No is a safe answer.
     fn leaves_cell(&self, pid: Pid, fd: Fd) -> bool
-        ensures { result ≡ true → LeavesCell self.now pid fd }
+        ensures { result ≡ true → LeavesCell self.now.steps pid fd }
     {
         match &self.known {
             Some(known) => known.is_untouched(pid, fd),
@@ -444,7 +436,7 @@ impl Node {
 
     /// The same of a mode.
     fn leaves_mode(&self, pid: Pid) -> bool
-        ensures { result ≡ true → LeavesMode self.now pid }
+        ensures { result ≡ true → LeavesMode self.now.steps pid }
     {
         match &self.known {
             Some(known) => known.is_unturned(pid),
@@ -460,9 +452,9 @@ impl Node {
         at: usize,
         count: usize,
     ) -> Result<(), NoMemory>
-        requires within { count ≤ length self.now }
-        requires short { at + length self.now ≤ 2 ^ 31 }
-        ensures { OnOk result (PassesCell walk.old walk.new at (take count self.now)) }
+        requires within { count ≤ length self.now.steps }
+        requires short { at + length self.now.steps ≤ 2 ^ 31 }
+        ensures { OnOk result (PassesCell walk.old walk.new at (take count self.now.steps)) }
     {
         if walk.has_ended() || self.leaves_cell(walk.pid(), walk.fd()) {
             return Ok(());
@@ -487,9 +479,9 @@ impl Node {
         at: usize,
         count: usize,
     ) -> Result<(), NoMemory>
-        requires within { count ≤ length self.now }
-        requires short { at + length self.now ≤ 2 ^ 31 }
-        ensures { OnOk result (PassesMode walk.old walk.new at (take count self.now)) }
+        requires within { count ≤ length self.now.steps }
+        requires short { at + length self.now.steps ≤ 2 ^ 31 }
+        ensures { OnOk result (PassesMode walk.old walk.new at (take count self.now.steps)) }
     {
         if walk.has_ended() || self.leaves_mode(walk.pid()) {
             return Ok(());

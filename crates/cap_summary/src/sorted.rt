@@ -1,10 +1,11 @@
 //! Sorted tables.
-ghost use Rattle.std.specs.Prelude.{◌≡◌, ℕ, ◌==◌, [], ◌∷◌, length, IfOk, Some, Option, List};
+ghost use Rattle.std.specs.Prelude.{◌≡◌, ℕ, ◌==◌, ◌+◌, ◌<◌, ◌≤◌, if◌then◌else◌};
+ghost use Rattle.std.specs.Prelude.{[], ◌∷◌, length, slice_get, IfOk, Some, None, Option, List};
 ghost use Rattle.std.specs.Option.{option_copied};
 ghost use Rattle.cap_summary.specs.Sorted.{found, Rises, entries_of};
 
 use cap_tree::NoMemory;
-use place::{place_near, place_of};
+use place::{place_from, place_near, place_of};
 use std::alloc::{AllocError, Global};
 use std::marker::Model;
 use std::rc::RcSlice;
@@ -214,4 +215,53 @@ impl<V: Drop> Table<V> {
             filled: Some(filled),
         })
     }
+}
+
+/// The value at a key, if there is one, and where a look-up of a greater key begins. It goes up a few places from the
+/// one that is given, as of the look-up before it.
+#[inline]
+pub(crate) fn found_from<V>(entries: &[(u32, V)], key: u32, from: usize) -> (Option<&V>, usize)
+    requires { Rises entries.now }
+    ensures { option_copied result.0 ≡ found entries.now key }
+{
+    match place_from(entries, key, from) {
+        Ok(at) => (Some(&entries[at].1), at.saturating_add(1)),
+        Err(at) => (None, at),
+    }
+}
+
+/// The entries behind the first.
+#[inline(always)]
+fn behind_first<V>(entries: &[(u32, V)]) -> &[(u32, V)]
+    requires { 0 < length entries.now }
+    ensures rest { (x : ℕ × V) → Some x ≡ slice_get entries.now 0 → entries.now ≡ x ∷ result.now }
+    ensures fewer { length result.now + 1 ≡ length entries.now }
+{
+    &entries[1..]
+}
+
+/// The value of an entry, if it has a key.
+#[inline]
+fn value_at<V>(entry: &(u32, V), key: u32) -> Option<&V>
+    ensures { option_copied result ≡ (if entry.now.0 == key then Some entry.now.1 else None) }
+{
+    if entry.0 == key { Some(&entry.1) } else { None }
+}
+
+/// The value at a key, if there is one, and the entries whose keys aren't below it. It goes up from the first entry.
+#[inline]
+pub(crate) fn found_ahead<V>(entries: &[(u32, V)], key: u32) -> (Option<&V>, &[(u32, V)])
+    requires { Rises entries.now }
+    ensures value { option_copied result.0 ≡ found entries.now key }
+    ensures rising { Rises result.1.now }
+    ensures ahead { (k : ℕ) → key ≤ k → found result.1.now k ≡ found entries.now k }
+{
+    let mut rest = entries;
+    while let Some(first) = rest.first() {
+        if first.0 >= key {
+            return (value_at(first, key), rest);
+        }
+        rest = behind_first(rest);
+    }
+    (None, rest)
 }

@@ -8,9 +8,10 @@ ghost use Rattle.cap_summary.specs.Knows.{Knows};
 ghost use Rattle.cap_summary.specs.Sizes.{NamesMany};
 ghost use Rattle.cap_summary.specs.Positions.{within};
 ghost use Rattle.cap_summary.specs.Stands.{Stands, summed_up};
+ghost use Rattle.cap_summary.specs.View.{NodesCompose, NodesAlike};
 
 use crate::before::{Asked, Before};
-use crate::known::Known;
+use crate::known::{Known, Likeness};
 use crate::node::{Node, Rest};
 use cap_machine::{Found, Machine, Start, Step};
 use cap_tree::{Meter, NoMemory, Segment};
@@ -128,9 +129,15 @@ fn judged_in_order(
 impl Segment for Summary {
     type Item = Step;
 
+    type Likeness = Likeness;
+
     ghost stands = { Stands };
 
     ghost size = { λ z. length (summed_up z) };
+
+    ghost composes = { λ a b whole. NodesCompose a.node.value b.node.value whole.node.value };
+
+    ghost alike = { λ likeness old new. NodesAlike likeness old.node.value new.node.value };
 
     ghost use Rattle.cap_summary.specs.Sized.{stands_sized};
 
@@ -150,6 +157,10 @@ impl Segment for Summary {
         self.node.len()
     }
 
+    fn unlike() -> Likeness {
+        Likeness::Unknown
+    }
+
     fn join(
         alloc: Global,
         meter: &mut Meter,
@@ -165,31 +176,39 @@ impl Segment for Summary {
         alloc: Global,
         meter: &mut Meter,
         old: &Summary,
+        was: &Summary,
         left: &Summary,
         right: &Summary,
-    ) -> Result<Summary, NoMemory> {
-        match old.node.with_left(alloc, &left.node, right.node.len())? {
-            Some(node) => {
-                meter.tick();
-                Ok(Summary { node })
-            }
-            None => Summary::join(alloc, meter, left, right),
+        likeness: Likeness,
+    ) -> Result<(Summary, Likeness), NoMemory> {
+        let new = old
+            .node
+            .with_left(alloc, &was.node, &left.node, &right.node, likeness)?;
+        if let Some((node, likeness)) = new {
+            meter.tick();
+            return Ok((Summary { node }, likeness));
         }
+        let new = Summary::join(alloc, meter, left, right)?;
+        Ok((new, Likeness::Unknown))
     }
 
     fn with_right(
         alloc: Global,
         meter: &mut Meter,
         old: &Summary,
+        was: &Summary,
         left: &Summary,
         right: &Summary,
-    ) -> Result<Summary, NoMemory> {
-        match old.node.with_right(alloc, &right.node, left.node.len())? {
-            Some(node) => {
-                meter.tick();
-                Ok(Summary { node })
-            }
-            None => Summary::join(alloc, meter, left, right),
+        likeness: Likeness,
+    ) -> Result<(Summary, Likeness), NoMemory> {
+        let new = old
+            .node
+            .with_right(alloc, &was.node, &left.node, &right.node, likeness)?;
+        if let Some((node, likeness)) = new {
+            meter.tick();
+            return Ok((Summary { node }, likeness));
         }
+        let new = Summary::join(alloc, meter, left, right)?;
+        Ok((new, Likeness::Unknown))
     }
 }

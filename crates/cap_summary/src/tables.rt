@@ -14,12 +14,6 @@ ghost use Rattle.std.specs.List.{All};
 ghost use Rattle.cap_summary.specs.Values.{passed_on, passing_op, op_on};
 ghost use Rattle.cap_summary.specs.Names.{is_one, these, AreWithin, ChangeWithin};
 ghost use Rattle.cap_summary.specs.Sizes.{room};
-ghost use Rattle.cap_machine.specs.State.{State};
-ghost use Rattle.std.specs.Prelude.{unwrap_or, IfNone};
-ghost use Rattle.cap_summary.specs.declared.values.Value.{Value};
-ghost use Rattle.cap_summary.specs.Names.{Names, value_within};
-ghost use Rattle.cap_summary.specs.Packed.{low_source};
-ghost use Rattle.cap_summary.specs.MovedLow.{MovedLowHolds, MovedLowWithin};
 
 use crate::change::{Change, Near, Process, ProcessRef};
 use crate::kept::{Handing, Joining, Kept, Listed, Seen};
@@ -27,9 +21,7 @@ use crate::layers::{
     LARGE, Layers, Lowered, Parts, Shared, are_like, has_room, made_of, note_lowered, stay_behind,
     top_behind,
 };
-use crate::moved_low::MovedLow;
-use crate::packed::Low;
-use crate::sorted::{Builder, Filled, Table, merge};
+use crate::sorted::{Builder, Filled, Table, found_from, merge};
 use crate::values::{Passing, Value};
 use cap_trace::{Fd, Pid};
 use cap_tree::NoMemory;
@@ -178,39 +170,33 @@ impl Cells {
             Form::Empty => None,
             Form::Flat(table) => {
                 let (found, at) = table.get_near(fd, *near);
-                *near = at.saturating_add(1);
                 match found {
-                    Some(kept) => Some(kept.seen()),
-                    None => None,
+                    Some(kept) => {
+                        *near = at.saturating_add(1);
+                        Some(kept.seen())
+                    }
+                    None => {
+                        *near = at;
+                        None
+                    }
                 }
             }
             Form::Layered(layers) => layers.layers().get_near(fd, near),
         }
     }
 
-    /// What has become of a condition on a cell; none where its descriptor isn't listed. It looks for it first behind where
-    /// an earlier look-up ended, and notes where this one did.
+    /// The entries, where they are kept as one table.
     #[tactic(auto, unfolding(crate::specs::Tables::listed_value))]
-    #[inline(always)]
-    pub(crate) fn moved_low(&self, low: &Low, near: &mut usize) -> Option<MovedLow>
-        ensures holds { IfSome result (λ moved. (s : State) (v : Value)
-            → MovedLowHolds s low.now (unwrap_or (listed_value self.now (low_source low.now).fd) v) moved) }
-        ensures names { IfSome result (λ moved. (names : Names) (v : Value)
-            → value_within names (unwrap_or (listed_value self.now (low_source low.now).fd) v) ≡ true
-            → MovedLowWithin names low.now moved) }
-        ensures none { IfNone result (listed_value self.now (low_source low.now).fd ≡ None) }
+    #[inline]
+    pub(crate) fn as_table(&self) -> Option<&[(u32, Kept)]>
+        ensures rising { IfSome result (λ entries. Rises entries.now) }
+        ensures value { IfSome result
+            (λ entries. (f : ℕ) → kept_values (found entries.now f) ≡ listed_value self.now f) }
     {
         match &self.form {
-            Form::Empty => None,
-            Form::Flat(table) => {
-                let (found, at) = table.get_near(low.fd(), *near);
-                *near = at.saturating_add(1);
-                match found {
-                    Some(kept) => Some(kept.moved_low(low)),
-                    None => None,
-                }
-            }
-            Form::Layered(_) => Some(MovedLow::Unsure),
+            Form::Empty => Some(&[]),
+            Form::Flat(table) => Some(table.entries()),
+            Form::Layered(_) => None,
         }
     }
 
@@ -647,6 +633,17 @@ impl Processes {
     {
         let (found, at) = self.table.get_near(pid, *near);
         *near = at;
+        found
+    }
+
+    /// The same. It goes up from the place that is given, where an earlier look-up ended, and notes where this one did.
+    #[tactic(auto, unfolding(crate::specs::Tables::process_at))]
+    #[inline]
+    pub(crate) fn get_from(&self, pid: Pid, next: &mut usize) -> Option<&Listed>
+        ensures { option_map (listed_process pid) (option_copied result) ≡ process_at self.now pid }
+    {
+        let (found, after) = found_from(self.table.entries(), pid, *next);
+        *next = after;
         found
     }
 

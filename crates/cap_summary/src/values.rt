@@ -346,7 +346,7 @@ impl Base {
         }
         match &self.others {
             Others::Unknown => MovedLow::Never,
-            Others::Of(source, Passing::Same) => MovedLow::To(*source, low.fd(), low.closed()),
+            Others::Of(source, Passing::Same) => MovedLow::Of(*source),
             _ => MovedLow::Unsure,
         }
     }

@@ -61,7 +61,7 @@ fn report_of(alloc: Global, steps: &[Rc<Step>], found: &[Found]) -> Result<Vec<u
     let mut text = Vec::new(alloc);
     for one in found {
         if let Some(step) = steps.get(one.at.saturating_sub(1)) {
-            put_finding(&mut text, one.at, &step.line, &one.finding)?;
+            put_finding(&mut text, one.at, &step.line.seen(), &one.finding)?;
         }
     }
     put_count(&mut text, found.len())?;

@@ -4,9 +4,9 @@ use Rattle.std.proofs.Common.{ap, subst, ◌∙◌, arith}
 use Rattle.std.specs.Prelude.{codes}
 use Rattle.cap_trace.specs.declared.fault.FirstFault.{FirstFault}
 use Rattle.cap_trace.specs.declared.fault.FirstFault.TheVariants as faults
-use Rattle.cap_trace.specs.declared.line.Item.TheVariants as items
-use Rattle.cap_trace.specs.declared.line.Call.{Call}
-use Rattle.cap_trace.specs.declared.line.Call.TheVariants as calls
+use Rattle.cap_trace.specs.Item as items
+use Rattle.cap_trace.specs.Call.{Call}
+use Rattle.cap_trace.specs.Call as calls
 use Rattle.cap_trace.specs.declared.calls.DupCommand.TheVariants as dup_commands
 use Rattle.cap_trace.specs.declared.calls.Form.TheVariants as forms
 use Rattle.cap_trace.specs.Names.{Head, listed, unlisted}

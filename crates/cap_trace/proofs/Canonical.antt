@@ -8,10 +8,10 @@ use Rattle.std.proofs.lemmas.Fmt.{length-decimal-le}
 use Rattle.cap_rights.specs.Text.{text}
 use Rattle.cap_rights.proofs.Again.{named_is_read}
 use Rattle.cap_rights.proofs.Short.{text_is_short}
-use Rattle.cap_trace.specs.declared.line.Item.{Item}
-use Rattle.cap_trace.specs.declared.line.Item.TheVariants as items
-use Rattle.cap_trace.specs.declared.line.Call.{Call}
-use Rattle.cap_trace.specs.declared.line.Call.TheVariants as calls
+use Rattle.cap_trace.specs.Item.{Item}
+use Rattle.cap_trace.specs.Item as items
+use Rattle.cap_trace.specs.Call.{Call}
+use Rattle.cap_trace.specs.Call as calls
 use Rattle.cap_trace.specs.declared.line.Answer.{Answer}
 use Rattle.cap_trace.specs.declared.line.Answer.TheVariants as answers
 use Rattle.cap_trace.specs.declared.line.Dir.TheVariants as dirs

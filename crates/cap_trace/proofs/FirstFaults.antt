@@ -12,8 +12,8 @@ use borrow.Author.Tests.{ltb-true}
 use Rattle.cap_rights.specs.Text.{names}
 use Rattle.cap_trace.specs.declared.fault.FirstFault.{FirstFault}
 use Rattle.cap_trace.specs.declared.fault.FirstFault.TheVariants as faults
-use Rattle.cap_trace.specs.declared.line.Item.{Item}
-use Rattle.cap_trace.specs.declared.line.Item.TheVariants as items
+use Rattle.cap_trace.specs.Item.{Item}
+use Rattle.cap_trace.specs.Item as items
 use Rattle.cap_trace.specs.declared.calls.Kind.{Kind}
 use Rattle.cap_trace.specs.declared.calls.Kind.TheVariants.{Count, Zero, Fd, Same, FdPair, Child, ChildAndFd, Any}
 use Rattle.cap_trace.specs.declared.calls.Form.TheVariants as forms

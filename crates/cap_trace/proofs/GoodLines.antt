@@ -1,15 +1,15 @@
 -- A line whose fields are good, and whose text isn't too long, is one that some bytes spell, and none else is.
-use Rattle.std.proofs.Common.{◌≡◌, ℕ, ◌+◌, ◌≤◌, ◌&&◌, Bool, true, false, eqb, ltb, leb, List, [], ◌∷◌, length, map}
+use Rattle.std.proofs.Common.{◌≡◌, ℕ, ◌+◌, ◌≤◌, ◌&&◌, Bool, true, false, eqb, ltb, leb, List, [], ◌∷◌, length, map, sym, ◌∙◌}
 use Rattle.std.proofs.Common.{Option, Some, None, refl, ap}
 use Rattle.std.specs.Prelude.{is_none}
 use Rattle.std.proofs.lemmas.Bool.{eqb-true, lt-ltb, le-leb}
 use borrow.Author.Tests.{ltb-true, leb-true}
 use Rattle.cap_rights.specs.Text.{names, text}
 use Rattle.cap_rights.proofs.Again.{named_is_read}
-use Rattle.cap_trace.specs.declared.line.Item.{Item}
-use Rattle.cap_trace.specs.declared.line.Item.TheVariants as items
-use Rattle.cap_trace.specs.declared.line.Call.{Call}
-use Rattle.cap_trace.specs.declared.line.Call.TheVariants as calls
+use Rattle.cap_trace.specs.Item.{Item}
+use Rattle.cap_trace.specs.Item as items
+use Rattle.cap_trace.specs.Call.{Call}
+use Rattle.cap_trace.specs.Call as calls
 use Rattle.cap_trace.specs.declared.line.Answer.{Answer}
 use Rattle.cap_trace.specs.declared.line.Answer.TheVariants as answers
 use Rattle.cap_trace.specs.declared.line.Dir.TheVariants as dirs
@@ -22,7 +22,7 @@ use Rattle.cap_trace.specs.Entry.{free_text, args_of, args_of_call, head_of, hea
 use Rattle.cap_trace.specs.Entry.{IsAnswer, IsWhole, RisesFrom}
 use Rattle.cap_trace.specs.Spelling.{SpellsArg, SpellsArgs, SpellsBy, IsHead, IsProper, arg_text, canon}
 use Rattle.cap_trace.specs.Making.{is_fd, is_pid, is_good, are_good, is_head, is_answer, all_rise, is_good_item}
-use Rattle.cap_trace.specs.Making.{is_same_set, is_named, has_named_rights, has_text}
+use Rattle.cap_trace.specs.Making.{is_same_set, is_named, has_named_rights}
 use Rattle.cap_trace.proofs.Cuts.{both, both_true, eqb_same}
 use Rattle.cap_trace.proofs.Canonical.{canon_spells}
 
@@ -250,20 +250,25 @@ named_item : (p : ℕ) (i : Item) (bytes : List ℕ) (texts : List (List ℕ))
 named_item p (items.Call (calls.RightsLimit x y) a) bytes texts h = limit_named texts x y h.args
 named_item p i bytes texts h = refl
 
-pub text_proper : (e : Entry) → has_text e ≡ true → IsProper e
-text_proper e h =
-    let k = both (is_pid e.pid && is_good_item e.item && has_named_rights e.item) (leb (length (canon e)) 1024) h in
-    let l = both (is_pid e.pid && is_good_item e.item) (has_named_rights e.item) k.0 in
-    let m = both (is_pid e.pid) (is_good_item e.item) l.0 in
-    proper_from e m.0 m.1 l.1 (leb-true _ _ k.1)
+abbrev has_good_fields : Entry → Bool
+has_good_fields e = is_pid e.pid && is_good_item e.item && has_named_rights e.item
 
-pub proper_text : (e : Entry) → IsProper e → has_text e ≡ true
-proper_text e h =
-    both_true (is_pid e.pid && is_good_item e.item && has_named_rights e.item) (leb (length (canon e)) 1024)
-    (both_true (is_pid e.pid && is_good_item e.item) (has_named_rights e.item)
+proper_fields : (e : Entry) → IsProper e → has_good_fields e ≡ true
+proper_fields e h =
+    both_true (is_pid e.pid && is_good_item e.item) (has_named_rights e.item)
     (both_true (is_pid e.pid) (is_good_item e.item) (pid_to e.pid h.1.1.pid) (item_to e.pid e.item h.0 h.1.0 h.1.1))
-    (named_item e.pid e.item h.0 h.1.0 h.1.1))
-    (le-leb _ _ (canon_spells e h).1.short)
+    (named_item e.pid e.item h.0 h.1.0 h.1.1)
 
-pub no_text : (e : Entry) (b : Bool) → b ≡ has_text e → b ≡ false → IsProper e → ⊥
-no_text e b at lacks h = absurd (let yes = proper_text e h in cc)
+pub bad_fields : (e : Entry) (b : Bool) → b ≡ has_good_fields e → b ≡ false → IsProper e → ⊥
+bad_fields e b at lacks h = absurd (let yes = proper_fields e h in cc)
+
+pub too_long : (e : Entry) (b : Bool) (t : List ℕ) → b ≡ leb (length t) 1024 → t ≡ canon e → b ≡ false → IsProper e → ⊥
+too_long e b t at is lacks h =
+    absurd (let yes : leb (length t) 1024 ≡ true = rw is (le-leb _ _ (canon_spells e h).1.short) in cc)
+
+pub short_proper : (e : Entry) (a b : Bool) (t : List ℕ) → a ≡ has_good_fields e → a ≡ true → b ≡ leb (length t) 1024
+    → t ≡ canon e → b ≡ true → IsProper e
+short_proper e a b t fields good at is short =
+    let l = both (is_pid e.pid && is_good_item e.item) (has_named_rights e.item) (sym fields ∙ good) in
+    let m = both (is_pid e.pid) (is_good_item e.item) l.0 in
+    proper_from e m.0 m.1 l.1 (leb-true _ _ (ap (λ (s : List ℕ). leb (length s) 1024) (sym is) ∙ sym at ∙ short))

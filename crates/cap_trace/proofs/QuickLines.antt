@@ -11,9 +11,9 @@ use Rattle.cap_trace.specs.declared.fields.Place.{Place}
 use Rattle.cap_trace.specs.declared.fields.Place.TheVariants as places
 use Rattle.std.specs.Fmt.{decimal}
 use Rattle.std.specs.List.{join_with_byte}
-use Rattle.cap_trace.specs.declared.line.Item.{Item}
-use Rattle.cap_trace.specs.declared.line.Item.TheVariants as items
-use Rattle.cap_trace.specs.declared.line.Call.{Call}
+use Rattle.cap_trace.specs.Item.{Item}
+use Rattle.cap_trace.specs.Item as items
+use Rattle.cap_trace.specs.Call.{Call}
 use Rattle.cap_trace.specs.declared.line.Answer.{Answer}
 use Rattle.cap_trace.specs.Names.{Head, name_of, head_named}
 use Rattle.cap_trace.specs.Fields.{are_items, is_plain, is_between, item_step, quoted}

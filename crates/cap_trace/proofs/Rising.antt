@@ -1,6 +1,8 @@
 -- Descriptors that rise, as a loop tests them.
 use Rattle.std.proofs.Common.{◌≡◌, ℕ, ◌+◌, ◌≤◌, ◌<◌, Bool, true, false, cond, ltb, List, [], ◌∷◌, ◌++◌, append_assoc}
 use Rattle.std.proofs.Common.{Option, Some, None, Result, Ok, Err, refl, sym, ap, ◌∙◌}
+use Rattle.std.specs.Prelude.{◌||◌}
+use Rattle.std.specs.List.{list_any}
 use Rattle.std.proofs.lemmas.List.{append-nil}
 use Rattle.std.proofs.lemmas.Bool.{le-ltb, lt-ltb}
 use Rattle.cap_trace.specs.declared.fault.FirstFault.{FirstFault}
@@ -90,6 +92,24 @@ pub listed_end : (front : List ℕ) (ts : List (List ℕ)) (total : List ℕ) �
     → front ≡ total
 unfolding fds_in
 listed_end front ts total e h = sym (append-nil front) ∙ sym (ap (λ (x : List (List ℕ)). front ++ fds_in x) e) ∙ h
+
+-- ---- the same, as a loop seeks one of them
+
+pub any_more : (test : ℕ → Bool) (t : List ℕ) (ts : List (List ℕ)) (f : ℕ) (any : Bool) → fd_at t ≡ Ok f
+    → list_any test (fds_in (t ∷ ts)) ≡ any → (test f || list_any test (fds_in ts)) ≡ any
+any_more test t ts f any e h =
+    sym (ap (λ (x : List ℕ). list_any test x) (listed_is t ts
+    ∙ ap (λ (r : Result ℕ FirstFault). elim r as (λ _. List ℕ) [ Ok f ↦ f ∷ fds_in ts | Err e ↦ fds_in ts ]) e)) ∙ h
+
+pub any_less : (test : ℕ → Bool) (t : List ℕ) (ts : List (List ℕ)) (d : FirstFault) (any : Bool) → fd_at t ≡ Err d
+    → list_any test (fds_in (t ∷ ts)) ≡ any → list_any test (fds_in ts) ≡ any
+any_less test t ts d any e h =
+    sym (ap (λ (x : List ℕ). list_any test x) (listed_is t ts
+    ∙ ap (λ (r : Result ℕ FirstFault). elim r as (λ _. List ℕ) [ Ok f ↦ f ∷ fds_in ts | Err e ↦ fds_in ts ]) e)) ∙ h
+
+pub any_end : (test : ℕ → Bool) (ts : List (List ℕ)) (any : Bool) → ts ≡ [] → list_any test (fds_in ts) ≡ any → false ≡ any
+unfolding fds_in
+any_end test ts any e h = sym (ap (λ (x : List (List ℕ)). list_any test (fds_in x)) e) ∙ h
 
 abbrev done : {A : Type 0} → A → Result A FirstFault
 done x = Ok x

@@ -9,10 +9,10 @@ use Rattle.std.proofs.lemmas.Fmt.{digits_decimal}
 use Rattle.std.proofs.lemmas.Slice.Eq.{bytes_eq-Decides}
 use Rattle.cap_trace.specs.declared.fault.FirstFault.{FirstFault}
 use Rattle.cap_trace.specs.declared.fault.FirstFault.TheVariants as faults
-use Rattle.cap_trace.specs.declared.line.Item.{Item}
-use Rattle.cap_trace.specs.declared.line.Item.TheVariants as items
-use Rattle.cap_trace.specs.declared.line.Call.{Call}
-use Rattle.cap_trace.specs.declared.line.Call.TheVariants as calls
+use Rattle.cap_trace.specs.Item.{Item}
+use Rattle.cap_trace.specs.Item as items
+use Rattle.cap_trace.specs.Call.{Call}
+use Rattle.cap_trace.specs.Call as calls
 use Rattle.cap_trace.specs.declared.line.Answer.{Answer}
 use Rattle.cap_trace.specs.declared.calls.Kind.{Kind}
 use Rattle.cap_trace.specs.declared.calls.Kind.TheVariants.{Count, Zero, Fd, Same, FdPair, Child, ChildAndFd, Any}

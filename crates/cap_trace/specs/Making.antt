@@ -5,9 +5,9 @@ use Rattle.std.specs.List.{list_all}
 use Rattle.cap_rights.specs.Text.{names, text}
 use Rattle.cap_trace.specs.declared.fault.LineFault.{LineFault}
 use Rattle.cap_trace.specs.declared.fault.LineFault.TheVariants as line_faults
-use Rattle.cap_trace.specs.declared.line.Item.{Item}
-use Rattle.cap_trace.specs.declared.line.Item.TheVariants as items
-use Rattle.cap_trace.specs.declared.line.Call.TheVariants as calls
+use Rattle.cap_trace.specs.Item.{Item}
+use Rattle.cap_trace.specs.Item as items
+use Rattle.cap_trace.specs.Call as calls
 use Rattle.cap_trace.specs.declared.line.Answer.{Answer}
 use Rattle.cap_trace.specs.declared.line.Answer.TheVariants as answers
 use Rattle.cap_trace.specs.declared.line.Dir.TheVariants as dirs
@@ -101,7 +101,3 @@ is_named r = is_same_set r (names (text r))
 abbrev pub has_named_rights : Item → Bool
 has_named_rights (items.Call (calls.RightsLimit f r) a) = is_named r
 has_named_rights i = true
-
--- the fields are good, and the canonical text isn't too long
-abbrev pub has_text : Entry → Bool
-has_text e = (is_pid e.pid && is_good_item e.item && has_named_rights e.item) && nat_le (length (canon e)) longest_line

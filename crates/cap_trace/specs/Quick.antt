@@ -2,7 +2,7 @@
 use Rattle.std.specs.Prelude.{◌≡◌, ℕ, ◌≤◌, List, ◌∷◌, ◌++◌, length}
 use Rattle.std.specs.Fmt.{decimal}
 use Rattle.std.specs.List.{join_with_byte}
-use Rattle.cap_trace.specs.declared.line.Item.{Item}
+use Rattle.cap_trace.specs.Item.{Item}
 use Rattle.cap_trace.specs.Limits.{longest_line}
 use Rattle.cap_trace.specs.Names.{Head, name_of}
 use Rattle.cap_trace.specs.Entry.{Arg, args_of, head_of, IsPid, IsWhole}

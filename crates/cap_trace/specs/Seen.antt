@@ -1,25 +1,23 @@
--- What a line says while its texts still lie in its bytes, seen as the entry of Entry.
-use Rattle.std.specs.Prelude.{ℕ, Bool, true, false, List, [], ◌∷◌, Ok, Err, IsTrue}
-use Rattle.cap_trace.specs.declared.line.Call.{Call}
-use Rattle.cap_trace.specs.declared.line.Call.TheVariants as calls
+-- What a line says in the code, whose texts still lie in its bytes, seen as the entry of Entry.
+use Rattle.std.specs.Prelude.{ℕ, Bool, true, false, List, [], ◌∷◌, Ok, Err}
+use Rattle.cap_trace.specs.Call.{Call}
+use Rattle.cap_trace.specs.Call as calls
+use Rattle.cap_trace.specs.Item.{Item}
+use Rattle.cap_trace.specs.Item as items
 use Rattle.cap_trace.specs.declared.calls.Form.{Form}
 use Rattle.cap_trace.specs.declared.calls.Form.TheVariants as forms
-use Rattle.cap_trace.specs.declared.line.Item.{Item}
-use Rattle.cap_trace.specs.declared.line.Item.TheVariants as items
-use Rattle.cap_trace.specs.declared.seen.CallSeen.{CallSeen}
-use Rattle.cap_trace.specs.declared.seen.CallSeen.TheVariants as seen
-use Rattle.cap_trace.specs.declared.seen.SaidSeen.{SaidSeen}
-use Rattle.cap_trace.specs.declared.seen.SaidSeen.TheVariants as seen_said
-use Rattle.cap_trace.specs.declared.seen.ItemSeen.{ItemSeen}
-use Rattle.cap_trace.specs.declared.seen.ItemSeen.TheVariants as seen_items
-use Rattle.cap_trace.specs.declared.seen.LineSeen.{LineSeen}
-use Rattle.cap_trace.specs.Entry.{Entry, Arg, an_fd, a_dir, some_flags, some_rights, a_path, a_command, a_word}
+use Rattle.cap_trace.specs.declared.line.Call as code_call
+use Rattle.cap_trace.specs.declared.line.Call.TheVariants as seen
+use Rattle.cap_trace.specs.declared.line.Item as code_item
+use Rattle.cap_trace.specs.declared.line.Item.TheVariants as seen_items
+use Rattle.cap_trace.specs.declared.seen.Said as code_said
+use Rattle.cap_trace.specs.declared.seen.Said.TheVariants as seen_said
+use Rattle.cap_trace.specs.Entry.{Arg, an_fd, a_dir, some_flags, some_rights, a_path, a_command, a_word}
 use Rattle.cap_trace.specs.Entry.{free_text, dest, set_fd, dup_to}
 use Rattle.cap_trace.specs.declared.args.ArgSeen.{ArgSeen}
 use Rattle.cap_trace.specs.declared.args.ArgSeen.TheVariants as seen_args
 use Rattle.cap_trace.specs.declared.few.Few.{Few}
 use Rattle.cap_trace.specs.Few.{few_items}
-use Rattle.cap_trace.specs.Fields.{are_items}
 use Rattle.cap_trace.specs.Forms.{Said, a_call, a_marker}
 use Rattle.cap_trace.specs.Quotes.{pieces}
 use Rattle.cap_trace.specs.Reading.{fd_at}
@@ -44,7 +42,7 @@ arg_seen (seen_args.Free a) = free_text a.now
 abbrev pub args_seen : Few ArgSeen → List Arg
 args_seen args = few_items arg_seen args
 
-abbrev pub call_seen : CallSeen → Call
+abbrev pub call_seen : code_call.Call → Call
 call_seen (seen.OnFd c x) = calls.OnFd c x
 call_seen (seen.Send c x) = calls.Send c x
 call_seen (seen.SendTo c x) = calls.SendTo c x
@@ -74,29 +72,16 @@ is_call_form forms.Exit = false
 is_call_form forms.Foreign = false
 is_call_form f = true
 
-abbrev pub said_seen : SaidSeen → Said
-said_seen (seen_said.Call c) = a_call (call_seen c)
-said_seen (seen_said.Start args) = a_marker (items.Start (fds_in (pieces args.now)))
-said_seen seen_said.Exit = a_marker items.Exit
-said_seen (seen_said.Foreign f) = a_marker (items.Foreign f)
+-- the descriptors of a start, whose text this is
+abbrev pub fds_spelled : List ℕ → List ℕ
+fds_spelled text = fds_in (pieces text)
 
-abbrev pub item_seen : ItemSeen → Item
+abbrev pub item_seen : code_item.Item → Item
 item_seen (seen_items.Call c a) = items.Call (call_seen c) a
-item_seen (seen_items.Start args) = items.Start (fds_in (pieces args.now))
+item_seen (seen_items.Start text) = items.Start (fds_spelled text.now)
 item_seen seen_items.Exit = items.Exit
 item_seen (seen_items.Foreign f) = items.Foreign f
 
-abbrev pub line_seen : LineSeen → Entry
-line_seen l = record { pid = l.pid; item = item_seen l.item }
-
--- what stands between the quotes of each path is the items of one
-abbrev pub HavePaths : List Arg → Type 0
-HavePaths [] = Unit {0}
-HavePaths (an_fd f ∷ others) = HavePaths others
-HavePaths (a_dir d ∷ others) = HavePaths others
-HavePaths (some_flags w ∷ others) = HavePaths others
-HavePaths (some_rights r ∷ others) = HavePaths others
-HavePaths (a_path p ∷ others) = IsTrue (are_items p) × HavePaths others
-HavePaths (a_command w ∷ others) = HavePaths others
-HavePaths (a_word w ∷ others) = HavePaths others
-HavePaths (free_text a ∷ others) = HavePaths others
+abbrev pub said_seen : code_said.Said → Said
+said_seen (seen_said.Call c) = a_call (call_seen c)
+said_seen (seen_said.Marker i) = a_marker (item_seen i)

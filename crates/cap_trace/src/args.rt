@@ -5,8 +5,7 @@ ghost use Rattle.std.specs.Prelude.{◌≡◌};
 use crate::args::ArgSeen::{Command, Dest, Dir, DupTo, Fd, Flags, Free, Path, Rights, SetFd};
 use crate::calls::DupCommand;
 use crate::few::Few::{self, Five, Four, One, Three, Two, Zero};
-use crate::line;
-use crate::seen::CallSeen;
+use crate::line::{self, Call};
 use cap_rights::RightSet;
 
 /// An argument.
@@ -28,7 +27,7 @@ pub(crate) enum ArgSeen<'a> {
     Free(&'a [u8]),
 }
 
-impl<'a> CallSeen<'a> {
+impl<'a> Call<'a> {
     ghost use Rattle.cap_trace.specs.Entry.{args_of_call};
     ghost use Rattle.cap_trace.specs.Seen.{args_seen, call_seen};
 
@@ -37,32 +36,32 @@ impl<'a> CallSeen<'a> {
         ensures { args_seen result ≡ args_of_call (call_seen self.now) }
     {
         match *self {
-            CallSeen::OnFd(_, fd) | CallSeen::Send(_, fd) => One(Fd(fd)),
-            CallSeen::SendTo(_, fd) => Two(Fd(fd), Dest),
-            CallSeen::Accept4(fd, flags) => Two(Fd(fd), Flags(flags)),
-            CallSeen::Dup2(fd, made) => Two(Fd(fd), Fd(made)),
-            CallSeen::Fcntl(fd, command) => Two(Fd(fd), Command(command)),
-            CallSeen::FcntlDup(command, fd, made) => Three(Fd(fd), DupTo(command), Fd(made)),
-            CallSeen::FcntlSetFd(fd, flags) => Three(Fd(fd), SetFd, Flags(flags)),
-            CallSeen::Mmap(fd, protection, mapping) => {
+            Call::OnFd(_, fd) | Call::Send(_, fd) => One(Fd(fd)),
+            Call::SendTo(_, fd) => Two(Fd(fd), Dest),
+            Call::Accept4(fd, flags) => Two(Fd(fd), Flags(flags)),
+            Call::Dup2(fd, made) => Two(Fd(fd), Fd(made)),
+            Call::Fcntl(fd, command) => Two(Fd(fd), Command(command)),
+            Call::FcntlDup(command, fd, made) => Three(Fd(fd), DupTo(command), Fd(made)),
+            Call::FcntlSetFd(fd, flags) => Three(Fd(fd), SetFd, Flags(flags)),
+            Call::Mmap(fd, protection, mapping) => {
                 Three(Fd(fd), Flags(protection), Flags(mapping))
             }
-            CallSeen::RightsLimit(fd, rights) => Two(Fd(fd), Rights(rights)),
-            CallSeen::Open(path, flags) => Two(Path(path), Flags(flags)),
-            CallSeen::OnPath(_, path) => One(Path(path)),
-            CallSeen::OnPaths(_, from, to) => Two(Path(from), Path(to)),
-            CallSeen::At(_, dir, path) => Two(Dir(dir), Path(path)),
-            CallSeen::AtFlags(_, dir, path, flags) => Three(Dir(dir), Path(path), Flags(flags)),
-            CallSeen::SymlinkAt(target, dir, link) => Three(Path(target), Dir(dir), Path(link)),
-            CallSeen::RenameAt(dir, from, to_dir, to) => {
+            Call::RightsLimit(fd, rights) => Two(Fd(fd), Rights(rights)),
+            Call::Open(path, flags) => Two(Path(path), Flags(flags)),
+            Call::OnPath(_, path) => One(Path(path)),
+            Call::OnPaths(_, from, to) => Two(Path(from), Path(to)),
+            Call::At(_, dir, path) => Two(Dir(dir), Path(path)),
+            Call::AtFlags(_, dir, path, flags) => Three(Dir(dir), Path(path), Flags(flags)),
+            Call::SymlinkAt(target, dir, link) => Three(Path(target), Dir(dir), Path(link)),
+            Call::RenameAt(dir, from, to_dir, to) => {
                 Four(Dir(dir), Path(from), Dir(to_dir), Path(to))
             }
-            CallSeen::LinkAt(dir, from, to_dir, to, flags) => {
+            Call::LinkAt(dir, from, to_dir, to, flags) => {
                 Five(Dir(dir), Path(from), Dir(to_dir), Path(to), Flags(flags))
             }
-            CallSeen::OnFlags(_, flags) => One(Flags(flags)),
-            CallSeen::Bare(_) => Zero,
-            CallSeen::Other(_, args) => One(Free(args)),
+            Call::OnFlags(_, flags) => One(Flags(flags)),
+            Call::Bare(_) => Zero,
+            Call::Other(_, args) => One(Free(args)),
         }
     }
 }

@@ -5,14 +5,32 @@ ghost use Rattle.std.specs.Prelude.{◌≡◌, ◌++◌, ◌<◌, IfOk, OnOk, op
 ghost use Rattle.cap_trace.specs.declared.fault.LineFault.TheVariants.{Argument};
 ghost use Rattle.cap_trace.specs.Escaping.{hex_of, escape_of, escaped, lacks_zero, hex_byte, first_byte, SpellsBytes};
 ghost use Rattle.cap_trace.specs.Escaping.{OnePath};
+ghost use Rattle.cap_trace.specs.Fields.{are_items};
 ghost use Rattle.cap_trace.specs.Making.{MakesWhere};
 
 use crate::fault::LineFault;
-use crate::fields::{hex_value, plain};
-use crate::line::Path;
-use crate::text::Text;
+use crate::fields::{hex_value, items, plain};
 use cap_rights::NoMemory;
 use std::alloc::{AllocError, Global};
+use std::marker::Model;
+
+/// The text of a path, as it is spelled between its quotes: printable bytes stand for themselves, `"` and `\` follow a
+/// `\`, and any other byte but 0 is `\x` and its two hexadecimal digits in lower case.
+#[derive(Debug, Drop)]
+pub struct Path {
+    items: Vec<u8>,
+}
+
+impl Model for Path {
+    ghost use Rattle.std.specs.Prelude.{List, ℕ, IsTrue};
+    ghost use Rattle.cap_trace.specs.Fields.{are_items};
+
+    ghost Value = { List ℕ };
+
+    ghost view = { λ x. x.items.items };
+
+    ghost invariant = { λ x. IsTrue (are_items x.items.items) };
+}
 
 /// A hexadecimal digit, in lower case.
 fn hex(digit: u8) -> u8
@@ -48,14 +66,6 @@ fn escaped_bytes(alloc: Global, bytes: &[u8]) -> Result<Vec<u8>, AllocError>
     Ok(items)
 }
 
-/// The text of these bytes between quotes.
-fn escaped_text(alloc: Global, bytes: &[u8]) -> Result<Text, AllocError>
-    ensures { IfOk result (λ t. t ≡ escaped bytes.now) }
-{
-    let items = escaped_bytes(alloc, bytes)?;
-    Text::of(alloc, &items)
-}
-
 fn has_no_zero(bytes: &[u8]) -> bool
     ensures { result ≡ lacks_zero bytes.now }
 {
@@ -88,6 +98,30 @@ fn first_item(text: &[u8]) -> Option<(u8, &[u8])>
 }
 
 impl Path {
+    /// The path with this text between its quotes.
+    ///
+    /// # Errors
+    ///
+    /// [`LineFault::Argument`] where the text isn't of that form; [`LineFault::Memory`] where memory ran out.
+    pub fn new(alloc: Global, text: &[u8]) -> Result<Path, LineFault>
+        ensures { MakesWhere (are_items text.now) Argument text.now result }
+    {
+        if !items(text) {
+            return Err(LineFault::Argument);
+        }
+        match Vec::from_slice(alloc, text) {
+            Ok(items) => Ok(Path { items }),
+            Err(_) => Err(LineFault::Memory),
+        }
+    }
+
+    /// The bytes between the quotes, escapes as they are spelled.
+    pub fn as_bytes(&self) -> &[u8]
+        ensures { result.now ≡ self.now }
+    {
+        self.items.as_slice()
+    }
+
     /// The path of these bytes, as it is written: printable bytes stand for themselves, `"` and `\` follow a `\`,
     /// and any other byte is `\x` and its two hexadecimal digits.
     ///
@@ -101,7 +135,7 @@ impl Path {
         if !has_no_zero(bytes) {
             return Err(LineFault::Argument);
         }
-        match escaped_text(alloc, bytes) {
+        match escaped_bytes(alloc, bytes) {
             Ok(items) => Ok(Path { items }),
             Err(_) => Err(LineFault::Memory),
         }

@@ -3,7 +3,7 @@
 ghost use Rattle.std.specs.Prelude.{◌≡◌};
 
 use crate::calls::FdCall;
-use crate::line::{Answer, Call, Fd, Item, Line, Pid};
+use crate::line::{Answer, Call, Fd, Item, LineRef, Pid};
 use std::marker::Model;
 
 /// A line whose call is on one descriptor and has no other argument. It takes no memory.
@@ -21,8 +21,8 @@ impl Model for FdLine {
     ghost Value = { Entry };
 
     ghost use Rattle.cap_trace.specs.Spelling.{IsProper};
-    ghost use Rattle.cap_trace.specs.declared.line.Item.TheVariants as items;
-    ghost use Rattle.cap_trace.specs.declared.line.Call.TheVariants as calls;
+    ghost use Rattle.cap_trace.specs.Item as items;
+    ghost use Rattle.cap_trace.specs.Call as calls;
 
     ghost view = { λ l. record { pid = l.pid; item = items.Call (calls.OnFd l.call l.fd) l.answer } };
 
@@ -33,19 +33,15 @@ impl Model for FdLine {
 impl FdLine {
     /// The same as a line of any form.
     #[inline(always)]
-    pub fn line(self) -> Line
+    pub fn seen(self) -> LineRef<'static>
         ensures { result ≡ self }
     {
-        let FdLine {
-            pid,
-            call,
-            fd,
-            answer,
-        } = self;
-        let call = Call::OnFd(call, fd);
-        Line {
-            pid,
-            item: Item::Call { call, answer },
+        LineRef {
+            pid: self.pid,
+            item: Item::Call {
+                call: Call::OnFd(self.call, self.fd),
+                answer: self.answer,
+            },
         }
     }
 }

@@ -12,12 +12,13 @@ ghost use Rattle.cap_trace.specs.Seen.{call_seen, said_seen, fds_in, is_call_for
 use crate::calls::{DupCommand, Form, SendCall};
 use crate::fault::FirstFault;
 use crate::few::Few::{Five, Four, One, Three, Two, Zero};
+use crate::line::{Call, Item};
 use crate::parts::{Parts, few_parts};
 use crate::scan_fields::{command_of, dir_of, fd_of, flags_of, free_of, path_of, rights_of};
-use crate::seen::{CallSeen, SaidSeen};
+use crate::seen::Said;
 
 /// `sendto(fd,DEST)`
-fn send_to<'a>(call: SendCall, fd: &[u8], word: &[u8]) -> Result<CallSeen<'a>, FirstFault>
+fn send_to<'a>(call: SendCall, fd: &[u8], word: &[u8]) -> Result<Call<'a>, FirstFault>
     ensures { Gives (λ c. a_call (call_seen c)) result
         (said_at (listed (forms.Send call)) (fd.now ∷ word.now ∷ [])) }
 {
@@ -25,16 +26,16 @@ fn send_to<'a>(call: SendCall, fd: &[u8], word: &[u8]) -> Result<CallSeen<'a>, F
     if word != b"DEST".as_slice() {
         return Err(FirstFault::Argument);
     }
-    Ok(CallSeen::SendTo(call, fd))
+    Ok(Call::SendTo(call, fd))
 }
 
 /// `fcntl(fd,F_SETFD,flags)`, `fcntl(fd,F_DUP2FD,fd)`, `fcntl(fd,F_DUP2FD_CLOEXEC,fd)`
-fn fcntl_three<'a>(fd: &[u8], word: &[u8], third: &'a [u8]) -> Result<CallSeen<'a>, FirstFault>
+fn fcntl_three<'a>(fd: &[u8], word: &[u8], third: &'a [u8]) -> Result<Call<'a>, FirstFault>
     ensures { Gives (λ c. a_call (call_seen c)) result
         (said_at (listed forms.Fcntl) (fd.now ∷ word.now ∷ third.now ∷ [])) }
 {
     if word == b"F_SETFD".as_slice() {
-        return Ok(CallSeen::FcntlSetFd(fd_of(fd)?, flags_of(third)?));
+        return Ok(Call::FcntlSetFd(fd_of(fd)?, flags_of(third)?));
     }
     let command = if word == b"F_DUP2FD".as_slice() {
         DupCommand::FDup2fd
@@ -43,7 +44,7 @@ fn fcntl_three<'a>(fd: &[u8], word: &[u8], third: &'a [u8]) -> Result<CallSeen<'
     } else {
         return Err(FirstFault::Argument);
     };
-    Ok(CallSeen::FcntlDup(command, fd_of(fd)?, fd_of(third)?))
+    Ok(Call::FcntlDup(command, fd_of(fd)?, fd_of(third)?))
 }
 
 /// The arguments of a start: descriptors that rise.
@@ -64,14 +65,14 @@ fn rising(args: &[u8]) -> Result<(), FirstFault>
 }
 
 /// The arguments of a call that has no form of its own.
-pub(crate) fn other<'a>(name: &'a [u8], args: &'a [u8]) -> Result<CallSeen<'a>, FirstFault>
+pub(crate) fn other<'a>(name: &'a [u8], args: &'a [u8]) -> Result<Call<'a>, FirstFault>
     ensures { Gives (λ c. a_call (call_seen c)) result (said_at (unlisted name.now) (args.now ∷ [])) }
 {
-    Ok(CallSeen::Other(name, free_of(args)?))
+    Ok(Call::Other(name, free_of(args)?))
 }
 
 /// What a call that has a form of its own says, of its arguments.
-fn call<'a>(form: Form, args: &'a [u8]) -> Result<CallSeen<'a>, FirstFault>
+fn call<'a>(form: Form, args: &'a [u8]) -> Result<Call<'a>, FirstFault>
     requires { IsTrue (is_call_form form) }
     ensures { Gives (λ c. a_call (call_seen c)) result (said_at (listed form) (pieces args.now)) }
 {
@@ -79,41 +80,41 @@ fn call<'a>(form: Form, args: &'a [u8]) -> Result<CallSeen<'a>, FirstFault>
         return Err(FirstFault::Argument);
     };
     match (form, parts) {
-        (Form::OnFd(call), One(fd)) => Ok(CallSeen::OnFd(call, fd_of(fd)?)),
-        (Form::Send(call), One(fd)) => Ok(CallSeen::Send(call, fd_of(fd)?)),
+        (Form::OnFd(call), One(fd)) => Ok(Call::OnFd(call, fd_of(fd)?)),
+        (Form::Send(call), One(fd)) => Ok(Call::Send(call, fd_of(fd)?)),
         (Form::Send(call), Two(fd, word)) => send_to(call, fd, word),
-        (Form::OnPath(call), One(path)) => Ok(CallSeen::OnPath(call, path_of(path)?)),
+        (Form::OnPath(call), One(path)) => Ok(Call::OnPath(call, path_of(path)?)),
         (Form::OnPaths(call), Two(from, to)) => {
-            Ok(CallSeen::OnPaths(call, path_of(from)?, path_of(to)?))
+            Ok(Call::OnPaths(call, path_of(from)?, path_of(to)?))
         }
-        (Form::At(call), Two(dir, path)) => Ok(CallSeen::At(call, dir_of(dir)?, path_of(path)?)),
-        (Form::AtFlags(call), Three(dir, path, flags)) => Ok(CallSeen::AtFlags(
+        (Form::At(call), Two(dir, path)) => Ok(Call::At(call, dir_of(dir)?, path_of(path)?)),
+        (Form::AtFlags(call), Three(dir, path, flags)) => Ok(Call::AtFlags(
             call,
             dir_of(dir)?,
             path_of(path)?,
             flags_of(flags)?,
         )),
-        (Form::OnFlags(call), One(flags)) => Ok(CallSeen::OnFlags(call, flags_of(flags)?)),
-        (Form::Bare(call), Zero) => Ok(CallSeen::Bare(call)),
-        (Form::Accept4, Two(fd, flags)) => Ok(CallSeen::Accept4(fd_of(fd)?, flags_of(flags)?)),
-        (Form::Dup2, Two(fd, made)) => Ok(CallSeen::Dup2(fd_of(fd)?, fd_of(made)?)),
-        (Form::Fcntl, Two(fd, command)) => Ok(CallSeen::Fcntl(fd_of(fd)?, command_of(command)?)),
+        (Form::OnFlags(call), One(flags)) => Ok(Call::OnFlags(call, flags_of(flags)?)),
+        (Form::Bare(call), Zero) => Ok(Call::Bare(call)),
+        (Form::Accept4, Two(fd, flags)) => Ok(Call::Accept4(fd_of(fd)?, flags_of(flags)?)),
+        (Form::Dup2, Two(fd, made)) => Ok(Call::Dup2(fd_of(fd)?, fd_of(made)?)),
+        (Form::Fcntl, Two(fd, command)) => Ok(Call::Fcntl(fd_of(fd)?, command_of(command)?)),
         (Form::Fcntl, Three(fd, word, third)) => fcntl_three(fd, word, third),
-        (Form::Mmap, Three(fd, protection, mapping)) => Ok(CallSeen::Mmap(
+        (Form::Mmap, Three(fd, protection, mapping)) => Ok(Call::Mmap(
             fd_of(fd)?,
             flags_of(protection)?,
             flags_of(mapping)?,
         )),
         (Form::RightsLimit, Two(fd, rights)) => {
-            Ok(CallSeen::RightsLimit(fd_of(fd)?, rights_of(rights)?))
+            Ok(Call::RightsLimit(fd_of(fd)?, rights_of(rights)?))
         }
-        (Form::Open, Two(path, flags)) => Ok(CallSeen::Open(path_of(path)?, flags_of(flags)?)),
-        (Form::SymlinkAt, Three(target, dir, link)) => Ok(CallSeen::SymlinkAt(
+        (Form::Open, Two(path, flags)) => Ok(Call::Open(path_of(path)?, flags_of(flags)?)),
+        (Form::SymlinkAt, Three(target, dir, link)) => Ok(Call::SymlinkAt(
             path_of(target)?,
             dir_of(dir)?,
             path_of(link)?,
         )),
-        (Form::RenameAt, Four(from, old, to, new)) => Ok(CallSeen::RenameAt(
+        (Form::RenameAt, Four(from, old, to, new)) => Ok(Call::RenameAt(
             dir_of(from)?,
             path_of(old)?,
             dir_of(to)?,
@@ -121,31 +122,31 @@ fn call<'a>(form: Form, args: &'a [u8]) -> Result<CallSeen<'a>, FirstFault>
         )),
         (Form::LinkAt, Five(from, old, to, new, flags)) => {
             let (from, old, to, new) = (dir_of(from)?, path_of(old)?, dir_of(to)?, path_of(new)?);
-            Ok(CallSeen::LinkAt(from, old, to, new, flags_of(flags)?))
+            Ok(Call::LinkAt(from, old, to, new, flags_of(flags)?))
         }
         _ => Err(FirstFault::Argument),
     }
 }
 
 /// What a call or a marker that has a form of its own says, without its answer.
-pub(crate) fn said<'a>(form: Form, args: &'a [u8]) -> Result<SaidSeen<'a>, FirstFault>
+pub(crate) fn said<'a>(form: Form, args: &'a [u8]) -> Result<Said<'a>, FirstFault>
     ensures { Gives said_seen result (said_at (listed form) (pieces args.now)) }
 {
     match form {
         Form::Start => {
             rising(args)?;
-            Ok(SaidSeen::Start(args))
+            Ok(Said::Marker(Item::Start(args)))
         }
         Form::Exit => match few_parts(args) {
-            Some(Zero) => Ok(SaidSeen::Exit),
+            Some(Zero) => Ok(Said::Marker(Item::Exit)),
             _ => Err(FirstFault::Argument),
         },
         Form::Foreign => match few_parts(args) {
-            Some(One(fd)) => Ok(SaidSeen::Foreign(fd_of(fd)?)),
+            Some(One(fd)) => Ok(Said::Marker(Item::Foreign(fd_of(fd)?))),
             _ => Err(FirstFault::Argument),
         },
         _ => match call(form, args) {
-            Ok(call) => Ok(SaidSeen::Call(call)),
+            Ok(call) => Ok(Said::Call(call)),
             Err(fault) => Err(fault),
         },
     }

@@ -1,136 +1,27 @@
-//! Making the parts of a line, and a line, of what a producer of traces knows.
+//! Making a line of what a producer of traces knows.
 
 ghost use Rattle.std.specs.Prelude.{◌≡◌, ◌&&◌, IfOk, length, nat_le};
 ghost use Rattle.std.specs.List.{list_all};
-ghost use Rattle.cap_trace.specs.declared.fault.LineFault.TheVariants as faults;
 ghost use Rattle.cap_trace.specs.declared.line.Answer.TheVariants as answers;
-ghost use Rattle.cap_trace.specs.Limits.{longest_line};
-ghost use Rattle.cap_trace.specs.Fields.{is_flags, are_items, is_free};
 ghost use Rattle.cap_trace.specs.Names.{unlisted};
 ghost use Rattle.cap_trace.specs.Entry.{args_of_call, head_of_call};
-ghost use Rattle.cap_trace.specs.Seen.{arg_seen};
-ghost use Rattle.cap_trace.specs.Spelling.{is_command, canon};
-ghost use Rattle.cap_trace.specs.Making.{MakesWhere, IsLineOf, is_fd, is_pid, is_good, are_good, is_head, is_answer};
-ghost use Rattle.cap_trace.specs.Making.{all_rise, is_good_item, is_named, has_named_rights, has_text};
+ghost use Rattle.cap_trace.specs.Seen.{arg_seen, call_seen, item_seen};
+ghost use Rattle.cap_trace.specs.Limits.{longest_line};
+ghost use Rattle.cap_trace.specs.Spelling.{canon};
+ghost use Rattle.cap_trace.specs.Making.{IsLineOf, is_fd, is_pid, is_good, are_good, is_head, is_answer};
+ghost use Rattle.cap_trace.specs.Making.{all_rise, is_good_item, is_named, has_named_rights};
 
 use crate::args::ArgSeen;
 use crate::calls::Kind;
-use crate::fault::LineFault;
 use crate::few::Few;
 use crate::fields::{command, flags, free, items};
 use crate::limits::{LARGEST_FD, LARGEST_PID, LONGEST_LINE};
-use crate::line::{Answer, Args, Call, Command, Dir, Fd, Fds, Flags, Item, Line, Name, Path, Pid};
+use crate::line::{Answer, Call, Dir, Fd, Item, Line, Pid};
 use crate::names::{form_of, is_call_name};
-use crate::text::Text;
+use crate::seen::fds_of;
 use crate::write::put_text;
 use cap_rights::{NoMemory, RightSet, parse_rights, write_rights};
 use std::alloc::Global;
-
-/// This text, where it is of its form.
-fn text_where(
-    is_good: bool,
-    fault: LineFault,
-    alloc: Global,
-    text: &[u8],
-) -> Result<Text, LineFault>
-    requires { fault ≡ faults.Memory → ⊥ }
-    ensures { MakesWhere is_good fault text.now result }
-{
-    if !is_good {
-        return Err(fault);
-    }
-    Text::of(alloc, text).map_err(|_| LineFault::Memory)
-}
-
-impl Path {
-    /// The path with this text between its quotes: printable bytes, and `\"`, `\\` and `\x` with two lower case
-    /// hexadecimal digits for other bytes.
-    ///
-    /// # Errors
-    ///
-    /// [`LineFault::Argument`] where the text isn't of that form; [`LineFault::Memory`] where memory ran out.
-    pub fn new(alloc: Global, text: &[u8]) -> Result<Path, LineFault>
-        ensures { MakesWhere (are_items text.now) faults.Argument text.now result }
-    {
-        let items = text_where(items(text), LineFault::Argument, alloc, text)?;
-        Ok(Path { items })
-    }
-}
-
-impl Flags {
-    /// The flags of this text: `0`, or names joined by a bar.
-    ///
-    /// # Errors
-    ///
-    /// [`LineFault::Argument`] where the text isn't of that form; [`LineFault::Memory`] where memory ran out.
-    pub fn new(alloc: Global, text: &[u8]) -> Result<Flags, LineFault>
-        ensures { MakesWhere (is_flags text.now) faults.Argument text.now result }
-    {
-        let names = text_where(flags(text), LineFault::Argument, alloc, text)?;
-        Ok(Flags { names })
-    }
-}
-
-impl Command {
-    /// The command of `fcntl` with this name: any but `F_SETFD`, `F_DUP2FD` and `F_DUP2FD_CLOEXEC`, which ask for a
-    /// third argument.
-    ///
-    /// # Errors
-    ///
-    /// [`LineFault::Argument`] where the text is no such name; [`LineFault::Memory`] where memory ran out.
-    pub fn new(alloc: Global, text: &[u8]) -> Result<Command, LineFault>
-        ensures { MakesWhere (is_command text.now) faults.Argument text.now result }
-    {
-        let word = text_where(command(text), LineFault::Argument, alloc, text)?;
-        Ok(Command { word })
-    }
-}
-
-impl Name {
-    /// The name of a call that has no form of its own: of `a` to `z`, `0` to `9` and `_`, not beginning with a
-    /// digit, and no name that has a form.
-    ///
-    /// # Errors
-    ///
-    /// [`LineFault::Shape`] where the text is no such name; [`LineFault::Memory`] where memory ran out.
-    pub fn new(alloc: Global, text: &[u8]) -> Result<Name, LineFault>
-        ensures { MakesWhere (is_head (unlisted text.now)) faults.Shape text.now result }
-    {
-        let name = text_where(is_other_name(text), LineFault::Shape, alloc, text)?;
-        Ok(Name { name })
-    }
-}
-
-impl Args {
-    /// The arguments of a call that has no form of its own: any bytes but `(`, `)` and line feeds.
-    ///
-    /// # Errors
-    ///
-    /// [`LineFault::Shape`] where there is such a byte; [`LineFault::Memory`] where memory ran out.
-    pub fn new(alloc: Global, text: &[u8]) -> Result<Args, LineFault>
-        ensures { MakesWhere (list_all is_free text.now) faults.Shape text.now result }
-    {
-        let args = text_where(free(text), LineFault::Shape, alloc, text)?;
-        Ok(Args { args })
-    }
-}
-
-impl Fds {
-    /// These descriptors, each of which is at most 1,048,575 and above the one before it.
-    ///
-    /// # Errors
-    ///
-    /// [`LineFault::Argument`] where one is not; [`LineFault::Memory`] where memory ran out.
-    pub fn new(alloc: Global, fds: &[Fd]) -> Result<Fds, LineFault>
-        ensures { MakesWhere (all_rise 0 fds.now) faults.Argument fds.now result }
-    {
-        if !rise(fds) {
-            return Err(LineFault::Argument);
-        }
-        let fds = Vec::from_slice(alloc, fds).map_err(|_| LineFault::Memory)?;
-        Ok(Fds { fds })
-    }
-}
 
 /// Whether a text is a name of a call that has no form of its own.
 fn is_other_name(text: &[u8]) -> bool
@@ -184,10 +75,10 @@ fn arg_fits(arg: &ArgSeen<'_>) -> bool
     }
 }
 
-fn args_fit(call: &Call) -> bool
-    ensures { result ≡ are_good (args_of_call call.now) }
+fn args_fit(call: &Call<'_>) -> bool
+    ensures { result ≡ are_good (args_of_call (call_seen call.now)) }
 {
-    match call.seen().args() {
+    match call.args() {
         Few::Zero => true,
         Few::One(a) => all_fit(&[a]),
         Few::Two(a, b) => all_fit(&[a, b]),
@@ -203,11 +94,11 @@ fn all_fit(args: &[ArgSeen<'_>]) -> bool
     args.iter().all(|arg| arg_fits(arg))
 }
 
-fn name_fits(call: &Call) -> bool
-    ensures { result ≡ is_head (head_of_call call.now) }
+fn name_fits(call: &Call<'_>) -> bool
+    ensures { result ≡ is_head (head_of_call (call_seen call.now)) }
 {
     match call {
-        Call::Other { name, .. } => is_other_name(name.as_bytes()),
+        Call::Other(name, _) => is_other_name(name),
         _ => true,
     }
 }
@@ -248,17 +139,17 @@ fn answer_fits(kind: Kind, answer: Answer) -> bool
     }
 }
 
-fn item_fits(item: &Item) -> bool
-    ensures { result ≡ is_good_item item.now }
+fn item_fits(alloc: Global, item: &Item<'_>) -> Result<bool, NoMemory>
+    ensures { IfOk result (λ b. b ≡ is_good_item (item_seen item.now)) }
 {
-    match item {
+    Ok(match item {
         Item::Call { call, answer } => {
-            args_fit(call) && name_fits(call) && answer_fits(call.seen().kind(), *answer)
+            args_fit(call) && name_fits(call) && answer_fits(call.kind(), *answer)
         }
-        Item::Start(fds) => rise(fds.as_slice()),
+        Item::Start(fds) => rise(&fds_of(alloc, fds)?),
         Item::Exit => true,
         Item::Foreign(fd) => fd_fits(*fd),
-    }
+    })
 }
 
 /// Whether the text that is written for a set of rights is read as that set.
@@ -273,8 +164,8 @@ fn is_read_again(alloc: Global, rights: &RightSet) -> Result<bool, NoMemory>
     }
 }
 
-fn rights_are_named(alloc: Global, item: &Item) -> Result<bool, NoMemory>
-    ensures { IfOk result (λ b. b ≡ has_named_rights item.now) }
+fn rights_are_named(alloc: Global, item: &Item<'_>) -> Result<bool, NoMemory>
+    ensures { IfOk result (λ b. b ≡ has_named_rights (item_seen item.now)) }
 {
     match item {
         Item::Call {
@@ -285,35 +176,29 @@ fn rights_are_named(alloc: Global, item: &Item) -> Result<bool, NoMemory>
     }
 }
 
-fn fields_fit(alloc: Global, pid: Pid, item: &Item) -> Result<bool, NoMemory>
-    ensures { IfOk result (λ b. b ≡ (is_pid pid && is_good_item item.now && has_named_rights item.now)) }
+fn fields_fit(alloc: Global, pid: Pid, item: &Item<'_>) -> Result<bool, NoMemory>
+    ensures { IfOk result (λ b. b ≡ (is_pid pid && is_good_item (item_seen item.now) && has_named_rights (item_seen item.now))) }
 {
-    if pid_fits(pid) && item_fits(item) {
+    if pid_fits(pid) && item_fits(alloc, item)? {
         rights_are_named(alloc, item)
     } else {
         Ok(false)
     }
 }
 
-fn text_fits(alloc: Global, pid: Pid, item: &Item) -> Result<bool, NoMemory>
-    ensures { IfOk result (λ b. b ≡ nat_le (length (canon (record { pid = pid; item = item.now }))) longest_line) }
+/// The canonical text of what a line of this process says, whether or not it is a line.
+fn text_of(alloc: Global, pid: Pid, item: &Item<'_>) -> Result<Vec<u8>, NoMemory>
+    ensures { IfOk result (λ v. v.items ≡ canon (record { pid = pid; item = item_seen item.now })) }
 {
     let mut text = Vec::new(alloc);
-    match put_text(pid, item, &mut text) {
-        Ok(()) => Ok(text.len() <= LONGEST_LINE),
-        Err(_) => Err(NoMemory),
-    }
+    put_text(pid, item, &mut text)?;
+    Ok(text)
 }
 
-/// Whether some text spells this.
-fn is_line(alloc: Global, pid: Pid, item: &Item) -> Result<bool, NoMemory>
-    ensures { IfOk result (λ b. b ≡ has_text (record { pid = pid; item = item.now })) }
+fn is_short(text: &[u8]) -> bool
+    ensures { result ≡ nat_le (length text.now) longest_line }
 {
-    if fields_fit(alloc, pid, item)? {
-        text_fits(alloc, pid, item)
-    } else {
-        Ok(false)
-    }
+    text.len() <= LONGEST_LINE
 }
 
 impl Line {
@@ -326,12 +211,16 @@ impl Line {
     ///
     /// # Errors
     ///
-    /// [`NoMemory`] where memory ran out. What the line was made of is dropped then, and where there is none.
-    pub fn new(alloc: Global, pid: Pid, item: Item) -> Result<Option<Line>, NoMemory>
-        ensures { IfOk result (λ o. IsLineOf (record { pid = pid; item = item }) o) }
+    /// [`NoMemory`] where memory ran out.
+    pub fn new(alloc: Global, pid: Pid, item: &Item<'_>) -> Result<Option<Line>, NoMemory>
+        ensures { IfOk result (λ o. IsLineOf (record { pid = pid; item = item_seen item.now }) o) }
     {
-        if is_line(alloc, pid, &item)? {
-            Ok(Some(Line { pid, item }))
+        if !fields_fit(alloc, pid, item)? {
+            return Ok(None);
+        }
+        let text = text_of(alloc, pid, item)?;
+        if is_short(&text) {
+            Ok(Some(Line { text }))
         } else {
             Ok(None)
         }

@@ -8,29 +8,36 @@ ghost use Rattle.cap_trace.specs.Parsing.{SpellsSome, FaultsAreExact, ReadsOnly,
 ghost use Rattle.cap_trace.specs.Parsing.{ReadingIsSpelling, WrittenIsRead};
 ghost use Rattle.cap_trace.specs.Rewriting.{OnlyRightsAreRewritten};
 
-use crate::call_line::CallLine;
 use crate::calls::Form;
 use crate::fault::LineFault;
 use crate::fd_line::FdLine;
-use crate::line::Line;
+use crate::line::{Item, Line, LineRef};
 use crate::names::Head;
-use crate::owned::owned;
 use crate::quick::{Start, call_after, on_fd, start_of};
 use crate::scan::line;
 use std::alloc::Global;
 use std::marker::Model;
 
-/// The line that the bytes spell, read with care.
+/// What the bytes say, read with care.
 #[inline(never)]
-fn read_with_care(alloc: Global, bytes: &[u8]) -> Result<Line, LineFault>
-    ensures { MatchesReading bytes.now result }
+fn read_with_care(bytes: &[u8]) -> Result<LineRef<'_>, LineFault>
+    ensures read { MatchesReading bytes.now result }
+    ensures memory { result ≡ Err Memory → ⊥ }
 {
     match line(bytes) {
+        Ok((pid, item)) => Ok(LineRef { pid, item }),
         Err(fault) => Err(LineFault::of(fault)),
-        Ok(seen) => match owned(alloc, &seen) {
-            Ok(line) => Ok(line),
-            Err(_) => Err(LineFault::Memory),
-        },
+    }
+}
+
+/// What the bytes say, or their first fault.
+pub(crate) fn read(bytes: &[u8]) -> Result<LineRef<'_>, LineFault>
+    ensures read { MatchesReading bytes.now result }
+    ensures memory { result ≡ Err Memory → ⊥ }
+{
+    match parse_fd_line(bytes) {
+        Ok(line) => Ok(line.seen()),
+        Err(unread) => unread.line(),
     }
 }
 
@@ -55,46 +62,25 @@ impl<'a> Model for Unread<'a> {
 }
 
 impl<'a> Unread<'a> {
-    /// The line that the bytes spell, with its texts still in them, where it has a call and is read in one pass. It
-    /// takes no memory.
+    /// The line that the bytes spell, with its texts still in them. It takes no memory.
     ///
     /// # Errors
     ///
-    /// The same bytes, of whatever they are.
+    /// The first fault of the bytes, from the left. It is never [`LineFault::Memory`].
     #[inline(always)]
-    pub fn call_line(self) -> Result<CallLine<'a>, Unread<'a>>
-        // What is read is what reading from the left gives.
-        ensures read { IfOk result (λ l. line_of self.entry ≡ Ok l) }
-        ensures unread { IfErr result (λ u. u ≡ self.entry) }
+    pub fn line(self) -> Result<LineRef<'a>, LineFault>
+        ensures read { MatchesReading self.entry result }
+        ensures memory { result ≡ Err Memory → ⊥ }
     {
-        let bytes = self.bytes;
         let Some(start) = self.start else {
-            return Err(Unread { bytes, start: None });
+            return read_with_care(self.bytes);
         };
         match call_after(start.head, start.text) {
-            Some((call, answer)) => Ok(CallLine {
+            Some((call, answer)) => Ok(LineRef {
                 pid: start.pid,
-                call,
-                answer,
+                item: Item::Call { call, answer },
             }),
-            None => Err(Unread { bytes, start: None }),
-        }
-    }
-
-    /// The line that the bytes spell, as [`parse_line`] reads it.
-    ///
-    /// # Errors
-    ///
-    /// Those of [`parse_line`].
-    pub fn line(self, alloc: Global) -> Result<Line, LineFault>
-        ensures { MatchesReading self.entry result }
-    {
-        match self.call_line() {
-            Ok(seen) => match seen.line(alloc) {
-                Ok(line) => Ok(line),
-                Err(_) => Err(LineFault::Memory),
-            },
-            Err(unread) => read_with_care(alloc, unread.bytes),
+            None => read_with_care(self.bytes),
         }
     }
 }
@@ -138,8 +124,7 @@ pub fn parse_fd_line(bytes: &[u8]) -> Result<FdLine, Unread<'_>>
 
 /// The line that the bytes spell: at most 1,024 of them, without a line feed at their end.
 ///
-/// Reading takes no memory but for what is kept of the text: the descriptors of a start, paths, flags,
-/// commands, and the name and arguments of a call that has no form of its own.
+/// The line keeps these bytes. Else reading takes no memory.
 ///
 /// # Errors
 ///
@@ -158,9 +143,12 @@ pub fn parse_line(alloc: Global, bytes: &[u8]) -> Result<Line, LineFault>
     // The same by the function that reads from the left.
     ensures reads { MatchesReading bytes.now result }
 {
-    match parse_fd_line(bytes) {
-        Ok(line) => Ok(line.line()),
-        Err(unread) => unread.line(alloc),
+    match read(bytes) {
+        Ok(line) => match line.kept(alloc, bytes) {
+            Ok(line) => Ok(line),
+            Err(_) => Err(LineFault::Memory),
+        },
+        Err(fault) => Err(fault),
     }
 }
 

@@ -4,8 +4,8 @@
 ghost use Rattle.std.specs.Prelude.{◌≡◌, ◌∷◌, ◌++◌, ◌<◌, ◌^◌, IfSome, codes, Ok};
 ghost use Rattle.std.specs.Fmt.{decimal};
 ghost use Rattle.cap_trace.specs.declared.calls.Form.TheVariants as forms;
-ghost use Rattle.cap_trace.specs.declared.line.Call.TheVariants as calls;
-ghost use Rattle.cap_trace.specs.declared.line.Item.TheVariants as items;
+ghost use Rattle.cap_trace.specs.Call as calls;
+ghost use Rattle.cap_trace.specs.Item as items;
 ghost use Rattle.cap_trace.specs.Names.{listed, unlisted, row_of};
 ghost use Rattle.cap_trace.specs.Rows.{head_seen};
 ghost use Rattle.cap_trace.specs.Seen.{call_seen};
@@ -17,12 +17,12 @@ use crate::answers::answer;
 use crate::calls::{AtFlagsCall, BareCall, FdCall, FlagsCall, Form, Kind, PathCall};
 use crate::equal::same_by_fours;
 use crate::limits::{LARGEST_FD, LARGEST_PID, LONGEST_LINE};
-use crate::line::{Answer, Dir, Fd, Pid};
+use crate::line::{Answer, Call, Dir, Fd, Pid};
 use crate::names::{Head, head_of};
 use crate::quotes::{cut, early_place};
 use crate::runs::Run;
 use crate::scan_fields::{command_of, dir_of, free_of, rights_of};
-use crate::seen::{CallSeen, fcntl_kind};
+use crate::seen::fcntl_kind;
 
 /// What follows this byte, where a text begins with it.
 #[inline(always)]
@@ -233,35 +233,35 @@ fn set_fd_before(text: &[u8]) -> Option<&[u8]>
 
 /// `fcntl(fd,F_SETFD,flags)`, or `fcntl(fd,command)`
 #[inline(always)]
-fn fcntl(text: &[u8]) -> Option<(CallSeen<'_>, Answer)>
+fn fcntl(text: &[u8]) -> Option<(Call<'_>, Answer)>
     ensures { IfSome result (λ p. SpellsAfter (listed forms.Fcntl) text.now (items.Call (call_seen p.0) p.1)) }
 {
     let (fd, rest) = fd_before(b',', text)?;
     if let Some(rest) = set_fd_before(rest) {
         let (flags, tail) = flags_before(b')', rest)?;
         let answer = short_answer(Kind::Count, tail)?;
-        return Some((CallSeen::FcntlSetFd(fd, flags), answer));
+        return Some((Call::FcntlSetFd(fd, flags), answer));
     }
     let (command, tail) = command_before(b')', rest)?;
     let answer = short_answer(fcntl_kind(command), tail)?;
-    Some((CallSeen::Fcntl(fd, command), answer))
+    Some((Call::Fcntl(fd, command), answer))
 }
 
 /// `mmap(fd,flags,flags)`
 #[inline(always)]
-fn mmap(text: &[u8]) -> Option<(CallSeen<'_>, Answer)>
+fn mmap(text: &[u8]) -> Option<(Call<'_>, Answer)>
     ensures { IfSome result (λ p. SpellsAfter (listed forms.Mmap) text.now (items.Call (call_seen p.0) p.1)) }
 {
     let (fd, rest) = fd_before(b',', text)?;
     let (protection, rest) = flags_before(b',', rest)?;
     let (mapping, tail) = flags_before(b')', rest)?;
     let answer = short_answer(Kind::Count, tail)?;
-    Some((CallSeen::Mmap(fd, protection, mapping), answer))
+    Some((Call::Mmap(fd, protection, mapping), answer))
 }
 
 /// `cap_rights_limit(fd,rights)`
 #[inline(always)]
-fn rights_limit(text: &[u8]) -> Option<(CallSeen<'_>, Answer)>
+fn rights_limit(text: &[u8]) -> Option<(Call<'_>, Answer)>
     ensures { IfSome result (λ p. SpellsAfter (listed forms.RightsLimit) text.now (items.Call (call_seen p.0) p.1)) }
 {
     let (fd, rest) = fd_before(b',', text)?;
@@ -270,75 +270,75 @@ fn rights_limit(text: &[u8]) -> Option<(CallSeen<'_>, Answer)>
         return None;
     };
     let answer = short_answer(Kind::Zero, tail)?;
-    Some((CallSeen::RightsLimit(fd, rights), answer))
+    Some((Call::RightsLimit(fd, rights), answer))
 }
 
 /// `open(path,flags)`
 #[inline(always)]
-fn open(text: &[u8]) -> Option<(CallSeen<'_>, Answer)>
+fn open(text: &[u8]) -> Option<(Call<'_>, Answer)>
     ensures { IfSome result (λ p. SpellsAfter (listed forms.Open) text.now (items.Call (call_seen p.0) p.1)) }
 {
     let (path, rest) = path_before(b',', text)?;
     let (flags, tail) = flags_before(b')', rest)?;
     let answer = short_answer(Kind::Fd, tail)?;
-    Some((CallSeen::Open(path, flags), answer))
+    Some((Call::Open(path, flags), answer))
 }
 
 /// `name(path)`
 #[inline(always)]
-fn on_path(call: PathCall, text: &[u8]) -> Option<(CallSeen<'_>, Answer)>
+fn on_path(call: PathCall, text: &[u8]) -> Option<(Call<'_>, Answer)>
     ensures { IfSome result (λ p. SpellsAfter (listed (forms.OnPath call)) text.now (items.Call (call_seen p.0) p.1)) }
 {
     let (path, tail) = path_before(b')', text)?;
     let answer = answer_of(Form::OnPath(call), tail)?;
-    Some((CallSeen::OnPath(call, path), answer))
+    Some((Call::OnPath(call, path), answer))
 }
 
 /// `name(dir,path,flags)`
 #[inline(always)]
-fn at_flags(call: AtFlagsCall, text: &[u8]) -> Option<(CallSeen<'_>, Answer)>
+fn at_flags(call: AtFlagsCall, text: &[u8]) -> Option<(Call<'_>, Answer)>
     ensures { IfSome result (λ p. SpellsAfter (listed (forms.AtFlags call)) text.now (items.Call (call_seen p.0) p.1)) }
 {
     let (dir, rest) = dir_before(b',', text)?;
     let (path, rest) = path_before(b',', rest)?;
     let (flags, tail) = flags_before(b')', rest)?;
     let answer = answer_of(Form::AtFlags(call), tail)?;
-    Some((CallSeen::AtFlags(call, dir, path, flags), answer))
+    Some((Call::AtFlags(call, dir, path, flags), answer))
 }
 
 /// `name(flags)`
 #[inline(always)]
-fn on_flags(call: FlagsCall, text: &[u8]) -> Option<(CallSeen<'_>, Answer)>
+fn on_flags(call: FlagsCall, text: &[u8]) -> Option<(Call<'_>, Answer)>
     ensures { IfSome result (λ p. SpellsAfter (listed (forms.OnFlags call)) text.now (items.Call (call_seen p.0) p.1)) }
 {
     let (flags, tail) = flags_before(b')', text)?;
     let answer = answer_of(Form::OnFlags(call), tail)?;
-    Some((CallSeen::OnFlags(call, flags), answer))
+    Some((Call::OnFlags(call, flags), answer))
 }
 
 /// `name()`
 #[inline(always)]
-fn bare<'a>(call: BareCall, text: &'a [u8]) -> Option<(CallSeen<'a>, Answer)>
+fn bare<'a>(call: BareCall, text: &'a [u8]) -> Option<(Call<'a>, Answer)>
     ensures { IfSome result (λ p. SpellsAfter (listed (forms.Bare call)) text.now (items.Call (call_seen p.0) p.1)) }
 {
     let tail = behind(b')', text)?;
     let answer = answer_of(Form::Bare(call), tail)?;
-    Some((CallSeen::Bare(call), answer))
+    Some((Call::Bare(call), answer))
 }
 
 /// A name that has no form of its own.
 #[inline(always)]
-fn other<'a>(name: &'a [u8], text: &'a [u8]) -> Option<(CallSeen<'a>, Answer)>
+fn other<'a>(name: &'a [u8], text: &'a [u8]) -> Option<(Call<'a>, Answer)>
     ensures { IfSome result (λ p. SpellsAfter (unlisted name.now) text.now (items.Call (call_seen p.0) p.1)) }
 {
     let (args, tail) = free_before(b')', text)?;
     let answer = short_answer(Kind::Any, tail)?;
-    Some((CallSeen::Other(name, args), answer))
+    Some((Call::Other(name, args), answer))
 }
 
 /// What follows the opening bracket of a name of the table.
 #[inline(always)]
-fn listed_call(form: Form, text: &[u8]) -> Option<(CallSeen<'_>, Answer)>
+fn listed_call(form: Form, text: &[u8]) -> Option<(Call<'_>, Answer)>
     ensures { IfSome result (λ p. SpellsAfter (listed form) text.now (items.Call (call_seen p.0) p.1)) }
 {
     match form {
@@ -356,7 +356,7 @@ fn listed_call(form: Form, text: &[u8]) -> Option<(CallSeen<'_>, Answer)>
 
 /// What follows the opening bracket: a call, still in its text, and what it answered.
 #[inline(always)]
-pub(crate) fn call_after<'a>(head: Head<'a>, text: &'a [u8]) -> Option<(CallSeen<'a>, Answer)>
+pub(crate) fn call_after<'a>(head: Head<'a>, text: &'a [u8]) -> Option<(Call<'a>, Answer)>
     ensures { IfSome result (λ p. SpellsAfter (head_seen head.entry) text.now (items.Call (call_seen p.0) p.1)) }
 {
     match head {

@@ -1,66 +1,22 @@
-//! What a line says, over its bytes: the same as in `line`, with the texts still in the line.
+//! Parts of a line that more than one reader needs.
 
-ghost use Rattle.std.specs.Prelude.{◌≡◌};
+ghost use Rattle.std.specs.Prelude.{◌≡◌, ◌==◌, IfOk};
+ghost use Rattle.std.specs.List.{list_any};
 ghost use Rattle.cap_trace.specs.Entry.{fcntl_kind as kind_of_command};
+ghost use Rattle.cap_trace.specs.Seen.{fds_spelled};
 
-use crate::calls::{
-    AtCall, AtFlagsCall, BareCall, DupCommand, FdCall, FlagsCall, Form, Kind, PathCall, PathsCall,
-    SendCall,
-};
-use crate::line::{Answer, Dir, Fd, Pid};
-use crate::names::Head;
-use cap_rights::RightSet;
+use crate::calls::Kind;
+use crate::line::{Call, Fd, Item};
+use crate::parts::Parts;
+use crate::scan_fields::fd_of;
+use cap_rights::NoMemory;
+use std::alloc::Global;
 
-/// A call with its arguments, whose texts lie elsewhere: each variant is that of [`crate::Call`] with the same name.
+/// A call without its answer, or a marker.
 #[derive(Clone, Copy)]
-pub enum CallSeen<'a> {
-    OnFd(FdCall, Fd),
-    Send(SendCall, Fd),
-    SendTo(SendCall, Fd),
-    Accept4(Fd, &'a [u8]),
-    Dup2(Fd, Fd),
-    Fcntl(Fd, &'a [u8]),
-    FcntlDup(DupCommand, Fd, Fd),
-    FcntlSetFd(Fd, &'a [u8]),
-    Mmap(Fd, &'a [u8], &'a [u8]),
-    RightsLimit(Fd, RightSet),
-    Open(&'a [u8], &'a [u8]),
-    OnPath(PathCall, &'a [u8]),
-    OnPaths(PathsCall, &'a [u8], &'a [u8]),
-    At(AtCall, Dir, &'a [u8]),
-    AtFlags(AtFlagsCall, Dir, &'a [u8], &'a [u8]),
-    SymlinkAt(&'a [u8], Dir, &'a [u8]),
-    RenameAt(Dir, &'a [u8], Dir, &'a [u8]),
-    LinkAt(Dir, &'a [u8], Dir, &'a [u8], &'a [u8]),
-    OnFlags(FlagsCall, &'a [u8]),
-    Bare(BareCall),
-    /// The name, and the arguments.
-    Other(&'a [u8], &'a [u8]),
-}
-
-/// A call without its answer, or a marker; a start's descriptors rise.
-#[derive(Clone, Copy)]
-pub(crate) enum SaidSeen<'a> {
-    Call(CallSeen<'a>),
-    Start(&'a [u8]),
-    Exit,
-    Foreign(Fd),
-}
-
-/// A call with its answer, or a marker.
-#[derive(Clone, Copy)]
-pub(crate) enum ItemSeen<'a> {
-    Call { call: CallSeen<'a>, answer: Answer },
-    Start(&'a [u8]),
-    Exit,
-    Foreign(Fd),
-}
-
-/// A line.
-#[derive(Clone, Copy)]
-pub(crate) struct LineSeen<'a> {
-    pub(crate) pid: Pid,
-    pub(crate) item: ItemSeen<'a>,
+pub(crate) enum Said<'a> {
+    Call(Call<'a>),
+    Marker(Item<'a>),
 }
 
 /// What a command of fcntl answers where it doesn't fail.
@@ -74,46 +30,35 @@ pub(crate) fn fcntl_kind(command: &[u8]) -> Kind
     }
 }
 
-impl<'a> CallSeen<'a> {
-    ghost use Rattle.cap_trace.specs.Entry.{head_of_call, kind_of};
-    ghost use Rattle.cap_trace.specs.Rows.{head_seen};
-    ghost use Rattle.cap_trace.specs.Seen.{call_seen};
-
-    /// What stands before the arguments.
-    pub(crate) fn head(&self) -> Head<'a>
-        ensures { head_seen result ≡ head_of_call (call_seen self.now) }
-    {
-        Head::Listed(match self {
-            CallSeen::OnFd(call, _) => Form::OnFd(*call),
-            CallSeen::Send(call, _) | CallSeen::SendTo(call, _) => Form::Send(*call),
-            CallSeen::Accept4(_, _) => Form::Accept4,
-            CallSeen::Dup2(_, _) => Form::Dup2,
-            CallSeen::Fcntl(_, _) | CallSeen::FcntlDup(_, _, _) | CallSeen::FcntlSetFd(_, _) =>
-                Form::Fcntl,
-            CallSeen::Mmap(_, _, _) => Form::Mmap,
-            CallSeen::RightsLimit(_, _) => Form::RightsLimit,
-            CallSeen::Open(_, _) => Form::Open,
-            CallSeen::OnPath(call, _) => Form::OnPath(*call),
-            CallSeen::OnPaths(call, _, _) => Form::OnPaths(*call),
-            CallSeen::At(call, _, _) => Form::At(*call),
-            CallSeen::AtFlags(call, _, _, _) => Form::AtFlags(*call),
-            CallSeen::SymlinkAt(_, _, _) => Form::SymlinkAt,
-            CallSeen::RenameAt(_, _, _, _) => Form::RenameAt,
-            CallSeen::LinkAt(_, _, _, _, _) => Form::LinkAt,
-            CallSeen::OnFlags(call, _) => Form::OnFlags(*call),
-            CallSeen::Bare(call) => Form::Bare(*call),
-            CallSeen::Other(name, _) => return Head::Unlisted(name),
-        })
-    }
-
-    /// What the call answers where it doesn't fail.
-    pub(crate) fn kind(&self) -> Kind
-        ensures { result ≡ kind_of (call_seen self.now) }
-    {
-        match self {
-            CallSeen::Dup2(_, fd) | CallSeen::FcntlDup(_, _, fd) => Kind::Same(*fd),
-            CallSeen::Fcntl(_, command) => fcntl_kind(command),
-            _ => self.head().kind(),
+/// The descriptors of a start ([`Item::Start`]), from the left.
+///
+/// # Errors
+///
+/// [`NoMemory`] where memory ran out.
+pub fn fds_of(alloc: Global, spelled: &[u8]) -> Result<Vec<Fd>, NoMemory>
+    ensures { IfOk result (λ v. v.items ≡ fds_spelled spelled.now) }
+{
+    let mut parts = Parts::of(spelled);
+    let mut fds = Vec::new(alloc);
+    while let Some(part) = parts.next() {
+        if let Ok(fd) = fd_of(part) {
+            fds.push(fd)?;
         }
     }
+    Ok(fds)
+}
+
+/// Whether a descriptor is among those of a start ([`Item::Start`]). It takes no memory.
+pub fn has_fd(spelled: &[u8], fd: Fd) -> bool
+    ensures { result ≡ list_any (λ g. fd == g) (fds_spelled spelled.now) }
+{
+    let mut parts = Parts::of(spelled);
+    while let Some(part) = parts.next() {
+        if let Ok(found) = fd_of(part) {
+            if fd == found {
+                return true;
+            }
+        }
+    }
+    false
 }

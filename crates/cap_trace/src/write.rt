@@ -9,11 +9,13 @@ ghost use Rattle.cap_trace.specs.Names.{name_of};
 ghost use Rattle.cap_trace.specs.Fields.{quoted};
 ghost use Rattle.cap_trace.specs.Entry.{args_of_call, args_of, fds as fd_args, head_of};
 ghost use Rattle.cap_trace.specs.Spelling.{Spells, arg_text, answer_text, tail_text, canon};
+ghost use Rattle.cap_trace.specs.Seen.{call_seen, fds_spelled, item_seen};
 ghost use Rattle.cap_trace.specs.Writing.{shown_text, with_commas};
 
 use crate::args::ArgSeen;
 use crate::few::Few;
-use crate::line::{Answer, Call, Dir, Fd, Item, Line, Pid};
+use crate::line::{Answer, Call, Dir, Fd, Item, Line, LineRef, Pid};
+use crate::seen::fds_of;
 use cap_rights::{NoMemory, write_rights};
 use itoa::Buffer;
 use std::alloc::AllocError;
@@ -79,12 +81,12 @@ fn put_arguments(arguments: &[ArgSeen<'_>], out: &mut Vec<u8>) -> Result<(), All
 }
 
 /// The arguments of a call.
-fn put_call(call: &Call, out: &mut Vec<u8>) -> Result<(), AllocError>
+fn put_call(call: &Call<'_>, out: &mut Vec<u8>) -> Result<(), AllocError>
     ensures ok { OnOk result
-        (out.new.items ≡ out.old.items ++ join_with_byte 44 (map arg_text (args_of_call call.now))) }
+        (out.new.items ≡ out.old.items ++ join_with_byte 44 (map arg_text (args_of_call (call_seen call.now)))) }
     ensures err { OnErr result (take (length out.old.items) out.new.items ≡ out.old.items) }
 {
-    match call.seen().args() {
+    match call.args() {
         Few::Zero => Ok(()),
         Few::One(a) => put_arguments(&[a], out),
         Few::Two(a, b) => put_arguments(&[a, b], out),
@@ -120,14 +122,25 @@ fn put_fds(fds: &[Fd], out: &mut Vec<u8>) -> Result<(), AllocError>
     }
 }
 
+/// The descriptors of a start.
+fn put_start(spelled: &[u8], out: &mut Vec<u8>) -> Result<(), AllocError>
+    ensures ok { OnOk result (out.new.items ≡ out.old.items ++ join_with_byte 44 (map arg_text (fd_args (fds_spelled spelled.now)))) }
+    ensures err { OnErr result (take (length out.old.items) out.new.items ≡ out.old.items) }
+{
+    match fds_of(*out.allocator(), spelled) {
+        Ok(fds) => put_fds(&fds, out),
+        Err(_) => Err(AllocError),
+    }
+}
+
 /// What stands between the brackets.
-fn put_between(item: &Item, out: &mut Vec<u8>) -> Result<(), AllocError>
-    ensures ok { OnOk result (out.new.items ≡ out.old.items ++ join_with_byte 44 (map arg_text (args_of item.now))) }
+fn put_between(item: &Item<'_>, out: &mut Vec<u8>) -> Result<(), AllocError>
+    ensures ok { OnOk result (out.new.items ≡ out.old.items ++ join_with_byte 44 (map arg_text (args_of (item_seen item.now)))) }
     ensures err { OnErr result (take (length out.old.items) out.new.items ≡ out.old.items) }
 {
     match item {
         Item::Call { call, .. } => put_call(call, out),
-        Item::Start(fds) => put_fds(fds.as_slice(), out),
+        Item::Start(fds) => put_start(fds, out),
         Item::Exit => Ok(()),
         Item::Foreign(fd) => put_number(u64::from(*fd), out),
     }
@@ -152,8 +165,8 @@ fn put_answer(answer: &Answer, out: &mut Vec<u8>) -> Result<(), AllocError>
 }
 
 /// What follows the closing bracket.
-fn put_tail(item: &Item, out: &mut Vec<u8>) -> Result<(), AllocError>
-    ensures ok { OnOk result (out.new.items ≡ out.old.items ++ tail_text item.now) }
+fn put_tail(item: &Item<'_>, out: &mut Vec<u8>) -> Result<(), AllocError>
+    ensures ok { OnOk result (out.new.items ≡ out.old.items ++ tail_text (item_seen item.now)) }
     ensures err { OnErr result (take (length out.old.items) out.new.items ≡ out.old.items) }
 {
     match item {
@@ -166,9 +179,9 @@ fn put_tail(item: &Item, out: &mut Vec<u8>) -> Result<(), AllocError>
 }
 
 /// What stands before the arguments.
-fn put_head(pid: Pid, item: &Item, out: &mut Vec<u8>) -> Result<(), AllocError>
+fn put_head(pid: Pid, item: &Item<'_>, out: &mut Vec<u8>) -> Result<(), AllocError>
     ensures ok { OnOk result
-        (out.new.items ≡ out.old.items ++ (decimal pid ++ (32 ∷ (name_of (head_of item.now) ++ 40 ∷ [])))) }
+        (out.new.items ≡ out.old.items ++ (decimal pid ++ (32 ∷ (name_of (head_of (item_seen item.now)) ++ 40 ∷ [])))) }
     ensures err { OnErr result (take (length out.old.items) out.new.items ≡ out.old.items) }
 {
     put_number(u64::from(pid), out)?;
@@ -178,8 +191,8 @@ fn put_head(pid: Pid, item: &Item, out: &mut Vec<u8>) -> Result<(), AllocError>
 }
 
 /// The canonical text of what a line of this process says, whether or not it is a line.
-pub(crate) fn put_text(pid: Pid, item: &Item, out: &mut Vec<u8>) -> Result<(), AllocError>
-    ensures ok { OnOk result (out.new.items ≡ out.old.items ++ canon (record { pid = pid; item = item.now })) }
+pub(crate) fn put_text(pid: Pid, item: &Item<'_>, out: &mut Vec<u8>) -> Result<(), AllocError>
+    ensures ok { OnOk result (out.new.items ≡ out.old.items ++ canon (record { pid = pid; item = item_seen item.now })) }
     ensures err { OnErr result (take (length out.old.items) out.new.items ≡ out.old.items) }
 {
     put_head(pid, item, out)?;
@@ -200,7 +213,10 @@ pub fn write_line(line: &Line, out: &mut Vec<u8>) -> Result<(), NoMemory>
     ensures err { OnErr result (out.new.items ≡ out.old.items) }
 {
     let start = out.len();
-    match put_text(line.pid, &line.item, out) {
+    let LineRef { pid, item } = line.seen();
+    // Names the type of a part of what is held, which the check has to be told.
+    let _none: Option<Call<'_>> = None;
+    match put_text(pid, &item, out) {
         Ok(()) => Ok(()),
         Err(_) => {
             out.truncate(start);

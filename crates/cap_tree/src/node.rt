@@ -1,11 +1,11 @@
-//! The nodes of a tree. A contract sees a node as its items and its height.
+//! The nodes of a tree. A contract sees a node as its items, its height and its summary.
 //!
 //! A leaf holds a run of items and one summary of them, since a summary of each single item would take far more memory
 //! than the items. A node's height is 0 for a leaf, else that of the higher part and one, and two parts are at most one
 //! apart. An edit makes anew the leaf that holds its place and the nodes above it, and shares all others.
 ghost use Rattle.std.specs.Prelude.{◌≡◌, ℕ, ◌+◌, ◌-◌, ◌*◌, ◌/◌, ◌^◌, ◌<◌, ◌≤◌, min, max, List, [], ◌∷◌, ◌++◌, length};
 ghost use Rattle.std.specs.Prelude.{vec_len, insert, remove, slice_get, slice_range, slice_set, Some, IfOk, OnOk};
-ghost use Rattle.std.specs.Prelude.{MatchOption};
+ghost use Rattle.std.specs.Prelude.{MatchOption, IfSome};
 ghost use Rattle.cap_tree.specs.Heights.{DifferByAtMost, SettlesAt, HaveLostOne, IsLeastHeight};
 ghost use Rattle.cap_tree.specs.Run.{values};
 
@@ -38,13 +38,13 @@ enum Shape<S: Segment> {
 impl<S: Segment> Model for Node<S> {
     ghost use Rattle.std.specs.Prelude.{ℕ, List, length};
 
-    ghost Value = { List S.Item × ℕ };
+    ghost Value = { List S.Item × ℕ × S };
 
     ghost use Rattle.cap_tree.specs.Shape.{items, IsGood};
 
-    ghost view = { λ a. (items a.shape, a.height) };
+    ghost view = { λ a. (items a.shape, a.height, a.summary) };
 
-    ghost invariant = { λ a. IsGood S.stands a.summary a.height a.shape };
+    ghost invariant = { λ a. IsGood S.stands S.composes a.summary a.height a.shape };
 
     ghost size = { λ d. d.1 };
 
@@ -56,7 +56,8 @@ impl<S: Segment> Model for Node<S> {
 impl<S: Segment> Node<S> {
     /// The summary of the items.
     pub(crate) fn summary(&self) -> &S
-        ensures { S.stands result.now self.now.0 }
+        ensures value { result.now ≡ self.now.2 }
+        ensures stands { S.stands result.now self.now.0 }
     {
         &self.summary
     }
@@ -106,7 +107,8 @@ impl<S: Segment> Node<S> {
         requires some { 0 < vec_len run }
         requires fits { vec_len run ≤ LEAF_ITEMS }
         requires room { meter.old + vec_len run < 2 ^ 64 }
-        ensures ok { IfOk result (λ n. n.value ≡ (values run.items, 0)) }
+        ensures items { IfOk result (λ n. n.value.0 ≡ values run.items) }
+        ensures height { IfOk result (λ n. n.value.1 ≡ 0) }
         ensures counted { OnOk result (meter.new + 1 ≡ meter.old + vec_len run) }
         ensures not_less { meter.old ≤ meter.new }
         ensures joins { meter.new < meter.old + vec_len run }
@@ -127,7 +129,8 @@ impl<S: Segment> Node<S> {
         item: Rc<S::Item>,
     ) -> Result<Rc<Node<S>>, NoMemory>
         requires room { meter.old + 1 < 2 ^ 64 }
-        ensures ok { IfOk result (λ n. n.value ≡ (item.value ∷ [], 0)) }
+        ensures items { IfOk result (λ n. n.value.0 ≡ item.value ∷ []) }
+        ensures height { IfOk result (λ n. n.value.1 ≡ 0) }
         ensures joins { meter.new ≡ meter.old }
     {
         let run = run::single(alloc, item)?;
@@ -142,9 +145,12 @@ impl<S: Segment> Node<S> {
         right: Rc<Node<S>>,
     ) -> Result<Rc<Node<S>>, NoMemory>
         requires stands { S.stands summary (left.value.0 ++ right.value.0) }
+        requires composed { S.composes left.value.2 right.value.2 summary }
         requires balanced { DifferByAtMost 1 left.value.1 right.value.1 }
         requires few { length left.value.0 + length right.value.0 ≤ 2 ^ 30 }
-        ensures { IfOk result (λ n. n.value ≡ (left.value.0 ++ right.value.0, max left.value.1 right.value.1 + 1)) }
+        ensures items { IfOk result (λ n. n.value.0 ≡ left.value.0 ++ right.value.0) }
+        ensures height { IfOk result (λ n. n.value.1 ≡ max left.value.1 right.value.1 + 1) }
+        ensures summary { IfOk result (λ n. n.value.2 ≡ summary) }
     {
         let height = left.height().max(right.height()) + 1;
         let node = Node {
@@ -165,7 +171,8 @@ impl<S: Segment> Node<S> {
         requires balanced { DifferByAtMost 1 left.value.1 right.value.1 }
         requires few { length left.value.0 + length right.value.0 ≤ 2 ^ 30 }
         requires room { meter.old + 1 < 2 ^ 64 }
-        ensures ok { IfOk result (λ n. n.value ≡ (left.value.0 ++ right.value.0, max left.value.1 right.value.1 + 1)) }
+        ensures items { IfOk result (λ n. n.value.0 ≡ left.value.0 ++ right.value.0) }
+        ensures height { IfOk result (λ n. n.value.1 ≡ max left.value.1 right.value.1 + 1) }
         ensures counted { OnOk result (meter.new ≡ meter.old + 1) }
         ensures not_less { meter.old ≤ meter.new }
         ensures joins { meter.new ≤ meter.old + 1 }
@@ -174,7 +181,8 @@ impl<S: Segment> Node<S> {
         Node::over(alloc, summary, left, right)
     }
 
-    /// The two in order, as `branch`, where this node has another one in place of the left.
+    /// The two in order, as `branch`, where this node has another one in place of the left, and how far both summaries
+    /// are alike; `likeness` says it of the left parts.
     fn with_left(
         &self,
         was: &Node<S>,
@@ -182,20 +190,33 @@ impl<S: Segment> Node<S> {
         meter: &mut Meter,
         left: Rc<Node<S>>,
         right: Rc<Node<S>>,
-    ) -> Result<Rc<Node<S>>, NoMemory>
-        requires old { self.now.0 ≡ was.now.0 ++ right.value.0 }
+        likeness: S::Likeness,
+    ) -> Result<(Rc<Node<S>>, S::Likeness), NoMemory>
+        requires old { S.composes was.now.2 right.value.2 self.now.2 }
+        requires like { S.alike likeness was.now.2 left.value.2 }
         requires balanced { DifferByAtMost 1 left.value.1 right.value.1 }
         requires few { length left.value.0 + length right.value.0 ≤ 2 ^ 30 }
         requires room { meter.old + 1 < 2 ^ 64 }
-        ensures ok { IfOk result (λ n. n.value ≡ (left.value.0 ++ right.value.0, max left.value.1 right.value.1 + 1)) }
+        ensures items { IfOk result (λ new. new.0.value.0 ≡ left.value.0 ++ right.value.0) }
+        ensures height { IfOk result (λ new. new.0.value.1 ≡ max left.value.1 right.value.1 + 1) }
+        ensures alike { IfOk result (λ new. S.alike new.1 self.now.2 new.0.value.2) }
         ensures not_less { meter.old ≤ meter.new }
         ensures joins { meter.new ≤ meter.old + 1 }
     {
-        let summary = S::with_left(alloc, meter, &self.summary, left.summary(), right.summary())?;
-        Node::over(alloc, summary, left, right)
+        let (summary, likeness) = S::with_left(
+            alloc,
+            meter,
+            &self.summary,
+            was.summary(),
+            left.summary(),
+            right.summary(),
+            likeness,
+        )?;
+        let node = Node::over(alloc, summary, left, right)?;
+        Ok((node, likeness))
     }
 
-    /// The two in order, as `branch`, where this node has another one in place of the right.
+    /// The same where this node has another one in place of the right.
     fn with_right(
         &self,
         was: &Node<S>,
@@ -203,17 +224,30 @@ impl<S: Segment> Node<S> {
         meter: &mut Meter,
         left: Rc<Node<S>>,
         right: Rc<Node<S>>,
-    ) -> Result<Rc<Node<S>>, NoMemory>
-        requires old { self.now.0 ≡ left.value.0 ++ was.now.0 }
+        likeness: S::Likeness,
+    ) -> Result<(Rc<Node<S>>, S::Likeness), NoMemory>
+        requires old { S.composes left.value.2 was.now.2 self.now.2 }
+        requires like { S.alike likeness was.now.2 right.value.2 }
         requires balanced { DifferByAtMost 1 left.value.1 right.value.1 }
         requires few { length left.value.0 + length right.value.0 ≤ 2 ^ 30 }
         requires room { meter.old + 1 < 2 ^ 64 }
-        ensures ok { IfOk result (λ n. n.value ≡ (left.value.0 ++ right.value.0, max left.value.1 right.value.1 + 1)) }
+        ensures items { IfOk result (λ new. new.0.value.0 ≡ left.value.0 ++ right.value.0) }
+        ensures height { IfOk result (λ new. new.0.value.1 ≡ max left.value.1 right.value.1 + 1) }
+        ensures alike { IfOk result (λ new. S.alike new.1 self.now.2 new.0.value.2) }
         ensures not_less { meter.old ≤ meter.new }
         ensures joins { meter.new ≤ meter.old + 1 }
     {
-        let summary = S::with_right(alloc, meter, &self.summary, left.summary(), right.summary())?;
-        Node::over(alloc, summary, left, right)
+        let (summary, likeness) = S::with_right(
+            alloc,
+            meter,
+            &self.summary,
+            was.summary(),
+            left.summary(),
+            right.summary(),
+            likeness,
+        )?;
+        let node = Node::over(alloc, summary, left, right)?;
+        Ok((node, likeness))
     }
 
     /// The two in order, at heights that one edit may have set two apart.
@@ -343,7 +377,8 @@ impl<S: Segment> Node<S> {
         requires right_leaf { right.now.1 ≡ 0 }
         requires fits { length left.now.0 + length right.now.0 ≤ LEAF_ITEMS }
         requires room { meter.old + 1 < 2 ^ 64 }
-        ensures ok { IfOk result (λ n. n.value ≡ (left.now.0 ++ right.now.0, 0)) }
+        ensures items { IfOk result (λ n. n.value.0 ≡ left.now.0 ++ right.now.0) }
+        ensures height { IfOk result (λ n. n.value.1 ≡ 0) }
         ensures counted { OnOk result (meter.new ≡ meter.old + 1) }
         ensures not_less { meter.old ≤ meter.new }
         ensures joins { meter.new ≤ meter.old + 1 }
@@ -369,20 +404,24 @@ impl<S: Segment> Node<S> {
         meter: &mut Meter,
         left: Rc<Node<S>>,
         right: Rc<Node<S>>,
-    ) -> Result<Rc<Node<S>>, NoMemory>
-        requires old { self.now.0 ≡ was.now.0 ++ right.value.0 }
+        likeness: S::Likeness,
+    ) -> Result<(Rc<Node<S>>, S::Likeness), NoMemory>
+        requires old { S.composes was.now.2 right.value.2 self.now.2 }
+        requires like { S.alike likeness was.now.2 left.value.2 }
         requires near { DifferByAtMost 2 left.value.1 right.value.1 }
         requires few { length left.value.0 + length right.value.0 ≤ 2 ^ 30 }
         requires room { meter.old + 3 < 2 ^ 64 }
-        ensures items { IfOk result (λ n. n.value.0 ≡ left.value.0 ++ right.value.0) }
-        ensures height { IfOk result (λ n. SettlesAt left.value.1 right.value.1 n.value.1) }
+        ensures items { IfOk result (λ new. new.0.value.0 ≡ left.value.0 ++ right.value.0) }
+        ensures height { IfOk result (λ new. SettlesAt left.value.1 right.value.1 new.0.value.1) }
+        ensures alike { IfOk result (λ new. S.alike new.1 self.now.2 new.0.value.2) }
         ensures not_less { meter.old ≤ meter.new }
         ensures joins { meter.new ≤ meter.old + 3 }
     {
         if left.height() > right.height() + 1 || right.height() > left.height() + 1 {
-            Node::balance(alloc, meter, left, right)
+            let node = Node::balance(alloc, meter, left, right)?;
+            Ok((node, S::unlike()))
         } else {
-            self.with_left(was, alloc, meter, left, right)
+            self.with_left(was, alloc, meter, left, right, likeness)
         }
     }
 
@@ -394,20 +433,24 @@ impl<S: Segment> Node<S> {
         meter: &mut Meter,
         left: Rc<Node<S>>,
         right: Rc<Node<S>>,
-    ) -> Result<Rc<Node<S>>, NoMemory>
-        requires old { self.now.0 ≡ left.value.0 ++ was.now.0 }
+        likeness: S::Likeness,
+    ) -> Result<(Rc<Node<S>>, S::Likeness), NoMemory>
+        requires old { S.composes left.value.2 was.now.2 self.now.2 }
+        requires like { S.alike likeness was.now.2 right.value.2 }
         requires near { DifferByAtMost 2 left.value.1 right.value.1 }
         requires few { length left.value.0 + length right.value.0 ≤ 2 ^ 30 }
         requires room { meter.old + 3 < 2 ^ 64 }
-        ensures items { IfOk result (λ n. n.value.0 ≡ left.value.0 ++ right.value.0) }
-        ensures height { IfOk result (λ n. SettlesAt left.value.1 right.value.1 n.value.1) }
+        ensures items { IfOk result (λ new. new.0.value.0 ≡ left.value.0 ++ right.value.0) }
+        ensures height { IfOk result (λ new. SettlesAt left.value.1 right.value.1 new.0.value.1) }
+        ensures alike { IfOk result (λ new. S.alike new.1 self.now.2 new.0.value.2) }
         ensures not_less { meter.old ≤ meter.new }
         ensures joins { meter.new ≤ meter.old + 3 }
     {
         if left.height() > right.height() + 1 || right.height() > left.height() + 1 {
-            Node::balance(alloc, meter, left, right)
+            let node = Node::balance(alloc, meter, left, right)?;
+            Ok((node, S::unlike()))
         } else {
-            self.with_right(was, alloc, meter, left, right)
+            self.with_right(was, alloc, meter, left, right, likeness)
         }
     }
 
@@ -419,21 +462,25 @@ impl<S: Segment> Node<S> {
         meter: &mut Meter,
         left: Rc<Node<S>>,
         right: Rc<Node<S>>,
-    ) -> Result<Rc<Node<S>>, NoMemory>
-        requires old { self.now.0 ≡ was.now.0 ++ right.value.0 }
+        likeness: S::Likeness,
+    ) -> Result<(Rc<Node<S>>, S::Likeness), NoMemory>
+        requires old { S.composes was.now.2 right.value.2 self.now.2 }
+        requires like { S.alike likeness was.now.2 left.value.2 }
         requires lost { HaveLostOne left.value.1 right.value.1 self.now.1 }
         requires few { length left.value.0 + length right.value.0 ≤ 2 ^ 30 }
         requires room { meter.old + 3 < 2 ^ 64 }
-        ensures items { IfOk result (λ n. n.value.0 ≡ left.value.0 ++ right.value.0) }
-        ensures at_most_one_lower { IfOk result (λ n. self.now.1 ≤ n.value.1 + 1) }
-        ensures not_higher { IfOk result (λ n. n.value.1 ≤ self.now.1) }
+        ensures items { IfOk result (λ new. new.0.value.0 ≡ left.value.0 ++ right.value.0) }
+        ensures at_most_one_lower { IfOk result (λ new. self.now.1 ≤ new.0.value.1 + 1) }
+        ensures not_higher { IfOk result (λ new. new.0.value.1 ≤ self.now.1) }
+        ensures alike { IfOk result (λ new. S.alike new.1 self.now.2 new.0.value.2) }
         ensures not_less { meter.old ≤ meter.new }
         ensures joins { meter.new ≤ meter.old + 3 }
     {
         if self.height == 1 {
-            Node::pair(alloc, meter, left, right)
+            let node = Node::pair(alloc, meter, left, right)?;
+            Ok((node, S::unlike()))
         } else {
-            self.settle_left(was, alloc, meter, left, right)
+            self.settle_left(was, alloc, meter, left, right, likeness)
         }
     }
 
@@ -445,54 +492,62 @@ impl<S: Segment> Node<S> {
         meter: &mut Meter,
         left: Rc<Node<S>>,
         right: Rc<Node<S>>,
-    ) -> Result<Rc<Node<S>>, NoMemory>
-        requires old { self.now.0 ≡ left.value.0 ++ was.now.0 }
+        likeness: S::Likeness,
+    ) -> Result<(Rc<Node<S>>, S::Likeness), NoMemory>
+        requires old { S.composes left.value.2 was.now.2 self.now.2 }
+        requires like { S.alike likeness was.now.2 right.value.2 }
         requires lost { HaveLostOne left.value.1 right.value.1 self.now.1 }
         requires few { length left.value.0 + length right.value.0 ≤ 2 ^ 30 }
         requires room { meter.old + 3 < 2 ^ 64 }
-        ensures items { IfOk result (λ n. n.value.0 ≡ left.value.0 ++ right.value.0) }
-        ensures at_most_one_lower { IfOk result (λ n. self.now.1 ≤ n.value.1 + 1) }
-        ensures not_higher { IfOk result (λ n. n.value.1 ≤ self.now.1) }
+        ensures items { IfOk result (λ new. new.0.value.0 ≡ left.value.0 ++ right.value.0) }
+        ensures at_most_one_lower { IfOk result (λ new. self.now.1 ≤ new.0.value.1 + 1) }
+        ensures not_higher { IfOk result (λ new. new.0.value.1 ≤ self.now.1) }
+        ensures alike { IfOk result (λ new. S.alike new.1 self.now.2 new.0.value.2) }
         ensures not_less { meter.old ≤ meter.new }
         ensures joins { meter.new ≤ meter.old + 3 }
     {
         if self.height == 1 {
-            Node::pair(alloc, meter, left, right)
+            let node = Node::pair(alloc, meter, left, right)?;
+            Ok((node, S::unlike()))
         } else {
-            self.settle_right(was, alloc, meter, left, right)
+            self.settle_right(was, alloc, meter, left, right, likeness)
         }
     }
 
-    /// The node with the item at the place. It is at most one level higher.
+    /// The node with the item at the place, and how far both summaries are alike. It is at most one level higher.
     pub(crate) fn insert(
         this: &Rc<Node<S>>,
         alloc: Global,
         meter: &mut Meter,
         at: usize,
         item: Rc<S::Item>,
-    ) -> Result<Rc<Node<S>>, NoMemory>
+    ) -> Result<(Rc<Node<S>>, S::Likeness), NoMemory>
         requires in_range { at ≤ length this.now.value.0 }
         requires few { length this.now.value.0 < 2 ^ 30 }
         requires room { meter.old + 2 ^ 32 < 2 ^ 64 }
-        ensures items { IfOk result (λ n. n.value.0 ≡ insert this.now.value.0 at item.value) }
-        ensures not_lower { IfOk result (λ n. this.now.value.1 ≤ n.value.1) }
-        ensures at_most_one_higher { IfOk result (λ n. n.value.1 ≤ this.now.value.1 + 1) }
+        ensures items { IfOk result (λ new. new.0.value.0 ≡ insert this.now.value.0 at item.value) }
+        ensures not_lower { IfOk result (λ new. this.now.value.1 ≤ new.0.value.1) }
+        ensures at_most_one_higher { IfOk result (λ new. new.0.value.1 ≤ this.now.value.1 + 1) }
+        ensures alike { IfOk result (λ new. S.alike new.1 this.now.value.2 new.0.value.2) }
         ensures not_less { meter.old ≤ meter.new }
         ensures joins { meter.new ≤ meter.old + min LEAF_ITEMS (length this.now.value.0) + 3 * this.now.value.1 }
     {
         let node: &Node<S> = this;
         match &node.shape {
-            Shape::Leaf(_) => Node::insert_in_leaf(this, alloc, meter, at, item),
+            Shape::Leaf(_) => {
+                let node = Node::insert_in_leaf(this, alloc, meter, at, item)?;
+                Ok((node, S::unlike()))
+            }
             Shape::Branch(left, right) => {
                 let middle = left.len();
                 if at <= middle {
-                    let changed = Node::insert(left, alloc, meter, at, item)?;
+                    let (changed, likeness) = Node::insert(left, alloc, meter, at, item)?;
                     let kept = right.clone()?;
-                    node.settle_left(left, alloc, meter, changed, kept)
+                    node.settle_left(left, alloc, meter, changed, kept, likeness)
                 } else {
-                    let changed = Node::insert(right, alloc, meter, at - middle, item)?;
+                    let (changed, likeness) = Node::insert(right, alloc, meter, at - middle, item)?;
                     let kept = left.clone()?;
-                    node.settle_right(right, alloc, meter, kept, changed)
+                    node.settle_right(right, alloc, meter, kept, changed, likeness)
                 }
             }
         }
@@ -594,54 +649,61 @@ impl<S: Segment> Node<S> {
         }
     }
 
-    /// The node with the item in place of the one at the place, at the same height.
+    /// The node with the item in place of the one at the place, at the same height, and how far both summaries are
+    /// alike.
     pub(crate) fn replace(
         &self,
         alloc: Global,
         meter: &mut Meter,
         at: usize,
         item: Rc<S::Item>,
-    ) -> Result<Rc<Node<S>>, NoMemory>
+    ) -> Result<(Rc<Node<S>>, S::Likeness), NoMemory>
         requires in_range { at < length self.now.0 }
         requires room { meter.old + 2 ^ 32 < 2 ^ 64 }
-        ensures items { IfOk result (λ n. n.value.0 ≡ slice_set self.now.0 at item.value) }
-        ensures height { IfOk result (λ n. n.value.1 ≡ self.now.1) }
+        ensures items { IfOk result (λ new. new.0.value.0 ≡ slice_set self.now.0 at item.value) }
+        ensures height { IfOk result (λ new. new.0.value.1 ≡ self.now.1) }
+        ensures alike { IfOk result (λ new. S.alike new.1 self.now.2 new.0.value.2) }
         ensures not_less { meter.old ≤ meter.new }
         ensures joins { meter.new ≤ meter.old + min LEAF_ITEMS (length self.now.0) + self.now.1 }
     {
         match &self.shape {
             Shape::Leaf(run) => {
                 let run = run::replaced(alloc, run, at, item)?;
-                Node::leaf(alloc, meter, run)
+                let node = Node::leaf(alloc, meter, run)?;
+                Ok((node, S::unlike()))
             }
             Shape::Branch(left, right) => {
                 let middle = left.len();
                 if at < middle {
-                    let changed = left.replace(alloc, meter, at, item)?;
+                    let (changed, likeness) = left.replace(alloc, meter, at, item)?;
                     let kept = right.clone()?;
-                    self.with_left(left, alloc, meter, changed, kept)
+                    self.with_left(left, alloc, meter, changed, kept, likeness)
                 } else {
-                    let changed = right.replace(alloc, meter, at - middle, item)?;
+                    let (changed, likeness) = right.replace(alloc, meter, at - middle, item)?;
                     let kept = left.clone()?;
-                    self.with_right(right, alloc, meter, kept, changed)
+                    self.with_right(right, alloc, meter, kept, changed, likeness)
                 }
             }
         }
     }
 
-    /// The node without the item at the place, which is at most one level lower; none where that was its only one.
+    /// The node without the item at the place, which is at most one level lower, and how far both summaries are alike;
+    /// none where that was its only one.
     pub(crate) fn remove(
         &self,
         alloc: Global,
         meter: &mut Meter,
         at: usize,
-    ) -> Result<Option<Rc<Node<S>>>, NoMemory>
+    ) -> Result<Option<(Rc<Node<S>>, S::Likeness)>, NoMemory>
         requires in_range { at < length self.now.0 }
         requires room { meter.old + 2 ^ 32 < 2 ^ 64 }
         ensures items { IfOk result
-            (λ o. MatchOption o (remove self.now.0 at ≡ []) (λ n. n.value.0 ≡ remove self.now.0 at)) }
+            (λ o. MatchOption o (remove self.now.0 at ≡ []) (λ new. new.0.value.0 ≡ remove self.now.0 at)) }
         ensures height { IfOk result
-            (λ o. MatchOption o (self.now.1 ≡ 0) (λ n. (self.now.1 ≤ n.value.1 + 1) × (n.value.1 ≤ self.now.1))) }
+            (λ o. MatchOption o (self.now.1 ≡ 0)
+            (λ new. (self.now.1 ≤ new.0.value.1 + 1) × (new.0.value.1 ≤ self.now.1))) }
+        ensures alike { IfOk result
+            (λ o. IfSome o (λ new. S.alike new.1 self.now.2 new.0.value.2)) }
         ensures not_less { meter.old ≤ meter.new }
         ensures joins { meter.new ≤ meter.old + min LEAF_ITEMS (length self.now.0) + 3 * self.now.1 }
     {
@@ -652,7 +714,7 @@ impl<S: Segment> Node<S> {
                 }
                 let run = run::removed(alloc, run, at)?;
                 let node = Node::leaf(alloc, meter, run)?;
-                Ok(Some(node))
+                Ok(Some((node, S::unlike())))
             }
             Shape::Branch(left, right) => {
                 let middle = left.len();
@@ -660,20 +722,24 @@ impl<S: Segment> Node<S> {
                     let rest = left.remove(alloc, meter, at)?;
                     let kept = right.clone()?;
                     match rest {
-                        None => Ok(Some(kept)),
-                        Some(changed) => {
-                            let node = self.shrunk_left(left, alloc, meter, changed, kept)?;
-                            Ok(Some(node))
+                        None => Ok(Some((kept, S::unlike()))),
+                        Some((changed, likeness)) => {
+                            let new = self.shrunk_left(
+                                left, alloc, meter, changed, kept, likeness,
+                            )?;
+                            Ok(Some(new))
                         }
                     }
                 } else {
                     let rest = right.remove(alloc, meter, at - middle)?;
                     let kept = left.clone()?;
                     match rest {
-                        None => Ok(Some(kept)),
-                        Some(changed) => {
-                            let node = self.shrunk_right(right, alloc, meter, kept, changed)?;
-                            Ok(Some(node))
+                        None => Ok(Some((kept, S::unlike()))),
+                        Some((changed, likeness)) => {
+                            let new = self.shrunk_right(
+                                right, alloc, meter, kept, changed, likeness,
+                            )?;
+                            Ok(Some(new))
                         }
                     }
                 }
@@ -681,8 +747,8 @@ impl<S: Segment> Node<S> {
         }
     }
 
-    /// Where a list of so many items is cut, so that each leaf but the last can be full, and half of the leaves or one more
-    /// than that stand before the cut.
+    /// Where a list of so many items is cut, so that each leaf but the last can be full, and half of the leaves or one
+    /// more than that stand before the cut.
     fn cut(count: usize) -> usize
         requires long { LEAF_ITEMS < count }
         requires few { count ≤ 2 ^ 30 }

@@ -12,11 +12,20 @@ use std::rc::Rc;
 pub trait Segment: Drop {
     type Item: Drop;
 
+    /// How far two summaries are known to be alike.
+    type Likeness: Drop;
+
     /// The value sums up the list.
     ghost stands: { Self → List Self.Item → Type 0 };
 
     /// The length of the list that the value sums up.
     ghost size: { Self → ℕ };
+
+    /// The third value is a join of the first and the second.
+    ghost composes: { Self → Self → Self → Type 0 };
+
+    /// The second value is like the first one, as far as the likeness says.
+    ghost alike: { Self.Likeness → Self → Self → Type 0 };
 
     /// The summary of no items.
     fn empty(alloc: Global) -> Result<Self, NoMemory>
@@ -30,6 +39,10 @@ pub trait Segment: Drop {
     fn len(&self) -> usize
         ensures { result ≡ size self.now };
 
+    /// Nothing is known of how far two summaries are alike.
+    fn unlike() -> Self::Likeness
+        ensures { (a b : Self) → alike result a b };
+
     /// The summary of the left items followed by the right ones.
     ///
     /// The two lengths must be at most `2 ^ 30` together, and the meter must have room for one more. A join that
@@ -39,50 +52,65 @@ pub trait Segment: Drop {
         requires room { meter.old + 1 < 2 ^ 64 }
         ensures joined { IfOk result
             (λ s. (t u : List Self.Item) → stands left.now t → stands right.now u → stands s (t ++ u)) }
+        ensures composed { IfOk result (λ s. composes left.now right.now s) }
         ensures counted { OnOk result (meter.new ≡ meter.old + 1) }
         ensures not_less { meter.old ≤ meter.new }
         ensures at_most_one { meter.new ≤ meter.old + 1 };
 
-    /// As [`Segment::join`] of the left and the right part, where `old` sums up other items and then those of the right
-    /// part. The new summary may share with the old one what is equal.
+    /// As [`Segment::join`] of the left and the right part, where `old` is a join of `was` and the right part. The new
+    /// summary may share with the old one what is equal. `likeness` says how far `was` and the left part are alike, and
+    /// the answer how far the old summary and the new one are.
     fn with_left(
         alloc: Global,
         meter: &mut Meter,
         old: &Self,
+        was: &Self,
         left: &Self,
         right: &Self,
-    ) -> Result<Self, NoMemory>
+        likeness: Self::Likeness,
+    ) -> Result<(Self, Self::Likeness), NoMemory>
         requires few { size left.now + size right.now ≤ 2 ^ 30 }
         requires room { meter.old + 1 < 2 ^ 64 }
-        ensures joined { IfOk result (λ s. (t u v : List Self.Item) → stands old.now (t ++ u)
-            → stands left.now v → stands right.now u → stands s (v ++ u)) }
+        requires old { composes was.now right.now old.now }
+        requires like { alike likeness was.now left.now }
+        ensures joined { IfOk result (λ new. (t u : List Self.Item) → stands left.now t → stands right.now u
+            → stands new.0 (t ++ u)) }
+        ensures composed { IfOk result (λ new. composes left.now right.now new.0) }
+        ensures alike { IfOk result (λ new. alike new.1 old.now new.0) }
         ensures counted { OnOk result (meter.new ≡ meter.old + 1) }
         ensures not_less { meter.old ≤ meter.new }
         ensures at_most_one { meter.new ≤ meter.old + 1 }
     {
-        let _ = old;
-        Self::join(alloc, meter, left, right)
+        let _ = (old, was, likeness);
+        let new = Self::join(alloc, meter, left, right)?;
+        Ok((new, Self::unlike()))
     }
 
-    /// As [`Segment::join`] of the left and the right part, where `old` sums up the items of the left part and then others.
-    /// The new summary may share with the old one what is equal.
+    /// The same where `old` is a join of the left part and `was`, and `likeness` is of `was` and the right part.
     fn with_right(
         alloc: Global,
         meter: &mut Meter,
         old: &Self,
+        was: &Self,
         left: &Self,
         right: &Self,
-    ) -> Result<Self, NoMemory>
+        likeness: Self::Likeness,
+    ) -> Result<(Self, Self::Likeness), NoMemory>
         requires few { size left.now + size right.now ≤ 2 ^ 30 }
         requires room { meter.old + 1 < 2 ^ 64 }
-        ensures joined { IfOk result (λ s. (t u v : List Self.Item) → stands old.now (t ++ u)
-            → stands left.now t → stands right.now v → stands s (t ++ v)) }
+        requires old { composes left.now was.now old.now }
+        requires like { alike likeness was.now right.now }
+        ensures joined { IfOk result (λ new. (t u : List Self.Item) → stands left.now t → stands right.now u
+            → stands new.0 (t ++ u)) }
+        ensures composed { IfOk result (λ new. composes left.now right.now new.0) }
+        ensures alike { IfOk result (λ new. alike new.1 old.now new.0) }
         ensures counted { OnOk result (meter.new ≡ meter.old + 1) }
         ensures not_less { meter.old ≤ meter.new }
         ensures at_most_one { meter.new ≤ meter.old + 1 }
     {
-        let _ = old;
-        Self::join(alloc, meter, left, right)
+        let _ = (old, was, likeness);
+        let new = Self::join(alloc, meter, left, right)?;
+        Ok((new, Self::unlike()))
     }
 
     /// All lists that one value sums up have its length.

@@ -184,7 +184,8 @@ impl<S: Segment> Tree<S> {
             Root::Full(node) => {
                 // Shows how high a node of so many items can be.
                 let _height = node.height();
-                Node::insert(node, alloc, meter, at, item)?
+                let (root, _) = Node::insert(node, alloc, meter, at, item)?;
+                root
             }
         };
         Ok(Tree {
@@ -209,7 +210,7 @@ impl<S: Segment> Tree<S> {
                 let _height = node.height();
                 match node.remove(alloc, meter, at)? {
                     None => Tree::empty(alloc),
-                    Some(root) => Ok(Tree {
+                    Some((root, _)) => Ok(Tree {
                         root: Root::Full(root),
                     }),
                 }
@@ -238,7 +239,7 @@ impl<S: Segment> Tree<S> {
             Root::Empty(_) => unreachable!(),
             Root::Full(node) => {
                 let _height = node.height();
-                let root = node.replace(alloc, meter, at, item)?;
+                let (root, _) = node.replace(alloc, meter, at, item)?;
                 Ok(Tree {
                     root: Root::Full(root),
                 })

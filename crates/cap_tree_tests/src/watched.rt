@@ -1,5 +1,6 @@
-//! A segment whose items share two cells: one counts the joins, the other refuses a summary when its turn comes.
-ghost use Rattle.std.specs.Prelude.{◌≡◌, map, length};
+//! A segment whose items share three cells: two count the joins and the comparisons, the third refuses a summary when
+//! its turn comes.
+ghost use Rattle.std.specs.Prelude.{◌≡◌, ◌++◌, true, map, length};
 ghost use Rattle.cap_tree_tests.specs.Numbers.{numbers, length-numbers};
 
 use crate::listed::appended;
@@ -16,6 +17,8 @@ mod tests;
 pub struct Watch {
     /// How many joins succeeded.
     pub joins: Cell<u64>,
+    /// How many summaries were compared with those that stood in their place before.
+    pub compared: Cell<u64>,
     /// Which of the next summaries is refused, from 1; 0 for none.
     pub refuse: Cell<u64>,
 }
@@ -48,9 +51,16 @@ pub struct Watched {
 impl Segment for Watched {
     type Item = Item;
 
+    /// Whether both are known to have the same numbers.
+    type Likeness = bool;
+
     ghost stands = { λ s xs. s.list.items ≡ numbers xs };
 
     ghost size = { λ s. length s.list.items };
+
+    ghost composes = { λ a b whole. whole.list.items ≡ a.list.items ++ b.list.items };
+
+    ghost alike = { λ likeness old new. likeness ≡ true → old.list.items ≡ new.list.items };
 
     fn empty(alloc: Global) -> Result<Watched, NoMemory> {
         Ok(Watched {
@@ -74,6 +84,10 @@ impl Segment for Watched {
         self.list.len()
     }
 
+    fn unlike() -> bool {
+        false
+    }
+
     fn join(
         _alloc: Global,
         meter: &mut Meter,
@@ -89,7 +103,45 @@ impl Segment for Watched {
         Ok(Watched { list, watch })
     }
 
+    fn with_left(
+        alloc: Global,
+        meter: &mut Meter,
+        _old: &Watched,
+        was: &Watched,
+        left: &Watched,
+        right: &Watched,
+        likeness: bool,
+    ) -> Result<(Watched, bool), NoMemory> {
+        let new = Watched::join(alloc, meter, left, right)?;
+        Ok((new, likeness || left.is_like(was)))
+    }
+
+    fn with_right(
+        alloc: Global,
+        meter: &mut Meter,
+        _old: &Watched,
+        was: &Watched,
+        left: &Watched,
+        right: &Watched,
+        likeness: bool,
+    ) -> Result<(Watched, bool), NoMemory> {
+        let new = Watched::join(alloc, meter, left, right)?;
+        Ok((new, likeness || right.is_like(was)))
+    }
+
     ghost sized = { λ s t e. length-numbers s.list.items t e };
+}
+
+impl Watched {
+    /// Whether another one has the same numbers. Counts the comparison.
+    fn is_like(&self, other: &Watched) -> bool
+        ensures { result ≡ true → other.now.list.items ≡ self.now.list.items }
+    {
+        if let Some(watch) = &self.watch {
+            watch.compared.set(watch.compared.get().wrapping_add(1));
+        }
+        self.list == other.list
+    }
 }
 
 /// The watch of either, if it allows one more summary.

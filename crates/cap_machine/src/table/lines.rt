@@ -4,7 +4,7 @@
 ghost use Rattle.std.specs.Prelude.{◌≡◌, ℕ, [], OnOk, IsTrue, Option, None};
 ghost use Rattle.cap_trace.specs.Entry.{IsAnswer, kind_of, fcntl_kind};
 ghost use Rattle.cap_trace.specs.Seen.{call_seen};
-ghost use Rattle.cap_trace.specs.declared.line.Call.TheVariants as calls;
+ghost use Rattle.cap_trace.specs.Call as calls;
 ghost use Rattle.cap_machine.specs.Steps.{step};
 ghost use Rattle.cap_machine.specs.Touch.{on_fd, on_made, on_success, given, taken, whole, closing, copied};
 ghost use Rattle.cap_machine.specs.Touch.{opened_below, open_flag, socket_flag, at_touch, fcntl_touch};
@@ -27,8 +27,7 @@ use crate::table::Table;
 use crate::verdict::Verdict;
 use cap_rights::{NoMemory, RightSet};
 use cap_trace::{
-    Answer, AtFlagsCall, CallLine, CallSeen, Dir, Fd, FdCall, FdLine, FlagsCall, Item, Line,
-    PathCall, Pid,
+    Answer, AtFlagsCall, Call, Dir, Fd, FdCall, FdLine, FlagsCall, Item, LineRef, PathCall, Pid,
 };
 
 /// The cell of a file that was opened below no descriptor (openat(2)).
@@ -82,47 +81,47 @@ impl Table {
     }
 
     /// Whether nothing is said of a call that succeeded, where that is seen without its rule.
-    fn is_silent_success(&self, pid: Pid, call: &CallSeen<'_>) -> bool
+    fn is_silent_success(&self, pid: Pid, call: &Call<'_>) -> bool
         ensures { IsTrue result → (answer : Answer) → reply answer ≡ Reply.Success
             → said_of (call_demand (call_seen call.now) answer) pid (state_of self.now) ≡ [] }
     {
         match call {
-            CallSeen::OnFd(call, fd) => self.is_silent_on_fd(pid, *call, *fd),
-            CallSeen::Send(_, fd) => self.may_have(pid, *fd, send_needs_of()),
-            CallSeen::Dup2(fd, _) | CallSeen::FcntlDup(_, fd, _) | CallSeen::FcntlSetFd(fd, _) => {
+            Call::OnFd(call, fd) => self.is_silent_on_fd(pid, *call, *fd),
+            Call::Send(_, fd) => self.may_have(pid, *fd, send_needs_of()),
+            Call::Dup2(fd, _) | Call::FcntlDup(_, fd, _) | Call::FcntlSetFd(fd, _) => {
                 self.may_have(pid, *fd, RightSet::none())
             }
-            CallSeen::Fcntl(fd, command) => match fcntl_needs_of(command) {
+            Call::Fcntl(fd, command) => match fcntl_needs_of(command) {
                 None => true,
                 Some(needs) => self.may_have(pid, *fd, needs),
             },
-            CallSeen::Mmap(fd, protection, kind) => {
+            Call::Mmap(fd, protection, kind) => {
                 self.may_have(pid, *fd, mmap_needs_of(protection, kind))
             }
-            CallSeen::RightsLimit(fd, asked) => self.may_have(pid, *fd, without_full_of(asked)),
-            CallSeen::At(call, dir, path) => match below_of(*dir, path) {
+            Call::RightsLimit(fd, asked) => self.may_have(pid, *fd, without_full_of(asked)),
+            Call::At(call, dir, path) => match below_of(*dir, path) {
                 None => self.mode(pid) != Mode::Inside,
                 Some(fd) => self.may_have(pid, fd, at_needs_of(*call)),
             },
-            CallSeen::AtFlags(call, dir, path, flags) => match below_of(*dir, path) {
+            Call::AtFlags(call, dir, path, flags) => match below_of(*dir, path) {
                 None => self.mode(pid) != Mode::Inside,
                 Some(fd) => self.may_have(pid, fd, at_flags_needs_of(*call, flags)),
             },
-            CallSeen::Open(_, _) | CallSeen::OnPath(_, _) | CallSeen::OnPaths(_, _, _) => {
+            Call::Open(_, _) | Call::OnPath(_, _) | Call::OnPaths(_, _, _) => {
                 self.mode(pid) != Mode::Inside
             }
-            CallSeen::OnFlags(_, _) | CallSeen::Bare(_) | CallSeen::Other(_, _) => true,
+            Call::OnFlags(_, _) | Call::Bare(_) | Call::Other(_, _) => true,
             _ => false,
         }
     }
 
     /// Whether nothing is said of a call that capability mode refused, where that is seen without its rule.
-    fn is_silent_refusal(&self, pid: Pid, call: &CallSeen<'_>) -> bool
+    fn is_silent_refusal(&self, pid: Pid, call: &Call<'_>) -> bool
         ensures { IsTrue result → (answer : Answer) → reply answer ≡ Reply.NotPermitted
             → said_of (call_demand (call_seen call.now) answer) pid (state_of self.now) ≡ [] }
     {
         match call {
-            CallSeen::Open(_, _) | CallSeen::OnPath(_, _) | CallSeen::OnPaths(_, _, _) => {
+            Call::Open(_, _) | Call::OnPath(_, _) | Call::OnPaths(_, _, _) => {
                 self.mode(pid) != Mode::Outside
             }
             _ => false,
@@ -131,7 +130,7 @@ impl Table {
 
     /// Whether nothing is said of a call, where that is seen without its rule; `false` says nothing.
     #[inline(always)]
-    fn is_silent_call(&self, pid: Pid, call: &CallSeen<'_>, answer: &Answer) -> bool
+    fn is_silent_call(&self, pid: Pid, call: &Call<'_>, answer: &Answer) -> bool
         ensures { IsTrue result → said_of (call_demand (call_seen call.now) answer.now) pid (state_of self.now) ≡ [] }
     {
         match answer {
@@ -143,20 +142,13 @@ impl Table {
     }
 
     /// The same of a line.
-    pub(crate) fn is_silent(&self, line: &Line) -> bool
+    pub(crate) fn is_silent(&self, line: &LineRef<'_>) -> bool
         ensures { IsTrue result → said_of (demand line.now) line.now.pid (state_of self.now) ≡ [] }
     {
         match &line.item {
-            Item::Call { call, answer } => self.is_silent_call(line.pid, &call.seen(), answer),
+            Item::Call { call, answer } => self.is_silent_call(line.pid, call, answer),
             _ => true,
         }
-    }
-
-    /// The same of a line whose texts lie elsewhere.
-    pub(crate) fn is_silent_call_line(&self, line: &CallLine<'_>) -> bool
-        ensures { IsTrue result → said_of (demand line.now) line.now.pid (state_of self.now) ≡ [] }
-    {
-        self.is_silent_call(line.pid, &line.call, &line.answer)
     }
 
     /// The same of a line with a call on one descriptor.
@@ -173,7 +165,7 @@ impl Table {
 
     /// What is said of a line, by its rule.
     #[inline(never)]
-    pub(crate) fn said_by_rule(&self, line: &Line) -> Verdict
+    pub(crate) fn said_by_rule(&self, line: &LineRef<'_>) -> Verdict
         ensures { result ≡ said_of (demand line.now) line.now.pid (state_of self.now) }
     {
         self.said(line.pid, &demand_of_line(line))
@@ -185,7 +177,7 @@ impl Table {
         &mut self,
         profile: Profile,
         pid: Pid,
-        call: &CallSeen<'_>,
+        call: &Call<'_>,
         answer: &Answer,
     ) -> Result<(), NoMemory>
         requires { IsAnswer (kind_of (call_seen call.now)) answer.now }
@@ -320,7 +312,7 @@ impl Table {
     {
         match call {
             FlagsCall::Socket => self.socket(pid, flags, answer),
-            _ => self.follow_rule(profile, pid, &CallSeen::OnFlags(call, flags), answer),
+            _ => self.follow_rule(profile, pid, &Call::OnFlags(call, flags), answer),
         }
     }
 
@@ -390,7 +382,7 @@ impl Table {
         ensures { OnOk result (Keeps self.new
             (call_after profile (calls.OnFd call fd) answer pid (state_of self.old))) }
     {
-        self.follow_rule(profile, pid, &CallSeen::OnFd(call, fd), &answer)
+        self.follow_rule(profile, pid, &Call::OnFd(call, fd), &answer)
     }
 
     /// A call on one descriptor.
@@ -441,7 +433,7 @@ impl Table {
         &mut self,
         profile: Profile,
         pid: Pid,
-        call: &CallSeen<'_>,
+        call: &Call<'_>,
         answer: &Answer,
     ) -> Result<(), NoMemory>
         requires { IsAnswer (kind_of (call_seen call.now)) answer.now }
@@ -449,52 +441,45 @@ impl Table {
             (call_after profile (call_seen call.now) answer.now pid (state_of self.old))) }
     {
         match call {
-            CallSeen::OnFd(call, fd) => self.follow_seen_fd(profile, pid, *call, *fd, answer),
-            CallSeen::RightsLimit(fd, asked) => self.limit(pid, *fd, asked, answer),
-            CallSeen::Open(_, flags) => self.open(pid, flags, answer),
-            CallSeen::AtFlags(call, dir, path, flags) => {
+            Call::OnFd(call, fd) => self.follow_seen_fd(profile, pid, *call, *fd, answer),
+            Call::RightsLimit(fd, asked) => self.limit(pid, *fd, asked, answer),
+            Call::Open(_, flags) => self.open(pid, flags, answer),
+            Call::AtFlags(call, dir, path, flags) => {
                 self.follow_at(pid, *call, *dir, path, flags, answer)
             }
-            CallSeen::Fcntl(fd, command) => self.fcntl(pid, *fd, command, answer),
-            CallSeen::OnFlags(call, flags) => {
-                self.follow_flags(profile, pid, *call, flags, answer)
-            }
-            CallSeen::OnPath(PathCall::Execve, _) => self.follow_rule(profile, pid, call, answer),
-            CallSeen::OnPath(_, _)
-            | CallSeen::OnPaths(_, _, _)
-            | CallSeen::At(_, _, _)
-            | CallSeen::Mmap(_, _, _)
-            | CallSeen::Send(_, _)
-            | CallSeen::SendTo(_, _)
-            | CallSeen::Other(_, _) => Ok(()),
+            Call::Fcntl(fd, command) => self.fcntl(pid, *fd, command, answer),
+            Call::OnFlags(call, flags) => { self.follow_flags(profile, pid, *call, flags, answer) }
+            Call::OnPath(PathCall::Execve, _) => self.follow_rule(profile, pid, call, answer),
+            Call::OnPath(_, _)
+            | Call::OnPaths(_, _, _)
+            | Call::At(_, _, _)
+            | Call::Mmap(_, _, _)
+            | Call::Send(_, _)
+            | Call::SendTo(_, _)
+            | Call::Other(_, _) => Ok(()),
             _ => self.follow_rule(profile, pid, call, answer),
         }
     }
 
     /// What is known after a line.
-    pub(crate) fn follow(&mut self, profile: Profile, line: &Line) -> Result<(), NoMemory>
+    pub(crate) fn follow(&mut self, profile: Profile, line: &LineRef<'_>) -> Result<(), NoMemory>
         ensures { OnOk result (Keeps self.new (step_after (step profile line.now) (state_of self.old))) }
     {
-        self.remains.free_some();
         match &line.item {
-            Item::Call { call, answer } => {
-                self.follow_call(profile, line.pid, &call.seen(), answer)
+            Item::Call { call, answer } => self.follow_call(profile, line.pid, call, answer),
+            Item::Start(fds) => {
+                self.remains.free_some();
+                self.start_spelled(line.pid, fds)
             }
-            Item::Start(fds) => self.start(line.pid, fds.as_slice()),
-            Item::Exit => self.exit(line.pid),
-            Item::Foreign(fd) => self.write(line.pid, *fd, Cell::Unknown),
+            Item::Exit => {
+                self.remains.free_some();
+                self.exit(line.pid)
+            }
+            Item::Foreign(fd) => {
+                self.remains.free_some();
+                self.write(line.pid, *fd, Cell::Unknown)
+            }
         }
-    }
-
-    /// The same after a line whose texts lie elsewhere.
-    pub(crate) fn follow_call_line(
-        &mut self,
-        profile: Profile,
-        line: &CallLine<'_>,
-    ) -> Result<(), NoMemory>
-        ensures { OnOk result (Keeps self.new (step_after (step profile line.now) (state_of self.old))) }
-    {
-        self.follow_call(profile, line.pid, &line.call, &line.answer)
     }
 
     /// The same after a line with a call on one descriptor.

@@ -1,10 +1,11 @@
 //! Lists of conditions that are being put together: one behind the other, or gathered in any order.
 
-ghost use Rattle.std.specs.Prelude.{◌≡◌, ◌<◌, ◌++◌, ◌∷◌, [], length, slice_index_or, IfOk, OnOk};
+ghost use Rattle.std.specs.Prelude.{◌≡◌, ◌<◌, ◌++◌, ◌∷◌, [], ◌||◌, length, slice_index_or, IfOk, OnOk};
 ghost use Rattle.cap_summary.specs.declared.conditions.Condition.{Condition};
 ghost use Rattle.cap_machine.specs.State.{State};
 ghost use Rattle.cap_summary.specs.Conditions.{any_holds};
 ghost use Rattle.cap_summary.specs.Packed.{lacking, low_condition, low_conditions, packed_condition};
+ghost use Rattle.cap_summary.specs.Packed.{any_low_holds, LowsWithin};
 ghost use Rattle.cap_summary.specs.Merging.{HasOneMore};
 ghost use Rattle.cap_summary.specs.Names.{Names, ConditionsWithin};
 
@@ -97,6 +98,8 @@ impl NewConditions {
 pub(crate) struct Gathered {
     /// Of the most common form, each of a cell behind those of the ones before it.
     rising: Vec<Low>,
+    /// The process and descriptor behind those of all that rise.
+    next: u64,
     /// Of that form too.
     strays: Vec<Low>,
     others: Vec<Packed>,
@@ -120,18 +123,10 @@ impl Gathered {
     {
         Ok(Gathered {
             rising: Vec::with_capacity(alloc, room)?,
+            next: 0,
             strays: Vec::new(alloc),
             others: Vec::new(alloc),
         })
-    }
-
-    /// Whether the cell of one is behind those of all that rise.
-    #[inline]
-    fn goes_on(&self, low: &Low) -> bool {
-        match self.rising.last() {
-            Some(last) => last.place() < low.place(),
-            None => true,
-        }
     }
 
     /// Adds one of the most common form.
@@ -139,11 +134,26 @@ impl Gathered {
     pub(crate) fn add_low(&mut self, low: &Low) -> Result<(), NoMemory>
         ensures { OnOk result (HasOneMore self.old (low_condition low.now) self.new) }
     {
-        if !self.goes_on(low) {
+        let place = low.place();
+        if place < self.next {
             self.strays.push(*low)?;
             return Ok(());
         }
+        self.next = place.saturating_add(1);
         self.rising.push(*low)?;
+        Ok(())
+    }
+
+    /// Adds those of a list of the most common form.
+    pub(crate) fn add_lows(&mut self, lows: &[Low]) -> Result<(), NoMemory>
+        ensures holds { OnOk result ((s : State)
+            → any_holds s self.new ≡ (any_holds s self.old || any_low_holds s lows.now)) }
+        ensures names { OnOk result ((names : Names) → LowsWithin names lows.now → ConditionsWithin names self.old
+            → ConditionsWithin names self.new) }
+    {
+        for at in 0..lows.len() {
+            self.add_low(&lows[at])?;
+        }
         Ok(())
     }
 

@@ -76,3 +76,29 @@ pub(super) fn place_near<V>(entries: &[(u32, V)], key: u32, near: usize) -> Resu
     }
     place_of(entries, key)
 }
+
+/// How many places a look-up goes up before it searches by halves.
+const STEPS: usize = 8;
+
+/// The first place from one on, of a few, at which the key isn't greater.
+fn place_up<V>(entries: &[(u32, V)], key: u32, from: usize) -> usize {
+    let mut at = from;
+    for _ in 0..STEPS {
+        if at >= entries.len() || entries[at].0 >= key {
+            return at;
+        }
+        at += 1;
+    }
+    at
+}
+
+/// The same as [`place_of`]. It goes up a few places from the one that is given.
+pub(super) fn place_from<V>(entries: &[(u32, V)], key: u32, from: usize) -> Result<usize, usize>
+    requires { Rises entries.now }
+    ensures at { IfOk result (IsAt entries.now key) }
+    ensures value { IfOk result
+        (λ at. found entries.now key ≡ option_map (λ entry. entry.1) (slice_get entries.now at)) }
+    ensures absent { IfErr result (λ _. found entries.now key ≡ None) }
+{
+    place_near(entries, key, place_up(entries, key, from))
+}

@@ -1,13 +1,14 @@
 //! Joins are counted on the meter alone, and a refused summary leaves the old tree as it was.
 
 use super::*;
-use crate::edits::{FIRST, PLACES, TURNS, edit_at, edited};
+use crate::edits::{Edit, FIRST, PLACES, TURNS, edit_at, edited};
 use cap_tree::Tree;
 use std::test::Fail;
 
 fn watch(alloc: Global) -> Result<Rc<Watch>, NoMemory> {
     let watch = Watch {
         joins: Cell::new(0),
+        compared: Cell::new(0),
         refuse: Cell::new(0),
     };
     Ok(Rc::new(alloc, watch)?)
@@ -88,6 +89,28 @@ fn each_summary_refused(rt: HostRuntime) -> Result<(), Fail> {
             assert!(rt; done, "at {turn}");
         }
         assert_eq!(rt; tree.len(), 0);
+    }
+    Ok(())
+}
+
+/// How many summaries are compared where a number is put at a place of the first tree.
+fn compared(alloc: Global, place: u32, number: u32) -> Result<u64, NoMemory> {
+    let watch = watch(alloc)?;
+    let tree = first_tree(alloc, &mut Meter::new(), &watch)?;
+    let new = item(alloc, &watch, number)?;
+    let edit = Edit::Replace(place as usize);
+    edited(alloc, &mut Meter::new(), &tree, &edit, new)?;
+    Ok(watch.compared.get())
+}
+
+/// A summary that is like the one before is compared once, and the nodes above are told so: the four leaves of the
+/// first tree stand below two nodes and the root.
+#[test]
+fn likeness_is_handed_on(rt: HostRuntime) -> Result<(), Fail> {
+    let alloc = rt.alloc();
+    for place in [0, 47, 48, 95, 96, 143, 144, 191] {
+        assert!(rt; compared(alloc, place, place)? == 1, "the same at {place}");
+        assert!(rt; compared(alloc, place, 1000)? == 2, "another at {place}");
     }
     Ok(())
 }

@@ -16,5 +16,5 @@ returns-then-stay_behind c = IfOk-weaker c.same_table.result _ _
 
 pub returns : goal.returns
 returns c = IfOk-weaker c.merge.result _ _
-    (λ new is f. rw c.entries-entries.ensures.all at (is f)
+    (λ new is f. rw (c.behind.ensures, c.entries-entries.ensures.all) at (is f)
     ∙ or_none (option_map (under c.args.change.now) (kept_values (found c.args.top.now f)))) c.merge.ensures.each

@@ -1,8 +1,8 @@
 use Rattle.std.proofs.Common.{subst}
-use Rattle.cap_trace.specs.declared.line.Item.{Item}
+use Rattle.cap_trace.specs.Item.{Item}
 use Rattle.cap_trace.specs.declared.names.Head.{Head}
-use Rattle.cap_trace.specs.declared.line.Item.TheVariants as items
-use Rattle.cap_trace.specs.declared.line.Call.TheVariants as calls
+use Rattle.cap_trace.specs.Item as items
+use Rattle.cap_trace.specs.Call as calls
 use Rattle.cap_trace.specs.declared.calls.Form.{Form}
 use Rattle.cap_trace.specs.declared.calls.Form.TheVariants as forms
 use Rattle.cap_trace.specs.Names.{listed}

@@ -1,29 +1,27 @@
-use Rattle.std.proofs.Common.{◌≡◌, List, ℕ, Ok, sym, subst, ◌∙◌, ap}
+use Rattle.std.proofs.Common.{◌≡◌, Ok, Err, inr, refl, sym, ap, ◌∙◌}
+use Rattle.cap_trace.specs.declared.fault.LineFault.TheVariants as line_faults
 use Rattle.cap_trace.specs.Reading.{line_of}
-use Rattle.cap_trace.specs.Parsing.{MatchesReading}
 use Rattle.cap_trace.proofs.ParseClauses.{found_by, faults_by, memory_by, only_by}
 use Rattle.cap_trace.proofs.parse.parse_line.Goals as goal
 
-reads : (c : goal.After-line) → line_of c.args.bytes.now ≡ Ok c.line.result
-reads c = c.in-Ok.ensures.read ∙ ap Ok (sym c.line.ensures)
+reads : (c : goal.In-Ok-kept) → line_of c.args.bytes.now ≡ Ok c.in-Ok-kept.line
+reads c = c.in-Ok.ensures.read ∙ ap Ok (sym c.in-Ok-kept.ensures)
 
-pub returns-in-Ok : goal.returns-in-Ok
-returns-in-Ok c = record {
-  found = found_by c.args.bytes.now (Ok c.line.result) (reads c);
-  faults = faults_by c.args.bytes.now (Ok c.line.result) (reads c);
-  memory = memory_by c.args.bytes.now (Ok c.line.result) (reads c);
-  only = only_by c.args.bytes.now (Ok c.line.result) (reads c);
+pub returns-in-Ok-kept : goal.returns-in-Ok-kept
+returns-in-Ok-kept c = record {
+  found = found_by c.args.bytes.now (Ok c.in-Ok-kept.line) (reads c);
+  faults = faults_by c.args.bytes.now (Ok c.in-Ok-kept.line) (reads c);
+  memory = memory_by c.args.bytes.now (Ok c.in-Ok-kept.line) (reads c);
+  only = only_by c.args.bytes.now (Ok c.in-Ok-kept.line) (reads c);
   reads = reads c;
 }
 
-rest : (c : goal.After-line-in-Err) → MatchesReading c.args.bytes.now c.line-in-Err.result
-rest c = subst (λ (t : List ℕ). MatchesReading t c.line-in-Err.result) c.in-Err.ensures.unread c.line-in-Err.ensures
+pub returns-in-Err-kept-clause-memory : goal.returns-in-Err-kept-clause-memory
+returns-in-Err-kept-clause-memory c =
+    memory_by c.args.bytes.now (Err line_faults.Memory) (inr (refl, (c.in-Ok.line, c.in-Ok.ensures.read)))
 
-pub returns-in-Err : goal.returns-in-Err
-returns-in-Err c = record {
-  found = found_by c.args.bytes.now c.line-in-Err.result (rest c);
-  faults = faults_by c.args.bytes.now c.line-in-Err.result (rest c);
-  memory = memory_by c.args.bytes.now c.line-in-Err.result (rest c);
-  only = only_by c.args.bytes.now c.line-in-Err.result (rest c);
-  reads = rest c;
-}
+pub returns-in-Err-clause-faults : goal.returns-in-Err-clause-faults
+returns-in-Err-clause-faults c = faults_by c.args.bytes.now (Err c.in-Err.fault) c.in-Err.ensures.read
+
+pub returns-in-Err-clause-only : goal.returns-in-Err-clause-only
+returns-in-Err-clause-only c = only_by c.args.bytes.now (Err c.in-Err.fault) c.in-Err.ensures.read

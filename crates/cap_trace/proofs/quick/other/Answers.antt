@@ -1,5 +1,5 @@
 use Rattle.std.proofs.Common.{refl}
-use Rattle.cap_trace.specs.declared.line.Call.TheVariants as calls
+use Rattle.cap_trace.specs.Call as calls
 use Rattle.cap_trace.specs.Names.{unlisted}
 use Rattle.cap_trace.specs.Entry.{free_text}
 use Rattle.cap_trace.proofs.QuickLines.{last, call_after}

@@ -17,8 +17,8 @@ pub returns-in-Ok : goal.returns-in-Ok
 returns-in-Ok g c = λ known has.
     let count = c.count-count.ensures.lines known has in
     let room : length known.entries < 1000000 = omega arith in (
-      one_more known c.in-Ok.line,
-      reads known c.args.line.now c.in-Ok.line
+      one_more known c.in-Ok.read,
+      reads known c.args.line.now c.in-Ok.read
           (sym c.is_skipped.ensures ∙ c.if-is_skipped.false) room c.in-Ok.ensures.read,
       c.keep_fd_line.ensures known has count,
     )
@@ -26,4 +26,4 @@ returns-in-Ok g c = λ known has.
 pub returns-in-Err : goal.returns-in-Err
 returns-in-Err g c = λ known has.
     let count = c.count-count.ensures.lines known has in
-    rw (sym c.in-Err.ensures.unread) (c.keep_unread.ensures known has count)
+    c.keep_unread.ensures known has count

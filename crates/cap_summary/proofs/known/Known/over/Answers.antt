@@ -7,23 +7,23 @@ use Rattle.cap_summary.specs.Conditions.{any_holds}
 use Rattle.cap_summary.proofs.Knowing.{composed, composed_certain, always_found, met_found}
 use Rattle.cap_summary.proofs.known.Known.over.Goals as goal
 
-pub returns-then-one_of : goal.returns-then-one_of
-returns-then-one_of c =
+pub returns-then-one_of-clause-composed : goal.returns-then-one_of-clause-composed
+returns-then-one_of-clause-composed c =
     composed_certain c.args.a.now c.args.b.now c.certain.result
     (subst (λ (r : Change). JoinsTo c.args.a.now.change c.args.b.now.change r) (sym c.certain.ensures.change) c.requires)
     (λ s. always_found c.args.a.now c.args.b.now s (sym c.one_of.ensures ∙ c.if-one_of.true))
     c.certain.ensures.always c.certain.ensures.conditions c.certain.ensures.sized
 
-pub returns-then-met : goal.returns-then-met
-returns-then-met c =
+pub returns-then-met-clause-composed : goal.returns-then-met-clause-composed
+returns-then-met-clause-composed c =
     composed_certain c.args.a.now c.args.b.now c.certain-then-met.result
     (subst (λ (r : Change). JoinsTo c.args.a.now.change c.args.b.now.change r) (sym c.certain-then-met.ensures.change) c.requires)
     (λ (s : State). met_found c.args.a.now c.args.b.now s
     (sym (c.in_ok-met.ensures.holds s) ∙ ap (λ r. r || any_holds s c.in_ok-met.moved) c.if-met.true))
     c.certain-then-met.ensures.always c.certain-then-met.ensures.conditions c.certain-then-met.ensures.sized
 
-pub returns : goal.returns
-returns c =
+pub returns-clause-composed : goal.returns-clause-composed
+returns-clause-composed c =
     let whole : Known = record {
       change = c.args.change;
       always = false;

@@ -6,31 +6,41 @@ use Rattle.cap_summary.specs.Knows.{Composes, IsLike}
 use Rattle.cap_summary.proofs.Knowing.{joins_right, composed_right, composed_certain, always_found}
 use Rattle.cap_summary.proofs.known.Known.with_right.Goals as goal
 
-pub returns-then-one_of : goal.returns-then-one_of
-returns-then-one_of c =
+pub returns-in-All-clause-composed : goal.returns-in-All-clause-composed
+returns-in-All-clause-composed c =
+    let like : IsLike c.args.other.now c.args.second.now = rw c.in-All.is at c.requires.like in
+    let here : Composes c.args.first.now c.args.other.now c.args.whole.now.value =
+    composed_right c.args.first.now c.args.second.now c.args.whole.now.value c.args.other.now
+    c.requires.composed like in
+    subst (λ (r : Known). Composes c.args.first.now c.args.other.now r) (sym c.in_ok-clone.ensures.cases) here
+
+pub returns-then-one_of-clause-composed : goal.returns-then-one_of-clause-composed
+returns-then-one_of-clause-composed c =
     let joins : JoinsTo c.args.first.now.change c.args.other.now.change c.args.whole.now.value.change =
     joins_right c.args.first.now.change c.args.second.now.change c.args.whole.now.value.change c.args.other.now.change
-    c.requires.composed.changes (c.is_like.ensures c.if-not-is_like.false) in
-    composed_certain c.args.first.now c.args.other.now c.in_ok-new.new.value
-    (subst (λ (r : Change). JoinsTo c.args.first.now.change c.args.other.now.change r) (sym c.in_ok-new.ensures.change) joins)
+    c.requires.composed.changes (c.changes_alike.ensures c.if-not-changes_alike.false) in
+    composed_certain c.args.first.now c.args.other.now c.in_ok-new.new.0.value
+    (subst (λ (r : Change). JoinsTo c.args.first.now.change c.args.other.now.change r)
+    (sym c.in_ok-new.ensures.change) joins)
     (λ s. always_found c.args.first.now c.args.other.now s (sym c.one_of.ensures ∙ c.if-one_of.true))
     c.in_ok-new.ensures.always c.in_ok-new.ensures.conditions c.in_ok-new.ensures.sized
 
-pub returns-then-finds_alike : goal.returns-then-finds_alike
-returns-then-finds_alike c =
+pub returns-then-finds_alike-clause-composed : goal.returns-then-finds_alike-clause-composed
+returns-then-finds_alike-clause-composed c =
     let like : IsLike c.args.other.now c.args.second.now = record {
-      change = c.is_like.ensures c.if-not-is_like.false;
+      change = c.changes_alike.ensures c.if-not-changes_alike.false;
       always = c.finds_alike.ensures.always c.if-finds_alike.true;
       conditions = c.finds_alike.ensures.conditions c.if-finds_alike.true;
     } in
     let here : Composes c.args.first.now c.args.other.now c.args.whole.now.value =
-    composed_right c.args.first.now c.args.second.now c.args.whole.now.value c.args.other.now c.requires.composed like in
-    subst (λ (r : Known). Composes c.args.first.now c.args.other.now r) (sym c.in_ok-clone.ensures.cases) here
+    composed_right c.args.first.now c.args.second.now c.args.whole.now.value c.args.other.now
+    c.requires.composed like in
+    subst (λ (r : Known). Composes c.args.first.now c.args.other.now r) (sym c.in_ok-clone-2.ensures.cases) here
 
 pub over-requires : goal.over-requires
 over-requires c =
     let joins : JoinsTo c.args.first.now.change c.args.other.now.change c.args.whole.now.value.change =
     joins_right c.args.first.now.change c.args.second.now.change c.args.whole.now.value.change c.args.other.now.change
-    c.requires.composed.changes (c.is_like.ensures c.if-not-is_like.false) in
+    c.requires.composed.changes (c.changes_alike.ensures c.if-not-changes_alike.false) in
     subst (λ (r : Change). JoinsTo c.args.first.now.change c.args.other.now.change r)
     (sym (c.in_ok-share.ensures ∙ ap (λ (r : Known). r.change) c.deref.ensures)) joins

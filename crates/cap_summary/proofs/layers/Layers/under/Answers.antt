@@ -11,6 +11,8 @@ pub returns : goal.returns
 returns c = rw c.in_ok-lower.ensures (λ f.
     let old = c.args.self.now in
     let lower = passed_value old.passing old.closed_from old.lower f in
-    ap (λ (o : Option Value). or_else o lower) (rw (c.entries-own.ensures.all, c.entries-over.ensures.all) at (c.in_ok-top.ensures.each f))
+    ap (λ (o : Option Value). or_else o lower)
+    (rw (c.behind.ensures, c.entries-own.ensures.all, c.entries-over.ensures.all) at
+    (c.in_ok-top.ensures.each f))
     ∙ or_or (option_map (under c.args.change.now) (kept_values (found c.args.others.now f)))
     (kept_values (found old.top f)) lower)

@@ -10,6 +10,7 @@ use Rattle.cap_machine.specs.Table.{start_state}
 use Rattle.cap_machine.proofs.Turns.{ends_in_turn}
 use Rattle.cap_summary.specs.Content.{content_steps}
 use Rattle.cap_summary.specs.Positions.{within}
+use Rattle.cap_summary.proofs.Runs.{same_steps}
 use Rattle.cap_summary.proofs.Resolving.{found_parts}
 use Rattle.cap_summary.proofs.node.Node.+judge.Goals as goal
 
@@ -17,11 +18,11 @@ pub returns-in_ok-judge-in-Both-clause-found : goal.returns-in_ok-judge-in-Both-
 returns-in_ok-judge-in-Both-clause-found t c =
     let s : State = start_state c.args.machine.now in
     let old : List Found = c.args.found.now.items in
-    let a : List Step = c.in-Both.a.value in
-    let b : List Step = c.in-Both.b.value in
+    let a : List Step = c.in-Both.a.value.steps in
+    let b : List Step = c.in-Both.b.value.steps in
     let from : ℕ = c.args.asked.now.from in
     let to : ℕ = c.args.asked.now.to in
-    let parts : a ++ b ≡ c.args.self.now = sym (ap content_steps c.in-Both.is) ∙ c.self.view_is in
+    let parts : a ++ b ≡ c.args.self.now.steps = sym (ap content_steps c.in-Both.is) ∙ same_steps c.self.view_is in
     let first : c.judge.new.found.items ≡ old ++ within from to (map (later c.args.at) (check s a)) =
     rw c.deref-in-Both.ensures at c.in_ok-judge-in-Both.ensures.found in
     let moved : start_state c.judge.new.machine ≡ ended s a =
@@ -35,9 +36,9 @@ returns-in_ok-judge-in-Both-clause-found t c =
 pub returns-in_ok-judge-in-Both-clause-moves : goal.returns-in_ok-judge-in-Both-clause-moves
 returns-in_ok-judge-in-Both-clause-moves t c =
     let s : State = start_state c.args.machine.now in
-    let a : List Step = c.in-Both.a.value in
-    let b : List Step = c.in-Both.b.value in
-    let parts : a ++ b ≡ c.args.self.now = sym (ap content_steps c.in-Both.is) ∙ c.self.view_is in
+    let a : List Step = c.in-Both.a.value.steps in
+    let b : List Step = c.in-Both.b.value.steps in
+    let parts : a ++ b ≡ c.args.self.now.steps = sym (ap content_steps c.in-Both.is) ∙ same_steps c.self.view_is in
     let moved : start_state c.judge.new.machine ≡ ended s a =
     rw c.deref-in-Both.ensures at c.in_ok-judge-in-Both.ensures.moves in
     rw (← parts) (on_ok_weaker c.judge-in-Both.result (λ last.

@@ -4,6 +4,7 @@ use Rattle.cap_tree.specs.Run.{values}
 use Rattle.cap_summary.specs.declared.known.Known.{Known}
 use Rattle.cap_summary.specs.Content.{content_steps}
 use Rattle.cap_summary.specs.Knows.{Knows, Composes}
+use Rattle.cap_summary.proofs.Runs.{same_steps}
 use Rattle.cap_summary.proofs.Knowing.{composed_knows}
 use Rattle.cap_summary.proofs.node.Node.as_run.Goals as goal
 
@@ -12,12 +13,14 @@ invariant_of-node c =
     let a : Known = c.in-Some-Some.a.value in
     let b : Known = c.in-Some-Some.b.value in
     let whole : Known = c.in_ok-known.known in
-    let t : List Step = c.args.left.now in
-    let u : List Step = c.args.right.now in
-    let front : values c.in-Run-Run.front.items ≡ t = sym (ap content_steps c.in-Run-Run.is-0) ∙ c.left.view_is in
-    let back : values c.in-Run-Run.back.items ≡ u = sym (ap content_steps c.in-Run-Run.is-1) ∙ c.right.view_is in
-    let left : Knows a t = rw (c.in-Some-Some.is-0, c.left.view_is) at c.left.invariant.known in
-    let right : Knows b u = rw (c.in-Some-Some.is-1, c.right.view_is) at c.right.invariant.known in
+    let t : List Step = c.args.left.now.steps in
+    let u : List Step = c.args.right.now.steps in
+    let front : values c.in-Run-Run.front.items ≡ t =
+    sym (ap content_steps c.in-Run-Run.is-0) ∙ same_steps c.left.view_is in
+    let back : values c.in-Run-Run.back.items ≡ u =
+    sym (ap content_steps c.in-Run-Run.is-1) ∙ same_steps c.right.view_is in
+    let left : Knows a t = rw (c.in-Some-Some.is-0, same_steps c.left.view_is) at c.left.invariant.known in
+    let right : Knows b u = rw (c.in-Some-Some.is-1, same_steps c.right.view_is) at c.right.invariant.known in
     let composes : Composes a b whole = rw (c.deref.ensures, c.deref-2.ensures) at c.in_ok-known.ensures in
     let run : values c.in_ok-run.run'.items ≡ t ++ u =
     rw (c.deref-3.ensures.value, c.deref-4.ensures.value) at c.in_ok-run.ensures
@@ -30,7 +33,6 @@ invariant_of-node c =
       parts = tt;
       few = omega (arith, c.if-len-gt-RUN_STEPS.false);
       known = rw (c.in_ok-new.ensures.ok, run) knows;
-      known_parts = tt;
       wide = tt;
       long = tt;
       many = tt;

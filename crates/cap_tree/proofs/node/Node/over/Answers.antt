@@ -13,6 +13,7 @@ invariant_of-node g c =
     let wide = pow-above left.1 right.1 (length left.0) (length right.0) c.requires.balanced a.wide b.wide in
     record {
       sums_up = c.requires.stands;
+      composed = c.requires.composed;
       balanced = omega arith;
       fits = tt;
       lower = omega (arith, a.lower, b.lower);

@@ -3,8 +3,8 @@ use Rattle.cap_summary.specs.Packed.{low_condition, low_conditions, packed_condi
 use Rattle.cap_summary.proofs.Gathering.{more_behind, shown_more_within}
 use Rattle.cap_summary.proofs.packed.gathered.Gathered.add_low.Goals as goal
 
-pub returns-then-not-goes_on : goal.returns-then-not-goes_on
-returns-then-not-goes_on c =
+pub returns-then-place-self : goal.returns-then-place-self
+returns-then-place-self c =
     let old = c.self.inside in
     let others = packed_conditions old.others.items in
     rw (← c.self.view_is) (more_behind (low_conditions old.rising.items) (low_conditions old.strays.items ++ others)
