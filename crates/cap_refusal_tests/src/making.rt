@@ -2,7 +2,9 @@
 
 use crate::marks::Mark;
 use cap_machine::{Finding, NoMemory, put_count, put_finding};
-use cap_trace::{Answer, Call, Fd, Item, Line, LineFault, Path, fds_of, parse_line, write_line};
+use cap_trace::{
+    Answer, Call, Fd, Fds, Item, Line, LineFault, Path, fds_of, parse_line, write_line,
+};
 use std::alloc::Global;
 use std::test::Fail;
 
@@ -12,13 +14,15 @@ enum Part {
     Path,
     Escaped,
     Unescaped,
+    Fds,
 }
 
 /// Parts, and their bytes.
-static PARTS: [(Part, &[u8]); 3] = [
+static PARTS: [(Part, &[u8]); 4] = [
     (Part::Path, b"a/long/path\\x0ab"),
     (Part::Escaped, b"a/long/path\\x0ab\\\""),
     (Part::Unescaped, b"a/long/path\nb"),
+    (Part::Fds, b"0,3,17"),
 ];
 
 /// A copy of these bytes.
@@ -29,7 +33,7 @@ fn copied(alloc: Global, bytes: &[u8]) -> Result<Vec<u8>, LineFault> {
     }
 }
 
-/// The bytes of a path that is made in one of three ways.
+/// The bytes of a part that is made.
 fn bytes_of(alloc: Global, part: Part) -> Result<Vec<u8>, LineFault> {
     match part {
         Part::Escaped => copied(alloc, Path::escape(alloc, b"a/long/path\nb\"")?.as_bytes()),
@@ -38,6 +42,7 @@ fn bytes_of(alloc: Global, part: Part) -> Result<Vec<u8>, LineFault> {
             Err(_) => Err(LineFault::Memory),
         },
         Part::Path => copied(alloc, Path::new(alloc, b"a/long/path\\x0ab")?.as_bytes()),
+        Part::Fds => copied(alloc, Fds::new(alloc, &[0, 3, 17])?.as_bytes()),
     }
 }
 

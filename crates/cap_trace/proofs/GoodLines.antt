@@ -1,7 +1,8 @@
 -- A line whose fields are good, and whose text isn't too long, is one that some bytes spell, and none else is.
 use Rattle.std.proofs.Common.{◌≡◌, ℕ, ◌+◌, ◌≤◌, ◌&&◌, Bool, true, false, eqb, ltb, leb, List, [], ◌∷◌, length, map, sym, ◌∙◌}
-use Rattle.std.proofs.Common.{Option, Some, None, refl, ap}
+use Rattle.std.proofs.Common.{Option, Some, None, Ok, refl, ap}
 use Rattle.std.specs.Prelude.{is_none}
+use Rattle.std.specs.List.{join_with_byte}
 use Rattle.std.proofs.lemmas.Bool.{eqb-true, lt-ltb, le-leb}
 use borrow.Author.Tests.{ltb-true, leb-true}
 use Rattle.cap_rights.specs.Text.{names, text}
@@ -23,7 +24,11 @@ use Rattle.cap_trace.specs.Entry.{IsAnswer, IsWhole, RisesFrom}
 use Rattle.cap_trace.specs.Spelling.{SpellsArg, SpellsArgs, SpellsBy, IsHead, IsProper, arg_text, canon}
 use Rattle.cap_trace.specs.Making.{is_fd, is_pid, is_good, are_good, is_head, is_answer, all_rise, is_good_item}
 use Rattle.cap_trace.specs.Making.{is_same_set, is_named, has_named_rights}
-use Rattle.cap_trace.proofs.Cuts.{both, both_true, eqb_same}
+use Rattle.cap_trace.specs.Reading.{fds_from}
+use Rattle.cap_trace.specs.Seen.{fds_in, fds_spelled}
+use Rattle.cap_trace.proofs.Cuts.{both, both_true, eqb_same, pieces_again}
+use Rattle.cap_trace.proofs.Spelled.{ok_is, args_parts, fds_again, fds_closed}
+use Rattle.cap_trace.proofs.Rising.{failure, rising_listed}
 use Rattle.cap_trace.proofs.Canonical.{canon_spells}
 
 fd_from : (f : ℕ) → is_fd f ≡ true → IsFd f
@@ -199,6 +204,15 @@ rise_to low [] (f ∷ fs) h r = absurd h
 rise_to low (t ∷ ts) (f ∷ fs) h r =
     both_true (leb low f && is_fd f) (all_rise (f + 1) fs)
     (both_true (leb low f) (is_fd f) (le-leb low f r.0) (fd_to f h.0.1)) (rise_to (f + 1) ts fs h.1 r.1)
+
+-- what is written of descriptors that rise spells them
+pub fds_written : (fs : List ℕ) → all_rise 0 fs ≡ true → fds_spelled (join_with_byte 44 (map arg_text (fds fs))) ≡ fs
+fds_written fs h =
+    let k = rise_from 0 fs h in
+    let again : fds_from 0 (map arg_text (fds fs)) ≡ Ok fs = fds_again 0 (map arg_text (fds fs)) fs k.0 k.1 in
+    ap fds_in (pieces_again (map arg_text (fds fs)) (args_parts (map arg_text (fds fs)) (fds fs) (fds_closed fs) k.0))
+    ∙ ok_is (fds_in (map arg_text (fds fs))) fs
+    (sym (rising_listed 0 (map arg_text (fds fs)) (ap failure again)) ∙ again)
 
 -- ---- an item
 

@@ -1,6 +1,6 @@
 -- Making the parts of a line, and a line, of what a producer of traces knows.
 use Rattle.std.specs.Prelude.{◌≡◌, ℕ, ◌+◌, ◌^◌, ◌==◌, ◌&&◌, Bool, true, false, List, [], ◌∷◌, Option, Some, None}
-use Rattle.std.specs.Prelude.{Result, Ok, Err, nat_le, nat_lt, is_none, length, IsTrue}
+use Rattle.std.specs.Prelude.{Result, Ok, Err, nat_le, nat_lt, is_none, IsTrue}
 use Rattle.std.specs.List.{list_all}
 use Rattle.cap_rights.specs.Text.{names, text}
 use Rattle.cap_trace.specs.declared.fault.LineFault.{LineFault}
@@ -13,12 +13,12 @@ use Rattle.cap_trace.specs.declared.line.Answer.TheVariants as answers
 use Rattle.cap_trace.specs.declared.line.Dir.TheVariants as dirs
 use Rattle.cap_trace.specs.declared.calls.Kind.{Kind}
 use Rattle.cap_trace.specs.declared.calls.Kind.TheVariants.{Count, Zero, Fd, Same, FdPair, Child, ChildAndFd, Any}
-use Rattle.cap_trace.specs.Limits.{longest_line, largest_pid, largest_fd, largest_errno}
+use Rattle.cap_trace.specs.Limits.{largest_pid, largest_fd, largest_errno}
 use Rattle.cap_trace.specs.Names.{Head, listed, unlisted, is_name, form_named}
 use Rattle.cap_trace.specs.Fields.{is_flags, are_items, is_free}
 use Rattle.cap_trace.specs.Entry.{Entry, Arg, an_fd, a_dir, some_flags, some_rights, a_path, a_command, a_word}
 use Rattle.cap_trace.specs.Entry.{free_text, args_of_call, head_of_call, kind_of}
-use Rattle.cap_trace.specs.Spelling.{is_command, canon, IsProper}
+use Rattle.cap_trace.specs.Spelling.{is_command, IsProper}
 
 -- the value, exactly where its text is good, and else this fault; memory runs out only for a good one
 abbrev pub MakesWhere : {A : Type 0} → Bool → LineFault → A → Result A LineFault → Type 0

@@ -2,29 +2,34 @@
 
 ghost use Rattle.std.specs.Prelude.{◌≡◌, ◌&&◌, IfOk, length, nat_le};
 ghost use Rattle.std.specs.List.{list_all};
+ghost use Rattle.cap_trace.specs.declared.fault.LineFault.TheVariants.{Argument};
 ghost use Rattle.cap_trace.specs.declared.line.Answer.TheVariants as answers;
+ghost use Rattle.cap_trace.specs.Seen.{fds_spelled};
 ghost use Rattle.cap_trace.specs.Names.{unlisted};
 ghost use Rattle.cap_trace.specs.Entry.{args_of_call, head_of_call};
 ghost use Rattle.cap_trace.specs.Seen.{arg_seen, call_seen, item_seen};
 ghost use Rattle.cap_trace.specs.Limits.{longest_line};
 ghost use Rattle.cap_trace.specs.Spelling.{canon};
-ghost use Rattle.cap_trace.specs.Making.{IsLineOf, is_fd, is_pid, is_good, are_good, is_head, is_answer};
+ghost use Rattle.cap_trace.specs.Making.{MakesWhere, IsLineOf, is_fd, is_pid, is_good, are_good, is_head, is_answer};
 ghost use Rattle.cap_trace.specs.Making.{all_rise, is_good_item, is_named, has_named_rights};
 
 use crate::args::ArgSeen;
 use crate::calls::Kind;
+use crate::fault::LineFault;
 use crate::few::Few;
-use crate::fields::{command, flags, free, items};
+use crate::fields::{items, spells_arguments, spells_command, spells_flags};
 use crate::limits::{LARGEST_FD, LARGEST_PID, LONGEST_LINE};
 use crate::line::{Answer, Call, Dir, Fd, Item, Line, Pid};
 use crate::names::{form_of, is_call_name};
 use crate::seen::fds_of;
-use crate::write::put_text;
+use crate::write::{put_fds, put_text};
 use cap_rights::{NoMemory, RightSet, parse_rights, write_rights};
 use std::alloc::Global;
+use std::marker::Model;
 
-/// Whether a text is a name of a call that has no form of its own.
-fn is_other_name(text: &[u8]) -> bool
+/// Whether a text is the name of a call that has no form of its own: of `a` to `z`, `0` to `9` and `_`, not beginning
+/// with a digit, and no name that has a form.
+pub fn spells_name(text: &[u8]) -> bool
     ensures { result ≡ is_head (unlisted text.now) }
 {
     is_call_name(text) && form_of(text).is_none()
@@ -63,10 +68,10 @@ fn arg_fits(arg: &ArgSeen<'_>) -> bool
 {
     match arg {
         ArgSeen::Fd(fd) | ArgSeen::Dir(Dir::Fd(fd)) => fd_fits(*fd),
-        ArgSeen::Flags(text) => flags(text),
+        ArgSeen::Flags(text) => spells_flags(text),
         ArgSeen::Path(text) => items(text),
-        ArgSeen::Command(text) => command(text),
-        ArgSeen::Free(text) => free(text),
+        ArgSeen::Command(text) => spells_command(text),
+        ArgSeen::Free(text) => spells_arguments(text),
         ArgSeen::Dir(Dir::Cwd)
         | ArgSeen::Rights(_)
         | ArgSeen::Dest
@@ -98,7 +103,7 @@ fn name_fits(call: &Call<'_>) -> bool
     ensures { result ≡ is_head (head_of_call (call_seen call.now)) }
 {
     match call {
-        Call::Other(name, _) => is_other_name(name),
+        Call::Other(name, _) => spells_name(name),
         _ => true,
     }
 }
@@ -199,6 +204,48 @@ fn is_short(text: &[u8]) -> bool
     ensures { result ≡ nat_le (length text.now) longest_line }
 {
     text.len() <= LONGEST_LINE
+}
+
+/// Descriptors, each above the one before it, as a start spells them ([`Item::Start`]).
+#[derive(Debug, Drop)]
+pub struct Fds {
+    text: Vec<u8>,
+}
+
+impl Model for Fds {
+    ghost use Rattle.std.specs.Prelude.{List, ℕ};
+    ghost use Rattle.cap_trace.specs.Seen.{fds_spelled};
+
+    ghost Value = { List ℕ };
+
+    ghost view = { λ f. fds_spelled f.text.items };
+}
+
+impl Fds {
+    /// These descriptors, each of which is at most 1,048,575 and above the one before it.
+    ///
+    /// # Errors
+    ///
+    /// [`LineFault::Argument`] where one is not; [`LineFault::Memory`] where memory ran out.
+    pub fn new(alloc: Global, fds: &[Fd]) -> Result<Fds, LineFault>
+        ensures { MakesWhere (all_rise 0 fds.now) Argument fds.now result }
+    {
+        if !rise(fds) {
+            return Err(LineFault::Argument);
+        }
+        let mut text = Vec::new(alloc);
+        match put_fds(fds, &mut text) {
+            Ok(()) => Ok(Fds { text }),
+            Err(_) => Err(LineFault::Memory),
+        }
+    }
+
+    /// How they are spelled, with commas between them.
+    pub fn as_bytes(&self) -> &[u8]
+        ensures { fds_spelled result.now ≡ self.now }
+    {
+        &self.text
+    }
 }
 
 impl Line {

@@ -6,7 +6,7 @@ ghost use Rattle.cap_trace.specs.Reading.{Gives, pid_at, fd_at, rights_at, dir_a
 ghost use Rattle.cap_trace.specs.Reading.{free_at};
 
 use crate::fault::FirstFault;
-use crate::fields::{command, flags, free, items};
+use crate::fields::{items, spells_arguments, spells_command, spells_flags};
 use crate::limits::{LARGEST_FD, LARGEST_PID};
 use crate::line::{Dir, Fd, Pid};
 use crate::number::number_of;
@@ -54,14 +54,18 @@ pub(crate) fn dir_of(text: &[u8]) -> Result<Dir, FirstFault>
 pub(crate) fn flags_of(text: &[u8]) -> Result<&[u8], FirstFault>
     ensures { Gives (λ f. f.now) result (flags_at text.now) }
 {
-    flags(text).then_some(text).ok_or(FirstFault::Argument)
+    spells_flags(text)
+        .then_some(text)
+        .ok_or(FirstFault::Argument)
 }
 
 #[tactic(auto, unfolding(crate::specs::Reading::command_at))]
 pub(crate) fn command_of(text: &[u8]) -> Result<&[u8], FirstFault>
     ensures { Gives (λ c. c.now) result (command_at text.now) }
 {
-    command(text).then_some(text).ok_or(FirstFault::Argument)
+    spells_command(text)
+        .then_some(text)
+        .ok_or(FirstFault::Argument)
 }
 
 /// What stands between the quotes.
@@ -82,5 +86,7 @@ pub(crate) fn path_of(text: &[u8]) -> Result<&[u8], FirstFault>
 pub(crate) fn free_of(text: &[u8]) -> Result<&[u8], FirstFault>
     ensures { Gives (λ a. a.now) result (free_at text.now) }
 {
-    free(text).then_some(text).ok_or(FirstFault::Shape)
+    spells_arguments(text)
+        .then_some(text)
+        .ok_or(FirstFault::Shape)
 }

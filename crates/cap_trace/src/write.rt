@@ -109,7 +109,7 @@ fn put_other_fds(others: &[Fd], out: &mut Vec<u8>) -> Result<(), AllocError>
 }
 
 /// Descriptors, with commas between them.
-fn put_fds(fds: &[Fd], out: &mut Vec<u8>) -> Result<(), AllocError>
+pub(crate) fn put_fds(fds: &[Fd], out: &mut Vec<u8>) -> Result<(), AllocError>
     ensures ok { OnOk result (out.new.items ≡ out.old.items ++ join_with_byte 44 (map arg_text (fd_args fds.now))) }
     ensures err { OnErr result (take (length out.old.items) out.new.items ≡ out.old.items) }
 {

@@ -1,10 +1,10 @@
 //! Worked lines: boundaries, refused lines, each name once, and what a line that was read says.
 
 use cap_trace::{
-    Answer, Call, Dir, FdCall, Item, LONGEST_LINE, Line, LineFault, LineRef, Path, PathCall,
+    Answer, Call, Dir, FdCall, Fds, Item, LONGEST_LINE, Line, LineFault, LineRef, Path, PathCall,
     faults_are_of_their_fields, fds_of, has_fd, number_of, one_line, one_path,
-    only_rights_are_rewritten, parse_fd_line, parse_line, reading_is_spelling, write_line,
-    written_is_read,
+    only_rights_are_rewritten, parse_fd_line, parse_line, reading_is_spelling, spells_arguments,
+    spells_command, spells_flags, spells_name, write_line, written_is_read,
 };
 use std::alloc::Global;
 use std::test::Fail;
@@ -473,7 +473,8 @@ fn a_rename_between_directories_is_made(rt: HostRuntime) -> Result<(), Fail> {
 fn a_start_is_made(rt: HostRuntime) -> Result<(), Fail> {
     // Names the type of a part of an item, which the check has to be told.
     let _none: Option<Call<'_>> = None;
-    let text = made(rt.alloc(), 7, &Item::Start(b"0,3"))?;
+    let fds = Fds::new(rt.alloc(), &[0, 3])?;
+    let text = made(rt.alloc(), 7, &Item::Start(fds.as_bytes()))?;
     assert_eq!(rt; text.as_slice(), b"7 @start(0,3)".as_slice());
     Ok(())
 }
@@ -537,6 +538,19 @@ fn bad_paths_are_not_made(rt: HostRuntime) {
     let alloc = rt.alloc();
     assert_eq!(rt; refused(Path::new(alloc, b"a\"b")), 4);
     assert_eq!(rt; refused(Path::escape(alloc, b"a\0b")), 4);
+}
+
+#[test]
+fn descriptors_that_do_not_rise_are_not_made(rt: HostRuntime) {
+    assert_eq!(rt; refused(Fds::new(rt.alloc(), &[3, 3])), 4);
+}
+
+#[test]
+fn texts_are_tested_by_their_kind(rt: HostRuntime) {
+    assert!(rt; spells_flags(b"O_RDONLY|O_CLOEXEC") && !spells_flags(b"O_RDONLY|"));
+    assert!(rt; spells_command(b"F_GETFL") && !spells_command(b"F_SETFD"));
+    assert!(rt; spells_name(b"kevent") && !spells_name(b"read"));
+    assert!(rt; spells_arguments(b"3,0") && !spells_arguments(b"3)"));
 }
 
 #[test]
