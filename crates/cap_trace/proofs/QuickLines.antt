@@ -1,5 +1,5 @@
 -- What is read in one pass is what the line spells.
-use Rattle.std.proofs.Common.{◌≡◌, ℕ, ◌≤◌, List, [], ◌∷◌, ◌++◌, length, Some, Result, Ok, refl, sym, ap, subst, ◌∙◌}
+use Rattle.std.proofs.Common.{◌≡◌, ℕ, ◌≤◌, List, [], ◌∷◌, ◌++◌, length, Some, Result, Ok, Err, refl, sym, ap, subst, ◌∙◌}
 use Rattle.std.proofs.Common.{append_assoc, Bool, true, false, not, cond, eqb}
 use Rattle.std.proofs.Common.{◌&&◌, ◌-◌, take, drop, None, arith}
 use Rattle.std.proofs.lemmas.List.{take-append-drop, take_all, length-drop}
@@ -23,12 +23,13 @@ use Rattle.cap_trace.specs.Spelling.{Spells, SpellsArg, SpellsArgs, IsHead}
 use Rattle.cap_trace.specs.Quotes.{cut_at_byte}
 use Rattle.cap_trace.specs.declared.fault.FirstFault.{FirstFault}
 use Rattle.cap_trace.specs.declared.line.Dir.{Dir}
-use Rattle.cap_trace.specs.Reading.{◌>>=◌, dir_at, rights_at, command_at, free_at}
+use Rattle.std.specs.Result.{result_ok}
+use Rattle.cap_trace.specs.Reading.{Gives, ◌>>=◌, dir_at, rights_at, command_at, free_at}
 use Rattle.cap_trace.specs.Reading.{arg_at, answer_at, line_of}
 use Rattle.cap_trace.specs.Forms.{Slot, dir, rights, command, free}
 use Rattle.cap_trace.specs.Quick.{Before, Between, SpellsAfter, Starts}
 use Rattle.cap_trace.proofs.Cuts.{both, cut_takes}
-use Rattle.cap_trace.proofs.Heads.{head_takes}
+use Rattle.cap_trace.proofs.Heads.{head_takes, some_is}
 use Rattle.cap_trace.proofs.Spelled.{arg_takes}
 use Rattle.cap_trace.proofs.Answered.{answer_takes}
 use Rattle.cap_trace.specs.Runs.{Runs}
@@ -37,6 +38,12 @@ use Rattle.cap_trace.proofs.ByteRuns.{plain_run}
 use Rattle.cap_trace.proofs.WholeLines.{line_again}
 
 -- ---- arguments
+
+-- what a function gave is what reading gives, where the fault is left out
+pub given : {X Y : Type 0} (view : X → Y) (r : Result X FirstFault) (read : Result Y FirstFault) (x : X)
+    → Gives view r read → result_ok r ≡ Some x → read ≡ Ok (view x)
+given view (Ok y) read x g e = g ∙ ap (λ z. Ok (view z)) (some_is y x e)
+given view (Err f) read x g e = absurd cc
 
 -- an argument that is read before a byte
 read_before : (s : Slot) (stop : ℕ) (text t rest : List ℕ) (a : Arg) → Some (t, rest) ≡ cut_at_byte stop text

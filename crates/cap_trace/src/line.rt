@@ -250,10 +250,7 @@ impl Line {
     pub fn name(&self) -> &[u8]
         ensures { result.now ≡ name_of (head_of self.now.item) }
     {
-        match self.seen().item {
-            Item::Call { call, .. } => call.head().name(),
-            marker => marker.head().name(),
-        }
+        self.seen().name()
     }
 }
 

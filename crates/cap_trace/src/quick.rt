@@ -76,11 +76,9 @@ fn fd_before(stop: u8, text: &[u8]) -> Option<(Fd, &[u8])>
 fn dir_before(stop: u8, text: &[u8]) -> Option<(Dir, &[u8])>
     ensures { IfSome result (λ p. Before text.now (a_dir p.0) stop p.1.now) }
 {
-    let (dir, rest) = cut(stop, text)?;
-    match dir_of(dir) {
-        Ok(dir) => Some((dir, rest)),
-        Err(_) => None,
-    }
+    let (part, rest) = cut(stop, text)?;
+    let dir = dir_of(part).ok()?;
+    Some((dir, rest))
 }
 
 /// Names of flags with bars between them before this byte, and what follows the byte.
@@ -116,22 +114,18 @@ fn flags_before(stop: u8, text: &[u8]) -> Option<(&[u8], &[u8])>
 fn command_before(stop: u8, text: &[u8]) -> Option<(&[u8], &[u8])>
     ensures { IfSome result (λ p. Before text.now (a_command p.0.now) stop p.1.now) }
 {
-    let (command, rest) = cut(stop, text)?;
-    match command_of(command) {
-        Ok(command) => Some((command, rest)),
-        Err(_) => None,
-    }
+    let (part, rest) = cut(stop, text)?;
+    let command = command_of(part).ok()?;
+    Some((command, rest))
 }
 
 /// The arguments of a call without a form of its own before this byte, and what follows the byte.
 fn free_before(stop: u8, text: &[u8]) -> Option<(&[u8], &[u8])>
     ensures { IfSome result (λ p. Before text.now (free_text p.0.now) stop p.1.now) }
 {
-    let (args, rest) = cut(stop, text)?;
-    match free_of(args) {
-        Ok(args) => Some((args, rest)),
-        Err(_) => None,
-    }
+    let (part, rest) = cut(stop, text)?;
+    let args = free_of(part).ok()?;
+    Some((args, rest))
 }
 
 /// A path without escapes in its quotes before this byte, and what follows the byte.
@@ -149,10 +143,7 @@ fn path_before(stop: u8, text: &[u8]) -> Option<(&[u8], &[u8])>
 fn answered(kind: Kind, tail: &[u8]) -> Option<Answer>
     ensures { IfSome result (λ a. answer_at kind tail.now ≡ Ok a) }
 {
-    match answer(kind, tail) {
-        Ok(answer) => Some(answer),
-        Err(_) => None,
-    }
+    answer(kind, tail).ok()
 }
 
 /// The number of a few digits that a text spells.
@@ -265,10 +256,8 @@ fn rights_limit(text: &[u8]) -> Option<(Call<'_>, Answer)>
     ensures { IfSome result (λ p. SpellsAfter (listed forms.RightsLimit) text.now (items.Call (call_seen p.0) p.1)) }
 {
     let (fd, rest) = fd_before(b',', text)?;
-    let (rights, tail) = cut(b')', rest)?;
-    let Ok(rights) = rights_of(rights) else {
-        return None;
-    };
+    let (part, tail) = cut(b')', rest)?;
+    let rights = rights_of(part).ok()?;
     let answer = short_answer(Kind::Zero, tail)?;
     Some((Call::RightsLimit(fd, rights), answer))
 }

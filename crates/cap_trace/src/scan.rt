@@ -24,10 +24,10 @@ fn listed_item<'a>(form: Form, rest: &'a [u8]) -> Result<Item<'a>, FirstFault>
         return Err(FirstFault::Shape);
     };
     match said(form, args) {
-        Ok(Said::Call(call)) => match answer(call.kind(), tail) {
-            Ok(answer) => Ok(Item::Call { call, answer }),
-            Err(fault) => Err(fault),
-        },
+        Ok(Said::Call(call)) => {
+            let answer = answer(call.kind(), tail)?;
+            Ok(Item::Call { call, answer })
+        }
         Ok(Said::Marker(item)) if tail.is_empty() => Ok(item),
         Ok(Said::Marker(_)) => Err(FirstFault::Shape),
         Err(fault) => Err(fault),
@@ -43,10 +43,10 @@ fn unlisted_item<'a>(name: &'a [u8], rest: &'a [u8]) -> Result<Item<'a>, FirstFa
         return Err(FirstFault::Shape);
     };
     match other(name, args) {
-        Ok(call) => match answer(call.kind(), tail) {
-            Ok(answer) => Ok(Item::Call { call, answer }),
-            Err(fault) => Err(fault),
-        },
+        Ok(call) => {
+            let answer = answer(call.kind(), tail)?;
+            Ok(Item::Call { call, answer })
+        }
         Err(fault) => Err(fault),
     }
 }
