@@ -1,6 +1,9 @@
 -- What is known of a step, and of a segment and then another.
 use Rattle.std.proofs.Common.{◌≡◌, ℕ, List, [], ◌∷◌, ◌++◌, Bool, true, false, ◌||◌, ◌&&◌, length, map, refl, sym, ap}
-use Rattle.std.proofs.Common.{◌∙◌, subst, cond}
+use Rattle.std.proofs.Common.{◌∙◌, subst, cond, Option, Some, None}
+use Rattle.std.specs.declared.alloc.Global.{Global}
+use Rattle.std.specs.declared.rc.Rc.{Rc}
+use Rattle.std.specs.Prelude.{IfSome}
 use Rattle.std.proofs.lemmas.Bool.{eq-eqb}
 use Rattle.std.specs.List.{list_any, All}
 use Rattle.std.proofs.lemmas.List.Folds.{list_any-append}
@@ -35,7 +38,7 @@ use Rattle.cap_summary.specs.Names.{EffectWithin}
 use Rattle.cap_summary.specs.Sizes.{IsSized, NamesMany, ListMuch}
 use Rattle.cap_summary.specs.Conditions.{any_holds, has_any}
 use Rattle.cap_summary.specs.LineConditions.{line_always, line_conditions}
-use Rattle.cap_summary.specs.Knows.{Knows, Composes, IsLike, finds}
+use Rattle.cap_summary.specs.Knows.{Knows, Composes, IsLike, IsMoved, finds}
 use Rattle.cap_summary.proofs.Bools.{or_true, or_false}
 use Rattle.cap_summary.proofs.Untouched.{first_true, second_true}
 use Rattle.cap_summary.proofs.Holding.{has_any-append, has_any-map, line_holds}
@@ -149,33 +152,37 @@ met_found a b s met =
 -- the whole needs no condition then
 pub composed_certain : (a b whole : Known) → JoinsTo a.change b.change whole.change →
     ((s : State) → (finds a s || finds b (changed a.change s)) ≡ true) → whole.always ≡ true
-    → whole.conditions ≡ [] → IsSized whole → Composes a b whole
-composed_certain a b whole joins found always none sized = record {
+    → whole.conditions ≡ [] → whole.moved ≡ None → IsSized whole → Composes a b whole
+composed_certain a b whole joins found always none unmoved sized = record {
   changes = joins;
   found = λ s. ap (λ r. r || any_holds s whole.conditions) always ∙ sym (found s);
   asked = λ names change first second. subst (ConditionsWithin names) (sym none)
       (All-nil (λ (condition : Condition). condition_within names condition ≡ true));
+  moved = subst (λ (o : Option (Rc (List Condition) Global)). IfSome o (λ kept. IsMoved a.change b.conditions kept.value)) (sym unmoved) tt;
   sized = sized;
 }
 
 -- else its conditions are those of the first and the second's behind the first's change
 pub composed : (a b whole : Known) (moved : List Condition) → JoinsTo a.change b.change whole.change →
-    (a.always || b.always) ≡ false → whole.always ≡ false →
-    ((s : State) → any_holds s moved ≡ any_holds (changed a.change s) b.conditions) →
+    (a.always || b.always) ≡ false → whole.always ≡ false → IsMoved a.change b.conditions moved →
     ((s : State) → any_holds s whole.conditions ≡ (any_holds s a.conditions || any_holds s moved)) →
-    ((names : Names) → ChangeWithin names a.change → ConditionsWithin names b.conditions
-    → ConditionsWithin names moved) →
     ((names : Names) → ConditionsWithin names a.conditions → ConditionsWithin names moved
-    → ConditionsWithin names whole.conditions) → IsSized whole → Composes a b whole
-composed a b whole moved joins parts always behind both behind_asked both_asked sized = record {
+    → ConditionsWithin names whole.conditions) → IfSome whole.moved (λ m. m.value ≡ moved) → IsSized whole → Composes a b whole
+composed a b whole moved joins parts always behind both asked keeps sized = record {
   changes = joins;
   found = λ s. ap (λ r. r || any_holds s whole.conditions) always
       ∙ both s
-      ∙ ap (λ r. any_holds s a.conditions || r) (behind s)
+      ∙ ap (λ r. any_holds s a.conditions || r) (behind.holds s)
       ∙ sym (none_found a.always b.always (any_holds s a.conditions) (any_holds (changed a.change s) b.conditions) parts);
-  asked = λ names change first second. both_asked names first (behind_asked names change second);
+  asked = λ names change first second. asked names first (behind.names names change second);
+  moved = these_moved whole.moved keeps;
   sized = sized;
 }
+  where
+    these_moved : (o : Option (Rc (List Condition) Global)) → IfSome o (λ m. m.value ≡ moved)
+        → IfSome o (λ m. IsMoved a.change b.conditions m.value)
+    these_moved None is = tt
+    these_moved (Some m) is = subst (λ (r : List Condition). IsMoved a.change b.conditions r) (sym is) behind
 
 -- a change that does the same as that of a part stands in its place
 pub joins_left : (a b whole other : Change) → JoinsTo a b whole → DoSame other a → JoinsTo other b whole
@@ -194,6 +201,15 @@ joins_right a b whole other joins same = record {
   names = λ names first second. joins.names names first ((same.names names).0 second);
 }
 
+-- conditions behind a change that does the same
+pub moved_left : (a other : Change) (conditions : List Condition) (o : Option (Rc (List Condition) Global)) → DoSame other a
+    → IfSome o (λ m. IsMoved a conditions m.value) → IfSome o (λ m. IsMoved other conditions m.value)
+moved_left a other conditions None same is = tt
+moved_left a other conditions (Some moved) same is = record {
+  holds = λ s. is.holds s ∙ ap (λ r. any_holds r conditions) (sym (same.changes s));
+  names = λ names change all. is.names names ((same.names names).0 change) all;
+}
+
 -- one that is like a part stands in its place
 pub composed_left : (a b whole other : Known) → Composes a b whole → IsLike other a → Composes other b whole
 composed_left a b whole other composes like = record {
@@ -204,6 +220,7 @@ composed_left a b whole other composes like = record {
       ∙ ap (λ r. finds other s || finds b r) (sym (like.change.changes s));
   asked = λ names change first second. composes.asked names ((like.change.names names).0 change)
       (subst (ConditionsWithin names) like.conditions first) second;
+  moved = moved_left a.change other.change b.conditions whole.moved like.change composes.moved;
   sized = composes.sized;
 }
 
@@ -215,6 +232,8 @@ composed_right a b whole other composes like = record {
       ∙ ap (λ r. finds a s || (r || any_holds (changed a.change s) other.conditions)) (sym like.always);
   asked = λ names change first second. composes.asked names change first
       (subst (ConditionsWithin names) like.conditions second);
+  moved = subst (λ (r : List Condition). IfSome whole.moved (λ m. IsMoved a.change r m.value)) (sym like.conditions)
+      composes.moved;
   sized = composes.sized;
 }
 

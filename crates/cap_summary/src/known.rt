@@ -1,11 +1,11 @@
 //! What is known of a segment, whatever the state before it.
 
-ghost use Rattle.std.specs.Prelude.{◌≡◌, ◌∷◌, [], ◌||◌, true, IfOk, IfSome};
+ghost use Rattle.std.specs.Prelude.{◌≡◌, ◌∷◌, [], ◌||◌, true, false, None, IfOk, IfSome};
 ghost use Rattle.cap_machine.specs.Steps.{step};
 ghost use Rattle.cap_machine.specs.Table.{start_state};
 ghost use Rattle.cap_summary.specs.Changes.{JoinsTo, DoSame};
 ghost use Rattle.cap_summary.specs.Sizes.{IsSizeOf, IsSized, ListMuch};
-ghost use Rattle.cap_summary.specs.Knows.{Knows, Composes, AreAlike, finds, state_after, leaves_cell, leaves_mode};
+ghost use Rattle.cap_summary.specs.Knows.{Knows, Composes, AreAlike, IsMoved, finds, state_after, leaves_cell, leaves_mode};
 
 use crate::before::Before;
 use crate::change::Change;
@@ -28,6 +28,9 @@ pub struct Known {
     /// Where something is found in any case, conditions say no more: of two parts that are joined none is kept then.
     pub(crate) always: bool,
     pub(crate) conditions: Conditions,
+    /// Of two parts, the second's conditions behind the first's change, where they are many: what an edit of the first
+    /// that leaves its change as it was needs again.
+    pub(crate) moved: Option<Rc<Conditions>>,
     size: usize,
     forks: bool,
 }
@@ -51,6 +54,17 @@ fn size_of(change: &Change, conditions: &Conditions) -> (usize, bool)
     (size.saturating_add(conditions.places()), forks)
 }
 
+/// The same conditions, shared, where they are many.
+#[inline]
+fn where_many(alloc: Global, conditions: &Conditions) -> Result<Option<Rc<Conditions>>, NoMemory>
+    ensures { IfOk result (λ o. IfSome o (λ same. same.value ≡ conditions.now)) }
+{
+    if !conditions.are_many() {
+        return Ok(None);
+    }
+    Ok(Some(Rc::new(alloc, conditions.share()?)?))
+}
+
 /// Whether one of the two is so.
 fn one_of(a: bool, b: bool) -> bool
     ensures { result ≡ (a || b) }
@@ -67,6 +81,7 @@ impl Known {
             change: Change::nothing(),
             always: false,
             conditions: Conditions::none(),
+            moved: None,
             size: 0,
             forks: false,
         }
@@ -91,6 +106,7 @@ impl Known {
             change,
             always: always(&rule.demand),
             conditions,
+            moved: None,
             size,
             forks,
         })
@@ -114,6 +130,7 @@ impl Known {
         ensures change { result.change ≡ change }
         ensures always { result.always ≡ true }
         ensures conditions { result.conditions ≡ [] }
+        ensures moved { result.moved ≡ None }
         ensures sized { IsSized result }
     {
         let conditions = Conditions::none();
@@ -122,6 +139,7 @@ impl Known {
             change,
             always: true,
             conditions,
+            moved: None,
             size,
             forks,
         }
@@ -140,15 +158,58 @@ impl Known {
         if met {
             return Ok(Known::certain(change));
         }
-        let conditions = merged(alloc, &a.conditions, &moved)?;
+        let kept = where_many(alloc, &moved)?;
+        Known::beside(alloc, change, a, b, &moved, kept)
+    }
+
+    /// The same where nothing is found in any case in either of the two, and these are the second's conditions behind the
+    /// first's change; they are kept where they are handed over shared too.
+    #[inline]
+    fn beside(
+        alloc: Global,
+        change: Change,
+        a: &Known,
+        b: &Known,
+        moved: &Conditions,
+        kept: Option<Rc<Conditions>>,
+    ) -> Result<Known, NoMemory>
+        requires joins { JoinsTo a.now.change b.now.change change }
+        requires parts { (a.now.always || b.now.always) ≡ false }
+        requires moved { IsMoved a.now.change b.now.conditions moved.now }
+        requires kept { IfSome kept (λ same. same.value ≡ moved.now) }
+        ensures composed { IfOk result (λ whole. Composes a.now b.now whole) }
+        ensures change { IfOk result (λ whole. whole.change ≡ change) }
+    {
+        let conditions = merged(alloc, &a.conditions, moved)?;
         let (size, forks) = size_of(&change, &conditions);
         Ok(Known {
             change,
             always: false,
             conditions,
+            moved: kept,
             size,
             forks,
         })
+    }
+
+    /// The same where a whole kept the second's conditions behind the first's change, or nothing.
+    fn again(
+        alloc: Global,
+        change: Change,
+        whole: &Known,
+        a: &Known,
+        b: &Known,
+    ) -> Result<Known, NoMemory>
+        requires joins { JoinsTo a.now.change b.now.change change }
+        requires parts { (a.now.always || b.now.always) ≡ false }
+        requires moved { IfSome whole.now.moved (λ kept. IsMoved a.now.change b.now.conditions kept.value) }
+        ensures composed { IfOk result (λ new. Composes a.now b.now new) }
+        ensures change { IfOk result (λ new. new.change ≡ change) }
+    {
+        match &whole.moved {
+            Some(moved) => Known::beside(alloc, change, a, b, moved, Some(moved.clone()?)),
+            None => Known::over(alloc, change, a, b),
+        }
     }
 
     /// A segment and then another.
@@ -167,10 +228,11 @@ impl Known {
         ensures change { IfOk result (λ new. new.0.value.change ≡ this.now.value.change) }
         ensures always { IfOk result (λ new. new.0.value.always ≡ true) }
         ensures conditions { IfOk result (λ new. new.0.value.conditions ≡ []) }
+        ensures moved { IfOk result (λ new. new.0.value.moved ≡ None) }
         ensures sized { IfOk result (λ new. IsSized new.0.value) }
         ensures alike { IfOk result (λ new. AreAlike new.1 this.now.value new.0.value) }
     {
-        if this.always && this.conditions.is_like(&Conditions::none()) {
+        if this.always && this.moved.is_none() && this.conditions.is_like(&Conditions::none()) {
             return Ok((this.clone()?, Likeness::All));
         }
         let known = Known::certain(this.change.share()?);
@@ -231,7 +293,7 @@ impl Known {
         if Known::is_large(other, second) {
             return Ok(None);
         }
-        let new = Known::over(alloc, whole.change.share()?, other, second)?;
+        let new = Known::again(alloc, whole.change.share()?, whole, other, second)?;
         Ok(Some((Rc::new(alloc, new)?, Likeness::Change)))
     }
 

@@ -320,15 +320,12 @@ impl Node {
     }
 
     /// Whether something may be found in the steps, of which this is known: a no is sure. Where few of many steps are asked
-    /// for, it answers yes without a look, since to go down to these steps takes less than to ask each condition of them
-    /// all.
+    /// for, it answers yes without a look, since to go down to these steps, or to judge them in their run, takes less than
+    /// to ask each condition of them all.
     fn may_find(&self, before: &Before<'_>, known: &Known, asked: &Asked) -> bool
         ensures { result ≡ false → finds known.now (state_before before.now) ≡ false }
     {
-        match &self.content {
-            Content::Both(_, _) if asked.are_few_of(self.len) => true,
-            _ => before.finds(known),
-        }
+        asked.are_few_of(self.len) || before.finds(known)
     }
 
     /// Notes what is found in the steps and then in the rest, which begin in this state behind so many others, at the

@@ -498,6 +498,9 @@ fn same_packed(a: &[Packed], b: &[Packed]) -> bool
 /// A list of so many conditions is too short to be counted.
 const FEW: usize = 4096;
 
+/// The fewest conditions of the most common form of which a copy is worth keeping.
+const MANY: usize = 128;
+
 /// The number of a condition, and whether it is among the first.
 #[derive(Clone, Copy)]
 pub(crate) struct Ranked {
@@ -803,6 +806,11 @@ impl Conditions {
             }
         }
         count
+    }
+
+    /// Whether there are so many that a copy of them, kept, is worth its memory.
+    pub(crate) fn are_many(&self) -> bool {
+        self.lows.as_slice().len() >= MANY
     }
 
     /// Whether another list has the same conditions, one by one. No is a safe answer.

@@ -1,4 +1,4 @@
-use Rattle.std.proofs.Common.{◌≡◌, ap}
+use Rattle.std.proofs.Common.{None, ◌≡◌, ap}
 use Rattle.cap_trace.specs.Entry.{Entry}
 use Rattle.cap_machine.specs.declared.step.Step.{Step}
 use Rattle.cap_machine.specs.Steps.{step}
@@ -16,6 +16,7 @@ returns c =
       change = c.in_ok-change.change;
       always = c.always.result;
       conditions = c.in_ok-conditions.conditions;
+      moved = None;
       size = c.size_of-size.result.0;
       forks = c.size_of-size.result.1;
     } in

@@ -12,7 +12,7 @@ returns-then-one_of-clause-composed c =
     composed_certain c.args.a.now c.args.b.now c.certain.result
     (subst (λ (r : Change). JoinsTo c.args.a.now.change c.args.b.now.change r) (sym c.certain.ensures.change) c.requires)
     (λ s. always_found c.args.a.now c.args.b.now s (sym c.one_of.ensures ∙ c.if-one_of.true))
-    c.certain.ensures.always c.certain.ensures.conditions c.certain.ensures.sized
+    c.certain.ensures.always c.certain.ensures.conditions c.certain.ensures.moved c.certain.ensures.sized
 
 pub returns-then-met-clause-composed : goal.returns-then-met-clause-composed
 returns-then-met-clause-composed c =
@@ -20,17 +20,14 @@ returns-then-met-clause-composed c =
     (subst (λ (r : Change). JoinsTo c.args.a.now.change c.args.b.now.change r) (sym c.certain-then-met.ensures.change) c.requires)
     (λ (s : State). met_found c.args.a.now c.args.b.now s
     (sym (c.in_ok-met.ensures.holds s) ∙ ap (λ r. r || any_holds s c.in_ok-met.moved) c.if-met.true))
-    c.certain-then-met.ensures.always c.certain-then-met.ensures.conditions c.certain-then-met.ensures.sized
+    c.certain-then-met.ensures.always c.certain-then-met.ensures.conditions c.certain-then-met.ensures.moved
+    c.certain-then-met.ensures.sized
 
-pub returns-clause-composed : goal.returns-clause-composed
-returns-clause-composed c =
-    let whole : Known = record {
-      change = c.args.change;
-      always = false;
-      conditions = c.in_ok-conditions.conditions;
-      size = c.size_of-size.result.0;
-      forks = c.size_of-size.result.1;
-    } in
-    composed c.args.a.now c.args.b.now whole c.in_ok-met.moved c.requires (sym c.one_of.ensures ∙ c.if-one_of.false) refl
-    (λ (s : State). ap (λ r. r || any_holds s c.in_ok-met.moved) (sym c.if-met.false) ∙ c.in_ok-met.ensures.holds s)
-    c.in_ok-conditions.ensures.holds c.in_ok-met.ensures.names c.in_ok-conditions.ensures.names c.size_of-size.ensures
+pub beside-requires-clause-moved : goal.beside-requires-clause-moved
+beside-requires-clause-moved c = record {
+  holds = λ s. ap (λ r. r || any_holds s c.in_ok-met.moved) (sym c.if-met.false) ∙ c.in_ok-met.ensures.holds s;
+  names = c.in_ok-met.ensures.names;
+}
+
+pub beside-requires-clause-parts : goal.beside-requires-clause-parts
+beside-requires-clause-parts c = sym c.one_of.ensures ∙ c.if-one_of.false

@@ -2,8 +2,9 @@ use Rattle.std.proofs.Common.{sym, ap, subst, ◌∙◌}
 use Rattle.cap_summary.specs.declared.change.Change.{Change}
 use Rattle.cap_summary.specs.declared.known.Known.{Known}
 use Rattle.cap_summary.specs.Changes.{JoinsTo}
-use Rattle.cap_summary.specs.Knows.{Composes, IsLike}
-use Rattle.cap_summary.proofs.Knowing.{joins_left, composed_left, composed_certain, always_found}
+use Rattle.std.specs.Prelude.{IfSome}
+use Rattle.cap_summary.specs.Knows.{Composes, IsLike, IsMoved}
+use Rattle.cap_summary.proofs.Knowing.{joins_left, moved_left, composed_left, composed_certain, always_found}
 use Rattle.cap_summary.proofs.known.Known.with_left.Goals as goal
 
 pub returns-in-All-clause-composed : goal.returns-in-All-clause-composed
@@ -22,7 +23,7 @@ returns-then-one_of-clause-composed c =
     (subst (λ (r : Change). JoinsTo c.args.other.now.change c.args.second.now.change r)
     (sym c.in_ok-new.ensures.change) joins)
     (λ s. always_found c.args.other.now c.args.second.now s (sym c.one_of.ensures ∙ c.if-one_of.true))
-    c.in_ok-new.ensures.always c.in_ok-new.ensures.conditions c.in_ok-new.ensures.sized
+    c.in_ok-new.ensures.always c.in_ok-new.ensures.conditions c.in_ok-new.ensures.moved c.in_ok-new.ensures.sized
 
 pub returns-then-finds_alike-clause-composed : goal.returns-then-finds_alike-clause-composed
 returns-then-finds_alike-clause-composed c =
@@ -35,10 +36,20 @@ returns-then-finds_alike-clause-composed c =
     composed_left c.args.first.now c.args.second.now c.args.whole.now.value c.args.other.now c.requires.composed like in
     subst (λ (r : Known). Composes c.args.other.now c.args.second.now r) (sym c.in_ok-clone-2.ensures.cases) here
 
-pub over-requires : goal.over-requires
-over-requires c =
+pub again-requires-clause-joins : goal.again-requires-clause-joins
+again-requires-clause-joins c =
     let joins : JoinsTo c.args.other.now.change c.args.second.now.change c.args.whole.now.value.change =
     joins_left c.args.first.now.change c.args.second.now.change c.args.whole.now.value.change c.args.other.now.change
     c.requires.composed.changes (c.changes_alike.ensures c.if-not-changes_alike.false) in
     subst (λ (r : Change). JoinsTo c.args.other.now.change c.args.second.now.change r)
     (sym (c.in_ok-share.ensures ∙ ap (λ (r : Known). r.change) c.deref.ensures)) joins
+
+pub again-requires-clause-parts : goal.again-requires-clause-parts
+again-requires-clause-parts c = sym c.one_of.ensures ∙ c.if-one_of.false
+
+pub again-requires-clause-moved : goal.again-requires-clause-moved
+again-requires-clause-moved c =
+    subst (λ (r : Known). IfSome r.moved
+    (λ kept. IsMoved c.args.other.now.change c.args.second.now.conditions kept.value)) (sym c.deref-2.ensures)
+    (moved_left c.args.first.now.change c.args.other.now.change c.args.second.now.conditions c.args.whole.now.value.moved
+    (c.changes_alike.ensures c.if-not-changes_alike.false) c.requires.composed.moved)

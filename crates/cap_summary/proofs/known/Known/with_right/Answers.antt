@@ -23,7 +23,7 @@ returns-then-one_of-clause-composed c =
     (subst (λ (r : Change). JoinsTo c.args.first.now.change c.args.other.now.change r)
     (sym c.in_ok-new.ensures.change) joins)
     (λ s. always_found c.args.first.now c.args.other.now s (sym c.one_of.ensures ∙ c.if-one_of.true))
-    c.in_ok-new.ensures.always c.in_ok-new.ensures.conditions c.in_ok-new.ensures.sized
+    c.in_ok-new.ensures.always c.in_ok-new.ensures.conditions c.in_ok-new.ensures.moved c.in_ok-new.ensures.sized
 
 pub returns-then-finds_alike-clause-composed : goal.returns-then-finds_alike-clause-composed
 returns-then-finds_alike-clause-composed c =
