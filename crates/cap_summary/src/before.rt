@@ -246,8 +246,9 @@ pub(crate) fn judge_run(
         return Ok(());
     }
     let step: &Step = &run[0];
-    let pid = step.line.pid();
-    let rule = rule_of(step.profile, &step.line.seen());
+    let line = step.line.seen();
+    let pid = line.pid;
+    let rule = rule_of(step.profile, &line);
     note_line(before, pid, &rule.demand, at + 1, asked, found)?;
     let after = Before::Behind(&*before, pid, &rule.effect);
     judge_run(&run[1..], &after, at + 1, asked, found)

@@ -1,6 +1,7 @@
 use Rattle.std.proofs.Common.{◌≡◌, ◌+◌, ◌++◌, ◌∷◌, [], List, length, map, ap, ◌∙◌, slice_range, arith}
 use Rattle.std.proofs.lemmas.Result.{on_ok_weaker}
 use Rattle.cap_machine.specs.declared.step.Step.{Step}
+use Rattle.cap_trace.specs.Entry.{Entry}
 use Rattle.std.specs.declared.rc.Rc.{Rc}
 use Rattle.cap_machine.specs.State.{State}
 use Rattle.cap_machine.specs.declared.verdict.Found.{Found}
@@ -26,15 +27,17 @@ returns t c =
     let step : Step = c.index-run-0.result.value in
     let rest : List (Rc Step _) = slice_range c.args.run.now 1 (length c.args.run.now) in
     let at_step : c.deref-step.result.now ≡ step = c.deref-step.ensures in
-    let me : c.pid-pid.result ≡ step.line.pid = c.pid-pid.ensures ∙ ap (λ (r : Step). r.line.pid) at_step in
+    let me : c.line.inside.pid ≡ step.line.pid =
+    ap (λ (e : Entry). e.pid) c.line.view_is ∙ ap (λ (e : Entry). e.pid) c.seen-line.ensures
+    ∙ ap (λ (r : Step). r.line.pid) at_step in
     let run : values c.args.run.now ≡ step ∷ values rest =
     head_tail c.args.run.now c.index-run-0.result (omega arith) c.index-run-0.is in
     let moved : effect_after c.rule_of-rule.result.effect step.line.pid s ≡ ended s (step ∷ []) =
-    step_ends step c.rule_of-rule.result.effect (rw (c.seen.ensures, at_step) at c.rule_of-rule.ensures.cells)
-    (rw (c.seen.ensures, at_step) at c.rule_of-rule.ensures.modes) s in
+    step_ends step c.rule_of-rule.result.effect (rw (c.seen-line.ensures, at_step) at c.rule_of-rule.ensures.cells)
+    (rw (c.seen-line.ensures, at_step) at c.rule_of-rule.ensures.modes) s in
     let first : c.note_line.new.found.items
     ≡ old ++ within c.args.asked.now.from c.args.asked.now.to (map (found_at (c.args.at + 1)) (said step s)) =
-    rw (me, c.rule_of-rule.ensures.demand, c.seen.ensures, at_step) at c.in_ok-note_line.ensures in
+    rw (me, c.rule_of-rule.ensures.demand, c.seen-line.ensures, at_step) at c.in_ok-note_line.ensures in
     rw run (on_ok_weaker c.judge_run.result (λ last.
     found_step s step (values rest) c.args.at c.args.asked.now.from c.args.asked.now.to old
     c.note_line.new.found.items c.judge_run.new.found.items first
