@@ -20,7 +20,9 @@ use Rattle.cap_summary.specs.Values.{read_cell, read_mode}
 use Rattle.cap_summary.specs.Tables.{listed_value, process_at, kept_kind, kept_rights, kept_value, kept_values, listed_process}
 use Rattle.cap_summary.specs.Values.{unlisted, rest_untouched}
 use Rattle.cap_summary.specs.Changes.{value_at, cell_in, mode_in, changed, untouched_at, untouched_in, IsSame, AreAlike}
-use Rattle.cap_summary.specs.Names.{Names, cell_within, others_within, mode_within, ListedWithin}
+use Rattle.cap_summary.specs.Changes.{ListSame}
+use Rattle.cap_summary.specs.Names.{Names, cell_within, others_within, mode_within, ListedWithin, ProcessWithin}
+use Rattle.cap_summary.specs.Names.{ChangeWithin}
 use Rattle.cap_summary.specs.declared.values.Base.{Base}
 
 -- ---- lists
@@ -175,7 +177,7 @@ processes_alike own theirs xs ys i alike p =
     (option_listed p a ∙ tables_alike process_seen own.table theirs.table xs ys i alike p ∙ sym (option_listed p b))
 
 -- what is the same of a process that both list
-alike_cell : (p f : ℕ) (own theirs : Option Process) → AreAlike own theirs → cell_in own p f ≡ cell_in theirs p f
+pub alike_cell : (p f : ℕ) (own theirs : Option Process) → AreAlike own theirs → cell_in own p f ≡ cell_in theirs p f
 alike_cell p f None theirs is = ap (λ (o : Option Process). cell_in o p f) (sym is)
 alike_cell p f (Some d) None is = absurd is
 alike_cell p f (Some d) (Some e) is = ap (λ (o : Option Value). unwrap_or o (unlisted d.base f)) (is.cells f)
@@ -194,35 +196,57 @@ alike_untouched p f (Some d) (Some e) is =
     ap (λ (o : Option Value). rest_untouched d.base p f && not (is_some o)) (is.cells f)
     ∙ ap (λ (base : Base). untouched_at base e.cells p f) is.base
 
+pub same_within : (names : Names) (d e : Process) → IsSame d e → ProcessWithin names d → ProcessWithin names e
+same_within names d e is within = record {
+  cells = λ f. ap (cell_within names f) (sym (is.cells f)) ∙ within.cells f;
+  others = ap (λ (base : Base). others_within names base.others) (sym is.base) ∙ within.others;
+  mode = ap (mode_within names) (sym is.mode) ∙ within.mode;
+}
+
+pub same_back : (d e : Process) → IsSame d e → IsSame e d
+same_back d e is = record { cells = λ f. sym (is.cells f); base = sym is.base; mode = sym is.mode }
+
 pub alike_names : (names : Names) (p : ℕ) (own theirs : Option Process) → AreAlike own theirs
     → ListedWithin names p own ↔ ListedWithin names p theirs
 alike_names names p None theirs is =
     (λ within. subst (ListedWithin names p) (sym is) within, λ within. tt)
 alike_names names p (Some d) None is = absurd is
 alike_names names p (Some d) (Some e) is = (
-  (λ within. (
-    within.0,
-    record {
-      cells = λ f. ap (cell_within names f) (sym (is.cells f)) ∙ within.1.cells f;
-      others = ap (λ (base : Base). others_within names base.others) (sym is.base) ∙ within.1.others;
-      mode = ap (mode_within names) (sym is.mode) ∙ within.1.mode;
-    },
-  )),
-  (λ within. (
-    within.0,
-    record {
-      cells = λ f. ap (cell_within names f) (is.cells f) ∙ within.1.cells f;
-      others = ap (λ (base : Base). others_within names base.others) is.base ∙ within.1.others;
-      mode = ap (mode_within names) is.mode ∙ within.1.mode;
-    },
-  )),
+  (λ within. (within.0, same_within names d e is within.1)),
+  (λ within. (within.0, same_within names e d (same_back d e is) within.1)),
 )
 
-pub changes_alike : (a b : Change)
-    → ((p : ℕ) → AreAlike (process_at a.processes p) (process_at b.processes p)) → (s : State)
-    → changed a s ≡ changed b s
+-- what is listed once, or twice the other way round
+pub alike_same : (own theirs : Option Process) → own ≡ theirs → AreAlike own theirs
+alike_same own theirs is = subst (AreAlike own) is (itself own)
+  where
+    itself : (o : Option Process) → AreAlike o o
+    itself None = refl
+    itself (Some d) = record { cells = λ f. refl; base = refl; mode = refl }
+
+pub alike_back : (own theirs : Option Process) → AreAlike own theirs → AreAlike theirs own
+alike_back None theirs is = alike_same theirs None is
+alike_back (Some d) None is = absurd is
+alike_back (Some d) (Some e) is = same_back d e is
+
+pub alike_too : (first second third : Option Process) → AreAlike first second → AreAlike second third
+    → AreAlike first third
+alike_too None second third is more = subst (λ (o : Option Process). AreAlike o third) is more
+alike_too (Some d) None third is more = absurd is
+alike_too (Some d) (Some e) None is more = absurd more
+alike_too (Some d) (Some e) (Some g) is more = record {
+  cells = λ f. is.cells f ∙ more.cells f;
+  base = is.base ∙ more.base;
+  mode = is.mode ∙ more.mode;
+}
+
+pub changes_alike : (a b : Change) → ListSame a b → (s : State) → changed a s ≡ changed b s
 changes_alike a b alike s = same_state (changed a s) (changed b s)
     (λ p f. ap (λ (v : Value). read_cell s v)
-    (alike_cell p f (process_at a.processes p) (process_at b.processes p) (alike p)))
+    (alike_cell p f (process_at a.processes p) (process_at b.processes p) (alike.each p)))
     (λ p. ap (λ (m : ModeValue). read_mode s m)
-    (alike_mode p (process_at a.processes p) (process_at b.processes p) (alike p)))
+    (alike_mode p (process_at a.processes p) (process_at b.processes p) (alike.each p)))
+
+pub names_alike : (names : Names) (a b : Change) → ListSame a b → ChangeWithin names a → ChangeWithin names b
+names_alike names a b alike within p =
+    (alike_names names p (process_at a.processes p) (process_at b.processes p) (alike.each p)).0 (within p)

@@ -101,7 +101,7 @@ module _ (change : Change) (listed : Listed) (p : ℕ)
   values_listed names lows of within named i d lt =
       let low : Low = get_or lows i d in
       ap (value_within names) (sym (value_listed low (of i d lt)))
-      ∙ value_of_within names change (key_pid low.key) (key_fd low.key) within (named i d lt)
+      ∙ value_of_within names change (key_pid low.key) (key_fd low.key) (within (key_pid low.key)) (named i d lt)
 
 -- a process that isn't listed
 pub passes_unlisted : (s : State) (change : Change) (p : ℕ) (lows : List Low)

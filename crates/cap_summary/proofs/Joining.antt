@@ -25,6 +25,9 @@ use Rattle.cap_summary.specs.Changes.{value_at, value_in, value_of, cell_in, mod
 use Rattle.cap_summary.specs.Changes.{untouched_in, is_untouched, is_unturned}
 use Rattle.cap_summary.specs.Images.{under}
 use Rattle.cap_summary.proofs.Untouched.{both_true}
+use Rattle.cap_summary.specs.declared.values.ModeValue.{ModeValue}
+use Rattle.cap_summary.specs.Names.{Names, ChangeWithin}
+use Rattle.cap_summary.proofs.Comparing.{alike_cell, alike_mode, alike_untouched}
 use Rattle.cap_summary.proofs.Naming.{listed_joined}
 
 pub applied_same : (c : Cell) → applied same c ≡ c
@@ -124,7 +127,7 @@ process_joined s a base old f first cells is rest = cases (listed_value old.cell
 cell_joined : (s : State) (a : Change) (p f : ℕ) (old new : Option Process)
     → JoinsListed a (process_at a.processes p) old new →
     read_cell s (cell_in new p f) ≡ read_cell (changed a s) (cell_in old p f)
-cell_joined s a p f None new is = ap (λ (o : Option Process). read_cell s (cell_in o p f)) is
+cell_joined s a p f None new is = ap (λ (v : Value). read_cell s v) (alike_cell p f new (process_at a.processes p) is)
     ∙ sym (applied_same (read_cell s (value_of a p f)))
 cell_joined s a p f (Some d) None is = absurd is
 cell_joined s a p f (Some d) (Some e) is = is.cells s f
@@ -132,7 +135,7 @@ cell_joined s a p f (Some d) (Some e) is = is.cells s f
 mode_joined : (s : State) (a : Change) (p : ℕ) (old new : Option Process)
     → JoinsListed a (process_at a.processes p) old new →
     read_mode s (mode_in new p) ≡ read_mode (changed a s) (mode_in old p)
-mode_joined s a p None new is = ap (λ (o : Option Process). read_mode s (mode_in o p)) is
+mode_joined s a p None new is = ap (λ (m : ModeValue). read_mode s m) (alike_mode p new (process_at a.processes p) is)
 mode_joined s a p (Some d) None is = absurd is
 mode_joined s a p (Some d) (Some e) is = is.mode s
 
@@ -142,27 +145,35 @@ and_true x is = both_true x true is refl
 untouched_joined : (a : Change) (p f : ℕ) (old new : Option Process) → JoinsListed a (process_at a.processes p) old new
     → untouched_in new p f ≡ true → (is_untouched a p f && untouched_in old p f) ≡ true
 untouched_joined a p f None new is e =
-    and_true (is_untouched a p f) (ap (λ (o : Option Process). untouched_in o p f) (sym is) ∙ e)
+    and_true (is_untouched a p f) (sym (alike_untouched p f new (process_at a.processes p) is) ∙ e)
 untouched_joined a p f (Some d) None is e = absurd is
 untouched_joined a p f (Some d) (Some n) is e = is.untouched p f e
 
 unturned_joined : (a : Change) (p : ℕ) (old new : Option Process) → JoinsListed a (process_at a.processes p) old new
     → is_own (mode_in new p) p ≡ true → (is_unturned a p && is_own (mode_in old p) p) ≡ true
 unturned_joined a p None new is e = both_true (is_unturned a p) (eqb p p)
-    (ap (λ (o : Option Process). is_own (mode_in o p) p) (sym is) ∙ e) (eq-eqb p p refl)
+    (ap (λ (m : ModeValue). is_own m p) (sym (alike_mode p new (process_at a.processes p) is)) ∙ e) (eq-eqb p p refl)
 unturned_joined a p (Some d) None is e = absurd is
 unturned_joined a p (Some d) (Some n) is e = is.unturned p e
 
--- a table in which each listed process is joined
-pub joins_to : (a b whole : Change)
-    → ((p : ℕ) → JoinsListed a (process_at a.processes p) (process_at b.processes p) (process_at whole.processes p))
-    → JoinsTo a b whole
-joins_to a b whole each = record {
-  changes = λ s. same_state (changed whole s) (changed b (changed a s))
-      (λ p f. cell_joined s a p f (process_at b.processes p) (process_at whole.processes p) (each p))
-      (λ p. mode_joined s a p (process_at b.processes p) (process_at whole.processes p) (each p));
-  untouched = λ p f. untouched_joined a p f (process_at b.processes p) (process_at whole.processes p) (each p);
-  unturned = λ p. unturned_joined a p (process_at b.processes p) (process_at whole.processes p) (each p);
-  names = λ names first second p. listed_joined names a p (process_at b.processes p) (process_at whole.processes p) first
-      (each p) (second p);
-}
+-- a whole in which each process is joined: the state after it; what it leaves untouched both leave so; and it names only
+-- what they name
+pub joined_changes : (a b whole : Change) → JoinsTo a b whole → (s : State) → changed whole s ≡ changed b (changed a s)
+joined_changes a b whole joins s = same_state (changed whole s) (changed b (changed a s))
+    (λ p f. cell_joined s a p f (process_at b.processes p) (process_at whole.processes p) (joins.each p))
+    (λ p. mode_joined s a p (process_at b.processes p) (process_at whole.processes p) (joins.each p))
+
+pub joined_untouched : (a b whole : Change) → JoinsTo a b whole → (p f : ℕ) → is_untouched whole p f ≡ true
+    → (is_untouched a p f && is_untouched b p f) ≡ true
+joined_untouched a b whole joins p f =
+    untouched_joined a p f (process_at b.processes p) (process_at whole.processes p) (joins.each p)
+
+pub joined_unturned : (a b whole : Change) → JoinsTo a b whole → (p : ℕ) → is_unturned whole p ≡ true
+    → (is_unturned a p && is_unturned b p) ≡ true
+joined_unturned a b whole joins p =
+    unturned_joined a p (process_at b.processes p) (process_at whole.processes p) (joins.each p)
+
+pub joined_names : (names : Names) (a b whole : Change) → JoinsTo a b whole → ChangeWithin names a
+    → ChangeWithin names b → ChangeWithin names whole
+joined_names names a b whole joins first second p =
+    listed_joined names a p (process_at b.processes p) (process_at whole.processes p) first (joins.each p) (second p)

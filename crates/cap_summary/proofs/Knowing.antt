@@ -1,5 +1,5 @@
 -- What is known of a step, and of a segment and then another.
-use Rattle.std.proofs.Common.{◌≡◌, ℕ, List, [], ◌∷◌, ◌++◌, Bool, true, false, ◌||◌, ◌&&◌, length, map, refl, sym, ap}
+use Rattle.std.proofs.Common.{◌≡◌, ℕ, List, [], ◌∷◌, ◌++◌, Bool, true, false, ◌||◌, length, map, refl, sym, ap}
 use Rattle.std.proofs.Common.{◌∙◌, subst, cond, Option, Some, None}
 use Rattle.std.specs.declared.alloc.Global.{Global}
 use Rattle.std.specs.declared.rc.Rc.{Rc}
@@ -30,7 +30,7 @@ use Rattle.cap_machine.proofs.NamedFds.{named_effects, named_checks}
 use Rattle.cap_summary.specs.declared.change.Change.{Change}
 use Rattle.cap_summary.specs.declared.conditions.Condition.{Condition}
 use Rattle.cap_summary.specs.declared.known.Known.{Known}
-use Rattle.cap_summary.specs.Changes.{changed, JoinsTo, is_untouched, is_unturned, DoSame}
+use Rattle.cap_summary.specs.Changes.{changed, JoinsTo, is_untouched, is_unturned, ListSame}
 use Rattle.cap_summary.specs.Does.{Does}
 use Rattle.cap_summary.specs.Names.{Names, AreAmong, names_in, these, ChangeWithin, ConditionsWithin, ChildWithin}
 use Rattle.cap_summary.specs.Names.{condition_within}
@@ -43,6 +43,9 @@ use Rattle.cap_summary.proofs.Bools.{or_true, or_false}
 use Rattle.cap_summary.proofs.Untouched.{first_true, second_true}
 use Rattle.cap_summary.proofs.Holding.{has_any-append, has_any-map, line_holds}
 use Rattle.cap_summary.proofs.Naming.{change_more, conditions_more, line_within}
+use Rattle.cap_summary.proofs.Comparing.{changes_alike, names_alike}
+use Rattle.cap_summary.proofs.Joining.{joined_changes, joined_untouched, joined_unturned, joined_names}
+use Rattle.cap_summary.proofs.Earlier.{joins_left, joins_right}
 
 pub found_in_turn : (s : State) (t u : List Step)
     → has_any (check s (t ++ u)) ≡ (has_any (check s t) || has_any (check (ended s t) u))
@@ -88,7 +91,7 @@ composed_knows a b whole t u composes left right =
     let first : ChangeWithin names a.change =
     change_more (names_in t) names (among_left t u) a.change left.listed in
     record {
-      ends = λ s. composes.changes.changes s ∙ right.ends (changed a.change s) ∙ ap (λ r. ended r u) (left.ends s)
+      ends = λ s. joined_changes a.change b.change whole.change composes.changes s ∙ right.ends (changed a.change s) ∙ ap (λ r. ended r u) (left.ends s)
           ∙ sym (ends_in_turn s t u);
       found = λ s.
           composes.found s
@@ -96,16 +99,16 @@ composed_knows a b whole t u composes left right =
           ∙ ap (λ r. has_any (check s t) || r)
           (right.found (changed a.change s) ∙ ap (λ r. has_any (check r u)) (left.ends s))
           ∙ sym (found_in_turn s t u);
-      listed = composes.changes.names names first
+      listed = joined_names names a.change b.change whole.change composes.changes first
           (change_more (names_in u) names (among_right t u) b.change right.listed);
       asked = composes.asked names first
           (conditions_more (names_in t) names (among_left t u) a.conditions left.asked)
           (conditions_more (names_in u) names (among_right t u) b.conditions right.asked);
-      untouched = λ p f e. let both = composes.changes.untouched p f e in
+      untouched = λ p f e. let both = joined_untouched a.change b.change whole.change composes.changes p f e in
           All-append (λ (step : Step). touch step p f ≡ kept) t u
           (left.untouched p f (first_true (is_untouched a.change p f) (is_untouched b.change p f) both))
           (right.untouched p f (second_true (is_untouched a.change p f) (is_untouched b.change p f) both));
-      unturned = λ p e. let both = composes.changes.unturned p e in
+      unturned = λ p e. let both = joined_unturned a.change b.change whole.change composes.changes p e in
           All-append (λ (step : Step). turn step p ≡ stays) t u
           (left.unturned p (first_true (is_unturned a.change p) (is_unturned b.change p) both))
           (right.unturned p (second_true (is_unturned a.change p) (is_unturned b.change p) both));
@@ -184,30 +187,13 @@ composed a b whole moved joins parts always behind both asked keeps sized = reco
     these_moved None is = tt
     these_moved (Some m) is = subst (λ (r : List Condition). IsMoved a.change b.conditions r) (sym is) behind
 
--- a change that does the same as that of a part stands in its place
-pub joins_left : (a b whole other : Change) → JoinsTo a b whole → DoSame other a → JoinsTo other b whole
-joins_left a b whole other joins same = record {
-  changes = λ s. joins.changes s ∙ ap (λ r. changed b r) (sym (same.changes s));
-  untouched = λ p f e. ap (λ r. r && is_untouched b p f) (same.untouched p f) ∙ joins.untouched p f e;
-  unturned = λ p e. ap (λ r. r && is_unturned b p) (same.unturned p) ∙ joins.unturned p e;
-  names = λ names first second. joins.names names ((same.names names).0 first) second;
-}
-
-pub joins_right : (a b whole other : Change) → JoinsTo a b whole → DoSame other b → JoinsTo a other whole
-joins_right a b whole other joins same = record {
-  changes = λ s. joins.changes s ∙ sym (same.changes (changed a s));
-  untouched = λ p f e. ap (λ r. is_untouched a p f && r) (same.untouched p f) ∙ joins.untouched p f e;
-  unturned = λ p e. ap (λ r. is_unturned a p && r) (same.unturned p) ∙ joins.unturned p e;
-  names = λ names first second. joins.names names first ((same.names names).0 second);
-}
-
--- conditions behind a change that does the same
-pub moved_left : (a other : Change) (conditions : List Condition) (o : Option (Rc (List Condition) Global)) → DoSame other a
+-- conditions behind a change that lists the same
+pub moved_left : (a other : Change) (conditions : List Condition) (o : Option (Rc (List Condition) Global)) → ListSame other a
     → IfSome o (λ m. IsMoved a conditions m.value) → IfSome o (λ m. IsMoved other conditions m.value)
 moved_left a other conditions None same is = tt
 moved_left a other conditions (Some moved) same is = record {
-  holds = λ s. is.holds s ∙ ap (λ r. any_holds r conditions) (sym (same.changes s));
-  names = λ names change all. is.names names ((same.names names).0 change) all;
+  holds = λ s. is.holds s ∙ ap (λ r. any_holds r conditions) (sym (changes_alike other a same s));
+  names = λ names change all. is.names names (names_alike names other a same change) all;
 }
 
 -- one that is like a part stands in its place
@@ -217,8 +203,8 @@ composed_left a b whole other composes like = record {
   found = λ s. composes.found s
       ∙ ap (λ (r : List Condition). (a.always || any_holds s r) || finds b (changed a.change s)) (sym like.conditions)
       ∙ ap (λ r. (r || any_holds s other.conditions) || finds b (changed a.change s)) (sym like.always)
-      ∙ ap (λ r. finds other s || finds b r) (sym (like.change.changes s));
-  asked = λ names change first second. composes.asked names ((like.change.names names).0 change)
+      ∙ ap (λ r. finds other s || finds b r) (sym (changes_alike other.change a.change like.change s));
+  asked = λ names change first second. composes.asked names (names_alike names other.change a.change like.change change)
       (subst (ConditionsWithin names) like.conditions first) second;
   moved = moved_left a.change other.change b.conditions whole.moved like.change composes.moved;
   sized = composes.sized;

@@ -1,10 +1,14 @@
 -- Cells in two layers: what is handed on, and what stands behind a change.
-use Rattle.std.proofs.Common.{◌≡◌, ℕ, Option, Some, None, Bool, true, false, cond, refl, sym, ap, ◌∙◌, ◌||◌}
-use Rattle.std.specs.Prelude.{option_map, option_and_then}
+use Rattle.std.proofs.Common.{◌≡◌, ℕ, ◌+◌, ◌<◌, eqb, List, Option, Some, None, Bool, true, false, cond, refl, sym, ap, ◌∙◌}
+use Rattle.std.proofs.Common.{◌||◌, take, get_or, length}
+use Rattle.std.specs.Prelude.{option_map, option_and_then, IfSome}
+use Rattle.std.specs.Option.{option_or}
 use Rattle.cap_machine.specs.declared.cell.OnExec.TheVariants.{Set, Clear, Unsure}
 use Rattle.cap_machine.specs.declared.cell.Cell.{Cell}
 use Rattle.cap_machine.specs.declared.cell.Cell.TheVariants.{Unknown, Closed, Held}
 use Rattle.cap_machine.specs.declared.cell.HeldOp.{HeldOp}
+use Rattle.cap_summary.specs.declared.kept.Kept.{Kept}
+use Rattle.cap_summary.specs.Names.{value_from}
 use Rattle.cap_machine.specs.declared.cell.HeldOp.TheVariants.{Becomes, Keeps}
 use Rattle.cap_machine.specs.declared.cell.Op.{Op}
 use Rattle.cap_machine.specs.Op.{applied, exec, same}
@@ -18,10 +22,10 @@ use Rattle.cap_summary.specs.declared.change.Change.{Change}
 use Rattle.cap_summary.specs.declared.layers.Parts.{Parts}
 use Rattle.cap_summary.specs.Sorted.{found}
 use Rattle.cap_summary.specs.Values.{op_on, passing_op, passed_on, is_from}
-use Rattle.cap_summary.specs.Tables.{or_else, kept_values, parts_value, Hides}
+use Rattle.cap_summary.specs.Tables.{or_else, kept_value, kept_values, parts_value, passed_value, Hides}
 use Rattle.cap_summary.specs.Changes.{value_of}
 use Rattle.cap_summary.specs.Images.{under, Stays}
-use Rattle.cap_summary.proofs.Staying.{no_mask, op_on-same, same_parts, passed_same}
+use Rattle.cap_summary.proofs.Staying.{no_mask, op_on-same, same_parts, passed_same, found-more}
 
 -- ---- an exec after other ops
 
@@ -211,6 +215,44 @@ pub parts_stay : (a : Change) (parts : Parts) (o : Option Value) (f : ℕ) → p
 parts_stay a parts o f is top lower = rw (← is) (layers_stay a parts.passing parts.closed_from f
     (kept_values (found parts.top.now f)) (kept_values (found parts.lower.now f)) (top passings.Same f)
     (lower parts.passing f))
+
+-- what holds of the processes that the entries of both tables come from holds of what is listed
+op_from : (P : ℕ → Type 0) (op : Op) (v : Value) → value_from P v → value_from P (op_on op v)
+op_from P op (value.Fixed c) is = tt
+op_from P op (value.Of q g first) is = is
+
+passed_from : (P : ℕ → Type 0) (passing : Passing) (closed_from : Option ℕ) (f : ℕ) (o : Option Value)
+    → IfSome o (value_from P) → IfSome (option_and_then (passed_on passing closed_from f) o) (value_from P)
+passed_from P passing closed_from f None is = tt
+passed_from P passing closed_from f (Some v) is = cases (is_from closed_from f)
+  where
+    cases : (b : Bool) → IfSome (cond b None (Some (op_on (passing_op passing) v))) (value_from P)
+    cases true = tt
+    cases false = op_from P (passing_op passing) v is
+
+pub parts_from : (P : ℕ → Type 0) (parts : Parts) (o : Option Value) (f : ℕ) → parts_value parts f ≡ o
+    → IfSome (kept_values (found parts.top.now f)) (value_from P)
+    → IfSome (kept_values (found parts.lower.now f)) (value_from P) → IfSome o (value_from P)
+parts_from P parts o f is top lower = rw (← is) (either (kept_values (found parts.top.now f)) top)
+  where
+    either : (first : Option Value) → IfSome first (value_from P) → IfSome (or_else first
+        (passed_value parts.passing parts.closed_from parts.lower.now f)) (value_from P)
+    either None first =
+        passed_from P parts.passing parts.closed_from f (kept_values (found parts.lower.now f)) lower
+    either (Some v) first = first
+
+-- the same of the entries so far, and of one more
+pub from_more : (P : ℕ → Type 0) (xs : List (ℕ × Kept)) (i : ℕ) (x : ℕ × Kept) → i < length xs → x ≡ get_or xs i x
+    → value_from P (kept_value x.1) → ((f : ℕ) → IfSome (kept_values (found (take i xs) f)) (value_from P)) → (f : ℕ)
+    → IfSome (kept_values (found (take (i + 1) xs) f)) (value_from P)
+from_more P xs i x within at is before f =
+    rw (found-more xs i x f within at) (either (found (take i xs) f) (before f) (eqb x.0 f))
+  where
+    either : (o : Option Kept) → IfSome (kept_values o) (value_from P) → (b : Bool)
+        → IfSome (kept_values (option_or o (cond b (Some x.1) None))) (value_from P)
+    either (Some v) first b = first
+    either None first true = is
+    either None first false = tt
 
 -- where all entries of both tables are hidden, so is what is listed
 pub parts_hidden : (others : Option Value) (parts : Parts) (o : Option Value) (f : ℕ) → parts_value parts f ≡ o

@@ -3,11 +3,13 @@ pub mod SortedFound
 pub mod SortedMerging
 pub mod SortedSetting
 pub mod Untouched
+pub mod Sources
 pub mod Naming
 pub mod Joining
 pub mod Staying
 pub mod Layered
 pub mod Comparing
+pub mod Earlier
 pub mod Counting
 pub mod Runs
 pub mod Holding

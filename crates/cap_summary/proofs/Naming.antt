@@ -2,7 +2,7 @@
 use Rattle.std.proofs.Common.{◌≡◌, ℕ, ◌<◌, eqb, List, [], ◌∷◌, ◌++◌, Option, Some, None, Bool, true, false}
 use Rattle.std.proofs.Common.{cond, ◌&&◌, ◌||◌}
 use Rattle.std.proofs.Common.{length, get_or, map, refl, sym, ap, subst, ◌∙◌, arith}
-use Rattle.std.specs.Prelude.{option_map, option_and_then, option_to_list, unwrap_or}
+use Rattle.std.specs.Prelude.{option_map, option_and_then, option_to_list, unwrap_or, IfSome}
 use Rattle.std.specs.List.{list_any, All}
 use Rattle.std.proofs.lemmas.Bool.{eqb-true}
 use Rattle.std.proofs.lemmas.List.Elements.{All-nil, All-cons, All-head, All-tail, All-same}
@@ -36,9 +36,12 @@ use Rattle.cap_summary.specs.Changes.{value_in, value_of, cell_in, mode_in, mode
 use Rattle.cap_summary.specs.Names.{Names, has_cell, value_within, cell_within, others_within, mode_within}
 use Rattle.cap_summary.specs.Names.{AreAmong, ProcessWithin, ListedWithin, ChangeWithin, part_within}
 use Rattle.cap_summary.specs.Names.{outside_within, condition_within, ConditionsWithin}
+use Rattle.cap_summary.specs.Names.{value_from, SourceWithin}
 use Rattle.cap_summary.specs.LineConditions.{need_of, excused_of, both_excused, one_excused, refused_by}
 use Rattle.cap_summary.specs.LineConditions.{line_conditions, line_conditions_by}
 use Rattle.cap_summary.proofs.Untouched.{both_true, first_true, second_true, with_true}
+use Rattle.cap_summary.proofs.Sources.{all_from}
+use Rattle.cap_summary.proofs.Comparing.{alike_names}
 
 -- ---- values
 
@@ -62,17 +65,17 @@ value_in_within names d f within named = cases (listed_value d.cells f) (within.
     cases None is = unlisted_within names d.base f within.others named
     cases (Some v) is = second_true (names.fds f) (value_within names v) is
 
-pub value_of_within : (names : Names) (a : Change) (p f : ℕ) → ChangeWithin names a → has_cell names p f ≡ true
+pub value_of_within : (names : Names) (a : Change) (p f : ℕ) → SourceWithin names a p → has_cell names p f ≡ true
     → value_within names (value_of a p f) ≡ true
-value_of_within names a p f within named = cases (process_at a.processes p) (within p)
+value_of_within names a p f within named = cases (process_at a.processes p) within
   where
     cases : (o : Option Process) → ListedWithin names p o → value_within names (cell_in o p f) ≡ true
     cases None is = named
     cases (Some d) is = value_in_within names d f is.1 (second_true (names.pids p) (names.fds f) named)
 
-pub mode_of_within : (names : Names) (a : Change) (p : ℕ) → ChangeWithin names a → names.pids p ≡ true
+pub mode_of_within : (names : Names) (a : Change) (p : ℕ) → SourceWithin names a p → names.pids p ≡ true
     → mode_within names (mode_of a p) ≡ true
-mode_of_within names a p within named = cases (process_at a.processes p) (within p)
+mode_of_within names a p within named = cases (process_at a.processes p) within
   where
     cases : (o : Option Process) → ListedWithin names p o → mode_within names (mode_in o p) ≡ true
     cases None is = named
@@ -82,7 +85,8 @@ op_on_within : (names : Names) (op : Op) (v : Value) → value_within names (op_
 op_on_within names op (value.Fixed c) = refl
 op_on_within names op (value.Of q g first) = refl
 
-under_within : (names : Names) (a : Change) (v : Value) → ChangeWithin names a → value_within names v ≡ true
+under_within : (names : Names) (a : Change) (v : Value) → value_from (SourceWithin names a) v
+    → value_within names v ≡ true
     → value_within names (under a v) ≡ true
 under_within names a (value.Fixed c) within is = refl
 under_within names a (value.Of q g op) within is =
@@ -91,8 +95,8 @@ under_within names a (value.Of q g op) within is =
 -- ---- listed cells
 
 -- what is listed of others behind a change, over what is listed first
-pub over_within : (names : Names) (a : Change) (f : ℕ) (o n first : Option Value) → ChangeWithin names a
-    → n ≡ or_else (option_map (under a) o) first → cell_within names f o ≡ true → cell_within names f first ≡ true
+pub over_within : (names : Names) (a : Change) (f : ℕ) (o n first : Option Value)
+    → IfSome o (value_from (SourceWithin names a)) → n ≡ or_else (option_map (under a) o) first → cell_within names f o ≡ true → cell_within names f first ≡ true
     → cell_within names f n ≡ true
 over_within names a f None n first within is old below = ap (cell_within names f) is ∙ below
 over_within names a f (Some v) n first within is old below =
@@ -142,9 +146,10 @@ all_within names (g ∷ fds) f v n is from named = ap (cell_within names f) is �
 
 pub listed_joined : (names : Names) (a : Change) (p : ℕ) (old new : Option Process) → ChangeWithin names a
     → JoinsListed a (process_at a.processes p) old new → ListedWithin names p old → ListedWithin names p new
-listed_joined names a p None new within is old = subst (ListedWithin names p) (sym is) (within p)
+listed_joined names a p None new within is old = (alike_names names p new (process_at a.processes p) is).1 (within p)
 listed_joined names a p (Some d) None within is old = absurd is
-listed_joined names a p (Some d) (Some e) within is old = (old.0, is.names names within old.1)
+listed_joined names a p (Some d) (Some e) within is old =
+    (old.0, is.names names (all_from (SourceWithin names a) within d) old.1)
 
 -- one process is listed over others
 pub listed_over : (names : Names) (me p : ℕ) (d : Process) (rest : Option Process) → names.pids me ≡ true
@@ -160,10 +165,6 @@ pub only_within : (names : Names) (change : Change) (me : ℕ) (d : Process)
     → ProcessWithin names d → ChangeWithin names change
 only_within names change me d each named within p =
     subst (ListedWithin names p) (sym (each p)) (listed_over names me p d None named within tt)
-
-pub same_within : (names : Names) (a b : Change) → ((p : ℕ) → process_at b.processes p ≡ process_at a.processes p)
-    → ChangeWithin names a → ChangeWithin names b
-same_within names a b same within p = subst (ListedWithin names p) (sym (same p)) (within p)
 
 -- ---- conditions
 

@@ -38,6 +38,11 @@ none_behind a (x ∷ xs) n is none = absurd (omega arith)
 pub values-take : {X Z : Type 0} (n : ℕ) (run : List (Rc X Z)) → take n (values run) ≡ values (take n run)
 values-take n run = take-map (λ item. item.value) n run
 
+-- a run that is divided
+pub values_of_parts : {X Z : Type 0} (run front back : List (Rc X Z)) → run ≡ front ++ back
+    → values front ++ values back ≡ values run
+values_of_parts run front back is = sym (ap values is ∙ map-append (λ item. item.value) front back)
+
 -- the first of a run, and the rest
 pub head_tail : {X Z : Type 0} (run : List (Rc X Z)) (x : Rc X Z) → 0 < length run → x ≡ get_or run 0 x
     → values run ≡ x.value ∷ values (slice_range run 1 (length run))

@@ -1,7 +1,7 @@
 -- What a change leaves as it is, and what stands behind it as it is.
 use Rattle.std.proofs.Common.{◌≡◌, ℕ, ◌+◌, ◌<◌, eqb, List, [], ◌∷◌, ◌++◌, Option, Some, None, Bool, true, false}
 use Rattle.std.proofs.Common.{cond}
-use Rattle.std.proofs.Common.{take, get_or, length, inl, inr, refl, sym, ap, ◌∙◌}
+use Rattle.std.proofs.Common.{take, get_or, length, inl, inr, refl, sym, ap, subst, ◌∙◌}
 use Rattle.std.proofs.lemmas.List.{take_more}
 use Rattle.std.proofs.lemmas.Bool.Decides.{eqb_tells}
 use Rattle.std.specs.Prelude.{option_map, option_and_then, unwrap_or, is_some, not}
@@ -27,11 +27,11 @@ use Rattle.cap_summary.specs.Sorted.{found}
 use Rattle.cap_summary.specs.Values.{read_cell, read_mode, unlisted, op_on, passing_op, rest_untouched, is_own}
 use Rattle.cap_summary.specs.Values.{passed_on}
 use Rattle.cap_summary.specs.Tables.{listed_value, process_at, or_else, kept_value, kept_values, Hides}
-use Rattle.cap_summary.specs.Changes.{value_of, cell_in, mode_in, changed, JoinsProcess, JoinsTo}
-use Rattle.cap_summary.specs.Changes.{untouched_in, is_untouched, is_unturned}
+use Rattle.cap_summary.specs.Changes.{value_in, value_of, cell_in, mode_in, changed, JoinsProcess, JoinsListed, JoinsTo}
+use Rattle.cap_summary.specs.Changes.{untouched_at, untouched_in, is_untouched, is_unturned}
 use Rattle.cap_summary.specs.Images.{under, Stays}
 use Rattle.cap_summary.proofs.Untouched.{both_true, implied}
-use Rattle.cap_summary.proofs.Naming.{same_within}
+use Rattle.cap_summary.proofs.Comparing.{alike_same}
 use Rattle.cap_summary.proofs.Joining.{applied_same, read-under}
 use Rattle.cap_summary.proofs.SortedMerging.{found-append}
 
@@ -117,7 +117,7 @@ value_stays a q g op is = ap (op_on op) is ∙ ap (value.Of q g) (same-in_turn o
 -- ---- tables
 
 -- what is found among the first entries, and one more
-found-more : {V : Type 0} (xs : List (ℕ × V)) (i : ℕ) (x : ℕ × V) (f : ℕ) → i < length xs → x ≡ get_or xs i x
+pub found-more : {V : Type 0} (xs : List (ℕ × V)) (i : ℕ) (x : ℕ × V) (f : ℕ) → i < length xs → x ≡ get_or xs i x
     → found (take (i + 1) xs) f ≡ option_or (found (take i xs) f) (cond (eqb x.0 f) (Some x.1) None)
 found-more {V} xs i x f within at =
     ap (λ (l : List (ℕ × V)). found l f) (take_more xs i x within ∙ ap (λ (y : ℕ × V). take i xs ++ y ∷ []) (sym at))
@@ -213,18 +213,33 @@ unchanged a none s = same_state (changed a s) s
     (λ p f. ap (λ (o : Option Process). read_cell s (cell_in o p f)) (none p) ∙ applied_same (s.cell p f))
     (λ p. ap (λ (o : Option Process). read_mode s (mode_in o p)) (none p))
 
+-- a process behind a change that lists nothing
+behind_nothing : (a : Change) (d : Process) → ((p : ℕ) → process_at a.processes p ≡ None) → JoinsProcess a d d
+behind_nothing a d none = record {
+  cells = λ s f. ap (λ (r : State). read_cell r (value_in d f)) (sym (unchanged a none s));
+  mode = λ s. ap (λ (r : State). read_mode r d.mode) (sym (unchanged a none s));
+  untouched = λ p f e. both_true (is_untouched a p f) (untouched_at d.base d.cells p f)
+      (ap (λ (o : Option Process). untouched_in o p f) (none p)) e;
+  unturned = λ p e. both_true (is_unturned a p) (is_own d.mode p)
+      (ap (λ (o : Option Process). is_own (mode_in o p) p) (none p) ∙ eq-eqb p p refl) e;
+  names = λ names from within. within;
+}
+
 pub joins_nothing : (a b whole : Change) → ((p : ℕ) → process_at a.processes p ≡ None)
     → ((p : ℕ) → process_at whole.processes p ≡ process_at b.processes p) → JoinsTo a b whole
 joins_nothing a b whole none same_as = record {
-  changes = λ s. same_state (changed whole s) (changed b s)
-      (λ p f. ap (λ (o : Option Process). read_cell s (cell_in o p f)) (same_as p))
-      (λ p. ap (λ (o : Option Process). read_mode s (mode_in o p)) (same_as p))
-      ∙ ap (changed b) (sym (unchanged a none s));
-  untouched = λ p f e. both_true (is_untouched a p f) (is_untouched b p f)
-      (ap (λ (o : Option Process). untouched_in o p f) (none p))
-      (ap (λ (o : Option Process). untouched_in o p f) (sym (same_as p)) ∙ e);
-  unturned = λ p e. both_true (is_unturned a p) (is_unturned b p)
-      (ap (λ (o : Option Process). is_own (mode_in o p) p) (none p) ∙ eq-eqb p p refl)
-      (ap (λ (o : Option Process). is_own (mode_in o p) p) (sym (same_as p)) ∙ e);
-  names = λ names first second. same_within names b whole same_as second;
+  each = λ p. subst (JoinsListed a (process_at a.processes p) (process_at b.processes p)) (sym (same_as p))
+      (each p (process_at b.processes p));
+}
+  where
+    each : (p : ℕ) (o : Option Process) → JoinsListed a (process_at a.processes p) o o
+    each p None = none p
+    each p (Some d) = behind_nothing a d none
+
+-- where the second lists nothing
+pub nothing_joins : (a b whole : Change) → ((p : ℕ) → process_at b.processes p ≡ None) → whole ≡ a → JoinsTo a b whole
+nothing_joins a b whole none is = record {
+  each = λ p. subst (λ (o : Option Process). JoinsListed a (process_at a.processes p) o (process_at whole.processes p))
+      (sym (none p)) (alike_same (process_at whole.processes p) (process_at a.processes p)
+      (ap (λ (c : Change). process_at c.processes p) is));
 }

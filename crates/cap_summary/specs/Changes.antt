@@ -1,5 +1,6 @@
 -- What becomes of each cell and mode over a segment, whatever the state before it.
-use Rattle.std.specs.Prelude.{◌≡◌, ◌↔◌, ℕ, Option, None, unwrap_or, is_some, IsSomeAnd, MatchOption, ◌&&◌, not, Bool, true}
+use Rattle.std.specs.Prelude.{◌≡◌, ℕ, List, Option, None, unwrap_or, is_some, IsSomeAnd, IfSome, MatchOption, ◌&&◌, not}
+use Rattle.std.specs.Prelude.{Bool, true, false}
 use Rattle.std.specs.Option.{option_map_or}
 use Rattle.cap_machine.specs.State.{State}
 use Rattle.cap_machine.specs.Op.{same}
@@ -13,7 +14,7 @@ use Rattle.cap_summary.specs.declared.change.Change.{Change}
 use Rattle.cap_summary.specs.declared.tables.Cells.{Cells}
 use Rattle.cap_summary.specs.Values.{read_cell, read_mode, unlisted, rest_untouched, is_own}
 use Rattle.cap_summary.specs.Tables.{listed_value, process_at}
-use Rattle.cap_summary.specs.Names.{Names, ProcessWithin, ChangeWithin}
+use Rattle.cap_summary.specs.Names.{Names, ProcessWithin, SourceWithin, TakesFrom, is_one}
 
 -- the value of each descriptor of a process: the one that is listed, or as the base says
 abbrev pub value_at : Base → Cells → ℕ → Value
@@ -58,32 +59,15 @@ abbrev pub is_unturned : Change → ℕ → Bool
 is_unturned change p = is_own (mode_of change p) p
 
 -- A process after a change, by what it is without it. What isn't touched is touched neither by the change nor behind
--- it, and it names only what the change and the process name
+-- it, and it names only what the process names, and the change of those that the process comes from
 pub record JoinsProcess (change : Change) (old new : Process) : Type 0 where
   pub cells : (s : State) (f : ℕ) → read_cell s (value_in new f) ≡ read_cell (changed change s) (value_in old f)
   pub mode : (s : State) → read_mode s new.mode ≡ read_mode (changed change s) old.mode
   pub untouched : (p f : ℕ) → untouched_at new.base new.cells p f ≡ true
       → (is_untouched change p f && untouched_at old.base old.cells p f) ≡ true
   pub unturned : (p : ℕ) → is_own new.mode p ≡ true → (is_unturned change p && is_own old.mode p) ≡ true
-  pub names : (names : Names) → ChangeWithin names change → ProcessWithin names old → ProcessWithin names new
-
--- the same of a process that may be listed: where it isn't, it is what it was before
-abbrev pub JoinsListed : Change → Option Process → Option Process → Option Process → Type 0
-JoinsListed change before old new = MatchOption old (new ≡ before) (λ d. IsSomeAnd new (λ e. JoinsProcess change d e))
-
--- a change that does what a and then b do, leaves untouched only what both leave so, and names only what they name
-pub record JoinsTo (a b c : Change) : Type 0 where
-  pub changes : (s : State) → changed c s ≡ changed b (changed a s)
-  pub untouched : (p f : ℕ) → is_untouched c p f ≡ true → (is_untouched a p f && is_untouched b p f) ≡ true
-  pub unturned : (p : ℕ) → is_unturned c p ≡ true → (is_unturned a p && is_unturned b p) ≡ true
-  pub names : (names : Names) → ChangeWithin names a → ChangeWithin names b → ChangeWithin names c
-
--- two changes that do the same, leave the same untouched and name the same
-pub record DoSame (a b : Change) : Type 0 where
-  pub changes : (s : State) → changed a s ≡ changed b s
-  pub untouched : (p f : ℕ) → is_untouched a p f ≡ is_untouched b p f
-  pub unturned : (p : ℕ) → is_unturned a p ≡ is_unturned b p
-  pub names : (names : Names) → ChangeWithin names a ↔ ChangeWithin names b
+  pub names : (names : Names) → TakesFrom (SourceWithin names change) old → ProcessWithin names old
+      → ProcessWithin names new
 
 -- two processes with the same listed cells, the same base and the same mode
 pub record IsSame (d e : Process) : Type 0 where
@@ -94,3 +78,25 @@ pub record IsSame (d e : Process) : Type 0 where
 -- what has become of a process by two changes: both list the same, or neither lists it
 abbrev pub AreAlike : Option Process → Option Process → Type 0
 AreAlike own theirs = MatchOption own (theirs ≡ None) (λ d. IsSomeAnd theirs (λ e. IsSame d e))
+
+-- a process that may be listed, after a change: where it isn't, it is what it was before
+abbrev pub JoinsListed : Change → Option Process → Option Process → Option Process → Type 0
+JoinsListed change before old new = MatchOption old (AreAlike new before) (λ d. IsSomeAnd new (λ e. JoinsProcess change d e))
+
+-- a change that does to each process what a and then b do
+pub record JoinsTo (a b c : Change) : Type 0 where
+  pub each : (p : ℕ)
+      → JoinsListed a (process_at a.processes p) (process_at b.processes p) (process_at c.processes p)
+
+-- two changes that list the same of each process
+pub record ListSame (a b : Change) : Type 0 where
+  pub each : (p : ℕ) → AreAlike (process_at a.processes p) (process_at b.processes p)
+
+-- what the second change lists, as an earlier whole has it, is what it is behind the first one; but for these processes
+abbrev pub HasAllBut : List ℕ → Change → Change → Change → Type 0
+HasAllBut anew a b whole = (p : ℕ) → is_one anew p ≡ false → IfSome (process_at b.processes p)
+    (λ d. IsSomeAnd (process_at whole.processes p) (λ e. JoinsProcess a d e))
+
+-- what a process is behind the one change, it is behind the other
+abbrev pub MovesAlike : Change → Change → Process → Type 0
+MovesAlike was now d = (e : Process) → JoinsProcess was d e → JoinsProcess now d e

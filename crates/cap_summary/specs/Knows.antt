@@ -9,7 +9,7 @@ use Rattle.cap_summary.specs.declared.known.Known.{Known}
 use Rattle.cap_summary.specs.declared.change.Change.{Change}
 use Rattle.cap_summary.specs.declared.known.Likeness.{Likeness}
 use Rattle.cap_summary.specs.declared.known.Likeness.TheVariants as likeness
-use Rattle.cap_summary.specs.Changes.{changed, is_untouched, is_unturned, JoinsTo, DoSame}
+use Rattle.cap_summary.specs.Changes.{changed, is_untouched, is_unturned, JoinsTo, ListSame}
 use Rattle.cap_summary.specs.Names.{Names, names_in, ChangeWithin, ConditionsWithin}
 use Rattle.cap_summary.specs.Sizes.{IsSized}
 use Rattle.cap_summary.specs.declared.conditions.Condition.{Condition}
@@ -64,12 +64,12 @@ pub record Composes (a b whole : Known) : Type 0 where
 
 -- the same change, which names the same, and something is found under the same states
 pub record IsLike (a b : Known) : Type 0 where
-  pub change : DoSame a.change b.change
+  pub change : ListSame a.change b.change
   pub always : a.always ≡ b.always
   pub conditions : a.conditions ≡ b.conditions
 
 -- how far what is known of a segment, and then of another in its place, is alike
 abbrev pub AreAlike : Likeness → Known → Known → Type 0
 AreAlike likeness.Unknown old new = Unit {0}
-AreAlike likeness.Change old new = DoSame new.change old.change
+AreAlike likeness.Change old new = ListSame new.change old.change
 AreAlike likeness.All old new = IsLike new old

@@ -7,6 +7,7 @@ pub mod Names
 pub mod Sizes
 pub mod Changes
 pub mod Images
+pub mod Earlier
 pub mod Does
 pub mod Conditions
 pub mod Packed

@@ -95,6 +95,33 @@ AreWithin names processes = (p : ℕ) → ListedWithin names p (process_at proce
 abbrev pub ChangeWithin : Names → Change → Type 0
 ChangeWithin names change = AreWithin names change.processes
 
+-- ---- sources
+
+-- what holds of the process that a value comes from, that cells which aren't listed come from, or that a mode comes from
+abbrev pub value_from : (ℕ → Type 0) → Value → Type 0
+value_from P (value.Fixed c) = Unit {0}
+value_from P (value.Of q g op) = P q
+
+abbrev pub others_from : (ℕ → Type 0) → Others → Type 0
+others_from P rest.Unknown = Unit {0}
+others_from P rest.Closed = Unit {0}
+others_from P (rest.Of q passing) = P q
+
+abbrev pub mode_from : (ℕ → Type 0) → ModeValue → Type 0
+mode_from P (mode_value.Fixed m) = Unit {0}
+mode_from P (mode_value.Of q) = P q
+mode_from P (mode_value.Own q) = P q
+
+-- this holds of each process that something of a process comes from
+pub record TakesFrom (P : ℕ → Type 0) (process : Process) : Type 0 where
+  pub cells : (f : ℕ) → IfSome (listed_value process.cells f) (value_from P)
+  pub others : others_from P process.base.others
+  pub mode : mode_from P process.mode
+
+-- what a change lists of a process, if it lists it, is among them
+abbrev pub SourceWithin : Names → Change → ℕ → Type 0
+SourceWithin names change q = ListedWithin names q (process_at change.processes q)
+
 -- ---- conditions
 
 abbrev pub source_within : Names → Source → Bool

@@ -4,7 +4,8 @@
 ghost use Rattle.std.specs.Prelude.{◌≡◌, ℕ, true};
 ghost use Rattle.std.specs.Option.{option_copied};
 ghost use Rattle.cap_summary.specs.Tables.{kept_kind, kept_rights, kept_value, listed_process};
-ghost use Rattle.cap_summary.specs.Changes.{IsSame, DoSame};
+ghost use Rattle.cap_summary.specs.Changes.{IsSame, ListSame};
+ghost use Rattle.cap_summary.specs.Names.{TakesFrom};
 
 use crate::change::{Change, Process};
 use crate::conditions::{CellTest, HeldTest, Refused, Source};
@@ -172,6 +173,17 @@ impl Listed {
         }
     }
 
+    /// Whether nothing is known of the process, so that it comes from none.
+    #[inline]
+    pub(crate) fn is_gone(&self) -> bool
+        ensures { result ≡ true → (p : ℕ) → TakesFrom (λ q. ⊥) (listed_process p self.now) }
+    {
+        match self {
+            Listed::Ended(cells) => cells.is_empty(),
+            _ => false,
+        }
+    }
+
     /// Whether another one is the same of the process with the same pid. No is a safe answer.
     #[inline]
     pub(crate) fn is_like(&self, other: &Listed) -> bool
@@ -195,9 +207,9 @@ impl Listed {
 }
 
 impl Change {
-    /// Whether another change does the same and names the same, by comparing their entries. No is a safe answer.
+    /// Whether another change lists the same of each process, by comparing their entries. No is a safe answer.
     pub(crate) fn is_like(&self, other: &Change) -> bool
-        ensures { result ≡ true → DoSame self.now other.now }
+        ensures { result ≡ true → ListSame self.now other.now }
     {
         self.processes.is_like(&other.processes)
     }

@@ -4,13 +4,14 @@ ghost use Rattle.std.specs.Prelude.{◌≡◌, ℕ, ◌≤◌, ◌&&◌, true, N
 ghost use Rattle.cap_machine.specs.Op.{same};
 ghost use Rattle.cap_machine.specs.State.{State};
 ghost use Rattle.cap_summary.specs.Values.{read_cell, read_mode, unlisted, rest_untouched, is_own};
-ghost use Rattle.cap_summary.specs.Changes.{value_at, value_in, value_of, mode_of, changed, JoinsProcess, JoinsTo};
+ghost use Rattle.cap_summary.specs.Changes.{value_at, value_in, value_of, mode_of, changed, JoinsProcess};
 ghost use Rattle.cap_summary.specs.Changes.{untouched_at, is_untouched, is_unturned};
 ghost use Rattle.cap_summary.specs.Images.{under, IsLowered};
 ghost use Rattle.std.specs.List.{All};
 ghost use Rattle.cap_summary.specs.Tables.{listed_value, process_at, listed_process, process_of};
 ghost use Rattle.cap_summary.specs.Tables.{seen_value};
 ghost use Rattle.cap_summary.specs.Names.{Names, cell_within, others_within, mode_within, these, ChangeWithin};
+ghost use Rattle.cap_summary.specs.Names.{TakesFrom, SourceWithin, others_from, mode_from};
 
 use crate::kept::{Listed, Seen};
 use crate::layers::Lowered;
@@ -93,6 +94,13 @@ impl ProcessRef<'_> {
         self.cells.stay_behind(change)
     }
 
+    /// Whether all that has become of the process with this pid comes from itself. No is a safe answer.
+    pub(crate) fn takes_its_own(&self, pid: Pid) -> bool
+        ensures { result ≡ true → TakesFrom (λ q. q ≡ pid) (process_of self.now) }
+    {
+        !self.base.is_of_another(pid) && !self.mode.is_of_another(pid) && self.cells.are_of(pid)
+    }
+
     /// How many cells of another process it copies where it stands behind a change.
     pub(crate) fn copied(&self, pid: Pid, change: &Change) -> usize
         ensures few { (pids fds : List ℕ) → ChangeWithin (these pids fds) change.now → result ≤ length fds }
@@ -155,8 +163,8 @@ impl Change {
         ensures mode { (s : State) → read_mode s result ≡ read_mode (changed self.now s) value.now }
         ensures unturned { (p : ℕ)
             → is_own result p ≡ true → (is_unturned self.now p && is_own value.now p) ≡ true }
-        ensures names { (names : Names) → ChangeWithin names self.now → mode_within names value.now ≡ true
-            → mode_within names result ≡ true }
+        ensures names { (names : Names) → mode_from (SourceWithin names self.now) value.now
+            → mode_within names value.now ≡ true → mode_within names result ≡ true }
     {
         match value {
             ModeValue::Fixed(mode) => ModeValue::Fixed(*mode),
@@ -216,9 +224,9 @@ impl Change {
             → read_cell s (value_at r.0 r.1 f) ≡ read_cell (changed self.now s) (unlisted base.now f)) }
         ensures untouched { IfOk result (λ r. (p f : ℕ) → untouched_at r.0 r.1 p f ≡ true
             → (is_untouched self.now p f && rest_untouched base.now p f) ≡ true) }
-        ensures others { IfOk result (λ r. (names : Names) → ChangeWithin names self.now
+        ensures others { IfOk result (λ r. (names : Names) → others_from (SourceWithin names self.now) base.now.others
             → others_within names base.now.others ≡ true → others_within names r.0.others ≡ true) }
-        ensures listed { IfOk result (λ r. (names : Names) → ChangeWithin names self.now → (f : ℕ)
+        ensures listed { IfOk result (λ r. (names : Names) → others_from (SourceWithin names self.now) base.now.others → (f : ℕ)
             → cell_within names f (listed_value r.1 f) ≡ true) }
     {
         match base.others {
@@ -297,17 +305,5 @@ impl Change {
         }
         let new = self.process_under(alloc, &process, made)?;
         Listed::of(alloc, pid, new)
-    }
-
-    /// What this change and then another do. What the one leaves of the other as it is, is shared.
-    pub(crate) fn join(&self, alloc: Global, then: &Change) -> Result<Change, NoMemory>
-        ensures { IfOk result (λ whole. JoinsTo self.now then.now whole) }
-    {
-        if self.processes.is_empty() {
-            let processes = then.processes.share()?;
-            return Ok(Change { processes });
-        }
-        let processes = self.processes.under(alloc, &then.processes, self)?;
-        Ok(Change { processes })
     }
 }

@@ -8,7 +8,7 @@ ghost use Rattle.std.specs.List.{All};
 ghost use Rattle.cap_summary.specs.Values.{unlisted, op_on, passing_op};
 ghost use Rattle.cap_summary.specs.Changes.{value_in};
 ghost use Rattle.cap_machine.specs.State.{State};
-ghost use Rattle.cap_summary.specs.Names.{Names, value_within};
+ghost use Rattle.cap_summary.specs.Names.{Names, value_within, value_from};
 ghost use Rattle.cap_summary.specs.Packed.{low_source};
 ghost use Rattle.cap_summary.specs.MovedLow.{MovedLowHolds, MovedLowWithin, low_value};
 ghost use Rattle.std.specs.Option.{option_copied};
@@ -199,6 +199,17 @@ impl Kept {
             Kept::Clear(rights) => Ok(Kept::Clear(*rights)),
             Kept::Unsure(rights) => Ok(Kept::Unsure(*rights)),
             Kept::Of(taken) => Ok(Kept::Of(taken.clone()?)),
+        }
+    }
+
+    /// Whether it comes from no cell of another process than the one with this pid.
+    #[inline]
+    pub(crate) fn comes_from(&self, pid: Pid) -> bool
+        ensures { result ≡ true → value_from (λ q. q ≡ pid) (kept_value self.now) }
+    {
+        match self {
+            Kept::Of(taken) => taken.pid == pid,
+            _ => true,
         }
     }
 
@@ -518,48 +529,4 @@ impl Listed {
             Listed::Other(process) => Ok(Listed::Other(process.clone()?)),
         }
     }
-}
-
-/// Processes, and over them others that stand behind a change.
-#[derive(Clone, Copy)]
-pub(crate) struct Joining<'a> {
-    pub(crate) change: &'a Change,
-    /// Tables that stand behind the change over others.
-    pub(crate) made: &'a [Lowered],
-    ghost lowered: { All (IsLowered change.now) made.now },
-}
-
-impl Combine for Joining<'_> {
-    type Left = Listed;
-
-    type Right = Listed;
-
-    type Out = Listed;
-
-    ghost use Rattle.std.specs.Prelude.{refl};
-    ghost use Rattle.cap_summary.specs.Tables.{listed_process};
-    ghost use Rattle.cap_summary.specs.Changes.{JoinsListed};
-
-    ghost gives = { λ s p left right out. JoinsListed s.change.now (option_map (listed_process p) left)
-        (option_map (listed_process p) right) (option_map (listed_process p) out) };
-
-    fn left(&self, _alloc: Global, _pid: u32, left: &Listed) -> Result<Option<Listed>, NoMemory> {
-        Ok(Some(left.share()?))
-    }
-
-    fn right(&self, alloc: Global, pid: u32, right: &Listed) -> Result<Option<Listed>, NoMemory> {
-        Ok(Some(self.change.shared_under(alloc, pid, right, self.made)?))
-    }
-
-    fn both(
-        &self,
-        alloc: Global,
-        pid: u32,
-        _left: &Listed,
-        right: &Listed,
-    ) -> Result<Option<Listed>, NoMemory> {
-        self.right(alloc, pid, right)
-    }
-
-    ghost neither = { λ s p. refl };
 }

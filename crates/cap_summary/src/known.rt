@@ -1,9 +1,10 @@
 //! What is known of a segment, whatever the state before it.
 
-ghost use Rattle.std.specs.Prelude.{◌≡◌, ◌∷◌, [], ◌||◌, true, false, None, IfOk, IfSome};
+ghost use Rattle.std.specs.Prelude.{◌≡◌, ℕ, ◌+◌, ◌^◌, ◌<◌, ◌≤◌, ◌∷◌, [], ◌||◌, true, false, None, length, IfOk, OnOk, IfSome};
+ghost use Rattle.cap_tree.specs.Run.{values};
 ghost use Rattle.cap_machine.specs.Steps.{step};
 ghost use Rattle.cap_machine.specs.Table.{start_state};
-ghost use Rattle.cap_summary.specs.Changes.{JoinsTo, DoSame};
+ghost use Rattle.cap_summary.specs.Changes.{JoinsTo, ListSame};
 ghost use Rattle.cap_summary.specs.Sizes.{IsSizeOf, IsSized, ListMuch};
 ghost use Rattle.cap_summary.specs.Knows.{Knows, Composes, AreAlike, IsMoved, finds, state_after, leaves_cell, leaves_mode};
 
@@ -14,7 +15,7 @@ use crate::merge::merged;
 use crate::packed::Conditions;
 use cap_machine::{Cell, Mode, Profile, Start, Step, rule_of};
 use cap_trace::{Fd, LineRef, Pid};
-use cap_tree::NoMemory;
+use cap_tree::{Meter, NoMemory};
 use std::alloc::Global;
 use std::rc::Rc;
 
@@ -110,6 +111,30 @@ impl Known {
             size,
             forks,
         })
+    }
+
+    /// Some steps, half by half, with one join fewer than there are steps.
+    pub(crate) fn of_steps(
+        alloc: Global,
+        meter: &mut Meter,
+        steps: &[Rc<Step>],
+    ) -> Result<Known, NoMemory>
+        requires some { 0 < length steps.now }
+        requires room { meter.old + length steps.now < 2 ^ 64 }
+        ensures knows { IfOk result (λ known. Knows known (values steps.now)) }
+        ensures counted { OnOk result (meter.new + 1 ≡ meter.old + length steps.now) }
+        ensures not_less { meter.old ≤ meter.new }
+        ensures at_most { meter.new < meter.old + length steps.now }
+    {
+        if steps.len() == 1 {
+            return Known::of_step(alloc, &steps[0]);
+        }
+        let (front, back) = steps.split_at(steps.len() / 2);
+        let a = Known::of_steps(alloc, meter, front)?;
+        let b = Known::of_steps(alloc, meter, back)?;
+        let whole = Known::join(alloc, &a, &b)?;
+        meter.tick();
+        Ok(whole)
     }
 
     /// Whether what is known of a segment and then another may be too large a table.
@@ -251,7 +276,7 @@ impl Known {
     /// answer.
     fn changes_alike(&self, old: &Known, likeness: Likeness) -> bool
         requires { AreAlike likeness old.now self.now }
-        ensures { result ≡ true → DoSame self.now.change old.now.change }
+        ensures { result ≡ true → ListSame self.now.change old.now.change }
     {
         match likeness {
             Likeness::Unknown => self.change.is_like(&old.change),
@@ -259,9 +284,56 @@ impl Known {
         }
     }
 
+    /// What is known of another segment and then the second, where `whole` is that of the first and the second. None where
+    /// both may be too large.
+    fn join_behind(
+        alloc: Global,
+        whole: &Known,
+        first: &Known,
+        second: &Known,
+        other: &Known,
+    ) -> Result<Option<(Rc<Known>, Likeness)>, NoMemory>
+        requires composed { Composes first.now second.now whole.now }
+        requires other { IsSized other.now }
+        requires second { IsSized second.now }
+        ensures composed { IfOk result (λ o. IfSome o (λ new. Composes other.now second.now new.0.value)) }
+        ensures alike { IfOk result (λ o. IfSome o (λ new. AreAlike new.1 whole.now new.0.value)) }
+    {
+        if Known::is_large(other, second) {
+            return Ok(None);
+        }
+        let (was, then) = (&first.change, &second.change);
+        let change = other.change.join_behind(alloc, was, then, &whole.change)?;
+        let new = Known::over(alloc, change, other, second)?;
+        Ok(Some((Rc::new(alloc, new)?, Likeness::Unknown)))
+    }
+
+    /// The same of the first segment and then another one.
+    fn join_before(
+        alloc: Global,
+        whole: &Known,
+        first: &Known,
+        second: &Known,
+        other: &Known,
+    ) -> Result<Option<(Rc<Known>, Likeness)>, NoMemory>
+        requires composed { Composes first.now second.now whole.now }
+        requires first { IsSized first.now }
+        requires other { IsSized other.now }
+        ensures composed { IfOk result (λ o. IfSome o (λ new. Composes first.now other.now new.0.value)) }
+        ensures alike { IfOk result (λ o. IfSome o (λ new. AreAlike new.1 whole.now new.0.value)) }
+    {
+        if Known::is_large(first, other) {
+            return Ok(None);
+        }
+        let (was, then) = (&second.change, &other.change);
+        let change = first.change.join_before(alloc, was, then, &whole.change)?;
+        let new = Known::over(alloc, change, first, other)?;
+        Ok(Some((Rc::new(alloc, new)?, Likeness::Unknown)))
+    }
+
     /// What is known of another segment and then the second, as `whole` is of the first and the second, and how far the
     /// two wholes are alike; `likeness` says it of the first and the other. What the other leaves as it was is shared.
-    /// None where the other's change isn't like the first's, or both may be too large.
+    /// None where both may be too large.
     pub(crate) fn with_left(
         alloc: Global,
         whole: &Rc<Known>,
@@ -281,7 +353,7 @@ impl Known {
             return Ok(Some((whole.clone()?, Likeness::All)));
         }
         if !other.changes_alike(first, likeness) {
-            return Ok(None);
+            return Known::join_behind(alloc, whole, first, second, other);
         }
         if one_of(other.always, second.always) {
             let new = Known::made_certain(whole, alloc)?;
@@ -317,7 +389,7 @@ impl Known {
             return Ok(Some((whole.clone()?, Likeness::All)));
         }
         if !other.changes_alike(second, likeness) {
-            return Ok(None);
+            return Known::join_before(alloc, whole, first, second, other);
         }
         if one_of(first.always, other.always) {
             let new = Known::made_certain(whole, alloc)?;

@@ -6,12 +6,13 @@ ghost use Rattle.cap_summary.specs.Sorted.{found, Rises};
 ghost use Rattle.cap_summary.specs.Tables.{kept_values, seen_value, or_else, parts_value, layered_value, passed_value};
 ghost use Rattle.cap_summary.specs.Images.{under, Stays, StandsOver, LowersTo, IsLowered};
 ghost use Rattle.cap_summary.specs.Values.{passed_on, passing_op, op_on};
+ghost use Rattle.cap_summary.specs.Names.{value_from};
 
 use crate::change::{Change, Near};
 use crate::kept::{Handing, Kept, Moving, Seen};
 use crate::sorted::{Filled, Table, merge};
 use crate::values::{Passing, Value, is_closed, lower_of};
-use cap_trace::Fd;
+use cap_trace::{Fd, Pid};
 use cap_tree::NoMemory;
 use std::alloc::{AllocError, Global};
 use std::marker::Model;
@@ -460,6 +461,18 @@ fn same_table(table: &Table<Kept>) -> Result<Table<Kept>, NoMemory>
 {
     let same = table.clone()?;
     Ok(same)
+}
+
+/// Whether none of these comes from a cell of another process than the one with this pid. No is a safe answer.
+pub(crate) fn come_from(entries: &[(u32, Kept)], pid: Pid) -> bool
+    ensures { result ≡ true → (f : ℕ) → IfSome (kept_values (found entries.now f)) (value_from (λ q. q ≡ pid)) }
+{
+    for entry in entries {
+        if !entry.1.comes_from(pid) {
+            return false;
+        }
+    }
+    true
 }
 
 /// Whether the values of all entries stand behind a change as they are, also where they are handed on. No is a safe

@@ -21,6 +21,7 @@ mod conditions;
 mod effects;
 mod explaining;
 mod in_order;
+mod joins;
 mod kept;
 mod known;
 mod layers;

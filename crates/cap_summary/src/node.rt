@@ -24,7 +24,7 @@ use crate::known::{Known, Likeness};
 use crate::walking::{walk_cell, walk_mode};
 use cap_machine::{CellWalk, Found, Machine, ModeWalk, Step};
 use cap_trace::{Fd, Pid};
-use cap_tree::NoMemory;
+use cap_tree::{Meter, NoMemory};
 use std::alloc::Global;
 use std::marker::Model;
 use std::rc::Rc;
@@ -305,6 +305,52 @@ impl Node {
             content: Content::Run(run),
         };
         Ok(Rc::new(alloc, node)?)
+    }
+
+    /// The run of these steps.
+    fn of_run(alloc: Global, meter: &mut Meter, steps: &[Rc<Step>]) -> Result<Rc<Node>, NoMemory>
+        requires some { 0 < length steps.now }
+        requires few { length steps.now ≤ 2 ^ 30 }
+        requires room { meter.old + length steps.now < 2 ^ 64 }
+        ensures steps { IfOk result (λ n. n.value.steps ≡ values steps.now) }
+        ensures counted { OnOk result (meter.new + 1 ≡ meter.old + length steps.now) }
+        ensures not_less { meter.old ≤ meter.new }
+        ensures at_most { meter.new < meter.old + length steps.now }
+    {
+        let known = Known::of_steps(alloc, meter, steps)?;
+        let mut run = Vec::with_capacity(alloc, steps.len())?;
+        Node::share(&mut run, steps)?;
+        let node = Node {
+            len: steps.len(),
+            known: Some(Rc::new(alloc, known)?),
+            content: Content::Run(run),
+        };
+        Ok(Rc::new(alloc, node)?)
+    }
+
+    /// These steps, with one join fewer than there are steps: as one run where it can hold them, and else half by half.
+    pub(crate) fn of_steps(
+        alloc: Global,
+        meter: &mut Meter,
+        steps: &[Rc<Step>],
+    ) -> Result<Rc<Node>, NoMemory>
+        requires some { 0 < length steps.now }
+        requires few { length steps.now ≤ 2 ^ 30 }
+        requires room { meter.old + length steps.now < 2 ^ 64 }
+        ensures steps { IfOk result (λ n. n.value.steps ≡ values steps.now) }
+        ensures counted { OnOk result (meter.new + 1 ≡ meter.old + length steps.now) }
+        ensures not_less { meter.old ≤ meter.new }
+        ensures at_most { meter.new < meter.old + length steps.now }
+    {
+        if steps.len() <= RUN_STEPS {
+            return Node::of_run(alloc, meter, steps);
+        }
+        let (front, back) = steps.split_at(steps.len() / 2);
+        let left = Node::of_steps(alloc, meter, front)?;
+        let right = Node::of_steps(alloc, meter, back)?;
+        let node = Node::join(alloc, &left, &right)?;
+        meter.tick();
+        Ok(node)
     }
 
     /// What is known of the steps, where it is kept.

@@ -153,6 +153,11 @@ impl Segment for Summary {
         Ok(Summary { node })
     }
 
+    fn sum(alloc: Global, meter: &mut Meter, steps: &[Rc<Step>]) -> Result<Summary, NoMemory> {
+        let node = Node::of_steps(alloc, meter, steps)?;
+        Ok(Summary { node })
+    }
+
     fn len(&self) -> usize {
         self.node.len()
     }

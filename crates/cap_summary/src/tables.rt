@@ -10,16 +10,18 @@ ghost use Rattle.cap_summary.specs.Tables.{or_else, Hides};
 ghost use Rattle.cap_summary.specs.Sorted.{found, Rises};
 ghost use Rattle.cap_summary.specs.Changes.{JoinsListed, AreAlike};
 ghost use Rattle.cap_summary.specs.Images.{under, IsLowered};
+ghost use Rattle.cap_summary.specs.Earlier.{HasEarlier};
 ghost use Rattle.std.specs.List.{All};
 ghost use Rattle.cap_summary.specs.Values.{passed_on, passing_op, op_on};
-ghost use Rattle.cap_summary.specs.Names.{is_one, these, AreWithin, ChangeWithin};
+ghost use Rattle.cap_summary.specs.Names.{is_one, these, AreWithin, ChangeWithin, value_from};
 ghost use Rattle.cap_summary.specs.Sizes.{room};
 
 use crate::change::{Change, Near, Process, ProcessRef};
-use crate::kept::{Handing, Joining, Kept, Listed, Seen};
+use crate::joins::Joining;
+use crate::kept::{Handing, Kept, Listed, Seen};
 use crate::layers::{
-    LARGE, Layers, Lowered, Parts, Shared, are_like, has_room, made_of, note_lowered, stay_behind,
-    top_behind,
+    LARGE, Layers, Lowered, Parts, Shared, are_like, come_from, has_room, made_of, note_lowered,
+    stay_behind, top_behind,
 };
 use crate::sorted::{Builder, Filled, Table, found_from, merge};
 use crate::values::{Passing, Value};
@@ -309,6 +311,14 @@ impl Cells {
     {
         let parts = self.parts();
         stay_behind(parts.top, change) && stay_behind(parts.lower, change)
+    }
+
+    /// Whether no cell comes from another process than the one with this pid. No is a safe answer.
+    pub(crate) fn are_of(&self, pid: Pid) -> bool
+        ensures { result ≡ true → (f : ℕ) → IfSome (listed_value self.now f) (value_from (λ q. q ≡ pid)) }
+    {
+        let parts = self.parts();
+        come_from(parts.top, pid) && come_from(parts.lower, pid)
     }
 
     /// Whether each listed descriptor is listed in others.
@@ -655,6 +665,15 @@ impl Processes {
         self.table.get(pid).is_some()
     }
 
+    /// The entries, in the order of their pids.
+    #[tactic(auto, unfolding(crate::specs::Tables::process_at))]
+    #[inline]
+    pub(crate) fn entries(&self) -> &[(u32, Listed)]
+        ensures { (p : ℕ) → option_map (listed_process p) (found result.now p) ≡ process_at self.now p }
+    {
+        self.table.entries()
+    }
+
     /// Whether no process is listed.
     #[tactic(auto, unfolding(crate::specs::Tables::process_at))]
     pub(crate) fn is_empty(&self) -> bool
@@ -720,7 +739,7 @@ impl Processes {
     }
 
     /// What becomes of lower tables of these processes behind a change, where several may share it.
-    fn lowered(&self, alloc: Global, change: &Change) -> Result<Vec<Lowered>, NoMemory>
+    pub(crate) fn lowered(&self, alloc: Global, change: &Change) -> Result<Vec<Lowered>, NoMemory>
         ensures { IfOk result (λ made. All (IsLowered change.now) made.items) }
     {
         let mut made = Vec::new(alloc);
@@ -733,30 +752,41 @@ impl Processes {
         Ok(made)
     }
 
-    /// These processes, and over them what others are behind a change.
-    #[tactic(auto, unfolding(crate::specs::Tables::process_at))]
-    pub(crate) fn under(
+    /// The same of these processes alone.
+    pub(crate) fn lowered_of(
         &self,
         alloc: Global,
-        others: &Processes,
         change: &Change,
-    ) -> Result<Processes, NoMemory>
-        ensures { IfOk result (λ new. (p : ℕ)
-            → JoinsListed change.now (process_at self.now p) (process_at others.now p) (process_at new p)) }
+        pids: &[Pid],
+    ) -> Result<Vec<Lowered>, NoMemory>
+        ensures { IfOk result (λ made. All (IsLowered change.now) made.items) }
     {
-        if others.is_empty() {
-            return self.share();
+        let mut made = Vec::new(alloc);
+        for pid in pids {
+            let Some(process) = self.get(*pid) else {
+                continue;
+            };
+            if process.cells.are_layered() || process.base.is_of_another(*pid) {
+                change.note_lowered(alloc, &process, &mut made)?;
+            }
         }
-        let made = others.lowered(alloc, change)?;
-        let joining = Joining {
-            change,
-            made: &made,
-        };
+        Ok(made)
+    }
+
+    /// The processes of a change, and over them what others are behind it.
+    #[tactic(auto, unfolding(crate::specs::Tables::process_at))]
+    pub(crate) fn joined(alloc: Global, joining: &Joining<'_>) -> Result<Processes, NoMemory>
+        requires { HasEarlier joining.now.earlier joining.now.change.now joining.now.then.now }
+        ensures { IfOk result (λ new. (p : ℕ) → JoinsListed joining.now.change.now
+            (process_at joining.now.change.now.processes p) (process_at joining.now.then.now.processes p)
+            (process_at new p)) }
+    {
+        let (first, second) = joining.parts();
         let table = merge(
             alloc,
-            &joining,
-            self.table.entries(),
-            others.table.entries(),
+            joining,
+            first.table.entries(),
+            second.table.entries(),
         )?;
         Ok(Processes { table })
     }

@@ -6,7 +6,7 @@ ghost use Rattle.cap_machine.specs.Op.{same, exec, applied};
 ghost use Rattle.cap_summary.specs.Values.{read_cell, read_mode, passing_op, rest_value, unlisted, is_from, op_on};
 ghost use Rattle.cap_summary.specs.Values.{are_of, rest_untouched, is_own, own_base, unknown_base};
 ghost use Rattle.cap_summary.specs.Tables.{seen_value};
-ghost use Rattle.cap_summary.specs.Names.{Names, others_within, mode_within, value_within};
+ghost use Rattle.cap_summary.specs.Names.{Names, others_within, mode_within, value_within, others_from, mode_from};
 ghost use Rattle.cap_summary.specs.Packed.{low_source};
 ghost use Rattle.cap_summary.specs.MovedLow.{MovedLowHolds, MovedLowWithin};
 
@@ -87,6 +87,16 @@ impl ModeValue {
         match self {
             ModeValue::Own(own) => *own == pid,
             _ => false,
+        }
+    }
+
+    /// Whether it is the mode of another process than the one with this pid.
+    pub(crate) fn is_of_another(&self, pid: Pid) -> bool
+        ensures { result ≡ false → mode_from (λ q. q ≡ pid) self.now }
+    {
+        match self {
+            ModeValue::Fixed(_) => false,
+            ModeValue::Of(source) | ModeValue::Own(source) => *source != pid,
         }
     }
 
@@ -303,7 +313,9 @@ impl Base {
     }
 
     /// Whether the cells are those of another process.
-    pub(crate) fn is_of_another(&self, pid: Pid) -> bool {
+    pub(crate) fn is_of_another(&self, pid: Pid) -> bool
+        ensures { result ≡ false → others_from (λ q. q ≡ pid) self.now.others }
+    {
         match &self.others {
             Others::Of(source, _) => *source != pid,
             _ => false,

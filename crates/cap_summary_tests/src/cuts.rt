@@ -210,3 +210,37 @@ fn many_lines_are_summed_up(rt: HostRuntime) -> Result<(), Fail> {
     assert_eq!(rt; found.len(), 5);
     Ok(())
 }
+
+/// Whether the summary of some steps has so many findings, and one join fewer than there are steps.
+fn sums_up(alloc: Global, steps: &[Rc<Step>], count: usize) -> Result<bool, Fail> {
+    if steps.is_empty() || steps.len() > 1000 {
+        return Ok(false);
+    }
+    let mut meter = Meter::new();
+    let whole = Summary::sum(alloc, &mut meter, steps)?;
+    let found = resolve(alloc, &whole, &Start::unknown(alloc))?;
+    let joins = meter.joins() as usize;
+    Ok(whole.len() == steps.len() && found.len() == count && joins == steps.len() - 1)
+}
+
+#[test]
+fn steps_are_summed_up_at_once(rt: HostRuntime) -> Result<(), Fail> {
+    let alloc = rt.alloc();
+    let mut steps = steps_of(
+        alloc,
+        Profile::One,
+        b"100 cap_rights_limit(3,CAP_READ) RET 0",
+    )?;
+    for _ in 0..60 {
+        let more = steps_of(
+            alloc,
+            Profile::One,
+            b"100 write(3) RET 1\n100 read(3) RET 1",
+        )?;
+        steps.extend(more)?;
+    }
+    for (length, count) in [(1, 0), (2, 1), (48, 24), (49, 24), (121, 60)] {
+        assert!(&rt; sums_up(alloc, &steps[..length], count)?);
+    }
+    Ok(())
+}

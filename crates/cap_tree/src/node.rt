@@ -79,25 +79,6 @@ impl<S: Segment> Node<S> {
         self.height
     }
 
-    /// The summary of a run.
-    fn sum_up(alloc: Global, meter: &mut Meter, run: &[Rc<S::Item>]) -> Result<S, NoMemory>
-        requires some { 0 < length run.now }
-        requires few { length run.now ≤ 2 ^ 30 }
-        requires room { meter.old + length run.now < 2 ^ 64 }
-        ensures stands { IfOk result (λ s. S.stands s (values run.now)) }
-        ensures counted { OnOk result (meter.new + 1 ≡ meter.old + length run.now) }
-        ensures not_less { meter.old ≤ meter.new }
-        ensures joins { meter.new < meter.old + length run.now }
-    {
-        if run.len() == 1 {
-            return S::one(alloc, &run[0]);
-        }
-        let (front, back) = run.split_at(run.len() / 2);
-        let left = Node::sum_up(alloc, meter, front)?;
-        let right = Node::sum_up(alloc, meter, back)?;
-        S::join(alloc, meter, &left, &right)
-    }
-
     /// The leaf that holds a run.
     fn leaf(
         alloc: Global,
@@ -113,7 +94,7 @@ impl<S: Segment> Node<S> {
         ensures not_less { meter.old ≤ meter.new }
         ensures joins { meter.new < meter.old + vec_len run }
     {
-        let summary = Node::sum_up(alloc, meter, run.as_slice())?;
+        let summary = S::sum(alloc, meter, run.as_slice())?;
         let node = Node {
             summary,
             height: 0,

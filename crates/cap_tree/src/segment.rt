@@ -1,5 +1,6 @@
 //! What can sum up a list of items. The clauses of the trait are the laws that the tree rests on.
 ghost use Rattle.std.specs.Prelude.{◌≡◌, ℕ, ◌+◌, ◌^◌, ◌<◌, ◌≤◌, List, [], ◌∷◌, ◌++◌, length, IfOk, OnOk};
+ghost use Rattle.cap_tree.specs.Run.{values};
 
 use crate::meter::Meter;
 use crate::no_memory::NoMemory;
@@ -56,6 +57,28 @@ pub trait Segment: Drop {
         ensures counted { OnOk result (meter.new ≡ meter.old + 1) }
         ensures not_less { meter.old ≤ meter.new }
         ensures at_most_one { meter.new ≤ meter.old + 1 };
+
+    /// The summary of one item or more, in order: that of the first, joined to those of the others one by one, unless this
+    /// type has a cheaper way.
+    ///
+    /// There must be at most `2 ^ 30` items, and the meter must have room for as many joins. It counts one join fewer than
+    /// there are items; a call that fails counts no more.
+    fn sum(alloc: Global, meter: &mut Meter, items: &[Rc<Self::Item>]) -> Result<Self, NoMemory>
+        requires some { 0 < length items.now }
+        requires few { length items.now ≤ 2 ^ 30 }
+        requires room { meter.old + length items.now < 2 ^ 64 }
+        ensures stands { IfOk result (λ s. stands s (values items.now)) }
+        ensures counted { OnOk result (meter.new + 1 ≡ meter.old + length items.now) }
+        ensures not_less { meter.old ≤ meter.new }
+        ensures at_most { meter.new < meter.old + length items.now }
+    {
+        let mut sum = Self::one(alloc, &items[0])?;
+        for at in 1..items.len() {
+            let next = Self::one(alloc, &items[at])?;
+            sum = Self::join(alloc, meter, &sum, &next)?;
+        }
+        Ok(sum)
+    }
 
     /// As [`Segment::join`] of the left and the right part, where `old` is a join of `was` and the right part. The new
     /// summary may share with the old one what is equal. `likeness` says how far `was` and the left part are alike, and

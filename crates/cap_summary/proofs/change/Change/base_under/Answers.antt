@@ -8,7 +8,7 @@ use Rattle.cap_summary.specs.Changes.{cell_in, changed}
 use Rattle.cap_summary.proofs.Joining.{base_joined}
 use Rattle.cap_summary.proofs.Untouched.{base_untouched}
 use Rattle.cap_summary.proofs.Naming.{passed_within}
-use Rattle.cap_summary.specs.Names.{ListedWithin}
+use Rattle.cap_summary.specs.Names.{ListedWithin, SourceWithin}
 use Rattle.cap_summary.proofs.change.Change.base_under.Goals as goal
 
 pub returns-in_ok-cells-in-Some-clause-cells : goal.returns-in_ok-cells-in-Some-clause-cells
@@ -39,13 +39,15 @@ pub returns-in_ok-cells-in-Some-clause-others : goal.returns-in_ok-cells-in-Some
 returns-in_ok-cells-in-Some-clause-others c = λ names within is.
     let process : Process = process_of c.in-Some.process in
     let found : process_at c.args.self.now.processes c.in-Of.pid ≡ Some process = sym c.in-Some.ensures in
-    let listed : ListedWithin names c.in-Of.pid (Some process) = rw found at (within c.in-Of.pid) in
+    let from : SourceWithin names c.args.self.now c.in-Of.pid = rw c.in-Of.is at within in
+    let listed : ListedWithin names c.in-Of.pid (Some process) = rw found at from in
     c.passed.ensures.names names ∙ listed.1.others
 
 pub returns-in_ok-cells-in-Some-clause-listed : goal.returns-in_ok-cells-in-Some-clause-listed
 returns-in_ok-cells-in-Some-clause-listed c = λ names within f.
     let process : Process = process_of c.in-Some.process in
     let found : process_at c.args.self.now.processes c.in-Of.pid ≡ Some process = sym c.in-Some.ensures in
-    let listed : ListedWithin names c.in-Of.pid (Some process) = rw found at (within c.in-Of.pid) in
+    let from : SourceWithin names c.args.self.now c.in-Of.pid = rw c.in-Of.is at within in
+    let listed : ListedWithin names c.in-Of.pid (Some process) = rw found at from in
     passed_within names c.in-Of.passing c.args.base.now.closed_from f (listed_value c.in-Some.process.cells.now f)
     (listed_value c.in_ok-cells-in-Some.cells f) (c.in_ok-cells-in-Some.ensures f) (listed.1.cells f)

@@ -1,10 +1,9 @@
-use Rattle.std.proofs.Common.{refl, sym, ap, subst, ◌∙◌, ◌||◌, false}
+use Rattle.std.proofs.Common.{sym, ap, subst, ◌∙◌, ◌||◌}
 use Rattle.cap_machine.specs.State.{State}
 use Rattle.cap_summary.specs.declared.change.Change.{Change}
-use Rattle.cap_summary.specs.declared.known.Known.{Known}
 use Rattle.cap_summary.specs.Changes.{JoinsTo}
 use Rattle.cap_summary.specs.Conditions.{any_holds}
-use Rattle.cap_summary.proofs.Knowing.{composed, composed_certain, always_found, met_found}
+use Rattle.cap_summary.proofs.Knowing.{composed_certain, always_found, met_found}
 use Rattle.cap_summary.proofs.known.Known.over.Goals as goal
 
 pub returns-then-one_of-clause-composed : goal.returns-then-one_of-clause-composed

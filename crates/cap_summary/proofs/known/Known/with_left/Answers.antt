@@ -4,7 +4,8 @@ use Rattle.cap_summary.specs.declared.known.Known.{Known}
 use Rattle.cap_summary.specs.Changes.{JoinsTo}
 use Rattle.std.specs.Prelude.{IfSome}
 use Rattle.cap_summary.specs.Knows.{Composes, IsLike, IsMoved}
-use Rattle.cap_summary.proofs.Knowing.{joins_left, moved_left, composed_left, composed_certain, always_found}
+use Rattle.cap_summary.proofs.Earlier.{joins_left}
+use Rattle.cap_summary.proofs.Knowing.{moved_left, composed_left, composed_certain, always_found}
 use Rattle.cap_summary.proofs.known.Known.with_left.Goals as goal
 
 pub returns-in-All-clause-composed : goal.returns-in-All-clause-composed
@@ -42,7 +43,7 @@ again-requires-clause-joins c =
     joins_left c.args.first.now.change c.args.second.now.change c.args.whole.now.value.change c.args.other.now.change
     c.requires.composed.changes (c.changes_alike.ensures c.if-not-changes_alike.false) in
     subst (λ (r : Change). JoinsTo c.args.other.now.change c.args.second.now.change r)
-    (sym (c.in_ok-share.ensures ∙ ap (λ (r : Known). r.change) c.deref.ensures)) joins
+    (sym (c.in_ok-share.ensures ∙ ap (λ (r : Known). r.change) c.deref-2.ensures)) joins
 
 pub again-requires-clause-parts : goal.again-requires-clause-parts
 again-requires-clause-parts c = sym c.one_of.ensures ∙ c.if-one_of.false
@@ -50,6 +51,6 @@ again-requires-clause-parts c = sym c.one_of.ensures ∙ c.if-one_of.false
 pub again-requires-clause-moved : goal.again-requires-clause-moved
 again-requires-clause-moved c =
     subst (λ (r : Known). IfSome r.moved
-    (λ kept. IsMoved c.args.other.now.change c.args.second.now.conditions kept.value)) (sym c.deref-2.ensures)
+    (λ kept. IsMoved c.args.other.now.change c.args.second.now.conditions kept.value)) (sym c.deref-3.ensures)
     (moved_left c.args.first.now.change c.args.other.now.change c.args.second.now.conditions c.args.whole.now.value.moved
     (c.changes_alike.ensures c.if-not-changes_alike.false) c.requires.composed.moved)

@@ -3,7 +3,8 @@ use Rattle.cap_summary.specs.declared.change.Change.{Change}
 use Rattle.cap_summary.specs.declared.known.Known.{Known}
 use Rattle.cap_summary.specs.Changes.{JoinsTo}
 use Rattle.cap_summary.specs.Knows.{Composes, IsLike}
-use Rattle.cap_summary.proofs.Knowing.{joins_right, composed_right, composed_certain, always_found}
+use Rattle.cap_summary.proofs.Earlier.{joins_right}
+use Rattle.cap_summary.proofs.Knowing.{composed_right, composed_certain, always_found}
 use Rattle.cap_summary.proofs.known.Known.with_right.Goals as goal
 
 pub returns-in-All-clause-composed : goal.returns-in-All-clause-composed
@@ -43,4 +44,4 @@ over-requires c =
     joins_right c.args.first.now.change c.args.second.now.change c.args.whole.now.value.change c.args.other.now.change
     c.requires.composed.changes (c.changes_alike.ensures c.if-not-changes_alike.false) in
     subst (λ (r : Change). JoinsTo c.args.first.now.change c.args.other.now.change r)
-    (sym (c.in_ok-share.ensures ∙ ap (λ (r : Known). r.change) c.deref.ensures)) joins
+    (sym (c.in_ok-share.ensures ∙ ap (λ (r : Known). r.change) c.deref-2.ensures)) joins

@@ -1,0 +1,17 @@
+use Rattle.std.proofs.Common.{◌≡◌, ◌++◌, List, subst}
+use Rattle.cap_machine.specs.declared.step.Step.{Step}
+use Rattle.cap_tree.specs.Run.{values}
+use Rattle.cap_summary.specs.Knows.{Knows}
+use Rattle.cap_summary.proofs.Runs.{values_of_parts}
+use Rattle.cap_summary.proofs.Knowing.{composed_knows}
+use Rattle.cap_summary.proofs.known.Known.+of_steps.Goals as goal
+
+pub returns-clause-knows : goal.returns-clause-knows
+returns-clause-knows t c =
+    let front : List Step = values c.split_at.result.0.now in
+    let back : List Step = values c.split_at.result.1.now in
+    let parts : front ++ back ≡ values c.args.steps.now =
+    values_of_parts c.args.steps.now c.split_at.result.0.now c.split_at.result.1.now c.split_at.ensures.by_index.0 in
+    subst (λ steps. Knows c.in_ok-whole.whole steps) parts
+    (composed_knows c.in_ok-a.a c.in_ok-b.b c.in_ok-whole.whole front back c.in_ok-whole.ensures
+    c.in_ok-a.ensures.knows c.in_ok-b.ensures.knows)

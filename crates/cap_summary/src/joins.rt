@@ -1,0 +1,293 @@
+//! One change after another, anew or with what an earlier whole has.
+
+ghost use Rattle.std.specs.Prelude.{◌≡◌, ℕ, true, false, IfOk, OnOk, IfSome, IsSomeAnd, ◌++◌, ◌∷◌, [], option_map};
+ghost use Rattle.std.specs.Option.{option_copied};
+ghost use Rattle.std.specs.List.{All};
+ghost use Rattle.cap_summary.specs.Images.{IsLowered};
+ghost use Rattle.cap_summary.specs.Tables.{process_at, listed_process};
+ghost use Rattle.cap_summary.specs.Names.{is_one};
+ghost use Rattle.cap_summary.specs.Changes.{JoinsProcess, JoinsTo, HasAllBut, MovesAlike, IsSame, AreAlike};
+ghost use Rattle.cap_summary.specs.Earlier.{HasEarlier};
+
+use crate::change::Change;
+use crate::kept::Listed;
+use crate::layers::Lowered;
+use crate::sorted::Combine;
+use crate::tables::Processes;
+use cap_trace::Pid;
+use cap_tree::NoMemory;
+use std::alloc::Global;
+
+/// The most processes that are made anew where an earlier whole has the others.
+const MOST: usize = 16;
+
+/// A whole that was made of other parts, of which one is a part again.
+#[derive(Clone, Copy)]
+struct Earlier<'a> {
+    whole: &'a Change,
+    /// The processes of the second part that it may have otherwise.
+    anew: &'a [Pid],
+}
+
+/// Processes, and over them others that stand behind a change.
+#[derive(Drop)]
+pub(crate) struct Joining<'a> {
+    change: &'a Change,
+    then: &'a Change,
+    /// Tables that stand behind the change over others.
+    made: &'a [Lowered],
+    earlier: Option<Earlier<'a>>,
+    /// Where the last look-up in the earlier whole ended.
+    next: std::cell::Cell<usize>,
+    ghost lowered: { All (IsLowered change.now) made.now },
+}
+
+impl Joining<'_> {
+    /// The processes of both changes.
+    #[inline]
+    pub(crate) fn parts(&self) -> (&Processes, &Processes)
+        ensures first { result.0.now ≡ self.now.change.now.processes }
+        ensures second { result.1.now ≡ self.now.then.now.processes }
+    {
+        (&self.change.processes, &self.then.processes)
+    }
+
+    /// What has become of a process of the second change, where an earlier whole has it.
+    #[inline]
+    fn as_before(&self, pid: Pid) -> Option<&Listed>
+        ensures { HasEarlier self.now.earlier self.now.change.now self.now.then.now → IfSome result (λ listed. IfSome (process_at self.now.then.now.processes pid)
+            (λ d. JoinsProcess self.now.change.now d (listed_process pid listed.now))) }
+    {
+        let Some(earlier) = &self.earlier else {
+            return None;
+        };
+        if earlier.anew.contains(&pid) {
+            return None;
+        }
+        let mut next = self.next.get();
+        let found = earlier.whole.processes.get_from(pid, &mut next);
+        self.next.set(next);
+        found
+    }
+}
+
+impl Combine for Joining<'_> {
+    type Left = Listed;
+
+    type Right = Listed;
+
+    type Out = Listed;
+
+    ghost use Rattle.std.specs.Prelude.{refl};
+    ghost use Rattle.cap_summary.specs.Tables.{listed_process};
+    ghost use Rattle.cap_summary.specs.Changes.{JoinsListed};
+    ghost use Rattle.cap_summary.specs.Earlier.{HasEarlier};
+
+    ghost gives = { λ s p left right out. HasEarlier s.earlier s.change.now s.then.now
+        → option_map (listed_process p) right ≡ process_at s.then.now.processes p → JoinsListed s.change.now (option_map (listed_process p) left)
+        (option_map (listed_process p) right) (option_map (listed_process p) out) };
+
+    fn left(&self, _alloc: Global, _pid: u32, left: &Listed) -> Result<Option<Listed>, NoMemory> {
+        Ok(Some(left.share()?))
+    }
+
+    fn right(&self, alloc: Global, pid: u32, right: &Listed) -> Result<Option<Listed>, NoMemory> {
+        if let Some(listed) = self.as_before(pid) {
+            return Ok(Some(listed.share()?));
+        }
+        Ok(Some(self.change.shared_under(alloc, pid, right, self.made)?))
+    }
+
+    fn both(
+        &self,
+        alloc: Global,
+        pid: u32,
+        _left: &Listed,
+        right: &Listed,
+    ) -> Result<Option<Listed>, NoMemory> {
+        self.right(alloc, pid, right)
+    }
+
+    ghost neither = { λ s p has is. refl };
+}
+
+/// Whether two changes list the same of a process. No is a safe answer.
+#[inline]
+fn are_alike(a: Option<&Listed>, b: Option<&Listed>) -> bool
+    ensures { result ≡ true → (p : ℕ)
+        → AreAlike (option_map (listed_process p) (option_copied a.entry)) (option_map (listed_process p) (option_copied b.entry)) }
+{
+    match (a, b) {
+        (None, None) => true,
+        (Some(a), Some(b)) => a.is_like(b),
+        _ => false,
+    }
+}
+
+/// Notes a process that is to be made anew, and answers whether so few are.
+#[inline]
+fn note(anew: &mut Vec<Pid>, pid: Pid) -> Result<bool, NoMemory>
+    ensures { OnOk result (anew.new.items ≡ anew.old.items ++ pid ∷ []) }
+{
+    anew.push(pid)?;
+    Ok(anew.len() <= MOST)
+}
+
+/// Where look-ups in two changes ended.
+#[derive(Clone, Copy)]
+struct Places {
+    old: usize,
+    new: usize,
+}
+
+/// Whether a process is behind `now` what it is behind `was`. No is a safe answer.
+#[inline]
+fn moves_alike(was: &Change, now: &Change, pid: Pid, listed: &Listed, places: &mut Places) -> bool
+    ensures { result ≡ true → MovesAlike was.now now.now (listed_process pid listed.now) }
+{
+    if listed.is_gone() {
+        return true;
+    }
+    let old = was.processes.get_from(pid, &mut places.old);
+    let new = now.processes.get_from(pid, &mut places.new);
+    are_alike(old, new) && listed.process(pid).takes_its_own(pid)
+}
+
+impl Change {
+    /// The processes that may not be behind `now` what they are behind `was`; none where they are many.
+    fn moved_otherwise(
+        &self,
+        alloc: Global,
+        was: &Change,
+        now: &Change,
+    ) -> Result<Option<Vec<Pid>>, NoMemory>
+        ensures { IfOk result (λ o. IfSome o (λ anew. (p : ℕ) → is_one anew.items p ≡ false
+            → IfSome (process_at self.now.processes p) (MovesAlike was.now now.now))) }
+    {
+        let mut anew = Vec::new(alloc);
+        let mut places = Places { old: 0, new: 0 };
+        let entries = self.processes.entries();
+        for entry in entries {
+            if moves_alike(was, now, entry.0, &entry.1, &mut places) {
+                continue;
+            }
+            if !note(&mut anew, entry.0)? {
+                return Ok(None);
+            }
+        }
+        Ok(Some(anew))
+    }
+
+    /// The processes of which it may not list the same as `was`; none where they are many.
+    fn unlike(&self, alloc: Global, was: &Change) -> Result<Option<Vec<Pid>>, NoMemory>
+        ensures { IfOk result (λ o. IfSome o (λ anew. (p : ℕ) → is_one anew.items p ≡ false
+            → IfSome (process_at self.now.processes p)
+            (λ d. IsSomeAnd (process_at was.now.processes p) (λ e. IsSame d e)))) }
+    {
+        let mut anew = Vec::new(alloc);
+        let mut place = 0usize;
+        let entries = self.processes.entries();
+        for entry in entries {
+            let old = was.processes.get_from(entry.0, &mut place);
+            if are_alike(Some(&entry.1), old) {
+                continue;
+            }
+            if !note(&mut anew, entry.0)? {
+                return Ok(None);
+            }
+        }
+        Ok(Some(anew))
+    }
+}
+
+impl Change {
+    /// What this change and then another do, where these lower tables stand behind it, and where an earlier whole has what
+    /// isn't to be made anew.
+    fn joined(
+        &self,
+        alloc: Global,
+        then: &Change,
+        made: &[Lowered],
+        earlier: Option<Earlier<'_>>,
+    ) -> Result<Change, NoMemory>
+        requires lowered { All (IsLowered self.now) made.now }
+        requires kept { HasEarlier earlier self.now then.now }
+        ensures { IfOk result (λ whole. JoinsTo self.now then.now whole) }
+    {
+        let joining = Joining {
+            change: self,
+            then,
+            made,
+            earlier,
+            next: std::cell::Cell::new(0),
+        };
+        let processes = Processes::joined(alloc, &joining)?;
+        Ok(Change { processes })
+    }
+
+    /// What this change and then another do. What the one leaves of the other as it is, is shared.
+    pub(crate) fn join(&self, alloc: Global, then: &Change) -> Result<Change, NoMemory>
+        ensures { IfOk result (λ whole. JoinsTo self.now then.now whole) }
+    {
+        if self.processes.is_empty() {
+            return then.share();
+        }
+        if then.processes.is_empty() {
+            return self.share();
+        }
+        let made = then.processes.lowered(alloc, self)?;
+        self.joined(alloc, then, &made, None)
+    }
+
+    /// The same where a whole has what isn't to be made anew, if little is.
+    fn join_but(
+        &self,
+        alloc: Global,
+        then: &Change,
+        whole: &Change,
+        anew: Option<Vec<Pid>>,
+    ) -> Result<Change, NoMemory>
+        requires { IfSome anew (λ pids. HasAllBut pids.items self.now then.now whole.now) }
+        ensures { IfOk result (λ new. JoinsTo self.now then.now new) }
+    {
+        if self.processes.is_empty() || then.processes.is_empty() {
+            return self.join(alloc, then);
+        }
+        let Some(anew) = anew else {
+            return self.join(alloc, then);
+        };
+        let made = then.processes.lowered_of(alloc, self, &anew)?;
+        let earlier = Earlier { whole, anew: &anew };
+        self.joined(alloc, then, &made, Some(earlier))
+    }
+
+    /// The same where `whole` is what `was` and then the other do.
+    pub(crate) fn join_behind(
+        &self,
+        alloc: Global,
+        was: &Change,
+        then: &Change,
+        whole: &Change,
+    ) -> Result<Change, NoMemory>
+        requires { JoinsTo was.now then.now whole.now }
+        ensures { IfOk result (λ new. JoinsTo self.now then.now new) }
+    {
+        let anew = then.moved_otherwise(alloc, was, self)?;
+        self.join_but(alloc, then, whole, anew)
+    }
+
+    /// The same where `whole` is what this change and then `was` do.
+    pub(crate) fn join_before(
+        &self,
+        alloc: Global,
+        was: &Change,
+        then: &Change,
+        whole: &Change,
+    ) -> Result<Change, NoMemory>
+        requires { JoinsTo self.now was.now whole.now }
+        ensures { IfOk result (λ new. JoinsTo self.now then.now new) }
+    {
+        let anew = then.unlike(alloc, was)?;
+        self.join_but(alloc, then, whole, anew)
+    }
+}
