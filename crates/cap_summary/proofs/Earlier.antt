@@ -55,7 +55,8 @@ moves_alike was now d takes e joins = record {
   untouched = λ p f is.
       let both = joins.untouched p f is in
       let behind = second_true (is_untouched was p f) (untouched_at d.base d.cells p f) both in
-      let alike : Alike was now p = untouched_from (Alike was now) d.base p f (untouched_base d p f behind) takes.others in
+      let alike : Alike was now p =
+      untouched_from (Alike was now) d.base p f (untouched_base d p f behind) takes.others in
       both_true (is_untouched now p f) (untouched_at d.base d.cells p f)
       (sym (alike_untouched p f (process_at was.processes p) (process_at now.processes p) alike)
       ∙ first_true (is_untouched was p f) (untouched_at d.base d.cells p f) both) behind;

@@ -156,8 +156,8 @@ unturned_joined a p None new is e = both_true (is_unturned a p) (eqb p p)
 unturned_joined a p (Some d) None is e = absurd is
 unturned_joined a p (Some d) (Some n) is e = is.unturned p e
 
--- a whole in which each process is joined: the state after it; what it leaves untouched both leave so; and it names only
--- what they name
+-- a whole in which each process is joined: the state after it; what it leaves untouched both leave so; and it names
+-- only what they name
 pub joined_changes : (a b whole : Change) → JoinsTo a b whole → (s : State) → changed whole s ≡ changed b (changed a s)
 joined_changes a b whole joins s = same_state (changed whole s) (changed b (changed a s))
     (λ p f. cell_joined s a p f (process_at b.processes p) (process_at whole.processes p) (joins.each p))

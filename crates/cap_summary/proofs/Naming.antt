@@ -96,7 +96,8 @@ under_within names a (value.Of q g op) within is =
 
 -- what is listed of others behind a change, over what is listed first
 pub over_within : (names : Names) (a : Change) (f : ℕ) (o n first : Option Value)
-    → IfSome o (value_from (SourceWithin names a)) → n ≡ or_else (option_map (under a) o) first → cell_within names f o ≡ true → cell_within names f first ≡ true
+    → IfSome o (value_from (SourceWithin names a)) → n ≡ or_else (option_map (under a) o) first
+    → cell_within names f o ≡ true → cell_within names f first ≡ true
     → cell_within names f n ≡ true
 over_within names a f None n first within is old below = ap (cell_within names f) is ∙ below
 over_within names a f (Some v) n first within is old below =

@@ -81,7 +81,8 @@ AreAlike own theirs = MatchOption own (theirs ≡ None) (λ d. IsSomeAnd theirs 
 
 -- a process that may be listed, after a change: where it isn't, it is what it was before
 abbrev pub JoinsListed : Change → Option Process → Option Process → Option Process → Type 0
-JoinsListed change before old new = MatchOption old (AreAlike new before) (λ d. IsSomeAnd new (λ e. JoinsProcess change d e))
+JoinsListed change before old new =
+    MatchOption old (AreAlike new before) (λ d. IsSomeAnd new (λ e. JoinsProcess change d e))
 
 -- a change that does to each process what a and then b do
 pub record JoinsTo (a b c : Change) : Type 0 where

@@ -226,7 +226,8 @@ impl Change {
             → (is_untouched self.now p f && rest_untouched base.now p f) ≡ true) }
         ensures others { IfOk result (λ r. (names : Names) → others_from (SourceWithin names self.now) base.now.others
             → others_within names base.now.others ≡ true → others_within names r.0.others ≡ true) }
-        ensures listed { IfOk result (λ r. (names : Names) → others_from (SourceWithin names self.now) base.now.others → (f : ℕ)
+        ensures listed { IfOk result (λ r. (names : Names) → others_from (SourceWithin names self.now) base.now.others
+            → (f : ℕ)
             → cell_within names f (listed_value r.1 f) ≡ true) }
     {
         match base.others {

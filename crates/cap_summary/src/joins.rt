@@ -21,11 +21,11 @@ use std::alloc::Global;
 /// The most processes that are made anew where an earlier whole has the others.
 const MOST: usize = 16;
 
-/// A whole that was made of other parts, of which one is a part again.
+/// The whole of an earlier pair of parts, of which one was replaced since.
 #[derive(Clone, Copy)]
 struct Earlier<'a> {
     whole: &'a Change,
-    /// The processes of the second part that it may have otherwise.
+    /// The processes of the second part that may be otherwise there.
     anew: &'a [Pid],
 }
 
@@ -52,10 +52,11 @@ impl Joining<'_> {
         (&self.change.processes, &self.then.processes)
     }
 
-    /// What has become of a process of the second change, where an earlier whole has it.
+    /// What has become of a process of the second change, where it is the same in an earlier whole.
     #[inline]
     fn as_before(&self, pid: Pid) -> Option<&Listed>
-        ensures { HasEarlier self.now.earlier self.now.change.now self.now.then.now → IfSome result (λ listed. IfSome (process_at self.now.then.now.processes pid)
+        ensures { HasEarlier self.now.earlier self.now.change.now self.now.then.now
+            → IfSome result (λ listed. IfSome (process_at self.now.then.now.processes pid)
             (λ d. JoinsProcess self.now.change.now d (listed_process pid listed.now))) }
     {
         let Some(earlier) = &self.earlier else {
@@ -84,7 +85,8 @@ impl Combine for Joining<'_> {
     ghost use Rattle.cap_summary.specs.Earlier.{HasEarlier};
 
     ghost gives = { λ s p left right out. HasEarlier s.earlier s.change.now s.then.now
-        → option_map (listed_process p) right ≡ process_at s.then.now.processes p → JoinsListed s.change.now (option_map (listed_process p) left)
+        → option_map (listed_process p) right ≡ process_at s.then.now.processes p
+        → JoinsListed s.change.now (option_map (listed_process p) left)
         (option_map (listed_process p) right) (option_map (listed_process p) out) };
 
     fn left(&self, _alloc: Global, _pid: u32, left: &Listed) -> Result<Option<Listed>, NoMemory> {
@@ -115,7 +117,8 @@ impl Combine for Joining<'_> {
 #[inline]
 fn are_alike(a: Option<&Listed>, b: Option<&Listed>) -> bool
     ensures { result ≡ true → (p : ℕ)
-        → AreAlike (option_map (listed_process p) (option_copied a.entry)) (option_map (listed_process p) (option_copied b.entry)) }
+        → AreAlike (option_map (listed_process p) (option_copied a.entry))
+        (option_map (listed_process p) (option_copied b.entry)) }
 {
     match (a, b) {
         (None, None) => true,
@@ -124,7 +127,7 @@ fn are_alike(a: Option<&Listed>, b: Option<&Listed>) -> bool
     }
 }
 
-/// Notes a process that is to be made anew, and answers whether so few are.
+/// Notes a process that is to be made anew, and answers whether no more are noted than may be.
 #[inline]
 fn note(anew: &mut Vec<Pid>, pid: Pid) -> Result<bool, NoMemory>
     ensures { OnOk result (anew.new.items ≡ anew.old.items ++ pid ∷ []) }
@@ -201,8 +204,8 @@ impl Change {
 }
 
 impl Change {
-    /// What this change and then another do, where these lower tables stand behind it, and where an earlier whole has what
-    /// isn't to be made anew.
+    /// What this change and then another do, with lower tables that stand behind it, and with what is the same in an
+    /// earlier whole.
     fn joined(
         &self,
         alloc: Global,

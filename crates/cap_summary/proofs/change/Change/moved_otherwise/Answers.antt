@@ -10,7 +10,8 @@ pub loop-entry-preserved-then-moves_alike : goal.loop-entry-preserved-then-moves
 loop-entry-preserved-then-moves_alike c =
     let x = c.entry-item.result in
     let within : c.loop-entry.entry-index < length c.entries-entries.result.now = c.loop-entry-test.true in
-    let here : MovesAlike c.args.was.now c.args.now.now (listed_process x.0 x.1) = c.moves_alike.ensures c.if-moves_alike.true in
+    let here : MovesAlike c.args.was.now c.args.now.now (listed_process x.0 x.1) =
+    c.moves_alike.ensures c.if-moves_alike.true in
     noted_more (λ (p : ℕ) (d : Process). MovesAlike c.args.was.now c.args.now.now d)
     c.entries-entries.result.now c.loop-entry.entry-index x c.loop-entry.anew.items c.loop-entry.anew.items within
     c.entry-item.is (λ p other. other) (λ other. here) c.loop-entry.invariant

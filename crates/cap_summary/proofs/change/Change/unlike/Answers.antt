@@ -11,7 +11,8 @@ pub loop-entry-preserved-then-are_alike : goal.loop-entry-preserved-then-are_ali
 loop-entry-preserved-then-are_alike c =
     let x = c.entry-item.result in
     let within : c.loop-entry.entry-index < length c.entries-entries.result.now = c.loop-entry-test.true in
-    let here : IsSomeAnd (process_at c.args.was.now.processes x.0) (λ e. IsSame (listed_process x.0 x.1) e) = rw c.get_from-old.ensures at (c.are_alike.ensures c.if-are_alike.true x.0) in
+    let here : IsSomeAnd (process_at c.args.was.now.processes x.0) (λ e. IsSame (listed_process x.0 x.1) e) =
+    rw c.get_from-old.ensures at (c.are_alike.ensures c.if-are_alike.true x.0) in
     noted_more (λ (p : ℕ) (d : Process). IsSomeAnd (process_at c.args.was.now.processes p) (λ e. IsSame d e))
     c.entries-entries.result.now c.loop-entry.entry-index x c.loop-entry.anew.items c.loop-entry.anew.items within
     c.entry-item.is (λ p other. other) (λ other. here) c.loop-entry.invariant
