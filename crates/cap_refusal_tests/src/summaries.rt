@@ -139,6 +139,35 @@ fn join_refused(rt: HostRuntime) -> Result<(), Fail> {
     Ok(())
 }
 
+/// The summary of some steps at once.
+fn summed_up(alloc: Global, steps: &[Rc<Step>]) -> Result<Summary, NoMemory> {
+    if steps.is_empty() || steps.len() > 1000 {
+        return Err(NoMemory);
+    }
+    Summary::sum(alloc, &mut Meter::new(), steps)
+}
+
+/// The same; where the first call lacks memory, by a second one.
+fn sum_of(alloc: Global, steps: &[Rc<Step>]) -> Result<Summary, NoMemory> {
+    Mark::Begin.set(alloc);
+    let first = summed_up(alloc, steps);
+    Mark::End.set(alloc);
+    if first.is_ok() {
+        return first;
+    }
+    Mark::Lacked.set(alloc);
+    summed_up(alloc, steps)
+}
+
+#[test]
+fn sum_refused(rt: HostRuntime) -> Result<(), Fail> {
+    let steps = steps_of(rt.alloc())?;
+    let found = found_from(rt.alloc(), &sum_of(rt.alloc(), &steps)?)?;
+    assert_eq!(rt; found.as_slice(), [5, 8].as_slice());
+    Mark::Right.set(rt.alloc());
+    Ok(())
+}
+
 /// What is found in a range; where the first call lacks memory, by a second one.
 fn found_in(
     alloc: Global,
