@@ -668,7 +668,7 @@ impl Listed {
                 Ok(false)
             }
             MovedLow::Of(pid) => {
-                left.add_low(&low.of_process(pid))?;
+                left.add_moved(low, &low.of_process(pid))?;
                 Ok(false)
             }
             MovedLow::To(pid, fd, closed) => {
@@ -694,7 +694,7 @@ impl Listed {
             }
             Seen::Fixed(cell) => Ok(low.passes(cell)),
             Seen::Passed(pid, Passing::Same) => {
-                left.add_low(&low.of_process(pid))?;
+                left.add_moved(low, &low.of_process(pid))?;
                 Ok(false)
             }
             Seen::Taken(taken) => put_taken(alloc, &low.source(), taken, left),

@@ -129,6 +129,15 @@ impl Gathered {
         })
     }
 
+    /// Adds one of the most common form, apart from those that rise.
+    #[inline]
+    fn add_stray(&mut self, low: &Low) -> Result<(), NoMemory>
+        ensures { OnOk result (HasOneMore self.old (low_condition low.now) self.new) }
+    {
+        self.strays.push(*low)?;
+        Ok(())
+    }
+
     /// Adds one of the most common form.
     #[inline]
     pub(crate) fn add_low(&mut self, low: &Low) -> Result<(), NoMemory>
@@ -136,12 +145,23 @@ impl Gathered {
     {
         let place = low.place();
         if place < self.next {
-            self.strays.push(*low)?;
-            return Ok(());
+            return self.add_stray(low);
         }
         self.next = place.saturating_add(1);
         self.rising.push(*low)?;
         Ok(())
+    }
+
+    /// Adds one of the most common form that another one became. One that comes behind that is no part of those that
+    /// rise, so that the ones that follow and stay as they are rise too.
+    #[inline]
+    pub(crate) fn add_moved(&mut self, from: &Low, to: &Low) -> Result<(), NoMemory>
+        ensures { OnOk result (HasOneMore self.old (low_condition to.now) self.new) }
+    {
+        if from.place() < to.place() {
+            return self.add_stray(to);
+        }
+        self.add_low(to)
     }
 
     /// Adds those of a list of the most common form.
@@ -192,7 +212,10 @@ impl Gathered {
             fd,
             rights: low.rights,
         };
-        self.add_lack(&lack, closed)
+        match Low::of(&lack, closed) {
+            Some(new) => self.add_moved(low, &new),
+            None => self.add_other(Packed::of_lack(lack, closed)),
+        }
     }
 
     /// Adds a condition that is packed.

@@ -26,8 +26,8 @@ returns-in_ok-add_low-in-Stays-clause-holds c = λ s.
     ≡ source_holds s (low_source c.args.low.now) = rw c.in-Stays.is at (c.requires.holds s) in
     c.in_ok-add_low-in-Stays.ensures.holds s ∙ ap (λ b. any_holds s c.args.left.now || b) (sym stays)
 
-pub returns-in_ok-add_low-in-Of-clause-holds : goal.returns-in_ok-add_low-in-Of-clause-holds
-returns-in_ok-add_low-in-Of-clause-holds c = λ s.
+pub returns-in_ok-add_moved-in-Of-clause-holds : goal.returns-in_ok-add_moved-in-Of-clause-holds
+returns-in_ok-add_moved-in-Of-clause-holds c = λ s.
     let low = c.args.low.now in
     let new = low_source c.of_process.result in
     let test : CellTest = (low_source low).test in
@@ -37,7 +37,7 @@ returns-in_ok-add_low-in-Of-clause-holds c = λ s.
     ap (λ (t : CellTest). passes t (s.cell new.pid new.fd)) c.of_process.ensures.test
     ∙ ap (λ (p : ℕ). passes test (s.cell p new.fd)) c.of_process.ensures.process
     ∙ ap (λ (f : ℕ). passes test (s.cell c.in-Of.pid f)) c.of_process.ensures.descriptor in
-    c.in_ok-add_low-in-Of.ensures.holds s ∙ ap (λ b. any_holds s c.args.left.now || b) (same ∙ sym moved)
+    c.in_ok-add_moved-in-Of.ensures.holds s ∙ ap (λ b. any_holds s c.args.left.now || b) (same ∙ sym moved)
 
 pub returns-in_ok-add_at-in-To-clause-holds : goal.returns-in_ok-add_at-in-To-clause-holds
 returns-in_ok-add_at-in-To-clause-holds c = λ s.
