@@ -22,7 +22,6 @@ use Rattle.cap_summary.specs.Values.{unlisted, rest_untouched}
 use Rattle.cap_summary.specs.Changes.{value_at, cell_in, mode_in, changed, untouched_at, untouched_in, IsSame, AreAlike}
 use Rattle.cap_summary.specs.Changes.{ListSame}
 use Rattle.cap_summary.specs.Names.{Names, cell_within, others_within, mode_within, ListedWithin, ProcessWithin}
-use Rattle.cap_summary.specs.Names.{ChangeWithin}
 use Rattle.cap_summary.specs.declared.values.Base.{Base}
 
 -- ---- lists
@@ -246,7 +245,3 @@ changes_alike a b alike s = same_state (changed a s) (changed b s)
     (alike_cell p f (process_at a.processes p) (process_at b.processes p) (alike.each p)))
     (λ p. ap (λ (m : ModeValue). read_mode s m)
     (alike_mode p (process_at a.processes p) (process_at b.processes p) (alike.each p)))
-
-pub names_alike : (names : Names) (a b : Change) → ListSame a b → ChangeWithin names a → ChangeWithin names b
-names_alike names a b alike within p =
-    (alike_names names p (process_at a.processes p) (process_at b.processes p) (alike.each p)).0 (within p)

@@ -5,7 +5,7 @@ use Rattle.std.proofs.Common.{refl, sym, ap, subst, ◌∙◌, arith}
 use Rattle.std.specs.List.{list_any}
 use Rattle.std.proofs.lemmas.Bool.Decides.{nat_tests}
 use Rattle.std.proofs.lemmas.List.Folds.{list_any-append}
-use Rattle.std.proofs.lemmas.List.Elements.{All-nil, All-cons, All-head, All-tail}
+use Rattle.std.proofs.lemmas.List.Elements.{All-head, All-tail}
 use Rattle.cap_machine.specs.State.{State}
 use Rattle.cap_machine.specs.Op.{same}
 use Rattle.cap_summary.specs.declared.packed.Low.{Low}
@@ -17,13 +17,14 @@ use Rattle.cap_summary.specs.declared.kept.Listed.{Listed}
 use Rattle.cap_summary.specs.Sorted.{found, Rises}
 use Rattle.cap_summary.specs.Tables.{listed_process, process_at}
 use Rattle.cap_summary.specs.Changes.{changed, cell_in, value_of}
-use Rattle.cap_summary.specs.Names.{Names, ChangeWithin, condition_within, value_within}
-use Rattle.cap_summary.specs.Packed.{key_pid, key_fd, low_source, low_condition, low_holds, any_low_holds, LowsWithin}
+use Rattle.cap_summary.specs.Names.{Names, value_within}
+use Rattle.cap_summary.specs.Reading.{LowsRead}
+use Rattle.cap_summary.specs.Packed.{key_pid, key_fd, low_source, low_holds, any_low_holds, LowsWithin}
 use Rattle.cap_summary.specs.Packed.{AreOf}
 use Rattle.cap_summary.specs.MovedLow.{low_passes, low_value, any_passes, ValuesWithin}
 use Rattle.cap_summary.proofs.Bools.{or_assoc}
 use Rattle.cap_summary.proofs.Holding.{source_stays}
-use Rattle.cap_summary.proofs.Naming.{value_of_within}
+use Rattle.cap_summary.proofs.Reading.{source_left}
 use Rattle.cap_summary.proofs.SortedFound.{found_below}
 
 -- ---- from the first entry up
@@ -96,25 +97,31 @@ module _ (change : Change) (listed : Listed) (p : ℕ)
       (value_listed x (All-head P x rest of))
       ∙ ap (λ r. low_passes s x (low_value listed x) || r) (passes_listed s rest (All-tail P x rest of))
 
-  pub values_listed : (names : Names) (lows : List Low) → AreOf p lows → ChangeWithin names change
-      → LowsWithin names lows → ValuesWithin names listed lows
-  values_listed names lows of within named i d lt =
-      let low : Low = get_or lows i d in
-      ap (value_within names) (sym (value_listed low (of i d lt)))
-      ∙ value_of_within names change (key_pid low.key) (key_fd low.key) (within (key_pid low.key)) (named i d lt)
+  pub values_listed : (names : Names) (lows : List Low) → AreOf p lows → LowsRead names change lows
+      → ValuesWithin names listed lows
+  values_listed names lows of read i d lt =
+      ap (value_within names) (sym (value_listed (get_or lows i d) (of i d lt))) ∙ read i d lt
 
 -- a process that isn't listed
+unlisted_value : (change : Change) (p : ℕ) (x : Low) → process_at change.processes p ≡ None → key_pid x.key ≡ p
+    → value_of change (key_pid x.key) (key_fd x.key) ≡ value.Of (key_pid x.key) (key_fd x.key) same
+unlisted_value change p x none is = ap (λ (o : Option Process). cell_in o (key_pid x.key) (key_fd x.key))
+    (ap (process_at change.processes) is ∙ none)
+
+pub read_unlisted : (names : Names) (change : Change) (p : ℕ) (lows : List Low) → process_at change.processes p ≡ None
+    → AreOf p lows → LowsRead names change lows → LowsWithin names lows
+read_unlisted names change p lows none of read i d lt =
+    let x : Low = get_or lows i d in
+    source_left names change (low_source x) (unlisted_value change p x none (of i d lt)) ∙ read i d lt
+
 pub passes_unlisted : (s : State) (change : Change) (p : ℕ) (lows : List Low)
     → process_at change.processes p ≡ None → AreOf p lows
     → any_low_holds (changed change s) lows ≡ any_low_holds s lows
 passes_unlisted s change p [] none of = refl
 passes_unlisted s change p (x ∷ rest) none of =
     let P : Low → Type 0 = λ low. key_pid low.key ≡ p in
-    let unlisted : process_at change.processes (key_pid x.key) ≡ None =
-    ap (process_at change.processes) (All-head P x rest of) ∙ none in
-    let stays : value_of change (key_pid x.key) (key_fd x.key) ≡ value.Of (key_pid x.key) (key_fd x.key) same =
-    ap (λ (o : Option Process). cell_in o (key_pid x.key) (key_fd x.key)) unlisted in
-    ap (λ r. r || any_low_holds (changed change s) rest) (source_stays s change (low_source x) stays)
+    ap (λ r. r || any_low_holds (changed change s) rest)
+    (source_stays s change (low_source x) (unlisted_value change p x none (All-head P x rest of)))
     ∙ ap (λ r. low_holds s x || r) (passes_unlisted s change p rest none (All-tail P x rest of))
 
 -- ---- process by process
@@ -125,23 +132,3 @@ part_goes g rest own others old new all parts put before =
     ap (λ r. r || list_any g others) put ∙ or_assoc old (list_any g own) (list_any g others)
     ∙ ap (λ r. old || r) (sym (list_any-append g own others)) ∙ ap (λ (r : List Low). old || list_any g r) (sym parts)
     ∙ before
-
-module _ (names : Names) where
-  abbrev Fine : Low → Type 0
-  Fine x = condition_within names (low_condition x) ≡ true
-
-  own_fine : (own others : List Low) → LowsWithin names (own ++ others) → LowsWithin names own
-  own_fine [] others all = All-nil Fine
-  own_fine (x ∷ rest) others all = All-cons Fine x rest (All-head Fine x (rest ++ others) all)
-      (own_fine rest others (All-tail Fine x (rest ++ others) all))
-
-  others_fine : (own others : List Low) → LowsWithin names (own ++ others) → LowsWithin names others
-  others_fine [] others all = all
-  others_fine (x ∷ rest) others all = others_fine rest others (All-tail Fine x (rest ++ others) all)
-
-  pub own_within : (rest own others : List Low) → rest ≡ own ++ others → LowsWithin names rest → LowsWithin names own
-  own_within rest own others parts all = own_fine own others (subst (LowsWithin names) parts all)
-
-  pub others_within : (rest own others : List Low) → rest ≡ own ++ others → LowsWithin names rest
-      → LowsWithin names others
-  others_within rest own others parts all = others_fine own others (subst (LowsWithin names) parts all)

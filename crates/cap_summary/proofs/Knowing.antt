@@ -35,6 +35,7 @@ use Rattle.cap_summary.specs.Does.{Does}
 use Rattle.cap_summary.specs.Names.{Names, AreAmong, names_in, these, ChangeWithin, ConditionsWithin, ChildWithin}
 use Rattle.cap_summary.specs.Names.{condition_within}
 use Rattle.cap_summary.specs.Names.{EffectWithin}
+use Rattle.cap_summary.specs.Reading.{ConditionsRead}
 use Rattle.cap_summary.specs.Sizes.{IsSized, NamesMany, ListMuch}
 use Rattle.cap_summary.specs.Conditions.{any_holds, has_any}
 use Rattle.cap_summary.specs.LineConditions.{line_always, line_conditions}
@@ -43,7 +44,8 @@ use Rattle.cap_summary.proofs.Bools.{or_true, or_false}
 use Rattle.cap_summary.proofs.Untouched.{first_true, second_true}
 use Rattle.cap_summary.proofs.Holding.{has_any-append, has_any-map, line_holds}
 use Rattle.cap_summary.proofs.Naming.{change_more, conditions_more, line_within}
-use Rattle.cap_summary.proofs.Comparing.{changes_alike, names_alike}
+use Rattle.cap_summary.proofs.Comparing.{changes_alike}
+use Rattle.cap_summary.proofs.Reading.{conditions_read, read_same}
 use Rattle.cap_summary.proofs.Joining.{joined_changes, joined_untouched, joined_unturned, joined_names}
 use Rattle.cap_summary.proofs.Earlier.{joins_left, joins_right}
 
@@ -101,9 +103,9 @@ composed_knows a b whole t u composes left right =
           ∙ sym (found_in_turn s t u);
       listed = joined_names names a.change b.change whole.change composes.changes first
           (change_more (names_in u) names (among_right t u) b.change right.listed);
-      asked = composes.asked names first
-          (conditions_more (names_in t) names (among_left t u) a.conditions left.asked)
-          (conditions_more (names_in u) names (among_right t u) b.conditions right.asked);
+      asked = composes.asked names (conditions_more (names_in t) names (among_left t u) a.conditions left.asked)
+          (conditions_read names a.change b.conditions first
+          (conditions_more (names_in u) names (among_right t u) b.conditions right.asked));
       untouched = λ p f e. let both = joined_untouched a.change b.change whole.change composes.changes p f e in
           All-append (λ (step : Step). touch step p f ≡ kept) t u
           (left.untouched p f (first_true (is_untouched a.change p f) (is_untouched b.change p f) both))
@@ -159,7 +161,7 @@ pub composed_certain : (a b whole : Known) → JoinsTo a.change b.change whole.c
 composed_certain a b whole joins found always none unmoved sized = record {
   changes = joins;
   found = λ s. ap (λ r. r || any_holds s whole.conditions) always ∙ sym (found s);
-  asked = λ names change first second. subst (ConditionsWithin names) (sym none)
+  asked = λ names first second. subst (ConditionsWithin names) (sym none)
       (All-nil (λ (condition : Condition). condition_within names condition ≡ true));
   moved = subst (λ (o : Option (Rc (List Condition) Global)). IfSome o (λ kept. IsMoved a.change b.conditions kept.value)) (sym unmoved) tt;
   sized = sized;
@@ -177,7 +179,7 @@ composed a b whole moved joins parts always behind both asked keeps sized = reco
       ∙ both s
       ∙ ap (λ r. any_holds s a.conditions || r) (behind.holds s)
       ∙ sym (none_found a.always b.always (any_holds s a.conditions) (any_holds (changed a.change s) b.conditions) parts);
-  asked = λ names change first second. asked names first (behind.names names change second);
+  asked = λ names first second. asked names first (behind.names names second);
   moved = these_moved whole.moved keeps;
   sized = sized;
 }
@@ -193,7 +195,7 @@ pub moved_left : (a other : Change) (conditions : List Condition) (o : Option (R
 moved_left a other conditions None same is = tt
 moved_left a other conditions (Some moved) same is = record {
   holds = λ s. is.holds s ∙ ap (λ r. any_holds r conditions) (sym (changes_alike other a same s));
-  names = λ names change all. is.names names (names_alike names other a same change) all;
+  names = λ names read. is.names names (read_same names a other same conditions read);
 }
 
 -- one that is like a part stands in its place
@@ -204,8 +206,8 @@ composed_left a b whole other composes like = record {
       ∙ ap (λ (r : List Condition). (a.always || any_holds s r) || finds b (changed a.change s)) (sym like.conditions)
       ∙ ap (λ r. (r || any_holds s other.conditions) || finds b (changed a.change s)) (sym like.always)
       ∙ ap (λ r. finds other s || finds b r) (sym (changes_alike other.change a.change like.change s));
-  asked = λ names change first second. composes.asked names (names_alike names other.change a.change like.change change)
-      (subst (ConditionsWithin names) like.conditions first) second;
+  asked = λ names first second. composes.asked names (subst (ConditionsWithin names) like.conditions first)
+      (read_same names a.change other.change like.change b.conditions second);
   moved = moved_left a.change other.change b.conditions whole.moved like.change composes.moved;
   sized = composes.sized;
 }
@@ -216,8 +218,8 @@ composed_right a b whole other composes like = record {
   found = λ s. composes.found s
       ∙ ap (λ (r : List Condition). finds a s || (b.always || any_holds (changed a.change s) r)) (sym like.conditions)
       ∙ ap (λ r. finds a s || (r || any_holds (changed a.change s) other.conditions)) (sym like.always);
-  asked = λ names change first second. composes.asked names change first
-      (subst (ConditionsWithin names) like.conditions second);
+  asked = λ names first second. composes.asked names first
+      (subst (ConditionsRead names a.change) like.conditions second);
   moved = subst (λ (r : List Condition). IfSome whole.moved (λ m. IsMoved a.change r m.value)) (sym like.conditions)
       composes.moved;
   sized = composes.sized;

@@ -93,6 +93,11 @@ pub record JoinsTo (a b c : Change) : Type 0 where
 pub record ListSame (a b : Change) : Type 0 where
   pub each : (p : ℕ) → AreAlike (process_at a.processes p) (process_at b.processes p)
 
+-- two changes that list the same of each process but these
+abbrev pub ListSameBut : List ℕ → Change → Change → Type 0
+ListSameBut pids a b =
+    (p : ℕ) → is_one pids p ≡ false → AreAlike (process_at a.processes p) (process_at b.processes p)
+
 -- what the second change lists, as an earlier whole has it, is what it is behind the first one; but for these processes
 abbrev pub HasAllBut : List ℕ → Change → Change → Change → Type 0
 HasAllBut anew a b whole = (p : ℕ) → is_one anew p ≡ false → IfSome (process_at b.processes p)

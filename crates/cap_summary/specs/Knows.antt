@@ -11,6 +11,7 @@ use Rattle.cap_summary.specs.declared.known.Likeness.{Likeness}
 use Rattle.cap_summary.specs.declared.known.Likeness.TheVariants as likeness
 use Rattle.cap_summary.specs.Changes.{changed, is_untouched, is_unturned, JoinsTo, ListSame}
 use Rattle.cap_summary.specs.Names.{Names, names_in, ChangeWithin, ConditionsWithin}
+use Rattle.cap_summary.specs.Reading.{ConditionsRead}
 use Rattle.cap_summary.specs.Sizes.{IsSized}
 use Rattle.cap_summary.specs.declared.conditions.Condition.{Condition}
 use Rattle.cap_summary.specs.Conditions.{any_holds, has_any}
@@ -45,20 +46,19 @@ pub record Knows (known : Known) (t : List Step) : Type 0 where
   pub unturned : (p : ℕ) → leaves_mode known p ≡ true → LeavesMode t p
   pub sized : IsSized known
 
--- what a list of conditions says behind a change, as another list, which names only what both name
+-- what a list of conditions says behind a change, as another list, which names only what they read there
 pub record IsMoved (change : Change) (conditions moved : List Condition) : Type 0 where
   pub holds : (s : State) → any_holds s moved ≡ any_holds (changed change s) conditions
-  pub names : (names : Names) → ChangeWithin names change → ConditionsWithin names conditions
-      → ConditionsWithin names moved
+  pub names : (names : Names) → ConditionsRead names change conditions → ConditionsWithin names moved
 
 -- what is known of a segment and then another: something is found in the whole where it is found in the first, or in the
--- second behind the first's change. The whole asks only about what they name. What it keeps of the second's conditions
--- are these behind the first's change
+-- second behind the first's change. The whole asks only about what the first's conditions name and the second's read
+-- behind that change. What it keeps of the second's conditions are these behind the first's change
 pub record Composes (a b whole : Known) : Type 0 where
   pub changes : JoinsTo a.change b.change whole.change
   pub found : (s : State) → finds whole s ≡ (finds a s || finds b (changed a.change s))
-  pub asked : (names : Names) → ChangeWithin names a.change → ConditionsWithin names a.conditions
-      → ConditionsWithin names b.conditions → ConditionsWithin names whole.conditions
+  pub asked : (names : Names) → ConditionsWithin names a.conditions → ConditionsRead names a.change b.conditions
+      → ConditionsWithin names whole.conditions
   pub moved : IfSome whole.moved (λ kept. IsMoved a.change b.conditions kept.value)
   pub sized : IsSized whole
 

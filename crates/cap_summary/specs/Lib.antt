@@ -11,6 +11,7 @@ pub mod Earlier
 pub mod Does
 pub mod Conditions
 pub mod Packed
+pub mod Reading
 pub mod Moved
 pub mod MovedLow
 pub mod LineConditions

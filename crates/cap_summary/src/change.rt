@@ -211,6 +211,7 @@ impl Change {
     pub(crate) fn leaves_mode(&self, mode: &ModeValue) -> bool
         ensures mode { result ≡ true → (s : State) → read_mode s mode.now ≡ read_mode (changed self.now s) mode.now }
         ensures unturned { result ≡ true → (p : ℕ) → is_own mode.now p ≡ true → is_unturned self.now p ≡ true }
+        ensures unlisted { result ≡ true → mode_from (λ p. process_at self.now.processes p ≡ None) mode.now }
     {
         match mode {
             ModeValue::Fixed(_) => true,

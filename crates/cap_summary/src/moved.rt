@@ -12,8 +12,10 @@ ghost use Rattle.cap_summary.specs.declared.values.Value.TheVariants as value;
 ghost use Rattle.cap_machine.specs.Op.{same, exec};
 ghost use Rattle.cap_machine.specs.Composed.{in_turn};
 ghost use Rattle.cap_summary.specs.Moved.{moved_holds, moved_source_holds};
-ghost use Rattle.cap_summary.specs.Names.{Names, ChangeWithin, ConditionsWithin, value_within, source_within};
+ghost use Rattle.cap_summary.specs.Names.{Names, ConditionsWithin, value_within};
 ghost use Rattle.cap_summary.specs.Names.{part_within, outside_within, refused_within, condition_within};
+ghost use Rattle.cap_summary.specs.Reading.{source_read, part_read, outside_read, refused_read, condition_read};
+ghost use Rattle.cap_summary.specs.Reading.{ConditionsRead, LowsRead};
 ghost use Rattle.cap_summary.specs.Names.{moved_within, moved_source_within};
 ghost use Rattle.cap_summary.specs.Packed.{key_pid, any_low_holds, LowsWithin, AreOf};
 ghost use Rattle.cap_summary.specs.MovedLow.{MovedLowHolds, MovedLowWithin, low_passes, low_value, any_passes};
@@ -207,7 +209,7 @@ impl Change {
     /// What has become of a source behind this change.
     fn moved_source(&self, source: &Source, near: &mut Near) -> MovedSource
         ensures holds { (s : State) → moved_source_holds s result ≡ source_holds (changed self.now s) source.now }
-        ensures names { (names : Names) → ChangeWithin names self.now → source_within names source.now ≡ true
+        ensures names { (names : Names) → source_read names self.now source.now ≡ true
             → moved_source_within names result ≡ true }
     {
         match self.seen(source.pid, source.fd, near) {
@@ -224,8 +226,8 @@ impl Change {
         ensures left { IfSome result
             (λ new. (s : State) → part_holds s new ≡ part_holds (changed self.now s) part.now) }
         ensures never { IfNone result ((s : State) → part_holds (changed self.now s) part.now ≡ false) }
-        ensures names { IfSome result (λ new. (names : Names) → ChangeWithin names self.now
-            → part_within names part.now ≡ true → part_within names new ≡ true) }
+        ensures names { IfSome result (λ new. (names : Names) → part_read names self.now part.now ≡ true
+            → part_within names new ≡ true) }
     {
         let Some(source) = part else {
             return Some(None);
@@ -241,8 +243,8 @@ impl Change {
         ensures left { IfSome result
             (λ new. (s : State) → outside_holds s new ≡ outside_holds (changed self.now s) mode) }
         ensures never { IfNone result ((s : State) → outside_holds (changed self.now s) mode ≡ false) }
-        ensures names { IfSome result (λ new. (names : Names) → ChangeWithin names self.now
-            → outside_within names mode ≡ true → outside_within names new ≡ true) }
+        ensures names { IfSome result (λ new. (names : Names) → outside_read names self.now mode ≡ true
+            → outside_within names new ≡ true) }
     {
         let Some(pid) = mode else {
             return Some(None);
@@ -257,7 +259,7 @@ impl Change {
     #[tactic(auto, using(crate::proofs::Bools::and_false))]
     fn moved_refused(&self, refused: &Refused) -> Moved
         ensures holds { (s : State) → moved_holds s result ≡ refused_holds (changed self.now s) refused.now }
-        ensures names { (names : Names) → ChangeWithin names self.now → refused_within names refused.now ≡ true
+        ensures names { (names : Names) → refused_read names self.now refused.now ≡ true
             → moved_within names result ≡ true }
     {
         let Some(mode) = self.moved_mode(refused.mode) else {
@@ -282,7 +284,7 @@ impl Change {
     /// What has become of a condition behind this change.
     fn moved(&self, condition: &Condition) -> Moved
         ensures holds { (s : State) → moved_holds s result ≡ holds (changed self.now s) condition.now }
-        ensures names { (names : Names) → ChangeWithin names self.now → condition_within names condition.now ≡ true
+        ensures names { (names : Names) → condition_read names self.now condition.now ≡ true
             → moved_within names result ≡ true }
     {
         match condition {
@@ -312,7 +314,8 @@ impl Change {
     /// Whether a part of a refusal stands behind this change as it is. No is a safe answer.
     #[tactic(auto, using(crate::proofs::Holding::source_stays))]
     fn leaves_part(&self, part: &Option<Source>) -> bool
-        ensures { result ≡ true → (s : State) → part_holds (changed self.now s) part.now ≡ part_holds s part.now }
+        ensures holds { result ≡ true → (s : State) → part_holds (changed self.now s) part.now ≡ part_holds s part.now }
+        ensures names { result ≡ true → (names : Names) → part_within names part.now ≡ part_read names self.now part.now }
     {
         match part {
             Some(source) => self.leaves(source.pid, source.fd, &mut Near::first()),
@@ -322,7 +325,8 @@ impl Change {
 
     /// The same of the process that has to be outside.
     fn leaves_outside(&self, mode: Option<Pid>) -> bool
-        ensures { result ≡ true → (s : State) → outside_holds (changed self.now s) mode ≡ outside_holds s mode }
+        ensures holds { result ≡ true → (s : State) → outside_holds (changed self.now s) mode ≡ outside_holds s mode }
+        ensures names { result ≡ true → (names : Names) → outside_within names mode ≡ outside_read names self.now mode }
     {
         match mode {
             Some(pid) => self.leaves_mode(&ModeValue::Of(pid)),
@@ -332,8 +336,10 @@ impl Change {
 
     /// The same of a refusal.
     fn leaves_refused(&self, refused: &Refused) -> bool
-        ensures { result ≡ true
+        ensures holds { result ≡ true
             → (s : State) → refused_holds (changed self.now s) refused.now ≡ refused_holds s refused.now }
+        ensures names { result ≡ true → (names : Names)
+            → refused_within names refused.now ≡ refused_read names self.now refused.now }
     {
         if !self.leaves_outside(refused.mode) {
             return false;
@@ -347,7 +353,9 @@ impl Change {
     /// The same of a condition.
     #[tactic(auto, using(crate::proofs::Holding::source_stays))]
     fn leaves_condition(&self, condition: &Condition) -> bool
-        ensures { result ≡ true → (s : State) → holds (changed self.now s) condition.now ≡ holds s condition.now }
+        ensures holds { result ≡ true → (s : State) → holds (changed self.now s) condition.now ≡ holds s condition.now }
+        ensures names { result ≡ true → (names : Names)
+            → condition_within names condition.now ≡ condition_read names self.now condition.now }
     {
         match condition {
             Condition::Cell(source) => self.leaves(source.pid, source.fd, &mut Near::first()),
@@ -359,8 +367,9 @@ impl Change {
 
     /// The same of conditions of the most common form.
     fn leaves_lows(&self, lows: &[Low]) -> bool
-        ensures { result ≡ true
+        ensures holds { result ≡ true
             → (s : State) → any_low_holds (changed self.now s) lows.now ≡ any_low_holds s lows.now }
+        ensures names { result ≡ true → (names : Names) → LowsRead names self.now lows.now → LowsWithin names lows.now }
     {
         let mut near = Near::first();
         for at in 0..lows.len() {
@@ -374,8 +383,10 @@ impl Change {
 
     /// The same of others.
     fn leaves_others(&self, others: &Others) -> bool
-        ensures { result ≡ true
+        ensures holds { result ≡ true
             → (s : State) → any_holds (changed self.now s) others.now ≡ any_holds s others.now }
+        ensures names { result ≡ true → (names : Names) → ConditionsRead names self.now others.now
+            → ConditionsWithin names others.now }
     {
         for at in 0..others.len() {
             if !self.leaves_condition(&others.get(at)) {
@@ -387,8 +398,10 @@ impl Change {
 
     /// The same of all conditions.
     fn leaves_all(&self, conditions: &Conditions) -> bool
-        ensures { result ≡ true
+        ensures holds { result ≡ true
             → (s : State) → any_holds (changed self.now s) conditions.now ≡ any_holds s conditions.now }
+        ensures names { result ≡ true → (names : Names) → ConditionsRead names self.now conditions.now
+            → ConditionsWithin names conditions.now }
     {
         let (lows, others) = conditions.parts();
         self.leaves_lows(lows.as_slice()) && self.leaves_others(others)
@@ -408,8 +421,8 @@ impl Change {
         requires { AreOf pid lows.now }
         ensures holds { IfOk result (λ always. (s : State) → (always || any_holds s left.new)
             ≡ (any_holds s left.old || any_low_holds (changed self.now s) lows.now)) }
-        ensures names { OnOk result ((names : Names) → ChangeWithin names self.now
-            → LowsWithin names lows.now → ConditionsWithin names left.old → ConditionsWithin names left.new) }
+        ensures names { OnOk result ((names : Names) → LowsRead names self.now lows.now
+            → ConditionsWithin names left.old → ConditionsWithin names left.new) }
     {
         match self.processes.get_from(pid, near) {
             Some(listed) => listed.put_lows(alloc, lows, left),
@@ -425,8 +438,8 @@ impl Change {
     fn put_lows(&self, alloc: Global, lows: &[Low], left: &mut Gathered) -> Result<bool, NoMemory>
         ensures holds { IfOk result (λ always. (s : State) → (always || any_holds s left.new)
             ≡ (any_holds s left.old || any_low_holds (changed self.now s) lows.now)) }
-        ensures names { OnOk result ((names : Names) → ChangeWithin names self.now
-            → LowsWithin names lows.now → ConditionsWithin names left.old → ConditionsWithin names left.new) }
+        ensures names { OnOk result ((names : Names) → LowsRead names self.now lows.now
+            → ConditionsWithin names left.old → ConditionsWithin names left.new) }
     {
         let mut near = 0usize;
         let mut rest = lows;
@@ -452,9 +465,8 @@ impl Change {
         requires { at < length others.now }
         ensures holds { IfOk result (λ always. (d : Condition) (s : State) → (always || any_holds s left.new)
             ≡ (any_holds s left.old || holds (changed self.now s) (slice_index_or others.now at d))) }
-        ensures names { OnOk result ((names : Names) → ChangeWithin names self.now
-            → ConditionsWithin names others.now → ConditionsWithin names left.old
-            → ConditionsWithin names left.new) }
+        ensures names { OnOk result ((names : Names) → ConditionsRead names self.now others.now
+            → ConditionsWithin names left.old → ConditionsWithin names left.new) }
     {
         let condition = others.get(at);
         if self.leaves_condition(&condition) {
@@ -480,9 +492,8 @@ impl Change {
     ) -> Result<bool, NoMemory>
         ensures holds { IfOk result (λ always. (s : State) → (always || any_holds s left.new)
             ≡ (any_holds s left.old || any_holds (changed self.now s) others.now)) }
-        ensures names { OnOk result ((names : Names) → ChangeWithin names self.now
-            → ConditionsWithin names others.now → ConditionsWithin names left.old
-            → ConditionsWithin names left.new) }
+        ensures names { OnOk result ((names : Names) → ConditionsRead names self.now others.now
+            → ConditionsWithin names left.old → ConditionsWithin names left.new) }
     {
         let mut always = false;
         for at in 0..others.len() {
@@ -502,8 +513,8 @@ impl Change {
     ) -> Result<(bool, Conditions), NoMemory>
         ensures holds { IfOk result
             (λ r. (s : State) → (r.0 || any_holds s r.1) ≡ any_holds (changed self.now s) conditions.now) }
-        ensures names { IfOk result (λ r. (names : Names) → ChangeWithin names self.now
-            → ConditionsWithin names conditions.now → ConditionsWithin names r.1) }
+        ensures names { IfOk result (λ r. (names : Names) → ConditionsRead names self.now conditions.now
+            → ConditionsWithin names r.1) }
     {
         if self.leaves_all(conditions) {
             return Ok((false, conditions.share()?));
@@ -520,8 +531,8 @@ impl Change {
     ) -> Result<(bool, Conditions), NoMemory>
         ensures holds { IfOk result
             (λ r. (s : State) → (r.0 || any_holds s r.1) ≡ any_holds (changed self.now s) conditions.now) }
-        ensures names { IfOk result (λ r. (names : Names) → ChangeWithin names self.now
-            → ConditionsWithin names conditions.now → ConditionsWithin names r.1) }
+        ensures names { IfOk result (λ r. (names : Names) → ConditionsRead names self.now conditions.now
+            → ConditionsWithin names r.1) }
     {
         let (lows, others) = conditions.parts();
         let lows = lows.as_slice();

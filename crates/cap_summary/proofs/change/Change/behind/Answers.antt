@@ -6,8 +6,8 @@ use Rattle.cap_summary.proofs.change.Change.behind.Goals as goal
 
 pub returns-then-leaves_all-clause-holds : goal.returns-then-leaves_all-clause-holds
 returns-then-leaves_all-clause-holds c = λ s. ap (λ (r : List Condition). any_holds s r) c.in_ok-share.ensures
-    ∙ sym (c.leaves_all.ensures c.if-leaves_all.true s)
+    ∙ sym (c.leaves_all.ensures.holds c.if-leaves_all.true s)
 
 pub returns-then-leaves_all-clause-names : goal.returns-then-leaves_all-clause-names
-returns-then-leaves_all-clause-names c = λ names change all.
-    subst (ConditionsWithin names) (sym c.in_ok-share.ensures) all
+returns-then-leaves_all-clause-names c = λ names read.
+    subst (ConditionsWithin names) (sym c.in_ok-share.ensures) (c.leaves_all.ensures.names c.if-leaves_all.true names read)

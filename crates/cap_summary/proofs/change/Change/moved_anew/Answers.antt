@@ -6,9 +6,11 @@ use Rattle.cap_summary.specs.declared.packed.Low.{Low}
 use Rattle.cap_summary.specs.Changes.{changed}
 use Rattle.cap_summary.specs.Conditions.{any_holds}
 use Rattle.cap_summary.specs.Names.{condition_within, ConditionsWithin}
-use Rattle.cap_summary.specs.Packed.{low_conditions, any_low_holds, LowsWithin}
+use Rattle.cap_summary.specs.Packed.{low_conditions, any_low_holds}
+use Rattle.cap_summary.specs.Reading.{ConditionsRead, LowsRead}
 use Rattle.cap_summary.proofs.Counting.{second_part}
 use Rattle.cap_summary.proofs.Gathering.{parts_hold, parts_within, first_lows}
+use Rattle.cap_summary.proofs.Reading.{lows_read, others_read}
 use Rattle.cap_summary.proofs.change.Change.moved_anew.Goals as goal
 use Rattle.cap_summary.proofs.change.Change.moved_anew.Goals.{In_ok-put_lows}
 
@@ -49,15 +51,16 @@ returns-clause-holds c = λ s.
     ∙ sym (parts_hold after p.0.now p.1.now) ∙ ap (λ (r : List Condition). any_holds after r) c.parts.ensures
 
 pub returns-clause-names : goal.returns-clause-names
-returns-clause-names c = λ names change all.
+returns-clause-names c = λ names read.
     let p = c.parts.result in
-    let within = subst (ConditionsWithin names) (sym c.parts.ensures) all in
+    let within = subst (ConditionsRead names c.args.self.now) (sym c.parts.ensures) read in
     let none = subst (ConditionsWithin names) (sym c.in_ok-left.ensures)
     (All-nil (λ (x : Condition). condition_within names x ≡ true)) in
-    let between = c.in_ok-put_lows.ensures.names names change
-    (subst (LowsWithin names) (sym c.as_slice-lows.ensures) (first_lows names p.0.now p.1.now within)) none in
-    let left = c.in_ok-met.ensures.names names change
-    (second_part names (low_conditions p.0.now) p.1.now within) between in
+    let between = c.in_ok-put_lows.ensures.names names
+    (subst (LowsRead names c.args.self.now) (sym c.as_slice-lows.ensures)
+    (lows_read names c.args.self.now p.0.now p.1.now within)) none in
+    let left = c.in_ok-met.ensures.names names
+    (others_read names c.args.self.now p.0.now p.1.now within) between in
     let gathered = c.in_ok-lows.ensures.names names left in
     subst (ConditionsWithin names) (sym c.of.ensures) (parts_within names c.in_ok-lows.lows c.in_ok-others.others
     (first_lows names c.in_ok-lows.lows c.in_ok-lows.others gathered)

@@ -3,16 +3,17 @@ use Rattle.cap_summary.specs.declared.packed.Low.{Low}
 use Rattle.cap_summary.specs.Changes.{changed}
 use Rattle.cap_summary.specs.Conditions.{any_holds}
 use Rattle.cap_summary.specs.Packed.{low_holds}
-use Rattle.cap_summary.proofs.InStep.{part_goes, own_within, others_within}
+use Rattle.cap_summary.proofs.InStep.{part_goes}
+use Rattle.cap_summary.proofs.Reading.{own_read, rest_read}
 use Rattle.cap_summary.proofs.change.Change.put_lows.Goals as goal
 
 pub returns-then-branch-clause-names : goal.returns-then-branch-clause-names
-returns-then-branch-clause-names c = λ names change all before.
+returns-then-branch-clause-names c = λ names read before.
     let own : List Low = c.of_process.result.0.now in
     let others : List Low = c.of_process.result.1.now in
-    let within = c.loop-first.invariant.1 names change all before in
-    c.in_ok-put_of_process.ensures.names names change
-    (own_within names c.loop-first.rest.now own others c.of_process.ensures.parts within.1) within.0
+    let within = c.loop-first.invariant.1 names read before in
+    c.in_ok-put_of_process.ensures.names names
+    (own_read names c.args.self.now c.loop-first.rest.now own others c.of_process.ensures.parts within.1) within.0
 
 pub loop-first-preserved : goal.loop-first-preserved
 loop-first-preserved c =
@@ -24,10 +25,11 @@ loop-first-preserved c =
           (any_holds s c.put_of_process.new.left) _ parts
           (rw c.if-branch.false at (c.in_ok-put_of_process.ensures.holds s))
           (c.loop-first.invariant.0 s)),
-      (λ names change all before.
-          let within = c.loop-first.invariant.1 names change all before in (
-            c.in_ok-put_of_process.ensures.names names change (own_within names rest own others parts within.1)
+      (λ names read before.
+          let within = c.loop-first.invariant.1 names read before in (
+            c.in_ok-put_of_process.ensures.names names
+                (own_read names c.args.self.now rest own others parts within.1)
                 within.0,
-            others_within names rest own others parts within.1,
+            rest_read names c.args.self.now rest own others parts within.1,
           )),
     )

@@ -22,8 +22,7 @@ loop-at-preserved c = (
       turn_each g c.args.others.now c.loop-at.at c.loop-at.always c.in_ok-put_other.field-0 c.if-branch.always
       (any_holds s c.args.left.now) (any_holds s c.loop-at.left) (any_holds s c.put_other.new.left) within
       (λ d. c.in_ok-put_other.ensures.holds d s) both (c.loop-at.invariant.0 s)),
-  (λ names change all before. c.in_ok-put_other.ensures.names names change all
-      (c.loop-at.invariant.1 names change all before)),
+  (λ names read before. c.in_ok-put_other.ensures.names names read (c.loop-at.invariant.1 names read before)),
 )
 
 pub returns-clause-holds : goal.returns-clause-holds
