@@ -46,3 +46,11 @@ and_within false b false y first second = refl
 pub not_and : (x y : Bool) → not (x && y) ≡ (not x || not y)
 not_and true y = refl
 not_and false y = refl
+
+pub first_false : (x y : Bool) → (x || y) ≡ false → x ≡ false
+first_false true y is = is
+first_false false y is = refl
+
+pub second_false : (x y : Bool) → (x || y) ≡ false → y ≡ false
+second_false true y is = absurd cc
+second_false false y is = is

@@ -1,5 +1,6 @@
 -- What is the same behind another change, and what an earlier whole has.
-use Rattle.std.proofs.Common.{◌≡◌, ℕ, ◌+◌, ◌<◌, eqb, List, [], ◌∷◌, ◌++◌, Option, Some, None, Bool, true, false}
+use Rattle.std.specs.declared.alloc.Global.{Global}
+use Rattle.std.proofs.Common.{Vec, ◌≡◌, ℕ, ◌+◌, ◌<◌, eqb, List, [], ◌∷◌, ◌++◌, Option, Some, None, Bool, true, false}
 use Rattle.std.proofs.Common.{take, get_or, length, cond, ◌||◌, ◌&&◌, refl, sym, ap, subst, ◌∙◌}
 use Rattle.std.specs.Prelude.{IfSome, IsSomeAnd, option_map, is_some, not}
 use Rattle.std.specs.Option.{option_or}
@@ -18,10 +19,11 @@ use Rattle.cap_summary.specs.Sorted.{found}
 use Rattle.cap_summary.specs.Values.{read_cell, read_mode, is_own, rest_untouched}
 use Rattle.cap_summary.specs.Tables.{listed_value, process_at, listed_process}
 use Rattle.cap_summary.specs.Changes.{value_in, changed, untouched_at, is_untouched, is_unturned, IsSame}
-use Rattle.cap_summary.specs.Changes.{AreAlike, JoinsProcess, JoinsListed, JoinsTo, ListSame, HasAllBut, MovesAlike}
+use Rattle.cap_summary.specs.Changes.{AreAlike, JoinsProcess, JoinsListed, JoinsTo, ListSame, ListSameBut, HasAllBut}
+use Rattle.cap_summary.specs.Changes.{MovesAlike}
 use Rattle.cap_summary.specs.Names.{value_from, mode_from, TakesFrom, SourceWithin, is_one}
 use Rattle.cap_summary.proofs.Untouched.{both_true, first_true, second_true}
-use Rattle.cap_summary.proofs.Sources.{takes_both, all_from, value_in_from, untouched_from, own_from, same_from}
+use Rattle.cap_summary.proofs.Sources.{takes_both, takes_more, all_from, value_in_from, untouched_from, own_from, same_from}
 use Rattle.cap_summary.proofs.Comparing.{alike_cell, alike_mode, alike_untouched, alike_names, alike_back, alike_too}
 use Rattle.cap_summary.proofs.Comparing.{same_within}
 use Rattle.cap_summary.proofs.Staying.{found-more}
@@ -124,28 +126,28 @@ joins_right a b whole other joins same = record {
 
 -- ---- what an earlier whole has
 
--- of an earlier first part and the second
-pub has_behind : (anew : List ℕ) (was now then whole : Change) → JoinsTo was then whole →
-    ((p : ℕ) → is_one anew p ≡ false → IfSome (process_at then.processes p) (MovesAlike was now)) →
+-- of an earlier first part and the second: what comes from none of the processes that differ is as it was
+pub has_behind : (anew pids : List ℕ) (was now then whole : Change) → JoinsTo was then whole
+    → ListSameBut pids now was →
+    ((p : ℕ) → is_one anew p ≡ false → IfSome (process_at then.processes p) (TakesFrom (λ q. is_one pids q ≡ false))) →
     HasAllBut anew now then whole
-has_behind anew was now then whole joins noted p other = cases (process_at then.processes p)
+has_behind anew pids was now then whole joins but noted p other = cases (process_at then.processes p)
     (process_at whole.processes p) (joins.each p) (noted p other)
   where
     cases : (old new : Option Process) → JoinsListed was (process_at was.processes p) old new
-        → IfSome old (MovesAlike was now) → IfSome old (λ d. IsSomeAnd new (λ e. JoinsProcess now d e))
-    cases None new is moves = tt
-    cases (Some d) None is moves = absurd is
-    cases (Some d) (Some e) is moves = moves e is
+        → IfSome old (TakesFrom (λ q. is_one pids q ≡ false)) → IfSome old (λ d. IsSomeAnd new (λ e. JoinsProcess now d e))
+    cases None new is takes = tt
+    cases (Some d) None is takes = absurd is
+    cases (Some d) (Some e) is takes = moves_alike was now d (takes_more (λ q. is_one pids q ≡ false) (Alike was now)
+        (λ q apart. alike_back (process_at now.processes q) (process_at was.processes q) (but q apart)) d takes) e is
 
 -- of the first part and an earlier second one
-pub has_before : (anew : List ℕ) (a was then whole : Change) → JoinsTo a was whole →
-    ((p : ℕ) → is_one anew p ≡ false → IfSome (process_at then.processes p)
-    (λ d. IsSomeAnd (process_at was.processes p) (λ g. IsSame d g))) → HasAllBut anew a then whole
-has_before anew a was then whole joins noted p other = cases (process_at then.processes p)
-    (process_at was.processes p) (process_at whole.processes p) (joins.each p) (noted p other)
+pub has_before : (anew : List ℕ) (a was then whole : Change) → JoinsTo a was whole → ListSameBut anew then was
+    → HasAllBut anew a then whole
+has_before anew a was then whole joins but p other = cases (process_at then.processes p)
+    (process_at was.processes p) (process_at whole.processes p) (joins.each p) (but p other)
   where
-    cases : (own old new : Option Process) → JoinsListed a (process_at a.processes p) old new
-        → IfSome own (λ d. IsSomeAnd old (λ g. IsSame d g))
+    cases : (own old new : Option Process) → JoinsListed a (process_at a.processes p) old new → AreAlike own old
         → IfSome own (λ d. IsSomeAnd new (λ e. JoinsProcess a d e))
     cases None old new is same = tt
     cases (Some d) None new is same = absurd same
@@ -184,3 +186,79 @@ noted old n p is = cases (is_one old p) (eqb n p) (sym (list_any-append (λ m. e
     cases true b e = absurd cc
     cases false true e = absurd cc
     cases false false e = (refl, refl)
+
+-- ---- two tables of processes in step
+
+-- what two tables list of a process
+abbrev pub AlikeAt : ℕ → List (ℕ × Listed) → List (ℕ × Listed) → Type 0
+AlikeAt p own old = AreAlike (option_map (listed_process p) (found own p)) (option_map (listed_process p) (found old p))
+
+-- a process that isn't noted is listed alike where the rests list it alike
+abbrev pub AlikeSoFar : List ℕ → Change → Change → List (ℕ × Listed) → List (ℕ × Listed) → Type 0
+AlikeSoFar pids a b own old = (p : ℕ) → is_one pids p ≡ false → AlikeAt p own old → Alike a b p
+
+-- an entry of another process is passed
+found_behind : (x : ℕ × Listed) (rest all : List (ℕ × Listed)) (p : ℕ) → all ≡ x ∷ rest → eqb x.0 p ≡ false
+    → found all p ≡ found rest p
+found_behind x rest all p is other = ap (λ (l : List (ℕ × Listed)). found l p) is
+    ∙ ap (λ b. cond b (Some x.1) (found rest p)) other
+
+module _ (a b : Change) (own old : List (ℕ × Listed)) (pids more : List ℕ) where
+  pub first_noted : (x : ℕ × Listed) (rest : List (ℕ × Listed)) → own ≡ x ∷ rest → more ≡ pids ++ x.0 ∷ []
+      → AlikeSoFar pids a b own old → AlikeSoFar more a b rest old
+  first_noted x rest at is before p other alike =
+      let apart = noted pids x.0 p (subst (λ (l : List ℕ). is_one l p ≡ false) is other) in
+      before p apart.0 (subst (λ (o : Option Listed). AreAlike (option_map (listed_process p) o)
+      (option_map (listed_process p) (found old p))) (sym (found_behind x rest own p at apart.1)) alike)
+
+  pub second_noted : (x : ℕ × Listed) (rest : List (ℕ × Listed)) → old ≡ x ∷ rest → more ≡ pids ++ x.0 ∷ []
+      → AlikeSoFar pids a b own old → AlikeSoFar more a b own rest
+  second_noted x rest at is before p other alike =
+      let apart = noted pids x.0 p (subst (λ (l : List ℕ). is_one l p ≡ false) is other) in
+      before p apart.0 (subst (λ (o : Option Listed). AreAlike (option_map (listed_process p) (found own p))
+      (option_map (listed_process p) o)) (sym (found_behind x rest old p at apart.1)) alike)
+
+  pub both_noted : (x y : ℕ × Listed) (rest rest2 : List (ℕ × Listed)) → own ≡ x ∷ rest → old ≡ y ∷ rest2 → x.0 ≡ y.0
+      → more ≡ pids ++ x.0 ∷ [] → AlikeSoFar pids a b own old → AlikeSoFar more a b rest rest2
+  both_noted x y rest rest2 at at2 key is before p other alike =
+      let apart = noted pids x.0 p (subst (λ (l : List ℕ). is_one l p ≡ false) is other) in
+      before p apart.0 (subst (λ (o : Option Listed). AreAlike (option_map (listed_process p) o)
+      (option_map (listed_process p) (found old p))) (sym (found_behind x rest own p at apart.1))
+      (subst (λ (o : Option Listed). AreAlike (option_map (listed_process p) (found rest p))
+      (option_map (listed_process p) o))
+      (sym (found_behind y rest2 old p at2 (ap (λ (n : ℕ). eqb n p) (sym key) ∙ apart.1))) alike))
+
+  pub both_alike : (x y : ℕ × Listed) (rest rest2 : List (ℕ × Listed)) → own ≡ x ∷ rest → old ≡ y ∷ rest2 → x.0 ≡ y.0
+      → ((p : ℕ) → IsSame (listed_process p x.1) (listed_process p y.1))
+      → AlikeSoFar pids a b own old → AlikeSoFar pids a b rest rest2
+  both_alike x y rest rest2 at at2 key same before p other alike = before p other
+      (rw (at, at2, ← key) (cases (eqb x.0 p)))
+    where
+      cases : (b : Bool) → AreAlike (option_map (listed_process p) (cond b (Some x.1) (found rest p)))
+          (option_map (listed_process p) (cond b (Some y.1) (found rest2 p)))
+      cases true = same p
+      cases false = alike
+
+-- behind the last entries of both
+pub all_alike : (a b : Change) (own old : List (ℕ × Listed)) (pids some every : List ℕ) → AlikeSoFar pids a b own old
+    → ((p : ℕ) → is_one some p ≡ false → (is_one pids p ≡ false) × (found own p ≡ None))
+    → ((p : ℕ) → is_one every p ≡ false → (is_one some p ≡ false) × (found old p ≡ None)) → ListSameBut every a b
+all_alike a b own old pids some every before first second p other =
+    let last = second p other in
+    let here = first p last.0 in
+    before p here.0 (rw (here.1, last.1) refl)
+
+-- none of the entries so far, and not the next one
+pub none_more : (xs : List (ℕ × Listed)) (i : ℕ) (x : ℕ × Listed) (p : ℕ) → i < length xs → x ≡ get_or xs i x
+    → eqb x.0 p ≡ false → found (take i xs) p ≡ None → found (take (i + 1) xs) p ≡ None
+none_more xs i x p within at other before = found-more xs i x p within at
+    ∙ ap (λ (o : Option Listed). option_or o (cond (eqb x.0 p) (Some x.1) None)) before
+    ∙ ap (λ b. cond b (Some x.1) None) other
+
+-- where none may differ
+pub none_differ : (a b : Change) (o : Option (Vec ℕ Global)) → IfSome o (λ pids. ListSameBut pids.items a b)
+    → IsSomeAnd o (λ pids. pids.items ≡ []) → ListSame a b
+none_differ a b None but none = absurd none
+none_differ a b (Some pids) but none = record {
+  each = λ p. but p (ap (λ (l : List ℕ). is_one l p) none);
+}

@@ -35,7 +35,7 @@ use Rattle.cap_summary.specs.Does.{Does}
 use Rattle.cap_summary.specs.Names.{Names, AreAmong, names_in, these, ChangeWithin, ConditionsWithin, ChildWithin}
 use Rattle.cap_summary.specs.Names.{condition_within}
 use Rattle.cap_summary.specs.Names.{EffectWithin}
-use Rattle.cap_summary.specs.Reading.{ConditionsRead}
+use Rattle.cap_summary.specs.Reading.{ConditionsRead, ReadAlike}
 use Rattle.cap_summary.specs.Sizes.{IsSized, NamesMany, ListMuch}
 use Rattle.cap_summary.specs.Conditions.{any_holds, has_any}
 use Rattle.cap_summary.specs.LineConditions.{line_always, line_conditions}
@@ -45,7 +45,7 @@ use Rattle.cap_summary.proofs.Untouched.{first_true, second_true}
 use Rattle.cap_summary.proofs.Holding.{has_any-append, has_any-map, line_holds}
 use Rattle.cap_summary.proofs.Naming.{change_more, conditions_more, line_within}
 use Rattle.cap_summary.proofs.Comparing.{changes_alike}
-use Rattle.cap_summary.proofs.Reading.{conditions_read, read_same}
+use Rattle.cap_summary.proofs.Reading.{conditions_read, read_same, alike_hold, alike_read}
 use Rattle.cap_summary.proofs.Joining.{joined_changes, joined_untouched, joined_unturned, joined_names}
 use Rattle.cap_summary.proofs.Earlier.{joins_left, joins_right}
 
@@ -224,6 +224,81 @@ composed_right a b whole other composes like = record {
       composes.moved;
   sized = composes.sized;
 }
+
+-- behind another first change, where the second's conditions read the same
+pub moved_alike : (was now : Change) (conditions : List Condition) (o : Option (Rc (List Condition) Global))
+    → ReadAlike was now conditions → IfSome o (λ m. IsMoved was conditions m.value)
+    → IfSome o (λ m. IsMoved now conditions m.value)
+moved_alike was now conditions None alike is = tt
+moved_alike was now conditions (Some moved) alike is = record {
+  holds = λ s. is.holds s ∙ sym (alike_hold was now conditions alike s);
+  names = λ names read. is.names names (alike_read was now conditions alike names read);
+}
+
+-- another first part with the same conditions, behind whose change the second's read the same
+pub composed_behind : (a b whole other new : Known) → Composes a b whole → ReadAlike a.change other.change b.conditions
+    → JoinsTo other.change b.change new.change → new.always ≡ whole.always → new.conditions ≡ whole.conditions
+    → IfSome new.moved (λ m. IsMoved a.change b.conditions m.value) → IsSized new → other.always ≡ a.always
+    → other.conditions ≡ a.conditions → Composes other b new
+composed_behind a b whole other new composes alike joins always conditions moved sized sure same = record {
+  changes = joins;
+  found = λ s. ap (λ r. r || any_holds s new.conditions) always
+      ∙ ap (λ (r : List Condition). whole.always || any_holds s r) conditions
+      ∙ composes.found s
+      ∙ ap (λ (r : List Condition). (a.always || any_holds s r) || finds b (changed a.change s)) (sym same)
+      ∙ ap (λ r. (r || any_holds s other.conditions) || finds b (changed a.change s)) (sym sure)
+      ∙ ap (λ r. finds other s || (b.always || r)) (sym (alike_hold a.change other.change b.conditions alike s));
+  asked = λ names first second. subst (ConditionsWithin names) (sym conditions)
+      (composes.asked names (subst (ConditionsWithin names) same first)
+      (alike_read a.change other.change b.conditions alike names second));
+  moved = moved_alike a.change other.change b.conditions new.moved alike moved;
+  sized = sized;
+}
+
+-- another second part with the same conditions
+pub composed_before : (a b whole other new : Known) → Composes a b whole → JoinsTo a.change other.change new.change
+    → new.always ≡ whole.always → new.conditions ≡ whole.conditions
+    → IfSome new.moved (λ m. IsMoved a.change b.conditions m.value) → IsSized new → other.always ≡ b.always
+    → other.conditions ≡ b.conditions → Composes a other new
+composed_before a b whole other new composes joins always conditions moved sized sure same = record {
+  changes = joins;
+  found = λ s. ap (λ r. r || any_holds s new.conditions) always
+      ∙ ap (λ (r : List Condition). whole.always || any_holds s r) conditions
+      ∙ composes.found s
+      ∙ ap (λ (r : List Condition). finds a s || (b.always || any_holds (changed a.change s) r)) (sym same)
+      ∙ ap (λ r. finds a s || (r || any_holds (changed a.change s) other.conditions)) (sym sure);
+  asked = λ names first second. subst (ConditionsWithin names) (sym conditions)
+      (composes.asked names first (subst (ConditionsRead names a.change) same second));
+  moved = subst (λ (r : List Condition). IfSome new.moved (λ m. IsMoved a.change r m.value)) (sym same) moved;
+  sized = sized;
+}
+
+-- conditions that say what the first's do and the second's behind its change
+pub composed_of : (a b whole : Known) → JoinsTo a.change b.change whole.change → (a.always || b.always) ≡ false
+    → whole.always ≡ false → whole.moved ≡ None → IsSized whole →
+    ((s : State)
+    → any_holds s whole.conditions ≡ (any_holds s a.conditions || any_holds (changed a.change s) b.conditions)) →
+    ((names : Names) → ConditionsWithin names a.conditions → ConditionsRead names a.change b.conditions
+    → ConditionsWithin names whole.conditions) → Composes a b whole
+composed_of a b whole joins parts always unmoved sized both asked = record {
+  changes = joins;
+  found = λ s. ap (λ r. r || any_holds s whole.conditions) always ∙ both s
+      ∙ sym (none_found a.always b.always (any_holds s a.conditions) (any_holds (changed a.change s) b.conditions) parts);
+  asked = asked;
+  moved = subst (λ (o : Option (Rc (List Condition) Global)). IfSome o (λ m. IsMoved a.change b.conditions m.value))
+      (sym unmoved) tt;
+  sized = sized;
+}
+
+-- where nothing is found in any case, the conditions of a whole say what those of its parts do
+pub conditions_found : (a b whole : Known) → Composes a b whole → a.always ≡ false → b.always ≡ false
+    → whole.always ≡ false → (s : State)
+    → any_holds s whole.conditions ≡ (any_holds s a.conditions || any_holds (changed a.change s) b.conditions)
+conditions_found a b whole composes first second always s =
+    ap (λ r. r || any_holds s whole.conditions) (sym always)
+    ∙ composes.found s
+    ∙ ap (λ r. (r || any_holds s a.conditions) || finds b (changed a.change s)) first
+    ∙ ap (λ r. any_holds s a.conditions || (r || any_holds (changed a.change s) b.conditions)) second
 
 -- the state behind one step
 pub step_ends : (step : Step) (effect : Effect) →

@@ -1,5 +1,5 @@
 -- From which cells and modes conditions read behind a change.
-use Rattle.std.proofs.Common.{◌≡◌, ℕ, ◌<◌, List, [], ◌∷◌, ◌++◌, Option, Some, None, Bool, true, ◌&&◌}
+use Rattle.std.proofs.Common.{◌≡◌, ℕ, ◌<◌, List, [], ◌∷◌, ◌++◌, Option, Some, None, Bool, true, ◌&&◌, ◌||◌}
 use Rattle.std.proofs.Common.{map, get_or, length, refl, sym, ap, subst, ◌∙◌}
 use Rattle.std.specs.List.{All}
 use Rattle.std.proofs.lemmas.List.Elements.{All-nil, All-cons, All-head, All-tail, All-weaker}
@@ -14,11 +14,14 @@ use Rattle.cap_summary.specs.declared.conditions.Condition.{Condition}
 use Rattle.cap_summary.specs.declared.conditions.Condition.TheVariants as condition
 use Rattle.cap_summary.specs.declared.packed.Low.{Low}
 use Rattle.cap_summary.specs.Tables.{process_at}
-use Rattle.cap_summary.specs.Changes.{value_of, mode_of, mode_in, AreAlike, ListSame}
+use Rattle.cap_machine.specs.State.{State}
+use Rattle.cap_summary.specs.Conditions.{holds, any_holds}
+use Rattle.cap_summary.specs.Changes.{value_of, mode_of, mode_in, changed, ListSame}
 use Rattle.cap_summary.specs.Names.{Names, ChangeWithin, condition_within, ConditionsWithin, source_within}
 use Rattle.cap_summary.specs.Names.{part_within, outside_within, value_within, mode_within}
 use Rattle.cap_summary.specs.Packed.{low_condition, low_conditions}
 use Rattle.cap_summary.specs.Reading.{source_read, part_read, outside_read, condition_read, ConditionsRead, LowsRead}
+use Rattle.cap_summary.specs.Reading.{ReadsAlike, ReadAlike}
 use Rattle.cap_summary.proofs.Untouched.{both_true, first_true, second_true}
 use Rattle.cap_summary.proofs.Comparing.{alike_cell, alike_mode}
 use Rattle.cap_summary.proofs.Naming.{value_of_within, mode_of_within}
@@ -138,3 +141,17 @@ source_left names a x is = sym (ap (value_within names) is)
 pub mode_left : (names : Names) (a : Change) (p : ℕ) → process_at a.processes p ≡ None
     → names.pids p ≡ mode_within names (mode_of a p)
 mode_left names a p none = sym (ap (λ (o : Option Process). mode_within names (mode_in o p)) none)
+
+-- ---- two changes behind which conditions read the same
+
+pub alike_hold : (was now : Change) (conditions : List Condition) → ReadAlike was now conditions → (s : State)
+    → any_holds (changed now s) conditions ≡ any_holds (changed was s) conditions
+alike_hold was now [] alike s = refl
+alike_hold was now (c ∷ rest) alike s =
+    let P : Condition → Type 0 = ReadsAlike was now in
+    ap (λ r. r || any_holds (changed now s) rest) ((All-head P c rest alike).holds s)
+    ∙ ap (λ r. holds (changed was s) c || r) (alike_hold was now rest (All-tail P c rest alike) s)
+
+pub alike_read : (was now : Change) (conditions : List Condition) → ReadAlike was now conditions → (names : Names)
+    → ConditionsRead names now conditions → ConditionsRead names was conditions
+alike_read was now conditions alike names read i d lt = (alike i d lt).names names (read i d lt)

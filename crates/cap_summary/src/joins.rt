@@ -1,12 +1,13 @@
 //! One change after another, anew or with what an earlier whole has.
 
-ghost use Rattle.std.specs.Prelude.{◌≡◌, ℕ, true, false, IfOk, OnOk, IfSome, IsSomeAnd, ◌++◌, ◌∷◌, [], option_map};
-ghost use Rattle.std.specs.Option.{option_copied};
+ghost use Rattle.std.specs.Prelude.{◌≡◌, ℕ, ◌+◌, ◌<◌, true, false, IfOk, OnOk, IfSome, ◌++◌, ◌∷◌, [], option_map};
+ghost use Rattle.std.specs.Prelude.{Some, None, length, slice_get};
 ghost use Rattle.std.specs.List.{All};
 ghost use Rattle.cap_summary.specs.Images.{IsLowered};
 ghost use Rattle.cap_summary.specs.Tables.{process_at, listed_process};
-ghost use Rattle.cap_summary.specs.Names.{is_one};
-ghost use Rattle.cap_summary.specs.Changes.{JoinsProcess, JoinsTo, HasAllBut, MovesAlike, IsSame, AreAlike};
+ghost use Rattle.cap_summary.specs.Names.{is_one, TakesFrom};
+ghost use Rattle.cap_summary.specs.Sorted.{found};
+ghost use Rattle.cap_summary.specs.Changes.{JoinsProcess, JoinsTo, HasAllBut, ListSameBut};
 ghost use Rattle.cap_summary.specs.Earlier.{HasEarlier};
 
 use crate::change::Change;
@@ -113,20 +114,6 @@ impl Combine for Joining<'_> {
     ghost neither = { λ s p has is. refl };
 }
 
-/// Whether two changes list the same of a process. No is a safe answer.
-#[inline]
-fn are_alike(a: Option<&Listed>, b: Option<&Listed>) -> bool
-    ensures { result ≡ true → (p : ℕ)
-        → AreAlike (option_map (listed_process p) (option_copied a.entry))
-        (option_map (listed_process p) (option_copied b.entry)) }
-{
-    match (a, b) {
-        (None, None) => true,
-        (Some(a), Some(b)) => a.is_like(b),
-        _ => false,
-    }
-}
-
 /// Notes a process that is to be made anew, and answers whether no more are noted than may be.
 #[inline]
 fn note(anew: &mut Vec<Pid>, pid: Pid) -> Result<bool, NoMemory>
@@ -136,63 +123,87 @@ fn note(anew: &mut Vec<Pid>, pid: Pid) -> Result<bool, NoMemory>
     Ok(anew.len() <= MOST)
 }
 
-/// Where look-ups in two changes ended.
-#[derive(Clone, Copy)]
-struct Places {
-    old: usize,
-    new: usize,
+/// The entries behind the first.
+#[inline(always)]
+fn behind_first(entries: &[(u32, Listed)]) -> &[(u32, Listed)]
+    requires { 0 < length entries.now }
+    ensures rest { (x : ℕ × Listed) → Some x ≡ slice_get entries.now 0 → entries.now ≡ x ∷ result.now }
+    ensures fewer { length result.now + 1 ≡ length entries.now }
+{
+    &entries[1..]
 }
 
-/// Whether a process is behind `now` what it is behind `was`. No is a safe answer.
+/// Adds the process of each entry.
+fn add_all(pids: &mut Vec<Pid>, entries: &[(u32, Listed)]) -> Result<(), NoMemory>
+    ensures { OnOk result ((p : ℕ) → is_one pids.new.items p ≡ false
+        → (is_one pids.old.items p ≡ false) × (found entries.now p ≡ None)) }
+{
+    for entry in entries {
+        pids.push(entry.0)?;
+    }
+    Ok(())
+}
+
+impl Change {
+    /// The processes of which it may not list the same as another change. It goes through both in step.
+    fn differing_from(&self, alloc: Global, was: &Change) -> Result<Vec<Pid>, NoMemory>
+        ensures { IfOk result (λ pids. ListSameBut pids.items self.now was.now) }
+    {
+        let mut pids = Vec::new(alloc);
+        let (mut own, mut old) = (self.processes.entries(), was.processes.entries());
+        while let (Some(first), Some(second)) = (own.first(), old.first()) {
+            if first.0 < second.0 {
+                pids.push(first.0)?;
+                own = behind_first(own);
+            } else if second.0 < first.0 {
+                pids.push(second.0)?;
+                old = behind_first(old);
+            } else {
+                if !first.1.is_like(&second.1) {
+                    pids.push(first.0)?;
+                }
+                own = behind_first(own);
+                old = behind_first(old);
+            }
+        }
+        add_all(&mut pids, own)?;
+        add_all(&mut pids, old)?;
+        Ok(pids)
+    }
+
+    /// The same; none where they are many.
+    pub(crate) fn differing(&self, alloc: Global, was: &Change) -> Result<Option<Vec<Pid>>, NoMemory>
+        ensures { IfOk result (λ o. IfSome o (λ pids. ListSameBut pids.items self.now was.now)) }
+    {
+        let pids = self.differing_from(alloc, was)?;
+        if pids.len() > MOST {
+            return Ok(None);
+        }
+        Ok(Some(pids))
+    }
+}
+
+/// Whether a process comes from none of these.
 #[inline]
-fn moves_alike(was: &Change, now: &Change, pid: Pid, listed: &Listed, places: &mut Places) -> bool
-    ensures { result ≡ true → MovesAlike was.now now.now (listed_process pid listed.now) }
+fn comes_from_others(pid: Pid, listed: &Listed, pids: &[Pid]) -> bool
+    ensures { result ≡ true → TakesFrom (λ q. is_one pids.now q ≡ false) (listed_process pid listed.now) }
 {
     if listed.is_gone() {
         return true;
     }
-    let old = was.processes.get_from(pid, &mut places.old);
-    let new = now.processes.get_from(pid, &mut places.new);
-    are_alike(old, new) && listed.process(pid).takes_its_own(pid)
+    !pids.contains(&pid) && listed.process(pid).takes_its_own(pid)
 }
 
 impl Change {
-    /// The processes that may not be behind `now` what they are behind `was`; none where they are many.
-    fn moved_otherwise(
-        &self,
-        alloc: Global,
-        was: &Change,
-        now: &Change,
-    ) -> Result<Option<Vec<Pid>>, NoMemory>
+    /// The processes that may come from one of these; none where they are many.
+    fn coming_from(&self, alloc: Global, pids: &[Pid]) -> Result<Option<Vec<Pid>>, NoMemory>
         ensures { IfOk result (λ o. IfSome o (λ anew. (p : ℕ) → is_one anew.items p ≡ false
-            → IfSome (process_at self.now.processes p) (MovesAlike was.now now.now))) }
+            → IfSome (process_at self.now.processes p) (TakesFrom (λ q. is_one pids.now q ≡ false)))) }
     {
         let mut anew = Vec::new(alloc);
-        let mut places = Places { old: 0, new: 0 };
         let entries = self.processes.entries();
         for entry in entries {
-            if moves_alike(was, now, entry.0, &entry.1, &mut places) {
-                continue;
-            }
-            if !note(&mut anew, entry.0)? {
-                return Ok(None);
-            }
-        }
-        Ok(Some(anew))
-    }
-
-    /// The processes of which it may not list the same as `was`; none where they are many.
-    fn unlike(&self, alloc: Global, was: &Change) -> Result<Option<Vec<Pid>>, NoMemory>
-        ensures { IfOk result (λ o. IfSome o (λ anew. (p : ℕ) → is_one anew.items p ≡ false
-            → IfSome (process_at self.now.processes p)
-            (λ d. IsSomeAnd (process_at was.now.processes p) (λ e. IsSame d e)))) }
-    {
-        let mut anew = Vec::new(alloc);
-        let mut place = 0usize;
-        let entries = self.processes.entries();
-        for entry in entries {
-            let old = was.processes.get_from(entry.0, &mut place);
-            if are_alike(Some(&entry.1), old) {
+            if comes_from_others(entry.0, &entry.1, pids) {
                 continue;
             }
             if !note(&mut anew, entry.0)? {
@@ -264,33 +275,41 @@ impl Change {
         self.joined(alloc, then, &made, Some(earlier))
     }
 
-    /// The same where `whole` is what `was` and then the other do.
+    /// The same where `whole` is what `was` and then the other do, and this change lists the same as `was` of each process
+    /// but these.
     pub(crate) fn join_behind(
         &self,
         alloc: Global,
         was: &Change,
         then: &Change,
         whole: &Change,
+        differing: &Option<Vec<Pid>>,
     ) -> Result<Change, NoMemory>
-        requires { JoinsTo was.now then.now whole.now }
+        requires joins { JoinsTo was.now then.now whole.now }
+        requires differing { IfSome differing.now (λ pids. ListSameBut pids.items self.now was.now) }
         ensures { IfOk result (λ new. JoinsTo self.now then.now new) }
     {
-        let anew = then.moved_otherwise(alloc, was, self)?;
+        let anew = match differing {
+            Some(pids) => then.coming_from(alloc, pids)?,
+            None => None,
+        };
         self.join_but(alloc, then, whole, anew)
     }
 
-    /// The same where `whole` is what this change and then `was` do.
+    /// The same where `whole` is what this change and then `was` do, and the other lists the same as `was` of each process
+    /// but these.
     pub(crate) fn join_before(
         &self,
         alloc: Global,
         was: &Change,
         then: &Change,
         whole: &Change,
+        differing: Option<Vec<Pid>>,
     ) -> Result<Change, NoMemory>
-        requires { JoinsTo self.now was.now whole.now }
+        requires joins { JoinsTo self.now was.now whole.now }
+        requires differing { IfSome differing (λ pids. ListSameBut pids.items then.now was.now) }
         ensures { IfOk result (λ new. JoinsTo self.now then.now new) }
     {
-        let anew = then.unlike(alloc, was)?;
-        self.join_but(alloc, then, whole, anew)
+        self.join_but(alloc, then, whole, differing)
     }
 }

@@ -1,17 +1,21 @@
 //! What is known of a segment, whatever the state before it.
 
 ghost use Rattle.std.specs.Prelude.{◌≡◌, ℕ, ◌+◌, ◌^◌, ◌<◌, ◌≤◌, ◌∷◌, [], ◌||◌, true, false, None, length};
-ghost use Rattle.std.specs.Prelude.{IfOk, OnOk, IfSome};
+ghost use Rattle.std.specs.Prelude.{IfOk, OnOk, IfSome, IsSomeAnd, List};
 ghost use Rattle.cap_tree.specs.Run.{values};
 ghost use Rattle.cap_machine.specs.Steps.{step};
 ghost use Rattle.cap_machine.specs.Table.{start_state};
-ghost use Rattle.cap_summary.specs.Changes.{JoinsTo, ListSame};
+ghost use Rattle.cap_summary.specs.declared.change.Change.{Change};
+ghost use Rattle.cap_summary.specs.declared.conditions.Condition.{Condition};
+ghost use Rattle.cap_summary.specs.Changes.{JoinsTo, ListSameBut};
+ghost use Rattle.cap_summary.specs.Reading.{ReadAlike};
 ghost use Rattle.cap_summary.specs.Sizes.{IsSizeOf, IsSized, ListMuch};
 ghost use Rattle.cap_summary.specs.Knows.{Knows, Composes, AreAlike, IsMoved, finds, state_after, leaves_cell, leaves_mode};
 
 use crate::before::Before;
 use crate::change::Change;
 use crate::line_conditions::{always, conditions_of};
+use crate::lost::with_others;
 use crate::merge::merged;
 use crate::packed::Conditions;
 use cap_machine::{Cell, Mode, Profile, Start, Step, rule_of};
@@ -65,6 +69,16 @@ fn where_many(alloc: Global, conditions: &Conditions) -> Result<Option<Rc<Condit
         return Ok(None);
     }
     Ok(Some(Rc::new(alloc, conditions.share()?)?))
+}
+
+/// Whether it is known that there are none.
+fn are_none(pids: &Option<Vec<Pid>>) -> bool
+    ensures { result ≡ true → IsSomeAnd pids.now (λ these. these.items ≡ []) }
+{
+    match pids {
+        Some(pids) => pids.is_empty(),
+        None => false,
+    }
 }
 
 /// Whether one of the two is so.
@@ -164,6 +178,25 @@ impl Known {
         Known {
             change,
             always: true,
+            conditions,
+            moved: None,
+            size,
+            forks,
+        }
+    }
+
+    /// A segment that has this change, and in which something is found under these conditions.
+    fn uncertain(change: Change, conditions: Conditions) -> Known
+        ensures change { result.change ≡ change }
+        ensures always { result.always ≡ false }
+        ensures conditions { result.conditions ≡ conditions }
+        ensures moved { result.moved ≡ None }
+        ensures sized { IsSized result }
+    {
+        let (size, forks) = size_of(&change, &conditions);
+        Known {
+            change,
+            always: false,
             conditions,
             moved: None,
             size,
@@ -273,15 +306,88 @@ impl Known {
         self.always == other.always && self.conditions.is_like(&other.conditions)
     }
 
-    /// Whether the change is the same as the old one's; where that isn't known, the two are compared. No is a safe
-    /// answer.
-    fn changes_alike(&self, old: &Known, likeness: Likeness) -> bool
+    /// The processes of which the change may not list the same as the old one's; where it isn't known that they list the
+    /// same, the two are compared. None where they are many.
+    fn differing(
+        &self,
+        alloc: Global,
+        old: &Known,
+        likeness: Likeness,
+    ) -> Result<Option<Vec<Pid>>, NoMemory>
         requires { AreAlike likeness old.now self.now }
-        ensures { result ≡ true → ListSame self.now.change old.now.change }
+        ensures { IfOk result (λ o. IfSome o (λ pids. ListSameBut pids.items self.now.change old.now.change)) }
     {
         match likeness {
-            Likeness::Unknown => self.change.is_like(&old.change),
-            Likeness::Change | Likeness::All => true,
+            Likeness::Unknown => self.change.differing(alloc, &old.change),
+            Likeness::Change | Likeness::All => Ok(Some(Vec::new(alloc))),
+        }
+    }
+
+    /// The same with another change.
+    fn with_change(&self, change: Change) -> Result<Known, NoMemory>
+        ensures change { IfOk result (λ new. new.change ≡ change) }
+        ensures always { IfOk result (λ new. new.always ≡ self.now.always) }
+        ensures conditions { IfOk result (λ new. new.conditions ≡ self.now.conditions) }
+        ensures moved { IfOk result (λ new. (first : Change) (second : List Condition)
+            → IfSome self.now.moved (λ kept. IsMoved first second kept.value)
+            → IfSome new.moved (λ kept. IsMoved first second kept.value)) }
+        ensures sized { IfOk result (λ new. IsSized new) }
+    {
+        let conditions = self.conditions.share()?;
+        let moved = match &self.moved {
+            Some(kept) => Some(kept.clone()?),
+            None => None,
+        };
+        let (size, forks) = size_of(&change, &conditions);
+        Ok(Known {
+            change,
+            always: self.always,
+            conditions,
+            moved,
+            size,
+            forks,
+        })
+    }
+
+    /// What is known of another segment and then the second, whose changes together are this one, where `whole` is that of
+    /// the first and the second. What the second's conditions say behind the first's change is kept where they say the
+    /// same behind the other's.
+    fn behind(
+        alloc: Global,
+        change: Change,
+        whole: &Known,
+        first: &Known,
+        second: &Known,
+        other: &Known,
+        differing: &Option<Vec<Pid>>,
+    ) -> Result<Known, NoMemory>
+        requires joins { JoinsTo other.now.change second.now.change change }
+        requires composed { Composes first.now second.now whole.now }
+        requires differing { IfSome differing.now
+            (λ pids. ListSameBut pids.items other.now.change first.now.change) }
+        ensures { IfOk result (λ new. Composes other.now second.now new) }
+    {
+        if !second.reads_alike(&first.change, &other.change, differing) {
+            return Known::over(alloc, change, other, second);
+        }
+        if other.finds_alike(first) {
+            return whole.with_change(change);
+        }
+        if one_of(other.always, second.always) {
+            return Ok(Known::certain(change));
+        }
+        Known::again(alloc, change, whole, other, second)
+    }
+
+    /// Whether its conditions say and ask behind a change what they do behind an earlier one, which lists the same of each
+    /// process but these. No is a safe answer.
+    fn reads_alike(&self, was: &Change, now: &Change, differing: &Option<Vec<Pid>>) -> bool
+        requires { IfSome differing.now (λ pids. ListSameBut pids.items now.now was.now) }
+        ensures { result ≡ true → ReadAlike was.now now.now self.now.conditions }
+    {
+        match differing {
+            Some(pids) => now.reads_alike(was, pids, &self.conditions),
+            None => false,
         }
     }
 
@@ -293,8 +399,11 @@ impl Known {
         first: &Known,
         second: &Known,
         other: &Known,
+        differing: &Option<Vec<Pid>>,
     ) -> Result<Option<(Rc<Known>, Likeness)>, NoMemory>
         requires composed { Composes first.now second.now whole.now }
+        requires differing { IfSome differing.now
+            (λ pids. ListSameBut pids.items other.now.change first.now.change) }
         requires other { IsSized other.now }
         requires second { IsSized second.now }
         ensures composed { IfOk result (λ o. IfSome o (λ new. Composes other.now second.now new.0.value)) }
@@ -304,9 +413,58 @@ impl Known {
             return Ok(None);
         }
         let (was, then) = (&first.change, &second.change);
-        let change = other.change.join_behind(alloc, was, then, &whole.change)?;
-        let new = Known::over(alloc, change, other, second)?;
+        let change = other
+            .change
+            .join_behind(alloc, was, then, &whole.change, differing)?;
+        let new = Known::behind(alloc, change, whole, first, second, other, differing)?;
         Ok(Some((Rc::new(alloc, new)?, Likeness::Unknown)))
+    }
+
+    /// What is known of the first segment and another one, whose changes together are this one, where `whole` is that of the
+    /// first and the second. The conditions of the whole stay where those of the other are the second's.
+    fn before(
+        alloc: Global,
+        change: Change,
+        whole: &Known,
+        first: &Known,
+        second: &Known,
+        other: &Known,
+    ) -> Result<Known, NoMemory>
+        requires joins { JoinsTo first.now.change other.now.change change }
+        requires composed { Composes first.now second.now whole.now }
+        ensures composed { IfOk result (λ new. Composes first.now other.now new) }
+        ensures change { IfOk result (λ new. new.change ≡ change) }
+    {
+        if other.finds_alike(second) {
+            return whole.with_change(change);
+        }
+        Known::with_conditions(alloc, change, whole, first, second, other)
+    }
+
+    /// The same where the conditions of the other aren't the second's. Those of the whole stay where what the other lost of
+    /// them says nothing that the first doesn't say.
+    fn with_conditions(
+        alloc: Global,
+        change: Change,
+        whole: &Known,
+        first: &Known,
+        second: &Known,
+        other: &Known,
+    ) -> Result<Known, NoMemory>
+        requires joins { JoinsTo first.now.change other.now.change change }
+        requires composed { Composes first.now second.now whole.now }
+        ensures composed { IfOk result (λ new. Composes first.now other.now new) }
+        ensures change { IfOk result (λ new. new.change ≡ change) }
+    {
+        if one_of(first.always, other.always) || one_of(whole.always, second.always) {
+            return Known::over(alloc, change, first, other);
+        }
+        let (all, own) = (&whole.conditions, &first.conditions);
+        let (old, new) = (&second.conditions, &other.conditions);
+        match with_others(alloc, all, &first.change, own, old, new)? {
+            Some(conditions) => Ok(Known::uncertain(change, conditions)),
+            None => Known::over(alloc, change, first, other),
+        }
     }
 
     /// The same of the first segment and then another one.
@@ -316,8 +474,11 @@ impl Known {
         first: &Known,
         second: &Known,
         other: &Known,
+        differing: Option<Vec<Pid>>,
     ) -> Result<Option<(Rc<Known>, Likeness)>, NoMemory>
         requires composed { Composes first.now second.now whole.now }
+        requires differing { IfSome differing
+            (λ pids. ListSameBut pids.items other.now.change second.now.change) }
         requires first { IsSized first.now }
         requires other { IsSized other.now }
         ensures composed { IfOk result (λ o. IfSome o (λ new. Composes first.now other.now new.0.value)) }
@@ -327,8 +488,10 @@ impl Known {
             return Ok(None);
         }
         let (was, then) = (&second.change, &other.change);
-        let change = first.change.join_before(alloc, was, then, &whole.change)?;
-        let new = Known::over(alloc, change, first, other)?;
+        let change = first
+            .change
+            .join_before(alloc, was, then, &whole.change, differing)?;
+        let new = Known::before(alloc, change, whole, first, second, other)?;
         Ok(Some((Rc::new(alloc, new)?, Likeness::Unknown)))
     }
 
@@ -353,8 +516,9 @@ impl Known {
         if let Likeness::All = likeness {
             return Ok(Some((whole.clone()?, Likeness::All)));
         }
-        if !other.changes_alike(first, likeness) {
-            return Known::join_behind(alloc, whole, first, second, other);
+        let differing = other.differing(alloc, first, likeness)?;
+        if !are_none(&differing) {
+            return Known::join_behind(alloc, whole, first, second, other, &differing);
         }
         if one_of(other.always, second.always) {
             let new = Known::made_certain(whole, alloc)?;
@@ -389,8 +553,9 @@ impl Known {
         if let Likeness::All = likeness {
             return Ok(Some((whole.clone()?, Likeness::All)));
         }
-        if !other.changes_alike(second, likeness) {
-            return Known::join_before(alloc, whole, first, second, other);
+        let differing = other.differing(alloc, second, likeness)?;
+        if !are_none(&differing) {
+            return Known::join_before(alloc, whole, first, second, other, differing);
         }
         if one_of(first.always, other.always) {
             let new = Known::made_certain(whole, alloc)?;
@@ -402,7 +567,8 @@ impl Known {
         if Known::is_large(first, other) {
             return Ok(None);
         }
-        let new = Known::over(alloc, whole.change.share()?, first, other)?;
+        let change = whole.change.share()?;
+        let new = Known::with_conditions(alloc, change, whole, first, second, other)?;
         Ok(Some((Rc::new(alloc, new)?, Likeness::Change)))
     }
 

@@ -4,7 +4,7 @@ use Rattle.cap_summary.specs.declared.known.Known.{Known}
 use Rattle.cap_summary.specs.Changes.{JoinsTo}
 use Rattle.std.specs.Prelude.{IfSome}
 use Rattle.cap_summary.specs.Knows.{Composes, IsLike, IsMoved}
-use Rattle.cap_summary.proofs.Earlier.{joins_left}
+use Rattle.cap_summary.proofs.Earlier.{joins_left, none_differ}
 use Rattle.cap_summary.proofs.Knowing.{moved_left, composed_left, composed_certain, always_found}
 use Rattle.cap_summary.proofs.known.Known.with_left.Goals as goal
 
@@ -19,7 +19,8 @@ pub returns-then-one_of-clause-composed : goal.returns-then-one_of-clause-compos
 returns-then-one_of-clause-composed c =
     let joins : JoinsTo c.args.other.now.change c.args.second.now.change c.args.whole.now.value.change =
     joins_left c.args.first.now.change c.args.second.now.change c.args.whole.now.value.change c.args.other.now.change
-    c.requires.composed.changes (c.changes_alike.ensures c.if-not-changes_alike.false) in
+    c.requires.composed.changes (none_differ c.args.other.now.change c.args.first.now.change c.in_ok-differing.differing c.in_ok-differing.ensures
+    (c.are_none.ensures c.if-not-are_none.false)) in
     composed_certain c.args.other.now c.args.second.now c.in_ok-new.new.0.value
     (subst (λ (r : Change). JoinsTo c.args.other.now.change c.args.second.now.change r)
     (sym c.in_ok-new.ensures.change) joins)
@@ -29,7 +30,8 @@ returns-then-one_of-clause-composed c =
 pub returns-then-finds_alike-clause-composed : goal.returns-then-finds_alike-clause-composed
 returns-then-finds_alike-clause-composed c =
     let like : IsLike c.args.other.now c.args.first.now = record {
-      change = c.changes_alike.ensures c.if-not-changes_alike.false;
+      change = none_differ c.args.other.now.change c.args.first.now.change c.in_ok-differing.differing c.in_ok-differing.ensures
+          (c.are_none.ensures c.if-not-are_none.false);
       always = c.finds_alike.ensures.always c.if-finds_alike.true;
       conditions = c.finds_alike.ensures.conditions c.if-finds_alike.true;
     } in
@@ -41,7 +43,8 @@ pub again-requires-clause-joins : goal.again-requires-clause-joins
 again-requires-clause-joins c =
     let joins : JoinsTo c.args.other.now.change c.args.second.now.change c.args.whole.now.value.change =
     joins_left c.args.first.now.change c.args.second.now.change c.args.whole.now.value.change c.args.other.now.change
-    c.requires.composed.changes (c.changes_alike.ensures c.if-not-changes_alike.false) in
+    c.requires.composed.changes (none_differ c.args.other.now.change c.args.first.now.change c.in_ok-differing.differing c.in_ok-differing.ensures
+    (c.are_none.ensures c.if-not-are_none.false)) in
     subst (λ (r : Change). JoinsTo c.args.other.now.change c.args.second.now.change r)
     (sym (c.in_ok-share.ensures ∙ ap (λ (r : Known). r.change) c.deref-2.ensures)) joins
 
@@ -53,4 +56,5 @@ again-requires-clause-moved c =
     subst (λ (r : Known). IfSome r.moved
     (λ kept. IsMoved c.args.other.now.change c.args.second.now.conditions kept.value)) (sym c.deref-3.ensures)
     (moved_left c.args.first.now.change c.args.other.now.change c.args.second.now.conditions c.args.whole.now.value.moved
-    (c.changes_alike.ensures c.if-not-changes_alike.false) c.requires.composed.moved)
+    (none_differ c.args.other.now.change c.args.first.now.change c.in_ok-differing.differing c.in_ok-differing.ensures
+    (c.are_none.ensures c.if-not-are_none.false)) c.requires.composed.moved)

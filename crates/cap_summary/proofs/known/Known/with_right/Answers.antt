@@ -3,7 +3,7 @@ use Rattle.cap_summary.specs.declared.change.Change.{Change}
 use Rattle.cap_summary.specs.declared.known.Known.{Known}
 use Rattle.cap_summary.specs.Changes.{JoinsTo}
 use Rattle.cap_summary.specs.Knows.{Composes, IsLike}
-use Rattle.cap_summary.proofs.Earlier.{joins_right}
+use Rattle.cap_summary.proofs.Earlier.{joins_right, none_differ}
 use Rattle.cap_summary.proofs.Knowing.{composed_right, composed_certain, always_found}
 use Rattle.cap_summary.proofs.known.Known.with_right.Goals as goal
 
@@ -19,7 +19,8 @@ pub returns-then-one_of-clause-composed : goal.returns-then-one_of-clause-compos
 returns-then-one_of-clause-composed c =
     let joins : JoinsTo c.args.first.now.change c.args.other.now.change c.args.whole.now.value.change =
     joins_right c.args.first.now.change c.args.second.now.change c.args.whole.now.value.change c.args.other.now.change
-    c.requires.composed.changes (c.changes_alike.ensures c.if-not-changes_alike.false) in
+    c.requires.composed.changes (none_differ c.args.other.now.change c.args.second.now.change c.in_ok-differing.differing c.in_ok-differing.ensures
+    (c.are_none.ensures c.if-not-are_none.false)) in
     composed_certain c.args.first.now c.args.other.now c.in_ok-new.new.0.value
     (subst (λ (r : Change). JoinsTo c.args.first.now.change c.args.other.now.change r)
     (sym c.in_ok-new.ensures.change) joins)
@@ -29,7 +30,8 @@ returns-then-one_of-clause-composed c =
 pub returns-then-finds_alike-clause-composed : goal.returns-then-finds_alike-clause-composed
 returns-then-finds_alike-clause-composed c =
     let like : IsLike c.args.other.now c.args.second.now = record {
-      change = c.changes_alike.ensures c.if-not-changes_alike.false;
+      change = none_differ c.args.other.now.change c.args.second.now.change c.in_ok-differing.differing c.in_ok-differing.ensures
+          (c.are_none.ensures c.if-not-are_none.false);
       always = c.finds_alike.ensures.always c.if-finds_alike.true;
       conditions = c.finds_alike.ensures.conditions c.if-finds_alike.true;
     } in
@@ -38,10 +40,11 @@ returns-then-finds_alike-clause-composed c =
     c.requires.composed like in
     subst (λ (r : Known). Composes c.args.first.now c.args.other.now r) (sym c.in_ok-clone-2.ensures.cases) here
 
-pub over-requires : goal.over-requires
-over-requires c =
+pub with_conditions-requires-clause-joins : goal.with_conditions-requires-clause-joins
+with_conditions-requires-clause-joins c =
     let joins : JoinsTo c.args.first.now.change c.args.other.now.change c.args.whole.now.value.change =
     joins_right c.args.first.now.change c.args.second.now.change c.args.whole.now.value.change c.args.other.now.change
-    c.requires.composed.changes (c.changes_alike.ensures c.if-not-changes_alike.false) in
+    c.requires.composed.changes (none_differ c.args.other.now.change c.args.second.now.change c.in_ok-differing.differing c.in_ok-differing.ensures
+    (c.are_none.ensures c.if-not-are_none.false)) in
     subst (λ (r : Change). JoinsTo c.args.first.now.change c.args.other.now.change r)
     (sym (c.in_ok-share.ensures ∙ ap (λ (r : Known). r.change) c.deref-2.ensures)) joins
