@@ -371,7 +371,8 @@ impl Known {
             return Known::over(alloc, change, other, second);
         }
         if other.finds_alike(first) {
-            return whole.with_change(change);
+            let new = whole.with_change(change)?;
+            return Ok(new);
         }
         if one_of(other.always, second.always) {
             return Ok(Known::certain(change));
@@ -436,7 +437,8 @@ impl Known {
         ensures change { IfOk result (λ new. new.change ≡ change) }
     {
         if other.finds_alike(second) {
-            return whole.with_change(change);
+            let new = whole.with_change(change)?;
+            return Ok(new);
         }
         Known::with_conditions(alloc, change, whole, first, second, other)
     }

@@ -47,4 +47,4 @@ with_conditions-requires-clause-joins c =
     c.requires.composed.changes (none_differ c.args.other.now.change c.args.second.now.change c.in_ok-differing.differing c.in_ok-differing.ensures
     (c.are_none.ensures c.if-not-are_none.false)) in
     subst (λ (r : Change). JoinsTo c.args.first.now.change c.args.other.now.change r)
-    (sym (c.in_ok-share.ensures ∙ ap (λ (r : Known). r.change) c.deref-2.ensures)) joins
+    (sym (c.in_ok-change.ensures ∙ ap (λ (r : Known). r.change) c.deref-2.ensures)) joins
