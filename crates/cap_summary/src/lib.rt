@@ -32,6 +32,7 @@ mod moved_low;
 mod node;
 mod ordering;
 mod packed;
+mod reads;
 mod sorted;
 mod summary;
 mod tables;
