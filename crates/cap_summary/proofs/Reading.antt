@@ -1,12 +1,12 @@
 -- From which cells and modes conditions read behind a change.
-use Rattle.std.proofs.Common.{◌≡◌, ℕ, ◌<◌, List, [], ◌∷◌, ◌++◌, Option, Some, None, Bool, true, ◌&&◌, ◌||◌}
-use Rattle.std.proofs.Common.{map, get_or, length, refl, sym, ap, subst, ◌∙◌}
+use Rattle.std.proofs.Common.{◌≡◌, ℕ, List, [], ◌∷◌, ◌++◌, Option, Some, None, Bool, true, ◌&&◌, ◌||◌}
+use Rattle.std.proofs.Common.{map, get_or, refl, sym, ap, subst, ◌∙◌}
 use Rattle.std.specs.List.{All}
-use Rattle.std.proofs.lemmas.List.Elements.{All-nil, All-cons, All-head, All-tail, All-weaker}
+use Rattle.std.proofs.lemmas.List.Elements.{All-nil, All-cons, All-head, All-tail, All-weaker, All-append, All-map}
+use Rattle.cap_machine.specs.State.{State}
 use Rattle.cap_machine.specs.Op.{same}
 use Rattle.cap_summary.specs.declared.values.Value.{Value}
 use Rattle.cap_summary.specs.declared.values.Value.TheVariants as value
-use Rattle.cap_summary.specs.declared.values.ModeValue.{ModeValue}
 use Rattle.cap_summary.specs.declared.change.Process.{Process}
 use Rattle.cap_summary.specs.declared.change.Change.{Change}
 use Rattle.cap_summary.specs.declared.conditions.Source.{Source}
@@ -14,14 +14,14 @@ use Rattle.cap_summary.specs.declared.conditions.Condition.{Condition}
 use Rattle.cap_summary.specs.declared.conditions.Condition.TheVariants as condition
 use Rattle.cap_summary.specs.declared.packed.Low.{Low}
 use Rattle.cap_summary.specs.Tables.{process_at}
-use Rattle.cap_machine.specs.State.{State}
-use Rattle.cap_summary.specs.Conditions.{holds, any_holds}
-use Rattle.cap_summary.specs.Changes.{value_of, mode_of, mode_in, changed, ListSame}
+use Rattle.cap_summary.specs.Values.{read_cell}
+use Rattle.cap_summary.specs.Changes.{value_of, mode_of, mode_in, changed, AreAlike, ListSame}
+use Rattle.cap_summary.specs.Conditions.{passes, holds, any_holds}
 use Rattle.cap_summary.specs.Names.{Names, ChangeWithin, condition_within, ConditionsWithin, source_within}
 use Rattle.cap_summary.specs.Names.{part_within, outside_within, value_within, mode_within}
-use Rattle.cap_summary.specs.Packed.{low_condition, low_conditions}
+use Rattle.cap_summary.specs.Packed.{key_pid, key_fd, low_source, low_condition, low_conditions, AreOf}
 use Rattle.cap_summary.specs.Reading.{source_read, part_read, outside_read, condition_read, ConditionsRead, LowsRead}
-use Rattle.cap_summary.specs.Reading.{ReadsAlike, ReadAlike}
+use Rattle.cap_summary.specs.Reading.{ReadsAlike, ReadAlike, LowsReadAlike}
 use Rattle.cap_summary.proofs.Untouched.{both_true, first_true, second_true}
 use Rattle.cap_summary.proofs.Comparing.{alike_cell, alike_mode}
 use Rattle.cap_summary.proofs.Naming.{value_of_within, mode_of_within}
@@ -142,16 +142,42 @@ pub mode_left : (names : Names) (a : Change) (p : ℕ) → process_at a.processe
     → names.pids p ≡ mode_within names (mode_of a p)
 mode_left names a p none = sym (ap (λ (o : Option Process). mode_within names (mode_in o p)) none)
 
--- ---- two changes behind which conditions read the same
+-- ---- conditions that read the same behind two changes
 
+-- a test of a cell of which the same has become by both
+cell_alike : (was now : Change) (x : Source) → value_of now x.pid x.fd ≡ value_of was x.pid x.fd
+    → ReadsAlike was now (condition.Cell x)
+cell_alike was now x is = record {
+  holds = λ s. ap (λ (v : Value). passes x.test (read_cell s v)) is;
+  names = λ names read. ap (value_within names) (sym is) ∙ read;
+}
+
+-- those on cells of a process of which both changes list the same
+pub run_alike : (was now : Change) (p : ℕ) (lows : List Low)
+    → AreAlike (process_at now.processes p) (process_at was.processes p) → AreOf p lows → LowsReadAlike was now lows
+run_alike was now p lows alike of i d lt =
+    let x : Low = get_or lows i d in
+    let q : ℕ = key_pid x.key in
+    cell_alike was now (low_source x) (alike_cell q (key_fd x.key) (process_at now.processes q)
+    (process_at was.processes q) (subst (λ n. AreAlike (process_at now.processes n) (process_at was.processes n))
+    (sym (of i d lt)) alike))
+
+-- conditions of the most common form, and others behind them
+pub parts_alike : (was now : Change) (lows : List Low) (others : List Condition) → LowsReadAlike was now lows
+    → ReadAlike was now others → ReadAlike was now (low_conditions lows ++ others)
+parts_alike was now lows others first second = All-append (ReadsAlike was now) (low_conditions lows) others
+    (All-map (ReadsAlike was now) low_condition lows first) second
+
+-- together they hold behind both changes under the same states
 pub alike_hold : (was now : Change) (conditions : List Condition) → ReadAlike was now conditions → (s : State)
     → any_holds (changed now s) conditions ≡ any_holds (changed was s) conditions
 alike_hold was now [] alike s = refl
 alike_hold was now (c ∷ rest) alike s =
-    let P : Condition → Type 0 = ReadsAlike was now in
-    ap (λ r. r || any_holds (changed now s) rest) ((All-head P c rest alike).holds s)
-    ∙ ap (λ r. holds (changed was s) c || r) (alike_hold was now rest (All-tail P c rest alike) s)
+    ap (λ b. b || any_holds (changed now s) rest) ((All-head (ReadsAlike was now) c rest alike).holds s)
+    ∙ ap (λ b. holds (changed was s) c || b)
+    (alike_hold was now rest (All-tail (ReadsAlike was now) c rest alike) s)
 
+-- and what they read behind the earlier one comes from cells among these where it does behind the other
 pub alike_read : (was now : Change) (conditions : List Condition) → ReadAlike was now conditions → (names : Names)
     → ConditionsRead names now conditions → ConditionsRead names was conditions
 alike_read was now conditions alike names read i d lt = (alike i d lt).names names (read i d lt)

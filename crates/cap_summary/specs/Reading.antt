@@ -53,3 +53,7 @@ pub record ReadsAlike (was now : Change) (c : Condition) : Type 0 where
 
 abbrev pub ReadAlike : Change → Change → List Condition → Type 0
 ReadAlike was now conditions = All (ReadsAlike was now) conditions
+
+-- the same of each of the most common form
+abbrev pub LowsReadAlike : Change → Change → List Low → Type 0
+LowsReadAlike was now lows = All (λ low. ReadsAlike was now (low_condition low)) lows

@@ -41,7 +41,7 @@ fn equal_ops(a: &Op, b: &Op) -> bool
 }
 
 /// Whether two values are the same op's of the same cell. No is a safe answer.
-fn equal_taken(a: &Taken, b: &Taken) -> bool
+pub(crate) fn equal_taken(a: &Taken, b: &Taken) -> bool
     ensures { result ≡ true → a.now ≡ b.now }
 {
     a.pid == b.pid && a.fd == b.fd && equal_ops(&a.op, &b.op)

@@ -33,7 +33,7 @@ mod moved_low;
 mod node;
 mod ordering;
 mod packed;
-mod read_again;
+mod reads;
 mod sorted;
 mod summary;
 mod tables;

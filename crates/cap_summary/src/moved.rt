@@ -549,7 +549,7 @@ impl Change {
 
 /// Those of the first conditions that are on cells of a process, and the ones behind them.
 #[inline]
-fn of_process(pid: Pid, lows: &[Low]) -> (&[Low], &[Low])
+pub(crate) fn of_process(pid: Pid, lows: &[Low]) -> (&[Low], &[Low])
     requires some { 0 < length lows.now }
     requires first { (x : Low) → Some x ≡ slice_get lows.now 0 → key_pid x.key ≡ pid }
     ensures parts { lows.now ≡ result.0.now ++ result.1.now }
