@@ -26,6 +26,7 @@ mod kept;
 mod known;
 mod layers;
 mod line_conditions;
+mod lost;
 mod merge;
 mod moved;
 mod moved_low;
