@@ -17,6 +17,7 @@ pub mod Holding
 pub mod InStep
 pub mod LowMerging
 pub mod Merging
+pub mod Losing
 pub mod MovedLow
 pub mod Gathering
 pub mod Knowing

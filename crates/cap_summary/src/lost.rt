@@ -1,17 +1,153 @@
 //! Conditions that an edit takes away.
 
-ghost use Rattle.std.specs.Prelude.{◌≡◌, ◌||◌, IfOk, IfSome};
+ghost use Rattle.std.specs.Prelude.{◌≡◌, ◌||◌, Bool, true, IfOk, IfSome};
+ghost use Rattle.std.specs.List.{list_any, All};
 ghost use Rattle.cap_machine.specs.State.{State};
+ghost use Rattle.cap_summary.specs.declared.packed.Low.{Low};
 ghost use Rattle.cap_summary.specs.Changes.{changed};
 ghost use Rattle.cap_summary.specs.Conditions.{any_holds};
-ghost use Rattle.cap_summary.specs.Names.{Names, ConditionsWithin};
-ghost use Rattle.cap_summary.specs.Reading.{ConditionsRead};
+ghost use Rattle.cap_summary.specs.Names.{Names, condition_within, ConditionsWithin};
+ghost use Rattle.cap_summary.specs.Packed.{low_condition, low_holds, any_low_holds, LowsWithin};
+ghost use Rattle.cap_summary.specs.Reading.{condition_read, ConditionsRead, LowsRead};
 
-use crate::change::Change;
-use crate::packed::Conditions;
+use crate::change::{Change, Near};
+use crate::kept::Seen;
+use crate::merge::merged;
+use crate::packed::{Conditions, Low, Lows, Others, behind_first};
+use crate::values::Passing;
 use cap_tree::NoMemory;
 use std::alloc::Global;
 
+/// With more than so many lost or new conditions the whole isn't made from them.
+const MANY: usize = 16;
+
+/// The conditions of the most common form of one list that another one lacks, and those that only the other one has.
+#[derive(Drop)]
+pub(crate) struct Turnover {
+    pub(crate) lost: Vec<Low>,
+    pub(crate) new: Vec<Low>,
+}
+
+/// What two lists have that isn't in the other one, where the cells of both rise.
+pub(crate) fn turnover_of(alloc: Global, old: &[Low], now: &[Low]) -> Result<Turnover, NoMemory>
+    ensures holds { IfOk result (λ t. (g : Low → Bool)
+        → (list_any g old.now || list_any g t.new.items) ≡ (list_any g now.now || list_any g t.lost.items)) }
+    ensures old { IfOk result (λ t. (g : Low → Bool) → All (λ low. g low ≡ true) now.now
+        → All (λ low. g low ≡ true) t.lost.items → All (λ low. g low ≡ true) old.now) }
+    ensures new { IfOk result (λ t. (g : Low → Bool) → All (λ low. g low ≡ true) now.now
+        → All (λ low. g low ≡ true) t.new.items) }
+{
+    let mut lost = Vec::new(alloc);
+    let mut new = Vec::new(alloc);
+    let (mut own, mut others) = (old, now);
+    while let (Some(first), Some(second)) = (own.first(), others.first()) {
+        let (here, there) = (first.place(), second.place());
+        if first.is_like(second) {
+            own = behind_first(own);
+            others = behind_first(others);
+        } else if here < there {
+            lost.push(*first)?;
+            own = behind_first(own);
+        } else if there < here {
+            new.push(*second)?;
+            others = behind_first(others);
+        } else {
+            lost.push(*first)?;
+            own = behind_first(own);
+            new.push(*second)?;
+            others = behind_first(others);
+        }
+    }
+    lost.extend_from_slice(own)?;
+    new.extend_from_slice(others)?;
+    Ok(Turnover { lost, new })
+}
+
+/// The first place at which the cell isn't below this one, where the cells rise.
+fn place_among(lows: &[Low], place: u64) -> usize {
+    let mut from = 0;
+    let mut to = lows.len();
+    while from < to {
+        let middle = from + (to - from) / 2;
+        if lows[middle].place() < place {
+            from = middle + 1;
+        } else {
+            to = middle;
+        }
+    }
+    from
+}
+
+/// Whether one of these holds wherever this one does, and names its cell. No is a safe answer. The cells of these rise.
+fn have_one_for(lows: &[Low], low: &Low) -> bool
+    ensures holds { result ≡ true → (s : State)
+        → any_low_holds s lows.now ≡ (any_low_holds s lows.now || low_holds s low.now) }
+    ensures names { result ≡ true → (names : Names) → LowsWithin names lows.now
+        → condition_within names (low_condition low.now) ≡ true }
+{
+    let at = place_among(lows, low.place());
+    if at >= lows.len() {
+        return false;
+    }
+    lows[at].covers(low)
+}
+
+impl Change {
+    /// Whether a condition of the most common form never holds behind this change, or one of these holds wherever it does.
+    /// No is a safe answer.
+    fn is_met_by(&self, lows: &[Low], low: &Low, near: &mut Near) -> bool
+        ensures holds { result ≡ true → (s : State)
+            → any_low_holds s lows.now ≡ (any_low_holds s lows.now || low_holds (changed self.now s) low.now) }
+        ensures names { result ≡ true → (names : Names) → LowsWithin names lows.now
+            → condition_read names self.now (low_condition low.now) ≡ true }
+    {
+        match self.seen(low.pid(), low.fd(), near) {
+            Seen::Fixed(cell) => !low.passes(cell),
+            Seen::Same => have_one_for(lows, low),
+            Seen::Passed(pid, Passing::Same) => have_one_for(lows, &low.of_process(pid)),
+            _ => false,
+        }
+    }
+
+    /// The same of each of some.
+    pub(crate) fn are_met_by(&self, lows: &[Low], some: &[Low]) -> bool
+        ensures holds { result ≡ true → (s : State)
+            → any_low_holds s lows.now ≡ (any_low_holds s lows.now || any_low_holds (changed self.now s) some.now) }
+        ensures names { result ≡ true → (names : Names) → LowsWithin names lows.now
+            → LowsRead names self.now some.now }
+    {
+        let mut near = Near::first();
+        for at in 0..some.len() {
+            if !self.is_met_by(lows, &some[at], &mut near) {
+                return false;
+            }
+        }
+        true
+    }
+}
+
+/// The conditions of a whole, and these more behind a change; none where one of these always holds there.
+fn with_new(
+    alloc: Global,
+    whole: &Conditions,
+    change: &Change,
+    new: Vec<Low>,
+) -> Result<Option<Conditions>, NoMemory>
+    ensures holds { IfOk result (λ o. IfSome o (λ all. (s : State)
+        → any_holds s all ≡ (any_holds s whole.now || any_low_holds (changed change.now s) new.items))) }
+    ensures names { IfOk result (λ o. IfSome o (λ all. (names : Names) → ConditionsWithin names whole.now
+        → LowsRead names change.now new.items → ConditionsWithin names all)) }
+{
+    let new = Conditions::of(Lows::of(new)?, Others::none());
+    let (met, moved) = change.behind(alloc, &new)?;
+    if met {
+        return Ok(None);
+    }
+    Ok(Some(merged(alloc, whole, &moved)?))
+}
+
+/// The conditions of a whole in which those of the second part become others, where what is lost of them says nothing that
+/// the first part doesn't say (none where that isn't so): the first part's, and these behind its change.
 pub(crate) fn with_others(
     alloc: Global,
     whole: &Conditions,
@@ -29,5 +165,18 @@ pub(crate) fn with_others(
     ensures names { IfOk result (λ o. IfSome o (λ new. (names : Names) → ConditionsWithin names first.now
         → ConditionsRead names change.now others.now → ConditionsWithin names new)) }
 {
-    Ok(None)
+    let (old, old_others) = second.parts();
+    let (now, now_others) = others.parts();
+    if !old_others.is_like(now_others) {
+        return Ok(None);
+    }
+    let turnover = turnover_of(alloc, old.as_slice(), now.as_slice())?;
+    if turnover.lost.len() > MANY || turnover.new.len() > MANY {
+        return Ok(None);
+    }
+    let (lows, _) = first.parts();
+    if !change.are_met_by(lows.as_slice(), &turnover.lost) {
+        return Ok(None);
+    }
+    with_new(alloc, whole, change, turnover.new)
 }

@@ -8,7 +8,7 @@ ghost use Rattle.cap_summary.specs.Conditions.{holds, passes, source_holds, held
 ghost use Rattle.cap_summary.specs.MovedLow.{LacksBefore};
 ghost use Rattle.cap_summary.specs.Packed.{key_pid, key_fd, key_closed, lacking, low_condition, low_conditions, packed_condition};
 ghost use Rattle.cap_summary.specs.Packed.{low_source, packed_conditions};
-ghost use Rattle.cap_summary.specs.Names.{Names, these, ConditionsWithin};
+ghost use Rattle.cap_summary.specs.Names.{Names, these, condition_within, ConditionsWithin};
 ghost use Rattle.cap_summary.specs.Shared.{shared_entries};
 ghost use Rattle.cap_summary.specs.Sizes.{room, rank, part_rank, condition_rank, RankWithin};
 
@@ -28,7 +28,7 @@ mod gathered;
 mod lows;
 
 pub(crate) use gathered::{Gathered, NewConditions};
-pub(crate) use lows::Lows;
+pub(crate) use lows::{Lows, behind_first};
 
 /// A cell, and rights of which it lacks some.
 #[derive(Clone, Copy)]
@@ -64,9 +64,11 @@ impl Lack {
     /// Whether it is of the same cell, and of all the rights that another one is of.
     #[inline]
     fn covers(&self, other: &Lack) -> bool
-        ensures { result ≡ true → (own others : Bool) → (others ≡ true → own ≡ true) → (s : State)
+        ensures holds { result ≡ true → (own others : Bool) → (others ≡ true → own ≡ true) → (s : State)
             → source_holds s (lacking own self.now)
             ≡ (source_holds s (lacking own self.now) || source_holds s (lacking others other.now)) }
+        ensures pid { result ≡ true → self.now.pid ≡ other.now.pid }
+        ensures fd { result ≡ true → self.now.fd ≡ other.now.fd }
     {
         self.pid == other.pid && self.fd == other.fd && self.rights.has_all(&other.rights)
     }
@@ -171,7 +173,7 @@ impl Low {
 
     /// Its process and descriptor.
     #[inline]
-    fn place(&self) -> u64 {
+    pub(crate) fn place(&self) -> u64 {
         self.key / 65_536
     }
 
@@ -275,9 +277,11 @@ impl Low {
 
     /// Whether it holds wherever another one does. No is a safe answer.
     #[inline]
-    fn covers(&self, other: &Low) -> bool
-        ensures { result ≡ true → (s : State) → holds s (low_condition self.now)
+    pub(crate) fn covers(&self, other: &Low) -> bool
+        ensures holds { result ≡ true → (s : State) → holds s (low_condition self.now)
             ≡ (holds s (low_condition self.now) || holds s (low_condition other.now)) }
+        ensures cell { result ≡ true → (names : Names) → condition_within names (low_condition self.now)
+            ≡ condition_within names (low_condition other.now) }
     {
         if other.closed() && !self.closed() {
             return false;
@@ -287,7 +291,7 @@ impl Low {
 
     /// Whether another one is the same.
     #[inline]
-    fn is_like(&self, other: &Low) -> bool
+    pub(crate) fn is_like(&self, other: &Low) -> bool
         ensures { result ≡ true → self.now ≡ other.now }
     {
         (self.key == other.key) & (self.rights == other.rights)
@@ -576,7 +580,7 @@ impl Model for NewOthers {
 
 impl Others {
     /// None. It takes no memory.
-    fn none() -> Others
+    pub(crate) fn none() -> Others
         ensures { result ≡ [] }
     {
         Others { items: None }
@@ -646,7 +650,7 @@ impl Others {
     }
 
     /// Whether another list has the same conditions, one by one. No is a safe answer.
-    fn is_like(&self, other: &Others) -> bool
+    pub(crate) fn is_like(&self, other: &Others) -> bool
         ensures { result ≡ true → self.now ≡ other.now }
     {
         same_packed(self.as_slice(), other.as_slice())
