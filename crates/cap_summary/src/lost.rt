@@ -5,13 +5,15 @@ ghost use Rattle.std.specs.List.{list_any, All};
 ghost use Rattle.cap_machine.specs.State.{State};
 ghost use Rattle.cap_summary.specs.declared.packed.Low.{Low};
 ghost use Rattle.cap_summary.specs.Changes.{changed};
+ghost use Rattle.cap_summary.specs.MovedLow.{low_passes};
+ghost use Rattle.cap_summary.specs.declared.values.Value.TheVariants as value;
 ghost use Rattle.cap_summary.specs.Conditions.{any_holds};
-ghost use Rattle.cap_summary.specs.Names.{Names, condition_within, ConditionsWithin};
+ghost use Rattle.cap_summary.specs.Names.{Names, condition_within, value_within, ConditionsWithin};
 ghost use Rattle.cap_summary.specs.Packed.{low_condition, low_holds, any_low_holds, LowsWithin};
 ghost use Rattle.cap_summary.specs.Reading.{condition_read, ConditionsRead, LowsRead};
 
 use crate::change::{Change, Near};
-use crate::kept::Seen;
+use crate::kept::{Seen, Taken};
 use crate::merge::merged;
 use crate::packed::{Conditions, Low, Lows, Others, behind_first};
 use crate::values::Passing;
@@ -92,6 +94,22 @@ fn have_one_for(lows: &[Low], low: &Low) -> bool
     lows[at].covers(low)
 }
 
+/// The same of a condition whose cell was taken from another one.
+fn have_one_for_taken(lows: &[Low], low: &Low, taken: &Taken) -> bool
+    ensures holds { result ≡ true → (s : State) → any_low_holds s lows.now ≡ (any_low_holds s lows.now
+        || low_passes s low.now (value.Of taken.now.pid taken.now.fd taken.now.op)) }
+    ensures names { result ≡ true → (names : Names) → LowsWithin names lows.now
+        → value_within names (value.Of taken.now.pid taken.now.fd taken.now.op) ≡ true }
+{
+    if !low.stays_before(&taken.op) {
+        return false;
+    }
+    match low.at(taken.pid, taken.fd, low.passes(taken.op.closed)) {
+        Some(new) => have_one_for(lows, &new),
+        None => false,
+    }
+}
+
 impl Change {
     /// Whether a condition of the most common form never holds behind this change, or one of these holds wherever it does.
     /// No is a safe answer.
@@ -105,6 +123,7 @@ impl Change {
             Seen::Fixed(cell) => !low.passes(cell),
             Seen::Same => have_one_for(lows, low),
             Seen::Passed(pid, Passing::Same) => have_one_for(lows, &low.of_process(pid)),
+            Seen::Taken(taken) => have_one_for_taken(lows, low, taken),
             _ => false,
         }
     }

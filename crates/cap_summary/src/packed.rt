@@ -224,6 +224,21 @@ impl Low {
         }
     }
 
+    /// That the cell of this descriptor of this process lacks the same rights, or is closed where that is asked for; none
+    /// where the descriptor isn't low.
+    #[inline]
+    pub(crate) fn at(&self, pid: Pid, fd: Fd, closed: bool) -> Option<Low>
+        ensures { IfSome result (λ low. low_condition low
+            ≡ Condition.Cell (lacking closed (record { pid = pid; fd = fd; rights = self.now.rights }))) }
+    {
+        let lack = Lack {
+            pid,
+            fd,
+            rights: self.rights,
+        };
+        Low::of(&lack, closed)
+    }
+
     /// Whether a closed cell passes the test.
     #[tactic(auto, unfolding(crate::specs::Packed::key_closed))]
     #[inline]
