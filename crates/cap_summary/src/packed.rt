@@ -392,6 +392,7 @@ impl Packed {
     }
 
     /// Whether it holds wherever another one does, by a look at the common forms alone. No is a safe answer.
+    #[tactic(auto, using(crate::proofs::Bools::or_same))]
     #[inline]
     fn covers(&self, other: &Packed) -> bool
         ensures { result ≡ true → (s : State) → holds s (packed_condition self.now)
@@ -401,6 +402,8 @@ impl Packed {
             (Packed::ClosedOrLacks(a), Packed::ClosedOrLacks(b)) => a.covers(b),
             (Packed::ClosedOrLacks(a), Packed::Lacks(b)) => a.covers(b),
             (Packed::Lacks(a), Packed::Lacks(b)) => a.covers(b),
+            (Packed::Inside(p), Packed::Inside(q)) => p == q,
+            (Packed::Outside(p), Packed::Outside(q)) => p == q,
             _ => false,
         }
     }
