@@ -172,7 +172,11 @@ impl Change {
     }
 
     /// The same; none where they are many.
-    pub(crate) fn differing(&self, alloc: Global, was: &Change) -> Result<Option<Vec<Pid>>, NoMemory>
+    pub(crate) fn differing(
+        &self,
+        alloc: Global,
+        was: &Change,
+    ) -> Result<Option<Vec<Pid>>, NoMemory>
         ensures { IfOk result (λ o. IfSome o (λ pids. ListSameBut pids.items self.now was.now)) }
     {
         let pids = self.differing_from(alloc, was)?;

@@ -1,5 +1,4 @@
-use Rattle.std.proofs.Common.{◌≡◌, ℕ, ◌<◌, length, List, false, ap, sym, ◌∙◌}
-use Rattle.cap_summary.specs.Names.{is_one}
+use Rattle.std.proofs.Common.{◌<◌, length}
 use Rattle.cap_summary.proofs.Earlier.{noted, none_more}
 use Rattle.cap_summary.proofs.joins.add_all.Goals as goal
 

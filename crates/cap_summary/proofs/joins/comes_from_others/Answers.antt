@@ -1,6 +1,6 @@
-use Rattle.std.proofs.Common.{◌≡◌, ℕ, false, sym, subst, ap, ◌∙◌}
+use Rattle.std.proofs.Common.{◌≡◌, false, sym, ap, ◌∙◌}
 use Rattle.cap_summary.specs.Tables.{listed_process}
-use Rattle.cap_summary.specs.Names.{TakesFrom, is_one}
+use Rattle.cap_summary.specs.Names.{is_one}
 use Rattle.cap_summary.proofs.Sources.{takes_more}
 use Rattle.cap_summary.proofs.joins.comes_from_others.Goals as goal
 

@@ -1,4 +1,4 @@
-use Rattle.std.proofs.Common.{List, Vec, ℕ, Option, None, subst, sym}
+use Rattle.std.proofs.Common.{Vec, ℕ, Option, subst, sym}
 use Rattle.std.specs.declared.alloc.Global.{Global}
 use Rattle.std.specs.Prelude.{IfSome}
 use Rattle.std.proofs.lemmas.Option.{IfSome_then}

@@ -1,8 +1,8 @@
-use Rattle.std.proofs.Common.{◌≡◌, Bool, true, false, ◌||◌, sym, ap, subst, ◌∙◌}
+use Rattle.std.proofs.Common.{◌≡◌, false, ◌||◌, sym, ap, subst, ◌∙◌}
 use Rattle.cap_summary.specs.declared.change.Change.{Change}
 use Rattle.cap_summary.specs.declared.conditions.Condition.{Condition}
 use Rattle.std.proofs.Common.{List}
-use Rattle.cap_summary.specs.Changes.{JoinsTo, changed}
+use Rattle.cap_summary.specs.Changes.{JoinsTo}
 use Rattle.cap_summary.specs.Conditions.{any_holds}
 use Rattle.cap_summary.specs.Names.{ConditionsWithin}
 use Rattle.cap_summary.proofs.Bools.{first_false, second_false}
