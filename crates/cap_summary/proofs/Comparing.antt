@@ -1,7 +1,6 @@
 -- Tables and lists of conditions whose entries are alike one by one.
 use Rattle.std.proofs.Common.{◌≡◌, ℕ, ◌+◌, ◌<◌, ◌≤◌, eqb, List, [], ◌∷◌, ◌++◌, Option, Some, None, Bool, true, false}
 use Rattle.std.proofs.Common.{take, get_or, length, map, cond, refl, sym, ap, subst, ◌∙◌, ◌&&◌}
-use Rattle.std.proofs.Math.Path.{fun_ext}
 use Rattle.std.proofs.lemmas.Bool.{eqb-true}
 use Rattle.std.proofs.lemmas.List.{map_more, take_all}
 use Rattle.std.specs.Prelude.{option_map, unwrap_or, is_some, not, ◌↔◌}
@@ -13,11 +12,9 @@ use Rattle.cap_summary.specs.declared.change.Process.{Process}
 use Rattle.cap_summary.specs.declared.change.Change.{Change}
 use Rattle.cap_summary.specs.declared.kept.Kept.{Kept}
 use Rattle.cap_summary.specs.declared.kept.Kept.TheVariants as kept
-use Rattle.cap_summary.specs.declared.kept.Listed.{Listed}
-use Rattle.cap_summary.specs.declared.tables.Processes.{Processes}
 use Rattle.cap_summary.specs.Sorted.{found}
 use Rattle.cap_summary.specs.Values.{read_cell, read_mode}
-use Rattle.cap_summary.specs.Tables.{listed_value, process_at, kept_kind, kept_rights, kept_value, kept_values, listed_process}
+use Rattle.cap_summary.specs.Tables.{process_at, kept_kind, kept_rights, kept_value, kept_values}
 use Rattle.cap_summary.specs.Values.{unlisted, rest_untouched}
 use Rattle.cap_summary.specs.Changes.{value_at, cell_in, mode_in, changed, untouched_at, untouched_in, IsSame, AreAlike}
 use Rattle.cap_summary.specs.Changes.{ListSame}
@@ -117,63 +114,6 @@ same_held (kept.Unsure n) (kept.Unsure m) r kind own other = cc
 same_held a b r kind own other = cc
 
 -- ---- processes
-
-abbrev pair : {X Y : Type 0} → X → Y → X × Y
-pair x y = (x, y)
-
--- what is seen of a process: its listed cells, its base and its mode
-pub record Seen : Type 0 where
-  pub cells : ℕ → Option Value
-  pub base : Base
-  pub mode : ModeValue
-
-abbrev seen : (ℕ → Option Value) → Base → ModeValue → Seen
-seen cells base mode = record { cells = cells; base = base; mode = mode }
-
-abbrev pub seen_of : Process → Seen
-seen_of d = seen (λ f. listed_value d.cells f) d.base d.mode
-
-abbrev pub process_seen : ℕ → Listed → Seen
-process_seen p listed = seen_of (listed_process p listed)
-
-both_seen : (k l : ℕ) (d e : Process) → k ≡ l → IsSame d e → pair k (seen_of d) ≡ pair l (seen_of e)
-both_seen k l d e key same = ap (λ (n : ℕ). pair n (seen_of d)) key
-    ∙ ap (λ (r : ℕ → Option Value). pair l (seen r d.base d.mode)) (fun_ext same.cells)
-    ∙ ap (λ (r : Base). pair l (seen (λ f. listed_value e.cells f) r d.mode)) same.base
-    ∙ ap (λ (r : ModeValue). pair l (seen (λ f. listed_value e.cells f) e.base r)) same.mode
-
-pub entries_seen : (x y : ℕ × Listed) → x.0 ≡ y.0
-    → ((p : ℕ) → IsSame (listed_process p x.1) (listed_process p y.1))
-    → entry_seen process_seen x ≡ entry_seen process_seen y
-entries_seen x y key same = both_seen x.0 y.0 (listed_process x.0 x.1) (listed_process y.0 y.1) key
-    (subst (λ p. IsSame (listed_process x.0 x.1) (listed_process p y.1)) key (same x.0))
-
--- ---- changes
-
-option_seen : (own theirs : Option Process) → option_map seen_of own ≡ option_map seen_of theirs → AreAlike own theirs
-option_seen None None is = refl
-option_seen None (Some e) is = absurd cc
-option_seen (Some d) None is = absurd cc
-option_seen (Some d) (Some e) is = let both : seen_of d ≡ seen_of e = cc in record {
-  cells = λ f. ap (λ (r : Seen). r.cells f) both;
-  base = ap (λ (r : Seen). r.base) both;
-  mode = ap (λ (r : Seen). r.mode) both;
-}
-
-option_listed : (p : ℕ) (o : Option Listed)
-    → option_map seen_of (option_map (listed_process p) o) ≡ option_map (process_seen p) o
-option_listed p None = refl
-option_listed p (Some listed) = refl
-
-pub processes_alike : (own theirs : Processes) (xs ys : List (ℕ × Listed)) (i : ℕ)
-    → TablesAlike process_seen own.table theirs.table xs ys i → (p : ℕ)
-    → AreAlike (process_at own p) (process_at theirs p)
-unfolding process_at
-processes_alike own theirs xs ys i alike p =
-    let a = found own.table p in
-    let b = found theirs.table p in
-    option_seen (option_map (listed_process p) a) (option_map (listed_process p) b)
-    (option_listed p a ∙ tables_alike process_seen own.table theirs.table xs ys i alike p ∙ sym (option_listed p b))
 
 -- what is the same of a process that both list
 pub alike_cell : (p f : ℕ) (own theirs : Option Process) → AreAlike own theirs → cell_in own p f ≡ cell_in theirs p f

@@ -197,57 +197,6 @@ AlikeAt p own old = AreAlike (option_map (listed_process p) (found own p)) (opti
 abbrev pub AlikeSoFar : List ℕ → Change → Change → List (ℕ × Listed) → List (ℕ × Listed) → Type 0
 AlikeSoFar pids a b own old = (p : ℕ) → is_one pids p ≡ false → AlikeAt p own old → Alike a b p
 
--- an entry of another process is passed
-found_behind : (x : ℕ × Listed) (rest all : List (ℕ × Listed)) (p : ℕ) → all ≡ x ∷ rest → eqb x.0 p ≡ false
-    → found all p ≡ found rest p
-found_behind x rest all p is other = ap (λ (l : List (ℕ × Listed)). found l p) is
-    ∙ ap (λ b. cond b (Some x.1) (found rest p)) other
-
-module _ (a b : Change) (own old : List (ℕ × Listed)) (pids more : List ℕ) where
-  pub first_noted : (x : ℕ × Listed) (rest : List (ℕ × Listed)) → own ≡ x ∷ rest → more ≡ pids ++ x.0 ∷ []
-      → AlikeSoFar pids a b own old → AlikeSoFar more a b rest old
-  first_noted x rest at is before p other alike =
-      let apart = noted pids x.0 p (subst (λ (l : List ℕ). is_one l p ≡ false) is other) in
-      before p apart.0 (subst (λ (o : Option Listed). AreAlike (option_map (listed_process p) o)
-      (option_map (listed_process p) (found old p))) (sym (found_behind x rest own p at apart.1)) alike)
-
-  pub second_noted : (x : ℕ × Listed) (rest : List (ℕ × Listed)) → old ≡ x ∷ rest → more ≡ pids ++ x.0 ∷ []
-      → AlikeSoFar pids a b own old → AlikeSoFar more a b own rest
-  second_noted x rest at is before p other alike =
-      let apart = noted pids x.0 p (subst (λ (l : List ℕ). is_one l p ≡ false) is other) in
-      before p apart.0 (subst (λ (o : Option Listed). AreAlike (option_map (listed_process p) (found own p))
-      (option_map (listed_process p) o)) (sym (found_behind x rest old p at apart.1)) alike)
-
-  pub both_noted : (x y : ℕ × Listed) (rest rest2 : List (ℕ × Listed)) → own ≡ x ∷ rest → old ≡ y ∷ rest2 → x.0 ≡ y.0
-      → more ≡ pids ++ x.0 ∷ [] → AlikeSoFar pids a b own old → AlikeSoFar more a b rest rest2
-  both_noted x y rest rest2 at at2 key is before p other alike =
-      let apart = noted pids x.0 p (subst (λ (l : List ℕ). is_one l p ≡ false) is other) in
-      before p apart.0 (subst (λ (o : Option Listed). AreAlike (option_map (listed_process p) o)
-      (option_map (listed_process p) (found old p))) (sym (found_behind x rest own p at apart.1))
-      (subst (λ (o : Option Listed). AreAlike (option_map (listed_process p) (found rest p))
-      (option_map (listed_process p) o))
-      (sym (found_behind y rest2 old p at2 (ap (λ (n : ℕ). eqb n p) (sym key) ∙ apart.1))) alike))
-
-  pub both_alike : (x y : ℕ × Listed) (rest rest2 : List (ℕ × Listed)) → own ≡ x ∷ rest → old ≡ y ∷ rest2 → x.0 ≡ y.0
-      → ((p : ℕ) → IsSame (listed_process p x.1) (listed_process p y.1))
-      → AlikeSoFar pids a b own old → AlikeSoFar pids a b rest rest2
-  both_alike x y rest rest2 at at2 key same before p other alike = before p other
-      (rw (at, at2, ← key) (cases (eqb x.0 p)))
-    where
-      cases : (b : Bool) → AreAlike (option_map (listed_process p) (cond b (Some x.1) (found rest p)))
-          (option_map (listed_process p) (cond b (Some y.1) (found rest2 p)))
-      cases true = same p
-      cases false = alike
-
--- behind the last entries of both
-pub all_alike : (a b : Change) (own old : List (ℕ × Listed)) (pids some every : List ℕ) → AlikeSoFar pids a b own old
-    → ((p : ℕ) → is_one some p ≡ false → (is_one pids p ≡ false) × (found own p ≡ None))
-    → ((p : ℕ) → is_one every p ≡ false → (is_one some p ≡ false) × (found old p ≡ None)) → ListSameBut every a b
-all_alike a b own old pids some every before first second p other =
-    let last = second p other in
-    let here = first p last.0 in
-    before p here.0 (rw (here.1, last.1) refl)
-
 -- none of the entries so far, and not the next one
 pub none_more : (xs : List (ℕ × Listed)) (i : ℕ) (x : ℕ × Listed) (p : ℕ) → i < length xs → x ≡ get_or xs i x
     → eqb x.0 p ≡ false → found (take i xs) p ≡ None → found (take (i + 1) xs) p ≡ None

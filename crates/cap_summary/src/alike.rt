@@ -1,13 +1,13 @@
-//! Whether two changes are alike, and the parts of what a table or a list of conditions keeps. Entries are compared one
-//! by one, up to the first that differs; nothing is allocated.
+//! Whether what two changes list of a process is alike, and the parts of what a table or a list of conditions keeps.
+//! Entries are compared one by one, up to the first that differs; nothing is allocated.
 
 ghost use Rattle.std.specs.Prelude.{◌≡◌, ℕ, true};
 ghost use Rattle.std.specs.Option.{option_copied};
 ghost use Rattle.cap_summary.specs.Tables.{kept_kind, kept_rights, kept_value, listed_process};
-ghost use Rattle.cap_summary.specs.Changes.{IsSame, ListSame};
+ghost use Rattle.cap_summary.specs.Changes.{IsSame};
 ghost use Rattle.cap_summary.specs.Names.{TakesFrom};
 
-use crate::change::{Change, Process};
+use crate::change::Process;
 use crate::conditions::{CellTest, HeldTest, Refused, Source};
 use crate::kept::{Kept, Listed, Taken};
 use crate::values::Base;
@@ -203,14 +203,5 @@ impl Listed {
             (Listed::Other(a), Listed::Other(b)) => a.is_like(b),
             _ => false,
         }
-    }
-}
-
-impl Change {
-    /// Whether another change lists the same of each process, by comparing their entries. No is a safe answer.
-    pub(crate) fn is_like(&self, other: &Change) -> bool
-        ensures { result ≡ true → ListSame self.now other.now }
-    {
-        self.processes.is_like(&other.processes)
     }
 }

@@ -8,7 +8,7 @@ ghost use Rattle.cap_summary.specs.Tables.{listed_value, value_so_far, process_a
 ghost use Rattle.cap_summary.specs.Tables.{kept_values, seen_value, layered_value, parts_value, passed_value};
 ghost use Rattle.cap_summary.specs.Tables.{or_else, Hides};
 ghost use Rattle.cap_summary.specs.Sorted.{found, Rises};
-ghost use Rattle.cap_summary.specs.Changes.{JoinsListed, AreAlike};
+ghost use Rattle.cap_summary.specs.Changes.{JoinsListed};
 ghost use Rattle.cap_summary.specs.Images.{under, IsLowered};
 ghost use Rattle.cap_summary.specs.Earlier.{HasEarlier};
 ghost use Rattle.std.specs.List.{All};
@@ -717,25 +717,6 @@ impl Processes {
     {
         let table = self.table.clone()?;
         Ok(Processes { table })
-    }
-
-    /// Whether others list the same processes, alike in what becomes of each, by comparing their entries. No is a safe
-    /// answer.
-    #[tactic(auto, unfolding(crate::specs::Tables::process_at))]
-    pub(crate) fn is_like(&self, others: &Processes) -> bool
-        ensures { result ≡ true → (p : ℕ) → AreAlike (process_at self.now p) (process_at others.now p) }
-    {
-        let (own, theirs) = (self.table.entries(), others.table.entries());
-        if own.len() != theirs.len() {
-            return false;
-        }
-        for at in 0..own.len() {
-            let (a, b) = (&own[at], &theirs[at]);
-            if a.0 != b.0 || !a.1.is_like(&b.1) {
-                return false;
-            }
-        }
-        true
     }
 
     /// What becomes of lower tables of these processes behind a change, where several may share it.
