@@ -33,6 +33,17 @@ pub record IsTurnover {X : Type 0} (old now lost new own others : List X) : Type
   pub old_passes : (g : X → Bool) → AllPass g now → AllPass g lost → AllPass g own → AllPass g old
   pub new_passes : (g : X → Bool) → AllPass g now → AllPass g new
   pub rest_passes : (g : X → Bool) → AllPass g now → AllPass g others
+  pub within : (g : X → Bool) → list_any g now ≡ (list_any g now || list_any g new)
+
+within_first : (all x rest : Bool) → all ≡ (all || (x || rest)) → all ≡ (all || x)
+within_first true x rest is = refl
+within_first false true rest is = is
+within_first false false rest is = refl
+
+within_both : (all x y : Bool) → all ≡ (all || x) → all ≡ (all || y) → all ≡ (all || (x || y))
+within_both true x y first second = refl
+within_both false true y first second = first
+within_both false false y first second = second
 
 within_rest : (all x rest : Bool) → all ≡ (all || (x || rest)) → all ≡ (all || rest)
 within_rest true x rest is = refl
@@ -72,6 +83,7 @@ module _ {X : Type 0} (old now lost new own others : List X) where
     rest_passes = λ g all.
         let P : X → Type 0 = λ z. g z ≡ true in
         All-tail P y rest2 (All-same P (y ∷ rest2) others (sym at2) (before.rest_passes g all));
+    within = before.within;
   }
 
   pub first_lost_goes : (more : List X) (x : X) (rest : List X) → own ≡ x ∷ rest → more ≡ lost ++ x ∷ []
@@ -91,6 +103,7 @@ module _ {X : Type 0} (old now lost new own others : List X) where
         (All-same P own (x ∷ rest) at (All-cons P x rest (All-head P x [] (second_of P lost (x ∷ []) parts)) left));
     new_passes = before.new_passes;
     rest_passes = before.rest_passes;
+    within = before.within;
   }
 
   pub first_new_goes : (more : List X) (x : X) (rest : List X) → others ≡ x ∷ rest → more ≡ new ++ x ∷ []
@@ -111,6 +124,10 @@ module _ {X : Type 0} (old now lost new own others : List X) where
     rest_passes = λ g all.
         let P : X → Type 0 = λ z. g z ≡ true in
         All-tail P x rest (All-same P (x ∷ rest) others (sym at) (before.rest_passes g all));
+    within = λ g. within_both (list_any g now) (list_any g new) (g x) (before.within g)
+        (within_first (list_any g now) (g x) (list_any g rest)
+        (before.in_now g ∙ ap (λ (r : List X). list_any g now || list_any g r) at))
+        ∙ ap (λ b. list_any g now || b) (sym (put_one g new more x is));
   }
 
   -- what is left of the two lists is put apart as well
@@ -130,6 +147,8 @@ module _ {X : Type 0} (old now lost new own others : List X) where
         let P : X → Type 0 = λ z. g z ≡ true in
         All-same P more (new ++ others) is2 (All-append P new others (before.new_passes g all) (before.rest_passes g all));
     rest_passes = λ g all. All-nil (λ z. g z ≡ true);
+    within = λ g. within_both (list_any g now) (list_any g new) (list_any g others) (before.within g) (before.in_now g)
+        ∙ ap (λ b. list_any g now || b) (sym (ap (list_any g) is2 ∙ list_any-append g new others));
   }
 
 -- at first nothing was put apart
@@ -141,6 +160,7 @@ nothing_apart {X} old now = record {
   old_passes = λ g all some left. left;
   new_passes = λ g all. All-nil (λ z. g z ≡ true);
   rest_passes = λ g all. all;
+  within = λ g. sym (or_false (list_any g now));
 }
 
 -- both rests were put apart as well, so nothing is left
@@ -151,6 +171,32 @@ module _ {X : Type 0} (old now lost new : List X) (all : IsTurnover old now lost
 
   pub turned_old : (g : X → Bool) → AllPass g now → AllPass g lost → AllPass g old
   turned_old g first second = all.old_passes g first second (All-nil (λ x. g x ≡ true))
+
+-- ---- what is left of a condition
+
+left_both : (some first second left new : Bool) → (some || new) ≡ (first || new) → (left || new) ≡ (second || new)
+    → ((some || left) || new) ≡ ((first || second) || new)
+left_both some first second left true before one = or_true (some || left) ∙ sym (or_true (first || second))
+left_both some first second left false before one =
+    or_false (some || left) ∙ ap (λ b. b || left) (sym (or_false some) ∙ before ∙ or_false first)
+    ∙ ap (λ b. first || b) (sym (or_false left) ∙ one ∙ or_false second) ∙ sym (or_false (first || second))
+
+module _ {X : Type 0} (g : X → Bool) (xs : List X) (i : ℕ) (x : X) (within : i < length xs) (at : x ≡ get_or xs i x)
+    (old : List X) (others : Bool) (before : (list_any g old || others) ≡ (list_any g (take i xs) || others)) where
+  -- what is left of one more was added
+  pub left_more : (new : List X) (y : X) → new ≡ old ++ y ∷ [] → (g y || others) ≡ (g x || others)
+      → (list_any g new || others) ≡ (list_any g (take (i + 1) xs) || others)
+  left_more new y is one =
+      ap (λ b. b || others) (put_one g old new y is)
+      ∙ left_both (list_any g old) (list_any g (take i xs)) (g x) (g y) others before one
+      ∙ ap (λ b. b || others) (sym (more g xs i x within at))
+
+  -- nothing is left of one more
+  pub left_none : others ≡ (g x || others) → (list_any g old || others) ≡ (list_any g (take (i + 1) xs) || others)
+  left_none one =
+      ap (λ b. b || others) (sym (or_false (list_any g old)))
+      ∙ left_both (list_any g old) (list_any g (take i xs)) (g x) false others before one
+      ∙ ap (λ b. b || others) (sym (more g xs i x within at))
 
 -- ---- one of a list that holds wherever another one does
 
@@ -193,26 +239,46 @@ alone_read names change lows items others is none read =
     parts_read names change lows others (subst (LowsRead names change) (sym is) read)
     (All-same P others [] none (All-nil P))
 
--- what is lost says nothing that the first part doesn't say
-without_lost : (own rest old lost new now others : Bool) → own ≡ (own || lost) → (old || new) ≡ (now || lost)
+met_rest : (all rest new : Bool) → all ≡ (all || new) → (all || rest) ≡ ((all || rest) || new)
+met_rest true rest new is = refl
+met_rest false rest true is = absurd cc
+met_rest false rest false is = sym (or_false rest)
+
+-- what is new says nothing that the conditions of the most common form of a whole don't say
+pub whole_met : (s : State) (whole : List Condition) (lows : List Low) (others : List Condition) (new : Bool)
+    → low_conditions lows ++ others ≡ whole → any_low_holds s lows ≡ (any_low_holds s lows || new)
+    → any_holds s whole ≡ (any_holds s whole || new)
+whole_met s whole lows others new is met =
+    let parts : any_holds s whole ≡ (any_low_holds s lows || any_holds s others) =
+    ap (any_holds s) (sym is) ∙ parts_hold s lows others in
+    parts ∙ met_rest (any_low_holds s lows) (any_holds s others) new met ∙ ap (λ b. b || new) (sym parts)
+
+-- what is left of what is lost says nothing that the first part doesn't say
+without_lost : (own rest old lost left new now others : Bool) → own ≡ (own || left) → (left || new) ≡ (lost || new)
+    → (old || new) ≡ (now || lost) → now ≡ (now || new)
     → (((own || rest) || (old || others)) || new) ≡ ((own || rest) || (now || others))
-without_lost true rest old lost new now others met turned = refl
-without_lost false rest old true new now others met turned = absurd cc
-without_lost false true old false new now others met turned = refl
-without_lost false false old false new now others met turned =
+without_lost true rest old lost left new now others met part turned within = refl
+without_lost false rest old lost true new now others met part turned within = absurd cc
+without_lost false true old lost false new now others met part turned within = refl
+without_lost false false old true false false now others met part turned within = absurd cc
+without_lost false false old true false true now others met part turned within =
+    or_true (old || others) ∙ sym (ap (λ b. b || others) (within ∙ or_true now))
+without_lost false false old false false new now others met part turned within =
     or_swapped old others new ∙ ap (λ r. r || others) (turned ∙ or_false now)
 
 -- the first part, and the conditions of the most common form and the others of the second one and of what it becomes
 module _ (first second others : List Condition) (first_some old now : List Low) (first_rest old_rest now_rest : List Condition)
     (of_first : low_conditions first_some ++ first_rest ≡ first) (of_second : low_conditions old ++ old_rest ≡ second)
     (of_others : low_conditions now ++ now_rest ≡ others) (same : old_rest ≡ now_rest) where
-  pub others_hold : (s t : State) (whole all : Bool) (lost new : List Low)
+  pub others_hold : (s t : State) (whole all : Bool) (lost left new : List Low)
       → whole ≡ (any_holds s first || any_holds t second)
       → all ≡ (whole || any_low_holds t new)
-      → any_low_holds s first_some ≡ (any_low_holds s first_some || any_low_holds t lost)
+      → any_low_holds s first_some ≡ (any_low_holds s first_some || any_low_holds t left)
+      → (any_low_holds t left || any_low_holds t new) ≡ (any_low_holds t lost || any_low_holds t new)
       → (any_low_holds t old || any_low_holds t new) ≡ (any_low_holds t now || any_low_holds t lost)
+      → any_low_holds t now ≡ (any_low_holds t now || any_low_holds t new)
       → all ≡ (any_holds s first || any_holds t others)
-  others_hold s t whole all lost new of_whole of_all met turned =
+  others_hold s t whole all lost left new of_whole of_all met part turned within =
       let here : any_holds s first ≡ (any_low_holds s first_some || any_holds s first_rest) =
       ap (any_holds s) (sym of_first) ∙ parts_hold s first_some first_rest in
       let there : any_holds t second ≡ (any_low_holds t old || any_holds t now_rest) =
@@ -222,7 +288,7 @@ module _ (first second others : List Condition) (first_some old now : List Low) 
       ∙ ap (λ b. (b || any_holds t second) || any_low_holds t new) here
       ∙ ap (λ b. ((any_low_holds s first_some || any_holds s first_rest) || b) || any_low_holds t new) there
       ∙ without_lost (any_low_holds s first_some) (any_holds s first_rest) (any_low_holds t old) (any_low_holds t lost)
-      (any_low_holds t new) (any_low_holds t now) (any_holds t now_rest) met turned
+      (any_low_holds t left) (any_low_holds t new) (any_low_holds t now) (any_holds t now_rest) met part turned within
       ∙ ap (λ b. b || (any_low_holds t now || any_holds t now_rest)) (sym here)
       ∙ ap (λ b. any_holds s first || b) (sym (parts_hold t now now_rest))
       ∙ ap (λ (r : List Condition). any_holds s first || any_holds t r) of_others

@@ -1,8 +1,9 @@
 //! Conditions that an edit takes away.
 
-ghost use Rattle.std.specs.Prelude.{◌≡◌, ◌||◌, Bool, true, IfOk, IfSome};
+ghost use Rattle.std.specs.Prelude.{◌≡◌, ◌||◌, Bool, true, IfOk, IfSome, IfNone};
 ghost use Rattle.std.specs.List.{list_any, All};
 ghost use Rattle.cap_machine.specs.State.{State};
+ghost use Rattle.cap_summary.specs.declared.change.Change.{Change};
 ghost use Rattle.cap_summary.specs.declared.packed.Low.{Low};
 ghost use Rattle.cap_summary.specs.Changes.{changed};
 ghost use Rattle.cap_summary.specs.MovedLow.{low_passes};
@@ -38,6 +39,8 @@ pub(crate) fn turnover_of(alloc: Global, old: &[Low], now: &[Low]) -> Result<Tur
         → All (λ low. g low ≡ true) t.lost.items → All (λ low. g low ≡ true) old.now) }
     ensures new { IfOk result (λ t. (g : Low → Bool) → All (λ low. g low ≡ true) now.now
         → All (λ low. g low ≡ true) t.new.items) }
+    ensures within { IfOk result (λ t. (g : Low → Bool)
+        → list_any g now.now ≡ (list_any g now.now || list_any g t.new.items)) }
 {
     let mut lost = Vec::new(alloc);
     let mut new = Vec::new(alloc);
@@ -63,6 +66,43 @@ pub(crate) fn turnover_of(alloc: Global, old: &[Low], now: &[Low]) -> Result<Tur
     lost.extend_from_slice(own)?;
     new.extend_from_slice(others)?;
     Ok(Turnover { lost, new })
+}
+
+/// What a condition says that none of these says of its cell; none where that is nothing.
+fn left_of(low: &Low, new: &[Low]) -> Option<Low>
+    ensures some { IfSome result (λ left. (s : State)
+        → (low_holds s left || any_low_holds s new.now) ≡ (low_holds s low.now || any_low_holds s new.now)) }
+    ensures none { IfNone result ((s : State)
+        → any_low_holds s new.now ≡ (low_holds s low.now || any_low_holds s new.now)) }
+    ensures some_read { IfSome result (λ left. (names : Names) (change : Change)
+        → condition_read names change (low_condition left) ≡ true
+        → condition_read names change (low_condition low.now) ≡ true) }
+    ensures none_read { IfNone result ((names : Names) (change : Change) → LowsRead names change new.now
+        → condition_read names change (low_condition low.now) ≡ true) }
+{
+    for at in 0..new.len() {
+        let other = &new[at];
+        if other.pid() == low.pid() && other.fd() == low.fd() {
+            return low.lost_to(other);
+        }
+    }
+    Some(*low)
+}
+
+/// What is lost of some conditions where these are new: what none of these says.
+fn left_of_each(alloc: Global, lost: &[Low], new: &[Low]) -> Result<Vec<Low>, NoMemory>
+    ensures holds { IfOk result (λ left. (s : State) → (any_low_holds s left.items || any_low_holds s new.now)
+        ≡ (any_low_holds s lost.now || any_low_holds s new.now)) }
+    ensures names { IfOk result (λ left. (names : Names) (change : Change) → LowsRead names change new.now
+        → LowsRead names change left.items → LowsRead names change lost.now) }
+{
+    let mut left = Vec::new(alloc);
+    for at in 0..lost.len() {
+        if let Some(low) = left_of(&lost[at], new) {
+            left.push(low)?;
+        }
+    }
+    Ok(left)
 }
 
 /// The first place at which the cell isn't below this one, where the cells rise.
@@ -157,6 +197,10 @@ fn with_new(
     ensures names { IfOk result (λ o. IfSome o (λ all. (names : Names) → ConditionsWithin names whole.now
         → LowsRead names change.now new.items → ConditionsWithin names all)) }
 {
+    let (lows, _) = whole.parts();
+    if change.are_met_by(lows.as_slice(), &new) {
+        return Ok(Some(whole.share()?));
+    }
     let new = Conditions::of(Lows::of(new)?, Others::none());
     let (met, moved) = change.behind(alloc, &new)?;
     if met {
@@ -193,8 +237,9 @@ pub(crate) fn with_others(
     if turnover.lost.len() > MANY || turnover.new.len() > MANY {
         return Ok(None);
     }
+    let lost = left_of_each(alloc, &turnover.lost, &turnover.new)?;
     let (lows, _) = first.parts();
-    if !change.are_met_by(lows.as_slice(), &turnover.lost) {
+    if !change.are_met_by(lows.as_slice(), &lost) {
         return Ok(None);
     }
     with_new(alloc, whole, change, turnover.new)

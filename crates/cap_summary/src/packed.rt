@@ -1,9 +1,10 @@
 //! Lists of conditions. No other module knows how a condition is kept in one: a contract sees the conditions.
 
 ghost use Rattle.std.specs.Prelude.{◌≡◌, ℕ, ◌+◌, ◌*◌, ◌/◌, ◌^◌, List, ◌<◌, ◌≤◌, ◌++◌, ◌∷◌, [], ◌||◌, length, slice_index_or};
-ghost use Rattle.std.specs.Prelude.{Bool, true, IfOk, IfSome, OnOk, map};
+ghost use Rattle.std.specs.Prelude.{Bool, true, not, IfOk, IfSome, IfNone, OnOk, map};
 ghost use Rattle.cap_summary.specs.declared.conditions.Condition.{Condition};
 ghost use Rattle.cap_machine.specs.State.{State};
+ghost use Rattle.cap_rights.specs.Rights.{has_all};
 ghost use Rattle.cap_summary.specs.Conditions.{holds, passes, source_holds, held_before};
 ghost use Rattle.cap_summary.specs.MovedLow.{LacksBefore};
 ghost use Rattle.cap_summary.specs.Packed.{key_pid, key_fd, key_closed, lacking, low_condition, low_conditions, packed_condition};
@@ -332,6 +333,45 @@ fn rank_of_part(part: &Option<Source>) -> u128
     match part {
         Some(source) => rank(3, source.pid, source.fd),
         None => rank(3, 0, 0),
+    }
+}
+
+/// Rights of a set that make up for it beside another one: what lacks some of the set, or of the other one, lacks some of
+/// these, or of the other one.
+#[tactic(auto, using(crate::proofs::Merging::rights_apart))]
+fn rights_left(rights: &RightSet, other: &RightSet) -> RightSet
+    ensures { (r : ℕ) → (not (has_all r result) || not (has_all r other.now))
+        ≡ (not (has_all r rights.now) || not (has_all r other.now)) }
+{
+    let left = rights.minus(other);
+    if rights.has_all(&left) && other.join(&left).has_all(rights) {
+        left
+    } else {
+        *rights
+    }
+}
+
+impl Low {
+    /// What it says of a cell that another one, of the same cell, doesn't say; none where that is nothing.
+    pub(crate) fn lost_to(&self, other: &Low) -> Option<Low>
+        requires pid { key_pid self.now.key ≡ key_pid other.now.key }
+        requires fd { key_fd self.now.key ≡ key_fd other.now.key }
+        ensures some { IfSome result (λ lost. (s : State)
+            → (holds s (low_condition lost) || holds s (low_condition other.now))
+            ≡ (holds s (low_condition self.now) || holds s (low_condition other.now))) }
+        ensures none { IfNone result ((s : State) → holds s (low_condition other.now)
+            ≡ (holds s (low_condition self.now) || holds s (low_condition other.now))) }
+        ensures pid { IfSome result (λ lost. key_pid lost.key ≡ key_pid self.now.key) }
+        ensures fd { IfSome result (λ lost. key_fd lost.key ≡ key_fd self.now.key) }
+    {
+        if other.covers(self) {
+            return None;
+        }
+        let closed = self.closed() && !other.closed();
+        Some(Low {
+            key: low_key(self.pid(), self.low_fd(), closed),
+            rights: rights_left(&self.rights, &other.rights),
+        })
     }
 }
 

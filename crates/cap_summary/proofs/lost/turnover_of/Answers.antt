@@ -54,3 +54,9 @@ returns-clause-new c = let l = c.loop-first in
     (rest_goes c.args.old.now c.args.now.now l.lost.items l.new.items l.own.now l.others.now
     c.extend_from_slice.new.self.items c.extend_from_slice-2.new.self.items c.in_ok-extend_from_slice.ensures.items
     c.in_ok-extend_from_slice-2.ensures.items l.invariant).new_passes
+
+pub returns-clause-within : goal.returns-clause-within
+returns-clause-within c = let l = c.loop-first in
+    (rest_goes c.args.old.now c.args.now.now l.lost.items l.new.items l.own.now l.others.now
+    c.extend_from_slice.new.self.items c.extend_from_slice-2.new.self.items c.in_ok-extend_from_slice.ensures.items
+    c.in_ok-extend_from_slice-2.ensures.items l.invariant).within

@@ -1,10 +1,22 @@
-use Rattle.std.proofs.Common.{◌||◌, List, ap, subst, sym, ◌∙◌}
+use Rattle.std.proofs.Common.{◌||◌, ◌++◌, List, ap, subst, sym, ◌∙◌}
 use Rattle.cap_summary.specs.declared.conditions.Condition.{Condition}
+use Rattle.cap_summary.specs.declared.packed.Low.{Low}
 use Rattle.cap_summary.specs.Changes.{changed}
 use Rattle.cap_summary.specs.Conditions.{any_holds}
+use Rattle.cap_summary.specs.Packed.{low_conditions, any_low_holds}
 use Rattle.cap_summary.specs.Reading.{ConditionsRead}
-use Rattle.cap_summary.proofs.Losing.{alone_hold, alone_read}
+use Rattle.cap_summary.proofs.Losing.{alone_hold, alone_read, whole_met}
 use Rattle.cap_summary.proofs.lost.with_new.Goals as goal
+
+pub returns-then-are_met_by-clause-holds : goal.returns-then-are_met_by-clause-holds
+returns-then-are_met_by-clause-holds c = λ s.
+    let t = changed c.args.change.now s in
+    let lows = c.as_slice.result.now in
+    ap (any_holds s) c.in_ok-share.ensures
+    ∙ whole_met s c.args.whole.now lows c.parts.result.1.now (any_low_holds t c.args.new.items)
+    (ap (λ (r : List Low). low_conditions r ++ c.parts.result.1.now) c.as_slice.ensures ∙ c.parts.ensures)
+    (c.are_met_by.ensures.holds c.if-are_met_by.true s
+    ∙ ap (λ (r : List Low). any_low_holds s lows || any_low_holds t r) c.deref.ensures.value)
 
 pub returns-clause-holds : goal.returns-clause-holds
 returns-clause-holds c = λ s.
