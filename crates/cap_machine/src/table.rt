@@ -201,10 +201,15 @@ impl Table {
     pub(crate) fn copy(&self, alloc: Global) -> Result<Table, NoMemory>
         ensures { IfOk result (λ table. Keeps table (state_of self.now)) }
     {
-        let mut table = Table::unknown(alloc);
-        table.index = self.index.clone()?;
-        table.processes = self.processes.clone()?;
-        Ok(table)
+        let index = self.index.clone()?;
+        let processes = self.processes.clone()?;
+        Ok(Table {
+            alloc,
+            index,
+            processes,
+            blank: None,
+            remains: Remains::nothing(alloc),
+        })
     }
 
     /// What is known of a process.

@@ -1,5 +1,5 @@
 -- From which cells and modes conditions read behind a change.
-use Rattle.std.proofs.Common.{◌≡◌, ℕ, List, [], ◌∷◌, ◌++◌, Option, Some, None, Bool, true, ◌&&◌, ◌||◌}
+use Rattle.std.proofs.Common.{◌≡◌, ℕ, List, [], ◌∷◌, ◌++◌, Option, Some, None, Bool, true, false, ◌&&◌, ◌||◌}
 use Rattle.std.proofs.Common.{map, get_or, refl, sym, ap, subst, ◌∙◌}
 use Rattle.std.specs.List.{All}
 use Rattle.std.proofs.lemmas.List.Elements.{All-nil, All-cons, All-head, All-tail, All-weaker, All-append, All-map}
@@ -15,9 +15,9 @@ use Rattle.cap_summary.specs.declared.conditions.Condition.TheVariants as condit
 use Rattle.cap_summary.specs.declared.packed.Low.{Low}
 use Rattle.cap_summary.specs.Tables.{process_at}
 use Rattle.cap_summary.specs.Values.{read_cell}
-use Rattle.cap_summary.specs.Changes.{value_of, mode_of, mode_in, changed, AreAlike, ListSame}
+use Rattle.cap_summary.specs.Changes.{value_of, mode_of, changed, AreAlike, ListSame, ListSameBut}
 use Rattle.cap_summary.specs.Conditions.{passes, holds, any_holds}
-use Rattle.cap_summary.specs.Names.{Names, ChangeWithin, condition_within, ConditionsWithin, source_within}
+use Rattle.cap_summary.specs.Names.{Names, ChangeWithin, condition_within, ConditionsWithin, source_within, is_one}
 use Rattle.cap_summary.specs.Names.{part_within, outside_within, value_within, mode_within}
 use Rattle.cap_summary.specs.Packed.{key_pid, key_fd, low_source, low_condition, low_conditions, AreOf}
 use Rattle.cap_summary.specs.Reading.{source_read, part_read, outside_read, condition_read, ConditionsRead, LowsRead}
@@ -137,12 +137,18 @@ pub source_left : (names : Names) (a : Change) (x : Source) → value_of a x.pid
     → source_within names x ≡ source_read names a x
 source_left names a x is = sym (ap (value_within names) is)
 
--- and so is the mode of a process that isn't listed
-pub mode_left : (names : Names) (a : Change) (p : ℕ) → process_at a.processes p ≡ None
-    → names.pids p ≡ mode_within names (mode_of a p)
-mode_left names a p none = sym (ap (λ (o : Option Process). mode_within names (mode_in o p)) none)
-
 -- ---- conditions that read the same behind two changes
+
+-- of a process of which both list the same, a cell and the mode
+pub cell_of_other : (pids : List ℕ) (now was : Change) → ListSameBut pids now was → (p f : ℕ) → is_one pids p ≡ false
+    → value_of now p f ≡ value_of was p f
+cell_of_other pids now was alike p f other =
+    alike_cell p f (process_at now.processes p) (process_at was.processes p) (alike p other)
+
+pub mode_of_other : (pids : List ℕ) (now was : Change) → ListSameBut pids now was → (p : ℕ) → is_one pids p ≡ false
+    → mode_of now p ≡ mode_of was p
+mode_of_other pids now was alike p other =
+    alike_mode p (process_at now.processes p) (process_at was.processes p) (alike p other)
 
 -- a test of a cell of which the same has become by both
 cell_alike : (was now : Change) (x : Source) → value_of now x.pid x.fd ≡ value_of was x.pid x.fd

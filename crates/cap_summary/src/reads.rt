@@ -1,11 +1,11 @@
 //! Whether conditions read the same behind two changes.
 
-ghost use Rattle.std.specs.Prelude.{◌≡◌, ℕ, true};
+ghost use Rattle.std.specs.Prelude.{◌≡◌, ℕ, true, false};
 ghost use Rattle.cap_machine.specs.State.{State};
 ghost use Rattle.cap_summary.specs.Changes.{changed, value_of, mode_of, ListSameBut};
 ghost use Rattle.cap_summary.specs.Conditions.{part_holds, outside_holds};
 ghost use Rattle.cap_summary.specs.MovedLow.{low_passes};
-ghost use Rattle.cap_summary.specs.Names.{Names, value_within};
+ghost use Rattle.cap_summary.specs.Names.{Names, value_within, is_one};
 ghost use Rattle.cap_summary.specs.Packed.{low_condition, AreOf};
 ghost use Rattle.cap_summary.specs.Reading.{part_read, outside_read, ReadsAlike, ReadAlike, LowsReadAlike};
 ghost use Rattle.cap_summary.specs.Tables.{seen_value};
@@ -17,6 +17,13 @@ use crate::kept::Seen;
 use crate::moved::of_process;
 use crate::packed::{Conditions, Low, Others};
 use cap_trace::{Fd, Pid};
+
+/// Whether a process is none of these.
+fn is_none_of(pid: Pid, pids: &[Pid]) -> bool
+    ensures { result ≡ true → is_one pids.now pid ≡ false }
+{
+    !pids.contains(&pid)
+}
 
 /// Whether both are the same. No is a safe answer.
 fn same_seen(a: &Seen<'_>, b: &Seen<'_>) -> bool
@@ -81,7 +88,7 @@ impl Change {
         requires own { AreOf pid lows.now }
         ensures { result ≡ true → LowsReadAlike was.now self.now lows.now }
     {
-        if !differing.contains(&pid) {
+        if is_none_of(pid, differing) {
             return true;
         }
         self.reads_each_alike(was, lows)
@@ -104,8 +111,8 @@ impl Change {
         true
     }
 
-    /// Whether what has become of a cell is the same by both. No is a safe answer.
-    fn reads_cell_alike(&self, was: &Change, pid: Pid, fd: Fd) -> bool
+    /// Whether what has become of a cell is found to be the same by both. No is a safe answer.
+    fn has_cell_alike(&self, was: &Change, pid: Pid, fd: Fd) -> bool
         ensures { result ≡ true → value_of self.now pid fd ≡ value_of was.now pid fd }
     {
         let now = self.seen(pid, fd, &mut Near::first());
@@ -116,69 +123,95 @@ impl Change {
         }
     }
 
+    /// The same, where both list the same of each process but some.
+    #[tactic(auto, using(crate::proofs::Reading::cell_of_other))]
+    fn reads_cell_alike(&self, was: &Change, differing: &[Pid], pid: Pid, fd: Fd) -> bool
+        requires { ListSameBut differing.now self.now was.now }
+        ensures { result ≡ true → value_of self.now pid fd ≡ value_of was.now pid fd }
+    {
+        if is_none_of(pid, differing) {
+            return true;
+        }
+        self.has_cell_alike(was, pid, fd)
+    }
+
     /// The same of the mode of a process.
-    fn reads_mode_alike(&self, was: &Change, pid: Pid) -> bool
+    #[tactic(auto, using(crate::proofs::Reading::mode_of_other))]
+    fn reads_mode_alike(&self, was: &Change, differing: &[Pid], pid: Pid) -> bool
+        requires { ListSameBut differing.now self.now was.now }
         ensures { result ≡ true → mode_of self.now pid ≡ mode_of was.now pid }
     {
+        if is_none_of(pid, differing) {
+            return true;
+        }
         self.mode(pid) == was.mode(pid)
     }
 
     /// Whether a part of a refusal reads the same behind both. No is a safe answer.
-    fn reads_part_alike(&self, was: &Change, part: &Option<Source>) -> bool
+    fn reads_part_alike(&self, was: &Change, differing: &[Pid], part: &Option<Source>) -> bool
+        requires { ListSameBut differing.now self.now was.now }
         ensures holds { result ≡ true
             → (s : State) → part_holds (changed self.now s) part.now ≡ part_holds (changed was.now s) part.now }
         ensures names { result ≡ true
             → (names : Names) → part_read names self.now part.now ≡ part_read names was.now part.now }
     {
         match part {
-            Some(source) => self.reads_cell_alike(was, source.pid, source.fd),
+            Some(source) => self.reads_cell_alike(was, differing, source.pid, source.fd),
             None => true,
         }
     }
 
     /// The same of the process that has to be outside.
-    fn reads_outside_alike(&self, was: &Change, mode: Option<Pid>) -> bool
+    fn reads_outside_alike(&self, was: &Change, differing: &[Pid], mode: Option<Pid>) -> bool
+        requires { ListSameBut differing.now self.now was.now }
         ensures holds { result ≡ true
             → (s : State) → outside_holds (changed self.now s) mode ≡ outside_holds (changed was.now s) mode }
         ensures names { result ≡ true
             → (names : Names) → outside_read names self.now mode ≡ outside_read names was.now mode }
     {
         match mode {
-            Some(pid) => self.reads_mode_alike(was, pid),
+            Some(pid) => self.reads_mode_alike(was, differing, pid),
             None => true,
         }
     }
 
     /// The same of a refusal.
-    fn reads_refused_alike(&self, was: &Change, refused: &Refused) -> bool
+    fn reads_refused_alike(&self, was: &Change, differing: &[Pid], refused: &Refused) -> bool
+        requires { ListSameBut differing.now self.now was.now }
         ensures { result ≡ true → ReadsAlike was.now self.now (Condition.Refused refused.now) }
     {
-        if !self.reads_outside_alike(was, refused.mode) {
+        if !self.reads_outside_alike(was, differing, refused.mode) {
             return false;
         }
-        if !self.reads_part_alike(was, &refused.first) {
+        if !self.reads_part_alike(was, differing, &refused.first) {
             return false;
         }
-        self.reads_part_alike(was, &refused.second)
+        self.reads_part_alike(was, differing, &refused.second)
     }
 
     /// The same of a condition.
-    fn reads_condition_alike(&self, was: &Change, condition: &Condition) -> bool
+    fn reads_condition_alike(&self, was: &Change, differing: &[Pid], condition: &Condition) -> bool
+        requires { ListSameBut differing.now self.now was.now }
         ensures { result ≡ true → ReadsAlike was.now self.now condition.now }
     {
         match condition {
-            Condition::Cell(source) => self.reads_cell_alike(was, source.pid, source.fd),
-            Condition::Inside(pid) | Condition::Outside(pid) => self.reads_mode_alike(was, *pid),
-            Condition::Refused(refused) => self.reads_refused_alike(was, refused),
+            Condition::Cell(source) => {
+                self.reads_cell_alike(was, differing, source.pid, source.fd)
+            }
+            Condition::Inside(pid) | Condition::Outside(pid) => {
+                self.reads_mode_alike(was, differing, *pid)
+            }
+            Condition::Refused(refused) => self.reads_refused_alike(was, differing, refused),
         }
     }
 
     /// The same of others, one after the other.
-    fn reads_others_alike(&self, was: &Change, others: &Others) -> bool
+    fn reads_others_alike(&self, was: &Change, differing: &[Pid], others: &Others) -> bool
+        requires { ListSameBut differing.now self.now was.now }
         ensures { result ≡ true → ReadAlike was.now self.now others.now }
     {
         for at in 0..others.len() {
-            if !self.reads_condition_alike(was, &others.get(at)) {
+            if !self.reads_condition_alike(was, differing, &others.get(at)) {
                 return false;
             }
         }
@@ -198,6 +231,6 @@ impl Change {
     {
         let (lows, others) = conditions.parts();
         self.reads_lows_alike(was, differing, lows.as_slice())
-            && self.reads_others_alike(was, others)
+            && self.reads_others_alike(was, differing, others)
     }
 }

@@ -10,15 +10,15 @@ use Rattle.cap_machine.proofs.table.Table.copy.Goals as goal
 
 pub returns : goal.returns
 returns c =
-    let at : (p : ℕ) → place_in c.in_ok-table.field-0 p ≡ place_in c.args.self.now.index p = search rules in
+    let at : (p : ℕ) → place_in c.in_ok-index.index p ≡ place_in c.args.self.now.index p = search rules in
     record {
       cells = λ p f. asked_of_copies (λ q. cell_in q f) Unknown c.args.self.now.processes.items
-          c.in_ok-table-2.field-0.items (place_in c.in_ok-table.field-0 p) p (λ a b same. same.0 f)
-          c.in_ok-table-2.ensures.cases.0
+          c.in_ok-processes.processes.items (place_in c.in_ok-index.index p) p (λ a b same. same.0 f)
+          c.in_ok-processes.ensures.cases.0
           ∙ ap (λ i. option_map_or (λ q. cell_in q f) (own_at c.args.self.now.processes.items i p) Unknown) (at p);
       modes = λ p. asked_of_copies (λ (q : Process). q.mode) Unsure c.args.self.now.processes.items
-          c.in_ok-table-2.field-0.items (place_in c.in_ok-table.field-0 p) p (λ a b same. same.1)
-          c.in_ok-table-2.ensures.cases.0
+          c.in_ok-processes.processes.items (place_in c.in_ok-index.index p) p (λ a b same. same.1)
+          c.in_ok-processes.ensures.cases.0
           ∙ ap (λ i. option_map_or (λ (q : Process). q.mode) (own_at c.args.self.now.processes.items i p) Unsure)
           (at p);
     }
