@@ -4,5 +4,5 @@ use Rattle.cap_machine.specs.declared.cell.Cell.{Cell}
 use Rattle.cap_machine.specs.declared.cells.block.Block.{Block}
 use Rattle.cap_machine.specs.Cells.Parts.{in_leaf, in_node}
 
-abbrev pub in_block : Block → ℕ → Cell
+unfoldable pub in_block : Block → ℕ → Cell
 in_block block f = in_node (in_node in_leaf 4) 32 block.node f

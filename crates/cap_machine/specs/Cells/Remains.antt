@@ -5,6 +5,6 @@ use Rattle.cap_machine.specs.declared.cells.remains.Remains.{Remains}
 
 -- at most so many nodes are still to be freed: a node of the lowest kind is one, and any other at most one more than
 -- eight of the next lower kind
-abbrev pub left_at_most : Remains → ℕ
+unfoldable pub left_at_most : Remains → ℕ
 left_at_most remains = 37449 * vec_len remains.highs + 4681 * vec_len remains.upper + 585 * vec_len remains.regions
     + 73 * vec_len remains.middle + 9 * vec_len remains.blocks + vec_len remains.lower

@@ -20,6 +20,7 @@ impl Clone for Block {
 
     ghost is_clone = { λ a b. (f : ℕ) → in_block b f ≡ in_block a f };
 
+    #[tactic(auto, unfolding(crate::specs::Cells::Block::in_block))]
     fn clone(&self) -> Result<Block, AllocError> {
         Ok(Block {
             node: self.node.clone()?,
@@ -35,24 +36,29 @@ impl Subtree for Block {
 
     ghost has = { λ f. f < 256 };
 
+    #[tactic(auto, unfolding(crate::specs::Cells::Block::in_block))]
     fn all(alloc: Global, cell: Cell) -> Result<Block, NoMemory> {
         Ok(Block {
             node: Node::all(alloc, cell)?,
         })
     }
 
+    #[tactic(auto, unfolding(crate::specs::Cells::Block::in_block))]
     fn cell(&self, fd: usize) -> Cell {
         self.node.cell(fd)
     }
 
+    #[tactic(auto, unfolding(crate::specs::Cells::Block::in_block))]
     fn write(&mut self, fd: usize, cell: Cell) -> Result<(), NoMemory> {
         self.node.write(fd, cell)
     }
 
+    #[tactic(auto, unfolding(crate::specs::Cells::Block::in_block))]
     fn settle(&mut self, pending: Pending) {
         self.node.settle(pending);
     }
 
+    #[tactic(auto, unfolding(crate::specs::Cells::Block::in_block))]
     fn close_from(&mut self, fd: usize) -> Result<(), NoMemory> {
         self.node.close_from(fd)
     }

@@ -21,6 +21,7 @@ impl Clone for High {
 
     ghost is_clone = { λ a b. (f : ℕ) → in_high b f ≡ in_high a f };
 
+    #[tactic(auto, unfolding(crate::specs::Cells::High::in_high))]
     fn clone(&self) -> Result<High, AllocError> {
         Ok(High {
             node: self.node.clone()?,
@@ -36,24 +37,29 @@ impl Subtree for High {
 
     ghost has = { λ f. f < 1048576 };
 
+    #[tactic(auto, unfolding(crate::specs::Cells::High::in_high))]
     fn all(alloc: Global, cell: Cell) -> Result<High, NoMemory> {
         Ok(High {
             node: Node::all(alloc, cell)?,
         })
     }
 
+    #[tactic(auto, unfolding(crate::specs::Cells::High::in_high))]
     fn cell(&self, fd: usize) -> Cell {
         self.node.cell(fd)
     }
 
+    #[tactic(auto, unfolding(crate::specs::Cells::High::in_high))]
     fn write(&mut self, fd: usize, cell: Cell) -> Result<(), NoMemory> {
         self.node.write(fd, cell)
     }
 
+    #[tactic(auto, unfolding(crate::specs::Cells::High::in_high))]
     fn settle(&mut self, pending: Pending) {
         self.node.settle(pending);
     }
 
+    #[tactic(auto, unfolding(crate::specs::Cells::High::in_high))]
     fn close_from(&mut self, fd: usize) -> Result<(), NoMemory> {
         self.node.close_from(fd)
     }

@@ -20,6 +20,7 @@ impl Clone for Region {
 
     ghost is_clone = { λ a b. (f : ℕ) → in_region b f ≡ in_region a f };
 
+    #[tactic(auto, unfolding(crate::specs::Cells::Region::in_region))]
     fn clone(&self) -> Result<Region, AllocError> {
         Ok(Region {
             node: self.node.clone()?,
@@ -35,24 +36,29 @@ impl Subtree for Region {
 
     ghost has = { λ f. f < 16384 };
 
+    #[tactic(auto, unfolding(crate::specs::Cells::Region::in_region))]
     fn all(alloc: Global, cell: Cell) -> Result<Region, NoMemory> {
         Ok(Region {
             node: Node::all(alloc, cell)?,
         })
     }
 
+    #[tactic(auto, unfolding(crate::specs::Cells::Region::in_region))]
     fn cell(&self, fd: usize) -> Cell {
         self.node.cell(fd)
     }
 
+    #[tactic(auto, unfolding(crate::specs::Cells::Region::in_region))]
     fn write(&mut self, fd: usize, cell: Cell) -> Result<(), NoMemory> {
         self.node.write(fd, cell)
     }
 
+    #[tactic(auto, unfolding(crate::specs::Cells::Region::in_region))]
     fn settle(&mut self, pending: Pending) {
         self.node.settle(pending);
     }
 
+    #[tactic(auto, unfolding(crate::specs::Cells::Region::in_region))]
     fn close_from(&mut self, fd: usize) -> Result<(), NoMemory> {
         self.node.close_from(fd)
     }

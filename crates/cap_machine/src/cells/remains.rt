@@ -56,6 +56,7 @@ fn free_node<T: Drop, const WIDTH: usize>(node: Rc<Node<T, WIDTH>>, parts: &mut 
 
 impl Remains {
     /// Nothing is left. It takes no memory.
+    #[tactic(auto, unfolding(crate::specs::Cells::Remains::left_at_most))]
     pub(crate) fn nothing(alloc: Global) -> Remains
         ensures { left_at_most result ≡ 0 }
     {
@@ -70,6 +71,7 @@ impl Remains {
     }
 
     /// Adds cells that soon nobody has.
+    #[tactic(auto, unfolding(crate::specs::Cells::Remains::left_at_most))]
     pub(crate) fn add(&mut self, high: Rc<High>) -> Result<(), NoMemory>
         ensures { left_at_most self.new ≤ left_at_most self.old + 37449 }
     {
@@ -83,6 +85,7 @@ impl Remains {
     }
 
     /// Frees one part, and its leaves if it has some. Answers whether there was one.
+    #[tactic(auto, unfolding(crate::specs::Cells::Remains::left_at_most))]
     fn free_one(&mut self) -> bool
         ensures some { result ≡ nat_lt 0 (left_at_most self.old) }
         ensures fewer { left_at_most self.new ≤ left_at_most self.old - 1 }
@@ -112,6 +115,7 @@ impl Remains {
     }
 
     /// Whether nothing is left.
+    #[tactic(auto, unfolding(crate::specs::Cells::Remains::left_at_most))]
     fn is_nothing(&self) -> bool
         ensures { IsTrue result → left_at_most self.now ≡ 0 }
     {
