@@ -1,8 +1,11 @@
 -- Look-ups in parts of the same width.
 use Rattle.std.proofs.Common.{◌≡◌, ℕ, suc, ◌+◌, ◌*◌, ◌/◌, ◌%◌, ◌<◌, ◌≤◌, ◌==◌, nat_le, nat_lt, ◌&&◌, if◌then◌else◌}
-use Rattle.std.proofs.Common.{Bool, true, false, List, length, get_or, set, ap, sym, ◌∙◌, arith}
+use Rattle.std.proofs.Common.{Bool, true, false, List, [], ◌∷◌, length, get_or, set, zero, refl, ap, sym, ◌∙◌, arith}
+use Rattle.std.specs.List.{AllZip}
 use Rattle.std.specs.Prelude.{slice_get, slice_set, slice_index_or}
 use Rattle.std.specs.Option.{option_map_or}
+use Rattle.std.specs.Prelude.{Result, Ok, Err}
+use Rattle.std.specs.Result.{OnOk}
 use Rattle.std.proofs.lemmas.Option.{slice_get-get_or}
 use Rattle.std.proofs.lemmas.Bool.{cases_eq, cases_order}
 use Rattle.std.proofs.lemmas.Bool.Decides.{nat_tests}
@@ -58,7 +61,17 @@ asked : {X : Type 0} (ask : X → Cell) (xs : List X) (i : ℕ) (d : X) → i < 
     → option_map_or ask (slice_get xs i) Unknown ≡ ask (get_or xs i d)
 asked ask xs i d lt = ap (λ o. option_map_or ask o Unknown) (slice_get-get_or xs i d lt)
 
-seen : {X : Type 0} (ask : X → ℕ → Cell) (w : ℕ) (marks : List Pending) (parts : List X) (f : ℕ) (d : X)
+-- what is asked of an element is the same in another list of such elements
+pub asked_alike : {X : Type 0} (R : X → X → Type 0) (ask : X → Cell) → ((x y : X) → R x y → ask y ≡ ask x)
+    → (xs ys : List X) (i : ℕ) → AllZip R xs ys
+    → option_map_or ask (slice_get ys i) Unknown ≡ option_map_or ask (slice_get xs i) Unknown
+asked_alike R ask same [] [] i zip = refl
+asked_alike R ask same [] (y ∷ ys) i zip = absurd zip
+asked_alike R ask same (x ∷ xs) [] i zip = absurd zip
+asked_alike R ask same (x ∷ xs) (y ∷ ys) zero zip = same x y zip.0
+asked_alike R ask same (x ∷ xs) (y ∷ ys) (suc i) zip = asked_alike R ask same xs ys i zip.1
+
+pub seen : {X : Type 0} (ask : X → ℕ → Cell) (w : ℕ) (marks : List Pending) (parts : List X) (f : ℕ) (d : X)
     → f / w < length parts
     → look ask w marks parts f ≡ settled (get_or marks (f / w) Nothing) (ask (get_or parts (f / w) d) (f % w))
 seen ask w marks parts f d lt =
@@ -196,3 +209,8 @@ settled_more now old next m k i n lt gives before c within =
     ∙ before i c within
     ∙ ap (done c) (more i k ne))
     (cases_eq i k)
+
+-- what holds once a step went well, by what that step says
+pub still_ok : {T E P Q : Type 0} (r : Result T E) → (P → Q) → OnOk r P → OnOk r Q
+still_ok (Ok x) next holds = next holds
+still_ok (Err e) next holds = tt

@@ -1,11 +1,16 @@
 -- What is left of a list when descriptors are struck off it.
 use Rattle.std.proofs.Common.{◌≡◌, ℕ, ◌==◌, nat_le, nat_lt, ◌||◌, not, ◌++◌, if◌then◌else◌, Bool, true, false, List, []}
-use Rattle.std.proofs.Common.{◌∷◌, refl, ap, sym, ◌∙◌, arith}
+use Rattle.std.proofs.Common.{◌∷◌, ◌+◌, ◌<◌, length, take, get_or, refl, ap, sym, ◌∙◌, arith}
 use Rattle.std.specs.List.{list_any, filter}
 use Rattle.std.proofs.lemmas.Bool.{cases_eq, cases_lt}
 use Rattle.std.proofs.lemmas.Bool.Decides.{nat_tests}
 use Rattle.std.proofs.lemmas.Map.Views.{any-filter_same}
+use Rattle.std.proofs.lemmas.List.Folds.{list_any_more}
 use Rattle.std.proofs.Math.Logic.{⊎_elim}
+use Rattle.cap_rights.specs.Rights.{all}
+use Rattle.cap_machine.specs.declared.cell.OnExec.TheVariants.{Unsure}
+use Rattle.cap_machine.specs.declared.cell.Cell.TheVariants.{Held, Closed}
+use Rattle.cap_machine.specs.Touch.{started}
 
 -- without one descriptor
 pub any_without : (fds : List ℕ) (fd f : ℕ)
@@ -116,3 +121,17 @@ pub more_large : (f : ℕ) (small large : List ℕ) (fd : ℕ)
 more_large f small large fd =
     ap (λ (b : Bool). list_any (λ g. f == g) small || b) (any_more f large fd)
     ∙ or_assoc (list_any (λ g. f == g) small) (list_any (λ g. f == g) large) (f == fd)
+
+-- one more is held
+either : {X : Type 0} (a b : Bool) (x y : X)
+    → (if b then x else if a then x else y) ≡ (if a || b then x else y)
+either true true x y = refl
+either true false x y = refl
+either false true x y = refl
+either false false x y = refl
+
+pub started_more : (fds : List ℕ) (i f : ℕ) → i < length fds
+    → (if f == get_or fds i 0 then Held all Unsure else started (take i fds) f) ≡ started (take (i + 1) fds) f
+started_more fds i f within =
+    either (list_any (λ g. f == g) (take i fds)) (f == get_or fds i 0) (Held all Unsure) Closed
+    ∙ ap (λ (b : Bool). if b then Held all Unsure else Closed) (sym (list_any_more (λ g. f == g) fds i 0 within))

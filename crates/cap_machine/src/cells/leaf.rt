@@ -43,7 +43,6 @@ impl<const N: usize> Leaf<N> {
     }
 
     /// Writes the cell at a place.
-    #[tactic(auto, using(crate::proofs::Leaves::put_in))]
     fn put(&mut self, place: usize, cell: Cell)
         requires { place < N }
         ensures { (f : ℕ) → in_leaf self.new f ≡ (if f == place then cell else in_leaf self.old f) }

@@ -35,21 +35,22 @@ impl<T: Subtree, const WIDTH: usize> Clone for Node<T, WIDTH> {
     }
 }
 
+/// One part four times.
+fn four<T: Subtree>(part: Rc<T>) -> Result<(Rc<T>, Rc<T>, Rc<T>, Rc<T>), NoMemory>
+    ensures { IfOk result (λ parts. (parts.0.value ≡ part.value) × (parts.1.value ≡ part.value)
+        × (parts.2.value ≡ part.value) × (parts.3.value ≡ part.value)) }
+{
+    Ok((part.clone()?, part.clone()?, part.clone()?, part))
+}
+
 /// One part eight times.
 fn eight<T: Subtree>(part: Rc<T>) -> Result<[Rc<T>; 8], NoMemory>
     ensures { IfOk result (λ parts. (i f : ℕ) → i < 8
         → option_map_or (λ p. T.cell_at p.value f) (slice_get parts i) Cell.Unknown ≡ T.cell_at part.value f) }
 {
-    Ok([
-        part.clone()?,
-        part.clone()?,
-        part.clone()?,
-        part.clone()?,
-        part.clone()?,
-        part.clone()?,
-        part.clone()?,
-        part,
-    ])
+    let (a, b, c, d) = four(part.clone()?)?;
+    let (e, f, g, h) = four(part)?;
+    Ok([a, b, c, d, e, f, g, h])
 }
 
 /// Does this to each of eight parts, once it must.

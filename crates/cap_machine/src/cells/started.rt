@@ -1,6 +1,6 @@
 //! The descriptors that a process began with.
 
-ghost use Rattle.std.specs.Prelude.{◌≡◌, ℕ, ◌≤◌, IfOk, OnOk, ◌==◌, ◌||◌, nat_le, if◌then◌else◌};
+ghost use Rattle.std.specs.Prelude.{◌≡◌, ℕ, ◌≤◌, IfOk, OnOk, ◌==◌, ◌||◌, nat_le, if◌then◌else◌, false};
 ghost use Rattle.std.specs.List.{list_any};
 ghost use Rattle.cap_rights.specs.Rights.{all};
 ghost use Rattle.cap_machine.specs.Cells.Pending.{settled};
@@ -49,18 +49,32 @@ impl Started {
         Ok(())
     }
 
+    /// None is listed, and there is room for those of these from 64 on.
+    fn with_room(alloc: Global, fds: &[Fd]) -> Result<Started, NoMemory>
+        ensures listed { IfOk result (λ new. (f : ℕ) → is_listed new f ≡ false) }
+        ensures pending { IfOk result (λ new. new.pending ≡ Pending.Nothing) }
+    {
+        let (mut small, mut large) = (0, 0);
+        for fd in fds {
+            if 65_536 <= *fd {
+                large += 1;
+            } else if 64 <= *fd {
+                small += 1;
+            }
+        }
+        Ok(Started {
+            small: Vec::with_capacity(alloc, small)?,
+            large: Vec::with_capacity(alloc, large)?,
+            pending: Pending::Nothing,
+        })
+    }
+
     /// Those of these from 64 on are listed, and nothing was done to them.
     pub(crate) fn of(alloc: Global, fds: &[Fd]) -> Result<Started, NoMemory>
         ensures { IfOk result (λ new. (c : Cell) (f : ℕ) → 64 ≤ f
             → in_started new c f ≡ (if list_any (λ g. f == g) fds.now then Cell.Held all OnExec.Unsure else c)) }
     {
-        let small = fds.iter().filter(|fd| 64 <= **fd && **fd < 65_536).count();
-        let large = fds.iter().filter(|fd| 65_536 <= **fd).count();
-        let mut started = Started {
-            small: Vec::with_capacity(alloc, small)?,
-            large: Vec::with_capacity(alloc, large)?,
-            pending: Pending::Nothing,
-        };
+        let mut started = Started::with_room(alloc, fds)?;
         for fd in fds {
             started.list(*fd)?;
         }
@@ -78,7 +92,7 @@ impl Started {
     fn lists_large(&self, fd: Fd) -> bool
         ensures { result ≡ list_any (λ g. fd == g) self.now.large.items }
     {
-        self.large.iter().any(|listed| fd == *listed)
+        self.large.contains(&fd)
     }
 
     /// Whether a descriptor is listed.

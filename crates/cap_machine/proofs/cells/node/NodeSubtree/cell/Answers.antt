@@ -1,0 +1,13 @@
+use Rattle.std.proofs.Common.{rules, ◌/◌, ◌%◌, ◌<◌, length, ap, sym, ◌∙◌}
+use Rattle.cap_machine.specs.Cells.Pending.{settled}
+use Rattle.cap_machine.proofs.PartsOf.{seen}
+use Rattle.cap_machine.proofs.cells.node.NodeSubtree.cell.Goals as goal
+
+pub returns : goal.returns
+returns g c =
+    let within : c.args.fd / g.row.WIDTH < length c.args.self.now.parts = search rules in
+    c.on.ensures
+    ∙ ap (settled _)
+    (c.cell.ensures ∙ ap (λ tree. g.T.Subtree.cell_at tree (c.args.fd % g.row.WIDTH)) c.deref.ensures)
+    ∙ sym (seen (λ part. g.T.Subtree.cell_at part.value) g.row.WIDTH c.args.self.now.pending c.args.self.now.parts
+    c.args.fd c.index-self-at.result within)

@@ -1,0 +1,22 @@
+use Rattle.std.proofs.Common.{rules, ◌≡◌, ℕ, nat_le, if◌then◌else◌, ap, ◌∙◌}
+use Rattle.std.proofs.Math.Logic.{⊎_elim}
+use Rattle.cap_machine.specs.Cells.Pending.{settled}
+use Rattle.cap_machine.specs.declared.cell.Cell.{Cell}
+use Rattle.cap_machine.specs.declared.cell.Cell.TheVariants.{Closed}
+use Rattle.cap_machine.proofs.PartsOf.{still_ok}
+use Rattle.cap_machine.proofs.cells.shared.close_part.Goals as goal
+
+pub returns : goal.returns
+returns g c =
+    let same : (f : ℕ) → g.T.Subtree.cell_at c.in_ok-below.below.now f ≡ g.T.Subtree.cell_at c.args.part.now.value f =
+    λ f. ⊎_elim (λ e. ap (λ tree. g.T.Subtree.cell_at tree f) e)
+    (λ clone. g.met.T.Subtree.same_in_clone c.args.part.now.value c.in_ok-below.below.now clone f)
+    c.in_ok-below.ensures.value in
+    let back : (c.make_mut.follows.lender c.close_from.new.self).value ≡ c.close_from.new.self = search rules in
+    still_ok c.close_from.result
+    (λ closed f has.
+    ap (λ tree. g.T.Subtree.cell_at tree f) back
+    ∙ closed f has
+    ∙ ap (λ (was : Cell). if nat_le c.args.fd f then Closed else was)
+    (c.settle_part.ensures f has ∙ ap (settled c.args.pending) (same f)))
+    c.close_from.ensures
