@@ -18,11 +18,11 @@ abbrev pub look : {X : Type 0} → (X → ℕ → Cell) → ℕ → List Pending
 look ask w pending parts f = settled (slice_index_or pending (f / w) Nothing)
     (option_map_or (λ part. ask part (f % w)) (slice_get parts (f / w)) Unknown)
 
-abbrev pub in_leaf : {n : ℕ} → Leaf n → ℕ → Cell
+unfoldable pub in_leaf : {n : ℕ} → Leaf n → ℕ → Cell
 in_leaf leaf f = cell_of_kind (slice_index_or leaf.kinds f kinds.Unknown) (slice_index_or leaf.rights f none)
 
-abbrev pub in_node : {T : Type 0} → (T → ℕ → Cell) → (w : ℕ) → Node T w → ℕ → Cell
+unfoldable pub in_node : {T : Type 0} → (T → ℕ → Cell) → (w : ℕ) → Node T w → ℕ → Cell
 in_node ask w node f = look (λ part. ask part.value) w node.pending node.parts f
 
-abbrev pub in_shared : {T : Type 0} → (T → ℕ → Cell) → Shared T → ℕ → Cell
+unfoldable pub in_shared : {T : Type 0} → (T → ℕ → Cell) → Shared T → ℕ → Cell
 in_shared ask shared f = settled shared.pending (ask shared.part.value f)

@@ -1,8 +1,8 @@
 //! The few cells that were written, which processes share until one of them writes.
 
-ghost use Rattle.std.specs.Prelude.{◌≡◌, ℕ, OnOk, IsFalse, ◌==◌, nat_le, if◌then◌else◌};
+ghost use Rattle.std.specs.Prelude.{◌≡◌, ℕ, OnOk, IfOk, IsFalse, ◌==◌, nat_le, if◌then◌else◌};
 ghost use Rattle.cap_machine.specs.Cells.Pending.{settled};
-ghost use Rattle.cap_machine.specs.Cells.Few.{in_listed};
+ghost use Rattle.cap_machine.specs.Cells.Few.{in_few, in_listed};
 
 use crate::cell::Cell;
 use crate::cells::few::Few;
@@ -11,6 +11,25 @@ use cap_rights::NoMemory;
 use cap_trace::Fd;
 use std::alloc::{AllocError, Global};
 use std::rc::Rc;
+
+/// Writes a cell where some are listed, in a list of its own.
+fn write_own(few: &mut Rc<Few>, fd: Fd, cell: Cell) -> Result<(), NoMemory>
+    ensures { OnOk result ((c : Cell) (f : ℕ)
+        → in_few few.new.value c f ≡ (if f == fd then cell else in_few few.old.value c f)) }
+{
+    let own = Rc::make_mut(few)?;
+    own.strike(fd);
+    own.list(fd, cell)
+}
+
+/// This cell is listed, and no other.
+fn only(alloc: Global, fd: Fd, cell: Cell) -> Result<Few, NoMemory>
+    ensures { IfOk result (λ few. (c : Cell) (f : ℕ) → in_few few c f ≡ (if f == fd then cell else c)) }
+{
+    let mut few = Few::none(alloc);
+    few.list(fd, cell)?;
+    Ok(few)
+}
 
 /// A few cells that stand over others. A clone shares them until one of the two is written to.
 #[derive(Drop)]
@@ -53,13 +72,9 @@ impl Listed {
             ((c : Cell) (f : ℕ) → in_listed self.new c f ≡ (if f == fd then cell else in_listed self.old c f)) }
     {
         if let Some(few) = &mut self.few {
-            let own = Rc::make_mut(few)?;
-            own.strike(fd);
-            return own.list(fd, cell);
+            return write_own(few, fd, cell);
         }
-        let mut few = Few::none(self.alloc);
-        few.list(fd, cell)?;
-        self.few = Some(Rc::new(self.alloc, few)?);
+        self.few = Some(Rc::new(self.alloc, only(self.alloc, fd, cell)?)?);
         Ok(())
     }
 

@@ -100,6 +100,7 @@ impl<T: Subtree, const WIDTH: usize> Subtree for Node<T, WIDTH> {
         Ok(())
     }
 
+    #[tactic(auto, unfolding(crate::specs::Cells::Parts::in_node))]
     fn settle(&mut self, pending: Pending) {
         settle_all(&mut self.pending, pending);
     }

@@ -76,6 +76,7 @@ impl<T: Subtree> Shared<T> {
     ghost use Rattle.cap_machine.specs.Cells.Parts.{in_shared};
 
     /// The part, where nothing is pending.
+    #[tactic(auto, unfolding(crate::specs::Cells::Parts::in_shared))]
     #[inline(always)]
     pub(crate) fn settled(&self) -> Option<&T>
         ensures { IfSome result (λ part. (f : ℕ) → T.cell_at part.now f ≡ in_shared T.cell_at self.now f) }
@@ -92,6 +93,7 @@ impl<T: Subtree> Clone for Shared<T> {
 
     ghost is_clone = { λ a b. (f : ℕ) → in_shared T.cell_at b f ≡ in_shared T.cell_at a f };
 
+    #[tactic(auto, unfolding(crate::specs::Cells::Parts::in_shared))]
     fn clone(&self) -> Result<Shared<T>, AllocError> {
         Ok(Shared {
             pending: self.pending,
@@ -107,6 +109,7 @@ impl<T: Subtree> Subtree for Shared<T> {
 
     ghost has = { T.has };
 
+    #[tactic(auto, unfolding(crate::specs::Cells::Parts::in_shared))]
     fn all(alloc: Global, cell: Cell) -> Result<Shared<T>, NoMemory> {
         Ok(Shared {
             pending: Pending::Nothing,
@@ -114,10 +117,12 @@ impl<T: Subtree> Subtree for Shared<T> {
         })
     }
 
+    #[tactic(auto, unfolding(crate::specs::Cells::Parts::in_shared))]
     fn cell(&self, fd: usize) -> Cell {
         self.pending.on(self.part.cell(fd))
     }
 
+    #[tactic(auto, unfolding(crate::specs::Cells::Parts::in_shared))]
     #[inline(always)]
     fn write(&mut self, fd: usize, cell: Cell) -> Result<(), NoMemory> {
         if let Pending::Nothing = self.pending {
@@ -130,10 +135,12 @@ impl<T: Subtree> Subtree for Shared<T> {
         Ok(())
     }
 
+    #[tactic(auto, unfolding(crate::specs::Cells::Parts::in_shared))]
     fn settle(&mut self, pending: Pending) {
         self.pending = pending.after(self.pending);
     }
 
+    #[tactic(auto, unfolding(crate::specs::Cells::Parts::in_shared))]
     fn close_from(&mut self, fd: usize) -> Result<(), NoMemory> {
         close_part(&mut self.part, self.pending, fd)?;
         self.pending = Pending::Nothing;

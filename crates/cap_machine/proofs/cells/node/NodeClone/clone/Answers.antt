@@ -1,11 +1,13 @@
 use Rattle.std.proofs.Common.{◌≡◌, ap, ◌/◌, ◌%◌}
 use Rattle.std.specs.List.{slice_index_or}
+use Rattle.cap_machine.specs.Cells.Parts.{in_node}
 use Rattle.cap_machine.specs.Cells.Pending.{settled}
 use Rattle.cap_machine.specs.declared.cells.pending.Pending.TheVariants.{Nothing}
 use Rattle.cap_machine.proofs.PartsOf.{asked_alike}
 use Rattle.cap_machine.proofs.cells.node.NodeClone.clone.Goals as goal
 
 pub returns : goal.returns
+unfolding in_node
 returns g c = record {
   cases = λ f.
       ap (settled (slice_index_or c.args.self.now.pending (f / g.row.WIDTH) Nothing))

@@ -1,9 +1,11 @@
 use Rattle.std.proofs.Common.{rules, ◌/◌, ◌%◌, ◌<◌, length, ap, sym, ◌∙◌}
+use Rattle.cap_machine.specs.Cells.Parts.{in_node}
 use Rattle.cap_machine.specs.Cells.Pending.{settled}
 use Rattle.cap_machine.proofs.PartsOf.{seen}
 use Rattle.cap_machine.proofs.cells.node.NodeSubtree.cell.Goals as goal
 
 pub returns : goal.returns
+unfolding in_node
 returns g c =
     let within : c.args.fd / g.row.WIDTH < length c.args.self.now.parts = search rules in
     c.on.ensures
