@@ -278,16 +278,8 @@ impl<S: Segment> Node<S> {
             let lower = Node::branch(alloc, meter, inner, right)?;
             return Node::branch(alloc, meter, outer, lower);
         }
-        let middle: &Node<S> = inner;
-        let Shape::Branch(before, after) = &middle.shape else {
-            unreachable!()
-        };
         let outer = outer.clone()?;
-        let before = before.clone()?;
-        let after = after.clone()?;
-        let front = Node::branch(alloc, meter, outer, before)?;
-        let back = Node::branch(alloc, meter, after, right)?;
-        Node::branch(alloc, meter, front, back)
+        Node::part_middle(alloc, meter, outer, inner, right)
     }
 
     fn lean_right(
@@ -313,15 +305,35 @@ impl<S: Segment> Node<S> {
             let lower = Node::branch(alloc, meter, left, inner)?;
             return Node::branch(alloc, meter, lower, outer);
         }
-        let middle: &Node<S> = inner;
+        let outer = outer.clone()?;
+        Node::part_middle(alloc, meter, left, inner, outer)
+    }
+
+    /// The three in order, where the middle one is one level higher: its parts go to either side.
+    fn part_middle(
+        alloc: Global,
+        meter: &mut Meter,
+        left: Rc<Node<S>>,
+        middle: &Node<S>,
+        right: Rc<Node<S>>,
+    ) -> Result<Rc<Node<S>>, NoMemory>
+        requires level { left.value.1 ≡ right.value.1 }
+        requires one_higher { middle.now.1 ≡ right.value.1 + 1 }
+        requires few { length left.value.0 + length middle.now.0 + length right.value.0 ≤ 2 ^ 30 }
+        requires room { meter.old + 3 < 2 ^ 64 }
+        ensures items { IfOk result (λ n. n.value.0 ≡ (left.value.0 ++ middle.now.0) ++ right.value.0) }
+        ensures height { IfOk result (λ n. n.value.1 ≡ right.value.1 + 2) }
+        ensures counted { OnOk result (meter.new ≡ meter.old + 3) }
+        ensures not_less { meter.old ≤ meter.new }
+        ensures joins { meter.new ≤ meter.old + 3 }
+    {
         let Shape::Branch(before, after) = &middle.shape else {
             unreachable!()
         };
-        let outer = outer.clone()?;
         let before = before.clone()?;
         let after = after.clone()?;
         let front = Node::branch(alloc, meter, left, before)?;
-        let back = Node::branch(alloc, meter, after, outer)?;
+        let back = Node::branch(alloc, meter, after, right)?;
         Node::branch(alloc, meter, front, back)
     }
 
