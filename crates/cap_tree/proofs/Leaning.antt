@@ -115,3 +115,30 @@ joins-second old mid new one le = omega arith
 
 pub joins-both : (old mid new : ℕ) → mid ≡ old + 1 → new ≤ mid + 1 → new ≤ old + 3
 joins-both old mid new one le = omega arith
+
+-- the same where the right node is the high one
+pub turned : (by a b : ℕ) → DifferByAtMost by a b → DifferByAtMost by b a
+turned by a b near = (omega arith, omega arith)
+
+pub turned-parts : (inside inner outer : ℕ) → (inside ≡ max inner outer + 1) × DifferByAtMost 1 inner outer
+    → (inside ≡ max outer inner + 1) × DifferByAtMost 1 outer inner
+turned-parts inside inner outer balanced = (omega arith, turned 1 inner outer balanced.1)
+
+pub lower-height_right : (low outer inner lower : ℕ) → IsOuter low outer inner → lower ≡ max low inner + 1
+    → lower ≡ inner + 1
+lower-height_right low outer inner lower is made = omega arith
+
+pub settled-outer_right : (low high outer inner lower new : ℕ) → high ≡ low + 2 → IsOuter low outer inner
+    → lower ≡ inner + 1 → new ≡ max lower outer + 1 → SettlesAt low high new
+settled-outer_right low high outer inner lower new two is made top =
+    record { not_lower = omega arith; at_most_one_higher = omega arith; kept = λ near. omega arith }
+
+pub settled-level_right : (low high new : ℕ) → high ≡ low + 2 → new ≡ low + 2 → SettlesAt low high new
+settled-level_right low high new two top =
+    record { not_lower = omega arith; at_most_one_higher = omega arith; kept = λ near. omega arith }
+
+pub three-first : (l b a k : ℕ) → l + (b + a) ≤ k → l + b ≤ k
+three-first l b a k few = omega arith
+
+pub three-all_right : (l b a k : ℕ) → l + (b + a) ≤ k → l + b + a ≤ k
+three-all_right l b a k few = omega arith
