@@ -75,3 +75,6 @@ leaves-near = (omega arith, omega arith)
 
 pub no-more : (a b : ℕ) → a ≡ b → a ≤ b
 no-more a b is = omega arith
+
+pub cut-few : (front back at all : ℕ) → front ≡ at → back + at ≡ all → all ≤ 2 ^ 30 → front + back ≤ 2 ^ 30
+cut-few front back at all f b few = omega arith
