@@ -1,5 +1,5 @@
 -- Two nodes of which one is two levels higher: how high the parts of that one are, and what is made of them.
-use Rattle.std.proofs.Common.{◌≡◌, ℕ, ◌+◌, ◌^◌, ◌<◌, ◌≤◌, max, List, ◌++◌, append_assoc, arith}
+use Rattle.std.proofs.Common.{◌≡◌, ℕ, ◌+◌, ◌<◌, ◌≤◌, max, List, ◌++◌, append_assoc, arith}
 use Rattle.cap_tree.specs.Heights.{DifferByAtMost, SettlesAt}
 
 -- the heights of the low node and of the two parts of the high one, where the outer part is the higher one ..

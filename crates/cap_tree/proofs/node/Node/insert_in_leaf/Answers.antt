@@ -1,4 +1,4 @@
-use Rattle.std.proofs.Common.{◌≡◌, ap, ◌∙◌}
+use Rattle.std.proofs.Common.{ap, ◌∙◌}
 use Rattle.cap_tree.proofs.Inserted.{length-items, within-items, length-inserted}
 use Rattle.cap_tree.proofs.Inserted.{more-some, more-fits, few-fits, more-room, more-joins}
 use Rattle.cap_tree.proofs.node.Node.insert_in_leaf.Goals as goal
@@ -61,4 +61,3 @@ returns-clause-joins g c =
     let same = length-items _ _ all in
     let less = rw long at c.leaves.ensures.joins in
     more-joins _ _ _ _ _ c.in-Leaf.run'.ok.0 fits same less
-

@@ -1,4 +1,4 @@
-use Rattle.std.proofs.Common.{◌≡◌, ◌++◌, length, append_assoc, length-append, sym, ap, arith}
+use Rattle.std.proofs.Common.{append_assoc, length-append, ap, arith}
 use Rattle.std.proofs.lemmas.Result.{IfOk-weaker}
 use Rattle.cap_tree.proofs.Leaning.{is-outer, is-inner, inner-near, lower-height, outer-near, settled-outer, settled-level}
 use Rattle.cap_tree.proofs.Leaning.{three-last, three-all, room-first, room-second, joins-second, joins-both}

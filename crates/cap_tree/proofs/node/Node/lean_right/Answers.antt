@@ -1,4 +1,4 @@
-use Rattle.std.proofs.Common.{◌≡◌, ◌++◌, length, append_assoc, length-append, sym, ap, arith}
+use Rattle.std.proofs.Common.{append_assoc, length-append, sym, ap, arith}
 use Rattle.std.proofs.lemmas.Result.{IfOk-weaker}
 use Rattle.cap_tree.proofs.Leaning.{is-outer, is-inner, inner-near, lower-height_right, outer-near, settled-outer_right}
 use Rattle.cap_tree.proofs.Leaning.{settled-level_right, turned, turned-parts}

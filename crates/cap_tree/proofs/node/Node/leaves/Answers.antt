@@ -1,4 +1,4 @@
-use Rattle.std.proofs.Common.{◌≡◌, ◌∙◌}
+use Rattle.std.proofs.Common.{◌∙◌}
 use Rattle.std.proofs.lemmas.Result.{IfOk-weaker}
 use Rattle.cap_tree.proofs.Halves.{are-halves, length-values, values-halves, length-both, leaves-near, no-more}
 use Rattle.cap_tree.proofs.Halves.{room-front, room-back, room-both, not_less-both}
@@ -100,8 +100,14 @@ pub returns-clause-items : goal.returns-clause-items
 returns-clause-items g c =
     let whole =
     values-halves c.split_at.result.0.now c.split_at.result.1.now c.as_slice.result.now c.split_at.ensures.by_index.0 in
-    rw (c.in_ok-left.ensures.items, c.in_ok-right.ensures.items, c.in_ok-shared.ensures, c.in_ok-shared-2.ensures,
-      whole, c.as_slice.ensures.value)
+    rw (
+      c.in_ok-left.ensures.items,
+      c.in_ok-right.ensures.items,
+      c.in_ok-shared.ensures,
+      c.in_ok-shared-2.ensures,
+      whole,
+      c.as_slice.ensures.value,
+    )
     at c.branch-alloc.ensures.items
 
 pub returns-clause-height : goal.returns-clause-height
@@ -128,4 +134,3 @@ returns-clause-joins g c =
     let left = rw front at c.in_ok-left.ensures.counted in
     let right = rw back at c.in_ok-right.ensures.counted in
     joins-halves _ _ _ _ _ _ _ are left right c.branch-alloc.ensures.joins
-

@@ -1,4 +1,4 @@
-use Rattle.std.proofs.Common.{◌≡◌, ◌++◌, length, length-append, sym, ap, arith}
+use Rattle.std.proofs.Common.{length-append, ap, arith}
 use Rattle.cap_tree.proofs.Leaning.{are-parts, front-height, back-height, level-near, level-height}
 use Rattle.cap_tree.proofs.Leaning.{four-items, four-first, four-last, four-all, room-first, room-second, room-third}
 use Rattle.cap_tree.proofs.node.Node.part_middle.Goals as goal
