@@ -11,7 +11,7 @@ pub const TURNS: u32 = 437;
 /// Near an end, and after the middle of a first leaf: the leaf that splits again is the outer or the inner one.
 pub const PLACES: [usize; 2] = [12, 36];
 
-#[derive(Drop)]
+#[derive(Clone, Copy)]
 pub enum Edit {
     Insert(usize),
     Replace(usize),
@@ -36,16 +36,16 @@ pub fn edited<S: Segment>(
     alloc: Global,
     meter: &mut Meter,
     tree: &Tree<S>,
-    edit: &Edit,
+    edit: Edit,
     item: Rc<S::Item>,
 ) -> Result<Tree<S>, NoMemory> {
     if meter.room() < 1 << 33 || tree.len() >= 1_000_000 {
         return Err(NoMemory);
     }
     match edit {
-        Edit::Insert(at) if *at <= tree.len() => tree.insert(alloc, meter, *at, item),
-        Edit::Replace(at) if *at < tree.len() => tree.replace(alloc, meter, *at, item),
-        Edit::Remove(at) if *at < tree.len() => tree.remove(alloc, meter, *at),
+        Edit::Insert(at) if at <= tree.len() => tree.insert(alloc, meter, at, item),
+        Edit::Replace(at) if at < tree.len() => tree.replace(alloc, meter, at, item),
+        Edit::Remove(at) if at < tree.len() => tree.remove(alloc, meter, at),
         _ => Err(NoMemory),
     }
 }
