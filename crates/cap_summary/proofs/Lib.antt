@@ -5,6 +5,7 @@ pub mod SortedSetting
 pub mod Untouched
 pub mod Sources
 pub mod Naming
+pub mod NodeParts
 pub mod Reading
 pub mod Joining
 pub mod Staying
