@@ -1,65 +1,50 @@
 //! What single lines of worked traces rest on.
 
 use crate::lines::lines_of;
+use crate::starts::start_of;
 use cap_machine::{
-    Cell, CellEnd, CellLink, CellOrigin, Explanation, Mode, ModeEnd, ModeLink, ModeOrigin,
-    NoMemory, OnExec, Profile, Start, chains_are_enough, chains_skip_no_line, explain,
-    mode_matters_where_it_decides, named_lines_matter, origin_of_cell, origin_of_mode,
+    Cell, CellEnd, CellOrigin, Explanation, Mode, ModeEnd, ModeOrigin, NoMemory, OnExec, Profile,
+    Start, chains_are_enough, chains_skip_no_line, explain, mode_matters_where_it_decides,
+    named_lines_matter, origin_of_cell, origin_of_mode,
 };
 use cap_rights::parse_rights;
 use cap_trace::Line;
 use std::alloc::Global;
 use std::test::Fail;
 
-/// The line of a chain of cells, as position, pid and descriptor.
-fn put_cell(alloc: Global, text: &mut String, link: &CellLink) -> Result<(), NoMemory> {
-    Ok(text.push_str(&format!(in alloc; "{} {} {}, ", link.at, link.pid, link.fd)?)?)
-}
-
-/// How a chain of cells ends.
-fn put_cell_end(alloc: Global, text: &mut String, end: &CellEnd) -> Result<(), NoMemory> {
-    match end {
-        CellEnd::Given(_) => Ok(text.push_str("given; ")?),
-        CellEnd::Start(pid, fd, _) => Ok(text.push_str(&format!(in alloc; "start {pid} {fd}; ")?)?),
-    }
-}
-
-fn put_cells(alloc: Global, text: &mut String, origin: &CellOrigin) -> Result<(), NoMemory> {
+/// The lines of a chain of cells, as position, pid and descriptor, and how it ends.
+fn put_cells(text: &mut String, origin: &CellOrigin) -> Result<(), NoMemory> {
     for link in &origin.links {
-        put_cell(alloc, text, link)?;
+        write!(text, "{} {} {}, ", link.at, link.pid, link.fd)?;
     }
-    put_cell_end(alloc, text, &origin.end)
-}
-
-/// The line of a chain of modes, as position and pid.
-fn put_mode(alloc: Global, text: &mut String, link: &ModeLink) -> Result<(), NoMemory> {
-    Ok(text.push_str(&format!(in alloc; "{} {}, ", link.at, link.pid)?)?)
-}
-
-/// How a chain of modes ends.
-fn put_mode_end(alloc: Global, text: &mut String, end: &ModeEnd) -> Result<(), NoMemory> {
-    match end {
-        ModeEnd::Given(_) => Ok(text.push_str("mode given; ")?),
-        ModeEnd::Start(pid, _) => Ok(text.push_str(&format!(in alloc; "mode start {pid}; ")?)?),
+    match origin.end {
+        CellEnd::Given(_) => text.push_str("given; ")?,
+        CellEnd::Start(pid, fd, _) => write!(text, "start {pid} {fd}; ")?,
     }
+    Ok(())
 }
 
-fn put_modes(alloc: Global, text: &mut String, origin: &ModeOrigin) -> Result<(), NoMemory> {
+/// The lines of a chain of modes, as position and pid, and how it ends.
+fn put_modes(text: &mut String, origin: &ModeOrigin) -> Result<(), NoMemory> {
     for link in &origin.links {
-        put_mode(alloc, text, link)?;
+        write!(text, "{} {}, ", link.at, link.pid)?;
     }
-    put_mode_end(alloc, text, &origin.end)
+    match origin.end {
+        ModeEnd::Given(_) => text.push_str("mode given; ")?,
+        ModeEnd::Start(pid, _) => write!(text, "mode start {pid}; ")?,
+    }
+    Ok(())
 }
 
 /// The chains of an explanation, and how many findings it has.
-fn put_explanation(alloc: Global, text: &mut String, found: &Explanation) -> Result<(), NoMemory> {
+fn put_explanation(text: &mut String, found: &Explanation) -> Result<(), NoMemory> {
     for origin in &found.cells {
-        put_cells(alloc, text, origin)?;
+        put_cells(text, origin)?;
     }
     if let Some(origin) = &found.mode {
-        put_modes(alloc, text, origin)?;
+        put_modes(text, origin)?;
     }
-    Ok(text.push_str(&format!(in alloc; "{}", found.verdict.len())?)?)
+    Ok(write!(text, "{}", found.verdict.len())?)
 }
 
 /// A server whose worker gives up its rights.
@@ -140,29 +125,16 @@ fn explained(alloc: Global, row: &Row) -> Result<Option<Explanation>, Fail> {
     Ok(explain(alloc, row.1, &Start::unknown(alloc), &lines, row.2)?)
 }
 
-/// Whether this is the text of an explanation.
-fn has_text(alloc: Global, found: &Explanation, wanted: &str) -> Result<bool, NoMemory> {
-    let mut text = String::new(alloc);
-    put_explanation(alloc, &mut text, found)?;
-    Ok(text.as_str() == wanted)
-}
-
-/// Whether there is an explanation with that text, or none.
-fn is_text(
-    alloc: Global,
-    found: &Option<Explanation>,
-    wanted: Option<&str>,
-) -> Result<bool, NoMemory> {
-    match (found, wanted) {
-        (Some(found), Some(wanted)) => has_text(alloc, found, wanted),
-        (None, None) => Ok(true),
-        _ => Ok(false),
-    }
-}
-
 /// Whether the line of a row is explained so.
 fn is_explained(alloc: Global, row: &Row) -> Result<bool, Fail> {
-    Ok(is_text(alloc, &explained(alloc, row)?, row.3)?)
+    let mut text = String::new(alloc);
+    match (explained(alloc, row)?, row.3) {
+        (Some(found), Some(wanted)) => {
+            put_explanation(&mut text, &found)?;
+            Ok(text.as_str() == wanted)
+        }
+        (found, wanted) => Ok(found.is_none() && wanted.is_none()),
+    }
 }
 
 #[test]
@@ -173,44 +145,31 @@ fn a_line_has_its_explanation(rt: HostRuntime) -> Result<(), Fail> {
     Ok(())
 }
 
-/// A start in which process 100 has this cell of descriptor 0, and no other.
-fn start_of(alloc: Global, cell: Cell) -> Result<Start, NoMemory> {
-    let mut cells = Vec::new(alloc);
-    cells.push((0, cell))?;
-    let mut start = Start::unknown(alloc);
-    start.add(100, Mode::Outside, Cell::Closed, cells)?;
-    Ok(start)
-}
-
-/// Whether a cell comes from that of the start, which is this one, and another from the others.
-fn cells_reach(alloc: Global, start: &Start, lines: &[Line], cell: Cell) -> Result<bool, NoMemory> {
-    let copied = origin_of_cell(alloc, Profile::One, start, lines, 101, 4)?;
-    let other = origin_of_cell(alloc, Profile::One, start, lines, 100, 5)?;
-    Ok(copied.end == CellEnd::Start(100, 0, cell) && other.cell == Cell::Closed)
-}
-
-/// Whether a mode comes from that of the start.
-fn mode_reaches(alloc: Global, start: &Start, lines: &[Line]) -> Result<bool, NoMemory> {
-    let origin = origin_of_mode(alloc, Profile::One, start, lines, 101)?;
-    Ok(origin.mode == Mode::Outside && origin.end == ModeEnd::Start(100, Mode::Outside))
-}
-
-/// Whether both do, of lines and from a start with this cell.
-fn chains_reach(alloc: Global, lines: &[Line], cell: Cell) -> Result<bool, NoMemory> {
-    let start = start_of(alloc, cell)?;
-    Ok(cells_reach(alloc, &start, lines, cell)? && mode_reaches(alloc, &start, lines)?)
-}
-
-/// Whether both do of a copy in a child.
-fn chains_of_a_copy_reach(alloc: Global) -> Result<bool, Fail> {
-    let read = Cell::Held(parse_rights(b"CAP_READ")?, OnExec::Unsure);
-    let lines = lines_of(alloc, b"100 dup(0) RET 4\n100 fork() RET 101")?;
-    Ok(chains_reach(alloc, &lines, read)?)
+/// Whether a cell and a mode of a copy in a child come from those of the start, in which descriptor 0 has this cell, and
+/// another cell from the others.
+fn chains_reach(
+    alloc: Global,
+    start: &Start,
+    lines: &[Line],
+    cell: Cell,
+) -> Result<bool, NoMemory> {
+    let copied = origin_of_cell(alloc, Profile::One, start, lines, 101, 4)?.end;
+    let other = origin_of_cell(alloc, Profile::One, start, lines, 100, 5)?.cell;
+    let mode = origin_of_mode(alloc, Profile::One, start, lines, 101)?;
+    Ok(
+        copied == CellEnd::Start(100, 0, cell)
+            && other == Cell::Closed
+            && mode.mode == Mode::Outside
+            && mode.end == ModeEnd::Start(100, Mode::Outside),
+    )
 }
 
 #[test]
 fn a_chain_reaches_the_start(rt: HostRuntime) -> Result<(), Fail> {
-    assert!(rt; chains_of_a_copy_reach(rt.alloc())?);
+    let read = Cell::Held(parse_rights(b"CAP_READ")?, OnExec::Unsure);
+    let start = start_of(rt.alloc(), 100, Mode::Outside, Cell::Closed, &[(0, read)])?;
+    let lines = lines_of(rt.alloc(), b"100 dup(0) RET 4\n100 fork() RET 101")?;
+    assert!(rt; chains_reach(rt.alloc(), &start, &lines, read)?);
     Ok(())
 }
 

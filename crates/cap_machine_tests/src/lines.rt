@@ -3,8 +3,8 @@
 ghost use Rattle.cap_machine.specs.Checked.{lines_of};
 ghost use Rattle.std.specs.Prelude.{◌<◌, ◌^◌};
 
-use cap_machine::{Checker, NoMemory};
-use cap_trace::{Line, Unread, parse_fd_line, parse_line};
+use cap_machine::Checker;
+use cap_trace::{Line, parse_fd_line, parse_line};
 use std::alloc::Global;
 use std::test::Fail;
 
@@ -13,64 +13,68 @@ pub fn lines_of(alloc: Global, trace: &[u8]) -> Result<Vec<Line>, Fail> {
     let mut lines = Vec::new(alloc);
     for text in trace.split(|byte| *byte == b'\n') {
         if !text.is_empty() {
-            let line = parse_line(alloc, text)?;
-            lines.push(line)?;
+            lines.push(parse_line(alloc, text)?)?;
         }
     }
     Ok(lines)
 }
 
-/// Gives a checker these lines.
-fn check_all(checker: &mut Checker, lines: &[Line]) -> Result<(), NoMemory> {
-    for line in lines {
-        if checker.count() < 100 {
-            checker.line(line)?;
-        }
-    }
-    Ok(())
+/// How a checker is given a line.
+#[derive(Clone, Copy)]
+pub enum Way {
+    /// As a line that owns its texts.
+    Owned,
+    /// Where it lies, if that can be.
+    InPlace,
 }
 
-/// A checker, once it was given these lines.
-pub fn checked(mut checker: Checker, lines: &[Line]) -> Result<Checker, NoMemory> {
-    check_all(&mut checker, lines)?;
-    Ok(checker)
-}
-
-/// Its report then.
-pub fn report_of(checker: Checker, lines: &[Line]) -> Result<Vec<u8>, NoMemory> {
-    checked(checker, lines)?.report()
-}
-
-/// Checks a line that is no call on a descriptor, where it lies.
-fn check_unread(checker: &mut Checker, unread: Unread<'_>) -> Result<(), Fail>
+/// Checks a line that owns its texts.
+fn check_owned(alloc: Global, checker: &mut Checker, text: &[u8]) -> Result<(), Fail>
     requires { lines_of checker.old < 2 ^ 60 }
 {
-    let line = unread.line()?;
-    Ok(checker.line_ref(&line)?)
+    let line = parse_line(alloc, text)?;
+    Ok(checker.line(&line)?)
 }
 
 /// Checks a line where it lies.
-fn check_where_it_lies(checker: &mut Checker, text: &[u8]) -> Result<(), Fail>
+fn check_in_place(checker: &mut Checker, text: &[u8]) -> Result<(), Fail>
     requires { lines_of checker.old < 2 ^ 60 }
 {
     match parse_fd_line(text) {
         Ok(line) => Ok(checker.fd_line(line)?),
-        Err(unread) => check_unread(checker, unread),
+        Err(unread) => {
+            let line = unread.line()?;
+            Ok(checker.line_ref(&line)?)
+        }
     }
 }
 
-/// The same of each line of a trace of less than 100.
-fn check_trace(checker: &mut Checker, trace: &[u8]) -> Result<(), Fail> {
+/// Checks each line of a trace of less than 100.
+fn check_trace(alloc: Global, checker: &mut Checker, trace: &[u8], way: Way) -> Result<(), Fail> {
     for text in trace.split(|byte| *byte == b'\n') {
-        if !text.is_empty() && checker.count() < 100 {
-            check_where_it_lies(checker, text)?;
+        if text.is_empty() || checker.count() >= 100 {
+            continue;
+        }
+        match way {
+            Way::Owned => check_owned(alloc, checker, text)?,
+            Way::InPlace => check_in_place(checker, text)?,
         }
     }
     Ok(())
 }
 
-/// The report of a trace of less than 100 lines that are checked where they lie, where that can be.
-pub fn report_where_they_lie(mut checker: Checker, trace: &[u8]) -> Result<Vec<u8>, Fail> {
-    check_trace(&mut checker, trace)?;
-    Ok(checker.report()?)
+/// Whether a checker that was given no line has this report of a trace of less than 100, and is clean where the report
+/// has no finding.
+pub fn reports(
+    alloc: Global,
+    mut checker: Checker,
+    trace: &[u8],
+    way: Way,
+    report: &[u8],
+) -> Result<bool, Fail> {
+    let is_new = checker.is_clean() && checker.count() == 0;
+    check_trace(alloc, &mut checker, trace, way)?;
+    let is_clean = checker.is_clean();
+    let text = checker.report()?;
+    Ok(is_new && is_clean == (report == b"findings 0\n".as_slice()) && text.as_slice() == report)
 }

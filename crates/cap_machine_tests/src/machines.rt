@@ -7,57 +7,42 @@ use cap_trace::parse_line;
 use std::alloc::Global;
 use std::test::Fail;
 
-/// Steps in their profiles.
-static STEPS: [(Profile, &[u8]); 4] = [
-    (Profile::Two, b"100 execve(\"/bin/x\") RET 0"),
-    (Profile::One, b"100 write(5) RET 1"),
-    (Profile::One, b"100 execve(\"/bin/x\") RET 0"),
-    (Profile::Two, b"100 write(5) RET 1"),
+/// Steps in their profiles, and whether the right to write is missing there.
+static STEPS: [(Profile, &[u8], bool); 4] = [
+    (Profile::Two, b"100 execve(\"/bin/x\") RET 0", false),
+    (Profile::One, b"100 write(5) RET 1", true),
+    (Profile::One, b"100 execve(\"/bin/x\") RET 0", false),
+    (Profile::Two, b"100 write(5) RET 1", false),
 ];
 
 /// A machine in which process 100 holds CAP_READ on descriptor 5, and nothing else.
 fn machine_of(alloc: Global) -> Result<Machine, Fail> {
-    let read = Cell::Held(parse_rights(b"CAP_READ")?, OnExec::Clear);
-    let start = start_of(alloc, Mode::Outside, Cell::Closed, 5, read)?;
+    let cell = Cell::Held(parse_rights(b"CAP_READ")?, OnExec::Clear);
+    let start = start_of(alloc, 100, Mode::Outside, Cell::Closed, &[(5, cell)])?;
     Ok(Machine::from_start(alloc, &start)?)
 }
 
-/// Moves a machine on by a step, and adds what is found, under its number.
-fn put_findings(
+/// Moves a machine on by a step, and says whether these are the findings.
+fn finds(
     alloc: Global,
     machine: &mut Machine,
     profile: Profile,
     text: &[u8],
-    number: usize,
-    found: &mut Vec<(usize, Finding)>,
-) -> Result<(), Fail> {
+    findings: &[Finding],
+) -> Result<bool, Fail> {
     let line = parse_line(alloc, text)?;
-    for finding in machine.step(profile, &line)?.as_slice() {
-        found.push((number, *finding))?;
-    }
-    Ok(())
-}
-
-/// What is found in the steps, under their numbers.
-fn found_in_steps(alloc: Global, machine: &mut Machine) -> Result<Vec<(usize, Finding)>, Fail> {
-    let mut found = Vec::new(alloc);
-    for (i, (profile, text)) in STEPS.iter().enumerate() {
-        put_findings(alloc, machine, *profile, text, i, &mut found)?;
-    }
-    Ok(found)
-}
-
-/// Whether this is all that is found.
-fn finds_alone(alloc: Global, finding: (usize, Finding)) -> Result<bool, Fail> {
-    let found = found_in_steps(alloc, &mut machine_of(alloc)?)?;
-    Ok(found.as_slice() == [finding].as_slice())
+    Ok(machine.step(profile, &line)?.as_slice() == findings)
 }
 
 /// Each step has a profile of its own: after the first exec descriptor 5 is held as before, and after the second one
 /// nothing is known of it.
 #[test]
 fn a_machine_judges_each_step_and_moves_on(rt: HostRuntime) -> Result<(), Fail> {
-    let missing = Finding::Missing(5, parse_rights(b"CAP_WRITE")?);
-    assert!(rt; finds_alone(rt.alloc(), (1, missing))?);
+    let missing = [Finding::Missing(5, parse_rights(b"CAP_WRITE")?)];
+    let mut machine = machine_of(rt.alloc())?;
+    for (profile, text, is_missing) in &STEPS {
+        let findings = if *is_missing { missing.as_slice() } else { &[] };
+        assert!(rt; finds(rt.alloc(), &mut machine, *profile, text, findings)?);
+    }
     Ok(())
 }

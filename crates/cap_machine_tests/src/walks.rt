@@ -3,9 +3,9 @@
 use crate::lines::lines_of;
 use crate::starts::start_of;
 use cap_machine::{
-    Cell, CellEnd, CellLink, CellOrigin, CellWalk, Checks, Demand, Explanation, Finding, Mode,
-    ModeEnd, ModeLink, ModeOrigin, ModeWalk, NoMemory, OnExec, Op, Profile, Start, Touched, Turned,
-    rule_of, walks_may_leave_out,
+    Cell, CellEnd, CellLink, CellOrigin, CellWalk, Checks, Explanation, Finding, Mode, ModeEnd,
+    ModeLink, ModeOrigin, ModeWalk, NoMemory, OnExec, Op, Profile, Start, Touched, Turned, rule_of,
+    walks_may_leave_out,
 };
 use cap_rights::parse_rights;
 use cap_trace::{Line, parse_line};
@@ -73,40 +73,38 @@ static CELL_LINKS: [CellLink; 4] = [
     },
 ];
 
-/// Whether a cell is this one, and comes from those lines.
-fn is_limited(origin: &CellOrigin, limited: Cell) -> bool {
-    origin.cell == limited
-        && origin.end == CellEnd::Given(Cell::Unknown)
-        && origin.links.as_slice() == CELL_LINKS.as_slice()
-}
-
-/// Whether a walk from there over these positions has ended, and found those lines and what was limited.
-fn finds_cell(
+/// Whether a walk has ended where a line gave the cell, and finds this cell, this end and these lines.
+fn finds(
     alloc: Global,
-    lines: &[Line],
-    positions: &[usize],
-    limited: Cell,
+    walk: CellWalk,
+    start: &Start,
+    cell: Cell,
+    end: CellEnd,
+    links: &[CellLink],
 ) -> Result<bool, NoMemory> {
-    let walk = walked(alloc, lines, 202, 4, positions)?;
     let has_ended = walk.has_ended();
-    let origin = walk.finish(alloc, &Start::unknown(alloc))?;
-    Ok(has_ended && is_limited(&origin, limited))
-}
-
-/// Whether that is so of the limit to CAP_READ.
-fn finds_limit(alloc: Global, positions: &[usize]) -> Result<bool, Fail> {
-    let limited = Cell::Held(parse_rights(b"CAP_READ")?, OnExec::Unsure);
-    let lines = lines_of(alloc, FORKS)?;
-    Ok(finds_cell(alloc, &lines, positions, limited)?)
+    let origin = walk.finish(alloc, start)?;
+    Ok(
+        has_ended == matches!(end, CellEnd::Given(_))
+            && origin.cell == cell
+            && origin.end == end
+            && origin.links.as_slice() == links,
+    )
 }
 
 /// Every line, and those alone that touched the cell.
 static CELL_POSITIONS: [&[usize]; 2] = [&[8, 7, 6, 5, 4, 3, 2, 1], &[8, 6, 4, 2]];
 
+/// They find the limit to CAP_READ.
 #[test]
 fn a_walk_finds_the_lines_that_a_cell_comes_from(rt: HostRuntime) -> Result<(), Fail> {
+    let limited = Cell::Held(parse_rights(b"CAP_READ")?, OnExec::Unsure);
+    let end = CellEnd::Given(Cell::Unknown);
+    let start = Start::unknown(rt.alloc());
+    let lines = lines_of(rt.alloc(), FORKS)?;
     for positions in &CELL_POSITIONS {
-        assert!(rt; finds_limit(rt.alloc(), positions)?);
+        let walk = walked(rt.alloc(), &lines, 202, 4, positions)?;
+        assert!(rt; finds(rt.alloc(), walk, &start, limited, end, &CELL_LINKS)?);
     }
     Ok(())
 }
@@ -119,17 +117,6 @@ static PLACES: [(&[usize], u32, u32, bool); 4] = [
     (&[3, 2, 1], 100, 3, true),
 ];
 
-/// Whether it is there.
-fn is_there(
-    alloc: Global,
-    lines: &[Line],
-    row: &(&[usize], u32, u32, bool),
-) -> Result<bool, NoMemory> {
-    let (positions, pid, fd, has_ended) = row;
-    let walk = walked(alloc, lines, 101, 7, positions)?;
-    Ok(walk.pid() == *pid && walk.fd() == *fd && walk.has_ended() == *has_ended)
-}
-
 /// Where it is after each line, and that it hasn't ended before its last.
 #[test]
 fn a_walk_says_where_it_is(rt: HostRuntime) -> Result<(), Fail> {
@@ -137,39 +124,11 @@ fn a_walk_says_where_it_is(rt: HostRuntime) -> Result<(), Fail> {
         rt.alloc(),
         b"100 @start(3)\n100 dup(3) RET 7\n100 fork() RET 101",
     )?;
-    for row in &PLACES {
-        assert!(rt; is_there(rt.alloc(), &lines, row)?);
+    for (positions, pid, fd, has_ended) in &PLACES {
+        let walk = walked(rt.alloc(), &lines, 101, 7, positions)?;
+        assert!(rt; walk.pid() == *pid && walk.fd() == *fd && walk.has_ended() == *has_ended);
     }
     Ok(())
-}
-
-/// Whether a walk from a descriptor of process 100 over three lines ends so, with so many of them.
-fn ends_so(
-    alloc: Global,
-    lines: &[Line],
-    start: &Start,
-    fd: u32,
-    end: CellEnd,
-    links: &[CellLink],
-) -> Result<bool, NoMemory> {
-    let origin = walked(alloc, lines, 100, fd, &[3, 2, 1])?.finish(alloc, start)?;
-    Ok(origin.end == end && origin.links.as_slice() == links)
-}
-
-/// Whether that is so of three lines where process 100 begins with this cell of descriptor 3.
-fn copy_ends_so(
-    alloc: Global,
-    cell: Cell,
-    fd: u32,
-    end: CellEnd,
-    links: &[CellLink],
-) -> Result<bool, Fail> {
-    let start = start_of(alloc, Mode::Outside, Cell::Closed, 3, cell)?;
-    let lines = lines_of(
-        alloc,
-        b"100 dup(3) RET 5\n100 close(5) RET 0\n100 fork() RET 101",
-    )?;
-    Ok(ends_so(alloc, &lines, &start, fd, end, links)?)
 }
 
 /// The line that closes the copy.
@@ -183,8 +142,17 @@ static CLOSED: [CellLink; 1] = [CellLink {
 #[test]
 fn a_walk_ends_at_the_start_or_where_the_cell_was_given(rt: HostRuntime) -> Result<(), Fail> {
     let read = Cell::Held(parse_rights(b"CAP_READ")?, OnExec::Unsure);
-    assert!(rt; copy_ends_so(rt.alloc(), read, 3, CellEnd::Start(100, 3, read), &[])?);
-    assert!(rt; copy_ends_so(rt.alloc(), read, 5, CellEnd::Given(Cell::Closed), &CLOSED)?);
+    let start = start_of(rt.alloc(), 100, Mode::Outside, Cell::Closed, &[(3, read)])?;
+    let lines = lines_of(
+        rt.alloc(),
+        b"100 dup(3) RET 5\n100 close(5) RET 0\n100 fork() RET 101",
+    )?;
+    let end = CellEnd::Start(100, 3, read);
+    let walk = walked(rt.alloc(), &lines, 100, 3, &[3, 2, 1])?;
+    assert!(rt; finds(rt.alloc(), walk, &start, read, end, &[])?);
+    let end = CellEnd::Given(Cell::Closed);
+    let walk = walked(rt.alloc(), &lines, 100, 5, &[3, 2, 1])?;
+    assert!(rt; finds(rt.alloc(), walk, &start, Cell::Closed, end, &CLOSED)?);
     Ok(())
 }
 
@@ -232,11 +200,6 @@ static MODES: [ModeRow; 3] = [
     },
 ];
 
-/// Whether a mode comes from where a row says.
-fn is_from(origin: &ModeOrigin, row: &ModeRow) -> bool {
-    origin.mode == row.mode && origin.end == row.end && origin.links.as_slice() == row.links
-}
-
 /// Whether the walk of a row finds what it says.
 fn finds_mode(
     alloc: Global,
@@ -246,27 +209,22 @@ fn finds_mode(
 ) -> Result<bool, NoMemory> {
     let walk = mode_walked(alloc, lines, row.pid, row.positions)?;
     let is_there = walk.pid() == row.at && walk.has_ended() == row.has_ended;
-    Ok(is_there && is_from(&walk.finish(start), row))
+    let origin = walk.finish(start);
+    Ok(
+        is_there
+            && origin.mode == row.mode
+            && origin.end == row.end
+            && origin.links.as_slice() == row.links,
+    )
 }
 
-/// A start in which process 200 is outside.
-fn outside(alloc: Global) -> Result<Start, NoMemory> {
-    let mut start = Start::unknown(alloc);
-    start.add(200, Mode::Outside, Cell::Unknown, Vec::new(alloc))?;
-    Ok(start)
-}
-
-/// The same of the forks from that start.
-fn finds_mode_of_forks(alloc: Global, row: &ModeRow) -> Result<bool, Fail> {
-    let start = outside(alloc)?;
-    let lines = lines_of(alloc, FORKS)?;
-    Ok(finds_mode(alloc, &lines, &start, row)?)
-}
-
+/// From a start in which process 200 is outside.
 #[test]
 fn a_mode_walk_finds_the_lines_that_a_mode_comes_from(rt: HostRuntime) -> Result<(), Fail> {
+    let start = start_of(rt.alloc(), 200, Mode::Outside, Cell::Unknown, &[])?;
+    let lines = lines_of(rt.alloc(), FORKS)?;
     for row in &MODES {
-        assert!(rt; finds_mode_of_forks(rt.alloc(), row)?);
+        assert!(rt; finds_mode(rt.alloc(), &lines, &start, row)?);
     }
     Ok(())
 }
@@ -285,57 +243,48 @@ fn mode_of_202(alloc: Global) -> Result<ModeOrigin, Fail> {
     Ok(walk.finish(&Start::unknown(alloc)))
 }
 
-/// A line that checks one descriptor, for which the mode doesn't matter.
-fn explained_by_cell(line: &Line, cells: Vec<CellOrigin>) -> Option<Explanation> {
+/// Whether a line that checks one descriptor, for which the mode doesn't matter, is explained by one cell, with this
+/// finding.
+fn is_explained_by_cell(line: &Line, cells: Vec<CellOrigin>, finding: Finding) -> bool {
     let demand = rule_of(Profile::Two, &line.seen()).demand;
     match &demand.checks {
         Checks::One(_) if cells.len() == 1 && !demand.mode_matters() => {
-            Some(Explanation::of(&demand, cells, None))
+            let found = Explanation::of(&demand, cells, None);
+            found.verdict.as_slice() == [finding].as_slice()
+                && found.cells.len() == 1
+                && found.mode.is_none()
         }
-        _ => None,
+        _ => false,
     }
-}
-
-/// One that checks none, for which the mode matters.
-fn explained_by_mode(alloc: Global, line: &Line, origin: ModeOrigin) -> Option<Explanation> {
-    let demand = rule_of(Profile::Two, &line.seen()).demand;
-    match &demand.checks {
-        Checks::Nothing if demand.mode_matters() => {
-            Some(Explanation::of(&demand, Vec::new(alloc), Some(origin)))
-        }
-        _ => None,
-    }
-}
-
-/// Whether an explanation is of one cell, with this finding.
-fn is_of_cell(found: &Explanation, finding: Finding) -> bool {
-    found.verdict.as_slice() == [finding].as_slice()
-        && found.cells.len() == 1
-        && found.mode.is_none()
 }
 
 #[test]
 fn an_explanation_is_made_of_a_cell(rt: HostRuntime) -> Result<(), Fail> {
     let missing = Finding::Missing(4, parse_rights(b"CAP_WRITE")?);
+    let write = parse_line(rt.alloc(), b"202 write(4) RET 1")?;
     let mut cells = Vec::new(rt.alloc());
     cells.push(cell_of_202(rt.alloc())?)?;
-    let write = parse_line(rt.alloc(), b"202 write(4) RET 1")?;
-    let found = explained_by_cell(&write, cells).ok_or("another demand")?;
-    assert!(rt; is_of_cell(&found, missing));
+    assert!(rt; is_explained_by_cell(&write, cells, missing));
     Ok(())
 }
 
-/// Whether an explanation is of a mode, with one finding.
-fn is_of_mode(found: &Explanation) -> bool {
-    found.verdict.len() == 1 && found.cells.is_empty() && found.mode.is_some()
+/// Whether a line that checks none, for which the mode matters, is explained by a mode, with one finding.
+fn is_explained_by_mode(alloc: Global, line: &Line, origin: ModeOrigin) -> bool {
+    let demand = rule_of(Profile::Two, &line.seen()).demand;
+    match &demand.checks {
+        Checks::Nothing if demand.mode_matters() => {
+            let found = Explanation::of(&demand, Vec::new(alloc), Some(origin));
+            found.verdict.len() == 1 && found.cells.is_empty() && found.mode.is_some()
+        }
+        _ => false,
+    }
 }
 
 #[test]
 fn an_explanation_is_made_of_a_mode(rt: HostRuntime) -> Result<(), Fail> {
-    let mode = mode_of_202(rt.alloc())?;
     let open = parse_line(rt.alloc(), b"202 open(\"x\",O_RDONLY) RET 3")?;
-    let found = explained_by_mode(rt.alloc(), &open, mode).ok_or("another demand")?;
-    assert!(rt; is_of_mode(&found));
+    let mode = mode_of_202(rt.alloc())?;
+    assert!(rt; is_explained_by_mode(rt.alloc(), &open, mode));
     Ok(())
 }
 
@@ -343,12 +292,6 @@ fn touched_by(line: &Line, pid: u32, fd: u32) -> Touched {
     rule_of(Profile::Two, &line.seen())
         .effect
         .touch(line.pid(), pid, fd)
-}
-
-fn turned_by(line: &Line, pid: u32) -> Turned {
-    rule_of(Profile::Two, &line.seen())
-        .effect
-        .turn(line.pid(), pid)
 }
 
 fn word_of(touched: &Touched) -> &'static str {
@@ -415,17 +358,20 @@ static TURNS: [(&[u8], u32, Turned); 5] = [
     (b"100 @start(3)", 100, Turned::Turns(Mode::Outside)),
 ];
 
-/// Whether a line does that.
-fn turns(alloc: Global, row: &(&[u8], u32, Turned)) -> Result<bool, Fail> {
-    let (text, pid, wanted) = row;
+/// What a line does to the mode of a process.
+fn turned_by(alloc: Global, text: &[u8], pid: u32) -> Result<Turned, Fail> {
     let line = parse_line(alloc, text)?;
-    Ok(turned_by(&line, *pid) == *wanted)
+    Ok(
+        rule_of(Profile::Two, &line.seen())
+            .effect
+            .turn(line.pid(), pid),
+    )
 }
 
 #[test]
 fn an_effect_turns_modes(rt: HostRuntime) -> Result<(), Fail> {
-    for row in &TURNS {
-        assert!(rt; turns(rt.alloc(), row)?, "{row:?}");
+    for (text, pid, wanted) in &TURNS {
+        assert!(rt; turned_by(rt.alloc(), text, *pid)? == *wanted);
     }
     Ok(())
 }
