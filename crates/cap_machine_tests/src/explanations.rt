@@ -145,7 +145,7 @@ fn a_line_has_its_explanation(rt: HostRuntime) -> Result<(), Fail> {
     Ok(())
 }
 
-/// Whether a cell and a mode of a copy in a child come from those of the start, in which descriptor 0 has this cell, and
+/// Whether a cell and a mode of process 101 come from those of the start, in which descriptor 0 has this cell, and
 /// another cell from the others.
 fn chains_reach(
     alloc: Global,
@@ -164,12 +164,17 @@ fn chains_reach(
     )
 }
 
+/// The same of a copy in a child.
+fn chains_of_a_copy_reach(alloc: Global, start: &Start, cell: Cell) -> Result<bool, Fail> {
+    let lines = lines_of(alloc, b"100 dup(0) RET 4\n100 fork() RET 101")?;
+    Ok(chains_reach(alloc, start, &lines, cell)?)
+}
+
 #[test]
 fn a_chain_reaches_the_start(rt: HostRuntime) -> Result<(), Fail> {
     let read = Cell::Held(parse_rights(b"CAP_READ")?, OnExec::Unsure);
     let start = start_of(rt.alloc(), 100, Mode::Outside, Cell::Closed, &[(0, read)])?;
-    let lines = lines_of(rt.alloc(), b"100 dup(0) RET 4\n100 fork() RET 101")?;
-    assert!(rt; chains_reach(rt.alloc(), &start, &lines, read)?);
+    assert!(rt; chains_of_a_copy_reach(rt.alloc(), &start, read)?);
     Ok(())
 }
 

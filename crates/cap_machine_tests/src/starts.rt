@@ -74,19 +74,26 @@ fn knows_inside(start: &Start) -> bool {
 #[test]
 fn a_start_says_what_was_added(rt: HostRuntime) -> Result<(), Fail> {
     let read = Cell::Held(parse_rights(b"CAP_READ")?, OnExec::Unsure);
-    let reading = Known::of_zero(read);
-    let inside = start_of(
-        rt.alloc(),
-        100,
-        Mode::Inside,
-        Cell::Closed,
-        &[(5, Cell::Unknown)],
-    )?;
-    assert!(rt; knows_inside(&inside) && knows_cell(&reading.start(rt.alloc())?, read));
+    assert!(rt; knows_cell(&Known::of_zero(read).start(rt.alloc())?, read));
+    let cells = [(5, Cell::Unknown)];
+    let inside = start_of(rt.alloc(), 100, Mode::Inside, Cell::Closed, &cells)?;
+    assert!(rt; knows_inside(&inside));
     Ok(())
 }
 
-/// Whether these are the findings of a trace where that is known.
+/// Whether these are the findings of a trace from a start.
+fn finds_from(
+    alloc: Global,
+    profile: Profile,
+    start: &Start,
+    trace: &[u8],
+    found: &[Found],
+) -> Result<bool, Fail> {
+    let lines = lines_of(alloc, trace)?;
+    Ok(check(alloc, profile, start, &lines)?.as_slice() == found)
+}
+
+/// The same where that is known.
 fn finds(
     alloc: Global,
     profile: Profile,
@@ -95,8 +102,7 @@ fn finds(
     found: &[Found],
 ) -> Result<bool, Fail> {
     let start = known.start(alloc)?;
-    let lines = lines_of(alloc, trace)?;
-    Ok(check(alloc, profile, &start, &lines)?.as_slice() == found)
+    finds_from(alloc, profile, &start, trace, found)
 }
 
 /// A write without its right is found.

@@ -33,7 +33,19 @@ fn walked(
     Ok(walk)
 }
 
-/// The same from a mode.
+/// The same over the lines of a trace.
+fn walked_over(
+    alloc: Global,
+    trace: &[u8],
+    pid: u32,
+    fd: u32,
+    positions: &[usize],
+) -> Result<CellWalk, Fail> {
+    let lines = lines_of(alloc, trace)?;
+    Ok(walked(alloc, &lines, pid, fd, positions)?)
+}
+
+/// A walk from a mode that has passed the lines at these positions.
 fn mode_walked(
     alloc: Global,
     lines: &[Line],
@@ -47,6 +59,12 @@ fn mode_walked(
         }
     }
     Ok(walk)
+}
+
+/// The same over the forks.
+fn mode_walked_over_forks(alloc: Global, pid: u32, positions: &[usize]) -> Result<ModeWalk, Fail> {
+    let lines = lines_of(alloc, FORKS)?;
+    Ok(mode_walked(alloc, &lines, pid, positions)?)
 }
 
 /// The lines that descriptor 4 of process 202 comes from.
@@ -101,9 +119,8 @@ fn a_walk_finds_the_lines_that_a_cell_comes_from(rt: HostRuntime) -> Result<(), 
     let limited = Cell::Held(parse_rights(b"CAP_READ")?, OnExec::Unsure);
     let end = CellEnd::Given(Cell::Unknown);
     let start = Start::unknown(rt.alloc());
-    let lines = lines_of(rt.alloc(), FORKS)?;
     for positions in &CELL_POSITIONS {
-        let walk = walked(rt.alloc(), &lines, 202, 4, positions)?;
+        let walk = walked_over(rt.alloc(), FORKS, 202, 4, positions)?;
         assert!(rt; finds(rt.alloc(), walk, &start, limited, end, &CELL_LINKS)?);
     }
     Ok(())
@@ -120,12 +137,9 @@ static PLACES: [(&[usize], u32, u32, bool); 4] = [
 /// Where it is after each line, and that it hasn't ended before its last.
 #[test]
 fn a_walk_says_where_it_is(rt: HostRuntime) -> Result<(), Fail> {
-    let lines = lines_of(
-        rt.alloc(),
-        b"100 @start(3)\n100 dup(3) RET 7\n100 fork() RET 101",
-    )?;
+    let trace = b"100 @start(3)\n100 dup(3) RET 7\n100 fork() RET 101".as_slice();
     for (positions, pid, fd, has_ended) in &PLACES {
-        let walk = walked(rt.alloc(), &lines, 101, 7, positions)?;
+        let walk = walked_over(rt.alloc(), trace, 101, 7, positions)?;
         assert!(rt; walk.pid() == *pid && walk.fd() == *fd && walk.has_ended() == *has_ended);
     }
     Ok(())
@@ -141,17 +155,14 @@ static CLOSED: [CellLink; 1] = [CellLink {
 /// Without a line that gave the cell, and after one that did: no older line is taken.
 #[test]
 fn a_walk_ends_at_the_start_or_where_the_cell_was_given(rt: HostRuntime) -> Result<(), Fail> {
+    let trace = b"100 dup(3) RET 5\n100 close(5) RET 0\n100 fork() RET 101".as_slice();
     let read = Cell::Held(parse_rights(b"CAP_READ")?, OnExec::Unsure);
     let start = start_of(rt.alloc(), 100, Mode::Outside, Cell::Closed, &[(3, read)])?;
-    let lines = lines_of(
-        rt.alloc(),
-        b"100 dup(3) RET 5\n100 close(5) RET 0\n100 fork() RET 101",
-    )?;
     let end = CellEnd::Start(100, 3, read);
-    let walk = walked(rt.alloc(), &lines, 100, 3, &[3, 2, 1])?;
+    let walk = walked_over(rt.alloc(), trace, 100, 3, &[3, 2, 1])?;
     assert!(rt; finds(rt.alloc(), walk, &start, read, end, &[])?);
     let end = CellEnd::Given(Cell::Closed);
-    let walk = walked(rt.alloc(), &lines, 100, 5, &[3, 2, 1])?;
+    let walk = walked_over(rt.alloc(), trace, 100, 5, &[3, 2, 1])?;
     assert!(rt; finds(rt.alloc(), walk, &start, Cell::Closed, end, &CLOSED)?);
     Ok(())
 }
@@ -200,14 +211,9 @@ static MODES: [ModeRow; 3] = [
     },
 ];
 
-/// Whether the walk of a row finds what it says.
-fn finds_mode(
-    alloc: Global,
-    lines: &[Line],
-    start: &Start,
-    row: &ModeRow,
-) -> Result<bool, NoMemory> {
-    let walk = mode_walked(alloc, lines, row.pid, row.positions)?;
+/// Whether the walk of a row over the forks finds what it says.
+fn finds_mode(alloc: Global, start: &Start, row: &ModeRow) -> Result<bool, Fail> {
+    let walk = mode_walked_over_forks(alloc, row.pid, row.positions)?;
     let is_there = walk.pid() == row.at && walk.has_ended() == row.has_ended;
     let origin = walk.finish(start);
     Ok(
@@ -222,24 +228,21 @@ fn finds_mode(
 #[test]
 fn a_mode_walk_finds_the_lines_that_a_mode_comes_from(rt: HostRuntime) -> Result<(), Fail> {
     let start = start_of(rt.alloc(), 200, Mode::Outside, Cell::Unknown, &[])?;
-    let lines = lines_of(rt.alloc(), FORKS)?;
     for row in &MODES {
-        assert!(rt; finds_mode(rt.alloc(), &lines, &start, row)?);
+        assert!(rt; finds_mode(rt.alloc(), &start, row)?);
     }
     Ok(())
 }
 
 /// Where descriptor 4 of process 202 comes from.
 fn cell_of_202(alloc: Global) -> Result<CellOrigin, Fail> {
-    let lines = lines_of(alloc, FORKS)?;
-    let walk = walked(alloc, &lines, 202, 4, &[8, 6, 4, 2])?;
+    let walk = walked_over(alloc, FORKS, 202, 4, &[8, 6, 4, 2])?;
     Ok(walk.finish(alloc, &Start::unknown(alloc))?)
 }
 
 /// Where its mode comes from.
 fn mode_of_202(alloc: Global) -> Result<ModeOrigin, Fail> {
-    let lines = lines_of(alloc, FORKS)?;
-    let walk = mode_walked(alloc, &lines, 202, &[8, 5])?;
+    let walk = mode_walked_over_forks(alloc, 202, &[8, 5])?;
     Ok(walk.finish(&Start::unknown(alloc)))
 }
 
