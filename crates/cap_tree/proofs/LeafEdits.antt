@@ -1,6 +1,6 @@
 -- A leaf's run with another item at the place, or without the item there.
-use Rattle.std.proofs.Common.{◌≡◌, ◌≢◌, ℕ, ◌+◌, ◌*◌, ◌^◌, ◌<◌, ◌≤◌, min, List, length, remove, slice_set}
-use Rattle.std.proofs.Common.{sym, ap, ◌∙◌, length-set, arith}
+use Rattle.std.proofs.Common.{◌≡◌, ◌≢◌, ℕ, ◌+◌, ◌^◌, ◌<◌, ◌≤◌, min, List, length, remove, slice_set}
+use Rattle.std.proofs.Common.{ap, ◌∙◌, length-set, arith}
 use Rattle.std.proofs.lemmas.List.{length-map}
 use Rattle.std.proofs.lemmas.List.Edits.{length-remove}
 use Rattle.std.specs.declared.rc.Rc.{Rc}
