@@ -5,7 +5,6 @@ pub mod SortedSetting
 pub mod Untouched
 pub mod Sources
 pub mod Naming
-pub mod NodeParts
 pub mod Reading
 pub mod Joining
 pub mod Staying

@@ -1,11 +1,8 @@
-use Rattle.std.proofs.Common.{List, refl, ap, sym, ◌∙◌}
+use Rattle.std.proofs.Common.{List}
 use Rattle.cap_machine.specs.declared.step.Step.{Step}
 use Rattle.cap_summary.specs.declared.known.Known.{Known}
 use Rattle.cap_summary.specs.Knows.{Knows, Composes}
 use Rattle.cap_summary.proofs.Knowing.{composed_knows}
-use Rattle.cap_summary.specs.Content.{known_of}
-use Rattle.cap_summary.specs.View.{NodeView}
-use Rattle.cap_summary.proofs.NodeParts.{some_steps, known_composes}
 use Rattle.cap_summary.proofs.Runs.{same_steps}
 use Rattle.cap_summary.proofs.node.Node.with_left.Goals as goal
 
@@ -24,26 +21,3 @@ over-requires-clause-known c =
     rw (c.in-Some.known-is, ← c.deref-5.ensures, ← c.deref-4.ensures)
     (rw c.in-Some.is at c.in_ok-known.ensures.composed) in
     composed_knows a b whole t u composes left right
-
-pub over-requires-clause-first : goal.over-requires-clause-first
-over-requires-clause-first c =
-    some_steps c.len-else-len-eq0.result c.deref-else-len-eq0.result.now c.args.left.now.value
-    c.len-else-len-eq0.ensures.count c.deref-else-len-eq0.ensures c.if-len-eq0-2.false
-
-pub over-requires-clause-second : goal.over-requires-clause-second
-over-requires-clause-second c =
-    some_steps c.len-else-len-eq0-2.result c.deref-else-len-eq0-2.result.now c.args.right.now.value
-    c.len-else-len-eq0-2.ensures.count c.deref-else-len-eq0-2.ensures c.if-len-eq0-3.false
-
-pub with_left-requires-clause-composed : goal.with_left-requires-clause-composed
-with_left-requires-clause-composed c = rw (c.deref-3.ensures, c.deref-4.ensures)
-    (known_composes c.args.was.now c.args.right.now.value c.args.self.now c.in-Some-Some.first.value
-    c.in-Some-Some-2.second.value c.in-Some-Some.whole.value
-    (sym (ap (λ (node : NodeView). node.known) c.was.view_is) ∙ ap known_of c.in-Some-Some.is-1)
-    (sym (ap (λ (node : NodeView). node.known) (c.behind-right.view_is ∙ c.deref-2.ensures))
-    ∙ ap known_of c.in-Some-Some-2.is-1)
-    (sym (ap (λ (node : NodeView). node.known) c.self.view_is) ∙ ap known_of c.in-Some-Some.is-0)
-    (some_steps c.len.result c.args.was.now c.args.was.now c.len.ensures.count refl c.if-len-eq0.false)
-    (some_steps c.len-else-len-eq0-2.result c.deref-else-len-eq0-2.result.now c.args.right.now.value
-    c.len-else-len-eq0-2.ensures.count c.deref-else-len-eq0-2.ensures c.if-len-eq0-3.false)
-    c.requires.old)
