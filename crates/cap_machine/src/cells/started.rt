@@ -92,7 +92,7 @@ impl Started {
     fn lists_large(&self, fd: Fd) -> bool
         ensures { result ≡ list_any (λ g. fd == g) self.now.large.items }
     {
-        self.large.contains(&fd)
+        self.large.iter().any(|listed| fd == *listed)
     }
 
     /// Whether a descriptor is listed.
