@@ -23,15 +23,21 @@ abbrev pub profile_rule : Rule
 profile_rule =
     record (new_rule (codes "profile")) { long = Some (codes "profile"); value_names = 1 }
 
--- check [FILE], with --start and --profile
-abbrev pub check_words : App
-check_words =
-    with_rule (with_rule (with_rule (new_app (codes "check")) trace_rule) start_rule) profile_rule
+-- check [FILE]
+abbrev pub check_trace_words : App
+check_trace_words = with_rule (new_app (codes "check")) trace_rule
 
--- edit FILE [SCRIPT], with --profile
+-- the same, with --start and --profile
+abbrev pub check_words : App
+check_words = with_rule (with_rule check_trace_words start_rule) profile_rule
+
+-- edit FILE [SCRIPT]
+abbrev pub edit_texts_words : App
+edit_texts_words = with_rule (with_rule (new_app (codes "edit")) needed_trace_rule) script_rule
+
+-- the same, with --profile
 abbrev pub edit_words : App
-edit_words = with_rule (with_rule (with_rule (new_app (codes "edit")) needed_trace_rule) script_rule)
-    profile_rule
+edit_words = with_rule edit_texts_words profile_rule
 
 -- the position of a line
 abbrev pub position_rule : Rule
@@ -54,6 +60,14 @@ bare_words = on_top (λ s. record s {
   has_version = true;
 }) (new_app (codes "capcheck"))
 
+-- with the command check
+abbrev pub checking_words : App
+checking_words = with_subcommand bare_words check_words.top
+
+-- with edit too
+abbrev pub editing_words : App
+editing_words = with_subcommand checking_words edit_words.top
+
+-- the command line of the program, which has explain too
 abbrev pub capcheck : App
-capcheck =
-    with_subcommand (with_subcommand (with_subcommand bare_words check_words.top) edit_words.top) explain_words.top
+capcheck = with_subcommand editing_words explain_words.top

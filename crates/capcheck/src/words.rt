@@ -4,8 +4,9 @@
 ghost use Rattle.std.specs.Prelude.{◌≡◌, IfOk, false};
 ghost use Rattle.clap.specs.Words.{app_of, rule_of, shape_of};
 ghost use Rattle.clap.specs.declared.builder.command.Command.TheViews.{out-Command};
-ghost use Rattle.capcheck.specs.CommandLine.{bare_words, capcheck, check_words, edit_words, explain_words};
-ghost use Rattle.capcheck.specs.CommandLine.{explain_line_words};
+ghost use Rattle.capcheck.specs.CommandLine.{bare_words, capcheck, checking_words, editing_words};
+ghost use Rattle.capcheck.specs.CommandLine.{check_trace_words, check_words, edit_texts_words, edit_words};
+ghost use Rattle.capcheck.specs.CommandLine.{explain_line_words, explain_words};
 ghost use Rattle.capcheck.specs.CommandLine.{needed_trace_rule, position_rule, profile_rule, script_rule, start_rule};
 ghost use Rattle.capcheck.specs.CommandLine.{trace_rule};
 
@@ -17,10 +18,21 @@ use std::alloc::{AllocError, Global};
 pub fn command<'a>(alloc: Global) -> Result<Command<'a>, AllocError>
     ensures { IfOk result (λ c. app_of c ≡ capcheck) }
 {
-    bare_command(alloc)?
-        .subcommand(check_command(alloc)?)?
-        .subcommand(edit_command(alloc)?)?
-        .subcommand(explain_command(alloc)?)
+    editing_command(alloc)?.subcommand(explain_command(alloc)?)
+}
+
+/// The command line with `check` and `edit`.
+fn editing_command<'a>(alloc: Global) -> Result<Command<'a>, AllocError>
+    ensures { IfOk result (λ c. app_of c ≡ editing_words) }
+{
+    checking_command(alloc)?.subcommand(edit_command(alloc)?)
+}
+
+/// The command line with `check`.
+fn checking_command<'a>(alloc: Global) -> Result<Command<'a>, AllocError>
+    ensures { IfOk result (λ c. app_of c ≡ checking_words) }
+{
+    bare_command(alloc)?.subcommand(check_command(alloc)?)
 }
 
 /// The program's own settings, with no command yet.
@@ -42,12 +54,20 @@ fn check_command<'a>(alloc: Global) -> Result<Command<'a>, AllocError>
     ensures shape { IfOk result (λ c. shape_of c ≡ check_words.top) }
     ensures local { IfOk result (λ c. (out-Command c).has_globals ≡ false) }
 {
+    check_trace_command(alloc)?
+        .arg(start_arg(alloc))?
+        .arg(profile_arg(alloc))
+}
+
+/// `check [FILE]`.
+fn check_trace_command<'a>(alloc: Global) -> Result<Command<'a>, AllocError>
+    ensures shape { IfOk result (λ c. shape_of c ≡ check_trace_words.top) }
+    ensures local { IfOk result (λ c. (out-Command c).has_globals ≡ false) }
+{
     Command::new(alloc, "check")
         .about("Checks a trace, and prints its findings")
         .after_help(help::CHECK)
-        .arg(trace_arg(alloc))?
-        .arg(start_arg(alloc))?
-        .arg(profile_arg(alloc))
+        .arg(trace_arg(alloc))
 }
 
 /// The trace of `check`.
@@ -87,12 +107,19 @@ fn edit_command<'a>(alloc: Global) -> Result<Command<'a>, AllocError>
     ensures shape { IfOk result (λ c. shape_of c ≡ edit_words.top) }
     ensures local { IfOk result (λ c. (out-Command c).has_globals ≡ false) }
 {
+    edit_texts_command(alloc)?.arg(profile_arg(alloc))
+}
+
+/// `edit FILE [SCRIPT]`.
+fn edit_texts_command<'a>(alloc: Global) -> Result<Command<'a>, AllocError>
+    ensures shape { IfOk result (λ c. shape_of c ≡ edit_texts_words.top) }
+    ensures local { IfOk result (λ c. (out-Command c).has_globals ≡ false) }
+{
     Command::new(alloc, "edit")
         .about("Replies to a script of commands on a trace")
         .after_help(help::EDIT)
         .arg(needed_trace_arg(alloc))?
-        .arg(script_arg(alloc))?
-        .arg(profile_arg(alloc))
+        .arg(script_arg(alloc))
 }
 
 /// The trace of `edit`.
