@@ -60,14 +60,6 @@ bare_words = on_top (λ s. record s {
   has_version = true;
 }) (new_app (codes "capcheck"))
 
--- with the command check
-abbrev pub checking_words : App
-checking_words = with_subcommand bare_words check_words.top
-
--- with edit too
-abbrev pub editing_words : App
-editing_words = with_subcommand checking_words edit_words.top
-
--- the command line of the program, which has explain too
 abbrev pub capcheck : App
-capcheck = with_subcommand editing_words explain_words.top
+capcheck =
+    with_subcommand (with_subcommand (with_subcommand bare_words check_words.top) edit_words.top) explain_words.top

@@ -4,9 +4,8 @@
 ghost use Rattle.std.specs.Prelude.{◌≡◌, IfOk, false};
 ghost use Rattle.clap.specs.Words.{app_of, rule_of, shape_of};
 ghost use Rattle.clap.specs.declared.builder.command.Command.TheViews.{out-Command};
-ghost use Rattle.capcheck.specs.CommandLine.{bare_words, capcheck, checking_words, editing_words};
-ghost use Rattle.capcheck.specs.CommandLine.{check_trace_words, check_words, edit_texts_words, edit_words};
-ghost use Rattle.capcheck.specs.CommandLine.{explain_line_words, explain_words};
+ghost use Rattle.capcheck.specs.CommandLine.{bare_words, capcheck, check_words, edit_words, explain_words};
+ghost use Rattle.capcheck.specs.CommandLine.{check_trace_words, edit_texts_words, explain_line_words};
 ghost use Rattle.capcheck.specs.CommandLine.{needed_trace_rule, position_rule, profile_rule, script_rule, start_rule};
 ghost use Rattle.capcheck.specs.CommandLine.{trace_rule};
 
@@ -18,21 +17,10 @@ use std::alloc::{AllocError, Global};
 pub fn command<'a>(alloc: Global) -> Result<Command<'a>, AllocError>
     ensures { IfOk result (λ c. app_of c ≡ capcheck) }
 {
-    editing_command(alloc)?.subcommand(explain_command(alloc)?)
-}
-
-/// The command line with `check` and `edit`.
-fn editing_command<'a>(alloc: Global) -> Result<Command<'a>, AllocError>
-    ensures { IfOk result (λ c. app_of c ≡ editing_words) }
-{
-    checking_command(alloc)?.subcommand(edit_command(alloc)?)
-}
-
-/// The command line with `check`.
-fn checking_command<'a>(alloc: Global) -> Result<Command<'a>, AllocError>
-    ensures { IfOk result (λ c. app_of c ≡ checking_words) }
-{
-    bare_command(alloc)?.subcommand(check_command(alloc)?)
+    bare_command(alloc)?
+        .subcommand(check_command(alloc)?)?
+        .subcommand(edit_command(alloc)?)?
+        .subcommand(explain_command(alloc)?)
 }
 
 /// The program's own settings, with no command yet.
