@@ -3,7 +3,7 @@
 use thiserror::Error;
 
 /// The first thing that is wrong with a line, from the left.
-#[derive(Clone, Copy, Debug, PartialEq, Eq)]
+#[derive(Clone, Copy)]
 pub enum FirstFault {
     /// More than 1,024 bytes.
     LongLine,

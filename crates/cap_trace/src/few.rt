@@ -1,7 +1,7 @@
 //! A few values, as many as a call has arguments.
 
 /// None to five values.
-#[derive(Clone, Copy)]
+#[derive(Drop)]
 pub(crate) enum Few<T> {
     Zero,
     One(T),

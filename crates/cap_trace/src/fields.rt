@@ -87,7 +87,7 @@ pub fn spells_command(text: &[u8]) -> bool
 }
 
 /// Where a byte stands in a path.
-#[derive(Clone, Copy, Debug, PartialEq, Eq)]
+#[derive(Clone, Copy)]
 enum Place {
     /// Between two items.
     Between,

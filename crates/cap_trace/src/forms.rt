@@ -71,59 +71,103 @@ pub(crate) fn other<'a>(name: &'a [u8], args: &'a [u8]) -> Result<Call<'a>, Firs
     Ok(Call::Other(name, free_of(args)?))
 }
 
+/// What a call says of one argument.
+fn call_of_one<'a>(form: Form, text: &'a [u8]) -> Result<Call<'a>, FirstFault>
+    requires { IsTrue (is_call_form form) }
+    ensures { Gives (λ c. a_call (call_seen c)) result (said_at (listed form) (text.now ∷ [])) }
+{
+    match form {
+        Form::OnFd(call) => Ok(Call::OnFd(call, fd_of(text)?)),
+        Form::Send(call) => Ok(Call::Send(call, fd_of(text)?)),
+        Form::OnPath(call) => Ok(Call::OnPath(call, path_of(text)?)),
+        Form::OnFlags(call) => Ok(Call::OnFlags(call, flags_of(text)?)),
+        _ => Err(FirstFault::Argument),
+    }
+}
+
+/// What a call says of two arguments.
+fn call_of_two<'a>(form: Form, first: &'a [u8], second: &'a [u8]) -> Result<Call<'a>, FirstFault>
+    requires { IsTrue (is_call_form form) }
+    ensures { Gives (λ c. a_call (call_seen c)) result (said_at (listed form) (first.now ∷ second.now ∷ [])) }
+{
+    match form {
+        Form::Send(call) => send_to(call, first, second),
+        Form::OnPaths(call) => Ok(Call::OnPaths(call, path_of(first)?, path_of(second)?)),
+        Form::At(call) => Ok(Call::At(call, dir_of(first)?, path_of(second)?)),
+        Form::Accept4 => Ok(Call::Accept4(fd_of(first)?, flags_of(second)?)),
+        Form::Dup2 => Ok(Call::Dup2(fd_of(first)?, fd_of(second)?)),
+        Form::Fcntl => Ok(Call::Fcntl(fd_of(first)?, command_of(second)?)),
+        Form::RightsLimit => Ok(Call::RightsLimit(fd_of(first)?, rights_of(second)?)),
+        Form::Open => Ok(Call::Open(path_of(first)?, flags_of(second)?)),
+        _ => Err(FirstFault::Argument),
+    }
+}
+
+/// What a call says of three arguments.
+fn call_of_three<'a>(
+    form: Form,
+    first: &'a [u8],
+    second: &'a [u8],
+    third: &'a [u8],
+) -> Result<Call<'a>, FirstFault>
+    requires { IsTrue (is_call_form form) }
+    ensures { Gives (λ c. a_call (call_seen c)) result
+        (said_at (listed form) (first.now ∷ second.now ∷ third.now ∷ [])) }
+{
+    match form {
+        Form::AtFlags(call) => Ok(Call::AtFlags(
+            call,
+            dir_of(first)?,
+            path_of(second)?,
+            flags_of(third)?,
+        )),
+        Form::Fcntl => fcntl_three(first, second, third),
+        Form::Mmap => Ok(Call::Mmap(fd_of(first)?, flags_of(second)?, flags_of(third)?)),
+        Form::SymlinkAt => Ok(Call::SymlinkAt(path_of(first)?, dir_of(second)?, path_of(third)?)),
+        _ => Err(FirstFault::Argument),
+    }
+}
+
+/// `renameat(dir,"path",dir,"path")`
+fn rename_at<'a>(
+    from: &'a [u8],
+    old: &'a [u8],
+    to: &'a [u8],
+    new: &'a [u8],
+) -> Result<Call<'a>, FirstFault>
+    ensures { Gives (λ c. a_call (call_seen c)) result
+        (said_at (listed forms.RenameAt) (from.now ∷ old.now ∷ to.now ∷ new.now ∷ [])) }
+{
+    Ok(Call::RenameAt(dir_of(from)?, path_of(old)?, dir_of(to)?, path_of(new)?))
+}
+
+/// `linkat(dir,"path",dir,"path",flags)`
+fn link_at<'a>(
+    from: &'a [u8],
+    old: &'a [u8],
+    to: &'a [u8],
+    new: &'a [u8],
+    flags: &'a [u8],
+) -> Result<Call<'a>, FirstFault>
+    ensures { Gives (λ c. a_call (call_seen c)) result
+        (said_at (listed forms.LinkAt) (from.now ∷ old.now ∷ to.now ∷ new.now ∷ flags.now ∷ [])) }
+{
+    let (from, old, to, new) = (dir_of(from)?, path_of(old)?, dir_of(to)?, path_of(new)?);
+    Ok(Call::LinkAt(from, old, to, new, flags_of(flags)?))
+}
+
 /// What a call that has a form of its own says, of its arguments.
 fn call<'a>(form: Form, args: &'a [u8]) -> Result<Call<'a>, FirstFault>
     requires { IsTrue (is_call_form form) }
     ensures { Gives (λ c. a_call (call_seen c)) result (said_at (listed form) (pieces args.now)) }
 {
-    let Some(parts) = few_parts(args) else {
-        return Err(FirstFault::Argument);
-    };
-    match (form, parts) {
-        (Form::OnFd(call), One(fd)) => Ok(Call::OnFd(call, fd_of(fd)?)),
-        (Form::Send(call), One(fd)) => Ok(Call::Send(call, fd_of(fd)?)),
-        (Form::Send(call), Two(fd, word)) => send_to(call, fd, word),
-        (Form::OnPath(call), One(path)) => Ok(Call::OnPath(call, path_of(path)?)),
-        (Form::OnPaths(call), Two(from, to)) => {
-            Ok(Call::OnPaths(call, path_of(from)?, path_of(to)?))
-        }
-        (Form::At(call), Two(dir, path)) => Ok(Call::At(call, dir_of(dir)?, path_of(path)?)),
-        (Form::AtFlags(call), Three(dir, path, flags)) => Ok(Call::AtFlags(
-            call,
-            dir_of(dir)?,
-            path_of(path)?,
-            flags_of(flags)?,
-        )),
-        (Form::OnFlags(call), One(flags)) => Ok(Call::OnFlags(call, flags_of(flags)?)),
-        (Form::Bare(call), Zero) => Ok(Call::Bare(call)),
-        (Form::Accept4, Two(fd, flags)) => Ok(Call::Accept4(fd_of(fd)?, flags_of(flags)?)),
-        (Form::Dup2, Two(fd, made)) => Ok(Call::Dup2(fd_of(fd)?, fd_of(made)?)),
-        (Form::Fcntl, Two(fd, command)) => Ok(Call::Fcntl(fd_of(fd)?, command_of(command)?)),
-        (Form::Fcntl, Three(fd, word, third)) => fcntl_three(fd, word, third),
-        (Form::Mmap, Three(fd, protection, mapping)) => Ok(Call::Mmap(
-            fd_of(fd)?,
-            flags_of(protection)?,
-            flags_of(mapping)?,
-        )),
-        (Form::RightsLimit, Two(fd, rights)) => {
-            Ok(Call::RightsLimit(fd_of(fd)?, rights_of(rights)?))
-        }
-        (Form::Open, Two(path, flags)) => Ok(Call::Open(path_of(path)?, flags_of(flags)?)),
-        (Form::SymlinkAt, Three(target, dir, link)) => Ok(Call::SymlinkAt(
-            path_of(target)?,
-            dir_of(dir)?,
-            path_of(link)?,
-        )),
-        (Form::RenameAt, Four(from, old, to, new)) => Ok(Call::RenameAt(
-            dir_of(from)?,
-            path_of(old)?,
-            dir_of(to)?,
-            path_of(new)?,
-        )),
-        (Form::LinkAt, Five(from, old, to, new, flags)) => {
-            let (from, old, to, new) = (dir_of(from)?, path_of(old)?, dir_of(to)?, path_of(new)?);
-            Ok(Call::LinkAt(from, old, to, new, flags_of(flags)?))
-        }
+    match (form, few_parts(args)) {
+        (Form::Bare(call), Some(Zero)) => Ok(Call::Bare(call)),
+        (_, Some(One(text))) => call_of_one(form, text),
+        (_, Some(Two(first, second))) => call_of_two(form, first, second),
+        (_, Some(Three(first, second, third))) => call_of_three(form, first, second, third),
+        (Form::RenameAt, Some(Four(from, old, to, new))) => rename_at(from, old, to, new),
+        (Form::LinkAt, Some(Five(from, old, to, new, flags))) => link_at(from, old, to, new, flags),
         _ => Err(FirstFault::Argument),
     }
 }

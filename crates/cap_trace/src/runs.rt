@@ -6,7 +6,7 @@ ghost use Rattle.cap_trace.specs.Runs.{has, Runs, RunsTo};
 use crate::fields::{flag_byte, plain};
 
 /// What the bytes are of.
-#[derive(Clone, Copy, Debug, PartialEq, Eq)]
+#[derive(Clone, Copy)]
 pub(crate) enum Run {
     /// The name of a flag.
     Name,
