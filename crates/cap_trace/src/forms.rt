@@ -128,34 +128,6 @@ fn call_of_three<'a>(
     }
 }
 
-/// `renameat(dir,"path",dir,"path")`
-fn rename_at<'a>(
-    from: &'a [u8],
-    old: &'a [u8],
-    to: &'a [u8],
-    new: &'a [u8],
-) -> Result<Call<'a>, FirstFault>
-    ensures { Gives (λ c. a_call (call_seen c)) result
-        (said_at (listed forms.RenameAt) (from.now ∷ old.now ∷ to.now ∷ new.now ∷ [])) }
-{
-    Ok(Call::RenameAt(dir_of(from)?, path_of(old)?, dir_of(to)?, path_of(new)?))
-}
-
-/// `linkat(dir,"path",dir,"path",flags)`
-fn link_at<'a>(
-    from: &'a [u8],
-    old: &'a [u8],
-    to: &'a [u8],
-    new: &'a [u8],
-    flags: &'a [u8],
-) -> Result<Call<'a>, FirstFault>
-    ensures { Gives (λ c. a_call (call_seen c)) result
-        (said_at (listed forms.LinkAt) (from.now ∷ old.now ∷ to.now ∷ new.now ∷ flags.now ∷ [])) }
-{
-    let (from, old, to, new) = (dir_of(from)?, path_of(old)?, dir_of(to)?, path_of(new)?);
-    Ok(Call::LinkAt(from, old, to, new, flags_of(flags)?))
-}
-
 /// What a call that has a form of its own says, of its arguments.
 fn call<'a>(form: Form, args: &'a [u8]) -> Result<Call<'a>, FirstFault>
     requires { IsTrue (is_call_form form) }
@@ -166,8 +138,13 @@ fn call<'a>(form: Form, args: &'a [u8]) -> Result<Call<'a>, FirstFault>
         (_, Some(One(text))) => call_of_one(form, text),
         (_, Some(Two(first, second))) => call_of_two(form, first, second),
         (_, Some(Three(first, second, third))) => call_of_three(form, first, second, third),
-        (Form::RenameAt, Some(Four(from, old, to, new))) => rename_at(from, old, to, new),
-        (Form::LinkAt, Some(Five(from, old, to, new, flags))) => link_at(from, old, to, new, flags),
+        (Form::RenameAt, Some(Four(from, old, to, new))) => {
+            Ok(Call::RenameAt(dir_of(from)?, path_of(old)?, dir_of(to)?, path_of(new)?))
+        }
+        (Form::LinkAt, Some(Five(from, old, to, new, flags))) => {
+            let (from, old, to, new) = (dir_of(from)?, path_of(old)?, dir_of(to)?, path_of(new)?);
+            Ok(Call::LinkAt(from, old, to, new, flags_of(flags)?))
+        }
         _ => Err(FirstFault::Argument),
     }
 }
