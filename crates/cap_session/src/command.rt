@@ -10,7 +10,7 @@ use crate::number::number_of;
 use bstr::ByteSlice;
 
 /// What a line of a script asks for.
-#[derive(Clone, Copy, Debug)]
+#[derive(Clone, Copy)]
 pub enum Command<'a> {
     Edit(Edit<'a>),
     Show(usize),

@@ -15,7 +15,7 @@ use crate::refused::{Refusal, Refused};
 use std::alloc::{AllocError, Global};
 
 /// Why a text or a script isn't worked through to its end.
-#[derive(Clone, Copy, Debug, PartialEq, Eq)]
+#[derive(Clone, Copy)]
 pub enum Stop {
     /// A line of the text is refused.
     Refused(Refusal),

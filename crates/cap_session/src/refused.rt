@@ -41,7 +41,7 @@ pub enum Refused {
 }
 
 /// Why a line is refused, and its number among all lines of its text, from 1.
-#[derive(Clone, Copy, Debug, PartialEq, Eq)]
+#[derive(Clone, Copy)]
 pub struct Refusal {
     pub reason: Refused,
     pub line: usize,

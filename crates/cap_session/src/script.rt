@@ -20,7 +20,7 @@ use memchr::memchr;
 use std::marker::Model;
 
 /// Why a command isn't done.
-#[derive(Clone, Copy, Debug, PartialEq, Eq)]
+#[derive(Clone, Copy)]
 pub enum NotDone {
     /// The session refuses it.
     Refused(Refused),
