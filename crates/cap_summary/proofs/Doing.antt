@@ -303,6 +303,30 @@ whole_ok (Ok change) me base mode cells modes untouched =
     record { cells = cells; modes = modes; untouched = untouched }
 whole_ok (Err e) me base mode cells modes untouched = tt
 
+module _ (change : Change) (me : ℕ) (process : Process)
+  (each : (p : ℕ) → process_at change.processes p ≡ cond (eqb p me) (Some process) None) where
+  pub whole_cells : (base : Base) → ((f : ℕ) → value_in process f ≡ unlisted base f) → (p f : ℕ)
+      → value_of change p f ≡ cond (eqb p me) (unlisted base f) (value.Of p f same)
+  whole_cells base cells p f = elim (eqb_tells p me) [
+    | inl h ↦ rw (each p, h.0) (cells f)
+    | inr h ↦ rw (each p, h.0) refl
+  ]
+
+  pub whole_modes : (mode : ModeValue) → process.mode ≡ mode → (p : ℕ)
+      → mode_of change p ≡ cond (eqb p me) mode (mode_value.Own p)
+  whole_modes mode is p = elim (eqb_tells p me) [
+    | inl h ↦ rw (each p, h.0) is
+    | inr h ↦ rw (each p, h.0) refl
+  ]
+
+  pub whole_untouched : (base : Base)
+      → ((p f : ℕ) → untouched_at process.base process.cells p f ≡ rest_untouched base p f) → (p f : ℕ)
+      → is_untouched change p f ≡ cond (eqb p me) (rest_untouched base p f) true
+  whole_untouched base untouched p f = elim (eqb_tells p me) [
+    | inl h ↦ rw (each p, h.0) (untouched p f)
+    | inr h ↦ rw (each p, h.0) refl
+  ]
+
 both_kept : (b : Bool) → kept ≡ cond b kept kept
 both_kept true = refl
 both_kept false = refl

@@ -50,17 +50,12 @@ pub(crate) fn turnover_of(alloc: Global, old: &[Low], now: &[Low]) -> Result<Tur
         if first.is_like(second) {
             own = behind_first(own);
             others = behind_first(others);
-        } else if here < there {
-            lost.push(*first)?;
-            own = behind_first(own);
         } else if there < here {
             new.push(*second)?;
             others = behind_first(others);
         } else {
             lost.push(*first)?;
             own = behind_first(own);
-            new.push(*second)?;
-            others = behind_first(others);
         }
     }
     lost.extend_from_slice(own)?;

@@ -604,6 +604,21 @@ impl Processes {
         Ok(Processes { table })
     }
 
+    /// Lists what has become of a process.
+    #[inline]
+    fn list(
+        builder: &mut Builder<Listed>,
+        alloc: Global,
+        pid: Pid,
+        process: Process,
+    ) -> Result<(), NoMemory>
+        ensures { OnOk result ((p : ℕ) → option_map (listed_process p) (found builder.new p)
+            ≡ (if p == pid then Some process else option_map (listed_process p) (found builder.old p))) }
+    {
+        let listed = Listed::of(alloc, pid, process)?;
+        builder.set(pid, listed)
+    }
+
     /// Two processes, the second where both are one.
     #[tactic(auto, unfolding(crate::specs::Tables::process_at))]
     pub(crate) fn two(
@@ -617,8 +632,8 @@ impl Processes {
             ≡ (if p == second then Some of_second else (if p == first then Some of_first else None))) }
     {
         let mut builder = Builder::new(alloc);
-        builder.set(first, Listed::of(alloc, first, of_first)?)?;
-        builder.set(second, Listed::of(alloc, second, of_second)?)?;
+        Processes::list(&mut builder, alloc, first, of_first)?;
+        Processes::list(&mut builder, alloc, second, of_second)?;
         let table = builder.finish()?;
         Ok(Processes { table })
     }
