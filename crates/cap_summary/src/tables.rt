@@ -470,6 +470,22 @@ impl Cells {
                 return Cells::layered(alloc, layers);
             }
         }
+        self.flat_beneath(alloc, others, change, made)
+    }
+
+    /// The same of both as one table each.
+    #[tactic(auto, unfolding(crate::specs::Tables::listed_value))]
+    fn flat_beneath(
+        &self,
+        alloc: Global,
+        others: &Cells,
+        change: &Change,
+        made: &[Lowered],
+    ) -> Result<Cells, NoMemory>
+        requires { All (IsLowered change.now) made.now }
+        ensures { IfOk result (λ new. (f : ℕ) → listed_value new f
+            ≡ or_else (option_map (under change.now) (listed_value others.now f)) (listed_value self.now f)) }
+    {
         let (below, over) = (self.flat(alloc)?, others.flat(alloc)?);
         if has_room(below.len(), over.len()) {
             return Cells::over_shared(alloc, &below, &over, change, made);
