@@ -1,5 +1,5 @@
 -- What a change does that one line makes.
-use Rattle.std.proofs.Common.{◌≡◌, ℕ, Bool, true, false, cond, eqb, Option, Some, None, ◌||◌, ◌&&◌, refl, sym, ap, ◌∙◌}
+use Rattle.std.proofs.Common.{◌≡◌, ℕ, Bool, true, false, cond, eqb, Some, None, ◌||◌, ◌&&◌, refl, sym, ap, ◌∙◌}
 use Rattle.std.proofs.Common.{Result, Ok, Err, IfOk, inl, inr}
 use Rattle.std.specs.Prelude.{not, nat_le}
 use mathlib.Core.Bool.{false≢true}
@@ -24,7 +24,7 @@ use Rattle.cap_summary.specs.declared.change.Process.{Process}
 use Rattle.cap_summary.specs.declared.change.Change.{Change}
 use Rattle.cap_summary.specs.Values.{read_cell, read_mode, unlisted, rest_untouched, is_own}
 use Rattle.cap_summary.specs.Tables.{process_at}
-use Rattle.cap_summary.specs.Changes.{value_in, value_of, mode_of, untouched_at, is_untouched, is_unturned}
+use Rattle.cap_summary.specs.Changes.{value_in, value_of, mode_of, untouched_at, is_untouched}
 use Rattle.cap_summary.specs.Does.{Does}
 use Rattle.cap_summary.proofs.Bools.{or_true}
 use Rattle.cap_summary.proofs.Untouched.{not_there}
@@ -173,8 +173,8 @@ does_fork_ok (Err e) me child process cells mode touched each = tt
 -- ---- a child that is as its parent but for one descriptor
 
 module _ (change : Change) (me child fd : ℕ) (parent made : Process)
-  (each : (p : ℕ)
-  → process_at change.processes p ≡ cond (eqb p child) (Some made) (cond (eqb p me) (Some parent) None)) where
+    (each : (p : ℕ)
+    → process_at change.processes p ≡ cond (eqb p child) (Some made) (cond (eqb p me) (Some parent) None)) where
   pub forked_cells : ((f : ℕ) → value_in parent f ≡ cond (eqb f fd) (value.Fixed Unknown) (value.Of me f same))
       → ((f : ℕ) → value_in made f ≡ cond (eqb f fd) (value.Fixed Unknown) (value.Of me f same)) → (p f : ℕ)
       → value_of change p f ≡ cond ((eqb p me || eqb p child) && eqb f fd) (value.Fixed Unknown)
@@ -304,7 +304,7 @@ whole_ok (Ok change) me base mode cells modes untouched =
 whole_ok (Err e) me base mode cells modes untouched = tt
 
 module _ (change : Change) (me : ℕ) (process : Process)
-  (each : (p : ℕ) → process_at change.processes p ≡ cond (eqb p me) (Some process) None) where
+    (each : (p : ℕ) → process_at change.processes p ≡ cond (eqb p me) (Some process) None) where
   pub whole_cells : (base : Base) → ((f : ℕ) → value_in process f ≡ unlisted base f) → (p f : ℕ)
       → value_of change p f ≡ cond (eqb p me) (unlisted base f) (value.Of p f same)
   whole_cells base cells p f = elim (eqb_tells p me) [

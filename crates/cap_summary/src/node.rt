@@ -130,8 +130,8 @@ impl Node {
         if left.len() + right.len() > RUN_STEPS {
             return Ok(None);
         }
-        let known = Known::join(alloc, a, b)?;
         let run = Node::joined(alloc, front, back)?;
+        let known = Known::join(alloc, a, b)?;
         Ok(Some(Node::of_known(alloc, known, run)?))
     }
 
@@ -322,9 +322,9 @@ impl Node {
         ensures not_less { meter.old ≤ meter.new }
         ensures at_most { meter.new < meter.old + length steps.now }
     {
-        let known = Known::of_steps(alloc, meter, steps)?;
         let mut run = Vec::with_capacity(alloc, steps.len())?;
         Node::share(&mut run, steps)?;
+        let known = Known::of_steps(alloc, meter, steps)?;
         Node::of_known(alloc, known, run)
     }
 

@@ -16,6 +16,8 @@ loop-entry-preserved c = λ p other.
 pub returns : goal.returns
 returns c = λ p other.
     let all : length c.args.entries.now ≤ c.loop-entry.entry-index = omega arith in
-    let before = c.loop-entry.invariant p other in
-    (before.0, subst (λ (l : List (ℕ × Listed)). found l p ≡ None)
-    (take_all c.loop-entry.entry-index c.args.entries.now all) before.1)
+    let before = c.loop-entry.invariant p other in (
+      before.0,
+      subst (λ (l : List (ℕ × Listed)). found l p ≡ None)
+          (take_all c.loop-entry.entry-index c.args.entries.now all) before.1,
+    )

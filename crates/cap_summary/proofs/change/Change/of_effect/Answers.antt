@@ -22,16 +22,18 @@ returns-in-Enter-clause-names c = IfOk-weaker c.whole.result _ _ (λ change name
 pub returns-in-Exit-clause-does : goal.returns-in-Exit-clause-does
 returns-in-Exit-clause-does c = rw c.in-Exit.is (does_exit c.whole-in-Exit.result c.args.me c.unknown.result
     c.unknown.ensures.cells c.unknown.ensures.touched (whole_ok c.whole-in-Exit.result c.args.me c.unknown.result
-    (mode_value.Fixed modes.Unsure) c.whole-in-Exit.ensures.cells c.whole-in-Exit.ensures.modes c.whole-in-Exit.ensures.untouched))
+    (mode_value.Fixed modes.Unsure) c.whole-in-Exit.ensures.cells c.whole-in-Exit.ensures.modes
+    c.whole-in-Exit.ensures.untouched))
 
 pub returns-in-Exit-clause-names : goal.returns-in-Exit-clause-names
 returns-in-Exit-clause-names c = IfOk-weaker c.whole-in-Exit.result _ _ (λ change named names is.
     named names is.own (c.unknown.ensures.names names) refl) c.whole-in-Exit.ensures.names
 
 pub returns-in-Forget-clause-does : goal.returns-in-Forget-clause-does
-returns-in-Forget-clause-does c = rw c.in-Forget.is (does_forget c.whole-in-Forget.result c.args.me c.unknown-in-Forget.result
-    c.unknown-in-Forget.ensures.cells c.unknown-in-Forget.ensures.touched (whole_ok c.whole-in-Forget.result c.args.me c.unknown-in-Forget.result
-    (mode_value.Own c.args.me) c.whole-in-Forget.ensures.cells c.whole-in-Forget.ensures.modes c.whole-in-Forget.ensures.untouched))
+returns-in-Forget-clause-does c = rw c.in-Forget.is (does_forget c.whole-in-Forget.result c.args.me
+    c.unknown-in-Forget.result c.unknown-in-Forget.ensures.cells c.unknown-in-Forget.ensures.touched
+    (whole_ok c.whole-in-Forget.result c.args.me c.unknown-in-Forget.result (mode_value.Own c.args.me)
+    c.whole-in-Forget.ensures.cells c.whole-in-Forget.ensures.modes c.whole-in-Forget.ensures.untouched))
 
 pub returns-in-Forget-clause-names : goal.returns-in-Forget-clause-names
 returns-in-Forget-clause-names c = IfOk-weaker c.whole-in-Forget.result _ _ (λ change named names is.

@@ -24,9 +24,9 @@ of_known-requires-clause-known c =
     sym (ap content_steps c.in-Run-Run.is-1) ∙ same_steps c.right.view_is in
     let left : Knows a t = rw (c.in-Some-Some.is-0, same_steps c.left.view_is) at c.left.invariant.known in
     let right : Knows b u = rw (c.in-Some-Some.is-1, same_steps c.right.view_is) at c.right.invariant.known in
-    let composes : Composes a b whole = rw (c.deref.ensures, c.deref-2.ensures) at c.in_ok-known.ensures in
+    let composes : Composes a b whole = rw (c.deref-3.ensures, c.deref-4.ensures) at c.in_ok-known.ensures in
     let run : values c.in_ok-run.run'.items ≡ t ++ u =
-    rw (c.deref-3.ensures.value, c.deref-4.ensures.value) at c.in_ok-run.ensures
+    rw (c.deref.ensures.value, c.deref-2.ensures.value) at c.in_ok-run.ensures
     ∙ ap (λ r. r ++ values c.in-Run-Run.back.items) front ∙ ap (λ r. t ++ r) back in
     rw run (composed_knows a b whole t u composes left right)
 
@@ -39,7 +39,7 @@ of_known-requires-clause-few c =
     let back : values c.in-Run-Run.back.items ≡ u =
     sym (ap content_steps c.in-Run-Run.is-1) ∙ same_steps c.right.view_is in
     let run : values c.in_ok-run.run'.items ≡ t ++ u =
-    rw (c.deref-3.ensures.value, c.deref-4.ensures.value) at c.in_ok-run.ensures
+    rw (c.deref.ensures.value, c.deref-2.ensures.value) at c.in_ok-run.ensures
     ∙ ap (λ r. r ++ values c.in-Run-Run.back.items) front ∙ ap (λ r. t ++ r) back in
     let long : length c.in_ok-run.run'.items ≡ length t + length u =
     sym (length-map c.in_ok-run.run'.items (λ (step : Rc Step Global). step.value))
