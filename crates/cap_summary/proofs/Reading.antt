@@ -1,6 +1,6 @@
 -- From which cells and modes conditions read behind a change.
 use Rattle.std.proofs.Common.{◌≡◌, ℕ, List, [], ◌∷◌, ◌++◌, Option, Some, None, Bool, true, false, ◌&&◌, ◌||◌}
-use Rattle.std.proofs.Common.{map, get_or, refl, sym, ap, subst, ◌∙◌}
+use Rattle.std.proofs.Common.{map, get_or, slice_get, refl, sym, ap, subst, ◌∙◌}
 use Rattle.std.specs.List.{All}
 use Rattle.std.proofs.lemmas.List.Elements.{All-nil, All-cons, All-head, All-tail, All-weaker, All-append, All-map}
 use Rattle.cap_machine.specs.State.{State}
@@ -173,6 +173,17 @@ pub parts_alike : (was now : Change) (lows : List Low) (others : List Condition)
     → ReadAlike was now others → ReadAlike was now (low_conditions lows ++ others)
 parts_alike was now lows others first second = All-append (ReadsAlike was now) (low_conditions lows) others
     (All-map (ReadsAlike was now) low_condition lows first) second
+
+-- the first ones and the others behind them
+pub first_alike : (was now : Change) (lows first others : List Low) → lows ≡ first ++ others
+    → LowsReadAlike was now first → LowsReadAlike was now others → LowsReadAlike was now lows
+first_alike was now lows first others parts own rest = subst (LowsReadAlike was now) (sym parts)
+    (All-append (λ (low : Low). ReadsAlike was now (low_condition low)) first others own rest)
+
+-- none, where there is no first one
+pub none_alike : (was now : Change) (lows : List Low) → None ≡ slice_get lows 0 → LowsReadAlike was now lows
+none_alike was now [] none = All-nil (λ (low : Low). ReadsAlike was now (low_condition low))
+none_alike was now (x ∷ rest) none = absurd cc
 
 -- together they hold behind both changes under the same states
 pub alike_hold : (was now : Change) (conditions : List Condition) → ReadAlike was now conditions → (s : State)

@@ -147,6 +147,18 @@ impl Known {
         let (front, back) = steps.split_at(steps.len() / 2);
         let a = Known::of_steps(alloc, meter, front)?;
         let b = Known::of_steps(alloc, meter, back)?;
+        Known::joined(alloc, meter, &a, &b)
+    }
+
+    /// A segment and then another, which is counted.
+    #[inline]
+    fn joined(alloc: Global, meter: &mut Meter, a: &Known, b: &Known) -> Result<Known, NoMemory>
+        requires { meter.old + 1 < 2 ^ 64 }
+        ensures composed { IfOk result (λ whole. Composes a.now b.now whole) }
+        ensures counted { OnOk result (meter.new ≡ meter.old + 1) }
+        ensures not_less { meter.old ≤ meter.new }
+        ensures at_most { meter.new ≤ meter.old + 1 }
+    {
         let whole = Known::join(alloc, &a, &b)?;
         meter.tick();
         Ok(whole)
@@ -217,12 +229,30 @@ impl Known {
         if met {
             return Ok(Known::certain(change));
         }
-        let kept = where_many(alloc, &moved)?;
-        Known::beside(alloc, change, a, b, &moved, kept)
+        Known::with_moved(alloc, change, a, b, &moved)
     }
 
     /// The same where nothing is found in any case in either of the two, and these are the second's conditions behind the
-    /// first's change; they are kept where they are handed over shared too.
+    /// first's change; they are kept where they are many.
+    #[inline]
+    fn with_moved(
+        alloc: Global,
+        change: Change,
+        a: &Known,
+        b: &Known,
+        moved: &Conditions,
+    ) -> Result<Known, NoMemory>
+        requires joins { JoinsTo a.now.change b.now.change change }
+        requires parts { (a.now.always || b.now.always) ≡ false }
+        requires moved { IsMoved a.now.change b.now.conditions moved.now }
+        ensures composed { IfOk result (λ whole. Composes a.now b.now whole) }
+        ensures change { IfOk result (λ whole. whole.change ≡ change) }
+    {
+        let kept = where_many(alloc, moved)?;
+        Known::beside(alloc, change, a, b, moved, kept)
+    }
+
+    /// The same where these are kept that are handed over shared too.
     #[inline]
     fn beside(
         alloc: Global,

@@ -50,17 +50,12 @@ pub(crate) fn turnover_of(alloc: Global, old: &[Low], now: &[Low]) -> Result<Tur
         if first.is_like(second) {
             own = behind_first(own);
             others = behind_first(others);
-        } else if here < there {
-            lost.push(*first)?;
-            own = behind_first(own);
         } else if there < here {
             new.push(*second)?;
             others = behind_first(others);
         } else {
             lost.push(*first)?;
             own = behind_first(own);
-            new.push(*second)?;
-            others = behind_first(others);
         }
     }
     lost.extend_from_slice(own)?;
@@ -186,6 +181,25 @@ impl Change {
 }
 
 /// The conditions of a whole, and these more behind a change; none where one of these always holds there.
+fn with_behind(
+    alloc: Global,
+    whole: &Conditions,
+    change: &Change,
+    new: &Conditions,
+) -> Result<Option<Conditions>, NoMemory>
+    ensures holds { IfOk result (λ o. IfSome o (λ all. (s : State)
+        → any_holds s all ≡ (any_holds s whole.now || any_holds (changed change.now s) new.now))) }
+    ensures names { IfOk result (λ o. IfSome o (λ all. (names : Names) → ConditionsWithin names whole.now
+        → ConditionsRead names change.now new.now → ConditionsWithin names all)) }
+{
+    let (met, moved) = change.behind(alloc, new)?;
+    if met {
+        return Ok(None);
+    }
+    Ok(Some(merged(alloc, whole, &moved)?))
+}
+
+/// The same of some of the most common form. Where the whole says what they say, it stays.
 fn with_new(
     alloc: Global,
     whole: &Conditions,
@@ -202,11 +216,7 @@ fn with_new(
         return Ok(Some(whole.share()?));
     }
     let new = Conditions::of(Lows::of(new)?, Others::none());
-    let (met, moved) = change.behind(alloc, &new)?;
-    if met {
-        return Ok(None);
-    }
-    Ok(Some(merged(alloc, whole, &moved)?))
+    with_behind(alloc, whole, change, &new)
 }
 
 /// The conditions of a whole in which those of the second part become others, where what is lost of them says nothing that

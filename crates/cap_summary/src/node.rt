@@ -1,7 +1,7 @@
 //! The nodes of a summary. A contract sees a node as its steps, and what is known of them.
 
 ghost use Rattle.std.specs.Prelude.{◌≡◌, ℕ, ◌+◌, ◌^◌, ◌<◌, ◌≤◌, ◌++◌, ◌∷◌, [], List, length, map, IfOk, OnOk, IfSome, IfNone};
-ghost use Rattle.std.specs.Prelude.{take, slice_index_or, true, false};
+ghost use Rattle.std.specs.Prelude.{take, slice_index_or, Some, true, false};
 ghost use Rattle.cap_machine.specs.Walks.{LeavesCell, LeavesMode};
 ghost use Rattle.cap_summary.specs.Passes.{PassesCell, PassesMode};
 ghost use Rattle.cap_summary.specs.Knows.{Knows, finds};
@@ -100,6 +100,22 @@ impl Node {
         Ok(run)
     }
 
+    /// The node of a run of steps of which this is known.
+    #[inline]
+    fn of_known(alloc: Global, known: Known, run: Vec<Rc<Step>>) -> Result<Rc<Node>, NoMemory>
+        requires few { length run.items ≤ 2 ^ 30 }
+        requires known { Knows known (values run.items) }
+        ensures steps { IfOk result (λ n. n.value.steps ≡ values run.items) }
+        ensures known { IfOk result (λ n. n.value.known ≡ Some known) }
+    {
+        let node = Node {
+            len: run.len(),
+            known: Some(Rc::new(alloc, known)?),
+            content: Content::Run(run),
+        };
+        Ok(Rc::new(alloc, node)?)
+    }
+
     /// Two runs as one, where it can hold all their steps.
     fn as_run(alloc: Global, left: &Node, right: &Node) -> Result<Option<Rc<Node>>, NoMemory>
         ensures steps { IfOk result (λ o. IfSome o (λ n. n.value.steps ≡ left.now.steps ++ right.now.steps)) }
@@ -111,18 +127,12 @@ impl Node {
         let (Some(a), Some(b)) = (&left.known, &right.known) else {
             return Ok(None);
         };
-        let len = left.len() + right.len();
-        if len > RUN_STEPS {
+        if left.len() + right.len() > RUN_STEPS {
             return Ok(None);
         }
-        let known = Known::join(alloc, a, b)?;
         let run = Node::joined(alloc, front, back)?;
-        let node = Node {
-            len,
-            known: Some(Rc::new(alloc, known)?),
-            content: Content::Run(run),
-        };
-        Ok(Some(Rc::new(alloc, node)?))
+        let known = Known::join(alloc, a, b)?;
+        Ok(Some(Node::of_known(alloc, known, run)?))
     }
 
     /// The steps of the one and then those of the other.
@@ -299,12 +309,7 @@ impl Node {
         let known = Known::of_step(alloc, step)?;
         let mut run = Vec::with_capacity(alloc, 1)?;
         run.push(step.clone()?)?;
-        let node = Node {
-            len: 1,
-            known: Some(Rc::new(alloc, known)?),
-            content: Content::Run(run),
-        };
-        Ok(Rc::new(alloc, node)?)
+        Node::of_known(alloc, known, run)
     }
 
     /// The run of these steps.
@@ -317,15 +322,10 @@ impl Node {
         ensures not_less { meter.old ≤ meter.new }
         ensures at_most { meter.new < meter.old + length steps.now }
     {
-        let known = Known::of_steps(alloc, meter, steps)?;
         let mut run = Vec::with_capacity(alloc, steps.len())?;
         Node::share(&mut run, steps)?;
-        let node = Node {
-            len: steps.len(),
-            known: Some(Rc::new(alloc, known)?),
-            content: Content::Run(run),
-        };
-        Ok(Rc::new(alloc, node)?)
+        let known = Known::of_steps(alloc, meter, steps)?;
+        Node::of_known(alloc, known, run)
     }
 
     /// These steps, with one join fewer than there are steps: as one run where it can hold them, and else half by half.

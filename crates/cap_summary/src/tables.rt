@@ -470,6 +470,22 @@ impl Cells {
                 return Cells::layered(alloc, layers);
             }
         }
+        self.flat_beneath(alloc, others, change, made)
+    }
+
+    /// The same of both as one table each.
+    #[tactic(auto, unfolding(crate::specs::Tables::listed_value))]
+    fn flat_beneath(
+        &self,
+        alloc: Global,
+        others: &Cells,
+        change: &Change,
+        made: &[Lowered],
+    ) -> Result<Cells, NoMemory>
+        requires { All (IsLowered change.now) made.now }
+        ensures { IfOk result (λ new. (f : ℕ) → listed_value new f
+            ≡ or_else (option_map (under change.now) (listed_value others.now f)) (listed_value self.now f)) }
+    {
         let (below, over) = (self.flat(alloc)?, others.flat(alloc)?);
         if has_room(below.len(), over.len()) {
             return Cells::over_shared(alloc, &below, &over, change, made);
@@ -604,6 +620,21 @@ impl Processes {
         Ok(Processes { table })
     }
 
+    /// Lists what has become of a process.
+    #[inline]
+    fn list(
+        builder: &mut Builder<Listed>,
+        alloc: Global,
+        pid: Pid,
+        process: Process,
+    ) -> Result<(), NoMemory>
+        ensures { OnOk result ((p : ℕ) → option_map (listed_process p) (found builder.new p)
+            ≡ (if p == pid then Some process else option_map (listed_process p) (found builder.old p))) }
+    {
+        let listed = Listed::of(alloc, pid, process)?;
+        builder.set(pid, listed)
+    }
+
     /// Two processes, the second where both are one.
     #[tactic(auto, unfolding(crate::specs::Tables::process_at))]
     pub(crate) fn two(
@@ -617,8 +648,8 @@ impl Processes {
             ≡ (if p == second then Some of_second else (if p == first then Some of_first else None))) }
     {
         let mut builder = Builder::new(alloc);
-        builder.set(first, Listed::of(alloc, first, of_first)?)?;
-        builder.set(second, Listed::of(alloc, second, of_second)?)?;
+        Processes::list(&mut builder, alloc, first, of_first)?;
+        Processes::list(&mut builder, alloc, second, of_second)?;
         let table = builder.finish()?;
         Ok(Processes { table })
     }

@@ -1,4 +1,7 @@
-use Rattle.std.proofs.Common.{◌<◌, length}
+use Rattle.std.proofs.Common.{◌≡◌, ℕ, ◌<◌, ◌≤◌, List, length, None, arith, subst}
+use Rattle.std.proofs.lemmas.List.{take_all}
+use Rattle.cap_summary.specs.declared.kept.Listed.{Listed}
+use Rattle.cap_summary.specs.Sorted.{found}
 use Rattle.cap_summary.proofs.Earlier.{noted, none_more}
 use Rattle.cap_summary.proofs.joins.add_all.Goals as goal
 
@@ -9,3 +12,12 @@ loop-entry-preserved c = λ p other.
     let apart = noted c.loop-entry.pids.items x.0 p (rw c.in_ok-push.ensures.items at other) in
     let before = c.loop-entry.invariant p apart.0 in
     (before.0, none_more c.args.entries.now c.loop-entry.entry-index x p within c.entry-item.is apart.1 before.1)
+
+pub returns : goal.returns
+returns c = λ p other.
+    let all : length c.args.entries.now ≤ c.loop-entry.entry-index = omega arith in
+    let before = c.loop-entry.invariant p other in (
+      before.0,
+      subst (λ (l : List (ℕ × Listed)). found l p ≡ None)
+          (take_all c.loop-entry.entry-index c.args.entries.now all) before.1,
+    )

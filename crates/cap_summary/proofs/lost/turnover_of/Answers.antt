@@ -11,29 +11,17 @@ loop-first-preserved-then-is_like c = let l = c.loop-first in let parts = c.in-S
 
 pub loop-first-preserved-in_ok-push : goal.loop-first-preserved-in_ok-push
 loop-first-preserved-in_ok-push c = let l = c.loop-first in let parts = c.in-Some-Some in
-    first_lost_goes c.args.old.now c.args.now.now l.lost.items l.new.items l.own.now l.others.now
-    c.push.new.self.items parts.first.now c.behind_first-own-then-here-there.result.now
-    (c.behind_first-own-then-here-there.ensures.rest parts.first.now parts.ensures.value)
-    c.in_ok-push.ensures.items l.invariant
-
-pub loop-first-preserved-in_ok-push-2 : goal.loop-first-preserved-in_ok-push-2
-loop-first-preserved-in_ok-push-2 c = let l = c.loop-first in let parts = c.in-Some-Some in
     first_new_goes c.args.old.now c.args.now.now l.lost.items l.new.items l.own.now l.others.now
-    c.push-then-there-here.new.self.items parts.second.now c.behind_first-others-then-there-here.result.now
+    c.push.new.self.items parts.second.now c.behind_first-others-then-there-here.result.now
     (c.behind_first-others-then-there-here.ensures.rest parts.second.now parts.ensures'.value)
-    c.in_ok-push-2.ensures.items l.invariant
+    c.in_ok-push.ensures.items l.invariant
 
 pub loop-first-preserved : goal.loop-first-preserved
 loop-first-preserved c = let l = c.loop-first in let parts = c.in-Some-Some in
-    let rest = c.behind_first-own-else-there-here.result.now in
-    first_new_goes c.args.old.now c.args.now.now c.push-else-there-here.new.self.items l.new.items rest l.others.now
-    c.push-else-there-here-2.new.self.items parts.second.now c.behind_first-others-else-there-here.result.now
-    (c.behind_first-others-else-there-here.ensures.rest parts.second.now parts.ensures'.value)
-    c.in_ok-push-4.ensures.items
-    (first_lost_goes c.args.old.now c.args.now.now l.lost.items l.new.items l.own.now l.others.now
-    c.push-else-there-here.new.self.items parts.first.now rest
+    first_lost_goes c.args.old.now c.args.now.now l.lost.items l.new.items l.own.now l.others.now
+    c.push-else-there-here.new.self.items parts.first.now c.behind_first-own-else-there-here.result.now
     (c.behind_first-own-else-there-here.ensures.rest parts.first.now parts.ensures.value)
-    c.in_ok-push-3.ensures.items l.invariant)
+    c.in_ok-push-2.ensures.items l.invariant
 
 pub returns-clause-holds : goal.returns-clause-holds
 returns-clause-holds c = let l = c.loop-first in

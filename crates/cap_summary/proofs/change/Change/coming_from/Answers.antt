@@ -1,4 +1,9 @@
-use Rattle.std.proofs.Common.{◌≡◌, ℕ, ◌<◌, ◌++◌, ◌∷◌, [], List, true, false, length, refl, sym, ◌∙◌}
+use Rattle.std.proofs.Common.{◌≡◌, ℕ, ◌<◌, ◌≤◌, ◌++◌, ◌∷◌, [], List, Option, true, false, length, refl, sym, subst}
+use Rattle.std.proofs.Common.{◌∙◌, arith}
+use Rattle.std.specs.Prelude.{IfSome, option_map}
+use Rattle.std.proofs.lemmas.List.{take_all}
+use Rattle.cap_summary.specs.declared.kept.Listed.{Listed}
+use Rattle.cap_summary.specs.Sorted.{found}
 use Rattle.std.proofs.lemmas.Bool.{eq-eqb}
 use Rattle.cap_summary.specs.declared.change.Process.{Process}
 use Rattle.cap_summary.specs.Tables.{listed_process}
@@ -27,3 +32,12 @@ loop-entry-preserved c =
     (λ p other. (noted old x.0 p (rw more at other)).0)
     (λ other. absurd (let is : true ≡ false = sym (eq-eqb x.0 x.0 refl) ∙ (noted old x.0 x.0 (rw more at other)).1 in cc))
     c.loop-entry.invariant
+
+pub returns : goal.returns
+returns c = λ p other.
+    let all : length c.entries-entries.result.now ≤ c.loop-entry.entry-index = omega arith in
+    let so_far = c.loop-entry.invariant p other in
+    subst (λ (o : Option Process). IfSome o (TakesFrom (λ q. is_one c.args.pids.now q ≡ false)))
+    (c.entries-entries.ensures p) (subst (λ (l : List (ℕ × Listed)).
+    IfSome (option_map (listed_process p) (found l p)) (TakesFrom (λ q. is_one c.args.pids.now q ≡ false)))
+    (take_all c.loop-entry.entry-index c.entries-entries.result.now all) so_far)

@@ -1,0 +1,23 @@
+use Rattle.std.proofs.Common.{length, ap, arith}
+use Rattle.std.proofs.lemmas.List.{length-map}
+use Rattle.std.specs.declared.alloc.Global.{Global}
+use Rattle.std.specs.declared.rc.Rc.{Rc}
+use Rattle.cap_machine.specs.declared.step.Step.{Step}
+use Rattle.cap_summary.specs.View.{NodeView}
+use Rattle.cap_summary.proofs.node.Node.of_known.Goals as goal
+
+pub invariant_of-node : goal.invariant_of-node
+invariant_of-node c =
+    let many = length-map c.args.run.items (λ (step : Rc Step Global). step.value) in
+    record {
+      len = omega (arith, many, c.len.ensures);
+      parts = tt;
+      few = omega (arith, c.requires.few, c.len.ensures);
+      known = rw c.in_ok-new.ensures.ok c.requires.known;
+      wide = tt;
+      long = tt;
+      many = tt;
+    }
+
+pub returns-clause-steps : goal.returns-clause-steps
+returns-clause-steps c = ap (λ (node : NodeView). node.steps) c.in_ok-new-2.ensures.ok
