@@ -159,7 +159,7 @@ impl Known {
         ensures not_less { meter.old ≤ meter.new }
         ensures at_most { meter.new ≤ meter.old + 1 }
     {
-        let whole = Known::join(alloc, &a, &b)?;
+        let whole = Known::join(alloc, a, b)?;
         meter.tick();
         Ok(whole)
     }
