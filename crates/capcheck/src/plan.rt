@@ -24,7 +24,7 @@ const NO_PROFILE: &str = "the profile is 1 or 2";
 const NO_POSITION: &str = "the position is a number of 1 to 19 digits, without a leading zero";
 
 /// What the program is to do.
-#[derive(Debug, PartialEq, Drop)]
+#[derive(Drop)]
 pub enum Plan<'a> {
     /// Check the trace of this name, or standard input, from the start of this name, or the usual one.
     Check {
@@ -224,6 +224,3 @@ fn is_request(kind: ErrorKind) -> bool
 {
     matches!(kind, ErrorKind::DisplayHelp | ErrorKind::DisplayVersion)
 }
-
-#[cfg(test)]
-mod tests;

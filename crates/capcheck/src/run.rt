@@ -321,6 +321,3 @@ fn code_of_fault(outcome: Outcome) -> Option<&'static str>
         | Outcome::StartRefused { .. } => None,
     }
 }
-
-#[cfg(test)]
-mod tests;
