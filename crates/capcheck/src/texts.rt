@@ -1,8 +1,7 @@
 //! The texts that a run reads, by their names: [`Texts`] for any source of texts, and [`SystemTexts`] for files and
 //! standard input.
 //!
-//! Contracts say of a text what is known of its bytes. Of a file they know nothing; over texts in memory, as in the
-//! tests, they know all.
+//! Contracts say of a text what is known of its bytes: of a file nothing, and over texts in memory all.
 ghost use Rattle.std.specs.Prelude.{◌≡◌, ◌^◌, ◌≤◌, List, ℕ, Option, IfErr, IfOk, is_some};
 ghost use Rattle.std.specs.Option.{option_map};
 ghost use Rattle.capcheck.specs.Texts.{Gives, Known, MayFail, is_file, remaining_of, unknown};
