@@ -1,7 +1,7 @@
 //! What single lines of worked traces rest on.
 
 use crate::lines::lines_of;
-use crate::starts::{readable, start_of};
+use crate::starts::{add, readable};
 use cap_machine::{
     Cell, CellEnd, CellLink, CellOrigin, Explanation, Mode, ModeEnd, ModeLink, ModeOrigin, Profile,
     Start, chains_are_enough, chains_skip_no_line, explain, mode_matters_where_it_decides,
@@ -173,7 +173,10 @@ fn is_explained_from(alloc: Global, start: &Start, row: &Row) -> bool {
 
 /// The same from the usual one.
 fn is_explained(alloc: Global, row: &Row) -> bool {
-    is_explained_from(alloc, &Start::unknown(alloc), row)
+    let start = Start::unknown(alloc);
+    let is_explained = is_explained_from(alloc, &start, row);
+    drop(start);
+    is_explained
 }
 
 #[test]
@@ -227,11 +230,11 @@ fn chains_reach(alloc: Global, start: &Start, cell: Cell) -> bool {
 /// The same from a start in which descriptor 0 is held for reading.
 fn chains_reach_reading(alloc: Global) -> bool {
     let cells = [(0, readable())];
-    let start = start_of(alloc, 100, Mode::Outside, Cell::Closed, &cells);
-    match start {
-        Some(start) => chains_reach(alloc, &start, readable()),
-        None => false,
-    }
+    let mut start = Start::unknown(alloc);
+    let reach = add(alloc, &mut start, 100, Mode::Outside, Cell::Closed, &cells)
+        && chains_reach(alloc, &start, readable());
+    drop(start);
+    reach
 }
 
 #[test]

@@ -1,7 +1,7 @@
 //! What is known, moved on by one step after another.
 
-use crate::starts::{rights_of, start_of};
-use cap_machine::{Cell, Finding, Machine, Mode, OnExec, Profile};
+use crate::starts::{add, rights_of};
+use cap_machine::{Cell, Finding, Machine, Mode, OnExec, Profile, Start};
 use cap_trace::{Line, parse_line};
 use std::alloc::Global;
 
@@ -12,15 +12,6 @@ static STEPS: [(Profile, &[u8], bool); 4] = [
     (Profile::One, b"100 execve(\"/bin/x\") RET 0", false),
     (Profile::Two, b"100 write(5) RET 1", false),
 ];
-
-/// A machine in which process 100 holds CAP_READ on descriptor 5, and nothing else.
-fn machine_of(alloc: Global) -> Option<Machine> {
-    let cell = Cell::Held(rights_of(b"CAP_READ"), OnExec::Clear);
-    match start_of(alloc, 100, Mode::Outside, Cell::Closed, &[(5, cell)]) {
-        Some(start) => Machine::from_start(alloc, &start).ok(),
-        None => None,
-    }
-}
 
 /// Moves a machine on by a line, and says whether these are the findings.
 fn says(machine: &mut Machine, profile: Profile, line: &Line, findings: &[Finding]) -> bool {
@@ -50,12 +41,26 @@ fn finds_in_steps(alloc: Global, machine: &mut Machine) -> bool {
     true
 }
 
-/// The same of the machine.
-fn judges(alloc: Global) -> bool {
-    match machine_of(alloc) {
-        Some(mut machine) => finds_in_steps(alloc, &mut machine),
-        None => false,
+/// The same of a machine that knows what a start says.
+fn judges_from(alloc: Global, start: &Start) -> bool {
+    match Machine::from_start(alloc, start) {
+        Ok(mut machine) => {
+            let judges = finds_in_steps(alloc, &mut machine);
+            drop(machine);
+            judges
+        }
+        Err(_) => false,
     }
+}
+
+/// The same where process 100 holds CAP_READ on descriptor 5, and nothing else.
+fn judges(alloc: Global) -> bool {
+    let cells = [(5, Cell::Held(rights_of(b"CAP_READ"), OnExec::Clear))];
+    let mut start = Start::unknown(alloc);
+    let judges = add(alloc, &mut start, 100, Mode::Outside, Cell::Closed, &cells)
+        && judges_from(alloc, &start);
+    drop(start);
+    judges
 }
 
 /// Each step has a profile of its own: after the first exec descriptor 5 is held as before, and after the second one

@@ -20,9 +20,11 @@ pub fn readable() -> Cell {
 }
 
 /// Adds a process with these cells to a start, and says whether it could.
-fn add(
-    start: &mut Start,
+///
+/// A start that is given to `drop` at the end costs the check less than one that goes by itself.
+pub fn add(
     alloc: Global,
+    start: &mut Start,
     pid: Pid,
     mode: Mode,
     rest: Cell,
@@ -31,22 +33,6 @@ fn add(
     match cells.to_vec(alloc) {
         Ok(cells) => start.add(pid, mode, rest, cells).is_ok(),
         Err(_) => false,
-    }
-}
-
-/// A start in which one process has these cells.
-pub fn start_of(
-    alloc: Global,
-    pid: Pid,
-    mode: Mode,
-    rest: Cell,
-    cells: &[(Fd, Cell)],
-) -> Option<Start> {
-    let mut start = Start::unknown(alloc);
-    if add(&mut start, alloc, pid, mode, rest, cells) {
-        Some(start)
-    } else {
-        None
     }
 }
 
@@ -80,9 +66,10 @@ impl Known {
         }
     }
 
-    /// The start in which that is known.
-    fn start(&self, alloc: Global) -> Option<Start> {
-        start_of(alloc, 100, self.mode, self.rest, &[(self.fd, self.cell)])
+    /// Adds that to a start, and says whether it could.
+    fn add_to(&self, alloc: Global, start: &mut Start) -> bool {
+        let cells = [(self.fd, self.cell)];
+        add(alloc, start, 100, self.mode, self.rest, &cells)
     }
 }
 
@@ -99,26 +86,29 @@ fn knows_cell(start: &Start, cell: Cell) -> bool {
         && start.mode(100) == Mode::Unsure
 }
 
-/// Whether the start of a cell that is held for reading knows that.
+/// Whether a start to which a cell that is held for reading is added knows that.
 fn knows_reading(alloc: Global) -> bool {
-    let known = reading();
-    match known.start(alloc) {
-        Some(start) => knows_cell(&start, known.cell),
-        None => false,
-    }
+    let mut start = Start::unknown(alloc);
+    let knows = reading().add_to(alloc, &mut start) && knows_cell(&start, readable());
+    drop(start);
+    knows
 }
 
 /// Whether a start knows that process 100 is inside, and has no descriptor but perhaps 5.
+fn knows_five(start: &Start) -> bool {
+    start.cell(100, 4) == Cell::Closed
+        && start.cell(100, 5) == Cell::Unknown
+        && start.mode(100) == Mode::Inside
+}
+
+/// Whether a start to which that is added knows it.
 fn knows_inside(alloc: Global) -> bool {
     let cells = [(5, Cell::Unknown)];
-    match start_of(alloc, 100, Mode::Inside, Cell::Closed, &cells) {
-        Some(start) => {
-            start.cell(100, 4) == Cell::Closed
-                && start.cell(100, 5) == Cell::Unknown
-                && start.mode(100) == Mode::Inside
-        }
-        None => false,
-    }
+    let mut start = Start::unknown(alloc);
+    let knows = add(alloc, &mut start, 100, Mode::Inside, Cell::Closed, &cells)
+        && knows_five(&start);
+    drop(start);
+    knows
 }
 
 #[test]
@@ -156,10 +146,10 @@ fn finds_from(
 
 /// The same where that is known.
 fn finds(alloc: Global, profile: Profile, known: &Known, trace: &[u8], found: &[Found]) -> bool {
-    match known.start(alloc) {
-        Some(start) => finds_from(alloc, profile, &start, trace, found),
-        None => false,
-    }
+    let mut start = Start::unknown(alloc);
+    let finds = known.add_to(alloc, &mut start) && finds_from(alloc, profile, &start, trace, found);
+    drop(start);
+    finds
 }
 
 /// Whether a write without its right is found.
@@ -222,10 +212,11 @@ fn reports_where(
     trace: &[u8],
     report: &[u8],
 ) -> bool {
-    match known.start(alloc) {
-        Some(start) => reports_from(alloc, profile, &start, trace, report),
-        None => false,
-    }
+    let mut start = Start::unknown(alloc);
+    let reports = known.add_to(alloc, &mut start)
+        && reports_from(alloc, profile, &start, trace, report);
+    drop(start);
+    reports
 }
 
 /// A write without its right is reported.

@@ -1,7 +1,7 @@
 //! Walks back, which are handed only the lines that matter.
 
 use crate::lines::lines_of;
-use crate::starts::{readable, rights_of, start_of};
+use crate::starts::{add, readable, rights_of};
 use cap_machine::{
     Cell, CellEnd, CellLink, CellOrigin, CellWalk, Checks, Explanation, Finding, Mode, ModeEnd,
     ModeLink, ModeOrigin, ModeWalk, OnExec, Op, Profile, Start, Touched, Turned, rule_of,
@@ -138,28 +138,28 @@ fn finds(
 static CELL_POSITIONS: [&[usize]; 2] = [&[8, 7, 6, 5, 4, 3, 2, 1], &[8, 6, 4, 2]];
 
 /// Whether a walk over these positions finds the limit to CAP_READ.
-fn finds_limit(alloc: Global, positions: &[usize]) -> bool {
+fn finds_limit(alloc: Global, start: &Start, positions: &[usize]) -> bool {
     let end = CellEnd::Given(Cell::Unknown);
     match walked_over(alloc, FORKS, 202, 4, positions) {
-        Some(walk) => {
-            finds(
-                alloc,
-                walk,
-                &Start::unknown(alloc),
-                readable(),
-                end,
-                &CELL_LINKS,
-            )
-        }
+        Some(walk) => finds(alloc, walk, start, readable(), end, &CELL_LINKS),
         None => false,
     }
 }
 
+/// Whether each such walk does, from the usual start.
+fn all_find_limit(alloc: Global) -> bool {
+    let start = Start::unknown(alloc);
+    let mut all = true;
+    for positions in &CELL_POSITIONS {
+        all = all && finds_limit(alloc, &start, positions);
+    }
+    drop(start);
+    all
+}
+
 #[test]
 fn a_walk_finds_the_lines_that_a_cell_comes_from(rt: HostRuntime) {
-    for positions in &CELL_POSITIONS {
-        assert!(rt; finds_limit(rt.alloc(), positions));
-    }
+    assert!(rt; all_find_limit(rt.alloc()));
 }
 
 /// The positions that a walk from descriptor 7 of process 101 has passed, where it is then, and whether it has ended.
@@ -210,19 +210,22 @@ fn finds_copy(
     }
 }
 
-/// Whether both end where they should, from a start in which the first is held for reading.
-fn both_end(alloc: Global) -> bool {
-    let cells = [(3, readable())];
-    let start = start_of(alloc, 100, Mode::Outside, Cell::Closed, &cells);
+/// Whether both end where they should.
+fn copies_end(alloc: Global, start: &Start) -> bool {
     let at_start = CellEnd::Start(100, 3, readable());
     let given = CellEnd::Given(Cell::Closed);
-    match start {
-        Some(start) => {
-            finds_copy(alloc, &start, 3, readable(), at_start, &[])
-                && finds_copy(alloc, &start, 5, Cell::Closed, given, &CLOSED)
-        }
-        None => false,
-    }
+    finds_copy(alloc, start, 3, readable(), at_start, &[])
+        && finds_copy(alloc, start, 5, Cell::Closed, given, &CLOSED)
+}
+
+/// The same from a start in which the first is held for reading.
+fn both_end(alloc: Global) -> bool {
+    let cells = [(3, readable())];
+    let mut start = Start::unknown(alloc);
+    let end = add(alloc, &mut start, 100, Mode::Outside, Cell::Closed, &cells)
+        && copies_end(alloc, &start);
+    drop(start);
+    end
 }
 
 /// Without a line that gave the cell, and after one that did: no older line is taken.
@@ -305,10 +308,11 @@ fn finds_modes(alloc: Global, start: &Start) -> bool {
 
 /// The same from a start in which process 200 is outside.
 fn finds_modes_from_outside(alloc: Global) -> bool {
-    match start_of(alloc, 200, Mode::Outside, Cell::Unknown, &[]) {
-        Some(start) => finds_modes(alloc, &start),
-        None => false,
-    }
+    let mut start = Start::unknown(alloc);
+    let finds = add(alloc, &mut start, 200, Mode::Outside, Cell::Unknown, &[])
+        && finds_modes(alloc, &start);
+    drop(start);
+    finds
 }
 
 #[test]
@@ -317,25 +321,25 @@ fn a_mode_walk_finds_the_lines_that_a_mode_comes_from(rt: HostRuntime) {
 }
 
 /// Where descriptor 4 of process 202 comes from.
-fn cell_of_202(alloc: Global) -> Option<CellOrigin> {
+fn cell_of_202(alloc: Global, start: &Start) -> Option<CellOrigin> {
     match walked_over(alloc, FORKS, 202, 4, &[8, 6, 4, 2]) {
-        Some(walk) => walk.finish(alloc, &Start::unknown(alloc)).ok(),
+        Some(walk) => walk.finish(alloc, start).ok(),
         None => None,
     }
 }
 
 /// Adds that, and says whether it could.
-fn add_cell_of_202(alloc: Global, cells: &mut Vec<CellOrigin>) -> bool {
-    match cell_of_202(alloc) {
+fn add_cell_of_202(alloc: Global, start: &Start, cells: &mut Vec<CellOrigin>) -> bool {
+    match cell_of_202(alloc, start) {
         Some(origin) => cells.push(origin).is_ok(),
         None => false,
     }
 }
 
 /// Where its mode comes from.
-fn mode_of_202(alloc: Global) -> Option<ModeOrigin> {
+fn mode_of_202(alloc: Global, start: &Start) -> Option<ModeOrigin> {
     match mode_walked_over_forks(alloc, 202, &[8, 5]) {
-        Some(walk) => Some(walk.finish(&Start::unknown(alloc))),
+        Some(walk) => Some(walk.finish(start)),
         None => None,
     }
 }
@@ -356,23 +360,27 @@ fn is_explained_by_cells(line: &Line, cells: Vec<CellOrigin>, finding: Finding) 
 }
 
 /// Whether it is explained by descriptor 4 of process 202.
-fn is_explained_by_cell(alloc: Global, line: &Line) -> bool {
+fn is_explained_by_cell(alloc: Global, start: &Start, line: &Line) -> bool {
     let missing = Finding::Missing(4, rights_of(b"CAP_WRITE"));
     let mut cells = Vec::new(alloc);
-    add_cell_of_202(alloc, &mut cells) && is_explained_by_cells(line, cells, missing)
+    let is_added = add_cell_of_202(alloc, start, &mut cells);
+    is_explained_by_cells(line, cells, missing) && is_added
 }
 
 /// The same of a write to it.
-fn is_write_explained(alloc: Global) -> bool {
+fn is_write_explained(alloc: Global, start: &Start) -> bool {
     match parse_line(alloc, b"202 write(4) RET 1") {
-        Ok(line) => is_explained_by_cell(alloc, &line),
+        Ok(line) => is_explained_by_cell(alloc, start, &line),
         Err(_) => false,
     }
 }
 
 #[test]
 fn an_explanation_is_made_of_a_cell(rt: HostRuntime) {
-    assert!(rt; is_write_explained(rt.alloc()));
+    let start = Start::unknown(rt.alloc());
+    let is_explained = is_write_explained(rt.alloc(), &start);
+    drop(start);
+    assert!(rt; is_explained);
 }
 
 /// Whether a line that checks none, for which the mode matters, is explained by a mode, with one finding.
@@ -388,24 +396,27 @@ fn is_explained_by_mode(alloc: Global, line: &Line, origin: ModeOrigin) -> bool 
 }
 
 /// Whether it is explained by the mode of process 202.
-fn is_explained_by_its_mode(alloc: Global, line: &Line) -> bool {
-    match mode_of_202(alloc) {
+fn is_explained_by_its_mode(alloc: Global, start: &Start, line: &Line) -> bool {
+    match mode_of_202(alloc, start) {
         Some(origin) => is_explained_by_mode(alloc, line, origin),
         None => false,
     }
 }
 
 /// The same of an open.
-fn is_open_explained(alloc: Global) -> bool {
+fn is_open_explained(alloc: Global, start: &Start) -> bool {
     match parse_line(alloc, b"202 open(\"x\",O_RDONLY) RET 3") {
-        Ok(line) => is_explained_by_its_mode(alloc, &line),
+        Ok(line) => is_explained_by_its_mode(alloc, start, &line),
         Err(_) => false,
     }
 }
 
 #[test]
 fn an_explanation_is_made_of_a_mode(rt: HostRuntime) {
-    assert!(rt; is_open_explained(rt.alloc()));
+    let start = Start::unknown(rt.alloc());
+    let is_explained = is_open_explained(rt.alloc(), &start);
+    drop(start);
+    assert!(rt; is_explained);
 }
 
 fn touched_by(line: &Line, pid: u32, fd: u32) -> Touched {
