@@ -195,7 +195,6 @@ static READ: &[u8] = b"100 read(3) RET 5
 100 mmap(3,PROT_READ|PROT_WRITE,MAP_PRIVATE) RET 4096
 100 cap_rights_limit(3,CAP_READ|CAP_WRITE|CAP_SEEK) RET 0
 100 open(\"a\\x0a\\\"b\",O_RDONLY|O_CREAT) RET -1 errno 2
-100 open(\"/etc/passwd\",O_RDONLY) RET 3
 100 symlinkat(\"a\",AT_FDCWD,\"\") RET 0
 100 renameat(3,\"a\",9,\"b\") RET 0
 100 linkat(AT_FDCWD,\"a\",3,\"b\",AT_SYMLINK_FOLLOW) RET 0
@@ -241,6 +240,13 @@ fn each_name_is_read_and_written(rt: HostRuntime) {
     for bytes in READ.split(|byte| *byte == b'\n') {
         assert!(rt; is_named(rt.alloc(), bytes) && is_rewritten(rt.alloc(), bytes, bytes));
     }
+}
+
+/// The example of the crate's documentation: reading and writing.
+#[test]
+fn the_example_is_read(rt: HostRuntime) {
+    let bytes = b"100 open(\"/etc/passwd\",O_RDONLY) RET 3".as_slice();
+    assert!(rt; is_named(rt.alloc(), bytes) && is_rewritten(rt.alloc(), bytes, bytes));
 }
 
 #[test]
@@ -290,8 +296,7 @@ fn a_call_is_read_where_it_lies(rt: HostRuntime) {
 }
 
 /// Each law may be called.
-#[test]
-fn the_laws_are_called() {
+fn call_the_laws() {
     one_line();
     one_path();
     reading_is_spelling();
@@ -310,6 +315,7 @@ fn longest() -> [u8; 1024] {
 
 #[test]
 fn the_longest_line_is_read(rt: HostRuntime) {
+    call_the_laws();
     assert!(rt; is_named(rt.alloc(), &longest()));
 }
 
@@ -536,6 +542,12 @@ fn is_example_made(alloc: Global) -> bool {
     }
 }
 
+/// The example of the crate's documentation: making a line.
+#[test]
+fn the_example_is_made(rt: HostRuntime) {
+    assert!(rt; is_example_made(rt.alloc()));
+}
+
 /// Whether an open is made of a path that is spelled.
 fn is_open_made(alloc: Global) -> bool {
     match Path::new(alloc, b"a\\x0a") {
@@ -553,6 +565,11 @@ fn is_open_made(alloc: Global) -> bool {
     }
 }
 
+#[test]
+fn an_open_is_made(rt: HostRuntime) {
+    assert!(rt; is_open_made(rt.alloc()));
+}
+
 /// Whether a start is made of descriptors.
 fn is_start_made(alloc: Global) -> bool {
     // Names the type of a part of an item, which the check has to be told.
@@ -564,9 +581,8 @@ fn is_start_made(alloc: Global) -> bool {
 }
 
 #[test]
-fn a_line_is_made_of_its_parts(rt: HostRuntime) {
-    let alloc = rt.alloc();
-    assert!(rt; is_example_made(alloc) && is_open_made(alloc) && is_start_made(alloc));
+fn a_start_is_made(rt: HostRuntime) {
+    assert!(rt; is_start_made(rt.alloc()));
 }
 
 /// Bytes with the text of their path.
