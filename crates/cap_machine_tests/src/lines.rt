@@ -1,4 +1,5 @@
-//! Lines of a trace, and the report of a checker.
+//! Lines of a trace, and the report of a checker. Where memory has run out there are no lines, and what is asked for
+//! doesn't hold.
 
 ghost use Rattle.cap_machine.specs.Checked.{lines_of};
 ghost use Rattle.std.specs.Prelude.{◌<◌, ◌^◌};
@@ -6,17 +7,24 @@ ghost use Rattle.std.specs.Prelude.{◌<◌, ◌^◌};
 use cap_machine::Checker;
 use cap_trace::{Line, parse_fd_line, parse_line};
 use std::alloc::Global;
-use std::test::Fail;
+
+/// Adds the line that is read from a text, and says whether it could.
+fn add_line(alloc: Global, lines: &mut Vec<Line>, text: &[u8]) -> bool {
+    match parse_line(alloc, text) {
+        Ok(line) => lines.push(line).is_ok(),
+        Err(_) => false,
+    }
+}
 
 /// The lines of a trace.
-pub fn lines_of(alloc: Global, trace: &[u8]) -> Result<Vec<Line>, Fail> {
+pub fn lines_of(alloc: Global, trace: &[u8]) -> Option<Vec<Line>> {
     let mut lines = Vec::new(alloc);
     for text in trace.split(|byte| *byte == b'\n') {
-        if !text.is_empty() {
-            lines.push(parse_line(alloc, text)?)?;
+        if !text.is_empty() && !add_line(alloc, &mut lines, text) {
+            return None;
         }
     }
-    Ok(lines)
+    Some(lines)
 }
 
 /// How a checker is given a line.
@@ -28,53 +36,69 @@ pub enum Way {
     InPlace,
 }
 
-/// Checks a line that owns its texts.
-fn check_owned(alloc: Global, checker: &mut Checker, text: &[u8]) -> Result<(), Fail>
+/// Checks a line that owns its texts, and says whether it could.
+fn check_owned(alloc: Global, checker: &mut Checker, text: &[u8]) -> bool
     requires { lines_of checker.old < 2 ^ 60 }
 {
-    let line = parse_line(alloc, text)?;
-    Ok(checker.line(&line)?)
+    match parse_line(alloc, text) {
+        Ok(line) => checker.line(&line).is_ok(),
+        Err(_) => false,
+    }
 }
 
-/// Checks a line where it lies.
-fn check_in_place(checker: &mut Checker, text: &[u8]) -> Result<(), Fail>
+/// Checks a line where it lies, and says whether it could.
+fn check_in_place(checker: &mut Checker, text: &[u8]) -> bool
     requires { lines_of checker.old < 2 ^ 60 }
 {
     match parse_fd_line(text) {
-        Ok(line) => Ok(checker.fd_line(line)?),
-        Err(unread) => {
-            let line = unread.line()?;
-            Ok(checker.line_ref(&line)?)
-        }
+        Ok(line) => checker.fd_line(line).is_ok(),
+        Err(unread) => match unread.line() {
+            Ok(line) => checker.line_ref(&line).is_ok(),
+            Err(_) => false,
+        },
     }
 }
 
-/// Checks each line of a trace of less than 100.
-fn check_trace(alloc: Global, checker: &mut Checker, trace: &[u8], way: Way) -> Result<(), Fail> {
+/// Checks a text that is a line, if less than 100 were checked, and says whether it could.
+fn check_text(alloc: Global, checker: &mut Checker, text: &[u8], way: Way) -> bool {
+    if text.is_empty() || checker.count() >= 100 {
+        return true;
+    }
+    match way {
+        Way::Owned => check_owned(alloc, checker, text),
+        Way::InPlace => check_in_place(checker, text),
+    }
+}
+
+/// Checks each line of a trace of less than 100, and says whether it could.
+fn check_trace(alloc: Global, checker: &mut Checker, trace: &[u8], way: Way) -> bool {
     for text in trace.split(|byte| *byte == b'\n') {
-        if text.is_empty() || checker.count() >= 100 {
-            continue;
-        }
-        match way {
-            Way::Owned => check_owned(alloc, checker, text)?,
-            Way::InPlace => check_in_place(checker, text)?,
+        if !check_text(alloc, checker, text, way) {
+            return false;
         }
     }
-    Ok(())
+    true
+}
+
+/// Whether a checker has this report, and is clean where the report has no finding.
+fn has_report(checker: Checker, report: &[u8]) -> bool {
+    let is_clean = checker.is_clean();
+    match checker.report() {
+        Ok(text) => {
+            is_clean == (report == b"findings 0\n".as_slice()) && text.as_slice() == report
+        }
+        Err(_) => false,
+    }
+}
+
+/// Whether a checker was given no line, and could check each line of a trace of less than 100.
+fn is_checked(alloc: Global, checker: &mut Checker, trace: &[u8], way: Way) -> bool {
+    checker.is_clean() && checker.count() == 0 && check_trace(alloc, checker, trace, way)
 }
 
 /// Whether a checker that was given no line has this report of a trace of less than 100, and is clean where the report
 /// has no finding.
-pub fn reports(
-    alloc: Global,
-    mut checker: Checker,
-    trace: &[u8],
-    way: Way,
-    report: &[u8],
-) -> Result<bool, Fail> {
-    let is_new = checker.is_clean() && checker.count() == 0;
-    check_trace(alloc, &mut checker, trace, way)?;
-    let is_clean = checker.is_clean();
-    let text = checker.report()?;
-    Ok(is_new && is_clean == (report == b"findings 0\n".as_slice()) && text.as_slice() == report)
+pub fn reports(alloc: Global, mut checker: Checker, trace: &[u8], way: Way, report: &[u8]) -> bool {
+    let is_checked = is_checked(alloc, &mut checker, trace, way);
+    has_report(checker, report) && is_checked
 }

@@ -1,23 +1,39 @@
 //! What is known before a trace.
 
 use crate::lines::{Way, lines_of, reports};
-use cap_machine::{Cell, Checker, Finding, Found, Mode, NoMemory, OnExec, Profile, Start, check};
+use cap_machine::{Cell, Checker, Finding, Found, Mode, OnExec, Profile, Start, check};
 use cap_rights::{RightSet, parse_rights};
-use cap_trace::{Fd, Pid};
+use cap_trace::{Fd, Line, Pid};
 use std::alloc::Global;
-use std::test::Fail;
 
-/// A start in which one process has these cells.
-pub fn start_of(
+/// The rights that a text names, or none.
+pub fn rights_of(text: &[u8]) -> RightSet {
+    match parse_rights(text) {
+        Ok(rights) => rights,
+        Err(_) => RightSet::none(),
+    }
+}
+
+/// A cell that is held for reading.
+pub fn readable() -> Cell {
+    Cell::Held(rights_of(b"CAP_READ"), OnExec::Unsure)
+}
+
+/// Adds a process with these cells to a start, and says whether it could.
+///
+/// A start that is given to `drop` at the end costs the check less than one that goes by itself.
+pub fn add(
     alloc: Global,
+    start: &mut Start,
     pid: Pid,
     mode: Mode,
     rest: Cell,
     cells: &[(Fd, Cell)],
-) -> Result<Start, NoMemory> {
-    let mut start = Start::unknown(alloc);
-    start.add(pid, mode, rest, cells.to_vec(alloc)?)?;
-    Ok(start)
+) -> bool {
+    match cells.to_vec(alloc) {
+        Ok(cells) => start.add(pid, mode, rest, cells).is_ok(),
+        Err(_) => false,
+    }
 }
 
 /// What is known of process 100: its mode, the cell of one descriptor, and that of all others.
@@ -50,10 +66,16 @@ impl Known {
         }
     }
 
-    /// The start in which that is known.
-    fn start(&self, alloc: Global) -> Result<Start, NoMemory> {
-        start_of(alloc, 100, self.mode, self.rest, &[(self.fd, self.cell)])
+    /// Adds that to a start, and says whether it could.
+    fn add_to(&self, alloc: Global, start: &mut Start) -> bool {
+        let cells = [(self.fd, self.cell)];
+        add(alloc, start, 100, self.mode, self.rest, &cells)
     }
+}
+
+/// Descriptor 0 is held for reading, and nothing else is known.
+fn reading() -> Known {
+    Known::of_zero(readable())
 }
 
 /// Whether a start knows only that descriptor 0 of process 100 has this cell.
@@ -64,123 +86,145 @@ fn knows_cell(start: &Start, cell: Cell) -> bool {
         && start.mode(100) == Mode::Unsure
 }
 
+/// Whether a start to which a cell that is held for reading is added knows that.
+fn knows_reading(alloc: Global) -> bool {
+    let mut start = Start::unknown(alloc);
+    let knows = reading().add_to(alloc, &mut start) && knows_cell(&start, readable());
+    drop(start);
+    knows
+}
+
 /// Whether a start knows that process 100 is inside, and has no descriptor but perhaps 5.
-fn knows_inside(start: &Start) -> bool {
+fn knows_five(start: &Start) -> bool {
     start.cell(100, 4) == Cell::Closed
         && start.cell(100, 5) == Cell::Unknown
         && start.mode(100) == Mode::Inside
 }
 
-#[test]
-fn a_start_says_what_was_added(rt: HostRuntime) -> Result<(), Fail> {
-    let read = Cell::Held(parse_rights(b"CAP_READ")?, OnExec::Unsure);
-    assert!(rt; knows_cell(&Known::of_zero(read).start(rt.alloc())?, read));
+/// Whether a start to which that is added knows it.
+fn knows_inside(alloc: Global) -> bool {
     let cells = [(5, Cell::Unknown)];
-    let inside = start_of(rt.alloc(), 100, Mode::Inside, Cell::Closed, &cells)?;
-    assert!(rt; knows_inside(&inside));
-    Ok(())
+    let mut start = Start::unknown(alloc);
+    let knows = add(alloc, &mut start, 100, Mode::Inside, Cell::Closed, &cells)
+        && knows_five(&start);
+    drop(start);
+    knows
 }
 
-/// Whether these are the findings of a trace from a start.
+#[test]
+fn a_start_says_what_was_added(rt: HostRuntime) {
+    assert!(rt; knows_reading(rt.alloc()) && knows_inside(rt.alloc()));
+}
+
+/// Whether these are the findings of lines from a start.
+fn finds_in(
+    alloc: Global,
+    profile: Profile,
+    start: &Start,
+    lines: &[Line],
+    found: &[Found],
+) -> bool {
+    match check(alloc, profile, start, lines) {
+        Ok(all) => all.as_slice() == found,
+        Err(_) => false,
+    }
+}
+
+/// The same of a trace.
 fn finds_from(
     alloc: Global,
     profile: Profile,
     start: &Start,
     trace: &[u8],
     found: &[Found],
-) -> Result<bool, Fail> {
-    let lines = lines_of(alloc, trace)?;
-    Ok(check(alloc, profile, start, &lines)?.as_slice() == found)
+) -> bool {
+    match lines_of(alloc, trace) {
+        Some(lines) => finds_in(alloc, profile, start, &lines, found),
+        None => false,
+    }
 }
 
 /// The same where that is known.
-fn finds(
-    alloc: Global,
-    profile: Profile,
-    known: &Known,
-    trace: &[u8],
-    found: &[Found],
-) -> Result<bool, Fail> {
-    let start = known.start(alloc)?;
-    finds_from(alloc, profile, &start, trace, found)
+fn finds(alloc: Global, profile: Profile, known: &Known, trace: &[u8], found: &[Found]) -> bool {
+    let mut start = Start::unknown(alloc);
+    let finds = known.add_to(alloc, &mut start) && finds_from(alloc, profile, &start, trace, found);
+    drop(start);
+    finds
 }
 
-/// A write without its right is found.
-#[test]
-fn a_trace_is_checked_from_a_start(rt: HostRuntime) -> Result<(), Fail> {
-    let read = Cell::Held(parse_rights(b"CAP_READ")?, OnExec::Unsure);
-    let reading = Known::of_zero(read);
-    let finding = Finding::Missing(0, parse_rights(b"CAP_WRITE")?);
+/// Whether a write without its right is found.
+fn finds_a_write(alloc: Global, profile: Profile) -> bool {
+    let finding = Finding::Missing(0, rights_of(b"CAP_WRITE"));
     let found = [Found { at: 1, finding }];
-    for profile in &[Profile::One, Profile::Two] {
-        assert!(rt;
-            finds(
-                rt.alloc(),
-                *profile,
-                &reading,
-                b"100 write(0) RET 1",
-                &found
-            )?
-        );
-    }
-    Ok(())
+    finds(alloc, profile, &reading(), b"100 write(0) RET 1", &found)
+}
+
+#[test]
+fn a_trace_is_checked_from_a_start(rt: HostRuntime) {
+    let alloc = rt.alloc();
+    assert!(rt; finds_a_write(alloc, Profile::One) && finds_a_write(alloc, Profile::Two));
 }
 
 /// A limit that is asked for twice, and a call that lacks a right.
 const LIMITED: &[u8] =
     b"100 cap_rights_limit(6,CAP_READ|CAP_SEEK) RET 0\n100 cap_rights_limit(6,CAP_READ) RET 0\n100 lseek(6) RET 0";
 
+/// Whether these are the findings of that trace where descriptor 6 has this cell.
+fn finds_limited(alloc: Global, cell: Cell, rest: Cell, found: &[Found]) -> bool {
+    let known = Known::of_six(cell, rest);
+    finds(alloc, Profile::Two, &known, LIMITED, found)
+}
+
 #[test]
-fn a_limit_is_known_afterwards(rt: HostRuntime) -> Result<(), Fail> {
-    let finding = Finding::Missing(6, parse_rights(b"CAP_SEEK")?);
+fn a_limit_is_known_afterwards(rt: HostRuntime) {
+    let alloc = rt.alloc();
+    let finding = Finding::Missing(6, rights_of(b"CAP_SEEK"));
     let missing = Found { at: 3, finding };
     let finding = Finding::Closed(6);
     let closed = Found { at: 1, finding };
     let whole = Cell::Held(RightSet::all(), OnExec::Set);
-    for (known, found) in &[
-        (
-            Known::of_six(Cell::Unknown, Cell::Closed),
-            [missing].as_slice(),
-        ),
-        (Known::of_six(whole, Cell::Closed), [missing].as_slice()),
-        (
-            Known::of_six(Cell::Closed, Cell::Unknown),
-            [closed, missing].as_slice(),
-        ),
-    ] {
-        assert!(rt; finds(rt.alloc(), Profile::Two, known, LIMITED, found)?);
-    }
-    Ok(())
+    assert!(rt;
+        finds_limited(alloc, Cell::Unknown, Cell::Closed, &[missing])
+            && finds_limited(alloc, whole, Cell::Closed, &[missing])
+            && finds_limited(alloc, Cell::Closed, Cell::Unknown, &[closed, missing])
+    );
 }
 
-/// Whether this is the report of a trace where that is known.
+/// Whether this is the report of a trace from a start.
 fn reports_from(
+    alloc: Global,
+    profile: Profile,
+    start: &Start,
+    trace: &[u8],
+    report: &[u8],
+) -> bool {
+    match Checker::from_start(alloc, profile, start) {
+        Ok(checker) => reports(alloc, checker, trace, Way::Owned, report),
+        Err(_) => false,
+    }
+}
+
+/// The same where that is known.
+fn reports_where(
     alloc: Global,
     profile: Profile,
     known: &Known,
     trace: &[u8],
     report: &[u8],
-) -> Result<bool, Fail> {
-    let checker = Checker::from_start(alloc, profile, &known.start(alloc)?)?;
-    reports(alloc, checker, trace, Way::Owned, report)
+) -> bool {
+    let mut start = Start::unknown(alloc);
+    let reports = known.add_to(alloc, &mut start)
+        && reports_from(alloc, profile, &start, trace, report);
+    drop(start);
+    reports
 }
 
 /// A write without its right is reported.
 #[test]
-fn a_report_begins_from_a_start(rt: HostRuntime) -> Result<(), Fail> {
-    let read = Cell::Held(parse_rights(b"CAP_READ")?, OnExec::Unsure);
-    let reading = Known::of_zero(read);
-    let report = b"1 100 write missing 0 CAP_WRITE\nfindings 1\n";
-    assert!(rt;
-        reports_from(
-            rt.alloc(),
-            Profile::One,
-            &reading,
-            b"100 write(0) RET 1",
-            report
-        )?
-    );
-    Ok(())
+fn a_report_begins_from_a_start(rt: HostRuntime) {
+    let trace = b"100 write(0) RET 1".as_slice();
+    let report = b"1 100 write missing 0 CAP_WRITE\nfindings 1\n".as_slice();
+    assert!(rt; reports_where(rt.alloc(), Profile::One, &reading(), trace, report));
 }
 
 /// A descriptor that is not listed is read from after an exec, and one that is.
@@ -192,17 +236,20 @@ static EXECS: [(Profile, &[u8]); 2] = [
     (Profile::One, b"findings 0\n"),
 ];
 
-/// All rights are held on descriptor 5.
-#[test]
-fn an_exec_follows_the_start(rt: HostRuntime) -> Result<(), Fail> {
+/// Whether this is its report where all rights are held on descriptor 5.
+fn reports_an_exec(alloc: Global, profile: Profile, report: &[u8]) -> bool {
     let whole = Known {
         mode: Mode::Outside,
         fd: 5,
         cell: Cell::Held(RightSet::all(), OnExec::Unsure),
         rest: Cell::Closed,
     };
+    reports_where(alloc, profile, &whole, EXECUTED, report)
+}
+
+#[test]
+fn an_exec_follows_the_start(rt: HostRuntime) {
     for (profile, report) in &EXECS {
-        assert!(rt; reports_from(rt.alloc(), *profile, &whole, EXECUTED, report)?);
+        assert!(rt; reports_an_exec(rt.alloc(), *profile, report));
     }
-    Ok(())
 }

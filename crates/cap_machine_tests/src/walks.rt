@@ -1,20 +1,26 @@
 //! Walks back, which are handed only the lines that matter.
 
 use crate::lines::lines_of;
-use crate::starts::start_of;
+use crate::starts::{add, readable, rights_of};
 use cap_machine::{
     Cell, CellEnd, CellLink, CellOrigin, CellWalk, Checks, Explanation, Finding, Mode, ModeEnd,
-    ModeLink, ModeOrigin, ModeWalk, NoMemory, OnExec, Op, Profile, Start, Touched, Turned, rule_of,
+    ModeLink, ModeOrigin, ModeWalk, OnExec, Op, Profile, Start, Touched, Turned, rule_of,
     walks_may_leave_out,
 };
-use cap_rights::parse_rights;
 use cap_trace::{Line, parse_line};
 use std::alloc::Global;
-use std::test::Fail;
 
 /// Process 202 has descriptor 4 of 201, which limited what it has of 200.
 const FORKS: &[u8] =
     b"200 @start(3)\n200 accept(3) RET 4\n200 dup(4) RET 5\n200 fork() RET 201\n201 cap_enter() RET 0\n201 cap_rights_limit(4,CAP_READ) RET 0\n200 close(4) RET 0\n201 fork() RET 202\n202 write(4) RET 1";
+
+/// Lets a walk from a cell pass the line at a position, if there is one, and says whether it could.
+fn pass(walk: &mut CellWalk, lines: &[Line], at: usize) -> bool {
+    match lines.get(at.saturating_sub(1)) {
+        Some(line) => walk.pass(at, Profile::Two, line).is_ok(),
+        None => true,
+    }
+}
 
 /// A walk from a cell that has passed the lines at these positions.
 fn walked(
@@ -23,14 +29,14 @@ fn walked(
     pid: u32,
     fd: u32,
     positions: &[usize],
-) -> Result<CellWalk, NoMemory> {
+) -> Option<CellWalk> {
     let mut walk = CellWalk::from(alloc, pid, fd);
     for at in positions {
-        if let Some(line) = lines.get(at.saturating_sub(1)) {
-            walk.pass(*at, Profile::Two, line)?;
+        if !pass(&mut walk, lines, *at) {
+            return None;
         }
     }
-    Ok(walk)
+    Some(walk)
 }
 
 /// The same over the lines of a trace.
@@ -40,31 +46,38 @@ fn walked_over(
     pid: u32,
     fd: u32,
     positions: &[usize],
-) -> Result<CellWalk, Fail> {
-    let lines = lines_of(alloc, trace)?;
-    Ok(walked(alloc, &lines, pid, fd, positions)?)
+) -> Option<CellWalk> {
+    match lines_of(alloc, trace) {
+        Some(lines) => walked(alloc, &lines, pid, fd, positions),
+        None => None,
+    }
+}
+
+/// Lets a walk from a mode pass the line at a position, if there is one, and says whether it could.
+fn mode_pass(walk: &mut ModeWalk, lines: &[Line], at: usize) -> bool {
+    match lines.get(at.saturating_sub(1)) {
+        Some(line) => walk.pass(at, Profile::Two, line).is_ok(),
+        None => true,
+    }
 }
 
 /// A walk from a mode that has passed the lines at these positions.
-fn mode_walked(
-    alloc: Global,
-    lines: &[Line],
-    pid: u32,
-    positions: &[usize],
-) -> Result<ModeWalk, NoMemory> {
+fn mode_walked(alloc: Global, lines: &[Line], pid: u32, positions: &[usize]) -> Option<ModeWalk> {
     let mut walk = ModeWalk::from(alloc, pid);
     for at in positions {
-        if let Some(line) = lines.get(at.saturating_sub(1)) {
-            walk.pass(*at, Profile::Two, line)?;
+        if !mode_pass(&mut walk, lines, *at) {
+            return None;
         }
     }
-    Ok(walk)
+    Some(walk)
 }
 
 /// The same over the forks.
-fn mode_walked_over_forks(alloc: Global, pid: u32, positions: &[usize]) -> Result<ModeWalk, Fail> {
-    let lines = lines_of(alloc, FORKS)?;
-    Ok(mode_walked(alloc, &lines, pid, positions)?)
+fn mode_walked_over_forks(alloc: Global, pid: u32, positions: &[usize]) -> Option<ModeWalk> {
+    match lines_of(alloc, FORKS) {
+        Some(lines) => mode_walked(alloc, &lines, pid, positions),
+        None => None,
+    }
 }
 
 /// The lines that descriptor 4 of process 202 comes from.
@@ -91,7 +104,24 @@ static CELL_LINKS: [CellLink; 4] = [
     },
 ];
 
-/// Whether a walk has ended where a line gave the cell, and finds this cell, this end and these lines.
+/// Whether a walk finds this cell, this end and these lines.
+fn finishes(
+    alloc: Global,
+    walk: CellWalk,
+    start: &Start,
+    cell: Cell,
+    end: CellEnd,
+    links: &[CellLink],
+) -> bool {
+    match walk.finish(alloc, start) {
+        Ok(origin) => {
+            origin.cell == cell && origin.end == end && origin.links.as_slice() == links
+        }
+        Err(_) => false,
+    }
+}
+
+/// The same, and whether it has ended where a line gave the cell.
 fn finds(
     alloc: Global,
     walk: CellWalk,
@@ -99,31 +129,37 @@ fn finds(
     cell: Cell,
     end: CellEnd,
     links: &[CellLink],
-) -> Result<bool, NoMemory> {
+) -> bool {
     let has_ended = walk.has_ended();
-    let origin = walk.finish(alloc, start)?;
-    Ok(
-        has_ended == matches!(end, CellEnd::Given(_))
-            && origin.cell == cell
-            && origin.end == end
-            && origin.links.as_slice() == links,
-    )
+    finishes(alloc, walk, start, cell, end, links) && has_ended == matches!(end, CellEnd::Given(_))
 }
 
 /// Every line, and those alone that touched the cell.
 static CELL_POSITIONS: [&[usize]; 2] = [&[8, 7, 6, 5, 4, 3, 2, 1], &[8, 6, 4, 2]];
 
-/// They find the limit to CAP_READ.
-#[test]
-fn a_walk_finds_the_lines_that_a_cell_comes_from(rt: HostRuntime) -> Result<(), Fail> {
-    let limited = Cell::Held(parse_rights(b"CAP_READ")?, OnExec::Unsure);
+/// Whether a walk over these positions finds the limit to CAP_READ.
+fn finds_limit(alloc: Global, start: &Start, positions: &[usize]) -> bool {
     let end = CellEnd::Given(Cell::Unknown);
-    let start = Start::unknown(rt.alloc());
-    for positions in &CELL_POSITIONS {
-        let walk = walked_over(rt.alloc(), FORKS, 202, 4, positions)?;
-        assert!(rt; finds(rt.alloc(), walk, &start, limited, end, &CELL_LINKS)?);
+    match walked_over(alloc, FORKS, 202, 4, positions) {
+        Some(walk) => finds(alloc, walk, start, readable(), end, &CELL_LINKS),
+        None => false,
     }
-    Ok(())
+}
+
+/// Whether each such walk does, from the usual start.
+fn all_find_limit(alloc: Global) -> bool {
+    let start = Start::unknown(alloc);
+    let mut all = true;
+    for positions in &CELL_POSITIONS {
+        all = all && finds_limit(alloc, &start, positions);
+    }
+    drop(start);
+    all
+}
+
+#[test]
+fn a_walk_finds_the_lines_that_a_cell_comes_from(rt: HostRuntime) {
+    assert!(rt; all_find_limit(rt.alloc()));
 }
 
 /// The positions that a walk from descriptor 7 of process 101 has passed, where it is then, and whether it has ended.
@@ -134,15 +170,21 @@ static PLACES: [(&[usize], u32, u32, bool); 4] = [
     (&[3, 2, 1], 100, 3, true),
 ];
 
+/// Whether it is there.
+fn is_at(alloc: Global, row: &(&[usize], u32, u32, bool)) -> bool {
+    let trace = b"100 @start(3)\n100 dup(3) RET 7\n100 fork() RET 101".as_slice();
+    match walked_over(alloc, trace, 101, 7, row.0) {
+        Some(walk) => walk.pid() == row.1 && walk.fd() == row.2 && walk.has_ended() == row.3,
+        None => false,
+    }
+}
+
 /// Where it is after each line, and that it hasn't ended before its last.
 #[test]
-fn a_walk_says_where_it_is(rt: HostRuntime) -> Result<(), Fail> {
-    let trace = b"100 @start(3)\n100 dup(3) RET 7\n100 fork() RET 101".as_slice();
-    for (positions, pid, fd, has_ended) in &PLACES {
-        let walk = walked_over(rt.alloc(), trace, 101, 7, positions)?;
-        assert!(rt; walk.pid() == *pid && walk.fd() == *fd && walk.has_ended() == *has_ended);
+fn a_walk_says_where_it_is(rt: HostRuntime) {
+    for row in &PLACES {
+        assert!(rt; is_at(rt.alloc(), row));
     }
-    Ok(())
 }
 
 /// The line that closes the copy.
@@ -152,19 +194,44 @@ static CLOSED: [CellLink; 1] = [CellLink {
     fd: 5,
 }];
 
+/// Whether a walk from a descriptor that was copied, or is the copy, finds this cell, this end and these lines.
+fn finds_copy(
+    alloc: Global,
+    start: &Start,
+    fd: u32,
+    cell: Cell,
+    end: CellEnd,
+    links: &[CellLink],
+) -> bool {
+    let trace = b"100 dup(3) RET 5\n100 close(5) RET 0\n100 fork() RET 101".as_slice();
+    match walked_over(alloc, trace, 100, fd, &[3, 2, 1]) {
+        Some(walk) => finds(alloc, walk, start, cell, end, links),
+        None => false,
+    }
+}
+
+/// Whether both end where they should.
+fn copies_end(alloc: Global, start: &Start) -> bool {
+    let at_start = CellEnd::Start(100, 3, readable());
+    let given = CellEnd::Given(Cell::Closed);
+    finds_copy(alloc, start, 3, readable(), at_start, &[])
+        && finds_copy(alloc, start, 5, Cell::Closed, given, &CLOSED)
+}
+
+/// The same from a start in which the first is held for reading.
+fn both_end(alloc: Global) -> bool {
+    let cells = [(3, readable())];
+    let mut start = Start::unknown(alloc);
+    let end = add(alloc, &mut start, 100, Mode::Outside, Cell::Closed, &cells)
+        && copies_end(alloc, &start);
+    drop(start);
+    end
+}
+
 /// Without a line that gave the cell, and after one that did: no older line is taken.
 #[test]
-fn a_walk_ends_at_the_start_or_where_the_cell_was_given(rt: HostRuntime) -> Result<(), Fail> {
-    let trace = b"100 dup(3) RET 5\n100 close(5) RET 0\n100 fork() RET 101".as_slice();
-    let read = Cell::Held(parse_rights(b"CAP_READ")?, OnExec::Unsure);
-    let start = start_of(rt.alloc(), 100, Mode::Outside, Cell::Closed, &[(3, read)])?;
-    let end = CellEnd::Start(100, 3, read);
-    let walk = walked_over(rt.alloc(), trace, 100, 3, &[3, 2, 1])?;
-    assert!(rt; finds(rt.alloc(), walk, &start, read, end, &[])?);
-    let end = CellEnd::Given(Cell::Closed);
-    let walk = walked_over(rt.alloc(), trace, 100, 5, &[3, 2, 1])?;
-    assert!(rt; finds(rt.alloc(), walk, &start, Cell::Closed, end, &CLOSED)?);
-    Ok(())
+fn a_walk_ends_at_the_start_or_where_the_cell_was_given(rt: HostRuntime) {
+    assert!(rt; both_end(rt.alloc()));
 }
 
 /// A walk from the mode of a process over these positions.
@@ -211,44 +278,75 @@ static MODES: [ModeRow; 3] = [
     },
 ];
 
-/// Whether the walk of a row over the forks finds what it says.
-fn finds_mode(alloc: Global, start: &Start, row: &ModeRow) -> Result<bool, Fail> {
-    let walk = mode_walked_over_forks(alloc, row.pid, row.positions)?;
+/// Whether a walk is where a row says, and finds what it says.
+fn is_mode(walk: ModeWalk, start: &Start, row: &ModeRow) -> bool {
     let is_there = walk.pid() == row.at && walk.has_ended() == row.has_ended;
     let origin = walk.finish(start);
-    Ok(
-        is_there
-            && origin.mode == row.mode
-            && origin.end == row.end
-            && origin.links.as_slice() == row.links,
-    )
+    is_there
+        && origin.mode == row.mode
+        && origin.end == row.end
+        && origin.links.as_slice() == row.links
 }
 
-/// From a start in which process 200 is outside.
-#[test]
-fn a_mode_walk_finds_the_lines_that_a_mode_comes_from(rt: HostRuntime) -> Result<(), Fail> {
-    let start = start_of(rt.alloc(), 200, Mode::Outside, Cell::Unknown, &[])?;
-    for row in &MODES {
-        assert!(rt; finds_mode(rt.alloc(), &start, row)?);
+/// The same of the walk of a row over the forks.
+fn finds_mode(alloc: Global, start: &Start, row: &ModeRow) -> bool {
+    match mode_walked_over_forks(alloc, row.pid, row.positions) {
+        Some(walk) => is_mode(walk, start, row),
+        None => false,
     }
-    Ok(())
+}
+
+/// The same of each row.
+fn finds_modes(alloc: Global, start: &Start) -> bool {
+    for row in &MODES {
+        if !finds_mode(alloc, start, row) {
+            return false;
+        }
+    }
+    true
+}
+
+/// The same from a start in which process 200 is outside.
+fn finds_modes_from_outside(alloc: Global) -> bool {
+    let mut start = Start::unknown(alloc);
+    let finds = add(alloc, &mut start, 200, Mode::Outside, Cell::Unknown, &[])
+        && finds_modes(alloc, &start);
+    drop(start);
+    finds
+}
+
+#[test]
+fn a_mode_walk_finds_the_lines_that_a_mode_comes_from(rt: HostRuntime) {
+    assert!(rt; finds_modes_from_outside(rt.alloc()));
 }
 
 /// Where descriptor 4 of process 202 comes from.
-fn cell_of_202(alloc: Global) -> Result<CellOrigin, Fail> {
-    let walk = walked_over(alloc, FORKS, 202, 4, &[8, 6, 4, 2])?;
-    Ok(walk.finish(alloc, &Start::unknown(alloc))?)
+fn cell_of_202(alloc: Global, start: &Start) -> Option<CellOrigin> {
+    match walked_over(alloc, FORKS, 202, 4, &[8, 6, 4, 2]) {
+        Some(walk) => walk.finish(alloc, start).ok(),
+        None => None,
+    }
+}
+
+/// Adds that, and says whether it could.
+fn add_cell_of_202(alloc: Global, start: &Start, cells: &mut Vec<CellOrigin>) -> bool {
+    match cell_of_202(alloc, start) {
+        Some(origin) => cells.push(origin).is_ok(),
+        None => false,
+    }
 }
 
 /// Where its mode comes from.
-fn mode_of_202(alloc: Global) -> Result<ModeOrigin, Fail> {
-    let walk = mode_walked_over_forks(alloc, 202, &[8, 5])?;
-    Ok(walk.finish(&Start::unknown(alloc)))
+fn mode_of_202(alloc: Global, start: &Start) -> Option<ModeOrigin> {
+    match mode_walked_over_forks(alloc, 202, &[8, 5]) {
+        Some(walk) => Some(walk.finish(start)),
+        None => None,
+    }
 }
 
 /// Whether a line that checks one descriptor, for which the mode doesn't matter, is explained by one cell, with this
 /// finding.
-fn is_explained_by_cell(line: &Line, cells: Vec<CellOrigin>, finding: Finding) -> bool {
+fn is_explained_by_cells(line: &Line, cells: Vec<CellOrigin>, finding: Finding) -> bool {
     let demand = rule_of(Profile::Two, &line.seen()).demand;
     match &demand.checks {
         Checks::One(_) if cells.len() == 1 && !demand.mode_matters() => {
@@ -261,14 +359,28 @@ fn is_explained_by_cell(line: &Line, cells: Vec<CellOrigin>, finding: Finding) -
     }
 }
 
+/// Whether it is explained by descriptor 4 of process 202.
+fn is_explained_by_cell(alloc: Global, start: &Start, line: &Line) -> bool {
+    let missing = Finding::Missing(4, rights_of(b"CAP_WRITE"));
+    let mut cells = Vec::new(alloc);
+    let is_added = add_cell_of_202(alloc, start, &mut cells);
+    is_explained_by_cells(line, cells, missing) && is_added
+}
+
+/// The same of a write to it.
+fn is_write_explained(alloc: Global, start: &Start) -> bool {
+    match parse_line(alloc, b"202 write(4) RET 1") {
+        Ok(line) => is_explained_by_cell(alloc, start, &line),
+        Err(_) => false,
+    }
+}
+
 #[test]
-fn an_explanation_is_made_of_a_cell(rt: HostRuntime) -> Result<(), Fail> {
-    let missing = Finding::Missing(4, parse_rights(b"CAP_WRITE")?);
-    let write = parse_line(rt.alloc(), b"202 write(4) RET 1")?;
-    let mut cells = Vec::new(rt.alloc());
-    cells.push(cell_of_202(rt.alloc())?)?;
-    assert!(rt; is_explained_by_cell(&write, cells, missing));
-    Ok(())
+fn an_explanation_is_made_of_a_cell(rt: HostRuntime) {
+    let start = Start::unknown(rt.alloc());
+    let is_explained = is_write_explained(rt.alloc(), &start);
+    drop(start);
+    assert!(rt; is_explained);
 }
 
 /// Whether a line that checks none, for which the mode matters, is explained by a mode, with one finding.
@@ -283,12 +395,28 @@ fn is_explained_by_mode(alloc: Global, line: &Line, origin: ModeOrigin) -> bool 
     }
 }
 
+/// Whether it is explained by the mode of process 202.
+fn is_explained_by_its_mode(alloc: Global, start: &Start, line: &Line) -> bool {
+    match mode_of_202(alloc, start) {
+        Some(origin) => is_explained_by_mode(alloc, line, origin),
+        None => false,
+    }
+}
+
+/// The same of an open.
+fn is_open_explained(alloc: Global, start: &Start) -> bool {
+    match parse_line(alloc, b"202 open(\"x\",O_RDONLY) RET 3") {
+        Ok(line) => is_explained_by_its_mode(alloc, start, &line),
+        Err(_) => false,
+    }
+}
+
 #[test]
-fn an_explanation_is_made_of_a_mode(rt: HostRuntime) -> Result<(), Fail> {
-    let open = parse_line(rt.alloc(), b"202 open(\"x\",O_RDONLY) RET 3")?;
-    let mode = mode_of_202(rt.alloc())?;
-    assert!(rt; is_explained_by_mode(rt.alloc(), &open, mode));
-    Ok(())
+fn an_explanation_is_made_of_a_mode(rt: HostRuntime) {
+    let start = Start::unknown(rt.alloc());
+    let is_explained = is_open_explained(rt.alloc(), &start);
+    drop(start);
+    assert!(rt; is_explained);
 }
 
 fn touched_by(line: &Line, pid: u32, fd: u32) -> Touched {
@@ -322,34 +450,37 @@ static TOUCHES: [(&[u8], u32, u32, &str); 10] = [
 ];
 
 /// Whether a line does that.
-fn touches(alloc: Global, row: &(&[u8], u32, u32, &str)) -> Result<bool, Fail> {
-    let (text, pid, fd, wanted) = row;
-    let line = parse_line(alloc, text)?;
-    Ok(word_of(&touched_by(&line, *pid, *fd)) == *wanted)
+fn touches(alloc: Global, row: &(&[u8], u32, u32, &str)) -> bool {
+    match parse_line(alloc, row.0) {
+        Ok(line) => word_of(&touched_by(&line, row.1, row.2)) == row.3,
+        Err(_) => false,
+    }
 }
 
 #[test]
-fn an_effect_touches_cells(rt: HostRuntime) -> Result<(), Fail> {
+fn an_effect_touches_cells(rt: HostRuntime) {
     for row in &TOUCHES {
-        assert!(rt; touches(rt.alloc(), row)?, "{row:?}");
+        assert!(rt; touches(rt.alloc(), row));
     }
-    Ok(())
 }
 
 /// Whether a line takes the cell of a descriptor from that of another one by an op.
-fn takes(alloc: Global, text: &[u8], pid: u32, fd: u32, op: Op, from: u32) -> Result<bool, Fail> {
-    let line = parse_line(alloc, text)?;
-    Ok(touched_by(&line, pid, fd) == Touched::Taken(op, from))
+fn takes(alloc: Global, text: &[u8], pid: u32, fd: u32, op: Op, from: u32) -> bool {
+    match parse_line(alloc, text) {
+        Ok(line) => touched_by(&line, pid, fd) == Touched::Taken(op, from),
+        Err(_) => false,
+    }
 }
 
 /// Of the cell of another descriptor, or of the parent.
 #[test]
-fn an_effect_takes_cells(rt: HostRuntime) -> Result<(), Fail> {
+fn an_effect_takes_cells(rt: HostRuntime) {
     let derived = Op::derive(OnExec::Clear);
-    assert!(rt; takes(rt.alloc(), b"100 fork() RET 101", 101, 4, Op::same(), 4)?);
-    assert!(rt; takes(rt.alloc(), b"100 dup(3) RET 7", 100, 7, derived, 3)?);
-    assert!(rt; Op::same().on(Cell::Closed) == Cell::Closed);
-    Ok(())
+    assert!(rt;
+        takes(rt.alloc(), b"100 fork() RET 101", 101, 4, Op::same(), 4)
+            && takes(rt.alloc(), b"100 dup(3) RET 7", 100, 7, derived, 3)
+            && Op::same().on(Cell::Closed) == Cell::Closed
+    );
 }
 
 /// A line, and what it does to the mode of a process.
@@ -361,26 +492,27 @@ static TURNS: [(&[u8], u32, Turned); 5] = [
     (b"100 @start(3)", 100, Turned::Turns(Mode::Outside)),
 ];
 
-/// What a line does to the mode of a process.
-fn turned_by(alloc: Global, text: &[u8], pid: u32) -> Result<Turned, Fail> {
-    let line = parse_line(alloc, text)?;
-    Ok(
-        rule_of(Profile::Two, &line.seen())
-            .effect
-            .turn(line.pid(), pid),
-    )
-}
-
-#[test]
-fn an_effect_turns_modes(rt: HostRuntime) -> Result<(), Fail> {
-    for (text, pid, wanted) in &TURNS {
-        assert!(rt; turned_by(rt.alloc(), text, *pid)? == *wanted);
+/// Whether a line does that.
+fn turns(alloc: Global, row: &(&[u8], u32, Turned)) -> bool {
+    match parse_line(alloc, row.0) {
+        Ok(line) => {
+            rule_of(Profile::Two, &line.seen())
+                .effect
+                .turn(line.pid(), row.1)
+                == row.2
+        }
+        Err(_) => false,
     }
-    Ok(())
 }
 
 #[test]
-fn the_law_of_walks_is_called() -> Result<(), Fail> {
+fn an_effect_turns_modes(rt: HostRuntime) {
+    for row in &TURNS {
+        assert!(rt; turns(rt.alloc(), row));
+    }
+}
+
+#[test]
+fn the_law_of_walks_is_called() {
     walks_may_leave_out();
-    Ok(())
 }

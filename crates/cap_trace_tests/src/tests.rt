@@ -1,4 +1,6 @@
 //! Worked lines: boundaries, refused lines, each name once, and what a line that was read says.
+//!
+//! A test goes over a table, and a small function says whether a row holds. It doesn't where memory has run out.
 
 use cap_trace::{
     Answer, Call, Dir, FdCall, Fds, Item, LONGEST_LINE, Line, LineFault, LineRef, Path, PathCall,
@@ -7,7 +9,6 @@ use cap_trace::{
     spells_command, spells_flags, spells_name, write_line, written_is_read,
 };
 use std::alloc::Global;
-use std::test::Fail;
 
 /// Lines with the number of their first fault.
 static REFUSED: [(&[u8], u8); 64] = [
@@ -77,14 +78,18 @@ static REFUSED: [(&[u8], u8); 64] = [
     (b"100 foo() RET ", 6),
 ];
 
+/// The code of the fault with which something isn't made; 0 where it is.
+fn refused<T: Drop>(made: Result<T, LineFault>) -> u8 {
+    match made {
+        Ok(_) => 0,
+        Err(fault) => fault.code(),
+    }
+}
+
 #[test]
 fn a_refused_line_has_the_number_of_its_first_fault(rt: HostRuntime) {
-    for (bytes, code) in REFUSED {
-        let found = match parse_line(rt.alloc(), bytes) {
-            Ok(_) => 0,
-            Err(fault) => fault.code(),
-        };
-        assert_eq!(rt; found, code, "{bytes:?}");
+    for (bytes, code) in &REFUSED {
+        assert!(rt; refused(parse_line(rt.alloc(), bytes)) == *code);
     }
 }
 
@@ -201,31 +206,54 @@ static READ: &[u8] = b"100 read(3) RET 5
 100 foo(a\"b,-) RET 18446744073709551615
 1 _foo9(x) RET 0,18446744073709551615";
 
-/// The text that is written for a line that is read.
-fn written(alloc: Global, bytes: &[u8]) -> Result<Vec<u8>, Fail> {
-    let line = parse_line(alloc, bytes)?;
+/// Whether this text is written for a line.
+fn is_written(alloc: Global, line: &Line, text: &[u8]) -> bool {
     let mut out = Vec::new(alloc);
-    write_line(&line, &mut out)?;
-    Ok(out)
+    write_line(line, &mut out).is_ok() && out.as_slice() == text
+}
+
+/// Whether this text is written for a line that is read.
+fn is_rewritten(alloc: Global, bytes: &[u8], text: &[u8]) -> bool {
+    match parse_line(alloc, bytes) {
+        Ok(line) => is_written(alloc, &line, text),
+        Err(_) => false,
+    }
+}
+
+/// The name in a line: what stands between the blank and the bracket.
+fn name_in(bytes: &[u8]) -> &[u8] {
+    let mut words = bytes.split(|byte| *byte == b' ' || *byte == b'(');
+    let _pid = words.next();
+    words.next().unwrap_or(bytes)
+}
+
+/// Whether a line that is read has its name.
+fn is_named(alloc: Global, bytes: &[u8]) -> bool {
+    match parse_line(alloc, bytes) {
+        Ok(line) => line.name() == name_in(bytes),
+        Err(_) => false,
+    }
 }
 
 #[test]
-fn each_name_is_read_and_written(rt: HostRuntime) -> Result<(), Fail> {
+fn each_name_is_read_and_written(rt: HostRuntime) {
     for bytes in READ.split(|byte| *byte == b'\n') {
-        let text = written(rt.alloc(), bytes)?;
-        assert_eq!(rt; text.as_slice(), bytes);
+        assert!(rt; is_named(rt.alloc(), bytes) && is_rewritten(rt.alloc(), bytes, bytes));
     }
-    Ok(())
 }
 
-/// The text that is written for a line that is read where it lies, and then kept.
-fn written_where_it_lies(alloc: Global, bytes: &[u8]) -> Result<Vec<u8>, Fail> {
-    let mut out = Vec::new(alloc);
-    if let Err(unread) = parse_fd_line(bytes) {
-        let line = unread.line()?;
-        write_line(&line.kept(alloc, bytes)?, &mut out)?;
-    }
-    Ok(out)
+/// The example of the crate's documentation: reading and writing.
+#[test]
+fn the_example_is_read(rt: HostRuntime) {
+    let bytes = b"100 open(\"/etc/passwd\",O_RDONLY) RET 3".as_slice();
+    assert!(rt; is_named(rt.alloc(), bytes) && is_rewritten(rt.alloc(), bytes, bytes));
+}
+
+#[test]
+fn rights_are_written_in_order(rt: HostRuntime) {
+    let asked = b"100 cap_rights_limit(3,CAP_WRITE|CAP_PREAD|CAP_READ) RET 0";
+    let text = b"100 cap_rights_limit(3,CAP_READ|CAP_WRITE|CAP_SEEK) RET 0";
+    assert!(rt; is_rewritten(rt.alloc(), asked, text));
 }
 
 /// Lines of the forms that are read where they lie.
@@ -241,56 +269,54 @@ static LYING: [&[u8]; 9] = [
     b"100 clock_gettime(4) RET 0",
 ];
 
-#[test]
-fn a_call_is_read_where_it_lies(rt: HostRuntime) -> Result<(), Fail> {
-    for bytes in LYING {
-        let text = written_where_it_lies(rt.alloc(), bytes)?;
-        assert_eq!(rt; text.as_slice(), bytes);
+/// The line that is read where it lies, and then kept.
+fn kept(alloc: Global, bytes: &[u8]) -> Option<Line> {
+    match parse_fd_line(bytes) {
+        Ok(_) => None,
+        Err(unread) => match unread.line() {
+            Ok(line) => line.kept(alloc, bytes).ok(),
+            Err(_) => None,
+        },
     }
-    Ok(())
+}
+
+/// Whether such a line is written as it was.
+fn is_kept(alloc: Global, bytes: &[u8]) -> bool {
+    match kept(alloc, bytes) {
+        Some(line) => is_written(alloc, &line, bytes),
+        None => false,
+    }
 }
 
 #[test]
-fn each_line_is_named(rt: HostRuntime) -> Result<(), Fail> {
-    for bytes in READ.split(|byte| *byte == b'\n') {
-        let mut words = bytes.split(|byte| *byte == b' ' || *byte == b'(');
-        let _pid = words.next();
-        let name = words.next().unwrap_or(bytes);
-        let line = parse_line(rt.alloc(), bytes)?;
-        assert_eq!(rt; line.name(), name, "{bytes:?}");
+fn a_call_is_read_where_it_lies(rt: HostRuntime) {
+    for bytes in &LYING {
+        assert!(rt; is_kept(rt.alloc(), bytes));
     }
-    Ok(())
 }
 
-#[test]
-fn the_longest_line_is_read(rt: HostRuntime) -> Result<(), Fail> {
+/// Each law may be called.
+fn call_the_laws() {
     one_line();
     one_path();
     reading_is_spelling();
     written_is_read();
     only_rights_are_rewritten();
     faults_are_of_their_fields();
+}
+
+/// The longest line.
+fn longest() -> [u8; 1024] {
     let mut bytes = [b'x'; 1024];
-    for (i, byte) in b"100 foo(".iter().enumerate() {
-        bytes[i] = *byte;
-    }
-    for (i, byte) in b") RET 0".iter().enumerate() {
-        bytes[1017 + i] = *byte;
-    }
-    let line = parse_line(rt.alloc(), &bytes)?;
-    assert_eq!(rt; line.name(), b"foo".as_slice());
-    Ok(())
+    bytes[..8].copy_from_slice(b"100 foo(");
+    bytes[1017..].copy_from_slice(b") RET 0");
+    bytes
 }
 
 #[test]
-fn rights_are_written_in_order(rt: HostRuntime) -> Result<(), Fail> {
-    let asked = b"100 cap_rights_limit(3,CAP_WRITE|CAP_PREAD|CAP_READ) RET 0";
-    let text = written(rt.alloc(), asked)?;
-    assert_eq!(rt;
-        text.as_slice(),
-        b"100 cap_rights_limit(3,CAP_READ|CAP_WRITE|CAP_SEEK) RET 0".as_slice()
-    );
-    Ok(())
+fn the_longest_line_is_read(rt: HostRuntime) {
+    call_the_laws();
+    assert!(rt; is_named(rt.alloc(), &longest()));
 }
 
 /// The call on a descriptor that a line is, with its pid and its answer.
@@ -304,23 +330,31 @@ fn on_fd(line: &LineRef<'_>) -> Option<(u32, FdCall, u32, Answer)> {
     }
 }
 
-/// The same of a line that is read.
-fn read_on_fd(alloc: Global, bytes: &[u8]) -> Result<Option<(u32, FdCall, u32, Answer)>, Fail> {
-    let line = parse_line(alloc, bytes)?;
-    Ok(on_fd(&line.seen()))
+/// Lines with what they say of a call on a descriptor.
+static ON_FDS: [(&[u8], (u32, FdCall, u32, Answer)); 2] = [
+    (
+        b"99999 read(1048575) RET -1 errno 9",
+        (99_999, FdCall::Read, 1_048_575, Answer::Fault(9)),
+    ),
+    (
+        b"100 closefrom(3) RET 0",
+        (100, FdCall::Closefrom, 3, Answer::Made(0)),
+    ),
+];
+
+/// Whether a line that is read says this.
+fn is_on_fd(alloc: Global, row: &(&[u8], (u32, FdCall, u32, Answer))) -> bool {
+    match parse_line(alloc, row.0) {
+        Ok(line) => on_fd(&line.seen()) == Some(row.1),
+        Err(_) => false,
+    }
 }
 
 #[test]
-fn a_call_on_a_descriptor_is_read(rt: HostRuntime) -> Result<(), Fail> {
-    assert_eq!(rt;
-        read_on_fd(rt.alloc(), b"99999 read(1048575) RET -1 errno 9")?,
-        Some((99_999, FdCall::Read, 1_048_575, Answer::Fault(9)))
-    );
-    assert_eq!(rt;
-        read_on_fd(rt.alloc(), b"100 closefrom(3) RET 0")?,
-        Some((100, FdCall::Closefrom, 3, Answer::Made(0)))
-    );
-    Ok(())
+fn a_call_on_a_descriptor_is_read(rt: HostRuntime) {
+    for row in &ON_FDS {
+        assert!(rt; is_on_fd(rt.alloc(), row));
+    }
 }
 
 /// The texts of a line: the path and the flags of an open, the command of an `fcntl`, or the name and the arguments of a
@@ -360,151 +394,195 @@ static KEPT: [(&[u8], &[u8], &[u8]); 5] = [
     (b"100 foo(1,\"2) RET 0", b"foo", b"1,\"2"),
 ];
 
-#[test]
-fn texts_are_kept_as_they_are_spelled(rt: HostRuntime) -> Result<(), Fail> {
-    for (bytes, first, second) in KEPT {
-        let line = parse_line(rt.alloc(), bytes)?;
-        assert_eq!(rt; texts(&line.seen()), Some((first, second)), "{bytes:?}");
+/// Whether a line that is read keeps these texts.
+fn keeps(alloc: Global, row: &(&[u8], &[u8], &[u8])) -> bool {
+    match parse_line(alloc, row.0) {
+        Ok(line) => texts(&line.seen()) == Some((row.1, row.2)),
+        Err(_) => false,
     }
-    Ok(())
 }
 
-/// The descriptors of a start, as they are spelled.
-fn started<'a>(line: &LineRef<'a>) -> Option<&'a [u8]> {
+#[test]
+fn texts_are_kept_as_they_are_spelled(rt: HostRuntime) {
+    for row in &KEPT {
+        assert!(rt; keeps(rt.alloc(), row));
+    }
+}
+
+/// Whether these are the descriptors of a start, with 3 among them, and without 4.
+fn spells(alloc: Global, spelled: &[u8], fds: &[u32]) -> bool {
+    match fds_of(alloc, spelled) {
+        Ok(found) => found.as_slice() == fds && has_fd(spelled, 3) && !has_fd(spelled, 4),
+        Err(_) => false,
+    }
+}
+
+/// Whether a line is a start with these.
+fn is_start(alloc: Global, line: &LineRef<'_>, fds: &[u32]) -> bool {
     match line.item {
-        Item::Start(fds) => Some(fds),
-        _ => None,
+        Item::Start(spelled) => spells(alloc, spelled, fds),
+        _ => false,
+    }
+}
+
+/// Whether a line that is read starts process 100 with these.
+fn starts(alloc: Global, bytes: &[u8], fds: &[u32]) -> bool {
+    match parse_line(alloc, bytes) {
+        Ok(line) => line.pid() == 100 && is_start(alloc, &line.seen(), fds),
+        Err(_) => false,
     }
 }
 
 #[test]
-fn a_start_is_read(rt: HostRuntime) -> Result<(), Fail> {
-    let line = parse_line(rt.alloc(), b"100 @start(0,3,1048575)")?;
-    let spelled = started(&line.seen()).ok_or("no start")?;
-    let fds = fds_of(rt.alloc(), spelled)?;
-    assert_eq!(rt; fds.as_slice(), [0, 3, 1_048_575].as_slice());
-    assert!(rt; has_fd(spelled, 3));
-    assert!(rt; !has_fd(spelled, 4));
-    assert_eq!(rt; line.pid(), 100);
-    Ok(())
+fn a_start_is_read(rt: HostRuntime) {
+    assert!(rt; starts(rt.alloc(), b"100 @start(0,3,1048575)", &[0, 3, 1_048_575]));
 }
 
-/// The example of the crate's documentation: reading and writing.
-#[test]
-fn the_example_is_read(rt: HostRuntime) -> Result<(), Fail> {
-    let line = parse_line(rt.alloc(), b"100 open(\"/etc/passwd\",O_RDONLY) RET 3")?;
-    assert_eq!(rt; line.name(), b"open".as_slice());
-    let mut text = Vec::new(rt.alloc());
-    write_line(&line, &mut text)?;
-    assert_eq!(rt;
-        text.as_slice(),
-        b"100 open(\"/etc/passwd\",O_RDONLY) RET 3".as_slice()
-    );
-    Ok(())
-}
-
-/// The text of a line that is made, or nothing where there is none.
-fn made(alloc: Global, pid: u32, item: &Item<'_>) -> Result<Vec<u8>, Fail> {
-    let mut text = Vec::new(alloc);
-    if let Some(line) = Line::new(alloc, pid, item)? {
-        write_line(&line, &mut text)?;
+/// Whether a line is made that is written so; where there is no text, whether none is made.
+fn makes(alloc: Global, pid: u32, item: &Item<'_>, text: &[u8]) -> bool {
+    match Line::new(alloc, pid, item) {
+        Ok(Some(line)) => is_written(alloc, &line, text),
+        Ok(None) => text.is_empty(),
+        Err(_) => false,
     }
-    Ok(text)
+}
+
+/// A call to make a line of, on descriptor 3 where it takes one.
+#[derive(Clone, Copy)]
+enum Asked<'a> {
+    Closefrom,
+    Accept4(&'a [u8]),
+    Fcntl(&'a [u8]),
+    Open(&'a [u8], &'a [u8]),
+    OnPath(PathCall, &'a [u8]),
+    RenameAt(Dir, &'a [u8], Dir, &'a [u8]),
+    Other(&'a [u8], &'a [u8]),
+}
+
+/// The call itself.
+fn call_of<'a>(asked: &Asked<'a>) -> Call<'a> {
+    match asked {
+        Asked::Closefrom => Call::OnFd(FdCall::Closefrom, 3),
+        Asked::Accept4(flags) => Call::Accept4(3, flags),
+        Asked::Fcntl(command) => Call::Fcntl(3, command),
+        Asked::Open(path, flags) => Call::Open(path, flags),
+        Asked::OnPath(name, path) => Call::OnPath(*name, path),
+        Asked::RenameAt(from, old, to, new) => Call::RenameAt(*from, old, *to, new),
+        Asked::Other(name, arguments) => Call::Other(name, arguments),
+    }
+}
+
+/// The same for a line of a call.
+fn makes_call(alloc: Global, pid: u32, asked: &Asked<'_>, made: u64, text: &[u8]) -> bool {
+    let call = call_of(asked);
+    let answer = Answer::Made(made);
+    makes(alloc, pid, &Item::Call { call, answer }, text)
+}
+
+/// A process, its call, what that answered, and the text of the line; none where it can't be made.
+type Making<'a> = (u32, Asked<'a>, u64, &'a [u8]);
+
+static MAKINGS: [Making<'static>; 10] = [
+    (
+        100,
+        Asked::Fcntl(b"F_GETFL"),
+        3,
+        b"100 fcntl(3,F_GETFL) RET 3",
+    ),
+    // A call without a form.
+    (
+        100,
+        Asked::Other(b"kevent", b"3,0"),
+        3,
+        b"100 kevent(3,0) RET 3",
+    ),
+    // A rename between directories.
+    (
+        100,
+        Asked::RenameAt(Dir::Fd(3), b"a", Dir::Cwd, b"of/15/bytes/abc"),
+        0,
+        b"100 renameat(3,\"a\",AT_FDCWD,\"of/15/bytes/abc\") RET 0",
+    ),
+    // A line of no process.
+    (0, Asked::Fcntl(b"F_GETFL"), 3, b""),
+    // An answer of another kind.
+    (1, Asked::Closefrom, 1, b""),
+    // A line that is too long.
+    (
+        1,
+        Asked::OnPath(PathCall::Stat, &[b'x'; LONGEST_LINE]),
+        1,
+        b"",
+    ),
+    // Bad flags.
+    (1, Asked::Accept4(b"O_RDONLY|"), 4, b""),
+    // A command that asks for more.
+    (1, Asked::Fcntl(b"F_SETFD"), 0, b""),
+    // A name with a form.
+    (1, Asked::Other(b"read", b"3"), 1, b""),
+    // Arguments with a bracket.
+    (1, Asked::Other(b"foo", b"("), 1, b""),
+];
+
+#[test]
+fn a_line_is_made_where_it_can_be(rt: HostRuntime) {
+    for (pid, asked, made, text) in &MAKINGS {
+        assert!(rt; makes_call(rt.alloc(), *pid, asked, *made, text));
+    }
+}
+
+/// Whether the example of the crate's documentation is made.
+fn is_example_made(alloc: Global) -> bool {
+    match Path::escape(alloc, b"/tmp/a\nb") {
+        Ok(path) => {
+            let asked = Asked::OnPath(PathCall::Unlink, path.as_bytes());
+            makes_call(alloc, 100, &asked, 0, b"100 unlink(\"/tmp/a\\x0ab\") RET 0")
+        }
+        Err(_) => false,
+    }
 }
 
 /// The example of the crate's documentation: making a line.
 #[test]
-fn the_example_is_made(rt: HostRuntime) -> Result<(), Fail> {
-    let path = Path::escape(rt.alloc(), b"/tmp/a\nb")?;
-    let call = Call::OnPath(PathCall::Unlink, path.as_bytes());
-    let answer = Answer::Made(0);
-    let text = made(rt.alloc(), 100, &Item::Call { call, answer })?;
-    assert_eq!(rt;
-        text.as_slice(),
-        b"100 unlink(\"/tmp/a\\x0ab\") RET 0".as_slice()
-    );
-    Ok(())
+fn the_example_is_made(rt: HostRuntime) {
+    assert!(rt; is_example_made(rt.alloc()));
+}
+
+/// Whether an open is made of a path that is spelled.
+fn is_open_made(alloc: Global) -> bool {
+    match Path::new(alloc, b"a\\x0a") {
+        Ok(path) => {
+            let asked = Asked::Open(path.as_bytes(), b"O_RDONLY|O_CLOEXEC");
+            makes_call(
+                alloc,
+                100,
+                &asked,
+                3,
+                b"100 open(\"a\\x0a\",O_RDONLY|O_CLOEXEC) RET 3",
+            )
+        }
+        Err(_) => false,
+    }
 }
 
 #[test]
-fn an_open_is_made(rt: HostRuntime) -> Result<(), Fail> {
-    let path = Path::new(rt.alloc(), b"a\\x0a")?;
-    let call = Call::Open(path.as_bytes(), b"O_RDONLY|O_CLOEXEC");
-    let answer = Answer::Made(3);
-    let text = made(rt.alloc(), 100, &Item::Call { call, answer })?;
-    assert_eq!(rt;
-        text.as_slice(),
-        b"100 open(\"a\\x0a\",O_RDONLY|O_CLOEXEC) RET 3".as_slice()
-    );
-    Ok(())
+fn an_open_is_made(rt: HostRuntime) {
+    assert!(rt; is_open_made(rt.alloc()));
 }
 
-#[test]
-fn a_command_is_made(rt: HostRuntime) -> Result<(), Fail> {
-    let call = Call::Fcntl(3, b"F_GETFL");
-    let answer = Answer::Made(3);
-    let text = made(rt.alloc(), 100, &Item::Call { call, answer })?;
-    assert_eq!(rt; text.as_slice(), b"100 fcntl(3,F_GETFL) RET 3".as_slice());
-    Ok(())
-}
-
-#[test]
-fn a_call_without_a_form_is_made(rt: HostRuntime) -> Result<(), Fail> {
-    let call = Call::Other(b"kevent", b"3,0");
-    let answer = Answer::Made(3);
-    let text = made(rt.alloc(), 100, &Item::Call { call, answer })?;
-    assert_eq!(rt; text.as_slice(), b"100 kevent(3,0) RET 3".as_slice());
-    Ok(())
-}
-
-#[test]
-fn a_rename_between_directories_is_made(rt: HostRuntime) -> Result<(), Fail> {
-    let call = Call::RenameAt(Dir::Fd(3), b"a", Dir::Cwd, b"of/15/bytes/abc");
-    let answer = Answer::Made(0);
-    let text = made(rt.alloc(), 100, &Item::Call { call, answer })?;
-    assert_eq!(rt;
-        text.as_slice(),
-        b"100 renameat(3,\"a\",AT_FDCWD,\"of/15/bytes/abc\") RET 0".as_slice()
-    );
-    Ok(())
-}
-
-#[test]
-fn a_start_is_made(rt: HostRuntime) -> Result<(), Fail> {
+/// Whether a start is made of descriptors.
+fn is_start_made(alloc: Global) -> bool {
     // Names the type of a part of an item, which the check has to be told.
     let _none: Option<Call<'_>> = None;
-    let fds = Fds::new(rt.alloc(), &[0, 3])?;
-    let text = made(rt.alloc(), 7, &Item::Start(fds.as_bytes()))?;
-    assert_eq!(rt; text.as_slice(), b"7 @start(0,3)".as_slice());
-    Ok(())
+    match Fds::new(alloc, &[0, 3]) {
+        Ok(fds) => makes(alloc, 7, &Item::Start(fds.as_bytes()), b"7 @start(0,3)"),
+        Err(_) => false,
+    }
 }
 
 #[test]
-fn a_line_of_no_process_is_not_made(rt: HostRuntime) -> Result<(), Fail> {
-    let call = Call::Fcntl(3, b"F_GETFL");
-    let answer = Answer::Made(3);
-    let text = made(rt.alloc(), 0, &Item::Call { call, answer })?;
-    assert!(rt; text.is_empty());
-    Ok(())
-}
-
-#[test]
-fn an_answer_of_another_kind_is_not_made(rt: HostRuntime) -> Result<(), Fail> {
-    let call = Call::OnFd(FdCall::Closefrom, 3);
-    let answer = Answer::Made(1);
-    let text = made(rt.alloc(), 1, &Item::Call { call, answer })?;
-    assert!(rt; text.is_empty());
-    Ok(())
-}
-
-#[test]
-fn a_line_that_is_too_long_is_not_made(rt: HostRuntime) -> Result<(), Fail> {
-    let path = [b'x'; LONGEST_LINE];
-    let call = Call::OnPath(PathCall::Stat, &path);
-    let answer = Answer::Made(1);
-    let text = made(rt.alloc(), 1, &Item::Call { call, answer })?;
-    assert!(rt; text.is_empty());
-    Ok(())
+fn a_start_is_made(rt: HostRuntime) {
+    assert!(rt; is_start_made(rt.alloc()));
 }
 
 /// Bytes with the text of their path.
@@ -515,78 +593,52 @@ static ESCAPED: [(&[u8], &[u8]); 4] = [
     (&[0xc3, 0xbf, 0x01], b"\\xc3\\xbf\\x01"),
 ];
 
-#[test]
-fn paths_are_escaped(rt: HostRuntime) -> Result<(), Fail> {
-    for (bytes, text) in ESCAPED {
-        let path = Path::escape(rt.alloc(), bytes)?;
-        assert_eq!(rt; path.as_bytes(), text);
-        assert_eq!(rt; path.unescape(rt.alloc())?.as_slice(), bytes);
+/// Whether a path says these bytes.
+fn says(alloc: Global, path: &Path, bytes: &[u8]) -> bool {
+    match path.unescape(alloc) {
+        Ok(said) => said.as_slice() == bytes,
+        Err(_) => false,
     }
-    Ok(())
 }
 
-/// The code of the fault with which a part isn't made.
-fn refused<T: Drop>(part: Result<T, LineFault>) -> u8 {
-    match part {
-        Ok(_) => 0,
-        Err(fault) => fault.code(),
+/// Whether bytes have this text as a path, which says them.
+fn is_escaped(alloc: Global, bytes: &[u8], text: &[u8]) -> bool {
+    match Path::escape(alloc, bytes) {
+        Ok(path) => path.as_bytes() == text && says(alloc, &path, bytes),
+        Err(_) => false,
     }
 }
 
 #[test]
-fn bad_paths_are_not_made(rt: HostRuntime) {
+fn paths_are_escaped(rt: HostRuntime) {
+    for (bytes, text) in &ESCAPED {
+        assert!(rt; is_escaped(rt.alloc(), bytes, text));
+    }
+}
+
+/// Paths with a bare quote or a zero, and descriptors that don't rise.
+#[test]
+fn bad_parts_are_not_made(rt: HostRuntime) {
     let alloc = rt.alloc();
-    assert_eq!(rt; refused(Path::new(alloc, b"a\"b")), 4);
-    assert_eq!(rt; refused(Path::escape(alloc, b"a\0b")), 4);
-}
-
-#[test]
-fn descriptors_that_do_not_rise_are_not_made(rt: HostRuntime) {
-    assert_eq!(rt; refused(Fds::new(rt.alloc(), &[3, 3])), 4);
+    assert!(rt;
+        refused(Path::new(alloc, b"a\"b")) == 4
+            && refused(Path::escape(alloc, b"a\0b")) == 4
+            && refused(Fds::new(alloc, &[3, 3])) == 4
+    );
 }
 
 #[test]
 fn texts_are_tested_by_their_kind(rt: HostRuntime) {
-    assert!(rt; spells_flags(b"O_RDONLY|O_CLOEXEC") && !spells_flags(b"O_RDONLY|"));
-    assert!(rt; spells_command(b"F_GETFL") && !spells_command(b"F_SETFD"));
-    assert!(rt; spells_name(b"kevent") && !spells_name(b"read"));
-    assert!(rt; spells_arguments(b"3,0") && !spells_arguments(b"3)"));
-}
-
-#[test]
-fn bad_flags_are_not_made(rt: HostRuntime) -> Result<(), Fail> {
-    let call = Call::Accept4(3, b"O_RDONLY|");
-    let answer = Answer::Made(4);
-    let text = made(rt.alloc(), 1, &Item::Call { call, answer })?;
-    assert!(rt; text.is_empty());
-    Ok(())
-}
-
-#[test]
-fn a_command_that_asks_for_more_is_not_made(rt: HostRuntime) -> Result<(), Fail> {
-    let call = Call::Fcntl(3, b"F_SETFD");
-    let answer = Answer::Made(0);
-    let text = made(rt.alloc(), 1, &Item::Call { call, answer })?;
-    assert!(rt; text.is_empty());
-    Ok(())
-}
-
-#[test]
-fn a_name_with_a_form_is_not_made(rt: HostRuntime) -> Result<(), Fail> {
-    let call = Call::Other(b"read", b"3");
-    let answer = Answer::Made(1);
-    let text = made(rt.alloc(), 1, &Item::Call { call, answer })?;
-    assert!(rt; text.is_empty());
-    Ok(())
-}
-
-#[test]
-fn arguments_with_a_bracket_are_not_made(rt: HostRuntime) -> Result<(), Fail> {
-    let call = Call::Other(b"foo", b"(");
-    let answer = Answer::Made(1);
-    let text = made(rt.alloc(), 1, &Item::Call { call, answer })?;
-    assert!(rt; text.is_empty());
-    Ok(())
+    assert!(rt;
+        spells_flags(b"O_RDONLY|O_CLOEXEC")
+            && !spells_flags(b"O_RDONLY|")
+            && spells_command(b"F_GETFL")
+            && !spells_command(b"F_SETFD")
+            && spells_name(b"kevent")
+            && !spells_name(b"read")
+            && spells_arguments(b"3,0")
+            && !spells_arguments(b"3)")
+    );
 }
 
 /// Texts with the number, of at most 65,535, that they spell.
@@ -601,14 +653,21 @@ static NUMBERS: [(&[u8], Option<u64>); 6] = [
 
 #[test]
 fn numbers_are_read(rt: HostRuntime) {
-    for (text, number) in NUMBERS {
-        assert_eq!(rt; number_of(65_535, text), number, "{text:?}");
+    for (text, number) in &NUMBERS {
+        assert!(rt; number_of(65_535, text) == *number);
+    }
+}
+
+/// Whether a fault is printed so.
+fn is_shown(alloc: Global, fault: LineFault, text: &str) -> bool {
+    match format!(in alloc; "{fault}") {
+        Ok(shown) => shown.as_str() == text,
+        Err(_) => false,
     }
 }
 
 #[test]
-fn a_fault_has_a_text(rt: HostRuntime) -> Result<(), Fail> {
-    let text = format!(in rt.alloc(); "{}", LineFault::Pid)?;
-    assert_eq!(rt; text.as_str(), "the pid is no number from 1 to 99,999");
-    Ok(())
+fn a_fault_has_a_text(rt: HostRuntime) {
+    let text = "the pid is no number from 1 to 99,999";
+    assert!(rt; is_shown(rt.alloc(), LineFault::Pid, text));
 }
