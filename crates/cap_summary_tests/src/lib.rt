@@ -6,4 +6,6 @@ mod cuts;
 #[cfg(test)]
 mod explaining;
 #[cfg(test)]
+mod parts;
+#[cfg(test)]
 mod rows;
