@@ -1,6 +1,6 @@
 //! Starts, checks, checkers, machines and explanations.
 
-use crate::marks::Mark;
+use crate::marks::{Mark, lacked, right};
 use cap_machine::{
     Cell, Checker, Explanation, Finding, Found, Machine, Mode, NoMemory, OnExec, Profile, Start,
     check, explain, origin_of_cell, origin_of_mode,
@@ -11,88 +11,149 @@ use std::alloc::Global;
 use std::test::Fail;
 
 /// A limit, a fork, writes of parent and child, an exec and a closefrom.
-pub static TRACE: [&[u8]; 8] = [
-    b"100 @start(0,3)",
-    b"100 cap_rights_limit(3,CAP_READ) RET 0",
-    b"100 fork() RET 101",
-    b"101 close(0) RET 0",
-    b"100 write(3) RET 1",
-    b"101 execve(\"/bin/x\") RET 0",
-    b"101 closefrom(1) RET 0",
-    b"101 read(3) RET 1",
+pub static TRACE: [&str; 8] = [
+    "100 @start(0,3)",
+    "100 cap_rights_limit(3,CAP_READ) RET 0",
+    "100 fork() RET 101",
+    "101 close(0) RET 0",
+    "100 write(3) RET 1",
+    "101 execve(\"/bin/x\") RET 0",
+    "101 closefrom(1) RET 0",
+    "101 read(3) RET 1",
 ];
 
 /// The lines of a trace.
-pub fn lines_of(alloc: Global, trace: &[&[u8]]) -> Result<Vec<Line>, Fail> {
+pub fn lines_of(alloc: Global, trace: &[&str]) -> Result<Vec<Line>, Fail> {
     let mut lines = Vec::new(alloc);
     for text in trace {
-        let line = parse_line(alloc, text)?;
-        lines.push(line)?;
+        lines.push(parse_line(alloc, text.as_bytes())?)?;
     }
     Ok(lines)
 }
 
-/// What is known of process 100: that it holds CAP_READ on descriptor 0 and all rights on 70, and nothing else is open.
-pub fn cells_of(alloc: Global) -> Result<Vec<(Fd, Cell)>, Fail> {
-    let mut cells = Vec::new(alloc);
-    for (fd, text) in [(0, b"CAP_READ".as_slice()), (70, b"ALL".as_slice())] {
-        let held = Cell::Held(parse_rights(text)?, OnExec::Clear);
-        cells.push((fd, held))?;
+/// A cell that holds these rights.
+fn held(rights: &[u8]) -> Result<Cell, Fail> {
+    Ok(Cell::Held(parse_rights(rights)?, OnExec::Clear))
+}
+
+/// What is known of a process: that it holds CAP_READ on descriptor 0 and all rights on 70.
+fn cells_of(alloc: Global) -> Result<Vec<(Fd, Cell)>, Fail> {
+    let (read, all) = (held(b"CAP_READ")?, held(b"ALL")?);
+    Ok(Vec::from_slice(alloc, &[(0, read), (70, all)])?)
+}
+
+/// Before a trace: the usual start, and one in which a process has those cells and no other.
+#[derive(Clone, Copy)]
+pub enum Before {
+    Usual,
+    Cells(u32, Mode),
+}
+
+/// In which process 100 has those cells.
+pub const CELLS: Before = Before::Cells(100, Mode::Outside);
+
+/// Adds what is known before a trace.
+fn add_before(alloc: Global, start: &mut Start, before: Before) -> Result<(), Fail> {
+    if let Before::Cells(pid, mode) = before {
+        start.add(pid, mode, Cell::Closed, cells_of(alloc)?)?;
     }
-    Ok(cells)
+    Ok(())
 }
 
-/// A start in which process 100 has those cells.
-pub fn start_of(alloc: Global) -> Result<Start, Fail> {
+/// Does this with a start and these lines.
+pub fn with_start<F: FnOnce(Global, &mut Start, &[Line]) -> Result<(), Fail>>(
+    alloc: Global,
+    before: Before,
+    lines: &[Line],
+    act: F,
+) -> Result<(), Fail>
+    requires { F.IsAlwaysCallable act }
+{
     let mut start = Start::unknown(alloc);
-    start.add(100, Mode::Outside, Cell::Closed, cells_of(alloc)?)?;
-    Ok(start)
+    add_before(alloc, &mut start, before)?;
+    act(alloc, &mut start, lines)
 }
 
-/// Adds those cells of a process, in a second call where the first lacks memory. Whether a refused call left nothing.
-fn add(alloc: Global, start: &mut Start, pid: u32) -> Result<bool, Fail> {
-    let cells = cells_of(alloc)?;
+/// Does this with a start and the lines of the trace.
+pub fn with_lines<F: FnOnce(Global, &mut Start, &[Line]) -> Result<(), Fail>>(
+    alloc: Global,
+    before: Before,
+    act: F,
+) -> Result<(), Fail>
+    requires { F.IsAlwaysCallable act }
+{
+    let lines = lines_of(alloc, &TRACE)?;
+    with_start(alloc, before, &lines, act)
+}
+
+/// Adds those cells of a process. Whether there was memory.
+fn add(alloc: Global, start: &mut Start, pid: u32, cells: Vec<(Fd, Cell)>) -> bool {
     Mark::Begin.set(alloc);
     let first = start.add(pid, Mode::Outside, Cell::Unknown, cells);
-    Mark::End.set(alloc);
-    if first.is_ok() {
+    !lacked(alloc, first.is_err())
+}
+
+/// The same, in a second call where the first lacks memory. Whether a refused call left nothing.
+fn add_or_again(alloc: Global, start: &mut Start, pid: u32) -> Result<bool, Fail> {
+    if add(alloc, start, pid, cells_of(alloc)?) {
         return Ok(true);
     }
-    Mark::Lacked.set(alloc);
     let is_left = start.cell(pid, 0) == Cell::Unknown && start.mode(pid) == Mode::Unsure;
     start.add(pid, Mode::Outside, Cell::Unknown, cells_of(alloc)?)?;
     Ok(is_left)
 }
 
-/// Whether a process has those cells, and this one elsewhere.
-fn has_cells(start: &Start, pid: u32, elsewhere: Cell) -> Result<bool, Fail> {
-    let read = Cell::Held(parse_rights(b"CAP_READ")?, OnExec::Clear);
-    Ok(start.cell(pid, 0) == read && start.cell(pid, 71) == elsewhere)
+/// Whether a process is outside, or inside, and has those cells, and this one elsewhere.
+fn has_cells(start: &Start, pid: u32, mode: Mode, elsewhere: Cell) -> Result<bool, Fail> {
+    let has_mode = start.mode(pid) == mode && start.cell(pid, 71) == elsewhere;
+    Ok(has_mode && start.cell(pid, 0) == held(b"CAP_READ")?)
 }
 
-/// Whether each of four processes is added, and nothing else changes.
-fn adds_all(alloc: Global, start: &mut Start) -> Result<bool, Fail> {
+/// Whether a process is added, and nothing else changes.
+fn adds(alloc: Global, start: &mut Start, pid: u32) -> Result<bool, Fail> {
+    Ok(
+        add_or_again(alloc, start, pid)?
+            && has_cells(start, pid, Mode::Outside, Cell::Unknown)?
+            && has_cells(start, 7, Mode::Inside, Cell::Closed)?,
+    )
+}
+
+/// Adds four processes.
+fn add_four(alloc: Global, start: &mut Start, _lines: &[Line]) -> Result<(), Fail> {
     for pid in 100..104 {
-        let is_added = add(alloc, start, pid)? && has_cells(start, pid, Cell::Unknown)?;
-        let is_right = is_added && start.mode(pid) == Mode::Outside;
-        if !is_right || !has_cells(start, 7, Cell::Closed)? {
-            return Ok(false);
-        }
-        Mark::Right.set(alloc);
+        right(alloc, adds(alloc, start, pid)?, "a process is added")?;
     }
-    Ok(true)
+    Ok(())
 }
 
 #[test]
 fn start_add_refused(rt: HostRuntime) -> Result<(), Fail> {
-    let cells = cells_of(rt.alloc())?;
-    let mut start = Start::unknown(rt.alloc());
-    start.add(7, Mode::Inside, Cell::Closed, cells)?;
-    assert!(rt; adds_all(rt.alloc(), &mut start)?);
-    Ok(())
+    with_lines(rt.alloc(), Before::Cells(7, Mode::Inside), add_four)
 }
 
-/// What is found; where the first call lacks memory, by a second one.
+/// Whether findings are at these positions.
+pub fn are_at(found: &[Found], places: &[usize]) -> bool {
+    for (one, place) in found.iter().zip(places) {
+        if one.at != *place {
+            return false;
+        }
+    }
+    found.len() == places.len()
+}
+
+/// Whether the first of them is that the right to write is missing.
+fn begins_with_write(found: &[Found]) -> Result<bool, Fail> {
+    let missing = Finding::Missing(3, parse_rights(b"CAP_WRITE")?);
+    match found {
+        [first, ..] => Ok(first.finding == missing),
+        [] => Ok(false),
+    }
+}
+
+/// Where there are findings in each profile.
+static IN_EACH: [(Profile, &[usize]); 2] = [(Profile::One, &[5]), (Profile::Two, &[5, 8])];
+
+/// What is found in a profile; where the first call lacks memory, by a second one.
 fn found(
     alloc: Global,
     profile: Profile,
@@ -101,76 +162,68 @@ fn found(
 ) -> Result<Vec<Found>, NoMemory> {
     Mark::Begin.set(alloc);
     let first = check(alloc, profile, start, lines);
-    Mark::End.set(alloc);
-    if first.is_ok() {
-        return first;
+    if lacked(alloc, first.is_err()) {
+        return check(alloc, profile, start, lines);
     }
-    Mark::Lacked.set(alloc);
-    check(alloc, profile, start, lines)
+    first
 }
 
-/// Whether a right is missing at line 5, and there is this finding after it, and no other.
-fn is_all(found: &[Found], last: Option<usize>) -> Result<bool, Fail> {
-    let missing = Finding::Missing(3, parse_rights(b"CAP_WRITE")?);
-    let has_first = found.first().map(|it| (it.at, it.finding)) == Some((5, missing));
-    let has_last = found.get(1).map(|it| it.at) == last;
-    Ok(has_first && has_last && found.len() == 1 + usize::from(last.is_some()))
-}
-
-/// Whether a check finds what is right in each profile.
-fn checks_all(alloc: Global, start: &Start, lines: &[Line]) -> Result<bool, Fail> {
-    for (profile, last) in &[(Profile::One, None), (Profile::Two, Some(8))] {
-        if !is_all(&found(alloc, *profile, start, lines)?, *last)? {
-            return Ok(false);
-        }
-        Mark::Right.set(alloc);
+/// Checks the lines in each profile.
+fn check_all(alloc: Global, start: &mut Start, lines: &[Line]) -> Result<(), Fail> {
+    for (profile, places) in &IN_EACH {
+        let found = found(alloc, *profile, start, lines)?;
+        let is_right = are_at(&found, places) && begins_with_write(&found)?;
+        right(alloc, is_right, "what is found")?;
     }
-    Ok(true)
+    Ok(())
 }
 
 #[test]
 fn check_refused(rt: HostRuntime) -> Result<(), Fail> {
-    let lines = lines_of(rt.alloc(), &TRACE)?;
-    assert!(rt; checks_all(rt.alloc(), &start_of(rt.alloc())?, &lines)?);
-    Ok(())
+    with_lines(rt.alloc(), CELLS, check_all)
 }
 
-/// A checker that was given these lines.
-fn checked(mut checker: Checker, lines: &[Line]) -> Result<Checker, NoMemory> {
+/// Gives a checker these lines.
+fn feed(checker: &mut Checker, lines: &[Line]) -> Result<(), NoMemory> {
     for line in lines {
         if checker.count() < 100 {
             checker.line(line)?;
         }
     }
-    Ok(checker)
+    Ok(())
 }
 
 /// A checker over these lines, and its report.
 fn reported(alloc: Global, start: &Start, lines: &[Line]) -> Result<Vec<u8>, NoMemory> {
-    checked(Checker::from_start(alloc, Profile::Two, start)?, lines)?.report()
+    let mut checker = Checker::from_start(alloc, Profile::Two, start)?;
+    feed(&mut checker, lines)?;
+    checker.report()
 }
 
 /// That report; where the first checker lacks memory, by a second one.
 fn report_of(alloc: Global, start: &Start, lines: &[Line]) -> Result<Vec<u8>, NoMemory> {
     Mark::Begin.set(alloc);
     let first = reported(alloc, start, lines);
-    Mark::End.set(alloc);
-    if first.is_ok() {
-        return first;
+    if lacked(alloc, first.is_err()) {
+        return reported(alloc, start, lines);
     }
-    Mark::Lacked.set(alloc);
-    reported(alloc, start, lines)
+    first
+}
+
+/// Has a checker report on the lines.
+fn report_all(alloc: Global, start: &mut Start, lines: &[Line]) -> Result<(), Fail> {
+    let report = b"5 100 write missing 3 CAP_WRITE\n8 101 read closed 3\nfindings 2\n";
+    let text = report_of(alloc, start, lines)?;
+    right(
+        alloc,
+        text.as_slice() == report.as_slice(),
+        "the report of a checker",
+    )
 }
 
 #[test]
 fn checker_refused(rt: HostRuntime) -> Result<(), Fail> {
-    let alloc = rt.alloc();
-    let lines = lines_of(alloc, &TRACE)?;
-    let text = report_of(alloc, &start_of(alloc)?, &lines)?;
-    let report = b"5 100 write missing 3 CAP_WRITE\n8 101 read closed 3\nfindings 2\n";
-    assert_eq!(rt; text.as_slice(), report.as_slice());
-    Mark::Right.set(alloc);
-    Ok(())
+    with_lines(rt.alloc(), CELLS, report_all)
 }
 
 /// How many findings a machine has of these lines.
@@ -182,30 +235,69 @@ fn found_by(machine: &mut Machine, lines: &[Line]) -> Result<usize, NoMemory> {
     Ok(count)
 }
 
-/// The same from a start.
-fn found_by_steps(alloc: Global, start: &Start, lines: &[Line]) -> Result<usize, NoMemory> {
-    found_by(&mut Machine::from_start(alloc, start)?, lines)
+/// What is counted.
+#[derive(Clone, Copy)]
+enum Counted {
+    /// What a machine finds.
+    Findings,
+    /// The lines that the cell of descriptor 3 of process 100 comes from.
+    CellLinks,
+    /// The lines that the mode of process 101 comes from.
+    ModeLinks,
 }
 
-/// The same; where the first machine lacks memory, by a second one.
-fn count_of(alloc: Global, start: &Start, lines: &[Line]) -> Result<usize, NoMemory> {
-    Mark::Begin.set(alloc);
-    let first = found_by_steps(alloc, start, lines);
-    Mark::End.set(alloc);
-    if first.is_ok() {
-        return first;
+/// The number of them.
+fn number_of(
+    alloc: Global,
+    what: Counted,
+    start: &Start,
+    lines: &[Line],
+) -> Result<usize, NoMemory> {
+    let profile = Profile::One;
+    match what {
+        Counted::Findings => found_by(&mut Machine::from_start(alloc, start)?, lines),
+        Counted::CellLinks => Ok(
+            origin_of_cell(alloc, profile, start, lines, 100, 3)?
+                .links
+                .len(),
+        ),
+        Counted::ModeLinks => Ok(
+            origin_of_mode(alloc, profile, start, lines, 101)?
+                .links
+                .len(),
+        ),
     }
-    Mark::Lacked.set(alloc);
-    found_by_steps(alloc, start, lines)
+}
+
+/// Counts them, in a second call where the first lacks memory: there are two.
+fn count_two(alloc: Global, what: Counted, start: &Start, lines: &[Line]) -> Result<(), Fail> {
+    Mark::Begin.set(alloc);
+    let mut number = number_of(alloc, what, start, lines);
+    if lacked(alloc, number.is_err()) {
+        number = number_of(alloc, what, start, lines);
+    }
+    right(alloc, number? == 2, "there are two")
 }
 
 #[test]
 fn machine_refused(rt: HostRuntime) -> Result<(), Fail> {
-    let alloc = rt.alloc();
-    let lines = lines_of(alloc, &TRACE)?;
-    assert_eq!(rt; count_of(alloc, &start_of(alloc)?, &lines)?, 2);
-    Mark::Right.set(alloc);
-    Ok(())
+    with_lines(rt.alloc(), CELLS, |alloc, start, lines| {
+        count_two(alloc, Counted::Findings, start, lines)
+    })
+}
+
+#[test]
+fn origin_of_cell_refused(rt: HostRuntime) -> Result<(), Fail> {
+    with_lines(rt.alloc(), Before::Usual, |alloc, start, lines| {
+        count_two(alloc, Counted::CellLinks, start, lines)
+    })
+}
+
+#[test]
+fn origin_of_mode_refused(rt: HostRuntime) -> Result<(), Fail> {
+    with_lines(rt.alloc(), Before::Usual, |alloc, start, lines| {
+        count_two(alloc, Counted::ModeLinks, start, lines)
+    })
 }
 
 /// The positions of the lines that the cells of an explanation come from.
@@ -219,94 +311,48 @@ fn positions_of(alloc: Global, found: &Explanation) -> Result<Vec<usize>, NoMemo
     Ok(positions)
 }
 
-/// The positions of the lines that a line's cells come from, in profile 2 from the usual start.
-fn lines_behind(alloc: Global, lines: &[Line], at: usize) -> Result<Vec<usize>, NoMemory> {
-    match explain(alloc, Profile::Two, &Start::unknown(alloc), lines, at)? {
+/// The positions of the lines that a line's cells come from, in profile 2.
+fn lines_behind(
+    alloc: Global,
+    start: &Start,
+    lines: &[Line],
+    at: usize,
+) -> Result<Vec<usize>, NoMemory> {
+    match explain(alloc, Profile::Two, start, lines, at)? {
         Some(found) => positions_of(alloc, &found),
         None => Ok(Vec::new(alloc)),
     }
 }
 
 /// The same; where the first call lacks memory, by a second one.
-fn explained(alloc: Global, lines: &[Line], at: usize) -> Result<Vec<usize>, NoMemory> {
+fn explained(
+    alloc: Global,
+    start: &Start,
+    lines: &[Line],
+    at: usize,
+) -> Result<Vec<usize>, NoMemory> {
     Mark::Begin.set(alloc);
-    let first = lines_behind(alloc, lines, at);
-    Mark::End.set(alloc);
-    if first.is_ok() {
-        return first;
+    let first = lines_behind(alloc, start, lines, at);
+    if lacked(alloc, first.is_err()) {
+        return lines_behind(alloc, start, lines, at);
     }
-    Mark::Lacked.set(alloc);
-    lines_behind(alloc, lines, at)
+    first
 }
 
 /// Lines of the trace, and the positions of the lines that their cells come from.
 static BEHIND: [(usize, &[usize]); 2] = [(5, &[2, 1]), (8, &[7])];
 
-/// Whether those lines are explained so.
-fn explains_all(alloc: Global, lines: &[Line]) -> Result<bool, NoMemory> {
+/// Explains those lines.
+fn explain_all(alloc: Global, start: &mut Start, lines: &[Line]) -> Result<(), Fail> {
     for (at, behind) in &BEHIND {
-        if explained(alloc, lines, *at)?.as_slice() != *behind {
-            return Ok(false);
-        }
-        Mark::Right.set(alloc);
+        let positions = explained(alloc, start, lines, *at)?;
+        let is_right = positions.as_slice() == *behind;
+        right(alloc, is_right, "what a line rests on")?;
     }
-    Ok(true)
+    Ok(())
 }
 
 #[test]
 fn explain_refused(rt: HostRuntime) -> Result<(), Fail> {
-    assert!(rt; explains_all(rt.alloc(), &lines_of(rt.alloc(), &TRACE)?)?);
-    Ok(())
-}
-
-/// How many lines the cell of descriptor 3 of process 100 comes from.
-fn links_of_cell(alloc: Global, lines: &[Line]) -> Result<usize, NoMemory> {
-    let start = Start::unknown(alloc);
-    Ok(
-        origin_of_cell(alloc, Profile::One, &start, lines, 100, 3)?
-            .links
-            .len(),
-    )
-}
-
-#[test]
-fn origin_of_cell_refused(rt: HostRuntime) -> Result<(), Fail> {
-    let alloc = rt.alloc();
-    let lines = lines_of(alloc, &TRACE)?;
-    Mark::Begin.set(alloc);
-    let mut links = links_of_cell(alloc, &lines);
-    Mark::End.set(alloc);
-    if links.is_err() {
-        Mark::Lacked.set(alloc);
-        links = links_of_cell(alloc, &lines);
-    }
-    assert_eq!(rt; links?, 2);
-    Mark::Right.set(alloc);
-    Ok(())
-}
-
-/// How many lines the mode of process 101 comes from.
-fn links_of_mode(alloc: Global, lines: &[Line]) -> Result<usize, NoMemory> {
-    let start = Start::unknown(alloc);
-    Ok(
-        origin_of_mode(alloc, Profile::One, &start, lines, 101)?
-            .links
-            .len(),
-    )
-}
-
-#[test]
-fn origin_of_mode_refused(rt: HostRuntime) -> Result<(), Fail> {
-    let alloc = rt.alloc();
-    let lines = lines_of(alloc, &TRACE)?;
-    Mark::Begin.set(alloc);
-    let mut links = links_of_mode(alloc, &lines);
-    Mark::End.set(alloc);
-    if links.is_err() {
-        Mark::Lacked.set(alloc);
-        links = links_of_mode(alloc, &lines);
-    }
-    assert_eq!(rt; links?, 2);
-    Mark::Right.set(alloc);
-    Ok(())
+    with_lines(rt.alloc(), Before::Usual, explain_all)
 }

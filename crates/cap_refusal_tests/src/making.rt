@@ -1,16 +1,15 @@
 //! Parts of lines and lines that are made, and lines of a report.
 
-use crate::marks::Mark;
+use crate::lines::{Put, is_text, write};
+use crate::marks::{Mark, lacked, right};
 use cap_machine::{Finding, NoMemory, put_count, put_finding};
-use cap_trace::{
-    Answer, Call, Fd, Fds, Item, Line, LineFault, Path, fds_of, parse_line, write_line,
-};
+use cap_trace::{Answer, Call, Fd, Fds, Item, Line, LineFault, Path, fds_of, parse_line};
 use std::alloc::Global;
 use std::test::Fail;
 
 /// A part of a line, as it is made.
-#[derive(Clone, Copy, Debug, Drop)]
-enum Part {
+#[derive(Clone, Copy)]
+enum Made {
     Path,
     Escaped,
     Unescaped,
@@ -18,11 +17,11 @@ enum Part {
 }
 
 /// Parts, and their bytes.
-static PARTS: [(Part, &[u8]); 4] = [
-    (Part::Path, b"a/long/path\\x0ab"),
-    (Part::Escaped, b"a/long/path\\x0ab\\\""),
-    (Part::Unescaped, b"a/long/path\nb"),
-    (Part::Fds, b"0,3,17"),
+static MADE: [(Made, &str); 4] = [
+    (Made::Path, "a/long/path\\x0ab"),
+    (Made::Escaped, "a/long/path\\x0ab\\\""),
+    (Made::Unescaped, "a/long/path\nb"),
+    (Made::Fds, "0,3,17"),
 ];
 
 /// A copy of these bytes.
@@ -34,36 +33,33 @@ fn copied(alloc: Global, bytes: &[u8]) -> Result<Vec<u8>, LineFault> {
 }
 
 /// The bytes of a part that is made.
-fn bytes_of(alloc: Global, part: Part) -> Result<Vec<u8>, LineFault> {
+fn bytes_of(alloc: Global, part: Made) -> Result<Vec<u8>, LineFault> {
     match part {
-        Part::Escaped => copied(alloc, Path::escape(alloc, b"a/long/path\nb\"")?.as_bytes()),
-        Part::Unescaped => match Path::new(alloc, b"a/long/path\\x0ab")?.unescape(alloc) {
+        Made::Escaped => copied(alloc, Path::escape(alloc, b"a/long/path\nb\"")?.as_bytes()),
+        Made::Unescaped => match Path::new(alloc, b"a/long/path\\x0ab")?.unescape(alloc) {
             Ok(bytes) => Ok(bytes),
             Err(_) => Err(LineFault::Memory),
         },
-        Part::Path => copied(alloc, Path::new(alloc, b"a/long/path\\x0ab")?.as_bytes()),
-        Part::Fds => copied(alloc, Fds::new(alloc, &[0, 3, 17])?.as_bytes()),
+        Made::Path => copied(alloc, Path::new(alloc, b"a/long/path\\x0ab")?.as_bytes()),
+        Made::Fds => copied(alloc, Fds::new(alloc, &[0, 3, 17])?.as_bytes()),
     }
 }
 
 /// The same; where the first call lacks memory, by a second one.
-fn made(alloc: Global, part: Part) -> Result<Vec<u8>, LineFault> {
+fn made_or_again(alloc: Global, part: Made) -> Result<Vec<u8>, LineFault> {
     Mark::Begin.set(alloc);
     let first = bytes_of(alloc, part);
-    Mark::End.set(alloc);
-    if !matches!(first, Err(LineFault::Memory)) {
-        return first;
+    if lacked(alloc, matches!(first, Err(LineFault::Memory))) {
+        return bytes_of(alloc, part);
     }
-    Mark::Lacked.set(alloc);
-    bytes_of(alloc, part)
+    first
 }
 
 #[test]
 fn parts_refused(rt: HostRuntime) -> Result<(), Fail> {
-    for (part, wanted) in &PARTS {
-        let bytes = made(rt.alloc(), *part)?;
-        assert_eq!(rt; bytes.as_slice(), *wanted, "{part:?}");
-        Mark::Right.set(rt.alloc());
+    for (part, wanted) in &MADE {
+        let bytes = made_or_again(rt.alloc(), *part)?;
+        right(rt.alloc(), bytes.as_slice() == wanted.as_bytes(), wanted)?;
     }
     Ok(())
 }
@@ -72,20 +68,20 @@ fn parts_refused(rt: HostRuntime) -> Result<(), Fail> {
 fn listed(alloc: Global, spelled: &[u8]) -> Result<Vec<Fd>, NoMemory> {
     Mark::Begin.set(alloc);
     let first = fds_of(alloc, spelled);
-    Mark::End.set(alloc);
-    if first.is_ok() {
-        return first;
+    if lacked(alloc, first.is_err()) {
+        return fds_of(alloc, spelled);
     }
-    Mark::Lacked.set(alloc);
-    fds_of(alloc, spelled)
+    first
 }
 
 #[test]
 fn fds_refused(rt: HostRuntime) -> Result<(), Fail> {
     let fds = listed(rt.alloc(), b"0,3")?;
-    assert_eq!(rt; fds.as_slice(), [0, 3].as_slice());
-    Mark::Right.set(rt.alloc());
-    Ok(())
+    right(
+        rt.alloc(),
+        fds.as_slice() == [0, 3].as_slice(),
+        "two descriptors",
+    )
 }
 
 /// The line of a call that opens a file.
@@ -99,84 +95,59 @@ fn open_line(alloc: Global) -> Result<Option<Line>, NoMemory> {
 fn line_of(alloc: Global) -> Result<Option<Line>, NoMemory> {
     Mark::Begin.set(alloc);
     let first = open_line(alloc);
-    Mark::End.set(alloc);
-    if first.is_ok() {
-        return first;
+    if lacked(alloc, first.is_err()) {
+        return open_line(alloc);
     }
-    Mark::Lacked.set(alloc);
-    open_line(alloc)
+    first
 }
 
-/// The text of a line.
-fn text_of(alloc: Global, line: &Line) -> Result<Vec<u8>, NoMemory> {
-    let mut text = Vec::new(alloc);
-    write_line(line, &mut text)?;
-    Ok(text)
+/// Whether there is such a line.
+fn is_made(alloc: Global) -> Result<bool, NoMemory> {
+    match line_of(alloc)? {
+        Some(line) => is_text(
+            alloc,
+            &line,
+            "100 open(\"a/long/path\\x0a\",O_RDONLY) RET 3",
+        ),
+        None => Ok(false),
+    }
 }
 
 #[test]
 fn line_new_refused(rt: HostRuntime) -> Result<(), Fail> {
-    let line = line_of(rt.alloc())?.ok_or("no such line")?;
-    let text = text_of(rt.alloc(), &line)?;
-    let wanted = b"100 open(\"a/long/path\\x0a\",O_RDONLY) RET 3";
-    assert_eq!(rt; text.as_slice(), wanted.as_slice());
-    Mark::Right.set(rt.alloc());
-    Ok(())
+    right(rt.alloc(), is_made(rt.alloc())?, "the line that is made")
 }
 
-/// A line, and that of a finding on it.
-static FOUND: [&[u8]; 2] = [b"100 read(3) RET 1", b"7 100 read forbidden\n"];
+/// The line of a finding on a line.
+#[derive(Drop)]
+struct Forbidden<'a> {
+    line: &'a Line,
+}
 
-/// A blank and the line of a finding; where the first call lacks memory, by a second one.
-fn finding_line(alloc: Global, line: &Line) -> Result<Vec<u8>, NoMemory> {
-    let mut out = Vec::new(alloc);
-    out.push(b' ')?;
-    Mark::Begin.set(alloc);
-    let first = put_finding(&mut out, 7, &line.seen(), &Finding::Forbidden);
-    Mark::End.set(alloc);
-    if first.is_err() {
-        Mark::Lacked.set(alloc);
-        if out.len() != 1 {
-            return Err(NoMemory);
-        }
-        put_finding(&mut out, 7, &line.seen(), &Finding::Forbidden)?;
+impl Put for Forbidden<'_> {
+    fn put(&self, out: &mut Vec<u8>) -> Result<(), NoMemory> {
+        put_finding(out, 7, &self.line.seen(), &Finding::Forbidden)
     }
-    Ok(out)
 }
 
 #[test]
 fn put_finding_refused(rt: HostRuntime) -> Result<(), Fail> {
-    let alloc = rt.alloc();
-    let line = parse_line(alloc, FOUND[0])?;
-    let out = finding_line(alloc, &line)?;
-    assert!(rt; out.ends_with(FOUND[1]));
-    assert_eq!(rt; out.len(), 1 + FOUND[1].len());
-    Mark::Right.set(alloc);
-    Ok(())
+    let line = parse_line(rt.alloc(), b"100 read(3) RET 1")?;
+    let it = Forbidden { line: &line };
+    write(rt.alloc(), &it, " ", "7 100 read forbidden\n")
 }
 
-/// A blank and the last line of a report; where the first call lacks memory, by a second one.
-fn last_line(alloc: Global) -> Result<Vec<u8>, NoMemory> {
-    let mut out = Vec::new(alloc);
-    out.push(b' ')?;
-    Mark::Begin.set(alloc);
-    let first = put_count(&mut out, 1);
-    Mark::End.set(alloc);
-    if first.is_err() {
-        Mark::Lacked.set(alloc);
-        if out.len() != 1 {
-            return Err(NoMemory);
-        }
-        put_count(&mut out, 1)?;
+/// The last line of a report with one finding.
+#[derive(Drop)]
+struct Count;
+
+impl Put for Count {
+    fn put(&self, out: &mut Vec<u8>) -> Result<(), NoMemory> {
+        put_count(out, 1)
     }
-    Ok(out)
 }
 
 #[test]
 fn put_count_refused(rt: HostRuntime) -> Result<(), Fail> {
-    let alloc = rt.alloc();
-    let out = last_line(alloc)?;
-    assert_eq!(rt; out.as_slice(), b" findings 1\n".as_slice());
-    Mark::Right.set(alloc);
-    Ok(())
+    write(rt.alloc(), &Count, " ", "findings 1\n")
 }

@@ -5,6 +5,7 @@
 //! in a copy of the process. Without them a mark does nothing.
 
 use std::alloc::Global;
+use std::test::Fail;
 
 /// What a mark says.
 #[derive(Clone, Copy, Drop)]
@@ -31,4 +32,22 @@ impl Mark {
         let mut bytes: Vec<u8> = Vec::new(alloc);
         let _ = bytes.reserve_exact(size);
     }
+}
+
+/// Marks that a call has answered, and whether that memory ran out; and says so.
+pub fn lacked(alloc: Global, is_lacking: bool) -> bool {
+    Mark::End.set(alloc);
+    if is_lacking {
+        Mark::Lacked.set(alloc);
+    }
+    is_lacking
+}
+
+/// Marks that what a call answered and what it left is right, and fails with these words where it isn't.
+pub fn right(alloc: Global, is_right: bool, words: &str) -> Result<(), Fail> {
+    if !is_right {
+        return Err(Fail::new(words));
+    }
+    Mark::Right.set(alloc);
+    Ok(())
 }

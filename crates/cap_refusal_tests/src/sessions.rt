@@ -1,52 +1,60 @@
-//! Edits of a session.
+//! Edits of a session, and what it shows.
 
 use crate::machine::{TRACE, lines_of};
-use crate::marks::Mark;
-use cap_machine::{NoMemory, Profile};
-use cap_session::{Edit, Edited, ExplainedLine, Refused, Session};
+use crate::marks::{Mark, lacked, right};
+use cap_machine::{NoMemory, Profile, Start};
+use cap_session::{Edit, Edited, Refused, Session};
 use std::alloc::Global;
 use std::test::Fail;
 
 /// The report of the trace in profile 2.
-const REPORT: &[u8] = b"5 100 write missing 3 CAP_WRITE\n8 101 read closed 3\nfindings 2\n";
+pub const REPORT: &str = "5 100 write missing 3 CAP_WRITE\n8 101 read closed 3\nfindings 2\n";
 
 /// What is found with another line in place of the limit.
-const UNLIMITED: &[u8] = b"8 101 read closed 3\nfindings 1\n";
+const UNLIMITED: &str = "8 101 read closed 3\nfindings 1\n";
 
 /// What is found without a line in place of the limit.
-const SHORTER: &[u8] = b"7 101 read closed 3\nfindings 1\n";
+const SHORTER: &str = "7 101 read closed 3\nfindings 1\n";
 
 /// A session in profile 2 of the trace.
-pub fn session_of(alloc: Global) -> Result<Session, Fail> {
+fn session_of(alloc: Global) -> Result<Session, Fail> {
     let lines = lines_of(alloc, &TRACE)?;
     let mut session = Session::with_profile(alloc, 100, Profile::Two)?;
     session.load(lines)?;
     Ok(session)
 }
 
+/// Does this with a session of the trace.
+pub fn with_session<F: FnOnce(Global, &mut Session) -> Result<(), Fail>>(
+    alloc: Global,
+    act: F,
+) -> Result<(), Fail>
+    requires { F.IsAlwaysCallable act }
+{
+    let mut session = session_of(alloc)?;
+    act(alloc, &mut session)
+}
+
 /// Whether a session has so many lines and this report.
-fn is_at(session: &Session, count: usize, report: &[u8]) -> Result<bool, Refused> {
-    Ok(session.report()?.as_slice() == report && session.count() == count)
+fn is_at(session: &Session, count: usize, report: &str) -> Result<bool, Refused> {
+    Ok(session.report()?.as_slice() == report.as_bytes() && session.count() == count)
 }
 
 /// A session; where the first call lacks memory, by a second one.
 fn session_new(alloc: Global) -> Result<Session, NoMemory> {
     Mark::Begin.set(alloc);
     let first = Session::new(alloc, 100);
-    Mark::End.set(alloc);
-    if first.is_ok() {
-        return first;
+    if lacked(alloc, first.is_err()) {
+        return Session::new(alloc, 100);
     }
-    Mark::Lacked.set(alloc);
-    Session::new(alloc, 100)
+    first
 }
 
 #[test]
 fn session_new_refused(rt: HostRuntime) -> Result<(), Fail> {
     let session = session_new(rt.alloc())?;
-    assert!(rt; is_at(&session, 0, b"findings 0\n")?);
-    Mark::Right.set(rt.alloc());
-    Ok(())
+    let is_new = is_at(&session, 0, "findings 0\n")?;
+    right(rt.alloc(), is_new, "a new session has no line")
 }
 
 /// Loads a part of the trace, in a second call where the first lacks memory. Whether a refused call left all as it was.
@@ -54,30 +62,27 @@ fn load(alloc: Global, session: &mut Session) -> Result<bool, Fail> {
     let lines = lines_of(alloc, &TRACE[..3])?;
     Mark::Begin.set(alloc);
     let first = session.load(lines);
-    Mark::End.set(alloc);
-    if first.is_ok() {
+    if !lacked(alloc, first.is_err()) {
         return Ok(true);
     }
-    Mark::Lacked.set(alloc);
     let is_left = first == Err(Refused::Memory) && is_at(session, 8, REPORT)?;
     session.load(lines_of(alloc, &TRACE[..3])?)?;
     Ok(is_left)
 }
 
-/// Whether a session was left, and then has the lines.
-fn loads(alloc: Global, session: &mut Session) -> Result<bool, Fail> {
-    Ok(load(alloc, session)? && is_at(session, 3, b"findings 0\n")?)
+/// Loads that part: the session was left, and then has its lines.
+fn load_part(alloc: Global, session: &mut Session) -> Result<(), Fail> {
+    let is_right = load(alloc, session)? && is_at(session, 3, "findings 0\n")?;
+    right(alloc, is_right, "a part is loaded")
 }
 
 #[test]
 fn load_refused(rt: HostRuntime) -> Result<(), Fail> {
-    assert!(rt; loads(rt.alloc(), &mut session_of(rt.alloc())?)?);
-    Mark::Right.set(rt.alloc());
-    Ok(())
+    with_session(rt.alloc(), load_part)
 }
 
 /// Edits that take the limit out, and put it in again in three ways.
-static EDITS: [(Edit<'static>, &[u8]); 6] = [
+static EDITS: [(Edit<'static>, &str); 6] = [
     (Edit::Delete { position: 2 }, SHORTER),
     (
         Edit::Insert {
@@ -124,216 +129,219 @@ fn edit(
     alloc: Global,
     session: &mut Session,
     edit: &Edit<'_>,
-    report: &[u8],
+    report: &str,
 ) -> Result<bool, Refused> {
     let count = session.count();
     Mark::Begin.set(alloc);
     let first = session.edit(edit);
-    Mark::End.set(alloc);
-    if first.is_ok() {
+    if !lacked(alloc, first.is_err()) {
         return Ok(true);
     }
-    Mark::Lacked.set(alloc);
     let is_left = first == Err(Refused::Memory) && is_at(session, count, report)?;
     session.edit(edit)?;
     Ok(is_left)
 }
 
-/// Whether a session was left by each refused edit, and has what is right after each edit.
-fn edits_all(alloc: Global, session: &mut Session) -> Result<bool, Refused> {
+/// Whether a session was left by a refused edit, and has what is right after the edit.
+fn edits(
+    alloc: Global,
+    session: &mut Session,
+    change: &Edit<'_>,
+    before: &str,
+    after: &str,
+) -> Result<bool, Refused> {
+    let count = length_after(session.count(), change);
+    Ok(edit(alloc, session, change, before)? && is_at(session, count, after)?)
+}
+
+/// Makes each edit.
+fn edit_all(alloc: Global, session: &mut Session) -> Result<(), Fail> {
     let mut report = REPORT;
     for (change, after) in &EDITS {
-        let count = length_after(session.count(), change);
-        if !edit(alloc, session, change, report)? || !is_at(session, count, after)? {
-            return Ok(false);
-        }
-        Mark::Right.set(alloc);
+        right(alloc, edits(alloc, session, change, report, after)?, after)?;
         report = *after;
     }
-    Ok(true)
+    Ok(())
 }
 
 #[test]
 fn edits_refused(rt: HostRuntime) -> Result<(), Fail> {
-    assert!(rt; edits_all(rt.alloc(), &mut session_of(rt.alloc())?)?);
-    Ok(())
+    with_session(rt.alloc(), edit_all)
 }
 
 /// An edit that is refused for its position, and one that takes the limit out.
 static TWO: [Edit<'static>; 2] = [Edit::Delete { position: 9 }, Edit::Delete { position: 2 }];
 
-/// Whether the second of the two edits, or all, lacked memory; `None` where they are answered otherwise.
-fn lacked(first: Result<Vec<Result<usize, Refused>>, Refused>) -> Option<bool> {
-    match first {
-        Ok(answers) => match answers.as_slice() {
-            [Err(Refused::Position), Err(Refused::Memory)] => Some(true),
-            [Err(Refused::Position), Ok(_)] => Some(false),
-            _ => None,
-        },
-        Err(Refused::Memory) => Some(true),
-        Err(_) => None,
-    }
-}
-
-/// Makes the two edits, in a second call where the first lacks memory. Whether a refused call left all as it was.
-fn apply(alloc: Global, session: &mut Session) -> Result<bool, Refused> {
-    Mark::Begin.set(alloc);
-    let first = session.apply(&TWO);
-    Mark::End.set(alloc);
-    match lacked(first) {
-        Some(false) => Ok(true),
-        Some(true) => {
-            Mark::Lacked.set(alloc);
-            let is_left = is_at(session, 8, REPORT)?;
-            session.apply(&TWO)?;
-            Ok(is_left)
-        }
-        None => Ok(false),
-    }
-}
-
-/// Whether a session was left, and then has the two edits.
-fn applies(alloc: Global, session: &mut Session) -> Result<bool, Refused> {
-    Ok(apply(alloc, session)? && is_at(session, 7, SHORTER)?)
-}
-
-#[test]
-fn apply_refused(rt: HostRuntime) -> Result<(), Fail> {
-    assert!(rt; applies(rt.alloc(), &mut session_of(rt.alloc())?)?);
-    Mark::Right.set(rt.alloc());
-    Ok(())
-}
-
-/// What came of an edit with the report after it.
-#[derive(Clone, Copy, PartialEq, Eq)]
-enum After {
+/// What came of the edit that takes the limit out.
+#[derive(Clone, Copy)]
+enum Came {
     Edited,
     NotEdited,
     Lacked,
     Wrong,
 }
 
-/// What came of the second edit of the two.
-fn after_of(edited: Result<Edited, Refused>) -> After {
+/// What came of the two edits, of which the first is refused for its position.
+fn came_of(answers: Result<Vec<Result<usize, Refused>>, Refused>) -> Came {
+    match answers {
+        Ok(answers) => match answers.as_slice() {
+            [Err(Refused::Position), Err(Refused::Memory)] => Came::Lacked,
+            [Err(Refused::Position), Ok(_)] => Came::Edited,
+            _ => Came::Wrong,
+        },
+        Err(Refused::Memory) => Came::Lacked,
+        Err(_) => Came::Wrong,
+    }
+}
+
+/// Makes the two edits, in a second call where the first lacks memory. Whether a refused call left all as it was.
+fn apply(alloc: Global, session: &mut Session) -> Result<bool, Refused> {
+    Mark::Begin.set(alloc);
+    let came = came_of(session.apply(&TWO));
+    if !lacked(alloc, matches!(came, Came::Lacked)) {
+        return Ok(matches!(came, Came::Edited));
+    }
+    let is_left = is_at(session, 8, REPORT)?;
+    session.apply(&TWO)?;
+    Ok(is_left)
+}
+
+/// Makes the two edits: the session was left, and then has the second.
+fn apply_two(alloc: Global, session: &mut Session) -> Result<(), Fail> {
+    let is_right = apply(alloc, session)? && is_at(session, 7, SHORTER)?;
+    right(alloc, is_right, "two edits are made")
+}
+
+#[test]
+fn apply_refused(rt: HostRuntime) -> Result<(), Fail> {
+    with_session(rt.alloc(), apply_two)
+}
+
+/// What came of the edit, by the report after it.
+fn came_of_report(edited: Result<Edited, Refused>) -> Came {
     let report = match edited {
         Ok(edited) => edited.report,
         Err(refused) => Err(refused),
     };
     match &report {
-        Ok(text) if text.as_slice() == SHORTER => After::Edited,
-        Ok(text) if text.as_slice() == REPORT => After::NotEdited,
-        Err(Refused::Memory) => After::Lacked,
-        _ => After::Wrong,
+        Ok(text) if text.as_slice() == SHORTER.as_bytes() => Came::Edited,
+        Ok(text) if text.as_slice() == REPORT.as_bytes() => Came::NotEdited,
+        Err(Refused::Memory) => Came::Lacked,
+        _ => Came::Wrong,
     }
 }
 
-/// Whether the first call's answer fits the session after it.
-fn fits(after: After, count: usize) -> bool {
-    match after {
-        After::Edited => count == 7,
-        After::NotEdited => count == 8,
-        After::Lacked => count == 7 || count == 8,
-        After::Wrong => false,
+/// Whether that fits the session after it.
+fn fits(came: Came, count: usize) -> bool {
+    match came {
+        Came::Edited => count == 7,
+        Came::NotEdited => count == 8,
+        Came::Lacked => count == 7 || count == 8,
+        Came::Wrong => false,
     }
 }
 
 /// Makes the edit, in a second call where the first didn't. Whether each answered what is right.
 fn report_after(alloc: Global, session: &mut Session) -> Result<bool, Refused> {
     Mark::Begin.set(alloc);
-    let first = session.report_after(&TWO[1..]);
-    Mark::End.set(alloc);
-    let after = after_of(first);
-    if after == After::Edited {
-        return Ok(session.count() == 7);
-    }
-    Mark::Lacked.set(alloc);
-    let is_fit = fits(after, session.count());
-    if session.count() == 7 {
+    let came = came_of_report(session.report_after(&TWO[1..]));
+    let is_lacking = lacked(alloc, !matches!(came, Came::Edited));
+    let is_fit = fits(came, session.count());
+    if !is_lacking || session.count() == 7 {
         return Ok(is_fit);
     }
     let is_left = is_at(session, 8, REPORT)?;
-    Ok(is_fit && is_left && after_of(session.report_after(&TWO[1..])) == After::Edited)
+    let again = came_of_report(session.report_after(&TWO[1..]));
+    Ok(is_fit && is_left && matches!(again, Came::Edited))
 }
 
-/// Whether each call was right, and the session then has the edit.
-fn reports_after(alloc: Global, session: &mut Session) -> Result<bool, Refused> {
-    Ok(report_after(alloc, session)? && is_at(session, 7, SHORTER)?)
+/// Makes the edit: each call was right, and the session then has it.
+fn report_one(alloc: Global, session: &mut Session) -> Result<(), Fail> {
+    let is_right = report_after(alloc, session)? && is_at(session, 7, SHORTER)?;
+    right(alloc, is_right, "an edit is reported on")
 }
 
 #[test]
 fn report_after_refused(rt: HostRuntime) -> Result<(), Fail> {
-    assert!(rt; reports_after(rt.alloc(), &mut session_of(rt.alloc())?)?);
-    Mark::Right.set(rt.alloc());
-    Ok(())
+    with_session(rt.alloc(), report_one)
 }
 
-/// A line as it is shown; where the first call lacks memory, by a second one.
-fn shown(alloc: Global, session: &Session, position: usize) -> Result<Vec<u8>, Refused> {
+/// What is asked of a session.
+#[derive(Clone, Copy, Drop)]
+pub enum Ask<'a> {
+    Report,
+    From(&'a Start),
+    Range(usize, usize),
+    Show(usize),
+    /// What a line with findings rests on.
+    Explain(usize),
+}
+
+/// What a session answers. No line that it explains is clean.
+fn asked(session: &Session, ask: Ask<'_>) -> Result<Vec<u8>, Refused> {
+    match ask {
+        Ask::Report => session.report(),
+        Ask::From(start) => session.report_from(start),
+        Ask::Range(first, last) => session.report_range(first, last),
+        Ask::Show(position) => session.show(position),
+        Ask::Explain(position) => match session.explain(position)? {
+            line if line.is_clean => Err(Refused::Position),
+            line => Ok(line.text),
+        },
+    }
+}
+
+/// The same; where the first call lacks memory, by a second one.
+fn asked_or_again(alloc: Global, session: &Session, ask: Ask<'_>) -> Result<Vec<u8>, Refused> {
     Mark::Begin.set(alloc);
-    let first = session.show(position);
-    Mark::End.set(alloc);
-    if !matches!(first, Err(Refused::Memory)) {
-        return first;
+    let first = asked(session, ask);
+    if lacked(alloc, matches!(first, Err(Refused::Memory))) {
+        return asked(session, ask);
     }
-    Mark::Lacked.set(alloc);
-    session.show(position)
+    first
 }
 
-/// Whether a session shows each line of the trace.
-fn shows_all(alloc: Global, session: &Session) -> Result<bool, Refused> {
+/// Asks that: this is the answer, and the session is as it was.
+pub fn ask_for(alloc: Global, session: &Session, ask: Ask<'_>, text: &str) -> Result<(), Fail> {
+    let answer = asked_or_again(alloc, session, ask)?;
+    let is_answer = answer.as_slice() == text.as_bytes();
+    right(alloc, is_answer && is_at(session, 8, REPORT)?, text)
+}
+
+/// Shows each line.
+fn show_all(alloc: Global, session: &mut Session) -> Result<(), Fail> {
     for (position, line) in (1..).zip(&TRACE) {
-        if shown(alloc, session, position)?.as_slice() != *line {
-            return Ok(false);
-        }
-        Mark::Right.set(alloc);
+        ask_for(alloc, session, Ask::Show(position), line)?;
     }
-    Ok(true)
+    Ok(())
 }
 
 #[test]
 fn show_refused(rt: HostRuntime) -> Result<(), Fail> {
-    assert!(rt; shows_all(rt.alloc(), &session_of(rt.alloc())?)?);
-    Ok(())
+    with_session(rt.alloc(), show_all)
 }
 
 /// Lines of the trace, and what they rest on.
-static EXPLAINED: [(usize, &[u8]); 2] = [
+static EXPLAINED: [(usize, &str); 2] = [
     (
         5,
-        b"5 100 write(3) RET 1\nmissing 3 CAP_WRITE\n3 2 100 cap_rights_limit(3,CAP_READ) RET 0\n3 1 100 @start(0,3)\n",
+        "5 100 write(3) RET 1\nmissing 3 CAP_WRITE\n3 2 100 cap_rights_limit(3,CAP_READ) RET 0\n3 1 100 @start(0,3)\n",
     ),
     (
         8,
-        b"8 101 read(3) RET 1\nclosed 3\n3 7 101 closefrom(1) RET 0\n",
+        "8 101 read(3) RET 1\nclosed 3\n3 7 101 closefrom(1) RET 0\n",
     ),
 ];
 
-/// An explanation; where the first call lacks memory, by a second one.
-fn explained(alloc: Global, session: &Session, position: usize) -> Result<ExplainedLine, Refused> {
-    Mark::Begin.set(alloc);
-    let first = session.explain(position);
-    Mark::End.set(alloc);
-    if !matches!(first, Err(Refused::Memory)) {
-        return first;
-    }
-    Mark::Lacked.set(alloc);
-    session.explain(position)
-}
-
-/// Whether a session explains those lines, and has its report after each.
-fn explains_all(alloc: Global, session: &Session) -> Result<bool, Refused> {
+/// Explains those lines.
+fn explain_all(alloc: Global, session: &mut Session) -> Result<(), Fail> {
     for (position, text) in &EXPLAINED {
-        let line = explained(alloc, session, *position)?;
-        if line.text.as_slice() != *text || line.is_clean || !is_at(session, 8, REPORT)? {
-            return Ok(false);
-        }
-        Mark::Right.set(alloc);
+        ask_for(alloc, session, Ask::Explain(*position), text)?;
     }
-    Ok(true)
+    Ok(())
 }
 
 #[test]
 fn explain_refused(rt: HostRuntime) -> Result<(), Fail> {
-    assert!(rt; explains_all(rt.alloc(), &session_of(rt.alloc())?)?);
-    Ok(())
+    with_session(rt.alloc(), explain_all)
 }

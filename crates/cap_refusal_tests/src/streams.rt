@@ -1,6 +1,6 @@
 //! Traces, starts and scripts that come piece by piece.
 
-use crate::marks::Mark;
+use crate::marks::{Mark, lacked, right};
 use cap_machine::Profile;
 use cap_session::{
     ExplainOutcome, Failed, Outcome, Source, check_stream, check_stream_as, check_stream_from,
@@ -41,16 +41,21 @@ enum Call {
     EditAs,
 }
 
+/// The other text that a call reads.
+fn other_of(call: Call) -> &'static [u8] {
+    match call {
+        Call::Check | Call::CheckAs => b"",
+        Call::CheckFrom | Call::CheckFromAs => START,
+        Call::Edit | Call::EditAs => SCRIPT,
+    }
+}
+
 /// The outcome of a call, and what it wrote.
 fn streamed(alloc: Global, call: Call) -> (Outcome, Kept) {
-    let mut trace = Pieces::new(TRACE, 64, 0);
-    let mut other = match call {
-        Call::Check | Call::CheckAs => Pieces::new(b"", 64, 0),
-        Call::CheckFrom | Call::CheckFromAs => Pieces::new(START, 64, 0),
-        Call::Edit | Call::EditAs => Pieces::new(SCRIPT, 64, 0),
-    };
-    let mut kept = Kept::new(64, 256);
     let profile = Profile::Two;
+    let mut trace = Pieces::new(TRACE, 64, 0);
+    let mut other = Pieces::new(other_of(call), 64, 0);
+    let mut kept = Kept::new(64, 256);
     let outcome = match call {
         Call::Check => check_stream(alloc, 4096, &mut trace, &mut kept),
         Call::CheckAs => check_stream_as(alloc, profile, 4096, &mut trace, &mut kept),
@@ -64,19 +69,20 @@ fn streamed(alloc: Global, call: Call) -> (Outcome, Kept) {
     (outcome, kept)
 }
 
-/// The same; where the first call lacks memory, by a second one. `None` where the first wrote something all the same.
-fn checked(alloc: Global, call: Call) -> Option<(Outcome, Kept)> {
+/// Whether a call has this outcome and writes this.
+fn gives(alloc: Global, call: Call, outcome: Outcome, text: &[u8]) -> bool {
+    let (ended, kept) = streamed(alloc, call);
+    ended == outcome && kept.text() == text
+}
+
+/// Whether a call finds what is right, in a second call where the first lacks memory and has written nothing.
+fn checks(alloc: Global, call: Call) -> bool {
     Mark::Begin.set(alloc);
     let (outcome, kept) = streamed(alloc, call);
-    Mark::End.set(alloc);
-    if outcome != Outcome::Memory {
-        return Some((outcome, kept));
+    if lacked(alloc, outcome == Outcome::Memory) {
+        return kept.text().is_empty() && gives(alloc, call, Outcome::Findings, REPORT);
     }
-    Mark::Lacked.set(alloc);
-    if !kept.text().is_empty() {
-        return None;
-    }
-    Some(streamed(alloc, call))
+    outcome == Outcome::Findings && kept.text() == REPORT
 }
 
 static CHECKS: [Call; 4] = [
@@ -89,10 +95,7 @@ static CHECKS: [Call; 4] = [
 #[test]
 fn check_streams_refused(rt: HostRuntime) -> Result<(), Fail> {
     for call in &CHECKS {
-        let (outcome, kept) = checked(rt.alloc(), *call).ok_or("written without memory")?;
-        assert_eq!(rt; outcome, Outcome::Findings);
-        assert_eq!(rt; kept.text(), REPORT);
-        Mark::Right.set(rt.alloc());
+        right(rt.alloc(), checks(rt.alloc(), *call), "a stream is checked")?;
     }
     Ok(())
 }
@@ -101,12 +104,22 @@ fn check_streams_refused(rt: HostRuntime) -> Result<(), Fail> {
 const EXPLAINED: &[u8] =
     b"5 101 write(3) RET 1\nmissing 3 CAP_WRITE\n3 3 100 fork() RET 101\n3 2 100 cap_rights_limit(3,CAP_READ) RET 0\n3 1 100 @start(0,3)\n";
 
-/// The outcome of explaining the last line, with a profile or without, and from a start or without, and what that wrote.
-fn explained(alloc: Global, profile: Option<Profile>, is_started: bool) -> (ExplainOutcome, Kept) {
+/// With a profile or without, and from a start or without.
+type Way = (Option<Profile>, bool);
+
+static WAYS: [Way; 4] = [
+    (None, false),
+    (Some(Profile::Two), false),
+    (None, true),
+    (Some(Profile::Two), true),
+];
+
+/// The outcome of explaining the last line, and what that wrote.
+fn explained(alloc: Global, way: Way) -> (ExplainOutcome, Kept) {
     let mut trace = Pieces::new(TRACE, 64, 0);
     let mut start = Pieces::new(START, 64, 0);
     let mut kept = Kept::new(64, 256);
-    let outcome = match (profile, is_started) {
+    let outcome = match way {
         (None, false) => explain_stream(alloc, 4096, 5, &mut trace, &mut kept),
         (Some(profile), false) => {
             explain_stream_as(alloc, profile, 4096, 5, &mut trace, &mut kept)
@@ -119,41 +132,30 @@ fn explained(alloc: Global, profile: Option<Profile>, is_started: bool) -> (Expl
     (outcome, kept)
 }
 
-/// The same; where the first call lacks memory, by a second one. `None` where the first wrote something all the same.
-fn explained_or_again(
-    alloc: Global,
-    profile: Option<Profile>,
-    is_started: bool,
-) -> Option<(ExplainOutcome, Kept)> {
-    Mark::Begin.set(alloc);
-    let (outcome, kept) = explained(alloc, profile, is_started);
-    Mark::End.set(alloc);
-    if outcome != ExplainOutcome::Ended(Outcome::Memory) {
-        return Some((outcome, kept));
-    }
-    Mark::Lacked.set(alloc);
-    if !kept.text().is_empty() {
-        return None;
-    }
-    Some(explained(alloc, profile, is_started))
+/// Whether the last line is explained as is right.
+fn is_explained(outcome: ExplainOutcome, kept: &Kept) -> bool {
+    outcome == ExplainOutcome::Ended(Outcome::Findings) && kept.text() == EXPLAINED
 }
 
-/// With a profile or without, and from a start or without.
-static WAYS: [(Option<Profile>, bool); 4] = [
-    (None, false),
-    (Some(Profile::Two), false),
-    (None, true),
-    (Some(Profile::Two), true),
-];
+/// Whether that is so, in a second call where the first lacks memory and has written nothing.
+fn explains(alloc: Global, way: Way) -> bool {
+    Mark::Begin.set(alloc);
+    let (outcome, kept) = explained(alloc, way);
+    if lacked(alloc, outcome == ExplainOutcome::Ended(Outcome::Memory)) {
+        let (again, written) = explained(alloc, way);
+        return kept.text().is_empty() && is_explained(again, &written);
+    }
+    is_explained(outcome, &kept)
+}
 
 #[test]
 fn explain_streams_refused(rt: HostRuntime) -> Result<(), Fail> {
-    for (profile, is_started) in &WAYS {
-        let answer = explained_or_again(rt.alloc(), *profile, *is_started);
-        let (outcome, kept) = answer.ok_or("written without memory")?;
-        assert_eq!(rt; outcome, ExplainOutcome::Ended(Outcome::Findings));
-        assert_eq!(rt; kept.text(), EXPLAINED);
-        Mark::Right.set(rt.alloc());
+    for way in &WAYS {
+        right(
+            rt.alloc(),
+            explains(rt.alloc(), *way),
+            "a line is explained",
+        )?;
     }
     Ok(())
 }
@@ -169,26 +171,26 @@ fn may_be_replied(outcome: Outcome, written: &[u8]) -> bool {
     }
 }
 
-/// Whether the first call of a script answers what is right, or what it may where memory runs out.
-fn is_replied(alloc: Global, call: Call) -> bool {
+/// Whether the first call of a script answers what is right, or what it may where memory runs out, and the second what is
+/// right.
+fn replies(alloc: Global, call: Call) -> bool {
     Mark::Begin.set(alloc);
     let (outcome, kept) = streamed(alloc, call);
-    Mark::End.set(alloc);
-    if (outcome, kept.text()) == REPLIES[0] {
-        return true;
-    }
-    Mark::Lacked.set(alloc);
-    may_be_replied(outcome, kept.text())
+    let is_first = outcome == REPLIES[0].0 && kept.text() == REPLIES[0].1;
+    let may_be = !lacked(alloc, !is_first) || may_be_replied(outcome, kept.text());
+    may_be && gives(alloc, call, Outcome::Clean, REPLIES[0].1)
 }
+
+static EDITS: [Call; 2] = [Call::Edit, Call::EditAs];
 
 #[test]
 fn edit_streams_refused(rt: HostRuntime) -> Result<(), Fail> {
-    for call in &[Call::Edit, Call::EditAs] {
-        assert!(rt; is_replied(rt.alloc(), *call));
-        let (outcome, kept) = streamed(rt.alloc(), *call);
-        assert_eq!(rt; outcome, Outcome::Clean);
-        assert_eq!(rt; kept.text(), REPLIES[0].1);
-        Mark::Right.set(rt.alloc());
+    for call in &EDITS {
+        right(
+            rt.alloc(),
+            replies(rt.alloc(), *call),
+            "a script is answered",
+        )?;
     }
     Ok(())
 }
@@ -221,11 +223,8 @@ impl<S: Source> Source for Marked<S> {
     }
 }
 
-/// Each allocation inside `delete 2` is refused in turn. Where the command can't do without it, it is answered so, and
-/// the trace is reported as it was.
-#[test]
-fn delete_in_a_script_refused(rt: HostRuntime) -> Result<(), Fail> {
-    let alloc = rt.alloc();
+/// Whether a script with marks inside is answered as is right, or as it is where its first command lacks memory.
+fn deletes(alloc: Global) -> bool {
     let mut trace = Pieces::new(TRACE, 64, 0);
     let mut script = Marked {
         script: Pieces::new(SCRIPT, 9, 0),
@@ -233,20 +232,18 @@ fn delete_in_a_script_refused(rt: HostRuntime) -> Result<(), Fail> {
         alloc,
     };
     let mut kept = Kept::new(64, 256);
-    let outcome = edit_stream_as(
-        alloc,
-        Profile::Two,
-        4096,
-        &mut trace,
-        &mut script,
-        &mut kept,
-    );
+    let profile = Profile::Two;
+    let outcome = edit_stream_as(alloc, profile, 4096, &mut trace, &mut script, &mut kept);
     if outcome == Outcome::Clean {
-        assert_eq!(rt; kept.text(), REPLIES[0].1);
-    } else {
-        Mark::Lacked.set(alloc);
-        assert_eq!(rt; (outcome, kept.text()), REPLIES[1]);
+        return kept.text() == REPLIES[0].1;
     }
-    Mark::Right.set(alloc);
-    Ok(())
+    Mark::Lacked.set(alloc);
+    outcome == REPLIES[1].0 && kept.text() == REPLIES[1].1
+}
+
+/// Each allocation inside `delete 2` is refused in turn. Where the command can't do without it, it is answered so, and
+/// the trace is reported as it was.
+#[test]
+fn delete_in_a_script_refused(rt: HostRuntime) -> Result<(), Fail> {
+    right(rt.alloc(), deletes(rt.alloc()), "a line is deleted")
 }

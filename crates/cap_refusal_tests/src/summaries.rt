@@ -1,18 +1,18 @@
 //! Summaries: made of one step, joined, and read from a start.
 
-use crate::machine::{TRACE, start_of};
-use crate::marks::Mark;
+use crate::machine::{CELLS, TRACE, are_at, with_lines};
+use crate::marks::{Mark, lacked, right};
 use cap_machine::{Found, Profile, Start, Step};
 use cap_summary::{Summary, resolve, resolve_range};
-use cap_trace::parse_line;
+use cap_trace::{Line, parse_line};
 use cap_tree::{Meter, NoMemory, Segment, Tree};
 use std::alloc::Global;
 use std::rc::Rc;
 use std::test::Fail;
 
 /// A line as a step in profile 2.
-fn step_of(alloc: Global, text: &[u8]) -> Result<Rc<Step>, Fail> {
-    let line = parse_line(alloc, text)?;
+fn step_of(alloc: Global, text: &str) -> Result<Rc<Step>, Fail> {
+    let line = parse_line(alloc, text.as_bytes())?;
     let profile = Profile::Two;
     Ok(Rc::new(alloc, Step { profile, line })?)
 }
@@ -49,51 +49,43 @@ fn joined(alloc: Global, left: &Summary, right: &Summary) -> Result<Summary, NoM
     Summary::join(alloc, &mut Meter::new(), left, right)
 }
 
-/// Positions of findings.
-fn positions(alloc: Global, found: &[Found]) -> Result<Vec<usize>, Fail> {
-    let mut positions = Vec::new(alloc);
-    for one in found {
-        positions.push(one.at)?;
+/// The summary of a step, or of nothing.
+fn small(alloc: Global, step: Option<&Rc<Step>>) -> Result<Summary, NoMemory> {
+    match step {
+        Some(step) => Summary::one(alloc, step),
+        None => Summary::empty(alloc),
     }
-    Ok(positions)
 }
 
-/// A summary of nothing; where the first call lacks memory, by a second one.
-fn empty(alloc: Global) -> Result<Summary, NoMemory> {
+/// The same; where the first call lacks memory, by a second one.
+fn small_or_again(alloc: Global, step: Option<&Rc<Step>>) -> Result<Summary, NoMemory> {
     Mark::Begin.set(alloc);
-    let first = Summary::empty(alloc);
-    Mark::End.set(alloc);
-    if first.is_ok() {
-        return first;
+    let first = small(alloc, step);
+    if lacked(alloc, first.is_err()) {
+        return small(alloc, step);
     }
-    Mark::Lacked.set(alloc);
-    Summary::empty(alloc)
+    first
+}
+
+/// Makes a summary of a step, or of nothing: it has so many.
+fn make(alloc: Global, step: Option<&Rc<Step>>) -> Result<(), Fail> {
+    let len = small_or_again(alloc, step)?.len();
+    right(
+        alloc,
+        len == usize::from(step.is_some()),
+        "a summary is made",
+    )
 }
 
 #[test]
 fn empty_refused(rt: HostRuntime) -> Result<(), Fail> {
-    assert_eq!(rt; empty(rt.alloc())?.len(), 0);
-    Mark::Right.set(rt.alloc());
-    Ok(())
-}
-
-/// The summary of a step; where the first call lacks memory, by a second one.
-fn one(alloc: Global, step: &Rc<Step>) -> Result<Summary, NoMemory> {
-    Mark::Begin.set(alloc);
-    let first = Summary::one(alloc, step);
-    Mark::End.set(alloc);
-    if first.is_ok() {
-        return first;
-    }
-    Mark::Lacked.set(alloc);
-    Summary::one(alloc, step)
+    make(rt.alloc(), None)
 }
 
 #[test]
 fn one_refused(rt: HostRuntime) -> Result<(), Fail> {
     for step in &steps_of(rt.alloc())? {
-        assert_eq!(rt; one(rt.alloc(), step)?.len(), 1);
-        Mark::Right.set(rt.alloc());
+        make(rt.alloc(), Some(step))?;
     }
     Ok(())
 }
@@ -102,41 +94,50 @@ fn one_refused(rt: HostRuntime) -> Result<(), Fail> {
 fn both_of(alloc: Global, left: &Summary, right: &Summary) -> Result<Summary, NoMemory> {
     Mark::Begin.set(alloc);
     let first = joined(alloc, left, right);
-    Mark::End.set(alloc);
-    if first.is_ok() {
-        return first;
+    if lacked(alloc, first.is_err()) {
+        return joined(alloc, left, right);
     }
-    Mark::Lacked.set(alloc);
-    joined(alloc, left, right)
+    first
 }
 
-/// The joined summary of the steps before a place and of those from there on.
-fn joined_at(alloc: Global, place: usize) -> Result<Summary, Fail> {
-    let steps = steps_of(alloc)?;
+/// Whether what is to be found in the trace is found in a summary.
+fn is_whole(alloc: Global, start: &Start, summary: &Summary) -> Result<bool, NoMemory> {
+    let found = resolve(alloc, summary, start)?;
+    Ok(are_at(&found, &[5, 8]))
+}
+
+/// Whether two summaries are joined to that of the trace.
+fn joins(alloc: Global, start: &Start, left: &Summary, right: &Summary) -> Result<bool, NoMemory> {
+    let both = both_of(alloc, left, right)?;
+    is_whole(alloc, start, &both)
+}
+
+/// Whether the steps before a place and those from there on are joined so, and the summary on the left isn't changed.
+fn joins_at(
+    alloc: Global,
+    start: &Start,
+    steps: &[Rc<Step>],
+    place: usize,
+) -> Result<bool, NoMemory> {
     let (front, back) = steps.split_at(place.min(steps.len()));
     let left = summary_of(alloc, front)?;
     let right = summary_of(alloc, back)?;
-    let both = both_of(alloc, &left, &right)?;
-    if left.len() != place {
-        return Err(Fail::from("the summary on the left was changed"));
-    }
-    Ok(both)
+    Ok(joins(alloc, start, &left, &right)? && left.len() == place)
 }
 
-/// The positions of what is found in a summary, from the start in which process 100 holds rights.
-fn found_from(alloc: Global, summary: &Summary) -> Result<Vec<usize>, Fail> {
-    let start = start_of(alloc)?;
-    positions(alloc, &resolve(alloc, summary, &start)?)
+/// Cuts the trace at each place.
+fn join_all(alloc: Global, start: &mut Start, _lines: &[Line]) -> Result<(), Fail> {
+    let steps = steps_of(alloc)?;
+    for place in 0..TRACE.len() + 1 {
+        let is_right = joins_at(alloc, start, &steps, place)?;
+        right(alloc, is_right, "two parts are joined")?;
+    }
+    Ok(())
 }
 
 #[test]
 fn join_refused(rt: HostRuntime) -> Result<(), Fail> {
-    for place in 0..=TRACE.len() {
-        let found = found_from(rt.alloc(), &joined_at(rt.alloc(), place)?)?;
-        assert_eq!(rt; found.as_slice(), [5, 8].as_slice(), "cut at {place}");
-        Mark::Right.set(rt.alloc());
-    }
-    Ok(())
+    with_lines(rt.alloc(), CELLS, join_all)
 }
 
 /// The summary of some steps at once.
@@ -151,21 +152,26 @@ fn summed_up(alloc: Global, steps: &[Rc<Step>]) -> Result<Summary, NoMemory> {
 fn sum_of(alloc: Global, steps: &[Rc<Step>]) -> Result<Summary, NoMemory> {
     Mark::Begin.set(alloc);
     let first = summed_up(alloc, steps);
-    Mark::End.set(alloc);
-    if first.is_ok() {
-        return first;
+    if lacked(alloc, first.is_err()) {
+        return summed_up(alloc, steps);
     }
-    Mark::Lacked.set(alloc);
-    summed_up(alloc, steps)
+    first
+}
+
+/// Sums up the trace at once.
+fn sum_all(alloc: Global, start: &mut Start, _lines: &[Line]) -> Result<(), Fail> {
+    let steps = steps_of(alloc)?;
+    let whole = sum_of(alloc, &steps)?;
+    right(
+        alloc,
+        is_whole(alloc, start, &whole)?,
+        "the trace is summed up",
+    )
 }
 
 #[test]
 fn sum_refused(rt: HostRuntime) -> Result<(), Fail> {
-    let steps = steps_of(rt.alloc())?;
-    let found = found_from(rt.alloc(), &sum_of(rt.alloc(), &steps)?)?;
-    assert_eq!(rt; found.as_slice(), [5, 8].as_slice());
-    Mark::Right.set(rt.alloc());
-    Ok(())
+    with_lines(rt.alloc(), CELLS, sum_all)
 }
 
 /// What is found in a range; where the first call lacks memory, by a second one.
@@ -178,52 +184,41 @@ fn found_in(
     let (from, to) = range;
     Mark::Begin.set(alloc);
     let first = resolve_range(alloc, summary, start, from, to);
-    Mark::End.set(alloc);
-    if first.is_ok() {
-        return first;
+    if lacked(alloc, first.is_err()) {
+        return resolve_range(alloc, summary, start, from, to);
     }
-    Mark::Lacked.set(alloc);
-    resolve_range(alloc, summary, start, from, to)
-}
-
-/// The tree of the steps of the trace.
-fn tree_of(alloc: Global) -> Result<Tree<Summary>, Fail> {
-    let steps = steps_of(alloc)?;
-    if steps.len() > 1000 {
-        return Err(Fail::from("too many steps"));
-    }
-    Ok(Tree::from_list(alloc, &mut Meter::new(), steps)?)
-}
-
-/// The positions of what is found in a range of a summary, from that start.
-fn positions_in(
-    alloc: Global,
-    summary: &Summary,
-    range: (usize, usize),
-) -> Result<Vec<usize>, Fail> {
-    let start = start_of(alloc)?;
-    positions(alloc, &found_in(alloc, summary, &start, range)?)
+    first
 }
 
 /// Ranges of the trace, and the positions of what is found there.
 static RANGES: [((usize, usize), &[usize]); 2] = [((1, 8), &[5, 8]), ((6, 8), &[8])];
 
 /// Whether the findings of each range are found, and then all of them.
-fn resolves_all(alloc: Global, summary: &Summary) -> Result<bool, Fail> {
+fn resolve_ranges(alloc: Global, start: &Start, summary: &Summary) -> Result<(), Fail> {
     for (range, places) in &RANGES {
-        if positions_in(alloc, summary, *range)?.as_slice() != *places {
-            return Ok(false);
-        }
-        if found_from(alloc, summary)?.as_slice() != [5, 8].as_slice() {
-            return Ok(false);
-        }
-        Mark::Right.set(alloc);
+        let found = found_in(alloc, summary, start, *range)?;
+        let is_right = are_at(&found, places) && is_whole(alloc, start, summary)?;
+        right(alloc, is_right, "what is found in a range")?;
     }
-    Ok(true)
+    Ok(())
+}
+
+/// The tree of the steps of the trace.
+fn tree_of(alloc: Global) -> Result<Tree<Summary>, Fail> {
+    let steps = steps_of(alloc)?;
+    if steps.len() > 1000 {
+        return Err("too many steps")?;
+    }
+    Ok(Tree::from_list(alloc, &mut Meter::new(), steps)?)
+}
+
+/// Finds what is found in the tree of the trace.
+fn resolve_all(alloc: Global, start: &mut Start, _lines: &[Line]) -> Result<(), Fail> {
+    let tree = tree_of(alloc)?;
+    resolve_ranges(alloc, start, tree.summary())
 }
 
 #[test]
 fn resolve_refused(rt: HostRuntime) -> Result<(), Fail> {
-    assert!(rt; resolves_all(rt.alloc(), tree_of(rt.alloc())?.summary())?);
-    Ok(())
+    with_lines(rt.alloc(), CELLS, resolve_all)
 }

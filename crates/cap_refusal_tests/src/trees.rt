@@ -1,6 +1,6 @@
 //! Trees: edits by which leaves split and merge, and nodes are rotated once and twice.
 
-use crate::marks::Mark;
+use crate::marks::{Mark, lacked, right};
 use cap_tree::{Meter, NoMemory, Tree};
 use cap_tree_tests::Listed;
 use std::alloc::Global;
@@ -47,19 +47,17 @@ fn edited(alloc: Global, tree: &Tree<Listed>, edit: &Edit) -> Result<Tree<Listed
     }
 }
 
-/// The list after the edit.
-fn list_after(mut list: Vec<u32>, edit: &Edit) -> Result<Vec<u32>, NoMemory> {
+/// Makes the edit in a list.
+fn edit_list(list: &mut Vec<u32>, edit: &Edit) -> Result<(), NoMemory> {
     match edit {
-        Edit::Insert(at) if *at <= list.len() => {
-            list.insert(*at, 1000)?;
-        }
+        Edit::Insert(at) if *at <= list.len() => list.insert(*at, 1000)?,
         Edit::Replace(at) if *at < list.len() => list[*at] = 1000,
         Edit::Remove(at) if *at < list.len() => {
             list.remove(*at);
         }
         _ => {}
     }
-    Ok(list)
+    Ok(())
 }
 
 /// The numbers below a limit, as items.
@@ -89,12 +87,10 @@ fn tree_of(alloc: Global, limit: u32) -> Result<Tree<Listed>, NoMemory> {
     }
     Mark::Begin.set(alloc);
     let first = Tree::from_list(alloc, &mut Meter::new(), items);
-    Mark::End.set(alloc);
-    if first.is_ok() {
-        return first;
+    if lacked(alloc, first.is_err()) {
+        return tree_to(alloc, limit);
     }
-    Mark::Lacked.set(alloc);
-    tree_to(alloc, limit)
+    first
 }
 
 /// Whether a tree has the numbers below a limit.
@@ -106,16 +102,34 @@ fn has_numbers(tree: &Tree<Listed>, limit: u32) -> bool {
             .all(|(number, item)| number == *item)
 }
 
+/// How many items trees are made of.
+static LIMITS: [u32; 5] = [0, 1, 48, 49, FIRST];
+
 #[test]
 fn from_list_refused(rt: HostRuntime) -> Result<(), Fail> {
-    for limit in [0, 1, 48, 49, FIRST] {
-        assert!(rt;
-            has_numbers(&tree_of(rt.alloc(), limit)?, limit),
-            "to {limit}"
-        );
-        Mark::Right.set(rt.alloc());
+    for limit in &LIMITS {
+        let tree = tree_of(rt.alloc(), *limit)?;
+        right(
+            rt.alloc(),
+            has_numbers(&tree, *limit),
+            "a tree has its items",
+        )?;
     }
     Ok(())
+}
+
+/// A tree, and the list that it must have.
+#[derive(Drop)]
+struct Listing {
+    tree: Tree<Listed>,
+    list: Vec<u32>,
+}
+
+/// The tree that is edited first.
+fn first_tree(alloc: Global) -> Result<Listing, NoMemory> {
+    let tree = tree_to(alloc, FIRST)?;
+    let list = tree.summary().list.clone()?;
+    Ok(Listing { tree, list })
 }
 
 /// Whether a tree has this list.
@@ -132,35 +146,36 @@ fn edited_or_again(
 ) -> Result<Tree<Listed>, NoMemory> {
     Mark::Begin.set(alloc);
     let first = edited(alloc, tree, edit);
-    Mark::End.set(alloc);
-    if first.is_err() {
-        Mark::Lacked.set(alloc);
-        if has(tree, list) {
-            return edited(alloc, tree, edit);
-        }
+    if lacked(alloc, first.is_err()) && has(tree, list) {
+        return edited(alloc, tree, edit);
     }
     first
 }
 
 /// Edits a tree. Whether the new one has the list after the edit, and the old one was left as it was.
-fn step(alloc: Global, tree: &mut Tree<Listed>, turn: u32) -> Result<bool, NoMemory> {
-    let edit = edit_at(turn, tree.len());
-    let before = tree.summary().list.clone()?;
-    let new = edited_or_again(alloc, tree, &edit, &before)?;
-    let is_left = has(tree, &before);
-    let list = list_after(before, &edit)?;
-    let is_edited = has(&new, &list);
-    *tree = new;
-    Ok(is_left && is_edited)
+fn step(alloc: Global, listing: &mut Listing, turn: u32) -> Result<bool, NoMemory> {
+    let edit = edit_at(turn, listing.tree.len());
+    let new = edited_or_again(alloc, &listing.tree, &edit, &listing.list)?;
+    let is_left = has(&listing.tree, &listing.list);
+    listing.tree = new;
+    edit_list(&mut listing.list, &edit)?;
+    Ok(is_left && has(&listing.tree, &listing.list))
+}
+
+/// Edits a tree until it is empty.
+fn edit_all(alloc: Global, listing: &mut Listing) -> Result<(), Fail> {
+    for turn in 0..437 {
+        right(alloc, step(alloc, listing, turn)?, "a tree is edited")?;
+    }
+    right(
+        alloc,
+        listing.tree.is_empty(),
+        "the last edit leaves no item",
+    )
 }
 
 #[test]
 fn tree_edits_refused(rt: HostRuntime) -> Result<(), Fail> {
-    let mut tree = tree_to(rt.alloc(), FIRST)?;
-    for turn in 0..437 {
-        assert!(rt; step(rt.alloc(), &mut tree, turn)?, "at {turn}");
-        Mark::Right.set(rt.alloc());
-    }
-    assert!(rt; tree.is_empty());
-    Ok(())
+    let mut listing = first_tree(rt.alloc())?;
+    edit_all(rt.alloc(), &mut listing)
 }
