@@ -1,9 +1,8 @@
-//! Worked rows: texts of rights with what is written for them again, and sets of rights. Out of memory fails each test,
-//! except where an allocation is refused on purpose.
+//! Worked rows: texts of rights with what is written for them again, and sets of rights. A small function says whether a
+//! row holds. It doesn't where memory has run out, except where an allocation is refused on purpose.
 
 use crate::{BadRight, NoMemory, RightBits, RightSet, parse_rights, write_rights};
 use std::alloc::{AllocError, AllocFailed, Global};
-use std::test::Fail;
 
 /// All 63 rights by name, which is not FULL.
 const EVERY_NAME: &str =
@@ -17,76 +16,133 @@ const EVERY_NAME: &str =
     CAP_PDKILL|CAP_EXTATTR_DELETE|CAP_EXTATTR_GET|CAP_EXTATTR_LIST|CAP_EXTATTR_SET|CAP_ACL_CHECK|\
     CAP_ACL_DELETE|CAP_ACL_GET|CAP_ACL_SET|CAP_KQUEUE_CHANGE";
 
-#[test]
-fn texts_are_read_and_written_again(rt: HostRuntime) -> Result<(), Fail> {
-    for (text, again) in [
-        (
-            "CAP_WRITE|CAP_PREAD|CAP_READ",
-            "CAP_READ|CAP_WRITE|CAP_SEEK",
-        ),
-        (
-            "CAP_MMAP_RWX",
-            "CAP_READ|CAP_WRITE|CAP_SEEK|CAP_MMAP|CAP_MMAP_X",
-        ),
-        ("CAP_FSTATAT", "CAP_LOOKUP|CAP_FSTAT"),
-        ("CAP_UNLINKAT|CAP_UNLINKAT", "CAP_LOOKUP|CAP_UNLINKAT"),
-        ("ALL", "ALL"),
-        ("NONE", "NONE"),
-        (EVERY_NAME, EVERY_NAME),
-    ] {
-        let rights = parse_rights(text.as_bytes())?;
-        let mut out = Vec::new(rt.alloc());
-        write_rights(&rights, &mut out)?;
-        assert_eq!(rt; out.as_slice(), again.as_bytes(), "of {text}");
+/// Texts, and what is written for each again.
+static WRITTEN: [(&str, &str); 7] = [
+    (
+        "CAP_WRITE|CAP_PREAD|CAP_READ",
+        "CAP_READ|CAP_WRITE|CAP_SEEK",
+    ),
+    (
+        "CAP_MMAP_RWX",
+        "CAP_READ|CAP_WRITE|CAP_SEEK|CAP_MMAP|CAP_MMAP_X",
+    ),
+    ("CAP_FSTATAT", "CAP_LOOKUP|CAP_FSTAT"),
+    ("CAP_UNLINKAT|CAP_UNLINKAT", "CAP_LOOKUP|CAP_UNLINKAT"),
+    ("ALL", "ALL"),
+    ("NONE", "NONE"),
+    (EVERY_NAME, EVERY_NAME),
+];
+
+/// Whether this text is written for a set.
+fn is_written(alloc: Global, rights: &RightSet, text: &str) -> bool {
+    let mut out = Vec::new(alloc);
+    write_rights(rights, &mut out).is_ok() && out.as_slice() == text.as_bytes()
+}
+
+/// Whether this text is written for the set that a text names.
+fn is_written_again(alloc: Global, text: &str, again: &str) -> bool {
+    match parse_rights(text.as_bytes()) {
+        Ok(rights) => is_written(alloc, &rights, again),
+        Err(_) => false,
     }
-    Ok(())
 }
 
 #[test]
-fn other_texts_are_refused(rt: HostRuntime) -> Result<(), Fail> {
-    for text in ["", "ALL|CAP_READ", "CAP_READ|", "cap_read", "CAP_SEEK_TELL"] {
-        assert_eq!(rt; parse_rights(text.as_bytes()), Err(BadRight), "of {text}");
+fn texts_are_read_and_written_again(rt: HostRuntime) {
+    for (text, again) in &WRITTEN {
+        assert!(rt; is_written_again(rt.alloc(), text, again));
     }
-    let shown = format!(in rt.alloc(); "{BadRight} {NoMemory}")?;
-    assert_eq!(rt; shown.as_str(), "not a set of rights out of memory");
-    Ok(())
 }
 
+/// Texts of no set of rights.
+static REFUSED: [&str; 5] = ["", "ALL|CAP_READ", "CAP_READ|", "cap_read", "CAP_SEEK_TELL"];
+
 #[test]
-fn the_example_of_the_crate(rt: HostRuntime) -> Result<(), Fail> {
-    let rights = parse_rights(b"CAP_READ|CAP_SEEK")?;
+fn other_texts_are_refused(rt: HostRuntime) {
+    for text in &REFUSED {
+        assert!(rt; matches!(parse_rights(text.as_bytes()), Err(BadRight)));
+    }
+}
+
+/// Whether the example of the crate holds.
+fn example_holds() -> bool {
     let need = RightSet::named(RightBits::CAP_PWRITE);
-    assert!(rt; !rights.has_all(&need));
-    assert_eq!(rt; need.minus(&rights), RightSet::named(RightBits::CAP_WRITE));
-    Ok(())
+    match parse_rights(b"CAP_READ|CAP_SEEK") {
+        Ok(rights) => {
+            !rights.has_all(&need) && need.minus(&rights) == RightSet::named(RightBits::CAP_WRITE)
+        }
+        Err(_) => false,
+    }
 }
 
 #[test]
-fn sets_hold_what_they_should(rt: HostRuntime) -> Result<(), Fail> {
-    let every = parse_rights(EVERY_NAME.as_bytes())?;
-    assert!(rt; RightSet::all().has_all(&every));
-    assert!(rt; !every.has_all(&RightSet::all()));
-    assert_eq!(rt; RightSet::all().minus(&every), RightSet::none());
-    assert_eq!(rt; RightSet::all().meet(&every), every);
+fn the_example_of_the_crate(rt: HostRuntime) {
+    assert!(rt; example_holds());
+}
+
+/// Whether a set is all rights by name, which is not FULL.
+fn is_every_name(every: &RightSet) -> bool {
+    let all = RightSet::all();
+    all.has_all(every)
+        && !every.has_all(&all)
+        && all.minus(every) == RightSet::none()
+        && all.meet(every) == *every
+}
+
+/// Whether the set of all names is that.
+fn all_are_named() -> bool {
+    match parse_rights(EVERY_NAME.as_bytes()) {
+        Ok(every) => is_every_name(&every),
+        Err(_) => false,
+    }
+}
+
+/// Whether reading and seeking make the right to read at a place.
+fn two_are_joined() -> bool {
     let read = RightSet::named(RightBits::CAP_READ);
     let seek = RightSet::named(RightBits::CAP_SEEK);
-    assert_eq!(rt; read.join(&seek), RightSet::named(RightBits::CAP_PREAD));
-    Ok(())
+    read.join(&seek) == RightSet::named(RightBits::CAP_PREAD)
 }
 
 #[test]
-fn sets_are_printed_as_their_text(rt: HostRuntime) -> Result<(), Fail> {
+fn sets_hold_what_they_should(rt: HostRuntime) {
+    assert!(rt; all_are_named() && two_are_joined());
+}
+
+/// Whether a set is printed so, also for debugging.
+fn is_shown(alloc: Global, rights: RightSet, text: &str) -> bool {
+    match format!(in alloc; "{rights} {rights:?}") {
+        Ok(shown) => shown.as_str() == text,
+        Err(_) => false,
+    }
+}
+
+/// Whether the sets of all rights and of none are printed so.
+fn ends_are_shown(alloc: Global, text: &str) -> bool {
+    match format!(in alloc; "{} {}", RightSet::all(), RightSet::none()) {
+        Ok(shown) => shown.as_str() == text,
+        Err(_) => false,
+    }
+}
+
+/// Whether both errors are printed so.
+fn errors_are_shown(alloc: Global, text: &str) -> bool {
+    match format!(in alloc; "{BadRight} {NoMemory}") {
+        Ok(shown) => shown.as_str() == text,
+        Err(_) => false,
+    }
+}
+
+#[test]
+fn sets_are_printed_as_their_text(rt: HostRuntime) {
     let pread = RightSet::named(RightBits::CAP_PREAD);
-    let shown = format!(in rt.alloc();
-        "{pread} {pread:?} {} {}",
-        RightSet::all(),
-        RightSet::none()
-    )?;
-    assert_eq!(rt;
-        shown.as_str(),
-        "CAP_READ|CAP_SEEK RightSet(CAP_READ|CAP_SEEK) ALL NONE"
-    );
-    Ok(())
+    let text = "CAP_READ|CAP_SEEK RightSet(CAP_READ|CAP_SEEK)";
+    assert!(rt; is_shown(rt.alloc(), pread, text) && ends_are_shown(rt.alloc(), "ALL NONE"));
+}
+
+#[test]
+fn errors_are_printed_as_their_text(rt: HostRuntime) {
+    assert!(rt; errors_are_shown(rt.alloc(), "not a set of rights out of memory"));
 }
 
 /// Asks for more than there can be.
@@ -95,9 +151,10 @@ fn too_much(alloc: Global) -> Result<Vec<u8>, NoMemory> {
 }
 
 #[test]
-fn a_refused_allocation_is_no_memory(rt: HostRuntime) -> Result<(), Fail> {
-    assert_eq!(rt; too_much(rt.alloc()).err(), Some(NoMemory));
-    assert_eq!(rt; NoMemory::from(AllocError), NoMemory);
-    assert_eq!(rt; NoMemory::from(AllocFailed { value: 1 }), NoMemory);
-    Ok(())
+fn a_refused_allocation_is_no_memory(rt: HostRuntime) {
+    assert!(rt;
+        matches!(too_much(rt.alloc()), Err(NoMemory))
+            && NoMemory::from(AllocError) == NoMemory
+            && NoMemory::from(AllocFailed { value: 1 }) == NoMemory
+    );
 }
