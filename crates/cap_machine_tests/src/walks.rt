@@ -351,9 +351,11 @@ fn is_explained_by_cells(line: &Line, cells: Vec<CellOrigin>, finding: Finding) 
     match &demand.checks {
         Checks::One(_) if cells.len() == 1 && !demand.mode_matters() => {
             let found = Explanation::of(&demand, cells, None);
-            found.verdict.as_slice() == [finding].as_slice()
+            let holds = found.verdict.as_slice() == [finding].as_slice()
                 && found.cells.len() == 1
-                && found.mode.is_none()
+                && found.mode.is_none();
+            drop(found);
+            holds
         }
         _ => false,
     }
@@ -389,7 +391,9 @@ fn is_explained_by_mode(alloc: Global, line: &Line, origin: ModeOrigin) -> bool 
     match &demand.checks {
         Checks::Nothing if demand.mode_matters() => {
             let found = Explanation::of(&demand, Vec::new(alloc), Some(origin));
-            found.verdict.len() == 1 && found.cells.is_empty() && found.mode.is_some()
+            let holds = found.verdict.len() == 1 && found.cells.is_empty() && found.mode.is_some();
+            drop(found);
+            holds
         }
         _ => false,
     }
