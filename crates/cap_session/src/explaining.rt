@@ -130,15 +130,10 @@ pub fn explain_stream_as<R: Source, W: Sink>(
     ensures { ExplainStreams profile usual turns position (R.state reader.old) (R.state reader.new)
         (W.state writer.old) (W.state writer.new) result }
 {
-    explain_under(
-        alloc,
-        profile,
-        turns,
-        position,
-        &Start::unknown(alloc),
-        reader,
-        writer,
-    )
+    let start = Start::unknown(alloc);
+    let outcome = explain_under(alloc, profile, turns, position, &start, reader, writer);
+    drop(start);
+    outcome
 }
 
 /// Reads a trace in profile 1 under the usual start, and writes what the line at a position rests on: the line, its
@@ -200,7 +195,11 @@ pub fn explain_stream_from_as<S: Source, R: Source, W: Sink>(
         (R.state reader.old) (R.state reader.new) (W.state writer.old) (W.state writer.new) result }
 {
     match read_start(alloc, turns, start) {
-        Ok(known) => explain_under(alloc, profile, turns, position, &known, reader, writer),
+        Ok(known) => {
+            let outcome = explain_under(alloc, profile, turns, position, &known, reader, writer);
+            drop(known);
+            outcome
+        }
         Err(stop) => ExplainOutcome::Ended(write_start_stop(stop, writer)),
     }
 }

@@ -94,7 +94,11 @@ pub fn check_stream_from_as<S: Source, R: Source, W: Sink>(
         (R.state reader.new) (W.state writer.old) (W.state writer.new) result }
 {
     match read_start(alloc, turns, start) {
-        Ok(known) => check_from(alloc, profile, turns, &known, reader, writer),
+        Ok(known) => {
+            let outcome = check_from(alloc, profile, turns, &known, reader, writer);
+            drop(known);
+            outcome
+        }
         Err(stop) => write_start_stop(stop, writer),
     }
 }

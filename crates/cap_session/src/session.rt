@@ -314,7 +314,10 @@ impl Session {
         ensures report { IfOk result (λ text. text.items ≡ report usual (steps self.now.profile self.now.trace)) }
         ensures only { IsOkUnless result Refused.Memory }
     {
-        self.whole(&Start::unknown(self.alloc))
+        let start = Start::unknown(self.alloc);
+        let text = self.whole(&start);
+        drop(start);
+        text
     }
 
     /// The report of the trace, checked from its first line under another start. It fails only when memory runs out.
@@ -342,11 +345,21 @@ impl Session {
         ensures { IfOk result (λ clean. IsTrue clean ↔ (check usual (steps self.now.profile self.now.trace) ≡ [])) }
     {
         let start = Start::unknown(self.alloc);
+        let clean = self.is_clean_from(&start);
+        drop(start);
+        clean
+    }
+
+    /// The same under another start.
+    fn is_clean_from(&self, start: &Start) -> Result<bool, cap_tree::NoMemory>
+        ensures { IfOk result (λ clean. IsTrue clean
+            ↔ (check (start_state start.now) (steps self.now.profile self.now.trace) ≡ [])) }
+    {
         let summary = self.tree.summary();
         if let Some(known) = summary.known() {
-            return Ok(!known.finds(&start));
+            return Ok(!known.finds(start));
         }
-        let found = resolve(self.alloc, summary, &start)?;
+        let found = resolve(self.alloc, summary, start)?;
         Ok(found.is_empty())
     }
 
@@ -388,7 +401,18 @@ impl Session {
         ensures only { IsOkUnless result Refused.Memory }
     {
         let start = Start::unknown(self.alloc);
-        let found = resolve_range(self.alloc, self.tree.summary(), &start, first, last)?;
+        let text = self.part_from(&start, first, last);
+        drop(start);
+        text
+    }
+
+    /// The same under another start.
+    fn part_from(&self, start: &Start, first: usize, last: usize) -> Result<Vec<u8>, Refused>
+        ensures text { IfOk result (λ text. text.items
+            ≡ range_report (start_state start.now) (steps self.now.profile self.now.trace) first last) }
+        ensures only { IsOkUnless result Refused.Memory }
+    {
+        let found = resolve_range(self.alloc, self.tree.summary(), start, first, last)?;
         Ok(text_of(self.alloc, &self.tree, found.as_slice())?)
     }
 
@@ -404,7 +428,10 @@ impl Session {
             ↔ (explained_line usual self.now.profile self.now.trace position ≡ Err Refused.Position) }
         ensures only { OnErr result ((result ≡ Err Refused.Position) ⊎ (result ≡ Err Refused.Memory)) }
     {
-        self.explain_from(position, &Start::unknown(self.alloc))
+        let start = Start::unknown(self.alloc);
+        let line = self.explain_from(position, &start);
+        drop(start);
+        line
     }
 
     /// The line at a position, what is said of it, and the lines that this rests on, under another start.

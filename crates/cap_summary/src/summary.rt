@@ -121,8 +121,24 @@ fn judged_in_order(
     let Ok(mut machine) = Machine::from_start(alloc, start) else {
         return Err(NoMemory);
     };
+    let found = judged_by(alloc, summary, &mut machine, asked);
+    drop(machine);
+    found
+}
+
+/// What a machine finds at positions by judging all steps in order.
+fn judged_by(
+    alloc: Global,
+    summary: &Summary,
+    machine: &mut Machine,
+    asked: &Asked,
+) -> Result<Vec<Found>, NoMemory>
+    requires { length (summed_up summary.now) ≤ 2 ^ 30 }
+    ensures { IfOk result (λ found. found.items
+        ≡ within asked.now.from asked.now.to (check (start_state machine.old) (summed_up summary.now))) }
+{
     let mut found = Vec::new(alloc);
-    summary.node.judge(&mut machine, 0, asked, &mut found)?;
+    summary.node.judge(machine, 0, asked, &mut found)?;
     Ok(found)
 }
 

@@ -4,7 +4,7 @@ use Rattle.cap_session.proofs.from_start.check_stream_from_as.Goals as goal
 
 pub returns-in-Ok : goal.returns-in-Ok
 returns-in-Ok g c = start_taken _ _ _ _ _ _ _ _ _ c.in-Ok.known (start_state c.in-Ok.known) _ c.in-Ok.ensures
-    (λ known is. is) c.check_from.ensures
+    (λ known is. is) c.check_from-outcome.ensures
 
 pub returns-in-Err : goal.returns-in-Err
 returns-in-Err g c = start_rejected _ _ _ _ _ _ _ _ c.in-Err.stop _ c.in-Err.ensures c.write_start_stop.ensures

@@ -1,13 +1,13 @@
 use Rattle.std.proofs.Common.{◌≡◌, ◌∙◌, List, ap, subst}
 use Rattle.cap_machine.specs.declared.step.Step.{Step}
 use Rattle.cap_machine.specs.Steps.{steps}
-use Rattle.cap_machine.specs.State.{State, usual}
+use Rattle.cap_machine.specs.Table.{start_state}
 use Rattle.cap_machine.specs.Check.{check}
 use Rattle.cap_summary.specs.Conditions.{has_any}
 use Rattle.cap_summary.specs.Stands.{summed_up}
 use Rattle.cap_session.specs.Session.{SessionState}
 use Rattle.cap_session.proofs.FoundText.{none_found}
-use Rattle.cap_session.proofs.session.Session.is_clean.Goals as goal
+use Rattle.cap_session.proofs.session.Session.is_clean_from.Goals as goal
 
 pub returns-in-Some : goal.returns-in-Some
 returns-in-Some c =
@@ -16,5 +16,4 @@ returns-in-Some c =
     ∙ subst (λ (s : SessionState). c.self.inside.tree ≡ steps s.profile s.trace) c.self.view_is
     c.self.invariant.in_profile in
     none_found c.finds.result _ (c.finds.ensures ∙ c.in-Some.ensures.knows.found _
-    ∙ ap (λ (s : State). has_any (check s (summed_up z))) c.unknown-start.ensures.usual
-    ∙ ap (λ (t : List Step). has_any (check usual t)) what)
+    ∙ ap (λ (t : List Step). has_any (check (start_state c.args.start.now) t)) what)
