@@ -1,9 +1,9 @@
 //! Worked texts, with what is answered to them, over readers and writers that are cut and broken at will.
 
-ghost use Rattle.std.specs.Prelude.{◌≡◌};
-
-use crate::answers::Answer;
-use crate::devices::{Kept, Pieces, ample};
+use crate::answers::{Call, Run, Wrong, ends, ends_in_pieces, wanted};
+use crate::devices::ample;
+use crate::sweeps::{Sweep, fails_at_each, is_cut_at_each};
+use crate::texts::repeated;
 use cap_machine::NoMemory;
 use cap_session::{
     Counted, Failed, Outcome, Sink, Source, bad_is_refused, beginning_decides, check_stream,
@@ -12,8 +12,6 @@ use cap_session::{
 };
 use std::alloc::Global;
 use std::io::{self, ErrorKind, Read, Write};
-use std::ops::Range;
-use std::test::Fail;
 
 /// A trace that a descriptor was limited in, and what is found in it.
 const LIMITED: &[u8] =
@@ -64,44 +62,11 @@ static TEXTS: [(&[u8], Outcome, &[u8]); 11] = [
     (&[b'#'; 1024], Outcome::Clean, b"findings 0\n"),
 ];
 
-/// Checks the text of a reader, which hasn't been read.
-fn checked(
-    alloc: Global,
-    turns: u64,
-    mut reader: Pieces<'_>,
-    mut writer: Kept,
-) -> Result<Answer, NoMemory>
-    requires unread { reader.calls ≡ 0 }
-    requires unwritten { writer.faults ≡ 0 }
-{
-    let ended = check_stream(alloc, turns.min(4096), &mut reader, &mut writer);
-    Ok(Answer::new(ample(ended)?, writer, reader.calls, 0))
-}
-
-/// Whether a text is answered so in pieces of any size.
-fn is_reported(
-    alloc: Global,
-    text: &[u8],
-    outcome: Outcome,
-    written: &[u8],
-) -> Result<bool, NoMemory> {
-    for size in &[1_usize, 2, 7, 65_536] {
-        let reader = Pieces::new(text, (*size).max(1), 0);
-        let answer = checked(alloc, 4096, reader, Kept::new(*size, 256))?;
-        if !answer.is(outcome, written) {
-            return Ok(false);
-        }
-    }
-    Ok(true)
-}
-
 #[test]
-fn a_text_is_reported_in_pieces_of_any_size(rt: HostRuntime) -> Result<(), Fail> {
+fn a_text_is_reported_in_pieces_of_any_size(rt: HostRuntime) -> Result<(), Wrong> {
     for (text, outcome, written) in &TEXTS {
-        assert!(rt;
-            is_reported(rt.alloc(), text, *outcome, written)?,
-            "{text:?}"
-        );
+        let run = Run::new(Call::Check, text, b"", *outcome, written);
+        ends_in_pieces(rt.alloc(), &run, &[1, 2, 7, 65_536])?;
     }
     Ok(())
 }
@@ -224,45 +189,54 @@ static BROKEN: [Broken; 11] = [
     ),
 ];
 
-/// Whether the text of a row is answered so over its devices.
-fn ends_over_devices(alloc: Global, row: &Broken) -> Result<bool, NoMemory> {
+/// The check of a row.
+fn run_of(row: &Broken) -> Run<'static> {
     let (text, size, fails_at, turns, takes, most, outcome, written, reads) = row;
-    let reader = Pieces::new(text, (*size).max(1), *fails_at);
-    let answer = checked(alloc, *turns, reader, Kept::new(*takes, *most))?;
-    Ok(answer.is(*outcome, written) && answer.has_read(*reads, 0))
+    let mut run = Run::new(Call::Check, text, b"", *outcome, written);
+    run.turns = *turns;
+    run.trace = (text, *size, *fails_at);
+    run.room = (*takes, *most);
+    run.reads = Some(*reads);
+    run
 }
 
 #[test]
-fn a_broken_device_ends_the_call(rt: HostRuntime) -> Result<(), Fail> {
+fn a_broken_device_ends_the_call(rt: HostRuntime) -> Result<(), Wrong> {
     for row in &BROKEN {
-        assert!(rt; ends_over_devices(rt.alloc(), row)?, "{:?}", row.0);
+        ends(rt.alloc(), &run_of(row))?;
     }
     Ok(())
 }
+
+static READS: Sweep = Sweep {
+    run: Run {
+        call: Call::Check,
+        turns: 4096,
+        trace: (LIMITED, 1, 0),
+        other: (b"", 1, 0),
+        room: (1, 256),
+        outcome: Outcome::Findings,
+        written: LIMITED_REPORT,
+        reads: None,
+        other_reads: Some(0),
+    },
+    is_of_trace: true,
+    first: 1,
+    replies: &[],
+};
 
 /// Each read fails in turn.
 #[test]
-fn a_fault_of_the_reader_leaves_nothing(rt: HostRuntime) -> Result<(), Fail> {
-    for failing in 1..LIMITED.len() as u64 + 2 {
-        let reader = Pieces::new(LIMITED, 1, failing);
-        let answer = checked(rt.alloc(), 4096, reader, Kept::new(1, 256))?;
-        assert!(rt; answer.is(Outcome::ReadFault, b""), "read {failing}");
-    }
-    Ok(())
+fn a_fault_of_the_reader_leaves_nothing(rt: HostRuntime) -> Result<(), Wrong> {
+    fails_at_each(rt.alloc(), &READS)
 }
 
 /// Each byte that is written fails in turn.
 #[test]
-fn a_fault_of_the_writer_leaves_a_prefix(rt: HostRuntime) -> Result<(), Fail> {
-    for most in 0..LIMITED_REPORT.len() {
-        let reader = Pieces::new(LIMITED, 20, 0);
-        let answer = checked(rt.alloc(), 4096, reader, Kept::new(3, most))?;
-        assert!(rt;
-            answer.is(Outcome::WriteFault, &LIMITED_REPORT[..most]),
-            "byte {most}"
-        );
-    }
-    Ok(())
+fn a_fault_of_the_writer_leaves_a_prefix(rt: HostRuntime) -> Result<(), Wrong> {
+    let mut run = READS.run;
+    run.trace.1 = 20;
+    is_cut_at_each(rt.alloc(), &run, 3)
 }
 
 /// A reader of std that gives a text at once, but fails at one of its reads, counted from 1.
@@ -322,151 +296,169 @@ static OF_STD: [OfStd; 4] = [
     (1, 256, Outcome::ReadFault, 3, 1, 0),
 ];
 
-/// Checks a text over devices of std: the outcome, how many reads were made, and what was written.
+/// Checks a text over devices of std: the outcome, and how many reads were made.
 fn checked_by_std(
     alloc: Global,
     text: &[u8],
     fails_at: u64,
-    left: usize,
-) -> Result<(Outcome, u64, Vec<u8>), NoMemory> {
+    room: &mut Room,
+) -> Result<(Outcome, u64), NoMemory> {
     let mut given = Given {
         rest: text,
         fails_at,
         reads: 0,
     };
-    let mut room = Room {
+    let mut reader = Counted::new(&mut given);
+    let ended = check_stream(alloc, 9, &mut reader, &mut Counted::new(room));
+    Ok((ample(ended)?, given.reads))
+}
+
+/// A writer that takes so many bytes.
+fn room_of(alloc: Global, left: usize) -> Room {
+    Room {
         left,
         taken: Vec::new(alloc),
         writes: 0,
-    };
-    let ended = check_stream(
-        alloc,
-        9,
-        &mut Counted::new(&mut given),
-        &mut Counted::new(&mut room),
-    );
-    Ok((ample(ended)?, given.reads, room.taken))
+    }
 }
 
 /// Whether devices of std end a check as a row says.
 fn ends_by_std(alloc: Global, row: &OfStd) -> Result<bool, NoMemory> {
     let (fails_at, left, outcome, status, reads, written) = row;
-    let (ended, made, taken) = checked_by_std(alloc, LIMITED, *fails_at, *left)?;
+    let mut room = room_of(alloc, *left);
+    let (ended, made) = checked_by_std(alloc, LIMITED, *fails_at, &mut room)?;
     let is_ended = ended == *outcome && ended.status() == *status && made == *reads;
-    Ok(is_ended && LIMITED_REPORT.starts_with(&taken) && taken.len() == *written)
+    let taken = room.taken.as_slice();
+    Ok(is_ended && LIMITED_REPORT.starts_with(taken) && taken.len() == *written)
 }
 
 /// A device of std is asked no more than the calls that are counted. One that fails once is not asked again, though it
 /// would go on.
 #[test]
-fn devices_of_std_fail_only_where_they_do(rt: HostRuntime) -> Result<(), Fail> {
+fn devices_of_std_fail_only_where_they_do(rt: HostRuntime) -> Result<(), NoMemory> {
     for row in &OF_STD {
-        assert!(rt; ends_by_std(rt.alloc(), row)?, "{row:?}");
+        assert!(rt; ends_by_std(rt.alloc(), row)?);
     }
     Ok(())
 }
 
-/// A limit, and as many writes as there are positions.
-fn long_trace(alloc: Global, positions: Range<u32>) -> Result<Vec<u8>, NoMemory> {
-    let mut trace = Vec::new(alloc);
-    trace.extend_from_slice(b"100 @start(0,3)\n100 cap_rights_limit(0,CAP_READ) RET 0\n")?;
-    for _ in positions {
-        trace.extend_from_slice(b"100 write(0) RET 5\n")?;
-    }
-    Ok(trace)
+/// A finding at a position.
+fn finding(alloc: Global, position: u32) -> Result<String, NoMemory> {
+    Ok(format!(in alloc; "{position} 100 write missing 0 CAP_WRITE\n")?)
 }
 
-/// A finding for each of these positions.
-fn long_report(alloc: Global, positions: Range<u32>) -> Result<String, NoMemory> {
-    let mut report = String::new(alloc);
-    for position in positions {
-        let finding = format!(in alloc; "{position} 100 write missing 0 CAP_WRITE\n")?;
-        report.push_str(&finding)?;
-    }
-    report.push_str("findings 3200\n")?;
-    Ok(report)
+/// Appends it.
+fn put_finding(alloc: Global, report: &mut Vec<u8>, position: u32) -> Result<(), NoMemory> {
+    Ok(report.extend_from_slice(finding(alloc, position)?.as_bytes())?)
 }
 
-/// What is written to a writer that takes all at once, where there are findings.
-fn findings_by_std(alloc: Global, text: &[u8]) -> Result<Vec<u8>, NoMemory> {
-    match checked_by_std(alloc, text, 0, 200_000)? {
-        (Outcome::Findings, _, taken) => Ok(taken),
-        _ => Ok(Vec::new(alloc)),
+/// Appends the report of 3,200 findings, from position 3 on.
+fn put_report(alloc: Global, report: &mut Vec<u8>) -> Result<(), NoMemory> {
+    for position in 3..3203 {
+        put_finding(alloc, report, position)?;
     }
+    Ok(report.extend_from_slice(b"findings 3200\n")?)
+}
+
+/// Whether this is that report, of more than 100,000 bytes.
+fn is_long_report(alloc: Global, text: &[u8]) -> Result<bool, NoMemory> {
+    let mut report = Vec::new(alloc);
+    put_report(alloc, &mut report)?;
+    Ok(text.len() > 100_000 && text == report.as_slice())
+}
+
+/// Checks a limit, and 3,200 writes after it.
+fn check_long(alloc: Global, room: &mut Room) -> Result<Outcome, NoMemory> {
+    let head = b"100 @start(0,3)\n100 cap_rights_limit(0,CAP_READ) RET 0\n";
+    let trace = repeated(alloc, head, b"100 write(0) RET 5\n", 3200, b"")?;
+    Ok(checked_by_std(alloc, &trace, 0, room)?.0)
+}
+
+/// Whether its report comes whole to a writer that takes all at once.
+fn reports_whole(alloc: Global) -> Result<bool, NoMemory> {
+    let mut room = room_of(alloc, 200_000);
+    let outcome = check_long(alloc, &mut room)?;
+    Ok(outcome == Outcome::Findings && is_long_report(alloc, &room.taken)?)
 }
 
 /// A report of more than 100,000 bytes, to a writer that takes all at once.
 #[test]
-fn a_long_report_is_written_whole(rt: HostRuntime) -> Result<(), Fail> {
-    let taken = findings_by_std(rt.alloc(), &long_trace(rt.alloc(), 3..3203)?)?;
-    assert!(rt; taken.len() > 100_000);
-    assert!(rt; taken.as_slice() == long_report(rt.alloc(), 3..3203)?.as_bytes());
+fn a_long_report_is_written_whole(rt: HostRuntime) -> Result<(), NoMemory> {
+    assert!(rt; reports_whole(rt.alloc())?);
     Ok(())
 }
 
-/// These bytes a thousand times.
-fn thousand(alloc: Global, bytes: &[u8]) -> Result<Vec<u8>, NoMemory> {
-    let mut text = Vec::new(alloc);
-    for _ in 0..1000 {
-        text.extend_from_slice(bytes)?;
-    }
-    Ok(text)
+/// A thousand lines.
+fn thousand(alloc: Global) -> Result<Vec<u8>, NoMemory> {
+    repeated(alloc, b"", b"1 @start()\n", 1000, b"")
 }
 
 /// A million lines, a comment and a line.
 fn line_past_the_millionth(alloc: Global) -> Result<Vec<u8>, NoMemory> {
-    let mut text = thousand(alloc, &thousand(alloc, b"1 @start()\n")?)?;
-    text.extend_from_slice(b"# x\nx")?;
-    Ok(text)
+    repeated(alloc, b"", &thousand(alloc)?, 1000, b"# x\nx")
 }
 
-/// A trace has a million lines at most: a comment may follow them, and nothing else.
-#[test]
-fn a_line_past_the_millionth_is_refused(rt: HostRuntime) -> Result<(), Fail> {
-    let text = line_past_the_millionth(rt.alloc())?;
+/// Fails a test where the line after them isn't refused.
+fn refuses_past_the_millionth(alloc: Global) -> Result<(), Wrong> {
+    let text = line_past_the_millionth(alloc)?;
     let outcome = Outcome::Refused {
         code: 8,
         line: 1_000_002,
     };
-    let reader = Pieces::new(&text, 65_536, 0);
-    let answer = checked(rt.alloc(), 4096, reader, Kept::new(256, 256))?;
-    assert!(rt; answer.is(outcome, b"refused E8 line 1000002\n"));
-    Ok(())
+    let mut run = Run::new(
+        Call::Check,
+        &text,
+        b"",
+        outcome,
+        b"refused E8 line 1000002\n",
+    );
+    run.trace.1 = 65_536;
+    ends(alloc, &run)
 }
 
-/// Each read of a counted reader, on its own.
+/// A trace has a million lines at most: a comment may follow them, and nothing else.
 #[test]
-fn a_counted_reader_counts_its_calls(rt: HostRuntime) -> Result<(), Fail> {
+fn a_line_past_the_millionth_is_refused(rt: HostRuntime) -> Result<(), Wrong> {
+    refuses_past_the_millionth(rt.alloc())
+}
+
+/// Whether a counted reader counts each of its reads.
+fn counts_reads() -> bool {
     let mut reader = Counted::new(Given {
         rest: b"abc",
         fails_at: 2,
         reads: 0,
     });
     let mut buffer = [0_u8; 2];
-    assert_eq!(rt; Source::room(&reader), u64::MAX);
-    assert_eq!(rt; Source::read(&mut reader, &mut buffer), Ok(2));
-    assert_eq!(rt; Source::read(&mut reader, &mut buffer), Err(Failed));
-    assert_eq!(rt; Source::read(&mut reader, &mut buffer), Ok(1));
-    assert_eq!(rt; Source::read(&mut reader, &mut buffer), Ok(0));
-    assert_eq!(rt; Source::room(&reader), u64::MAX - 4);
-    Ok(())
+    Source::room(&reader) == u64::MAX
+        && Source::read(&mut reader, &mut buffer) == Ok(2)
+        && Source::read(&mut reader, &mut buffer) == Err(Failed)
+        && Source::read(&mut reader, &mut buffer) == Ok(1)
+        && Source::read(&mut reader, &mut buffer) == Ok(0)
+        && Source::room(&reader) == u64::MAX - 4
+}
+
+/// Each read of a counted reader, on its own.
+#[test]
+fn a_counted_reader_counts_its_calls(rt: HostRuntime) {
+    assert!(rt; counts_reads());
+}
+
+/// Whether a counted writer with room for 3 bytes counts each of its writes.
+fn counts_writes(room: &mut Room) -> bool {
+    let mut writer = Counted::new(room);
+    Sink::write(&mut writer, b"ab") == Ok(2)
+        && Sink::write(&mut writer, b"cd") == Ok(1)
+        && Sink::write(&mut writer, b"d") == Err(Failed)
+        && Sink::room(&writer) == u64::MAX - 1
 }
 
 /// Each write of a counted writer, on its own.
 #[test]
-fn a_counted_writer_counts_its_calls(rt: HostRuntime) -> Result<(), Fail> {
-    let mut room = Room {
-        left: 3,
-        taken: Vec::new(rt.alloc()),
-        writes: 0,
-    };
-    let mut writer = Counted::new(&mut room);
-    assert_eq!(rt; Sink::write(&mut writer, b"ab"), Ok(2));
-    assert_eq!(rt; Sink::write(&mut writer, b"cd"), Ok(1));
-    assert_eq!(rt; Sink::write(&mut writer, b"d"), Err(Failed));
-    assert_eq!(rt; Sink::room(&writer), u64::MAX - 1);
-    assert_eq!(rt; room.writes, 3);
-    Ok(())
+fn a_counted_writer_counts_its_calls(rt: HostRuntime) {
+    let mut room = room_of(rt.alloc(), 3);
+    let is_counted = counts_writes(&mut room);
+    assert!(rt; is_counted && room.writes == 3);
 }
 
 #[test]

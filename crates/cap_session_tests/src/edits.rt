@@ -2,58 +2,94 @@
 
 ghost use Rattle.std.specs.Prelude.{◌≤◌};
 
-use cap_machine::{Cell, Mode, OnExec, Profile, Start};
+use crate::answers::{Wrong, wanted};
+use cap_machine::{Cell, Mode, NoMemory, OnExec, Profile, Start};
 use cap_rights::parse_rights;
 use cap_session::{
-    Edit, Refused, Session, accepted_edits_give, inserted_stands, no_edit_asks_for_memory,
+    Edit, Edited, Refused, Session, accepted_edits_give, inserted_stands, no_edit_asks_for_memory,
 };
 use cap_trace::{Fd, Line, parse_line};
 use std::alloc::Global;
-use std::test::Fail;
 
 const FINDS_NONE: &[u8] = b"findings 0\n";
 
 const FINDS_ONE: &[u8] = b"3 100 write missing 0 CAP_WRITE\nfindings 1\n";
 
+/// Appends a line.
+fn put_line(alloc: Global, lines: &mut Vec<Line>, text: &[u8]) -> Result<(), Refused> {
+    Ok(lines.push(parse_line(alloc, text)?)?)
+}
+
+/// Appends these lines.
+fn put_lines(alloc: Global, lines: &mut Vec<Line>, texts: &[&[u8]]) -> Result<(), Refused> {
+    for text in texts {
+        put_line(alloc, lines, text)?;
+    }
+    Ok(())
+}
+
+/// Loads these lines into a session.
+fn load(alloc: Global, session: &mut Session, texts: &[&[u8]]) -> Result<usize, Refused> {
+    let mut lines = Vec::new(alloc);
+    put_lines(alloc, &mut lines, texts)?;
+    session.load(lines)
+}
+
 /// A session in profile 1 of these lines.
-fn session_of(alloc: Global, limit: usize, lines: &[&[u8]]) -> Result<Session, Refused>
+fn session_of(alloc: Global, limit: usize, texts: &[&[u8]]) -> Result<Session, Refused>
     requires { limit ≤ 1000000 }
 {
-    let lines = lines_of(alloc, lines)?;
-    loaded(Session::new(alloc, limit)?, lines)
+    let mut session = Session::new(alloc, limit)?;
+    load(alloc, &mut session, texts)?;
+    Ok(session)
 }
 
-/// These lines.
-fn lines_of(alloc: Global, texts: &[&[u8]]) -> Result<Vec<Line>, Refused> {
-    let mut lines = Vec::new(alloc);
-    for text in texts {
-        lines.push(parse_line(alloc, text)?)?;
+/// What is tested of a session.
+#[derive(Clone, Copy)]
+enum Trial {
+    Accepts,
+    Refuses,
+    InOrder,
+    Ranges,
+    NoRanges,
+    Mixed,
+    AfterMixed,
+}
+
+/// Tests that of a session.
+fn passes(session: &mut Session, trial: Trial) -> Result<(), Wrong> {
+    match trial {
+        Trial::Accepts => accepts_after(session, FINDS_ONE),
+        Trial::Refuses => refuses_all(session),
+        Trial::InOrder => refuses_in_order(session),
+        Trial::Ranges => reports_ranges(session),
+        Trial::NoRanges => wanted(refuses_ranges(session), FINDS_TWO),
+        Trial::Mixed => applies_mixed(session),
+        Trial::AfterMixed => reports_after_mixed(session),
     }
-    Ok(lines)
 }
 
-/// The session with these lines.
-fn loaded(mut session: Session, lines: Vec<Line>) -> Result<Session, Refused> {
-    match session.load(lines) {
-        Ok(_) => Ok(session),
-        Err(refused) => Err(refused),
-    }
+/// Tests it of a session in profile 1 of these lines.
+fn passes_of(alloc: Global, limit: usize, texts: &[&[u8]], trial: Trial) -> Result<(), Wrong>
+    requires { limit ≤ 1000000 }
+{
+    passes(&mut session_of(alloc, limit, texts)?, trial)
 }
 
-/// Whether this is the report of a session.
-fn reports(session: &Session, report: &[u8]) -> Result<bool, Refused> {
-    Ok(session.report()?.as_slice() == report)
+/// Fails a test where this is not the report of a session.
+fn reports(session: &Session, report: &'static [u8]) -> Result<(), Wrong> {
+    wanted(session.report()?.as_slice() == report, report)
 }
 
-/// Whether an edit is answered with this count and leaves this report.
+/// Fails a test where an edit isn't answered with this count, or doesn't leave this report.
 fn gives(
     session: &mut Session,
     edit: &Edit<'_>,
     count: usize,
-    report: &[u8],
-) -> Result<bool, Refused> {
-    let given = session.edit(edit)?;
-    Ok(given == count && reports(session, report)?)
+    report: &'static [u8],
+) -> Result<(), Wrong> {
+    wanted(session.edit(edit) == Ok(count), report)?;
+    reports(session, report)
 }
 
 /// A start, a limit of its rights, and a call.
@@ -74,22 +110,25 @@ static EXPANDED: [&[u8]; 4] = [
 const FINDS_TWO: &[u8] =
     b"3 100 cap_rights_limit expanded 0 CAP_WRITE\n4 100 write missing 0 CAP_WRITE\nfindings 2\n";
 
-/// The session of the example at the head of the crate.
-fn session_of_inserts(alloc: Global) -> Result<Session, Refused> {
-    let mut session = Session::new(alloc, 10)?;
+/// Inserts those lines.
+fn insert_all(session: &mut Session) -> Result<(), Refused> {
     for (position, line) in (1..).zip(&LIMITED) {
         session.insert(position, line)?;
     }
-    Ok(session)
+    Ok(())
+}
+
+/// Follows the example at the head of the crate.
+fn follows_example(session: &mut Session) -> Result<(), Wrong> {
+    insert_all(session)?;
+    reports(session, FINDS_ONE)?;
+    session.delete(2)?;
+    reports(session, FINDS_NONE)
 }
 
 #[test]
-fn the_example_of_the_crate(rt: HostRuntime) -> Result<(), Fail> {
-    let mut session = session_of_inserts(rt.alloc())?;
-    assert!(rt; reports(&session, FINDS_ONE)?);
-    session.delete(2)?;
-    assert!(rt; reports(&session, FINDS_NONE)?);
-    Ok(())
+fn the_example_of_the_crate(rt: HostRuntime) -> Result<(), Wrong> {
+    follows_example(&mut Session::new(rt.alloc(), 10)?)
 }
 
 /// Edits of the limited trace, one after the other: the count that each answers, and the report after it.
@@ -113,21 +152,23 @@ static ACCEPTED: [(Edit<'static>, usize, &[u8]); 3] = [
     ),
 ];
 
-/// Whether a session answers those edits so.
-fn accepts(session: &mut Session) -> Result<bool, Refused> {
+/// Fails a test where a session doesn't answer those edits so.
+fn accepts(session: &mut Session) -> Result<(), Wrong> {
     for (edit, count, report) in &ACCEPTED {
-        if !gives(session, edit, *count, report)? {
-            return Ok(false);
-        }
+        gives(session, edit, *count, report)?;
     }
-    Ok(true)
+    Ok(())
+}
+
+/// The same of a session that has a finding at first.
+fn accepts_after(session: &mut Session, report: &'static [u8]) -> Result<(), Wrong> {
+    reports(session, report)?;
+    accepts(session)
 }
 
 #[test]
-fn accepted_edits_change_the_report(rt: HostRuntime) -> Result<(), Fail> {
-    let mut session = session_of(rt.alloc(), 10, &LIMITED)?;
-    assert!(rt; reports(&session, FINDS_ONE)? && accepts(&mut session)?);
-    Ok(())
+fn accepted_edits_change_the_report(rt: HostRuntime) -> Result<(), Wrong> {
+    passes_of(rt.alloc(), 10, &LIMITED, Trial::Accepts)
 }
 
 /// Edits that are refused, and the codes.
@@ -143,23 +184,29 @@ static REFUSED: [(Edit<'static>, Refused, u8); 2] = [
     ),
 ];
 
-/// Whether a session refuses those edits so, and reports the same.
-fn refuses(session: &mut Session) -> Result<bool, Refused> {
+/// Fails a test where a session doesn't refuse an edit so, or reports something else after it.
+fn refuses(
+    session: &mut Session,
+    edit: &Edit<'_>,
+    refused: Refused,
+    code: u8,
+) -> Result<(), Wrong> {
+    let is_refused = session.edit(edit) == Err(refused);
+    wanted(is_refused && refused.code() == code, FINDS_TWO)?;
+    reports(session, FINDS_TWO)
+}
+
+/// The same of all those edits.
+fn refuses_all(session: &mut Session) -> Result<(), Wrong> {
     for (edit, refused, code) in &REFUSED {
-        if session.edit(edit) != Err(*refused) || refused.code() != *code {
-            return Ok(false);
-        }
-        if !reports(session, FINDS_TWO)? {
-            return Ok(false);
-        }
+        refuses(session, edit, *refused, *code)?;
     }
-    Ok(true)
+    Ok(())
 }
 
 #[test]
-fn refused_edits_leave_the_report(rt: HostRuntime) -> Result<(), Fail> {
-    assert!(rt; refuses(&mut session_of(rt.alloc(), 10, &EXPANDED)?)?);
-    Ok(())
+fn refused_edits_leave_the_report(rt: HostRuntime) -> Result<(), Wrong> {
+    passes_of(rt.alloc(), 10, &EXPANDED, Trial::Refuses)
 }
 
 const GOOD: &[u8] = b"100 read(0) RET 1";
@@ -211,23 +258,31 @@ static IN_ORDER: [(Edit<'static>, Result<usize, Refused>); 7] = [
     ),
 ];
 
-/// Whether a session answers those edits so, with the counts after them.
+/// Whether a session answers an edit so, with the count after it.
+fn answers(session: &mut Session, edit: &Edit<'_>, answer: Result<usize, Refused>) -> bool {
+    let count = session.count();
+    session.edit(edit) == answer && session.count() == answer.unwrap_or(count)
+}
+
+/// Whether a session of two lines answers those edits so.
 fn answers_in_order(session: &mut Session) -> bool {
     for (edit, answer) in &IN_ORDER {
-        let count = session.count();
-        if session.edit(edit) != *answer || session.count() != answer.unwrap_or(count) {
+        if !answers(session, edit, *answer) {
             return false;
         }
     }
     true
 }
 
+/// Fails a test where it doesn't, or finds something then.
+fn refuses_in_order(session: &mut Session) -> Result<(), Wrong> {
+    wanted(session.count() == 2 && answers_in_order(session), GOOD)?;
+    reports(session, FINDS_NONE)
+}
+
 #[test]
-fn refusals_come_in_order(rt: HostRuntime) -> Result<(), Fail> {
-    let mut session = session_of(rt.alloc(), 2, &LIMITED[..2])?;
-    assert!(rt; session.count() == 2 && answers_in_order(&mut session));
-    assert!(rt; reports(&session, FINDS_NONE)?);
-    Ok(())
+fn refusals_come_in_order(rt: HostRuntime) -> Result<(), Wrong> {
+    passes_of(rt.alloc(), 2, &LIMITED[..2], Trial::InOrder)
 }
 
 /// How many lines a session has that may have so many.
@@ -238,49 +293,61 @@ fn count_within(alloc: Global, limit: usize) -> Result<usize, Refused>
 }
 
 #[test]
-fn a_list_past_the_limit_is_refused(rt: HostRuntime) -> Result<(), Fail> {
-    assert_eq!(rt; count_within(rt.alloc(), 3)?, 3);
-    assert_eq!(rt; count_within(rt.alloc(), 2), Err(Refused::Full));
-    Ok(())
+fn a_list_past_the_limit_is_refused(rt: HostRuntime) {
+    assert!(rt;
+        count_within(rt.alloc(), 3) == Ok(3) && count_within(rt.alloc(), 2) == Err(Refused::Full)
+    );
+}
+
+/// Fails a test where a session has lines, or a load of none answers otherwise.
+fn has_no_lines(alloc: Global, session: &mut Session) -> Result<(), Wrong> {
+    reports(session, FINDS_NONE)?;
+    let count = session.count();
+    let loaded = session.load(Vec::new(alloc))?;
+    wanted(count == 0 && loaded == 0, FINDS_NONE)
 }
 
 #[test]
-fn a_session_begins_with_no_lines(rt: HostRuntime) -> Result<(), Fail> {
-    let mut session = Session::new(rt.alloc(), 0)?;
-    assert_eq!(rt; session.count(), 0);
-    assert!(rt; reports(&session, FINDS_NONE)?);
-    assert_eq!(rt; session.load(Vec::new(rt.alloc()))?, 0);
-    Ok(())
+fn a_session_begins_with_no_lines(rt: HostRuntime) -> Result<(), Wrong> {
+    has_no_lines(rt.alloc(), &mut Session::new(rt.alloc(), 0)?)
+}
+
+/// How many lines a session in a profile begins with.
+fn count_in(alloc: Global, profile: Profile) -> Result<usize, NoMemory> {
+    Ok(Session::with_profile(alloc, 10, profile)?.count())
 }
 
 #[test]
-fn a_session_in_a_profile_begins_with_no_lines(rt: HostRuntime) -> Result<(), Fail> {
-    for profile in &[Profile::One, Profile::Two] {
-        assert_eq!(rt; Session::with_profile(rt.alloc(), 10, *profile)?.count(), 0);
-    }
-    Ok(())
+fn a_session_in_a_profile_begins_with_no_lines(rt: HostRuntime) {
+    assert!(rt;
+        count_in(rt.alloc(), Profile::One) == Ok(0) && count_in(rt.alloc(), Profile::Two) == Ok(0)
+    );
 }
 
-/// Whether a line is shown so.
+/// Whether a line of a session is shown so.
 fn shows(session: &Session, position: usize, line: &[u8]) -> Result<bool, Refused> {
     Ok(session.show(position)?.as_slice() == line)
 }
 
 static SPELLED: [&[u8]; 1] = [b"100 cap_rights_limit(3,CAP_WRITE|CAP_PREAD|CAP_READ) RET 0"];
 
-#[test]
-fn a_line_is_shown_in_its_one_spelling(rt: HostRuntime) -> Result<(), Fail> {
-    let line = b"100 cap_rights_limit(3,CAP_READ|CAP_WRITE|CAP_SEEK) RET 0";
-    assert!(rt; shows(&session_of(rt.alloc(), 1, &SPELLED)?, 1, line)?);
-    Ok(())
+/// The same of a session of that line.
+fn shows_spelled(alloc: Global, position: usize, line: &[u8]) -> Result<bool, Refused> {
+    shows(&session_of(alloc, 1, &SPELLED)?, position, line)
 }
 
 #[test]
-fn no_other_line_is_shown(rt: HostRuntime) -> Result<(), Fail> {
-    let session = session_of(rt.alloc(), 1, &SPELLED)?;
-    assert_eq!(rt; shows(&session, 0, b""), Err(Refused::Position));
-    assert_eq!(rt; shows(&session, 2, b""), Err(Refused::Position));
-    Ok(())
+fn a_line_is_shown_in_its_one_spelling(rt: HostRuntime) {
+    let line = b"100 cap_rights_limit(3,CAP_READ|CAP_WRITE|CAP_SEEK) RET 0";
+    assert!(rt; shows_spelled(rt.alloc(), 1, line) == Ok(true));
+}
+
+#[test]
+fn no_other_line_is_shown(rt: HostRuntime) {
+    assert!(rt;
+        shows_spelled(rt.alloc(), 0, b"") == Err(Refused::Position)
+            && shows_spelled(rt.alloc(), 2, b"") == Err(Refused::Position)
+    );
 }
 
 /// Whether this is the report of a range of lines.
@@ -293,6 +360,16 @@ fn reports_of_range(
     Ok(session.report_range(first, last)?.as_slice() == report)
 }
 
+/// Fails a test where it isn't.
+fn reports_so(
+    session: &Session,
+    first: usize,
+    last: usize,
+    report: &'static [u8],
+) -> Result<(), Wrong> {
+    wanted(reports_of_range(session, first, last, report)?, report)
+}
+
 /// Ranges of lines, and their reports.
 static RANGES: [(usize, usize, &[u8]); 3] = [
     (1, 4, FINDS_TWO),
@@ -300,30 +377,35 @@ static RANGES: [(usize, usize, &[u8]); 3] = [
     (1, 2, FINDS_NONE),
 ];
 
-/// Whether those are the reports of the ranges.
-fn reports_ranges(session: &Session) -> Result<bool, Refused> {
+/// Fails a test where those aren't the reports of the ranges.
+fn reports_ranges(session: &Session) -> Result<(), Wrong> {
     for (first, last, report) in &RANGES {
-        if !reports_of_range(session, *first, *last, report)? {
-            return Ok(false);
+        reports_so(session, *first, *last, report)?;
+    }
+    Ok(())
+}
+
+#[test]
+fn a_range_has_the_findings_at_its_positions(rt: HostRuntime) -> Result<(), Wrong> {
+    passes_of(rt.alloc(), 10, &EXPANDED, Trial::Ranges)
+}
+
+/// No ranges of lines.
+static NO_RANGES: [(usize, usize); 3] = [(0, 1), (2, 1), (4, 5)];
+
+/// Whether a session refuses them.
+fn refuses_ranges(session: &Session) -> bool {
+    for (first, last) in &NO_RANGES {
+        if reports_of_range(session, *first, *last, b"") != Err(Refused::Position) {
+            return false;
         }
     }
-    Ok(true)
+    true
 }
 
 #[test]
-fn a_range_has_the_findings_at_its_positions(rt: HostRuntime) -> Result<(), Fail> {
-    assert!(rt; reports_ranges(&session_of(rt.alloc(), 10, &EXPANDED)?)?);
-    Ok(())
-}
-
-#[test]
-fn there_is_no_other_range(rt: HostRuntime) -> Result<(), Fail> {
-    let session = session_of(rt.alloc(), 10, &EXPANDED)?;
-    for (first, last) in &[(0, 1), (2, 1), (4, 5)] {
-        let answer = reports_of_range(&session, *first, *last, b"");
-        assert!(rt; answer == Err(Refused::Position), "{first} to {last}");
-    }
-    Ok(())
+fn there_is_no_other_range(rt: HostRuntime) -> Result<(), Wrong> {
+    passes_of(rt.alloc(), 10, &EXPANDED, Trial::NoRanges)
 }
 
 /// One edit is refused, and those round it are made.
@@ -354,32 +436,45 @@ fn applies(
     Ok(session.apply(edits)?.as_slice() == answers)
 }
 
-#[test]
-fn edits_are_made_one_after_the_other(rt: HostRuntime) -> Result<(), Fail> {
-    let mut session = session_of(rt.alloc(), 10, &LIMITED)?;
-    let is_answered = applies(&mut session, &MIXED, &MIXED_ANSWERS)?;
-    assert!(rt; is_answered && reports(&session, FINDS_ONE)?);
-    Ok(())
+/// Fails a test where the mixed edits aren't answered so, or leave another report.
+fn applies_mixed(session: &mut Session) -> Result<(), Wrong> {
+    wanted(applies(session, &MIXED, &MIXED_ANSWERS)?, FINDS_ONE)?;
+    reports(session, FINDS_ONE)
 }
 
-/// Whether edits are answered so, and then the report is this one.
-fn reports_after(
-    session: &mut Session,
-    edits: &[Edit<'_>],
+#[test]
+fn edits_are_made_one_after_the_other(rt: HostRuntime) -> Result<(), Wrong> {
+    passes_of(rt.alloc(), 10, &LIMITED, Trial::Mixed)
+}
+
+/// Fails a test where edits gave other answers, or not this report.
+fn has_given(
+    edited: &Edited,
     answers: &[Result<usize, Refused>],
-    report: &[u8],
-) -> Result<bool, Refused> {
-    let edited = session.report_after(edits)?;
-    let is_answered = edited.answers.as_slice() == answers;
-    Ok(is_answered && edited.report?.as_slice() == report)
+    report: &'static [u8],
+) -> Result<(), Wrong> {
+    match &edited.report {
+        Ok(text) => wanted(
+            edited.answers.as_slice() == answers && text.as_slice() == report,
+            report,
+        ),
+        Err(refused) => Err(Wrong::Refused(*refused)),
+    }
+}
+
+/// The same of the first two of the mixed edits, and of the report after them.
+fn reports_after_mixed(session: &mut Session) -> Result<(), Wrong> {
+    has_given(
+        &session.report_after(&MIXED[..2])?,
+        &MIXED_ANSWERS[..2],
+        FINDS_NONE,
+    )?;
+    reports(session, FINDS_NONE)
 }
 
 #[test]
-fn the_report_after_edits_is_that_of_their_trace(rt: HostRuntime) -> Result<(), Fail> {
-    let mut session = session_of(rt.alloc(), 10, &LIMITED)?;
-    let is_answered = reports_after(&mut session, &MIXED[..2], &MIXED_ANSWERS[..2], FINDS_NONE)?;
-    assert!(rt; is_answered && reports(&session, FINDS_NONE)?);
-    Ok(())
+fn the_report_after_edits_is_that_of_their_trace(rt: HostRuntime) -> Result<(), Wrong> {
+    passes_of(rt.alloc(), 10, &LIMITED, Trial::AfterMixed)
 }
 
 /// A descriptor that an exec closes is read from after it.
@@ -390,64 +485,91 @@ static EXECUTED: [&[u8]; 4] = [
     b"100 read(5) RET 1",
 ];
 
-/// A session in a profile of that trace.
-fn executed(alloc: Global, profile: Profile) -> Result<Session, Refused> {
-    let lines = lines_of(alloc, &EXECUTED)?;
-    loaded(Session::with_profile(alloc, 10, profile)?, lines)
-}
-
 /// Profiles, and the report of that trace.
 static BY_PROFILE: [(Profile, &[u8]); 2] = [
     (Profile::One, FINDS_NONE),
     (Profile::Two, b"4 100 read closed 5\nfindings 1\n"),
 ];
 
-/// Whether a session has this report until its exec is deleted.
-fn reports_exec(session: &mut Session, report: &[u8]) -> Result<bool, Refused> {
-    let is_reported = reports(session, report)? && reports_of_range(session, 4, 4, report)?;
-    Ok(is_reported && gives(session, &Edit::Delete { position: 3 }, 3, FINDS_NONE)?)
+/// Fails a test where a session doesn't have this report until its exec is deleted.
+fn reports_exec(session: &mut Session, report: &'static [u8]) -> Result<(), Wrong> {
+    reports(session, report)?;
+    reports_so(session, 4, 4, report)?;
+    gives(session, &Edit::Delete { position: 3 }, 3, FINDS_NONE)
+}
+
+/// The same of a session in a profile.
+fn reports_exec_in(alloc: Global, profile: Profile, report: &'static [u8]) -> Result<(), Wrong> {
+    let mut session = Session::with_profile(alloc, 10, profile)?;
+    load(alloc, &mut session, &EXECUTED)?;
+    reports_exec(&mut session, report)
 }
 
 #[test]
-fn an_exec_closes_descriptors_in_profile_2(rt: HostRuntime) -> Result<(), Fail> {
+fn an_exec_closes_descriptors_in_profile_2(rt: HostRuntime) -> Result<(), Wrong> {
     for (profile, report) in &BY_PROFILE {
-        let mut session = executed(rt.alloc(), *profile)?;
-        assert!(rt; reports_exec(&mut session, report)?, "{profile:?}");
+        reports_exec_in(rt.alloc(), *profile, report)?;
     }
     Ok(())
 }
 
 /// A descriptor with the right to read.
-fn reading_cells(alloc: Global) -> Result<Vec<(Fd, Cell)>, Fail> {
-    let read = Cell::Held(parse_rights(b"CAP_READ")?, OnExec::Unsure);
+fn reading_cell() -> Result<Cell, Refused> {
+    match parse_rights(b"CAP_READ") {
+        Ok(read) => Ok(Cell::Held(read, OnExec::Unsure)),
+        Err(_) => Err(Refused::Right),
+    }
+}
+
+/// A list of one descriptor.
+fn cells_of(alloc: Global, cell: Cell) -> Result<Vec<(Fd, Cell)>, Refused> {
     let mut cells = Vec::new(alloc);
-    cells.push((0, read))?;
+    cells.push((0, cell))?;
     Ok(cells)
 }
 
-/// A start where a descriptor of a process has the right to read, and nothing else is known.
-fn reading(alloc: Global) -> Result<Start, Fail> {
-    let cells = reading_cells(alloc)?;
-    let mut start = Start::unknown(alloc);
-    start.add(100, Mode::Unsure, Cell::Unknown, cells)?;
-    Ok(start)
+/// Adds a process of which a descriptor is this one, and nothing else is known.
+fn learn(alloc: Global, start: &mut Start, cell: Cell) -> Result<(), Refused> {
+    let cells = cells_of(alloc, cell)?;
+    Ok(start.add(100, Mode::Unsure, Cell::Unknown, cells)?)
 }
 
-/// Inserts a write: whether it is found from that start.
-fn reports_write(alloc: Global, session: &mut Session) -> Result<bool, Fail> {
+const FINDS_WRITE: &[u8] = b"1 100 write missing 0 CAP_WRITE\nfindings 1\n";
+
+/// Fails a test where a write isn't found from a start.
+fn reports_from(session: &Session, start: &Start) -> Result<(), Wrong> {
+    let is_found = session.report_from(start)?.as_slice() == FINDS_WRITE;
+    wanted(is_found, FINDS_WRITE)
+}
+
+/// The same of a session without lines, where the write is inserted, and is not found without the start.
+fn reports_write(session: &mut Session, start: &Start) -> Result<(), Wrong> {
     let count = session.insert(1, b"100 write(0) RET 1")?;
-    let start = reading(alloc)?;
-    let text = session.report_from(&start)?;
-    let report = b"1 100 write missing 0 CAP_WRITE\nfindings 1\n".as_slice();
-    Ok(count == 1 && text.as_slice() == report)
+    wanted(count == 1, FINDS_WRITE)?;
+    reports_from(session, start)?;
+    reports(session, FINDS_NONE)
+}
+
+/// The same in a profile.
+fn reports_write_in(alloc: Global, profile: Profile, start: &Start) -> Result<(), Wrong> {
+    reports_write(&mut Session::with_profile(alloc, 1, profile)?, start)
+}
+
+/// The same in both profiles.
+fn reports_write_in_both(alloc: Global, start: &Start) -> Result<(), Wrong> {
+    reports_write_in(alloc, Profile::One, start)?;
+    reports_write_in(alloc, Profile::Two, start)
+}
+
+/// The same from a start that knows this of a descriptor.
+fn reports_write_from(alloc: Global, cell: Cell) -> Result<(), Wrong> {
+    let mut start = Start::unknown(alloc);
+    learn(alloc, &mut start, cell)?;
+    reports_write_in_both(alloc, &start)
 }
 
 #[test]
-fn a_report_is_under_its_start(rt: HostRuntime) -> Result<(), Fail> {
-    for profile in &[Profile::One, Profile::Two] {
-        let mut session = Session::with_profile(rt.alloc(), 1, *profile)?;
-        assert!(rt; reports_write(rt.alloc(), &mut session)?);
-        assert!(rt; reports(&session, FINDS_NONE)?);
-    }
-    Ok(())
+fn a_report_is_under_its_start(rt: HostRuntime) -> Result<(), Wrong> {
+    let cell = reading_cell()?;
+    reports_write_from(rt.alloc(), cell)
 }

@@ -1,16 +1,16 @@
 //! Lines that are explained, in a session and over readers and writers that are cut and broken at will.
 
-ghost use Rattle.std.specs.Prelude.{◌<◌};
+ghost use Rattle.std.specs.Prelude.{◌≡◌, ◌<◌};
 
+use crate::answers::{Wrong, wanted};
 use crate::devices::{Kept, Pieces};
-use cap_machine::{NoMemory, Profile};
+use cap_machine::{Profile, Start};
 use cap_session::{
     ExplainOutcome, ExplainedLine, Outcome, Refused, Session, explain_stream, explain_stream_as,
     explain_stream_from, explain_stream_from_as, parse_start,
 };
 use cap_trace::{Line, parse_line};
 use std::alloc::Global;
-use std::test::Fail;
 
 const CLEAN: ExplainOutcome = ExplainOutcome::Ended(Outcome::Clean);
 
@@ -154,178 +154,204 @@ closed 5\n\
     ),
 ];
 
-/// An outcome for which memory was there.
-fn ample(outcome: ExplainOutcome) -> Result<ExplainOutcome, NoMemory> {
-    if outcome == ExplainOutcome::Ended(Outcome::Memory) {
-        return Err(NoMemory);
-    }
-    Ok(outcome)
+/// A call that explains a line.
+#[derive(Clone, Copy)]
+enum Call {
+    Explain,
+    ExplainAs,
+    ExplainFrom,
+    ExplainFromAs,
 }
 
-/// An outcome, and what was written.
-type Explained = (ExplainOutcome, Kept);
+/// Explains the line of a row.
+fn made(
+    alloc: Global,
+    call: Call,
+    row: &Row,
+    start: &mut Pieces<'_>,
+    trace: &mut Pieces<'_>,
+    writer: &mut Kept,
+) -> ExplainOutcome
+    requires unread { start.old.calls ≡ 0 }
+    requires trace_unread { trace.old.calls ≡ 0 }
+    requires unwritten { writer.old.faults ≡ 0 }
+{
+    let profile = row.1;
+    let at = row.3;
+    match call {
+        Call::Explain => explain_stream(alloc, 4096, at, trace, writer),
+        Call::ExplainAs => explain_stream_as(alloc, profile, 4096, at, trace, writer),
+        Call::ExplainFrom => explain_stream_from(alloc, 4096, at, start, trace, writer),
+        Call::ExplainFromAs => {
+            explain_stream_from_as(alloc, profile, 4096, at, start, trace, writer)
+        }
+    }
+}
 
-/// Explains the line of a row, from its start, in pieces of this size.
-fn explained_from(alloc: Global, row: &Row, size: usize) -> Result<Explained, NoMemory>
+/// Fails a test where a call ended otherwise than its row says, and where memory ran out.
+fn judged(row: &Row, ended: ExplainOutcome, writer: &Kept) -> Result<(), Wrong> {
+    if ended == ExplainOutcome::Ended(Outcome::Memory) {
+        return Err(Wrong::Refused(Refused::Memory));
+    }
+    wanted(ended == row.4 && writer.text() == row.5, row.5)
+}
+
+/// Fails a test where the line of a row isn't explained so, in pieces of this size.
+fn is_explained(alloc: Global, call: Call, row: &Row, size: usize) -> Result<(), Wrong>
     requires { 0 < size }
 {
-    let (start, profile, trace, position, ..) = row;
-    let mut from = Pieces::new(start, size, 0);
-    let mut reader = Pieces::new(trace, size, 0);
+    let mut start = Pieces::new(row.0, size, 0);
+    let mut trace = Pieces::new(row.2, size, 0);
     let mut writer = Kept::new(size, 256);
-    let ended = explain_stream_from_as(
-        alloc,
-        *profile,
-        4096,
-        *position,
-        &mut from,
-        &mut reader,
-        &mut writer,
-    );
-    Ok((ample(ended)?, writer))
+    let ended = made(alloc, call, row, &mut start, &mut trace, &mut writer);
+    judged(row, ended, &writer)
 }
 
-/// Whether the line of a row is explained so in pieces of any size.
-fn is_explained(alloc: Global, row: &Row) -> Result<bool, NoMemory> {
+/// The same from its start in its profile, in pieces of any size.
+fn is_explained_in_pieces(alloc: Global, row: &Row) -> Result<(), Wrong> {
     for size in &[1_usize, 2, 17, 1024] {
-        let (ended, writer) = explained_from(alloc, row, (*size).max(1))?;
-        if ended != row.4 || writer.text() != row.5 {
-            return Ok(false);
-        }
-    }
-    Ok(true)
-}
-
-#[test]
-fn a_line_is_explained_in_pieces_of_any_size(rt: HostRuntime) -> Result<(), Fail> {
-    for row in &ROWS {
-        assert!(rt; is_explained(rt.alloc(), row)?, "{:?}", row.5);
+        is_explained(alloc, Call::ExplainFromAs, row, (*size).max(1))?;
     }
     Ok(())
 }
 
-/// Explains the line of a row without its start.
-fn explained_as(alloc: Global, row: &Row) -> Result<Explained, NoMemory> {
-    let (_, profile, trace, position, ..) = row;
-    let mut reader = Pieces::new(trace, 100, 0);
-    let mut writer = Kept::new(100, 256);
-    let ended = explain_stream_as(alloc, *profile, 4096, *position, &mut reader, &mut writer);
-    Ok((ample(ended)?, writer))
+#[test]
+fn a_line_is_explained_in_pieces_of_any_size(rt: HostRuntime) -> Result<(), Wrong> {
+    for row in &ROWS {
+        is_explained_in_pieces(rt.alloc(), row)?;
+    }
+    Ok(())
 }
 
 #[test]
-fn without_a_start_it_is_the_usual_one(rt: HostRuntime) -> Result<(), Fail> {
+fn without_a_start_it_is_the_usual_one(rt: HostRuntime) -> Result<(), Wrong> {
     for row in &ROWS {
         if row.0.is_empty() {
-            let (ended, writer) = explained_as(rt.alloc(), row)?;
-            assert_eq!(rt; ended, row.4);
-            assert_eq!(rt; writer.text(), row.5);
+            is_explained(rt.alloc(), Call::ExplainAs, row, 100)?;
         }
     }
     Ok(())
 }
 
-const EXPLAINED: &[u8] = b"3 100 read(5) RET 1\n5 2 100 execve(\"/bin/x\") RET 0\n";
+/// A line in profile 1 from the usual start.
+static USUAL: Row = (
+    b"",
+    Profile::One,
+    EXEC,
+    3,
+    CLEAN,
+    b"3 100 read(5) RET 1\n5 2 100 execve(\"/bin/x\") RET 0\n",
+);
 
 #[test]
-fn without_a_profile_it_is_the_first(rt: HostRuntime) -> Result<(), Fail> {
-    let mut reader = Pieces::new(EXEC, 100, 0);
-    let mut writer = Kept::new(100, 256);
-    let ended = explain_stream(rt.alloc(), 4096, 3, &mut reader, &mut writer);
-    assert_eq!(rt; ample(ended)?, CLEAN);
-    assert_eq!(rt; writer.text(), EXPLAINED);
-    Ok(())
+fn without_a_profile_it_is_the_first(rt: HostRuntime) -> Result<(), Wrong> {
+    is_explained(rt.alloc(), Call::Explain, &USUAL, 100)
 }
 
 #[test]
-fn from_a_start_without_a_profile_it_is_the_first(rt: HostRuntime) -> Result<(), Fail> {
-    let mut from = Pieces::new(b"", 100, 0);
-    let mut reader = Pieces::new(EXEC, 100, 0);
-    let mut writer = Kept::new(100, 256);
-    let ended = explain_stream_from(rt.alloc(), 4096, 3, &mut from, &mut reader, &mut writer);
-    assert_eq!(rt; ample(ended)?, CLEAN);
-    assert_eq!(rt; writer.text(), EXPLAINED);
+fn from_a_start_without_a_profile_it_is_the_first(rt: HostRuntime) -> Result<(), Wrong> {
+    is_explained(rt.alloc(), Call::ExplainFrom, &USUAL, 100)
+}
+
+/// Appends the line that a text spells, unless it is skipped.
+fn put_line(alloc: Global, lines: &mut Vec<Line>, text: &[u8]) -> Result<(), Refused> {
+    if text.is_empty() || text.starts_with(b"#") {
+        return Ok(());
+    }
+    Ok(lines.push(parse_line(alloc, text)?)?)
+}
+
+/// Appends the lines of a trace, without those that are skipped.
+fn put_lines(alloc: Global, lines: &mut Vec<Line>, trace: &[u8]) -> Result<(), Refused> {
+    for text in trace.split(|byte| *byte == b'\n') {
+        put_line(alloc, lines, text)?;
+    }
     Ok(())
 }
 
-/// The lines of a trace, without those that are skipped.
-fn lines_of(alloc: Global, trace: &[u8]) -> Result<Vec<Line>, Refused> {
+/// Loads a trace into a session.
+fn load(alloc: Global, session: &mut Session, trace: &[u8]) -> Result<usize, Refused> {
     let mut lines = Vec::new(alloc);
-    for line in trace.split(|byte| *byte == b'\n') {
-        if !line.is_empty() && !line.starts_with(b"#") {
-            lines.push(parse_line(alloc, line)?)?;
-        }
-    }
-    Ok(lines)
+    put_lines(alloc, &mut lines, trace)?;
+    session.load(lines)
 }
 
 /// A session of the trace of a row.
 fn session_of(alloc: Global, row: &Row) -> Result<Session, Refused> {
-    let (_, profile, trace, ..) = row;
-    let lines = lines_of(alloc, trace)?;
-    loaded(Session::with_profile(alloc, 10, *profile)?, lines)
+    let mut session = Session::with_profile(alloc, 10, row.1)?;
+    load(alloc, &mut session, row.2)?;
+    Ok(session)
 }
 
-/// The session with these lines.
-fn loaded(mut session: Session, lines: Vec<Line>) -> Result<Session, Refused> {
-    match session.load(lines) {
-        Ok(_) => Ok(session),
-        Err(refused) => Err(refused),
-    }
+/// Whether the text of a line that was explained, and what it ends with, are those of a row.
+fn is_of_row(line: &ExplainedLine, row: &Row) -> bool {
+    let outcome = if line.is_clean { CLEAN } else { FINDINGS };
+    row.4 == outcome && line.text.as_slice() == row.5
 }
 
-/// Whether a session answers with the outcome and the text of a row.
-fn is_told(answer: Result<ExplainedLine, Refused>, row: &Row) -> Result<bool, Refused> {
-    let (.., outcome, text) = row;
+/// Fails a test where a session doesn't answer with the outcome and the text of a row.
+fn is_told(answer: &Result<ExplainedLine, Refused>, row: &Row) -> Result<(), Wrong> {
     match answer {
-        Ok(line) if line.is_clean => Ok(*outcome == CLEAN && line.text.as_slice() == *text),
-        Ok(line) => Ok(*outcome == FINDINGS && line.text.as_slice() == *text),
-        Err(Refused::Position) => Ok(*outcome == ExplainOutcome::OutOfRange),
-        Err(refused) => Err(refused),
+        Ok(line) => wanted(is_of_row(line, row), row.5),
+        Err(Refused::Position) => wanted(row.4 == ExplainOutcome::OutOfRange, row.5),
+        Err(refused) => Err(Wrong::Refused(*refused)),
     }
 }
 
-/// Whether a session tells so from the start of the row.
-fn is_told_from(session: &Session, alloc: Global, row: &Row) -> Result<bool, Fail> {
-    let start = parse_start(alloc, row.0)?;
-    Ok(is_told(session.explain_from(row.3, &start), row)?)
+/// Fails a test where a session doesn't tell so from a start.
+fn is_told_under(session: &Session, start: &Start, row: &Row) -> Result<(), Wrong> {
+    is_told(&session.explain_from(row.3, start), row)
 }
 
-/// Whether a session of the trace of a row tells so from its start.
-fn is_told_from_start(alloc: Global, row: &Row) -> Result<bool, Fail> {
+/// The same from the start of the row.
+fn is_told_from(session: &Session, alloc: Global, row: &Row) -> Result<(), Wrong> {
+    match &parse_start(alloc, row.0) {
+        Ok(start) => is_told_under(session, start, row),
+        Err(fault) => Err(Wrong::Start(*fault)),
+    }
+}
+
+/// The same of a session of the trace of the row.
+fn is_told_from_start(alloc: Global, row: &Row) -> Result<(), Wrong> {
     is_told_from(&session_of(alloc, row)?, alloc, row)
 }
 
-/// Whether it tells so from the usual start.
-fn is_told_of_row(alloc: Global, row: &Row) -> Result<bool, Refused> {
-    is_told(session_of(alloc, row)?.explain(row.3), row)
+/// The same from the usual start.
+fn is_told_of_row(alloc: Global, row: &Row) -> Result<(), Wrong> {
+    is_told(&session_of(alloc, row)?.explain(row.3), row)
+}
+
+/// Whether the trace of a row has no line that is refused.
+fn is_good(row: &Row) -> bool {
+    !matches!(row.4, ExplainOutcome::Ended(Outcome::Refused { .. }))
 }
 
 #[test]
-fn a_session_explains_a_line_from_a_start(rt: HostRuntime) -> Result<(), Fail> {
+fn a_session_explains_a_line_from_a_start(rt: HostRuntime) -> Result<(), Wrong> {
     for row in &ROWS {
-        if !matches!(row.4, ExplainOutcome::Ended(Outcome::Refused { .. })) {
-            assert!(rt; is_told_from_start(rt.alloc(), row)?, "{:?}", row.5);
+        if is_good(row) {
+            is_told_from_start(rt.alloc(), row)?;
         }
     }
     Ok(())
 }
 
 #[test]
-fn a_session_explains_a_line(rt: HostRuntime) -> Result<(), Fail> {
+fn a_session_explains_a_line(rt: HostRuntime) -> Result<(), Wrong> {
     for row in &ROWS {
-        if row.0.is_empty() && !matches!(row.4, ExplainOutcome::Ended(Outcome::Refused { .. })) {
-            assert!(rt; is_told_of_row(rt.alloc(), row)?, "{:?}", row.5);
+        if row.0.is_empty() && is_good(row) {
+            is_told_of_row(rt.alloc(), row)?;
         }
     }
     Ok(())
 }
 
 #[test]
-fn a_status_for_each_outcome(rt: HostRuntime) -> Result<(), Fail> {
-    assert_eq!(rt; CLEAN.status(), 0);
-    assert_eq!(rt; FINDINGS.status(), 1);
-    assert_eq!(rt; ExplainOutcome::OutOfRange.status(), 2);
-    assert_eq!(rt; ExplainOutcome::Ended(Outcome::Memory).status(), 3);
-    Ok(())
+fn a_status_for_each_outcome(rt: HostRuntime) {
+    assert!(rt;
+        CLEAN.status() == 0
+            && FINDINGS.status() == 1
+            && ExplainOutcome::OutOfRange.status() == 2
+            && ExplainOutcome::Ended(Outcome::Memory).status() == 3
+    );
 }

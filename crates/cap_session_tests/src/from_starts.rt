@@ -1,11 +1,8 @@
 //! Worked traces with a start text or in a profile, over readers and writers that are cut and broken at will.
 
-use crate::answers::{checked, checked_from};
-use crate::devices::{Kept, Pieces, ample};
-use cap_machine::{NoMemory, Profile};
-use cap_session::{Outcome, check_stream, check_stream_from};
-use std::alloc::Global;
-use std::test::Fail;
+use crate::answers::{Call, Run, Wrong, ends, ends_in_pieces};
+use cap_machine::Profile;
+use cap_session::Outcome;
 
 const READ: &[u8] = b"100 read(3) RET 1";
 
@@ -114,50 +111,35 @@ static ROWS: [Row; 13] = [
     ),
 ];
 
-/// Whether the trace of a row is answered so in pieces of any size.
-fn is_reported(alloc: Global, row: &Row) -> Result<bool, NoMemory> {
-    let (text, profile, trace, outcome, written) = row;
-    for size in &[1_usize, 3, 65_536] {
-        let start = Pieces::new(text, (*size).max(1), 0);
-        let reader = Pieces::new(trace, (*size).max(1), 0);
-        let writer = Kept::new(*size, 256);
-        let answer = checked_from(alloc, *profile, 4096, start, reader, writer)?;
-        if !answer.is(*outcome, written) {
-            return Ok(false);
-        }
-    }
-    Ok(true)
-}
-
 #[test]
-fn a_trace_is_checked_from_a_start_in_pieces_of_any_size(rt: HostRuntime) -> Result<(), Fail> {
-    for row in &ROWS {
-        assert!(rt; is_reported(rt.alloc(), row)?, "{:?}", row.0);
+fn a_trace_is_checked_from_a_start_in_pieces_of_any_size(rt: HostRuntime) -> Result<(), Wrong> {
+    for (start, profile, trace, outcome, written) in &ROWS {
+        let run = Run::new(Call::CheckFromAs(*profile), trace, start, *outcome, written);
+        ends_in_pieces(rt.alloc(), &run, &[1, 3, 65_536])?;
     }
     Ok(())
 }
 
 /// Without a profile it is profile 1.
 #[test]
-fn a_profile_that_is_left_out_is_the_first(rt: HostRuntime) -> Result<(), Fail> {
-    let mut start = Pieces::new(b"100 out closed 5=ALL", 9, 0);
-    let mut reader = Pieces::new(EXEC, 9, 0);
-    let mut writer = Kept::new(9, 256);
-    let ended = check_stream_from(rt.alloc(), 4096, &mut start, &mut reader, &mut writer);
-    assert_eq!(rt; ample(ended)?, Outcome::Clean);
-    assert_eq!(rt; writer.text(), b"findings 0\n".as_slice());
-    Ok(())
+fn a_profile_that_is_left_out_is_the_first(rt: HostRuntime) -> Result<(), Wrong> {
+    let start = b"100 out closed 5=ALL".as_slice();
+    let run = Run::new(
+        Call::CheckFrom,
+        EXEC,
+        start,
+        Outcome::Clean,
+        b"findings 0\n",
+    );
+    ends_in_pieces(rt.alloc(), &run, &[9])
 }
 
 /// Without a start it is the usual one.
 #[test]
-fn a_start_that_is_left_out_is_the_usual_one(rt: HostRuntime) -> Result<(), Fail> {
-    let mut reader = Pieces::new(b"100 write(0) RET 1", 9, 0);
-    let mut writer = Kept::new(9, 256);
-    let ended = check_stream(rt.alloc(), 4096, &mut reader, &mut writer);
-    assert_eq!(rt; ample(ended)?, Outcome::Clean);
-    assert_eq!(rt; writer.text(), b"findings 0\n".as_slice());
-    Ok(())
+fn a_start_that_is_left_out_is_the_usual_one(rt: HostRuntime) -> Result<(), Wrong> {
+    let trace = b"100 write(0) RET 1".as_slice();
+    let run = Run::new(Call::Check, trace, b"", Outcome::Clean, b"findings 0\n");
+    ends_in_pieces(rt.alloc(), &run, &[9])
 }
 
 /// A descriptor that is closed on exec.
@@ -175,11 +157,13 @@ static BY_PROFILE: [(Profile, Outcome, &[u8]); 2] = [
 ];
 
 #[test]
-fn a_profile_decides_what_an_exec_closes(rt: HostRuntime) -> Result<(), Fail> {
+fn a_profile_decides_what_an_exec_closes(rt: HostRuntime) -> Result<(), Wrong> {
     for (profile, outcome, written) in &BY_PROFILE {
-        let reader = Pieces::new(CLOSED_ON_EXEC, 20, 0);
-        let answer = checked(rt.alloc(), *profile, 4096, reader, Kept::new(9, 256))?;
-        assert!(rt; answer.is(*outcome, written), "{profile:?}");
+        let call = Call::CheckAs(*profile);
+        let mut run = Run::new(call, CLOSED_ON_EXEC, b"", *outcome, written);
+        run.trace.1 = 20;
+        run.room.0 = 9;
+        ends(rt.alloc(), &run)?;
     }
     Ok(())
 }
@@ -212,20 +196,29 @@ static BROKEN: [Broken; 5] = [
     ),
 ];
 
-/// Whether a check ends as a row says, over its devices.
-fn ends_over_devices(alloc: Global, row: &Broken) -> Result<bool, NoMemory> {
+/// The check of a row.
+fn run_of(row: &Broken) -> Run<'static> {
     let (text, fails_at, turns, most, outcome, written, reads) = row;
-    let start = Pieces::new(text, 99, *fails_at);
-    let trace = Pieces::new(READ, 99, 0);
-    let writer = Kept::new(7, *most);
-    let answer = checked_from(alloc, Profile::Two, *turns, start, trace, writer)?;
-    Ok(answer.is(*outcome, written) && answer.has_read(0, *reads))
+    let mut run = Run::new(
+        Call::CheckFromAs(Profile::Two),
+        READ,
+        text,
+        *outcome,
+        written,
+    );
+    run.turns = *turns;
+    run.trace.1 = 99;
+    run.other = (text, 99, *fails_at);
+    run.room = (7, *most);
+    run.reads = Some(0);
+    run.other_reads = Some(*reads);
+    run
 }
 
 #[test]
-fn a_start_that_is_not_taken_leaves_the_trace_unread(rt: HostRuntime) -> Result<(), Fail> {
+fn a_start_that_is_not_taken_leaves_the_trace_unread(rt: HostRuntime) -> Result<(), Wrong> {
     for row in &BROKEN {
-        assert!(rt; ends_over_devices(rt.alloc(), row)?, "{:?}", row.0);
+        ends(rt.alloc(), &run_of(row))?;
     }
     Ok(())
 }

@@ -21,3 +21,7 @@ mod joins;
 mod scripts;
 #[cfg(test)]
 mod starts;
+#[cfg(test)]
+mod sweeps;
+#[cfg(test)]
+mod texts;

@@ -1,13 +1,11 @@
 //! Worked scripts, with the replies to them, over devices that are cut and broken at will.
 
-ghost use Rattle.std.specs.Prelude.{◌≡◌};
-
-use crate::answers::{self, Answer, ample_for};
-use crate::devices::{Kept, Pieces, ample};
+use crate::answers::{Call, Run, Wrong, ends, ends_in_pieces, wanted};
+use crate::sweeps::{Sweep, fails_at_each, is_cut_at_each};
+use crate::texts::repeated;
 use cap_machine::{NoMemory, Profile};
-use cap_session::{Outcome, edit_stream};
+use cap_session::Outcome;
 use std::alloc::Global;
-use std::test::Fail;
 
 /// A trace that a descriptor was limited in.
 const LIMITED: &[u8] =
@@ -63,24 +61,6 @@ static SCRIPTS: [Script; 9] = [
     (b"", &[b'#'; 1057], Outcome::Clean, b"refused E1\n"),
 ];
 
-/// Replies to a script, for which memory was there.
-fn edited(
-    alloc: Global,
-    turns: u64,
-    mut traces: Pieces<'_>,
-    mut scripts: Pieces<'_>,
-    mut writer: Kept,
-) -> Result<Answer, NoMemory>
-    requires trace_unread { traces.calls ≡ 0 }
-    requires unread { scripts.calls ≡ 0 }
-    requires unwritten { writer.faults ≡ 0 }
-{
-    let turns = turns.min(4096);
-    let ended = edit_stream(alloc, turns, &mut traces, &mut scripts, &mut writer);
-    let outcome = ample_for(ended, &writer)?;
-    Ok(Answer::new(outcome, writer, traces.calls, scripts.calls))
-}
-
 /// A descriptor that an exec closes is read from after it.
 const EXECUTED: &[u8] =
     b"100 @start(0,3)\n100 open(\"a\",O_RDONLY|O_CLOEXEC) RET 5\n100 execve(\"/bin/x\") RET 0\n100 read(5) RET 1\n";
@@ -114,60 +94,44 @@ static PROFILES: [(Profile, &[u8], Outcome, &[u8]); 4] = [
 ];
 
 #[test]
-fn a_script_is_replied_to_in_each_profile(rt: HostRuntime) -> Result<(), Fail> {
+fn a_script_is_replied_to_in_each_profile(rt: HostRuntime) -> Result<(), Wrong> {
     for (profile, script, outcome, written) in &PROFILES {
-        let trace = Pieces::new(EXECUTED, 64, 0);
-        let script = Pieces::new(script, 64, 0);
-        let writer = Kept::new(64, 256);
-        let answer = answers::edited(rt.alloc(), *profile, 4096, trace, script, writer)?;
-        assert!(rt; answer.is(*outcome, written), "{profile:?}");
+        let run = Run::new(Call::EditAs(*profile), EXECUTED, script, *outcome, written);
+        ends(rt.alloc(), &run)?;
     }
     Ok(())
 }
 
-/// Whether the script of a row is replied to so in pieces of any size.
-fn is_replied_to(alloc: Global, row: &Script) -> Result<bool, NoMemory> {
-    let (trace, script, outcome, written) = row;
-    for size in &[1_usize, 2, 7, 64, 65536] {
-        let trace = Pieces::new(trace, (*size).max(1), 0);
-        let script = Pieces::new(script, (*size).max(1), 0);
-        let answer = edited(alloc, 4096, trace, script, Kept::new(*size, 256))?;
-        if !answer.is(*outcome, written) {
-            return Ok(false);
-        }
-    }
-    Ok(true)
-}
-
 #[test]
-fn scripts_are_replied_to_in_pieces_of_any_size(rt: HostRuntime) -> Result<(), Fail> {
-    for row in &SCRIPTS {
-        assert!(rt; is_replied_to(rt.alloc(), row)?, "{:?}", row.1);
+fn scripts_are_replied_to_in_pieces_of_any_size(rt: HostRuntime) -> Result<(), Wrong> {
+    for (trace, script, outcome, written) in &SCRIPTS {
+        let run = Run::new(Call::Edit, trace, script, *outcome, written);
+        ends_in_pieces(rt.alloc(), &run, &[1, 2, 7, 64, 65_536])?;
     }
     Ok(())
 }
 
 /// An insert of a line of 1,024 bytes.
 fn longest_insert(alloc: Global) -> Result<Vec<u8>, NoMemory> {
-    let mut script: Vec<u8> = Vec::new(alloc);
-    script.extend_from_slice(b"insert 1 100 foo(")?;
-    for _ in 0..1009 {
-        script.push(b'x')?;
-    }
-    script.extend_from_slice(b") RET 0")?;
-    Ok(script)
+    repeated(alloc, b"insert 1 100 foo(", b"x", 1009, b") RET 0")
+}
+
+/// Fails a test where it isn't inserted.
+fn inserts(alloc: Global, script: &[u8]) -> Result<(), Wrong> {
+    let run = Run::new(Call::Edit, b"", script, Outcome::Clean, b"ok 1\n");
+    wanted(script.len() == 9 + 1024, b"insert 1 100 foo(")?;
+    ends_in_pieces(alloc, &run, &[500])
+}
+
+/// The same of one that was made.
+fn inserts_longest(alloc: Global) -> Result<(), Wrong> {
+    inserts(alloc, &longest_insert(alloc)?)
 }
 
 /// A line of a script may hold a line of a trace that has as many bytes as it may.
 #[test]
-fn the_longest_line_is_inserted(rt: HostRuntime) -> Result<(), Fail> {
-    let script = longest_insert(rt.alloc())?;
-    assert_eq!(rt; script.len(), 9 + 1024);
-    let trace = Pieces::new(b"", 500, 0);
-    let scripts = Pieces::new(&script, 500, 0);
-    let answer = edited(rt.alloc(), 4096, trace, scripts, Kept::new(500, 256))?;
-    assert!(rt; answer.is(Outcome::Clean, b"ok 1\n"));
-    Ok(())
+fn the_longest_line_is_inserted(rt: HostRuntime) -> Result<(), Wrong> {
+    inserts_longest(rt.alloc())
 }
 
 /// A descriptor that was limited before a fork.
@@ -178,68 +142,63 @@ const FORKED_SCRIPT: &[u8] = b"delete 2\nreport\n";
 
 const FORKED_REPLIES: &[u8] = b"ok 4\nfindings 0\n";
 
-/// What is replied to so many bytes of that script.
-fn replied(given: u64) -> &'static [u8] {
-    if given < 9 {
-        b""
-    } else if given < 16 {
-        b"ok 4\n"
-    } else {
-        FORKED_REPLIES
-    }
-}
+/// Where lines of that script end, and the replies up to there.
+const REPLIES: &[(u64, &[u8])] = &[(9, b"ok 4\n"), (16, FORKED_REPLIES)];
+
+/// The reads of the trace, and those of the script.
+static READS: [Sweep; 2] = [
+    Sweep {
+        run: Run {
+            call: Call::Edit,
+            turns: 4096,
+            trace: (FORKED, 1, 0),
+            other: (FORKED_SCRIPT, 1, 0),
+            room: (1, 256),
+            outcome: Outcome::Clean,
+            written: FORKED_REPLIES,
+            reads: None,
+            other_reads: Some(0),
+        },
+        is_of_trace: true,
+        first: 1,
+        replies: &[],
+    },
+    Sweep {
+        run: Run {
+            call: Call::Edit,
+            turns: 4096,
+            trace: (FORKED, 50, 0),
+            other: (FORKED_SCRIPT, 1, 0),
+            room: (7, 256),
+            outcome: Outcome::Clean,
+            written: FORKED_REPLIES,
+            reads: None,
+            other_reads: None,
+        },
+        is_of_trace: false,
+        first: 1,
+        replies: REPLIES,
+    },
+];
 
 /// Each read of the trace fails in turn.
 #[test]
-fn a_fault_of_the_trace_leaves_the_script_unread(rt: HostRuntime) -> Result<(), Fail> {
-    for failing in 1..FORKED.len() as u64 + 2 {
-        let trace = Pieces::new(FORKED, 1, failing);
-        let script = Pieces::new(FORKED_SCRIPT, 1, 0);
-        let answer = edited(rt.alloc(), 4096, trace, script, Kept::new(1, 256))?;
-        assert!(rt; answer.is(Outcome::ReadFault, b""), "read {failing}");
-        assert_eq!(rt; answer.other_reads, 0);
-    }
-    Ok(())
+fn a_fault_of_the_trace_leaves_the_script_unread(rt: HostRuntime) -> Result<(), Wrong> {
+    fails_at_each(rt.alloc(), &READS[0])
 }
 
 /// Each read of the script fails in turn.
 #[test]
-fn a_fault_of_the_script_leaves_the_replies_before_it(rt: HostRuntime) -> Result<(), Fail> {
-    for failing in 1..FORKED_SCRIPT.len() as u64 + 2 {
-        let trace = Pieces::new(FORKED, 50, 0);
-        let script = Pieces::new(FORKED_SCRIPT, 1, failing);
-        let answer = edited(rt.alloc(), 4096, trace, script, Kept::new(7, 256))?;
-        assert!(rt;
-            answer.is(Outcome::ReadFault, replied(failing - 1)),
-            "read {failing}"
-        );
-    }
-    Ok(())
-}
-
-/// The outcome and the replies where a writer takes only so many bytes; `None` where memory wasn't there for the report.
-fn cut_replies(alloc: Global, most: usize) -> Option<(Outcome, Kept)> {
-    let mut traces = Pieces::new(FORKED, 50, 0);
-    let mut scripts = Pieces::new(FORKED_SCRIPT, 5, 0);
-    let mut writer = Kept::new(3, most);
-    let ended = edit_stream(alloc, 4096, &mut traces, &mut scripts, &mut writer);
-    if b"ok 4\nrefused E9\n".starts_with(writer.text())
-        && !FORKED_REPLIES.starts_with(writer.text())
-    {
-        return None;
-    }
-    Some((ended, writer))
+fn a_fault_of_the_script_leaves_the_replies_before_it(rt: HostRuntime) -> Result<(), Wrong> {
+    fails_at_each(rt.alloc(), &READS[1])
 }
 
 /// Each byte that is written fails in turn.
 #[test]
-fn a_fault_of_the_writer_leaves_a_prefix(rt: HostRuntime) -> Result<(), Fail> {
-    for most in 0..FORKED_REPLIES.len() {
-        let (ended, writer) = cut_replies(rt.alloc(), most).ok_or(NoMemory)?;
-        assert_eq!(rt; ample(ended)?, Outcome::WriteFault, "byte {most}");
-        assert_eq!(rt; writer.text(), &FORKED_REPLIES[..most]);
-    }
-    Ok(())
+fn a_fault_of_the_writer_leaves_a_prefix(rt: HostRuntime) -> Result<(), Wrong> {
+    let mut run = READS[1].run;
+    run.other.1 = 5;
+    is_cut_at_each(rt.alloc(), &run, 3)
 }
 
 /// A trace and a script of which one comes without end, and how many reads are made of each.
@@ -248,14 +207,23 @@ static ENDLESS: [(&[u8], &[u8], (u64, u64)); 2] = [
     (b"", &[b'\n'; 200], (1, 99)),
 ];
 
+/// The script of a row, of which at most 99 reads may be made.
+fn endless(row: &(&'static [u8], &'static [u8], (u64, u64))) -> Run<'static> {
+    let (trace, script, (reads, other_reads)) = row;
+    let mut run = Run::new(Call::Edit, trace, script, Outcome::TooLong, b"");
+    run.turns = 99;
+    run.trace.1 = 1;
+    run.other.1 = 1;
+    run.reads = Some(*reads);
+    run.other_reads = Some(*other_reads);
+    run
+}
+
 /// Neither text may be read without an end.
 #[test]
-fn a_text_without_end_is_left(rt: HostRuntime) -> Result<(), Fail> {
-    for (trace, script, reads) in &ENDLESS {
-        let trace = Pieces::new(trace, 1, 0);
-        let script = Pieces::new(script, 1, 0);
-        let answer = edited(rt.alloc(), 99, trace, script, Kept::new(99, 256))?;
-        assert!(rt; answer.is(Outcome::TooLong, b"") && answer.has_read(reads.0, reads.1));
+fn a_text_without_end_is_left(rt: HostRuntime) -> Result<(), Wrong> {
+    for row in &ENDLESS {
+        ends(rt.alloc(), &endless(row))?;
     }
     Ok(())
 }
@@ -271,19 +239,22 @@ static BROKEN: [Broken; 4] = [
     (b"count\nshow", 9, 99, Outcome::ReadFault, b"3\n", 9),
 ];
 
-/// Whether the script of a row ends so.
-fn ends_over_devices(alloc: Global, row: &Broken) -> Result<bool, NoMemory> {
+/// The script of a row.
+fn run_of(row: &Broken) -> Run<'static> {
     let (script, fails_at, most, outcome, written, reads) = row;
-    let trace = Pieces::new(LIMITED, 99, 0);
-    let script = Pieces::new(script, 1, *fails_at);
-    let answer = edited(alloc, 99, trace, script, Kept::new(99, *most))?;
-    Ok(answer.is(*outcome, written) && answer.other_reads == *reads)
+    let mut run = Run::new(Call::Edit, LIMITED, script, *outcome, written);
+    run.turns = 99;
+    run.trace.1 = 99;
+    run.other = (script, 1, *fails_at);
+    run.room = (99, *most);
+    run.other_reads = Some(*reads);
+    run
 }
 
 #[test]
-fn replies_before_a_fault_stand(rt: HostRuntime) -> Result<(), Fail> {
+fn replies_before_a_fault_stand(rt: HostRuntime) -> Result<(), Wrong> {
     for row in &BROKEN {
-        assert!(rt; ends_over_devices(rt.alloc(), row)?, "{:?}", row.0);
+        ends(rt.alloc(), &run_of(row))?;
     }
     Ok(())
 }

@@ -1,11 +1,11 @@
 //! Worked start texts: what is known of each process, and the fault of each text that isn't good.
 
-use cap_machine::{Cell, Mode, OnExec, Profile, check};
+use crate::answers::{Wrong, wanted};
+use cap_machine::{Cell, Mode, OnExec, Profile, Start, check};
 use cap_rights::parse_rights;
 use cap_session::{StartFault, parse_start};
 use cap_trace::{Line, parse_line};
 use std::alloc::Global;
-use std::test::Fail;
 
 /// A text with a process, a comment, an empty line and another process; the last line has no LF.
 const GOOD: &[u8] =
@@ -18,13 +18,14 @@ static MODES: [(u32, Mode); 3] = [
     (102, Mode::Unsure),
 ];
 
-#[test]
-fn modes_of_a_start_are_read(rt: HostRuntime) -> Result<(), Fail> {
-    let start = parse_start(rt.alloc(), GOOD)?;
+/// Whether a start has those modes.
+fn has_modes(start: &Start) -> bool {
     for (pid, mode) in &MODES {
-        assert_eq!(rt; start.mode(*pid), *mode, "{pid}");
+        if start.mode(*pid) != *mode {
+            return false;
+        }
     }
-    Ok(())
+    true
 }
 
 /// Descriptors in that text without rights, and whether they are closed: else nothing is known of them.
@@ -36,18 +37,19 @@ static CELLS: [(u32, u32, bool); 5] = [
     (102, 0, false),
 ];
 
-#[test]
-fn cells_of_a_start_are_read(rt: HostRuntime) -> Result<(), Fail> {
-    let start = parse_start(rt.alloc(), GOOD)?;
+/// Whether a start has those cells.
+fn has_cells(start: &Start) -> bool {
     for (pid, fd, is_closed) in &CELLS {
         let cell = if *is_closed {
             Cell::Closed
         } else {
             Cell::Unknown
         };
-        assert_eq!(rt; start.cell(*pid, *fd), cell, "{pid} {fd}");
+        if start.cell(*pid, *fd) != cell {
+            return false;
+        }
     }
-    Ok(())
+    true
 }
 
 /// Descriptors in that text, with their rights.
@@ -57,14 +59,62 @@ static HELD: [(u32, u32, &[u8]); 3] = [
     (101, 1, b"NONE"),
 ];
 
-#[test]
-fn rights_of_a_start_are_read(rt: HostRuntime) -> Result<(), Fail> {
-    let start = parse_start(rt.alloc(), GOOD)?;
-    for (pid, fd, rights) in &HELD {
-        let held = Cell::Held(parse_rights(rights)?, OnExec::Unsure);
-        assert_eq!(rt; start.cell(*pid, *fd), held, "{pid} {fd}");
+/// Whether a cell has these rights.
+fn has_rights(cell: Cell, rights: &[u8]) -> bool {
+    match parse_rights(rights) {
+        Ok(rights) => cell == Cell::Held(rights, OnExec::Unsure),
+        Err(_) => false,
     }
-    Ok(())
+}
+
+/// Whether a start has those rights.
+fn has_held(start: &Start) -> bool {
+    for (pid, fd, rights) in &HELD {
+        if !has_rights(start.cell(*pid, *fd), rights) {
+            return false;
+        }
+    }
+    true
+}
+
+/// What is tested of a start.
+#[derive(Clone, Copy)]
+enum Part {
+    Modes,
+    Cells,
+    Rights,
+}
+
+/// Whether that part of a start is as the text has it.
+fn has(start: &Start, part: Part) -> bool {
+    match part {
+        Part::Modes => has_modes(start),
+        Part::Cells => has_cells(start),
+        Part::Rights => has_held(start),
+    }
+}
+
+/// Fails a test where that part of the text is not read so.
+fn reads(alloc: Global, part: Part) -> Result<(), Wrong> {
+    match &parse_start(alloc, GOOD) {
+        Ok(start) => wanted(has(start, part), GOOD),
+        Err(fault) => Err(Wrong::Start(*fault)),
+    }
+}
+
+#[test]
+fn modes_of_a_start_are_read(rt: HostRuntime) -> Result<(), Wrong> {
+    reads(rt.alloc(), Part::Modes)
+}
+
+#[test]
+fn cells_of_a_start_are_read(rt: HostRuntime) -> Result<(), Wrong> {
+    reads(rt.alloc(), Part::Cells)
+}
+
+#[test]
+fn rights_of_a_start_are_read(rt: HostRuntime) -> Result<(), Wrong> {
+    reads(rt.alloc(), Part::Rights)
 }
 
 /// Texts that are good.
@@ -80,10 +130,15 @@ static READ: [&[u8]; 9] = [
     b"100 out closed 9=ALL 10=ALL",
 ];
 
+/// Fails a test where a text isn't refused so, or is, where it is good.
+fn is_read(alloc: Global, text: &'static [u8], fault: Option<StartFault>) -> Result<(), Wrong> {
+    wanted(parse_start(alloc, text).err() == fault, text)
+}
+
 #[test]
-fn good_texts_are_read(rt: HostRuntime) -> Result<(), Fail> {
+fn good_texts_are_read(rt: HostRuntime) -> Result<(), Wrong> {
     for text in &READ {
-        parse_start(rt.alloc(), text)?;
+        is_read(rt.alloc(), text, None)?;
     }
     Ok(())
 }
@@ -148,19 +203,14 @@ static REFUSED: [(&[u8], u8, usize); 48] = [
     (b"100 out closed\n #", 3, 2),
 ];
 
-/// Why a text is refused.
-fn fault_of(alloc: Global, text: &[u8]) -> Option<StartFault> {
-    parse_start(alloc, text).err()
-}
-
 #[test]
-fn bad_texts_are_refused(rt: HostRuntime) -> Result<(), Fail> {
+fn bad_texts_are_refused(rt: HostRuntime) -> Result<(), Wrong> {
     for (text, code, line) in &REFUSED {
         let fault = StartFault::Bad {
             code: *code,
             line: *line,
         };
-        assert_eq!(rt; fault_of(rt.alloc(), text), Some(fault), "{text:?}");
+        is_read(rt.alloc(), text, Some(fault))?;
     }
     Ok(())
 }
@@ -175,31 +225,35 @@ static LONG: [(&[u8], Option<StartFault>); 4] = [
 
 /// A line has at most 1,024 bytes, comments included.
 #[test]
-fn a_long_line_is_refused(rt: HostRuntime) -> Result<(), Fail> {
+fn a_long_line_is_refused(rt: HostRuntime) -> Result<(), Wrong> {
     for (text, fault) in &LONG {
-        assert_eq!(rt; fault_of(rt.alloc(), text), *fault);
+        is_read(rt.alloc(), text, *fault)?;
     }
     Ok(())
 }
 
-/// These lines.
-fn lines_of(alloc: Global, trace: &[&[u8]]) -> Result<Vec<Line>, Fail> {
-    let mut lines = Vec::new(alloc);
-    for line in trace {
-        lines.push(parse_line(alloc, line)?)?;
-    }
-    Ok(lines)
-}
-
 /// How many findings lines have from a start.
-fn findings_of(alloc: Global, text: &[u8], lines: &[Line]) -> Result<usize, Fail> {
-    let start = parse_start(alloc, text)?;
-    Ok(check(alloc, Profile::One, &start, lines)?.len())
+fn findings_of(alloc: Global, start: &Start, lines: &[Line]) -> Result<usize, Wrong> {
+    Ok(check(alloc, Profile::One, start, lines)?.len())
 }
 
-/// How many findings a trace of one line has from a start.
-fn findings(alloc: Global, text: &[u8], line: &[u8]) -> Result<usize, Fail> {
-    findings_of(alloc, text, &lines_of(alloc, &[line])?)
+/// How many findings a line has from a start.
+fn findings_from(alloc: Global, start: &Start, line: &[u8]) -> Result<usize, Wrong> {
+    let lines = [parse_line(alloc, line)?];
+    findings_of(alloc, start, &lines)
+}
+
+/// How many findings a trace of one line has from a start text.
+fn findings(alloc: Global, text: &[u8], line: &[u8]) -> Result<usize, Wrong> {
+    match &parse_start(alloc, text) {
+        Ok(start) => findings_from(alloc, start, line),
+        Err(fault) => Err(Wrong::Start(*fault)),
+    }
+}
+
+/// Fails a test where they are not so many.
+fn finds(alloc: Global, text: &[u8], line: &'static [u8], count: usize) -> Result<(), Wrong> {
+    wanted(findings(alloc, text, line)? == count, line)
 }
 
 /// Starts, the one line of a trace, and how many findings it has.
@@ -210,9 +264,9 @@ static CHECKED: [(&[u8], &[u8], usize); 3] = [
 ];
 
 #[test]
-fn a_trace_is_checked_from_a_start(rt: HostRuntime) -> Result<(), Fail> {
+fn a_trace_is_checked_from_a_start(rt: HostRuntime) -> Result<(), Wrong> {
     for (text, line, count) in &CHECKED {
-        assert_eq!(rt; findings(rt.alloc(), text, line)?, *count, "{text:?}");
+        finds(rt.alloc(), text, line, *count)?;
     }
     Ok(())
 }
