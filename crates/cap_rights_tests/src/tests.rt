@@ -1,7 +1,7 @@
 //! Worked rows: texts of rights with what is written for them again, and sets of rights. A small function says whether a
 //! row holds. It doesn't where memory has run out, except where an allocation is refused on purpose.
 
-use crate::{BadRight, NoMemory, RightBits, RightSet, parse_rights, write_rights};
+use cap_rights::{BadRight, NoMemory, RightBits, RightSet, parse_rights, write_rights};
 use std::alloc::{AllocError, AllocFailed, Global};
 
 /// All 63 rights by name, which is not FULL.
