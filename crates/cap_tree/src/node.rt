@@ -5,7 +5,7 @@
 //! apart. An edit makes anew the leaf that holds its place and the nodes above it, and shares all others.
 ghost use Rattle.std.specs.Prelude.{◌≡◌, ℕ, ◌+◌, ◌-◌, ◌*◌, ◌/◌, ◌^◌, ◌<◌, ◌≤◌, min, max, List, [], ◌∷◌, ◌++◌, length};
 ghost use Rattle.std.specs.Prelude.{vec_len, insert, remove, slice_get, slice_range, slice_set, Some, IfOk, OnOk};
-ghost use Rattle.std.specs.Prelude.{true, false, MatchOption, IfSome};
+ghost use Rattle.std.specs.Prelude.{MatchOption, IfSome};
 ghost use Rattle.cap_tree.specs.Heights.{DifferByAtMost, SettlesAt, HaveLostOne, IsLeastHeight};
 ghost use Rattle.cap_tree.specs.Run.{values};
 
@@ -566,37 +566,18 @@ impl<S: Segment> Node<S> {
         let Shape::Leaf(run) = &node.shape else {
             unreachable!()
         };
-        if at == 0 || at == run.len() {
-            return Node::beside(this, alloc, meter, at == 0, item);
+        if at == 0 {
+            let old = this.clone()?;
+            let new = Node::single(alloc, meter, item)?;
+            return Node::pair(alloc, meter, new, old);
+        }
+        if at == run.len() {
+            let old = this.clone()?;
+            let new = Node::single(alloc, meter, item)?;
+            return Node::pair(alloc, meter, old, new);
         }
         let run = run::inserted(alloc, run, at, item)?;
         Node::leaves(alloc, meter, run)
-    }
-
-    /// The leaf with the item before its first or behind its last, or a branch over both.
-    fn beside(
-        this: &Rc<Node<S>>,
-        alloc: Global,
-        meter: &mut Meter,
-        is_first: bool,
-        item: Rc<S::Item>,
-    ) -> Result<Rc<Node<S>>, NoMemory>
-        requires leaf { this.now.value.1 ≡ 0 }
-        requires few { length this.now.value.0 < 2 ^ 30 }
-        requires room { meter.old + 1 < 2 ^ 64 }
-        ensures first { is_first ≡ true → IfOk result (λ n. n.value.0 ≡ item.value ∷ this.now.value.0) }
-        ensures last { is_first ≡ false → IfOk result (λ n. n.value.0 ≡ this.now.value.0 ++ item.value ∷ []) }
-        ensures height { IfOk result (λ n. n.value.1 ≤ 1) }
-        ensures not_less { meter.old ≤ meter.new }
-        ensures joins { meter.new ≤ meter.old + 1 }
-    {
-        let old = this.clone()?;
-        let new = Node::single(alloc, meter, item)?;
-        if is_first {
-            Node::pair(alloc, meter, new, old)
-        } else {
-            Node::pair(alloc, meter, old, new)
-        }
     }
 
     /// The leaf that holds a run, or a branch over its halves where the run has an item too many.

@@ -1,4 +1,4 @@
-use Rattle.std.proofs.Common.{◌≡◌, ◌+◌, ◌<◌, List, [], ◌∷◌, ◌++◌, arith, sym, ap, ◌∙◌, length, take, map}
+use Rattle.std.proofs.Common.{◌≡◌, ◌+◌, ◌<◌, List, [], ◌∷◌, ◌++◌, arith, rules, sym, ap, ◌∙◌, length, take, map}
 use Rattle.std.proofs.lemmas.List.{take_more, length-take, length-map}
 use Rattle.cap_trace.specs.Entry.{Entry}
 use Rattle.cap_machine.specs.declared.step.Step.{Step}
@@ -37,3 +37,7 @@ loop-i-preserved c =
           ∙ ap (λ n. check s t ++ map (found_at (n + 1)) (said l (ended s t))) (sym many)
           ∙ sym (checks_more s t l) ∙ ap (check s) (sym more);
     }
+
+-- The search is written out since a wrong body is refused sooner so (docs/GATE.md).
+pub loop-i-init : goal.loop-i-init
+loop-i-init c = search rules
