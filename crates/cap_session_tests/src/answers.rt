@@ -3,52 +3,21 @@
 ghost use Rattle.std.specs.Prelude.{◌≡◌};
 
 use crate::devices::{Kept, Pieces};
-use bstr::ByteSlice;
-use cap_machine::{NoMemory, Profile};
+use cap_machine::Profile;
 use cap_session::{
-    Outcome, Refused, StartFault, check_stream, check_stream_as, check_stream_from,
-    check_stream_from_as, edit_stream, edit_stream_as,
+    ExplainOutcome, check_stream, check_stream_as, check_stream_from, check_stream_from_as,
+    edit_stream, edit_stream_as, explain_stream, explain_stream_as, explain_stream_from,
+    explain_stream_from_as,
 };
-use cap_trace::LineFault;
 use std::alloc::Global;
+use std::test::Fail;
 
-/// Why a test fails.
-#[derive(Clone, Copy, Debug)]
-pub enum Wrong {
-    /// Something else was wanted where this text stands in a row, or is what was to be written.
-    At(&'static [u8]),
-    /// A run over devices ended so after so many reads of the trace and of its other text, and this was to be written.
-    Run(Outcome, u64, u64, &'static [u8]),
-    /// This was refused, or memory ran out.
-    Refused(Refused),
-    /// A start was refused.
-    Start(StartFault),
+/// Fails a test with these words where it isn't so.
+pub fn wanted(is_so: bool, words: &str) -> Result<(), Fail> {
+    if is_so { Ok(()) } else { Err(Fail::new(words)) }
 }
 
-impl From<Refused> for Wrong {
-    fn from(refused: Refused) -> Wrong {
-        Wrong::Refused(refused)
-    }
-}
-
-impl From<NoMemory> for Wrong {
-    fn from(_: NoMemory) -> Wrong {
-        Wrong::Refused(Refused::Memory)
-    }
-}
-
-impl From<LineFault> for Wrong {
-    fn from(fault: LineFault) -> Wrong {
-        Wrong::Refused(Refused::from(fault))
-    }
-}
-
-/// Fails a test at this text where it isn't so.
-pub fn wanted(is_so: bool, text: &'static [u8]) -> Result<(), Wrong> {
-    if is_so { Ok(()) } else { Err(Wrong::At(text)) }
-}
-
-/// A call over devices.
+/// A call over devices. Those that explain a line have its position.
 #[derive(Clone, Copy)]
 pub enum Call {
     Check,
@@ -57,6 +26,10 @@ pub enum Call {
     CheckFromAs(Profile),
     Edit,
     EditAs(Profile),
+    Explain(usize),
+    ExplainAs(Profile, usize),
+    ExplainFrom(usize),
+    ExplainFromAs(Profile, usize),
 }
 
 /// The bytes of a reader, how many come with a read, and the read that fails, counted from 1: 0 where none does.
@@ -73,8 +46,8 @@ pub struct Run<'a> {
     pub other: Text<'a>,
     /// How many bytes the writer takes at once, and in all.
     pub room: (usize, usize),
-    pub outcome: Outcome,
-    pub written: &'static [u8],
+    pub outcome: ExplainOutcome,
+    pub written: &'static str,
     /// How many reads are made of the trace, where that is tested.
     pub reads: Option<u64>,
     /// How many are made of the start or the script, where that is tested.
@@ -82,40 +55,31 @@ pub struct Run<'a> {
 }
 
 impl<'a> Run<'a> {
-    /// A call that no device cuts short.
-    pub fn new(
-        call: Call,
-        trace: &'a [u8],
-        other: &'a [u8],
-        outcome: Outcome,
-        written: &'static [u8],
-    ) -> Run<'a> {
+    /// The same with so many bytes at once, and no device that fails.
+    pub fn by(&self, size: usize) -> Run<'a> {
         Run {
-            call,
-            turns: 4096,
-            trace: (trace, 64, 0),
-            other: (other, 64, 0),
-            room: (64, 256),
-            outcome,
-            written,
-            reads: None,
-            other_reads: None,
+            trace: (self.trace.0, size, 0),
+            other: (self.other.0, size, 0),
+            room: (size, 256),
+            ..*self
         }
     }
 
-    /// The same with so many bytes at once.
-    fn by(&self, size: usize) -> Run<'a> {
-        let mut run = *self;
-        run.trace.1 = size;
-        run.other.1 = size;
-        run.room.0 = size;
-        run
-    }
-
-    /// Whether so many reads are to be made of the trace, and of the start or the script.
-    fn has_read(&self, reads: u64, other_reads: u64) -> bool {
-        self.reads.unwrap_or(reads) == reads
-            && self.other_reads.unwrap_or(other_reads) == other_reads
+    /// Fails a test where a call ended otherwise, or read otherwise.
+    fn judge(
+        &self,
+        ended: ExplainOutcome,
+        text: &[u8],
+        reads: u64,
+        other_reads: u64,
+    ) -> Result<(), Fail> {
+        wanted(
+            ended == self.outcome
+                && text == self.written.as_bytes()
+                && self.reads.unwrap_or(reads) == reads
+                && self.other_reads.unwrap_or(other_reads) == other_reads,
+            self.written,
+        )
     }
 }
 
@@ -126,13 +90,13 @@ fn made(
     trace: &mut Pieces<'_>,
     other: &mut Pieces<'_>,
     writer: &mut Kept,
-) -> Outcome
+) -> ExplainOutcome
     requires unread { trace.old.calls ≡ 0 }
     requires other_unread { other.old.calls ≡ 0 }
     requires unwritten { writer.old.faults ≡ 0 }
 {
     let turns = run.turns.min(4096);
-    match run.call {
+    let outcome = match run.call {
         Call::Check => check_stream(alloc, turns, trace, writer),
         Call::CheckAs(profile) => check_stream_as(alloc, profile, turns, trace, writer),
         Call::CheckFrom => check_stream_from(alloc, turns, other, trace, writer),
@@ -141,40 +105,59 @@ fn made(
         }
         Call::Edit => edit_stream(alloc, turns, trace, other, writer),
         Call::EditAs(profile) => edit_stream_as(alloc, profile, turns, trace, other, writer),
-    }
-}
-
-/// Fails a test where a call ended otherwise than its run is to, and where memory ran out.
-fn judged(
-    run: &Run<'_>,
-    ended: Outcome,
-    writer: &Kept,
-    reads: u64,
-    other_reads: u64,
-) -> Result<(), Wrong> {
-    if ended == Outcome::Memory || writer.text().find(b"refused E9").is_some() {
-        return Err(Wrong::Refused(Refused::Memory));
-    }
-    let is_ended = ended == run.outcome && writer.text() == run.written;
-    if is_ended && run.has_read(reads, other_reads) {
-        return Ok(());
-    }
-    Err(Wrong::Run(ended, reads, other_reads, run.written))
+        Call::Explain(at) => return explain_stream(alloc, turns, at, trace, writer),
+        Call::ExplainAs(profile, at) => {
+            return explain_stream_as(alloc, profile, turns, at, trace, writer);
+        }
+        Call::ExplainFrom(at) => {
+            return explain_stream_from(alloc, turns, at, other, trace, writer);
+        }
+        Call::ExplainFromAs(profile, at) => {
+            return explain_stream_from_as(alloc, profile, turns, at, other, trace, writer);
+        }
+    };
+    ExplainOutcome::Ended(outcome)
 }
 
 /// Fails a test where a run doesn't end as it is to.
-pub fn ends(alloc: Global, run: &Run<'_>) -> Result<(), Wrong> {
+pub fn ends(alloc: Global, run: &Run<'_>) -> Result<(), Fail> {
     let mut trace = Pieces::new(run.trace.0, run.trace.1.max(1), run.trace.2);
     let mut other = Pieces::new(run.other.0, run.other.1.max(1), run.other.2);
     let mut writer = Kept::new(run.room.0, run.room.1);
     let ended = made(alloc, run, &mut trace, &mut other, &mut writer);
-    judged(run, ended, &writer, trace.calls, other.calls)
+    run.judge(ended, writer.text(), trace.calls, other.calls)
 }
 
-/// The same with as many bytes at once as each of these sizes.
-pub fn ends_in_pieces(alloc: Global, run: &Run<'_>, sizes: &[usize]) -> Result<(), Wrong> {
-    for size in sizes {
+/// How many bytes come with a read, and are taken by a write.
+static SIZES: [usize; 11] = [1, 2, 3, 7, 9, 17, 64, 100, 500, 1_024, 65_536];
+
+/// A call, the trace, and the start or the script where it has one; how it ends, and what it writes.
+pub type Worked<'a> = (Call, &'a [u8], &'a [u8], ExplainOutcome, &'static str);
+
+/// Fails a test where a text isn't answered so in pieces of each size.
+pub fn is_answered(alloc: Global, worked: &Worked<'_>) -> Result<(), Fail> {
+    let (call, trace, other, outcome, written) = worked;
+    let run = Run {
+        call: *call,
+        turns: 4096,
+        trace: (trace, 1, 0),
+        other: (other, 1, 0),
+        room: (1, 256),
+        outcome: *outcome,
+        written,
+        reads: None,
+        other_reads: None,
+    };
+    for size in &SIZES {
         ends(alloc, &run.by(*size))?;
+    }
+    Ok(())
+}
+
+/// Fails a test where one of these isn't.
+pub fn are_answered(alloc: Global, texts: &[Worked<'_>]) -> Result<(), Fail> {
+    for worked in texts {
+        is_answered(alloc, worked)?;
     }
     Ok(())
 }

@@ -2,8 +2,7 @@
 
 ghost use Rattle.std.specs.Prelude.{◌≡◌, ◌+◌, ◌-◌, ◌^◌, ◌<◌, ◌≤◌, None, Some};
 
-use cap_machine::NoMemory;
-use cap_session::{Failed, Outcome, Sink, Source};
+use cap_session::{Failed, Sink, Source};
 
 /// The bytes of a slice, at most `size` a call. One call, counted from 1, fails.
 #[derive(Drop)]
@@ -111,12 +110,4 @@ impl Sink for Kept {
     fn room(&self) -> u64 {
         u64::MAX - self.faults
     }
-}
-
-/// An outcome for which memory was there.
-pub fn ample(outcome: Outcome) -> Result<Outcome, NoMemory> {
-    if outcome == Outcome::Memory {
-        return Err(NoMemory);
-    }
-    Ok(outcome)
 }

@@ -8,8 +8,6 @@ mod answers;
 mod checks;
 pub mod devices;
 #[cfg(test)]
-mod edits;
-#[cfg(test)]
 mod explanations;
 #[cfg(test)]
 mod faults;
@@ -20,8 +18,8 @@ mod joins;
 #[cfg(test)]
 mod scripts;
 #[cfg(test)]
-mod starts;
+mod sessions;
 #[cfg(test)]
-mod sweeps;
+mod starts;
 #[cfg(test)]
 mod texts;
