@@ -1,6 +1,7 @@
 -- What a change does that one line makes.
 use Rattle.std.proofs.Common.{◌≡◌, ℕ, Bool, true, false, cond, eqb, Some, None, ◌||◌, ◌&&◌, refl, sym, ap, ◌∙◌}
-use Rattle.std.proofs.Common.{Result, Ok, Err, IfOk, inl, inr}
+use Rattle.std.proofs.Common.{Bor, List, Result, Ok, Err, IfOk, inl, inr}
+use Rattle.cap_trace.specs.Seen.{fds_spelled}
 use Rattle.std.specs.Prelude.{not, nat_le}
 use mathlib.Core.Bool.{false≢true}
 use Rattle.std.proofs.lemmas.Bool.{eq-eqb}
@@ -14,7 +15,7 @@ use Rattle.cap_machine.specs.declared.cell.Op.{Op}
 use Rattle.cap_machine.specs.declared.rule.Effect.TheVariants as effects
 use Rattle.cap_machine.specs.State.{State}
 use Rattle.cap_machine.specs.Op.{same}
-use Rattle.cap_machine.specs.Touch.{Touch, given, taken, kept, Turn, stays, turns, follows}
+use Rattle.cap_machine.specs.Touch.{Touch, given, taken, kept, Turn, stays, turns, follows, started}
 use Rattle.cap_machine.specs.History.{touched, turned}
 use Rattle.cap_summary.specs.declared.values.Value.TheVariants as value
 use Rattle.cap_summary.specs.declared.values.ModeValue.{ModeValue}
@@ -135,6 +136,42 @@ pub does_give_ok : {E : Type 0} (r : Result Change E) (me to : ℕ) (cell : Cell
 does_give_ok (Ok change) me to cell process mode cells untouched each =
     does_give change me to cell process (record { each = each; mode = mode }) cells untouched
 does_give_ok (Err e) me to cell process mode cells untouched each = tt
+
+-- a process holds some descriptors and no others
+does_start : (change : Change) (me : ℕ) (spelled : Bor (List ℕ)) (process : Process)
+    → ((f : ℕ) → value_in process f ≡ value.Fixed (started (fds_spelled spelled.now) f))
+    → process.mode ≡ mode_value.Fixed modes.Outside
+    → ((p f : ℕ) → untouched_at process.base process.cells p f ≡ false)
+    → ((p : ℕ) → process_at change.processes p ≡ cond (eqb p me) (Some process) None)
+    → Does change (effects.Start spelled) me
+does_start change me spelled process cells mode touched each = record {
+  cells = λ s p f. elim (eqb_tells p me) [
+    | inl h ↦ rw (each p, h.0, cells f) refl
+    | inr h ↦ rw (each p, h.0) (applied_same (s.cell p f))
+  ];
+  modes = λ s p. elim (eqb_tells p me) [
+    | inl h ↦ rw (each p, h.0) (ap (read_mode s) mode)
+    | inr h ↦ rw (each p, h.0) refl
+  ];
+  untouched = λ p f e. elim (eqb_tells p me) [
+    | inl h ↦ absurd (false≢true (sym (touched p f) ∙ rw (each p, h.0) at e))
+    | inr h ↦ rw h.0 refl
+  ];
+  unturned = λ p e. elim (eqb_tells p me) [
+    | inl h ↦ absurd (false≢true (rw (each p, h.0, mode) at e))
+    | inr h ↦ rw h.0 refl
+  ];
+}
+
+pub does_start_ok : {E : Type 0} (r : Result Change E) (me : ℕ) (spelled : Bor (List ℕ)) (process : Process)
+    → ((f : ℕ) → value_in process f ≡ value.Fixed (started (fds_spelled spelled.now) f))
+    → process.mode ≡ mode_value.Fixed modes.Outside
+    → ((p f : ℕ) → untouched_at process.base process.cells p f ≡ false)
+    → IfOk r (λ change. (p : ℕ) → process_at change.processes p ≡ cond (eqb p me) (Some process) None)
+    → IfOk r (λ change. Does change (effects.Start spelled) me)
+does_start_ok (Ok change) me spelled process cells mode touched each =
+    does_start change me spelled process cells mode touched each
+does_start_ok (Err e) me spelled process cells mode touched each = tt
 
 -- a child is as its parent
 does_fork : (change : Change) (me child : ℕ) (process : Process)

@@ -259,11 +259,12 @@ impl Change {
         ensures { IfOk result (λ new. JoinsProcess self.now (process_of process.now) new) }
     {
         let (base, first) = self.base_under(alloc, &process.base)?;
-        let cells = first.under(alloc, process.cells, self, made)?;
+        let cells = first.under(alloc, process.cells, self, made);
+        drop(first);
         Ok(Process {
             base,
             mode: self.mode_under(&process.mode),
-            cells,
+            cells: cells?,
         })
     }
 
@@ -278,7 +279,9 @@ impl Change {
         ensures { OnOk result (All (IsLowered self.now) made.new.items) }
     {
         let (_, below) = self.base_under(alloc, &process.base)?;
-        process.cells.note_lowered(alloc, &below, self, made)
+        let noted = process.cells.note_lowered(alloc, &below, self, made);
+        drop(below);
+        noted
     }
 
     /// The same change, shared.

@@ -160,6 +160,30 @@ impl Change {
         Ok(change)
     }
 
+    /// A process has the descriptors that are spelled so, and no others.
+    fn start(alloc: Global, me: Pid, spelled: &[u8]) -> Result<Change, NoMemory>
+        ensures does { IfOk result (λ change. Does change (Effect.Start spelled.entry) me) }
+        ensures names { IfOk result (λ change. (names : Names) → EffectWithin names me (Effect.Start spelled.entry)
+            → ChangeWithin names change) }
+    {
+        let Ok(fds) = fds_of(alloc, spelled) else {
+            return Err(NoMemory);
+        };
+        let held = Value::Fixed(Cell::Held(RightSet::all(), OnExec::Unsure));
+        let process = started(alloc, &fds, &held)?;
+        Change::only(alloc, me, process)
+    }
+
+    /// One descriptor has this cell.
+    fn given(alloc: Global, me: Pid, fd: Fd, cell: Cell) -> Result<Change, NoMemory>
+        ensures does { IfOk result (λ change. Does change (Effect.Give fd cell) me) }
+        ensures names { IfOk result (λ change. (names : Names) → EffectWithin names me (Effect.Give fd cell)
+            → ChangeWithin names change) }
+    {
+        let process = Process::with(alloc, me, fd, &Value::Fixed(cell))?;
+        Change::only(alloc, me, process)
+    }
+
     /// Two descriptors have this cell.
     fn given_two(
         alloc: Global,
@@ -202,13 +226,7 @@ impl Change {
                 let inside = ModeValue::Fixed(Mode::Inside);
                 Change::whole(alloc, me, Base::own(me), inside)
             }
-            Effect::Start(spelled) => {
-                let held = Value::Fixed(Cell::Held(RightSet::all(), OnExec::Unsure));
-                let Ok(fds) = fds_of(alloc, spelled) else {
-                    return Err(NoMemory);
-                };
-                Change::only(alloc, me, started(alloc, &fds, &held)?)
-            }
+            Effect::Start(spelled) => Change::start(alloc, me, spelled),
             Effect::Exit => {
                 Change::whole(alloc, me, Base::unknown(), ModeValue::Fixed(Mode::Unsure))
             }
@@ -220,10 +238,7 @@ impl Change {
             Effect::CloseFrom(fd) => {
                 Change::whole(alloc, me, Base::closed_from(me, *fd), ModeValue::Own(me))
             }
-            Effect::Give(fd, cell) => {
-                let process = Process::with(alloc, me, *fd, &Value::Fixed(*cell))?;
-                Change::only(alloc, me, process)
-            }
+            Effect::Give(fd, cell) => Change::given(alloc, me, *fd, *cell),
             Effect::GiveTwo(a, b, cell) => Change::given_two(alloc, me, *a, *b, *cell),
             Effect::Change(to, op, from) => Change::taken(alloc, me, *to, op, *from),
             Effect::Fork(child) => Change::only(alloc, *child, Process::child_of(me)),

@@ -147,7 +147,10 @@ impl Known {
         let (front, back) = steps.split_at(steps.len() / 2);
         let a = Known::of_steps(alloc, meter, front)?;
         let b = Known::of_steps(alloc, meter, back)?;
-        Known::joined(alloc, meter, &a, &b)
+        let whole = Known::joined(alloc, meter, &a, &b);
+        drop(b);
+        drop(a);
+        whole
     }
 
     /// A segment and then another, which is counted.
@@ -227,9 +230,12 @@ impl Known {
         }
         let (met, moved) = a.change.behind(alloc, &b.conditions)?;
         if met {
+            drop(moved);
             return Ok(Known::certain(change));
         }
-        Known::with_moved(alloc, change, a, b, &moved)
+        let whole = Known::with_moved(alloc, change, a, b, &moved);
+        drop(moved);
+        whole
     }
 
     /// The same where nothing is found in any case in either of the two, and these are the second's conditions behind the
@@ -363,11 +369,11 @@ impl Known {
             → IfSome new.moved (λ kept. IsMoved first second kept.value)) }
         ensures sized { IfOk result (λ new. IsSized new) }
     {
-        let conditions = self.conditions.share()?;
         let moved = match &self.moved {
             Some(kept) => Some(kept.clone()?),
             None => None,
         };
+        let conditions = self.conditions.share()?;
         let (size, forks) = size_of(&change, &conditions);
         Ok(Known {
             change,
@@ -550,8 +556,11 @@ impl Known {
         }
         let differing = other.differing(alloc, first, likeness)?;
         if !are_none(&differing) {
-            return Known::join_behind(alloc, whole, first, second, other, &differing);
+            let new = Known::join_behind(alloc, whole, first, second, other, &differing);
+            drop(differing);
+            return new;
         }
+        drop(differing);
         if one_of(other.always, second.always) {
             let new = Known::made_certain(whole, alloc)?;
             return Ok(Some(new));
@@ -589,6 +598,7 @@ impl Known {
         if !are_none(&differing) {
             return Known::join_before(alloc, whole, first, second, other, differing);
         }
+        drop(differing);
         if one_of(first.always, other.always) {
             let new = Known::made_certain(whole, alloc)?;
             return Ok(Some(new));

@@ -387,6 +387,7 @@ pub(crate) fn note_lowered(
     ensures { OnOk result (All (IsLowered change.now) made.new.items) }
 {
     if made.len() >= MOST || is_made(made, below.entries(), lower.entries()) {
+        drop(below);
         return Ok(());
     }
     let lower = same_table(lower)?;

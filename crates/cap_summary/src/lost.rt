@@ -194,9 +194,12 @@ fn with_behind(
 {
     let (met, moved) = change.behind(alloc, new)?;
     if met {
+        drop(moved);
         return Ok(None);
     }
-    Ok(Some(merged(alloc, whole, &moved)?))
+    let all = merged(alloc, whole, &moved);
+    drop(moved);
+    Ok(Some(all?))
 }
 
 /// The same of some of the most common form. Where the whole says what they say, it stays.
@@ -216,7 +219,9 @@ fn with_new(
         return Ok(Some(whole.share()?));
     }
     let new = Conditions::of(Lows::of(new)?, Others::none());
-    with_behind(alloc, whole, change, &new)
+    let all = with_behind(alloc, whole, change, &new);
+    drop(new);
+    all
 }
 
 /// The conditions of a whole in which those of the second part become others, where what is lost of them says nothing that

@@ -302,13 +302,21 @@ impl Node {
         Ok(Rc::new(alloc, node)?)
     }
 
+    /// A run of one step.
+    fn run_of_one(alloc: Global, step: &Rc<Step>) -> Result<Vec<Rc<Step>>, NoMemory>
+        ensures { IfOk result (λ run. values run.items ≡ step.now.value ∷ []) }
+    {
+        let mut run = Vec::with_capacity(alloc, 1)?;
+        run.push(step.clone()?)?;
+        Ok(run)
+    }
+
     /// One step.
     pub(crate) fn one(alloc: Global, step: &Rc<Step>) -> Result<Rc<Node>, NoMemory>
         ensures { IfOk result (λ n. n.value.steps ≡ step.now.value ∷ []) }
     {
+        let run = Node::run_of_one(alloc, step)?;
         let known = Known::of_step(alloc, step)?;
-        let mut run = Vec::with_capacity(alloc, 1)?;
-        run.push(step.clone()?)?;
         Node::of_known(alloc, known, run)
     }
 

@@ -399,8 +399,9 @@ impl Cells {
             }
             Form::Layered(layers) => {
                 let none = Table::empty();
-                let layers = layers.layers().over(alloc, &none, change, made)?;
-                Cells::layered(alloc, layers)
+                let layers = layers.layers().over(alloc, &none, change, made);
+                drop(none);
+                Cells::layered(alloc, layers?)
             }
         }
     }
@@ -433,18 +434,20 @@ impl Cells {
         match &self.form {
             Form::Flat(table) if others.fit_over(table, change) => {
                 let over = others.flat(alloc)?;
-                let top = top_behind(alloc, &over, change)?;
+                let top = top_behind(alloc, &over, change);
+                drop(over);
                 let handing = Handing {
                     passing: Passing::Same,
                     closed_from: None,
                 };
-                let layers = Layers::below(top, table, handing)?;
+                let layers = Layers::below(top?, table, handing)?;
                 Cells::layered(alloc, layers)
             }
             Form::Layered(layers) if layers.layers().has_room(others.most()) => {
                 let over = others.flat(alloc)?;
-                let layers = layers.layers().under(alloc, &over, change)?;
-                Cells::layered(alloc, layers)
+                let layers = layers.layers().under(alloc, &over, change);
+                drop(over);
+                Cells::layered(alloc, layers?)
             }
             _ => self.far_beneath(alloc, others, change, made),
         }
@@ -466,8 +469,9 @@ impl Cells {
         if let Form::Layered(layers) = &others.form {
             let handing = layers.layers().handing();
             if let Some(below) = self.as_lower(alloc, handing)? {
-                let layers = layers.layers().over(alloc, &below, change, made)?;
-                return Cells::layered(alloc, layers);
+                let layers = layers.layers().over(alloc, &below, change, made);
+                drop(below);
+                return Cells::layered(alloc, layers?);
             }
         }
         self.flat_beneath(alloc, others, change, made)
@@ -486,17 +490,18 @@ impl Cells {
         ensures { IfOk result (λ new. (f : ℕ) → listed_value new f
             ≡ or_else (option_map (under change.now) (listed_value others.now f)) (listed_value self.now f)) }
     {
-        let (below, over) = (self.flat(alloc)?, others.flat(alloc)?);
-        if has_room(below.len(), over.len()) {
-            return Cells::over_shared(alloc, &below, &over, change, made);
-        }
-        let (first, second) = (below.entries(), over.entries());
-        let table = made_of(alloc, first, second, change, made)?;
-        Ok(Cells::of(table))
+        let below = self.flat(alloc)?;
+        let over = others.flat(alloc)?;
+        let new = Cells::over_table(alloc, &below, &over, change, made);
+        drop(over);
+        drop(below);
+        new
     }
 
-    /// The cells of a table that others may share, and over them those of another behind a change.
-    fn over_shared(
+    /// The cells of a table, and over them those of another behind a change. Where few come over many, others may share
+    /// the table.
+    #[tactic(auto, unfolding(crate::specs::Tables::listed_value))]
+    fn over_table(
         alloc: Global,
         below: &Table<Kept>,
         over: &Table<Kept>,
@@ -507,8 +512,13 @@ impl Cells {
         ensures { IfOk result (λ new. (f : ℕ) → listed_value new f
             ≡ or_else (option_map (under change.now) (kept_values (found over.now f))) (kept_values (found below.now f))) }
     {
-        let layers = Layers::over_shared(alloc, below, over, change, made)?;
-        Cells::layered(alloc, layers)
+        if has_room(below.len(), over.len()) {
+            let layers = Layers::over_shared(alloc, below, over, change, made)?;
+            return Cells::layered(alloc, layers);
+        }
+        let (first, second) = (below.entries(), over.entries());
+        let table = made_of(alloc, first, second, change, made)?;
+        Ok(Cells::of(table))
     }
 
     /// A table of which these cells are handed on so.
@@ -554,7 +564,11 @@ impl Cells {
         if layers.layers().has_room(self.most()) || below.are_within(self) {
             return Ok(());
         }
-        note_lowered(alloc, below.flat(alloc)?, &Table::empty(), change, made)
+        let below = below.flat(alloc)?;
+        let none = Table::empty();
+        let noted = note_lowered(alloc, below, &none, change, made);
+        drop(none);
+        noted
     }
 
     /// Adds what becomes of their lower table where these cells stand over others and behind a change, so that several

@@ -1,6 +1,6 @@
 //! Tables that are made of two.
 ghost use Rattle.std.specs.Prelude.{◌≡◌, ℕ, ◌+◌, ◌<◌, ◌≤◌, ◌||◌, true, Option, Some, None, [], length, is_some};
-ghost use Rattle.std.specs.Prelude.{if◌then◌else◌, IfOk, IfNone, IfSome};
+ghost use Rattle.std.specs.Prelude.{if◌then◌else◌, IfOk, OnOk, IfNone, IfSome};
 ghost use Rattle.std.specs.Option.{option_copied};
 ghost use Rattle.cap_summary.specs.Sorted.{found, Rises, RisesFrom};
 
@@ -51,6 +51,36 @@ pub trait Combine {
     ghost neither: { (s : Self) (k : ℕ) → gives s k None None None };
 }
 
+/// Puts at each key what `step` makes of the values that two lists of entries have there. It goes once over both.
+fn put_each<M: Combine>(
+    alloc: Global,
+    step: &M,
+    left: &[(u32, M::Left)],
+    right: &[(u32, M::Right)],
+    merged: &mut Vec<(u32, M::Out)>,
+) -> Result<(), NoMemory>
+    requires left { Rises left.now }
+    requires right { Rises right.now }
+    requires empty { merged.old.items ≡ [] }
+    ensures rising { OnOk result (Rises merged.new.items) }
+    ensures each { OnOk result
+        ((k : ℕ) → M.gives step.now k (found left.now k) (found right.now k) (found merged.new.items k)) }
+    ensures few { OnOk result (length merged.new.items ≤ length left.now + length right.now) }
+{
+    let mut lefts = left;
+    let mut rights = right;
+    while let Some(key) = first_key(lefts, rights) {
+        let (a, after_a) = split_key(lefts, key);
+        let (b, after_b) = split_key(rights, key);
+        if let Some(value) = combined(alloc, step, key, a, b)? {
+            merged.push((key, value))?;
+        }
+        lefts = after_a;
+        rights = after_b;
+    }
+    Ok(())
+}
+
 /// The table that has at each key what `step` makes of the values that two lists of entries have there, whose keys must
 /// strictly rise. It goes once over both,
 /// which stay as they are, and fails only where an allocation is refused.
@@ -67,17 +97,7 @@ pub fn merge<M: Combine>(
     ensures few { IfOk result (λ merged. length merged ≤ length left.now + length right.now) }
 {
     let mut merged = Vec::with_capacity(alloc, left.len().saturating_add(right.len()))?;
-    let mut lefts = left;
-    let mut rights = right;
-    while let Some(key) = first_key(lefts, rights) {
-        let (a, after_a) = split_key(lefts, key);
-        let (b, after_b) = split_key(rights, key);
-        if let Some(value) = combined(alloc, step, key, a, b)? {
-            merged.push((key, value))?;
-        }
-        lefts = after_a;
-        rights = after_b;
-    }
+    put_each(alloc, step, left, right, &mut merged)?;
     Table::from_sorted(merged)
 }
 

@@ -4,9 +4,9 @@ use Rattle.cap_summary.proofs.lost.with_behind.Goals as goal
 
 pub returns-clause-holds : goal.returns-clause-holds
 returns-clause-holds c = λ s.
-    c.in_ok-merged.ensures.holds s
+    c.in_ok-all.ensures.holds s
     ∙ ap (λ b. any_holds s c.args.whole.now || b) (rw c.if-met.false at (c.in_ok-met.ensures.holds s))
 
 pub returns-clause-names : goal.returns-clause-names
 returns-clause-names c = λ names whole read.
-    c.in_ok-merged.ensures.names names whole (c.in_ok-met.ensures.names names read)
+    c.in_ok-all.ensures.names names whole (c.in_ok-met.ensures.names names read)

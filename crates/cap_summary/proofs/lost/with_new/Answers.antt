@@ -21,16 +21,16 @@ returns-then-are_met_by-clause-holds c = λ s.
     ∙ ap (λ (r : List Low). any_low_holds s lows || any_low_holds t r) c.deref.ensures.value)
 
 pub returns-clause-holds : goal.returns-clause-holds
-returns-clause-holds c = IfOk-weaker c.with_behind.result _ _ (λ o ok. IfSome_then o ok (λ all is s.
+returns-clause-holds c = IfOk-weaker c.with_behind-all.result _ _ (λ o ok. IfSome_then o ok (λ all is s.
     let t = changed c.args.change.now s in
     is s
     ∙ ap (λ b. any_holds s c.args.whole.now || b)
     (ap (λ (r : List Condition). any_holds t r) c.of-new.ensures
     ∙ alone_hold t c.in_ok-of.field-0 c.args.new.items c.none.result c.in_ok-of.ensures c.none.ensures)))
-    c.with_behind.ensures.holds
+    c.with_behind-all.ensures.holds
 
 pub returns-clause-names : goal.returns-clause-names
-returns-clause-names c = IfOk-weaker c.with_behind.result _ _ (λ o ok. IfSome_then o ok (λ all is names whole read.
+returns-clause-names c = IfOk-weaker c.with_behind-all.result _ _ (λ o ok. IfSome_then o ok (λ all is names whole read.
     is names whole (subst (ConditionsRead names c.args.change.now) (sym c.of-new.ensures)
     (alone_read names c.args.change.now c.in_ok-of.field-0 c.args.new.items c.none.result c.in_ok-of.ensures
-    c.none.ensures read)))) c.with_behind.ensures.names
+    c.none.ensures read)))) c.with_behind-all.ensures.names

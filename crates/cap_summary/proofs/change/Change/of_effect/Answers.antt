@@ -1,13 +1,12 @@
-use Rattle.std.proofs.Common.{arith, refl, ◌∙◌}
+use Rattle.std.proofs.Common.{refl, ◌∙◌}
 use Rattle.std.proofs.lemmas.Result.{IfOk-weaker}
 use Rattle.cap_machine.specs.declared.rule.Effect.TheVariants as effects
 use Rattle.cap_machine.specs.declared.cell.Mode.TheVariants as modes
 use Rattle.cap_summary.specs.declared.values.ModeValue.TheVariants as mode_value
 use Rattle.cap_summary.specs.Names.{EffectWithin}
 use Rattle.cap_summary.proofs.Doing.{whole_ok, does_enter, does_exit, does_forget, does_close_from}
-use Rattle.cap_summary.proofs.Doing.{does_give_ok, does_fork_ok, does_forked}
+use Rattle.cap_summary.proofs.Doing.{does_fork_ok, does_forked}
 use Rattle.cap_summary.proofs.Naming.{only_within}
-use Rattle.cap_summary.proofs.Untouched.{with_true}
 use Rattle.cap_summary.proofs.change.Change.of_effect.Goals as goal
 
 pub returns-in-Enter-clause-does : goal.returns-in-Enter-clause-does
@@ -49,17 +48,17 @@ pub returns-in-CloseFrom-clause-names : goal.returns-in-CloseFrom-clause-names
 returns-in-CloseFrom-clause-names c = IfOk-weaker c.whole-in-CloseFrom.result _ _ (λ change named names is.
     named names is.own (c.closed_from.ensures.names names ∙ is.own) is.own) c.whole-in-CloseFrom.ensures.names
 
-pub returns-in_ok-process-in-Give-clause-does : goal.returns-in_ok-process-in-Give-clause-does
-returns-in_ok-process-in-Give-clause-does c = rw c.in-Give.is (does_give_ok c.only-in-Give.result c.args.me c.in-Give.fd
-    c.in-Give.cell c.in_ok-process-in-Give.process c.in_ok-process-in-Give.ensures.mode
-    c.in_ok-process-in-Give.ensures.cells c.in_ok-process-in-Give.ensures.untouched c.only-in-Give.ensures)
+pub returns-in-Start-clause-does : goal.returns-in-Start-clause-does
+returns-in-Start-clause-does c = rw c.in-Start.is c.start.ensures.does
 
-pub returns-in_ok-process-in-Give-clause-names : goal.returns-in_ok-process-in-Give-clause-names
-returns-in_ok-process-in-Give-clause-names c = IfOk-weaker c.only-in-Give.result _ _ (λ change each names is.
-    let given : EffectWithin names c.args.me (effects.Give c.in-Give.fd c.in-Give.cell) = rw c.in-Give.is at is in
-    only_within names change c.args.me c.in_ok-process-in-Give.process each given.own
-    (c.in_ok-process-in-Give.ensures.names names given.own
-    (with_true (names.fds c.in-Give.fd) (given.fds 0 0 (omega arith))))) c.only-in-Give.ensures
+pub returns-in-Start-clause-names : goal.returns-in-Start-clause-names
+returns-in-Start-clause-names c = rw c.in-Start.is c.start.ensures.names
+
+pub returns-in-Give-clause-does : goal.returns-in-Give-clause-does
+returns-in-Give-clause-does c = rw c.in-Give.is c.given.ensures.does
+
+pub returns-in-Give-clause-names : goal.returns-in-Give-clause-names
+returns-in-Give-clause-names c = rw c.in-Give.is c.given.ensures.names
 
 pub returns-in-GiveTwo-clause-does : goal.returns-in-GiveTwo-clause-does
 returns-in-GiveTwo-clause-does c = rw c.in-GiveTwo.is c.given_two.ensures.does
@@ -74,15 +73,15 @@ pub returns-in-Change-clause-names : goal.returns-in-Change-clause-names
 returns-in-Change-clause-names c = rw c.in-Change.is c.taken.ensures.names
 
 pub returns-in-Fork-clause-does : goal.returns-in-Fork-clause-does
-returns-in-Fork-clause-does c = rw c.in-Fork.is (does_fork_ok c.only-in-Fork.result c.args.me c.in-Fork.child
+returns-in-Fork-clause-does c = rw c.in-Fork.is (does_fork_ok c.only.result c.args.me c.in-Fork.child
     c.child_of.result c.child_of.ensures.cells c.child_of.ensures.mode c.child_of.ensures.touched
-    c.only-in-Fork.ensures)
+    c.only.ensures)
 
 pub returns-in-Fork-clause-names : goal.returns-in-Fork-clause-names
-returns-in-Fork-clause-names c = IfOk-weaker c.only-in-Fork.result _ _ (λ change each names is.
+returns-in-Fork-clause-names c = IfOk-weaker c.only.result _ _ (λ change each names is.
     let given : EffectWithin names c.args.me (effects.Fork c.in-Fork.child) = rw c.in-Fork.is at is in
     only_within names change c.in-Fork.child c.child_of.result each given.child
-    (c.child_of.ensures.names names given.own)) c.only-in-Fork.ensures
+    (c.child_of.ensures.names names given.own)) c.only.ensures
 
 pub returns-in-ForkAs-clause-does : goal.returns-in-ForkAs-clause-does
 returns-in-ForkAs-clause-does c = rw c.in-ForkAs.is (does_forked c.forked.result c.args.me c.in-ForkAs.child

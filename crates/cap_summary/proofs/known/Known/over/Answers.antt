@@ -22,11 +22,11 @@ returns-then-met-clause-composed c =
     c.certain-then-met.ensures.always c.certain-then-met.ensures.conditions c.certain-then-met.ensures.moved
     c.certain-then-met.ensures.sized
 
-pub with_moved-requires-clause-moved : goal.with_moved-requires-clause-moved
-with_moved-requires-clause-moved c = record {
+pub with_moved-whole-requires-clause-moved : goal.with_moved-whole-requires-clause-moved
+with_moved-whole-requires-clause-moved c = record {
   holds = λ s. ap (λ r. r || any_holds s c.in_ok-met.moved) (sym c.if-met.false) ∙ c.in_ok-met.ensures.holds s;
   names = c.in_ok-met.ensures.names;
 }
 
-pub with_moved-requires-clause-parts : goal.with_moved-requires-clause-parts
-with_moved-requires-clause-parts c = sym c.one_of.ensures ∙ c.if-one_of.false
+pub with_moved-whole-requires-clause-parts : goal.with_moved-whole-requires-clause-parts
+with_moved-whole-requires-clause-parts c = sym c.one_of.ensures ∙ c.if-one_of.false

@@ -1,6 +1,6 @@
 use Rattle.std.proofs.Common.{ℕ, ◌+◌, ◌≤◌, length}
 use Rattle.cap_summary.proofs.SortedMerging.{IsMergedTo}
-use Rattle.cap_summary.proofs.sorted.merging.merge.Given as goal
+use Rattle.cap_summary.proofs.sorted.merging.put_each.Given as goal
 
 abbrev pub invariant-loop-key : goal.invariant-loop-key
 invariant-loop-key g l =
