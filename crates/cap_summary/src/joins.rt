@@ -269,6 +269,7 @@ impl Change {
         ensures { IfOk result (λ new. JoinsTo self.now then.now new) }
     {
         if self.processes.is_empty() || then.processes.is_empty() {
+            drop(anew);
             return self.join(alloc, then);
         }
         let Some(anew) = anew else {

@@ -147,22 +147,10 @@ impl Known {
         let (front, back) = steps.split_at(steps.len() / 2);
         let a = Known::of_steps(alloc, meter, front)?;
         let b = Known::of_steps(alloc, meter, back)?;
-        let whole = Known::joined(alloc, meter, &a, &b);
+        let whole = Known::join(alloc, &a, &b);
         drop(b);
         drop(a);
-        whole
-    }
-
-    /// A segment and then another, which is counted.
-    #[inline]
-    fn joined(alloc: Global, meter: &mut Meter, a: &Known, b: &Known) -> Result<Known, NoMemory>
-        requires { meter.old + 1 < 2 ^ 64 }
-        ensures composed { IfOk result (λ whole. Composes a.now b.now whole) }
-        ensures counted { OnOk result (meter.new ≡ meter.old + 1) }
-        ensures not_less { meter.old ≤ meter.new }
-        ensures at_most { meter.new ≤ meter.old + 1 }
-    {
-        let whole = Known::join(alloc, a, b)?;
+        let whole = whole?;
         meter.tick();
         Ok(whole)
     }
@@ -327,9 +315,12 @@ impl Known {
         ensures sized { IfOk result (λ new. IsSized new.0.value) }
         ensures alike { IfOk result (λ new. AreAlike new.1 this.now.value new.0.value) }
     {
-        if this.always && this.moved.is_none() && this.conditions.is_like(&Conditions::none()) {
+        let none = Conditions::none();
+        if this.always && this.moved.is_none() && this.conditions.is_like(&none) {
+            drop(none);
             return Ok((this.clone()?, Likeness::All));
         }
+        drop(none);
         let known = Known::certain(this.change.share()?);
         Ok((Rc::new(alloc, known)?, Likeness::Change))
     }

@@ -1,4 +1,4 @@
-use Rattle.std.proofs.Common.{◌≡◌, ◌+◌, ◌≤◌, length, arith}
+use Rattle.std.proofs.Common.{◌+◌, ◌≤◌, length, arith}
 use Rattle.cap_summary.specs.Sorted.{found}
 use Rattle.cap_summary.proofs.SortedMerging.{IsMergedTo, Rises-from, bound_le, merged_all, raised, left_out, put_last}
 use Rattle.cap_summary.proofs.SortedMerging.{one_fewer}
