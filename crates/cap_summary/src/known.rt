@@ -147,10 +147,22 @@ impl Known {
         let (front, back) = steps.split_at(steps.len() / 2);
         let a = Known::of_steps(alloc, meter, front)?;
         let b = Known::of_steps(alloc, meter, back)?;
-        let whole = Known::join(alloc, &a, &b);
+        let whole = Known::joined(alloc, meter, &a, &b);
         drop(b);
         drop(a);
-        let whole = whole?;
+        whole
+    }
+
+    /// A segment and then another, which is counted.
+    #[inline]
+    fn joined(alloc: Global, meter: &mut Meter, a: &Known, b: &Known) -> Result<Known, NoMemory>
+        requires { meter.old + 1 < 2 ^ 64 }
+        ensures composed { IfOk result (λ whole. Composes a.now b.now whole) }
+        ensures counted { OnOk result (meter.new ≡ meter.old + 1) }
+        ensures not_less { meter.old ≤ meter.new }
+        ensures at_most { meter.new ≤ meter.old + 1 }
+    {
+        let whole = Known::join(alloc, a, b)?;
         meter.tick();
         Ok(whole)
     }
