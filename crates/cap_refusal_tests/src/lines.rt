@@ -1,6 +1,7 @@
 //! Rights and lines.
 
 use crate::marks::{Mark, lacked, right};
+use cap_machine::{Finding, put_count, put_finding};
 use cap_rights::{NoMemory, RightSet, parse_rights, write_rights};
 use cap_trace::{Line, LineFault, parse_line, write_line};
 use std::alloc::Global;
@@ -31,100 +32,115 @@ static LINES: [&str; 12] = [
 ];
 
 /// What is written behind other text.
-pub trait Put {
-    /// Writes it.
-    fn put(&self, out: &mut Vec<u8>) -> Result<(), NoMemory>;
+#[derive(Drop)]
+enum Part<'a> {
+    Rights(&'a RightSet),
+    Line(&'a Line),
+    /// The line of a finding on a line.
+    Forbidden(&'a Line),
+    /// The last line of a report with so many findings.
+    Count(usize),
 }
 
-impl Put for RightSet {
-    fn put(&self, out: &mut Vec<u8>) -> Result<(), NoMemory> {
-        write_rights(self, out)
+/// Writes it.
+fn put(part: &Part<'_>, out: &mut Vec<u8>) -> Result<(), NoMemory> {
+    match part {
+        Part::Rights(rights) => write_rights(rights, out),
+        Part::Line(line) => write_line(line, out),
+        Part::Forbidden(line) => put_finding(out, 7, &line.seen(), &Finding::Forbidden),
+        Part::Count(count) => put_count(out, *count),
     }
 }
 
-impl Put for Line {
-    fn put(&self, out: &mut Vec<u8>) -> Result<(), NoMemory> {
-        write_line(self, out)
-    }
-}
-
-/// Writes something, in a second call where the first lacks memory. Whether a refused call left what was written before.
-fn put_or_again<P: Put>(
-    alloc: Global,
-    it: &P,
-    out: &mut Vec<u8>,
-    before: &str,
-) -> Result<bool, NoMemory> {
+/// Writes something, in a second call where the first lacks memory: it is this text, behind what was written before. A
+/// refused call left that.
+fn write(alloc: Global, part: &Part<'_>, before: &str, text: &str) -> Result<(), Fail> {
+    let mut out = Vec::from_slice(alloc, before.as_bytes())?;
     Mark::Begin.set(alloc);
-    let first = it.put(out);
-    if !lacked(alloc, first.is_err()) {
-        return Ok(true);
+    let mut written = put(part, &mut out);
+    let mut is_left = true;
+    if lacked(alloc, written.is_err()) {
+        is_left = out.as_slice() == before.as_bytes();
+        written = put(part, &mut out);
     }
-    let is_left = out.as_slice() == before.as_bytes();
-    it.put(out)?;
-    Ok(is_left)
-}
-
-/// Whether it is written as this text, behind what was written before.
-fn is_written<P: Put>(alloc: Global, it: &P, before: &str, text: &str) -> Result<bool, NoMemory> {
-    let mut out = Vec::new(alloc);
-    out.extend_from_slice(before.as_bytes())?;
-    let is_left = put_or_again(alloc, it, &mut out, before)?;
-    Ok(is_left && out.strip_prefix(before.as_bytes()) == Some(text.as_bytes()))
-}
-
-/// Writes something: it is this text, behind what was written before.
-pub fn write<P: Put>(alloc: Global, it: &P, before: &str, text: &str) -> Result<(), Fail> {
-    right(alloc, is_written(alloc, it, before, text)?, text)
+    let is_right = is_left
+        && written.is_ok()
+        && out.strip_prefix(before.as_bytes()) == Some(text.as_bytes());
+    drop(out);
+    right(alloc, is_right, text)
 }
 
 #[test]
 fn write_rights_refused(rt: HostRuntime) -> Result<(), Fail> {
     for text in &RIGHTS {
         let rights = parse_rights(text.as_bytes())?;
-        write(rt.alloc(), &rights, "before ", text)?;
+        write(rt.alloc(), &Part::Rights(&rights), "before ", text)?;
     }
     Ok(())
 }
 
-/// Whether a line has this text.
-pub fn is_text(alloc: Global, line: &Line, text: &str) -> Result<bool, NoMemory> {
+/// Whether a line has this text, and there is memory for it.
+pub fn is_text(alloc: Global, line: &Line, text: &str) -> bool {
     let mut out = Vec::new(alloc);
-    write_line(line, &mut out)?;
-    Ok(out.as_slice() == text.as_bytes())
-}
-
-/// Whether there is a line, and it has this text.
-fn is_line(alloc: Global, line: &Result<Line, LineFault>, text: &str) -> Result<bool, NoMemory> {
-    match line {
-        Ok(line) => is_text(alloc, line, text),
-        Err(_) => Ok(false),
-    }
+    let is_written = write_line(line, &mut out).is_ok();
+    let is_text = is_written && out.as_slice() == text.as_bytes();
+    drop(out);
+    is_text
 }
 
 /// Whether a text is read as its line, in a second call where the first lacks memory.
-fn parses(alloc: Global, text: &str) -> Result<bool, NoMemory> {
+fn parses(alloc: Global, text: &str) -> bool {
     Mark::Begin.set(alloc);
     let first = parse_line(alloc, text.as_bytes());
-    if lacked(alloc, matches!(first, Err(LineFault::Memory))) {
-        return is_line(alloc, &parse_line(alloc, text.as_bytes()), text);
+    let line = if lacked(alloc, matches!(first, Err(LineFault::Memory))) {
+        parse_line(alloc, text.as_bytes())
+    } else {
+        first
+    };
+    match line {
+        Ok(line) => {
+            let is_text = is_text(alloc, &line, text);
+            drop(line);
+            is_text
+        }
+        Err(_) => false,
     }
-    is_line(alloc, &first, text)
 }
 
 #[test]
 fn parse_line_refused(rt: HostRuntime) -> Result<(), Fail> {
     for text in &LINES {
-        right(rt.alloc(), parses(rt.alloc(), text)?, text)?;
+        right(rt.alloc(), parses(rt.alloc(), text), text)?;
     }
     Ok(())
+}
+
+/// Writes the line of a text.
+fn rewrite(alloc: Global, text: &str) -> Result<(), Fail> {
+    let line = parse_line(alloc, text.as_bytes())?;
+    let result = write(alloc, &Part::Line(&line), "", text);
+    drop(line);
+    result
 }
 
 #[test]
 fn write_line_refused(rt: HostRuntime) -> Result<(), Fail> {
     for text in &LINES {
-        let line = parse_line(rt.alloc(), text.as_bytes())?;
-        write(rt.alloc(), &line, "", text)?;
+        rewrite(rt.alloc(), text)?;
     }
     Ok(())
+}
+
+#[test]
+fn put_finding_refused(rt: HostRuntime) -> Result<(), Fail> {
+    let line = parse_line(rt.alloc(), b"100 read(3) RET 1")?;
+    let part = Part::Forbidden(&line);
+    let result = write(rt.alloc(), &part, " ", "7 100 read forbidden\n");
+    drop(line);
+    result
+}
+
+#[test]
+fn put_count_refused(rt: HostRuntime) -> Result<(), Fail> {
+    write(rt.alloc(), &Part::Count(1), " ", "findings 1\n")
 }

@@ -1,5 +1,6 @@
 //! Starts, checks, checkers, machines and explanations.
 
+use crate::calls::{Call, tried};
 use crate::marks::{Mark, lacked, right};
 use cap_machine::{
     Cell, Checker, Explanation, Finding, Found, Machine, Mode, NoMemory, OnExec, Profile, Start,
@@ -60,42 +61,63 @@ fn add_before(alloc: Global, start: &mut Start, before: Before) -> Result<(), Fa
     Ok(())
 }
 
-/// Does this with a start and these lines.
-pub fn with_start<F: FnOnce(Global, &mut Start, &[Line]) -> Result<(), Fail>>(
-    alloc: Global,
-    before: Before,
-    lines: &[Line],
-    act: F,
-) -> Result<(), Fail>
-    requires { F.IsAlwaysCallable act }
-{
+/// What is known before a trace.
+pub fn start_of(alloc: Global, before: Before) -> Result<Start, Fail> {
     let mut start = Start::unknown(alloc);
-    add_before(alloc, &mut start, before)?;
-    act(alloc, &mut start, lines)
+    match add_before(alloc, &mut start, before) {
+        Ok(()) => Ok(start),
+        Err(fail) => {
+            drop(start);
+            Err(fail)
+        }
+    }
 }
 
-/// Does this with a start and the lines of the trace.
-pub fn with_lines<F: FnOnce(Global, &mut Start, &[Line]) -> Result<(), Fail>>(
-    alloc: Global,
-    before: Before,
-    act: F,
-) -> Result<(), Fail>
-    requires { F.IsAlwaysCallable act }
-{
+/// A call on the trace, with what is right.
+#[derive(Drop)]
+pub enum OnTrace {
+    /// A check finds something at these positions.
+    Check(Profile, &'static [usize]),
+    /// A checker reports.
+    Report,
+    /// A machine has two findings.
+    Machine,
+    /// The cell of descriptor 3 of process 100 comes from two lines.
+    Cell,
+    /// The mode of process 101 comes from two lines.
+    Mode,
+    /// The cells of a line come from these lines.
+    Explain(usize, &'static [usize]),
+}
+
+/// Makes each of these calls.
+fn try_each(alloc: Global, start: &Start, lines: &[Line], calls: &[OnTrace]) -> Result<(), Fail> {
+    for call in calls {
+        tried(
+            alloc,
+            &Call::OnTrace(start, lines, call),
+            "a call on a trace",
+        )?;
+    }
+    Ok(())
+}
+
+/// The same with what is known before the trace, and its lines.
+fn try_all(alloc: Global, before: Before, calls: &[OnTrace]) -> Result<(), Fail> {
     let lines = lines_of(alloc, &TRACE)?;
-    with_start(alloc, before, &lines, act)
+    let start = start_of(alloc, before)?;
+    let result = try_each(alloc, &start, &lines, calls);
+    drop(start);
+    drop(lines);
+    result
 }
 
-/// Adds those cells of a process. Whether there was memory.
-fn add(alloc: Global, start: &mut Start, pid: u32, cells: Vec<(Fd, Cell)>) -> bool {
+/// Adds those cells of a process, in a second call where the first lacks memory. Whether a refused call left nothing.
+fn add_or_again(alloc: Global, start: &mut Start, pid: u32) -> Result<bool, Fail> {
+    let cells = cells_of(alloc)?;
     Mark::Begin.set(alloc);
     let first = start.add(pid, Mode::Outside, Cell::Unknown, cells);
-    !lacked(alloc, first.is_err())
-}
-
-/// The same, in a second call where the first lacks memory. Whether a refused call left nothing.
-fn add_or_again(alloc: Global, start: &mut Start, pid: u32) -> Result<bool, Fail> {
-    if add(alloc, start, pid, cells_of(alloc)?) {
+    if !lacked(alloc, first.is_err()) {
         return Ok(true);
     }
     let is_left = start.cell(pid, 0) == Cell::Unknown && start.mode(pid) == Mode::Unsure;
@@ -119,7 +141,7 @@ fn adds(alloc: Global, start: &mut Start, pid: u32) -> Result<bool, Fail> {
 }
 
 /// Adds four processes.
-fn add_four(alloc: Global, start: &mut Start, _lines: &[Line]) -> Result<(), Fail> {
+fn add_four(alloc: Global, start: &mut Start) -> Result<(), Fail> {
     for pid in 100..104 {
         right(alloc, adds(alloc, start, pid)?, "a process is added")?;
     }
@@ -128,7 +150,10 @@ fn add_four(alloc: Global, start: &mut Start, _lines: &[Line]) -> Result<(), Fai
 
 #[test]
 fn start_add_refused(rt: HostRuntime) -> Result<(), Fail> {
-    with_lines(rt.alloc(), Before::Cells(7, Mode::Inside), add_four)
+    let mut start = start_of(rt.alloc(), Before::Cells(7, Mode::Inside))?;
+    let result = add_four(rt.alloc(), &mut start);
+    drop(start);
+    result
 }
 
 /// Whether findings are at these positions.
@@ -142,45 +167,37 @@ pub fn are_at(found: &[Found], places: &[usize]) -> bool {
 }
 
 /// Whether the first of them is that the right to write is missing.
-fn begins_with_write(found: &[Found]) -> Result<bool, Fail> {
-    let missing = Finding::Missing(3, parse_rights(b"CAP_WRITE")?);
+fn begins_with_write(found: &[Found]) -> bool {
     match found {
-        [first, ..] => Ok(first.finding == missing),
-        [] => Ok(false),
+        [first, ..] => match first.finding {
+            Finding::Missing(fd, rights) => fd == 3 && parse_rights(b"CAP_WRITE") == Ok(rights),
+            _ => false,
+        },
+        [] => false,
     }
 }
 
-/// Where there are findings in each profile.
-static IN_EACH: [(Profile, &[usize]); 2] = [(Profile::One, &[5]), (Profile::Two, &[5, 8])];
-
-/// What is found in a profile; where the first call lacks memory, by a second one.
-fn found(
+/// Checks lines in a profile: whether it finds something at these positions, first that the right to write is missing.
+pub fn checks(
     alloc: Global,
-    profile: Profile,
     start: &Start,
     lines: &[Line],
-) -> Result<Vec<Found>, NoMemory> {
-    Mark::Begin.set(alloc);
-    let first = check(alloc, profile, start, lines);
-    if lacked(alloc, first.is_err()) {
-        return check(alloc, profile, start, lines);
-    }
-    first
+    profile: Profile,
+    places: &[usize],
+) -> Result<bool, NoMemory> {
+    let found = check(alloc, profile, start, lines)?;
+    Ok(are_at(&found, places) && begins_with_write(&found))
 }
 
-/// Checks the lines in each profile.
-fn check_all(alloc: Global, start: &mut Start, lines: &[Line]) -> Result<(), Fail> {
-    for (profile, places) in &IN_EACH {
-        let found = found(alloc, *profile, start, lines)?;
-        let is_right = are_at(&found, places) && begins_with_write(&found)?;
-        right(alloc, is_right, "what is found")?;
-    }
-    Ok(())
-}
+/// Checks in each profile.
+static CHECKS: [OnTrace; 2] = [
+    OnTrace::Check(Profile::One, &[5]),
+    OnTrace::Check(Profile::Two, &[5, 8]),
+];
 
 #[test]
 fn check_refused(rt: HostRuntime) -> Result<(), Fail> {
-    with_lines(rt.alloc(), CELLS, check_all)
+    try_all(rt.alloc(), CELLS, &CHECKS)
 }
 
 /// Gives a checker these lines.
@@ -196,34 +213,25 @@ fn feed(checker: &mut Checker, lines: &[Line]) -> Result<(), NoMemory> {
 /// A checker over these lines, and its report.
 fn reported(alloc: Global, start: &Start, lines: &[Line]) -> Result<Vec<u8>, NoMemory> {
     let mut checker = Checker::from_start(alloc, Profile::Two, start)?;
-    feed(&mut checker, lines)?;
-    checker.report()
-}
-
-/// That report; where the first checker lacks memory, by a second one.
-fn report_of(alloc: Global, start: &Start, lines: &[Line]) -> Result<Vec<u8>, NoMemory> {
-    Mark::Begin.set(alloc);
-    let first = reported(alloc, start, lines);
-    if lacked(alloc, first.is_err()) {
-        return reported(alloc, start, lines);
+    match feed(&mut checker, lines) {
+        Ok(()) => checker.report(),
+        Err(lacking) => {
+            drop(checker);
+            Err(lacking)
+        }
     }
-    first
 }
 
-/// Has a checker report on the lines.
-fn report_all(alloc: Global, start: &mut Start, lines: &[Line]) -> Result<(), Fail> {
+/// Has a checker report on lines: whether that is right.
+pub fn reports(alloc: Global, start: &Start, lines: &[Line]) -> Result<bool, NoMemory> {
     let report = b"5 100 write missing 3 CAP_WRITE\n8 101 read closed 3\nfindings 2\n";
-    let text = report_of(alloc, start, lines)?;
-    right(
-        alloc,
-        text.as_slice() == report.as_slice(),
-        "the report of a checker",
-    )
+    let text = reported(alloc, start, lines)?;
+    Ok(text.as_slice() == report.as_slice())
 }
 
 #[test]
 fn checker_refused(rt: HostRuntime) -> Result<(), Fail> {
-    with_lines(rt.alloc(), CELLS, report_all)
+    try_all(rt.alloc(), CELLS, &[OnTrace::Report])
 }
 
 /// How many findings a machine has of these lines.
@@ -235,69 +243,43 @@ fn found_by(machine: &mut Machine, lines: &[Line]) -> Result<usize, NoMemory> {
     Ok(count)
 }
 
-/// What is counted.
-#[derive(Clone, Copy)]
-enum Counted {
-    /// What a machine finds.
-    Findings,
-    /// The lines that the cell of descriptor 3 of process 100 comes from.
-    CellLinks,
-    /// The lines that the mode of process 101 comes from.
-    ModeLinks,
-}
-
-/// The number of them.
-fn number_of(
+/// Whether a machine that begins with a start has two findings.
+pub fn two_found_by_machine(
     alloc: Global,
-    what: Counted,
     start: &Start,
     lines: &[Line],
-) -> Result<usize, NoMemory> {
-    let profile = Profile::One;
-    match what {
-        Counted::Findings => found_by(&mut Machine::from_start(alloc, start)?, lines),
-        Counted::CellLinks => Ok(
-            origin_of_cell(alloc, profile, start, lines, 100, 3)?
-                .links
-                .len(),
-        ),
-        Counted::ModeLinks => Ok(
-            origin_of_mode(alloc, profile, start, lines, 101)?
-                .links
-                .len(),
-        ),
-    }
-}
-
-/// Counts them, in a second call where the first lacks memory: there are two.
-fn count_two(alloc: Global, what: Counted, start: &Start, lines: &[Line]) -> Result<(), Fail> {
-    Mark::Begin.set(alloc);
-    let mut number = number_of(alloc, what, start, lines);
-    if lacked(alloc, number.is_err()) {
-        number = number_of(alloc, what, start, lines);
-    }
-    right(alloc, number? == 2, "there are two")
+) -> Result<bool, NoMemory> {
+    let mut machine = Machine::from_start(alloc, start)?;
+    let count = found_by(&mut machine, lines);
+    drop(machine);
+    Ok(count? == 2)
 }
 
 #[test]
 fn machine_refused(rt: HostRuntime) -> Result<(), Fail> {
-    with_lines(rt.alloc(), CELLS, |alloc, start, lines| {
-        count_two(alloc, Counted::Findings, start, lines)
-    })
+    try_all(rt.alloc(), CELLS, &[OnTrace::Machine])
+}
+
+/// Whether the cell of descriptor 3 of process 100 comes from two lines.
+pub fn traces_cell(alloc: Global, start: &Start, lines: &[Line]) -> Result<bool, NoMemory> {
+    let origin = origin_of_cell(alloc, Profile::One, start, lines, 100, 3)?;
+    Ok(origin.links.len() == 2)
 }
 
 #[test]
 fn origin_of_cell_refused(rt: HostRuntime) -> Result<(), Fail> {
-    with_lines(rt.alloc(), Before::Usual, |alloc, start, lines| {
-        count_two(alloc, Counted::CellLinks, start, lines)
-    })
+    try_all(rt.alloc(), Before::Usual, &[OnTrace::Cell])
+}
+
+/// Whether the mode of process 101 comes from two lines.
+pub fn traces_mode(alloc: Global, start: &Start, lines: &[Line]) -> Result<bool, NoMemory> {
+    let origin = origin_of_mode(alloc, Profile::One, start, lines, 101)?;
+    Ok(origin.links.len() == 2)
 }
 
 #[test]
 fn origin_of_mode_refused(rt: HostRuntime) -> Result<(), Fail> {
-    with_lines(rt.alloc(), Before::Usual, |alloc, start, lines| {
-        count_two(alloc, Counted::ModeLinks, start, lines)
-    })
+    try_all(rt.alloc(), Before::Usual, &[OnTrace::Mode])
 }
 
 /// The positions of the lines that the cells of an explanation come from.
@@ -318,41 +300,31 @@ fn lines_behind(
     lines: &[Line],
     at: usize,
 ) -> Result<Vec<usize>, NoMemory> {
-    match explain(alloc, Profile::Two, start, lines, at)? {
-        Some(found) => positions_of(alloc, &found),
+    let found = explain(alloc, Profile::Two, start, lines, at)?;
+    let positions = match &found {
+        Some(found) => positions_of(alloc, found),
         None => Ok(Vec::new(alloc)),
-    }
+    };
+    drop(found);
+    positions
 }
 
-/// The same; where the first call lacks memory, by a second one.
-fn explained(
+/// Explains a line in profile 2: whether its cells come from these lines.
+pub fn explains(
     alloc: Global,
     start: &Start,
     lines: &[Line],
     at: usize,
-) -> Result<Vec<usize>, NoMemory> {
-    Mark::Begin.set(alloc);
-    let first = lines_behind(alloc, start, lines, at);
-    if lacked(alloc, first.is_err()) {
-        return lines_behind(alloc, start, lines, at);
-    }
-    first
+    behind: &[usize],
+) -> Result<bool, NoMemory> {
+    let positions = lines_behind(alloc, start, lines, at)?;
+    Ok(positions.as_slice() == behind)
 }
 
-/// Lines of the trace, and the positions of the lines that their cells come from.
-static BEHIND: [(usize, &[usize]); 2] = [(5, &[2, 1]), (8, &[7])];
-
-/// Explains those lines.
-fn explain_all(alloc: Global, start: &mut Start, lines: &[Line]) -> Result<(), Fail> {
-    for (at, behind) in &BEHIND {
-        let positions = explained(alloc, start, lines, *at)?;
-        let is_right = positions.as_slice() == *behind;
-        right(alloc, is_right, "what a line rests on")?;
-    }
-    Ok(())
-}
+/// Explanations of two lines.
+static EXPLANATIONS: [OnTrace; 2] = [OnTrace::Explain(5, &[2, 1]), OnTrace::Explain(8, &[7])];
 
 #[test]
 fn explain_refused(rt: HostRuntime) -> Result<(), Fail> {
-    with_lines(rt.alloc(), Before::Usual, explain_all)
+    try_all(rt.alloc(), Before::Usual, &EXPLANATIONS)
 }

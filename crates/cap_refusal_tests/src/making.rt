@@ -1,15 +1,16 @@
-//! Parts of lines and lines that are made, and lines of a report.
+//! Parts of lines and lines that are made.
 
-use crate::lines::{Put, is_text, write};
+use crate::calls::{Call, tried};
+use crate::lines::is_text;
 use crate::marks::{Mark, lacked, right};
-use cap_machine::{Finding, NoMemory, put_count, put_finding};
-use cap_trace::{Answer, Call, Fd, Fds, Item, Line, LineFault, Path, fds_of, parse_line};
+use cap_machine::NoMemory;
+use cap_trace::{Answer, Fds, Item, Line, LineFault, Path, fds_of};
 use std::alloc::Global;
 use std::test::Fail;
 
 /// A part of a line, as it is made.
 #[derive(Clone, Copy)]
-enum Made {
+pub enum Made {
     Path,
     Escaped,
     Unescaped,
@@ -45,109 +46,58 @@ fn bytes_of(alloc: Global, part: Made) -> Result<Vec<u8>, LineFault> {
     }
 }
 
-/// The same; where the first call lacks memory, by a second one.
-fn made_or_again(alloc: Global, part: Made) -> Result<Vec<u8>, LineFault> {
-    Mark::Begin.set(alloc);
-    let first = bytes_of(alloc, part);
-    if lacked(alloc, matches!(first, Err(LineFault::Memory))) {
-        return bytes_of(alloc, part);
+/// Makes a part of a line: whether it has these bytes.
+pub fn makes(alloc: Global, part: Made, wanted: &str) -> Result<bool, NoMemory> {
+    match &bytes_of(alloc, part) {
+        Ok(bytes) => Ok(bytes.as_slice() == wanted.as_bytes()),
+        Err(LineFault::Memory) => Err(NoMemory),
+        Err(_) => Ok(false),
     }
-    first
 }
 
 #[test]
 fn parts_refused(rt: HostRuntime) -> Result<(), Fail> {
     for (part, wanted) in &MADE {
-        let bytes = made_or_again(rt.alloc(), *part)?;
-        right(rt.alloc(), bytes.as_slice() == wanted.as_bytes(), wanted)?;
+        tried(rt.alloc(), &Call::Make(*part, wanted), wanted)?;
     }
     Ok(())
 }
 
-/// The descriptors of a start; where the first call lacks memory, by a second one.
-fn listed(alloc: Global, spelled: &[u8]) -> Result<Vec<Fd>, NoMemory> {
-    Mark::Begin.set(alloc);
-    let first = fds_of(alloc, spelled);
-    if lacked(alloc, first.is_err()) {
-        return fds_of(alloc, spelled);
-    }
-    first
+/// Reads the descriptors of a start: whether they are two.
+pub fn lists_fds(alloc: Global) -> Result<bool, NoMemory> {
+    let fds = fds_of(alloc, b"0,3")?;
+    Ok(fds.as_slice() == [0, 3].as_slice())
 }
 
 #[test]
 fn fds_refused(rt: HostRuntime) -> Result<(), Fail> {
-    let fds = listed(rt.alloc(), b"0,3")?;
-    right(
-        rt.alloc(),
-        fds.as_slice() == [0, 3].as_slice(),
-        "two descriptors",
-    )
+    tried(rt.alloc(), &Call::Fds, "two descriptors")
 }
 
 /// The line of a call that opens a file.
 fn open_line(alloc: Global) -> Result<Option<Line>, NoMemory> {
-    let call = Call::Open(b"a/long/path\\x0a", b"O_RDONLY");
+    let call = cap_trace::Call::Open(b"a/long/path\\x0a", b"O_RDONLY");
     let answer = Answer::Made(3);
     Line::new(alloc, 100, &Item::Call { call, answer })
 }
 
-/// The same; where the first call lacks memory, by a second one.
-fn line_of(alloc: Global) -> Result<Option<Line>, NoMemory> {
-    Mark::Begin.set(alloc);
-    let first = open_line(alloc);
-    if lacked(alloc, first.is_err()) {
-        return open_line(alloc);
-    }
-    first
-}
-
-/// Whether there is such a line.
-fn is_made(alloc: Global) -> Result<bool, NoMemory> {
-    match line_of(alloc)? {
-        Some(line) => is_text(
-            alloc,
-            &line,
-            "100 open(\"a/long/path\\x0a\",O_RDONLY) RET 3",
-        ),
-        None => Ok(false),
-    }
-}
-
 #[test]
 fn line_new_refused(rt: HostRuntime) -> Result<(), Fail> {
-    right(rt.alloc(), is_made(rt.alloc())?, "the line that is made")
-}
-
-/// The line of a finding on a line.
-#[derive(Drop)]
-struct Forbidden<'a> {
-    line: &'a Line,
-}
-
-impl Put for Forbidden<'_> {
-    fn put(&self, out: &mut Vec<u8>) -> Result<(), NoMemory> {
-        put_finding(out, 7, &self.line.seen(), &Finding::Forbidden)
-    }
-}
-
-#[test]
-fn put_finding_refused(rt: HostRuntime) -> Result<(), Fail> {
-    let line = parse_line(rt.alloc(), b"100 read(3) RET 1")?;
-    let it = Forbidden { line: &line };
-    write(rt.alloc(), &it, " ", "7 100 read forbidden\n")
-}
-
-/// The last line of a report with one finding.
-#[derive(Drop)]
-struct Count;
-
-impl Put for Count {
-    fn put(&self, out: &mut Vec<u8>) -> Result<(), NoMemory> {
-        put_count(out, 1)
-    }
-}
-
-#[test]
-fn put_count_refused(rt: HostRuntime) -> Result<(), Fail> {
-    write(rt.alloc(), &Count, " ", "findings 1\n")
+    let text = "100 open(\"a/long/path\\x0a\",O_RDONLY) RET 3";
+    Mark::Begin.set(rt.alloc());
+    let first = open_line(rt.alloc());
+    let made = if lacked(rt.alloc(), first.is_err()) {
+        open_line(rt.alloc())
+    } else {
+        first
+    };
+    let is_right = match made {
+        Ok(Some(line)) => {
+            let is_text = is_text(rt.alloc(), &line, text);
+            drop(line);
+            is_text
+        }
+        _ => false,
+    };
+    right(rt.alloc(), is_right, "the line that is made")
 }

@@ -8,7 +8,6 @@ use std::alloc::Global;
 use std::test::Fail;
 
 /// What a mark says.
-#[derive(Clone, Copy, Drop)]
 pub enum Mark {
     /// The call begins.
     Begin,

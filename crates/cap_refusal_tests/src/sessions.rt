@@ -1,8 +1,9 @@
 //! Edits of a session, and what it shows.
 
+use crate::calls::{Call, is_answered};
 use crate::machine::{TRACE, lines_of};
 use crate::marks::{Mark, lacked, right};
-use cap_machine::{NoMemory, Profile, Start};
+use cap_machine::{NoMemory, Profile};
 use cap_session::{Edit, Edited, Refused, Session};
 use std::alloc::Global;
 use std::test::Fail;
@@ -17,62 +18,70 @@ const UNLIMITED: &str = "8 101 read closed 3\nfindings 1\n";
 const SHORTER: &str = "7 101 read closed 3\nfindings 1\n";
 
 /// A session in profile 2 of the trace.
-fn session_of(alloc: Global) -> Result<Session, Fail> {
+pub fn session_of(alloc: Global) -> Result<Session, Fail> {
     let lines = lines_of(alloc, &TRACE)?;
     let mut session = Session::with_profile(alloc, 100, Profile::Two)?;
-    session.load(lines)?;
-    Ok(session)
+    match session.load(lines) {
+        Ok(_) => Ok(session),
+        Err(refused) => {
+            drop(session);
+            Err(refused)?
+        }
+    }
 }
 
 /// Does this with a session of the trace.
-pub fn with_session<F: FnOnce(Global, &mut Session) -> Result<(), Fail>>(
+fn with_session<F: FnOnce(Global, &mut Session) -> Result<(), Fail>>(
     alloc: Global,
     act: F,
 ) -> Result<(), Fail>
     requires { F.IsAlwaysCallable act }
 {
     let mut session = session_of(alloc)?;
-    act(alloc, &mut session)
+    let result = act(alloc, &mut session);
+    drop(session);
+    result
 }
 
-/// Whether a session has so many lines and this report.
-fn is_at(session: &Session, count: usize, report: &str) -> Result<bool, Refused> {
-    Ok(session.report()?.as_slice() == report.as_bytes() && session.count() == count)
-}
-
-/// A session; where the first call lacks memory, by a second one.
-fn session_new(alloc: Global) -> Result<Session, NoMemory> {
-    Mark::Begin.set(alloc);
-    let first = Session::new(alloc, 100);
-    if lacked(alloc, first.is_err()) {
-        return Session::new(alloc, 100);
+/// Whether a session has so many lines and this report, and memory for it.
+pub fn is_at(session: &Session, count: usize, report: &str) -> bool {
+    match &session.report() {
+        Ok(text) => text.as_slice() == report.as_bytes() && session.count() == count,
+        Err(_) => false,
     }
-    first
 }
 
 #[test]
 fn session_new_refused(rt: HostRuntime) -> Result<(), Fail> {
-    let session = session_new(rt.alloc())?;
-    let is_new = is_at(&session, 0, "findings 0\n")?;
+    Mark::Begin.set(rt.alloc());
+    let first = Session::new(rt.alloc(), 100);
+    let session = if lacked(rt.alloc(), first.is_err()) {
+        Session::new(rt.alloc(), 100)
+    } else {
+        first
+    };
+    let is_new = match session {
+        Ok(session) => {
+            let is_new = is_at(&session, 0, "findings 0\n");
+            drop(session);
+            is_new
+        }
+        Err(_) => false,
+    };
     right(rt.alloc(), is_new, "a new session has no line")
 }
 
-/// Loads a part of the trace, in a second call where the first lacks memory. Whether a refused call left all as it was.
-fn load(alloc: Global, session: &mut Session) -> Result<bool, Fail> {
+/// Loads a part of the trace, in a second call where the first lacks memory. The session was left, and then has these lines.
+fn load_part(alloc: Global, session: &mut Session) -> Result<(), Fail> {
     let lines = lines_of(alloc, &TRACE[..3])?;
     Mark::Begin.set(alloc);
     let first = session.load(lines);
-    if !lacked(alloc, first.is_err()) {
-        return Ok(true);
+    let mut is_left = true;
+    if lacked(alloc, first.is_err()) {
+        is_left = first == Err(Refused::Memory) && is_at(session, 8, REPORT);
+        session.load(lines_of(alloc, &TRACE[..3])?)?;
     }
-    let is_left = first == Err(Refused::Memory) && is_at(session, 8, REPORT)?;
-    session.load(lines_of(alloc, &TRACE[..3])?)?;
-    Ok(is_left)
-}
-
-/// Loads that part: the session was left, and then has its lines.
-fn load_part(alloc: Global, session: &mut Session) -> Result<(), Fail> {
-    let is_right = load(alloc, session)? && is_at(session, 3, "findings 0\n")?;
+    let is_right = is_left && is_at(session, 3, "findings 0\n");
     right(alloc, is_right, "a part is loaded")
 }
 
@@ -124,25 +133,8 @@ fn length_after(count: usize, edit: &Edit<'_>) -> usize {
     }
 }
 
-/// Edits a session, in a second call where the first lacks memory. Whether a refused call left the report and the length.
-fn edit(
-    alloc: Global,
-    session: &mut Session,
-    edit: &Edit<'_>,
-    report: &str,
-) -> Result<bool, Refused> {
-    let count = session.count();
-    Mark::Begin.set(alloc);
-    let first = session.edit(edit);
-    if !lacked(alloc, first.is_err()) {
-        return Ok(true);
-    }
-    let is_left = first == Err(Refused::Memory) && is_at(session, count, report)?;
-    session.edit(edit)?;
-    Ok(is_left)
-}
-
-/// Whether a session was left by a refused edit, and has what is right after the edit.
+/// Edits a session, in a second call where the first lacks memory. Whether a refused call left the report and the length, and
+/// the session then has what is right.
 fn edits(
     alloc: Global,
     session: &mut Session,
@@ -150,8 +142,15 @@ fn edits(
     before: &str,
     after: &str,
 ) -> Result<bool, Refused> {
-    let count = length_after(session.count(), change);
-    Ok(edit(alloc, session, change, before)? && is_at(session, count, after)?)
+    let count = session.count();
+    Mark::Begin.set(alloc);
+    let first = session.edit(change);
+    let mut is_left = true;
+    if lacked(alloc, first.is_err()) {
+        is_left = first == Err(Refused::Memory) && is_at(session, count, before);
+        session.edit(change)?;
+    }
+    Ok(is_left && is_at(session, length_after(count, change), after))
 }
 
 /// Makes each edit.
@@ -194,21 +193,16 @@ fn came_of(answers: Result<Vec<Result<usize, Refused>>, Refused>) -> Came {
     }
 }
 
-/// Makes the two edits, in a second call where the first lacks memory. Whether a refused call left all as it was.
-fn apply(alloc: Global, session: &mut Session) -> Result<bool, Refused> {
+/// Makes the two edits, in a second call where the first lacks memory: the session was left, and then has the second.
+fn apply_two(alloc: Global, session: &mut Session) -> Result<(), Fail> {
     Mark::Begin.set(alloc);
     let came = came_of(session.apply(&TWO));
-    if !lacked(alloc, matches!(came, Came::Lacked)) {
-        return Ok(matches!(came, Came::Edited));
+    let mut is_right = matches!(came, Came::Edited);
+    if lacked(alloc, matches!(came, Came::Lacked)) {
+        is_right = is_at(session, 8, REPORT);
+        drop(session.apply(&TWO)?);
     }
-    let is_left = is_at(session, 8, REPORT)?;
-    session.apply(&TWO)?;
-    Ok(is_left)
-}
-
-/// Makes the two edits: the session was left, and then has the second.
-fn apply_two(alloc: Global, session: &mut Session) -> Result<(), Fail> {
-    let is_right = apply(alloc, session)? && is_at(session, 7, SHORTER)?;
+    is_right = is_right && is_at(session, 7, SHORTER);
     right(alloc, is_right, "two edits are made")
 }
 
@@ -241,23 +235,18 @@ fn fits(came: Came, count: usize) -> bool {
     }
 }
 
-/// Makes the edit, in a second call where the first didn't. Whether each answered what is right.
-fn report_after(alloc: Global, session: &mut Session) -> Result<bool, Refused> {
+/// Makes the edit, in a second call where the first didn't: each call was right, and the session then has it.
+fn report_one(alloc: Global, session: &mut Session) -> Result<(), Fail> {
     Mark::Begin.set(alloc);
     let came = came_of_report(session.report_after(&TWO[1..]));
     let is_lacking = lacked(alloc, !matches!(came, Came::Edited));
-    let is_fit = fits(came, session.count());
-    if !is_lacking || session.count() == 7 {
-        return Ok(is_fit);
+    let mut is_right = fits(came, session.count());
+    if is_lacking && session.count() != 7 {
+        let is_left = is_at(session, 8, REPORT);
+        let again = came_of_report(session.report_after(&TWO[1..]));
+        is_right = is_right && is_left && matches!(again, Came::Edited);
     }
-    let is_left = is_at(session, 8, REPORT)?;
-    let again = came_of_report(session.report_after(&TWO[1..]));
-    Ok(is_fit && is_left && matches!(again, Came::Edited))
-}
-
-/// Makes the edit: each call was right, and the session then has it.
-fn report_one(alloc: Global, session: &mut Session) -> Result<(), Fail> {
-    let is_right = report_after(alloc, session)? && is_at(session, 7, SHORTER)?;
+    is_right = is_right && is_at(session, 7, SHORTER);
     right(alloc, is_right, "an edit is reported on")
 }
 
@@ -267,10 +256,8 @@ fn report_after_refused(rt: HostRuntime) -> Result<(), Fail> {
 }
 
 /// What is asked of a session.
-#[derive(Clone, Copy, Drop)]
-pub enum Ask<'a> {
+pub enum Ask {
     Report,
-    From(&'a Start),
     Range(usize, usize),
     Show(usize),
     /// What a line with findings rests on.
@@ -278,70 +265,74 @@ pub enum Ask<'a> {
 }
 
 /// What a session answers. No line that it explains is clean.
-fn asked(session: &Session, ask: Ask<'_>) -> Result<Vec<u8>, Refused> {
+fn asked(session: &Session, ask: &Ask) -> Result<Vec<u8>, Refused> {
     match ask {
         Ask::Report => session.report(),
-        Ask::From(start) => session.report_from(start),
-        Ask::Range(first, last) => session.report_range(first, last),
-        Ask::Show(position) => session.show(position),
-        Ask::Explain(position) => match session.explain(position)? {
+        Ask::Range(first, last) => session.report_range(*first, *last),
+        Ask::Show(position) => session.show(*position),
+        Ask::Explain(position) => match session.explain(*position)? {
             line if line.is_clean => Err(Refused::Position),
             line => Ok(line.text),
         },
     }
 }
 
-/// The same; where the first call lacks memory, by a second one.
-fn asked_or_again(alloc: Global, session: &Session, ask: Ask<'_>) -> Result<Vec<u8>, Refused> {
-    Mark::Begin.set(alloc);
-    let first = asked(session, ask);
-    if lacked(alloc, matches!(first, Err(Refused::Memory))) {
-        return asked(session, ask);
+/// Asks that: whether this is the answer.
+pub fn tells(session: &Session, ask: &Ask, text: &str) -> Result<bool, NoMemory> {
+    match &asked(session, ask) {
+        Ok(answer) => Ok(answer.as_slice() == text.as_bytes()),
+        Err(Refused::Memory) => Err(NoMemory),
+        Err(_) => Ok(false),
     }
-    first
 }
 
-/// Asks that: this is the answer, and the session is as it was.
-pub fn ask_for(alloc: Global, session: &Session, ask: Ask<'_>, text: &str) -> Result<(), Fail> {
-    let answer = asked_or_again(alloc, session, ask)?;
-    let is_answer = answer.as_slice() == text.as_bytes();
-    right(alloc, is_answer && is_at(session, 8, REPORT)?, text)
-}
-
-/// Shows each line.
-fn show_all(alloc: Global, session: &mut Session) -> Result<(), Fail> {
-    for (position, line) in (1..).zip(&TRACE) {
-        ask_for(alloc, session, Ask::Show(position), line)?;
+/// Asks each of those: this is the answer, and the session is as it was.
+fn tell_each(alloc: Global, session: &Session, asks: &[(Ask, &'static str)]) -> Result<(), Fail> {
+    for (ask, text) in asks {
+        let is_told = is_answered(alloc, &Call::Ask(session, ask, text));
+        right(alloc, is_told && is_at(session, 8, REPORT), text)?;
     }
     Ok(())
 }
 
+/// Asks a session of the trace each of those.
+pub fn ask_each(alloc: Global, asks: &[(Ask, &'static str)]) -> Result<(), Fail> {
+    let session = session_of(alloc)?;
+    let result = tell_each(alloc, &session, asks);
+    drop(session);
+    result
+}
+
+/// Each line of the trace.
+static SHOWN: [(Ask, &str); 8] = [
+    (Ask::Show(1), "100 @start(0,3)"),
+    (Ask::Show(2), "100 cap_rights_limit(3,CAP_READ) RET 0"),
+    (Ask::Show(3), "100 fork() RET 101"),
+    (Ask::Show(4), "101 close(0) RET 0"),
+    (Ask::Show(5), "100 write(3) RET 1"),
+    (Ask::Show(6), "101 execve(\"/bin/x\") RET 0"),
+    (Ask::Show(7), "101 closefrom(1) RET 0"),
+    (Ask::Show(8), "101 read(3) RET 1"),
+];
+
 #[test]
 fn show_refused(rt: HostRuntime) -> Result<(), Fail> {
-    with_session(rt.alloc(), show_all)
+    ask_each(rt.alloc(), &SHOWN)
 }
 
 /// Lines of the trace, and what they rest on.
-static EXPLAINED: [(usize, &str); 2] = [
+static EXPLAINED: [(Ask, &str); 2] = [
     (
-        5,
+        Ask::Explain(5),
         "5 100 write(3) RET 1\nmissing 3 CAP_WRITE\n3 2 100 cap_rights_limit(3,CAP_READ) RET 0\n3 1 100 @start(0,3)\n",
     ),
     (
-        8,
+        Ask::Explain(8),
         "8 101 read(3) RET 1\nclosed 3\n3 7 101 closefrom(1) RET 0\n",
     ),
 ];
 
-/// Explains those lines.
-fn explain_all(alloc: Global, session: &mut Session) -> Result<(), Fail> {
-    for (position, text) in &EXPLAINED {
-        ask_for(alloc, session, Ask::Explain(*position), text)?;
-    }
-    Ok(())
-}
-
 #[test]
 fn explain_refused(rt: HostRuntime) -> Result<(), Fail> {
-    with_session(rt.alloc(), explain_all)
+    ask_each(rt.alloc(), &EXPLAINED)
 }

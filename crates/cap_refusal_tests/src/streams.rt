@@ -1,9 +1,12 @@
 //! Traces, starts and scripts that come piece by piece.
 
+ghost use Rattle.std.specs.Prelude.{◌≡◌};
+
 use crate::marks::{Mark, lacked, right};
 use cap_machine::Profile;
+use cap_session::ExplainOutcome::{self, Ended};
 use cap_session::{
-    ExplainOutcome, Failed, Outcome, Source, check_stream, check_stream_as, check_stream_from,
+    Failed, Outcome, Source, check_stream, check_stream_as, check_stream_from,
     check_stream_from_as, edit_stream, edit_stream_as, explain_stream, explain_stream_as,
     explain_stream_from, explain_stream_from_as,
 };
@@ -30,8 +33,12 @@ static REPLIES: [(Outcome, &[u8]); 3] = [
     (Outcome::Clean, b"ok 4\nrefused E9\n"),
 ];
 
-/// A call of a stream, with a profile or without.
-#[derive(Clone, Copy, Drop)]
+/// What the last line of the trace rests on.
+const EXPLAINED: &[u8] =
+    b"5 101 write(3) RET 1\nmissing 3 CAP_WRITE\n3 3 100 fork() RET 101\n3 2 100 cap_rights_limit(3,CAP_READ) RET 0\n3 1 100 @start(0,3)\n";
+
+/// A call of a stream, with a profile or without. The last four explain the last line.
+#[derive(Clone, Copy)]
 enum Call {
     Check,
     CheckAs,
@@ -39,50 +46,76 @@ enum Call {
     CheckFromAs,
     Edit,
     EditAs,
+    Explain,
+    ExplainAs,
+    ExplainFrom,
+    ExplainFromAs,
 }
 
-/// The other text that a call reads.
-fn other_of(call: Call) -> &'static [u8] {
-    match call {
-        Call::Check | Call::CheckAs => b"",
-        Call::CheckFrom | Call::CheckFromAs => START,
-        Call::Edit | Call::EditAs => SCRIPT,
-    }
+/// Makes a call with a trace, a start, a script and a writer: its outcome.
+fn made(
+    alloc: Global,
+    call: Call,
+    trace: &mut Pieces<'_>,
+    start: &mut Pieces<'_>,
+    script: &mut Pieces<'_>,
+    kept: &mut Kept,
+) -> ExplainOutcome
+    requires unread { trace.old.calls ≡ 0 }
+    requires start_unread { start.old.calls ≡ 0 }
+    requires script_unread { script.old.calls ≡ 0 }
+    requires unwritten { kept.old.faults ≡ 0 }
+{
+    let two = Profile::Two;
+    let outcome = match call {
+        Call::Check => check_stream(alloc, 4096, trace, kept),
+        Call::CheckAs => check_stream_as(alloc, two, 4096, trace, kept),
+        Call::CheckFrom => check_stream_from(alloc, 4096, start, trace, kept),
+        Call::CheckFromAs => check_stream_from_as(alloc, two, 4096, start, trace, kept),
+        Call::Edit => edit_stream(alloc, 4096, trace, script, kept),
+        Call::EditAs => edit_stream_as(alloc, two, 4096, trace, script, kept),
+        Call::Explain => return explain_stream(alloc, 4096, 5, trace, kept),
+        Call::ExplainAs => return explain_stream_as(alloc, two, 4096, 5, trace, kept),
+        Call::ExplainFrom => return explain_stream_from(alloc, 4096, 5, start, trace, kept),
+        Call::ExplainFromAs => {
+            return explain_stream_from_as(alloc, two, 4096, 5, start, trace, kept);
+        }
+    };
+    Ended(outcome)
 }
 
 /// The outcome of a call, and what it wrote.
-fn streamed(alloc: Global, call: Call) -> (Outcome, Kept) {
-    let profile = Profile::Two;
+fn streamed(alloc: Global, call: Call) -> (ExplainOutcome, Kept) {
     let mut trace = Pieces::new(TRACE, 64, 0);
-    let mut other = Pieces::new(other_of(call), 64, 0);
+    let mut start = Pieces::new(START, 64, 0);
+    let mut script = Pieces::new(SCRIPT, 64, 0);
     let mut kept = Kept::new(64, 256);
-    let outcome = match call {
-        Call::Check => check_stream(alloc, 4096, &mut trace, &mut kept),
-        Call::CheckAs => check_stream_as(alloc, profile, 4096, &mut trace, &mut kept),
-        Call::CheckFrom => check_stream_from(alloc, 4096, &mut other, &mut trace, &mut kept),
-        Call::CheckFromAs => {
-            check_stream_from_as(alloc, profile, 4096, &mut other, &mut trace, &mut kept)
-        }
-        Call::Edit => edit_stream(alloc, 4096, &mut trace, &mut other, &mut kept),
-        Call::EditAs => edit_stream_as(alloc, profile, 4096, &mut trace, &mut other, &mut kept),
-    };
+    let outcome = made(alloc, call, &mut trace, &mut start, &mut script, &mut kept);
     (outcome, kept)
 }
 
 /// Whether a call has this outcome and writes this.
 fn gives(alloc: Global, call: Call, outcome: Outcome, text: &[u8]) -> bool {
     let (ended, kept) = streamed(alloc, call);
-    ended == outcome && kept.text() == text
+    ended == Ended(outcome) && kept.text() == text
 }
 
-/// Whether a call finds what is right, in a second call where the first lacks memory and has written nothing.
-fn checks(alloc: Global, call: Call) -> bool {
+/// Whether a call finds what is right and writes this, in a second call where the first lacks memory and has written nothing.
+fn finds(alloc: Global, call: Call, text: &[u8]) -> bool {
     Mark::Begin.set(alloc);
     let (outcome, kept) = streamed(alloc, call);
-    if lacked(alloc, outcome == Outcome::Memory) {
-        return kept.text().is_empty() && gives(alloc, call, Outcome::Findings, REPORT);
+    if lacked(alloc, outcome == Ended(Outcome::Memory)) {
+        return kept.text().is_empty() && gives(alloc, call, Outcome::Findings, text);
     }
-    outcome == Outcome::Findings && kept.text() == REPORT
+    outcome == Ended(Outcome::Findings) && kept.text() == text
+}
+
+/// Fails a test where these calls don't.
+fn all_find(alloc: Global, calls: &[Call], text: &[u8], words: &str) -> Result<(), Fail> {
+    for call in calls {
+        right(alloc, finds(alloc, *call, text), words)?;
+    }
+    Ok(())
 }
 
 static CHECKS: [Call; 4] = [
@@ -94,81 +127,29 @@ static CHECKS: [Call; 4] = [
 
 #[test]
 fn check_streams_refused(rt: HostRuntime) -> Result<(), Fail> {
-    for call in &CHECKS {
-        right(rt.alloc(), checks(rt.alloc(), *call), "a stream is checked")?;
-    }
-    Ok(())
+    all_find(rt.alloc(), &CHECKS, REPORT, "a stream is checked")
 }
 
-/// What the last line of the trace rests on.
-const EXPLAINED: &[u8] =
-    b"5 101 write(3) RET 1\nmissing 3 CAP_WRITE\n3 3 100 fork() RET 101\n3 2 100 cap_rights_limit(3,CAP_READ) RET 0\n3 1 100 @start(0,3)\n";
-
-/// With a profile or without, and from a start or without.
-type Way = (Option<Profile>, bool);
-
-static WAYS: [Way; 4] = [
-    (None, false),
-    (Some(Profile::Two), false),
-    (None, true),
-    (Some(Profile::Two), true),
+static EXPLAINS: [Call; 4] = [
+    Call::Explain,
+    Call::ExplainAs,
+    Call::ExplainFrom,
+    Call::ExplainFromAs,
 ];
-
-/// The outcome of explaining the last line, and what that wrote.
-fn explained(alloc: Global, way: Way) -> (ExplainOutcome, Kept) {
-    let mut trace = Pieces::new(TRACE, 64, 0);
-    let mut start = Pieces::new(START, 64, 0);
-    let mut kept = Kept::new(64, 256);
-    let outcome = match way {
-        (None, false) => explain_stream(alloc, 4096, 5, &mut trace, &mut kept),
-        (Some(profile), false) => {
-            explain_stream_as(alloc, profile, 4096, 5, &mut trace, &mut kept)
-        }
-        (None, true) => explain_stream_from(alloc, 4096, 5, &mut start, &mut trace, &mut kept),
-        (Some(profile), true) => {
-            explain_stream_from_as(alloc, profile, 4096, 5, &mut start, &mut trace, &mut kept)
-        }
-    };
-    (outcome, kept)
-}
-
-/// Whether the last line is explained as is right.
-fn is_explained(outcome: ExplainOutcome, kept: &Kept) -> bool {
-    outcome == ExplainOutcome::Ended(Outcome::Findings) && kept.text() == EXPLAINED
-}
-
-/// Whether that is so, in a second call where the first lacks memory and has written nothing.
-fn explains(alloc: Global, way: Way) -> bool {
-    Mark::Begin.set(alloc);
-    let (outcome, kept) = explained(alloc, way);
-    if lacked(alloc, outcome == ExplainOutcome::Ended(Outcome::Memory)) {
-        let (again, written) = explained(alloc, way);
-        return kept.text().is_empty() && is_explained(again, &written);
-    }
-    is_explained(outcome, &kept)
-}
 
 #[test]
 fn explain_streams_refused(rt: HostRuntime) -> Result<(), Fail> {
-    for way in &WAYS {
-        right(
-            rt.alloc(),
-            explains(rt.alloc(), *way),
-            "a line is explained",
-        )?;
-    }
-    Ok(())
+    all_find(rt.alloc(), &EXPLAINS, EXPLAINED, "a line is explained")
 }
 
 /// Whether this may be replied where memory runs out: one of the replies, or nothing after one of them.
-fn may_be_replied(outcome: Outcome, written: &[u8]) -> bool {
-    if outcome == Outcome::Memory {
-        written.is_empty() || REPLIES.iter().any(|(_, text)| *text == written)
-    } else {
-        REPLIES
-            .iter()
-            .any(|(ended, text)| *ended == outcome && *text == written)
+fn may_be_replied(ended: ExplainOutcome, written: &[u8]) -> bool {
+    for (outcome, text) in &REPLIES {
+        if *text == written && (ended == Ended(*outcome) || ended == Ended(Outcome::Memory)) {
+            return true;
+        }
     }
+    ended == Ended(Outcome::Memory) && written.is_empty()
 }
 
 /// Whether the first call of a script answers what is right, or what it may where memory runs out, and the second what is
@@ -176,7 +157,7 @@ fn may_be_replied(outcome: Outcome, written: &[u8]) -> bool {
 fn replies(alloc: Global, call: Call) -> bool {
     Mark::Begin.set(alloc);
     let (outcome, kept) = streamed(alloc, call);
-    let is_first = outcome == REPLIES[0].0 && kept.text() == REPLIES[0].1;
+    let is_first = outcome == Ended(REPLIES[0].0) && kept.text() == REPLIES[0].1;
     let may_be = !lacked(alloc, !is_first) || may_be_replied(outcome, kept.text());
     may_be && gives(alloc, call, Outcome::Clean, REPLIES[0].1)
 }

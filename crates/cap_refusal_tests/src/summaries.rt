@@ -1,10 +1,11 @@
 //! Summaries: made of one step, joined, and read from a start.
 
-use crate::machine::{CELLS, TRACE, are_at, with_lines};
+use crate::calls::{Call, is_answered, tried};
+use crate::machine::{CELLS, TRACE, are_at, start_of};
 use crate::marks::{Mark, lacked, right};
-use cap_machine::{Found, Profile, Start, Step};
+use cap_machine::{Profile, Start, Step};
 use cap_summary::{Summary, resolve, resolve_range};
-use cap_trace::{Line, parse_line};
+use cap_trace::parse_line;
 use cap_tree::{Meter, NoMemory, Segment, Tree};
 use std::alloc::Global;
 use std::rc::Rc;
@@ -24,6 +25,26 @@ fn steps_of(alloc: Global) -> Result<Vec<Rc<Step>>, Fail> {
         steps.push(step_of(alloc, text)?)?;
     }
     Ok(steps)
+}
+
+/// Does this with a start and the steps of the trace.
+fn with_steps<F: FnOnce(Global, &Start, &[Rc<Step>]) -> Result<(), Fail>>(
+    alloc: Global,
+    act: F,
+) -> Result<(), Fail>
+    requires { F.IsAlwaysCallable act }
+{
+    let steps = steps_of(alloc)?;
+    let result = match start_of(alloc, CELLS) {
+        Ok(start) => {
+            let result = act(alloc, &start, &steps);
+            drop(start);
+            result
+        }
+        Err(fail) => Err(fail),
+    };
+    drop(steps);
+    result
 }
 
 /// The summary of these steps, by joins from the left.
@@ -49,67 +70,73 @@ fn joined(alloc: Global, left: &Summary, right: &Summary) -> Result<Summary, NoM
     Summary::join(alloc, &mut Meter::new(), left, right)
 }
 
-/// The summary of a step, or of nothing.
-fn small(alloc: Global, step: Option<&Rc<Step>>) -> Result<Summary, NoMemory> {
-    match step {
+/// Makes a summary of a step, or of nothing: whether it has so many.
+pub fn sums(alloc: Global, step: Option<&Rc<Step>>) -> Result<bool, cap_machine::NoMemory> {
+    let made = match step {
         Some(step) => Summary::one(alloc, step),
         None => Summary::empty(alloc),
+    };
+    match made {
+        Ok(summary) => {
+            let is_right = summary.len() == usize::from(step.is_some());
+            drop(summary);
+            Ok(is_right)
+        }
+        Err(_) => Err(cap_machine::NoMemory),
     }
-}
-
-/// The same; where the first call lacks memory, by a second one.
-fn small_or_again(alloc: Global, step: Option<&Rc<Step>>) -> Result<Summary, NoMemory> {
-    Mark::Begin.set(alloc);
-    let first = small(alloc, step);
-    if lacked(alloc, first.is_err()) {
-        return small(alloc, step);
-    }
-    first
-}
-
-/// Makes a summary of a step, or of nothing: it has so many.
-fn make(alloc: Global, step: Option<&Rc<Step>>) -> Result<(), Fail> {
-    let len = small_or_again(alloc, step)?.len();
-    right(
-        alloc,
-        len == usize::from(step.is_some()),
-        "a summary is made",
-    )
 }
 
 #[test]
 fn empty_refused(rt: HostRuntime) -> Result<(), Fail> {
-    make(rt.alloc(), None)
+    tried(rt.alloc(), &Call::Sum(None), "a summary is made")
 }
 
-#[test]
-fn one_refused(rt: HostRuntime) -> Result<(), Fail> {
-    for step in &steps_of(rt.alloc())? {
-        make(rt.alloc(), Some(step))?;
+/// Makes a summary of each step.
+fn sum_each(alloc: Global, steps: &[Rc<Step>]) -> Result<(), Fail> {
+    for step in steps {
+        tried(alloc, &Call::Sum(Some(step)), "a summary is made")?;
     }
     Ok(())
 }
 
-/// Both, one after the other; where the first call lacks memory, by a second one.
-fn both_of(alloc: Global, left: &Summary, right: &Summary) -> Result<Summary, NoMemory> {
+#[test]
+fn one_refused(rt: HostRuntime) -> Result<(), Fail> {
+    let steps = steps_of(rt.alloc())?;
+    let result = sum_each(rt.alloc(), &steps);
+    drop(steps);
+    result
+}
+
+/// Whether what is to be found in the trace is found in a summary, and there is memory for it.
+fn is_whole(alloc: Global, start: &Start, summary: &Summary) -> bool {
+    match &resolve(alloc, summary, start) {
+        Ok(found) => are_at(found, &[5, 8]),
+        Err(_) => false,
+    }
+}
+
+/// The same of one that was made.
+fn is_made_whole(alloc: Global, start: &Start, made: Result<Summary, NoMemory>) -> bool {
+    match made {
+        Ok(summary) => {
+            let is_whole = is_whole(alloc, start, &summary);
+            drop(summary);
+            is_whole
+        }
+        Err(_) => false,
+    }
+}
+
+/// Whether two summaries are joined to that of the trace, in a second call where the first lacks memory.
+fn joins(alloc: Global, start: &Start, left: &Summary, right: &Summary) -> bool {
     Mark::Begin.set(alloc);
     let first = joined(alloc, left, right);
-    if lacked(alloc, first.is_err()) {
-        return joined(alloc, left, right);
-    }
-    first
-}
-
-/// Whether what is to be found in the trace is found in a summary.
-fn is_whole(alloc: Global, start: &Start, summary: &Summary) -> Result<bool, NoMemory> {
-    let found = resolve(alloc, summary, start)?;
-    Ok(are_at(&found, &[5, 8]))
-}
-
-/// Whether two summaries are joined to that of the trace.
-fn joins(alloc: Global, start: &Start, left: &Summary, right: &Summary) -> Result<bool, NoMemory> {
-    let both = both_of(alloc, left, right)?;
-    is_whole(alloc, start, &both)
+    let both = if lacked(alloc, first.is_err()) {
+        joined(alloc, left, right)
+    } else {
+        first
+    };
+    is_made_whole(alloc, start, both)
 }
 
 /// Whether the steps before a place and those from there on are joined so, and the summary on the left isn't changed.
@@ -122,14 +149,16 @@ fn joins_at(
     let (front, back) = steps.split_at(place.min(steps.len()));
     let left = summary_of(alloc, front)?;
     let right = summary_of(alloc, back)?;
-    Ok(joins(alloc, start, &left, &right)? && left.len() == place)
+    let is_right = joins(alloc, start, &left, &right) && left.len() == place;
+    drop(right);
+    drop(left);
+    Ok(is_right)
 }
 
 /// Cuts the trace at each place.
-fn join_all(alloc: Global, start: &mut Start, _lines: &[Line]) -> Result<(), Fail> {
-    let steps = steps_of(alloc)?;
+fn join_at_each(alloc: Global, start: &Start, steps: &[Rc<Step>]) -> Result<(), Fail> {
     for place in 0..TRACE.len() + 1 {
-        let is_right = joins_at(alloc, start, &steps, place)?;
+        let is_right = joins_at(alloc, start, steps, place)?;
         right(alloc, is_right, "two parts are joined")?;
     }
     Ok(())
@@ -137,7 +166,7 @@ fn join_all(alloc: Global, start: &mut Start, _lines: &[Line]) -> Result<(), Fai
 
 #[test]
 fn join_refused(rt: HostRuntime) -> Result<(), Fail> {
-    with_lines(rt.alloc(), CELLS, join_all)
+    with_steps(rt.alloc(), join_at_each)
 }
 
 /// The summary of some steps at once.
@@ -148,56 +177,51 @@ fn summed_up(alloc: Global, steps: &[Rc<Step>]) -> Result<Summary, NoMemory> {
     Summary::sum(alloc, &mut Meter::new(), steps)
 }
 
-/// The same; where the first call lacks memory, by a second one.
-fn sum_of(alloc: Global, steps: &[Rc<Step>]) -> Result<Summary, NoMemory> {
+/// Sums up the trace at once, in a second call where the first lacks memory.
+fn sum_all(alloc: Global, start: &Start, steps: &[Rc<Step>]) -> Result<(), Fail> {
     Mark::Begin.set(alloc);
     let first = summed_up(alloc, steps);
-    if lacked(alloc, first.is_err()) {
-        return summed_up(alloc, steps);
-    }
-    first
-}
-
-/// Sums up the trace at once.
-fn sum_all(alloc: Global, start: &mut Start, _lines: &[Line]) -> Result<(), Fail> {
-    let steps = steps_of(alloc)?;
-    let whole = sum_of(alloc, &steps)?;
-    right(
-        alloc,
-        is_whole(alloc, start, &whole)?,
-        "the trace is summed up",
-    )
+    let whole = if lacked(alloc, first.is_err()) {
+        summed_up(alloc, steps)
+    } else {
+        first
+    };
+    let is_right = is_made_whole(alloc, start, whole);
+    right(alloc, is_right, "the trace is summed up")
 }
 
 #[test]
 fn sum_refused(rt: HostRuntime) -> Result<(), Fail> {
-    with_lines(rt.alloc(), CELLS, sum_all)
-}
-
-/// What is found in a range; where the first call lacks memory, by a second one.
-fn found_in(
-    alloc: Global,
-    summary: &Summary,
-    start: &Start,
-    range: (usize, usize),
-) -> Result<Vec<Found>, NoMemory> {
-    let (from, to) = range;
-    Mark::Begin.set(alloc);
-    let first = resolve_range(alloc, summary, start, from, to);
-    if lacked(alloc, first.is_err()) {
-        return resolve_range(alloc, summary, start, from, to);
-    }
-    first
+    with_steps(rt.alloc(), sum_all)
 }
 
 /// Ranges of the trace, and the positions of what is found there.
 static RANGES: [((usize, usize), &[usize]); 2] = [((1, 8), &[5, 8]), ((6, 8), &[8])];
 
-/// Whether the findings of each range are found, and then all of them.
+/// Asks for the findings of a range: whether they are at these positions.
+pub fn resolves(
+    alloc: Global,
+    start: &Start,
+    summary: &Summary,
+    range: (usize, usize),
+    places: &[usize],
+) -> Result<bool, cap_machine::NoMemory> {
+    let (from, to) = range;
+    match resolve_range(alloc, summary, start, from, to) {
+        Ok(found) => {
+            let is_right = are_at(&found, places);
+            drop(found);
+            Ok(is_right)
+        }
+        Err(_) => Err(cap_machine::NoMemory),
+    }
+}
+
+/// Finds what is found in each range, and then all of it.
 fn resolve_ranges(alloc: Global, start: &Start, summary: &Summary) -> Result<(), Fail> {
     for (range, places) in &RANGES {
-        let found = found_in(alloc, summary, start, *range)?;
-        let is_right = are_at(&found, places) && is_whole(alloc, start, summary)?;
+        let call = Call::Range(start, summary, *range, places);
+        let is_right = is_answered(alloc, &call) && is_whole(alloc, start, summary);
         right(alloc, is_right, "what is found in a range")?;
     }
     Ok(())
@@ -212,13 +236,18 @@ fn tree_of(alloc: Global) -> Result<Tree<Summary>, Fail> {
     Ok(Tree::from_list(alloc, &mut Meter::new(), steps)?)
 }
 
-/// Finds what is found in the tree of the trace.
-fn resolve_all(alloc: Global, start: &mut Start, _lines: &[Line]) -> Result<(), Fail> {
-    let tree = tree_of(alloc)?;
-    resolve_ranges(alloc, start, tree.summary())
+/// The same from the start that the trace has.
+fn resolve_all(alloc: Global, tree: &Tree<Summary>) -> Result<(), Fail> {
+    let start = start_of(alloc, CELLS)?;
+    let result = resolve_ranges(alloc, &start, tree.summary());
+    drop(start);
+    result
 }
 
 #[test]
 fn resolve_refused(rt: HostRuntime) -> Result<(), Fail> {
-    with_lines(rt.alloc(), CELLS, resolve_all)
+    let tree = tree_of(rt.alloc())?;
+    let result = resolve_all(rt.alloc(), &tree);
+    drop(tree);
+    result
 }

@@ -109,11 +109,9 @@ static LIMITS: [u32; 5] = [0, 1, 48, 49, FIRST];
 fn from_list_refused(rt: HostRuntime) -> Result<(), Fail> {
     for limit in &LIMITS {
         let tree = tree_of(rt.alloc(), *limit)?;
-        right(
-            rt.alloc(),
-            has_numbers(&tree, *limit),
-            "a tree has its items",
-        )?;
+        let is_right = has_numbers(&tree, *limit);
+        drop(tree);
+        right(rt.alloc(), is_right, "a tree has its items")?;
     }
     Ok(())
 }
@@ -177,5 +175,7 @@ fn edit_all(alloc: Global, listing: &mut Listing) -> Result<(), Fail> {
 #[test]
 fn tree_edits_refused(rt: HostRuntime) -> Result<(), Fail> {
     let mut listing = first_tree(rt.alloc())?;
-    edit_all(rt.alloc(), &mut listing)
+    let result = edit_all(rt.alloc(), &mut listing);
+    drop(listing);
+    result
 }
