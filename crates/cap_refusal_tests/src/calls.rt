@@ -6,7 +6,7 @@ use crate::machine::{
 use crate::making::{Made, lists_fds, makes};
 use crate::marks::{Mark, lacked, right};
 use crate::reports::{reads_start, reports_from};
-use crate::sessions::{Ask, tells};
+use crate::sessions::{Query, answers_query};
 use crate::summaries::{resolves, sums};
 use cap_machine::{NoMemory, Start, Step};
 use cap_session::Session;
@@ -25,7 +25,7 @@ pub enum Call<'a> {
     OnTrace(&'a Start, &'a [Line], &'a OnTrace),
     Sum(Option<&'a Rc<Step>>),
     Range(&'a Start, &'a Summary, (usize, usize), &'a [usize]),
-    Ask(&'a Session, &'a Ask, &'a str),
+    Ask(&'a Session, &'a Query, &'a str),
     ReportFrom(&'a Session, &'a Start),
 }
 
@@ -57,7 +57,7 @@ fn answers(alloc: Global, call: &Call<'_>) -> Result<bool, NoMemory> {
         Call::Range(start, summary, range, places) => {
             resolves(alloc, start, summary, *range, places)
         }
-        Call::Ask(session, ask, text) => tells(session, ask, text),
+        Call::Ask(session, query, text) => answers_query(session, query, text),
         Call::ReportFrom(session, start) => reports_from(session, start),
     }
 }

@@ -3,20 +3,20 @@
 use crate::calls::{Call, is_answered, tried};
 use crate::machine::{CELLS, start_of};
 use crate::marks::right;
-use crate::sessions::{Ask, REPORT, ask_each, is_at, session_of};
+use crate::sessions::{Query, REPORT, ask_each, is_at, session_of};
 use cap_machine::{Cell, Mode, NoMemory, Start};
 use cap_session::{Refused, Session, StartFault, parse_start};
 use std::alloc::Global;
 use std::test::Fail;
 
 /// The report from the usual start, and those of ranges.
-static REPORTS: [(Ask, &str); 3] = [
-    (Ask::Report, REPORT),
+static REPORTS: [(Query, &str); 3] = [
+    (Query::Report, REPORT),
     (
-        Ask::Range(5, 7),
+        Query::Range(5, 7),
         "5 100 write missing 3 CAP_WRITE\nfindings 1\n",
     ),
-    (Ask::Range(1, 4), "findings 0\n"),
+    (Query::Range(1, 4), "findings 0\n"),
 ];
 
 #[test]
@@ -39,9 +39,9 @@ fn report_from_refused(rt: HostRuntime) -> Result<(), Fail> {
     let session = session_of(rt.alloc())?;
     let is_right = match start_of(rt.alloc(), CELLS) {
         Ok(start) => {
-            let is_told = is_answered(rt.alloc(), &Call::ReportFrom(&session, &start));
+            let is_reported = is_answered(rt.alloc(), &Call::ReportFrom(&session, &start));
             drop(start);
-            Ok(is_told && is_at(&session, 8, REPORT))
+            Ok(is_reported && is_at(&session, 8, REPORT))
         }
         Err(fail) => Err(fail),
     };

@@ -256,7 +256,7 @@ fn report_after_refused(rt: HostRuntime) -> Result<(), Fail> {
 }
 
 /// What is asked of a session.
-pub enum Ask {
+pub enum Query {
     Report,
     Range(usize, usize),
     Show(usize),
@@ -265,12 +265,12 @@ pub enum Ask {
 }
 
 /// What a session answers. No line that it explains is clean.
-fn asked(session: &Session, ask: &Ask) -> Result<Vec<u8>, Refused> {
-    match ask {
-        Ask::Report => session.report(),
-        Ask::Range(first, last) => session.report_range(*first, *last),
-        Ask::Show(position) => session.show(*position),
-        Ask::Explain(position) => match session.explain(*position)? {
+fn asked(session: &Session, query: &Query) -> Result<Vec<u8>, Refused> {
+    match query {
+        Query::Report => session.report(),
+        Query::Range(first, last) => session.report_range(*first, *last),
+        Query::Show(position) => session.show(*position),
+        Query::Explain(position) => match session.explain(*position)? {
             line if line.is_clean => Err(Refused::Position),
             line => Ok(line.text),
         },
@@ -278,8 +278,8 @@ fn asked(session: &Session, ask: &Ask) -> Result<Vec<u8>, Refused> {
 }
 
 /// Asks that: whether this is the answer.
-pub fn tells(session: &Session, ask: &Ask, text: &str) -> Result<bool, NoMemory> {
-    match &asked(session, ask) {
+pub fn answers_query(session: &Session, query: &Query, text: &str) -> Result<bool, NoMemory> {
+    match &asked(session, query) {
         Ok(answer) => Ok(answer.as_slice() == text.as_bytes()),
         Err(Refused::Memory) => Err(NoMemory),
         Err(_) => Ok(false),
@@ -287,32 +287,36 @@ pub fn tells(session: &Session, ask: &Ask, text: &str) -> Result<bool, NoMemory>
 }
 
 /// Asks each of those: this is the answer, and the session is as it was.
-fn tell_each(alloc: Global, session: &Session, asks: &[(Ask, &'static str)]) -> Result<(), Fail> {
-    for (ask, text) in asks {
-        let is_told = is_answered(alloc, &Call::Ask(session, ask, text));
-        right(alloc, is_told && is_at(session, 8, REPORT), text)?;
+fn ask_all(
+    alloc: Global,
+    session: &Session,
+    queries: &[(Query, &'static str)],
+) -> Result<(), Fail> {
+    for (query, text) in queries {
+        let is_right = is_answered(alloc, &Call::Ask(session, query, text));
+        right(alloc, is_right && is_at(session, 8, REPORT), text)?;
     }
     Ok(())
 }
 
 /// Asks a session of the trace each of those.
-pub fn ask_each(alloc: Global, asks: &[(Ask, &'static str)]) -> Result<(), Fail> {
+pub fn ask_each(alloc: Global, queries: &[(Query, &'static str)]) -> Result<(), Fail> {
     let session = session_of(alloc)?;
-    let result = tell_each(alloc, &session, asks);
+    let result = ask_all(alloc, &session, queries);
     drop(session);
     result
 }
 
 /// Each line of the trace.
-static SHOWN: [(Ask, &str); 8] = [
-    (Ask::Show(1), "100 @start(0,3)"),
-    (Ask::Show(2), "100 cap_rights_limit(3,CAP_READ) RET 0"),
-    (Ask::Show(3), "100 fork() RET 101"),
-    (Ask::Show(4), "101 close(0) RET 0"),
-    (Ask::Show(5), "100 write(3) RET 1"),
-    (Ask::Show(6), "101 execve(\"/bin/x\") RET 0"),
-    (Ask::Show(7), "101 closefrom(1) RET 0"),
-    (Ask::Show(8), "101 read(3) RET 1"),
+static SHOWN: [(Query, &str); 8] = [
+    (Query::Show(1), "100 @start(0,3)"),
+    (Query::Show(2), "100 cap_rights_limit(3,CAP_READ) RET 0"),
+    (Query::Show(3), "100 fork() RET 101"),
+    (Query::Show(4), "101 close(0) RET 0"),
+    (Query::Show(5), "100 write(3) RET 1"),
+    (Query::Show(6), "101 execve(\"/bin/x\") RET 0"),
+    (Query::Show(7), "101 closefrom(1) RET 0"),
+    (Query::Show(8), "101 read(3) RET 1"),
 ];
 
 #[test]
@@ -321,13 +325,13 @@ fn show_refused(rt: HostRuntime) -> Result<(), Fail> {
 }
 
 /// Lines of the trace, and what they rest on.
-static EXPLAINED: [(Ask, &str); 2] = [
+static EXPLAINED: [(Query, &str); 2] = [
     (
-        Ask::Explain(5),
+        Query::Explain(5),
         "5 100 write(3) RET 1\nmissing 3 CAP_WRITE\n3 2 100 cap_rights_limit(3,CAP_READ) RET 0\n3 1 100 @start(0,3)\n",
     ),
     (
-        Ask::Explain(8),
+        Query::Explain(8),
         "8 101 read(3) RET 1\nclosed 3\n3 7 101 closefrom(1) RET 0\n",
     ),
 ];
