@@ -27,27 +27,28 @@ use Rattle.cap_machine.specs.Laws.{later}
 use Rattle.cap_machine.proofs.Turns.{ends_in_turn, checks_in_turn, same_state}
 use Rattle.cap_machine.proofs.Naming.{own_modes}
 use Rattle.cap_machine.proofs.NamedFds.{named_effects, named_checks}
-use Rattle.cap_summary.specs.declared.change.Change.{Change}
-use Rattle.cap_summary.specs.declared.conditions.Condition.{Condition}
+use Rattle.cap_change.specs.declared.change.Change.{Change}
+use Rattle.cap_change.specs.declared.conditions.Condition.{Condition}
 use Rattle.cap_summary.specs.declared.known.Known.{Known}
-use Rattle.cap_summary.specs.Changes.{changed, JoinsTo, is_untouched, is_unturned, ListSame}
-use Rattle.cap_summary.specs.Does.{Does}
-use Rattle.cap_summary.specs.Names.{Names, AreAmong, names_in, these, ChangeWithin, ConditionsWithin, ChildWithin}
-use Rattle.cap_summary.specs.Names.{condition_within}
-use Rattle.cap_summary.specs.Names.{EffectWithin}
-use Rattle.cap_summary.specs.Reading.{ConditionsRead, ReadAlike}
-use Rattle.cap_summary.specs.Sizes.{IsSized, NamesMany, ListMuch}
-use Rattle.cap_summary.specs.Conditions.{any_holds, has_any}
-use Rattle.cap_summary.specs.LineConditions.{line_always, line_conditions}
+use Rattle.cap_change.specs.Changes.{changed, JoinsTo, is_untouched, is_unturned, ListSame}
+use Rattle.cap_change.specs.Does.{Does}
+use Rattle.cap_change.specs.Names.{Names, AreAmong, names_in, these, ChangeWithin, ConditionsWithin, ChildWithin}
+use Rattle.cap_change.specs.Names.{condition_within}
+use Rattle.cap_change.specs.Names.{EffectWithin}
+use Rattle.cap_change.specs.Reading.{ConditionsRead, ReadAlike}
+use Rattle.cap_change.specs.Sizes.{NamesMany}
+use Rattle.cap_summary.specs.Listing.{IsSized, ListMuch}
+use Rattle.cap_change.specs.Conditions.{any_holds, has_any}
+use Rattle.cap_change.specs.LineConditions.{line_always, line_conditions}
 use Rattle.cap_summary.specs.Knows.{Knows, Composes, IsLike, IsMoved, finds}
-use Rattle.cap_summary.proofs.Bools.{or_true, or_false}
-use Rattle.cap_summary.proofs.Untouched.{first_true, second_true}
-use Rattle.cap_summary.proofs.Holding.{has_any-append, has_any-map, line_holds}
-use Rattle.cap_summary.proofs.Naming.{change_more, conditions_more, line_within}
-use Rattle.cap_summary.proofs.Comparing.{changes_alike}
-use Rattle.cap_summary.proofs.Reading.{conditions_read, read_same, alike_hold, alike_read}
-use Rattle.cap_summary.proofs.Joining.{joined_changes, joined_untouched, joined_unturned, joined_names}
-use Rattle.cap_summary.proofs.Earlier.{joins_left, joins_right}
+use Rattle.cap_change.proofs.Bools.{or_true, or_false}
+use Rattle.cap_change.proofs.Untouched.{first_true, second_true}
+use Rattle.cap_change.proofs.Holding.{has_any-append, has_any-map, line_holds}
+use Rattle.cap_change.proofs.Naming.{change_more, conditions_more, line_within}
+use Rattle.cap_change.proofs.Comparing.{changes_alike}
+use Rattle.cap_change.proofs.Reading.{conditions_read, read_same, alike_hold, alike_read}
+use Rattle.cap_change.proofs.Joining.{joined_changes, joined_untouched, joined_unturned, joined_names}
+use Rattle.cap_change.proofs.Earlier.{joins_left, joins_right}
 
 pub found_in_turn : (s : State) (t u : List Step)
     → has_any (check s (t ++ u)) ≡ (has_any (check s t) || has_any (check (ended s t) u))

@@ -15,9 +15,9 @@ use Rattle.cap_machine.specs.Check.{check, said, found_at}
 use Rattle.cap_machine.specs.Laws.{later}
 use Rattle.cap_machine.proofs.Turns.{checks_in_turn}
 use Rattle.cap_machine.proofs.Positions.{positions_within}
-use Rattle.cap_summary.specs.Conditions.{has_any}
+use Rattle.cap_change.specs.Conditions.{has_any}
 use Rattle.cap_summary.specs.Positions.{is_at, within, AllOrMany}
-use Rattle.cap_summary.proofs.Bools.{and_false}
+use Rattle.cap_change.proofs.Bools.{and_false}
 
 later-later : (m n : ℕ) (xs : List Found) → map (later m) (map (later n) xs) ≡ map (later (m + n)) xs
 later-later m n [] = refl

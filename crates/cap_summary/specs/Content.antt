@@ -6,7 +6,7 @@ use Rattle.cap_machine.specs.declared.step.Step.{Step}
 use Rattle.cap_tree.specs.Run.{values}
 use Rattle.cap_summary.specs.declared.known.Known.{Known}
 use Rattle.cap_summary.specs.Knows.{Knows}
-use Rattle.cap_summary.specs.Sizes.{NamesMany}
+use Rattle.cap_change.specs.Sizes.{NamesMany}
 use Rattle.cap_summary.specs.View.{NodeView}
 use Rattle.cap_summary.specs.declared.node.Content.{Content}
 use Rattle.cap_summary.specs.declared.node.Content.TheVariants.{Run, Both}

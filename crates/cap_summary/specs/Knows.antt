@@ -6,15 +6,15 @@ use Rattle.cap_machine.specs.History.{ended}
 use Rattle.cap_machine.specs.Check.{check}
 use Rattle.cap_machine.specs.Walks.{LeavesCell, LeavesMode}
 use Rattle.cap_summary.specs.declared.known.Known.{Known}
-use Rattle.cap_summary.specs.declared.change.Change.{Change}
+use Rattle.cap_change.specs.declared.change.Change.{Change}
 use Rattle.cap_summary.specs.declared.known.Likeness.{Likeness}
 use Rattle.cap_summary.specs.declared.known.Likeness.TheVariants as likeness
-use Rattle.cap_summary.specs.Changes.{changed, is_untouched, is_unturned, JoinsTo, ListSame}
-use Rattle.cap_summary.specs.Names.{Names, names_in, ChangeWithin, ConditionsWithin}
-use Rattle.cap_summary.specs.Reading.{ConditionsRead}
-use Rattle.cap_summary.specs.Sizes.{IsSized}
-use Rattle.cap_summary.specs.declared.conditions.Condition.{Condition}
-use Rattle.cap_summary.specs.Conditions.{any_holds, has_any}
+use Rattle.cap_change.specs.Changes.{changed, is_untouched, is_unturned, JoinsTo, ListSame}
+use Rattle.cap_change.specs.Names.{Names, names_in, ChangeWithin, ConditionsWithin}
+use Rattle.cap_change.specs.Reading.{ConditionsRead}
+use Rattle.cap_summary.specs.Listing.{IsSized}
+use Rattle.cap_change.specs.declared.conditions.Condition.{Condition}
+use Rattle.cap_change.specs.Conditions.{any_holds, has_any}
 
 -- the state that the segment leaves
 abbrev pub state_after : Known → State → State

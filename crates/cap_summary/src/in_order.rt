@@ -8,7 +8,7 @@ ghost use Rattle.cap_machine.specs.Table.{start_state};
 ghost use Rattle.cap_summary.specs.Positions.{within};
 ghost use Rattle.cap_tree.specs.Run.{values};
 
-use crate::before::{Asked, note};
+use crate::judging::{Asked, note};
 use cap_machine::{Found, Machine, Step, Verdict};
 use cap_tree::NoMemory;
 use std::rc::Rc;

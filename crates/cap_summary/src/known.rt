@@ -5,19 +5,16 @@ ghost use Rattle.std.specs.Prelude.{IfOk, OnOk, IfSome, IsSomeAnd, List};
 ghost use Rattle.cap_tree.specs.Run.{values};
 ghost use Rattle.cap_machine.specs.Steps.{step};
 ghost use Rattle.cap_machine.specs.Table.{start_state};
-ghost use Rattle.cap_summary.specs.declared.change.Change.{Change};
-ghost use Rattle.cap_summary.specs.declared.conditions.Condition.{Condition};
-ghost use Rattle.cap_summary.specs.Changes.{JoinsTo, ListSameBut};
-ghost use Rattle.cap_summary.specs.Reading.{ReadAlike};
-ghost use Rattle.cap_summary.specs.Sizes.{IsSizeOf, IsSized, ListMuch};
+ghost use Rattle.cap_change.specs.declared.change.Change.{Change};
+ghost use Rattle.cap_change.specs.declared.conditions.Condition.{Condition};
+ghost use Rattle.cap_change.specs.Changes.{JoinsTo, ListSameBut};
+ghost use Rattle.cap_change.specs.Reading.{ReadAlike};
+ghost use Rattle.cap_change.specs.Before.{state_before};
+ghost use Rattle.cap_change.specs.Sizes.{IsSizeOf};
+ghost use Rattle.cap_summary.specs.Listing.{IsSized, ListMuch};
 ghost use Rattle.cap_summary.specs.Knows.{Knows, Composes, AreAlike, IsMoved, finds, state_after, leaves_cell, leaves_mode};
 
-use crate::before::Before;
-use crate::change::Change;
-use crate::line_conditions::{always, conditions_of};
-use crate::lost::with_others;
-use crate::merge::merged;
-use crate::packed::Conditions;
+use cap_change::{Before, Change, Conditions, always, conditions_of, merged, with_others};
 use cap_machine::{Cell, Mode, Profile, Start, Step, rule_of};
 use cap_trace::{Fd, LineRef, Pid};
 use cap_tree::{Meter, NoMemory};
@@ -56,7 +53,7 @@ pub enum Likeness {
 fn size_of(change: &Change, conditions: &Conditions) -> (usize, bool)
     ensures { IsSizeOf result.0 change.now conditions.now }
 {
-    let (size, forks) = change.processes.size();
+    let (size, forks) = change.size();
     (size.saturating_add(conditions.places()), forks)
 }
 
@@ -177,7 +174,7 @@ impl Known {
         if !b.forks {
             return both > LARGE;
         }
-        both.saturating_add(b.change.processes.copied(&a.change)) > LARGE
+        both.saturating_add(b.change.copied(&a.change)) > LARGE
     }
 
     /// A segment that has this change, and in which something is found in any case.
@@ -621,7 +618,14 @@ impl Known {
     pub fn finds(&self, start: &Start) -> bool
         ensures { result ≡ finds self.now (start_state start.now) }
     {
-        Before::At(&*start).finds(self)
+        self.finds_behind(&Before::At(&*start))
+    }
+
+    /// Whether something is found in a segment that begins in this state.
+    pub(crate) fn finds_behind(&self, before: &Before<'_>) -> bool
+        ensures { result ≡ finds self.now (state_before before.now) }
+    {
+        self.always || before.any_holds(&self.conditions)
     }
 
     /// What is known of a descriptor of a process after the steps, from a start.

@@ -14,36 +14,14 @@
 //! ```
 #![tactic(auto)]
 
-mod alike;
-mod before;
-mod change;
-mod conditions;
-mod effects;
 mod explaining;
 mod in_order;
-mod joins;
-mod kept;
+mod judging;
 mod known;
-mod layers;
-mod line_conditions;
-mod lost;
-mod merge;
-mod moved;
-mod moved_low;
 mod node;
-mod ordering;
-mod packed;
-mod reads;
-mod sorted;
 mod summary;
-mod tables;
-mod values;
 mod walking;
 
-pub use change::{Change, Process};
-pub use conditions::{CellTest, Condition, HeldTest, Refused, Source};
 pub use explaining::explain;
 pub use known::{Known, Likeness};
 pub use summary::{Summary, resolve, resolve_range};
-pub use tables::{Cells, Processes};
-pub use values::{Base, ModeValue, Others, Passing, Value};

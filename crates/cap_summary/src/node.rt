@@ -5,23 +5,24 @@ ghost use Rattle.std.specs.Prelude.{take, slice_index_or, Some, true, false};
 ghost use Rattle.cap_machine.specs.Walks.{LeavesCell, LeavesMode};
 ghost use Rattle.cap_summary.specs.Passes.{PassesCell, PassesMode};
 ghost use Rattle.cap_summary.specs.Knows.{Knows, finds};
-ghost use Rattle.cap_summary.specs.Sizes.{NamesMany};
+ghost use Rattle.cap_change.specs.Sizes.{NamesMany};
 ghost use Rattle.cap_machine.specs.declared.step.Step.{Step};
 ghost use Rattle.cap_machine.specs.Check.{check};
 ghost use Rattle.cap_machine.specs.History.{ended};
 ghost use Rattle.cap_machine.specs.Table.{start_state};
 ghost use Rattle.cap_machine.specs.Laws.{later};
-ghost use Rattle.cap_summary.specs.Before.{state_before};
+ghost use Rattle.cap_change.specs.Before.{state_before};
 ghost use Rattle.cap_summary.specs.Positions.{within, AllOrMany};
 ghost use Rattle.cap_summary.specs.Rest.{rest_steps, AllSome};
 ghost use Rattle.cap_tree.specs.Run.{values};
 ghost use Rattle.cap_summary.specs.View.{ComposeTo, NodesCompose, NodesAlike};
 ghost use Rattle.cap_summary.specs.Content.{known_of};
 
-use crate::before::{Asked, Before, judge_run};
 use crate::in_order::judge_in_order;
+use crate::judging::{Asked, judge_run};
 use crate::known::{Known, Likeness};
 use crate::walking::{walk_cell, walk_mode};
+use cap_change::Before;
 use cap_machine::{CellWalk, Found, Machine, ModeWalk, Step};
 use cap_trace::{Fd, Pid};
 use cap_tree::{Meter, NoMemory};
@@ -379,7 +380,7 @@ impl Node {
     fn may_find(&self, before: &Before<'_>, known: &Known, asked: &Asked) -> bool
         ensures { result ≡ false → finds known.now (state_before before.now) ≡ false }
     {
-        asked.are_few_of(self.len) || before.finds(known)
+        asked.are_few_of(self.len) || known.finds_behind(before)
     }
 
     /// Notes what is found in the steps and then in the rest, which begin in this state behind so many others, at the

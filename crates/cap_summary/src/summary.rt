@@ -5,14 +5,15 @@ ghost use Rattle.std.specs.Prelude.{IfNone, map};
 ghost use Rattle.cap_machine.specs.Check.{check};
 ghost use Rattle.cap_machine.specs.Table.{start_state};
 ghost use Rattle.cap_summary.specs.Knows.{Knows};
-ghost use Rattle.cap_summary.specs.Sizes.{NamesMany};
+ghost use Rattle.cap_change.specs.Sizes.{NamesMany};
 ghost use Rattle.cap_summary.specs.Positions.{within};
 ghost use Rattle.cap_summary.specs.Stands.{Stands, summed_up};
 ghost use Rattle.cap_summary.specs.View.{NodesCompose, NodesAlike};
 
-use crate::before::{Asked, Before};
+use crate::judging::Asked;
 use crate::known::{Known, Likeness};
 use crate::node::{Node, Rest};
+use cap_change::Before;
 use cap_machine::{Found, Machine, Start, Step};
 use cap_tree::{Meter, NoMemory, Segment};
 use std::alloc::Global;

@@ -1,6 +1,6 @@
-use Rattle.cap_summary.specs.declared.change.Change.{Change}
+use Rattle.cap_change.specs.declared.change.Change.{Change}
 use Rattle.std.proofs.Common.{sym, subst}
-use Rattle.cap_summary.specs.Changes.{JoinsTo}
+use Rattle.cap_change.specs.Changes.{JoinsTo}
 use Rattle.cap_summary.proofs.Knowing.{composed_before}
 use Rattle.cap_summary.proofs.known.Known.before.Goals as goal
 

@@ -3,9 +3,9 @@ use Rattle.cap_trace.specs.Entry.{Entry}
 use Rattle.cap_machine.specs.declared.step.Step.{Step}
 use Rattle.cap_machine.specs.Steps.{step}
 use Rattle.cap_summary.specs.declared.known.Known.{Known}
-use Rattle.cap_summary.specs.Does.{Does}
-use Rattle.cap_summary.specs.Names.{Names, EffectWithin, ChangeWithin}
-use Rattle.cap_summary.specs.LineConditions.{line_conditions}
+use Rattle.cap_change.specs.Does.{Does}
+use Rattle.cap_change.specs.Names.{Names, EffectWithin, ChangeWithin}
+use Rattle.cap_change.specs.LineConditions.{line_conditions}
 use Rattle.cap_summary.proofs.Knowing.{step_knows}
 use Rattle.cap_summary.proofs.known.Known.of_line.Goals as goal
 

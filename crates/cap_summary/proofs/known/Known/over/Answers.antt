@@ -1,8 +1,8 @@
 use Rattle.std.proofs.Common.{sym, ap, subst, ◌∙◌, ◌||◌}
 use Rattle.cap_machine.specs.State.{State}
-use Rattle.cap_summary.specs.declared.change.Change.{Change}
-use Rattle.cap_summary.specs.Changes.{JoinsTo}
-use Rattle.cap_summary.specs.Conditions.{any_holds}
+use Rattle.cap_change.specs.declared.change.Change.{Change}
+use Rattle.cap_change.specs.Changes.{JoinsTo}
+use Rattle.cap_change.specs.Conditions.{any_holds}
 use Rattle.cap_summary.proofs.Knowing.{composed_certain, always_found, met_found}
 use Rattle.cap_summary.proofs.known.Known.over.Goals as goal
 

@@ -1,11 +1,11 @@
 use Rattle.std.proofs.Common.{◌≡◌, false, ◌||◌, sym, ap, subst, ◌∙◌}
-use Rattle.cap_summary.specs.declared.change.Change.{Change}
-use Rattle.cap_summary.specs.declared.conditions.Condition.{Condition}
+use Rattle.cap_change.specs.declared.change.Change.{Change}
+use Rattle.cap_change.specs.declared.conditions.Condition.{Condition}
 use Rattle.std.proofs.Common.{List}
-use Rattle.cap_summary.specs.Changes.{JoinsTo}
-use Rattle.cap_summary.specs.Conditions.{any_holds}
-use Rattle.cap_summary.specs.Names.{ConditionsWithin}
-use Rattle.cap_summary.proofs.Bools.{first_false, second_false}
+use Rattle.cap_change.specs.Changes.{JoinsTo}
+use Rattle.cap_change.specs.Conditions.{any_holds}
+use Rattle.cap_change.specs.Names.{ConditionsWithin}
+use Rattle.cap_change.proofs.Bools.{first_false, second_false}
 use Rattle.cap_summary.proofs.Knowing.{composed_of, conditions_found}
 use Rattle.cap_summary.proofs.known.Known.with_conditions.Goals as goal
 

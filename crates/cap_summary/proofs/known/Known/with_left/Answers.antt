@@ -1,10 +1,10 @@
 use Rattle.std.proofs.Common.{sym, ap, subst, ◌∙◌}
-use Rattle.cap_summary.specs.declared.change.Change.{Change}
+use Rattle.cap_change.specs.declared.change.Change.{Change}
 use Rattle.cap_summary.specs.declared.known.Known.{Known}
-use Rattle.cap_summary.specs.Changes.{JoinsTo}
+use Rattle.cap_change.specs.Changes.{JoinsTo}
 use Rattle.std.specs.Prelude.{IfSome}
 use Rattle.cap_summary.specs.Knows.{Composes, IsLike, IsMoved}
-use Rattle.cap_summary.proofs.Earlier.{joins_left, none_differ}
+use Rattle.cap_change.proofs.Earlier.{joins_left, none_differ}
 use Rattle.cap_summary.proofs.Knowing.{moved_left, composed_left, composed_certain, always_found}
 use Rattle.cap_summary.proofs.known.Known.with_left.Goals as goal
 

@@ -1,9 +1,9 @@
 use Rattle.std.proofs.Common.{sym, ap, subst, ◌∙◌}
-use Rattle.cap_summary.specs.declared.change.Change.{Change}
+use Rattle.cap_change.specs.declared.change.Change.{Change}
 use Rattle.cap_summary.specs.declared.known.Known.{Known}
-use Rattle.cap_summary.specs.Changes.{JoinsTo}
+use Rattle.cap_change.specs.Changes.{JoinsTo}
 use Rattle.cap_summary.specs.Knows.{Composes, IsLike}
-use Rattle.cap_summary.proofs.Earlier.{joins_right, none_differ}
+use Rattle.cap_change.proofs.Earlier.{joins_right, none_differ}
 use Rattle.cap_summary.proofs.Knowing.{composed_right, composed_certain, always_found}
 use Rattle.cap_summary.proofs.known.Known.with_right.Goals as goal
 

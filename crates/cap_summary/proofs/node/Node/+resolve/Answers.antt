@@ -6,7 +6,7 @@ use Rattle.cap_machine.specs.State.{State}
 use Rattle.cap_machine.specs.declared.verdict.Found.{Found}
 use Rattle.cap_machine.specs.Check.{check}
 use Rattle.cap_machine.specs.Laws.{later}
-use Rattle.cap_summary.specs.Before.{state_before}
+use Rattle.cap_change.specs.Before.{state_before}
 use Rattle.cap_summary.specs.Knows.{Knows, finds}
 use Rattle.cap_summary.specs.Rest.{rest_steps}
 use Rattle.cap_tree.specs.Run.{values}

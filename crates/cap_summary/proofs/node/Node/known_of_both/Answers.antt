@@ -1,6 +1,7 @@
 use Rattle.cap_summary.specs.declared.known.Known.{Known}
 use Rattle.cap_summary.specs.Knows.{Knows, Composes}
-use Rattle.cap_summary.specs.Sizes.{NamesMany, ListMuch}
+use Rattle.cap_change.specs.Sizes.{NamesMany}
+use Rattle.cap_summary.specs.Listing.{ListMuch}
 use Rattle.cap_summary.proofs.Runs.{same_steps}
 use Rattle.cap_summary.proofs.Knowing.{composed_knows, many_right, much_many}
 use Rattle.cap_summary.proofs.node.Node.known_of_both.Goals as goal
