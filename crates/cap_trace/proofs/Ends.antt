@@ -54,29 +54,6 @@ eight_bytes a b m n x y e = sym (le_bytes_8 a (from_le_bytes w64 a) m x refl) �
 abbrev pub Bytes : List ℕ → Type 0
 Bytes l = (i : ℕ) → get_or l i 0 < 256
 
--- numbers that read k bytes at the beginning, and k at the end
-pub ends_decide : (k : ℕ) (read : List ℕ → ℕ) (a b : List ℕ) (last p q x y : ℕ)
-    → ((s t : List ℕ) → length s ≡ k → length t ≡ k → Bytes s → Bytes t → read s ≡ read t → s ≡ t)
-    → length a ≡ length b → last + k ≡ length a → last ≤ k → Bytes a → Bytes b
-    → p ≡ read (take k a) → q ≡ read (take k b) → p ≡ q
-    → x ≡ read (take k (drop last a)) → y ≡ read (take k (drop last b)) → nat_eq x y ≡ bytes_eq a b
-ends_decide k read a b last p q x y same sizes all over u v first second equal third fourth =
-    let size_a : length (drop last a) ≡ k = omega (arith, all, length-drop last a) in
-    let size_b : length (drop last b) ≡ k = omega (arith, all, sizes, length-drop last b) in
-    same_from_decides (nat_eq x y) (bytes_eq a b) (
-      (λ h. ends_agree k last a b sizes (omega (arith, all)) over
-          (same (take k a) (take k b) (length-take-le k a (omega (arith, all)))
-          (length-take-le k b (omega (arith, all, sizes))) (in_bytes k a (omega (arith, all)) u)
-          (in_bytes k b (omega (arith, all, sizes)) v) (sym first ∙ equal ∙ second))
-          (same (take k (drop last a)) (take k (drop last b)) (length-take-le k (drop last a) (omega (arith, size_a)))
-          (length-take-le k (drop last b) (omega (arith, size_b)))
-          (in_bytes k (drop last a) (omega (arith, size_a)) (λ i. late_byte last a i (u (last + i))))
-          (in_bytes k (drop last b) (omega (arith, size_b)) (λ i. late_byte last b i (v (last + i))))
-          (sym third ∙ (Decides-eqb x y).0 h ∙ fourth))),
-      (λ e. (Decides-eqb x y).1 (third ∙ ap (λ (l : List ℕ). read (take k (drop last l))) e ∙ sym fourth)),
-    )
-    (bytes_eq-Decides a b)
-
 -- the whole texts are the same where k bytes at the beginning and at the end are read as the same numbers
 ends_same : (k : ℕ) (read : List ℕ → ℕ) (a b : List ℕ)
     → ((s t : List ℕ) → length s ≡ k → length t ≡ k → Bytes s → Bytes t → read s ≡ read t → s ≡ t)

@@ -1,14 +1,13 @@
 -- The place of the first such byte: none comes before it.
-use Rattle.std.proofs.Common.{◌≡◌, ℕ, ◌<◌, ◌≤◌, ◌==◌, Bool, true, false, cond, List, length, get_or, Some}
-use Rattle.std.proofs.Common.{None, refl, sym, ap, ◌∙◌, arith, ⊎_elim, nat_lt}
+use Rattle.std.proofs.Common.{◌≡◌, ℕ, ◌<◌, ◌≤◌, ◌==◌, Bool, true, false, not, cond, List, length, get_or, Some}
+use Rattle.std.proofs.Common.{None, refl, sym, ap, ◌∙◌, arith, nat_lt}
 use Rattle.std.specs.List.{position, position_or_len}
 use Rattle.std.proofs.lemmas.List.Sums.{position_or_len_is}
-use Rattle.std.proofs.lemmas.Bool.{cases_lt, le-ltb}
+use Rattle.std.proofs.lemmas.Bool.{le-ltb}
 use Rattle.std.proofs.lemmas.Bool.Decides.{Decides-eqb, Decides-ltb}
-use Rattle.cap_trace.specs.Quotes.{Misses, IsFirst}
-
-pub misses_on : (stop : ℕ) (xs : List ℕ) (i j k : ℕ) → Misses stop xs i j → Misses stop xs j k → Misses stop xs i k
-misses_on stop xs i j k m n = λ at low high. ⊎_elim (λ early. m at low early) (λ late. n at late high) (cases_lt at j)
+use Rattle.cap_trace.specs.Runs.{Runs, RunsTo}
+use Rattle.cap_trace.specs.declared.runs.Run.TheVariants.{Until}
+use Rattle.cap_trace.proofs.ByteRuns.{runs_on}
 
 is_at : (p : ℕ → Bool) (xs : List ℕ) (i : ℕ) → position_or_len p xs ≡ i → i < length xs → Some i ≡ position p xs
 is_at p xs i e h =
@@ -20,22 +19,29 @@ is_none p xs n e h =
     let b : nat_lt n (length xs) ≡ false = le-ltb n (length xs) h in
     sym (ap (λ (n : ℕ). cond (nat_lt n (length xs)) (Some n) None) e ∙ ap (λ (t : Bool). cond t (Some n) None) b)
 
-off : (b : Bool) → (b ≡ true → ⊥) → b ≡ false
-off true h = absurd (h refl)
+off : (b : Bool) → not b ≡ true → b ≡ false
+off true h = absurd cc
 off false h = refl
 
-missed : (stop : ℕ) (xs : List ℕ) (i : ℕ) → Misses stop xs 0 i → (k : ℕ) → k < i → (get_or xs k 0 == stop) ≡ false
-missed stop xs i m k h = off (get_or xs k 0 == stop) (λ e. m k (omega arith) h ((Decides-eqb (get_or xs k 0) stop).0 e))
+on : (b : Bool) → not b ≡ false → b ≡ true
+on true h = refl
+on false h = absurd cc
 
-pub first_is : (stop : ℕ) (xs : List ℕ) (from i : ℕ) → Misses stop xs 0 from → IsFirst stop xs from i
+pub stops_at : (c stop : ℕ) → c ≡ stop → not (c == stop) ≡ false
+stops_at c stop e = ap not ((Decides-eqb c stop).1 e)
+
+missed : (stop : ℕ) (xs : List ℕ) (i : ℕ) → Runs (Until stop) xs 0 i → (k : ℕ) → k < i → (get_or xs k 0 == stop) ≡ false
+missed stop xs i m k h = off (get_or xs k 0 == stop) (m k (omega arith) h)
+
+pub first_is : (stop : ℕ) (xs : List ℕ) (from i : ℕ) → Runs (Until stop) xs 0 from → RunsTo (Until stop) xs from i
     → Some i ≡ position (λ x. x == stop) xs
 first_is stop xs from i m f =
     is_at (λ x. x == stop) xs i
     (position_or_len_is (λ x. x == stop) xs i 0 (omega (arith, f.1))
-    (missed stop xs i (misses_on stop xs 0 from i m f.2)) (λ h. (Decides-eqb (get_or xs i 0) stop).1 f.3))
+    (missed stop xs i (runs_on (Until stop) xs 0 from i m f.2)) (λ h. on (get_or xs i 0 == stop) f.3))
     f.1
 
-pub none_is : (stop : ℕ) (xs : List ℕ) (n : ℕ) → Misses stop xs 0 n → n ≡ length xs
+pub none_is : (stop : ℕ) (xs : List ℕ) (n : ℕ) → Runs (Until stop) xs 0 n → n ≡ length xs
     → None ≡ position (λ x. x == stop) xs
 none_is stop xs n m e =
     is_none (λ x. x == stop) xs n

@@ -38,18 +38,6 @@ fn eight(text: &[u8], from: usize) -> u64
     u64::from_le_bytes(bytes)
 }
 
-/// Whether two texts of 4 to 8 bytes are the same: the first four bytes, and the last four.
-#[inline(always)]
-pub(crate) fn same_by_fours(left: &[u8], right: &[u8]) -> bool
-    requires sizes { length left.now ≡ length right.now }
-    requires least { 4 ≤ length left.now }
-    requires most { length left.now ≤ 8 }
-    ensures { result ≡ bytes_eq left.now right.now }
-{
-    let last = left.len() - 4;
-    four(left, 0) == four(right, 0) && four(left, last) == four(right, last)
-}
-
 /// The first bytes of a text as one number, and the last: eight bytes, or four or two of a shorter text.
 #[inline(always)]
 pub(crate) fn ends(text: &[u8]) -> (u64, u64)

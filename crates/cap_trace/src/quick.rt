@@ -15,11 +15,11 @@ ghost use Rattle.cap_trace.specs.Quick.{Before, SpellsAfter, Starts};
 
 use crate::answers::answer;
 use crate::calls::{AtFlagsCall, BareCall, FdCall, FlagsCall, Form, Kind, PathCall};
-use crate::equal::same_by_fours;
+use crate::equal::same_by_ends;
 use crate::limits::{LARGEST_FD, LARGEST_PID, LONGEST_LINE};
 use crate::line::{Answer, Call, Dir, Fd, Pid};
 use crate::names::{Head, head_of};
-use crate::quotes::{cut, early_place};
+use crate::quotes::cut;
 use crate::runs::Run;
 use crate::scan_fields::{command_of, dir_of, free_of, rights_of};
 use crate::seen::fcntl_kind;
@@ -173,7 +173,7 @@ fn number_after(tail: &[u8]) -> Option<u32>
     ensures { IfSome result (λ n. tail.now ≡ codes " RET " ++ decimal n) }
 {
     let (word, text) = tail.split_at_checked(5)?;
-    if same_by_fours(word, b" RET ") {
+    if same_by_ends(word, b" RET ") {
         short_number_of(text)
     } else {
         None
@@ -373,7 +373,7 @@ fn name_before_bracket(text: &[u8]) -> Option<(&[u8], &[u8])>
     if text.len() < SHORTEST_NAME {
         return None;
     }
-    let at = early_place(b'(', text, SHORTEST_NAME)?;
+    let at = Run::Until(b'(').end(text, SHORTEST_NAME)?;
     Some((&text[..at], &text[at + 1..]))
 }
 

@@ -1,4 +1,5 @@
-//! Where the bytes end that may stand in a name of a flag, or for themselves in a path: by tables, four at a time.
+//! Where the bytes end that may stand in a name of a flag, or for themselves in a path, or that aren't some byte: four at a
+//! time.
 
 ghost use Rattle.std.specs.Prelude.{◌≡◌, ◌≤◌, ◌+◌, length, IfSome, MatchOption};
 ghost use Rattle.cap_trace.specs.Runs.{has, Runs, RunsTo};
@@ -12,6 +13,8 @@ pub(crate) enum Run {
     Name,
     /// A path without escapes.
     Path,
+    /// Any other bytes than this one.
+    Until(u8),
 }
 
 impl Run {
@@ -22,12 +25,13 @@ impl Run {
         match self {
             Run::Name => flag_byte(byte),
             Run::Path => plain(byte),
+            Run::Until(stop) => byte != stop,
         }
     }
 
     /// The place of the first of four bytes that doesn't belong to the run.
     #[inline(always)]
-    fn end_in_four(self, text: &[u8], from: usize) -> Option<usize>
+    pub(crate) fn end_in_four(self, text: &[u8], from: usize) -> Option<usize>
         requires { from + 4 ≤ length text.now }
         ensures { MatchOption result (Runs self text.now from (from + 4)) (λ i. RunsTo self text.now from i) }
     {
