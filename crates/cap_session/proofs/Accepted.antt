@@ -35,7 +35,7 @@ accepted_edits_give limit trace (edit ∷ edits) [] = refl
 accepted_edits_give limit trace (edit ∷ edits) (w ∷ ws) =
     gives_more limit trace edit edits w ws (edited limit trace edit) refl (λ t. accepted_edits_give limit t edits ws)
 
--- ---- want of memory
+-- ---- out of memory
 
 unless : (b : Bool) (r : Result (List Entry) Refused) (e : Refused) → r ≢ Err Memory → e ≢ Memory
     → (if b then r else Err e) ≢ Err Memory

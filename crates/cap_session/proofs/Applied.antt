@@ -9,22 +9,22 @@ use Rattle.cap_session.specs.declared.refused.Refused.TheVariants.{LongLine, Sha
 use Rattle.cap_session.specs.declared.refused.Refused.TheVariants.{Position, Full, Memory}
 use Rattle.cap_session.specs.declared.edit.Edit.{Edit}
 use Rattle.cap_session.specs.Edits.{edited, trace_after, answer, after, answers}
-use Rattle.cap_session.specs.Session.{SessionState, RefusesExactly, is_wanted, wanted}
+use Rattle.cap_session.specs.Session.{SessionState, RefusesExactly, is_out_of_memory, ran_out}
 
--- an edit answers, and leaves, what memory that was wanted or not makes of what was asked
+-- what an edit answers and leaves, by what was asked for and whether memory ran out
 pub record Does (old new : SessionState) (asked : Result (List Entry) Refused) (a : Result ℕ Refused) : Type 0 where
-  pub answers : a ≡ answer (is_wanted a) asked
-  pub trace : new.trace ≡ trace_after old.trace (is_wanted a) asked
+  pub answers : a ≡ answer (is_out_of_memory a) asked
+  pub trace : new.trace ≡ trace_after old.trace (is_out_of_memory a) asked
 
 is_refused : (old new : SessionState) (asked : Result (List Entry) Refused) (e : Refused)
-    → is_wanted (Err e) ≡ is_wanted (Err e) → asked ≡ Err e → new ≡ old → Does old new asked (Err e)
+    → is_out_of_memory (Err e) ≡ is_out_of_memory (Err e) → asked ≡ Err e → new ≡ old → Does old new asked (Err e)
 is_refused old new asked e same is kept =
     rw is (record { answers = refl; trace = ap (λ (s : SessionState). s.trace) kept })
 
-wanting : (old new : SessionState) (asked : Result (List Entry) Refused) → IsOk asked → new ≡ old
+out_of_memory : (old new : SessionState) (asked : Result (List Entry) Refused) → IsOk asked → new ≡ old
     → Does old new asked (Err Memory)
-wanting old new (Ok next) ok kept = record { answers = refl; trace = ap (λ (s : SessionState). s.trace) kept }
-wanting old new (Err e) ok kept = absurd (cc)
+out_of_memory old new (Ok next) ok kept = record { answers = refl; trace = ap (λ (s : SessionState). s.trace) kept }
+out_of_memory old new (Err e) ok kept = absurd (cc)
 
 made : (old new : SessionState) (asked : Result (List Entry) Refused) (n : ℕ) → asked ≡ Ok new.trace
     → n ≡ length new.trace → Does old new asked (Ok n)
@@ -34,7 +34,7 @@ pub does : (old new : SessionState) (asked : Result (List Entry) Refused) (a : R
     IfOk a (λ n. (asked ≡ Ok new.trace) × (n ≡ length new.trace)) → RefusesExactly asked a
     → (a ≡ Err Memory → IsOk asked) → OnErr a (new ≡ old) → Does old new asked a
 does old new asked (Ok n) accepted refused memory kept = made old new asked n accepted.0 accepted.1
-does old new asked (Err Memory) accepted refused memory kept = wanting old new asked (memory refl) kept
+does old new asked (Err Memory) accepted refused memory kept = out_of_memory old new asked (memory refl) kept
 does old new asked (Err LongLine) accepted refused memory kept =
     is_refused old new asked LongLine refl ((refused LongLine (λ e. cc)).0 refl) kept
 does old new asked (Err Shape) accepted refused memory kept =
@@ -79,23 +79,23 @@ pub record HasMade (old new : SessionState) (edits : List Edit) (answered : List
   pub each : length answered ≡ length edits
   pub limit : new.limit ≡ old.limit
   pub profile : new.profile ≡ old.profile
-  pub trace : new.trace ≡ after old.limit old.trace edits (wanted answered)
-  pub answers : answered ≡ answers old.limit old.trace edits (wanted answered)
+  pub trace : new.trace ≡ after old.limit old.trace edits (ran_out answered)
+  pub answers : answered ≡ answers old.limit old.trace edits (ran_out answered)
 
 pub made_none : (s : SessionState) → HasMade s s [] []
 made_none s = record { each = refl; limit = refl; profile = refl; trace = refl; answers = refl }
 
--- what was wanted for one answer more
-wanted-append : (answered : List (Result ℕ Refused)) (a : Result ℕ Refused)
-    → wanted (answered ++ a ∷ []) ≡ wanted answered ++ is_wanted a ∷ []
-wanted-append answered a = map-append is_wanted answered (a ∷ [])
+-- whether memory ran out, for one answer more
+ran_out-append : (answered : List (Result ℕ Refused)) (a : Result ℕ Refused)
+    → ran_out (answered ++ a ∷ []) ≡ ran_out answered ++ is_out_of_memory a ∷ []
+ran_out-append answered a = map-append is_out_of_memory answered (a ∷ [])
 
 pub made_more : (old mid new : SessionState) (edits : List Edit) (answered : List (Result ℕ Refused)) (e : Edit)
     (a : Result ℕ Refused) →
     HasMade old mid edits answered → new.limit ≡ mid.limit → new.profile ≡ mid.profile
     → Does mid new (edited mid.limit mid.trace e) a → HasMade old new (edits ++ e ∷ []) (answered ++ a ∷ [])
 made_more old mid new edits answered e a before limit profile step =
-    let same : length (wanted answered) ≡ length edits = length-map answered is_wanted ∙ before.each in
+    let same : length (ran_out answered) ≡ length edits = length-map answered is_out_of_memory ∙ before.each in
     let trace = rw (before.limit, before.trace) at step.trace in
     let seen = rw (before.limit, before.trace) at step.answers in
     record {
@@ -103,12 +103,12 @@ made_more old mid new edits answered e a before limit profile step =
       limit = limit ∙ before.limit;
       profile = profile ∙ before.profile;
       trace =
-          rw (wanted-append answered a, after-append old.limit old.trace edits (wanted answered) e (is_wanted a) same)
+          rw (ran_out-append answered a, after-append old.limit old.trace edits (ran_out answered) e (is_out_of_memory a) same)
           trace;
       answers =
-          rw (wanted-append answered a, answers-append old.limit old.trace edits (wanted answered) e (is_wanted a) same)
+          rw (ran_out-append answered a, answers-append old.limit old.trace edits (ran_out answered) e (is_out_of_memory a) same)
           (ap (λ all. all ++ a ∷ []) before.answers
-          ∙ ap (λ b. answers old.limit old.trace edits (wanted answered) ++ b ∷ []) seen);
+          ∙ ap (λ b. answers old.limit old.trace edits (ran_out answered) ++ b ∷ []) seen);
     }
 
 -- the edit at the index is made, after those before it

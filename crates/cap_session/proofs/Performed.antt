@@ -8,7 +8,7 @@ use Rattle.cap_session.specs.declared.refused.Refused.{Refused}
 use Rattle.cap_session.specs.declared.refused.Refused.TheVariants.{LongLine, Shape, Pid, Argument, Right, Answer}
 use Rattle.cap_session.specs.declared.refused.Refused.TheVariants.{Position, Full, Memory}
 use Rattle.cap_session.specs.Session.{SessionState, RefusesExactly}
-use Rattle.cap_session.specs.Replies.{edit_done, commanded, may_want}
+use Rattle.cap_session.specs.Replies.{edit_done, commanded, may_run_out}
 use Rattle.cap_session.specs.Commands.{Asked, asked}
 use Rattle.cap_session.specs.Performs.{Performs, text_of}
 use Rattle.cap_session.specs.Scripts.{Commands}
@@ -26,10 +26,10 @@ edit_commanded profile t (Insert position line) = refl
 edit_commanded profile t (Delete position) = refl
 edit_commanded profile t (Replace position line) = refl
 
-edit_wants : (e : Edit) → IsTrue (may_want (edit_asked e))
-edit_wants (Insert position line) = refl
-edit_wants (Delete position) = refl
-edit_wants (Replace position line) = refl
+edit_may_run_out : (e : Edit) → IsTrue (may_run_out (edit_asked e))
+edit_may_run_out (Insert position line) = refl
+edit_may_run_out (Delete position) = refl
+edit_may_run_out (Replace position line) = refl
 
 done_ok : (asked : Result (List Entry) Refused) → IsOk asked → IsOk (edit_done asked)
 done_ok (Ok next) ok = ok
@@ -56,9 +56,9 @@ not_made asked Full refused memory = inl (seen asked Full ((refused Full (λ e. 
 
 as_command : (profile : Profile) (t : List Entry) (e : Edit) (why : NotDone) → NotMade (edited 1000000 t e) why
     → (commanded profile t (edit_asked e) ≡ Err why)
-    ⊎ ((why ≡ NotDone.Refused Memory) × IsOk (commanded profile t (edit_asked e)) × IsTrue (may_want (edit_asked e)))
+    ⊎ ((why ≡ NotDone.Refused Memory) × IsOk (commanded profile t (edit_asked e)) × IsTrue (may_run_out (edit_asked e)))
 as_command profile t e why (inl is) = inl (edit_commanded profile t e ∙ is)
-as_command profile t e why (inr is) = inr (is.0, rw (edit_commanded profile t e) is.1, edit_wants e)
+as_command profile t e why (inr is) = inr (is.0, rw (edit_commanded profile t e) is.1, edit_may_run_out e)
 
 -- an edit was not made
 pub edit_refused : (old new : SessionState) (e : Edit) (refused : Refused) → old.limit ≡ 1000000
@@ -66,7 +66,7 @@ pub edit_refused : (old new : SessionState) (e : Edit) (refused : Refused) → o
     (◌≡◌ {A = Result ℕ Refused} (Err refused) (Err Memory) → IsOk (edited old.limit old.trace e)) → new ≡ old →
     (new.trace ≡ old.trace) × ((commanded old.profile old.trace (edit_asked e) ≡ Err (NotDone.Refused refused))
     ⊎ ((NotDone.Refused refused ≡ NotDone.Refused Memory)
-    × IsOk (commanded old.profile old.trace (edit_asked e)) × IsTrue (may_want (edit_asked e))))
+    × IsOk (commanded old.profile old.trace (edit_asked e)) × IsTrue (may_run_out (edit_asked e))))
 edit_refused old new e refused limit says memory kept = (
   ap (λ (s : SessionState). s.trace) kept,
   as_command old.profile old.trace e (NotDone.Refused refused)

@@ -39,7 +39,7 @@ edit_or_not profile (show_line k) = inr (record {
     | Delete p ↦ λ is. cc
     | Replace p l ↦ λ is. cc
   ];
-  keeps = λ t u text is. elim is [ inl seen ↦ shown_keeps t u line_feed text (shown t k) seen | inr wants ↦ wants.3 ];
+  keeps = λ t u text is. elim is [ inl seen ↦ shown_keeps t u line_feed text (shown t k) seen | inr ran_out ↦ ran_out.3 ];
 })
 edit_or_not profile count_lines = inr (record {
   none = λ edit. elim edit as (λ e. count_lines ≡ edit_asked e → ⊥) [
@@ -47,7 +47,7 @@ edit_or_not profile count_lines = inr (record {
     | Delete p ↦ λ is. cc
     | Replace p l ↦ λ is. cc
   ];
-  keeps = λ t u text is. elim is [ inl seen ↦ seen.1 | inr wants ↦ wants.3 ];
+  keeps = λ t u text is. elim is [ inl seen ↦ seen.1 | inr ran_out ↦ ran_out.3 ];
 })
 edit_or_not profile report_all = inr (record {
   none = λ edit. elim edit as (λ e. report_all ≡ edit_asked e → ⊥) [
@@ -55,7 +55,7 @@ edit_or_not profile report_all = inr (record {
     | Delete p ↦ λ is. cc
     | Replace p l ↦ λ is. cc
   ];
-  keeps = λ t u text is. elim is [ inl seen ↦ seen.1 | inr wants ↦ wants.3 ];
+  keeps = λ t u text is. elim is [ inl seen ↦ seen.1 | inr ran_out ↦ ran_out.3 ];
 })
 edit_or_not profile (report_lines a b) = inr (record {
   none = λ edit. elim edit as (λ e. report_lines a b ≡ edit_asked e → ⊥) [
@@ -65,7 +65,7 @@ edit_or_not profile (report_lines a b) = inr (record {
   ];
   keeps = λ t u text is. elim is [
     | inl seen ↦ shown_keeps t u [] text (ranged profile t a b) seen
-    | inr wants ↦ wants.3
+    | inr ran_out ↦ ran_out.3
   ];
 })
 edit_or_not profile unknown = inr (record {
@@ -74,15 +74,15 @@ edit_or_not profile unknown = inr (record {
     | Delete p ↦ λ is. cc
     | Replace p l ↦ λ is. cc
   ];
-  keeps = λ t u text is. elim is [ inl seen ↦ seen.1 | inr wants ↦ wants.3 ];
+  keeps = λ t u text is. elim is [ inl seen ↦ seen.1 | inr ran_out ↦ ran_out.3 ];
 })
 
 -- what one line does
 record Edits (t : List Entry) (line : List ℕ) (u : List Entry) : Type 0 where
   edit : Edit
   asks : Asks line edit
-  want : Bool
-  moves : u ≡ trace_after t want (edited most_lines t edit)
+  ran_out : Bool
+  moves : u ≡ trace_after t ran_out (edited most_lines t edit)
 
 record Stays (t : List Entry) (line : List ℕ) (u : List Entry) : Type 0 where
   none : AsksNone line
@@ -101,7 +101,7 @@ line_does profile false false t u line text long is_so is =
       | inl edit ↦
           let done =
           edit_replied profile t u text edit.0 (subst (λ (a : Asked). Commands profile t a text u) edit.1 does) in
-          inl (record { edit = edit.0; asks = (long, is_so, edit.1); want = done.0; moves = done.1 })
+          inl (record { edit = edit.0; asks = (long, is_so, edit.1); ran_out = done.0; moves = done.1 })
       | inr passes ↦ inr (record { none = λ edit asks. passes.none edit asks.2; same = passes.keeps t u text does })
     ]
 
@@ -115,7 +115,7 @@ pub script_leaves_what_edits_give : ScriptLeavesWhatEditsGive
 script_leaves_what_edits_give profile trace left [] text run = record {
   edits = [];
   asked = tt;
-  wanted = [];
+  ran_out = [];
   each = refl;
   leaves = run.1;
 }
@@ -126,16 +126,16 @@ script_leaves_what_edits_give profile trace left (line ∷ lines) text run =
       | inl one ↦ record {
         edits = one.edit ∷ others.edits;
         asked = inr (one.asks, others.asked);
-        wanted = one.want ∷ others.wanted;
+        ran_out = one.ran_out ∷ others.ran_out;
         each = ap suc others.each;
-        leaves = others.leaves ∙ ap (λ (t : List Entry). after most_lines t others.edits others.wanted) one.moves;
+        leaves = others.leaves ∙ ap (λ (t : List Entry). after most_lines t others.edits others.ran_out) one.moves;
       }
       | inr none ↦ record {
         edits = others.edits;
         asked = passed_over line lines others.edits none.none others.asked;
-        wanted = others.wanted;
+        ran_out = others.ran_out;
         each = others.each;
-        leaves = others.leaves ∙ ap (λ (t : List Entry). after most_lines t others.edits others.wanted) none.same;
+        leaves = others.leaves ∙ ap (λ (t : List Entry). after most_lines t others.edits others.ran_out) none.same;
       }
     ]
 

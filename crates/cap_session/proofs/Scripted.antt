@@ -15,7 +15,7 @@ use Rattle.cap_session.specs.Limits.{most_lines}
 use Rattle.cap_session.specs.Scripts.{RepliesTo, Commands, Answers}
 use Rattle.cap_session.specs.declared.script.NotDone.{NotDone}
 use Rattle.cap_session.proofs.Performed.{edit_commanded}
-use Rattle.cap_session.specs.ScriptLaws.{Asks, answer_text, ReportOrWant, ScriptReportsWhatEditsGive}
+use Rattle.cap_session.specs.ScriptLaws.{Asks, answer_text, ReportOrOutOfMemory, ScriptReportsWhatEditsGive}
 
 -- the reply to a line that is neither too long nor skipped is that to its command
 commands : (long skipped : Bool) (a b c : Type 0) → long ≡ false → skipped ≡ false
@@ -33,16 +33,16 @@ seen : (t u : List Entry) (text : List ℕ) (r : Result (List Entry) Refused) �
 seen t u text (Ok next) is = (false, is.1, is.0)
 seen t u text (Err e) is = (false, is.1, is.0)
 
-wanted : (t u : List Entry) (text : List ℕ) (r : Result (List Entry) Refused) → IsOk (edit_done r)
+out_of_memory : (t u : List Entry) (text : List ℕ) (r : Result (List Entry) Refused) → IsOk (edit_done r)
     → text ≡ refused_text 9 → u ≡ t → EditReplied t r text u
-wanted t u text (Ok next) ok is stays = (true, stays, is)
-wanted t u text (Err e) ok is stays = absurd (cc)
+out_of_memory t u text (Ok next) ok is stays = (true, stays, is)
+out_of_memory t u text (Err e) ok is stays = absurd (cc)
 
 pub edit_replied : (profile : Profile) (t u : List Entry) (text : List ℕ) (e : Edit)
     → Commands profile t (edit_asked e) text u → EditReplied t (edited most_lines t e) text u
 edit_replied profile t u text e (inl is) = seen t u text (edited most_lines t e)
     (subst (λ (r : Result Done NotDone). RepliesTo t r text u) (edit_commanded profile t e) is)
-edit_replied profile t u text e (inr is) = wanted t u text (edited most_lines t e)
+edit_replied profile t u text e (inr is) = out_of_memory t u text (edited most_lines t e)
     (subst (λ (r : Result Done NotDone). IsOk r) (edit_commanded profile t e) is.1) is.2 is.3
 
 answered : (profile : Profile) (t u : List Entry) (line text : List ℕ) (e : Edit) → Asks line e
@@ -53,7 +53,7 @@ answered profile t u line text e asks is =
 
 -- the reply to `report`
 pub reported : (profile : Profile) (t u : List Entry) (text : List ℕ) → Answers profile t (codes "report") text u
-    → (u ≡ t) × ReportOrWant profile t text
+    → (u ≡ t) × ReportOrOutOfMemory profile t text
 unfolding first_word after_word
 reported profile t u text (inl is) = (is.1, inl is.0)
 reported profile t u text (inr is) = (is.3, inr is.2)
@@ -68,7 +68,7 @@ script_reports_what_edits_give profile t left [] [] text asks run =
       refl,
       stays,
       cut ∙ ap (λ (r : List ℕ). first ++ r) more.0 ∙ append-nil first,
-      subst (λ (u : List Entry). ReportOrWant profile u first) (sym stays) last.1,
+      subst (λ (u : List Entry). ReportOrOutOfMemory profile u first) (sym stays) last.1,
     )
 script_reports_what_edits_give profile t left (line ∷ lines) (edit ∷ edits) text asks run =
     let (first, mid, rest, answer_is, more, cut) = run in

@@ -23,8 +23,8 @@ given limit trace (edit ∷ edits) = elim (edited limit trace edit) [ Ok next �
 
 -- The trace after edits is the one that those that were accepted give: with the others left out, none is refused.
 abbrev pub AcceptedEditsGive : Type 0
-AcceptedEditsGive = (limit : ℕ) (trace : List Entry) (edits : List Edit) (wanted : List Bool) →
-    given limit trace (accepted edits (answers limit trace edits wanted)) ≡ Ok (after limit trace edits wanted)
+AcceptedEditsGive = (limit : ℕ) (trace : List Entry) (edits : List Edit) (ran_out : List Bool) →
+    given limit trace (accepted edits (answers limit trace edits ran_out)) ≡ Ok (after limit trace edits ran_out)
 
 -- No edit is refused with `Memory` by its definition.
 abbrev pub NoEditAsksForMemory : Type 0

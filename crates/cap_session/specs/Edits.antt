@@ -50,29 +50,29 @@ edited limit trace (Replace position line) = replaced trace position line.now
 
 -- ---- edits one after the other, from the left
 
--- An edit that is refused leaves the trace, and so does one for which memory was wanted.
+-- An edit that is refused leaves the trace, and so does one for which memory ran out.
 abbrev pub trace_after : List Entry → Bool → Result (List Entry) Refused → List Entry
-trace_after trace wanted (Err e) = trace
+trace_after trace ran_out (Err e) = trace
 trace_after trace true (Ok next) = trace
 trace_after trace false (Ok next) = next
 
--- An accepted edit answers how many lines there are now. Memory is wanted only for an edit that isn't refused.
+-- An accepted edit answers how many lines there are now. Memory runs out only for an edit that isn't refused.
 abbrev pub answer : Bool → Result (List Entry) Refused → Result ℕ Refused
-answer wanted (Err e) = Err e
+answer ran_out (Err e) = Err e
 answer true (Ok next) = Err Memory
 answer false (Ok next) = Ok (length next)
 
--- the trace after edits; `wanted` says for which of them memory was wanted
+-- the trace after edits; `ran_out` says for which of them memory ran out
 abbrev pub after : ℕ → List Entry → List Edit → List Bool → List Entry
-after limit trace (edit ∷ edits) (wanted ∷ more) =
-    after limit (trace_after trace wanted (edited limit trace edit)) edits more
+after limit trace (edit ∷ edits) (ran_out ∷ more) =
+    after limit (trace_after trace ran_out (edited limit trace edit)) edits more
 after limit trace [] _ = trace
 after limit trace (edit ∷ edits) [] = trace
 
 -- what each of them answers
 abbrev pub answers : ℕ → List Entry → List Edit → List Bool → List (Result ℕ Refused)
-answers limit trace (edit ∷ edits) (wanted ∷ more) =
-    answer wanted (edited limit trace edit)
-    ∷ answers limit (trace_after trace wanted (edited limit trace edit)) edits more
+answers limit trace (edit ∷ edits) (ran_out ∷ more) =
+    answer ran_out (edited limit trace edit)
+    ∷ answers limit (trace_after trace ran_out (edited limit trace edit)) edits more
 answers limit trace [] _ = []
 answers limit trace (edit ∷ edits) [] = []

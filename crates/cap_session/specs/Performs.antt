@@ -5,7 +5,7 @@ use Rattle.cap_trace.specs.Entry.{Entry}
 use Rattle.cap_machine.specs.declared.cell.Profile.{Profile}
 use Rattle.cap_session.specs.Commands.{Asked, insert_line, replace_line, delete_line, show_line, count_lines}
 use Rattle.cap_session.specs.Commands.{report_all, report_lines, unknown}
-use Rattle.cap_session.specs.Replies.{commanded, may_want}
+use Rattle.cap_session.specs.Replies.{commanded, may_run_out}
 use Rattle.cap_session.specs.declared.edit.Edit.{Edit}
 use Rattle.cap_session.specs.declared.edit.Edit.TheVariants.{Insert, Delete, Replace}
 use Rattle.cap_session.specs.declared.refused.Refused.TheVariants.{Memory}
@@ -33,9 +33,9 @@ abbrev pub text_of : Reply → List ℕ
 text_of (Short text) = text
 text_of (Long text) = text.items
 
--- A command was done and has its reply, or it isn't done for this reason, or memory was wanted for it. The trace goes
+-- A command was done and has its reply, or it isn't done for this reason, or memory ran out for it. The trace goes
 -- from t to u.
 abbrev pub Performs : Profile → List Entry → Asked → Result Reply NotDone → List Entry → Type 0
 Performs profile t ask (Ok reply) u = commanded profile t ask ≡ Ok (record { text = text_of reply; trace = u })
 Performs profile t ask (Err why) u = (u ≡ t) × ((commanded profile t ask ≡ Err why)
-    ⊎ ((why ≡ NotDone.Refused Memory) × IsOk (commanded profile t ask) × IsTrue (may_want ask)))
+    ⊎ ((why ≡ NotDone.Refused Memory) × IsOk (commanded profile t ask) × IsTrue (may_run_out ask)))

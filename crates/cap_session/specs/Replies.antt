@@ -88,16 +88,16 @@ commanded profile trace report_all = Ok (record { text = report usual (steps pro
 commanded profile trace (report_lines a b) = shown_done trace [] (ranged profile trace a b)
 commanded profile trace unknown = Err NotDone.Unknown
 
--- Memory may be wanted for every command that isn't refused, but for `count`.
-abbrev pub may_want : Asked → Bool
-may_want count_lines = false
-may_want (insert_line k line) = true
-may_want (replace_line k line) = true
-may_want (delete_line k) = true
-may_want (show_line k) = true
-may_want report_all = true
-may_want (report_lines a b) = true
-may_want unknown = false
+-- Memory may run out for every command that isn't refused, but for `count`.
+abbrev pub may_run_out : Asked → Bool
+may_run_out count_lines = false
+may_run_out (insert_line k line) = true
+may_run_out (replace_line k line) = true
+may_run_out (delete_line k) = true
+may_run_out (show_line k) = true
+may_run_out report_all = true
+may_run_out (report_lines a b) = true
+may_run_out unknown = false
 
 -- `refused E7` and LF
 abbrev pub refused_text : ℕ → List ℕ

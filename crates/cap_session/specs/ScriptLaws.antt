@@ -35,18 +35,18 @@ answer_text (Ok count) = codes "ok " ++ decimal count ++ line_feed
 answer_text (Err e) = refused_text (code_of e)
 
 -- The report of a trace, or the reply where memory ran out for it.
-abbrev pub ReportOrWant : Profile → List Entry → List ℕ → Type 0
-ReportOrWant profile trace text = (text ≡ report usual (steps profile trace)) ⊎ (text ≡ refused_text 9)
+abbrev pub ReportOrOutOfMemory : Profile → List Entry → List ℕ → Type 0
+ReportOrOutOfMemory profile trace text = (text ≡ report usual (steps profile trace)) ⊎ (text ≡ refused_text 9)
 
 -- After the lines of any edits, `report` is replied to with the report of the trace that the edits leave, one after the
--- other, and before it stands what each edit answers. For which of them memory was wanted is left open.
+-- other, and before it stands what each edit answers. For which of them memory ran out is left open.
 abbrev pub ScriptReportsWhatEditsGive : Type 0
 ScriptReportsWhatEditsGive =
     (profile : Profile) (trace left : List Entry) (lines : List (List ℕ)) (edits : List Edit) (text : List ℕ) →
     AskAll lines edits → Run profile trace (lines ++ codes "report" ∷ []) text left →
-    (wanted : List Bool) × (last : List ℕ) × (length wanted ≡ length edits)
-    × (left ≡ after most_lines trace edits wanted) ×
-    (text ≡ flat_map answer_text (answers most_lines trace edits wanted) ++ last) × ReportOrWant profile left last
+    (ran_out : List Bool) × (last : List ℕ) × (length ran_out ≡ length edits)
+    × (left ≡ after most_lines trace edits ran_out) ×
+    (text ≡ flat_map answer_text (answers most_lines trace edits ran_out) ++ last) × ReportOrOutOfMemory profile left last
 
 -- A line asks for no edit.
 abbrev pub AsksNone : List ℕ → Type 0
@@ -60,14 +60,14 @@ AreEditsOf (line ∷ lines) [] = AsksNone line × AreEditsOf lines []
 AreEditsOf (line ∷ lines) (edit ∷ edits) =
     (AsksNone line × AreEditsOf lines (edit ∷ edits)) ⊎ (Asks line edit × AreEditsOf lines edits)
 
--- A trace becomes the one that the edits among the lines leave, one after the other. For which of them memory was
--- wanted is left open.
+-- A trace becomes the one that the edits among the lines leave, one after the other. For which of them memory ran
+-- out is left open.
 pub record LeavesEdits (trace : List Entry) (lines : List (List ℕ)) (left : List Entry) : Type 0 where
   pub edits : List Edit
   pub asked : AreEditsOf lines edits
-  pub wanted : List Bool
-  pub each : length wanted ≡ length edits
-  pub leaves : left ≡ after most_lines trace edits wanted
+  pub ran_out : List Bool
+  pub each : length ran_out ≡ length edits
+  pub leaves : left ≡ after most_lines trace edits ran_out
 
 -- Whatever the lines of a script are, they leave the trace that the edits among them leave.
 abbrev pub ScriptLeavesWhatEditsGive : Type 0
@@ -85,7 +85,7 @@ pub record ReportsThen (profile : Profile) (trace left : List Entry) (before oth
   pub text_is : text ≡ first ++ reply ++ rest
   pub edits : LeavesEdits trace before now
   pub lines : Run profile trace before first now
-  pub report : ReportOrWant profile now reply
+  pub report : ReportOrOutOfMemory profile now reply
   pub more : Run profile now others rest left
 
 -- Each `report` in a script is replied to with the report of the trace that the edits before it leave, whatever else

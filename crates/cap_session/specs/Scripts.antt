@@ -9,7 +9,7 @@ use Rattle.cap_session.specs.Lines.{whole_lines, last_piece, line_if_any}
 use Rattle.cap_session.specs.Trace.{is_skipped}
 use Rattle.cap_session.specs.Writes.{Wrote, WrotePrefix}
 use Rattle.cap_session.specs.Commands.{Asked, asked}
-use Rattle.cap_session.specs.Replies.{Done, commanded, may_want, not_done_code, refused_text}
+use Rattle.cap_session.specs.Replies.{Done, commanded, may_run_out, not_done_code, refused_text}
 use Rattle.cap_session.specs.declared.script.NotDone.{NotDone}
 
 -- The command was done, and its reply is this; or it was refused, and left the trace.
@@ -17,12 +17,12 @@ abbrev pub RepliesTo : List Entry → Result Done NotDone → List ℕ → List 
 RepliesTo t (Ok done) text u = (text ≡ done.text) × (u ≡ done.trace)
 RepliesTo t (Err why) text u = (text ≡ refused_text (not_done_code why)) × (u ≡ t)
 
--- Memory was wanted for a command that isn't refused, and the trace was left.
-abbrev pub Wants : Profile → List Entry → Asked → List ℕ → List Entry → Type 0
-Wants profile t ask text u = IsTrue (may_want ask) × IsOk (commanded profile t ask) × (text ≡ refused_text 9) × (u ≡ t)
+-- Memory ran out for a command that isn't refused, and the trace was left.
+abbrev pub RunsOut : Profile → List Entry → Asked → List ℕ → List Entry → Type 0
+RunsOut profile t ask text u = IsTrue (may_run_out ask) × IsOk (commanded profile t ask) × (text ≡ refused_text 9) × (u ≡ t)
 
 abbrev pub Commands : Profile → List Entry → Asked → List ℕ → List Entry → Type 0
-Commands profile t ask text u = RepliesTo t (commanded profile t ask) text u ⊎ Wants profile t ask text u
+Commands profile t ask text u = RepliesTo t (commanded profile t ask) text u ⊎ RunsOut profile t ask text u
 
 -- This may be written of the line, and the trace t becomes u. A line that is too long is refused with 1, whatever it
 -- holds; an empty line and a comment are skipped.

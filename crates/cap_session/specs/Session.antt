@@ -56,19 +56,19 @@ lines_at n (Replace position line) = n
 abbrev pub RefusesExactly : Result (List Entry) Refused → Result ℕ Refused → Type 0
 RefusesExactly asked result = (e : Refused) → e ≢ Memory → (result ≡ Err e) ↔ (asked ≡ Err e)
 
--- whether memory was wanted, by the answer
-abbrev pub is_wanted : Result ℕ Refused → Bool
-is_wanted (Ok count) = false
-is_wanted (Err Memory) = true
-is_wanted (Err LongLine) = false
-is_wanted (Err Shape) = false
-is_wanted (Err Pid) = false
-is_wanted (Err Argument) = false
-is_wanted (Err Right) = false
-is_wanted (Err Answer) = false
-is_wanted (Err Position) = false
-is_wanted (Err Full) = false
+-- whether memory ran out, by the answer
+abbrev pub is_out_of_memory : Result ℕ Refused → Bool
+is_out_of_memory (Ok count) = false
+is_out_of_memory (Err Memory) = true
+is_out_of_memory (Err LongLine) = false
+is_out_of_memory (Err Shape) = false
+is_out_of_memory (Err Pid) = false
+is_out_of_memory (Err Argument) = false
+is_out_of_memory (Err Right) = false
+is_out_of_memory (Err Answer) = false
+is_out_of_memory (Err Position) = false
+is_out_of_memory (Err Full) = false
 
--- for which edits memory was wanted, by their answers
-abbrev pub wanted : List (Result ℕ Refused) → List Bool
-wanted = map is_wanted
+-- for which edits memory ran out, by their answers
+abbrev pub ran_out : List (Result ℕ Refused) → List Bool
+ran_out = map is_out_of_memory

@@ -14,7 +14,7 @@ ghost use Rattle.cap_session.specs.Edits.{is_position, inserted, deleted, replac
 ghost use Rattle.cap_session.specs.Explaining.{explained_line, IsClean};
 ghost use Rattle.cap_session.specs.Limits.{most_lines};
 ghost use Rattle.cap_session.specs.Replies.{shown, is_range, ranged, range_report};
-ghost use Rattle.cap_session.specs.Session.{SessionState, RefusesExactly, wanted, lines_of, lines_at, IsIn, IsKept};
+ghost use Rattle.cap_session.specs.Session.{SessionState, RefusesExactly, ran_out, lines_of, lines_at, IsIn, IsKept};
 ghost use Rattle.cap_summary.specs.Stands.{Stands, summed_up};
 ghost use Rattle.cap_summary.specs.declared.summary.Summary.{Summary};
 ghost use Rattle.cap_tree.specs.Bits.{bits};
@@ -484,9 +484,9 @@ impl Session {
         ensures each { IfOk result (λ answered. length answered.items ≡ length edits.now) }
         // The trace is that which the accepted edits give, and each answer is that of its edit.
         ensures trace { IfOk result
-            (λ answered. self.new.trace ≡ after self.old.limit self.old.trace edits.now (wanted answered.items)) }
+            (λ answered. self.new.trace ≡ after self.old.limit self.old.trace edits.now (ran_out answered.items)) }
         ensures answers { IfOk result
-            (λ answered. answered.items ≡ answers self.old.limit self.old.trace edits.now (wanted answered.items)) }
+            (λ answered. answered.items ≡ answers self.old.limit self.old.trace edits.now (ran_out answered.items)) }
         ensures unchanged { OnErr result (self.new ≡ self.old) }
         ensures limit { self.new.limit ≡ self.old.limit }
         ensures profile { self.new.profile ≡ self.old.profile }
@@ -506,13 +506,13 @@ impl Session {
     pub fn report_after(&mut self, edits: &[Edit<'_>]) -> Result<Edited, Refused>
         // After any edits, the report is that of checking anew the trace which the accepted edits give.
         ensures report { IfOk result (λ r. IfOk r.report (λ text. text.items ≡ report usual
-            (steps self.old.profile (after self.old.limit self.old.trace edits.now (wanted r.answers.items))))) }
+            (steps self.old.profile (after self.old.limit self.old.trace edits.now (ran_out r.answers.items))))) }
         ensures report_only { IfOk result (λ r. IsOkUnless r.report Refused.Memory) }
         ensures each { IfOk result (λ r. length r.answers.items ≡ length edits.now) }
         ensures trace { IfOk result
-            (λ r. self.new.trace ≡ after self.old.limit self.old.trace edits.now (wanted r.answers.items)) }
+            (λ r. self.new.trace ≡ after self.old.limit self.old.trace edits.now (ran_out r.answers.items)) }
         ensures answers { IfOk result
-            (λ r. r.answers.items ≡ answers self.old.limit self.old.trace edits.now (wanted r.answers.items)) }
+            (λ r. r.answers.items ≡ answers self.old.limit self.old.trace edits.now (ran_out r.answers.items)) }
         ensures unchanged { OnErr result (self.new ≡ self.old) }
         ensures limit { self.new.limit ≡ self.old.limit }
         ensures profile { self.new.profile ≡ self.old.profile }
