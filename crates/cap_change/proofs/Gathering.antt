@@ -7,7 +7,7 @@ use Rattle.std.proofs.lemmas.List.Folds.{list_any-append}
 use Rattle.std.proofs.lemmas.List.Elements.{All-append, All-push, All-map}
 use Rattle.cap_machine.specs.State.{State}
 use Rattle.cap_change.specs.declared.conditions.Condition.{Condition}
-use Rattle.cap_change.specs.declared.packed.Low.{Low}
+use Rattle.cap_change.specs.declared.packed.low.Low.{Low}
 use Rattle.cap_change.specs.Conditions.{holds, any_holds}
 use Rattle.cap_change.specs.Names.{Names, condition_within, ConditionsWithin}
 use Rattle.cap_change.specs.Merging.{HasOneMore}

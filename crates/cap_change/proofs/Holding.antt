@@ -35,7 +35,7 @@ use Rattle.cap_change.specs.declared.conditions.HeldTest.{HeldTest}
 use Rattle.cap_change.specs.declared.conditions.HeldTest.TheVariants.{Never, Always, Lacks, Has}
 use Rattle.cap_change.specs.declared.conditions.CellTest.{CellTest}
 use Rattle.cap_change.specs.declared.conditions.Source.{Source}
-use Rattle.cap_change.specs.declared.packed.Low.{Low}
+use Rattle.cap_change.specs.declared.packed.low.Low.{Low}
 use Rattle.cap_change.specs.Packed.{low_source}
 use Rattle.cap_change.specs.MovedLow.{LacksBefore}
 use Rattle.cap_change.specs.declared.change.Change.{Change}

@@ -8,7 +8,7 @@ use Rattle.std.proofs.lemmas.List.Folds.{list_any-append}
 use Rattle.std.proofs.lemmas.List.Elements.{All-head, All-tail}
 use Rattle.cap_machine.specs.State.{State}
 use Rattle.cap_machine.specs.Op.{same}
-use Rattle.cap_change.specs.declared.packed.Low.{Low}
+use Rattle.cap_change.specs.declared.packed.low.Low.{Low}
 use Rattle.cap_change.specs.declared.values.Value.{Value}
 use Rattle.cap_change.specs.declared.values.Value.TheVariants as value
 use Rattle.cap_change.specs.declared.change.Process.{Process}

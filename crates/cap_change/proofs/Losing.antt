@@ -8,7 +8,7 @@ use Rattle.std.proofs.lemmas.List.Folds.{list_any-append, list_any_at}
 use Rattle.cap_machine.specs.State.{State}
 use Rattle.cap_change.specs.declared.change.Change.{Change}
 use Rattle.cap_change.specs.declared.conditions.Condition.{Condition}
-use Rattle.cap_change.specs.declared.packed.Low.{Low}
+use Rattle.cap_change.specs.declared.packed.low.Low.{Low}
 use Rattle.cap_change.specs.Conditions.{any_holds}
 use Rattle.cap_change.specs.Names.{Names, ConditionsWithin}
 use Rattle.cap_change.specs.Packed.{low_condition, low_conditions, any_low_holds, LowsWithin}

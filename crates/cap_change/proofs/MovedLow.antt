@@ -2,7 +2,7 @@
 use Rattle.std.proofs.Common.{◌≡◌, Bool, true, false, sym}
 use Rattle.std.specs.Prelude.{if◌then◌else◌}
 use Rattle.cap_machine.specs.State.{State}
-use Rattle.cap_change.specs.declared.packed.Low.{Low}
+use Rattle.cap_change.specs.declared.packed.low.Low.{Low}
 use Rattle.cap_change.specs.declared.moved_low.MovedLow.{MovedLow}
 use Rattle.cap_change.specs.declared.moved_low.MovedLow.TheVariants as moved_low
 use Rattle.cap_change.specs.declared.values.Value.{Value}

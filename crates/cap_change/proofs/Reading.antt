@@ -7,12 +7,11 @@ use Rattle.cap_machine.specs.State.{State}
 use Rattle.cap_machine.specs.Op.{same}
 use Rattle.cap_change.specs.declared.values.Value.{Value}
 use Rattle.cap_change.specs.declared.values.Value.TheVariants as value
-use Rattle.cap_change.specs.declared.change.Process.{Process}
 use Rattle.cap_change.specs.declared.change.Change.{Change}
 use Rattle.cap_change.specs.declared.conditions.Source.{Source}
 use Rattle.cap_change.specs.declared.conditions.Condition.{Condition}
 use Rattle.cap_change.specs.declared.conditions.Condition.TheVariants as condition
-use Rattle.cap_change.specs.declared.packed.Low.{Low}
+use Rattle.cap_change.specs.declared.packed.low.Low.{Low}
 use Rattle.cap_change.specs.Tables.{process_at}
 use Rattle.cap_change.specs.Values.{read_cell}
 use Rattle.cap_change.specs.Changes.{value_of, mode_of, changed, AreAlike, ListSame, ListSameBut}

@@ -5,7 +5,7 @@ use Rattle.cap_machine.specs.State.{State}
 use Rattle.cap_machine.specs.Op.{applied}
 use Rattle.cap_machine.specs.declared.cell.Cell.{Cell}
 use Rattle.cap_machine.specs.declared.cell.Op.{Op}
-use Rattle.cap_change.specs.declared.packed.Low.{Low}
+use Rattle.cap_change.specs.declared.packed.low.Low.{Low}
 use Rattle.cap_change.specs.declared.moved_low.MovedLow.{MovedLow}
 use Rattle.cap_change.specs.declared.moved_low.MovedLow.TheVariants as moved_low
 use Rattle.cap_change.specs.declared.values.Value.{Value}

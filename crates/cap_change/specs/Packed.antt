@@ -8,8 +8,8 @@ use Rattle.cap_change.specs.declared.conditions.Condition.{Condition}
 use Rattle.cap_change.specs.declared.conditions.Condition.TheVariants as condition
 use Rattle.cap_change.specs.Conditions.{holds}
 use Rattle.cap_change.specs.Names.{Names, condition_within}
-use Rattle.cap_change.specs.declared.packed.Lack.{Lack}
-use Rattle.cap_change.specs.declared.packed.Low.{Low}
+use Rattle.cap_change.specs.declared.packed.low.Lack.{Lack}
+use Rattle.cap_change.specs.declared.packed.low.Low.{Low}
 use Rattle.cap_change.specs.declared.packed.Packed.{Packed}
 use Rattle.cap_change.specs.declared.packed.Packed.TheVariants as packed
 

@@ -7,7 +7,7 @@ use Rattle.cap_change.specs.declared.conditions.Source.{Source}
 use Rattle.cap_change.specs.declared.conditions.Refused.{Refused}
 use Rattle.cap_change.specs.declared.conditions.Condition.{Condition}
 use Rattle.cap_change.specs.declared.conditions.Condition.TheVariants as condition
-use Rattle.cap_change.specs.declared.packed.Low.{Low}
+use Rattle.cap_change.specs.declared.packed.low.Low.{Low}
 use Rattle.cap_machine.specs.State.{State}
 use Rattle.cap_change.specs.Changes.{value_of, mode_of, changed}
 use Rattle.cap_change.specs.Conditions.{holds}

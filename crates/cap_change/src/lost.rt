@@ -4,7 +4,7 @@ ghost use Rattle.std.specs.Prelude.{◌≡◌, ◌||◌, Bool, true, IfOk, IfSom
 ghost use Rattle.std.specs.List.{list_any, All};
 ghost use Rattle.cap_machine.specs.State.{State};
 ghost use Rattle.cap_change.specs.declared.change.Change.{Change};
-ghost use Rattle.cap_change.specs.declared.packed.Low.{Low};
+ghost use Rattle.cap_change.specs.declared.packed.low.Low.{Low};
 ghost use Rattle.cap_change.specs.Changes.{changed};
 ghost use Rattle.cap_change.specs.MovedLow.{low_passes};
 ghost use Rattle.cap_change.specs.declared.values.Value.TheVariants as value;

@@ -22,7 +22,7 @@ ghost use Rattle.cap_change.specs.MovedLow.{MovedLowHolds, MovedLowWithin, low_p
 ghost use Rattle.cap_change.specs.MovedLow.{ValuesWithin};
 ghost use Rattle.cap_change.specs.Sorted.{found, Rises};
 ghost use Rattle.cap_change.specs.Tables.{kept_values, listed_value, listed_process};
-ghost use Rattle.cap_change.specs.declared.packed.Low.{Low};
+ghost use Rattle.cap_change.specs.declared.packed.low.Low.{Low};
 
 use crate::change::{Change, Near};
 use crate::conditions::{Condition, Refused, Source};

@@ -1,5 +1,5 @@
 use Rattle.std.proofs.Common.{◌≡◌, ◌<◌, true, length, arith, subst, sym, ◌∙◌}
-use Rattle.cap_change.specs.declared.packed.Low.{Low}
+use Rattle.cap_change.specs.declared.packed.low.Low.{Low}
 use Rattle.cap_change.specs.Names.{condition_within}
 use Rattle.cap_change.specs.Packed.{low_condition, low_holds}
 use Rattle.cap_change.proofs.Losing.{one_for}

@@ -2,7 +2,7 @@ use Rattle.std.proofs.Common.{◌||◌, ◌++◌, List, ap, subst, sym, ◌∙�
 use Rattle.std.proofs.lemmas.Result.{IfOk-weaker}
 use Rattle.std.proofs.lemmas.Option.{IfSome_then}
 use Rattle.cap_change.specs.declared.conditions.Condition.{Condition}
-use Rattle.cap_change.specs.declared.packed.Low.{Low}
+use Rattle.cap_change.specs.declared.packed.low.Low.{Low}
 use Rattle.cap_change.specs.Changes.{changed}
 use Rattle.cap_change.specs.Conditions.{any_holds}
 use Rattle.cap_change.specs.Packed.{low_conditions, any_low_holds}

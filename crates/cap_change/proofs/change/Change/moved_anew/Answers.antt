@@ -2,7 +2,7 @@ use Rattle.std.proofs.Common.{◌≡◌, ◌||◌, List, true, ap, sym, subst, �
 use Rattle.std.proofs.lemmas.List.Elements.{All-nil}
 use Rattle.cap_machine.specs.State.{State}
 use Rattle.cap_change.specs.declared.conditions.Condition.{Condition}
-use Rattle.cap_change.specs.declared.packed.Low.{Low}
+use Rattle.cap_change.specs.declared.packed.low.Low.{Low}
 use Rattle.cap_change.specs.Changes.{changed}
 use Rattle.cap_change.specs.Conditions.{any_holds}
 use Rattle.cap_change.specs.Names.{condition_within, ConditionsWithin}

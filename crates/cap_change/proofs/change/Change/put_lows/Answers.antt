@@ -1,5 +1,5 @@
 use Rattle.std.proofs.Common.{List}
-use Rattle.cap_change.specs.declared.packed.Low.{Low}
+use Rattle.cap_change.specs.declared.packed.low.Low.{Low}
 use Rattle.cap_change.specs.Changes.{changed}
 use Rattle.cap_change.specs.Conditions.{any_holds}
 use Rattle.cap_change.specs.Packed.{low_holds}

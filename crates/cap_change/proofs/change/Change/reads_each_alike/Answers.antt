@@ -1,7 +1,7 @@
 use Rattle.std.proofs.Common.{◌<◌, ◌≤◌, length, arith, subst}
 use Rattle.std.proofs.lemmas.List.{take_all}
 use Rattle.std.proofs.lemmas.List.Elements.{All-more}
-use Rattle.cap_change.specs.declared.packed.Low.{Low}
+use Rattle.cap_change.specs.declared.packed.low.Low.{Low}
 use Rattle.cap_change.specs.Packed.{low_condition}
 use Rattle.cap_change.specs.Reading.{ReadsAlike, LowsReadAlike}
 use Rattle.cap_change.proofs.change.Change.reads_each_alike.Goals as goal

@@ -1,5 +1,5 @@
 use Rattle.std.proofs.Common.{◌≡◌, ◌<◌, length, true, ◌||◌, sym, arith}
-use Rattle.cap_change.specs.declared.packed.Low.{Low}
+use Rattle.cap_change.specs.declared.packed.low.Low.{Low}
 use Rattle.cap_change.specs.Conditions.{any_holds}
 use Rattle.cap_change.specs.MovedLow.{low_passes, low_value}
 use Rattle.cap_change.proofs.InStep.{ends_met}
