@@ -15,8 +15,8 @@ use Rattle.cap_change.specs.declared.kept.Kept.{Kept}
 use Rattle.cap_change.specs.declared.kept.Listed.{Listed}
 use Rattle.cap_change.specs.declared.values.Value.{Value}
 use Rattle.cap_change.specs.declared.change.Process.{Process}
-use Rattle.cap_change.specs.declared.tables.Cells.{Cells}
-use Rattle.cap_change.specs.declared.tables.Processes.{Processes}
+use Rattle.cap_change.specs.declared.cells.Cells.{Cells}
+use Rattle.cap_change.specs.declared.processes.Processes.{Processes}
 use Rattle.cap_change.specs.Sorted.{found, Rises, RisesFrom}
 use Rattle.cap_change.specs.Place.{IsAt}
 use Rattle.cap_change.specs.Tables.{listed_value, kept_values, process_at, listed_process}

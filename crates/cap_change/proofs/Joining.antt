@@ -18,7 +18,7 @@ use Rattle.cap_change.specs.declared.values.Others.{Others}
 use Rattle.cap_change.specs.declared.values.Base.{Base}
 use Rattle.cap_change.specs.declared.change.Process.{Process}
 use Rattle.cap_change.specs.declared.change.Change.{Change}
-use Rattle.cap_change.specs.declared.tables.Cells.{Cells}
+use Rattle.cap_change.specs.declared.cells.Cells.{Cells}
 use Rattle.cap_change.specs.Values.{read_cell, read_mode, passing_op, rest_value, unlisted, op_on, is_own}
 use Rattle.cap_change.specs.Tables.{listed_value, process_at, or_else}
 use Rattle.cap_change.specs.Changes.{value_at, value_in, value_of, cell_in, mode_in, changed, JoinsListed, JoinsTo}

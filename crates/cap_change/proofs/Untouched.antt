@@ -10,7 +10,7 @@ use Rattle.cap_change.specs.declared.values.Others.TheVariants as rest
 use Rattle.cap_change.specs.declared.values.Base.{Base}
 use Rattle.cap_change.specs.declared.change.Process.{Process}
 use Rattle.cap_change.specs.declared.change.Change.{Change}
-use Rattle.cap_change.specs.declared.tables.Cells.{Cells}
+use Rattle.cap_change.specs.declared.cells.Cells.{Cells}
 use Rattle.cap_change.specs.Values.{is_from, is_own, are_of, rest_untouched, op_on, passing_op, passed_on}
 use Rattle.cap_change.specs.Tables.{listed_value, process_at, or_else}
 use Rattle.cap_change.specs.Images.{under}

@@ -11,7 +11,7 @@ use Rattle.cap_change.specs.declared.values.ModeValue.TheVariants as mode_value
 use Rattle.cap_change.specs.declared.values.Base.{Base}
 use Rattle.cap_change.specs.declared.change.Process.{Process}
 use Rattle.cap_change.specs.declared.change.Change.{Change}
-use Rattle.cap_change.specs.declared.tables.Cells.{Cells}
+use Rattle.cap_change.specs.declared.cells.Cells.{Cells}
 use Rattle.cap_change.specs.Values.{read_cell, read_mode, unlisted, rest_untouched, is_own}
 use Rattle.cap_change.specs.Tables.{listed_value, process_at}
 use Rattle.cap_change.specs.Names.{Names, ProcessWithin, SourceWithin, TakesFrom, is_one}

@@ -14,7 +14,7 @@ use Rattle.cap_change.specs.declared.values.Others.{Others}
 use Rattle.cap_change.specs.declared.values.Others.TheVariants as rest
 use Rattle.cap_change.specs.declared.change.Process.{Process}
 use Rattle.cap_change.specs.declared.change.Change.{Change}
-use Rattle.cap_change.specs.declared.tables.Processes.{Processes}
+use Rattle.cap_change.specs.declared.processes.Processes.{Processes}
 use Rattle.cap_change.specs.declared.conditions.Source.{Source}
 use Rattle.cap_change.specs.declared.conditions.Refused.{Refused}
 use Rattle.cap_change.specs.declared.conditions.Condition.{Condition}

@@ -21,11 +21,11 @@ use Rattle.cap_change.specs.declared.change.Process.{Process}
 use Rattle.cap_change.specs.declared.change.ProcessRef.{ProcessRef}
 use Rattle.cap_change.specs.declared.layers.Layers.{Layers}
 use Rattle.cap_change.specs.declared.layers.Parts.{Parts}
-use Rattle.cap_change.specs.declared.tables.Form.{Form}
-use Rattle.cap_change.specs.declared.tables.Form.TheVariants as form
-use Rattle.cap_change.specs.declared.tables.Cells.{Cells}
-use Rattle.cap_change.specs.declared.tables.Listing.{Listing}
-use Rattle.cap_change.specs.declared.tables.Processes.{Processes}
+use Rattle.cap_change.specs.declared.cells.Form.{Form}
+use Rattle.cap_change.specs.declared.cells.Form.TheVariants as form
+use Rattle.cap_change.specs.declared.cells.Cells.{Cells}
+use Rattle.cap_change.specs.declared.cells.Listing.{Listing}
+use Rattle.cap_change.specs.declared.processes.Processes.{Processes}
 
 -- the value that a table keeps, shared where it is large
 abbrev pub kept_value : Kept → Value

@@ -14,9 +14,10 @@ ghost use Rattle.cap_change.specs.Names.{Names, cell_within, others_within, mode
 ghost use Rattle.cap_change.specs.Names.{TakesFrom, SourceWithin, others_from, mode_from};
 ghost use Rattle.cap_change.specs.Sizes.{room};
 
+use crate::cells::Cells;
 use crate::kept::{Listed, Seen};
 use crate::layers::Lowered;
-use crate::tables::{Cells, Processes};
+use crate::processes::Processes;
 use crate::values::{Base, ModeValue, Others, Value, lower_of};
 use cap_machine::Op;
 use cap_trace::{Fd, Pid};

@@ -12,8 +12,9 @@ ghost use Rattle.cap_change.specs.Names.{Names, value_within, cell_within, other
 ghost use Rattle.cap_change.specs.Names.{ChangeWithin, EffectWithin};
 ghost use Rattle.cap_change.specs.Does.{Does};
 
+use crate::cells::{Cells, Listing};
 use crate::change::{Change, Process};
-use crate::tables::{Cells, Listing, Processes};
+use crate::processes::Processes;
 use crate::values::{Base, ModeValue, Passing, Value};
 use cap_machine::{Cell, Effect, Mode, OnExec, Op};
 use cap_rights::RightSet;

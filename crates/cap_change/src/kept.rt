@@ -16,12 +16,12 @@ ghost use Rattle.cap_machine.specs.Op.{same, exec};
 ghost use Rattle.cap_machine.specs.Composed.{in_turn};
 ghost use Rattle.cap_change.specs.declared.values.Value.TheVariants as value;
 
+use crate::cells::Cells;
 use crate::change::{Change, Near, Process, ProcessRef};
 use crate::layers::Lowered;
 use crate::moved_low::MovedLow;
 use crate::packed::Low;
 use crate::sorted::Combine;
-use crate::tables::Cells;
 use crate::values::{Base, ModeValue, Passing, Value, is_closed};
 use cap_machine::{Cell, Mode, OnExec, Op};
 use cap_rights::RightSet;

@@ -8,6 +8,7 @@
 
 mod alike;
 mod before;
+mod cells;
 mod change;
 mod conditions;
 mod effects;
@@ -21,17 +22,18 @@ mod moved;
 mod moved_low;
 mod ordering;
 mod packed;
+mod processes;
 mod reads;
 mod sorted;
-mod tables;
 mod values;
 
 pub use before::Before;
+pub use cells::Cells;
 pub use change::{Change, Process};
 pub use conditions::{CellTest, Condition, HeldTest, Refused, Source};
 pub use line_conditions::{always, conditions_of};
 pub use lost::with_others;
 pub use merge::merged;
 pub use packed::Conditions;
-pub use tables::{Cells, Processes};
+pub use processes::Processes;
 pub use values::{Base, ModeValue, Others, Passing, Value};

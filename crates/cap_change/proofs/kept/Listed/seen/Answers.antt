@@ -2,7 +2,7 @@ use Rattle.std.proofs.Common.{◌≡◌, Option, None, sym, ap, ◌∙◌}
 use Rattle.std.specs.Prelude.{option_map, unwrap_or}
 use Rattle.cap_change.specs.declared.values.Value.{Value}
 use Rattle.cap_change.specs.declared.change.Process.{Process}
-use Rattle.cap_change.specs.declared.tables.Cells.{Cells}
+use Rattle.cap_change.specs.declared.cells.Cells.{Cells}
 use Rattle.cap_change.specs.declared.kept.Seen.{Seen}
 use Rattle.cap_change.specs.Tables.{listed_value, listed_process, seen_value}
 use Rattle.cap_change.specs.Values.{unlisted}
