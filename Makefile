@@ -8,7 +8,7 @@
 #   make examples   the same scripts alone, with ./capcheck
 #   make wrong      the wrong bodies that the gate leaves out (tests/wrong), each of which the prover must refuse: this takes hours
 #   make refusals   each call that takes memory, with each of its allocations refused
-#   make bench      times the program, and reading alone, on traces of a million lines beside `wc -l`, and scripts beside a check;
+#   make bench      times the program, and reading alone, on traces of a million lines beside `wc -l`, and sessions beside a check;
 #                   where valgrind is installed, counts instructions too
 #   make install    puts the program and its manual page under PREFIX (default /usr/local)
 
@@ -48,6 +48,7 @@ wrong:
 bench: capcheck
 	bench/run ./capcheck
 	bench/edits ./capcheck
+	bench/sessions ./capcheck
 	bench/reading
 	if command -v valgrind >/dev/null; then bench/instructions ./capcheck; bench/edited ./capcheck; bench/replaced ./capcheck; fi
 
