@@ -1,6 +1,6 @@
 //! What becomes of each cell and mode over a segment.
 
-ghost use Rattle.std.specs.Prelude.{◌≡◌, ℕ, ◌≤◌, ◌&&◌, true, None, IfOk, OnOk, IfSome, IfNone, List, length};
+ghost use Rattle.std.specs.Prelude.{◌≡◌, ℕ, ◌≤◌, ◌&&◌, true, None, IfOk, OnOk, List, length};
 ghost use Rattle.cap_machine.specs.Op.{same};
 ghost use Rattle.cap_machine.specs.State.{State};
 ghost use Rattle.cap_change.specs.Values.{read_cell, read_mode, unlisted, rest_untouched, is_own};

@@ -1,6 +1,6 @@
 //! What one line does.
 
-ghost use Rattle.std.specs.Prelude.{◌≡◌, ℕ, ◌==◌, ◌&&◌, ◌||◌, not, true, false, if◌then◌else◌, IfOk, OnOk, Some, None};
+ghost use Rattle.std.specs.Prelude.{◌≡◌, ℕ, ◌==◌, ◌&&◌, ◌||◌, not, true, false, if◌then◌else◌, IfOk, Some, None};
 ghost use Rattle.cap_rights.specs.Rights.{all};
 ghost use Rattle.cap_machine.specs.Op.{same};
 ghost use Rattle.cap_machine.specs.Touch.{started as started_cell};
@@ -8,7 +8,7 @@ ghost use Rattle.cap_change.specs.Values.{unlisted, rest_untouched};
 ghost use Rattle.cap_change.specs.Tables.{process_at};
 ghost use Rattle.std.specs.List.{All};
 ghost use Rattle.cap_change.specs.Changes.{ChangesNothing, value_in, value_of, mode_of, untouched_at, is_untouched};
-ghost use Rattle.cap_change.specs.Names.{Names, value_within, cell_within, others_within, mode_within, ProcessWithin};
+ghost use Rattle.cap_change.specs.Names.{Names, cell_within, others_within, mode_within, ProcessWithin};
 ghost use Rattle.cap_change.specs.Names.{ChangeWithin, EffectWithin};
 ghost use Rattle.cap_change.specs.Does.{Does};
 

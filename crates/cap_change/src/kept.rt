@@ -3,8 +3,7 @@
 ghost use Rattle.std.specs.Prelude.{◌≡◌, ℕ, true, IfOk, option_map, option_and_then};
 ghost use Rattle.cap_change.specs.Tables.{kept_value, kept_values, listed_value, seen_value};
 ghost use Rattle.cap_change.specs.Tables.{listed_process, process_of};
-ghost use Rattle.cap_change.specs.Images.{under, IsLowered};
-ghost use Rattle.std.specs.List.{All};
+ghost use Rattle.cap_change.specs.Images.{under};
 ghost use Rattle.cap_change.specs.Values.{unlisted, op_on, passing_op};
 ghost use Rattle.cap_change.specs.Changes.{value_in};
 ghost use Rattle.cap_machine.specs.State.{State};

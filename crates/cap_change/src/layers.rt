@@ -5,7 +5,7 @@ ghost use Rattle.std.specs.List.{All};
 ghost use Rattle.cap_change.specs.Sorted.{found, Rises};
 ghost use Rattle.cap_change.specs.Tables.{kept_values, seen_value, or_else, parts_value, layered_value, passed_value};
 ghost use Rattle.cap_change.specs.Images.{under, Stays, StandsOver, LowersTo, IsLowered};
-ghost use Rattle.cap_change.specs.Values.{passed_on, passing_op, op_on};
+ghost use Rattle.cap_change.specs.Values.{passed_on};
 ghost use Rattle.cap_change.specs.Names.{value_from};
 
 use crate::change::{Change, Near};

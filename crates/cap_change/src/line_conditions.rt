@@ -1,6 +1,6 @@
 //! The conditions under which something is said of one line.
 
-ghost use Rattle.std.specs.Prelude.{◌≡◌, ◌∷◌, ◌++◌, [], IfOk};
+ghost use Rattle.std.specs.Prelude.{◌≡◌, IfOk};
 ghost use Rattle.cap_change.specs.LineConditions.{need_of, excused_of, success_conditions, refused_of};
 ghost use Rattle.cap_change.specs.LineConditions.{line_conditions, line_always};
 

@@ -7,7 +7,6 @@ ghost use Rattle.cap_change.specs.Changes.{changed};
 ghost use Rattle.cap_change.specs.Conditions.{source_holds, part_holds, outside_holds, refused_holds, holds};
 ghost use Rattle.cap_change.specs.Conditions.{any_holds, passes};
 ghost use Rattle.cap_change.specs.Values.{read_cell, passing_op};
-ghost use Rattle.cap_change.specs.Tables.{seen_value};
 ghost use Rattle.cap_change.specs.declared.values.Value.TheVariants as value;
 ghost use Rattle.cap_machine.specs.Op.{same, exec};
 ghost use Rattle.cap_machine.specs.Composed.{in_turn};

@@ -1,17 +1,17 @@
 //! What each form of call does to the cells and the mode of its process and of a child, by what the line records. The
 //! tables stand in `docs/RULES.md`.
 
-ghost use Rattle.std.specs.Prelude.{◌≡◌, ℕ, ◌<◌, ◌^◌, codes, if◌then◌else◌};
+ghost use Rattle.std.specs.Prelude.{◌≡◌, ℕ, ◌<◌, codes, if◌then◌else◌};
 ghost use Rattle.cap_trace.specs.Entry.{IsAnswer, kind_of, fcntl_kind};
 ghost use Rattle.cap_trace.specs.Seen.{call_seen};
 ghost use Rattle.cap_trace.specs.Call as calls;
 ghost use Rattle.cap_machine.specs.Flags.{has_flag};
 ghost use Rattle.cap_machine.specs.Places.{below};
 ghost use Rattle.cap_machine.specs.Touch.{kept, given, taken, on_fd, on_made, on_both, on_success, closing, copied};
-ghost use Rattle.cap_machine.specs.Touch.{copied_to, whole, unknown, exec_touch, closefrom_touch, open_flag};
+ghost use Rattle.cap_machine.specs.Touch.{copied_to, whole, exec_touch, closefrom_touch, open_flag};
 ghost use Rattle.cap_machine.specs.Touch.{socket_flag, fd_flag, fd_touch, fcntl_touch, fcntl_copied_to, set_fd_op};
-ghost use Rattle.cap_machine.specs.Touch.{set_fd_touch, path_touch, at_touch, opened_below, flags_touch, fork_touch};
-ghost use Rattle.cap_machine.specs.Touch.{pdfork_touch, bare_touch, call_touch, stays, call_turn, enter_turn};
+ghost use Rattle.cap_machine.specs.Touch.{at_touch, opened_below, flags_touch, fork_touch};
+ghost use Rattle.cap_machine.specs.Touch.{pdfork_touch, bare_touch, call_touch, call_turn, enter_turn};
 ghost use Rattle.cap_machine.specs.Touch.{fork_turn, pdfork_turn};
 ghost use Rattle.cap_machine.specs.Effect.{effect_touch, effect_turn, OnlyCells, FitsMade, FitsPair};
 

@@ -13,7 +13,7 @@ ghost use Rattle.cap_machine.specs.Rule.{demand};
 ghost use Rattle.cap_machine.specs.Judge.{listed, judged, has_check};
 ghost use Rattle.cap_machine.specs.Table.{start_state};
 ghost use Rattle.cap_machine.specs.Origin.{cell_origin, cell_chain_of, mode_origin, mode_chain_of};
-ghost use Rattle.cap_machine.specs.Explain.{has_excuse, all_have_excuse, mode_matters, explained, explanation};
+ghost use Rattle.cap_machine.specs.Explain.{all_have_excuse, mode_matters, explained, explanation};
 ghost use Rattle.cap_machine.specs.Explain.{explained_of, explained_by, mode_or_unsure, RestsOn};
 
 use crate::cell::{Mode, Profile};

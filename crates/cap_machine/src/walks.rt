@@ -3,7 +3,7 @@
 //! A walk is handed the lines one by one, newest first. Lines that leave the cell, or the mode, that it is at as it was
 //! may be left out ([`walks_may_leave_out`]).
 
-ghost use Rattle.std.specs.Prelude.{◌≡◌, ℕ, ◌+◌, IfOk, OnOk, OnErr, List, [], ◌∷◌, length, true, false};
+ghost use Rattle.std.specs.Prelude.{◌≡◌, ◌+◌, IfOk, OnOk, OnErr, List, [], ◌∷◌, length, true, false};
 ghost use Rattle.cap_machine.specs.Touched.{touch_seen, turn_seen};
 ghost use Rattle.cap_machine.specs.Following.{Follows, FollowsMode};
 ghost use Rattle.cap_machine.specs.Walks.{chain_unless};

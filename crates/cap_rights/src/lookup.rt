@@ -3,8 +3,8 @@
 //! Five bytes of a name tell it from all others: weighed and added up they give each name of the table a slot of its
 //! own among 256. The weights were found by trial; that no two names share a slot is proved over the whole table.
 
-ghost use Rattle.std.specs.Prelude.{◌≡◌, ◌<◌, Some, IfSome, ℕ, length, slice_index};
-ghost use Rattle.cap_rights.specs.Names.{table, name_at};
+ghost use Rattle.std.specs.Prelude.{◌≡◌, ◌<◌, Some, IfSome, ℕ, length};
+ghost use Rattle.cap_rights.specs.Names.{name_at};
 
 /// The row of the name that falls on a slot. On most slots none falls, and the row is then any.
 static ROW_AT: [u8; 256] = [

@@ -1,5 +1,5 @@
 //! A trace is checked as it comes: no line is kept, and only findings are.
-ghost use Rattle.std.specs.Prelude.{◌≡◌, ◌+◌, ◌^◌, ◌<◌, ◌≤◌, List, []};
+ghost use Rattle.std.specs.Prelude.{◌^◌, ◌<◌, ◌≤◌, List, []};
 ghost use Rattle.cap_trace.specs.Entry.{Entry};
 ghost use Rattle.cap_machine.specs.declared.cell.Profile.{Profile};
 ghost use Rattle.cap_machine.specs.State.{State, usual};

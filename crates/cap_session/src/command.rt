@@ -1,8 +1,7 @@
 //! What a line of a script asks for: [`command_of`] reads it, and every line is some command, if only an unknown one.
 ghost use Rattle.std.specs.Prelude.{◌≡◌, MatchOption, None, Some};
-ghost use Rattle.cap_session.specs.Commands.{Asked, asked, asked_alone, asked_with, first_word, after_word, position};
-ghost use Rattle.cap_session.specs.Commands.{with_number, with_line, with_range, insert_line, replace_line};
-ghost use Rattle.cap_session.specs.Commands.{report_lines, unknown};
+ghost use Rattle.cap_session.specs.Commands.{asked, asked_alone, asked_with, first_word, after_word, position};
+ghost use Rattle.cap_session.specs.Commands.{with_line, with_range, insert_line, replace_line};
 ghost use Rattle.cap_session.specs.Performs.{command_asked};
 
 use crate::edit::Edit;

@@ -2,7 +2,7 @@
 //!
 //! A contract sees the bytes of a device only where its type shows them: a file's are unknown, and then
 //! `None` claims nothing of them. The counts are known of every device.
-ghost use Rattle.std.specs.Prelude.{◌≡◌, ℕ, ◌+◌, ◌<◌, ◌≤◌, length, IfOk};
+ghost use Rattle.std.specs.Prelude.{◌≡◌, ◌+◌, ◌<◌, ◌≤◌, length, IfOk};
 ghost use Rattle.std.specs.Io.KnownBytes.{ReadConsumes};
 ghost use Rattle.cap_session.specs.Devices.{SourceState, SinkState, failed, ended, Takes};
 

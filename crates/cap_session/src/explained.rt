@@ -1,5 +1,5 @@
 //! A line that was explained ([`ExplainedLine`]), and the text of that.
-ghost use Rattle.std.specs.Prelude.{◌≡◌, ◌≢◌, ◌++◌, ◌↔◌, ◌⊎◌, map, length, option_map, IfOk, OnOk, OnErr, IsTrue, Ok, Err};
+ghost use Rattle.std.specs.Prelude.{◌≡◌, ◌++◌, ◌↔◌, ◌⊎◌, map, length, option_map, IfOk, OnOk, OnErr, IsTrue, Ok, Err};
 ghost use Rattle.std.specs.Prelude.{[]};
 ghost use Rattle.std.specs.List.{All};
 ghost use Rattle.cap_machine.specs.Explain.{explained_by};

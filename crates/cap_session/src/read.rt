@@ -1,5 +1,5 @@
 //! Reading a text to its end, piece by piece.
-ghost use Rattle.std.specs.Prelude.{◌≡◌, ℕ, ◌+◌, ◌*◌, ◌^◌, ◌<◌, ◌≤◌, List, [], ◌++◌, length, OnOk, IfErr};
+ghost use Rattle.std.specs.Prelude.{ℕ, ◌+◌, ◌*◌, ◌^◌, ◌<◌, ◌≤◌, List, [], ◌++◌, length, OnOk, IfErr};
 ghost use Rattle.cap_session.specs.Takes.{TookText, StoppedText, EndedText};
 ghost use Rattle.cap_session.specs.Gives.{Gives};
 ghost use Rattle.cap_session.specs.Limits.{longest_piece};

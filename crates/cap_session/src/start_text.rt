@@ -1,5 +1,5 @@
 //! Start texts: what was known of each process before a trace, read line by line ([`parse_start`], `read_start`).
-ghost use Rattle.std.specs.Prelude.{◌≡◌, ◌↔◌, ◌+◌, ◌^◌, ◌<◌, ◌≤◌, Ok, Err, IfOk, IfErr, OnOk, IsOk, length};
+ghost use Rattle.std.specs.Prelude.{◌≡◌, ◌↔◌, ◌+◌, ◌^◌, ◌<◌, ◌≤◌, Ok, Err, IfOk, IfErr, OnOk, IsOk};
 ghost use Rattle.cap_machine.specs.State.{State, with_listed};
 ghost use Rattle.cap_machine.specs.Table.{start_state};
 ghost use Rattle.cap_session.specs.Reads.{Reads};

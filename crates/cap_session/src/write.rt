@@ -1,5 +1,5 @@
 //! Writing, whatever a writer takes at a time.
-ghost use Rattle.std.specs.Prelude.{◌≡◌, ◌+◌, ◌<◌, ◌≤◌, OnOk, OnErr};
+ghost use Rattle.std.specs.Prelude.{◌<◌, ◌≤◌, OnOk, OnErr};
 ghost use Rattle.cap_session.specs.Writes.{Wrote, WrotePrefix};
 
 use crate::devices::{Failed, Sink};

@@ -1,6 +1,6 @@
 //! What is known of a segment, whatever the state before it.
 
-ghost use Rattle.std.specs.Prelude.{◌≡◌, ℕ, ◌+◌, ◌^◌, ◌<◌, ◌≤◌, ◌∷◌, [], ◌||◌, true, false, None, length};
+ghost use Rattle.std.specs.Prelude.{◌≡◌, ◌+◌, ◌^◌, ◌<◌, ◌≤◌, ◌∷◌, [], ◌||◌, true, false, None, length};
 ghost use Rattle.std.specs.Prelude.{IfOk, OnOk, IfSome, IsSomeAnd, List};
 ghost use Rattle.cap_tree.specs.Run.{values};
 ghost use Rattle.cap_machine.specs.Steps.{step};

@@ -1,7 +1,6 @@
 //! Reading the answer of a call: what follows ` RET `, by the kind of result that the call has. Nothing here takes
 //! memory.
 
-ghost use Rattle.std.specs.Prelude.{◌≡◌};
 ghost use Rattle.cap_trace.specs.Limits.{largest_fd};
 ghost use Rattle.cap_trace.specs.Number.{num_at};
 ghost use Rattle.cap_trace.specs.Reading.{Gives, number_at, same_at, pair_at, any_at, made_at, answer_at};

@@ -1,7 +1,7 @@
 //! The lines that most traces are made of, read in one pass: each field ends at the byte that follows it. What isn't
 //! read so is read with care.
 
-ghost use Rattle.std.specs.Prelude.{◌≡◌, ◌∷◌, ◌++◌, ◌<◌, ◌^◌, IfSome, codes, Ok};
+ghost use Rattle.std.specs.Prelude.{◌≡◌, ◌∷◌, ◌++◌, ◌<◌, IfSome, codes, Ok};
 ghost use Rattle.std.specs.Fmt.{decimal};
 ghost use Rattle.cap_trace.specs.declared.calls.Form.TheVariants as forms;
 ghost use Rattle.cap_trace.specs.Call as calls;

@@ -1,6 +1,6 @@
 //! A segment whose items share three cells: two count the joins and the comparisons, the third refuses a summary when
 //! its turn comes.
-ghost use Rattle.std.specs.Prelude.{◌≡◌, ◌++◌, true, map, length};
+ghost use Rattle.std.specs.Prelude.{◌≡◌, ◌++◌, true, length};
 ghost use Rattle.cap_tree_tests.specs.Numbers.{numbers, length-numbers};
 
 use crate::listed::appended;

@@ -1,5 +1,5 @@
 //! The place of a key among sorted entries.
-ghost use Rattle.std.specs.Prelude.{◌≡◌, ℕ, ◌<◌, ◌≤◌, length, true, Some, None, slice_get, option_map, IfOk, IfErr};
+ghost use Rattle.std.specs.Prelude.{◌≡◌, ℕ, ◌<◌, ◌≤◌, length, true, None, slice_get, option_map, IfOk, IfErr};
 ghost use Rattle.cap_change.specs.Place.{IsAt, IsGap, key_at};
 ghost use Rattle.cap_change.specs.Sorted.{found, Rises};
 

@@ -1,7 +1,6 @@
 //! The lowest part of the tree: the cells of a few descriptors, in an array.
 
-ghost use Rattle.std.specs.Prelude.{◌≡◌, ℕ, ◌<◌, OnOk, ◌==◌, nat_le, if◌then◌else◌};
-ghost use Rattle.std.specs.List.{slice_index_or};
+ghost use Rattle.std.specs.Prelude.{◌≡◌, ℕ, ◌<◌, ◌==◌, if◌then◌else◌};
 
 use crate::cell::Cell;
 use crate::cells::kind::{Kind, rights_of};

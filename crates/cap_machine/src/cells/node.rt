@@ -1,6 +1,6 @@
 //! A node of the tree: eight parts that stand next to each other, each shared, with what is still to be done to it.
 
-ghost use Rattle.std.specs.Prelude.{◌≡◌, ℕ, ◌<◌, ◌/◌, ◌%◌, OnOk, IfOk, ◌==◌, nat_le, if◌then◌else◌, slice_get};
+ghost use Rattle.std.specs.Prelude.{◌≡◌, ℕ, ◌<◌, ◌/◌, ◌%◌, IfOk, nat_le, if◌then◌else◌, slice_get};
 ghost use Rattle.std.specs.List.{slice_index_or};
 ghost use Rattle.std.specs.Option.{option_map_or};
 ghost use Rattle.cap_machine.specs.Cells.Pending.{settled};

@@ -1,7 +1,7 @@
 //! What is left of cells that no process has any more. It is freed a few parts at a time, so that no line takes longer
 //! for the number of descriptors that a process had.
 
-ghost use Rattle.std.specs.Prelude.{◌≡◌, ℕ, ◌+◌, ◌-◌, ◌≤◌, nat_lt, IsTrue};
+ghost use Rattle.std.specs.Prelude.{◌≡◌, ◌+◌, ◌-◌, ◌≤◌, nat_lt, IsTrue};
 ghost use Rattle.std.specs.Vec.{vec_len};
 ghost use Rattle.cap_machine.specs.Cells.Remains.{left_at_most};
 
