@@ -1,5 +1,5 @@
 -- Conditions in two parts, those of the most common form and others, and one more among them.
-use Rattle.std.proofs.Common.{◌≡◌, ℕ, ◌+◌, ◌<◌, List, [], ◌∷◌, ◌++◌, Bool, true, false, ◌||◌}
+use Rattle.std.proofs.Common.{◌≡◌, ℕ, ◌+◌, ◌<◌, List, [], ◌∷◌, ◌++◌, Bool, true, ◌||◌}
 use Rattle.std.proofs.Common.{length, get_or, take, map, refl, sym, ap, subst, ◌∙◌, arith}
 use Rattle.std.specs.List.{list_any}
 use Rattle.std.proofs.lemmas.List.{map-append, get_or_default}
@@ -137,10 +137,3 @@ turn_each g [] i seen met always base old new within put both before = absurd (o
 turn_each g (y ∷ ys) i seen met always base old new within put both before =
     turn_more g (y ∷ ys) i (get_or (y ∷ ys) i y) seen met always base old new within
     (get_or_default (y ∷ ys) i y (get_or (y ∷ ys) i y) within) (put y) both before
-
--- both parts, one after the other
-pub turned_parts : (low_met other_met between all a b : Bool) → (low_met || between) ≡ (false || a)
-    → (other_met || all) ≡ (between || b) → ((low_met || other_met) || all) ≡ (a || b)
-turned_parts low_met other_met between all a b first second =
-    or_assoc low_met other_met all ∙ ap (λ r. low_met || r) second ∙ sym (or_assoc low_met between b)
-    ∙ ap (λ r. r || b) first

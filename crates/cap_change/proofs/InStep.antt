@@ -19,12 +19,11 @@ use Rattle.cap_change.specs.Tables.{listed_process, process_at}
 use Rattle.cap_change.specs.Changes.{changed, cell_in, value_of}
 use Rattle.cap_change.specs.Names.{Names, value_within}
 use Rattle.cap_change.specs.Reading.{LowsRead}
-use Rattle.cap_change.specs.Packed.{key_pid, key_fd, low_source, low_holds, any_low_holds, LowsWithin}
+use Rattle.cap_change.specs.Packed.{key_pid, key_fd, low_source, low_holds, any_low_holds}
 use Rattle.cap_change.specs.Packed.{AreOf}
 use Rattle.cap_change.specs.MovedLow.{low_passes, low_value, any_passes, ValuesWithin}
 use Rattle.cap_change.proofs.Bools.{or_assoc}
 use Rattle.cap_change.proofs.Holding.{source_stays}
-use Rattle.cap_change.proofs.Reading.{source_left}
 use Rattle.cap_change.proofs.SortedFound.{found_below}
 
 -- ---- from the first entry up
@@ -107,12 +106,6 @@ unlisted_value : (change : Change) (p : ℕ) (x : Low) → process_at change.pro
     → value_of change (key_pid x.key) (key_fd x.key) ≡ value.Of (key_pid x.key) (key_fd x.key) same
 unlisted_value change p x none is = ap (λ (o : Option Process). cell_in o (key_pid x.key) (key_fd x.key))
     (ap (process_at change.processes) is ∙ none)
-
-pub read_unlisted : (names : Names) (change : Change) (p : ℕ) (lows : List Low) → process_at change.processes p ≡ None
-    → AreOf p lows → LowsRead names change lows → LowsWithin names lows
-read_unlisted names change p lows none of read i d lt =
-    let x : Low = get_or lows i d in
-    source_left names change (low_source x) (unlisted_value change p x none (of i d lt)) ∙ read i d lt
 
 pub passes_unlisted : (s : State) (change : Change) (p : ℕ) (lows : List Low)
     → process_at change.processes p ≡ None → AreOf p lows

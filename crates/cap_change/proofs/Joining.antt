@@ -52,10 +52,6 @@ or_true : (x : Bool) → (x || true) ≡ true
 or_true true = refl
 or_true false = refl
 
-or_false : (x : Bool) → (x || false) ≡ x
-or_false true = refl
-or_false false = refl
-
 closed_stays : (passing : Passing) → applied (passing_op passing) Closed ≡ Closed
 closed_stays passings.Same = refl
 closed_stays passings.Exec = refl
@@ -90,22 +86,6 @@ base_joined s t passing q f false false low None n others first lower is rest be
     ∙ ap (λ r. read_cell s (cond r (value.Fixed Closed) (rest_value others f))) lower
     ∙ rest
     ∙ ap (applied (passing_op passing)) (sym before)
-
--- the base of a process that the change leaves as it was, and one of cells that are alike
-pub base_kept : (s t : State) (op : Op) (q f : ℕ) (now : Bool) (n : Option Value) → n ≡ None
-    → t.cell q f ≡ applied same (s.cell q f) →
-    read_cell s (unwrap_or n (cond now (value.Fixed Closed) (value.Of q f op)))
-    ≡ read_cell t (cond now (value.Fixed Closed) (value.Of q f op))
-base_kept s t op q f true n is before = ap (λ (r : Option Value). read_cell s (unwrap_or r (value.Fixed Closed))) is
-base_kept s t op q f false n is before =
-    ap (λ (r : Option Value). read_cell s (unwrap_or r (value.Of q f op))) is
-    ∙ sym (ap (applied op) (before ∙ applied_same (s.cell q f)))
-
-pub base_alike : (s t : State) (c : Cell) (now : Bool) (n : Option Value) → n ≡ None →
-    read_cell s (unwrap_or n (cond now (value.Fixed Closed) (value.Fixed c)))
-    ≡ read_cell t (cond now (value.Fixed Closed) (value.Fixed c))
-base_alike s t c true n is = ap (λ (r : Option Value). read_cell s (unwrap_or r (value.Fixed Closed))) is
-base_alike s t c false n is = ap (λ (r : Option Value). read_cell s (unwrap_or r (value.Fixed c))) is
 
 -- ---- a process
 

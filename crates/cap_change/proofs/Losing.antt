@@ -13,7 +13,7 @@ use Rattle.cap_change.specs.Conditions.{any_holds}
 use Rattle.cap_change.specs.Names.{Names, ConditionsWithin}
 use Rattle.cap_change.specs.Packed.{low_condition, low_conditions, any_low_holds, LowsWithin}
 use Rattle.cap_change.specs.Reading.{condition_read, ConditionsRead, LowsRead}
-use Rattle.cap_change.proofs.Bools.{or_false, or_true, or_same, or_turned, or_assoc, or_swapped}
+use Rattle.cap_change.proofs.Bools.{or_false, or_true, or_assoc, or_swapped}
 use Rattle.cap_change.proofs.Gathering.{parts_hold, first_lows}
 use Rattle.cap_change.proofs.Merging.{more, put_one}
 use Rattle.cap_change.proofs.Reading.{first_of, second_of, lows_read, others_read}
@@ -150,18 +150,6 @@ module _ {X : Type 0} (old now lost new own others : List X) where
     within = λ g. within_both (list_any g now) (list_any g new) (list_any g others) (before.within g) (before.in_now g)
         ∙ ap (λ b. list_any g now || b) (sym (ap (list_any g) is2 ∙ list_any-append g new others));
   }
-
--- at first nothing was put apart
-pub nothing_apart : {X : Type 0} (old now : List X) → IsTurnover old now [] [] old now
-nothing_apart {X} old now = record {
-  in_old = λ g. sym (or_same (list_any g old));
-  in_now = λ g. sym (or_same (list_any g now));
-  holds = λ g. or_turned (list_any g old) (list_any g now);
-  old_passes = λ g all some left. left;
-  new_passes = λ g all. All-nil (λ z. g z ≡ true);
-  rest_passes = λ g all. all;
-  within = λ g. sym (or_false (list_any g now));
-}
 
 -- both rests were put apart as well, so nothing is left
 module _ {X : Type 0} (old now lost new : List X) (all : IsTurnover old now lost new [] []) where

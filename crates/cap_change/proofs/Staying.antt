@@ -14,7 +14,7 @@ use Rattle.cap_machine.specs.declared.cell.HeldOp.TheVariants.{Becomes, Keeps}
 use Rattle.cap_machine.specs.declared.cell.Op.{Op}
 use Rattle.cap_machine.specs.State.{State}
 use Rattle.cap_machine.specs.Op.{same}
-use Rattle.cap_machine.specs.Composed.{in_turn, held_then, kept_then, both_masks}
+use Rattle.cap_machine.specs.Composed.{in_turn, held_then, both_masks}
 use Rattle.cap_machine.proofs.Turns.{same_state}
 use Rattle.cap_change.specs.declared.values.Value.{Value}
 use Rattle.cap_change.specs.declared.values.Value.TheVariants as value
@@ -26,8 +26,8 @@ use Rattle.cap_change.specs.declared.kept.Kept.{Kept}
 use Rattle.cap_change.specs.Sorted.{found}
 use Rattle.cap_change.specs.Values.{read_cell, read_mode, unlisted, op_on, passing_op, rest_untouched, is_own}
 use Rattle.cap_change.specs.Values.{passed_on}
-use Rattle.cap_change.specs.Tables.{listed_value, process_at, or_else, kept_value, kept_values, Hides}
-use Rattle.cap_change.specs.Changes.{value_in, value_of, cell_in, mode_in, changed, JoinsProcess, JoinsListed, JoinsTo}
+use Rattle.cap_change.specs.Tables.{listed_value, process_at, kept_value, kept_values, Hides}
+use Rattle.cap_change.specs.Changes.{value_in, cell_in, mode_in, changed, JoinsProcess, JoinsListed, JoinsTo}
 use Rattle.cap_change.specs.Changes.{untouched_at, untouched_in, is_untouched, is_unturned}
 use Rattle.cap_change.specs.Images.{under, Stays}
 use Rattle.cap_change.proofs.Untouched.{both_true, implied}
@@ -90,14 +90,6 @@ pub in_turn-same : (op : Op) → in_turn op same ≡ op
 in_turn-same op = same_parts (in_turn op same) op (applied_same op.unknown) (applied_same op.closed) (held-same op.set)
     (held-same op.clear) (held-same op.unsure)
 
-none-then : (op : HeldOp) → kept_then None op ≡ op
-none-then (Becomes cell) = refl
-none-then (Keeps mask flag) = refl
-
-same-in_turn : (op : Op) → in_turn same op ≡ op
-same-in_turn op =
-    same_parts (in_turn same op) op refl refl (none-then op.set) (none-then op.clear) (none-then op.unsure)
-
 -- ---- values
 
 -- handed on as they are, none closed
@@ -108,11 +100,6 @@ op_on-same (value.Of q g op) = ap (value.Of q g) (in_turn-same op)
 pub passed_same : (f : ℕ) (o n : Option Value) → n ≡ o → n ≡ option_and_then (passed_on passings.Same None f) o
 passed_same f None n is = is
 passed_same f (Some v) n is = is ∙ ap Some (sym (op_on-same v))
-
--- a cell that is as it was
-pub value_stays : (a : Change) (q g : ℕ) (op : Op) → value_of a q g ≡ value.Of q g same
-    → under a (value.Of q g op) ≡ value.Of q g op
-value_stays a q g op is = ap (op_on op) is ∙ ap (value.Of q g) (same-in_turn op)
 
 -- ---- tables
 
@@ -171,17 +158,6 @@ pub hides_more : (o : ℕ → Option Value) (xs : List (ℕ × Kept)) (i : ℕ) 
 hides_more o xs i x within at is before f = rw (found-more xs i x f within at)
     (either_hidden (o f) (found (take i xs) f) (cond (eqb x.0 f) (Some x.1) None) (before f)
     (one_hidden o x.0 f x.1 is))
-
--- cells over others that hide them
-pub over_hidden : (a : Change) (others own new : Option Value) → Hides others own → new ≡ option_map (under a) others
-    → new ≡ or_else (option_map (under a) others) own
-over_hidden a None own new hides is = is ∙ sym hides
-over_hidden a (Some v) own new hides is = is
-
--- those that stay as they are
-pub over_stays : (a : Change) (others own new : Option Value) → Hides others own → option_map (under a) others ≡ others
-    → new ≡ others → new ≡ or_else (option_map (under a) others) own
-over_stays a others own new hides stays is = over_hidden a others own new hides (is ∙ sym stays)
 
 -- ---- processes
 

@@ -1,5 +1,5 @@
 -- What a change, a base and a process behind a change leave untouched.
-use Rattle.std.proofs.Common.{◌≡◌, ℕ, eqb, Option, Some, None, Bool, true, false, ◌&&◌, ◌||◌, cond, refl, sym, ap, ◌∙◌}
+use Rattle.std.proofs.Common.{◌≡◌, ℕ, Option, Some, None, Bool, true, false, ◌&&◌, ◌||◌, cond, refl, sym, ap, ◌∙◌}
 use Rattle.std.specs.Prelude.{not, is_some, option_map, option_and_then}
 use Rattle.std.proofs.lemmas.Bool.{eqb-true, eq-eqb}
 use Rattle.cap_machine.specs.Touch.{Touch, kept}
@@ -11,10 +11,10 @@ use Rattle.cap_change.specs.declared.values.Base.{Base}
 use Rattle.cap_change.specs.declared.change.Process.{Process}
 use Rattle.cap_change.specs.declared.change.Change.{Change}
 use Rattle.cap_change.specs.declared.cells.Cells.{Cells}
-use Rattle.cap_change.specs.Values.{is_from, is_own, are_of, rest_untouched, op_on, passing_op, passed_on}
+use Rattle.cap_change.specs.Values.{is_from, are_of, rest_untouched, op_on, passing_op, passed_on}
 use Rattle.cap_change.specs.Tables.{listed_value, process_at, or_else}
 use Rattle.cap_change.specs.Images.{under}
-use Rattle.cap_change.specs.Changes.{untouched_at, untouched_in, is_untouched, is_unturned, mode_of, mode_in}
+use Rattle.cap_change.specs.Changes.{untouched_at, untouched_in, is_untouched}
 
 -- ---- Booleans
 
@@ -49,15 +49,6 @@ same_source : (others : Others) (q p : ℕ) → are_of others q ≡ true → are
 same_source rest.Unknown q p first second = absurd cc
 same_source rest.Closed q p first second = absurd cc
 same_source (rest.Of source passing) q p first second = sym (eqb-true source q first) ∙ eqb-true source p second
-
--- the base of a process that isn't listed
-pub none_touched : (a : Change) (base : Base) (passing : Passing) (q p f : ℕ) → base.others ≡ rest.Of q passing
-    → process_at a.processes q ≡ None → rest_untouched base p f ≡ true → is_untouched a p f ≡ true
-none_touched a base passing q p f is none e =
-    let own = first_true (base.own && are_of base.others p) (not (is_from base.closed_from f)) e in
-    let of_p : eqb q p ≡ true = rw is at (second_true base.own (are_of base.others p) own) in
-    let here : process_at a.processes p ≡ None = rw (eqb-true q p of_p) at none in
-    ap (λ (o : Option Process). untouched_in o p f) here
 
 -- the parts of what is untouched in a base that stands behind another, and in the cells that the other's list hands on
 base_parts : (own first_own at_q at_p was now : Bool) (hand : Value → Value) (o : Option Value) →
@@ -116,17 +107,3 @@ process_untouched a base old first cells p f is below e =
     (listed_value old.cells f) (listed_value cells f) (listed_value first f) is below e
 
 -- ---- modes
-
-pub none_turned : (a : Change) (q p : ℕ) → process_at a.processes q ≡ None → eqb q p ≡ true → is_unturned a p ≡ true
-none_turned a q p none is =
-    let here : process_at a.processes p ≡ None = rw (eqb-true q p is) at none in
-    ap (λ (o : Option Process). is_own (mode_in o p) p) here ∙ eq-eqb p p refl
-
--- the own mode of a process, behind a change
-pub own_unturned : (a : Change) (q p : ℕ) → (is_own (mode_of a q) p && eqb q p) ≡ true
-    → (is_unturned a p && eqb q p) ≡ true
-own_unturned a q p e =
-    let of_p : eqb q p ≡ true = second_true (is_own (mode_of a q) p) (eqb q p) e in
-    let same : q ≡ p = eqb-true q p of_p in
-    both_true (is_unturned a p) (eqb q p)
-    (ap (λ (r : ℕ). is_own (mode_of a r) p) (sym same) ∙ first_true (is_own (mode_of a q) p) (eqb q p) e) of_p

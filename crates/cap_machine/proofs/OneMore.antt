@@ -7,7 +7,6 @@ use Rattle.std.proofs.lemmas.List.Concat.{flat_map-append}
 use Rattle.cap_trace.specs.Entry.{Entry}
 use Rattle.cap_machine.specs.declared.cell.Profile.{Profile}
 use Rattle.cap_machine.specs.declared.step.Step.{Step}
-use Rattle.cap_machine.specs.declared.rule.Effect.{Effect}
 use Rattle.cap_machine.specs.declared.table.Table.{Table}
 use Rattle.cap_machine.specs.Checked.{CheckerState, HasChecked}
 use Rattle.cap_machine.specs.Known.{known}
@@ -15,12 +14,10 @@ use Rattle.cap_machine.specs.declared.verdict.Finding.{Finding}
 use Rattle.cap_machine.specs.declared.verdict.Found.{Found}
 use Rattle.cap_machine.specs.Steps.{step, steps}
 use Rattle.cap_machine.specs.State.{State}
-use Rattle.cap_machine.specs.Touch.{Touch, Turn, touch, turn}
-use Rattle.cap_machine.specs.History.{touched, turned, ended}
+use Rattle.cap_machine.specs.History.{ended}
 use Rattle.cap_machine.specs.Check.{check, said, found_at}
 use Rattle.cap_machine.specs.Report.{report_line, finding_line}
-use Rattle.cap_machine.specs.Effect.{effect_touch, effect_turn}
-use Rattle.cap_machine.specs.Table.{state_of, start_state, Keeps, effect_after, step_after}
+use Rattle.cap_machine.specs.Table.{state_of, start_state, Keeps, step_after}
 use Rattle.cap_machine.proofs.KnownTables.{state_known}
 use Rattle.cap_machine.proofs.Turns.{ends_more, checks_more, same_state}
 use Rattle.cap_machine.proofs.ReportLines.{lines-check, lines-next}
@@ -31,15 +28,6 @@ state_kept table s keeps = same_state (state_of table) s keeps.cells keeps.modes
 pub kept_state : (table : Table) (s : State) → state_of table ≡ s → Keeps table s
 kept_state table s e =
     record { cells = λ p f. ap (λ (r : State). r.cell p f) e; modes = λ p. ap (λ (r : State). r.mode p) e }
-
--- an effect that does to each cell and mode what the step does
-pub same_step : (effect : Effect) (l : Step) (me : ℕ) (s : State)
-    → ((p f : ℕ) → effect_touch effect me p f ≡ touch l p f)
-    → ((p : ℕ) → effect_turn effect me p ≡ turn l p) → effect_after effect me s ≡ step_after l s
-same_step effect l me s cells modes =
-    same_state (effect_after effect me s) (step_after l s)
-    (λ p f. ap (λ (r : Touch). touched r s.cell p f) (cells p f))
-    (λ p. ap (λ (r : Turn). turned r s.mode p) (modes p))
 
 -- one more line in a profile is one more step
 pub steps-more : (profile : Profile) (trace : List Entry) (line : Entry)

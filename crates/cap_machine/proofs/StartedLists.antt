@@ -1,6 +1,6 @@
 -- What is left of a list when descriptors are struck off it.
-use Rattle.std.proofs.Common.{◌≡◌, ℕ, ◌==◌, nat_le, nat_lt, ◌||◌, not, ◌++◌, if◌then◌else◌, Bool, true, false, List, []}
-use Rattle.std.proofs.Common.{◌∷◌, ◌+◌, ◌<◌, length, take, get_or, refl, ap, sym, ◌∙◌, arith}
+use Rattle.std.proofs.Common.{◌≡◌, ℕ, ◌==◌, nat_le, nat_lt, ◌||◌, not, if◌then◌else◌, Bool, true, false, List}
+use Rattle.std.proofs.Common.{◌+◌, ◌<◌, length, take, get_or, refl, ap, sym, ◌∙◌, arith}
 use Rattle.std.specs.List.{list_any, filter}
 use Rattle.std.proofs.lemmas.Bool.{cases_eq, cases_lt}
 use Rattle.std.proofs.lemmas.Bool.Decides.{nat_tests}
@@ -84,43 +84,6 @@ below small large few more fd f x c e h =
     ∙ ap (λ (b : Bool). if b then x else c)
     (neither (nat_le fd f) (list_any (λ g. f == g) small) (list_any (λ g. f == g) large))
     ∙ chosen (nat_le fd f) (list_any (λ g. f == g) small || list_any (λ g. f == g) large) x c
-
--- one descriptor more at the end of a list
-or_false : (b : Bool) → (b || false) ≡ b
-or_false true = refl
-or_false false = refl
-
-or_assoc : (a b c : Bool) → (a || (b || c)) ≡ ((a || b) || c)
-or_assoc true b c = refl
-or_assoc false b c = refl
-
-pub any_more : (f : ℕ) (fds : List ℕ) (fd : ℕ)
-    → list_any (λ g. f == g) (fds ++ fd ∷ []) ≡ (list_any (λ g. f == g) fds || f == fd)
-any_more f [] fd = or_false (f == fd)
-any_more f (one ∷ fds) fd = ap (λ (b : Bool). f == one || b) (any_more f fds fd)
-    ∙ or_assoc (f == one) (list_any (λ g. f == g) fds) (f == fd)
-
--- and of the first or of the second of two
-among : (a b t : Bool) → ((a || t) || b) ≡ ((a || b) || t)
-among true b t = refl
-among false true true = refl
-among false true false = refl
-among false false true = refl
-among false false false = refl
-
-pub more_small : (f : ℕ) (small large : List ℕ) (fd : ℕ)
-    → (list_any (λ g. f == g) (small ++ fd ∷ []) || list_any (λ g. f == g) large)
-    ≡ ((list_any (λ g. f == g) small || list_any (λ g. f == g) large) || f == fd)
-more_small f small large fd =
-    ap (λ (b : Bool). b || list_any (λ g. f == g) large) (any_more f small fd)
-    ∙ among (list_any (λ g. f == g) small) (list_any (λ g. f == g) large) (f == fd)
-
-pub more_large : (f : ℕ) (small large : List ℕ) (fd : ℕ)
-    → (list_any (λ g. f == g) small || list_any (λ g. f == g) (large ++ fd ∷ []))
-    ≡ ((list_any (λ g. f == g) small || list_any (λ g. f == g) large) || f == fd)
-more_large f small large fd =
-    ap (λ (b : Bool). list_any (λ g. f == g) small || b) (any_more f large fd)
-    ∙ or_assoc (list_any (λ g. f == g) small) (list_any (λ g. f == g) large) (f == fd)
 
 -- one more is held
 either : {X : Type 0} (a b : Bool) (x y : X)

@@ -142,16 +142,6 @@ cell_is_found walk e = record {
       (cell_after t older walk.pid walk.fd) e;
 }
 
-end_unless : (gift : Option Cell) (chain : CellChain) → is_some gift ≡ false
-    → (chain_unless gift chain).end ≡ chain.end
-end_unless None chain e = refl
-end_unless (Some c) chain e = absurd (cc)
-
-pub cell_goes_on : (walk : CellWalk) (s : State) (history : List Step) → is_some walk.given ≡ false
-    → (cell_found walk s history).end ≡ (cell_chain s history walk.pid walk.fd).end
-unfolding cell_found
-cell_goes_on walk s history e = end_unless walk.given (cell_chain s history walk.pid walk.fd) e
-
 -- ---- cells: steps that are left out
 
 back_one : (step : Step) (trace history : List Step)
@@ -319,16 +309,6 @@ mode_is_found walk e = record {
       (mode_chain t older walk.pid) e;
   mode = λ s t history older. mode_ended walk.turned (mode_after s history walk.pid) (mode_after t older walk.pid) e;
 }
-
-mode_end_unless : (gift : Option Mode) (chain : ModeChain) → is_some gift ≡ false
-    → (mode_chain_unless gift chain).end ≡ chain.end
-mode_end_unless None chain e = refl
-mode_end_unless (Some m) chain e = absurd (cc)
-
-pub mode_goes_on : (walk : ModeWalk) (s : State) (history : List Step) → is_some walk.turned ≡ false
-    → (mode_found walk s history).end ≡ (mode_chain s history walk.pid).end
-unfolding mode_found
-mode_goes_on walk s history e = mode_end_unless walk.turned (mode_chain s history walk.pid) e
 
 -- ---- modes: steps that are left out
 

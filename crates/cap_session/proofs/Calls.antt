@@ -29,12 +29,6 @@ appends_more (Some xs) None c g p first second = absurd first
 appends_more (Some xs) (Some ys) None g p first second = absurd second
 appends_more (Some xs) (Some ys) (Some zs) g p first second = second ∙ ap (λ l. l ++ p) first ∙ append_assoc xs g p
 
-pub appends_kept : (a b c : Option (List ℕ)) (g : List ℕ) → Appends a b g → Keeps b c → Appends a c g
-appends_kept None b c g first kept = tt
-appends_kept (Some xs) None c g first kept = absurd first
-appends_kept (Some xs) (Some ys) None g first kept = absurd kept
-appends_kept (Some xs) (Some ys) (Some zs) g first kept = kept ∙ first
-
 pub appends_none : (a : Option (List ℕ)) → Appends a a []
 appends_none None = tt
 appends_none (Some xs) = sym (append-nil xs)

@@ -1,8 +1,8 @@
 -- What the loop over a piece keeps.
-use Rattle.std.proofs.Common.{◌≡◌, ℕ, ◌+◌, ◌<◌, ◌≤◌, List, [], ◌++◌, length, take, drop, refl, sym, ◌∙◌, ap, subst}
+use Rattle.std.proofs.Common.{◌≡◌, ℕ, ◌+◌, ◌<◌, ◌≤◌, List, [], ◌++◌, length, take, drop, sym, ◌∙◌, ap, subst}
 use Rattle.std.proofs.Common.{append_assoc, arith}
 use Rattle.std.specs.Prelude.{Result, Ok, Err, Some, None}
-use Rattle.std.proofs.lemmas.List.{append-nil, take-append-drop, length-drop}
+use Rattle.std.proofs.lemmas.List.{take-append-drop, length-drop}
 use Rattle.memchr.specs.Find.{IsFirstByte, is_byte}
 use Rattle.cap_session.specs.Texts.{with_line, refused_so_far}
 use Rattle.cap_session.specs.Feeds.{Completes, Reached, Feeds}
@@ -21,16 +21,6 @@ pub record Fed {A : Type 0} (next : A → List ℕ → Result A Refused) (before
   pub count : number + length rest ≤ number0 + length piece
   pub reached : (start : A) (given : List ℕ) → Reached next start before given number0 held0
       → Reached next start now (given ++ front) number held
-
-pub fed_first : {A : Type 0} (next : A → List ℕ → Result A Refused) (follows : A → Type 0) (number : ℕ)
-    (held piece : List ℕ) → Fed next follows follows number held piece number held piece
-fed_first next follows number held piece = record {
-  front = [];
-  cut = refl;
-  count = omega arith;
-  reached =
-      λ start given r. subst (λ (g : List ℕ). Reached next start follows g number held) (sym (append-nil given)) r;
-}
 
 -- a line was taken
 fed_line : {A : Type 0} (next : A → List ℕ → Result A Refused) (before now after : A → Type 0) (number0 : ℕ)

@@ -159,17 +159,6 @@ pub record Scripted (start : Scripting) (w0 : SinkState) (piece : List ℕ) (s :
   pub room : w1.room ≡ w0.room
   pub within : length rest ≤ length piece
 
-pub scripted_first : (start : Scripting) (w : SinkState) (piece : List ℕ) → Scripted start w piece start w piece
-scripted_first start w piece = record {
-  lines = [];
-  profile = refl;
-  replied = replied_none start.profile start.trace w;
-  same = refl;
-  last = refl;
-  room = refl;
-  within = omega arith;
-}
-
 -- a line was replied to
 pub scripted_on : (start s t : Scripting) (w0 w1 w2 : SinkState) (piece rest : List ℕ) (k : ℕ)
     → Scripted start w0 piece s w1 rest →

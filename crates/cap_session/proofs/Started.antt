@@ -1,7 +1,7 @@
 -- What a line of a start text does, and how far a text was taken.
-use Rattle.std.proofs.Common.{rules, ◌≡◌, ℕ, ◌+◌, ◌≤◌, List, [], ◌∷◌, ◌++◌, length, take, drop, refl, sym, ◌∙◌, ap}
+use Rattle.std.proofs.Common.{◌≡◌, ℕ, ◌+◌, ◌≤◌, List, [], ◌∷◌, ◌++◌, length, take, drop, refl, sym, ◌∙◌, ap}
 use Rattle.std.proofs.Common.{arith, append_assoc, true, false}
-use Rattle.std.specs.Prelude.{Result, Ok, Err, Some, None, IsOk, OnOk, IfErr, nat_lt}
+use Rattle.std.specs.Prelude.{Result, Ok, Err, Some, None, OnOk, IfErr}
 use Rattle.std.proofs.lemmas.List.{take-append-drop, length-drop, append-nil}
 use Rattle.memchr.specs.Find.{IsFirstByte, is_byte}
 use Rattle.cap_machine.specs.State.{with_listed}
@@ -61,17 +61,6 @@ pub process_added : (listed : Listed) (line : List ℕ) (low : ℕ) (head : Head
 process_added listed line low head cells same counts says is =
     line_says listed line counts ∙ ap (λ (n : ℕ). with_described listed (described n (words line))) (sym same)
     ∙ ap (with_described listed) (says ∙ ap (completed head) is)
-
--- a line that isn't too long
-pub short_line : {A : Type 0} (next : A → List ℕ → Result A Refused) (known : A) (line : List ℕ) → length line ≤ 1024
-    → with_line next known line ≡ next known line
-short_line next known line short =
-    let is : nat_lt 1024 (length line) ≡ false = grind arith in
-    rw is refl
-
-pub ok_has : {A B : Type 0} (r : Result A B) → IsOk r → (x : A) × (r ≡ Ok x)
-ok_has (Ok x) good = (x, refl)
-ok_has (Err e) good = absurd (search rules)
 
 -- ---- the text, taken line by line
 

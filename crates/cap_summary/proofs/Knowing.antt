@@ -125,10 +125,6 @@ among_too some names more first second = record {
   fds = λ f is. second.fds f (first.fds f is);
 }
 
-pub many_left : (t u : List Step) → NamesMany t → NamesMany (t ++ u)
-many_left t u many pids fds among =
-    many pids fds (among_too (names_in t) (names_in (t ++ u)) (these pids fds) (among_left t u) among)
-
 pub many_right : (t u : List Step) → NamesMany u → NamesMany (t ++ u)
 many_right t u many pids fds among =
     many pids fds (among_too (names_in u) (names_in (t ++ u)) (these pids fds) (among_right t u) among)

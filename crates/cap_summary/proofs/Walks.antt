@@ -1,5 +1,5 @@
 -- Walks back through the parts of a node.
-use Rattle.std.proofs.Common.{◌≡◌, ℕ, ◌+◌, ◌-◌, ◌<◌, List, [], ◌∷◌, ◌++◌, length, take, sym, ap, ◌∙◌, arith}
+use Rattle.std.proofs.Common.{◌≡◌, ℕ, ◌+◌, ◌-◌, ◌<◌, List, ◌++◌, length, take, sym, ap, ◌∙◌, arith}
 use Rattle.std.proofs.Common.{append_assoc, length-append}
 use Rattle.std.specs.Prelude.{reverse}
 use Rattle.std.proofs.Math.Seq.{take-append-add}
@@ -29,14 +29,6 @@ sees_both see old mid new at n t u is right left s h long =
 abbrev pub Sees : {W Z : Type 0} → (W → State → List Step → Z) → W → W → ℕ → List Step → List Step → Type 0
 Sees see old new at rest run = (s : State) (history : List Step) → length history ≡ at
     → see new s (reverse rest ++ history) ≡ see old s (reverse run ++ history)
-
-sees_more : {W Z : Type 0} (see : W → State → List Step → Z) (old walk new : W) (at n : ℕ)
-    (rest before run : List Step) (step : Step) → rest ≡ before ++ step ∷ [] → n ≡ at + length before
-    → Passes see walk new n (step ∷ []) → Sees see old walk at rest run → Sees see old new at before run
-sees_more see old walk new at n before_rest before run step is count one so_far s h long =
-    one s (reverse before ++ h) (omega (arith, length-append (reverse before) h, length-reverse before, count, long))
-    ∙ ap (see walk s) (ap (λ r. r ++ h) (sym (reverse-append before (step ∷ [])) ∙ ap reverse (sym is)))
-    ∙ so_far s h long
 
 -- the first steps of two parts, more than the left one has
 take_in_two : (left count : ℕ) (a b : List Step) → left ≡ length a → left < count
@@ -85,25 +77,6 @@ pub record SeesCell (old new : CellWalk) (at : ℕ) (rest run : List Step) : Typ
   pub chain : Sees cell_found old new at rest run
   pub cell : Sees cell_known old new at rest run
 
-pub cell_more : (old walk new : CellWalk) (at n : ℕ) (rest before run : List Step) (step : Step)
-    → rest ≡ before ++ step ∷ [] → n ≡ at + length before → PassesCell walk new n (step ∷ [])
-    → SeesCell old walk at rest run → SeesCell old new at before run
-cell_more old walk new at n rest before run step is count one so_far = record {
-  chain = sees_more cell_found old walk new at n rest before run step is count one.chain so_far.chain;
-  cell = sees_more cell_known old walk new at n rest before run step is count one.cell so_far.cell;
-}
-
--- all of a run was passed, or the rest doesn't matter
-pub cell_all : (old walk : CellWalk) (at : ℕ) (run : List Step) → SeesCell old walk at [] run → PassesCell old walk at run
-cell_all old walk at run so_far = record { chain = so_far.chain; cell = so_far.cell }
-
-pub cell_enough : (old walk : CellWalk) (at : ℕ) (rest run : List Step) → CellIsFound walk
-    → SeesCell old walk at rest run → PassesCell old walk at run
-cell_enough old walk at rest run is so_far = record {
-  chain = λ s h long. is.chain s s h (reverse rest ++ h) ∙ so_far.chain s h long;
-  cell = λ s h long. is.cell s s h (reverse rest ++ h) ∙ so_far.cell s h long;
-}
-
 -- ---- modes
 
 mode_both : (old mid new : ModeWalk) (at n : ℕ) (t u : List Step) → n ≡ at + length t → PassesMode old mid n u
@@ -138,21 +111,3 @@ mode_ended walk at t is = record {
 pub record SeesMode (old new : ModeWalk) (at : ℕ) (rest run : List Step) : Type 0 where
   pub chain : Sees mode_found old new at rest run
   pub mode : Sees mode_known old new at rest run
-
-pub mode_more : (old walk new : ModeWalk) (at n : ℕ) (rest before run : List Step) (step : Step)
-    → rest ≡ before ++ step ∷ [] → n ≡ at + length before → PassesMode walk new n (step ∷ [])
-    → SeesMode old walk at rest run → SeesMode old new at before run
-mode_more old walk new at n rest before run step is count one so_far = record {
-  chain = sees_more mode_found old walk new at n rest before run step is count one.chain so_far.chain;
-  mode = sees_more mode_known old walk new at n rest before run step is count one.mode so_far.mode;
-}
-
-pub mode_all : (old walk : ModeWalk) (at : ℕ) (run : List Step) → SeesMode old walk at [] run → PassesMode old walk at run
-mode_all old walk at run so_far = record { chain = so_far.chain; mode = so_far.mode }
-
-pub mode_enough : (old walk : ModeWalk) (at : ℕ) (rest run : List Step) → ModeIsFound walk
-    → SeesMode old walk at rest run → PassesMode old walk at run
-mode_enough old walk at rest run is so_far = record {
-  chain = λ s h long. is.chain s s h (reverse rest ++ h) ∙ so_far.chain s h long;
-  mode = λ s h long. is.mode s s h (reverse rest ++ h) ∙ so_far.mode s h long;
-}

@@ -6,7 +6,7 @@ use Rattle.cap_trace.specs.Entry.{Entry}
 use Rattle.cap_trace.specs.Kept.{entry_of, SpellsALine}
 use Rattle.cap_trace.specs.Reading.{line_of}
 use Rattle.cap_trace.specs.Spelling.{IsProper, canon}
-use Rattle.cap_trace.proofs.WholeLines.{line_takes, line_again}
+use Rattle.cap_trace.proofs.WholeLines.{line_again}
 use Rattle.cap_trace.proofs.Canonical.{canon_spells}
 
 pub kept_is : (bytes : List ℕ) (e : Entry) → line_of bytes ≡ Ok e → entry_of bytes ≡ e
@@ -16,9 +16,6 @@ kept_is bytes e h =
 
 pub spells_a_line : (bytes : List ℕ) (e : Entry) → line_of bytes ≡ Ok e → SpellsALine bytes
 spells_a_line bytes e h = h ∙ ap Ok (sym (kept_is bytes e h))
-
-pub kept_proper : (bytes : List ℕ) → SpellsALine bytes → IsProper (entry_of bytes)
-kept_proper bytes h = (bytes, line_takes bytes (entry_of bytes) h)
 
 -- the canonical text of a line is read as that line
 pub canon_read : (bytes : List ℕ) (e : Entry) → bytes ≡ canon e → IsProper e → line_of bytes ≡ Ok e

@@ -1,10 +1,9 @@
 -- Descriptors that rise, as a loop tests them.
-use Rattle.std.proofs.Common.{◌≡◌, ℕ, ◌+◌, ◌≤◌, ◌<◌, Bool, true, false, cond, ltb, List, [], ◌∷◌, ◌++◌, append_assoc}
+use Rattle.std.proofs.Common.{◌≡◌, ℕ, ◌+◌, Bool, true, false, cond, ltb, List, [], ◌∷◌, ◌++◌, append_assoc}
 use Rattle.std.proofs.Common.{Option, Some, None, Result, Ok, Err, refl, sym, ap, ◌∙◌}
 use Rattle.std.specs.Prelude.{◌||◌}
 use Rattle.std.specs.List.{list_any}
 use Rattle.std.proofs.lemmas.List.{append-nil}
-use Rattle.std.proofs.lemmas.Bool.{le-ltb, lt-ltb}
 use Rattle.cap_trace.specs.declared.fault.FirstFault.{FirstFault}
 use Rattle.cap_trace.specs.declared.fault.FirstFault.TheVariants as faults
 use Rattle.cap_trace.specs.Reading.{◌>>=◌, fd_at, fds_from}
@@ -18,33 +17,6 @@ failure (Err e) = Some e
 failure-same : {A B : Type 0} (r : Result A FirstFault) (f : A → B) → failure (r >>= λ x. Ok (f x)) ≡ failure r
 failure-same (Ok x) f = refl
 failure-same (Err e) f = refl
-
-pub rises_more : (low : ℕ) (t : List ℕ) (ts : List (List ℕ)) (f : ℕ) (total : Option FirstFault) → fd_at t ≡ Ok f
-    → low ≤ f → failure (fds_from low (t ∷ ts)) ≡ total → failure (fds_from (f + 1) ts) ≡ total
-unfolding fds_from
-rises_more low t ts f total e le h =
-    let one : failure (fds_from low (t ∷ ts)) ≡ failure (fds_from (f + 1) ts) =
-    rw (e, le-ltb f low le) (failure-same (fds_from (f + 1) ts) (λ fs. f ∷ fs)) in
-    sym one ∙ h
-
-pub rises_not : (low : ℕ) (t : List ℕ) (ts : List (List ℕ)) (f : ℕ) (total : Option FirstFault) → fd_at t ≡ Ok f
-    → f < low → failure (fds_from low (t ∷ ts)) ≡ total → total ≡ Some faults.Argument
-unfolding fds_from
-rises_not low t ts f total e lt h =
-    let one : failure (fds_from low (t ∷ ts)) ≡ Some faults.Argument = rw (e, lt-ltb f low lt) refl in
-    sym h ∙ one
-
-pub rises_bad : (low : ℕ) (t : List ℕ) (ts : List (List ℕ)) (e : FirstFault) (total : Option FirstFault)
-    → fd_at t ≡ Err e
-    → failure (fds_from low (t ∷ ts)) ≡ total → total ≡ Some e
-unfolding fds_from
-rises_bad low t ts e total bad h =
-    let one : failure (fds_from low (t ∷ ts)) ≡ Some e = rw bad refl in
-    sym h ∙ one
-
-pub failed : {A : Type 0} (r : Result A FirstFault) (e : FirstFault) → failure r ≡ Some e → r ≡ Err e
-failed (Ok x) e h = absurd cc
-failed (Err d) e h = (let h2 = h in cc)
 
 not_failed : {A B : Type 0} (r : Result A FirstFault) (f : A → Result B FirstFault) → failure (r >>= f) ≡ None
     → (x : A) × (r ≡ Ok x) × (failure (f x) ≡ None)
