@@ -4,7 +4,7 @@ use Rattle.std.proofs.Common.{Vec, ◌≡◌, ℕ, ◌+◌, ◌<◌, eqb, List, 
 use Rattle.std.proofs.Common.{take, get_or, length, cond, ◌||◌, ◌&&◌, refl, sym, ap, subst, ◌∙◌}
 use Rattle.std.specs.Prelude.{IfSome, IsSomeAnd, option_map, is_some, not}
 use Rattle.std.specs.Option.{option_or}
-use Rattle.std.proofs.lemmas.Bool.{eqb-true}
+use Rattle.std.proofs.lemmas.Bool.{eqb-true, and_from}
 use Rattle.std.proofs.lemmas.List.Folds.{list_any-append}
 use Rattle.cap_machine.specs.State.{State}
 use Rattle.cap_machine.specs.Op.{applied}
@@ -22,7 +22,7 @@ use Rattle.cap_change.specs.Changes.{value_in, changed, untouched_at, is_untouch
 use Rattle.cap_change.specs.Changes.{AreAlike, JoinsProcess, JoinsListed, JoinsTo, ListSame, ListSameBut, HasAllBut}
 use Rattle.cap_change.specs.Changes.{MovesAlike}
 use Rattle.cap_change.specs.Names.{value_from, mode_from, TakesFrom, SourceWithin, is_one}
-use Rattle.cap_change.proofs.Untouched.{both_true, first_true, second_true}
+use Rattle.cap_change.proofs.Untouched.{first_true, second_true}
 use Rattle.cap_change.proofs.Sources.{takes_both, takes_more, all_from, value_in_from, untouched_from, own_from, same_from}
 use Rattle.cap_change.proofs.Comparing.{alike_cell, alike_mode, alike_untouched, alike_names, alike_back, alike_too}
 use Rattle.cap_change.proofs.Comparing.{same_within}
@@ -59,14 +59,14 @@ moves_alike was now d takes e joins = record {
       let behind = second_true (is_untouched was p f) (untouched_at d.base d.cells p f) both in
       let alike : Alike was now p =
       untouched_from (Alike was now) d.base p f (untouched_base d p f behind) takes.others in
-      both_true (is_untouched now p f) (untouched_at d.base d.cells p f)
+      and_from (is_untouched now p f) (untouched_at d.base d.cells p f)
       (sym (alike_untouched p f (process_at was.processes p) (process_at now.processes p) alike)
       ∙ first_true (is_untouched was p f) (untouched_at d.base d.cells p f) both) behind;
   unturned = λ p is.
       let both = joins.unturned p is in
       let behind = second_true (is_unturned was p) (is_own d.mode p) both in
       let alike : Alike was now p = own_from (Alike was now) d.mode p behind takes.mode in
-      both_true (is_unturned now p) (is_own d.mode p)
+      and_from (is_unturned now p) (is_own d.mode p)
       (ap (λ (m : ModeValue). is_own m p)
       (sym (alike_mode p (process_at was.processes p) (process_at now.processes p) alike))
       ∙ first_true (is_unturned was p) (is_own d.mode p) both) behind;

@@ -1,7 +1,7 @@
 -- One change after another.
 use Rattle.std.proofs.Common.{◌≡◌, ℕ, eqb, Option, Some, None, Bool, true, false, cond, ◌||◌, ◌&&◌, refl, sym, ap, ◌∙◌}
 use Rattle.std.specs.Prelude.{option_and_then, option_map, unwrap_or}
-use Rattle.std.proofs.lemmas.Bool.{eq-eqb}
+use Rattle.std.proofs.lemmas.Bool.{eq-eqb, and_from}
 use Rattle.cap_machine.specs.declared.cell.OnExec.TheVariants.{Set, Clear, Unsure}
 use Rattle.cap_machine.specs.declared.cell.Cell.{Cell}
 use Rattle.cap_machine.specs.declared.cell.Cell.TheVariants.{Unknown, Closed, Held}
@@ -24,11 +24,12 @@ use Rattle.cap_change.specs.Tables.{listed_value, process_at, or_else}
 use Rattle.cap_change.specs.Changes.{value_at, value_in, value_of, cell_in, mode_in, changed, JoinsListed, JoinsTo}
 use Rattle.cap_change.specs.Changes.{untouched_in, is_untouched, is_unturned}
 use Rattle.cap_change.specs.Images.{under}
-use Rattle.cap_change.proofs.Untouched.{both_true}
 use Rattle.cap_change.specs.declared.values.ModeValue.{ModeValue}
 use Rattle.cap_change.specs.Names.{Names, ChangeWithin}
 use Rattle.cap_change.proofs.Comparing.{alike_cell, alike_mode, alike_untouched}
 use Rattle.cap_change.proofs.Naming.{listed_joined}
+use Rattle.cap_change.proofs.Untouched.{with_true}
+use Rattle.cap_change.proofs.Bools.{or_true}
 
 pub applied_same : (c : Cell) → applied same c ≡ c
 applied_same Unknown = refl
@@ -47,10 +48,6 @@ read-under s a (value.Fixed c) = refl
 read-under s a (value.Of q g op) = read-op_on s op (value_of a q g)
 
 -- ---- a base
-
-or_true : (x : Bool) → (x || true) ≡ true
-or_true true = refl
-or_true false = refl
 
 closed_stays : (passing : Passing) → applied (passing_op passing) Closed ≡ Closed
 closed_stays passings.Same = refl
@@ -119,19 +116,16 @@ mode_joined s a p None new is = ap (λ (m : ModeValue). read_mode s m) (alike_mo
 mode_joined s a p (Some d) None is = absurd is
 mode_joined s a p (Some d) (Some e) is = is.mode s
 
-and_true : (x : Bool) → x ≡ true → (x && true) ≡ true
-and_true x is = both_true x true is refl
-
 untouched_joined : (a : Change) (p f : ℕ) (old new : Option Process) → JoinsListed a (process_at a.processes p) old new
     → untouched_in new p f ≡ true → (is_untouched a p f && untouched_in old p f) ≡ true
 untouched_joined a p f None new is e =
-    and_true (is_untouched a p f) (sym (alike_untouched p f new (process_at a.processes p) is) ∙ e)
+    with_true (is_untouched a p f) (sym (alike_untouched p f new (process_at a.processes p) is) ∙ e)
 untouched_joined a p f (Some d) None is e = absurd is
 untouched_joined a p f (Some d) (Some n) is e = is.untouched p f e
 
 unturned_joined : (a : Change) (p : ℕ) (old new : Option Process) → JoinsListed a (process_at a.processes p) old new
     → is_own (mode_in new p) p ≡ true → (is_unturned a p && is_own (mode_in old p) p) ≡ true
-unturned_joined a p None new is e = both_true (is_unturned a p) (eqb p p)
+unturned_joined a p None new is e = and_from (is_unturned a p) (eqb p p)
     (ap (λ (m : ModeValue). is_own m p) (sym (alike_mode p new (process_at a.processes p) is)) ∙ e) (eq-eqb p p refl)
 unturned_joined a p (Some d) None is e = absurd is
 unturned_joined a p (Some d) (Some n) is e = is.unturned p e

@@ -4,7 +4,7 @@ use Rattle.std.proofs.Common.{cond, ◌&&◌, ◌||◌}
 use Rattle.std.proofs.Common.{length, get_or, map, refl, sym, ap, subst, ◌∙◌, arith}
 use Rattle.std.specs.Prelude.{option_map, option_and_then, option_to_list, unwrap_or, IfSome}
 use Rattle.std.specs.List.{list_any, All}
-use Rattle.std.proofs.lemmas.Bool.{eqb-true}
+use Rattle.std.proofs.lemmas.Bool.{eqb-true, and_from}
 use Rattle.std.proofs.lemmas.List.Elements.{All-nil, All-cons, All-head, All-tail, All-same}
 use Rattle.std.proofs.lemmas.List.Elements.{All-push, All-append, All-map, All-weaker}
 use Rattle.cap_machine.specs.declared.cell.Cell.TheVariants.{Closed}
@@ -39,7 +39,7 @@ use Rattle.cap_change.specs.Names.{outside_within, condition_within, ConditionsW
 use Rattle.cap_change.specs.Names.{value_from, SourceWithin}
 use Rattle.cap_change.specs.LineConditions.{need_of, excused_of, both_excused, one_excused, refused_by}
 use Rattle.cap_change.specs.LineConditions.{line_conditions, line_conditions_by}
-use Rattle.cap_change.proofs.Untouched.{both_true, first_true, second_true, with_true}
+use Rattle.cap_change.proofs.Untouched.{first_true, second_true, with_true}
 use Rattle.cap_change.proofs.Sources.{all_from}
 use Rattle.cap_change.proofs.Comparing.{alike_names}
 
@@ -54,7 +54,7 @@ unlisted_within names base f is named = cases (is_from base.closed_from f) base.
     cases true others is = refl
     cases false rest.Unknown is = refl
     cases false rest.Closed is = refl
-    cases false (rest.Of q passing) is = both_true (names.pids q) (names.fds f) is named
+    cases false (rest.Of q passing) is = and_from (names.pids q) (names.fds f) is named
 
 value_in_within : (names : Names) (d : Process) (f : ℕ) → ProcessWithin names d → names.fds f ≡ true
     → value_within names (value_in d f) ≡ true
@@ -102,7 +102,7 @@ pub over_within : (names : Names) (a : Change) (f : ℕ) (o n first : Option Val
 over_within names a f None n first within is old below = ap (cell_within names f) is ∙ below
 over_within names a f (Some v) n first within is old below =
     ap (cell_within names f) is
-    ∙ both_true (names.fds f) (value_within names (under a v)) (first_true (names.fds f) (value_within names v) old)
+    ∙ and_from (names.fds f) (value_within names (under a v)) (first_true (names.fds f) (value_within names v) old)
     (under_within names a v within (second_true (names.fds f) (value_within names v) old))
 
 -- what is handed on
@@ -115,7 +115,7 @@ passed_within names passing closed_from f (Some v) n is old =
   where
     cases : (b : Bool) → cell_within names f (cond b None (Some (op_on (passing_op passing) v))) ≡ true
     cases true = refl
-    cases false = both_true (names.fds f) (value_within names (op_on (passing_op passing) v))
+    cases false = and_from (names.fds f) (value_within names (op_on (passing_op passing) v))
         (first_true (names.fds f) (value_within names v) old)
         (op_on_within names (passing_op passing) v ∙ second_true (names.fds f) (value_within names v) old)
 
@@ -139,7 +139,7 @@ all_within names (g ∷ fds) f v n is from named = ap (cell_within names f) is �
   where
     cases : (b : Bool) → eqb f g ≡ b → cell_within names f (cond (list_any (λ g. eqb f g) fds) (Some v) None) ≡ true
         → cell_within names f (cond (b || list_any (λ g. eqb f g) fds) (Some v) None) ≡ true
-    cases true e rest = both_true (names.fds f) (value_within names v)
+    cases true e rest = and_from (names.fds f) (value_within names v)
         (ap names.fds (eqb-true f g e) ∙ All-head (λ (g : ℕ). names.fds g ≡ true) g fds named) from
     cases false e rest = rest
 
@@ -186,7 +186,7 @@ copied_within names (x ∷ xs) old new i within is all before =
 
 module _ (some names : Names) (among : AreAmong some names) where
   cell_more : (p f : ℕ) → has_cell some p f ≡ true → has_cell names p f ≡ true
-  cell_more p f is = both_true (names.pids p) (names.fds f) (among.pids p (first_true (some.pids p) (some.fds f) is))
+  cell_more p f is = and_from (names.pids p) (names.fds f) (among.pids p (first_true (some.pids p) (some.fds f) is))
       (among.fds f (second_true (some.pids p) (some.fds f) is))
 
   value_more : (v : Value) → value_within some v ≡ true → value_within names v ≡ true
@@ -195,7 +195,7 @@ module _ (some names : Names) (among : AreAmong some names) where
 
   listed_cell_more : (f : ℕ) (o : Option Value) → cell_within some f o ≡ true → cell_within names f o ≡ true
   listed_cell_more f None is = refl
-  listed_cell_more f (Some v) is = both_true (names.fds f) (value_within names v)
+  listed_cell_more f (Some v) is = and_from (names.fds f) (value_within names v)
       (among.fds f (first_true (some.fds f) (value_within some v) is))
       (value_more v (second_true (some.fds f) (value_within some v) is))
 
@@ -239,9 +239,9 @@ module _ (some names : Names) (among : AreAmong some names) where
       let first : Bool = part_within some r.first in
       let second : Bool = part_within some r.second in
       let parts = second_true (outside_within some r.mode) (first && second) is in
-      both_true (outside_within names r.mode) (part_within names r.first && part_within names r.second)
+      and_from (outside_within names r.mode) (part_within names r.first && part_within names r.second)
       (outside_more r.mode (first_true (outside_within some r.mode) (first && second) is))
-      (both_true (part_within names r.first) (part_within names r.second)
+      (and_from (part_within names r.first) (part_within names r.second)
       (part_more r.first (first_true first second parts)) (part_more r.second (second_true first second parts)))
 
   pub conditions_more : (conditions : List Condition) → ConditionsWithin some conditions
@@ -289,8 +289,8 @@ refusal_within names me mode c own outside named = cases c named
       mode = mode;
       first = Some (excused_of me f x);
       second = None;
-    })) (both_true (outside_within names mode) (has_cell names me f && true) outside
-        (with_true (has_cell names me f) (both_true (names.pids me) (names.fds f) own is)))
+    })) (and_from (outside_within names mode) (has_cell names me f && true) outside
+        (with_true (has_cell names me f) (and_from (names.pids me) (names.fds f) own is)))
 
     two : (f g : ℕ) (e h : Option ℕ) → names.fds f ≡ true → names.fds g ≡ true
         → ConditionsWithin names (map condition.Refused (option_to_list (both_excused mode me f g e h)))
@@ -300,9 +300,9 @@ refusal_within names me mode c own outside named = cases c named
       mode = mode;
       first = Some (excused_of me f x);
       second = Some (excused_of me g y);
-    })) (both_true (outside_within names mode) (has_cell names me f && has_cell names me g) outside
-        (both_true (has_cell names me f) (has_cell names me g)
-        (both_true (names.pids me) (names.fds f) own first) (both_true (names.pids me) (names.fds g) own second)))
+    })) (and_from (outside_within names mode) (has_cell names me f && has_cell names me g) outside
+        (and_from (has_cell names me f) (has_cell names me g)
+        (and_from (names.pids me) (names.fds f) own first) (and_from (names.pids me) (names.fds g) own second)))
 
     cases : (c : Checks) → NamesChecks names (listed c)
         → ConditionsWithin names (map condition.Refused (option_to_list (refused_by mode me c)))
@@ -319,7 +319,7 @@ line_within names me d own named = cases d.reply
         All-append P (cond (is_forbidden d.class) (condition.Inside me ∷ []) []) (map (need_of me) (listed d.checks))
         (if_within names (is_forbidden d.class) (condition.Inside me) own)
         (All-map P (need_of me) (listed d.checks)
-        (λ k a l. both_true (names.pids me) (names.fds (get_or (listed d.checks) k a).fd) own (named k a l)))
+        (λ k a l. and_from (names.pids me) (names.fds (get_or (listed d.checks) k a).fd) own (named k a l)))
     cases NotCapable =
         refusal_within names me (cond d.at (Some me) None) d.checks own (at_within names me d.at own) named
     cases NotPermitted = unless_within names (is_allowed d.class) (condition.Outside me) own

@@ -3,6 +3,7 @@ use Rattle.std.proofs.Common.{◌≡◌, ℕ, List, [], ◌∷◌, ◌++◌, Opt
 use Rattle.std.proofs.Common.{map, get_or, slice_get, refl, sym, ap, subst, ◌∙◌}
 use Rattle.std.specs.List.{All}
 use Rattle.std.proofs.lemmas.List.Elements.{All-nil, All-cons, All-head, All-tail, All-weaker, All-append, All-map}
+use Rattle.std.proofs.lemmas.Bool.{and_from}
 use Rattle.cap_machine.specs.State.{State}
 use Rattle.cap_machine.specs.Op.{same}
 use Rattle.cap_change.specs.declared.values.Value.{Value}
@@ -21,7 +22,7 @@ use Rattle.cap_change.specs.Names.{part_within, outside_within, value_within, mo
 use Rattle.cap_change.specs.Packed.{key_pid, key_fd, low_source, low_condition, low_conditions, AreOf}
 use Rattle.cap_change.specs.Reading.{source_read, part_read, outside_read, condition_read, ConditionsRead, LowsRead}
 use Rattle.cap_change.specs.Reading.{ReadsAlike, ReadAlike, LowsReadAlike}
-use Rattle.cap_change.proofs.Untouched.{both_true, first_true, second_true}
+use Rattle.cap_change.proofs.Untouched.{first_true, second_true}
 use Rattle.cap_change.proofs.Comparing.{alike_cell, alike_mode}
 use Rattle.cap_change.proofs.Naming.{value_of_within, mode_of_within}
 
@@ -88,9 +89,9 @@ condition_reads names a within c is = cases c is
         let first : Bool = part_within names r.first in
         let second : Bool = part_within names r.second in
         let parts : (first && second) ≡ true = second_true (outside_within names r.mode) (first && second) named in
-        both_true (outside_read names a r.mode) (part_read names a r.first && part_read names a r.second)
+        and_from (outside_read names a r.mode) (part_read names a r.first && part_read names a r.second)
         (outside r.mode (first_true (outside_within names r.mode) (first && second) named))
-        (both_true (part_read names a r.first) (part_read names a r.second)
+        (and_from (part_read names a r.first) (part_read names a r.second)
         (part r.first (first_true first second parts)) (part r.second (second_true first second parts)))
 
 pub conditions_read : (names : Names) (a : Change) (conditions : List Condition) → ChangeWithin names a

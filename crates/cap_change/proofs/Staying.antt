@@ -5,7 +5,7 @@ use Rattle.std.proofs.Common.{take, get_or, length, inl, inr, refl, sym, ap, sub
 use Rattle.std.proofs.lemmas.List.{take_more}
 use Rattle.std.proofs.lemmas.Bool.Decides.{eqb_tells}
 use Rattle.std.specs.Prelude.{option_map, option_and_then, unwrap_or, is_some, not}
-use Rattle.std.proofs.lemmas.Bool.{eq-eqb}
+use Rattle.std.proofs.lemmas.Bool.{eq-eqb, and_from}
 use Rattle.std.specs.Option.{option_or}
 use Rattle.cap_machine.specs.declared.cell.OnExec.TheVariants.{Set, Clear, Unsure}
 use Rattle.cap_machine.specs.declared.cell.Cell.{Cell}
@@ -30,7 +30,7 @@ use Rattle.cap_change.specs.Tables.{listed_value, process_at, kept_value, kept_v
 use Rattle.cap_change.specs.Changes.{value_in, cell_in, mode_in, changed, JoinsProcess, JoinsListed, JoinsTo}
 use Rattle.cap_change.specs.Changes.{untouched_at, untouched_in, is_untouched, is_unturned}
 use Rattle.cap_change.specs.Images.{under, Stays}
-use Rattle.cap_change.proofs.Untouched.{both_true, implied}
+use Rattle.cap_change.proofs.Untouched.{implied}
 use Rattle.cap_change.proofs.Comparing.{alike_same}
 use Rattle.cap_change.proofs.Joining.{applied_same, read-under}
 use Rattle.cap_change.proofs.SortedMerging.{found-append}
@@ -172,7 +172,7 @@ process_stays a d base mode cells untouched unturned = record {
   mode = mode;
   untouched = λ p f e. implied (rest_untouched d.base p f) (not (is_some (listed_value d.cells f))) (is_untouched a p f)
       (untouched p f) e;
-  unturned = λ p e. both_true (is_unturned a p) (is_own d.mode p) (unturned p e) e;
+  unturned = λ p e. and_from (is_unturned a p) (is_own d.mode p) (unturned p e) e;
   names = λ names first second. second;
 }
   where
@@ -194,9 +194,9 @@ behind_nothing : (a : Change) (d : Process) → ((p : ℕ) → process_at a.proc
 behind_nothing a d none = record {
   cells = λ s f. ap (λ (r : State). read_cell r (value_in d f)) (sym (unchanged a none s));
   mode = λ s. ap (λ (r : State). read_mode r d.mode) (sym (unchanged a none s));
-  untouched = λ p f e. both_true (is_untouched a p f) (untouched_at d.base d.cells p f)
+  untouched = λ p f e. and_from (is_untouched a p f) (untouched_at d.base d.cells p f)
       (ap (λ (o : Option Process). untouched_in o p f) (none p)) e;
-  unturned = λ p e. both_true (is_unturned a p) (is_own d.mode p)
+  unturned = λ p e. and_from (is_unturned a p) (is_own d.mode p)
       (ap (λ (o : Option Process). is_own (mode_in o p) p) (none p) ∙ eq-eqb p p refl) e;
   names = λ names from within. within;
 }

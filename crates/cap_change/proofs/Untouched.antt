@@ -1,7 +1,7 @@
 -- What a change, a base and a process behind a change leave untouched.
 use Rattle.std.proofs.Common.{◌≡◌, ℕ, Option, Some, None, Bool, true, false, ◌&&◌, ◌||◌, cond, refl, sym, ap, ◌∙◌}
 use Rattle.std.specs.Prelude.{not, is_some, option_map, option_and_then}
-use Rattle.std.proofs.lemmas.Bool.{eqb-true, eq-eqb}
+use Rattle.std.proofs.lemmas.Bool.{eqb-true, eq-eqb, and_from}
 use Rattle.cap_machine.specs.Touch.{Touch, kept}
 use Rattle.cap_change.specs.declared.values.Value.{Value}
 use Rattle.cap_change.specs.declared.values.Passing.{Passing}
@@ -18,9 +18,6 @@ use Rattle.cap_change.specs.Changes.{untouched_at, untouched_in, is_untouched}
 
 -- ---- Booleans
 
-pub both_true : (a b : Bool) → a ≡ true → b ≡ true → (a && b) ≡ true
-both_true a b first second = rw (first, second) refl
-
 pub first_true : (a b : Bool) → (a && b) ≡ true → a ≡ true
 first_true true b e = refl
 first_true false b e = e
@@ -30,10 +27,10 @@ second_true true b e = e
 second_true false b e = absurd cc
 
 pub implied : (a b u : Bool) → (a ≡ true → u ≡ true) → (a && b) ≡ true → (u && (a && b)) ≡ true
-implied a b u step e = both_true u (a && b) (step (first_true a b e)) e
+implied a b u step e = and_from u (a && b) (step (first_true a b e)) e
 
 pub with_true : (a : Bool) → a ≡ true → (a && true) ≡ true
-with_true a e = both_true a true e refl
+with_true a e = and_from a true e refl
 
 -- ---- a line
 

@@ -6,7 +6,7 @@ use Rattle.std.specs.Prelude.{slice_get}
 use Rattle.std.specs.Option.{option_map_or}
 use Rattle.std.specs.List.{list_any}
 use Rattle.cap_rights.specs.Rights.{all}
-use Rattle.std.proofs.lemmas.Bool.{cases_eq, cases_lt, cases_order}
+use Rattle.std.proofs.lemmas.Bool.{cases_eq, cases_lt, cases_order, ne_eqb}
 use Rattle.std.proofs.lemmas.Bool.Decides.{nat_tests}
 use Rattle.std.proofs.Math.Logic.{⊎_elim}
 use Rattle.cap_machine.specs.declared.cell.Cell.{Cell}
@@ -29,9 +29,7 @@ use Rattle.cap_machine.specs.State.{State, Added, listed_cell, with_all, with_li
 use Rattle.cap_machine.specs.Table.{own, own_at, cell_in, state_of, start_state}
 use Rattle.cap_machine.specs.Known.{top_of, step_top, far_top, top, cells_below, known_of, known_from, known}
 use Rattle.cap_machine.proofs.Turns.{same_state}
-
-differ : (a b : ℕ) → (a ≡ b → ⊥) → (a == b) ≡ false
-differ a b ne = grind (arith, nat_tests, ne)
+use Rattle.cap_machine.proofs.Owners.{either_way}
 
 not_below : (a b : ℕ) → b ≤ a → nat_lt a b ≡ false
 not_below a b ge = grind (arith, nat_tests, ge)
@@ -46,13 +44,13 @@ at_least a b le = grind (arith, nat_tests, le)
 none_above : (ns : List ℕ) (f : ℕ) → top_of ns ≤ f → list_any (λ g. f == g) ns ≡ false
 none_above [] f above = refl
 none_above (n ∷ ns) f above =
-    ap (λ (b : Bool). b || list_any (λ g. f == g) ns) (differ f n (λ e. omega arith))
+    ap (λ (b : Bool). b || list_any (λ g. f == g) ns) (ne_eqb f n (λ e. omega arith))
     ∙ none_above ns f (omega arith)
 
 stepped_above : (step : Step) (c : Cell) (f g : ℕ) → step_top step ≤ f → step_top step ≤ g
     → stepped step c f ≡ stepped step c g
 stepped_above (Write h d) c f g above also =
-    ap (λ (b : Bool). if b then d else c) (differ f h (λ e. omega arith) ∙ sym (differ g h (λ e. omega arith)))
+    ap (λ (b : Bool). if b then d else c) (ne_eqb f h (λ e. omega arith) ∙ sym (ne_eqb g h (λ e. omega arith)))
 stepped_above (Settle pending) c f g above also = refl
 stepped_above (CloseFrom n) c f g above also =
     ap (λ (b : Bool). if b then Closed else c) (at_least n f above ∙ sym (at_least n g also))
@@ -115,7 +113,7 @@ one_below cell rest n f =
     ∙ sym (ap (λ (b : Bool). if b then cell f else rest) (is_below f (suc n) (omega arith))))
     (λ gt.
     neither (nat_lt f n) (f == n) (cell f) (cell n) rest (not_below f n (omega arith))
-    (differ f n (λ e. omega arith))
+    (ne_eqb f n (λ e. omega arith))
     ∙ sym (ap (λ (b : Bool). if b then cell f else rest) (not_below f (suc n) (omega arith))))
     o)
     (cases_order f n)
@@ -136,10 +134,6 @@ known_cell q f =
     (λ ge. ap (λ (b : Bool). if b then cell f else cell n) (not_below f n ge) ∙ sym (cells_above q.cells f ge))
     (cases_lt f n)
 
-either : {X : Type 0} (b : Bool) (x : X) → (if b then x else x) ≡ x
-either true x = refl
-either false x = refl
-
 -- the process with a pid, among those that stand at their place, the first of these at place i
 abbrev owner_from : (ℕ → ℕ) → ℕ → List Process → ℕ → Option Process
 owner_from place i [] p = None
@@ -154,9 +148,9 @@ skipped place i q qs p other =
     let more : Option Process = owner_from place (suc i) qs p in
     ⊎_elim
     (λ e. ap (λ (b : Bool). if b then (if q.pid == p then Some q else more) else more)
-    (differ (place q.pid) i (λ at. other e (sym (ap place e) ∙ at))))
-    (λ ne. ap (λ (b : Bool). if place q.pid == i then (if b then Some q else more) else more) (differ q.pid p ne)
-    ∙ either (place q.pid == i) more)
+    (ne_eqb (place q.pid) i (λ at. other e (sym (ap place e) ∙ at))))
+    (λ ne. ap (λ (b : Bool). if place q.pid == i then (if b then Some q else more) else more) (ne_eqb q.pid p ne)
+    ∙ either_way (place q.pid == i) more)
     (cases_eq q.pid p)
 
 -- no place behind that of a pid has its process
@@ -185,7 +179,7 @@ found_from place i (q ∷ qs) p from =
     (eq-eqb (place q.pid) i (ap place e ∙ here))
     ∙ own_first q p (q.pid == p) more refl none)
     (λ ne. skipped place i q qs p (λ e _. ne e) ∙ none
-    ∙ sym (ap (λ (b : Bool). if b then Some q else None) (differ q.pid p ne)))
+    ∙ sym (ap (λ (b : Bool). if b then Some q else None) (ne_eqb q.pid p ne)))
     (cases_eq q.pid p)
     ∙ ap (λ (n : ℕ). own p (slice_get (q ∷ qs) n)) (sym at))
     (λ o.
@@ -219,13 +213,13 @@ all_read {R} read ask p one place i (q ∷ qs) s =
     ∙ ap (λ (b : Bool). if b then ask q else read s) (eq-eqb p q.pid (sym e))
     ∙ ap (λ (b : Bool). option_map_or ask (if b then Some q else more) (read s)) (sym (eq-eqb q.pid p e)))
     (λ ne.
-    ap (λ (b : Bool). option_map_or ask more (if b then ask q else read s)) (differ p q.pid (λ e. ne (sym e)))
-    ∙ ap (λ (b : Bool). option_map_or ask (if b then Some q else more) (read s)) (sym (differ q.pid p ne)))
+    ap (λ (b : Bool). option_map_or ask more (if b then ask q else read s)) (ne_eqb p q.pid (λ e. ne (sym e)))
+    ∙ ap (λ (b : Bool). option_map_or ask (if b then Some q else more) (read s)) (sym (ne_eqb q.pid p ne)))
     (cases_eq q.pid p)
     ∙ ap (λ (b : Bool). option_map_or ask (if b then (if q.pid == p then Some q else more) else more) (read s))
     (sym yes))
     (λ other.
-    let no : (place q.pid == i) ≡ false = differ (place q.pid) i other in
+    let no : (place q.pid == i) ≡ false = ne_eqb (place q.pid) i other in
     ap (λ (b : Bool). read (with_all s (if b then known_of q ∷ rest else rest))) no
     ∙ all_read read ask p one place (suc i) qs s
     ∙ ap (λ (b : Bool). option_map_or ask (if b then (if q.pid == p then Some q else more) else more) (read s))

@@ -1,10 +1,11 @@
 -- A flag that stands last, behind a bar.
-use Rattle.std.proofs.Common.{◌≡◌, ℕ, ◌-◌, ◌==◌, ◌||◌, Bool, true, false, List, [], ◌∷◌, ◌++◌, cond, length, take, drop}
-use Rattle.std.proofs.Common.{refl, sym, ap, ◌∙◌, eqb}
+use Rattle.std.proofs.Common.{◌≡◌, ℕ, ◌-◌, ◌==◌, Bool, true, false, List, [], ◌∷◌, ◌++◌, cond, length, take, drop}
+use Rattle.std.proofs.Common.{sym, ap, ◌∙◌, eqb}
 use Rattle.std.specs.List.{onto_first, list_any, ends_with}
 use Rattle.std.specs.Str.{bytes_eq}
 use Rattle.std.proofs.lemmas.List.{take-append-drop}
 use Rattle.std.proofs.lemmas.Slice.Eq.{bytes_eq-Decides}
+use Rattle.std.proofs.lemmas.Bool.{or_right}
 use Rattle.cap_machine.specs.Flags.{flag_words, has_flag}
 
 abbrev behind_first : List (List ℕ) → List (List ℕ)
@@ -14,16 +15,12 @@ behind_first (word ∷ words) = words
 abbrev stands_in : List ℕ → List (List ℕ) → Bool
 stands_in name words = list_any (λ word. bytes_eq word name) words
 
-or_true : (a b : Bool) → b ≡ true → (a || b) ≡ true
-or_true true b is = refl
-or_true false b is = is
-
 -- one byte before words of which the name is one, and not the first
 one_before : (name : List ℕ) (is_bar : Bool) (byte : ℕ) (words : List (List ℕ))
     → stands_in name (behind_first words) ≡ true
     → stands_in name (behind_first (cond is_bar ([] ∷ words) (onto_first byte words))) ≡ true
 one_before name true byte [] is = absurd (cc)
-one_before name true byte (word ∷ words) is = or_true (bytes_eq word name) (stands_in name words) is
+one_before name true byte (word ∷ words) is = or_right (bytes_eq word name) (stands_in name words) is
 one_before name false byte [] is = absurd (cc)
 one_before name false byte (word ∷ words) is = is
 
@@ -36,7 +33,7 @@ behind_bar name (byte ∷ front) last is =
 among : (name : List ℕ) (words : List (List ℕ)) → stands_in name (behind_first words) ≡ true
     → stands_in name words ≡ true
 among name [] is = is
-among name (word ∷ words) is = or_true (bytes_eq word name) (stands_in name words) is
+among name (word ∷ words) is = or_right (bytes_eq word name) (stands_in name words) is
 
 -- where flags end with a bar and a name, the name is one of them
 pub last_flag : (flags name : List ℕ) → has_flag name name ≡ true → ends_with eqb flags (124 ∷ name) ≡ true

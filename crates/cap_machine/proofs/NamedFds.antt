@@ -4,9 +4,10 @@ use Rattle.std.proofs.Common.{List, [], ◌∷◌, Option, Some, None, refl, ap,
 use Rattle.std.specs.List.{list_any, All}
 use Rattle.std.specs.Prelude.{codes}
 use Rattle.std.specs.Str.{bytes_eq}
-use Rattle.std.proofs.lemmas.Bool.{ne_eqb, eqb-true}
+use Rattle.std.proofs.lemmas.Bool.{ne_eqb, eqb-true, or_left, or_right, and_from, true_from_ne_false, and_right}
 use Rattle.std.proofs.lemmas.Bool.Decides.{nat_tests}
 use Rattle.std.proofs.lemmas.List.Elements.{All-cons, All-nil}
+use Rattle.std.proofs.lemmas.Bool.{or_from, or_parts}
 use Rattle.cap_trace.specs.Seen.{fds_spelled}
 use Rattle.cap_trace.specs.Item.{Item}
 use Rattle.cap_trace.specs.Item as items
@@ -57,18 +58,10 @@ use Rattle.cap_machine.specs.Rule.{both, check_of}
 use Rattle.cap_machine.specs.Judge.{listed}
 use Rattle.cap_machine.specs.Named.{dir_names, arg_names, answer_names, item_answer_names, names_fd}
 use Rattle.cap_machine.specs.Named.{is_whole_call, is_whole_item, NamedSources, NamedEffects, NamedChecks}
-use Rattle.cap_machine.proofs.Profiles.{neither}
 use Rattle.cap_machine.proofs.Naming.{named_descriptors}
 
 itself : (f : ℕ) → (f == f) ≡ true
 itself f = eq-eqb f f refl
-
-first : (a b : Bool) → a ≡ true → (a || b) ≡ true
-first a b is = ap (λ (r : Bool). r || b) is
-
-second : (a b : Bool) → b ≡ true → (a || b) ≡ true
-second true b is = refl
-second false b is = is
 
 latter : (a b : Bool) → (a && b) ≡ true → b ≡ true
 latter true b is = is
@@ -76,7 +69,7 @@ latter false b is = absurd (cc)
 
 -- the first argument
 leading : (g : ℕ) (b : Bool) → (g == g || b) ≡ true
-leading g b = first (g == g) b (itself g)
+leading g b = or_left (g == g) b (itself g)
 
 -- ---- each touch of the table
 
@@ -157,17 +150,17 @@ module _ (args : ℕ → Bool) (answer : Answer) (me p f : ℕ) where
   named g = args g || answer_names g answer
 
   whole_named : (flag : OnExec) → Names named me f (on_made answer (given (Held all flag)) me p f)
-  whole_named flag = made_names named me p f answer _ (λ e. second (args f) (answer_names f answer) e)
+  whole_named flag = made_names named me p f answer _ (λ e. or_right (args f) (answer_names f answer) e)
 
   two_named : (flag : OnExec) → Names named me f (on_both answer (given (Held all flag)) me p f)
-  two_named flag = both_names named me p f answer _ (λ e. second (args f) (answer_names f answer) e)
+  two_named flag = both_names named me p f answer _ (λ e. or_right (args f) (answer_names f answer) e)
 
   unknown_named : Names named me f (on_made answer (given Unknown) me p f)
   unknown_named = made_names named me p f answer _ (λ e. tt)
 
   source_named : (op : Op) (g : ℕ) → args g ≡ true → answer_names f answer ≡ true → Names named me f (taken op me g)
   source_named op g is made =
-      (refl, λ other. (second (args f) (answer_names f answer) made, first (args g) (answer_names g answer) is))
+      (refl, λ other. (or_right (args f) (answer_names f answer) made, or_left (args g) (answer_names g answer) is))
 
   copy_named : (op : Op) (g : ℕ) → args g ≡ true → Names named me f (on_made answer (taken op me g) me p f)
   copy_named op g is = made_names named me p f answer _ (source_named op g is)
@@ -200,7 +193,7 @@ module _ (args : ℕ → Bool) (answer : Answer) (me p f : ℕ) where
   at_cwd_named : (flag : OnExec) (path : List ℕ) → answer_names f answer ≡ true
       → Names named me f (if not (is_empty path) then given (Held all flag) else given Unknown)
   at_cwd_named flag path made =
-      if_names named me p f (not (is_empty path)) _ _ (λ _. second (args f) (answer_names f answer) made) tt
+      if_names named me p f (not (is_empty path)) _ _ (λ _. or_right (args f) (answer_names f answer) made) tt
 
   opened_named : (flag : OnExec) (b : Bool) (dir : Dir) (path : List ℕ) → ((g : ℕ) → dir_names g dir ≡ true
       → args g ≡ true) → answer_names f answer ≡ true
@@ -250,7 +243,7 @@ module _ (args : ℕ → Bool) (answer : Answer) (me p f : ℕ) where
   call_named profile (calls.Open path names) is = whole_named _
   call_named profile (calls.OnPath call path) is = path_named profile call
   call_named profile (calls.AtFlags call dir path names) is =
-      at_named call dir path names (λ g here. is g (first (dir_names g dir) _ here))
+      at_named call dir path names (λ g here. is g (or_left (dir_names g dir) _ here))
   call_named profile (calls.OnFlags call names) is = flags_named call names
   call_named profile (calls.Bare call) is = bare_named call
   call_named profile _ is = tt
@@ -271,7 +264,7 @@ item_named profile (items.Call call answer) me p f =
 item_named profile (items.Start fs) me p f =
     let named : ℕ → Bool = λ g. list_any (arg_names g) (fds fs) || false in
     if_names named me p f (p == me) (given (started fs f)) kept
-    (λ _. start_names named me p f fs (list_any (λ g. f == g) fs) (λ is. first _ false (all_named fs f is))) tt
+    (λ _. start_names named me p f fs (list_any (λ g. f == g) fs) (λ is. or_left _ false (all_named fs f is))) tt
 item_named profile items.Exit me p f = if_names (λ g. false) me p f (p == me) (given Unknown) kept (λ _. tt) tt
 item_named profile (items.Foreign g) me p f =
     fd_names (λ h. (h == g || false) || false) me p f g (given Unknown) (λ _. tt)
@@ -335,7 +328,7 @@ pdfork_dropped : (answer : Answer) (me p f h : ℕ) → answer_names f answer �
 pdfork_dropped (answers.Made c) me p f h other is = refl
 pdfork_dropped (answers.Pair c d) me p f h other is =
     child_dropped (c == 0) (p == me) (p == c) (h == d) (f == d) (taken same me h) (taken same me f) (λ e. cc)
-    (neither (f == c) (f == d) other).1 is
+    (or_parts (f == c) (f == d) other).1 is
 pdfork_dropped (answers.Fault e) me p f h other is = refl
 
 module _ (me p f h : ℕ) (lt : f < h) where
@@ -383,17 +376,13 @@ alone : (step : Step) (p f h : ℕ) → f < h → touch step p h ≡ kept → na
 alone step p f h lt is other =
     by_cases (is_whole_item step.line.item)
     (λ whole. item_whole step.line.pid p f h lt step.profile step.line.item whole
-    (neither (list_any (arg_names f) (args_of step.line.item)) (item_answer_names f step.line.item) other).1 is)
+    (or_parts (list_any (arg_names f) (args_of step.line.item)) (item_answer_names f step.line.item) other).1 is)
     (λ part. named_descriptors step p f part other)
-
-surely : (b : Bool) → (b ≡ false → ⊥) → b ≡ true
-surely true never = refl
-surely false never = absurd (never refl)
 
 named_alone : (step : Step) (p f h : ℕ) (t : Touch) → (t ≡ kept → ⊥) → f < h → touch step p h ≡ kept
     → touch step p f ≡ t → names_fd f step.line ≡ true
 named_alone step p f h t never lt is touches =
-    surely (names_fd f step.line) (λ other. never (sym touches ∙ alone step p f h lt is other))
+    true_from_ne_false (names_fd f step.line) (λ other. never (sym touches ∙ alone step p f h lt is other))
 
 -- given, beside another descriptor that is taken: of a pdfork alone
 abbrev is_given : Touch → Bool
@@ -441,7 +430,7 @@ module _ (me p f h : ℕ) where
   pdfork_beside : (answer : Answer) → is_given (pdfork_touch answer me p f) ≡ true → answer_names f answer ≡ true
   pdfork_beside (answers.Made c) is = absurd (cc)
   pdfork_beside (answers.Pair c d) is =
-      second (f == c) (f == d) (child_given (c == 0) (p == me) (p == c) (f == d) same me f is)
+      or_right (f == c) (f == d) (child_given (c == 0) (p == me) (p == c) (f == d) same me f is)
   pdfork_beside (answers.Fault e) is = absurd (cc)
 
   fd_beside : (profile : Profile) (call : FdCall) (g : ℕ) (answer : Answer) → is_whole_call (calls.OnFd call g) ≡ true
@@ -486,25 +475,13 @@ named_beside : (step : Step) (p f h : ℕ) → is_given (touch step p f) ≡ tru
     → names_fd f step.line ≡ true
 named_beside step p f h is beside =
     by_cases (is_whole_item step.line.item)
-    (λ whole. second (list_any (arg_names f) (args_of step.line.item)) (item_answer_names f step.line.item)
+    (λ whole. or_right (list_any (arg_names f) (args_of step.line.item)) (item_answer_names f step.line.item)
     (item_beside step.line.pid p f h step.profile step.line.item whole is beside))
-    (λ part. surely (names_fd f step.line)
+    (λ part. true_from_ne_false (names_fd f step.line)
     (λ other. let left : touch step p f ≡ kept = named_descriptors step p f part other in
     let never : is_given kept ≡ true = sym (ap is_given left) ∙ is in cc))
 
 -- ---- effects
-
-both_hold : (a b : Bool) → a ≡ true → b ≡ true → (a && b) ≡ true
-both_hold true b is also = also
-both_hold false b is also = is
-
-fails : (a b : Bool) → b ≡ false → (a && b) ≡ false
-fails true b other = other
-fails false b other = refl
-
-neither_holds : (a b : Bool) → a ≡ false → b ≡ false → (a || b) ≡ false
-neither_holds true b one other = one
-neither_holds false b one other = other
 
 picked : (b : Bool) (t u : Touch) → b ≡ true → (if b then t else u) ≡ t
 picked b t u is = ap (λ (r : Bool). if r then t else u) is
@@ -515,7 +492,7 @@ passed b t u is = ap (λ (r : Bool). if r then t else u) is
 all_in : (P : ℕ → Type 0) (fs : List ℕ) → ((f : ℕ) → list_any (λ g. f == g) fs ≡ true → P f) → All P fs
 all_in P [] each = All-nil P
 all_in P (g ∷ fs) each =
-    All-cons P g fs (each g (leading g _)) (all_in P fs (λ f is. each f (second (f == g) _ is)))
+    All-cons P g fs (each g (leading g _)) (all_in P fs (λ f is. each f (or_right (f == g) _ is)))
 
 module _ (step : Step) where
   abbrev IsNamed : ℕ → Type 0
@@ -545,8 +522,8 @@ module _ (step : Step) where
       let me : ℕ = step.line.pid in
       named_alone step me g (suc g) t never (omega arith)
       (sym (does (suc g))
-      ∙ passed (me == me && suc g == g) t kept (fails (me == me) (suc g == g) (ne_eqb (suc g) g (λ e. omega arith))))
-      (sym (does g) ∙ picked (me == me && g == g) t kept (both_hold (me == me) (g == g) (itself me) (itself g)))
+      ∙ passed (me == me && suc g == g) t kept (and_right (me == me) (suc g == g) (ne_eqb (suc g) g (λ e. omega arith))))
+      (sym (does g) ∙ picked (me == me && g == g) t kept (and_from (me == me) (g == g) (itself me) (itself g)))
 
   two_effect : (g h k : ℕ) (c : Cell) → (k == g || k == h) ≡ true → ((f : ℕ)
       → (if step.line.pid == step.line.pid && (f == g || f == h) then given c else kept) ≡ touch step step.line.pid f)
@@ -555,10 +532,10 @@ module _ (step : Step) where
       let me : ℕ = step.line.pid in
       let n : ℕ = suc (g + h) in
       named_alone step me k n (given c) (λ e. cc) lt
-      (sym (does n) ∙ passed (me == me && (n == g || n == h)) (given c) kept (fails (me == me) (n == g || n == h)
-      (neither_holds (n == g) (n == h) (ne_eqb n g (λ e. omega arith)) (ne_eqb n h (λ e. omega arith)))))
+      (sym (does n) ∙ passed (me == me && (n == g || n == h)) (given c) kept (and_right (me == me) (n == g || n == h)
+      (or_from (n == g) (n == h) (ne_eqb n g (λ e. omega arith)) (ne_eqb n h (λ e. omega arith)))))
       (sym (does k) ∙ picked (me == me && (k == g || k == h)) (given c) kept
-      (both_hold (me == me) (k == g || k == h) (itself me) is))
+      (and_from (me == me) (k == g || k == h) (itself me) is))
 
   source_effect : (g h : ℕ) (op : Op) → IsNamed g → touch step step.line.pid g ≡ taken op step.line.pid h → IsNamed h
   source_effect g h op named is =
@@ -571,9 +548,9 @@ module _ (step : Step) where
       let mine : Bool = child == me || child == child in
       named_beside step child g (suc g)
       (ap is_given (sym (does child g) ∙ picked (mine && g == g) (given Unknown) _
-      (both_hold mine (g == g) (second (child == me) (child == child) (itself child)) (itself g))))
+      (and_from mine (g == g) (or_right (child == me) (child == child) (itself child)) (itself g))))
       (ap is_taken (sym (does child (suc g)) ∙ passed (mine && suc g == g) (given Unknown) _
-      (fails mine (suc g == g) (ne_eqb (suc g) g (λ e. omega arith)))
+      (and_right mine (suc g == g) (ne_eqb (suc g) g (λ e. omega arith)))
       ∙ picked (child == child) (taken same me (suc g)) kept (itself child)))
 
 pub named_effects : NamedEffects
@@ -586,12 +563,12 @@ named_effects step (effects.Give g c) does =
 named_effects step (effects.GiveTwo g h c) does =
     two_are_named step g h
     (two_effect step g h g c (leading g _) (does step.line.pid) (omega arith))
-    (two_effect step g h h c (second (h == g) (h == h) (itself h)) (does step.line.pid) (omega arith))
+    (two_effect step g h h c (or_right (h == g) (h == h) (itself h)) (does step.line.pid) (omega arith))
 named_effects step (effects.Change g op h) does =
     let me : ℕ = step.line.pid in
     let named : names_fd g step.line ≡ true = give_effect step g (taken op me h) (λ e. cc) (does me) in
     two_are_named step g h named (source_effect step g h op named (sym (does me g)
-    ∙ picked (me == me && g == g) (taken op me h) kept (both_hold (me == me) (g == g) (itself me) (itself g))))
+    ∙ picked (me == me && g == g) (taken op me h) kept (and_from (me == me) (g == g) (itself me) (itself g))))
 named_effects step (effects.ForkAs child g) does = one_named step g (child_effect step child g does)
 named_effects step effect does = All-nil (λ f. names_fd f step.line ≡ true)
 
@@ -651,23 +628,23 @@ module _ (named : ℕ → Bool) (answer : Answer) where
   call_checks (calls.RightsLimit f asked) is = one_check named _ (is f (leading f _))
   call_checks (calls.At call dir path) is =
       both_checks named _ None
-      (at_place named _ dir path (at_needs call) (λ g here. is g (first (dir_names g dir) _ here))) tt
+      (at_place named _ dir path (at_needs call) (λ g here. is g (or_left (dir_names g dir) _ here))) tt
   call_checks (calls.AtFlags call dir path names) is =
       both_checks named _ None
-      (at_place named _ dir path (at_flags_needs call names) (λ g here. is g (first (dir_names g dir) _ here))) tt
+      (at_place named _ dir path (at_flags_needs call names) (λ g here. is g (or_left (dir_names g dir) _ here))) tt
   call_checks (calls.SymlinkAt target dir path) is =
       both_checks named _ None
-      (at_place named _ dir path symlink_needs (λ g here. is g (first (dir_names g dir) _ here))) tt
+      (at_place named _ dir path symlink_needs (λ g here. is g (or_left (dir_names g dir) _ here))) tt
   call_checks (calls.RenameAt dir path to_dir to_path) is =
       both_checks named _ _
-      (at_place named _ dir path rename_from_needs (λ g here. is g (first (dir_names g dir) _ here)))
+      (at_place named _ dir path rename_from_needs (λ g here. is g (or_left (dir_names g dir) _ here)))
       (at_place named _ to_dir to_path rename_to_needs
-      (λ g here. is g (second (dir_names g dir) _ (first (dir_names g to_dir) _ here))))
+      (λ g here. is g (or_right (dir_names g dir) _ (or_left (dir_names g to_dir) _ here))))
   call_checks (calls.LinkAt dir path to_dir to_path names) is =
       both_checks named _ _
-      (at_place named _ dir path link_from_needs (λ g here. is g (first (dir_names g dir) _ here)))
+      (at_place named _ dir path link_from_needs (λ g here. is g (or_left (dir_names g dir) _ here)))
       (at_place named _ to_dir to_path link_to_needs
-      (λ g here. is g (second (dir_names g dir) _ (first (dir_names g to_dir) _ here))))
+      (λ g here. is g (or_right (dir_names g dir) _ (or_left (dir_names g to_dir) _ here))))
   call_checks _ is = All-nil (λ (check : Check). named check.fd ≡ true)
 
 item_checks : (item : Item) → All (λ (check : Check). list_any (arg_names check.fd) (args_of item) ≡ true)

@@ -7,6 +7,7 @@ use Rattle.std.specs.Option.{option_map_or}
 use Rattle.std.specs.Str.{bytes_eq}
 use borrow.Author.Tests.{ltb-true}
 use Rattle.std.proofs.lemmas.Nat.{or_lt}
+use Rattle.std.proofs.lemmas.Bool.{and_parts}
 use Rattle.cap_rights.specs.Names.{table}
 use Rattle.cap_rights.specs.Rights.{join, none}
 use Rattle.cap_trace.specs.Item.{Item}
@@ -60,15 +61,11 @@ abbrev below_full : List (List ℕ × ℕ) → Bool
 below_full [] = true
 below_full (row ∷ rows) = ltb row.1 (2 ^ 63) && below_full rows
 
-both_true : (a b : Bool) → (a && b) ≡ true → (a ≡ true) × (b ≡ true)
-both_true true b h = (refl, h)
-both_true false b h = absurd (cc)
-
 row_named : (p : (List ℕ × ℕ) → Bool) (rows : List (List ℕ × ℕ)) → below_full rows ≡ true
     → IsNamed (option_map_or (λ row. row.1) (find p rows) none)
 row_named p [] are = lit< tt
 row_named p (row ∷ rows) are =
-    let parts = both_true (ltb row.1 (2 ^ 63)) (below_full rows) are in
+    let parts = and_parts (ltb row.1 (2 ^ 63)) (below_full rows) are in
     let more = row_named p rows parts.1 in
     elim (p row) as (λ b. IsNamed
     (option_map_or (λ (r : List ℕ × ℕ). r.1) (if b then Some row else find p rows) none)) [

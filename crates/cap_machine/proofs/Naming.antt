@@ -3,6 +3,7 @@ use Rattle.std.proofs.Common.{◌≡◌, ℕ, ◌==◌, ◌&&◌, ◌||◌, not,
 use Rattle.std.specs.List.{list_any}
 use Rattle.std.specs.Prelude.{codes}
 use Rattle.std.specs.Str.{bytes_eq}
+use Rattle.std.proofs.lemmas.Bool.{or_parts}
 use Rattle.cap_trace.specs.Item.{Item}
 use Rattle.cap_trace.specs.Item as items
 use Rattle.cap_trace.specs.Call.{Call}
@@ -31,7 +32,6 @@ use Rattle.cap_machine.specs.Touch.{at_touch, flags_touch, fork_touch, pdfork_to
 use Rattle.cap_machine.specs.Touch.{call_turn, item_turn}
 use Rattle.cap_machine.specs.Named.{arg_names, answer_names, item_answer_names, is_fork, answer_makes, item_makes}
 use Rattle.cap_machine.specs.Named.{is_whole_call, is_whole_item, OwnProcesses, OwnModes, NamedDescriptors}
-use Rattle.cap_machine.proofs.Profiles.{neither}
 
 -- ---- another process
 
@@ -164,7 +164,7 @@ module _ (me p f : ℕ) (other : (p == me) ≡ false) where
 
 pub own_processes : OwnProcesses
 own_processes step p f none =
-    let parts = neither (p == step.line.pid) (item_makes p step.line.item) none in
+    let parts = or_parts (p == step.line.pid) (item_makes p step.line.item) none in
     item_other step.line.pid p f parts.0 step.profile step.line.item parts.1
 
 -- ---- modes
@@ -205,7 +205,7 @@ module _ (me p : ℕ) (other : (p == me) ≡ false) where
 
 pub own_modes : OwnModes
 own_modes step p none =
-    let parts = neither (p == step.line.pid) (item_makes p step.line.item) none in
+    let parts = or_parts (p == step.line.pid) (item_makes p step.line.item) none in
     item_stays step.line.pid p parts.0 step.line.item parts.1
 
 -- ---- descriptors
@@ -280,15 +280,15 @@ module _ (me p f : ℕ) where
       → list_any (arg_names f) (args_of (items.Call call answer)) ≡ false
       → answer_names f answer ≡ false → call_touch profile call answer me p f ≡ kept
   call_unnamed profile (calls.OnFd call g) answer part args made =
-      fd_call_unnamed profile call g answer part (neither (f == g) false args).0 made
+      fd_call_unnamed profile call g answer part (or_parts (f == g) false args).0 made
   call_unnamed profile (calls.Accept4 g names) answer part args made = made_unnamed answer _ made
   call_unnamed profile (calls.Dup2 g h) answer part args made = made_unnamed answer _ made
   call_unnamed profile (calls.Fcntl g command) answer part args made = fcntl_unnamed command g answer made
   call_unnamed profile (calls.FcntlDup command g h) answer part args made = made_unnamed answer _ made
   call_unnamed profile (calls.FcntlSetFd g names) answer part args made =
-      success_unnamed g answer _ (neither (f == g) _ args).0
+      success_unnamed g answer _ (or_parts (f == g) _ args).0
   call_unnamed profile (calls.RightsLimit g asked) answer part args made =
-      success_unnamed g answer _ (neither (f == g) _ args).0
+      success_unnamed g answer _ (or_parts (f == g) _ args).0
   call_unnamed profile (calls.Open path names) answer part args made = made_unnamed answer _ made
   call_unnamed profile (calls.OnPath call path) answer part args made = path_unnamed profile call path answer part
   call_unnamed profile (calls.AtFlags call dir path names) answer part args made =
@@ -302,10 +302,10 @@ module _ (me p f : ℕ) where
   item_unnamed profile (items.Call call answer) part args made = call_unnamed profile call answer part args made
   item_unnamed profile (items.Start fds) part args made = absurd (cc)
   item_unnamed profile items.Exit part args made = absurd (cc)
-  item_unnamed profile (items.Foreign g) part args made = fd_unnamed g _ (neither (f == g) false args).0
+  item_unnamed profile (items.Foreign g) part args made = fd_unnamed g _ (or_parts (f == g) false args).0
 
 pub named_descriptors : NamedDescriptors
 named_descriptors step p f part unnamed =
     let parts =
-    neither (list_any (arg_names f) (args_of step.line.item)) (item_answer_names f step.line.item) unnamed in
+    or_parts (list_any (arg_names f) (args_of step.line.item)) (item_answer_names f step.line.item) unnamed in
     item_unnamed step.line.pid p f step.profile step.line.item part parts.0 parts.1

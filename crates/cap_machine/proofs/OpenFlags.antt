@@ -1,29 +1,22 @@
 -- Flags of openat(2) that ask for no more than to read.
-use Rattle.std.proofs.Common.{◌≡◌, ℕ, ◌&&◌, ◌||◌, Bool, true, false, List, [], ◌∷◌, refl, ap, sym, ◌∙◌}
+use Rattle.std.proofs.Common.{◌≡◌, ℕ, ◌||◌, Bool, true, false, List, [], ◌∷◌, refl, ap, sym, ◌∙◌}
 use Rattle.std.specs.Prelude.{codes}
 use Rattle.std.specs.List.{list_any, list_all}
 use Rattle.std.specs.Str.{bytes_eq}
 use Rattle.std.proofs.lemmas.Slice.Eq.{bytes_eq-Decides}
+use Rattle.std.proofs.lemmas.Bool.{and_parts, false_from_ne_true}
 use Rattle.cap_rights.specs.Names.{table}
 use Rattle.cap_rights.specs.Rights.{join}
 use Rattle.cap_machine.specs.Flags.{flag_words, has_flag, is_one_of, all_known}
 use Rattle.cap_machine.specs.Needs.{named, access_needs, opening_needs, openat_needs}
-
-both : (a b : Bool) → (a && b) ≡ true → (a ≡ true) × (b ≡ true)
-both true b is = (refl, is)
-both false b is = absurd (cc)
-
-never : (b : Bool) → (b ≡ true → ⊥) → b ≡ false
-never true impossible = absurd (impossible refl)
-never false impossible = refl
 
 -- a name that is none of the known ones stands in no list of them
 absent_in : (known : List (List ℕ)) (name : List ℕ) (words : List (List ℕ)) → is_one_of known name ≡ false
     → list_all (is_one_of known) words ≡ true → list_any (λ word. bytes_eq word name) words ≡ false
 absent_in known name [] unknown all = refl
 absent_in known name (word ∷ words) unknown all =
-    let parts = both (is_one_of known word) (list_all (is_one_of known) words) all in
-    let here : bytes_eq word name ≡ false = never (bytes_eq word name) (λ same.
+    let parts = and_parts (is_one_of known word) (list_all (is_one_of known) words) all in
+    let here : bytes_eq word name ≡ false = false_from_ne_true (bytes_eq word name) (λ same.
     let listed : is_one_of known name ≡ true =
     sym (ap (is_one_of known) ((bytes_eq-Decides word name).0 same)) ∙ parts.0 in
     cc) in

@@ -6,22 +6,18 @@ use Rattle.std.specs.Prelude.{slice_get, slice_set, slice_index_or}
 use Rattle.std.specs.List.{AllZip}
 use Rattle.std.specs.Option.{option_map_or}
 use Rattle.std.proofs.lemmas.Option.{slice_get-get_or, slice_get_past}
-use Rattle.std.proofs.lemmas.Bool.{cases_eq, cases_lt, cases_order}
-use Rattle.std.proofs.lemmas.Bool.Decides.{nat_tests}
+use Rattle.std.proofs.lemmas.Bool.{cases_eq, cases_lt, cases_order, ne_eqb}
 use Rattle.std.proofs.lemmas.Grind.{get_or-set_at, common_steps}
 use Rattle.std.proofs.lemmas.List.{get_or-set_other, length-set}
 use Rattle.std.proofs.Math.Logic.{⊎_elim}
 use Rattle.cap_machine.specs.declared.table.Process.{Process}
 use Rattle.cap_machine.specs.Table.{own, own_at, IsSame}
 
-not_same : (a b : ℕ) → (a ≡ b → ⊥) → (a == b) ≡ false
-not_same a b ne = grind (arith, nat_tests, ne)
-
 is_own : (q : Process) (r : ℕ) → q.pid ≡ r → own r (Some q) ≡ Some q
 is_own q r e = ap (λ (b : Bool). if b then Some q else None) (eq-eqb q.pid r e)
 
 is_other : (q : Process) (r : ℕ) → (q.pid ≡ r → ⊥) → own r (Some q) ≡ None
-is_other q r ne = ap (λ (b : Bool). if b then Some q else None) (not_same q.pid r ne)
+is_other q r ne = ap (λ (b : Bool). if b then Some q else None) (ne_eqb q.pid r ne)
 
 -- an element that wasn't written
 get_other : {X : Type 0} (xs : List X) (i j : ℕ) (y : X) → (j ≡ i → ⊥) → slice_get (set xs i y) j ≡ slice_get xs j
@@ -63,7 +59,7 @@ put_own place ps p d q r within was now =
     ∙ ap (own r) (sym (slice_get-get_or ps (place r) d before)))
     (λ other. ap (own r) (get_other ps (place p) (place r) q other))
     (cases_eq (place r) (place p))
-    ∙ ap (λ (b : Bool). if b then Some q else own_at ps (place r) r) (sym (not_same r p ne)))
+    ∙ ap (λ (b : Bool). if b then Some q else own_at ps (place r) r) (sym (ne_eqb r p ne)))
     (cases_eq r p)
 
 last_of : {X : Type 0} (xs : List X) (y : X) → get_or (xs ++ y ∷ []) (length xs) y ≡ y
@@ -113,11 +109,11 @@ append_own place later ps p q r next now =
     ∙ is_own q r (now ∙ sym e)
     ∙ ap (λ (b : Bool). if b then Some q else own_at ps (place r) r) (sym (eq-eqb r p e)))
     (λ ne.
-    let at : later r ≡ place r = next ∙ ap (λ (b : Bool). if b then length ps else place r) (not_same r p ne) in
+    let at : later r ≡ place r = next ∙ ap (λ (b : Bool). if b then length ps else place r) (ne_eqb r p ne) in
     let other : own r (Some q) ≡ None = is_other q r (λ e. ne (sym e ∙ now)) in
     ap (λ i. own r (slice_get (ps ++ q ∷ []) i)) at
     ∙ one_more ps q r (place r) other
-    ∙ ap (λ (b : Bool). if b then Some q else own_at ps (place r) r) (sym (not_same r p ne)))
+    ∙ ap (λ (b : Bool). if b then Some q else own_at ps (place r) r) (sym (ne_eqb r p ne)))
     (cases_eq r p)
 
 -- the places alone: pid p had no process, and has none at the end of the list
@@ -131,7 +127,7 @@ places_own place later ps p r next none =
     ap (λ i. own r (slice_get ps i)) at ∙ ap (own r) (slice_get_past ps (length ps) past) ∙ sym none
     ∙ ap (λ i. own_at ps (place i) i) (sym e))
     (λ ne. ap (λ i. own r (slice_get ps i))
-    (next ∙ ap (λ (b : Bool). if b then length ps else place r) (not_same r p ne)))
+    (next ∙ ap (λ (b : Bool). if b then length ps else place r) (ne_eqb r p ne)))
     (cases_eq r p)
 
 -- the same at a place that a look-up gave
@@ -174,7 +170,7 @@ changed ask default g place ps p i d q old e within was owner same gives before 
     ∙ ap g asked
     ∙ ap (λ (b : Bool). if b then g (old r) else old r) (sym yes))
     (λ ne.
-    let no : (r == p) ≡ false = not_same r p ne in
+    let no : (r == p) ≡ false = ne_eqb r p ne in
     ap (λ o. option_map_or ask o default) (put ∙ ap (λ (b : Bool). if b then Some q else own_at ps (place r) r) no)
     ∙ before r
     ∙ ap (λ (b : Bool). if b then g (old r) else old r) (sym no))

@@ -2,6 +2,7 @@
 use Rattle.std.proofs.Common.{◌≡◌, ℕ, ◌==◌, ◌&&◌, if◌then◌else◌, Bool, true, false, List, [], ◌∷◌, ◌++◌}
 use Rattle.std.proofs.Common.{reverse, refl, sym, ap, ◌∙◌, append_assoc, eqb-true, eq-eqb, Some}
 use Rattle.std.proofs.lemmas.List.{append-nil}
+use Rattle.std.proofs.lemmas.Bool.{and_parts}
 use Rattle.cap_machine.specs.declared.cell.Cell.{Cell}
 use Rattle.cap_machine.specs.declared.cell.Cell.TheVariants.{Unknown, Closed, Held}
 use Rattle.cap_machine.specs.declared.cell.OnExec.{OnExec}
@@ -36,10 +37,6 @@ same_flag-self flags.Set = refl
 same_flag-self flags.Clear = refl
 same_flag-self flags.Unsure = refl
 
-both : (a b : Bool) → (a && b) ≡ true → (a ≡ true) × (b ≡ true)
-both true b e = (refl, e)
-both false b e = absurd (cc)
-
 pub same_cell-true : (c d : Cell) → same_cell c d ≡ true → c ≡ d
 same_cell-true Unknown Unknown e = refl
 same_cell-true Unknown Closed e = absurd (cc)
@@ -50,7 +47,7 @@ same_cell-true Closed (Held t y) e = absurd (cc)
 same_cell-true (Held r x) Unknown e = absurd (cc)
 same_cell-true (Held r x) Closed e = absurd (cc)
 same_cell-true (Held r x) (Held t y) e =
-    let parts = both (r == t) (same_flag x y) e in
+    let parts = and_parts (r == t) (same_flag x y) e in
     ap (λ (n : ℕ). Held n x) (eqb-true r t parts.0) ∙ ap (Held t) (same_flag-true x y parts.1)
 
 pub same_cell-self : (c : Cell) → same_cell c c ≡ true
@@ -61,12 +58,12 @@ same_cell-self (Held r x) = ap (λ (b : Bool). b && same_flag x x) (eq-eqb r r r
 -- what an idle touch takes, and leaves
 pub idle_takes : (op : Op) (q g p f : ℕ) (c : Cell) → is_idle op (q == p && g == f) c ≡ true → (q ≡ p) × (g ≡ f)
 idle_takes op q g p f c e =
-    let parts = both (q == p && g == f) (same_cell (applied op c) c) e in
-    let names = both (q == p) (g == f) parts.0 in
+    let parts = and_parts (q == p && g == f) (same_cell (applied op c) c) e in
+    let names = and_parts (q == p) (g == f) parts.0 in
     (eqb-true q p names.0, eqb-true g f names.1)
 
 pub idle_leaves : (op : Op) (own : Bool) (c : Cell) → is_idle op own c ≡ true → applied op c ≡ c
-idle_leaves op own c e = same_cell-true (applied op c) c (both own (same_cell (applied op c) c) e).1
+idle_leaves op own c e = same_cell-true (applied op c) c (and_parts own (same_cell (applied op c) c) e).1
 
 -- ---- the oldest passage
 

@@ -7,6 +7,7 @@ use Rattle.std.proofs.Math.Path.{fun_ext}
 use Rattle.std.proofs.lemmas.List.{reverse-append, map-append, length-map}
 use Rattle.std.proofs.lemmas.List.Folds.{list_any-append}
 use Rattle.std.proofs.lemmas.Option.{slice_get-map}
+use Rattle.std.proofs.lemmas.Bool.{or_parts}
 use Rattle.cap_trace.specs.Item.{Item}
 use Rattle.cap_trace.specs.Item as items
 use Rattle.cap_trace.specs.Call.{Call}
@@ -53,11 +54,6 @@ any-reverse p (x ∷ xs) =
     ap (list_any p) (reverse-append (x ∷ []) xs) ∙ list_any-append p (reverse xs) (x ∷ [])
     ∙ ap (λ r. r || (p x || false)) (any-reverse p xs) ∙ ap (λ r. list_any p xs || r) (or_none (p x))
     ∙ or_swap (list_any p xs) (p x)
-
--- neither of two
-pub neither : (a b : Bool) → (a || b) ≡ false → (a ≡ false) × (b ≡ false)
-neither true b h = cc
-neither false b h = (refl, h)
 
 -- ---- each form of call
 
@@ -113,8 +109,8 @@ after_same : (s : State) (history : List Entry) → Never is_exec history → Ne
     → after s (steps One history) ≡ after s (steps Two history)
 after_same s [] no_exec no_closefrom = refl
 after_same s (line ∷ history) no_exec no_closefrom =
-    let x = neither (did is_exec line) (list_any (did is_exec) history) no_exec in
-    let c = neither (did is_closefrom line) (list_any (did is_closefrom) history) no_closefrom in
+    let x = or_parts (did is_exec line) (list_any (did is_exec) history) no_exec in
+    let c = or_parts (did is_closefrom line) (list_any (did is_closefrom) history) no_closefrom in
     ap (step_after (step One line)) (after_same s history x.1 c.1)
     ∙ step_same line (after s (steps Two history)) x.0 c.0
 
@@ -125,8 +121,8 @@ findings_same : (s : State) (history : List Entry) → Never is_exec history →
     → findings s (steps One history) ≡ findings s (steps Two history)
 findings_same s [] no_exec no_closefrom = refl
 findings_same s (line ∷ history) no_exec no_closefrom =
-    let x = neither (did is_exec line) (list_any (did is_exec) history) no_exec in
-    let c = neither (did is_closefrom line) (list_any (did is_closefrom) history) no_closefrom in
+    let x = or_parts (did is_exec line) (list_any (did is_exec) history) no_exec in
+    let c = or_parts (did is_closefrom line) (list_any (did is_closefrom) history) no_closefrom in
     let here : ℕ → State → List Found = λ n state. map (found_at (n + 1)) (said (step Two line) state) in
     ap (λ r. r ++ here (length (steps One history)) (after s (steps One history))) (findings_same s history x.1 c.1)
     ∙ ap (λ n. findings s (steps Two history) ++ here n (after s (steps One history))) (steps_long history)

@@ -2,6 +2,7 @@
 use Rattle.std.proofs.Common.{◌≡◌, ℕ, ◌+◌, ◌^◌, ◌<◌, Bool, true, false, ◌&&◌, ◌||◌, not, if◌then◌else◌, List, [], ◌∷◌}
 use Rattle.std.proofs.Common.{◌++◌, length, map, reverse, Option, Some, None, refl, sym, ap, ◌∙◌}
 use Rattle.std.specs.List.{list_any}
+use Rattle.std.proofs.lemmas.Bool.{and_parts, or_parts}
 use Rattle.cap_rights.specs.Rights.{has_all}
 use Rattle.cap_trace.specs.Entry.{Entry}
 use Rattle.cap_machine.specs.declared.cell.Cell.{Cell}
@@ -23,7 +24,7 @@ use Rattle.cap_machine.specs.Judge.{has_check, is_outside}
 use Rattle.cap_machine.specs.Rule.{demand}
 use Rattle.cap_machine.specs.Check.{check, findings, said, found_at}
 use Rattle.cap_machine.specs.ProfileLaws.{is_closefrom, did, Never, NoAlarmLost}
-use Rattle.cap_machine.proofs.Profiles.{map-reverse, any-reverse, neither}
+use Rattle.cap_machine.proofs.Profiles.{map-reverse, any-reverse}
 use Rattle.cap_machine.proofs.Rights.{has_need, has_excuse}
 use Rattle.cap_machine.proofs.NamedNeeds.{AllNamed, item_checks}
 use Rattle.cap_machine.proofs.Alarms.{Under, under_same, none_of, has_of_quiet, quiet_of_has, item_fits}
@@ -60,15 +61,11 @@ module _ (one two : ℕ → Cell) (under : (f : ℕ) → Under (one f) (two f)) 
   excused_more (Some x) (Held s a) Closed u is = absurd u
   excused_more (Some x) (Held s a) (Held t b) u is = has_excuse s t x u is
 
-  both_of : (a b : Bool) → (a && b) ≡ true → (a ≡ true) × (b ≡ true)
-  both_of true b h = (refl, h)
-  both_of false b h = absurd (cc)
-
   all_excused_more : (checks : List Check) → all_excused checks (cells one checks) ≡ true
       → all_excused checks (cells two checks) ≡ true
   all_excused_more [] is = refl
   all_excused_more (check ∷ checks) is =
-      let parts = both_of (is_excused check.excuse (one check.fd)) (all_excused checks (cells one checks)) is in
+      let parts = and_parts (is_excused check.excuse (one check.fd)) (all_excused checks (cells one checks)) is in
       ap (λ b. b && all_excused checks (cells two checks))
       (excused_more check.excuse (one check.fd) (two check.fd) (under check.fd) parts.0)
       ∙ all_excused_more checks parts.1
@@ -113,7 +110,7 @@ beside s (line ∷ history) never quiet =
     (map (found_at (length (steps Two history) + 1)) (said (step Two line) (after s (steps Two history)))) quiet in
     let here : said (step Two line) (after s (steps Two history)) ≡ [] =
     nothing_found (length (steps Two history) + 1) (said (step Two line) (after s (steps Two history))) parts.1 in
-    let nevers = neither (did is_closefrom line) (list_any (did is_closefrom) history) never in
+    let nevers = or_parts (did is_closefrom line) (list_any (did is_closefrom) history) never in
     let before = beside s history nevers.1 parts.0 in
     let me = line.pid in
     let modes_alike : mode_after s (steps One history) me ≡ mode_after s (steps Two history) me =

@@ -5,13 +5,13 @@ use Rattle.std.proofs.Common.{slice_index_or, map}
 use Rattle.std.specs.Prelude.{nat_eq, nat_lt, nat_le}
 use Rattle.std.specs.List.{list_all}
 use Rattle.std.specs.Cmp.Lexicographic.{pointwise}
-use Rattle.std.proofs.lemmas.Bool.{eqb-true, ltb-true, leb-true}
+use Rattle.std.proofs.lemmas.Bool.{eqb-true, ltb-true, leb-true, and_parts}
 use Rattle.std.proofs.lemmas.Slice.Eq.{bytes_eq-Decides}
 use Rattle.bitflags.specs.Sets.{Row, find_row}
 use Rattle.cap_rights.specs.declared.lookup.TheConstants.{ROW_AT}
 use Rattle.cap_rights.specs.Names.{table, name_at}
 use Rattle.std.proofs.lemmas.List.{length-map, get_or_default}
-use Rattle.cap_rights.proofs.Rows.{both, chosen, table_row}
+use Rattle.cap_rights.proofs.Rows.{chosen, table_row}
 use Rattle.cap_rights.proofs.Table.{passes_at, names_apart}
 
 -- the slot of a word
@@ -37,14 +37,14 @@ one_stands : (k : ℕ) (rows : List Row) (j : ℕ) → stand_from k rows ≡ tru
 one_stands k [] j h lt = absurd (omega arith)
 one_stands k (row ∷ rows) zero h lt =
     let p =
-    both (nat_le 8 (length row.0)) (eqb (slice_index_or ROW_AT (slot row.0) 0) k && stand_from (suc k) rows) h in
-    let q = both (eqb (slice_index_or ROW_AT (slot row.0) 0) k) (stand_from (suc k) rows) p.1 in
+    and_parts (nat_le 8 (length row.0)) (eqb (slice_index_or ROW_AT (slot row.0) 0) k && stand_from (suc k) rows) h in
+    let q = and_parts (eqb (slice_index_or ROW_AT (slot row.0) 0) k) (stand_from (suc k) rows) p.1 in
     let here : k ≡ k + 0 = omega arith in
     (leb-true 8 (length row.0) p.0, eqb-true (slice_index_or ROW_AT (slot row.0) 0) k q.0 ∙ here)
 one_stands k (row ∷ rows) (suc j) h lt =
     let p =
-    both (nat_le 8 (length row.0)) (eqb (slice_index_or ROW_AT (slot row.0) 0) k && stand_from (suc k) rows) h in
-    let q = both (eqb (slice_index_or ROW_AT (slot row.0) 0) k) (stand_from (suc k) rows) p.1 in
+    and_parts (nat_le 8 (length row.0)) (eqb (slice_index_or ROW_AT (slot row.0) 0) k && stand_from (suc k) rows) h in
+    let q = and_parts (eqb (slice_index_or ROW_AT (slot row.0) 0) k) (stand_from (suc k) rows) p.1 in
     let r = one_stands (suc k) rows j q.1 (omega arith) in
     let next : suc k + j ≡ k + suc j = omega arith in
     (r.0, r.1 ∙ next)

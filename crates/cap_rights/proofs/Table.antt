@@ -2,7 +2,7 @@
 use Rattle.std.proofs.Common.{◌≡◌, ℕ, zero, suc, ◌+◌, ◌^◌, ◌<◌, ◌&&◌, Bool, true, false, eqb, List, [], ◌∷◌, length}
 use Rattle.std.proofs.Common.{take, Option, Some, None, refl, sym, ap, ◌∙◌, arith, slice_index_or}
 use Rattle.std.specs.List.{list_all}
-use Rattle.std.proofs.lemmas.Bool.{eqb-true, ltb-true, true_from_ne_false}
+use Rattle.std.proofs.lemmas.Bool.{eqb-true, ltb-true, true_from_ne_false, and_parts}
 use Rattle.std.proofs.lemmas.List.{get_or-take}
 use Rattle.std.proofs.lemmas.List.Folds.{list_all_at}
 use Rattle.bitflags.specs.Sets.{Row, find_row}
@@ -10,7 +10,7 @@ use Rattle.cap_rights.specs.Names.{table, name_at, value_at}
 use Rattle.cap_rights.specs.Rights.{holds}
 use Rattle.cap_rights.specs.Laws.{NamesOwn, NamesNoFull, NamesApart}
 use Rattle.cap_rights.proofs.OnLiterals.{rights_on_literals}
-use Rattle.cap_rights.proofs.Rows.{both, small, rows_small}
+use Rattle.cap_rights.proofs.Rows.{small, rows_small}
 
 -- what all pass, each passes
 pub passes_at : {X : Type 0} (p : X → Bool) (xs : List X) (i : ℕ) (d : X) → list_all p xs ≡ true → i < length xs
@@ -55,11 +55,11 @@ own_at : (k : ℕ) (rows : List Row) (j : ℕ) → own_from k rows ≡ true → 
 own_at k [] j own lt = absurd (omega arith)
 own_at k (row ∷ rows) zero own lt =
     let here : k + 0 ≡ k = omega arith in
-    ap (λ (n : ℕ). holds row.1 n) here ∙ (both (holds row.1 k) (own_from (suc k) rows) own).0
+    ap (λ (n : ℕ). holds row.1 n) here ∙ (and_parts (holds row.1 k) (own_from (suc k) rows) own).0
 own_at k (row ∷ rows) (suc j) own lt =
     let next : k + suc j ≡ suc k + j = omega arith in
     ap (λ (n : ℕ). holds (slice_index_or rows j ([], 0)).1 n) next
-    ∙ own_at (suc k) rows j (both (holds row.1 k) (own_from (suc k) rows) own).1 (omega arith)
+    ∙ own_at (suc k) rows j (and_parts (holds row.1 k) (own_from (suc k) rows) own).1 (omega arith)
 
 pub names_own : NamesOwn
 unfolding table

@@ -1,8 +1,9 @@
 -- How bytes are cut.
 use Rattle.std.proofs.Common.{◌≡◌, ℕ, zero, suc, ◌+◌, ◌<◌, List, [], ◌∷◌, ◌++◌, length, take, drop, get_or, refl, sym}
-use Rattle.std.proofs.Common.{◌∙◌, ap, append_assoc, add-one, arith, Bool, true, false, cond}
+use Rattle.std.proofs.Common.{◌∙◌, ap, append_assoc, add-one, arith, true, false, cond}
 use Rattle.std.specs.Prelude.{◌==◌, Some, None}
 use Rattle.std.proofs.lemmas.List.{append-nil}
+use Rattle.std.proofs.lemmas.Bool.{false_from_ne_true}
 use Rattle.memchr.specs.Find.{IsFirstByte, is_byte}
 use Rattle.cap_session.specs.Lines.{whole_lines, last_piece}
 
@@ -32,10 +33,6 @@ last_piece-append held (b ∷ xs) ys =
       | false ↦ last_piece-append (held ++ b ∷ []) xs ys
     ]
 
-pub false_unless : (v : Bool) → (v ≡ true → ⊥) → v ≡ false
-false_unless true h = absurd (h refl)
-false_unless false h = refl
-
 -- the bytes up to the first LF complete a line
 pub record Cut (held bytes : List ℕ) (k : ℕ) : Type 0 where
   pub whole : whole_lines held bytes ≡ (held ++ take k bytes) ∷ whole_lines [] (drop (k + 1) bytes)
@@ -55,7 +52,7 @@ cut_from held [] k within before here = absurd (omega arith)
 cut_from held (b ∷ bytes) zero within before here =
     (rw here (ap (λ l. l ∷ whole_lines [] bytes) (sym (append-nil held))), rw here refl)
 cut_from held (b ∷ bytes) (suc k) within before here =
-    let none : (b == 10) ≡ false = false_unless (b == 10) (before 0 (omega arith)) in
+    let none : (b == 10) ≡ false = false_from_ne_true (b == 10) (before 0 (omega arith)) in
     let rest = cut_from (held ++ b ∷ []) bytes k (omega arith) (λ j h. before (suc j) (omega arith)) here in (
       rw none (rest.0 ∙ ap (λ l. l ∷ whole_lines [] (drop (suc k) bytes)) (append_assoc held (b ∷ []) (take k bytes))),
       rw none rest.1,
@@ -66,7 +63,7 @@ no_cut_from : (held bytes : List ℕ) → ((j : ℕ) → j < length bytes → (g
 unfolding whole_lines last_piece
 no_cut_from held [] before = (refl, sym (append-nil held))
 no_cut_from held (b ∷ bytes) before =
-    let none : (b == 10) ≡ false = false_unless (b == 10) (before 0 (omega arith)) in
+    let none : (b == 10) ≡ false = false_from_ne_true (b == 10) (before 0 (omega arith)) in
     let rest = no_cut_from (held ++ b ∷ []) bytes (λ j h. before (suc j) (omega arith)) in
     (rw none rest.0, rw none (rest.1 ∙ append_assoc held (b ∷ []) bytes))
 
@@ -87,7 +84,7 @@ unfolding whole_lines last_piece
 front_from held [] k within before here = absurd (omega arith)
 front_from held (b ∷ bytes) zero within before here = (rw here (ap (λ l. l ∷ []) (sym (append-nil held))), rw here refl)
 front_from held (b ∷ bytes) (suc k) within before here =
-    let none : (b == 10) ≡ false = false_unless (b == 10) (before 0 (omega arith)) in
+    let none : (b == 10) ≡ false = false_from_ne_true (b == 10) (before 0 (omega arith)) in
     let rest = front_from (held ++ b ∷ []) bytes k (omega arith) (λ j h. before (suc j) (omega arith)) here in
     (rw none (rest.0 ∙ ap (λ l. l ∷ []) (append_assoc held (b ∷ []) (take k bytes))), rw none rest.1)
 

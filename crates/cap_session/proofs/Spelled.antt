@@ -125,10 +125,6 @@ some_kept : (b : Bool) (k n : ℕ) → ◌≡◌ {A = Option ℕ} (Some n) (cond
 some_kept true k n e = cc
 some_kept false k n e = absurd cc
 
-none_kept : (b : Bool) (k : ℕ) → ◌≡◌ {A = Option ℕ} None (cond b (Some k) None) → b ≡ false
-none_kept true k e = absurd cc
-none_kept false k e = refl
-
 numbered_some : (most n : ℕ) (odd : Bool) (digits : Option ℕ) → Some n ≡ numbered most odd digits
     → (odd ≡ false) × (digits ≡ Some n)
 numbered_some most n true digits e = absurd cc
@@ -141,7 +137,7 @@ numbered_none : (most high : ℕ) (odd : Bool) (digits : Option ℕ) → high �
 numbered_none most high true digits le e = refl
 numbered_none most high false None le e = refl
 numbered_none most high false (Some k) le e =
-    let over : nat_le k most ≡ false = none_kept (nat_le k most) k e in
+    let over : nat_le k most ≡ false = none_found (nat_le k most) k e in
     let past : nat_le k high ≡ false = grind arith in
     rw past refl
 

@@ -16,15 +16,13 @@ use Rattle.cap_session.specs.declared.refused.Refused.TheVariants.{LongLine, Sha
 use Rattle.cap_session.specs.declared.refused.Refused.TheVariants.{Position, Full, Memory}
 use Rattle.cap_session.specs.declared.start_text.StartFault.{StartFault}
 use Rattle.cap_session.specs.declared.start_text.StartFault.TheVariants as faults
-
-is_ok : {A B : Type 0} (r : Result A B) (x : A) → r ≡ Ok x → IsOk r
-is_ok r x is = rw is (search rules)
+use Rattle.cap_session.proofs.Listing.{known_ok}
 
 pub parsed : (text : List ℕ) (kept : Option Start) (low : ℕ)
     → (known : Listed) × (whole_text next_process none_listed text ≡ Ok known) × Follows kept low known
     → Parses (start text) (ok_or kept faults.Memory)
 parsed text (Some s) low (known, is, does) = ap state_of is ∙ ap (λ (x : State). Ok x) (sym does.0)
-parsed text None low (known, is, does) = is_ok (start text) known.state (ap state_of is)
+parsed text None low (known, is, does) = known_ok (start text) known.state (ap state_of is)
 
 -- each refusal has its own code
 reason_at : ℕ → Refused

@@ -2,9 +2,9 @@
 use Rattle.std.proofs.Common.{◌≡◌, ℕ, zero, suc, ◌+◌, ◌<◌, List, [], ◌∷◌, length, take, drop, get_or, refl, ap, add-one}
 use Rattle.std.proofs.Common.{arith, true, false}
 use Rattle.std.specs.Prelude.{◌==◌, Some, None}
+use Rattle.std.proofs.lemmas.Bool.{false_from_ne_true}
 use Rattle.memchr.specs.Find.{IsFirstByte, is_byte}
 use Rattle.cap_session.specs.Commands.{first_word, after_word}
-use Rattle.cap_session.proofs.Cuts.{false_unless}
 
 split_from : (line : List ℕ) (k : ℕ) → k < length line → ((j : ℕ) → j < k → (get_or line j 0 == 32) ≡ true → ⊥)
     → (get_or line k 0 == 32) ≡ true →
@@ -13,7 +13,7 @@ unfolding first_word after_word
 split_from [] k within before here = absurd (omega arith)
 split_from (b ∷ line) zero within before here = (rw here refl, rw here refl)
 split_from (b ∷ line) (suc k) within before here =
-    let none : (b == 32) ≡ false = false_unless (b == 32) (before 0 (omega arith)) in
+    let none : (b == 32) ≡ false = false_from_ne_true (b == 32) (before 0 (omega arith)) in
     let rest = split_from line k (omega arith) (λ j h. before (suc j) (omega arith)) here in
     (rw none (ap (λ l. b ∷ l) rest.0), rw none rest.1)
 
@@ -22,7 +22,7 @@ no_split_from : (line : List ℕ) → ((j : ℕ) → j < length line → (get_or
 unfolding first_word after_word
 no_split_from [] before = (refl, refl)
 no_split_from (b ∷ line) before =
-    let none : (b == 32) ≡ false = false_unless (b == 32) (before 0 (omega arith)) in
+    let none : (b == 32) ≡ false = false_from_ne_true (b == 32) (before 0 (omega arith)) in
     let rest = no_split_from line (λ j h. before (suc j) (omega arith)) in
     (rw none (ap (λ l. b ∷ l) rest.0), rw none rest.1)
 

@@ -6,7 +6,7 @@ use Rattle.std.specs.Str.{all_ascii_digits}
 use Rattle.std.specs.Char.{is_ascii_digit}
 use Rattle.std.specs.Fmt.{decimal}
 use Rattle.std.proofs.lemmas.Fmt.{digits_decimal, decimal_nonempty}
-use Rattle.std.proofs.lemmas.Bool.{eqb-true}
+use Rattle.std.proofs.lemmas.Bool.{eqb-true, and_parts}
 use Rattle.cap_trace.specs.declared.fault.FirstFault.{FirstFault}
 use Rattle.cap_trace.specs.declared.fault.FirstFault.TheVariants as faults
 use Rattle.cap_trace.specs.declared.line.Answer.{Answer}
@@ -19,7 +19,7 @@ use Rattle.cap_trace.specs.Entry.{IsAnswer}
 use Rattle.cap_trace.specs.Spelling.{answer_text}
 use Rattle.cap_trace.specs.Reading.{◌>>=◌, need, positive, after_prefix, number_at, same_at, pair_at, any_at, made_at}
 use Rattle.cap_trace.specs.Reading.{result_at, answer_at}
-use Rattle.cap_trace.proofs.Cuts.{both, eqb_same, lacks, after_prefix_takes, after_prefix_again, cut_takes, cut_again}
+use Rattle.cap_trace.proofs.Cuts.{eqb_same, lacks, after_prefix_takes, after_prefix_again, cut_takes, cut_again}
 use Rattle.cap_trace.proofs.Cuts.{cut_none}
 use Rattle.cap_trace.proofs.Numerals.{own, bind_ok, need_ok, positive_ok, positive_again, num_takes, num_again}
 use Rattle.cap_trace.proofs.Spelled.{ok_is, bind_made}
@@ -113,7 +113,7 @@ answer_takes k tail a e =
 no_errno : (t r : List ℕ) → 0 < length t → all_ascii_digits t ≡ true → after_prefix (codes "-1 errno ") (t ++ r) ≡ None
 no_errno [] r lt h = absurd (omega arith)
 no_errno (c ∷ cs) r lt h =
-    let digit = (both (is_ascii_digit c) (all_ascii_digits cs) h).0 in
+    let digit = (and_parts (is_ascii_digit c) (all_ascii_digits cs) h).0 in
     let apart : eqb 45 c ≡ false = grind (arith, tests) in
     rw apart refl
 

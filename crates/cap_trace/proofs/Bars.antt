@@ -52,7 +52,7 @@ begin_onto c (w ∷ ws) lt = and_assoc (is_ascii_uppercase c) (list_all is_flag_
     and_assoc true b d = refl
     and_assoc false b d = refl
 
-onto_some : (c : ℕ) (parts : List (List ℕ)) → 0 < length (onto_first c parts)
+pub onto_some : (c : ℕ) (parts : List (List ℕ)) → 0 < length (onto_first c parts)
 onto_some c [] = omega arith
 onto_some c (w ∷ ws) = omega arith
 

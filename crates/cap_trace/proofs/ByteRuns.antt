@@ -1,7 +1,7 @@
 -- What runs of bytes say of a path and of flags.
-use Rattle.std.proofs.Common.{◌≡◌, ℕ, zero, suc, ◌+◌, ◌-◌, ◌<◌, ◌≤◌, ◌||◌, ◌++◌, ◌∷◌, Bool, true, false, not, eqb, List}
+use Rattle.std.proofs.Common.{◌≡◌, ℕ, zero, suc, ◌+◌, ◌-◌, ◌<◌, ◌≤◌, ◌++◌, ◌∷◌, Bool, true, false, not, eqb, List}
 use Rattle.std.proofs.Common.{length, get_or, take, drop, Some, refl, sym, ap, ◌∙◌, arith, tests, ⊎_elim}
-use Rattle.std.proofs.lemmas.Bool.{cases_lt}
+use Rattle.std.proofs.lemmas.Bool.{cases_lt, and_from, or_right}
 use Rattle.std.proofs.lemmas.List.{length-take-le, get_or-take, length-drop, take_all, drop_more, take-append-drop}
 use Rattle.std.proofs.lemmas.List.Folds.{list_all_more}
 use Rattle.std.specs.List.{list_all, slice_split}
@@ -17,7 +17,6 @@ use Rattle.cap_trace.specs.Quick.{Before}
 use Rattle.cap_trace.specs.Runs.{Runs}
 use Rattle.cap_trace.specs.Steps.{takes_all}
 use Rattle.cap_trace.proofs.Bars.{are_words}
-use Rattle.cap_trace.proofs.Cuts.{both_true}
 use Rattle.cap_trace.proofs.Steps.{takes_more, takes_end}
 
 pub runs_on : (r : Run) (t : List ℕ) (i j k : ℕ) → Runs r t i j → Runs r t j k → Runs r t i k
@@ -31,7 +30,7 @@ plain_run t (suc n) le h =
     let one : suc n ≡ n + 1 = omega arith in
     let before = plain_run t n (omega (arith, le)) (λ k low high. h k low (omega (arith, high))) in
     rw one (list_all_more is_plain t n 0 (omega (arith, le))
-    ∙ both_true (list_all is_plain (take n t)) (is_plain (get_or t n 0)) before (h n (omega arith) (omega arith)))
+    ∙ and_from (list_all is_plain (take n t)) (is_plain (get_or t n 0)) before (h n (omega arith) (omega arith)))
 
 -- ---- flags
 
@@ -87,17 +86,13 @@ bar_read t from end lt inside begins upper run bar = λ last low within.
     (bar_step (get_or (take last t) end 0) (same ∙ bar))
     (name_read t from end last lt (omega (arith, low)) within begins upper run)
 
-or_true : (a b : Bool) → b ≡ true → (a || b) ≡ true
-or_true true b e = refl
-or_true false b e = e
-
 names_whole : (t : List ℕ) (from end : ℕ) → from < end → end < length t → NameBegins t from
     → is_ascii_uppercase (get_or t from 0) ≡ true → Runs Name t (from + 1) end → is_flags (take end t) ≡ true
 names_whole t from end lt inside begins upper run =
     let size : length (take end t) ≡ end = length-take-le end t (omega (arith, inside)) in
     let read = name_read t from end end lt (omega arith) (omega (arith, inside)) begins upper run in
     let all = takes_end flag_step not false (take end t) end _ (omega (arith, size)) read in
-    or_true (bytes_eq (take end t) (codes "0")) (list_all is_word (slice_split (λ c. eqb c 124) (take end t)))
+    or_right (bytes_eq (take end t) (codes "0")) (list_all is_word (slice_split (λ c. eqb c 124) (take end t)))
     (sym (all ∙ are_words (take end t)))
 
 -- the text round a place

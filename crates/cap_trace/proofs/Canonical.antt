@@ -5,6 +5,7 @@ use Rattle.std.specs.Prelude.{codes}
 use Rattle.std.specs.List.{join_with_byte}
 use Rattle.std.specs.Fmt.{decimal}
 use Rattle.std.proofs.lemmas.Fmt.{length-decimal-le}
+use Rattle.std.proofs.lemmas.Bool.{and_parts}
 use Rattle.cap_rights.specs.Text.{text}
 use Rattle.cap_rights.proofs.Again.{named_is_read}
 use Rattle.cap_rights.proofs.Short.{text_is_short}
@@ -20,7 +21,6 @@ use Rattle.cap_trace.specs.Entry.{Entry, Arg, an_fd, a_dir, some_flags, some_rig
 use Rattle.cap_trace.specs.Entry.{free_text, args_of, fds, IsAnswer, IsWhole}
 use Rattle.cap_trace.specs.Spelling.{SpellsArg, SpellsArgs, SpellsBy, Spells, arg_text, answer_text, joined, canon}
 use Rattle.cap_trace.specs.Spelling.{IsProper}
-use Rattle.cap_trace.proofs.Cuts.{both}
 
 -- what is written for an argument spells it
 arg_written : (t : List ℕ) (a : Arg) → SpellsArg t a → SpellsArg (arg_text a) a
@@ -67,7 +67,7 @@ args_same [] [] s h = refl
 args_same [] (a ∷ others) s h = absurd h
 args_same (t ∷ ts) [] s h = absurd h
 args_same (t ∷ ts) (a ∷ others) s h =
-    let k = both (is_settled a) (are_settled others) s in
+    let k = and_parts (is_settled a) (are_settled others) s in
     ap (λ (u : List ℕ). u ∷ ts) (arg_same t a k.0 h.0)
     ∙ ap (λ (us : List (List ℕ)). arg_text a ∷ us) (args_same ts others k.1 h.1)
 

@@ -6,29 +6,19 @@ use Rattle.std.specs.Prelude.{nat_eq}
 use Rattle.std.specs.List.{position_or_len, list_all, starts_with, ends_with, onto_first, join_with_byte}
 use borrow.Author.Tests.{ltb-true}
 use Rattle.std.proofs.lemmas.List.{take_at, drop_at, length-append}
-use Rattle.std.proofs.lemmas.Bool.{eqb-true, lt-ltb, le-ltb}
+use Rattle.std.proofs.lemmas.Bool.{eqb-true, lt-ltb, le-ltb, not-true, and_parts, and_from}
 use Rattle.std.proofs.lemmas.Bool.Decides.{Decides-eqb}
 use Rattle.std.proofs.lemmas.Slice.Eq.{starts_is, ends_is}
+use Rattle.std.proofs.lemmas.Option.{cond_some}
 use Rattle.cap_trace.specs.declared.quotes.Quoting.{Quoting}
 use Rattle.cap_trace.specs.declared.quotes.Quoting.TheVariants.{Outside, Inside, Skipping}
 use Rattle.cap_trace.specs.Quotes.{after, stops, place, place_from, pieces, pieces_from, around, cut_at_byte}
 use Rattle.cap_trace.specs.Quotes.{cut_outside}
 use Rattle.cap_trace.specs.Reading.{after_prefix, before_suffix}
 use Rattle.cap_trace.proofs.Quoted.{after_one}
+use Rattle.cap_trace.proofs.Bars.{onto_some}
 
 -- ---- options and tests
-
-pub kept_some : {A : Type 0} (b : Bool) (x y : A) → cond b (Some x) None ≡ Some y → (b ≡ true) × (x ≡ y)
-kept_some true x y e = (refl, cc)
-kept_some false x y e = absurd cc
-
-pub both : (a b : Bool) → (a && b) ≡ true → (a ≡ true) × (b ≡ true)
-both true true e = (refl, refl)
-both true false e = absurd cc
-both false b e = absurd cc
-
-pub both_true : (a b : Bool) → a ≡ true → b ≡ true → (a && b) ≡ true
-both_true a b e f = rw (e, f) refl
 
 pub eqb_same : (n : ℕ) → eqb n n ≡ true
 eqb_same n = (Decides-eqb n n).1 refl
@@ -37,7 +27,7 @@ eqb_same n = (Decides-eqb n n).1 refl
 
 pub after_prefix_takes : (p t r : List ℕ) → after_prefix p t ≡ Some r → t ≡ p ++ r
 after_prefix_takes p t r e =
-    let k = kept_some (starts_with nat_eq t p) (drop (length p) t) r e in
+    let k = cond_some (starts_with nat_eq t p) (drop (length p) t) r e in
     (starts_is Decides-eqb t p (starts_with nat_eq t p) refl).0 k.0 ∙ ap (λ (s : List ℕ). p ++ s) k.1
 
 pub after_prefix_again : (p r : List ℕ) → after_prefix p (p ++ r) ≡ Some r
@@ -71,7 +61,7 @@ found_byte c (x ∷ xs) lt = found_step c x xs (eqb x c) (λ e. eqb-true x c e) 
 
 first_byte : (c : ℕ) (a b : List ℕ) → lacks c a ≡ true → position_or_len (is c) (a ++ c ∷ b) ≡ length a
 first_byte c [] b h = rw (eqb_same c) refl
-first_byte c (x ∷ a) b h = let p = both (not (is c x)) (lacks c a) h in rw (p.0, first_byte c a b p.1) (omega arith)
+first_byte c (x ∷ a) b h = let p = and_parts (not (is c x)) (lacks c a) h in rw (p.0, first_byte c a b p.1) (omega arith)
 
 around_some : (t : List ℕ) (b : Bool) (k : ℕ) (x : List ℕ × List ℕ) → around t (cond b (Some k) None) ≡ Some x
     → (b ≡ true) × ((take k t, drop (k + 1) t) ≡ x)
@@ -86,10 +76,6 @@ cut_takes c t x e =
 drop_after : (s : List ℕ) (c : ℕ) (b : List ℕ) → drop (suc (length s)) (s ++ (c ∷ b)) ≡ b
 drop_after [] c b = refl
 drop_after (y ∷ s) c b = drop_after s c b
-
-not_true : (b : Bool) → not b ≡ true → b ≡ false
-not_true true e = absurd cc
-not_true false e = refl
 
 pub cut_again : (c : ℕ) (a b : List ℕ) → lacks c a ≡ true → cut_at_byte c (a ++ (c ∷ b)) ≡ Some (a, b)
 cut_again c a b h =
@@ -111,11 +97,11 @@ pub closes-append : (q : Quoting) (stop : ℕ) (a b : List ℕ) → closes q sto
 closes-append Outside stop [] b h g = g
 closes-append Inside stop [] b h g = absurd cc
 closes-append Skipping stop [] b h g = absurd cc
-closes-append Outside stop (c ∷ cs) b h g = let p = both (not (stops Outside stop c))
+closes-append Outside stop (c ∷ cs) b h g = let p = and_parts (not (stops Outside stop c))
     (closes (after Outside c) stop cs) h in rw (p.0, closes-append (after Outside c) stop cs b p.1 g) refl
-closes-append Inside stop (c ∷ cs) b h g = let p = both (not (stops Inside stop c))
+closes-append Inside stop (c ∷ cs) b h g = let p = and_parts (not (stops Inside stop c))
     (closes (after Inside c) stop cs) h in rw (closes-append (after Inside c) stop cs b p.1 g) refl
-closes-append Skipping stop (c ∷ cs) b h g = let p = both (not (stops Skipping stop c))
+closes-append Skipping stop (c ∷ cs) b h g = let p = and_parts (not (stops Skipping stop c))
     (closes (after Skipping c) stop cs) h in rw (closes-append (after Skipping c) stop cs b p.1 g) refl
 
 place_after : (q : Quoting) (stop : ℕ) (a b : List ℕ) → closes q stop a ≡ true
@@ -124,11 +110,11 @@ unfolding place_from
 place_after Outside stop [] b h = rw (eqb_same stop) refl
 place_after Inside stop [] b h = absurd cc
 place_after Skipping stop [] b h = absurd cc
-place_after Outside stop (c ∷ cs) b h = let p = both (not (stops Outside stop c))
-    (closes (after Outside c) stop cs) h in rw (not_true _ p.0, place_after (after Outside c) stop cs b p.1) refl
-place_after Inside stop (c ∷ cs) b h = let p = both (not (stops Inside stop c)) (closes (after Inside c) stop cs) h in
+place_after Outside stop (c ∷ cs) b h = let p = and_parts (not (stops Outside stop c))
+    (closes (after Outside c) stop cs) h in rw (not-true _ p.0, place_after (after Outside c) stop cs b p.1) refl
+place_after Inside stop (c ∷ cs) b h = let p = and_parts (not (stops Inside stop c)) (closes (after Inside c) stop cs) h in
     rw (place_after (after Inside c) stop cs b p.1) refl
-place_after Skipping stop (c ∷ cs) b h = let p = both (not (stops Skipping stop c))
+place_after Skipping stop (c ∷ cs) b h = let p = and_parts (not (stops Skipping stop c))
     (closes (after Skipping c) stop cs) h in rw (place_after (after Skipping c) stop cs b p.1) refl
 
 stop_is : (q : Quoting) (stop c : ℕ) → stops q stop c ≡ true → c ≡ stop
@@ -170,21 +156,21 @@ unfolding pieces_from
 pieces_after Outside [] b h = refl
 pieces_after Inside [] b h = absurd cc
 pieces_after Skipping [] b h = absurd cc
-pieces_after Outside (c ∷ cs) b h = let p = both (not (stops Outside 44 c)) (closes (after Outside c) 44 cs) h in
-    rw (not_true _ p.0, pieces_after (after Outside c) cs b p.1) refl
-pieces_after Inside (c ∷ cs) b h = let p = both (not (stops Inside 44 c)) (closes (after Inside c) 44 cs) h in
+pieces_after Outside (c ∷ cs) b h = let p = and_parts (not (stops Outside 44 c)) (closes (after Outside c) 44 cs) h in
+    rw (not-true _ p.0, pieces_after (after Outside c) cs b p.1) refl
+pieces_after Inside (c ∷ cs) b h = let p = and_parts (not (stops Inside 44 c)) (closes (after Inside c) 44 cs) h in
     rw (pieces_after (after Inside c) cs b p.1) refl
-pieces_after Skipping (c ∷ cs) b h = let p = both (not (stops Skipping 44 c)) (closes (after Skipping c) 44 cs) h in
+pieces_after Skipping (c ∷ cs) b h = let p = and_parts (not (stops Skipping 44 c)) (closes (after Skipping c) 44 cs) h in
     rw (pieces_after (after Skipping c) cs b p.1) refl
 
 piece_alone : (q : Quoting) (a : List ℕ) → closes q 44 a ≡ true → pieces_from q a ≡ a ∷ []
 unfolding pieces_from
 piece_alone q [] h = refl
-piece_alone Outside (c ∷ cs) h = let p = both (not (stops Outside 44 c)) (closes (after Outside c) 44 cs) h in
-    rw (not_true _ p.0, piece_alone (after Outside c) cs p.1) refl
-piece_alone Inside (c ∷ cs) h = let p = both (not (stops Inside 44 c)) (closes (after Inside c) 44 cs) h in
+piece_alone Outside (c ∷ cs) h = let p = and_parts (not (stops Outside 44 c)) (closes (after Outside c) 44 cs) h in
+    rw (not-true _ p.0, piece_alone (after Outside c) cs p.1) refl
+piece_alone Inside (c ∷ cs) h = let p = and_parts (not (stops Inside 44 c)) (closes (after Inside c) 44 cs) h in
     rw (piece_alone (after Inside c) cs p.1) refl
-piece_alone Skipping (c ∷ cs) h = let p = both (not (stops Skipping 44 c)) (closes (after Skipping c) 44 cs) h in
+piece_alone Skipping (c ∷ cs) h = let p = and_parts (not (stops Skipping 44 c)) (closes (after Skipping c) 44 cs) h in
     rw (piece_alone (after Skipping c) cs p.1) refl
 
 -- a text that may be a part
@@ -223,13 +209,9 @@ onto_joined c [] lt = absurd (omega arith)
 onto_joined c (t ∷ []) lt = refl
 onto_joined c (t ∷ u ∷ us) lt = refl
 
-onto_there : (c : ℕ) (parts : List (List ℕ)) → 0 < length (onto_first c parts)
-onto_there c [] = omega arith
-onto_there c (t ∷ ts) = omega arith
-
 step_there : (b : Bool) (c : ℕ) (here more : List (List ℕ)) → 0 < length (cond b ([] ∷ here) (onto_first c more))
 step_there true c here more = omega arith
-step_there false c here more = onto_there c more
+step_there false c here more = onto_some c more
 
 pieces_there : (q : Quoting) (t : List ℕ) → 0 < length (pieces_from q t)
 unfolding pieces_from
@@ -264,7 +246,7 @@ pieces_takes (c ∷ cs) = pieces_from_joined Outside (c ∷ cs)
 
 pub before_suffix_takes : (p t r : List ℕ) → before_suffix p t ≡ Some r → t ≡ r ++ p
 before_suffix_takes p t r e =
-    let k = kept_some (ends_with nat_eq t p) (take (length t - length p) t) r e in
+    let k = cond_some (ends_with nat_eq t p) (take (length t - length p) t) r e in
     (ends_is Decides-eqb t p (ends_with nat_eq t p) refl).0 k.0 ∙ ap (λ (s : List ℕ). s ++ p) k.1
 
 pub before_suffix_again : (p r : List ℕ) → before_suffix p (r ++ p) ≡ Some r
@@ -277,7 +259,7 @@ before_suffix_again p r =
 
 none_byte : (c : ℕ) (t : List ℕ) → lacks c t ≡ true → position_or_len (is c) t ≡ length t
 none_byte c [] h = refl
-none_byte c (x ∷ xs) h = let p = both (not (is c x)) (lacks c xs) h in rw (p.0, none_byte c xs p.1) (omega arith)
+none_byte c (x ∷ xs) h = let p = and_parts (not (is c x)) (lacks c xs) h in rw (p.0, none_byte c xs p.1) (omega arith)
 
 pub cut_none : (c : ℕ) (t : List ℕ) → lacks c t ≡ true → cut_at_byte c t ≡ None
 cut_none c t h =

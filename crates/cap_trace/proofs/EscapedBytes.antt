@@ -4,9 +4,9 @@ use Rattle.std.proofs.Common.{append_assoc}
 use Rattle.std.proofs.lemmas.List.{drop_more, append-nil}
 use Rattle.cap_trace.specs.Escaping.{escape_of, escaped}
 
-step : (b : ℕ) (bs : List ℕ) → escaped (b ∷ bs) ≡ escape_of b ++ escaped bs
+pub escaped_step : (b : ℕ) (bs : List ℕ) → escaped (b ∷ bs) ≡ escape_of b ++ escaped bs
 unfolding escaped
-step b bs = refl
+escaped_step b bs = refl
 
 pub escaped_more : (bs : List ℕ) (i b : ℕ) (mid new all : List ℕ) → i < length bs → b ≡ get_or bs i b
     → mid ++ escaped (drop i bs) ≡ all → new ≡ mid ++ escape_of b → new ++ escaped (drop (i + 1) bs) ≡ all
@@ -14,7 +14,7 @@ escaped_more bs i b mid new all lt at h g =
     let split : drop i bs ≡ b ∷ drop (i + 1) bs = drop_more bs i b lt ∙ ap (λ (x : ℕ). x ∷ drop (i + 1) bs) (sym at) in
     ap (λ (s : List ℕ). s ++ escaped (drop (i + 1) bs)) g
     ∙ append_assoc mid (escape_of b) (escaped (drop (i + 1) bs))
-    ∙ ap (λ (s : List ℕ). mid ++ s) (sym (ap escaped split ∙ step b (drop (i + 1) bs)))
+    ∙ ap (λ (s : List ℕ). mid ++ s) (sym (ap escaped split ∙ escaped_step b (drop (i + 1) bs)))
     ∙ h
 
 pub escaped_end : (items all : List ℕ) → items ++ escaped [] ≡ all → items ≡ all

@@ -4,6 +4,7 @@ use Rattle.std.proofs.Common.{None, Result, Ok, Err, refl, sym, ap, ◌∙◌, �
 use Rattle.std.specs.Prelude.{codes}
 use Rattle.std.specs.List.{list_all}
 use Rattle.std.specs.Str.{bytes_eq}
+use Rattle.std.proofs.lemmas.Bool.{and_parts}
 use Rattle.cap_rights.specs.Text.{names}
 use Rattle.cap_trace.specs.declared.fault.FirstFault.{FirstFault}
 use Rattle.cap_trace.specs.declared.fault.FirstFault.TheVariants as faults
@@ -26,7 +27,6 @@ use Rattle.cap_trace.specs.Reading.{◌>>=◌, need, positive, kept, after_prefi
 use Rattle.cap_trace.specs.Reading.{dir_at, flags_at, command_at, path_at, free_at, arg_at, args_at, fds_from, shaped}
 use Rattle.cap_trace.specs.Reading.{said_at, number_at, same_at, pair_at, any_at, made_at, result_at}
 use Rattle.cap_trace.proofs.Built.{slots_in}
-use Rattle.cap_trace.proofs.Cuts.{both}
 
 -- ---- steps
 
@@ -135,7 +135,7 @@ args_err q a [] [] d p e = absurd cc
 args_err q a [] (t ∷ ts) d p e = ap q (sym (err_is {A = List Arg} faults.Argument d e)) ∙ a
 args_err q a (s ∷ ss) [] d p e = ap q (sym (err_is {A = List Arg} faults.Argument d e)) ∙ a
 args_err q a (s ∷ ss) (t ∷ ts) d p e =
-    let k = both (q (slot_fault s)) (passes_slots q ss) p in
+    let k = and_parts (q (slot_fault s)) (passes_slots q ss) p in
     elim (bind_err (arg_at s t) (λ x. args_at ss ts >>= λ others. Ok (x ∷ others)) d e) as (λ _. q d ≡ true) [
       | inl h ↦ ap q (arg_err s t d h) ∙ k.0
       | inr h ↦ args_err q a ss ts d k.1 (made_err (args_at ss ts) (λ others. h.0 ∷ others) d h.2)

@@ -3,7 +3,7 @@ use Rattle.std.proofs.Common.{◌≡◌, ℕ, ◌+◌, ◌≤◌, ◌&&◌, Bool
 use Rattle.std.proofs.Common.{Option, Some, None, Ok, refl, ap}
 use Rattle.std.specs.Prelude.{is_none}
 use Rattle.std.specs.List.{join_with_byte}
-use Rattle.std.proofs.lemmas.Bool.{eqb-true, lt-ltb, le-leb}
+use Rattle.std.proofs.lemmas.Bool.{eqb-true, lt-ltb, le-leb, and_parts, and_from}
 use borrow.Author.Tests.{ltb-true, leb-true}
 use Rattle.cap_rights.specs.Text.{names, text}
 use Rattle.cap_rights.proofs.Again.{named_is_read}
@@ -26,7 +26,7 @@ use Rattle.cap_trace.specs.Making.{is_fd, is_pid, is_good, are_good, is_head, is
 use Rattle.cap_trace.specs.Making.{is_same_set, is_named, has_named_rights}
 use Rattle.cap_trace.specs.Reading.{fds_from}
 use Rattle.cap_trace.specs.Seen.{fds_in, fds_spelled}
-use Rattle.cap_trace.proofs.Cuts.{both, both_true, eqb_same, pieces_again}
+use Rattle.cap_trace.proofs.Cuts.{eqb_same, pieces_again}
 use Rattle.cap_trace.proofs.Spelled.{ok_is, args_parts, fds_again, fds_closed}
 use Rattle.cap_trace.proofs.Rising.{failure, rising_listed}
 use Rattle.cap_trace.proofs.Canonical.{canon_spells}
@@ -79,10 +79,10 @@ named_args (a ∷ others) = named_arg a && named_args others
 
 args_from : (given : List Arg) → are_good given ≡ true → named_args given ≡ true → SpellsArgs (map arg_text given) given
 args_from [] h n = tt
-args_from (a ∷ []) h n = (arg_from a h (both (named_arg a) true n).0, tt)
+args_from (a ∷ []) h n = (arg_from a h (and_parts (named_arg a) true n).0, tt)
 args_from (a ∷ b ∷ more) h n =
-    let k = both (is_good a) (are_good (b ∷ more)) h in
-    let m = both (named_arg a) (named_args (b ∷ more)) n in
+    let k = and_parts (is_good a) (are_good (b ∷ more)) h in
+    let m = and_parts (named_arg a) (named_args (b ∷ more)) n in
     (arg_from a k.0 m.0, args_from (b ∷ more) k.1 m.1)
 
 args_to : (ts : List (List ℕ)) (given : List Arg) → SpellsArgs ts given → are_good given ≡ true
@@ -93,7 +93,7 @@ args_to (t ∷ []) (a ∷ []) h = arg_to t a h.0
 args_to (t ∷ u ∷ ts) (a ∷ []) h = absurd h.1
 args_to (t ∷ []) (a ∷ b ∷ more) h = absurd h.1
 args_to (t ∷ u ∷ ts) (a ∷ b ∷ more) h =
-    both_true (is_good a) (are_good (b ∷ more)) (arg_to t a h.0) (args_to (u ∷ ts) (b ∷ more) h.1)
+    and_from (is_good a) (are_good (b ∷ more)) (arg_to t a h.0) (args_to (u ∷ ts) (b ∷ more) h.1)
 
 -- ---- the name, the answer, the pid
 
@@ -103,80 +103,80 @@ none_is (Some f) h = absurd cc
 
 head_from : (h : Head) → is_head h ≡ true → IsHead h
 head_from (listed f) h = tt
-head_from (unlisted n) h = let k = both (is_name n) (is_none (form_named n)) h in (k.0, none_is (form_named n) k.1)
+head_from (unlisted n) h = let k = and_parts (is_name n) (is_none (form_named n)) h in (k.0, none_is (form_named n) k.1)
 
 head_to : (h : Head) → IsHead h → is_head h ≡ true
 head_to (listed f) h = refl
-head_to (unlisted n) h = both_true (is_name n) (is_none (form_named n)) h.0 (ap is_none h.1)
+head_to (unlisted n) h = and_from (is_name n) (is_none (form_named n)) h.0 (ap is_none h.1)
 
 answer_from : (k : Kind) (a : Answer) → is_answer k a ≡ true → IsAnswer k a
 answer_from Count (answers.Fault e) h =
-    (let k = both (ltb 0 e) (leb e 65535) h in (ltb-true _ _ k.0, leb-true e 65535 k.1))
+    (let k = and_parts (ltb 0 e) (leb e 65535) h in (ltb-true _ _ k.0, leb-true e 65535 k.1))
 answer_from Count (answers.Made n) h = ltb-true _ _ h
 answer_from Count (answers.Pair n m) h = absurd cc
 answer_from Zero (answers.Fault e) h =
-    (let k = both (ltb 0 e) (leb e 65535) h in (ltb-true _ _ k.0, leb-true e 65535 k.1))
+    (let k = and_parts (ltb 0 e) (leb e 65535) h in (ltb-true _ _ k.0, leb-true e 65535 k.1))
 answer_from Zero (answers.Made n) h = eqb-true n 0 h
 answer_from Zero (answers.Pair n m) h = absurd cc
 answer_from Fd (answers.Fault e) h =
-    (let k = both (ltb 0 e) (leb e 65535) h in (ltb-true _ _ k.0, leb-true e 65535 k.1))
+    (let k = and_parts (ltb 0 e) (leb e 65535) h in (ltb-true _ _ k.0, leb-true e 65535 k.1))
 answer_from Fd (answers.Made n) h = fd_from n h
 answer_from Fd (answers.Pair n m) h = absurd cc
 answer_from (Same g) (answers.Fault e) h =
-    (let k = both (ltb 0 e) (leb e 65535) h in (ltb-true _ _ k.0, leb-true e 65535 k.1))
-answer_from (Same g) (answers.Made n) h = (let k = both (eqb n g) (is_fd n) h in (eqb-true n g k.0, fd_from n k.1))
+    (let k = and_parts (ltb 0 e) (leb e 65535) h in (ltb-true _ _ k.0, leb-true e 65535 k.1))
+answer_from (Same g) (answers.Made n) h = (let k = and_parts (eqb n g) (is_fd n) h in (eqb-true n g k.0, fd_from n k.1))
 answer_from (Same g) (answers.Pair n m) h = absurd cc
 answer_from FdPair (answers.Fault e) h =
-    (let k = both (ltb 0 e) (leb e 65535) h in (ltb-true _ _ k.0, leb-true e 65535 k.1))
+    (let k = and_parts (ltb 0 e) (leb e 65535) h in (ltb-true _ _ k.0, leb-true e 65535 k.1))
 answer_from FdPair (answers.Made n) h = absurd cc
-answer_from FdPair (answers.Pair n m) h = (let k = both (is_fd n) (is_fd m) h in (fd_from n k.0, fd_from m k.1))
+answer_from FdPair (answers.Pair n m) h = (let k = and_parts (is_fd n) (is_fd m) h in (fd_from n k.0, fd_from m k.1))
 answer_from Child (answers.Fault e) h =
-    (let k = both (ltb 0 e) (leb e 65535) h in (ltb-true _ _ k.0, leb-true e 65535 k.1))
+    (let k = and_parts (ltb 0 e) (leb e 65535) h in (ltb-true _ _ k.0, leb-true e 65535 k.1))
 answer_from Child (answers.Made n) h = leb-true n 99999 h
 answer_from Child (answers.Pair n m) h = absurd cc
 answer_from ChildAndFd (answers.Fault e) h =
-    (let k = both (ltb 0 e) (leb e 65535) h in (ltb-true _ _ k.0, leb-true e 65535 k.1))
+    (let k = and_parts (ltb 0 e) (leb e 65535) h in (ltb-true _ _ k.0, leb-true e 65535 k.1))
 answer_from ChildAndFd (answers.Made n) h = absurd cc
 answer_from ChildAndFd (answers.Pair n m) h =
-    (let k = both (leb n 99999) (is_fd m) h in (leb-true n 99999 k.0, fd_from m k.1))
+    (let k = and_parts (leb n 99999) (is_fd m) h in (leb-true n 99999 k.0, fd_from m k.1))
 answer_from Any (answers.Fault e) h =
-    (let k = both (ltb 0 e) (leb e 65535) h in (ltb-true _ _ k.0, leb-true e 65535 k.1))
+    (let k = and_parts (ltb 0 e) (leb e 65535) h in (ltb-true _ _ k.0, leb-true e 65535 k.1))
 answer_from Any (answers.Made n) h = ltb-true _ _ h
 answer_from Any (answers.Pair n m) h =
-    (let k = both (ltb n 18446744073709551616) (ltb m 18446744073709551616) h in (ltb-true _ _ k.0, ltb-true _ _ k.1))
+    (let k = and_parts (ltb n 18446744073709551616) (ltb m 18446744073709551616) h in (ltb-true _ _ k.0, ltb-true _ _ k.1))
 
 answer_to : (k : Kind) (a : Answer) → IsAnswer k a → is_answer k a ≡ true
-answer_to Count (answers.Fault e) h = both_true (ltb 0 e) (leb e 65535) (lt-ltb _ _ h.0) (le-leb e 65535 h.1)
+answer_to Count (answers.Fault e) h = and_from (ltb 0 e) (leb e 65535) (lt-ltb _ _ h.0) (le-leb e 65535 h.1)
 answer_to Count (answers.Made n) h = lt-ltb _ _ h
 answer_to Count (answers.Pair n m) h = absurd h
-answer_to Zero (answers.Fault e) h = both_true (ltb 0 e) (leb e 65535) (lt-ltb _ _ h.0) (le-leb e 65535 h.1)
+answer_to Zero (answers.Fault e) h = and_from (ltb 0 e) (leb e 65535) (lt-ltb _ _ h.0) (le-leb e 65535 h.1)
 answer_to Zero (answers.Made n) h = rw h refl
 answer_to Zero (answers.Pair n m) h = absurd h
-answer_to Fd (answers.Fault e) h = both_true (ltb 0 e) (leb e 65535) (lt-ltb _ _ h.0) (le-leb e 65535 h.1)
+answer_to Fd (answers.Fault e) h = and_from (ltb 0 e) (leb e 65535) (lt-ltb _ _ h.0) (le-leb e 65535 h.1)
 answer_to Fd (answers.Made n) h = fd_to n h
 answer_to Fd (answers.Pair n m) h = absurd h
-answer_to (Same g) (answers.Fault e) h = both_true (ltb 0 e) (leb e 65535) (lt-ltb _ _ h.0) (le-leb e 65535 h.1)
-answer_to (Same g) (answers.Made n) h = both_true (eqb n g) (is_fd n) (rw h.0 (eqb_same g)) (fd_to n h.1)
+answer_to (Same g) (answers.Fault e) h = and_from (ltb 0 e) (leb e 65535) (lt-ltb _ _ h.0) (le-leb e 65535 h.1)
+answer_to (Same g) (answers.Made n) h = and_from (eqb n g) (is_fd n) (rw h.0 (eqb_same g)) (fd_to n h.1)
 answer_to (Same g) (answers.Pair n m) h = absurd h
-answer_to FdPair (answers.Fault e) h = both_true (ltb 0 e) (leb e 65535) (lt-ltb _ _ h.0) (le-leb e 65535 h.1)
+answer_to FdPair (answers.Fault e) h = and_from (ltb 0 e) (leb e 65535) (lt-ltb _ _ h.0) (le-leb e 65535 h.1)
 answer_to FdPair (answers.Made n) h = absurd h
-answer_to FdPair (answers.Pair n m) h = both_true (is_fd n) (is_fd m) (fd_to n h.0) (fd_to m h.1)
-answer_to Child (answers.Fault e) h = both_true (ltb 0 e) (leb e 65535) (lt-ltb _ _ h.0) (le-leb e 65535 h.1)
+answer_to FdPair (answers.Pair n m) h = and_from (is_fd n) (is_fd m) (fd_to n h.0) (fd_to m h.1)
+answer_to Child (answers.Fault e) h = and_from (ltb 0 e) (leb e 65535) (lt-ltb _ _ h.0) (le-leb e 65535 h.1)
 answer_to Child (answers.Made n) h = le-leb n 99999 h
 answer_to Child (answers.Pair n m) h = absurd h
-answer_to ChildAndFd (answers.Fault e) h = both_true (ltb 0 e) (leb e 65535) (lt-ltb _ _ h.0) (le-leb e 65535 h.1)
+answer_to ChildAndFd (answers.Fault e) h = and_from (ltb 0 e) (leb e 65535) (lt-ltb _ _ h.0) (le-leb e 65535 h.1)
 answer_to ChildAndFd (answers.Made n) h = absurd h
-answer_to ChildAndFd (answers.Pair n m) h = both_true (leb n 99999) (is_fd m) (le-leb n 99999 h.0) (fd_to m h.1)
-answer_to Any (answers.Fault e) h = both_true (ltb 0 e) (leb e 65535) (lt-ltb _ _ h.0) (le-leb e 65535 h.1)
+answer_to ChildAndFd (answers.Pair n m) h = and_from (leb n 99999) (is_fd m) (le-leb n 99999 h.0) (fd_to m h.1)
+answer_to Any (answers.Fault e) h = and_from (ltb 0 e) (leb e 65535) (lt-ltb _ _ h.0) (le-leb e 65535 h.1)
 answer_to Any (answers.Made n) h = lt-ltb _ _ h
 answer_to Any (answers.Pair n m) h =
-    both_true (ltb n 18446744073709551616) (ltb m 18446744073709551616) (lt-ltb _ _ h.0) (lt-ltb _ _ h.1)
+    and_from (ltb n 18446744073709551616) (ltb m 18446744073709551616) (lt-ltb _ _ h.0) (lt-ltb _ _ h.1)
 
 pid_from : (p : ℕ) → is_pid p ≡ true → IsPid p
-pid_from p h = let k = both (ltb 0 p) (leb p 99999) h in (ltb-true _ _ k.0, leb-true p 99999 k.1)
+pid_from p h = let k = and_parts (ltb 0 p) (leb p 99999) h in (ltb-true _ _ k.0, leb-true p 99999 k.1)
 
 pid_to : (p : ℕ) → IsPid p → is_pid p ≡ true
-pid_to p h = both_true (ltb 0 p) (leb p 99999) (lt-ltb _ _ h.0) (le-leb p 99999 h.1)
+pid_to p h = and_from (ltb 0 p) (leb p 99999) (lt-ltb _ _ h.0) (le-leb p 99999 h.1)
 
 -- ---- descriptors that rise
 
@@ -184,8 +184,8 @@ rise_parts : (low f : ℕ) (fs : List ℕ) → all_rise low (f ∷ fs) ≡ true
     → (low ≤ f) × (IsFd f × (all_rise (f + 1) fs ≡ true))
 unfolding all_rise
 rise_parts low f fs h =
-    let k = both (leb low f && is_fd f) (all_rise (f + 1) fs) h in
-    let l = both (leb low f) (is_fd f) k.0 in
+    let k = and_parts (leb low f && is_fd f) (all_rise (f + 1) fs) h in
+    let l = and_parts (leb low f) (is_fd f) k.0 in
     (leb-true low f l.0, (fd_from f l.1, k.1))
 
 rise_from : (low : ℕ) (fs : List ℕ) → all_rise low fs ≡ true
@@ -202,8 +202,8 @@ unfolding all_rise
 rise_to low ts [] h r = refl
 rise_to low [] (f ∷ fs) h r = absurd h
 rise_to low (t ∷ ts) (f ∷ fs) h r =
-    both_true (leb low f && is_fd f) (all_rise (f + 1) fs)
-    (both_true (leb low f) (is_fd f) (le-leb low f r.0) (fd_to f h.0.1)) (rise_to (f + 1) ts fs h.1 r.1)
+    and_from (leb low f && is_fd f) (all_rise (f + 1) fs)
+    (and_from (leb low f) (is_fd f) (le-leb low f r.0) (fd_to f h.0.1)) (rise_to (f + 1) ts fs h.1 r.1)
 
 -- what is written of descriptors that rise spells them
 pub fds_written : (fs : List ℕ) → all_rise 0 fs ≡ true → fds_spelled (join_with_byte 44 (map arg_text (fds fs))) ≡ fs
@@ -225,8 +225,8 @@ named_call c a h = refl
 
 item_from : (i : Item) → is_good_item i ≡ true → has_named_rights i ≡ true → IsWritten i
 item_from (items.Call c a) h n =
-    let k = both (are_good (args_of_call c) && is_head (head_of_call c)) (is_answer (kind_of c) a) h in
-    let l = both (are_good (args_of_call c)) (is_head (head_of_call c)) k.0 in
+    let k = and_parts (are_good (args_of_call c) && is_head (head_of_call c)) (is_answer (kind_of c) a) h in
+    let l = and_parts (are_good (args_of_call c)) (is_head (head_of_call c)) k.0 in
     (args_from (args_of_call c) l.0 (named_call c a n), (head_from (head_of_call c) l.1, answer_from (kind_of c) a k.1))
 item_from (items.Start fs) h n = let k = rise_from 0 fs h in (k.0, (tt, k.1))
 item_from items.Exit h n = (tt, (tt, tt))
@@ -246,8 +246,8 @@ proper_from e p h n le =
 item_to : (p : ℕ) (i : Item) (bytes : List ℕ) (texts : List (List ℕ))
     → SpellsBy bytes (record { pid = p; item = i }) texts → is_good_item i ≡ true
 item_to p (items.Call c a) bytes texts h =
-    both_true (are_good (args_of_call c) && is_head (head_of_call c)) (is_answer (kind_of c) a)
-    (both_true (are_good (args_of_call c)) (is_head (head_of_call c)) (args_to texts (args_of_call c) h.args)
+    and_from (are_good (args_of_call c) && is_head (head_of_call c)) (is_answer (kind_of c) a)
+    (and_from (are_good (args_of_call c)) (is_head (head_of_call c)) (args_to texts (args_of_call c) h.args)
     (head_to (head_of_call c) h.head)) (answer_to (kind_of c) a h.whole)
 item_to p (items.Start fs) bytes texts h = rise_to 0 texts fs h.args h.whole
 item_to p items.Exit bytes texts h = refl
@@ -269,8 +269,8 @@ has_good_fields e = is_pid e.pid && is_good_item e.item && has_named_rights e.it
 
 proper_fields : (e : Entry) → IsProper e → has_good_fields e ≡ true
 proper_fields e h =
-    both_true (is_pid e.pid && is_good_item e.item) (has_named_rights e.item)
-    (both_true (is_pid e.pid) (is_good_item e.item) (pid_to e.pid h.1.1.pid) (item_to e.pid e.item h.0 h.1.0 h.1.1))
+    and_from (is_pid e.pid && is_good_item e.item) (has_named_rights e.item)
+    (and_from (is_pid e.pid) (is_good_item e.item) (pid_to e.pid h.1.1.pid) (item_to e.pid e.item h.0 h.1.0 h.1.1))
     (named_item e.pid e.item h.0 h.1.0 h.1.1)
 
 pub bad_fields : (e : Entry) (b : Bool) → b ≡ has_good_fields e → b ≡ false → IsProper e → ⊥
@@ -283,6 +283,6 @@ too_long e b t at is lacks h =
 pub short_proper : (e : Entry) (a b : Bool) (t : List ℕ) → a ≡ has_good_fields e → a ≡ true → b ≡ leb (length t) 1024
     → t ≡ canon e → b ≡ true → IsProper e
 short_proper e a b t fields good at is short =
-    let l = both (is_pid e.pid && is_good_item e.item) (has_named_rights e.item) (sym fields ∙ good) in
-    let m = both (is_pid e.pid) (is_good_item e.item) l.0 in
+    let l = and_parts (is_pid e.pid && is_good_item e.item) (has_named_rights e.item) (sym fields ∙ good) in
+    let m = and_parts (is_pid e.pid) (is_good_item e.item) l.0 in
     proper_from e m.0 m.1 l.1 (leb-true _ _ (ap (λ (s : List ℕ). leb (length s) 1024) (sym is) ∙ sym at ∙ short))

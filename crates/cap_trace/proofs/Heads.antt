@@ -5,6 +5,8 @@ use Rattle.std.specs.Prelude.{find}
 use Rattle.std.specs.List.{list_all}
 use Rattle.std.specs.Str.{bytes_eq}
 use Rattle.std.proofs.lemmas.Slice.Eq.{bytes_eq-Decides}
+use Rattle.std.proofs.lemmas.Bool.{and_parts}
+use Rattle.std.proofs.lemmas.Option.{cond_some}
 use Rattle.cap_trace.specs.declared.calls.Form.{Form}
 use Rattle.cap_trace.specs.declared.calls.Form.TheVariants as forms
 use Rattle.cap_trace.specs.declared.calls.FdCall.TheVariants as on_fd_calls
@@ -18,7 +20,7 @@ use Rattle.cap_trace.specs.declared.calls.BareCall.TheVariants as bare_calls
 use Rattle.cap_trace.specs.Names.{Head, listed, unlisted, row_of, name_of, is_name, is_name_byte, all_forms, form_named}
 use Rattle.cap_trace.specs.Names.{or_unlisted, head_named}
 use Rattle.cap_trace.specs.Spelling.{IsHead}
-use Rattle.cap_trace.proofs.Cuts.{both, lacks, kept_some}
+use Rattle.cap_trace.proofs.Cuts.{lacks}
 use Rattle.cap_trace.proofs.Quiet.{weaken}
 
 pub some_is : {A : Type 0} (x y : A) → ◌≡◌ {A = Option A} (Some x) (Some y) → x ≡ y
@@ -33,7 +35,7 @@ find_step p q false y o x at ok e rest = rest e
 pub find_takes : {A : Type 0} (p q : A → Bool) (xs : List A) (x : A) → list_all q xs ≡ true → find p xs ≡ Some x
     → (p x ≡ true) × (q x ≡ true)
 find_takes p q [] x h e = absurd cc
-find_takes p q (y ∷ ys) x h e = let k = both (q y) (list_all q ys) h in
+find_takes p q (y ∷ ys) x h e = let k = and_parts (q y) (list_all q ys) h in
     find_step p q (p y) y (find p ys) x refl k.0 e (λ h. find_takes p q ys x k.1 h)
 
 -- no name of the table has a bracket
@@ -74,10 +76,10 @@ head_ok : (name : List ℕ) (h : Head) (o : Option Form) (b : Bool) → form_nam
 head_ok name h (Some f) b e n k =
     subst (λ (x : Head). (name_of x ≡ name) × IsHead x) (some_is (listed f) h k) ((form_takes name f e).0, tt)
 head_ok name h None true e n k =
-    let same = kept_some (is_name name) (unlisted name) h k in
+    let same = cond_some (is_name name) (unlisted name) h k in
     subst (λ (x : Head). (name_of x ≡ name) × IsHead x) same.1 (refl, (n, e))
 head_ok name h None false e n k =
-    absurd (let same = kept_some (is_name name) (unlisted name) h k in let no = same.0 in cc)
+    absurd (let same = cond_some (is_name name) (unlisted name) h k in let no = same.0 in cc)
 
 pub head_takes : (name : List ℕ) (h : Head) → head_named name ≡ Some h → (name_of h ≡ name) × IsHead h
 head_takes name h e = head_ok name h (form_named name) (is_name name) refl refl e
@@ -92,8 +94,8 @@ name_byte_plain c h = grind (arith, tests)
 name_lacks : (n : List ℕ) → is_name n ≡ true → lacks 40 n ≡ true
 name_lacks [] h = refl
 name_lacks (c ∷ cs) h =
-    let k = both (is_name_byte c && not _) (list_all is_name_byte cs) h in
-    let l = both (is_name_byte c) _ k.0 in
+    let k = and_parts (is_name_byte c && not _) (list_all is_name_byte cs) h in
+    let l = and_parts (is_name_byte c) _ k.0 in
     let first = name_byte_plain c l.0 in
     rw first (weaken is_name_byte (λ x. not (eqb x 40)) name_byte_plain cs k.1)
 

@@ -5,11 +5,11 @@ use Rattle.std.specs.Prelude.{nat_lt, slice_index}
 use Rattle.std.specs.List.{list_all, slice_get}
 use Rattle.std.specs.Str.{bytes_eq}
 use Rattle.std.proofs.lemmas.Slice.Eq.{bytes_eq-Decides}
+use Rattle.std.proofs.lemmas.Bool.{and_parts}
 use borrow.Author.Tests.{ltb-true}
 use Rattle.cap_trace.specs.declared.calls.Form.{Form}
 use Rattle.cap_trace.specs.Names.{row_of, form_named, all_forms}
 use Rattle.cap_trace.specs.Slots.{slots, slot_at, form_at, if_named}
-use Rattle.cap_trace.proofs.Cuts.{both}
 use Rattle.cap_trace.proofs.Heads.{form_again, form_takes, find_takes}
 
 has_name : List ℕ → Option Form → Bool
@@ -74,7 +74,7 @@ odd_size name (Some f) odd e =
     let k = find_takes (λ g. bytes_eq (row_of g).name name)
     (λ g. nat_lt 2 (length (row_of g).name) && nat_lt (length (row_of g).name) 17) all_forms f sizes e in
     let same = ap length (form_takes name f e).0 in
-    let s = both (nat_lt 2 (length (row_of f).name)) (nat_lt (length (row_of f).name) 17) k.1 in
+    let s = and_parts (nat_lt 2 (length (row_of f).name)) (nat_lt (length (row_of f).name) 17) k.1 in
     absurd (omega (arith, ltb-true _ _ s.0, ltb-true _ _ s.1, same, odd))
 
 pub odd_size_none : (name : List ℕ) → (length name < 3) ⊎ (16 < length name) → None ≡ form_named name

@@ -9,12 +9,12 @@ use Rattle.std.specs.Fmt.{decimal}
 use Rattle.std.proofs.lemmas.Str.Parse.{IsNumeralModel, numerals_by_value, tells_all_ascii_digits}
 use Rattle.std.proofs.lemmas.Fmt.{decimal-digits_value, digits_decimal, digits_value-decimal, decimal_nonempty}
 use Rattle.std.proofs.lemmas.Fmt.{first_decimal, decimal_digit}
-use Rattle.std.proofs.lemmas.Bool.{eqb-true, lt-ltb, le-leb}
+use Rattle.std.proofs.lemmas.Bool.{eqb-true, lt-ltb, le-leb, and_parts}
+use Rattle.std.proofs.lemmas.Option.{cond_some}
 use borrow.Author.Tests.{ltb-true, leb-true}
 use Rattle.cap_trace.specs.declared.fault.FirstFault.{FirstFault}
 use Rattle.cap_trace.specs.Number.{num_at, digits_at, is_odd}
 use Rattle.cap_trace.specs.Reading.{◌>>=◌, need, positive}
-use Rattle.cap_trace.proofs.Cuts.{kept_some, both}
 
 pub own : IsNumeralModel (λ ds. all_ascii_digits ds ≡ true) (digits_value 10)
 own = numerals_by_value _ tells_all_ascii_digits
@@ -43,6 +43,13 @@ positive_ok d (Some m) n e = let p = positive_step d m n (eqb m 0) (grind (arith
 pub positive_again : (d : FirstFault) (n : ℕ) → 0 < n → positive d (Some n) ≡ Ok n
 positive_again d n lt = let e : eqb n 0 ≡ false = grind (arith, tests) in rw e refl
 
+-- ---- tests on the way
+
+pub unless_ok : {A : Type 0} (b : Bool) (d : FirstFault) (r : Result A FirstFault) (x : A) → cond b (Err d) r ≡ Ok x
+    → (b ≡ false) × (r ≡ Ok x)
+unless_ok true d r x e = absurd cc
+unless_ok false d r x e = (refl, e)
+
 -- ---- numbers
 
 unless_some : {A : Type 0} (b : Bool) (o : Option A) (x : A) → cond b None o ≡ Some x → (b ≡ false) × (o ≡ Some x)
@@ -53,7 +60,7 @@ below : (most : ℕ) (o : Option ℕ) (n : ℕ)
     → (elim o as (λ _. Option ℕ) [ None ↦ None | Some m ↦ cond (leb m most) (Some m) None ]) ≡ Some n
     → (o ≡ Some n) × (n ≤ most)
 below most None n e = absurd cc
-below most (Some m) n e = let k = kept_some (leb m most) m n e in
+below most (Some m) n e = let k = cond_some (leb m most) m n e in
     (ap Some k.1, (let l : leb m most ≡ true = k.0 in omega (arith, k.1, leb-true m most l)))
 
 odd_parts : (a b c : Bool) → (a || (b && not c)) ≡ false → (a ≡ false) × (b ≡ true → c ≡ true)
@@ -86,8 +93,8 @@ num_takes most t n e =
     let a = unless_some (is_odd t)
     (elim (digits_at t) as (λ _. Option ℕ) [ None ↦ None | Some m ↦ cond (leb m most) (Some m) None ]) n e in
     let b = below most (digits_at t) n a.1 in
-    let d = kept_some (all_ascii_digits t && ltb (digits_value 10 t) (2 ^ 64)) (digits_value 10 t) n b.0 in
-    let f = both (all_ascii_digits t) (ltb (digits_value 10 t) (2 ^ 64)) d.0 in
+    let d = cond_some (all_ascii_digits t && ltb (digits_value 10 t) (2 ^ 64)) (digits_value 10 t) n b.0 in
+    let f = and_parts (all_ascii_digits t) (ltb (digits_value 10 t) (2 ^ 64)) d.0 in
     let p = plain_number t a.0 in
     (sym (decimal-digits_value own t f.0 p.0 p.1 (ltb-true _ _ f.1)) ∙ ap decimal d.1, b.1)
 

@@ -7,11 +7,12 @@ use Rattle.cap_trace.specs.declared.fault.FirstFault.TheVariants as faults
 use Rattle.cap_trace.specs.declared.fault.LineFault.{LineFault}
 use Rattle.cap_trace.specs.declared.fault.LineFault.TheVariants as line_faults
 use Rattle.cap_trace.specs.Entry.{Entry}
-use Rattle.cap_trace.specs.Reading.{line_of, fault}
+use Rattle.cap_trace.specs.Reading.{line_of}
 use Rattle.cap_trace.specs.Fault.{line_fault}
 use Rattle.cap_trace.specs.Parsing.{SpellsNone, SpellsSome, FaultsAreExact, ReadsOnly, MatchesReading}
 use Rattle.cap_trace.proofs.WholeLines.{line_again, line_takes}
 use Rattle.cap_trace.proofs.Rising.{ok_same}
+use Rattle.cap_trace.proofs.FirstFaults.{err_fault}
 
 read_fault : LineFault → Option FirstFault
 read_fault line_faults.LongLine = Some faults.LongLine
@@ -37,16 +38,12 @@ same_fault d f e = sym (read_fault_again d) ∙ ap read_fault e ∙ read_fault_a
 none_spelled : (bytes : List ℕ) (d : FirstFault) → line_of bytes ≡ Err d → SpellsNone bytes
 none_spelled bytes d h = λ e s. absurd (let g = sym h ∙ line_again bytes e s in cc)
 
-fault_is : (bytes : List ℕ) (d : FirstFault) → line_of bytes ≡ Err d → fault bytes ≡ Some d
-fault_is bytes d h =
-    ap (λ (r : Result Entry FirstFault). elim r as (λ _. Option FirstFault) [ Ok e ↦ None | Err f ↦ Some f ]) h
-
 faults_exact : (bytes : List ℕ) (d : FirstFault) (l : LineFault) → line_of bytes ≡ Err d → l ≡ line_fault d
     → FaultsAreExact bytes (Err l)
 faults_exact bytes d l h e f = (
   λ given. let same : l ≡ line_fault f = (let g = given in cc) in
-      (none_spelled bytes d h, fault_is bytes d h ∙ same_fault d f (sym e ∙ same)),
-  λ p. let same : ◌≡◌ {A = Option FirstFault} (Some d) (Some f) = sym (fault_is bytes d h) ∙ p.1 in
+      (none_spelled bytes d h, err_fault bytes d h ∙ same_fault d f (sym e ∙ same)),
+  λ p. let same : ◌≡◌ {A = Option FirstFault} (Some d) (Some f) = sym (err_fault bytes d h) ∙ p.1 in
       let one : d ≡ f = (let s = same in cc) in
       ap Err (e ∙ ap line_fault one),
 )

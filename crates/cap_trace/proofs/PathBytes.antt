@@ -5,14 +5,14 @@ use Rattle.std.proofs.Common.{subst, ◌∙◌, append_assoc, length-append, ari
 use Rattle.std.specs.Prelude.{option_map}
 use Rattle.std.specs.Char.{is_ascii_digit}
 use Rattle.std.proofs.lemmas.List.{append-nil}
-use Rattle.std.proofs.lemmas.Bool.{eqb-true}
+use Rattle.std.proofs.lemmas.Bool.{eqb-true, and_parts, and_from}
 use borrow.Author.Tests.{ltb-true, leb-true}
 use Rattle.cap_trace.specs.declared.fields.Place.{Place}
 use Rattle.cap_trace.specs.declared.fields.Place.TheVariants.{Between, Slash, Digits, OneDigit}
 use Rattle.cap_trace.specs.Steps.{takes_all}
 use Rattle.cap_trace.specs.Fields.{is_plain, hex_digit, is_escaped, second_digit, item_step, is_between, are_items}
 use Rattle.cap_trace.specs.Escaping.{hex_of, escape_of, escaped, lacks_zero, hex_byte, slash_byte, first_byte}
-use Rattle.cap_trace.proofs.Cuts.{both, both_true}
+use Rattle.cap_trace.proofs.EscapedBytes.{escaped_step}
 
 -- ---- digits
 
@@ -40,14 +40,14 @@ digit_by : (c d : ℕ) (a b : Bool) → is_ascii_digit c ≡ a → (leb 97 c && 
     → ◌≡◌ {A = Option ℕ} (cond a (Some (c - 48)) (cond b (Some (c - 87)) None)) (Some d) → (d < 16) × (hex_of d ≡ c)
 digit_by c d true b digit letter e =
     let value : c - 48 ≡ d = some_same _ _ e in
-    let k = both (leb 48 c) (leb c 57) digit in
+    let k = and_parts (leb 48 c) (leb c 57) digit in
     let low : 48 ≤ c = leb-true 48 c k.0 in
     let high : c ≤ 57 = leb-true c 57 k.1 in
     let small : ltb d 10 ≡ true = grind (arith, tests) in
     (omega arith, rw small (omega arith))
 digit_by c d false true digit letter e =
     let value : c - 87 ≡ d = some_same _ _ e in
-    let k = both (leb 97 c) (leb c 102) letter in
+    let k = and_parts (leb 97 c) (leb c 102) letter in
     let low : 97 ≤ c = leb-true 97 c k.0 in
     let high : c ≤ 102 = leb-true c 102 k.1 in
     let large : ltb d 10 ≡ false = grind (arith, tests) in
@@ -76,7 +76,6 @@ takes_some p q c cs e = takes_step p c cs (Some q) e
 
 -- ---- what is escaped is items
 
-pub escaped_step : (b : ℕ) (bs : List ℕ) → escaped (b ∷ bs) ≡ escape_of b ++ escaped bs
 unfolding escaped
 escaped_step b bs = refl
 
@@ -110,7 +109,7 @@ tail_bytes b bs h = record { each = λ k. h.each (suc k) }
 
 not_zero : (b : ℕ) (rest : Bool) → (not (eqb b 0) && rest) ≡ true → (0 < b) × (rest ≡ true)
 not_zero b rest h =
-    let k = both (not (eqb b 0)) rest h in
+    let k = and_parts (not (eqb b 0)) rest h in
     let some : not (eqb b 0) ≡ true = k.0 in
     (grind (arith, tests), k.1)
 
@@ -262,8 +261,8 @@ escaped_push (c ∷ bs) b = ap (λ (s : List ℕ). escape_of c ++ s) (escaped_pu
 zero_push : (bs : List ℕ) (b : ℕ) → lacks_zero bs ≡ true → 0 < b → lacks_zero (bs ++ b ∷ []) ≡ true
 zero_push [] b z some = (let e : eqb b 0 ≡ false = grind (arith, tests) in rw e refl)
 zero_push (c ∷ bs) b z some =
-    let k = both (not (eqb c 0)) (lacks_zero bs) z in
-    both_true (not (eqb c 0)) (lacks_zero (bs ++ b ∷ [])) k.0 (zero_push bs b k.1 some)
+    let k = and_parts (not (eqb c 0)) (lacks_zero bs) z in
+    and_from (not (eqb c 0)) (lacks_zero (bs ++ b ∷ [])) k.0 (zero_push bs b k.1 some)
 
 length_by : (b : ℕ) (p q : Bool)
     → 0 < length (cond p (b ∷ []) (cond q (92 ∷ b ∷ []) (92 ∷ 120 ∷ hex_of (b / 16) ∷ hex_of (b % 16) ∷ [])))

@@ -1,9 +1,9 @@
 -- The place of the first such byte: none comes before it.
 use Rattle.std.proofs.Common.{◌≡◌, ℕ, ◌<◌, ◌≤◌, ◌==◌, Bool, true, false, not, cond, List, length, get_or, Some}
-use Rattle.std.proofs.Common.{None, refl, sym, ap, ◌∙◌, arith, nat_lt}
+use Rattle.std.proofs.Common.{None, sym, ap, ◌∙◌, arith, nat_lt}
 use Rattle.std.specs.List.{position, position_or_len}
 use Rattle.std.proofs.lemmas.List.Sums.{position_or_len_is}
-use Rattle.std.proofs.lemmas.Bool.{le-ltb}
+use Rattle.std.proofs.lemmas.Bool.{le-ltb, not-true, not-false}
 use Rattle.std.proofs.lemmas.Bool.Decides.{Decides-eqb, Decides-ltb}
 use Rattle.cap_trace.specs.Runs.{Runs, RunsTo}
 use Rattle.cap_trace.specs.declared.runs.Run.TheVariants.{Until}
@@ -19,26 +19,18 @@ is_none p xs n e h =
     let b : nat_lt n (length xs) ≡ false = le-ltb n (length xs) h in
     sym (ap (λ (n : ℕ). cond (nat_lt n (length xs)) (Some n) None) e ∙ ap (λ (t : Bool). cond t (Some n) None) b)
 
-off : (b : Bool) → not b ≡ true → b ≡ false
-off true h = absurd cc
-off false h = refl
-
-on : (b : Bool) → not b ≡ false → b ≡ true
-on true h = refl
-on false h = absurd cc
-
 pub stops_at : (c stop : ℕ) → c ≡ stop → not (c == stop) ≡ false
 stops_at c stop e = ap not ((Decides-eqb c stop).1 e)
 
 missed : (stop : ℕ) (xs : List ℕ) (i : ℕ) → Runs (Until stop) xs 0 i → (k : ℕ) → k < i → (get_or xs k 0 == stop) ≡ false
-missed stop xs i m k h = off (get_or xs k 0 == stop) (m k (omega arith) h)
+missed stop xs i m k h = not-true (get_or xs k 0 == stop) (m k (omega arith) h)
 
 pub first_is : (stop : ℕ) (xs : List ℕ) (from i : ℕ) → Runs (Until stop) xs 0 from → RunsTo (Until stop) xs from i
     → Some i ≡ position (λ x. x == stop) xs
 first_is stop xs from i m f =
     is_at (λ x. x == stop) xs i
     (position_or_len_is (λ x. x == stop) xs i 0 (omega (arith, f.1))
-    (missed stop xs i (runs_on (Until stop) xs 0 from i m f.2)) (λ h. on (get_or xs i 0 == stop) f.3))
+    (missed stop xs i (runs_on (Until stop) xs 0 from i m f.2)) (λ h. not-false (get_or xs i 0 == stop) f.3))
     f.1
 
 pub none_is : (stop : ℕ) (xs : List ℕ) (n : ℕ) → Runs (Until stop) xs 0 n → n ≡ length xs

@@ -3,6 +3,7 @@ use Rattle.std.proofs.Common.{◌≡◌, ℕ, ◌≤◌, List, [], ◌∷◌, �
 use Rattle.std.proofs.Common.{append_assoc, Bool, true, false, not, cond, eqb}
 use Rattle.std.proofs.Common.{◌&&◌, ◌-◌, take, drop, None, arith}
 use Rattle.std.proofs.lemmas.List.{take-append-drop, take_all, length-drop}
+use Rattle.std.proofs.lemmas.Bool.{not-true, and_parts}
 use Rattle.std.specs.Prelude.{nat_le}
 use Rattle.std.specs.List.{list_all}
 use Rattle.cap_trace.specs.Steps.{takes_all}
@@ -28,7 +29,7 @@ use Rattle.cap_trace.specs.Reading.{Gives, ◌>>=◌, dir_at, rights_at, command
 use Rattle.cap_trace.specs.Reading.{arg_at, answer_at, line_of}
 use Rattle.cap_trace.specs.Forms.{Slot, dir, rights, command, free}
 use Rattle.cap_trace.specs.Quick.{Before, Between, SpellsAfter, Starts}
-use Rattle.cap_trace.proofs.Cuts.{both, cut_takes}
+use Rattle.cap_trace.proofs.Cuts.{cut_takes}
 use Rattle.cap_trace.proofs.Heads.{head_takes, some_is}
 use Rattle.cap_trace.proofs.Spelled.{arg_takes}
 use Rattle.cap_trace.proofs.Answered.{answer_takes}
@@ -77,10 +78,6 @@ free_before stop text t rest a at e = read_before free stop text t rest (free_te
 
 -- ---- a path without escapes
 
-not_true : (b : Bool) → not b ≡ true → b ≡ false
-not_true true e = absurd cc
-not_true false e = refl
-
 plain_place : (c : ℕ) (s p : Bool) → s ≡ false → p ≡ true
     → cond s (Some places.Slash) (cond p (Some places.Between) None) ≡ Some places.Between
 plain_place c s p e f = rw (e, f) refl
@@ -89,9 +86,9 @@ plain_items : (t : List ℕ) → list_all is_plain t ≡ true → are_items t �
 unfolding takes_all
 plain_items [] h = refl
 plain_items (c ∷ cs) h =
-    let k = both (is_plain c) (list_all is_plain cs) h in
-    let slash = not_true (eqb c 92)
-    (both (nat_le 32 c && nat_le c 126 && not (eqb c 34)) (not (eqb c 92)) k.0).1 in
+    let k = and_parts (is_plain c) (list_all is_plain cs) h in
+    let slash = not-true (eqb c 92)
+    (and_parts (nat_le 32 c && nat_le c 126 && not (eqb c 34)) (not (eqb c 92)) k.0).1 in
     subst (λ (o : Option Place). elim o as (λ _. Bool) [
       | None ↦ false
       | Some p ↦ takes_all item_step is_between p cs

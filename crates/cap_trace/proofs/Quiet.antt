@@ -7,6 +7,8 @@ use Rattle.std.specs.List.{list_all, slice_split}
 use Rattle.std.specs.Char.{is_ascii_digit, is_ascii_uppercase}
 use Rattle.std.specs.Str.{bytes_eq}
 use Rattle.std.proofs.lemmas.Slice.Eq.{bytes_eq-Decides}
+use Rattle.std.proofs.lemmas.Bool.{not-true, and_parts, and_from, or_cases}
+use Rattle.std.proofs.lemmas.Option.{cond_some}
 use Rattle.cap_rights.proofs.Plain.{plain as right_byte}
 use Rattle.cap_trace.specs.declared.quotes.Quoting.{Quoting}
 use Rattle.cap_trace.specs.declared.quotes.Quoting.TheVariants.{Outside, Inside, Skipping}
@@ -18,36 +20,32 @@ use Rattle.cap_trace.specs.Fields.{item_step, is_between, are_items, quoted}
 use Rattle.cap_trace.specs.Steps.{takes_all}
 use Rattle.cap_trace.specs.FlagSteps.{flag_step}
 use Rattle.cap_trace.proofs.Bars.{are_words}
-use Rattle.cap_trace.proofs.Cuts.{kept_some, both, both_true, closes, IsPart}
-
-not_true : (b : Bool) → not b ≡ true → b ≡ false
-not_true true e = absurd cc
-not_true false e = refl
+use Rattle.cap_trace.proofs.Cuts.{closes, IsPart}
 
 pub weaken : (p q : ℕ → Bool) → ((c : ℕ) → p c ≡ true → q c ≡ true) → (t : List ℕ) → list_all p t ≡ true
     → list_all q t ≡ true
 weaken p q f [] h = refl
-weaken p q f (c ∷ cs) h = let k = both (p c) (list_all p cs) h in
-    both_true (q c) (list_all q cs) (f c k.0) (weaken p q f cs k.1)
+weaken p q f (c ∷ cs) h = let k = and_parts (p c) (list_all p cs) h in
+    and_from (q c) (list_all q cs) (f c k.0) (weaken p q f cs k.1)
 
 -- no comma, no bracket that closes, no quote
 abbrev pub is_quiet : ℕ → Bool
 is_quiet c = not (eqb c 44) && not (eqb c 41) && not (eqb c 34)
 
 quiet_stop : (stop c : ℕ) → (stop ≡ 44) ⊎ (stop ≡ 41) → is_quiet c ≡ true → eqb c stop ≡ false
-quiet_stop stop c (inl o) h = let k = both (not (eqb c 44) && not (eqb c 41)) (not (eqb c 34)) h in
-    let l = both (not (eqb c 44)) (not (eqb c 41)) k.0 in rw o (not_true _ l.0)
-quiet_stop stop c (inr o) h = let k = both (not (eqb c 44) && not (eqb c 41)) (not (eqb c 34)) h in
-    let l = both (not (eqb c 44)) (not (eqb c 41)) k.0 in rw o (not_true _ l.1)
+quiet_stop stop c (inl o) h = let k = and_parts (not (eqb c 44) && not (eqb c 41)) (not (eqb c 34)) h in
+    let l = and_parts (not (eqb c 44)) (not (eqb c 41)) k.0 in rw o (not-true _ l.0)
+quiet_stop stop c (inr o) h = let k = and_parts (not (eqb c 44) && not (eqb c 41)) (not (eqb c 34)) h in
+    let l = and_parts (not (eqb c 44)) (not (eqb c 41)) k.0 in rw o (not-true _ l.1)
 
 quiet_quote : (c : ℕ) → is_quiet c ≡ true → eqb c 34 ≡ false
-quiet_quote c h = not_true _ (both (not (eqb c 44) && not (eqb c 41)) (not (eqb c 34)) h).1
+quiet_quote c h = not-true _ (and_parts (not (eqb c 44) && not (eqb c 41)) (not (eqb c 34)) h).1
 
 quiet_closes : (stop : ℕ) (t : List ℕ) → (stop ≡ 44) ⊎ (stop ≡ 41) → list_all is_quiet t ≡ true
     → closes Outside stop t ≡ true
 quiet_closes stop [] o h = refl
 quiet_closes stop (c ∷ cs) o h =
-    let p = both (is_quiet c) (list_all is_quiet cs) h in
+    let p = and_parts (is_quiet c) (list_all is_quiet cs) h in
     rw (quiet_stop stop c o p.0, quiet_quote c p.0) (quiet_closes stop cs o p.1)
 
 pub quiet_part : (t : List ℕ) → 0 < length t → list_all is_quiet t ≡ true → IsPart t
@@ -96,27 +94,23 @@ inside_name c false true u e f h = flag_quiet c f
 inside_name c false false u e f h = absurd cc
 
 flag_step_quiet : (b : Bool) (c : ℕ) (u : Bool) → flag_step b c ≡ Some u → is_quiet c ≡ true
-flag_step_quiet true c u e = upper_quiet c (kept_some (is_ascii_uppercase c) false u e).0
+flag_step_quiet true c u e = upper_quiet c (cond_some (is_ascii_uppercase c) false u e).0
 flag_step_quiet false c u e = inside_name c (eqb c 124) (is_flag_byte c) u refl refl e
 
 names_quiet : (b : Bool) (t : List ℕ) → takes_all flag_step not b t ≡ true → list_all is_quiet t ≡ true
 names_quiet b [] h = refl
 names_quiet b (c ∷ cs) h =
     let k = takes_one flag_step not b c cs h in
-    both_true (is_quiet c) (list_all is_quiet cs) (flag_step_quiet b c k.0 k.1) (names_quiet k.0 cs k.2)
+    and_from (is_quiet c) (list_all is_quiet cs) (flag_step_quiet b c k.0 k.1) (names_quiet k.0 cs k.2)
 
 names_some : (t : List ℕ) → takes_all flag_step not true t ≡ true → 0 < length t
 unfolding takes_all
 names_some [] h = absurd cc
 names_some (c ∷ cs) h = omega arith
 
-either : (a b : Bool) → (a || b) ≡ true → (a ≡ true) ⊎ (b ≡ true)
-either true b h = inl refl
-either false b h = inr h
-
 pub flags_part : (t : List ℕ) → is_flags t ≡ true → IsPart t
 flags_part t h =
-    elim (either (bytes_eq t (48 ∷ [])) (list_all is_word (slice_split (λ c. eqb c 124) t)) h) as (λ _. IsPart t) [
+    elim (or_cases (bytes_eq t (48 ∷ [])) (list_all is_word (slice_split (λ c. eqb c 124) t)) h) as (λ _. IsPart t) [
       | inl e ↦ subst IsPart (sym ((bytes_eq-Decides t (48 ∷ [])).0 e)) (quiet_part (48 ∷ []) (omega arith) refl)
       | inr e ↦ let taken = are_words t ∙ e in quiet_part t (names_some t taken) (names_quiet true t taken)
     ]
@@ -124,8 +118,8 @@ flags_part t h =
 pub word_part : (t : List ℕ) → is_word t ≡ true → IsPart t
 word_part [] h = absurd cc
 word_part (c ∷ cs) h =
-    let k = both (is_ascii_uppercase c) (list_all is_flag_byte cs) h in
-    quiet_part (c ∷ cs) (omega arith) (both_true (is_quiet c) (list_all is_quiet cs) (upper_quiet c k.0)
+    let k = and_parts (is_ascii_uppercase c) (list_all is_flag_byte cs) h in
+    quiet_part (c ∷ cs) (omega arith) (and_from (is_quiet c) (list_all is_quiet cs) (upper_quiet c k.0)
     (weaken is_flag_byte is_quiet flag_quiet cs k.1))
 
 -- ---- paths
@@ -152,28 +146,28 @@ plain_inside c h = grind (arith, tests)
 after_plain : (c : ℕ) (u : Place) (a b : Bool) → eqb c 92 ≡ a → is_plain c ≡ b
     → cond a (Some Slash) (cond b (Some Between) None) ≡ Some u → after Inside c ≡ quoting_of u
 unfolding quoting_of
-after_plain c u true b e f h = rw e (ap quoting_of (kept_some true Slash u h).1)
-after_plain c u false true e f h = rw (e, plain_inside c f) (ap quoting_of (kept_some true Between u h).1)
+after_plain c u true b e f h = rw e (ap quoting_of (cond_some true Slash u h).1)
+after_plain c u false true e f h = rw (e, plain_inside c f) (ap quoting_of (cond_some true Between u h).1)
 after_plain c u false false e f h = absurd cc
 
 after_slash : (u : Place) (a b : Bool) → cond a (Some Between) (cond b (Some Digits) None) ≡ Some u
     → Inside ≡ quoting_of u
 unfolding quoting_of
-after_slash u true b h = ap quoting_of (kept_some true Between u h).1
-after_slash u false true h = ap quoting_of (kept_some true Digits u h).1
+after_slash u true b h = ap quoting_of (cond_some true Between u h).1
+after_slash u false true h = ap quoting_of (cond_some true Digits u h).1
 after_slash u false false h = absurd cc
 
 after_digit : (c : ℕ) (u : Place) (o : Option ℕ) → hex_digit c ≡ o → option_map OneDigit o ≡ Some u
     → after Inside c ≡ quoting_of u
 unfolding quoting_of
 after_digit c u None e h = absurd cc
-after_digit c u (Some d) e h = hex_inside c d e ∙ ap quoting_of (kept_some true (OneDigit d) u h).1
+after_digit c u (Some d) e h = hex_inside c d e ∙ ap quoting_of (cond_some true (OneDigit d) u h).1
 
 after_second : (c g : ℕ) (u : Place) (o : Option ℕ) → hex_digit c ≡ o → second_digit g o ≡ Some u
     → after Inside c ≡ quoting_of u
 unfolding quoting_of
 after_second c g u None e h = absurd cc
-after_second c g u (Some d) e h = hex_inside c d e ∙ ap quoting_of (kept_some (is_escaped (16 * g + d)) Between u h).1
+after_second c g u (Some d) e h = hex_inside c d e ∙ ap quoting_of (cond_some (is_escaped (16 * g + d)) Between u h).1
 
 item_inside : (p : Place) (c : ℕ) (u : Place) → item_step p c ≡ Some u → after (quoting_of p) c ≡ quoting_of u
 unfolding quoting_of

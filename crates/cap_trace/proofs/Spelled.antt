@@ -23,11 +23,12 @@ use Rattle.cap_trace.specs.Spelling.{SpellsArg, SpellsArgs, word_text, is_comman
 use Rattle.cap_trace.specs.Forms.{Slot, fd, dir, flags, rights, path, command, word, free}
 use Rattle.cap_trace.specs.Reading.{◌>>=◌, need, kept, after_prefix, before_suffix, pid_at, fd_at, rights_at, dir_at}
 use Rattle.cap_trace.specs.Reading.{flags_at, command_at, path_at, free_at, arg_at, args_at, fds_from}
-use Rattle.cap_trace.proofs.Cuts.{both, IsPart, AreParts, after_prefix_takes, before_suffix_takes, before_suffix_again}
+use Rattle.cap_trace.proofs.Cuts.{IsPart, AreParts, after_prefix_takes, before_suffix_takes, before_suffix_again}
 use Rattle.cap_trace.proofs.Numerals.{own, bind_ok, need_ok, positive_ok, positive_again, num_takes, num_again}
 use Rattle.cap_trace.proofs.Quiet.{is_quiet, quiet_part, weaken, digit_quiet, right_quiet, flags_part, word_part}
 use Rattle.cap_trace.proofs.Quiet.{path_part}
-use Rattle.std.proofs.lemmas.Bool.{le-ltb, ltb-false}
+use Rattle.cap_trace.proofs.Numerals.{unless_ok}
+use Rattle.std.proofs.lemmas.Bool.{le-ltb, ltb-false, and_parts}
 use Rattle.std.proofs.Common.{ltb}
 
 -- ---- steps
@@ -195,11 +196,6 @@ as_many (t ∷ ts) (a ∷ others) h = omega (arith, as_many ts others h.1)
 
 -- ---- descriptors that rise
 
-low_ok : {A : Type 0} (b : Bool) (d : FirstFault) (r : Result A FirstFault) (y : A) → cond b (Err d) r ≡ Ok y
-    → (b ≡ false) × (r ≡ Ok y)
-low_ok true d r y e = absurd cc
-low_ok false d r y e = (refl, e)
-
 pub fds_take : (low : ℕ) (ts : List (List ℕ)) (fs : List ℕ) → fds_from low ts ≡ Ok fs
     → SpellsArgs ts (fds fs) × RisesFrom low fs
 unfolding fds_from
@@ -208,7 +204,7 @@ fds_take low (t ∷ ts) fs e =
     let f = bind_ok (fd_at t)
     (λ f. cond (ltb f low) (Err faults.Argument) (fds_from (f + 1) ts) >>= λ fs. Ok (f ∷ fs)) fs e in
     let g = bind_made (cond (ltb f.0 low) (Err faults.Argument) (fds_from (f.0 + 1) ts)) (λ fs. f.0 ∷ fs) fs f.2 in
-    let l = low_ok (ltb f.0 low) faults.Argument (fds_from (f.0 + 1) ts) g.0 g.1 in
+    let l = unless_ok (ltb f.0 low) faults.Argument (fds_from (f.0 + 1) ts) g.0 g.1 in
     let p = fds_take (f.0 + 1) ts g.0 l.1 in
     subst (λ (x : List ℕ). SpellsArgs (t ∷ ts) (fds x) × RisesFrom low x) g.2
     ((fd_takes t f.0 f.1, p.0), (ltb-false _ _ l.0, p.1))
@@ -242,7 +238,7 @@ arg_part t (some_flags w) c h = subst IsPart (sym h.0) (flags_part w h.1)
 arg_part t (some_rights r) c h =
     quiet_part t (names_some t r h) (weaken right_byte is_quiet right_quiet t (names_plain t r h))
 arg_part t (a_path p) c h = subst IsPart (sym h.0) (path_part p h.1)
-arg_part t (a_command w) c h = subst IsPart (sym h.0) (word_part w (both (is_word w) _ h.1).0)
+arg_part t (a_command w) c h = subst IsPart (sym h.0) (word_part w (and_parts (is_word w) _ h.1).0)
 arg_part t (a_word dest) c h = subst IsPart (sym h) (quiet_part (codes "DEST") (omega arith) refl)
 arg_part t (a_word set_fd) c h = subst IsPart (sym h) (quiet_part (codes "F_SETFD") (omega arith) refl)
 arg_part t (a_word (dup_to dup_commands.FDup2fd)) c h =
@@ -259,7 +255,7 @@ pub args_parts : (ts : List (List ℕ)) (given : List Arg) → are_closed given 
 args_parts [] [] c h = tt
 args_parts [] (a ∷ others) c h = absurd h
 args_parts (t ∷ ts) [] c h = absurd h
-args_parts (t ∷ ts) (a ∷ others) c h = let k = both (is_closed a) (are_closed others) c in
+args_parts (t ∷ ts) (a ∷ others) c h = let k = and_parts (is_closed a) (are_closed others) c in
     (arg_part t a k.0 h.0, args_parts ts others k.1 h.1)
 
 pub fds_closed : (fs : List ℕ) → are_closed (fds fs) ≡ true

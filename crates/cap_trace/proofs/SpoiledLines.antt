@@ -33,8 +33,8 @@ use Rattle.cap_trace.specs.Reading.{arg_at, args_at, fds_from, shaped, said_at, 
 use Rattle.cap_trace.specs.Reading.{args_and_tail, after_bracket, item_at, entry_at, line_of}
 use Rattle.cap_trace.specs.Spoiled.{AreAlike, Spoils, fault_of_arg, SpoilsOne, SpoiledArgument, answered}
 use Rattle.cap_trace.specs.Spoiled.{SpellsNoAnswer, FaultOfAnswer, SpoiledAnswer}
-use Rattle.cap_trace.proofs.Cuts.{both, closes, IsPart, AreParts, outside_again, pieces_again, cut_again, eqb_same}
-use Rattle.std.proofs.lemmas.Bool.{le-ltb}
+use Rattle.cap_trace.proofs.Cuts.{closes, IsPart, AreParts, outside_again, pieces_again, cut_again, eqb_same}
+use Rattle.std.proofs.lemmas.Bool.{le-ltb, and_parts}
 use Rattle.cap_trace.specs.Number.{num_at}
 use Rattle.cap_trace.proofs.Built.{call_again}
 use Rattle.cap_trace.proofs.Answered.{answer_takes, answer_is, decimal_no_errno}
@@ -152,7 +152,7 @@ spoiled_parts : (ts : List (List ℕ)) (given : List Arg) (f : FirstFault) → a
 spoiled_parts [] given f c h = tt
 spoiled_parts (t ∷ ts) [] f c h = absurd h
 spoiled_parts (t ∷ ts) (a ∷ others) f c h =
-    let k = both (is_closed a) (are_closed others) c in
+    let k = and_parts (is_closed a) (are_closed others) c in
     elim (spoils_step t ts a others f h) as (λ _. AreParts (t ∷ ts)) [
       | inl s ↦ (spoiled_part t a s.0, args_parts ts others k.1 s.1.0)
       | inr s ↦ (arg_part t a k.0 s.0, spoiled_parts ts others f k.1 s.1)
@@ -164,7 +164,7 @@ unfolding args_at
 args_spoiled [] given f c h = absurd h
 args_spoiled (t ∷ ts) [] f c h = absurd h
 args_spoiled (t ∷ ts) (a ∷ others) f c h =
-    let k = both (is_closed a) (are_closed others) c in
+    let k = and_parts (is_closed a) (are_closed others) c in
     elim (spoils_step t ts a others f h) as (λ _. args_at (slots_of (a ∷ others)) (t ∷ ts) ≡ Err f) [
       | inl s ↦ rw (arg_spoiled t a (arg_at (slot_of a) t) refl k.0 s.0) (ap Err (sym s.1.1))
       | inr s ↦ rw (arg_again t a s.0, args_spoiled ts others f k.1 s.1) refl

@@ -7,7 +7,7 @@ use Rattle.std.specs.Str.{all_ascii_digits}
 use Rattle.std.specs.Char.{is_ascii_digit}
 use Rattle.std.specs.Fmt.{decimal}
 use Rattle.std.proofs.lemmas.Fmt.{digits_decimal}
-use Rattle.std.proofs.lemmas.Bool.{eqb-true, ltb-false, le-ltb}
+use Rattle.std.proofs.lemmas.Bool.{eqb-true, ltb-false, le-ltb, and_parts}
 use Rattle.std.proofs.lemmas.List.{nil_from_length}
 use Rattle.cap_trace.specs.declared.fault.FirstFault.{FirstFault}
 use Rattle.cap_trace.specs.declared.fault.FirstFault.TheVariants as faults
@@ -27,9 +27,9 @@ use Rattle.cap_trace.specs.Spelling.{Spells, SpellsArgs, IsHead, tail_text}
 use Rattle.cap_trace.specs.Forms.{Said, a_call, a_marker}
 use Rattle.cap_trace.specs.Reading.{◌>>=◌, need, pid_at, said_at, answer_at, ended, args_and_tail, after_bracket}
 use Rattle.cap_trace.specs.Reading.{item_at, entry_at, line_of}
-use Rattle.cap_trace.proofs.Cuts.{both, lacks, closes, AreParts, cut_takes, cut_again, outside_takes, outside_again}
+use Rattle.cap_trace.proofs.Cuts.{lacks, closes, AreParts, cut_takes, cut_again, outside_takes, outside_again}
 use Rattle.cap_trace.proofs.Cuts.{pieces_takes, pieces_again, closes-append}
-use Rattle.cap_trace.proofs.Numerals.{own, bind_ok, need_ok}
+use Rattle.cap_trace.proofs.Numerals.{own, bind_ok, need_ok, unless_ok}
 use Rattle.cap_trace.proofs.Quiet.{weaken}
 use Rattle.cap_trace.proofs.Heads.{head_takes, head_again, head_lacks}
 use Rattle.cap_trace.proofs.Spelled.{ok_is, bind_made, pid_takes, pid_again, args_parts, is_closed, are_closed}
@@ -112,7 +112,7 @@ listed_again f ts given tail c h =
     rw (outside_again 41 (join_with_byte 44 ts) tail (joined_closes ts parts), pieces_again ts parts) refl
 
 free_lacks : (c : ℕ) → is_free c ≡ true → not (eqb c 41) ≡ true
-free_lacks c h = (both _ (not (eqb c 41)) (both _ _ h).0).1
+free_lacks c h = (and_parts _ (not (eqb c 41)) (and_parts _ _ h).0).1
 
 other_again : (n a : List ℕ) (answer : Answer) → Cuts (items.Call (calls.Other n a) answer)
 unfolding Cuts
@@ -189,11 +189,6 @@ item_again i ts n h w =
 
 -- ---- the line
 
-long_ok : {A : Type 0} (b : Bool) (d : FirstFault) (r : Result A FirstFault) (y : A) → cond b (Err d) r ≡ Ok y
-    → (b ≡ false) × (r ≡ Ok y)
-long_ok true d r y e = absurd cc
-long_ok false d r y e = (refl, e)
-
 pub record SpellsAfter (bytes : List ℕ) (e : Entry) : Type 0 where
   pub rest : List ℕ
   pub parts : bytes ≡ decimal e.pid ++ (32 ∷ rest)
@@ -220,7 +215,7 @@ entry_takes bytes (Some x) e at h =
 pub line_takes : (bytes : List ℕ) (e : Entry) → line_of bytes ≡ Ok e → Spells bytes e
 unfolding line_of
 line_takes bytes e h =
-    let g = long_ok (ltb 1024 (length bytes)) faults.LongLine (entry_at bytes (cut_at_byte 32 bytes)) e h in
+    let g = unless_ok (ltb 1024 (length bytes)) faults.LongLine (entry_at bytes (cut_at_byte 32 bytes)) e h in
     let p = entry_takes bytes (cut_at_byte 32 bytes) e refl g.1 in (
       p.item.texts,
       record {
