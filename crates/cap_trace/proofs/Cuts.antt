@@ -6,7 +6,7 @@ use Rattle.std.specs.Prelude.{nat_eq}
 use Rattle.std.specs.List.{position_or_len, list_all, starts_with, ends_with, onto_first, join_with_byte}
 use borrow.Author.Tests.{ltb-true}
 use Rattle.std.proofs.lemmas.List.{take_at, drop_at, length-append}
-use Rattle.std.proofs.lemmas.Bool.{eqb-true, lt-ltb, le-ltb, not-true, and_parts, and_from}
+use Rattle.std.proofs.lemmas.Bool.{eqb-true, lt-ltb, le-ltb, not-true, and_parts}
 use Rattle.std.proofs.lemmas.Bool.Decides.{Decides-eqb}
 use Rattle.std.proofs.lemmas.Slice.Eq.{starts_is, ends_is}
 use Rattle.std.proofs.lemmas.Option.{cond_some}

@@ -76,9 +76,6 @@ takes_some p q c cs e = takes_step p c cs (Some q) e
 
 -- ---- what is escaped is items
 
-unfolding escaped
-escaped_step b bs = refl
-
 whole : (b : ℕ) → 16 * (b / 16) + b % 16 ≡ b
 whole b = omega arith
 

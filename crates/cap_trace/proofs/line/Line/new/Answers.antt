@@ -1,4 +1,4 @@
-use Rattle.std.proofs.Common.{◌≡◌, List, ℕ, Ok, ◌∙◌}
+use Rattle.std.proofs.Common.{◌≡◌, Ok, ◌∙◌}
 use Rattle.cap_trace.specs.Entry.{Entry}
 use Rattle.cap_trace.specs.Reading.{line_of}
 use Rattle.cap_trace.specs.Seen.{item_seen}
