@@ -4,7 +4,7 @@
 #   make run        the same, and checks an example trace with it
 #   make test       the gate: every proof, test and stored run, and the wrong bodies under must-fail/, from nothing, and with the program that this builds
 #                   the examples, worked traces and scripts, random ones beside a second reading of the rules, each allocation
-#                   refused in turn, hostile input, the recorder and the annotator
+#                   refused in turn, hostile input, the recorder and the annotator; and that all wrong bodies still fit the code
 #   make examples   the same scripts alone, with ./capcheck
 #   make wrong      the wrong bodies that the gate leaves out (tests/wrong), each of which the prover must refuse: this takes hours
 #   make refusals   each call that takes memory, with each of its allocations refused
@@ -17,7 +17,7 @@ PREFIX ?= /usr/local
 SOURCES = $(shell find crates -path '*/out' -prune -o -type f -name '*.rt' -print -o -type f -name '*.antt' -print) crates.txt HANDLES
 
 # What runs the built program, each with the program as its argument.
-SCRIPTS = examples/check tests/rows tests/talks tests/memory tests/allocations tests/faults tests/compare tests/recorder tests/annotate
+SCRIPTS = tests/edits examples/check tests/rows tests/talks tests/memory tests/allocations tests/faults tests/compare tests/recorder tests/annotate
 
 .PHONY: all run test wrong examples refusals bench install clean
 all: capcheck
