@@ -1,7 +1,7 @@
 # The checker of Capsicum traces: build, run, test.
 #
 #   make            proves every crate and leaves the program as ./capcheck
-#   make run        the same, and checks an example trace with it
+#   make run        shows the report of an example trace, or of TRACE, without a proof: in a minute or two
 #   make test       the gate: every proof, test and stored run, and the wrong bodies under must-fail/, from nothing, and with the program that this builds
 #                   the examples, worked traces and scripts, random ones beside a second reading of the rules, each allocation
 #                   refused in turn, hostile input, the recorder and the annotator; and that all wrong bodies still fit the code
@@ -12,7 +12,13 @@
 #                   where valgrind is installed, counts instructions too
 #   make install    puts the program and its manual page under PREFIX (default /usr/local)
 
+# This is read by GNU make alone, which skips what stands up to `endif`. To other makes the first line is a target.
+ifdef :
+.error This Makefile is for GNU make: run gmake, or make where that is GNU make.
+endif
+
 RT ?= rt
+TRACE ?= examples/filter.trace
 PREFIX ?= /usr/local
 SOURCES = $(shell find crates -path '*/out' -prune -o -type f -name '*.rt' -print -o -type f -name '*.antt' -print) crates.txt HANDLES
 
@@ -22,27 +28,38 @@ SCRIPTS = tests/edits examples/check tests/rows tests/talks tests/memory tests/a
 .PHONY: all run test wrong examples refusals bench install clean
 all: capcheck
 
+# Ends with a sentence where one of these programs isn't there.
+needs = @for it in $(1); do command -v $$it >/dev/null || { echo "make $@ needs $$it, which isn't on the path (README.md)." >&2; exit 1; }; done
+
 # `rt run` proves the program and all that it stands on, builds it and runs it, here to tell its version.
 capcheck: $(SOURCES)
+	$(call needs,python3 $(RT))
 	cd crates/capcheck && $(RT) run -- --version >/dev/null
 	cp crates/capcheck/out/capcheck $@
 
-# Findings end the program with status 1, which is what this example is to show.
-run: capcheck
-	./capcheck check examples/filter.trace || test $$? -eq 1
+# `rt try` runs the program with a check at each place where a proof is owed. Findings end the program with status 1, and so does
+# `rt try` where it refuses the code: then no report is there.
+run:
+	$(call needs,python3 $(RT))
+	@echo 'capcheck check $(TRACE): checked as it runs, in a minute or two; `make` proves it'
+	@report=$$({ cd crates/capcheck && $(RT) try -- check; } <'$(TRACE)'); status=$$?; echo "$$report" | grep . && test $$status -le 1
 
 examples: capcheck
+	$(call needs,python3 bash)
 	for script in $(SCRIPTS); do $$script ./capcheck || exit 1; done
 
 # Each allocation refused in turn, in a process that calls each function that takes memory.
 refusals:
+	$(call needs,python3 $(RT))
 	cd crates/cap_refusal_tests && $(RT) test
 	tests/refusals crates/cap_refusal_tests/out/cap_refusal_tests_tests
 
 test:
+	$(call needs,python3 bash $(RT))
 	tests/gate $(SCRIPTS) tests/refusals
 
 wrong:
+	$(call needs,bash git tar python3 $(RT))
 	tests/wrong_bodies
 
 bench: capcheck
