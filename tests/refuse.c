@@ -1,12 +1,7 @@
 // Refuses one allocation of the program that it is loaded into: the one whose number REFUSE has, counted from 1. It writes a
 // byte to the descriptor REFUSE_SIGNALS once it did. As the program ends it writes how many allocations were asked for, in decimal,
 // to the descriptor REFUSE_COUNTS.
-#define _GNU_SOURCE
-#include <dlfcn.h>
-#include <errno.h>
-#include <stdio.h>
-#include <stdlib.h>
-#include <unistd.h>
+#include "libc.h"
 
 static long before = -1;
 static long asked;

@@ -4,13 +4,7 @@
 // it and goes on to RIGHT, where it ends well. This process waits for the copy, ends where the copy didn't end well, and
 // goes on with memory. LACKED says that a call answered that memory ran out: a process that was refused nothing ends there.
 // For each refusal an `r` is written to the descriptor that REFUSALS names, and for each that was answered so an `a`.
-#define _GNU_SOURCE
-#include <dlfcn.h>
-#include <errno.h>
-#include <stdio.h>
-#include <stdlib.h>
-#include <sys/wait.h>
-#include <unistd.h>
+#include "libc.h"
 
 enum { BEGIN = 77771, END = 77773, LACKED = 77775, RIGHT = 77777 };
 
