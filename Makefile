@@ -63,6 +63,7 @@ wrong:
 	tests/wrong_bodies
 
 bench: capcheck
+	$(call needs,python3 rt /usr/bin/time)
 	bench/run ./capcheck
 	bench/edits ./capcheck
 	bench/sessions ./capcheck
