@@ -18,7 +18,7 @@ ifdef :
 endif
 
 RT ?= rt
-TRACE ?= examples/filter.trace
+TRACE = examples/filter.trace
 PREFIX ?= /usr/local
 SOURCES = $(shell find crates -path '*/out' -prune -o -type f -name '*.rt' -print -o -type f -name '*.antt' -print) crates.txt HANDLES
 
