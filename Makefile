@@ -10,7 +10,8 @@
 #   make refusals   each call that takes memory, with each of its allocations refused
 #   make bench      times the program, and reading alone, on traces of a million lines beside `wc -l`, and sessions beside a check;
 #                   where valgrind is installed, counts instructions too
-#   make install    puts the program and its manual page under PREFIX (default /usr/local)
+#   make install    puts the program, its tools, manual pages and completions under PREFIX (default /usr/local)
+#   make uninstall  takes them away
 
 # This is read by GNU make alone, which skips what stands up to `endif`. To other makes the first line is a target.
 ifdef :
@@ -70,11 +71,29 @@ bench: capcheck
 	bench/reading
 	if command -v valgrind >/dev/null; then bench/instructions ./capcheck; bench/edited ./capcheck; bench/replaced ./capcheck; fi
 
-install: capcheck
-	install -d $(DESTDIR)$(PREFIX)/bin
-	install -m 755 capcheck $(DESTDIR)$(PREFIX)/bin/capcheck
-	install -d $(DESTDIR)$(PREFIX)/share/man/man1
-	install -m 644 docs/capcheck.1 $(DESTDIR)$(PREFIX)/share/man/man1/capcheck.1
+# What is installed where; DESTDIR goes before each. PROGRAM is the program to install.
+PROGRAM = capcheck
+BIN = $(DESTDIR)$(PREFIX)/bin
+MAN = $(DESTDIR)$(PREFIX)/share/man/man1
+BASH_COMPLETIONS = $(DESTDIR)$(PREFIX)/share/bash-completion/completions
+ZSH_COMPLETIONS = $(DESTDIR)$(PREFIX)/share/zsh/site-functions
+TOOLS = capcheck-truss capcheck-annotate capcheck-whatif
+
+install: $(PROGRAM)
+	install -d "$(BIN)" "$(MAN)" "$(BASH_COMPLETIONS)" "$(ZSH_COMPLETIONS)"
+	install -m 755 $(PROGRAM) "$(BIN)/capcheck"
+	install -m 755 contrib/truss2trace "$(BIN)/capcheck-truss"
+	install -m 755 contrib/annotate "$(BIN)/capcheck-annotate"
+	install -m 755 contrib/whatif "$(BIN)/capcheck-whatif"
+	install -m 644 docs/*.1 "$(MAN)"
+	install -m 644 contrib/completions/_capcheck "$(ZSH_COMPLETIONS)"
+	install -m 644 contrib/completions/capcheck.bash "$(BASH_COMPLETIONS)/capcheck"
+	for tool in $(TOOLS); do ln -sf capcheck "$(BASH_COMPLETIONS)/$$tool" || exit 1; done
+
+.PHONY: uninstall
+uninstall:
+	for name in capcheck $(TOOLS); do rm -f "$(BIN)/$$name" "$(MAN)/$$name.1" "$(BASH_COMPLETIONS)/$$name" || exit 1; done
+	rm -f "$(ZSH_COMPLETIONS)/_capcheck"
 
 clean:
 	rm -rf capcheck crates/*/out
