@@ -2,6 +2,7 @@
 use Rattle.std.specs.Prelude.{codes, true, Some}
 use Rattle.clap.specs.Words.{App, Rule, new_app, new_rule, with_rule, with_subcommand}
 use Rattle.clap.specs.Simple.{on_top}
+use Rattle.clap.specs.declared.builder.action.ArgAction.TheVariants.{SetTrue}
 
 -- the name of a file, which may be absent
 abbrev pub trace_rule : Rule
@@ -14,30 +15,40 @@ script_rule = record (new_rule (codes "script")) { value_names = 1 }
 abbrev pub needed_trace_rule : Rule
 needed_trace_rule = record trace_rule { required = true }
 
--- --start FILE
+-- -s FILE, --start FILE
 abbrev pub start_rule : Rule
-start_rule = record (new_rule (codes "start")) { long = Some (codes "start"); value_names = 1 }
+start_rule =
+    record (new_rule (codes "start")) { short = Some 115; long = Some (codes "start"); value_names = 1 }
 
--- --profile NUMBER
+-- -p NUMBER, --profile NUMBER
 abbrev pub profile_rule : Rule
 profile_rule =
-    record (new_rule (codes "profile")) { long = Some (codes "profile"); value_names = 1 }
+    record (new_rule (codes "profile")) { short = Some 112; long = Some (codes "profile"); value_names = 1 }
+
+-- -v, --verbose
+abbrev pub verbose_rule : Rule
+verbose_rule =
+    record (new_rule (codes "verbose")) { short = Some 118; long = Some (codes "verbose"); action = Some SetTrue }
 
 -- check [FILE]
 abbrev pub check_trace_words : App
 check_trace_words = with_rule (new_app (codes "check")) trace_rule
 
--- the same, with --start and --profile
+-- with --profile and --verbose
+abbrev pub with_options : App → App
+with_options words = with_rule (with_rule words profile_rule) verbose_rule
+
+-- the same, with --start and the options
 abbrev pub check_words : App
-check_words = with_rule (with_rule check_trace_words start_rule) profile_rule
+check_words = with_options (with_rule check_trace_words start_rule)
 
 -- edit FILE [SCRIPT]
 abbrev pub edit_texts_words : App
 edit_texts_words = with_rule (with_rule (new_app (codes "edit")) needed_trace_rule) script_rule
 
--- the same, with --profile
+-- the same, with the options
 abbrev pub edit_words : App
-edit_words = with_rule edit_texts_words profile_rule
+edit_words = with_options edit_texts_words
 
 -- the position of a line
 abbrev pub position_rule : Rule
@@ -47,15 +58,14 @@ position_rule = record (new_rule (codes "position")) { value_names = 1; required
 abbrev pub explain_line_words : App
 explain_line_words = with_rule (with_rule (new_app (codes "explain")) needed_trace_rule) position_rule
 
--- the same, with --start and --profile
+-- the same, with --start and the options
 abbrev pub explain_words : App
-explain_words = with_rule (with_rule explain_line_words start_rule) profile_rule
+explain_words = with_options (with_rule explain_line_words start_rule)
 
--- the first word names a command, and there are --help and --version
+-- the first word names a command, and there are --help, --version and help
 abbrev pub bare_words : App
 bare_words = on_top (λ s. record s {
   no_binary_name = true;
-  disable_help_subcommand = true;
   subcommand_required = true;
   has_version = true;
 }) (new_app (codes "capcheck"))

@@ -1,7 +1,7 @@
 -- What the words of the command line ask for, said by `clap`'s own functions: which words ask for which run, which
 -- for help, and which are a mistake. `Fits` is the contract of `plan_of`.
 use Rattle.std.specs.Prelude.{◌≡◌, ◌⊎◌, ℕ, List, [], Option, Some, None, codes, option_map}
-use Rattle.std.specs.Prelude.{option_and_then, if◌then◌else◌}
+use Rattle.std.specs.Prelude.{option_and_then, if◌then◌else◌, Bool, true, false, not, ◌&&◌, is_some}
 use Rattle.std.specs.Str.{bytes_eq}
 use Rattle.std.specs.Borrow.{Bor}
 use Rattle.clap.specs.Words.{IsAmong, Kinds, Row, Text, fault_of, first_of, subcommand_of}
@@ -9,17 +9,37 @@ use Rattle.clap.specs.declared.error.kind.ErrorKind.{ErrorKind}
 use Rattle.clap.specs.declared.error.kind.ErrorKind.TheVariants as kind
 use Rattle.capcheck.specs.CommandLine.{capcheck}
 use Rattle.capcheck.specs.declared.plan.Plan.{Plan}
+use Rattle.capcheck.specs.declared.plan.Subject.{Subject}
 use Rattle.cap_machine.specs.declared.cell.Profile.{Profile}
 use Rattle.cap_machine.specs.declared.cell.Profile.TheVariants.{One, Two}
 use Rattle.cap_session.specs.Commands.{position}
 use Rattle.capcheck.specs.declared.plan.Plan.TheVariants.{Check, Edit, Explain, Help, Usage, Memory}
 
--- a run of the program, with the names that it was given: a trace, what is known before it, a script; of an explanation
--- the trace, the position of the line, and what is known before the trace
+-- What a run reads and how: the trace of this name, or standard input; what is known before the trace, nothing or what the
+-- text of this name says, or standard input; the profile; and whether words on standard error are asked for.
+pub record Given : Type 0 where
+  pub trace : Option Text
+  pub start : Option (Option Text)
+  pub profile : Profile
+  pub verbose : Bool
+
+-- a run of the program: a check; an edit, by the script of this name, or standard input; an explanation, of the line at a
+-- position
 pub data Run : Type 0 where
-  checks : Option Text → Option Text → Profile → Run
-  edits : Text → Option Text → Profile → Run
-  explains : Text → ℕ → Option Text → Profile → Run
+  checks : Given → Run
+  edits : Given → Option Text → Run
+  explains : Given → ℕ → Run
+
+-- what a name stands for: `-` is standard input
+abbrev pub text_named : Text → Option Text
+text_named name = if bytes_eq name (codes "-") then None else Some name
+
+-- the text that an argument names, and standard input where it is absent
+abbrev pub text_among : Text → List Row → Option Text
+text_among id rows = option_and_then text_named (first_of id rows)
+
+abbrev pub start_among : List Row → Option (Option Text)
+start_among rows = option_map text_named (first_of (codes "start") rows)
 
 -- the profile of the value of `--profile`, and 1 where it isn't given
 abbrev pub profile_named : Text → Option Profile
@@ -33,24 +53,50 @@ profile_of (Some name) = profile_named name
 abbrev pub profile_among : List Row → Option Profile
 profile_among rows = profile_of (first_of (codes "profile") rows)
 
-abbrev pub check_among : List Row → Option Run
-check_among rows = option_map (λ profile.
-    checks (first_of (codes "trace") rows) (first_of (codes "start") rows) profile)
-    (profile_among rows)
+-- whether `--verbose` is given
+abbrev pub is_true : Option Text → Bool
+is_true None = false
+is_true (Some value) = bytes_eq value (codes "true")
 
+abbrev pub verbose_among : List Row → Bool
+verbose_among rows = is_true (first_of (codes "verbose") rows)
+
+-- what is read beside the trace, and whether both are standard input, which can be read once
+abbrev pub is_input_twice : Option (Option Text) → Option Text → Bool
+is_input_twice None trace = false
+is_input_twice (Some name) trace = not (is_some name) && not (is_some trace)
+
+abbrev pub unless : {T : Type 0} → Bool → T → Option T
+unless true x = None
+unless false x = Some x
+
+-- with what was read beside the trace
+abbrev pub given_by : Option Text → Option (Option Text) → List Row → Option Given
+given_by trace start rows = option_map (λ profile.
+    record { trace = trace; start = start; profile = profile; verbose = verbose_among rows }) (profile_among rows)
+
+-- nothing, where the start and the trace are standard input both
+abbrev pub given_among : List Row → Option Given
+given_among rows = option_and_then
+    (unless (is_input_twice (start_among rows) (text_among (codes "trace") rows)))
+    (given_by (text_among (codes "trace") rows) (start_among rows) rows)
+
+abbrev pub check_among : List Row → Option Run
+check_among rows = option_map checks (given_among rows)
+
+-- nothing, where the trace and the script are standard input both
 abbrev pub edit_among : List Row → Option Run
-edit_among rows = option_and_then (λ trace. option_map (λ profile.
-    edits trace (first_of (codes "script") rows) profile) (profile_among rows))
-    (first_of (codes "trace") rows)
+edit_among rows = option_and_then (λ given.
+    unless (is_input_twice (Some (text_among (codes "script") rows)) given.trace)
+    (edits given (text_among (codes "script") rows)))
+    (given_by (text_among (codes "trace") rows) None rows)
 
 -- the line that is to be explained, spelled as the positions of a script
 abbrev pub position_among : List Row → Option ℕ
 position_among rows = option_and_then position (first_of (codes "position") rows)
 
 abbrev pub explain_among : List Row → Option Run
-explain_among rows = option_and_then (λ trace. option_and_then (λ k. option_map (λ profile.
-    explains trace k (first_of (codes "start") rows) profile) (profile_among rows)) (position_among rows))
-    (first_of (codes "trace") rows)
+explain_among rows = option_and_then (λ given. option_map (explains given) (position_among rows)) (given_among rows)
 
 -- the run that a command and the values of its arguments name
 abbrev pub run_in : Text × List Row → Option Run
@@ -78,7 +124,7 @@ abbrev pub Mistakes : Kinds → Type 0
 Mistakes kinds = (k : ErrorKind) × IsAmong k kinds × (IsRequest k → ⊥)
 
 -- The words are a mistake: `clap` finds one in them, or it finds no fault and they name no run,
--- as where the profile is neither 1 nor 2, or the position is no number.
+-- as where the profile is neither 1 nor 2, the position is no number, or standard input is named twice.
 abbrev pub IsMistake : List Text → Type 0
 IsMistake words = Mistakes (fault_of capcheck words)
     ⊎ ((fault_of capcheck words ≡ []) × (run_asked words ≡ None))
@@ -86,11 +132,19 @@ IsMistake words = Mistakes (fault_of capcheck words)
 abbrev pub seen : Option (Bor Text) → Option Text
 seen = option_map (λ text. text.now)
 
+abbrev pub given_of : Subject → Given
+given_of s = record {
+  trace = seen s.trace;
+  start = option_map seen s.start;
+  profile = s.profile;
+  verbose = s.verbose;
+}
+
 -- the plan is what the words ask for; of running out of memory nothing is said
 abbrev pub Fits : List Text → Plan → Type 0
-Fits words (Check trace start profile) = NamesRun words (checks (seen trace) (seen start) profile)
-Fits words (Edit trace script profile) = NamesRun words (edits trace.now (seen script) profile)
-Fits words (Explain trace position start profile) = NamesRun words (explains trace.now position (seen start) profile)
+Fits words (Check subject) = NamesRun words (checks (given_of subject))
+Fits words (Edit subject script) = NamesRun words (edits (given_of subject) (seen script))
+Fits words (Explain subject position) = NamesRun words (explains (given_of subject) position)
 Fits words (Help text) = Requests (fault_of capcheck words)
 Fits words (Usage text) = IsMistake words
 Fits words Memory = Unit {0}
@@ -99,27 +153,27 @@ Fits words Memory = Unit {0}
 
 -- the run of a plan
 abbrev pub run_of : Plan → Option Run
-run_of (Check trace start profile) = Some (checks (seen trace) (seen start) profile)
-run_of (Edit trace script profile) = Some (edits trace.now (seen script) profile)
-run_of (Explain trace position start profile) = Some (explains trace.now position (seen start) profile)
+run_of (Check subject) = Some (checks (given_of subject))
+run_of (Edit subject script) = Some (edits (given_of subject) (seen script))
+run_of (Explain subject position) = Some (explains (given_of subject) position)
 run_of (Help text) = None
 run_of (Usage text) = None
 run_of Memory = None
 
 -- the answer to words that give no matches, by the kind of the error
 abbrev pub TellsKind : ErrorKind → Plan → Type 0
-TellsKind k (Check trace start profile) = ⊥
-TellsKind k (Edit trace script profile) = ⊥
-TellsKind k (Explain trace position start profile) = ⊥
+TellsKind k (Check subject) = ⊥
+TellsKind k (Edit subject script) = ⊥
+TellsKind k (Explain subject position) = ⊥
 TellsKind k (Help text) = IsRequest k
 TellsKind k (Usage text) = (k ≡ kind.OutOfMemory → ⊥) × (IsRequest k → ⊥)
 TellsKind k Memory = Unit {0}
 
 -- the answer to words that name no run
 abbrev pub TellsMistake : Plan → Type 0
-TellsMistake (Check trace start profile) = ⊥
-TellsMistake (Edit trace script profile) = ⊥
-TellsMistake (Explain trace position start profile) = ⊥
+TellsMistake (Check subject) = ⊥
+TellsMistake (Edit subject script) = ⊥
+TellsMistake (Explain subject position) = ⊥
 TellsMistake (Help text) = ⊥
 TellsMistake (Usage text) = Unit {0}
 TellsMistake Memory = Unit {0}

@@ -1,6 +1,6 @@
 -- What a run reads and writes, and the status that it ends with. `Finishes` is the contract of `answer`, which is the
 -- whole program but for its arguments and its devices.
-use Rattle.std.specs.Prelude.{◌≡◌, ◌⊎◌, ℕ, List, Option, Some, None}
+use Rattle.std.specs.Prelude.{◌≡◌, ◌⊎◌, ◌≤◌, ◌^◌, ℕ, List, Option, Some, None}
 use Rattle.std.specs.Option.{option_map}
 use Rattle.std.specs.Borrow.{Bor}
 use Rattle.clap.specs.Words.{Text}
@@ -79,12 +79,18 @@ pub record ExplainsFrom (profile : Profile) (k : ℕ) (start trace : Known) (w0 
   pub text : Gives trace r0.bytes
   pub stream : ExplainStartStreams profile turns k z0 z1 r0 r1 w0 w1 outcome
 
+-- the start or the trace may be one that can't be opened
+abbrev pub EitherMayFail : Option Known → Known → Type 0
+EitherMayFail None trace = MayFail trace
+EitherMayFail (Some start) trace = MayFail start ⊎ MayFail trace
+
+abbrev pub ChecksOpened : Profile → Option Known → Known → SinkState → SinkState → Outcome → Type 0
+ChecksOpened profile None trace w0 w1 outcome = Checks profile trace w0 w1 outcome
+ChecksOpened profile (Some start) trace w0 w1 outcome = ChecksFrom profile start trace w0 w1 outcome
+
 abbrev pub ChecksText : Profile → Option Known → Known → SinkState → SinkState → Outcome → Type 0
-ChecksText profile None trace w0 w1 outcome =
-    Unopened (MayFail trace) w0 w1 outcome ⊎ Checks profile trace w0 w1 outcome
-ChecksText profile (Some start) trace w0 w1 outcome =
-    Unopened (MayFail start ⊎ MayFail trace) w0 w1 outcome
-    ⊎ ChecksFrom profile start trace w0 w1 outcome
+ChecksText profile start trace w0 w1 outcome =
+    Unopened (EitherMayFail start trace) w0 w1 outcome ⊎ ChecksOpened profile start trace w0 w1 outcome
 
 abbrev pub EditsText : Profile → Known → Known → SinkState → SinkState → Outcome → Type 0
 EditsText profile trace script w0 w1 outcome =
@@ -95,16 +101,25 @@ EditsText profile trace script w0 w1 outcome =
 abbrev pub Unexplained : Type 0 → SinkState → SinkState → ExplainOutcome → Type 0
 Unexplained may_fail w0 w1 outcome = (o : Outcome) × Unopened may_fail w0 w1 o × (outcome ≡ Ended o)
 
-abbrev pub ExplainsText : Profile → ℕ → Option Known → Known → SinkState → SinkState → ExplainOutcome → Type 0
-ExplainsText profile k None trace w0 w1 outcome =
-    Unexplained (MayFail trace) w0 w1 outcome ⊎ Explains profile k trace w0 w1 outcome
-ExplainsText profile k (Some start) trace w0 w1 outcome =
-    Unexplained (MayFail start ⊎ MayFail trace) w0 w1 outcome
-    ⊎ ExplainsFrom profile k start trace w0 w1 outcome
+abbrev pub ExplainsOpened : Profile → ℕ → Option Known → Known → SinkState → SinkState → ExplainOutcome → Type 0
+ExplainsOpened profile k None trace w0 w1 outcome = Explains profile k trace w0 w1 outcome
+ExplainsOpened profile k (Some start) trace w0 w1 outcome = ExplainsFrom profile k start trace w0 w1 outcome
 
--- what is known of the start of this name, where one is named
-abbrev pub known_start : (Option Text → Known) → Option (Bor Text) → Option Known
-known_start known = option_map (λ name. known (Some name.now))
+abbrev pub ExplainsText : Profile → ℕ → Option Known → Known → SinkState → SinkState → ExplainOutcome → Type 0
+ExplainsText profile k start trace w0 w1 outcome =
+    Unexplained (EitherMayFail start trace) w0 w1 outcome ⊎ ExplainsOpened profile k start trace w0 w1 outcome
+
+-- what is known of the start, where there is one
+abbrev pub known_start : (Option Text → Known) → Option (Option (Bor Text)) → Option Known
+known_start known = option_map (λ name. known (seen name))
+
+-- the readers of a start and of a trace, where f says what a contract sees of a reader
+module _ {R : Type 0} where
+  abbrev pub StartGives : (R → SourceState) → Option Known → Option R → Type 0
+  StartGives f None None = Unit {0}
+  StartGives f (Some start) (Some reader) = Gives start (f reader).bytes × (2 ^ 32 ≤ (f reader).room)
+  StartGives f None (Some reader) = ⊥
+  StartGives f (Some start) None = ⊥
 
 -- the status is that of such an outcome
 abbrev pub StatusBy : (Outcome → Type 0) → ℕ → Type 0
@@ -115,12 +130,13 @@ ExplainStatusBy P status = (outcome : ExplainOutcome) × P outcome × (status �
 
 -- A plan was carried out, where this is known of the texts of names.
 abbrev pub CarriesOut : (Option Text → Known) → SinkState → SinkState → Plan → ℕ → Type 0
-CarriesOut known w0 w1 (Check trace start profile) status =
-    StatusBy (ChecksText profile (known_start known start) (known (seen trace)) w0 w1) status
-CarriesOut known w0 w1 (Edit trace script profile) status =
-    StatusBy (EditsText profile (known (Some trace.now)) (known (seen script)) w0 w1) status
-CarriesOut known w0 w1 (Explain trace position start profile) status =
-    ExplainStatusBy (ExplainsText profile position (known_start known start) (known (Some trace.now)) w0 w1) status
+CarriesOut known w0 w1 (Check subject) status =
+    StatusBy (ChecksText subject.profile (known_start known subject.start) (known (seen subject.trace)) w0 w1) status
+CarriesOut known w0 w1 (Edit subject script) status =
+    StatusBy (EditsText subject.profile (known (seen subject.trace)) (known (seen script)) w0 w1) status
+CarriesOut known w0 w1 (Explain subject position) status =
+    ExplainStatusBy (ExplainsText subject.profile position (known_start known subject.start)
+    (known (seen subject.trace)) w0 w1) status
 -- 3 where it can't be printed
 CarriesOut known w0 w1 (Help text) status = (w1 ≡ w0) × ((status ≡ 0) ⊎ (status ≡ 3))
 CarriesOut known w0 w1 (Usage text) status = (w1 ≡ w0) × (status ≡ 2)

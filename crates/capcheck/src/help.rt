@@ -15,12 +15,14 @@ Exit status:
      capcheck: E12  writing to standard output failed
      capcheck: E13  the input has no end
 
+With -v, or where standard error is a terminal, it also says in words what is wrong.
+
 Examples:
   capcheck check server.trace
   capcheck edit server.trace session.script
   capcheck explain server.trace 9
 
-`capcheck check --help`, `capcheck edit --help` and `capcheck explain --help` say more.";
+`capcheck help check`, `capcheck help edit` and `capcheck help explain` say more.";
 
 /// The end of `capcheck check --help`.
 pub const CHECK: &str = "\
@@ -37,6 +39,8 @@ wrote at line 3 to descriptor 0, which lacked CAP_WRITE:
 Where a line can't be read, that is printed in place of the report, with the
 line's number in the file:
   refused E2 line 7
+With -v, or where standard error is a terminal, that says what is wrong:
+  capcheck: server.trace:7: E2: no ) after the arguments, but 0 RET 5
 The codes: E1 more than 1,024 bytes, E2 the line's shape, E3 its pid, E4 an
 argument, E5 a right, E6 its result, E8 a line after the 1,000,000th.
 

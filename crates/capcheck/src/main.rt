@@ -2,17 +2,22 @@
 //! against capability mode, and prints the report on standard output.
 //!
 //! `words` is the command line as `clap` is given it, `help` what it says of it to people, `plan` what the
-//! words ask for, `texts` where a text is read from, and `run` does what the plan says.
+//! words ask for, `texts` where a text is read from, and `run` does what the plan says. `messages` says in words why
+//! there is no report, from the notes that `notes` takes of what is read, and `wrong` what is wrong with a line.
 #![tactic(auto)]
 
 mod help;
+mod messages;
+mod notes;
 mod plan;
 mod run;
 mod texts;
 mod words;
+mod wrong;
 
+use std::io::IsTerminal;
 use std::process::ExitCode;
 
 fn main(rt: HostRuntime) -> ExitCode {
-    ExitCode::from(run::run(&rt))
+    ExitCode::from(run::run(&rt, rt.stderr().is_terminal()))
 }

@@ -2,13 +2,14 @@
 //! mistake.
 //!
 //! `clap` reads the words. [`plan_of`] makes a [`Plan`] of its matches or of its error.
-ghost use Rattle.std.specs.Prelude.{◌≡◌, IfOk, IsTrue, Some, ◌↔◌, map, option_and_then, option_map};
+ghost use Rattle.std.specs.Prelude.{◌≡◌, IfOk, IsTrue, Some, ◌↔◌, codes, map, option_and_then, option_map};
 ghost use Rattle.clap.specs.Words.{FailsBy, fault_of, first_of, found_of, kind_of, rows_of, subcommand_of};
 ghost use Rattle.clap.specs.Words.{subcommand_rows_of};
 ghost use Rattle.capcheck.specs.CommandLine.{capcheck};
 ghost use Rattle.capcheck.specs.Plans.{Fits, IsRequest, TellsKind, TellsMistake, check_among, edit_among};
-ghost use Rattle.capcheck.specs.Plans.{explain_among, position_among, profile_among, profile_named, run_in, run_of};
-ghost use Rattle.capcheck.specs.Plans.{seen};
+ghost use Rattle.capcheck.specs.Plans.{explain_among, given_among, given_by, given_of, is_input_twice};
+ghost use Rattle.capcheck.specs.Plans.{position_among, profile_among, profile_named, run_in, run_of, seen};
+ghost use Rattle.capcheck.specs.Plans.{start_among, text_among, text_named, verbose_among};
 
 use crate::words::command;
 use cap_machine::Profile;
@@ -23,27 +24,36 @@ const NO_PROFILE: &str = "the profile is 1 or 2";
 /// What standard error says of a position that is no number, or isn't spelled as one.
 const NO_POSITION: &str = "the position is a number of 1 to 19 digits, without a leading zero";
 
+/// What standard error says where standard input is the start or the script, and the trace too.
+const INPUT_TWICE: &str =
+    "standard input can be read only once, and two of the files are standard input";
+
+/// What a run reads, and how.
+#[derive(Drop)]
+pub struct Subject<'a> {
+    /// The trace of this name, or standard input.
+    pub trace: Option<&'a str>,
+    /// What is known before the trace: nothing, or what the text of this name says, or standard input.
+    pub start: Option<Option<&'a str>>,
+    pub profile: Profile,
+    /// Whether words on standard error were asked for.
+    pub verbose: bool,
+}
+
 /// What the program is to do.
 #[derive(Drop)]
 pub enum Plan<'a> {
-    /// Check the trace of this name, or standard input, from the start of this name, or the usual one.
-    Check {
-        trace: Option<&'a str>,
-        start: Option<&'a str>,
-        profile: Profile,
-    },
-    /// Load the trace of this name, and work through the script of this name, or standard input.
+    /// Check the trace.
+    Check(Subject<'a>),
+    /// Load the trace, and work through the script of this name, or standard input. There is no start.
     Edit {
-        trace: &'a str,
+        subject: Subject<'a>,
         script: Option<&'a str>,
-        profile: Profile,
     },
-    /// Explain the line at this position of the trace of this name, from the start of this name, or the usual one.
+    /// Explain the line at this position of the trace.
     Explain {
-        trace: &'a str,
+        subject: Subject<'a>,
         position: usize,
-        start: Option<&'a str>,
-        profile: Profile,
     },
     /// Print this text, help or the version, which was asked for.
     Help(String),
@@ -56,10 +66,11 @@ pub enum Plan<'a> {
 /// What the words after the program's name ask for.
 ///
 /// - `Check`, `Edit` and `Explain`: only where `clap` finds no fault in the words, and with just the names, the options,
-///   the position and the profile that its matches give. The profile is 1 where the words name none.
+///   the position and the profile that its matches give. The name `-` is standard input, as is a trace or a script that
+///   isn't named. The profile is 1 where the words name none.
 /// - `Help`: only where they ask for help or for the version.
 /// - `Usage`: only where they are a mistake. `clap` finds it, or the profile is neither 1 nor 2, or the position is no
-///   number as a script spells it.
+///   number as a script spells it, or two texts are standard input.
 pub fn plan_of<'a>(alloc: Global, words: &'a [&'a str]) -> Plan<'a>
     ensures { Fits (map (λ w. w.now) words.entry.now) result }
 {
@@ -105,41 +116,99 @@ fn plan_named<'a>(name: &str, found: &ArgMatches<'a>) -> Option<Plan<'a>>
 fn check_in<'a>(found: &ArgMatches<'a>) -> Option<Plan<'a>>
     ensures { option_map run_of result ≡ option_map Some (check_among (rows_of (found_of found.now))) }
 {
-    let profile = profile_in(found)?;
-    Some(Plan::Check {
-        trace: value(found, "trace"),
-        start: value(found, "start"),
-        profile,
-    })
+    Some(Plan::Check(subject_in(found)?))
 }
 
 /// The plan of the arguments of `edit`.
 fn edit_in<'a>(found: &ArgMatches<'a>) -> Option<Plan<'a>>
     ensures { option_map run_of result ≡ option_map Some (edit_among (rows_of (found_of found.now))) }
 {
-    let trace = value(found, "trace")?;
-    let profile = profile_in(found)?;
-    Some(Plan::Edit {
-        trace,
-        script: value(found, "script"),
-        profile,
-    })
+    let subject = subject_from(found, None)?;
+    let script = text_in(found, "script");
+    if is_input_twice(Some(script), subject.trace) {
+        return None;
+    }
+    Some(Plan::Edit { subject, script })
 }
 
 /// The plan of the arguments of `explain`.
 fn explain_in<'a>(found: &ArgMatches<'a>) -> Option<Plan<'a>>
     ensures { option_map run_of result ≡ option_map Some (explain_among (rows_of (found_of found.now))) }
 {
-    let trace = value(found, "trace")?;
+    let subject = subject_in(found)?;
     let position = position_in(found)?;
-    let start = value(found, "start");
+    Some(Plan::Explain { subject, position })
+}
+
+/// The trace and the start that the arguments name, and the options.
+fn subject_in<'a>(found: &ArgMatches<'a>) -> Option<Subject<'a>>
+    ensures { option_map given_of result ≡ given_among (rows_of (found_of found.now)) }
+{
+    let start = start_in(found);
+    let subject = subject_from(found, start)?;
+    if is_input_twice(start, subject.trace) {
+        return None;
+    }
+    Some(subject)
+}
+
+/// The trace that the arguments name, with a start, and the options.
+fn subject_from<'a>(found: &ArgMatches<'a>, start: Option<Option<&'a str>>) -> Option<Subject<'a>>
+    ensures { option_map given_of result ≡ given_by (text_among (codes "trace") (rows_of (found_of found.now)))
+        (option_map seen start.entry) (rows_of (found_of found.now)) }
+{
     let profile = profile_in(found)?;
-    Some(Plan::Explain {
-        trace,
-        position,
+    Some(Subject {
+        trace: text_in(found, "trace"),
         start,
         profile,
+        verbose: is_verbose(found),
     })
+}
+
+/// Whether what is read beside the trace is standard input, and the trace too.
+fn is_input_twice(beside: Option<Option<&str>>, trace: Option<&str>) -> bool
+    ensures { result ≡ is_input_twice (option_map seen beside.entry) (seen trace.entry) }
+{
+    match beside {
+        Some(name) => name.is_none() && trace.is_none(),
+        None => false,
+    }
+}
+
+/// The text that an argument names, and standard input where it is absent.
+fn text_in<'a>(found: &ArgMatches<'a>, id: &str) -> Option<&'a str>
+    ensures { seen result ≡ text_among id.now (rows_of (found_of found.now)) }
+{
+    text_named(value(found, id)?)
+}
+
+/// The start that the arguments name.
+fn start_in<'a>(found: &ArgMatches<'a>) -> Option<Option<&'a str>>
+    ensures { option_map seen result ≡ start_among (rows_of (found_of found.now)) }
+{
+    let name = value(found, "start")?;
+    Some(text_named(name))
+}
+
+/// What a name stands for: `-` is standard input.
+fn text_named(name: &str) -> Option<&str>
+    ensures { seen result ≡ text_named name.now }
+{
+    match name {
+        "-" => None,
+        _ => Some(name),
+    }
+}
+
+/// Whether the arguments ask for words.
+fn is_verbose(found: &ArgMatches<'_>) -> bool
+    ensures { result ≡ verbose_among (rows_of (found_of found.now)) }
+{
+    match value(found, "verbose") {
+        Some(value) => value == "true",
+        None => false,
+    }
 }
 
 /// The position that the arguments name.
@@ -193,8 +262,7 @@ fn answered<'a>(alloc: Global, error: &Error) -> Plan<'a>
     }
 }
 
-/// The answer to words in which `clap` finds no fault, and that name no run: the profile is neither 1 nor 2, or the
-/// position is no number.
+/// The answer to words in which `clap` finds no fault, and that name no run.
 fn no_run<'a>(alloc: Global, matches: &ArgMatches<'_>) -> Plan<'a>
     ensures { TellsMistake result }
 {
@@ -208,7 +276,8 @@ fn no_run<'a>(alloc: Global, matches: &ArgMatches<'_>) -> Plan<'a>
 fn mistake_in(matches: &ArgMatches<'_>) -> &'static str {
     match matches.subcommand() {
         Some(("explain", found)) if position_in(found).is_none() => NO_POSITION,
-        _ => NO_PROFILE,
+        Some((_, found)) if profile_in(found).is_none() => NO_PROFILE,
+        _ => INPUT_TWICE,
     }
 }
 

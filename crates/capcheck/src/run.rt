@@ -3,19 +3,22 @@
 //!
 //! [`run`] takes words and devices from the runtime. [`answer`] is all the rest, over any texts and any output.
 
-ghost use Rattle.std.specs.Prelude.{◌≡◌, ◌≤◌, None, Some, map};
+ghost use Rattle.std.specs.Prelude.{◌≡◌, ◌≤◌, ◌^◌, IfErr, IfOk, map};
 ghost use Rattle.std.specs.Option.{option_map};
 ghost use Rattle.cap_session.specs.Outcome.{status_of, explain_status_of};
 ghost use Rattle.capcheck.specs.Faults.{fault_code};
 ghost use Rattle.capcheck.specs.Plans.{seen};
 ghost use Rattle.capcheck.specs.Runs.{Finishes, CarriesOut, ChecksText, EditsText, ExplainsText, known_start};
+ghost use Rattle.capcheck.specs.Runs.{EitherMayFail, StartGives};
+ghost use Rattle.capcheck.specs.Texts.{Gives};
 
-use crate::plan::{Plan, plan_of};
+use crate::messages::{Messages, Output};
+use crate::notes::Notes;
+use crate::plan::{Plan, Subject, plan_of};
 use crate::texts::{SystemTexts, Texts};
-use cap_machine::Profile;
 use cap_session::{
-    Counted, ExplainOutcome, Outcome, Sink, check_stream_as, check_stream_from_as, edit_stream_as,
-    explain_stream_as, explain_stream_from_as,
+    Counted, ExplainOutcome, Failed, Outcome, Sink, check_stream_as, check_stream_from_as,
+    edit_stream_as, explain_stream_as, explain_stream_from_as,
 };
 use std::alloc::Global;
 use std::rt::{Env, Files};
@@ -29,7 +32,7 @@ const MISTAKEN: u8 = 2;
 
 /// What standard error says of a word that isn't UTF-8.
 const NO_TEXT: &str = "\
-error: a word of the command line is no UTF-8 text
+error: a word of the command line is not UTF-8 text; a file of such a name can be checked on standard input
 
 Usage: capcheck <COMMAND>
 
@@ -38,23 +41,27 @@ For more information, try '--help'.
 
 /// Does what the words of the command line ask for, and answers the exit status: 0 with no finding and after
 /// help, 1 with findings, 2 for a mistake in the words or a refused line, and 3 where memory ran out, a device
-/// failed or an input had no end. Standard error then has the reason.
-pub fn run<R: Env + Files + Input + Print + Eprint + AllocGlobal>(rt: &R) -> u8
+/// failed or an input had no end. Standard error then has the reason, and where it is a terminal or the words ask for
+/// it, what is wrong in words.
+pub fn run<R: Env + Files + Input + Print + Eprint + AllocGlobal>(rt: &R, is_terminal: bool) -> u8
     ensures { result ≤ 3 }
 {
+    let notes = Notes::new(rt.alloc(), is_terminal);
+    let messages = Messages::without_texts(&notes);
     let args = match args_of(rt) {
         Ok(args) => args,
         Err(error) if error.kind() == io::ErrorKind::OutOfMemory => {
-            return ended(rt, Outcome::Memory);
+            return ended(rt, &messages, Outcome::Memory);
         }
         Err(_) => return mistaken(rt, NO_TEXT),
     };
     let words: Vec<&str> = match args.iter().map(|word| word.as_str()).collect(rt.alloc()) {
         Ok(words) => words,
-        Err(_) => return ended(rt, Outcome::Memory),
+        Err(_) => return ended(rt, &messages, Outcome::Memory),
     };
-    let mut output = Counted::new(io::writer(rt));
-    answer(rt, &SystemTexts::new(rt), &mut output, words.as_slice())
+    let mut output = Counted::new(Output::new(rt, &notes));
+    let texts = SystemTexts::new(rt, &notes);
+    answer(rt, &texts, &notes, &mut output, words.as_slice())
 }
 
 /// The words after the program's name.
@@ -65,10 +72,11 @@ fn args_of<R: Env + AllocGlobal>(rt: &R) -> io::Result<Vec<String>> {
 /// Does what the words ask for over any texts and any output, and answers the exit status.
 ///
 /// The output takes what a check or an edit writes. Where the bytes of the named texts are known, the report,
-/// the replies and the status are those of these bytes.
+/// the replies and the status are those of these bytes. What is said in words is made of the notes.
 pub fn answer<T: Texts, W: Sink, R: Print + Eprint + AllocGlobal>(
     rt: &R,
     texts: &T,
+    notes: &Notes,
     output: &mut W,
     words: &[&str],
 ) -> u8
@@ -76,13 +84,14 @@ pub fn answer<T: Texts, W: Sink, R: Print + Eprint + AllocGlobal>(
     ensures { Finishes (map (λ w. w.now) words.entry.now) (T.known texts.now) (W.state output.old)
         (W.state output.new) result }
 {
-    carry_out(rt, texts, output, plan_of(rt.alloc(), words))
+    carry_out(rt, texts, notes, output, plan_of(rt.alloc(), words))
 }
 
 /// Does what a plan says, and answers the exit status.
 fn carry_out<T: Texts, W: Sink, R: Print + Eprint + AllocGlobal>(
     rt: &R,
     texts: &T,
+    notes: &Notes,
     output: &mut W,
     plan: Plan<'_>,
 ) -> u8
@@ -90,42 +99,61 @@ fn carry_out<T: Texts, W: Sink, R: Print + Eprint + AllocGlobal>(
     ensures { CarriesOut (T.known texts.now) (W.state output.old) (W.state output.new) plan.entry result }
 {
     match plan {
-        Plan::Check {
-            trace,
-            start,
-            profile,
-        } => {
-            let outcome = check(rt.alloc(), texts, output, profile, start, trace);
-            ended(rt, outcome)
+        Plan::Check(subject) => {
+            let messages = Messages::of(notes, &subject);
+            let outcome = check(rt.alloc(), texts, output, &subject);
+            ended(rt, &messages, outcome)
         }
-        Plan::Edit {
-            trace,
-            script,
-            profile,
-        } => {
-            let outcome = edit(rt.alloc(), texts, output, profile, trace, script);
-            ended(rt, outcome)
+        Plan::Edit { subject, script } => {
+            let messages = Messages::of_script(rt.alloc(), notes, &subject, script);
+            let outcome = edit(rt.alloc(), texts, output, &subject, script);
+            ended(rt, &messages, outcome)
         }
-        Plan::Explain {
-            trace,
-            position,
-            start,
-            profile,
-        } => {
-            let outcome = explain(rt.alloc(), texts, output, profile, start, trace, position);
-            ended_explaining(rt, outcome)
+        Plan::Explain { subject, position } => {
+            let messages = Messages::of(notes, &subject);
+            let outcome = explain(rt.alloc(), texts, output, &subject, position);
+            ended_explaining(rt, &messages, outcome, position)
         }
         Plan::Help(text) => match rt.print(text) {
             Ok(()) => 0,
-            Err(_) => ended(rt, Outcome::WriteFault),
+            Err(error) => {
+                notes.fail(error);
+                ended(rt, &Messages::without_texts(notes), Outcome::WriteFault)
+            }
         },
         Plan::Usage(text) => mistaken(rt, text.as_str()),
-        Plan::Memory => ended(rt, Outcome::Memory),
+        Plan::Memory => ended(rt, &Messages::without_texts(notes), Outcome::Memory),
     }
 }
 
-/// Checks the trace of this name in a profile, from the start of this name or from the usual one, and writes its
-/// report or its first refused line.
+/// Opens the start, where there is one, and then the trace.
+fn open_both<T: Texts>(
+    texts: &T,
+    subject: &Subject<'_>,
+) -> Result<(Option<T::Reader>, T::Reader), Failed>
+    ensures start { IfOk result
+        (λ r. StartGives T.Reader.state (known_start (T.known texts.now) subject.now.start) r.0) }
+    ensures trace { IfOk result
+        (λ r. Gives (T.known texts.now (seen subject.now.trace)) (T.Reader.state r.1).bytes) }
+    ensures room { IfOk result (λ r. 2 ^ 32 ≤ (T.Reader.state r.1).room) }
+    ensures fails { IfErr result (λ _. EitherMayFail (known_start (T.known texts.now) subject.now.start)
+        (T.known texts.now (seen subject.now.trace))) }
+{
+    match subject.start {
+        None => {
+            let trace = texts.open(subject.trace)?;
+            Ok((None, trace))
+        }
+        Some(start) => {
+            let start = texts.open(start)?;
+            let trace = texts.open(subject.trace)?;
+            Ok((Some(start), trace))
+        }
+    }
+}
+
+/// Checks the trace in the profile, from the start or from the usual one, and writes its report or its first refused
+/// line.
 ///
 /// The start is opened first, and both are opened before either is read. Neither stream is buffered here: a piece
 /// is read by one system call, and the report is written by one where the system takes it whole.
@@ -133,146 +161,72 @@ pub fn check<T: Texts, W: Sink>(
     alloc: Global,
     texts: &T,
     report: &mut W,
-    profile: Profile,
-    start: Option<&str>,
-    trace: Option<&str>,
+    subject: &Subject<'_>,
 ) -> Outcome
     requires { 1 ≤ (W.state report.old).room }
-    ensures { ChecksText profile (known_start (T.known texts.now) start.entry) (T.known texts.now (seen trace.entry))
-        (W.state report.old) (W.state report.new) result }
+    ensures { ChecksText subject.now.profile (known_start (T.known texts.now) subject.now.start)
+        (T.known texts.now (seen subject.now.trace)) (W.state report.old) (W.state report.new) result }
 {
+    let Ok(opened) = open_both(texts, subject) else {
+        return Outcome::ReadFault;
+    };
+    let (start, mut trace) = opened;
+    let profile = subject.profile;
     match start {
-        None => check_usual(alloc, texts, report, profile, trace),
-        Some(start) => check_from(alloc, texts, report, profile, start, trace),
+        None => check_stream_as(alloc, profile, TURNS, &mut trace, report),
+        Some(mut start) => {
+            check_stream_from_as(alloc, profile, TURNS, &mut start, &mut trace, report)
+        }
     }
 }
 
-/// Checks the trace of this name from the usual start.
-fn check_usual<T: Texts, W: Sink>(
-    alloc: Global,
-    texts: &T,
-    report: &mut W,
-    profile: Profile,
-    trace: Option<&str>,
-) -> Outcome
-    requires { 1 ≤ (W.state report.old).room }
-    ensures { ChecksText profile None (T.known texts.now (seen trace.entry)) (W.state report.old)
-        (W.state report.new) result }
-{
-    let Ok(mut trace) = texts.open(trace) else {
-        return Outcome::ReadFault;
-    };
-    check_stream_as(alloc, profile, TURNS, &mut trace, report)
-}
-
-/// Checks the trace of this name from the start of this name.
-fn check_from<T: Texts, W: Sink>(
-    alloc: Global,
-    texts: &T,
-    report: &mut W,
-    profile: Profile,
-    start: &str,
-    trace: Option<&str>,
-) -> Outcome
-    requires { 1 ≤ (W.state report.old).room }
-    ensures { ChecksText profile (Some (T.known texts.now (Some start.now))) (T.known texts.now (seen trace.entry))
-        (W.state report.old) (W.state report.new) result }
-{
-    let Ok(mut start) = texts.open(Some(start)) else {
-        return Outcome::ReadFault;
-    };
-    let Ok(mut trace) = texts.open(trace) else {
-        return Outcome::ReadFault;
-    };
-    check_stream_from_as(alloc, profile, TURNS, &mut start, &mut trace, report)
-}
-
-/// Works through the script of this name over the trace of this name in a profile, and writes the reply to each of
-/// its lines before the next is looked at. The trace is opened first, and both are opened before either is read.
+/// Works through the script of this name, or standard input, over the trace in the profile, and writes the reply to each
+/// of its lines before the next is looked at. The trace is opened first, and both are opened before either is read.
 pub fn edit<T: Texts, W: Sink>(
     alloc: Global,
     texts: &T,
     replies: &mut W,
-    profile: Profile,
-    trace: &str,
+    subject: &Subject<'_>,
     script: Option<&str>,
 ) -> Outcome
     requires { 1 ≤ (W.state replies.old).room }
-    ensures { EditsText profile (T.known texts.now (Some trace.now)) (T.known texts.now (seen script.entry))
-        (W.state replies.old) (W.state replies.new) result }
+    ensures { EditsText subject.now.profile (T.known texts.now (seen subject.now.trace))
+        (T.known texts.now (seen script.entry)) (W.state replies.old) (W.state replies.new) result }
 {
-    let Ok(mut trace) = texts.open(Some(trace)) else {
+    let Ok(mut trace) = texts.open(subject.trace) else {
         return Outcome::ReadFault;
     };
     let Ok(mut script) = texts.open(script) else {
         return Outcome::ReadFault;
     };
+    let profile = subject.profile;
     edit_stream_as(alloc, profile, TURNS, &mut trace, &mut script, replies)
 }
 
-/// Explains a line of the trace of this name in a profile, from the start of this name or from the usual one, and
-/// writes that, or why there is no explanation. The start is opened first, and both are opened before either is read.
+/// Explains a line of the trace in the profile, from the start or from the usual one, and writes that, or why there is
+/// no explanation. The start is opened first, and both are opened before either is read.
 pub fn explain<T: Texts, W: Sink>(
     alloc: Global,
     texts: &T,
     output: &mut W,
-    profile: Profile,
-    start: Option<&str>,
-    trace: &str,
+    subject: &Subject<'_>,
     position: usize,
 ) -> ExplainOutcome
     requires { 1 ≤ (W.state output.old).room }
-    ensures { ExplainsText profile position (known_start (T.known texts.now) start.entry)
-        (T.known texts.now (Some trace.now)) (W.state output.old) (W.state output.new) result }
+    ensures { ExplainsText subject.now.profile position (known_start (T.known texts.now) subject.now.start)
+        (T.known texts.now (seen subject.now.trace)) (W.state output.old) (W.state output.new) result }
 {
+    let Ok(opened) = open_both(texts, subject) else {
+        return ExplainOutcome::Ended(Outcome::ReadFault);
+    };
+    let (start, mut trace) = opened;
+    let profile = subject.profile;
     match start {
-        None => explain_usual(alloc, texts, output, profile, trace, position),
-        Some(start) => explain_from(alloc, texts, output, profile, start, trace, position),
+        None => explain_stream_as(alloc, profile, TURNS, position, &mut trace, output),
+        Some(mut start) => explain_stream_from_as(
+            alloc, profile, TURNS, position, &mut start, &mut trace, output,
+        ),
     }
-}
-
-/// Explains a line of the trace of this name from the usual start.
-fn explain_usual<T: Texts, W: Sink>(
-    alloc: Global,
-    texts: &T,
-    output: &mut W,
-    profile: Profile,
-    trace: &str,
-    position: usize,
-) -> ExplainOutcome
-    requires { 1 ≤ (W.state output.old).room }
-    ensures { ExplainsText profile position None (T.known texts.now (Some trace.now)) (W.state output.old)
-        (W.state output.new) result }
-{
-    let Ok(mut trace) = texts.open(Some(trace)) else {
-        return ExplainOutcome::Ended(Outcome::ReadFault);
-    };
-    explain_stream_as(alloc, profile, TURNS, position, &mut trace, output)
-}
-
-/// Explains a line of the trace of this name from the start of this name.
-fn explain_from<T: Texts, W: Sink>(
-    alloc: Global,
-    texts: &T,
-    output: &mut W,
-    profile: Profile,
-    start: &str,
-    trace: &str,
-    position: usize,
-) -> ExplainOutcome
-    requires { 1 ≤ (W.state output.old).room }
-    ensures { ExplainsText profile position (Some (T.known texts.now (Some start.now)))
-        (T.known texts.now (Some trace.now)) (W.state output.old) (W.state output.new) result }
-{
-    let Ok(mut start) = texts.open(Some(start)) else {
-        return ExplainOutcome::Ended(Outcome::ReadFault);
-    };
-    let Ok(mut trace) = texts.open(Some(trace)) else {
-        return ExplainOutcome::Ended(Outcome::ReadFault);
-    };
-    explain_stream_from_as(
-        alloc, profile, TURNS, position, &mut start, &mut trace, output,
-    )
 }
 
 /// Prints on standard error what is wrong with the words; whether that can be written doesn't matter.
@@ -283,25 +237,34 @@ fn mistaken<R: Eprint>(rt: &R, text: &str) -> u8
     MISTAKEN
 }
 
-/// The exit status of an outcome. What kept the program from an answer is printed on standard error; whether
-/// that can be written doesn't matter.
-fn ended<R: Eprint>(rt: &R, outcome: Outcome) -> u8
+/// The exit status of an outcome. What kept the program from an answer is said in words, where they are wanted, and
+/// printed as a code; whether that can be written doesn't matter.
+fn ended<R: Eprint + AllocGlobal>(rt: &R, messages: &Messages<'_, '_>, outcome: Outcome) -> u8
     ensures { result ≡ status_of outcome }
 {
+    messages.tell(rt, outcome);
     if let Some(code) = code_of_fault(outcome) {
         let _ = eprintln!(rt; "capcheck: {code}");
     }
     outcome.status()
 }
 
-/// The exit status of a call that explains a line, as [`ended`] has it. Where there is no such line it is that of a
-/// refused one.
-fn ended_explaining<R: Eprint>(rt: &R, how: ExplainOutcome) -> u8
+/// The exit status of a call that explains the line at a position, as [`ended`] has it. Where there is no such line it
+/// is that of a refused one.
+fn ended_explaining<R: Eprint + AllocGlobal>(
+    rt: &R,
+    messages: &Messages<'_, '_>,
+    how: ExplainOutcome,
+    position: usize,
+) -> u8
     ensures { result ≡ explain_status_of how }
 {
     match how {
-        ExplainOutcome::Ended(outcome) => ended(rt, outcome),
-        ExplainOutcome::OutOfRange => how.status(),
+        ExplainOutcome::Ended(outcome) => ended(rt, messages, outcome),
+        ExplainOutcome::OutOfRange => {
+            messages.tell_no_line(rt, position);
+            how.status()
+        }
     }
 }
 

@@ -6,6 +6,7 @@ ghost use Rattle.std.specs.Prelude.{◌≡◌, ◌^◌, ◌≤◌, List, ℕ, Op
 ghost use Rattle.std.specs.Option.{option_map};
 ghost use Rattle.capcheck.specs.Texts.{Gives, Known, MayFail, is_file, remaining_of, unknown};
 
+use crate::notes::{Noted, Notes};
 use cap_session::{Counted, Failed, Source};
 use std::fs::File;
 use std::io;
@@ -28,27 +29,35 @@ pub trait Texts {
         ensures fails { IfErr result (λ _. MayFail (known self.now (option_map (λ n. n.now) name.entry))) };
 }
 
-/// The files of the system and standard input. Of their bytes nothing is known.
+/// The files of the system and standard input, with notes of what is read. Of their bytes nothing is known.
 #[derive(Drop)]
 pub struct SystemTexts<'a, R> {
     rt: &'a R,
+    notes: &'a Notes,
 }
 
 impl<'a, R> SystemTexts<'a, R> {
-    pub fn new(rt: &'a R) -> SystemTexts<'a, R> {
-        SystemTexts { rt }
+    pub fn new(rt: &'a R, notes: &'a Notes) -> SystemTexts<'a, R> {
+        SystemTexts { rt, notes }
     }
 }
 
 impl<'a, R: Files + Input> Texts for SystemTexts<'a, R> {
-    type Reader = Counted<Opened<R::File, R::Reader>>;
+    type Reader = Counted<Noted<'a, Opened<R::File, R::Reader>>>;
 
     ghost known = { λ _ _. unknown };
 
-    fn open(&self, name: Option<&str>) -> Result<Counted<Opened<R::File, R::Reader>>, Failed> {
+    fn open(
+        &self,
+        name: Option<&str>,
+    ) -> Result<Counted<Noted<'a, Opened<R::File, R::Reader>>>, Failed> {
+        let number = self.notes.open();
         match open(self.rt, name) {
-            Ok(opened) => Ok(Counted::new(opened)),
-            Err(_) => Err(Failed),
+            Ok(opened) => Ok(Counted::new(Noted::new(opened, number, self.notes))),
+            Err(error) => {
+                self.notes.fail(error);
+                Err(Failed)
+            }
         }
     }
 }

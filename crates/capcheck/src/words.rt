@@ -7,10 +7,10 @@ ghost use Rattle.clap.specs.declared.builder.command.Command.TheViews.{out-Comma
 ghost use Rattle.capcheck.specs.CommandLine.{bare_words, capcheck, check_words, edit_words, explain_words};
 ghost use Rattle.capcheck.specs.CommandLine.{check_trace_words, edit_texts_words, explain_line_words};
 ghost use Rattle.capcheck.specs.CommandLine.{needed_trace_rule, position_rule, profile_rule, script_rule, start_rule};
-ghost use Rattle.capcheck.specs.CommandLine.{trace_rule};
+ghost use Rattle.capcheck.specs.CommandLine.{trace_rule, verbose_rule};
 
 use crate::help;
-use clap::{Arg, Command};
+use clap::{Arg, ArgAction, Command};
 use std::alloc::{AllocError, Global};
 
 /// The command line of this program: `specs/CommandLine.antt` has it as a value.
@@ -32,19 +32,19 @@ fn bare_command<'a>(alloc: Global) -> Result<Command<'a>, AllocError>
         .after_help(help::PROGRAM)
         .version(help::VERSION)
         .no_binary_name(true)
-        .disable_help_subcommand(true)
         .subcommand_required(true)
         .bin_name("capcheck")
 }
 
-/// `check [FILE]`, with `--start` and `--profile`.
+/// `check [FILE]`, with `--start` and the options.
 fn check_command<'a>(alloc: Global) -> Result<Command<'a>, AllocError>
     ensures shape { IfOk result (λ c. shape_of c ≡ check_words.top) }
     ensures local { IfOk result (λ c. (out-Command c).has_globals ≡ false) }
 {
     check_trace_command(alloc)?
         .arg(start_arg(alloc))?
-        .arg(profile_arg(alloc))
+        .arg(profile_arg(alloc))?
+        .arg(verbose_arg(alloc))
 }
 
 /// `check [FILE]`.
@@ -65,37 +65,55 @@ fn trace_arg<'a>(alloc: Global) -> Arg<'a>
 {
     Arg::new(alloc, "trace")
         .value_name("FILE")
-        .help("The trace; standard input where none is named")
+        .help("The trace; standard input where it is - or absent")
 }
 
-/// `--start FILE`.
+/// `-s FILE`, `--start FILE`.
 fn start_arg<'a>(alloc: Global) -> Arg<'a>
     ensures rule { rule_of result ≡ start_rule }
     ensures local { result.global ≡ false }
 {
     Arg::new(alloc, "start")
+        .short('s')
         .long("start")
         .value_name("FILE")
         .help("What is known of processes before the trace; by default nothing")
 }
 
-/// `--profile NUMBER`.
+/// `-p NUMBER`, `--profile NUMBER`.
 fn profile_arg<'a>(alloc: Global) -> Arg<'a>
     ensures rule { rule_of result ≡ profile_rule }
     ensures local { result.global ≡ false }
 {
     Arg::new(alloc, "profile")
+        .short('p')
         .long("profile")
         .value_name("NUMBER")
         .help("1, or 2 to follow close-on-exec flags and closefrom(2); by default 1")
 }
 
-/// `edit FILE [SCRIPT]`, with `--profile`.
+/// `-v`, `--verbose`.
+fn verbose_arg<'a>(alloc: Global) -> Arg<'a>
+    ensures rule { rule_of result ≡ verbose_rule }
+    ensures local { result.global ≡ false }
+{
+    Arg::new(alloc, "verbose")
+        .short('v')
+        .long("verbose")
+        .action(ArgAction::SetTrue)
+        .help(
+            "Says on standard error, in words, why there is no report; a terminal gets them in any case",
+        )
+}
+
+/// `edit FILE [SCRIPT]`, with the options.
 fn edit_command<'a>(alloc: Global) -> Result<Command<'a>, AllocError>
     ensures shape { IfOk result (λ c. shape_of c ≡ edit_words.top) }
     ensures local { IfOk result (λ c. (out-Command c).has_globals ≡ false) }
 {
-    edit_texts_command(alloc)?.arg(profile_arg(alloc))
+    edit_texts_command(alloc)?
+        .arg(profile_arg(alloc))?
+        .arg(verbose_arg(alloc))
 }
 
 /// `edit FILE [SCRIPT]`.
@@ -128,17 +146,18 @@ fn script_arg<'a>(alloc: Global) -> Arg<'a>
 {
     Arg::new(alloc, "script")
         .value_name("SCRIPT")
-        .help("The script; standard input where none is named")
+        .help("The script; standard input where it is - or absent")
 }
 
-/// `explain FILE K`, with `--start` and `--profile`.
+/// `explain FILE K`, with `--start` and the options.
 fn explain_command<'a>(alloc: Global) -> Result<Command<'a>, AllocError>
     ensures shape { IfOk result (λ c. shape_of c ≡ explain_words.top) }
     ensures local { IfOk result (λ c. (out-Command c).has_globals ≡ false) }
 {
     explain_line_command(alloc)?
         .arg(start_arg(alloc))?
-        .arg(profile_arg(alloc))
+        .arg(profile_arg(alloc))?
+        .arg(verbose_arg(alloc))
 }
 
 /// `explain FILE K`.

@@ -1,0 +1,438 @@
+//! What is wrong with a refused line, in words: [`wrong_in`] for a line of a trace, and [`wrong_in_start`] for one of a
+//! start. No contract reads it: the code is what the contracts are about, and these words only say more of it.
+//!
+//! Which argument is wrong is asked of the reader of lines itself: it reads the call with other arguments in the place
+//! of those that are given.
+
+use cap_rights::parse_rights;
+use cap_session::number_of;
+use cap_trace::{LineFault, parse_line};
+use std::alloc::{AllocError, Global};
+use std::fmt;
+
+/// So many characters of a line are shown.
+const MOST_SHOWN: usize = 60;
+
+/// So many bytes a command of a script may have.
+const LONGEST_COMMAND: usize = 1056;
+
+/// What a word isn't that stands in the place of a pid.
+const NO_PID: &str = "is not a pid, a number from 1 to 99999 without a leading zero";
+
+/// What is wrong with a line.
+#[derive(Clone, Copy)]
+pub enum Wrong<'a> {
+    Said(&'static str),
+    /// This text is wrong, for this reason.
+    Is(&'a str, &'static str),
+    /// There is something else, and this text in its place.
+    Has(&'static str, &'a str),
+    /// The call of this name takes these arguments, and was given those.
+    Takes(&'a str, &'static str, &'a str),
+}
+
+impl fmt::Display for Wrong<'_> {
+    fn fmt<W: fmt::Write>(&self, f: &mut fmt::Formatter<W>) -> fmt::Result {
+        match *self {
+            Wrong::Said(said) => f.write_str(said),
+            Wrong::Is(text, said) => {
+                let text = Shown::of(text);
+                write!(f, "{text} {said}")
+            }
+            Wrong::Has(said, text) => {
+                let text = Shown::of(text);
+                write!(f, "{said}, but {text}")
+            }
+            Wrong::Takes(name, takes, given) => {
+                let name = Shown::of(name);
+                let given = Shown::of(given);
+                write!(f, "{name} takes {takes}, but here it has ({given})")
+            }
+        }
+    }
+}
+
+/// A text as it is shown: so many characters from its beginning, with control characters escaped.
+#[derive(Clone, Copy)]
+pub struct Shown<'a> {
+    pub text: &'a str,
+    pub most: usize,
+}
+
+impl<'a> Shown<'a> {
+    /// A part of a line.
+    fn of(text: &'a str) -> Shown<'a> {
+        Shown {
+            text,
+            most: MOST_SHOWN,
+        }
+    }
+}
+
+impl fmt::Display for Shown<'_> {
+    fn fmt<W: fmt::Write>(&self, f: &mut fmt::Formatter<W>) -> fmt::Result {
+        for c in self.text.chars().take(self.most) {
+            if c.is_control() {
+                let code = c as u32;
+                write!(f, "\\x{code:02x}")?;
+            } else {
+                f.write_char(c)?;
+            }
+        }
+        if self.text.chars().nth(self.most).is_some() {
+            f.write_str("..")?;
+        }
+        Ok(())
+    }
+}
+
+/// What is wrong with a line of a trace that is refused with this code.
+pub fn wrong_in<'a>(alloc: Global, line: &'a [u8], code: u8) -> Wrong<'a> {
+    if let Some(wrong) = wrong_bytes(line) {
+        return wrong;
+    }
+    let Ok(line) = std::str::from_utf8(line) else {
+        return general(code);
+    };
+    match code {
+        2 => wrong_shape(line),
+        3 => wrong_pid(line),
+        4 => wrong_argument(alloc, line).unwrap_or(general(code)),
+        5 => wrong_right(line),
+        6 => wrong_result(line),
+        _ => general(code),
+    }
+}
+
+/// What is wrong with a command of a script that is refused with this code: mostly the line in it, behind two words.
+pub fn wrong_in_command<'a>(alloc: Global, command: &'a [u8], code: u8) -> Wrong<'a> {
+    if let Some(wrong) = wrong_bytes(command) {
+        return wrong;
+    }
+    let Ok(command) = std::str::from_utf8(command) else {
+        return general(code);
+    };
+    match (code, command.splitn(3, ' ').nth(2)) {
+        (1, _) if command.len() > LONGEST_COMMAND => {
+            Wrong::Said("the command has more than 1,056 bytes")
+        }
+        (10, _) => Wrong::Is(command, "is not a command"),
+        (_, Some(line)) => wrong_in(alloc, line.as_bytes(), code),
+        (_, None) => general(code),
+    }
+}
+
+/// What a code stands for.
+pub fn general<'a>(code: u8) -> Wrong<'a> {
+    Wrong::Said(match code {
+        1 => "the line has more than 1,024 bytes",
+        2 => "the line is neither PID NAME(ARGUMENTS) RET RESULT nor PID @NAME(ARGUMENTS)",
+        3 => "no pid at the start of the line",
+        4 => "an argument is wrong, or their number",
+        5 => "a right is wrong",
+        6 => "the result is none that the call can have",
+        7 => "there is no such position",
+        8 => "a trace has at most 1,000,000 lines",
+        10 => "there is no such command",
+        _ => "memory ran out",
+    })
+}
+
+/// What is wrong with any line that begins or ends so, or isn't UTF-8.
+fn wrong_bytes<'a>(line: &[u8]) -> Option<Wrong<'a>> {
+    if line.starts_with(b"\xef\xbb\xbf") {
+        return Some(Wrong::Said("a byte order mark at the start of the line"));
+    }
+    if line.starts_with(b"\xff\xfe") || line.starts_with(b"\xfe\xff") {
+        return Some(Wrong::Said("the text is UTF-16, and not ASCII or UTF-8"));
+    }
+    if line.ends_with(b"\r") {
+        return Some(Wrong::Said("a carriage return at the end of the line"));
+    }
+    None
+}
+
+/// What is wrong with the shape of a line.
+fn wrong_shape(line: &str) -> Wrong<'_> {
+    let Some((_, call)) = line.split_once(' ') else {
+        return Wrong::Said("the line ends after the pid");
+    };
+    let Some((name, rest)) = call.split_once('(') else {
+        return Wrong::Has("no name and ( after the pid", call);
+    };
+    if !is_name(name.strip_prefix('@').unwrap_or(name)) {
+        return Wrong::Is(name, "is not the name of a call or a marker");
+    }
+    let Some((_, end)) = rest.rsplit_once(')') else {
+        return Wrong::Has("no ) after the arguments", rest);
+    };
+    if name.starts_with('@') {
+        return Wrong::Is(end, "follows the marker");
+    }
+    match rest.split_once(") RET ") {
+        None => Wrong::Has("no RET and result after the arguments", end),
+        Some(_) => Wrong::Has("the arguments don't end at the first )", rest),
+    }
+}
+
+/// Whether a call or a marker may have this name.
+fn is_name(name: &str) -> bool {
+    !name.is_empty()
+        && !name.starts_with(|c: char| c.is_ascii_digit())
+        && name.bytes().all(|byte| byte.is_ascii_lowercase()
+            || byte.is_ascii_digit()
+            || byte == b'_')
+}
+
+/// What is wrong with the pid of a line.
+fn wrong_pid(line: &str) -> Wrong<'_> {
+    let word = match line.split_once(' ') {
+        Some((word, _)) => word,
+        None => line,
+    };
+    if !word.is_empty() && word.bytes().all(|byte| byte.is_ascii_digit()) {
+        return Wrong::Is(word, NO_PID);
+    }
+    if line.contains(" = ") || line.contains(" ERR#") {
+        return Wrong::Said(
+            "no pid at the start of the line (a truss recording? convert it with capcheck-truss)",
+        );
+    }
+    Wrong::Has("no pid at the start of the line", line)
+}
+
+/// What is wrong with the rights of a line: they are the last argument.
+fn wrong_right(line: &str) -> Wrong<'_> {
+    let (_, args) = call_of(line);
+    let Some((_, rights)) = args.rsplit_once(',') else {
+        return general(5);
+    };
+    wrong_among(rights)
+}
+
+/// The first of these rights that is none.
+fn wrong_among(rights: &str) -> Wrong<'_> {
+    for right in rights.split('|') {
+        if parse_rights(right.as_bytes()).is_err() {
+            return Wrong::Is(right, "is not a right");
+        }
+    }
+    Wrong::Is(rights, "is not a list of rights")
+}
+
+/// What is wrong with the result of a line.
+fn wrong_result(line: &str) -> Wrong<'_> {
+    match line.rsplit_once(") RET ") {
+        Some((_, result)) => Wrong::Is(result, "is not a result that the call can have"),
+        None => general(6),
+    }
+}
+
+/// The name of the call or the marker in a line, and its arguments.
+fn call_of(line: &str) -> (&str, &str) {
+    let call = match line.split_once(' ') {
+        Some((_, call)) => call,
+        None => line,
+    };
+    let Some((name, rest)) = call.split_once('(') else {
+        return (call, "");
+    };
+    let args = match rest.rsplit_once(") RET ") {
+        Some((args, _)) => args,
+        None => rest.strip_suffix(')').unwrap_or(rest),
+    };
+    (name, args)
+}
+
+/// Arguments that calls of some form have, and what they are in words. The first that a call takes are those of its form.
+const FORMS: [(&str, &str); 17] = [
+    ("3,3", "two descriptors"),
+    ("3,DEST", "a descriptor, and maybe DEST"),
+    ("3", "a descriptor"),
+    ("O_RDONLY", "flags"),
+    ("\"a\"", "a path"),
+    ("3,0", "a descriptor and flags"),
+    (
+        "3,F_GETFL",
+        "a descriptor, a command, and flags after F_SETFD or a descriptor after F_DUP2FD",
+    ),
+    ("3,CAP_READ", "a descriptor and rights"),
+    ("\"a\",0", "a path and flags"),
+    ("\"a\",\"a\"", "two paths"),
+    ("AT_FDCWD,\"a\"", "a directory and a path"),
+    ("3,0,0", "a descriptor, the protection and flags"),
+    ("AT_FDCWD,\"a\",0", "a directory, a path and flags"),
+    ("\"a\",AT_FDCWD,\"a\"", "a path, a directory and a path"),
+    (
+        "AT_FDCWD,\"a\",AT_FDCWD,\"a\"",
+        "twice a directory and a path",
+    ),
+    (
+        "AT_FDCWD,\"a\",AT_FDCWD,\"a\",0",
+        "twice a directory and a path, and flags",
+    ),
+    ("", "no arguments"),
+];
+
+/// What is wrong with the arguments of a line. Nothing where that can't be found out.
+fn wrong_argument<'a>(alloc: Global, line: &'a str) -> Option<Wrong<'a>> {
+    let (name, args) = call_of(line);
+    if fits(alloc, name, args)? {
+        return Some(Wrong::Said("the result is not the descriptor that the arguments name"));
+    }
+    if name == "@start" {
+        let takes = "descriptors, each above the one before";
+        return Some(Wrong::Takes(name, takes, args));
+    }
+    for (fitting, takes) in FORMS {
+        if fits(alloc, name, fitting)? {
+            let wrong = first_wrong(alloc, name, fitting, args);
+            return Some(wrong.unwrap_or(Wrong::Takes(name, takes, args)));
+        }
+    }
+    None
+}
+
+/// Whether the call or the marker of this name takes these arguments. Nothing where memory runs out.
+fn fits(alloc: Global, name: &str, args: &str) -> Option<bool> {
+    let answer = if name.starts_with('@') { "" } else { " RET x" };
+    let line = format!(in alloc; "1 {name}({args}){answer}").ok()?;
+    match parse_line(alloc, line.as_bytes()) {
+        Ok(_) => Some(true),
+        Err(LineFault::Memory) => None,
+        Err(fault) => Some(fault == LineFault::Answer),
+    }
+}
+
+/// The first argument that the call doesn't take in the place of the fitting one. Nothing where there are not as many.
+fn first_wrong<'a>(alloc: Global, name: &str, fitting: &str, args: &'a str) -> Option<Wrong<'a>> {
+    if args.is_empty() || fitting.is_empty() {
+        return None;
+    }
+    let fitting = parts(alloc, fitting).ok()?;
+    let given = parts(alloc, args).ok()?;
+    if given.len() != fitting.len() {
+        return None;
+    }
+    for (place, part) in given.iter().enumerate() {
+        let tried = with_part(alloc, fitting.as_slice(), place, part).ok()?;
+        if !fits(alloc, name, tried.as_str())? {
+            return Some(Wrong::Is(part, kind_of(fitting.get(place)?)));
+        }
+    }
+    None
+}
+
+/// Arguments, cut at the commas that don't stand in quotes.
+fn parts(alloc: Global, args: &str) -> Result<Vec<&str>, AllocError> {
+    let mut in_quotes = false;
+    let mut is_escaped = false;
+    args.split(|c: char| {
+        let is_quote = c == '"' && !is_escaped;
+        is_escaped = c == '\\' && !is_escaped;
+        in_quotes = in_quotes != is_quote;
+        c == ',' && !in_quotes
+    })
+    .collect(alloc)
+}
+
+/// Arguments, with this one at a place.
+fn with_part(alloc: Global, args: &[&str], place: usize, part: &str) -> Result<String, AllocError> {
+    let mut all = String::new(alloc);
+    for (at, one) in args.iter().enumerate() {
+        if at > 0 {
+            all.push(',')?;
+        }
+        all.push_str(if at == place { part } else { one })?;
+    }
+    Ok(all)
+}
+
+/// What a wrong argument isn't, by one that fits.
+fn kind_of(fitting: &str) -> &'static str {
+    match fitting {
+        "3" => "is not a descriptor",
+        "AT_FDCWD" => "is not a directory, a descriptor or AT_FDCWD",
+        "\"a\"" => "is not a path in double quotes",
+        "0" | "O_RDONLY" => "is not flags, 0 or names with | between them",
+        "F_GETFL" => "is not a command",
+        _ => "is not what stands there",
+    }
+}
+
+/// What is wrong with a line of a start that is refused with this code.
+pub fn wrong_in_start<'a>(line: &'a [u8], code: u8) -> Wrong<'a> {
+    if let Some(wrong) = wrong_bytes(line) {
+        return wrong;
+    }
+    match std::str::from_utf8(line) {
+        Ok(line) if code != 1 => wrong_field(line, code).unwrap_or(general(code)),
+        _ => general(code),
+    }
+}
+
+/// The first field of a line of a start that is wrong.
+fn wrong_field<'a>(line: &'a str, code: u8) -> Option<Wrong<'a>> {
+    let mut words = line.split(' ');
+    let pid = words.next()?;
+    if matches!(number_to(99_999, pid), None | Some(0)) {
+        return Some(Wrong::Is(pid, NO_PID));
+    }
+    if code == 3 {
+        return Some(Wrong::Is(pid, "is not above the pid before it"));
+    }
+    let Some(mode) = words.next() else {
+        return Some(Wrong::Said("the line ends before the mode"));
+    };
+    if !matches!(mode, "in" | "out" | "unsure") {
+        return Some(Wrong::Is(mode, "is not in, out or unsure"));
+    }
+    let Some(others) = words.next() else {
+        return Some(Wrong::Said("the line ends before what all other descriptors are"));
+    };
+    if let Some(wrong) = wrong_state(others) {
+        return Some(wrong);
+    }
+    let mut last = None;
+    for word in words {
+        match listed(word, last) {
+            Ok(fd) => last = Some(fd),
+            Err(wrong) => return Some(wrong),
+        }
+    }
+    None
+}
+
+/// The number that a word spells, up to this one.
+fn number_to(most: usize, word: &str) -> Option<usize> {
+    let number = number_of(word.as_bytes())?;
+    if number <= most { Some(number) } else { None }
+}
+
+/// What is wrong with what a descriptor is said to be.
+fn wrong_state<'a>(state: &'a str) -> Option<Wrong<'a>> {
+    if matches!(state, "unknown" | "closed") || parse_rights(state.as_bytes()).is_ok() {
+        None
+    } else if state.contains("CAP_") {
+        Some(wrong_among(state))
+    } else {
+        Some(Wrong::Is(state, "is not unknown, closed or rights"))
+    }
+}
+
+/// The descriptor of a word that lists one, or what is wrong with it.
+fn listed<'a>(word: &'a str, last: Option<usize>) -> Result<usize, Wrong<'a>> {
+    let Some((fd, state)) = word.split_once('=') else {
+        return Err(Wrong::Is(word, "is not a descriptor, = and what it is"));
+    };
+    let Some(number) = number_to(1_048_575, fd) else {
+        return Err(Wrong::Is(fd, "is not a descriptor"));
+    };
+    if last.is_some_and(|last| number <= last) {
+        return Err(Wrong::Is(fd, "is not above the descriptor before it"));
+    }
+    match wrong_state(state) {
+        Some(wrong) => Err(wrong),
+        None => Ok(number),
+    }
+}
