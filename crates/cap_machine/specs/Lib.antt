@@ -12,6 +12,8 @@ pub mod Judge
 pub mod Check
 pub mod Report
 pub mod Laws
+pub mod Live
+pub mod LimitLaws
 pub mod ProfileLaws
 pub mod Composed
 pub mod Named

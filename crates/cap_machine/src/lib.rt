@@ -33,6 +33,7 @@ mod effects;
 mod explaining;
 mod flags;
 mod laws;
+mod limit_laws;
 mod machine;
 mod needs;
 mod origin;
@@ -55,6 +56,10 @@ pub use explaining::{Explanation, explain};
 pub use laws::{
     no_alarm_lost, positions_are_within, profiles_agree, rules_name_what_stands_there,
     touches_what_it_names, traces_in_turn,
+};
+pub use limit_laws::{
+    all_limits_are_enough, all_limits_are_least, blocked_is_forbidden, limits_are_enough,
+    limits_are_least,
 };
 pub use machine::Machine;
 pub use origin::{
