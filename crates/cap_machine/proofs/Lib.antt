@@ -29,3 +29,6 @@ pub mod ModeMatters
 pub mod CellChains
 pub mod ModeChains
 pub mod Explained
+pub mod LimitBits
+pub mod LimitFindings
+pub mod LimitEnter

@@ -1,5 +1,6 @@
 -- Limits to the live rights, put in at one place of a trace: they are enough, and no less would do.
-use Rattle.std.specs.Prelude.{◌≡◌, ◌↔◌, ℕ, suc, ◌<◌, ◌≤◌, ◌^◌, true, false, Bool, if◌then◌else◌, List, [], ◌∷◌, ◌++◌, map}
+use Rattle.std.specs.Prelude.{◌≡◌, ◌↔◌, ℕ, suc, ◌<◌, ◌≤◌, ◌^◌, true, false, Bool, if◌then◌else◌, List, [], ◌∷◌, ◌++◌}
+use Rattle.std.specs.Prelude.{map}
 use Rattle.std.specs.List.{All, IsAmong}
 use Rattle.cap_rights.specs.Rights.{all, holds}
 use Rattle.cap_trace.specs.Item as items
@@ -75,7 +76,8 @@ NewlyLacks new old k = (found : Found) × (g : ℕ) × IsAmong new found × Lack
 -- line lacks that right, and didn't before. So no right can be left out of a row, whatever the other rows are.
 abbrev pub LimitsAreLeast : Type 0
 LimitsAreLeast = (s less : State) (later : List Step) (p f rights fewer k : ℕ) (flag : OnExec)
-    → HoldsSets s → HoldsSets less → k < 63 → s.cell p f ≡ Held rights flag → holds rights k ≡ true → Live later p f flag k
+    → HoldsSets s → HoldsSets less → k < 63 → s.cell p f ≡ Held rights flag → holds rights k ≡ true
+    → Live later p f flag k
     → less.cell p f ≡ Held fewer flag → holds fewer k ≡ false
     → NewlyLacks (check less later) (check s later) k
 
