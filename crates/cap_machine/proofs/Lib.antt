@@ -32,3 +32,4 @@ pub mod Explained
 pub mod LimitBits
 pub mod LimitFindings
 pub mod LimitEnter
+pub mod LimitLeast
