@@ -33,3 +33,5 @@ pub mod LimitBits
 pub mod LimitFindings
 pub mod LimitEnter
 pub mod LimitLeast
+pub mod LimitBeside
+pub mod LimitEnough
