@@ -35,3 +35,5 @@ pub mod LimitEnter
 pub mod LimitLeast
 pub mod LimitBeside
 pub mod LimitEnough
+pub mod LimitSets
+pub mod LimitPlaces
