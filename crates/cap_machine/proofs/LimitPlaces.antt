@@ -219,7 +219,7 @@ module _ (profile : Profile) (after : List Limited) (more : List Row) (f rights 
       (limited_enough profile place good old new enough sets are) (holds_sets_after place.0 old sets) are.1))
 
 pub all_limits_are_least : AllLimitsAreLeast
-all_limits_are_least profile s before after step some more f rights fewer k sets lt are has lacks named =
+all_limits_are_least profile s before after step some more f rights fewer k sets lt are has lacks =
     let good : List Limited = before ++ (step, some ++ (f, rights) ∷ more) ∷ after in
     let bad : List Limited = before ++ (step, some ++ (f, fewer) ∷ more) ∷ after in
     newly_in (check s (with_limits profile bad)) (check s (with_limits profile good)) k

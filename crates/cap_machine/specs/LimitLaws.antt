@@ -129,6 +129,6 @@ abbrev pub AllLimitsAreLeast : Type 0
 AllLimitsAreLeast = (profile : Profile) (s : State) (before after : List Limited) (step : Step) (some more : List Row)
     (f rights fewer k : ℕ) → HoldsSets s → k < 63
     → AreLimits s (before ++ (step, some ++ (f, rights) ∷ more) ∷ after)
-    → holds rights k ≡ true → holds fewer k ≡ false → fewer < 2 ^ 63
+    → holds rights k ≡ true → holds fewer k ≡ false
     → NewlyLacks (check s (with_limits profile (before ++ (step, some ++ (f, fewer) ∷ more) ∷ after)))
     (check s (with_limits profile (before ++ (step, some ++ (f, rights) ∷ more) ∷ after))) k
