@@ -37,3 +37,4 @@ pub mod LimitBeside
 pub mod LimitEnough
 pub mod LimitSets
 pub mod LimitPlaces
+pub mod LimitScripts

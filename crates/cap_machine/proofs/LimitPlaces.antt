@@ -129,7 +129,7 @@ live_with_limits profile (place ∷ places) s p f rights k x lt is has are (inr 
 
 -- ---- least
 
-limited_cell : (profile : Profile) (s : State) (p f asked rights : ℕ) (x : OnExec) → s.cell p f ≡ Held rights x
+pub limited_cell : (profile : Profile) (s : State) (p f asked rights : ℕ) (x : OnExec) → s.cell p f ≡ Held rights x
     → (step_after (limit_step profile p (f, asked)) s).cell p f ≡ Held (meet rights asked) x
 limited_cell profile s p f asked rights x is =
     subst (λ (b : Bool). touched (if b then taken (limit asked) p f else kept) s.cell p f ≡ Held (meet rights asked) x)

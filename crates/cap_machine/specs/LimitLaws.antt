@@ -81,11 +81,26 @@ LimitsAreLeast = (s less : State) (later : List Step) (p f rights fewer k : ℕ)
     → less.cell p f ≡ Held fewer flag → holds fewer k ≡ false
     → NewlyLacks (check less later) (check s later) k
 
+-- So of one row of a script, among all others: with right k less in it, a later line lacks that right, and didn't
+-- before.
+abbrev pub ScriptsAreLeast : Type 0
+ScriptsAreLeast = (profile : Profile) (s : State) (later : List Step) (p : ℕ) (some more : List Row) (enters : Bool)
+    (f rights fewer k : ℕ) → HoldsSets s → k < 63 → All (IsLimit s later p) (some ++ (f, rights) ∷ more)
+    → holds rights k ≡ true → holds fewer k ≡ false
+    → NewlyLacks (check (ended s (script profile p (some ++ (f, fewer) ∷ more) enters)) later) (check s later) k
+
 -- Entering: where a later line is in the way, that line is forbidden with the process inside, and wasn't before.
 abbrev pub BlockedIsForbidden : Type 0
 BlockedIsForbidden = (s inside : State) (later : List Step) (p n : ℕ)
     → Blocks later p n → (s.mode p ≡ Inside → ⊥) → inside.mode p ≡ Inside
     → IsAmong (check inside later) (found_at (suc n) say.Forbidden)
+    × (IsAmong (check s later) (found_at (suc n) say.Forbidden) → ⊥)
+
+-- so after a script that enters
+abbrev pub EnteringIsForbidden : Type 0
+EnteringIsForbidden = (profile : Profile) (s : State) (later : List Step) (p : ℕ) (rows : List Row) (n : ℕ)
+    → Blocks later p n → (s.mode p ≡ Inside → ⊥)
+    → IsAmong (check (ended s (script profile p rows true)) later) (found_at (suc n) say.Forbidden)
     × (IsAmong (check s later) (found_at (suc n) say.Forbidden) → ⊥)
 
 -- ---- limits at many places: each step of a trace with the rows that are put in right after it, for its own process

@@ -2,6 +2,7 @@
 //! nothing: its contract is what it says.
 
 ghost use Rattle.cap_machine.specs.LimitLaws.{LimitsAreEnough, LimitsAreLeast, BlockedIsForbidden};
+ghost use Rattle.cap_machine.specs.LimitLaws.{ScriptsAreLeast, EnteringIsForbidden};
 ghost use Rattle.cap_machine.specs.LimitLaws.{AllLimitsAreEnough, AllLimitsAreLeast};
 
 /// Limits to the live rights, put in at one place, are enough: they have no finding, and no later line has a finding
@@ -10,14 +11,17 @@ pub fn limits_are_enough()
     ensures { LimitsAreEnough }
 {}
 
-/// With any right less, a later line lacks that right, and didn't before.
+/// With any right less, in a state or in a row of a script, a later line lacks that right, and didn't before.
 pub fn limits_are_least()
-    ensures { LimitsAreLeast }
+    ensures state { LimitsAreLeast }
+    ensures script { ScriptsAreLeast }
 {}
 
-/// Where a later line is in the way of entering capability mode, it is forbidden once the process has entered.
+/// Where a later line is in the way of entering capability mode, it is forbidden once the process has entered, as
+/// after a script that enters.
 pub fn blocked_is_forbidden()
-    ensures { BlockedIsForbidden }
+    ensures state { BlockedIsForbidden }
+    ensures script { EnteringIsForbidden }
 {}
 
 /// Limits to the live rights, put in at many places at once, are enough.
