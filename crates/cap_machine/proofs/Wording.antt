@@ -6,10 +6,13 @@ use Rattle.std.specs.List.{join_with_byte}
 use Rattle.cap_machine.specs.declared.verdict.Finding.{Finding}
 use Rattle.cap_machine.specs.declared.verdict.Finding.TheVariants.{Forbidden, ModeRefusal, Missing, Expanded, Closed}
 use Rattle.cap_machine.specs.declared.verdict.Finding.TheVariants.{Refusal}
+use Rattle.cap_machine.specs.declared.denial.Denial.{Denial}
+use Rattle.cap_machine.specs.declared.denial.Denial.TheVariants.{Lacks, Inside, Unexplained}
 use Rattle.cap_machine.specs.Report.{finding_words, line_of_words}
+use Rattle.cap_machine.specs.DenialReport.{denial_words, front_of}
 
 -- three words before those of a finding
-join_words : (a b d : List ℕ) (f : Finding) → join_with_byte 32 (a ∷ b ∷ d ∷ finding_words f)
+pub join_words : (a b d : List ℕ) (f : Finding) → join_with_byte 32 (a ∷ b ∷ d ∷ finding_words f)
     ≡ a ++ 32 ∷ (b ++ 32 ∷ (d ++ 32 ∷ join_with_byte 32 (finding_words f)))
 join_words a b d Forbidden = refl
 join_words a b d ModeRefusal = refl
@@ -18,32 +21,35 @@ join_words a b d (Expanded f r) = refl
 join_words a b d (Closed f) = refl
 join_words a b d Refusal = refl
 
-over : (old a b d w : List ℕ) → (((((((old ++ a) ++ 32 ∷ []) ++ b) ++ 32 ∷ []) ++ d) ++ 32 ∷ []) ++ w) ++ 10 ∷ []
-    ≡ old ++ ((a ++ 32 ∷ (b ++ 32 ∷ (d ++ 32 ∷ w))) ++ 10 ∷ [])
-over old a b d w = simp append_assoc
+pub join_denied : (a b d : List ℕ) (denial : Denial) → join_with_byte 32 (a ∷ b ∷ d ∷ denial_words denial)
+    ≡ a ++ 32 ∷ (b ++ 32 ∷ (d ++ 32 ∷ join_with_byte 32 (denial_words denial)))
+join_denied a b d (Lacks f r) = refl
+join_denied a b d Inside = refl
+join_denied a b d Unexplained = refl
 
-pub word_by_word : (old a b d : List ℕ) (f : Finding)
-    → (((((((old ++ a) ++ 32 ∷ []) ++ b) ++ 32 ∷ []) ++ d) ++ 32 ∷ []) ++ join_with_byte 32 (finding_words f))
-    ++ 10 ∷ [] ≡ old ++ line_of_words (a ∷ b ∷ d ∷ finding_words f)
-word_by_word old a b d f =
-    let ends : line_of_words (a ∷ b ∷ d ∷ finding_words f)
-    ≡ (a ++ 32 ∷ (b ++ 32 ∷ (d ++ 32 ∷ join_with_byte 32 (finding_words f)))) ++ 10 ∷ [] =
-    ap (λ (r : List ℕ). r ++ 10 ∷ []) (join_words a b d f) in
-    let all : (((((((old ++ a) ++ 32 ∷ []) ++ b) ++ 32 ∷ []) ++ d) ++ 32 ∷ []) ++ join_with_byte 32 (finding_words f))
-    ++ 10 ∷ [] ≡ old ++ ((a ++ 32 ∷ (b ++ 32 ∷ (d ++ 32 ∷ join_with_byte 32 (finding_words f)))) ++ 10 ∷ []) =
-    over old a b d (join_with_byte 32 (finding_words f)) in
-    all ∙ ap (λ (r : List ℕ). old ++ r) (sym ends)
+over : (old a b d : List ℕ) → (((((old ++ a) ++ 32 ∷ []) ++ b) ++ 32 ∷ []) ++ d) ++ 32 ∷ [] ≡ old ++ front_of a b d
+over old a b d = simp append_assoc
 
--- the same, with what stood there after each word
-pub written : (old o1 o2 o3 o4 o5 o6 o7 new : List ℕ) (a b d : List ℕ) (f : Finding) → o1 ≡ old ++ a
-    → o2 ≡ o1 ++ 32 ∷ [] → o3 ≡ o2 ++ b
-    → o4 ≡ o3 ++ 32 ∷ [] → o5 ≡ o4 ++ d → o6 ≡ o5 ++ 32 ∷ [] → o7 ≡ o6 ++ join_with_byte 32 (finding_words f)
-    → new ≡ o7 ++ 10 ∷ [] → new ≡ old ++ line_of_words (a ∷ b ∷ d ∷ finding_words f)
-written old o1 o2 o3 o4 o5 o6 o7 new a b d f e1 e2 e3 e4 e5 e6 e7 e8 =
+-- the front of a line, with what stood there after each word
+pub fronted : (old o1 o2 o3 o4 o5 new : List ℕ) (a b d : List ℕ) → o1 ≡ old ++ a → o2 ≡ o1 ++ 32 ∷ [] → o3 ≡ o2 ++ b
+    → o4 ≡ o3 ++ 32 ∷ [] → o5 ≡ o4 ++ d → new ≡ o5 ++ 32 ∷ [] → new ≡ old ++ front_of a b d
+fronted old o1 o2 o3 o4 o5 new a b d e1 e2 e3 e4 e5 e6 =
     let space : List ℕ → List ℕ = λ r. r ++ 32 ∷ [] in
-    e8 ∙ ap (λ (r : List ℕ). r ++ 10 ∷ []) (e7 ∙ ap (λ (r : List ℕ). r ++ join_with_byte 32 (finding_words f)) (e6 ∙ ap
-    space (e5 ∙ ap (λ (r : List ℕ). r ++ d) (e4 ∙ ap space (e3 ∙ ap (λ (r : List ℕ). r ++ b) (e2 ∙ ap space e1))))))
-    ∙ word_by_word old a b d f
+    e6 ∙ ap space (e5 ∙ ap (λ (r : List ℕ). r ++ d) (e4 ∙ ap space (e3 ∙ ap (λ (r : List ℕ). r ++ b)
+    (e2 ∙ ap space e1)))) ∙ over old a b d
+
+around : (old a b d w : List ℕ) → ((old ++ front_of a b d) ++ w) ++ 10 ∷ []
+    ≡ old ++ ((a ++ 32 ∷ (b ++ 32 ∷ (d ++ 32 ∷ w))) ++ 10 ∷ [])
+around old a b d w = simp append_assoc
+
+-- a line, with what stood there after its front and after its other words
+pub written : (old o1 o2 new : List ℕ) (a b d w : List ℕ) (words : List (List ℕ)) → o1 ≡ old ++ front_of a b d
+    → o2 ≡ o1 ++ w → new ≡ o2 ++ 10 ∷ []
+    → join_with_byte 32 (a ∷ b ∷ d ∷ words) ≡ a ++ 32 ∷ (b ++ 32 ∷ (d ++ 32 ∷ w))
+    → new ≡ old ++ line_of_words (a ∷ b ∷ d ∷ words)
+written old o1 o2 new a b d w words e1 e2 e3 joined =
+    e3 ∙ ap (λ (r : List ℕ). r ++ 10 ∷ []) (e2 ∙ ap (λ (r : List ℕ). r ++ w) e1) ∙ around old a b d w
+    ∙ ap (λ (r : List ℕ). old ++ (r ++ 10 ∷ [])) (sym joined)
 
 -- what stood in front is kept, a step back
 pub front_kept : (old mid new x : List ℕ) → mid ≡ old ++ x → take (length mid) new ≡ mid → take (length old) new ≡ old

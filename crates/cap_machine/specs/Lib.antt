@@ -11,6 +11,8 @@ pub mod Rule
 pub mod Judge
 pub mod Check
 pub mod Report
+pub mod Denials
+pub mod DenialReport
 pub mod Laws
 pub mod Live
 pub mod LimitLaws

@@ -29,6 +29,7 @@ mod checker;
 mod checking;
 mod composed;
 mod demands;
+mod denial;
 mod effects;
 mod explaining;
 mod flags;
@@ -52,6 +53,7 @@ pub use cap_rights::NoMemory;
 pub use cell::{Cell, HeldOp, Mode, OnExec, Op, Profile};
 pub use checker::Checker;
 pub use checking::check;
+pub use denial::{Denial, Denied, LineDenials};
 pub use explaining::{Explanation, explain};
 pub use laws::{
     no_alarm_lost, positions_are_within, profiles_agree, rules_name_what_stands_there,
@@ -68,7 +70,7 @@ pub use origin::{
 pub use origin_laws::{
     chains_are_enough, chains_skip_no_line, mode_matters_where_it_decides, named_lines_matter,
 };
-pub use report::{put_count, put_finding};
+pub use report::{put_count, put_denial, put_denial_count, put_finding};
 pub use rule::{Check, Checks, Class, Demand, Effect, Reply, Rule, Word, rule_of};
 pub use start::Start;
 pub use step::Step;
