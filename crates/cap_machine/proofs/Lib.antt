@@ -14,6 +14,7 @@ pub mod Tables
 pub mod Wording
 pub mod ReportLines
 pub mod OneMore
+pub mod DenialTurns
 pub mod PartsOf
 pub mod FarSteps
 pub mod FewCells

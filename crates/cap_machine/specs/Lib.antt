@@ -13,6 +13,7 @@ pub mod Check
 pub mod Report
 pub mod Denials
 pub mod DenialReport
+pub mod DenialLaws
 pub mod Laws
 pub mod Live
 pub mod LimitLaws

@@ -30,6 +30,7 @@ mod checking;
 mod composed;
 mod demands;
 mod denial;
+mod denying;
 mod effects;
 mod explaining;
 mod flags;
@@ -54,6 +55,7 @@ pub use cell::{Cell, HeldOp, Mode, OnExec, Op, Profile};
 pub use checker::Checker;
 pub use checking::check;
 pub use denial::{Denial, Denied, LineDenials};
+pub use denying::denials;
 pub use explaining::{Explanation, explain};
 pub use laws::{
     no_alarm_lost, positions_are_within, profiles_agree, rules_name_what_stands_there,

@@ -1,0 +1,142 @@
+//! [`denials`]: what was lacking for each line of a whole trace that errno 93 or 94 refused. Any other line only moves
+//! the table on.
+
+ghost use Rattle.std.specs.Prelude.{◌≡◌, ◌≤◌, ◌++◌, [], map, length, flat_map, IfOk, OnOk, IsTrue};
+ghost use Rattle.cap_machine.specs.Steps.{step, steps};
+ghost use Rattle.cap_machine.specs.Rule.{demand};
+ghost use Rattle.cap_machine.specs.State.{State};
+ghost use Rattle.cap_machine.specs.Denials.{denials, denied, denied_of, denied_at};
+ghost use Rattle.cap_machine.specs.DenialReport.{denial_line};
+ghost use Rattle.cap_machine.specs.Table.{Keeps, state_of, step_after, start_state};
+
+use crate::cell::Profile;
+use crate::denial::{Denied, LineDenials};
+use crate::report::put_denials;
+use crate::rule::{Checks, Demand, demand_of_line};
+use crate::start::Start;
+use crate::table::Table;
+use cap_rights::NoMemory;
+use cap_trace::{Answer, FdLine, Item, Line, LineRef, Pid};
+use std::alloc::Global;
+
+impl Table {
+    /// What was lacking for a line of a process with this demand.
+    fn denied(&self, pid: Pid, demand: &Demand) -> LineDenials
+        ensures { result ≡ denied_of demand.now pid (state_of self.now) }
+    {
+        let mode = self.mode(pid);
+        match &demand.checks {
+            Checks::Nothing => demand.denials(mode, &[]),
+            Checks::One(a) => demand.denials(mode, &[self.cell(pid, a.fd)]),
+            Checks::Two(a, b) => {
+                demand.denials(mode, &[self.cell(pid, a.fd), self.cell(pid, b.fd)])
+            }
+        }
+    }
+
+    /// What was lacking for a line, by its rule.
+    #[inline(never)]
+    fn denied_by_rule(&self, line: &LineRef<'_>) -> LineDenials
+        ensures { result ≡ denied_of (demand line.now) line.now.pid (state_of self.now) }
+    {
+        self.denied(line.pid, &demand_of_line(line))
+    }
+}
+
+/// Whether nothing was lacking for a line, by its answer.
+fn was_let_through(line: &LineRef<'_>) -> bool
+    ensures { IsTrue result → (s : State) → denied_of (demand line.now) line.now.pid s ≡ [] }
+{
+    match &line.item {
+        Item::Call { call: _, answer } => !matches!(answer, Answer::Fault(93) | Answer::Fault(94)),
+        _ => true,
+    }
+}
+
+/// The same of a line with a call on one descriptor.
+#[inline(always)]
+pub(crate) fn fd_line_was_let_through(line: &FdLine) -> bool
+    ensures { IsTrue result → (s : State) → denied_of (demand line.now) line.now.pid s ≡ [] }
+{
+    !matches!(line.answer, Answer::Fault(93) | Answer::Fault(94))
+}
+
+/// What was lacking for a line by what is known before it.
+fn denied_in(table: &Table, line: &LineRef<'_>) -> LineDenials
+    ensures { result ≡ denied_of (demand line.now) line.now.pid (state_of table.now) }
+{
+    if was_let_through(line) {
+        LineDenials::none()
+    } else {
+        table.denied_by_rule(line)
+    }
+}
+
+/// Appends what was lacking for the line at a position, and answers how many denials that is.
+pub(crate) fn put_denied(
+    out: &mut Vec<u8>,
+    at: usize,
+    line: &LineRef<'_>,
+    table: &Table,
+) -> Result<usize, NoMemory>
+    ensures few { IfOk result (λ count. count ≤ 3) }
+    ensures count { IfOk result (λ count. count ≡ length (denied_of (demand line.now) line.now.pid (state_of table.now))) }
+    ensures text { OnOk result (out.new.items ≡ out.old.items ++ flat_map (λ d. denial_line line.now (denied_at at d))
+        (denied_of (demand line.now) line.now.pid (state_of table.now))) }
+{
+    if was_let_through(line) {
+        Ok(0)
+    } else {
+        put_denials(out, at, line, &table.denied_by_rule(line))
+    }
+}
+
+/// What was lacking for a line by what is known before it, and moves what is known on.
+fn take_denied(
+    table: &mut Table,
+    profile: Profile,
+    line: &Line,
+) -> Result<LineDenials, NoMemory>
+    ensures says { IfOk result (λ found. found ≡ denied (step profile line.now) (state_of table.old)) }
+    ensures moved { OnOk result (Keeps table.new (step_after (step profile line.now) (state_of table.old))) }
+{
+    let seen = line.seen();
+    let found = denied_in(table, &seen);
+    table.follow(profile, &seen)?;
+    Ok(found)
+}
+
+/// Adds what was lacking for the line at a position.
+fn add_denials(all: &mut Vec<Denied>, at: usize, found: &LineDenials) -> Result<(), NoMemory>
+    ensures { OnOk result (all.new.items ≡ all.old.items ++ map (denied_at at) found.now) }
+{
+    for denial in found.as_slice() {
+        all.push(Denied {
+            at,
+            denial: *denial,
+        })?;
+    }
+    Ok(())
+}
+
+/// What was lacking in a trace from its first line, in order and with positions from 1: for each line that errno 93 or
+/// 94 refused.
+///
+/// `NoMemory` when out of memory.
+#[tactic(auto, unfolding(crate::specs::Table::start_state))]
+pub fn denials(
+    alloc: Global,
+    profile: Profile,
+    start: &Start,
+    lines: &[Line],
+) -> Result<Vec<Denied>, NoMemory>
+    ensures { IfOk result (λ all. all.items ≡ denials (start_state start.now) (steps profile lines.now)) }
+{
+    let mut table = start.table.copy(alloc)?;
+    let mut all = Vec::new(alloc);
+    for (i, line) in lines.iter().enumerate() {
+        let found = take_denied(&mut table, profile, line)?;
+        add_denials(&mut all, i + 1, &found)?;
+    }
+    Ok(all)
+}
