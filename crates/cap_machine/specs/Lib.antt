@@ -14,6 +14,7 @@ pub mod Report
 pub mod Denials
 pub mod DenialReport
 pub mod DenialLaws
+pub mod Questions
 pub mod Laws
 pub mod Live
 pub mod LimitLaws

@@ -1,11 +1,10 @@
-//! [`Checker`]: a trace that comes line by line. It keeps a table of processes, two counts and the text of the
-//! findings, and never a line.
+//! [`Checker`]: a trace that comes line by line. It keeps a table of processes, two counts and the text that it answers,
+//! and never a line.
 
 ghost use Rattle.std.specs.Prelude.{◌≡◌, ◌≤◌, ◌*◌, [], ◌∷◌, ◌++◌, ◌<◌, ◌^◌, ◌↔◌, List, IsTrue, IfOk, OnOk};
 
 use crate::cell::Profile;
-use crate::checking::put_said;
-use crate::report::put_count;
+use crate::question::Question;
 use crate::start::Start;
 use crate::table::Table;
 use cap_rights::NoMemory;
@@ -13,14 +12,16 @@ use cap_trace::{FdLine, Line, LineRef};
 use std::alloc::Global;
 use std::marker::Model;
 
-/// A check that goes on line by line: what is known after the lines so far, and the text of what was found in them. It
-/// keeps no line. Its size grows with the processes and descriptors that the lines name, and with the findings.
+/// A check that goes on line by line: what is known after the lines so far, and the text of what was found in them, or
+/// of what was lacking where it is asked for the denials. It keeps no line. Its size grows with the processes and
+/// descriptors that the lines name, and with that text.
 #[derive(Drop)]
 pub struct Checker {
+    question: Question,
     profile: Profile,
     table: Table,
     lines: usize,
-    findings: usize,
+    said: usize,
     text: Vec<u8>,
 }
 
@@ -33,25 +34,26 @@ impl Model for Checker {
     ghost use Rattle.cap_machine.specs.Known.{known};
 
     ghost view = { λ c. record {
+      question = c.question;
       profile = c.profile;
       known = known c.table;
       lines = c.lines;
-      findings = c.findings;
+      said = c.said;
       text = c.text.items;
     } };
 
-    ghost invariant = { λ c. c.findings ≤ 3 * c.lines };
+    ghost invariant = { λ c. c.said ≤ 3 * c.lines };
 }
 
 impl Checker {
     ghost use Rattle.cap_trace.specs.Entry.{Entry};
     ghost use Rattle.cap_machine.specs.declared.cell.Profile.{Profile};
+    ghost use Rattle.cap_machine.specs.declared.question.Question.{Question};
     ghost use Rattle.cap_machine.specs.Steps.{steps};
     ghost use Rattle.cap_machine.specs.State.{State, usual};
-    ghost use Rattle.cap_machine.specs.Check.{check};
-    ghost use Rattle.cap_machine.specs.Report.{report};
+    ghost use Rattle.cap_machine.specs.Questions.{answer, IsNothing};
     ghost use Rattle.cap_machine.specs.Table.{start_state, Keeps};
-    ghost use Rattle.cap_machine.specs.Checked.{HasChecked, lines_of};
+    ghost use Rattle.cap_machine.specs.Checked.{IsAsked, HasChecked, HasDenied, lines_of};
 
     /// A checker that was given no line, from the usual start. It takes no memory.
     pub fn new(alloc: Global, profile: Profile) -> Checker
@@ -75,11 +77,36 @@ impl Checker {
         ensures { (s : State) → Keeps table s → HasChecked result profile s [] }
     {
         Checker {
+            question: Question::Findings,
             profile,
             table,
             lines: 0,
-            findings: 0,
+            said: 0,
             text: Vec::new(alloc),
+        }
+    }
+
+    /// The same, asked for the denials in place of the findings: for each line that errno 93 or 94 refused, what was
+    /// lacking. It was given no line yet.
+    pub fn for_denials(self) -> Checker
+        requires { lines_of self ≡ 0 }
+        ensures { (profile : Profile) (s : State) → HasChecked self profile s [] → HasDenied result profile s [] }
+    {
+        let Checker {
+            question: _,
+            profile,
+            table,
+            lines,
+            said,
+            text,
+        } = self;
+        Checker {
+            question: Question::Denials,
+            profile,
+            table,
+            lines,
+            said,
+            text,
         }
     }
 
@@ -95,8 +122,9 @@ impl Checker {
     /// `NoMemory` when out of memory. What the checker then answers isn't promised: drop it.
     pub fn line(&mut self, line: &Line) -> Result<(), NoMemory>
         requires room { lines_of self.old < 2 ^ 60 }
-        ensures checked { (profile : Profile) (s : State) (trace : List Entry) → HasChecked self.old profile s trace
-            → OnOk result (HasChecked self.new profile s (trace ++ line.now ∷ [])) }
+        ensures checked { (question : Question) (profile : Profile) (s : State) (trace : List Entry)
+            → IsAsked self.old question profile s trace
+            → OnOk result (IsAsked self.new question profile s (trace ++ line.now ∷ [])) }
     {
         self.line_ref(&line.seen())
     }
@@ -106,14 +134,15 @@ impl Checker {
     /// `NoMemory` when out of memory. What the checker then answers isn't promised: drop it.
     pub fn line_ref(&mut self, line: &LineRef<'_>) -> Result<(), NoMemory>
         requires room { lines_of self.old < 2 ^ 60 }
-        ensures checked { (profile : Profile) (s : State) (trace : List Entry) → HasChecked self.old profile s trace
-            → OnOk result (HasChecked self.new profile s (trace ++ line.now ∷ [])) }
+        ensures checked { (question : Question) (profile : Profile) (s : State) (trace : List Entry)
+            → IsAsked self.old question profile s trace
+            → OnOk result (IsAsked self.new question profile s (trace ++ line.now ∷ [])) }
     {
         let at = self.lines + 1;
-        let more = put_said(&mut self.text, at, line, &self.table)?;
+        let more = self.question.put_line(&mut self.text, at, line, &self.table)?;
         self.table.follow(self.profile, line)?;
         self.lines = at;
-        self.findings += more;
+        self.said += more;
         Ok(())
     }
 
@@ -122,10 +151,11 @@ impl Checker {
     /// `NoMemory` when out of memory. What the checker then answers isn't promised: drop it.
     pub fn fd_line(&mut self, line: FdLine) -> Result<(), NoMemory>
         requires room { lines_of self.old < 2 ^ 60 }
-        ensures checked { (profile : Profile) (s : State) (trace : List Entry) → HasChecked self.old profile s trace
-            → OnOk result (HasChecked self.new profile s (trace ++ line ∷ [])) }
+        ensures checked { (question : Question) (profile : Profile) (s : State) (trace : List Entry)
+            → IsAsked self.old question profile s trace
+            → OnOk result (IsAsked self.new question profile s (trace ++ line ∷ [])) }
     {
-        if !self.table.is_silent_fd_line(&line) {
+        if !self.question.is_silent(&line, &self.table) {
             return self.line_ref(&line.seen());
         }
         self.table.follow_fd_line(self.profile, &line)?;
@@ -133,23 +163,25 @@ impl Checker {
         Ok(())
     }
 
-    /// Whether nothing was found.
+    /// Whether nothing was found, or nothing was lacking where it is asked for the denials.
     pub fn is_clean(&self) -> bool
-        ensures { (profile : Profile) (s : State) (trace : List Entry) → HasChecked self.now profile s trace
-            → (IsTrue result ↔ (check s (steps profile trace) ≡ [])) }
+        ensures { (question : Question) (profile : Profile) (s : State) (trace : List Entry)
+            → IsAsked self.now question profile s trace
+            → (IsTrue result ↔ IsNothing question s (steps profile trace)) }
     {
-        self.findings == 0
+        self.said == 0
     }
 
-    /// The report of the lines that it was given.
+    /// The report of the lines that it was given, or the text of their denials.
     ///
     /// `NoMemory` when out of memory.
     pub fn report(self) -> Result<Vec<u8>, NoMemory>
-        ensures { (profile : Profile) (s : State) (trace : List Entry) → HasChecked self profile s trace
-            → IfOk result (λ text. text.items ≡ report s (steps profile trace)) }
+        ensures { (question : Question) (profile : Profile) (s : State) (trace : List Entry)
+            → IsAsked self question profile s trace
+            → IfOk result (λ text. text.items ≡ answer question s (steps profile trace)) }
     {
         let mut text = self.text;
-        put_count(&mut text, self.findings)?;
+        self.question.put_last(&mut text, self.said)?;
         Ok(text)
     }
 }

@@ -1,16 +1,23 @@
-use Rattle.std.proofs.Common.{◌≡◌, ◌+◌, [], arith, refl, sym, subst}
+use Rattle.std.proofs.Common.{◌≡◌, ◌+◌, ◌++◌, arith, refl, sym, ap, subst, ◌∙◌}
 use Rattle.std.proofs.lemmas.List.{append-nil}
-use Rattle.cap_machine.specs.Checked.{CheckerState, HasChecked}
-use Rattle.cap_machine.proofs.OneMore.{checked_more}
+use Rattle.cap_machine.specs.Checked.{CheckerState, IsAsked}
+use Rattle.cap_machine.specs.Questions.{line_count, LineIsSilent}
+use Rattle.cap_machine.specs.Table.{state_of}
+use Rattle.cap_machine.proofs.OneMore.{asked_more, silent_count, silent_text}
 use Rattle.cap_machine.proofs.checker.Checker.fd_line.Goals as goal
 
 pub returns : goal.returns
 returns c = record {
-  checked = λ profile s trace before.
-      let found : c.self.inside.findings ≡ c.self.inside.findings + 0 = omega arith in
-      checked_more _ _ c.self.inside.table c.follow_fd_line.new.self c.args.line profile s trace
-      [] refl refl refl refl found
-      (sym (append-nil c.self.inside.text.items)) (sym (c.if-not-is_silent_fd_line.ensures refl))
+  checked = λ question profile s trace before.
+      let was = state_of c.self.inside.table in
+      let silent : LineIsSilent c.self.inside.question c.args.line was = c.if-not-is_silent.ensures refl in
+      let none : line_count c.self.inside.question c.args.line was ≡ 0 =
+      silent_count c.self.inside.question c.args.line was silent in
+      asked_more _ _ c.self.inside.table c.follow_fd_line.new.self c.args.line question profile s trace
+      refl refl refl refl refl (omega arith)
+      (sym (append-nil c.self.inside.text.items)
+      ∙ ap (λ r. c.self.inside.text.items ++ r)
+      (sym (silent_text c.self.inside.question (c.self.inside.lines + 1) c.args.line was silent)))
       c.in_ok-follow_fd_line.ensures
-      (subst (λ (r : CheckerState). HasChecked r profile s trace) (sym c.self.view_is) before);
+      (subst (λ (r : CheckerState). IsAsked r question profile s trace) (sym c.self.view_is) before);
 }

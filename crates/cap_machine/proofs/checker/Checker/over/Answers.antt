@@ -5,9 +5,10 @@ use Rattle.cap_machine.proofs.checker.Checker.over.Goals as goal
 
 pub returns : goal.returns
 returns c = λ s keeps. record {
+  asked = refl;
   in_profile = refl;
   state = state_known c.args.table ∙ state_kept c.args.table s keeps;
   lines = refl;
-  findings = refl;
+  said = refl;
   text = c.new.ensures.items;
 }

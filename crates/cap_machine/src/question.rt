@@ -1,0 +1,64 @@
+//! What a checker is asked about a trace.
+
+ghost use Rattle.std.specs.Prelude.{◌≡◌, ◌≤◌, ◌++◌, IsTrue, IfOk, OnOk};
+ghost use Rattle.cap_machine.specs.Questions.{line_count, line_text, LineIsSilent, last_text};
+ghost use Rattle.cap_machine.specs.Table.{state_of};
+
+use crate::checking::put_said;
+use crate::denying::{fd_line_was_let_through, put_denied};
+use crate::report::{put_count, put_denial_count};
+use crate::table::Table;
+use cap_rights::NoMemory;
+use cap_trace::{FdLine, LineRef};
+
+/// What a checker is asked about a trace.
+#[derive(Clone, Copy, Debug, PartialEq, Eq)]
+pub enum Question {
+    /// Its findings: which answers disagree with what is known.
+    Findings,
+    /// What was lacking for each line that errno 93 or 94 refused.
+    Denials,
+}
+
+impl Question {
+    /// Appends what is said of the line at a position, and answers how many lines that is.
+    #[inline(always)]
+    pub(crate) fn put_line(
+        self,
+        out: &mut Vec<u8>,
+        at: usize,
+        line: &LineRef<'_>,
+        table: &Table,
+    ) -> Result<usize, NoMemory>
+        ensures few { IfOk result (λ count. count ≤ 3) }
+        ensures count { IfOk result (λ count. count ≡ line_count self line.now (state_of table.now)) }
+        ensures text { OnOk result
+            (out.new.items ≡ out.old.items ++ line_text self at line.now (state_of table.now)) }
+    {
+        match self {
+            Question::Findings => put_said(out, at, line, table),
+            Question::Denials => put_denied(out, at, line, table),
+        }
+    }
+
+    /// Whether nothing is said of a line with a call on one descriptor, where that is seen without its rule.
+    #[inline(always)]
+    pub(crate) fn is_silent(self, line: &FdLine, table: &Table) -> bool
+        ensures { IsTrue result → LineIsSilent self line.now (state_of table.now) }
+    {
+        match self {
+            Question::Findings => table.is_silent_fd_line(line),
+            Question::Denials => fd_line_was_let_through(line),
+        }
+    }
+
+    /// Appends the last line, with how many were said.
+    pub(crate) fn put_last(self, out: &mut Vec<u8>, count: usize) -> Result<(), NoMemory>
+        ensures { OnOk result (out.new.items ≡ out.old.items ++ last_text self count) }
+    {
+        match self {
+            Question::Findings => put_count(out, count),
+            Question::Denials => put_denial_count(out, count),
+        }
+    }
+}
