@@ -15,6 +15,8 @@ pub mod Wording
 pub mod ReportLines
 pub mod OneMore
 pub mod DenialTurns
+pub mod Excuses
+pub mod RightDenials
 pub mod PartsOf
 pub mod FarSteps
 pub mod FewCells

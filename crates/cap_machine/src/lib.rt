@@ -30,6 +30,7 @@ mod checking;
 mod composed;
 mod demands;
 mod denial;
+mod denial_laws;
 mod denying;
 mod effects;
 mod explaining;
@@ -56,6 +57,9 @@ pub use cell::{Cell, HeldOp, Mode, OnExec, Op, Profile};
 pub use checker::Checker;
 pub use checking::check;
 pub use denial::{Denial, Denied, LineDenials};
+pub use denial_laws::{
+    denials_are_within, denials_in_turn, explained_denials_are_right, wrong_refusals_are_unexplained,
+};
 pub use denying::denials;
 pub use explaining::{Explanation, explain};
 pub use laws::{

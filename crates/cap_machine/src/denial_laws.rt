@@ -1,0 +1,28 @@
+//! Laws of denials: how they stand to findings, where they stand, and traces in turn. Each function does nothing: its
+//! contract is what it says.
+
+ghost use Rattle.cap_machine.specs.DenialLaws.{WrongIsUnexplained, LackingIsRight, InsideIsRight, DenialsWithin};
+ghost use Rattle.cap_machine.specs.DenialLaws.{DenialsInTurn, DenialsOneMore};
+
+/// A refusal that a report calls wrong, by `refusal` or `moderefusal`, is unexplained.
+pub fn wrong_refusals_are_unexplained()
+    ensures { WrongIsUnexplained }
+{}
+
+/// A line that lacks a right, or that was denied inside capability mode, has no finding.
+pub fn explained_denials_are_right()
+    ensures rights { LackingIsRight }
+    ensures mode { InsideIsRight }
+{}
+
+/// Each denial stands at a position from 1 to the length of the trace.
+pub fn denials_are_within()
+    ensures { DenialsWithin }
+{}
+
+/// The denials of a trace that follows another are those from the state after the first, and stand that many lines
+/// later. One step that follows adds what was lacking for it in that state, at the next position.
+pub fn denials_in_turn()
+    ensures denials { DenialsInTurn }
+    ensures one { DenialsOneMore }
+{}
