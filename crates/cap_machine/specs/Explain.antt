@@ -1,5 +1,5 @@
--- What one line of a trace rests on: what is said of it, and where the cell of each descriptor that it checks and the
--- mode of its process come from.
+-- What one line of a trace rests on: what is said of it, what was lacking for it, and where the cell of each descriptor
+-- that it checks and the mode of its process come from.
 use Rattle.std.specs.Prelude.{ℕ, ◌+◌, ◌==◌, ◌&&◌, not, Bool, true, false, if◌then◌else◌, List, [], ◌∷◌, length, map}
 use Rattle.std.specs.Prelude.{◌≡◌, reverse, Option, Some, None, option_map}
 use Rattle.std.specs.Option.{option_map_or}
@@ -9,6 +9,7 @@ use Rattle.cap_machine.specs.declared.rule.Demand.{Demand}
 use Rattle.cap_machine.specs.declared.rule.Reply.{Reply}
 use Rattle.cap_machine.specs.declared.rule.Reply.TheVariants.{Success, NotCapable, NotPermitted, Other}
 use Rattle.cap_machine.specs.declared.verdict.Finding.{Finding}
+use Rattle.cap_machine.specs.declared.denial.Denial.{Denial}
 use Rattle.cap_machine.specs.declared.cell.Mode.{Mode}
 use Rattle.cap_machine.specs.declared.cell.Mode.TheVariants.{Unsure}
 use Rattle.cap_machine.specs.declared.origin.CellOrigin.{CellOrigin}
@@ -19,6 +20,7 @@ use Rattle.cap_machine.specs.History.{after, cell_after, mode_after}
 use Rattle.cap_machine.specs.Rule.{demand}
 use Rattle.cap_machine.specs.Judge.{listed, has_check, is_forbidden, is_allowed}
 use Rattle.cap_machine.specs.Check.{said_of}
+use Rattle.cap_machine.specs.Denials.{denied_of}
 use Rattle.cap_machine.specs.Origin.{CellChain, ModeChain, cell_chain, mode_chain, cell_chain_of, mode_chain_of}
 
 -- each check has rights that make a refusal wrongful
@@ -41,10 +43,11 @@ mode_matters_by Other d = false
 abbrev pub mode_matters : Demand → Bool
 mode_matters d = mode_matters_by d.reply d
 
--- the findings of a line, the chain of each descriptor that it checks, in order, and that of its process's mode where
--- the findings can depend on it
+-- the findings of a line, its denials, the chain of each descriptor that it checks, in order, and that of its process's
+-- mode where the findings can depend on it; elsewhere the denials don't depend on it
 pub record Explained : Type 0 where
   pub findings : List Finding
+  pub denials : List Denial
   pub cells : List CellChain
   pub mode : Option ModeChain
 
@@ -52,6 +55,7 @@ pub record Explained : Type 0 where
 abbrev pub explained_of : State → List Step → Demand → ℕ → Explained
 explained_of s history d p = record {
   findings = said_of d p (after s history);
+  denials = denied_of d p (after s history);
   cells = map (λ (check : Check). cell_chain s history p check.fd) (listed d.checks);
   mode = if mode_matters d then Some (mode_chain s history p) else None;
 }
@@ -74,6 +78,7 @@ explanation s trace k = explained_at s (reverse trace) k
 abbrev pub explained_by : Explanation → Explained
 explained_by e = record {
   findings = e.verdict;
+  denials = e.denials;
   cells = map cell_chain_of e.cells.items;
   mode = option_map mode_chain_of e.mode;
 }

@@ -139,7 +139,9 @@ impl Checker {
             → OnOk result (IsAsked self.new question profile s (trace ++ line.now ∷ [])) }
     {
         let at = self.lines + 1;
-        let more = self.question.put_line(&mut self.text, at, line, &self.table)?;
+        let more = self
+            .question
+            .put_line(&mut self.text, at, line, &self.table)?;
         self.table.follow(self.profile, line)?;
         self.lines = at;
         self.said += more;

@@ -92,11 +92,7 @@ pub(crate) fn put_denied(
 }
 
 /// What was lacking for a line by what is known before it, and moves what is known on.
-fn take_denied(
-    table: &mut Table,
-    profile: Profile,
-    line: &Line,
-) -> Result<LineDenials, NoMemory>
+fn take_denied(table: &mut Table, profile: Profile, line: &Line) -> Result<LineDenials, NoMemory>
     ensures says { IfOk result (λ found. found ≡ denied (step profile line.now) (state_of table.old)) }
     ensures moved { OnOk result (Keeps table.new (step_after (step profile line.now) (state_of table.old))) }
 {

@@ -11,12 +11,14 @@ ghost use Rattle.cap_machine.specs.State.{State};
 ghost use Rattle.cap_machine.specs.History.{ended};
 ghost use Rattle.cap_machine.specs.Rule.{demand};
 ghost use Rattle.cap_machine.specs.Judge.{listed, judged, has_check};
+ghost use Rattle.cap_machine.specs.Denials.{denied_with};
 ghost use Rattle.cap_machine.specs.Table.{start_state};
 ghost use Rattle.cap_machine.specs.Origin.{cell_origin, cell_chain_of, mode_origin, mode_chain_of};
 ghost use Rattle.cap_machine.specs.Explain.{all_have_excuse, mode_matters, explained, explanation};
 ghost use Rattle.cap_machine.specs.Explain.{explained_of, explained_by, mode_or_unsure, RestsOn};
 
 use crate::cell::{Mode, Profile};
+use crate::denial::LineDenials;
 use crate::origin::{CellOrigin, ModeOrigin, origin_of_cell, origin_of_mode};
 use crate::rule::{Check, Checks, Class, Demand, Reply, rule_of};
 use crate::start::Start;
@@ -30,6 +32,8 @@ use std::alloc::Global;
 pub struct Explanation {
     /// What is said of the line.
     pub verdict: Verdict,
+    /// What was lacking, where errno 93 or 94 refused it.
+    pub denials: LineDenials,
     /// Where the cell of each descriptor that the line checks comes from, in order.
     pub cells: Vec<CellOrigin>,
     /// Where the mode of its process comes from, where what is said of the line can depend on it.
@@ -105,6 +109,18 @@ fn verdict_of(demand: &Demand, mode: Mode, origins: &[CellOrigin]) -> Verdict
     }
 }
 
+/// What was lacking for a line with this demand, in this mode, with the cells that these chains end in.
+fn denials_of(demand: &Demand, mode: Mode, origins: &[CellOrigin]) -> LineDenials
+    requires one_each { length origins.now ≡ length (listed demand.now.checks) }
+    ensures { result ≡ denied_with demand.now mode (map (λ (origin : CellOrigin). origin.cell) origins.now) }
+{
+    match &demand.checks {
+        Checks::Nothing => demand.denials(mode, &[]),
+        Checks::One(_) => demand.denials(mode, &[origins[0].cell]),
+        Checks::Two(_, _) => demand.denials(mode, &[origins[0].cell, origins[1].cell]),
+    }
+}
+
 /// Where the mode of a process comes from, where what is said of a line with this demand can depend on it.
 fn mode_origin_where(
     alloc: Global,
@@ -129,12 +145,15 @@ fn mode_origin_where(
 }
 
 impl Explanation {
-    /// What a line with this demand rests on, which is judged here: given where the cell of each of its checks comes
-    /// from, in order, and where the mode of its process does, where it matters ([`Demand::mode_matters`]).
+    /// What a line with this demand rests on, which is judged here, with what was lacking for it: given where the cell
+    /// of each of its checks comes from, in order, and where the mode of its process does, where it matters
+    /// ([`Demand::mode_matters`]).
     pub fn of(demand: &Demand, cells: Vec<CellOrigin>, mode: Option<ModeOrigin>) -> Explanation
         requires one_each { length cells.items ≡ length (listed demand.now.checks) }
         ensures verdict { result.verdict
             ≡ judged demand.now (mode_or_unsure mode) (map (λ (origin : CellOrigin). origin.cell) cells.items) }
+        ensures denials { result.denials
+            ≡ denied_with demand.now (mode_or_unsure mode) (map (λ (origin : CellOrigin). origin.cell) cells.items) }
         ensures cells { result.cells ≡ cells }
         ensures mode { result.mode ≡ mode }
         // Where the cells and the mode are those after a history, so is the explanation.
@@ -148,6 +167,7 @@ impl Explanation {
         };
         Explanation {
             verdict: verdict_of(demand, known, &cells),
+            denials: denials_of(demand, known, &cells),
             cells,
             mode,
         }

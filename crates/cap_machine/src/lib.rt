@@ -58,7 +58,8 @@ pub use checker::Checker;
 pub use checking::check;
 pub use denial::{Denial, Denied, LineDenials};
 pub use denial_laws::{
-    denials_are_within, denials_in_turn, explained_denials_are_right, wrong_refusals_are_unexplained,
+    denials_are_within, denials_in_turn, explained_denials_are_right,
+    wrong_refusals_are_unexplained,
 };
 pub use denying::denials;
 pub use explaining::{Explanation, explain};
