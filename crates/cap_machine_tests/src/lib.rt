@@ -4,6 +4,8 @@
 #[cfg(test)]
 mod calls;
 #[cfg(test)]
+mod denied;
+#[cfg(test)]
 mod explanations;
 #[cfg(test)]
 mod lines;

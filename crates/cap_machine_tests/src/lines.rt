@@ -80,13 +80,16 @@ fn check_trace(alloc: Global, checker: &mut Checker, trace: &[u8], way: Way) -> 
     true
 }
 
-/// Whether a checker has this report, and is clean where the report has no finding.
+/// Whether a report has no finding and no denial.
+fn is_empty(report: &[u8]) -> bool {
+    report == b"findings 0\n".as_slice() || report == b"denials 0\n".as_slice()
+}
+
+/// Whether a checker has this report, and is clean where the report has no finding and no denial.
 fn has_report(checker: Checker, report: &[u8]) -> bool {
     let is_clean = checker.is_clean();
     match checker.report() {
-        Ok(text) => {
-            is_clean == (report == b"findings 0\n".as_slice()) && text.as_slice() == report
-        }
+        Ok(text) => is_clean == is_empty(report) && text.as_slice() == report,
         Err(_) => false,
     }
 }
@@ -97,7 +100,7 @@ fn is_checked(alloc: Global, checker: &mut Checker, trace: &[u8], way: Way) -> b
 }
 
 /// Whether a checker that was given no line has this report of a trace of less than 100, and is clean where the report
-/// has no finding.
+/// has no finding and no denial.
 pub fn reports(alloc: Global, mut checker: Checker, trace: &[u8], way: Way, report: &[u8]) -> bool {
     let is_checked = is_checked(alloc, &mut checker, trace, way);
     has_report(checker, report) && is_checked
