@@ -17,6 +17,7 @@ pub mod OneMore
 pub mod DenialTurns
 pub mod Excuses
 pub mod RightDenials
+pub mod LackedRights
 pub mod PartsOf
 pub mod FarSteps
 pub mod FewCells

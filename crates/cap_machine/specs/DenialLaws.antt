@@ -1,15 +1,24 @@
 -- Laws of denials: how they stand to the findings of the same trace, where they stand, and those of a trace that follows
 -- another.
-use Rattle.std.specs.Prelude.{◌≡◌, ℕ, ◌+◌, ◌≤◌, ◌⊎◌, List, [], ◌∷◌, ◌++◌, length, map}
+use Rattle.std.specs.Prelude.{◌≡◌, ◌≢◌, ◌↔◌, ℕ, ◌+◌, ◌≤◌, ◌⊎◌, Bool, true, false, List, [], ◌∷◌, ◌++◌, length, map}
 use Rattle.std.specs.List.{All, Contains}
+use Rattle.cap_rights.specs.Rights.{none, join, minus, IsRightSet}
+use Rattle.cap_trace.specs.Entry.{Entry}
+use Rattle.cap_machine.specs.declared.cell.Cell.TheVariants.{Held}
+use Rattle.cap_machine.specs.declared.cell.OnExec.{OnExec}
+use Rattle.cap_machine.specs.declared.rule.Reply.{Reply}
+use Rattle.cap_machine.specs.declared.rule.Reply.TheVariants.{NotCapable, NotPermitted}
+use Rattle.cap_machine.specs.declared.rule.Check.{Check}
 use Rattle.cap_machine.specs.declared.step.Step.{Step}
 use Rattle.cap_machine.specs.declared.verdict.Finding.TheVariants.{Refusal, ModeRefusal}
 use Rattle.cap_machine.specs.declared.denial.Denial.TheVariants.{Lacks, Inside, Unexplained}
 use Rattle.cap_machine.specs.declared.denial.Denied.{Denied}
 use Rattle.cap_machine.specs.State.{State}
 use Rattle.cap_machine.specs.History.{ended}
+use Rattle.cap_machine.specs.Rule.{demand}
+use Rattle.cap_machine.specs.Judge.{listed}
 use Rattle.cap_machine.specs.Check.{said}
-use Rattle.cap_machine.specs.Denials.{denied, denials, denied_at}
+use Rattle.cap_machine.specs.Denials.{lack, denied, denials, denied_at}
 
 -- nothing explains a refusal that a report calls wrong
 abbrev pub WrongIsUnexplained : Type 0
@@ -23,6 +32,29 @@ LackingIsRight = (s : State) (step : Step) (f lacking : ℕ) → Contains (denie
 
 abbrev pub InsideIsRight : Type 0
 InsideIsRight = (s : State) (step : Step) → Contains (denied step s) Inside → said step s ≡ []
+
+-- a step has a denial exactly where errno 93 or 94 refused it
+abbrev pub is_refused : Reply → Bool
+is_refused NotCapable = true
+is_refused NotPermitted = true
+is_refused _ = false
+
+abbrev pub RefusedIsDenied : Type 0
+RefusedIsDenied = (s : State) (step : Step) → (denied step s ≡ []) ↔ (is_refused (demand step.line).reply ≡ false)
+
+-- each cell that is held has a set of rights
+abbrev pub HoldsRightSets : State → Type 0
+HoldsRightSets s = (p f rights : ℕ) (flag : OnExec) → s.cell p f ≡ Held rights flag → IsRightSet rights
+
+-- a descriptor that lacks rights lacks some
+abbrev pub LackingIsSome : Type 0
+LackingIsSome = (s : State) (step : Step) (f lacking : ℕ) → HoldsRightSets s
+    → Contains (denied step s) (Lacks f lacking) → lacking ≢ none
+
+-- and lacks none any more once it holds them
+abbrev pub LackingIsEnough : Type 0
+LackingIsEnough = (line : Entry) → All (λ (check : Check). (rights : ℕ) (flag : OnExec) → IsRightSet rights
+    → lack check (Held (join rights (minus check.needs rights)) flag) ≡ []) (listed (demand line).checks)
 
 -- each denial stands at a position of the trace, from 1
 abbrev pub DenialsWithin : Type 0

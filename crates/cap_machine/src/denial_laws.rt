@@ -2,7 +2,8 @@
 //! contract is what it says.
 
 ghost use Rattle.cap_machine.specs.DenialLaws.{WrongIsUnexplained, LackingIsRight, InsideIsRight, DenialsWithin};
-ghost use Rattle.cap_machine.specs.DenialLaws.{DenialsInTurn, DenialsOneMore};
+ghost use Rattle.cap_machine.specs.DenialLaws.{DenialsInTurn, DenialsOneMore, RefusedIsDenied, LackingIsSome};
+ghost use Rattle.cap_machine.specs.DenialLaws.{LackingIsEnough};
 
 /// A refusal that a report calls wrong, by `refusal` or `moderefusal`, is unexplained.
 pub fn wrong_refusals_are_unexplained()
@@ -13,6 +14,17 @@ pub fn wrong_refusals_are_unexplained()
 pub fn explained_denials_are_right()
     ensures rights { LackingIsRight }
     ensures mode { InsideIsRight }
+{}
+
+/// A line has a denial exactly where errno 93 or 94 refused it.
+pub fn refused_lines_are_denied()
+    ensures { RefusedIsDenied }
+{}
+
+/// What is said to be lacking is at least one right, and with these rights a descriptor would lack none.
+pub fn lacking_rights_are_what_to_add()
+    ensures some { LackingIsSome }
+    ensures enough { LackingIsEnough }
 {}
 
 /// Each denial stands at a position from 1 to the length of the trace.

@@ -59,7 +59,7 @@ pub use checking::check;
 pub use denial::{Denial, Denied, LineDenials};
 pub use denial_laws::{
     denials_are_within, denials_in_turn, explained_denials_are_right,
-    wrong_refusals_are_unexplained,
+    lacking_rights_are_what_to_add, refused_lines_are_denied, wrong_refusals_are_unexplained,
 };
 pub use denying::denials;
 pub use explaining::{Explanation, explain};
