@@ -1,5 +1,5 @@
-//! [`Checker`]: a trace that comes line by line. It keeps a table of processes, two counts and the text that it answers,
-//! and never a line.
+//! [`Checker`]: a trace that comes line by line. It keeps a table of processes, two counts and the text of what it
+//! answers, and never a line.
 
 ghost use Rattle.std.specs.Prelude.{◌≡◌, ◌≤◌, ◌*◌, [], ◌∷◌, ◌++◌, ◌<◌, ◌^◌, ◌↔◌, List, IsTrue, IfOk, OnOk};
 

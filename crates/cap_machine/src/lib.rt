@@ -5,8 +5,9 @@
 //! then changes what is known by what it records. What a trace doesn't show is unknown, and nothing is said against it.
 //!
 //! [`check`] answers what is found in a whole trace; a [`Checker`] takes its lines one by one and answers the report.
-//! Both begin from a start, which says what is known of each process before the first line ([`Start`]). [`explain`]
-//! answers which lines what is said of one line rests on.
+//! [`denials`] answers what was lacking for each line that errno 93 or 94 refused, and so does a checker that is asked
+//! for it ([`Checker::for_denials`]). All begin from a start, which says what is known of each process before the first
+//! line ([`Start`]). [`explain`] answers which lines what is said of one line rests on.
 //!
 //! ```
 //! let mut checker = Checker::new(alloc, Profile::One);
