@@ -70,7 +70,8 @@ asked_excused false true false = refl
 asked_excused false false true = refl
 asked_excused false false false = refl
 
-mmap_excused : (protection kind : List ℕ) → bit_and mmap_excuse (mmap_needs protection kind) ≡ mmap_needs protection kind
+mmap_excused : (protection kind : List ℕ)
+    → bit_and mmap_excuse (mmap_needs protection kind) ≡ mmap_needs protection kind
 unfolding mmap_needs mmap_asked
 mmap_excused protection kind =
     asked_excused (has_flag protection (codes "PROT_READ")) (has_flag protection (codes "PROT_EXEC"))

@@ -22,6 +22,7 @@ use Rattle.cap_machine.specs.Judge.{listed, is_inside, is_allowed}
 use Rattle.cap_machine.specs.Denials.{lack, lacks, or_unexplained, denied_by, denied}
 use Rattle.cap_machine.specs.DenialLaws.{is_refused, RefusedIsDenied, HoldsRightSets, LackingIsSome, LackingIsEnough}
 use Rattle.cap_machine.proofs.NamedNeeds.{IsNamed, AllNamed, item_checks}
+use Rattle.cap_machine.proofs.Profiles.{or_none}
 
 -- ---- which steps have a denial
 
@@ -55,7 +56,8 @@ covers true true is = refl
 covers true false is = refl
 covers false held is = absurd (cc)
 
-enough : (needs rights : ℕ) → IsNamed needs → IsRightSet rights → has_all (join rights (minus needs rights)) needs ≡ true
+enough : (needs rights : ℕ) → IsNamed needs → IsRightSet rights
+    → has_all (join rights (minus needs rights)) needs ≡ true
 enough needs rights named set = (has_all_holds (join rights (minus needs rights)) needs).1 (λ k needed. each k needed)
   where
     each : (k : ℕ) → holds needs k ≡ true → holds (join rights (minus needs rights)) k ≡ true
@@ -85,14 +87,10 @@ lacking_is_enough line = all_enough (listed (demand line).checks) (item_checks l
 
 -- ---- some are lacking
 
-or_false : (b : Bool) → (b || false) ≡ b
-or_false true = refl
-or_false false = refl
-
 join_none : (rights : ℕ) → join rights none ≡ rights
 join_none rights =
     same_held (join rights none) rights (λ k. join_holds rights none k
-    ∙ ap (λ (b : Bool). holds rights k || b) (none_holds k) ∙ or_false (holds rights k))
+    ∙ ap (λ (b : Bool). holds rights k || b) (none_holds k) ∙ or_none (holds rights k))
 
 some_lacking : (needs rights : ℕ) → IsNamed needs → IsRightSet rights → has_all rights needs ≡ false
     → minus needs rights ≢ none

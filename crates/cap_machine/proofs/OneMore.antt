@@ -88,6 +88,7 @@ pub silent_count : (q : Question) (line : Entry) (s : State) → LineIsSilent q 
 silent_count Findings line s is = ap length is
 silent_count Denials line s is = ap length is
 
-pub silent_text : (q : Question) (at : ℕ) (line : Entry) (s : State) → LineIsSilent q line s → line_text q at line s ≡ []
+pub silent_text : (q : Question) (at : ℕ) (line : Entry) (s : State) → LineIsSilent q line s
+    → line_text q at line s ≡ []
 silent_text Findings at line s is = ap (flat_map (λ f. finding_line line (found_at at f))) is
 silent_text Denials at line s is = ap (flat_map (λ d. denial_line line (denied_at at d))) is

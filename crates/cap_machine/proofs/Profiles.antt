@@ -44,7 +44,7 @@ or_swap true false = refl
 or_swap false true = refl
 or_swap false false = refl
 
-or_none : (a : Bool) → (a || false) ≡ a
+pub or_none : (a : Bool) → (a || false) ≡ a
 or_none true = refl
 or_none false = refl
 

@@ -54,7 +54,8 @@ within_findings s (step ∷ history) =
     (within-at place (found_at (length history + 1)) (length history + 1) (length (step ∷ history)) (λ a. refl)
     (omega arith) (said step (after s history)))
 
-within_denials : (s : State) (history : List Step) → Within (λ (x : Denied). x.at) (length history) (denied_in s history)
+within_denials : (s : State) (history : List Step)
+    → Within (λ (x : Denied). x.at) (length history) (denied_in s history)
 unfolding Within
 within_denials s [] = tt
 within_denials s (step ∷ history) =

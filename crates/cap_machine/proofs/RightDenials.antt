@@ -71,7 +71,8 @@ faults_are_other : (word : Word) (checks : List Check) (cells : List Cell) → A
 faults_are_other word [] cells = All-nil IsOther
 faults_are_other word (check ∷ checks) [] = All-nil IsOther
 faults_are_other word (check ∷ checks) (cell ∷ cells) =
-    All-append IsOther (fault word check cell) (faults word checks cells) (one cell) (faults_are_other word checks cells)
+    All-append IsOther (fault word check cell) (faults word checks cells) (one cell)
+    (faults_are_other word checks cells)
   where
     one : (cell : Cell) → All IsOther (fault word check cell)
     one Unknown = All-nil IsOther
@@ -86,7 +87,8 @@ faults_are_other word (check ∷ checks) (cell ∷ cells) =
 
 success_is_other : (d : Demand) (m : Mode) (cells : List Cell) → All IsOther (judged_by Success d m cells)
 success_is_other d m cells =
-    All-append IsOther (forbidden d.class m) (faults d.word (listed d.checks) cells) (one (is_forbidden d.class && is_inside m))
+    All-append IsOther (forbidden d.class m) (faults d.word (listed d.checks) cells)
+    (one (is_forbidden d.class && is_inside m))
     (faults_are_other d.word (listed d.checks) cells)
   where
     one : (b : Bool) → All IsOther (if b then say.Forbidden ∷ [] else [])
@@ -163,7 +165,8 @@ chosen false x y has = absurd (nothing y has)
 is_other : (d : Demand) (m : Mode) (cells : List Cell) (x : Finding) → is_wrong x ≡ true
     → Contains (judged_by Success d m cells) x → ⊥
 is_other d m cells x is has =
-    let other : is_wrong x ≡ false = All-contains IsOther (judged_by Success d m cells) x (success_is_other d m cells) has in
+    let other : is_wrong x ≡ false =
+    All-contains IsOther (judged_by Success d m cells) x (success_is_other d m cells) has in
     cc
 
 wrong_is_unexplained : (r : Reply) (d : Demand) (m : Mode) (cells : List Cell) (x : Finding) → is_wrong x ≡ true
@@ -213,7 +216,8 @@ pub the_lacking : LackingIsRight
 the_lacking s step f lacking has =
     let d : Demand = demand step.line in
     lacking_is_right d.reply d (s.mode step.line.pid)
-    (map (λ (check : Check). s.cell step.line.pid check.fd) (listed d.checks)) f lacking (item_excused step.line.item) has
+    (map (λ (check : Check). s.cell step.line.pid check.fd) (listed d.checks)) f lacking
+    (item_excused step.line.item) has
 
 inside_is_right : (r : Reply) (d : Demand) (m : Mode) (cells : List Cell) → Contains (denied_by r d m cells) Inside
     → judged_by r d m cells ≡ []
@@ -250,7 +254,8 @@ one_more n xs are k d lt = let is = are k d lt in (is.0, omega (arith, is.1))
 denied_within : (s : State) (history : List Step) → All (IsWithin (length history)) (denied_in s history)
 denied_within s [] = All-nil (IsWithin 0)
 denied_within s (step ∷ history) =
-    let here : All (IsWithin (length history + 1)) (map (denied_at (length history + 1)) (denied step (after s history))) =
+    let here :
+    All (IsWithin (length history + 1)) (map (denied_at (length history + 1)) (denied step (after s history))) =
     All-map (IsWithin (length history + 1)) (denied_at (length history + 1)) (denied step (after s history))
     (λ k d lt. (omega arith, omega arith)) in
     let both : All (IsWithin (length history + 1)) (denied_in s (step ∷ history)) =

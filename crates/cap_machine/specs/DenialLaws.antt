@@ -1,5 +1,5 @@
--- Laws of denials: how they stand to the findings of the same trace, where they stand, and those of a trace that follows
--- another.
+-- Laws of denials: how they stand to the findings of the same trace, what to add for them, where they stand, and those
+-- of a trace that follows another.
 use Rattle.std.specs.Prelude.{◌≡◌, ◌≢◌, ◌↔◌, ℕ, ◌+◌, ◌≤◌, ◌⊎◌, Bool, true, false, List, [], ◌∷◌, ◌++◌, length, map}
 use Rattle.std.specs.List.{All, Contains}
 use Rattle.cap_rights.specs.Rights.{none, join, minus, IsRightSet}

@@ -80,7 +80,8 @@ pub(crate) fn put_denied(
     table: &Table,
 ) -> Result<usize, NoMemory>
     ensures few { IfOk result (λ count. count ≤ 3) }
-    ensures count { IfOk result (λ count. count ≡ length (denied_of (demand line.now) line.now.pid (state_of table.now))) }
+    ensures count { IfOk result (λ count. count
+        ≡ length (denied_of (demand line.now) line.now.pid (state_of table.now))) }
     ensures text { OnOk result (out.new.items ≡ out.old.items ++ flat_map (λ d. denial_line line.now (denied_at at d))
         (denied_of (demand line.now) line.now.pid (state_of table.now))) }
 {

@@ -110,8 +110,8 @@ fn put_all(
     Ok(())
 }
 
-/// Appends the position, the process, the name of the call, and what was lacking. On an `Err` a part of it may have been
-/// appended.
+/// Appends the position, the process, the name of the call, and what was lacking. On an `Err` a part of it may have
+/// been appended.
 fn put_all_denied(
     out: &mut Vec<u8>,
     at: usize,
@@ -150,8 +150,8 @@ pub fn put_finding(
     }
 }
 
-/// Appends the line on what was lacking for the line at a position: the position, the process, the name of the call, the
-/// denial's word and what belongs to it, with one space between and a line feed at the end.
+/// Appends the line on what was lacking for the line at a position: the position, the process, the name of the call,
+/// the denial's word and what belongs to it, with one space between and a line feed at the end.
 ///
 /// `NoMemory` when out of memory; the vector is then as before.
 pub fn put_denial(

@@ -33,7 +33,8 @@ loop-i-preserved c =
           ∙ ap (step_after l) start ∙ sym (ends_more s t l) ∙ ap (ended s) (sym more);
       found = c.in_ok-add_denials.ensures
           ∙ ap (λ r. c.loop-i.all.items ++ map (denied_at (c.loop-i.i + 1)) r) c.in_ok-found.ensures.says
-          ∙ ap (λ r. r ++ map (denied_at (c.loop-i.i + 1)) (denied l (state_of c.loop-i.table))) c.loop-i.invariant.found
+          ∙ ap (λ r. r ++ map (denied_at (c.loop-i.i + 1)) (denied l (state_of c.loop-i.table)))
+          c.loop-i.invariant.found
           ∙ ap (λ r. denials s t ++ map (denied_at (c.loop-i.i + 1)) (denied l r)) start
           ∙ ap (λ n. denials s t ++ map (denied_at (n + 1)) (denied l (ended s t))) (sym many)
           ∙ sym (denials_more s t l) ∙ ap (denials s) (sym more);

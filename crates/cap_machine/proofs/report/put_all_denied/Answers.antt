@@ -9,7 +9,8 @@ use Rattle.cap_machine.proofs.report.put_all_denied.Goals as goal
 pub returns-clause-ok : goal.returns-clause-ok
 returns-clause-ok c =
     let line = c.args.line.now in
-    written c.args.out.now.items c.put_front.new.out.items c.put_denial_words.new.out.items c.extend_from_slice.new.self.items
+    written c.args.out.now.items c.put_front.new.out.items c.put_denial_words.new.out.items
+    c.extend_from_slice.new.self.items
     (decimal c.args.at) (decimal line.pid) (name_of (head_of line.item))
     (join_with_byte 32 (denial_words c.args.denial.now)) (denial_words c.args.denial.now)
     c.in_ok-put_front.ensures.ok c.in_ok-put_denial_words.ensures.ok c.in_ok-extend_from_slice.ensures.items
