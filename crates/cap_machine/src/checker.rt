@@ -132,6 +132,7 @@ impl Checker {
     /// Checks the next line, whose texts lie elsewhere, as [`line`](Checker::line) does.
     ///
     /// `NoMemory` when out of memory. What the checker then answers isn't promised: drop it.
+    #[inline(always)]
     pub fn line_ref(&mut self, line: &LineRef<'_>) -> Result<(), NoMemory>
         requires room { lines_of self.old < 2 ^ 60 }
         ensures checked { (question : Question) (profile : Profile) (s : State) (trace : List Entry)

@@ -73,6 +73,7 @@ fn denied_in(table: &Table, line: &LineRef<'_>) -> LineDenials
 }
 
 /// Appends what was lacking for the line at a position, and answers how many denials that is.
+#[inline(never)]
 pub(crate) fn put_denied(
     out: &mut Vec<u8>,
     at: usize,
