@@ -80,7 +80,7 @@ pub use origin_laws::{
     chains_are_enough, chains_skip_no_line, mode_matters_where_it_decides, named_lines_matter,
 };
 pub use question::Question;
-pub use report::{put_count, put_denial, put_denial_count, put_finding};
+pub use report::{put_count, put_denial, put_denial_count, put_denial_words, put_finding};
 pub use rule::{Check, Checks, Class, Demand, Effect, Reply, Rule, Word, rule_of};
 pub use start::Start;
 pub use step::Step;

@@ -61,8 +61,10 @@ fn put_words(out: &mut Vec<u8>, finding: &Finding) -> Result<(), NoMemory>
     Ok(())
 }
 
-/// Appends the word of a denial and what belongs to it.
-fn put_denial_words(out: &mut Vec<u8>, denial: &Denial) -> Result<(), NoMemory>
+/// Appends the word of a denial and what belongs to it, with one space between.
+///
+/// `NoMemory` when out of memory; the vector then still begins with what it had, and a part may follow.
+pub fn put_denial_words(out: &mut Vec<u8>, denial: &Denial) -> Result<(), NoMemory>
     ensures ok { OnOk result (out.new.items ≡ out.old.items ++ join_with_byte 32 (denial_words denial.now)) }
     ensures err { OnErr result (take (length out.old.items) out.new.items ≡ out.old.items) }
 {

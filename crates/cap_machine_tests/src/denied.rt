@@ -4,7 +4,8 @@ use crate::lines::{Way, lines_of, reports};
 use crate::starts::rights_of;
 use cap_machine::{
     Cell, Checker, Checks, Denial, Mode, OnExec, Profile, Start, denials, denials_are_within,
-    denials_in_turn, explain, explained_denials_are_right, put_denial, put_denial_count, rule_of,
+    denials_in_turn, explain, explained_denials_are_right, lacking_rights_are_what_to_add,
+    put_denial, put_denial_count, put_denial_words, refused_lines_are_denied, rule_of,
     wrong_refusals_are_unexplained,
 };
 use cap_trace::{Line, LineRef, parse_line};
@@ -157,6 +158,12 @@ fn writes(alloc: Global, line: &LineRef<'_>, denial: Denial, text: &[u8]) -> boo
         && out.as_slice() == text
 }
 
+/// Whether a denial has these words.
+fn has_words(alloc: Global, denial: Denial, words: &[u8]) -> bool {
+    let mut out = Vec::new(alloc);
+    put_denial_words(&mut out, &denial).is_ok() && out.as_slice() == words
+}
+
 /// Whether a read that lacks a right is written so.
 fn writes_a_read(alloc: Global, text: &[u8]) -> bool {
     match parse_line(alloc, b"100 read(5) RET -1 errno 93") {
@@ -173,6 +180,7 @@ fn writes_a_read(alloc: Global, text: &[u8]) -> bool {
 #[test]
 fn denials_are_written(rt: HostRuntime) {
     assert!(rt; writes_a_read(rt.alloc(), b"7 100 read lacks 5 CAP_READ\ndenials 1\n"));
+    assert!(rt; has_words(rt.alloc(), Denial::Unexplained, b"unexplained"));
 }
 
 /// What was lacking for a line that checks one descriptor, in capability mode.
@@ -210,4 +218,6 @@ fn laws_of_denials_are_called() {
     explained_denials_are_right();
     denials_are_within();
     denials_in_turn();
+    refused_lines_are_denied();
+    lacking_rights_are_what_to_add();
 }
