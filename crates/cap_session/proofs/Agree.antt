@@ -5,7 +5,7 @@ use Rattle.std.specs.Io.KnownBytes.{Consumes, IsAtEnd}
 use Rattle.std.proofs.lemmas.List.{append-nil}
 use Rattle.cap_trace.specs.Entry.{Entry}
 use Rattle.cap_machine.specs.Steps.{steps}
-use Rattle.cap_machine.specs.Report.{report}
+use Rattle.cap_machine.specs.Questions.{answer}
 use Rattle.cap_session.specs.Devices.{SourceState}
 use Rattle.cap_session.specs.Trace.{trace, soon, next_entry}
 use Rattle.cap_session.specs.Reads.{IsEnded, IsGood}
@@ -46,30 +46,30 @@ same_line r d e one two =
     cc
 
 pub good_is_reported : GoodIsReported
-good_is_reported profile start turns r0 r1 w0 w1 Clean entries call seen good =
+good_is_reported question profile start turns r0 r1 w0 w1 Clean entries call seen good =
     let same = same_entries _ call.answer.0 entries call.answer.1.good good in
     rw (← same) (call.answer.2, call.answer.1.is)
-good_is_reported profile start turns r0 r1 w0 w1 Findings entries call seen good =
+good_is_reported question profile start turns r0 r1 w0 w1 Findings entries call seen good =
     let same = same_entries _ call.answer.0 entries call.answer.1.good good in
     rw (← same) (call.answer.2, call.answer.1.is)
-good_is_reported profile start turns r0 r1 w0 w1 (Refused code line) entries call seen good =
+good_is_reported question profile start turns r0 r1 w0 w1 (Refused code line) entries call seen good =
     not_both _ entries _ good (refused_whole _ call.given _ call.answer.says.line.line)
-good_is_reported profile start turns r0 r1 w0 w1 (StartRefused code line) entries call seen good = absurd call.answer
-good_is_reported profile start turns r0 r1 w0 w1 Memory entries call seen good = call.answer.silent
-good_is_reported profile start turns r0 r1 w0 w1 ReadFault entries call seen good =
+good_is_reported question profile start turns r0 r1 w0 w1 (StartRefused code line) entries call seen good = absurd call.answer
+good_is_reported question profile start turns r0 r1 w0 w1 Memory entries call seen good = call.answer.silent
+good_is_reported question profile start turns r0 r1 w0 w1 ReadFault entries call seen good =
     let going = call.answer.going in
     let ended = seen.0 in
     omega arith
-good_is_reported profile start turns r0 r1 w0 w1 TooLong entries call seen good =
+good_is_reported question profile start turns r0 r1 w0 w1 TooLong entries call seen good =
     let going = call.answer.0.going in
     let ended = seen.0 in
     omega arith
-good_is_reported profile start turns r0 r1 w0 w1 WriteFault entries call seen good =
+good_is_reported question profile start turns r0 r1 w0 w1 WriteFault entries call seen good =
     elim call.answer.1 [
       | inl is ↦
           let same = same_entries _ is.0 entries is.1.good good in
           subst (λ (text : List ℕ). IsPrefix call.written text)
-          (is.1.is ∙ ap (λ (t : List Entry). report start (steps profile t)) same) call.answer.2
+          (is.1.is ∙ ap (λ (t : List Entry). answer question start (steps profile t)) same) call.answer.2
       | inr is ↦ absurd (not_both _ entries _ good (refused_whole _ call.given _ is.1.line.line))
     ]
 
@@ -95,25 +95,25 @@ not_good seen given e good (inr is) =
     bad_is_not_ok (trace given) e is.1 (good.at_end is.0)
 
 pub bad_is_refused : BadIsRefused
-bad_is_refused profile start turns r0 r1 w0 w1 Clean e call bad =
+bad_is_refused question profile start turns r0 r1 w0 w1 Clean e call bad =
     not_both _ call.answer.0 e call.answer.1.good (refused_whole _ call.given e bad)
-bad_is_refused profile start turns r0 r1 w0 w1 Findings e call bad =
+bad_is_refused question profile start turns r0 r1 w0 w1 Findings e call bad =
     not_both _ call.answer.0 e call.answer.1.good (refused_whole _ call.given e bad)
-bad_is_refused profile start turns r0 r1 w0 w1 (Refused code line) e call bad =
+bad_is_refused question profile start turns r0 r1 w0 w1 (Refused code line) e call bad =
     let same : call.answer.refusal ≡ e =
     same_line _ _ e (refused_whole _ call.given _ call.answer.says.line.line) (refused_whole _ call.given e bad) in (
       call.answer.code_is ∙ ap (λ (x : Refusal). code_of x.reason) same,
       call.answer.line_is ∙ ap (λ (x : Refusal). x.line) same,
       call.answer.says.is ∙ ap refusal_text same,
     )
-bad_is_refused profile start turns r0 r1 w0 w1 (StartRefused code line) e call bad = absurd call.answer
-bad_is_refused profile start turns r0 r1 w0 w1 Memory e call bad =
+bad_is_refused question profile start turns r0 r1 w0 w1 (StartRefused code line) e call bad = absurd call.answer
+bad_is_refused question profile start turns r0 r1 w0 w1 Memory e call bad =
     not_good (IsEnded r0 r1) call.given e call.answer.good bad
-bad_is_refused profile start turns r0 r1 w0 w1 ReadFault e call bad =
+bad_is_refused question profile start turns r0 r1 w0 w1 ReadFault e call bad =
     not_open r0 r1 call.given e call.answer.going call.answer.good bad
-bad_is_refused profile start turns r0 r1 w0 w1 TooLong e call bad =
+bad_is_refused question profile start turns r0 r1 w0 w1 TooLong e call bad =
     not_open r0 r1 call.given e call.answer.0.going call.answer.0.good bad
-bad_is_refused profile start turns r0 r1 w0 w1 WriteFault e call bad =
+bad_is_refused question profile start turns r0 r1 w0 w1 WriteFault e call bad =
     elim call.answer.1 [
       | inl is ↦ absurd (not_both _ is.0 e is.1.good (refused_whole _ call.given e bad))
       | inr is ↦
@@ -136,21 +136,21 @@ refused_text seen text given (Some rest) e read end (inr is) =
     ap trace (all_given text given (Some rest) read (end is.0)) ∙ is.1
 
 pub pieces_agree : PiecesAgree
-pieces_agree profile start turns r0 r1 w0 w1 Clean text call known =
+pieces_agree question profile start turns r0 r1 w0 w1 Clean text call known =
     let read = subst (λ (b : Option (List ℕ)). Consumes b r1.bytes call.given) known call.read in (
       call.answer.0,
       ap trace (all_given text call.given r1.bytes read call.answer.1.end.1) ∙ call.answer.1.good,
       call.answer.2,
       call.answer.1.is,
     )
-pieces_agree profile start turns r0 r1 w0 w1 Findings text call known =
+pieces_agree question profile start turns r0 r1 w0 w1 Findings text call known =
     let read = subst (λ (b : Option (List ℕ)). Consumes b r1.bytes call.given) known call.read in (
       call.answer.0,
       ap trace (all_given text call.given r1.bytes read call.answer.1.end.1) ∙ call.answer.1.good,
       call.answer.2,
       call.answer.1.is,
     )
-pieces_agree profile start turns r0 r1 w0 w1 (Refused code line) text call known =
+pieces_agree question profile start turns r0 r1 w0 w1 (Refused code line) text call known =
     let read = subst (λ (b : Option (List ℕ)). Consumes b r1.bytes call.given) known call.read in
     let seen = call.answer in (
       seen.refusal,
@@ -159,8 +159,8 @@ pieces_agree profile start turns r0 r1 w0 w1 (Refused code line) text call known
       seen.line_is,
       seen.says.is,
     )
-pieces_agree profile start turns r0 r1 w0 w1 (StartRefused code line) text call known = absurd call.answer
-pieces_agree profile start turns r0 r1 w0 w1 Memory text call known = tt
-pieces_agree profile start turns r0 r1 w0 w1 ReadFault text call known = tt
-pieces_agree profile start turns r0 r1 w0 w1 WriteFault text call known = tt
-pieces_agree profile start turns r0 r1 w0 w1 TooLong text call known = tt
+pieces_agree question profile start turns r0 r1 w0 w1 (StartRefused code line) text call known = absurd call.answer
+pieces_agree question profile start turns r0 r1 w0 w1 Memory text call known = tt
+pieces_agree question profile start turns r0 r1 w0 w1 ReadFault text call known = tt
+pieces_agree question profile start turns r0 r1 w0 w1 WriteFault text call known = tt
+pieces_agree question profile start turns r0 r1 w0 w1 TooLong text call known = tt

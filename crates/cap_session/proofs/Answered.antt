@@ -4,14 +4,15 @@ use Rattle.std.specs.Prelude.{Ok, Err}
 use Rattle.std.specs.Io.KnownBytes.{Consumes}
 use Rattle.cap_trace.specs.Entry.{Entry}
 use Rattle.cap_machine.specs.declared.cell.Profile.{Profile}
+use Rattle.cap_machine.specs.declared.question.Question.{Question}
+use Rattle.cap_machine.specs.Questions.{answer}
 use Rattle.cap_machine.specs.Steps.{steps}
 use Rattle.cap_machine.specs.State.{State}
-use Rattle.cap_machine.specs.Report.{report}
 use Rattle.cap_session.specs.Devices.{SourceState, SinkState}
 use Rattle.cap_session.specs.Trace.{trace, soon, next_entry}
 use Rattle.cap_session.specs.Reads.{Reads, IsEnded, IsGood}
 use Rattle.cap_session.specs.Refusal.{refusal_text}
-use Rattle.cap_session.specs.Streams.{Streams}
+use Rattle.cap_session.specs.Streams.{AskedStreams}
 use Rattle.cap_session.specs.Works.{WritesReport, WritesRefusal, EndsCall}
 use Rattle.cap_session.specs.declared.refused.Refusal.{Refusal}
 use Rattle.cap_session.specs.declared.lines.Stop.{Stop}
@@ -38,33 +39,34 @@ is_good seen given entries good = record {
   at_end = λ end. rw good refl;
 }
 
-pub with_report : (profile : Profile) (s : State) (turns : ℕ) (r0 r1 : SourceState) (w0 w1 : SinkState) (t : List Entry)
-    (o : Outcome) → Whole turns r0 r1 t → WritesReport profile s t w0 w1 o → Streams profile s turns r0 r1 w0 w1 o
-with_report profile s turns r0 r1 w0 w1 t Clean r w =
+pub with_report : (question : Question) (profile : Profile) (s : State) (turns : ℕ) (r0 r1 : SourceState)
+    (w0 w1 : SinkState) (t : List Entry) (o : Outcome) → Whole turns r0 r1 t → WritesReport question profile s t w0 w1 o
+    → AskedStreams question profile s turns r0 r1 w0 w1 o
+with_report question profile s turns r0 r1 w0 w1 t Clean r w =
     let same = w.0.failures in
     record {
       given = r.given;
       read = r.read;
       calls = r.calls;
-      written = report s (steps profile t);
+      written = answer question s (steps profile t);
       wrote = w.0.taken;
       read_fault = r.failures;
       write_fault = omega arith;
       answer = (t, record { end = r.end; good = r.good; is = refl }, w.1);
     }
-with_report profile s turns r0 r1 w0 w1 t Findings r w =
+with_report question profile s turns r0 r1 w0 w1 t Findings r w =
     let same = w.0.failures in
     record {
       given = r.given;
       read = r.read;
       calls = r.calls;
-      written = report s (steps profile t);
+      written = answer question s (steps profile t);
       wrote = w.0.taken;
       read_fault = r.failures;
       write_fault = omega arith;
       answer = (t, record { end = r.end; good = r.good; is = refl }, w.1);
     }
-with_report profile s turns r0 r1 w0 w1 t Memory r w =
+with_report question profile s turns r0 r1 w0 w1 t Memory r w =
     let same : w1.failures ≡ w0.failures = ap (λ (s : SinkState). s.failures) w in
     record {
       given = r.given;
@@ -76,7 +78,7 @@ with_report profile s turns r0 r1 w0 w1 t Memory r w =
       write_fault = omega arith;
       answer = record { good = is_good _ r.given t r.good; silent = refl };
     }
-with_report profile s turns r0 r1 w0 w1 t WriteFault r w =
+with_report question profile s turns r0 r1 w0 w1 t WriteFault r w =
     record {
       given = r.given;
       read = r.read;
@@ -85,19 +87,19 @@ with_report profile s turns r0 r1 w0 w1 t WriteFault r w =
       wrote = w.taken;
       read_fault = r.failures;
       write_fault = w.failures;
-      answer = (report s (steps profile t), inl (t, record { end = r.end; good = r.good; is = refl }), (w.rest, w.cut));
+      answer = (answer question s (steps profile t), inl (t, record { end = r.end; good = r.good; is = refl }), (w.rest, w.cut));
     }
-with_report profile s turns r0 r1 w0 w1 t (Refused code line) r w = absurd w
-with_report profile s turns r0 r1 w0 w1 t (StartRefused code line) r w = absurd w
-with_report profile s turns r0 r1 w0 w1 t ReadFault r w = absurd w
-with_report profile s turns r0 r1 w0 w1 t TooLong r w = absurd w
+with_report question profile s turns r0 r1 w0 w1 t (Refused code line) r w = absurd w
+with_report question profile s turns r0 r1 w0 w1 t (StartRefused code line) r w = absurd w
+with_report question profile s turns r0 r1 w0 w1 t ReadFault r w = absurd w
+with_report question profile s turns r0 r1 w0 w1 t TooLong r w = absurd w
 
 -- a line was refused
-refused : (profile : Profile) (s : State) {T : Type 0} (holds : T → List Entry → Type 0) (turns : ℕ)
+refused : (question : Question) (profile : Profile) (s : State) {T : Type 0} (holds : T → List Entry → Type 0) (turns : ℕ)
     (r0 r1 : SourceState) (w0 w1 : SinkState) (e : Refusal) (o : Outcome)
     → Reads trace soon holds turns r0 r1 (Err (stops.Refused e))
-    → WritesRefusal e w0 w1 o → Streams profile s turns r0 r1 w0 w1 o
-refused profile s holds turns r0 r1 w0 w1 e (Refused code line) r w =
+    → WritesRefusal e w0 w1 o → AskedStreams question profile s turns r0 r1 w0 w1 o
+refused question profile s holds turns r0 r1 w0 w1 e (Refused code line) r w =
     let same = w.0.failures in
     record {
       given = r.given;
@@ -109,7 +111,7 @@ refused profile s holds turns r0 r1 w0 w1 e (Refused code line) r w =
       write_fault = omega arith;
       answer = record { refusal = e; says = record { line = r.answer; is = refl }; code_is = w.1; line_is = w.2 };
     }
-refused profile s holds turns r0 r1 w0 w1 e WriteFault r w =
+refused question profile s holds turns r0 r1 w0 w1 e WriteFault r w =
     record {
       given = r.given;
       read = r.read;
@@ -120,19 +122,21 @@ refused profile s holds turns r0 r1 w0 w1 e WriteFault r w =
       write_fault = w.failures;
       answer = (refusal_text e, inr (e, record { line = r.answer; is = refl }), (w.rest, w.cut));
     }
-refused profile s holds turns r0 r1 w0 w1 e (StartRefused code line) r w = absurd w
-refused profile s holds turns r0 r1 w0 w1 e Clean r w = absurd w
-refused profile s holds turns r0 r1 w0 w1 e Findings r w = absurd w
-refused profile s holds turns r0 r1 w0 w1 e Memory r w = absurd w
-refused profile s holds turns r0 r1 w0 w1 e ReadFault r w = absurd w
-refused profile s holds turns r0 r1 w0 w1 e TooLong r w = absurd w
+refused question profile s holds turns r0 r1 w0 w1 e (StartRefused code line) r w = absurd w
+refused question profile s holds turns r0 r1 w0 w1 e Clean r w = absurd w
+refused question profile s holds turns r0 r1 w0 w1 e Findings r w = absurd w
+refused question profile s holds turns r0 r1 w0 w1 e Memory r w = absurd w
+refused question profile s holds turns r0 r1 w0 w1 e ReadFault r w = absurd w
+refused question profile s holds turns r0 r1 w0 w1 e TooLong r w = absurd w
 
 -- reading stopped
-pub with_stop : (profile : Profile) (s : State) {T : Type 0} (holds : T → List Entry → Type 0) (turns : ℕ)
+pub with_stop : (question : Question) (profile : Profile) (s : State) {T : Type 0} (holds : T → List Entry → Type 0)
+    (turns : ℕ)
     (r0 r1 : SourceState) (w0 w1 : SinkState) (stop : Stop) (o : Outcome)
-    → Reads trace soon holds turns r0 r1 (Err stop) → EndsCall stop w0 w1 o → Streams profile s turns r0 r1 w0 w1 o
-with_stop profile s holds turns r0 r1 w0 w1 (stops.Refused e) o r w = refused profile s holds turns r0 r1 w0 w1 e o r w
-with_stop profile s holds turns r0 r1 w0 w1 stops.Memory o r w =
+    → Reads trace soon holds turns r0 r1 (Err stop) → EndsCall stop w0 w1 o
+    → AskedStreams question profile s turns r0 r1 w0 w1 o
+with_stop question profile s holds turns r0 r1 w0 w1 (stops.Refused e) o r w = refused question profile s holds turns r0 r1 w0 w1 e o r w
+with_stop question profile s holds turns r0 r1 w0 w1 stops.Memory o r w =
     rw (w.0, w.1) (record {
       given = r.given;
       read = r.read;
@@ -143,7 +147,7 @@ with_stop profile s holds turns r0 r1 w0 w1 stops.Memory o r w =
       write_fault = omega arith;
       answer = record { good = r.answer; silent = refl };
     })
-with_stop profile s holds turns r0 r1 w0 w1 stops.ReadFault o r w =
+with_stop question profile s holds turns r0 r1 w0 w1 stops.ReadFault o r w =
     rw (w.0, w.1) (record {
       given = r.given;
       read = r.read;
@@ -154,7 +158,7 @@ with_stop profile s holds turns r0 r1 w0 w1 stops.ReadFault o r w =
       write_fault = omega arith;
       answer = record { going = r.answer.0; good = r.answer.1; silent = refl };
     })
-with_stop profile s holds turns r0 r1 w0 w1 stops.TooLong o r w =
+with_stop question profile s holds turns r0 r1 w0 w1 stops.TooLong o r w =
     rw (w.0, w.1) (record {
       given = r.given;
       read = r.read;
@@ -165,4 +169,4 @@ with_stop profile s holds turns r0 r1 w0 w1 stops.TooLong o r w =
       write_fault = omega arith;
       answer = (record { going = r.answer.0; good = r.answer.1; silent = refl }, r.answer.2);
     })
-with_stop profile s holds turns r0 r1 w0 w1 stops.WriteFault o r w = absurd r.answer
+with_stop question profile s holds turns r0 r1 w0 w1 stops.WriteFault o r w = absurd r.answer

@@ -2,6 +2,7 @@
 use Rattle.std.proofs.Common.{◌≡◌, ℕ, List, [], refl, inl, inr, subst, arith}
 use Rattle.std.specs.Prelude.{Err, Ok}
 use Rattle.cap_machine.specs.declared.cell.Profile.{Profile}
+use Rattle.cap_machine.specs.declared.question.Question.{Question}
 use Rattle.cap_machine.specs.State.{State}
 use Rattle.cap_trace.specs.Entry.{Entry}
 use Rattle.cap_session.specs.Devices.{SourceState, SinkState}
@@ -9,9 +10,9 @@ use Rattle.cap_session.specs.Trace.{next_entry}
 use Rattle.cap_session.specs.StartTexts.{start, start_soon}
 use Rattle.cap_session.specs.Reads.{Reads}
 use Rattle.cap_session.specs.Refusal.{start_refusal_text}
-use Rattle.cap_session.specs.Streams.{Streams}
+use Rattle.cap_session.specs.Streams.{AskedStreams}
 use Rattle.cap_session.specs.Works.{WritesStartRefusal, EndsStart}
-use Rattle.cap_session.specs.StartStreams.{StartRejected, StartStreams}
+use Rattle.cap_session.specs.StartStreams.{StartRejected, AskedStartStreams}
 use Rattle.cap_session.specs.declared.refused.Refusal.{Refusal}
 use Rattle.cap_session.specs.declared.lines.Stop.{Stop}
 use Rattle.cap_session.specs.declared.lines.Stop.TheVariants as stops
@@ -103,18 +104,19 @@ not_taken holds turns s0 s1 r w0 w1 stops.TooLong o d w =
     })
 not_taken holds turns s0 s1 r w0 w1 stops.WriteFault o d w = absurd d.answer
 
-pub start_rejected : (profile : Profile) {T : Type 0} (holds : T → State → Type 0) (turns : ℕ) (s0 s1 r : SourceState)
-    (w0 w1 : SinkState) (stop : Stop) (o : Outcome)
+pub start_rejected : (question : Question) (profile : Profile) {T : Type 0} (holds : T → State → Type 0) (turns : ℕ)
+    (s0 s1 r : SourceState) (w0 w1 : SinkState) (stop : Stop) (o : Outcome)
     → Reads start start_soon holds turns s0 s1 (Err stop) → EndsStart stop w0 w1 o →
-    StartStreams profile turns s0 s1 r r w0 w1 o
-start_rejected profile holds turns s0 s1 r w0 w1 stop o d w = inl (not_taken holds turns s0 s1 r w0 w1 stop o d w)
+    AskedStartStreams question profile turns s0 s1 r r w0 w1 o
+start_rejected question profile holds turns s0 s1 r w0 w1 stop o d w =
+    inl (not_taken holds turns s0 s1 r w0 w1 stop o d w)
 
--- the start was read to its end, and the trace checked from it
-pub start_taken : (profile : Profile) {T : Type 0} (holds : T → State → Type 0) (turns : ℕ) (s0 s1 r0 r1 : SourceState)
-    (w0 w1 : SinkState) (x : T) (s : State) (o : Outcome)
+-- the start was read to its end, and this was asked of the trace from it
+pub start_taken : (question : Question) (profile : Profile) {T : Type 0} (holds : T → State → Type 0) (turns : ℕ)
+    (s0 s1 r0 r1 : SourceState) (w0 w1 : SinkState) (x : T) (s : State) (o : Outcome)
     → Reads start start_soon holds turns s0 s1 (Ok x) → ((known : State) → holds x known → s ≡ known) →
-    Streams profile s turns r0 r1 w0 w1 o → StartStreams profile turns s0 s1 r0 r1 w0 w1 o
-start_taken profile holds turns s0 s1 r0 r1 w0 w1 x s o d is checks =
+    AskedStreams question profile s turns r0 r1 w0 w1 o → AskedStartStreams question profile turns s0 s1 r0 r1 w0 w1 o
+start_taken question profile holds turns s0 s1 r0 r1 w0 w1 x s o d is asks =
     let known = d.answer.1 in
     let same = d.failures in
     inr (record {
@@ -125,14 +127,14 @@ start_taken profile holds turns s0 s1 r0 r1 w0 w1 x s o d is checks =
       end = d.answer.0;
       known = known.0;
       good = known.1;
-      checked = subst (λ (k : State). Streams profile k turns r0 r1 w0 w1 o) (is known.0 known.2) checks;
+      asked = subst (λ (k : State). AskedStreams question profile k turns r0 r1 w0 w1 o) (is known.0 known.2) asks;
     })
 
 -- memory ran out before the first read of the trace
-pub not_begun : (profile : Profile) (s : State) (turns : ℕ) (r : SourceState) (w : SinkState)
-    → Streams profile s turns r r w w Memory
-not_begun profile s turns r w =
+pub not_begun : (question : Question) (profile : Profile) (s : State) (turns : ℕ) (r : SourceState) (w : SinkState)
+    → AskedStreams question profile s turns r r w w Memory
+not_begun question profile s turns r w =
     let holds : List Entry → List Entry → Type 0 = λ lines known. known ≡ [] in
     let follows : List Entry → Type 0 = λ known. known ≡ [] in
-    with_stop profile s holds turns r r w w stops.Memory Memory (goes_nowhere next_entry follows holds turns r [] refl)
-    (refl, refl)
+    with_stop question profile s holds turns r r w w stops.Memory Memory
+    (goes_nowhere next_entry follows holds turns r [] refl) (refl, refl)

@@ -1,14 +1,17 @@
--- What a check from a start text does and answers: s is the reader of the start, r that of the trace, and w the writer.
+-- What a stream call from a start text does and answers, whatever it asks: s is the reader of the start, r that of the
+-- trace, and w the writer.
 use Rattle.std.specs.Prelude.{◌≡◌, ℕ, ◌+◌, ◌≤◌, ◌⊎◌, List, [], Ok, None}
 use Rattle.std.specs.Io.KnownBytes.{Consumes, Appends}
 use Rattle.cap_machine.specs.declared.cell.Profile.{Profile}
+use Rattle.cap_machine.specs.declared.question.Question.{Question}
+use Rattle.cap_machine.specs.declared.question.Question.TheVariants as questions
 use Rattle.cap_machine.specs.State.{State}
 use Rattle.cap_session.specs.Devices.{SourceState, SinkState}
 use Rattle.cap_session.specs.Reads.{IsEnded, NotAtEnd, UsedUp, IsGood, IsRefused}
 use Rattle.cap_session.specs.Refused.{code_of}
 use Rattle.cap_session.specs.Refusal.{start_refusal_text}
 use Rattle.cap_session.specs.StartTexts.{start, start_soon}
-use Rattle.cap_session.specs.Streams.{Streams, IsPrefix}
+use Rattle.cap_session.specs.Streams.{AskedStreams, IsPrefix}
 use Rattle.cap_session.specs.Outcome.{read_faults, write_faults}
 use Rattle.cap_session.specs.declared.refused.Refusal.{Refusal}
 use Rattle.cap_session.specs.declared.outcome.Outcome.{Outcome}
@@ -63,9 +66,9 @@ pub record StartRejected (turns : ℕ) (s0 s1 r0 r1 : SourceState) (w0 w1 : Sink
   pub answer : RejectsStart turns s0 s1 given written outcome
   pub unread : r1 ≡ r0
 
--- The start was read to its end, no line of it is refused, and the trace was checked from it.
-pub record StartTaken (profile : Profile) (turns : ℕ) (s0 s1 r0 r1 : SourceState) (w0 w1 : SinkState)
-    (outcome : Outcome) : Type 0 where
+-- The start was read to its end, no line of it is refused, and this was asked of the trace from it.
+pub record StartTaken (question : Question) (profile : Profile) (turns : ℕ) (s0 s1 r0 r1 : SourceState)
+    (w0 w1 : SinkState) (outcome : Outcome) : Type 0 where
   pub given : List ℕ
   pub read : Consumes s0.bytes s1.bytes given
   pub calls : s1.calls ≤ s0.calls + turns
@@ -73,9 +76,15 @@ pub record StartTaken (profile : Profile) (turns : ℕ) (s0 s1 r0 r1 : SourceSta
   pub end : IsEnded s0 s1
   pub known : State
   pub good : start given ≡ Ok known
-  pub checked : Streams profile known turns r0 r1 w0 w1 outcome
+  pub asked : AskedStreams question profile known turns r0 r1 w0 w1 outcome
 
+abbrev pub AskedStartStreams : Question → Profile → ℕ → SourceState → SourceState → SourceState → SourceState → SinkState
+    → SinkState → Outcome → Type 0
+AskedStartStreams question profile turns s0 s1 r0 r1 w0 w1 outcome =
+    StartRejected turns s0 s1 r0 r1 w0 w1 outcome ⊎ StartTaken question profile turns s0 s1 r0 r1 w0 w1 outcome
+
+-- a check asks for the findings
 abbrev pub StartStreams : Profile → ℕ → SourceState → SourceState → SourceState → SourceState → SinkState → SinkState
     → Outcome → Type 0
 StartStreams profile turns s0 s1 r0 r1 w0 w1 outcome =
-    StartRejected turns s0 s1 r0 r1 w0 w1 outcome ⊎ StartTaken profile turns s0 s1 r0 r1 w0 w1 outcome
+    AskedStartStreams questions.Findings profile turns s0 s1 r0 r1 w0 w1 outcome

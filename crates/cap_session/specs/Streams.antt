@@ -1,12 +1,14 @@
--- The contract of `check_stream_as`: for the bytes that its reader gave, what was written, and the outcome.
-use Rattle.std.specs.Prelude.{◌≡◌, ◌≢◌, ℕ, ◌+◌, ◌≤◌, ◌⊎◌, List, [], ◌++◌, None, Ok}
+-- The contract of a stream call that asks something of a trace: for the bytes that its reader gave, what was written, and
+-- the outcome. `check_stream_as` asks for the findings.
+use Rattle.std.specs.Prelude.{◌≡◌, ℕ, ◌+◌, ◌≤◌, ◌⊎◌, List, [], ◌++◌, None, Ok}
 use Rattle.std.specs.Io.KnownBytes.{Consumes, Appends}
 use Rattle.cap_trace.specs.Entry.{Entry}
 use Rattle.cap_machine.specs.declared.cell.Profile.{Profile}
+use Rattle.cap_machine.specs.declared.question.Question.{Question}
+use Rattle.cap_machine.specs.declared.question.Question.TheVariants as questions
+use Rattle.cap_machine.specs.Questions.{answer, IsNothing}
 use Rattle.cap_machine.specs.Steps.{steps}
 use Rattle.cap_machine.specs.State.{State}
-use Rattle.cap_machine.specs.Check.{check}
-use Rattle.cap_machine.specs.Report.{report}
 use Rattle.cap_session.specs.Devices.{SourceState, SinkState}
 use Rattle.cap_session.specs.Trace.{soon, trace}
 use Rattle.cap_session.specs.Reads.{IsEnded, NotAtEnd, UsedUp, IsGood, IsRefused}
@@ -18,13 +20,13 @@ use Rattle.cap_session.specs.declared.outcome.Outcome.{Outcome}
 use Rattle.cap_session.specs.declared.outcome.Outcome.TheVariants.{Clean, Findings, Refused, StartRefused, Memory}
 use Rattle.cap_session.specs.declared.outcome.Outcome.TheVariants.{ReadFault, WriteFault, TooLong}
 
--- The end was reached, no line of what was given is refused, and the text is the report of its entries in this profile,
--- under the start.
-pub record IsReport (profile : Profile) (start : State) (ended : Type 0) (given text : List ℕ)
+-- The end was reached, no line of what was given is refused, and the text answers the question of its entries in this
+-- profile, under the start.
+pub record IsReport (question : Question) (profile : Profile) (start : State) (ended : Type 0) (given text : List ℕ)
     (entries : List Entry) : Type 0 where
   pub end : ended
   pub good : trace given ≡ Ok entries
-  pub is : text ≡ report start (steps profile entries)
+  pub is : text ≡ answer question start (steps profile entries)
 
 -- A line of what was given is refused, and the text says so.
 pub record IsRefusal (ended : Type 0) (given text : List ℕ) (e : Refusal) : Type 0 where
@@ -50,33 +52,36 @@ pub record IsOpen (old new : SourceState) (given written : List ℕ) : Type 0 wh
   pub silent : written ≡ []
 
 -- The text that is to be written of what was given.
-abbrev pub IsText : Profile → State → Type 0 → List ℕ → List ℕ → Type 0
-IsText profile start ended given text = ((entries : List Entry) × IsReport profile start ended given text entries)
+abbrev pub IsText : Question → Profile → State → Type 0 → List ℕ → List ℕ → Type 0
+IsText question profile start ended given text =
+    ((entries : List Entry) × IsReport question profile start ended given text entries)
     ⊎ ((e : Refusal) × IsRefusal ended given text e)
 
 -- the text begins so
 abbrev pub IsPrefix : List ℕ → List ℕ → Type 0
 IsPrefix written text = (rest : List ℕ) × (text ≡ written ++ rest)
 
--- The outcome, for what was given and written.
-abbrev pub HasOutcome : Profile → State → ℕ → SourceState → SourceState → List ℕ → List ℕ → Outcome → Type 0
-HasOutcome profile start turns old new given written Clean = (entries : List Entry)
-    × IsReport profile start (IsEnded old new) given written entries × (check start (steps profile entries) ≡ [])
-HasOutcome profile start turns old new given written Findings = (entries : List Entry)
-    × IsReport profile start (IsEnded old new) given written entries × (check start (steps profile entries) ≢ [])
-HasOutcome profile start turns old new given written (Refused code line) =
+-- The outcome, for what was given and written: clean where there is nothing to answer.
+abbrev pub HasOutcome : Question → Profile → State → ℕ → SourceState → SourceState → List ℕ → List ℕ → Outcome → Type 0
+HasOutcome question profile start turns old new given written Clean = (entries : List Entry)
+    × IsReport question profile start (IsEnded old new) given written entries
+    × IsNothing question start (steps profile entries)
+HasOutcome question profile start turns old new given written Findings = (entries : List Entry)
+    × IsReport question profile start (IsEnded old new) given written entries
+    × (IsNothing question start (steps profile entries) → ⊥)
+HasOutcome question profile start turns old new given written (Refused code line) =
     NamesLine (IsEnded old new) given written code line
-HasOutcome profile start turns old new given written (StartRefused code line) = ⊥
-HasOutcome profile start turns old new given written Memory = IsSilent (IsEnded old new) given written
-HasOutcome profile start turns old new given written ReadFault = IsOpen old new given written
-HasOutcome profile start turns old new given written TooLong = IsOpen old new given written × UsedUp turns old new
-HasOutcome profile start turns old new given written WriteFault =
-    (text : List ℕ) × IsText profile start (IsEnded old new) given text × IsPrefix written text
+HasOutcome question profile start turns old new given written (StartRefused code line) = ⊥
+HasOutcome question profile start turns old new given written Memory = IsSilent (IsEnded old new) given written
+HasOutcome question profile start turns old new given written ReadFault = IsOpen old new given written
+HasOutcome question profile start turns old new given written TooLong = IsOpen old new given written × UsedUp turns old new
+HasOutcome question profile start turns old new given written WriteFault =
+    (text : List ℕ) × IsText question profile start (IsEnded old new) given text × IsPrefix written text
 
--- What a stream call does in a profile, under a start: some bytes were given, some were written, and the outcome is
--- that of these bytes.
-pub record Streams (profile : Profile) (start : State) (turns : ℕ) (r0 r1 : SourceState) (w0 w1 : SinkState)
-    (outcome : Outcome) : Type 0 where
+-- What a stream call does that asks this in a profile, under a start: some bytes were given, some were written, and the
+-- outcome is that of these bytes.
+pub record AskedStreams (question : Question) (profile : Profile) (start : State) (turns : ℕ) (r0 r1 : SourceState)
+    (w0 w1 : SinkState) (outcome : Outcome) : Type 0 where
   pub given : List ℕ
   pub read : Consumes r0.bytes r1.bytes given
   pub written : List ℕ
@@ -85,4 +90,9 @@ pub record Streams (profile : Profile) (start : State) (turns : ℕ) (r0 r1 : So
   -- a fault is answered exactly where that device failed in this call
   pub read_fault : r1.failures ≡ r0.failures + read_faults outcome
   pub write_fault : w1.failures ≡ w0.failures + write_faults outcome
-  pub answer : HasOutcome profile start turns r0 r1 given written outcome
+  pub answer : HasOutcome question profile start turns r0 r1 given written outcome
+
+-- a check asks for the findings
+abbrev pub Streams : Profile → State → ℕ → SourceState → SourceState → SinkState → SinkState → Outcome → Type 0
+Streams profile start turns r0 r1 w0 w1 outcome =
+    AskedStreams questions.Findings profile start turns r0 r1 w0 w1 outcome

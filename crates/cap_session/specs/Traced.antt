@@ -1,13 +1,16 @@
--- What is known of a trace while it comes, in a profile and from a start. Only the code's contracts use this.
+-- What is known of a trace while it comes, of which something is asked in a profile and from a start. Only the code's
+-- contracts use this.
 use Rattle.std.specs.Prelude.{◌≡◌, ℕ, List, [], ◌∷◌, ◌++◌, length, Result, Ok, Err, Option, MatchOption}
 use Rattle.cap_trace.specs.Entry.{Entry}
 use Rattle.cap_machine.specs.declared.cell.Profile.{Profile}
+use Rattle.cap_machine.specs.declared.question.Question.{Question}
 use Rattle.cap_machine.specs.State.{State}
 use Rattle.cap_session.specs.Trace.{next_entry}
 use Rattle.cap_session.specs.declared.refused.Refused.{Refused}
 
--- by which rules a trace is checked, and what is known before its first line
+-- what is asked of a trace, by which rules it is checked, and what is known before its first line
 pub record Setting : Type 0 where
+  pub question : Question
   pub profile : Profile
   pub start : State
 

@@ -1,12 +1,12 @@
 -- What each part of the code of a stream call does. Only the code's contracts use this; Streams says what a call
 -- answers.
-use Rattle.std.specs.Prelude.{◌≡◌, ◌≢◌, List, []}
+use Rattle.std.specs.Prelude.{◌≡◌, List}
 use Rattle.cap_trace.specs.Entry.{Entry}
 use Rattle.cap_machine.specs.declared.cell.Profile.{Profile}
+use Rattle.cap_machine.specs.declared.question.Question.{Question}
+use Rattle.cap_machine.specs.Questions.{answer, IsNothing}
 use Rattle.cap_machine.specs.Steps.{steps}
 use Rattle.cap_machine.specs.State.{State}
-use Rattle.cap_machine.specs.Check.{check}
-use Rattle.cap_machine.specs.Report.{report}
 use Rattle.cap_session.specs.Devices.{SinkState}
 use Rattle.cap_session.specs.Writes.{Wrote, WrotePrefix}
 use Rattle.cap_session.specs.Refused.{code_of}
@@ -18,18 +18,18 @@ use Rattle.cap_session.specs.declared.outcome.Outcome.{Outcome}
 use Rattle.cap_session.specs.declared.outcome.Outcome.TheVariants.{Clean, Findings, Refused, StartRefused, Memory}
 use Rattle.cap_session.specs.declared.outcome.Outcome.TheVariants.{ReadFault, WriteFault, TooLong}
 
--- What writing the report does and answers.
-abbrev pub WritesReport : Profile → State → List Entry → SinkState → SinkState → Outcome → Type 0
-WritesReport profile s entries w0 w1 Clean =
-    Wrote w0 w1 (report s (steps profile entries)) × (check s (steps profile entries) ≡ [])
-WritesReport profile s entries w0 w1 Findings =
-    Wrote w0 w1 (report s (steps profile entries)) × (check s (steps profile entries) ≢ [])
-WritesReport profile s entries w0 w1 Memory = w1 ≡ w0
-WritesReport profile s entries w0 w1 WriteFault = WrotePrefix w0 w1 (report s (steps profile entries))
-WritesReport profile s entries w0 w1 (Refused code line) = ⊥
-WritesReport profile s entries w0 w1 (StartRefused code line) = ⊥
-WritesReport profile s entries w0 w1 ReadFault = ⊥
-WritesReport profile s entries w0 w1 TooLong = ⊥
+-- What writing the answer to a question does and answers.
+abbrev pub WritesReport : Question → Profile → State → List Entry → SinkState → SinkState → Outcome → Type 0
+WritesReport question profile s entries w0 w1 Clean =
+    Wrote w0 w1 (answer question s (steps profile entries)) × IsNothing question s (steps profile entries)
+WritesReport question profile s entries w0 w1 Findings =
+    Wrote w0 w1 (answer question s (steps profile entries)) × (IsNothing question s (steps profile entries) → ⊥)
+WritesReport question profile s entries w0 w1 Memory = w1 ≡ w0
+WritesReport question profile s entries w0 w1 WriteFault = WrotePrefix w0 w1 (answer question s (steps profile entries))
+WritesReport question profile s entries w0 w1 (Refused code line) = ⊥
+WritesReport question profile s entries w0 w1 (StartRefused code line) = ⊥
+WritesReport question profile s entries w0 w1 ReadFault = ⊥
+WritesReport question profile s entries w0 w1 TooLong = ⊥
 
 -- What writing a refusal does and answers.
 abbrev pub WritesRefusal : Refusal → SinkState → SinkState → Outcome → Type 0

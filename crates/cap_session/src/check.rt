@@ -1,10 +1,11 @@
-//! A trace is checked as it comes: no line is kept, and only findings are.
+//! A trace is checked as it comes: no line is kept, and only the text that answers what is asked is.
 ghost use Rattle.std.specs.Prelude.{◌^◌, ◌<◌, ◌≤◌, List, []};
 ghost use Rattle.cap_trace.specs.Entry.{Entry};
 ghost use Rattle.cap_machine.specs.declared.cell.Profile.{Profile};
+ghost use Rattle.cap_machine.specs.declared.question.Question.{Question};
 ghost use Rattle.cap_machine.specs.State.{State, usual};
-ghost use Rattle.cap_machine.specs.Checked.{HasChecked, lines_of};
-ghost use Rattle.cap_session.specs.Streams.{Streams};
+ghost use Rattle.cap_machine.specs.Checked.{IsAsked, lines_of};
+ghost use Rattle.cap_session.specs.Streams.{AskedStreams, Streams};
 ghost use Rattle.cap_session.specs.Works.{WritesReport, WritesRefusal, EndsCall};
 
 use crate::devices::{Sink, Source};
@@ -19,7 +20,8 @@ use cap_trace::{FdLine, LineRef};
 use std::alloc::Global;
 
 impl Keep for Checker {
-    ghost keeps = { λ checker setting entries. HasChecked checker setting.profile setting.start entries };
+    ghost keeps = { λ checker setting entries.
+        IsAsked checker setting.question setting.profile setting.start entries };
 
     ghost lines_of = { lines_of };
 
@@ -40,11 +42,12 @@ impl Keep for Checker {
     }
 }
 
-/// Writes the report of the trace that was checked.
+/// Writes the report of the trace that was checked, or what else was asked of it.
 fn write_report<W: Sink>(checker: Checker, writer: &mut W) -> Outcome
     requires { 1 ≤ (W.state writer.old).room }
-    ensures { (profile : Profile) (s : State) (entries : List Entry) → HasChecked checker profile s entries
-        → WritesReport profile s entries (W.state writer.old) (W.state writer.new) result }
+    ensures { (question : Question) (profile : Profile) (s : State) (entries : List Entry)
+        → IsAsked checker question profile s entries
+        → WritesReport question profile s entries (W.state writer.old) (W.state writer.new) result }
 {
     let is_clean = checker.is_clean();
     let Ok(text) = checker.report() else {
@@ -82,7 +85,7 @@ pub fn write_stop<W: Sink>(stop: Stop, writer: &mut W) -> Outcome
     }
 }
 
-/// Checks a trace as it comes, with a checker that was given no line.
+/// Checks a trace as it comes, with a checker that was given no line, whatever that is asked.
 pub fn check_with<R: Source, W: Sink>(
     alloc: Global,
     turns: u64,
@@ -93,8 +96,9 @@ pub fn check_with<R: Source, W: Sink>(
     requires turns { turns ≤ 2 ^ 32 }
     requires calls { turns ≤ (R.state reader.old).room }
     requires failure { 1 ≤ (W.state writer.old).room }
-    ensures { (profile : Profile) (s : State) → HasChecked checker profile s [] → Streams profile s turns
-        (R.state reader.old) (R.state reader.new) (W.state writer.old) (W.state writer.new) result }
+    ensures { (question : Question) (profile : Profile) (s : State) → IsAsked checker question profile s []
+        → AskedStreams question profile s turns (R.state reader.old) (R.state reader.new) (W.state writer.old)
+        (W.state writer.new) result }
 {
     match read_trace(alloc, turns, reader, checker) {
         Ok(checker) => write_report(checker, writer),

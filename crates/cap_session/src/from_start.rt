@@ -1,9 +1,13 @@
-//! A trace is checked as it comes, from a start text that is read first.
-ghost use Rattle.std.specs.Prelude.{◌^◌, ◌≤◌};
+//! A trace is asked for its findings or for its denials as it comes, from a start text that is read first.
+ghost use Rattle.std.specs.Prelude.{◌≡◌, ◌^◌, ◌≤◌, []};
+ghost use Rattle.cap_machine.specs.Checked.{IsAsked, HasChecked, lines_of};
+ghost use Rattle.cap_machine.specs.State.{State};
 ghost use Rattle.cap_machine.specs.Table.{start_state};
+ghost use Rattle.cap_machine.specs.declared.cell.Profile.{Profile};
 ghost use Rattle.cap_machine.specs.declared.cell.Profile.TheVariants.{One};
-ghost use Rattle.cap_session.specs.Streams.{Streams};
-ghost use Rattle.cap_session.specs.StartStreams.{StartStreams};
+ghost use Rattle.cap_machine.specs.declared.question.Question.TheVariants.{Denials};
+ghost use Rattle.cap_session.specs.Streams.{AskedStreams};
+ghost use Rattle.cap_session.specs.StartStreams.{AskedStartStreams, StartStreams};
 ghost use Rattle.cap_session.specs.Works.{WritesStartRefusal, EndsStart};
 
 use crate::check::check_with;
@@ -14,7 +18,7 @@ use crate::refused::Refusal;
 use crate::short_text::ShortText;
 use crate::start_text::read_start;
 use crate::write::write_text;
-use cap_machine::{Checker, Profile, Start};
+use cap_machine::{Checker, Profile, Question, Start};
 use std::alloc::Global;
 
 /// Writes the text of a refused line of a start.
@@ -42,9 +46,22 @@ pub fn write_start_stop<W: Sink>(stop: Stop, writer: &mut W) -> Outcome
     }
 }
 
-/// Checks a trace as it comes, from a start.
-fn check_from<R: Source, W: Sink>(
+/// The same checker, which was given no line, asked this.
+fn asked(checker: Checker, question: Question) -> Checker
+    requires { lines_of checker ≡ 0 }
+    ensures { (profile : Profile) (s : State) → HasChecked checker profile s []
+        → IsAsked result question profile s [] }
+{
+    match question {
+        Question::Findings => checker,
+        Question::Denials => checker.for_denials(),
+    }
+}
+
+/// Asks this of a trace as it comes, from a start.
+fn ask_from<R: Source, W: Sink>(
     alloc: Global,
+    question: Question,
     profile: Profile,
     turns: u64,
     start: &Start,
@@ -54,13 +71,40 @@ fn check_from<R: Source, W: Sink>(
     requires turns { turns ≤ 2 ^ 32 }
     requires calls { turns ≤ (R.state reader.old).room }
     requires failure { 1 ≤ (W.state writer.old).room }
-    ensures { Streams profile (start_state start.now) turns (R.state reader.old) (R.state reader.new)
-        (W.state writer.old) (W.state writer.new) result }
+    ensures { AskedStreams question profile (start_state start.now) turns (R.state reader.old)
+        (R.state reader.new) (W.state writer.old) (W.state writer.new) result }
 {
     let Ok(checker) = Checker::from_start(alloc, profile, start) else {
         return Outcome::Memory;
     };
-    check_with(alloc, turns, reader, writer, checker)
+    check_with(alloc, turns, reader, writer, asked(checker, question))
+}
+
+/// Reads a start text, and asks this of a trace as it comes from that start.
+fn ask_stream_from<S: Source, R: Source, W: Sink>(
+    alloc: Global,
+    question: Question,
+    profile: Profile,
+    turns: u64,
+    start: &mut S,
+    reader: &mut R,
+    writer: &mut W,
+) -> Outcome
+    requires turns { turns ≤ 2 ^ 32 }
+    requires start_calls { turns ≤ (S.state start.old).room }
+    requires calls { turns ≤ (R.state reader.old).room }
+    requires failure { 1 ≤ (W.state writer.old).room }
+    ensures { AskedStartStreams question profile turns (S.state start.old) (S.state start.new) (R.state reader.old)
+        (R.state reader.new) (W.state writer.old) (W.state writer.new) result }
+{
+    match read_start(alloc, turns, start) {
+        Ok(known) => {
+            let outcome = ask_from(alloc, question, profile, turns, &known, reader, writer);
+            drop(known);
+            outcome
+        }
+        Err(stop) => write_start_stop(stop, writer),
+    }
 }
 
 /// Reads a start text, checks a trace as it comes from that start in a profile, and writes its report or the first
@@ -93,14 +137,15 @@ pub fn check_stream_from_as<S: Source, R: Source, W: Sink>(
     ensures { StartStreams profile turns (S.state start.old) (S.state start.new) (R.state reader.old)
         (R.state reader.new) (W.state writer.old) (W.state writer.new) result }
 {
-    match read_start(alloc, turns, start) {
-        Ok(known) => {
-            let outcome = check_from(alloc, profile, turns, &known, reader, writer);
-            drop(known);
-            outcome
-        }
-        Err(stop) => write_start_stop(stop, writer),
-    }
+    ask_stream_from(
+        alloc,
+        Question::Findings,
+        profile,
+        turns,
+        start,
+        reader,
+        writer,
+    )
 }
 
 /// Does what [`check_stream_from_as`] does, in profile 1.
@@ -119,4 +164,35 @@ pub fn check_stream_from<S: Source, R: Source, W: Sink>(
         (W.state writer.old) (W.state writer.new) result }
 {
     check_stream_from_as(alloc, Profile::One, turns, start, reader, writer)
+}
+
+/// Reads a start text, and writes what was lacking for each line of a trace that errno 93 or 94 refused, by what is known
+/// from that start in a profile, or the first refused line. An empty start text is the usual start.
+///
+/// It does what [`check_stream_from_as`] does, with these denials in place of the findings: `Clean` says that there is
+/// none, and `Findings` that there are some.
+pub fn denials_stream<S: Source, R: Source, W: Sink>(
+    alloc: Global,
+    profile: Profile,
+    turns: u64,
+    start: &mut S,
+    reader: &mut R,
+    writer: &mut W,
+) -> Outcome
+    requires turns { turns ≤ 2 ^ 32 }
+    requires start_calls { turns ≤ (S.state start.old).room }
+    requires calls { turns ≤ (R.state reader.old).room }
+    requires failure { 1 ≤ (W.state writer.old).room }
+    ensures { AskedStartStreams Denials profile turns (S.state start.old) (S.state start.new) (R.state reader.old)
+        (R.state reader.new) (W.state writer.old) (W.state writer.new) result }
+{
+    ask_stream_from(
+        alloc,
+        Question::Denials,
+        profile,
+        turns,
+        start,
+        reader,
+        writer,
+    )
 }

@@ -10,19 +10,19 @@ pub fn beginning_decides()
     ensures { BeginningDecides }
 {}
 
-/// Any pieces give the same: where `check_stream` comes to an answer, it is that of the whole text that its
-/// reader had, however the text was cut and however far it was read.
+/// Any pieces give the same: where a call that asks for findings or denials comes to an answer, it is that of the whole
+/// text that its reader had, however the text was cut and however far it was read.
 pub fn pieces_agree()
     ensures { PiecesAgree }
 {}
 
-/// Where the text was read to its end and no line is refused, `check_stream` writes the report, unless memory runs out
-/// or the writer fails. So a good trace is never refused.
+/// Where the text was read to its end and no line is refused, such a call writes the report or the denials, unless memory
+/// runs out or the writer fails. So a good trace is never refused.
 pub fn good_is_reported()
     ensures { GoodIsReported }
 {}
 
-/// Where a line is refused, `check_stream` answers with that line, unless the writer fails. Out of memory never stands
+/// Where a line is refused, such a call answers with that line, unless the writer fails. Out of memory never stands
 /// in its place.
 pub fn bad_is_refused()
     ensures { BadIsRefused }

@@ -57,7 +57,7 @@ pub use explained::ExplainedLine;
 pub use explaining::{
     explain_stream, explain_stream_as, explain_stream_from, explain_stream_from_as,
 };
-pub use from_start::{check_stream_from, check_stream_from_as};
+pub use from_start::{check_stream_from, check_stream_from_as, denials_stream};
 pub use laws::{
     bad_is_refused, beginning_decides, each_report_is_of_its_trace, explains_what_is_reported,
     good_is_reported, pieces_agree, script_leaves_what_edits_give, script_reports_what_edits_give,

@@ -8,9 +8,9 @@ use crate::lines::Stop;
 /// How a stream call ends.
 #[derive(Clone, Copy, Debug, PartialEq, Eq)]
 pub enum Outcome {
-    /// The trace was read to its end, and its report has no finding.
+    /// The trace was read to its end, and has no finding, or no denial where those are asked for.
     Clean,
-    /// The trace was read to its end, and its report has findings.
+    /// The trace was read to its end, and has findings, or denials where those are asked for.
     Findings,
     /// A line was refused: its code, 1 to 6 or 8, and its number among all lines of the text, from 1.
     Refused { code: u8, line: usize },

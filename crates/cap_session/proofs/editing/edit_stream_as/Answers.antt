@@ -1,12 +1,13 @@
 use Rattle.std.proofs.Common.{◌∙◌}
 use Rattle.cap_machine.specs.declared.cell.Profile.{Profile}
+use Rattle.cap_machine.specs.declared.question.Question.TheVariants.{Findings}
 use Rattle.cap_machine.specs.State.{usual}
 use Rattle.cap_session.specs.Traced.{Setting}
 use Rattle.cap_session.proofs.Rejecting.{nothing_begun, not_loaded, rejected, taken}
 use Rattle.cap_session.proofs.editing.edit_stream_as.Goals as goal
 
 abbrev under : Profile → Setting
-under profile = record { profile = profile; start = usual }
+under profile = record { question = Findings; profile = profile; start = usual }
 
 pub returns-in-Ok-read_trace : goal.returns-in-Ok-read_trace
 returns-in-Ok-read_trace g c =

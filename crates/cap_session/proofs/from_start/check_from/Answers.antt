@@ -1,9 +1,0 @@
-use Rattle.cap_machine.specs.Table.{start_state}
-use Rattle.cap_session.proofs.StartRejecting.{not_begun}
-use Rattle.cap_session.proofs.from_start.check_from.Goals as goal
-
-pub returns-in_default : goal.returns-in_default
-returns-in_default g c = not_begun c.args.profile (start_state c.args.start.now) c.args.turns _ _
-
-pub returns : goal.returns
-returns g c = c.check_with.ensures c.args.profile (start_state c.args.start.now) c.in-Ok.ensures
