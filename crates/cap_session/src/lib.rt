@@ -19,6 +19,7 @@ mod chains;
 mod check;
 mod command;
 mod counted;
+mod denied;
 mod devices;
 mod edit;
 mod editing;

@@ -6,6 +6,7 @@ ghost use Rattle.std.specs.Prelude.{◌≡◌, ◌+◌, ◌≤◌, ◌<◌, ◌�
 ghost use Rattle.std.specs.Prelude.{OnOk, OnErr, IsOkUnless, IsTrue, ◌*◌, vec_len, insert, remove, slice_set};
 ghost use Rattle.cap_machine.specs.Report.{report};
 ghost use Rattle.cap_machine.specs.Check.{check};
+ghost use Rattle.cap_machine.specs.DenialReport.{denial_report};
 ghost use Rattle.cap_machine.specs.State.{usual};
 ghost use Rattle.cap_machine.specs.Steps.{steps};
 ghost use Rattle.cap_machine.specs.Table.{start_state};
@@ -20,6 +21,7 @@ ghost use Rattle.cap_summary.specs.declared.summary.Summary.{Summary};
 ghost use Rattle.cap_tree.specs.Bits.{bits};
 ghost use Rattle.cap_tree.specs.Run.{values};
 
+use crate::denied::denials_of;
 use crate::edit::Edit;
 use crate::explained::{ExplainedLine, line_explained};
 use crate::found::text_of;
@@ -327,6 +329,16 @@ impl Session {
         ensures only { IsOkUnless result Refused.Memory }
     {
         self.whole(start)
+    }
+
+    /// What was lacking for each line that errno 93 or 94 refused, from a start: a line for each denial, and how many they
+    /// are. It fails only when memory runs out.
+    pub fn denials(&self, start: &Start) -> Result<Vec<u8>, Refused>
+        ensures denials { IfOk result
+            (λ text. text.items ≡ denial_report (start_state start.now) (steps self.now.profile self.now.trace)) }
+        ensures only { IsOkUnless result Refused.Memory }
+    {
+        Ok(denials_of(self.alloc, self.profile, start, &self.tree)?)
     }
 
     /// The text of all findings under a start.
