@@ -1,4 +1,5 @@
--- The text of an explanation: a line of a trace, what is said of it, and the lines that this rests on.
+-- The text of an explanation: a line of a trace, what is said of it, what was lacking for it, and the lines that this rests
+-- on.
 --
 --     9 201 shutdown(4) RET 0
 --     missing 4 CAP_SHUTDOWN
@@ -16,6 +17,7 @@ use Rattle.cap_machine.specs.declared.cell.Cell.TheVariants.{Unknown, Closed, He
 use Rattle.cap_machine.specs.declared.cell.Mode.{Mode}
 use Rattle.cap_machine.specs.declared.cell.Mode.TheVariants.{Inside, Outside, Unsure}
 use Rattle.cap_machine.specs.declared.cell.Profile.{Profile}
+use Rattle.cap_machine.specs.declared.denial.Denial.{Denial}
 use Rattle.cap_machine.specs.declared.origin.CellEnd.{CellEnd}
 use Rattle.cap_machine.specs.declared.origin.CellEnd.TheVariants as cells
 use Rattle.cap_machine.specs.declared.origin.CellLink.{CellLink}
@@ -24,6 +26,7 @@ use Rattle.cap_machine.specs.declared.origin.ModeEnd.TheVariants as modes
 use Rattle.cap_machine.specs.declared.origin.ModeLink.{ModeLink}
 use Rattle.cap_machine.specs.declared.rule.Check.{Check}
 use Rattle.cap_machine.specs.declared.verdict.Finding.{Finding}
+use Rattle.cap_machine.specs.DenialReport.{denial_words}
 use Rattle.cap_machine.specs.Explain.{Explained, explanation}
 use Rattle.cap_machine.specs.Judge.{listed}
 use Rattle.cap_machine.specs.Origin.{CellChain, ModeChain}
@@ -102,6 +105,10 @@ mode_lines trace chain =
 abbrev pub finding_lines : List Finding → List ℕ
 finding_lines findings = flat_map (λ (f : Finding). line_of_words (finding_words f)) findings
 
+-- the word of each denial and what belongs to it
+abbrev pub denial_lines : List Denial → List ℕ
+denial_lines denials = flat_map (λ (d : Denial). line_of_words (denial_words d)) denials
+
 -- the chain of each descriptor that is checked, in order
 abbrev pub all_cell_lines : List Entry → List Check → List CellChain → List ℕ
 all_cell_lines trace (check ∷ checks) (chain ∷ chains) =
@@ -116,8 +123,8 @@ any_mode_lines trace (Some chain) = mode_lines trace chain
 -- the text of what the line at a position rests on
 abbrev pub explained_text : List Entry → ℕ → Explained → List ℕ
 explained_text trace k e =
-    numbered trace k ++ finding_lines e.findings ++ all_cell_lines trace (checks_at trace k) e.cells
-    ++ any_mode_lines trace e.mode
+    numbered trace k ++ finding_lines e.findings ++ denial_lines e.denials
+    ++ all_cell_lines trace (checks_at trace k) e.cells ++ any_mode_lines trace e.mode
 
 abbrev pub text_or_refusal : List Entry → ℕ → Option Explained → Result (List ℕ) Refused
 text_or_refusal trace k None = Err Position

@@ -8,17 +8,17 @@ ghost use Rattle.cap_machine.specs.Origin.{cell_chain_of, mode_chain_of};
 ghost use Rattle.cap_machine.specs.Rule.{demand};
 ghost use Rattle.cap_machine.specs.Table.{start_state};
 ghost use Rattle.cap_session.specs.Explained.{CellStands, AnyModeStands, FitsLine};
-ghost use Rattle.cap_session.specs.Explaining.{finding_lines, all_cell_lines, any_mode_lines, explained_text};
-ghost use Rattle.cap_session.specs.Explaining.{explained_line, IsClean};
+ghost use Rattle.cap_session.specs.Explaining.{finding_lines, denial_lines, all_cell_lines, any_mode_lines};
+ghost use Rattle.cap_session.specs.Explaining.{explained_text, explained_line, IsClean};
 
 use crate::chains::{put_cell_origin, put_mode_origin, put_numbered};
 use crate::refused::Refused;
 use crate::session::is_position;
 use crate::trace::Trace;
-use crate::wording::put_found;
+use crate::wording::{put_denied, put_found};
 use cap_machine::{
-    CellOrigin, Checks, Explanation, ModeOrigin, NoMemory, Profile, Start, Verdict, explain,
-    rule_of,
+    CellOrigin, Checks, Explanation, LineDenials, ModeOrigin, NoMemory, Profile, Start, Verdict,
+    explain, rule_of,
 };
 use cap_trace::Line;
 use std::alloc::Global;
@@ -26,7 +26,7 @@ use std::alloc::Global;
 /// A line that was explained.
 #[derive(Debug, Drop)]
 pub struct ExplainedLine {
-    /// The line, its findings, and the lines that these rest on; `docs/EXPLAIN.md` says how.
+    /// The line, its findings, what was lacking for it, and the lines that these rest on; `docs/EXPLAIN.md` says how.
     pub text: Vec<u8>,
     /// Whether it has no finding.
     pub is_clean: bool,
@@ -38,6 +38,16 @@ fn put_findings(out: &mut Vec<u8>, verdict: &Verdict) -> Result<(), NoMemory>
 {
     for finding in verdict.as_slice() {
         put_found(out, finding)?;
+    }
+    Ok(())
+}
+
+/// Appends a line for each denial.
+fn put_denials(out: &mut Vec<u8>, denials: &LineDenials) -> Result<(), NoMemory>
+    ensures { OnOk result (out.new.items ≡ out.old.items ++ denial_lines denials.now) }
+{
+    for denial in denials.as_slice() {
+        put_denied(out, denial)?;
     }
     Ok(())
 }
@@ -103,6 +113,7 @@ fn text_of<T: Trace>(
     let checks = checks_of(trace.line_at(position));
     put_numbered(&mut text, trace, position)?;
     put_findings(&mut text, &explanation.verdict)?;
+    put_denials(&mut text, &explanation.denials)?;
     put_cells(&mut text, trace, &checks, explanation.cells.as_slice())?;
     put_mode(&mut text, trace, &explanation.mode)?;
     Ok(text)

@@ -1,10 +1,11 @@
-//! Numbers, findings, cells and modes in words.
+//! Numbers, findings, denials, cells and modes in words.
 ghost use Rattle.std.specs.Prelude.{◌≡◌, ◌++◌, ◌∷◌, [], codes, decimal, OnOk};
 ghost use Rattle.cap_rights.specs.Text.{text};
+ghost use Rattle.cap_machine.specs.DenialReport.{denial_words};
 ghost use Rattle.cap_machine.specs.Report.{finding_words, line_of_words};
 ghost use Rattle.cap_session.specs.Explaining.{cell_word, mode_word};
 
-use cap_machine::{Cell, Finding, Mode, NoMemory};
+use cap_machine::{Cell, Denial, Finding, Mode, NoMemory};
 use cap_rights::{RightSet, write_rights};
 use cap_trace::Fd;
 use itoa::Buffer;
@@ -53,6 +54,18 @@ pub fn put_found(out: &mut Vec<u8>, finding: &Finding) -> Result<(), NoMemory>
         Finding::Closed(fd) => put_closed(out, *fd)?,
         Finding::Missing(fd, lacking) => put_lacking(out, b"missing", *fd, lacking)?,
         Finding::Expanded(fd, lacking) => put_lacking(out, b"expanded", *fd, lacking)?,
+    }
+    Ok(())
+}
+
+/// Appends the word of a denial, what belongs to it, and a line feed.
+pub fn put_denied(out: &mut Vec<u8>, denial: &Denial) -> Result<(), NoMemory>
+    ensures { OnOk result (out.new.items ≡ out.old.items ++ line_of_words (denial_words denial.now)) }
+{
+    match denial {
+        Denial::Lacks(fd, lacking) => put_lacking(out, b"lacks", *fd, lacking)?,
+        Denial::Inside => out.extend_from_slice(b"inside\n")?,
+        Denial::Unexplained => out.extend_from_slice(b"unexplained\n")?,
     }
     Ok(())
 }
