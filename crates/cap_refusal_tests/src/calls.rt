@@ -5,7 +5,7 @@ use crate::machine::{
 };
 use crate::making::{Made, lists_fds, makes};
 use crate::marks::{Mark, lacked, right};
-use crate::reports::{reads_start, reports_from};
+use crate::reports::{has_denials, reads_start, reports_from};
 use crate::sessions::{Query, answers_query};
 use crate::summaries::{resolves, sums};
 use cap_machine::{NoMemory, Start, Step};
@@ -27,6 +27,7 @@ pub enum Call<'a> {
     Range(&'a Start, &'a Summary, (usize, usize), &'a [usize]),
     Ask(&'a Session, &'a Query, &'a str),
     ReportFrom(&'a Session, &'a Start),
+    Denials(&'a Session, &'a Start),
 }
 
 /// Makes a call on a trace.
@@ -59,6 +60,7 @@ fn answers(alloc: Global, call: &Call<'_>) -> Result<bool, NoMemory> {
         }
         Call::Ask(session, query, text) => answers_query(session, query, text),
         Call::ReportFrom(session, start) => reports_from(session, start),
+        Call::Denials(session, start) => has_denials(session, start),
     }
 }
 

@@ -19,7 +19,12 @@ const SHORTER: &str = "7 101 read closed 3\nfindings 1\n";
 
 /// A session in profile 2 of the trace.
 pub fn session_of(alloc: Global) -> Result<Session, Fail> {
-    let lines = lines_of(alloc, &TRACE)?;
+    session_with(alloc, &TRACE)
+}
+
+/// A session in profile 2 of some lines.
+pub fn session_with(alloc: Global, lines: &[&str]) -> Result<Session, Fail> {
+    let lines = lines_of(alloc, lines)?;
     let mut session = Session::with_profile(alloc, 100, Profile::Two)?;
     match session.load(lines) {
         Ok(_) => Ok(session),

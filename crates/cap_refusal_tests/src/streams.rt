@@ -7,8 +7,8 @@ use cap_machine::Profile;
 use cap_session::ExplainOutcome::{self, Ended};
 use cap_session::{
     Failed, Outcome, Source, check_stream, check_stream_as, check_stream_from,
-    check_stream_from_as, edit_stream, edit_stream_as, explain_stream, explain_stream_as,
-    explain_stream_from, explain_stream_from_as,
+    check_stream_from_as, denials_stream, edit_stream, edit_stream_as, explain_stream,
+    explain_stream_as, explain_stream_from, explain_stream_from_as,
 };
 use cap_session_tests::devices::{Kept, Pieces};
 use std::alloc::Global;
@@ -18,6 +18,13 @@ const TRACE: &[u8] =
     b"100 @start(0,3)\n100 cap_rights_limit(3,CAP_READ) RET 0\n100 fork() RET 101\n100 close(3) RET 0\n101 write(3) RET 1\n";
 
 const REPORT: &[u8] = b"5 101 write missing 3 CAP_WRITE\nfindings 1\n";
+
+/// A line that lacks a right, one in capability mode, and one that nothing explains.
+const DENIED: &[u8] =
+    b"100 write(3) RET -1 errno 93\n100 cap_enter() RET 0\n100 fork() RET 101\n101 open(\"a\",O_RDONLY) RET -1 errno 94\n101 read(3) RET -1 errno 93\n";
+
+const DENIALS: &[u8] =
+    b"1 100 write lacks 3 CAP_WRITE\n4 101 open inside\n5 101 read unexplained\ndenials 3\n";
 
 const START: &[u8] = b"100 out closed 3=CAP_READ 70=ALL\n";
 
@@ -46,6 +53,7 @@ enum Call {
     CheckFromAs,
     Edit,
     EditAs,
+    Denials,
     Explain,
     ExplainAs,
     ExplainFrom,
@@ -74,6 +82,7 @@ fn made(
         Call::CheckFromAs => check_stream_from_as(alloc, two, 4096, start, trace, kept),
         Call::Edit => edit_stream(alloc, 4096, trace, script, kept),
         Call::EditAs => edit_stream_as(alloc, two, 4096, trace, script, kept),
+        Call::Denials => denials_stream(alloc, two, 4096, start, trace, kept),
         Call::Explain => return explain_stream(alloc, 4096, 5, trace, kept),
         Call::ExplainAs => return explain_stream_as(alloc, two, 4096, 5, trace, kept),
         Call::ExplainFrom => return explain_stream_from(alloc, 4096, 5, start, trace, kept),
@@ -84,9 +93,17 @@ fn made(
     Ended(outcome)
 }
 
+/// The trace of a call.
+fn trace_of(call: Call) -> &'static [u8] {
+    match call {
+        Call::Denials => DENIED,
+        _ => TRACE,
+    }
+}
+
 /// The outcome of a call, and what it wrote.
 fn streamed(alloc: Global, call: Call) -> (ExplainOutcome, Kept) {
-    let mut trace = Pieces::new(TRACE, 64, 0);
+    let mut trace = Pieces::new(trace_of(call), 64, 0);
     let mut start = Pieces::new(START, 64, 0);
     let mut script = Pieces::new(SCRIPT, 64, 0);
     let mut kept = Kept::new(64, 256);
@@ -128,6 +145,11 @@ static CHECKS: [Call; 4] = [
 #[test]
 fn check_streams_refused(rt: HostRuntime) -> Result<(), Fail> {
     all_find(rt.alloc(), &CHECKS, REPORT, "a stream is checked")
+}
+
+#[test]
+fn denials_stream_refused(rt: HostRuntime) -> Result<(), Fail> {
+    all_find(rt.alloc(), &[Call::Denials], DENIALS, "denials are written")
 }
 
 static EXPLAINS: [Call; 4] = [

@@ -6,8 +6,8 @@ use crate::devices::{Kept, Pieces};
 use cap_machine::Profile;
 use cap_session::{
     ExplainOutcome, check_stream, check_stream_as, check_stream_from, check_stream_from_as,
-    edit_stream, edit_stream_as, explain_stream, explain_stream_as, explain_stream_from,
-    explain_stream_from_as,
+    denials_stream, edit_stream, edit_stream_as, explain_stream, explain_stream_as,
+    explain_stream_from, explain_stream_from_as,
 };
 use std::alloc::Global;
 use std::test::Fail;
@@ -24,6 +24,7 @@ pub enum Call {
     CheckAs(Profile),
     CheckFrom,
     CheckFromAs(Profile),
+    Denials(Profile),
     Edit,
     EditAs(Profile),
     Explain(usize),
@@ -103,6 +104,7 @@ fn made(
         Call::CheckFromAs(profile) => {
             check_stream_from_as(alloc, profile, turns, other, trace, writer)
         }
+        Call::Denials(profile) => denials_stream(alloc, profile, turns, other, trace, writer),
         Call::Edit => edit_stream(alloc, turns, trace, other, writer),
         Call::EditAs(profile) => edit_stream_as(alloc, profile, turns, trace, other, writer),
         Call::Explain(at) => return explain_stream(alloc, turns, at, trace, writer),

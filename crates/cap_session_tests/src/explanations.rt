@@ -52,7 +52,22 @@ type Row = (
     &'static str,
 );
 
-static ROWS: [Row; 11] = [
+/// A descriptor that lacks a right.
+const LIMITED: Trace = (
+    b"100 @start(0)\n100 open(\"a\",O_RDWR) RET 5\n100 cap_rights_limit(5,CAP_WRITE) RET 0\n100 read(5) RET -1 errno 93",
+    4,
+);
+
+/// A call that capability mode refuses.
+const ENTERED: Trace = (
+    b"100 @start(0)\n100 cap_enter() RET 0\n100 open(\"a\",O_RDONLY) RET -1 errno 94",
+    3,
+);
+
+/// A descriptor that lacks no right.
+const REFUSED: Trace = (b"100 @start(0,3)\n100 read(0) RET -1 errno 93", 2);
+
+static ROWS: [Row; 15] = [
     (
         b"",
         Profile::One,
@@ -108,6 +123,7 @@ missing 4 CAP_SHUTDOWN\n\
         4,
         CLEAN,
         "4 100 renameat(6,\"a\",7,\"b\") RET -1 errno 93\n\
+unexplained\n\
 6 2 100 dup(5) RET 6\n\
 6 1 100 open(\"a\",O_RDONLY) RET 5\n\
 7 start closed\n\
@@ -149,6 +165,53 @@ mode 3 100 cap_enter() RET 0\n",
 closed 5\n\
 5 2 100 execve(\"/bin/x\") RET 0\n\
 5 1 100 open(\"a\",O_RDONLY|O_CLOEXEC) RET 5\n",
+    ),
+    // What was lacking stands behind the findings and before the chains.
+    (
+        b"",
+        Profile::One,
+        LIMITED,
+        4,
+        CLEAN,
+        "4 100 read(5) RET -1 errno 93\n\
+lacks 5 CAP_READ\n\
+5 3 100 cap_rights_limit(5,CAP_WRITE) RET 0\n\
+5 2 100 open(\"a\",O_RDWR) RET 5\n",
+    ),
+    (
+        b"",
+        Profile::Two,
+        ENTERED,
+        3,
+        CLEAN,
+        "3 100 open(\"a\",O_RDONLY) RET -1 errno 94\n\
+inside\n\
+mode 2 100 cap_enter() RET 0\n",
+    ),
+    (
+        b"",
+        Profile::One,
+        REFUSED,
+        2,
+        FINDINGS,
+        "2 100 read(0) RET -1 errno 93\n\
+refusal\n\
+unexplained\n\
+0 1 100 @start(0,3)\n",
+    ),
+    // Of two descriptors the second lacks a right.
+    (
+        b"100 out CAP_LOOKUP",
+        Profile::Two,
+        RENAME,
+        4,
+        CLEAN,
+        "4 100 renameat(6,\"a\",7,\"b\") RET -1 errno 93\n\
+lacks 7 CAP_RENAMEAT_TARGET\n\
+6 2 100 dup(5) RET 6\n\
+6 1 100 open(\"a\",O_RDONLY) RET 5\n\
+7 start CAP_LOOKUP\n\
+mode 3 100 cap_enter() RET 0\n",
     ),
 ];
 

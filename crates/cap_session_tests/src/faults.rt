@@ -176,6 +176,17 @@ const CHECKED_FROM: Run<'static> = Run {
     ..CHECKED
 };
 
+/// A right that the start leaves out.
+const DENIED_START: &[u8] = b"# before\n100 out closed 5=CAP_SEEK\n";
+
+const DENIED: Run<'static> = Run {
+    call: Call::Denials(Profile::Two),
+    trace: (b"100 read(6) RET 1\n100 read(5) RET -1 errno 93\n", 1, 0),
+    other: (DENIED_START, 1, 0),
+    written: "2 100 read lacks 5 CAP_READ\ndenials 1\n",
+    ..CHECKED
+};
+
 const EDITED: Run<'static> = Run {
     call: Call::EditAs(Profile::Two),
     other: (SCRIPT, 1, 0),
@@ -193,7 +204,7 @@ const EDITED_IN_ONE: Run<'static> = Run {
     ..EDITED
 };
 
-static SWEEPS: [Sweep; 8] = [
+static SWEEPS: [Sweep; 10] = [
     Sweep {
         run: CHECKED,
         is_of_trace: true,
@@ -216,6 +227,24 @@ static SWEEPS: [Sweep; 8] = [
         },
         is_of_trace: true,
         other_reads: 3,
+        replies: &[],
+        pieces: (64, 16),
+    },
+    // The same of the denials.
+    Sweep {
+        run: DENIED,
+        is_of_trace: false,
+        other_reads: 0,
+        replies: &[],
+        pieces: (64, 1),
+    },
+    Sweep {
+        run: Run {
+            other: (DENIED_START, 16, 0),
+            ..DENIED
+        },
+        is_of_trace: true,
+        other_reads: 4,
         replies: &[],
         pieces: (64, 16),
     },

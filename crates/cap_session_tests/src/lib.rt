@@ -6,6 +6,8 @@
 mod answers;
 #[cfg(test)]
 mod checks;
+#[cfg(test)]
+mod denials;
 pub mod devices;
 #[cfg(test)]
 mod explanations;

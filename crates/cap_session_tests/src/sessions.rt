@@ -19,6 +19,8 @@ pub enum Query {
     Report,
     /// The report from the start of the case.
     ReportFrom,
+    /// The denials from the start of the case.
+    Denials,
     Range(usize, usize),
     Show(usize),
 }
@@ -132,6 +134,7 @@ fn answers_query(
     let given = match query {
         Query::Report => session.report(),
         Query::ReportFrom => session.report_from(start),
+        Query::Denials => session.denials(start),
         Query::Range(first, last) => session.report_range(*first, *last),
         Query::Show(position) => session.show(*position),
     };
