@@ -42,3 +42,4 @@ pub mod LimitEnough
 pub mod LimitSets
 pub mod LimitPlaces
 pub mod LimitScripts
+pub mod JoinedRights

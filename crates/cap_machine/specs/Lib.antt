@@ -17,6 +17,7 @@ pub mod DenialLaws
 pub mod Questions
 pub mod Laws
 pub mod Live
+pub mod Wanted
 pub mod LimitLaws
 pub mod ProfileLaws
 pub mod Composed

@@ -38,6 +38,7 @@ mod explaining;
 mod flags;
 mod laws;
 mod limit_laws;
+mod live;
 mod machine;
 mod needs;
 mod origin;

@@ -1,0 +1,42 @@
+-- Sets of rights, joined.
+use Rattle.std.proofs.Common.{◌≡◌, ℕ, ◌^◌, ◌<◌, ◌==◌, ◌&&◌, ◌||◌, Bool, true, false, refl, sym, ap, ◌∙◌, arith, max, min, if◌then◌else◌, subst}
+use Rattle.std.proofs.lemmas.Bool.{cases_eq, false≢true}
+use Rattle.std.specs.Option.{unwrap_or}
+use Rattle.std.specs.Map.{lookup}
+use Rattle.std.proofs.Common.{List, [], ◌∷◌, length}
+use Rattle.std.proofs.Math.Logic.{⊎_elim}
+use Rattle.std.specs.Int.RustNames.{bit_and, bit_or}
+use Rattle.std.specs.Int.{bit_at}
+use Rattle.std.proofs.lemmas.Nat.{or_comm}
+use Rattle.std.proofs.lemmas.Nat.Bits.{same_from_bits, bit_at_or, bit_at_and, bit_at-zero}
+use Rattle.std.proofs.lemmas.Bool.Decides.{nat_tests}
+use Rattle.cap_rights.specs.Rights.{join, meet, holds}
+
+pub join_comm : (r s : ℕ) → join r s ≡ join s r
+join_comm r s = or_comm r s
+
+pub join_assoc : (r s t : ℕ) → join (join r s) t ≡ join r (join s t)
+join_assoc r s t = same_from_bits _ _ (λ k. simp bit_at_or (omega arith))
+
+pub join_none : (r : ℕ) → join r 0 ≡ r
+join_none r = same_from_bits _ _ (λ k. simp (bit_at_or, bit_at-zero) (omega arith))
+
+-- what is left of one is added to the other: rights of descriptor g go over
+pub moved_over : (to from new old : ℕ → ℕ) (g r f : ℕ) → new f ≡ (if f == g then join (to f) r else to f)
+    → from g ≡ r → old g ≡ 0 → ((f ≡ g → ⊥) → old f ≡ from f) → join (new f) (old f) ≡ join (to f) (from f)
+moved_over to from new old g r f added here gone others =
+    ⊎_elim
+    (λ e. subst (λ (h : ℕ). new h ≡ (if h == g then join (to h) r else to h) → join (new h) (old h) ≡ join (to h) (from h))
+    (sym e) (λ a. grind (arith, nat_tests, join_none, a, here, gone)) added)
+    (λ ne. let o = others ne in grind (arith, nat_tests, ne))
+    (cases_eq f g)
+
+-- an empty list of rights has none
+pub none_in_empty : (test : ℕ → Bool) (entries : List (ℕ × ℕ)) → length entries ≡ 0
+    → unwrap_or (lookup test entries) 0 ≡ 0
+none_in_empty test [] e = refl
+none_in_empty test (entry ∷ entries) e = absurd (omega arith)
+
+-- where not even one is left, there is none
+pub is_empty_from : (n : ℕ) → (0 < n → false ≡ true) → n ≡ 0
+is_empty_from n none = ⊎_elim (λ e. e) (λ ne. absurd (false≢true (none (omega arith)))) (cases_eq n 0)

@@ -1,0 +1,17 @@
+use Rattle.std.proofs.Common.{◌≡◌, ap, ◌∙◌}
+use Rattle.cap_rights.specs.Rights.{join}
+use Rattle.cap_machine.specs.declared.live.fd_rights.FdRights.{FdRights}
+use Rattle.cap_machine.specs.Wanted.{rights_of}
+use Rattle.cap_machine.proofs.JoinedRights.{join_comm}
+use Rattle.cap_machine.proofs.live.fd_rights.FdRights.joined.Goals as goal
+use Rattle.cap_machine.proofs.live.fd_rights.FdRights.joined.Goals.{then-len, else-len}
+
+pub returns : goal.returns
+returns c = λ f.
+    elim c.if-len.branch [
+      | then-len w ↦ c.in_ok-add_all.ensures f
+          ∙ ap (λ (p : FdRights × FdRights). join (rights_of p.0 f) (rights_of p.1 f)) w.large-is
+          ∙ join_comm (rights_of c.args.other f) (rights_of c.args.self f)
+      | else-len w ↦ c.in_ok-add_all.ensures f
+          ∙ ap (λ (p : FdRights × FdRights). join (rights_of p.0 f) (rights_of p.1 f)) w.large-is
+    ]
