@@ -43,3 +43,5 @@ pub mod LimitSets
 pub mod LimitPlaces
 pub mod LimitScripts
 pub mod JoinedRights
+pub mod LiveBack
+pub mod BlockedBack

@@ -18,6 +18,7 @@ pub mod Questions
 pub mod Laws
 pub mod Live
 pub mod Wanted
+pub mod LiveRights
 pub mod LimitLaws
 pub mod ProfileLaws
 pub mod Composed

@@ -9,12 +9,13 @@ ghost use Rattle.cap_machine.specs.declared.step.Step.{Step};
 ghost use Rattle.cap_machine.specs.Steps.{step};
 ghost use Rattle.cap_machine.specs.Rule.{demand};
 ghost use Rattle.cap_machine.specs.Effect.{effect_touch, effect_turn};
+ghost use Rattle.cap_machine.specs.LiveRights.{AreLive, AreBlocked};
 ghost use Rattle.cap_machine.specs.Wanted.{wanted_of, wanted, blocked, gathered, gathered_blocked, is_child};
 ghost use Rattle.cap_machine.specs.Wanted.{undone, unblocked, with_demand, blocked_with, wanted_before, blocked_before};
 
 use crate::cell::{OnExec, Profile};
 use crate::live::process::LiveProcess;
-use crate::rule::{Effect, Rule, rule_of};
+use crate::rule::{Demand, Effect, rule_of};
 use cap_rights::{NoMemory, RightSet};
 use cap_trace::{Fd, Line, Pid};
 use std::alloc::Global;
@@ -34,8 +35,8 @@ pub struct LiveRights {
 impl LiveRights {
     /// No line needs anything. It takes no memory.
     pub fn none(alloc: Global) -> LiveRights
-        ensures rights { (p f : ℕ) (x : OnExec) → wanted result p f x ≡ 0 }
-        ensures blocked { (p : ℕ) → blocked result p ≡ None }
+        ensures rights { AreLive result [] }
+        ensures blocked { (at : ℕ) → AreBlocked result at [] }
     {
         LiveRights {
             alloc,
@@ -85,5 +86,55 @@ impl LiveRights {
     {
         self.processes.insert(pid, own)?;
         Ok(())
+    }
+
+    /// Takes out what is needed of a process, and with it what is needed of the child that an effect makes.
+    fn gather(&mut self, me: Pid, effect: &Effect<'_>) -> Result<LiveProcess, NoMemory>
+        ensures own { IfOk result (λ own. (f : ℕ) (x : OnExec)
+            → wanted_of own f x ≡ gathered effect.now me (wanted self.old) f x) }
+        ensures own_blocked { IfOk result (λ own. own.blocked ≡ gathered_blocked effect.now me (blocked self.old)) }
+        ensures rights { OnOk result ((p f : ℕ) (x : OnExec) → wanted self.new p f x
+            ≡ (if p == me then 0 else (if is_child effect.now p then 0 else wanted self.old p f x))) }
+        ensures blocked { OnOk result ((p : ℕ) → blocked self.new p
+            ≡ (if p == me then None else (if is_child effect.now p then None else blocked self.old p))) }
+    {
+        let own = self.take(me);
+        match effect {
+            Effect::Fork(child) => own.joined(self.take(*child)),
+            Effect::ForkAs(child, _) => own.joined(self.take(*child)),
+            _ => Ok(own),
+        }
+    }
+
+    /// Passes a line of a process with this demand and this effect.
+    fn pass_rule(
+        &mut self,
+        at: usize,
+        me: Pid,
+        demand: &Demand,
+        effect: &Effect<'_>,
+    ) -> Result<(), NoMemory>
+        ensures rights { OnOk result ((p f : ℕ) (x : OnExec)
+            → wanted self.new p f x ≡ wanted_before demand.now effect.now me (wanted self.old) p f x) }
+        ensures blocked { OnOk result ((p : ℕ)
+            → blocked self.new p ≡ blocked_before demand.now effect.now at me (blocked self.old) p) }
+    {
+        let mut own = self.gather(me, effect)?;
+        own.undo(effect)?;
+        own.demand(at, demand)?;
+        self.put(me, own)
+    }
+
+    /// Passes the line before those that it has passed; `at` is its position.
+    ///
+    /// `NoMemory` when out of memory. What is then known isn't promised: drop it.
+    pub fn pass(&mut self, at: usize, profile: Profile, line: &Line) -> Result<(), NoMemory>
+        ensures rights { OnOk result ((later : List Step)
+            → AreLive self.old later → AreLive self.new (step profile line.now ∷ later)) }
+        ensures blocked { OnOk result ((later : List Step)
+            → AreBlocked self.old (at + 1) later → AreBlocked self.new at (step profile line.now ∷ later)) }
+    {
+        let rule = rule_of(profile, &line.seen());
+        self.pass_rule(at, line.pid(), &rule.demand, &rule.effect)
     }
 }
