@@ -19,6 +19,7 @@ pub mod Laws
 pub mod Live
 pub mod Wanted
 pub mod LiveRights
+pub mod Limits
 pub mod LimitLaws
 pub mod ProfileLaws
 pub mod Composed

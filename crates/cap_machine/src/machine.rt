@@ -6,13 +6,13 @@ ghost use Rattle.cap_machine.specs.History.{ended};
 ghost use Rattle.cap_machine.specs.Check.{said};
 ghost use Rattle.cap_machine.specs.Table.{start_state};
 
-use crate::cell::Profile;
+use crate::cell::{Cell, Mode, Profile};
 use crate::checking::take_line;
 use crate::start::Start;
 use crate::table::Table;
 use crate::verdict::Verdict;
 use cap_rights::NoMemory;
-use cap_trace::Line;
+use cap_trace::{Fd, Line, Pid};
 use std::alloc::Global;
 use std::marker::Model;
 
@@ -57,5 +57,29 @@ impl Machine {
             (start_state self.new ≡ ended (start_state self.old) (step profile line.now ∷ [])) }
     {
         take_line(&mut self.table, profile, line)
+    }
+
+    /// Moves on to what is known after the next step, and judges nothing.
+    ///
+    /// `NoMemory` when out of memory. What the machine then knows isn't promised: drop it.
+    pub fn follow(&mut self, profile: Profile, line: &Line) -> Result<(), NoMemory>
+        ensures { OnOk result
+            (start_state self.new ≡ ended (start_state self.old) (step profile line.now ∷ [])) }
+    {
+        self.table.follow(profile, &line.seen())
+    }
+
+    /// What is known of a descriptor of a process.
+    pub fn cell(&self, pid: Pid, fd: Fd) -> Cell
+        ensures { result ≡ (start_state self.now).cell pid fd }
+    {
+        self.table.cell(pid, fd)
+    }
+
+    /// What is known of the mode of a process.
+    pub fn mode(&self, pid: Pid) -> Mode
+        ensures { result ≡ (start_state self.now).mode pid }
+    {
+        self.table.mode(pid)
     }
 }

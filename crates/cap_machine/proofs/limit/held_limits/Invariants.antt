@@ -1,0 +1,13 @@
+use Rattle.std.proofs.Common.{◌≡◌, ◌++◌, map, length}
+use Rattle.cap_machine.specs.Table.{start_state}
+use Rattle.cap_machine.specs.Wanted.{wanted}
+use Rattle.cap_machine.specs.Limits.{row_of, held_rows}
+use Rattle.cap_machine.proofs.limit.held_limits.Given as goal
+
+abbrev pub invariant-loop-fd : goal.invariant-loop-fd
+invariant-loop-fd l =
+    map row_of l.limits.items ++ held_rows (start_state l.machine) (wanted l.live) l.pid l.rest.keys
+    ≡ held_rows (start_state l.machine) (wanted l.live) l.pid l.fn.fds.keys
+
+abbrev pub decreases-loop-fd : goal.decreases-loop-fd
+decreases-loop-fd l = length l.rest.keys

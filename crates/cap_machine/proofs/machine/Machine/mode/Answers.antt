@@ -1,0 +1,11 @@
+use Rattle.std.proofs.Common.{◌≡◌, ap, sym, ◌∙◌}
+use Rattle.cap_machine.specs.State.{State}
+use Rattle.cap_machine.specs.Table.{start_state, state_of}
+use Rattle.cap_machine.proofs.KnownTables.{state_known}
+use Rattle.cap_machine.proofs.machine.Machine.mode.Goals as goal
+
+pub returns : goal.returns
+returns c =
+    let before : state_of c.self.inside.table ≡ start_state c.args.self.now =
+    sym (state_known c.self.inside.table) ∙ ap start_state c.self.view_is in
+    c.mode.ensures ∙ ap (λ (s : State). s.mode c.args.pid) before

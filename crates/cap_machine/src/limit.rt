@@ -1,0 +1,66 @@
+//! The least rights of one descriptor.
+
+ghost use Rattle.std.specs.Prelude.{◌≡◌, ℕ, IfOk, OnOk, List, [], ◌∷◌, map};
+ghost use Rattle.cap_machine.specs.declared.cell.OnExec.{OnExec};
+ghost use Rattle.cap_machine.specs.State.{State};
+ghost use Rattle.cap_machine.specs.Wanted.{wanted};
+ghost use Rattle.cap_machine.specs.Limits.{row_of, option_rows, held_row, held_rows, least_of};
+ghost use Rattle.cap_machine.specs.Table.{start_state};
+
+use crate::cell::{Cell, OnExec, without_full_of};
+use crate::live::LiveRights;
+use crate::machine::Machine;
+use cap_rights::{NoMemory, RightSet};
+use cap_trace::{Fd, Pid};
+use std::alloc::Global;
+use std::collections::BTreeSet;
+
+/// A descriptor and rights by name: what cap_rights_limit(2) is asked for.
+#[derive(Clone, Copy, Debug, PartialEq, Eq)]
+pub struct Limit {
+    /// The descriptor.
+    pub fd: Fd,
+    /// The rights, without FULL.
+    pub rights: RightSet,
+}
+
+/// Those of the rights that a descriptor holds which later lines need of it, by name.
+pub(crate) fn least_rights(held: &RightSet, needed: &RightSet) -> RightSet
+    ensures { result ≡ least_of held.now needed.now }
+{
+    without_full_of(&held.meet(needed))
+}
+
+/// The limit of a descriptor, where it is held.
+fn limit_of(machine: &Machine, live: &LiveRights, pid: Pid, fd: Fd) -> Option<Limit>
+    ensures { option_rows result ≡ held_row (start_state machine.now) (wanted live.now) pid fd }
+{
+    match machine.cell(pid, fd) {
+        Cell::Held(rights, flag) => Some(Limit {
+            fd,
+            rights: least_rights(&rights, &live.rights(pid, fd, flag)),
+        }),
+        _ => None,
+    }
+}
+
+/// The limit of each of these descriptors of a process that is held, in rising order.
+pub(crate) fn held_limits(
+    alloc: Global,
+    machine: &Machine,
+    live: &LiveRights,
+    pid: Pid,
+    fds: BTreeSet<Fd>,
+) -> Result<Vec<Limit>, NoMemory>
+    ensures { IfOk result (λ limits. map row_of limits.items
+        ≡ held_rows (start_state machine.now) (wanted live.now) pid fds.keys) }
+{
+    let mut limits = Vec::new(alloc);
+    let mut rest = fds;
+    while let Some(fd) = rest.pop_first() {
+        if let Some(limit) = limit_of(machine, live, pid, fd) {
+            limits.push(limit)?;
+        }
+    }
+    Ok(limits)
+}
