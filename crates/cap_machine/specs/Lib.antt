@@ -20,6 +20,7 @@ pub mod Live
 pub mod Wanted
 pub mod LiveRights
 pub mod Limits
+pub mod Makers
 pub mod LimitLaws
 pub mod ProfileLaws
 pub mod Composed

@@ -41,6 +41,7 @@ mod limit;
 mod limit_laws;
 mod live;
 mod machine;
+mod makers;
 mod needs;
 mod origin;
 mod origin_laws;
@@ -77,6 +78,7 @@ pub use limit_laws::{
 };
 pub use live::LiveRights;
 pub use machine::Machine;
+pub use makers::MakerLimit;
 pub use origin::{
     CellEnd, CellLink, CellOrigin, ModeEnd, ModeLink, ModeOrigin, origin_of_cell, origin_of_mode,
 };

@@ -1,0 +1,98 @@
+-- The least rights of each descriptor that a trace makes, right behind the step that made it.
+use Rattle.std.specs.Prelude.{◌≡◌, ℕ, ◌+◌, ◌==◌, nat_lt, if◌then◌else◌, List, [], ◌∷◌, ◌++◌, map}
+use Rattle.std.specs.List.{All}
+use Rattle.cap_trace.specs.Item.{Item}
+use Rattle.cap_trace.specs.Item as items
+use Rattle.cap_trace.specs.Entry.{kind_of}
+use Rattle.cap_trace.specs.declared.calls.Kind.{Kind}
+use Rattle.cap_trace.specs.declared.calls.Kind.TheVariants.{Fd, Same, FdPair}
+use Rattle.cap_trace.specs.declared.line.Answer.{Answer}
+use Rattle.cap_trace.specs.declared.line.Answer.TheVariants as answers
+use Rattle.cap_machine.specs.declared.cell.OnExec.{OnExec}
+use Rattle.cap_machine.specs.declared.cell.Cell.{Cell}
+use Rattle.cap_machine.specs.declared.cell.Cell.TheVariants.{Unknown, Closed, Held}
+use Rattle.cap_machine.specs.declared.step.Step.{Step}
+use Rattle.cap_machine.specs.declared.makers.Made.{Made}
+use Rattle.cap_machine.specs.declared.makers.Made.TheVariants.{Nothing, One, Two}
+use Rattle.cap_machine.specs.declared.makers.MadeCells.{MadeCells}
+use Rattle.cap_machine.specs.declared.makers.MakerLimit.{MakerLimit}
+use Rattle.cap_machine.specs.State.{State}
+use Rattle.cap_machine.specs.History.{ended}
+use Rattle.cap_machine.specs.LimitLaws.{IsLimit}
+use Rattle.cap_machine.specs.Limits.{least_of}
+
+-- ---- the descriptors that a line makes
+
+abbrev pub one_fd : Answer → List ℕ
+one_fd (answers.Made n) = n ∷ []
+one_fd _ = []
+
+-- two, the larger first, and each number once
+abbrev pub two_fds : Answer → List ℕ
+two_fds (answers.Pair n m) = if n == m then n ∷ [] else (if nat_lt n m then m ∷ n ∷ [] else n ∷ m ∷ [])
+two_fds _ = []
+
+-- by what a call answers where it doesn't fail
+abbrev pub made_of : Kind → Answer → List ℕ
+made_of Fd answer = one_fd answer
+made_of (Same g) answer = one_fd answer
+made_of FdPair answer = two_fds answer
+made_of _ answer = []
+
+abbrev pub made_fds : Item → List ℕ
+made_fds (items.Call call answer) = made_of (kind_of call) answer
+made_fds _ = []
+
+-- ---- their limits
+
+-- a position, a process and a descriptor
+abbrev pub Place : Type 0
+Place = ℕ × ℕ × ℕ
+
+abbrev pub place_of : MakerLimit → Place
+place_of limit = (limit.at, limit.pid, limit.fd)
+
+abbrev pub held_place : Cell → ℕ → ℕ → ℕ → List Place
+held_place (Held rights flag) at p f = (at, p, f) ∷ []
+held_place _ at p f = []
+
+-- those of these descriptors that are held
+abbrev pub held_places : State → ℕ → ℕ → List ℕ → List Place
+held_places s at p [] = []
+held_places s at p (f ∷ fds) = held_place (s.cell p f) at p f ++ held_places s at p fds
+
+-- Of each step that makes descriptors, the first of which stands at a position: the limit of each that is then held, to
+-- the rights that are live there. The last step comes first, so that each line can be put in right behind its step
+-- without a shift of the others.
+abbrev pub AreMakerLimits : State → ℕ → List Step → List MakerLimit → Type 0
+AreMakerLimits s at [] limits = limits ≡ []
+AreMakerLimits s at (step ∷ later) limits =
+    let next = ended s (step ∷ []) in
+    (behind : List MakerLimit) × (own : List MakerLimit) × (limits ≡ behind ++ own)
+    × AreMakerLimits next (at + 1) later behind
+    × (map place_of own ≡ held_places next at step.line.pid (made_fds step.line.item))
+    × All (λ (limit : MakerLimit). IsLimit next later limit.pid (limit.fd, limit.rights)) own
+
+-- ---- as the code has them
+
+abbrev pub listed_made : Made → List ℕ
+listed_made Nothing = []
+listed_made (One f) = f ∷ []
+listed_made (Two f g) = f ∷ g ∷ []
+
+-- the cells of the first two of these descriptors
+abbrev pub cells_made : State → ℕ → List ℕ → MadeCells
+cells_made s p [] = record { first = Unknown; second = Unknown }
+cells_made s p (f ∷ []) = record { first = s.cell p f; second = Unknown }
+cells_made s p (f ∷ g ∷ more) = record { first = s.cell p f; second = s.cell p g }
+
+abbrev pub maker_row : ℕ → ℕ → ℕ → Cell → (OnExec → ℕ) → List MakerLimit
+maker_row at p f (Held rights flag) wanted =
+    record { at = at; pid = p; fd = f; rights = least_of rights (wanted flag) } ∷ []
+maker_row at p f _ wanted = []
+
+abbrev pub maker_rows : ℕ → ℕ → List ℕ → MadeCells → (ℕ → OnExec → ℕ) → List MakerLimit
+maker_rows at p [] cells wanted = []
+maker_rows at p (f ∷ []) cells wanted = maker_row at p f cells.first (wanted f)
+maker_rows at p (f ∷ g ∷ more) cells wanted =
+    maker_row at p f cells.first (wanted f) ++ maker_row at p g cells.second (wanted g)
