@@ -45,3 +45,4 @@ pub mod LimitScripts
 pub mod JoinedRights
 pub mod LiveBack
 pub mod BlockedBack
+pub mod MakerLimits

@@ -1,5 +1,5 @@
 -- The least rights of each descriptor that a trace makes, right behind the step that made it.
-use Rattle.std.specs.Prelude.{◌≡◌, ℕ, ◌+◌, ◌==◌, nat_lt, if◌then◌else◌, List, [], ◌∷◌, ◌++◌, map}
+use Rattle.std.specs.Prelude.{◌≡◌, ℕ, ◌+◌, ◌==◌, nat_lt, if◌then◌else◌, List, [], ◌∷◌, ◌++◌, map, reverse}
 use Rattle.std.specs.List.{All}
 use Rattle.cap_trace.specs.Item.{Item}
 use Rattle.cap_trace.specs.Item as items
@@ -17,7 +17,7 @@ use Rattle.cap_machine.specs.declared.makers.Made.TheVariants.{Nothing, One, Two
 use Rattle.cap_machine.specs.declared.makers.MadeCells.{MadeCells}
 use Rattle.cap_machine.specs.declared.makers.MakerLimit.{MakerLimit}
 use Rattle.cap_machine.specs.State.{State}
-use Rattle.cap_machine.specs.History.{ended}
+use Rattle.cap_machine.specs.History.{after, ended}
 use Rattle.cap_machine.specs.LimitLaws.{IsLimit}
 use Rattle.cap_machine.specs.Limits.{least_of}
 
@@ -96,3 +96,12 @@ maker_rows at p [] cells wanted = []
 maker_rows at p (f ∷ []) cells wanted = maker_row at p f cells.first (wanted f)
 maker_rows at p (f ∷ g ∷ more) cells wanted =
     maker_row at p f cells.first (wanted f) ++ maker_row at p g cells.second (wanted g)
+
+-- the cells that each step of a history made, its newest step first; those of a trace, its steps in their order
+abbrev pub cells_back : State → List Step → List MadeCells
+cells_back s [] = []
+cells_back s (step ∷ history) =
+    cells_back s history ++ cells_made (after s (step ∷ history)) step.line.pid (made_fds step.line.item) ∷ []
+
+abbrev pub cells_along : State → List Step → List MadeCells
+cells_along s trace = cells_back s (reverse trace)

@@ -71,14 +71,14 @@ pub use laws::{
     no_alarm_lost, positions_are_within, profiles_agree, rules_name_what_stands_there,
     touches_what_it_names, traces_in_turn,
 };
-pub use limit::Limit;
+pub use limit::{Limit, limits_among};
 pub use limit_laws::{
     all_limits_are_enough, all_limits_are_least, blocked_is_forbidden, limits_are_enough,
     limits_are_least,
 };
 pub use live::LiveRights;
 pub use machine::Machine;
-pub use makers::MakerLimit;
+pub use makers::{MakerLimit, limits_of_makers};
 pub use origin::{
     CellEnd, CellLink, CellOrigin, ModeEnd, ModeLink, ModeOrigin, origin_of_cell, origin_of_mode,
 };

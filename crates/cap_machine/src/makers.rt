@@ -1,15 +1,17 @@
 //! The least rights of each descriptor that a trace makes.
 
-ghost use Rattle.std.specs.Prelude.{◌≡◌, ℕ, ◌+◌, ◌++◌, OnOk, IfOk, List, length, map};
+ghost use Rattle.std.specs.Prelude.{◌≡◌, ℕ, ◌+◌, ◌++◌, OnOk, IfOk, List, [], ◌∷◌};
 ghost use Rattle.cap_trace.specs.Entry.{IsAnswer, kind_of, fcntl_kind};
 ghost use Rattle.cap_trace.specs.Call as calls;
 ghost use Rattle.cap_trace.specs.Seen.{call_seen};
 ghost use Rattle.cap_machine.specs.Effect.{FitsMade, FitsPair};
-ghost use Rattle.cap_machine.specs.State.{State};
+ghost use Rattle.cap_machine.specs.History.{ended};
+ghost use Rattle.cap_machine.specs.declared.makers.Made.{Made};
+ghost use Rattle.cap_machine.specs.declared.makers.MadeCells.{MadeCells};
 ghost use Rattle.cap_machine.specs.Steps.{step, steps};
 ghost use Rattle.cap_machine.specs.Table.{start_state};
 ghost use Rattle.cap_machine.specs.Makers.{listed_made, one_fd, two_fds, made_of, made_fds, cells_made};
-ghost use Rattle.cap_machine.specs.Makers.{maker_row, maker_rows};
+ghost use Rattle.cap_machine.specs.Makers.{maker_row, maker_rows, cells_along, AreMakerLimits};
 ghost use Rattle.cap_machine.specs.Wanted.{wanted};
 
 use crate::cell::{Cell, Profile};
@@ -209,4 +211,92 @@ fn add_limits(
             add_limit(limits, at, pid, *second, &cells.second, live)
         }
     }
+}
+
+/// Moves a machine on by a line, and answers what is then known of the descriptors that it made.
+fn next_cells(machine: &mut Machine, profile: Profile, line: &Line) -> Result<MadeCells, NoMemory>
+    ensures moves { OnOk result
+        (start_state machine.new ≡ ended (start_state machine.old) (step profile line.now ∷ [])) }
+    ensures cells { IfOk result (λ cells. cells
+        ≡ cells_made (start_state machine.new) line.now.pid (made_fds line.now.item)) }
+{
+    machine.follow(profile, line)?;
+    let made = made_by(&line.seen());
+    Ok(MadeCells::of(machine, line.pid(), &made))
+}
+
+/// What is known of the descriptors that each line made, after it.
+fn made_along(
+    alloc: Global,
+    profile: Profile,
+    start: &Start,
+    lines: &[Line],
+) -> Result<Vec<MadeCells>, NoMemory>
+    ensures { IfOk result (λ cells. cells.items ≡ cells_along (start_state start.now) (steps profile lines.now)) }
+{
+    let mut machine = Machine::from_start(alloc, start)?;
+    let mut cells = Vec::new(alloc);
+    for line in lines {
+        let next = next_cells(&mut machine, profile, line)?;
+        cells.push(next)?;
+    }
+    Ok(cells)
+}
+
+/// Takes the last of the cells.
+fn take_last(cells: &mut Vec<MadeCells>) -> MadeCells
+    ensures { (before : List MadeCells) (last : MadeCells) → cells.old.items ≡ before ++ last ∷ []
+        → (result ≡ last) × (cells.new.items ≡ before) }
+{
+    match cells.pop() {
+        Some(last) => last,
+        None => MadeCells {
+            first: Cell::Unknown,
+            second: Cell::Unknown,
+        },
+    }
+}
+
+/// Adds the limits of the descriptors that a line made, which have these cells after it.
+fn add_line(
+    limits: &mut Vec<MakerLimit>,
+    at: usize,
+    line: &Line,
+    cells: &MadeCells,
+    live: &LiveRights,
+) -> Result<(), NoMemory>
+    ensures { (made : Made) → listed_made made ≡ made_fds line.now.item → OnOk result (limits.new.items
+        ≡ limits.old.items ++ maker_rows at line.now.pid (listed_made made) cells.now (wanted live.now line.now.pid)) }
+{
+    let made = made_by(&line.seen());
+    add_limits(limits, at, line.pid(), &made, cells, live)
+}
+
+/// The least rights of each descriptor that a trace makes and that is then held, right behind the line that made it. The
+/// last line comes first, and of two descriptors of a line the larger.
+///
+/// It goes through the lines once forth and once back. Its memory grows with the lines.
+///
+/// `NoMemory` when out of memory.
+pub fn limits_of_makers(
+    alloc: Global,
+    profile: Profile,
+    start: &Start,
+    lines: &[Line],
+) -> Result<Vec<MakerLimit>, NoMemory>
+    ensures { IfOk result (λ limits.
+        AreMakerLimits (start_state start.now) 1 (steps profile lines.now) limits.items) }
+{
+    let mut cells = made_along(alloc, profile, start, lines)?;
+    let mut live = LiveRights::none(alloc);
+    let mut limits = Vec::new(alloc);
+    let mut rest = lines;
+    while let Some((line, before)) = rest.split_last() {
+        let at = rest.len();
+        let made = take_last(&mut cells);
+        add_line(&mut limits, at, line, &made, &live)?;
+        live.pass(at, profile, line)?;
+        rest = before;
+    }
+    Ok(limits)
 }

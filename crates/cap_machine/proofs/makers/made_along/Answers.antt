@@ -1,0 +1,39 @@
+use Rattle.std.proofs.Common.{◌≡◌, ◌+◌, ◌<◌, List, [], ◌∷◌, ◌++◌, arith, sym, ap, ◌∙◌, length, take}
+use Rattle.std.proofs.lemmas.List.{take_more}
+use Rattle.cap_trace.specs.Entry.{Entry}
+use Rattle.cap_machine.specs.declared.step.Step.{Step}
+use Rattle.cap_machine.specs.declared.makers.MadeCells.{MadeCells}
+use Rattle.cap_machine.specs.Steps.{step, steps}
+use Rattle.cap_machine.specs.State.{State}
+use Rattle.cap_machine.specs.History.{ended}
+use Rattle.cap_machine.specs.Table.{start_state}
+use Rattle.cap_machine.specs.Makers.{cells_along, cells_made, made_fds}
+use Rattle.cap_machine.proofs.Turns.{ends_more}
+use Rattle.cap_machine.proofs.OneMore.{steps-more}
+use Rattle.cap_machine.proofs.MakerLimits.{cells_more}
+use Rattle.cap_machine.proofs.makers.made_along.Goals as goal
+
+pub loop-line-preserved : goal.loop-line-preserved
+loop-line-preserved c =
+    let s : State = start_state c.args.start.now in
+    let line : Entry = c.line-item.result in
+    let before : List Entry = take c.loop-line.line-index c.args.lines.now in
+    let t : List Step = steps c.args.profile before in
+    let l : Step = step c.args.profile line in
+    let within : c.loop-line.line-index < length c.args.lines.now = omega arith in
+    let lines : take (c.loop-line.line-index + 1) c.args.lines.now ≡ before ++ line ∷ [] =
+    take_more c.args.lines.now c.loop-line.line-index line within
+    ∙ ap (λ (r : Entry). before ++ r ∷ []) (sym c.line-item.is) in
+    let more : steps c.args.profile (take (c.loop-line.line-index + 1) c.args.lines.now) ≡ t ++ l ∷ [] =
+    ap (steps c.args.profile) lines ∙ steps-more c.args.profile before line in
+    let now : start_state c.next_cells.new.machine ≡ ended s (t ++ l ∷ []) =
+    c.in_ok-next.ensures.moves ∙ ap (λ (u : State). ended u (l ∷ [])) c.loop-line.invariant.state
+    ∙ sym (ends_more s t l) in
+    record {
+      state = now ∙ ap (ended s) (sym more);
+      cells = c.in_ok-push.ensures.items
+          ∙ ap (λ (r : List MadeCells). r ++ c.in_ok-next.next ∷ []) c.loop-line.invariant.cells
+          ∙ ap (λ (m : MadeCells). cells_along s t ++ m ∷ [])
+          (c.in_ok-next.ensures.cells ∙ ap (λ (u : State). cells_made u line.pid (made_fds line.item)) now)
+          ∙ sym (cells_more s t l) ∙ ap (cells_along s) (sym more);
+    }
