@@ -46,3 +46,4 @@ pub mod JoinedRights
 pub mod LiveBack
 pub mod BlockedBack
 pub mod MakerLimits
+pub mod LeastRows

@@ -1,8 +1,10 @@
 //! The least rights of one descriptor.
 
-ghost use Rattle.std.specs.Prelude.{◌≡◌, ℕ, IfOk, OnOk, List, [], ◌∷◌, map};
-ghost use Rattle.cap_machine.specs.declared.cell.OnExec.{OnExec};
-ghost use Rattle.cap_machine.specs.State.{State};
+ghost use Rattle.std.specs.Prelude.{◌≡◌, IfOk, List, map};
+ghost use Rattle.std.specs.List.{All};
+ghost use Rattle.cap_machine.specs.declared.step.Step.{Step};
+ghost use Rattle.cap_machine.specs.LimitLaws.{IsLimit};
+ghost use Rattle.cap_machine.specs.LiveRights.{AreLive};
 ghost use Rattle.cap_machine.specs.Wanted.{wanted};
 ghost use Rattle.cap_machine.specs.Limits.{row_of, option_rows, held_row, held_rows, least_of};
 ghost use Rattle.cap_machine.specs.Table.{start_state};
@@ -45,7 +47,7 @@ fn limit_of(machine: &Machine, live: &LiveRights, pid: Pid, fd: Fd) -> Option<Li
 }
 
 /// The limit of each of these descriptors of a process that is held, in rising order.
-pub(crate) fn held_limits(
+fn held_limits(
     alloc: Global,
     machine: &Machine,
     live: &LiveRights,
@@ -62,5 +64,25 @@ pub(crate) fn held_limits(
             limits.push(limit)?;
         }
     }
+    Ok(limits)
+}
+
+/// The limit of each of these descriptors of a process that is held, in rising order: before the lines that `live` has
+/// passed, by what `machine` knows there. It names only rights that are held and live.
+///
+/// `NoMemory` when out of memory.
+pub fn limits_among(
+    alloc: Global,
+    machine: &Machine,
+    live: &LiveRights,
+    pid: Pid,
+    fds: BTreeSet<Fd>,
+) -> Result<Vec<Limit>, NoMemory>
+    ensures rows { IfOk result (λ limits. map row_of limits.items
+        ≡ held_rows (start_state machine.now) (wanted live.now) pid fds.keys) }
+    ensures limits { IfOk result (λ limits. (later : List Step) → AreLive live.now later
+        → All (IsLimit (start_state machine.now) later pid) (map row_of limits.items)) }
+{
+    let limits = held_limits(alloc, machine, live, pid, fds)?;
     Ok(limits)
 }
