@@ -5,6 +5,11 @@ use Rattle.cap_machine.specs.declared.cell.OnExec.{OnExec}
 use Rattle.cap_machine.specs.declared.cell.Cell.{Cell}
 use Rattle.cap_machine.specs.declared.cell.Cell.TheVariants.{Unknown, Closed, Held}
 use Rattle.cap_machine.specs.declared.limit.Limit.{Limit}
+use Rattle.cap_machine.specs.declared.cell.Mode.TheVariants as modes
+use Rattle.cap_machine.specs.declared.step.Step.{Step}
+use Rattle.cap_machine.specs.declared.limits.Entering.{Entering}
+use Rattle.cap_machine.specs.declared.limits.Entering.TheVariants.{Inside, Blocked, May}
+use Rattle.cap_machine.specs.LiveRights.{IsFirstBlock}
 use Rattle.cap_machine.specs.State.{State}
 use Rattle.cap_machine.specs.LimitLaws.{Row}
 
@@ -32,3 +37,11 @@ held_row s wanted p f = cell_row (s.cell p f) f (wanted p f)
 abbrev pub held_rows : State → (ℕ → ℕ → OnExec → ℕ) → ℕ → List ℕ → List Row
 held_rows s wanted p [] = []
 held_rows s wanted p (f ∷ fds) = held_row s wanted p f ++ held_rows s wanted p fds
+
+-- ---- capability mode
+
+-- whether process p may enter before these steps, the first of which stands at a position
+abbrev pub IsEntering : State → ℕ → List Step → ℕ → Entering → Type 0
+IsEntering s at later p Inside = s.mode p ≡ modes.Inside
+IsEntering s at later p (Blocked position) = (s.mode p ≡ modes.Inside → ⊥) × IsFirstBlock later at p (Some position)
+IsEntering s at later p May = (s.mode p ≡ modes.Inside → ⊥) × IsFirstBlock later at p None

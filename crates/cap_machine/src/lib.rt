@@ -39,6 +39,7 @@ mod flags;
 mod laws;
 mod limit;
 mod limit_laws;
+mod limits;
 mod live;
 mod machine;
 mod makers;
@@ -76,6 +77,7 @@ pub use limit_laws::{
     all_limits_are_enough, all_limits_are_least, blocked_is_forbidden, limits_are_enough,
     limits_are_least,
 };
+pub use limits::{Entering, live_behind, machine_after};
 pub use live::LiveRights;
 pub use machine::Machine;
 pub use makers::{MakerLimit, limits_of_makers};

@@ -8,6 +8,8 @@ mod denied;
 #[cfg(test)]
 mod explanations;
 #[cfg(test)]
+mod limits;
+#[cfg(test)]
 mod lines;
 #[cfg(test)]
 mod machines;

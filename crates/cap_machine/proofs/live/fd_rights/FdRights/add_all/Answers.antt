@@ -1,4 +1,4 @@
-use Rattle.std.proofs.Common.{◌≡◌, ℕ, arith, ap, ◌∙◌, sym, if◌then◌else◌, ◌==◌, nat_cmp}
+use Rattle.std.proofs.Common.{◌≡◌, arith, ap, ◌∙◌, sym, nat_cmp}
 use Rattle.std.specs.Option.{unwrap_or}
 use Rattle.cap_rights.specs.Rights.{join}
 use Rattle.std.proofs.lemmas.Grind.{common_steps}

@@ -1,4 +1,4 @@
-use Rattle.std.proofs.Common.{◌≡◌, ap, ◌∙◌}
+use Rattle.std.proofs.Common.{ap, ◌∙◌}
 use Rattle.cap_rights.specs.Rights.{join}
 use Rattle.cap_machine.specs.declared.live.fd_rights.FdRights.{FdRights}
 use Rattle.cap_machine.specs.Wanted.{rights_of}

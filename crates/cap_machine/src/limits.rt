@@ -1,0 +1,85 @@
+//! What is known before a line, and what the lines from there on need.
+
+ghost use Rattle.std.specs.Prelude.{◌≡◌, ◌+◌, ◌<◌, ◌^◌, ℕ, IfOk, List, length};
+ghost use Rattle.cap_machine.specs.declared.step.Step.{Step};
+ghost use Rattle.cap_machine.specs.Steps.{steps};
+ghost use Rattle.cap_machine.specs.History.{ended};
+ghost use Rattle.cap_machine.specs.Table.{start_state};
+ghost use Rattle.cap_machine.specs.LiveRights.{AreLive, AreBlocked};
+ghost use Rattle.cap_machine.specs.Limits.{IsEntering};
+
+use crate::cell::{Mode, Profile};
+use crate::live::LiveRights;
+use crate::machine::Machine;
+use crate::start::Start;
+use cap_rights::NoMemory;
+use cap_trace::{Line, Pid};
+use std::alloc::Global;
+
+/// Whether a process may enter capability mode.
+#[derive(Clone, Copy, Debug, PartialEq, Eq)]
+pub enum Entering {
+    /// It is inside.
+    Inside,
+    /// The line at this position is the first that is in the way.
+    Blocked(usize),
+    /// It may.
+    May,
+}
+
+/// A machine that knows what is known after these lines.
+///
+/// `NoMemory` when out of memory.
+pub fn machine_after(
+    alloc: Global,
+    profile: Profile,
+    start: &Start,
+    lines: &[Line],
+) -> Result<Machine, NoMemory>
+    ensures { IfOk result (λ machine.
+        start_state machine ≡ ended (start_state start.now) (steps profile lines.now)) }
+{
+    let mut machine = Machine::from_start(alloc, start)?;
+    for line in lines {
+        machine.follow(profile, line)?;
+    }
+    Ok(machine)
+}
+
+/// What these lines need, which follow as many others.
+///
+/// `NoMemory` when out of memory.
+pub fn live_behind(
+    alloc: Global,
+    profile: Profile,
+    before: usize,
+    lines: &[Line],
+) -> Result<LiveRights, NoMemory>
+    requires fits { before + length lines.now < 2 ^ 64 }
+    ensures rights { IfOk result (λ live. AreLive live (steps profile lines.now)) }
+    ensures blocked { IfOk result (λ live. AreBlocked live (before + 1) (steps profile lines.now)) }
+{
+    let mut live = LiveRights::none(alloc);
+    let mut rest = lines;
+    while let Some((line, earlier)) = rest.split_last() {
+        live.pass(before + rest.len(), profile, line)?;
+        rest = earlier;
+    }
+    Ok(live)
+}
+
+impl Entering {
+    /// Whether a process may enter capability mode before the lines that `live` has passed, by what `machine` knows there.
+    pub fn of(machine: &Machine, live: &LiveRights, pid: Pid) -> Entering
+        ensures { (at : ℕ) (later : List Step) → AreBlocked live.now at later
+            → IsEntering (start_state machine.now) at later pid result }
+    {
+        match machine.mode(pid) {
+            Mode::Inside => Entering::Inside,
+            _ => match live.blocked(pid) {
+                Some(at) => Entering::Blocked(at),
+                None => Entering::May,
+            },
+        }
+    }
+}

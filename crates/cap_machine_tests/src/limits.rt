@@ -1,0 +1,299 @@
+//! The rights that later lines need, worked by hand.
+
+use crate::lines::lines_of;
+use crate::starts::rights_of;
+use cap_machine::{LiveRights, MakerLimit, OnExec, Profile, Start, limits_of_makers};
+use cap_rights::RightSet;
+use cap_trace::Line;
+use std::alloc::Global;
+
+/// A process that opens two files, and a child that reads one and writes the other.
+const TALLY: &[u8] =
+    b"2101 @start(0,1,2)\n2101 openat(AT_FDCWD,\"access.log\",O_RDONLY) RET 3\n2101 openat(AT_FDCWD,\"tally.out\",O_WRONLY|O_CREAT|O_TRUNC) RET 4\n2101 fork() RET 2102\n2102 openat(AT_FDCWD,\"/etc/localtime\",O_RDONLY) RET 5\n2102 read(5) RET 2852\n2102 close(5) RET 0\n2102 fstat(3) RET 0\n2102 lseek(3) RET 32768\n2102 read(3) RET 32768\n2102 write(4) RET 9\n2102 fsync(4) RET 0\n2102 @exit()\n2101 wait4(2102,{ EXITED,val=0 },0x0,0x0) RET 2102\n2101 @exit()";
+
+/// A trace, the line from which on rights are needed, a descriptor of a process and its flag, and the rights.
+type LiveRow = (&'static [u8], usize, u32, u32, OnExec, &'static [u8]);
+
+static LIVE: [LiveRow; 19] = [
+    (TALLY, 4, 2101, 0, OnExec::Unsure, b"NONE"),
+    // What a child needs is needed of its parent.
+    (
+        TALLY,
+        4,
+        2101,
+        3,
+        OnExec::Clear,
+        b"CAP_READ|CAP_SEEK|CAP_FSTAT",
+    ),
+    (TALLY, 4, 2101, 4, OnExec::Clear, b"CAP_WRITE|CAP_FSYNC"),
+    (TALLY, 4, 2101, 5, OnExec::Clear, b"NONE"),
+    (TALLY, 6, 2102, 5, OnExec::Clear, b"CAP_READ"),
+    // The child doesn't exist before the fork.
+    (TALLY, 4, 2102, 3, OnExec::Clear, b"NONE"),
+    // What a copy needs is needed of what it was copied from.
+    (
+        b"100 dup(3) RET 4\n100 read(4) RET 1",
+        1,
+        100,
+        3,
+        OnExec::Clear,
+        b"CAP_READ",
+    ),
+    (
+        b"100 dup2(3,4) RET 4\n100 read(4) RET 1",
+        1,
+        100,
+        4,
+        OnExec::Clear,
+        b"NONE",
+    ),
+    // A call that failed needs nothing.
+    (
+        b"100 read(3) RET -1 errno 93",
+        1,
+        100,
+        3,
+        OnExec::Clear,
+        b"NONE",
+    ),
+    // Nor does what stands behind a close.
+    (
+        b"100 close(3) RET 0\n100 open(\"a\",O_RDONLY) RET 3\n100 read(3) RET 1",
+        1,
+        100,
+        3,
+        OnExec::Clear,
+        b"NONE",
+    ),
+    // What a later limit takes away isn't needed.
+    (
+        b"100 cap_rights_limit(3,CAP_READ) RET 0\n100 write(3) RET 1",
+        1,
+        100,
+        3,
+        OnExec::Clear,
+        b"CAP_READ",
+    ),
+    // A file below a directory has the directory's rights.
+    (
+        b"100 openat(3,\"a\",O_RDONLY) RET 4\n100 fstat(4) RET 0",
+        1,
+        100,
+        3,
+        OnExec::Clear,
+        b"CAP_LOOKUP|CAP_READ|CAP_FSTAT",
+    ),
+    // Behind an exec stands only what stays open.
+    (
+        b"100 execve(\"x\") RET 0\n100 read(3) RET 1",
+        1,
+        100,
+        3,
+        OnExec::Set,
+        b"NONE",
+    ),
+    (
+        b"100 execve(\"x\") RET 0\n100 read(3) RET 1",
+        1,
+        100,
+        3,
+        OnExec::Clear,
+        b"CAP_READ",
+    ),
+    (
+        b"100 execve(\"x\") RET 0\n100 read(3) RET 1",
+        1,
+        100,
+        3,
+        OnExec::Unsure,
+        b"NONE",
+    ),
+    // Its flag can change first.
+    (
+        b"100 fcntl(3,F_SETFD,0) RET 0\n100 execve(\"x\") RET 0\n100 read(3) RET 1",
+        1,
+        100,
+        3,
+        OnExec::Set,
+        b"CAP_READ",
+    ),
+    (
+        b"100 read(3) RET 1\n100 execve(\"x\") RET 0\n100 write(3) RET 1",
+        1,
+        100,
+        3,
+        OnExec::Set,
+        b"CAP_READ",
+    ),
+    (
+        b"100 closefrom(3) RET 0\n100 read(3) RET 1",
+        1,
+        100,
+        3,
+        OnExec::Clear,
+        b"NONE",
+    ),
+    (
+        b"100 closefrom(4) RET 0\n100 read(3) RET 1",
+        1,
+        100,
+        3,
+        OnExec::Clear,
+        b"CAP_READ",
+    ),
+];
+
+/// A trace, the line from which on a process may be in capability mode, and the first line that is in the way.
+static BLOCKED: [(&[u8], usize, u32, Option<usize>); 6] = [
+    (TALLY, 4, 2101, Some(5)),
+    (TALLY, 6, 2102, None),
+    (TALLY, 3, 2101, Some(3)),
+    (
+        b"100 open(\"a\",O_RDONLY) RET 3\n100 read(3) RET 1",
+        2,
+        100,
+        None,
+    ),
+    (
+        b"100 open(\"a\",O_RDONLY) RET -1 errno 94\n100 read(3) RET 1",
+        1,
+        100,
+        None,
+    ),
+    (
+        b"100 cap_enter() RET 0\n100 open(\"a\",O_RDONLY) RET 3",
+        1,
+        100,
+        None,
+    ),
+];
+
+/// A trace, and the limit of each descriptor that it makes.
+type MakerRow = (&'static [u8], &'static [(usize, u32, u32, &'static [u8])]);
+
+static MADE: [MakerRow; 5] = [
+    (
+        TALLY,
+        &[
+            (5, 2102, 5, b"CAP_READ"),
+            (3, 2101, 4, b"CAP_WRITE|CAP_FSYNC"),
+            (2, 2101, 3, b"CAP_READ|CAP_SEEK|CAP_FSTAT"),
+        ],
+    ),
+    // Of two the larger comes first.
+    (
+        b"100 pipe() RET 3,4\n100 write(4) RET 1\n100 read(3) RET 1",
+        &[(1, 100, 4, b"CAP_WRITE"), (1, 100, 3, b"CAP_READ")],
+    ),
+    // No right is named that isn't held.
+    (
+        b"100 @start(3)\n100 cap_rights_limit(3,CAP_READ) RET 0\n100 dup(3) RET 4\n100 write(4) RET 1",
+        &[(3, 100, 4, b"NONE")],
+    ),
+    // Nothing is known of what accept(2) makes.
+    (b"100 accept(3) RET 4\n100 read(4) RET 1", &[]),
+    (
+        b"100 open(\"a\",O_RDONLY) RET -1 errno 2\n100 read(0) RET 1",
+        &[],
+    ),
+];
+
+/// Lets live rights pass the lines from the last one back to one.
+fn passed(alloc: Global, lines: &[Line], from: usize) -> Option<LiveRights> {
+    let mut live = LiveRights::none(alloc);
+    let mut rest = lines;
+    while let Some((line, before)) = rest.split_last() {
+        if rest.len() < from {
+            break;
+        }
+        if live.pass(rest.len(), Profile::Two, line).is_err() {
+            return None;
+        }
+        rest = before;
+    }
+    Some(live)
+}
+
+/// The same of the lines of a trace.
+fn passed_of(alloc: Global, trace: &[u8], from: usize) -> Option<LiveRights> {
+    match lines_of(alloc, trace) {
+        Some(lines) => passed(alloc, &lines, from),
+        None => None,
+    }
+}
+
+/// Whether these are the rights of a row.
+fn is_live(alloc: Global, row: &LiveRow) -> bool {
+    match passed_of(alloc, row.0, row.1) {
+        Some(live) => {
+            let rights = live.rights(row.2, row.3, row.4);
+            drop(live);
+            rights == rights_of(row.5)
+        }
+        None => false,
+    }
+}
+
+/// Whether a row has the first line in the way.
+fn is_blocked(alloc: Global, row: &(&[u8], usize, u32, Option<usize>)) -> bool {
+    match passed_of(alloc, row.0, row.1) {
+        Some(live) => {
+            let blocked = live.blocked(row.2);
+            drop(live);
+            blocked == row.3
+        }
+        None => false,
+    }
+}
+
+/// Whether a limit is as in a row.
+fn is_limit(limit: &MakerLimit, row: &(usize, u32, u32, &[u8])) -> bool {
+    limit.at == row.0 && limit.pid == row.1 && limit.fd == row.2 && limit.rights == rights_of(row.3)
+}
+
+/// Whether these are the limits.
+fn are_limits(limits: &[MakerLimit], rows: &[(usize, u32, u32, &[u8])]) -> bool {
+    let mut are_same = limits.len() == rows.len();
+    for (limit, row) in limits.iter().zip(rows) {
+        are_same = are_same && is_limit(limit, row);
+    }
+    are_same
+}
+
+/// Whether these are the limits of what lines make.
+fn makes(alloc: Global, start: &Start, lines: &[Line], rows: &[(usize, u32, u32, &[u8])]) -> bool {
+    match limits_of_makers(alloc, Profile::Two, start, lines) {
+        Ok(limits) => are_limits(&limits, rows),
+        Err(_) => false,
+    }
+}
+
+/// The same of the lines of a trace.
+fn is_made(alloc: Global, row: &MakerRow) -> bool {
+    let start = Start::unknown(alloc);
+    match lines_of(alloc, row.0) {
+        Some(lines) => makes(alloc, &start, &lines, row.1),
+        None => false,
+    }
+}
+
+#[test]
+fn rights_are_live(rt: HostRuntime) {
+    for row in &LIVE {
+        assert!(rt; is_live(rt.alloc(), row));
+    }
+}
+
+#[test]
+fn lines_are_in_the_way(rt: HostRuntime) {
+    for row in &BLOCKED {
+        assert!(rt; is_blocked(rt.alloc(), row));
+    }
+}
+
+#[test]
+fn makers_are_limited(rt: HostRuntime) {
+    for row in &MADE {
+        assert!(rt; is_made(rt.alloc(), row));
+    }
+}
