@@ -2,8 +2,9 @@
 
 use crate::starts::rights_of;
 use cap_machine::{
-    Cell, Checks, Effect, Finding, Mode, OnExec, Profile, Step, Verdict, judge, no_alarm_lost,
-    positions_are_within, profiles_agree, rule_of, rules_name_what_stands_there,
+    Cell, Checks, Effect, Finding, Mode, OnExec, Profile, Step, Verdict, all_limits_are_enough,
+    all_limits_are_least, blocked_is_forbidden, judge, limits_are_enough, limits_are_least,
+    no_alarm_lost, positions_are_within, profiles_agree, rule_of, rules_name_what_stands_there,
     touches_what_it_names, traces_in_turn,
 };
 use cap_trace::{Line, parse_line};
@@ -86,4 +87,9 @@ fn the_laws_are_called() {
     touches_what_it_names();
     rules_name_what_stands_there();
     positions_are_within();
+    limits_are_enough();
+    limits_are_least();
+    blocked_is_forbidden();
+    all_limits_are_enough();
+    all_limits_are_least();
 }
