@@ -31,3 +31,6 @@ pub mod Texted
 pub mod Traces
 pub mod ScriptEdits
 pub mod Words
+pub mod LimitLines
+pub mod LimitScripts
+pub mod LinesOfText

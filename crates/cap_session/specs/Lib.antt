@@ -9,6 +9,8 @@ pub mod Explaining
 pub mod Feeds
 pub mod Gives
 pub mod Laws
+pub mod LimitScriptLaws
+pub mod LimitScripts
 pub mod Limits
 pub mod LineEnds
 pub mod Lines

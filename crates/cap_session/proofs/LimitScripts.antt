@@ -1,0 +1,389 @@
+-- The script of `limits` is accepted.
+use Rattle.std.proofs.Common.{◌≡◌, ℕ, suc, ◌+◌, ◌-◌, ◌<◌, ◌≤◌, ◌⊎◌, ◌&&◌, Bool, true, false, leb, ltb, List, [], ◌∷◌, ◌++◌}
+use Rattle.std.proofs.Common.{length, map, refl, sym, ap, ◌∙◌, subst, inl, inr, arith}
+use Rattle.std.specs.Prelude.{nat_le, nat_lt, codes, decimal, insert, Option, Result, Ok, Err, Some}
+use Rattle.std.specs.List.{All, list_all, slice_get}
+use Rattle.std.proofs.lemmas.List.Edits.{length-insert}
+use Rattle.std.specs.Str.{bytes_eq}
+use Rattle.std.proofs.lemmas.List.{length-append}
+use Rattle.std.proofs.lemmas.Bool.{and_from, and_parts, le-leb, le-ltb}
+use borrow.Author.Tests.{leb-true, leb-false}
+use Rattle.cap_rights.specs.Text.{text}
+use Rattle.cap_rights.proofs.Short.{text_is_short}
+use Rattle.cap_trace.specs.Entry.{Entry, IsPid, head_of, head_of_call}
+use Rattle.cap_trace.specs.Item.{Item}
+use Rattle.cap_trace.specs.Call.{Call}
+use Rattle.cap_trace.specs.declared.line.Answer.{Answer}
+use Rattle.cap_trace.specs.declared.calls.Form.TheVariants as forms
+use Rattle.cap_trace.specs.Item as items
+use Rattle.cap_trace.specs.Call as calls
+use Rattle.cap_trace.specs.Names.{Head, name_of, row_of, all_forms, listed}
+use Rattle.cap_trace.specs.declared.calls.Form.{Form}
+use Rattle.cap_trace.specs.Reading.{line_of}
+use Rattle.cap_trace.specs.Spelling.{canon}
+use Rattle.cap_trace.proofs.Heads.{find_takes, form_again}
+use Rattle.cap_machine.specs.LimitLaws.{Row}
+use Rattle.cap_machine.specs.Judge.{is_forbidden}
+use Rattle.cap_machine.specs.Rule.{demand, call_demand, item_demand}
+use Rattle.cap_machine.specs.declared.cell.Profile.{Profile}
+use Rattle.cap_machine.specs.declared.makers.MakerLimit.{MakerLimit}
+use Rattle.cap_session.specs.declared.edit.Edit.TheVariants.{Insert}
+use Rattle.cap_session.specs.declared.refused.Refused.{Refused}
+use Rattle.cap_session.specs.declared.refused.Refused.TheVariants.{Full}
+use Rattle.cap_session.specs.Commands.{Asked, asked, insert_line}
+use Rattle.cap_session.specs.Edits.{inserted, is_position, with_read}
+use Rattle.cap_session.specs.Limits.{most_lines}
+use Rattle.cap_session.specs.Lines.{lines}
+use Rattle.cap_session.specs.Replies.{refused_text}
+use Rattle.cap_session.specs.Scripts.{Answers, Commands, Run}
+use Rattle.cap_session.specs.Trace.{is_skipped}
+use Rattle.cap_session.specs.LimitScripts.{ScriptLine, comment, insertion, bytes_of, words_of, script_text, insertions}
+use Rattle.cap_session.specs.LimitScripts.{limit_line, enter_line, maker_line, makers_script, process_script, Entering}
+use Rattle.cap_session.specs.LimitScripts.{may_enter, is_inside, blocked, place_words, unknown_words, inside_words}
+use Rattle.cap_session.specs.LimitScripts.{blocked_words, entering_line, unknown_lines}
+use Rattle.cap_session.specs.LimitScriptLaws.{Accepts, ok_text, IsRow, StandsInTheWay, IsMakerLimit}
+use Rattle.cap_session.specs.LimitScriptLaws.{ProcessScriptIsAccepted, MakersScriptIsAccepted}
+use Rattle.cap_session.proofs.LimitLines.{limit_short, limit_read, limit_calm, enter_short, enter_read, enter_calm}
+use Rattle.cap_session.proofs.LimitLines.{asks_insert}
+use Rattle.cap_session.proofs.LinesOfText.{is_calm, calm_both, calm_joined, calm_decimal, calm_rights, room, joined_room}
+use Rattle.cap_session.proofs.LinesOfText.{decimal_short, AllCalm, script_lines}
+use Rattle.cap_session.proofs.Scripted.{EditReplied, edit_replied}
+
+-- ---- lines that fit a script
+
+record FitsComment (words : List (List ℕ)) : Type 0 where
+  calm : is_calm (bytes_of (comment words)) ≡ true
+  short : length (bytes_of (comment words)) ≤ 1056
+
+record FitsTrace (n at : ℕ) (line : Entry) : Type 0 where
+  low : 1 ≤ at
+  high : at ≤ n + 1
+  small : at ≤ 9999999999999999999
+  calm : is_calm (canon line) ≡ true
+  short : length (canon line) ≤ 1024
+  put : Entry
+  read : line_of (canon line) ≡ Ok put
+
+-- each line of a script fits, from a trace of n lines
+abbrev Fits : ℕ → List ScriptLine → Type 0
+Fits n [] = Unit {0}
+Fits n (comment words ∷ more) = FitsComment words × Fits n more
+Fits n (insertion at line ∷ more) = FitsTrace n at line × Fits (n + 1) more
+
+-- ---- one line
+
+-- what an insertion does
+record Put (t : List Entry) (at : ℕ) (line : Entry) (reply : List ℕ) (u : List Entry) : Type 0 where
+  says : reply ≡ ok_text (length t + 1)
+  stands : u ≡ insert t (at - 1) line
+  fewer : length t < 1000000
+
+abbrev Does : List Entry → ℕ → Entry → List ℕ → List Entry → Type 0
+Does t at line reply u = Put t at line reply u
+    ⊎ (((reply ≡ refused_text 8) × (most_lines ≤ length t)) ⊎ (reply ≡ refused_text 9))
+
+insertion_room : (at : ℕ) (line : Entry) → at < 18446744073709551616 → length (canon line) ≤ 1024
+    → length (bytes_of (insertion at line)) ≤ 1056
+insertion_room at line small short =
+    omega (arith, joined_room (words_of (insertion at line)), decimal_short at small, short)
+
+-- a position that is one, in a trace with room or without
+inserted_is : (full : Bool) (t : List Entry) (at : ℕ) (line put : Entry) → nat_le 1000000 (length t) ≡ full
+    → 1 ≤ at → at ≤ length t + 1 → line_of (canon line) ≡ Ok put →
+    inserted most_lines t at (canon line) ≡ (elim full as (λ _. Result (List Entry) Refused) [
+      | true ↦ Err Full
+      | false ↦ Ok (insert t (at - 1) put)
+    ])
+inserted_is true t at line put full low high read =
+    let here : is_position at (length t + 1) ≡ true = and_from _ _ (le-leb 1 at low) (le-leb at (length t + 1) high) in
+    rw (here, full) refl
+inserted_is false t at line put full low high read =
+    let here : is_position at (length t + 1) ≡ true = and_from _ _ (le-leb 1 at low) (le-leb at (length t + 1) high) in
+    rw (here, full, read) refl
+
+replied : (full : Bool) (t u : List Entry) (at : ℕ) (put : Entry) (reply : List ℕ) → nat_le 1000000 (length t) ≡ full
+    → at ≤ length t + 1 →
+    EditReplied t (elim full as (λ _. Result (List Entry) Refused) [
+      | true ↦ Err Full
+      | false ↦ Ok (insert t (at - 1) put)
+    ]) reply u → Does t at put reply u
+replied true t u at put reply full high (v, moves, is) = inr (inl (is, leb-true _ _ full))
+replied false t u at put reply full high (true, moves, is) = inr (inr is)
+replied false t u at put reply full high (false, moves, is) =
+    inl (record {
+      says = is ∙ ap ok_text (length-insert t (at - 1) put (omega (arith, high)));
+      stands = moves;
+      fewer = leb-false _ _ full;
+    })
+
+inserts : (profile : Profile) (t u : List Entry) (at : ℕ) (line : Entry) (reply : List ℕ) → length t ≤ 1000000
+    → (fits : FitsTrace (length t) at line) → Answers profile t (bytes_of (insertion at line)) reply u →
+    Does t at fits.put reply u
+inserts profile t u at line reply few fits is =
+    let small = fits.small in
+    let short : nat_lt 1056 (length (bytes_of (insertion at line))) ≡ false =
+    le-ltb _ _ (insertion_room at line (omega (arith, small)) fits.short) in
+    let does : Commands profile t (asked (bytes_of (insertion at line))) reply u = rw short at is in
+    let edit = edit_replied profile t u reply (Insert at (record { ref_ptr = (0, 0); now = canon line }))
+    (subst (λ (a : Asked). Commands profile t a reply u) (asks_insert at line small) does) in
+    let made = inserted_is _ t at line fits.put refl fits.low fits.high fits.read in
+    replied _ t u at fits.put reply refl fits.high
+    (subst (λ (r : Result (List Entry) Refused). EditReplied t r reply u) made edit)
+
+comment_skipped : (words : List (List ℕ)) → is_skipped (bytes_of (comment words)) ≡ true
+comment_skipped [] = refl
+comment_skipped (w ∷ ws) = refl
+
+skips : (profile : Profile) (t u : List Entry) (words : List (List ℕ)) (reply : List ℕ) → FitsComment words
+    → Answers profile t (bytes_of (comment words)) reply u → (reply ≡ []) × (u ≡ t)
+skips profile t u words reply fits is =
+    let short : nat_lt 1056 (length (bytes_of (comment words))) ≡ false = le-ltb _ _ fits.short in
+    let skipped = comment_skipped words in
+    rw (short, skipped) at is
+
+-- ---- all lines
+
+accepts : (profile : Profile) (t left : List Entry) (script : List ScriptLine) (replies : List ℕ)
+    → length t ≤ 1000000 → Fits (length t) script → Run profile t (map bytes_of script) replies left
+    → Accepts t script replies left
+accepts profile t left [] replies few fits run = run
+accepts profile t left (comment words ∷ more) replies few fits run =
+    let (first, mid, rest, is, others, cut) = run in
+    let none = skips profile t mid words first fits.0 is in
+    let same : replies ≡ rest = cut ∙ ap (λ (f : List ℕ). f ++ rest) none.0 in
+    subst (λ (r : List ℕ). Accepts t more r left) (sym same) (accepts profile t left more rest few fits.1
+    (subst (λ (u : List Entry). Run profile u (map bytes_of more) rest left) none.1 others))
+accepts profile t left (insertion at line ∷ more) replies few fits run =
+    let (first, mid, rest, is, others, cut) = run in
+    elim (inserts profile t mid at line first few fits.0 is) [
+      | inl put ↦
+          let fewer = put.fewer in
+          let next : List Entry = insert t (at - 1) fits.0.put in
+          let high = fits.0.high in
+          let long : length next ≡ length t + 1 = length-insert t (at - 1) fits.0.put (omega (arith, high)) in
+          inl (
+            fits.0.put,
+            rest,
+            fits.0.read,
+            cut ∙ ap (λ (f : List ℕ). f ++ rest) put.says,
+            accepts profile next left more rest (omega (arith, long, fewer))
+                (subst (λ (n : ℕ). Fits n more) (sym long) fits.1)
+                (subst (λ (u : List Entry). Run profile u (map bytes_of more) rest left) put.stands others),
+          )
+      | inr stops ↦ elim stops [
+        | inl full ↦ inr (rest, inl (cut ∙ ap (λ (f : List ℕ). f ++ rest) full.0, full.1))
+        | inr ran_out ↦ inr (rest, inr (cut ∙ ap (λ (f : List ℕ). f ++ rest) ran_out))
+      ]
+    ]
+
+insertion_calm : (at : ℕ) (line : Entry) → at < 18446744073709551616 → is_calm (canon line) ≡ true
+    → is_calm (bytes_of (insertion at line)) ≡ true
+insertion_calm at line small calm = calm_both (decimal at) (32 ∷ canon line) (calm_decimal at small) calm
+
+-- no line of a script that fits has an LF
+all_calm : (n : ℕ) (script : List ScriptLine) → Fits n script → AllCalm script
+all_calm n [] fits = tt
+all_calm n (comment words ∷ more) fits = (fits.0.calm, all_calm n more fits.1)
+all_calm n (insertion at line ∷ more) fits =
+    let small = fits.0.small in
+    (insertion_calm at line (omega (arith, small)) fits.0.calm, all_calm (n + 1) more fits.1)
+
+text_accepted : (profile : Profile) (t left : List Entry) (script : List ScriptLine) (replies : List ℕ)
+    → length t ≤ 1000000 → Fits (length t) script → Run profile t (lines (script_text script)) replies left
+    → Accepts t script replies left
+text_accepted profile t left script replies few fits run = accepts profile t left script replies few fits
+    (subst (λ (l : List (List ℕ)). Run profile t l replies left) (script_lines script (all_calm (length t) script fits))
+    run)
+
+-- ---- behind the lines that made descriptors
+
+rest_of : {X : Type 0} (P : X → Type 0) (x : X) (xs : List X) → All P (x ∷ xs) → All P xs
+rest_of P x xs all = λ k d lt. all (suc k) d (omega (arith, lt))
+
+first_of : {X : Type 0} (P : X → Type 0) (x : X) (xs : List X) → All P (x ∷ xs) → P x
+first_of P x xs all = all 0 x (omega arith)
+
+limit_fits : (n at p : ℕ) (row : Row) → 1 ≤ at → at ≤ n + 1 → at ≤ 9999999999999999999 → IsPid p → IsRow row
+    → FitsTrace n at (limit_line p row)
+limit_fits n at p row low high small pid is = record {
+  low = low;
+  high = high;
+  small = small;
+  calm = limit_calm p row pid is;
+  short = limit_short p row pid is;
+  put = _;
+  read = limit_read p row pid is;
+}
+
+makers_fit : (t : List Entry) (n : ℕ) (limits : List MakerLimit) → length t ≤ n → length t ≤ 1000000
+    → All (IsMakerLimit t) limits → Fits n (makers_script limits)
+makers_fit t n [] le few all = tt
+makers_fit t n (limit ∷ more) le few all =
+    let one = first_of (IsMakerLimit t) limit more all in
+    let at = one.0 in (
+      limit_fits n (limit.at + 1) limit.pid (limit.fd, limit.rights) (omega arith) (omega (arith, at, le))
+          (omega (arith, at, few)) one.1 one.2,
+      makers_fit t (n + 1) more (omega (arith, le)) few (rest_of (IsMakerLimit t) limit more all),
+    )
+
+pub makers_script_is_accepted : MakersScriptIsAccepted
+makers_script_is_accepted profile t left limits replies few all run =
+    text_accepted profile t left (makers_script limits) replies few
+    (makers_fit t (length t) limits (omega arith) few all) run
+
+-- ---- of one process
+
+rows_fit : (n at p : ℕ) (rows : List Row) (others : List ScriptLine) → 1 ≤ at → at ≤ n + 1
+    → at + length rows ≤ 9999999999999999999 → IsPid p → All IsRow rows → Fits (n + length rows) others →
+    Fits n (insertions at (map (limit_line p) rows) ++ others)
+rows_fit n at p [] others low high small pid all fits =
+    let same : n + 0 ≡ n = omega arith in
+    subst (λ (m : ℕ). Fits m others) same fits
+rows_fit n at p (row ∷ rows) others low high small pid all fits =
+    let same : n + suc (length rows) ≡ n + 1 + length rows = omega arith in (
+      limit_fits n at p row low high (omega (arith, small)) pid (first_of IsRow row rows all),
+      rows_fit (n + 1) (at + 1) p rows others (omega arith) (omega (arith, high)) (omega (arith, small)) pid
+          (rest_of IsRow row rows all) (subst (λ (m : ℕ). Fits m others) same fits),
+    )
+
+words_fit : (words : List (List ℕ)) → list_all is_calm words ≡ true → room words ≤ 1000 → FitsComment words
+words_fit words calm short =
+    let all : list_all is_calm (words_of (comment words)) ≡ true = calm in
+    record {
+      calm = calm_joined (words_of (comment words)) all;
+      short = omega (arith, joined_room (words_of (comment words)), short);
+    }
+
+place_fits : (p k : ℕ) → p ≤ 99999 → k ≤ 1000000 → FitsComment (place_words p k)
+place_fits p k pid at = words_fit (place_words p k)
+    (and_from _ _ (calm_decimal p (omega (arith, pid))) (and_from _ _ (calm_decimal k (omega (arith, at))) refl))
+    (omega (arith, decimal_short p (omega (arith, pid)), decimal_short k (omega (arith, at))))
+
+unknown_fits : (row : Row) → IsRow row → FitsComment (unknown_words row)
+unknown_fits row is =
+    let fd = is.0 in
+    words_fit (unknown_words row)
+    (and_from _ _ (calm_decimal row.0 (omega (arith, fd))) (and_from _ _ (calm_rights row.1 is.1) refl))
+    (omega (arith, decimal_short row.0 (omega (arith, fd)), text_is_short row.1))
+
+inside_fits : (p : ℕ) → p ≤ 99999 → FitsComment (inside_words p)
+inside_fits p pid =
+    words_fit (inside_words p) (and_from _ _ (calm_decimal p (omega (arith, pid))) refl)
+    (omega (arith, decimal_short p (omega (arith, pid))))
+
+all_unknown_fit : (n : ℕ) (unknown : List Row) (others : List ScriptLine) → All IsRow unknown → Fits n others
+    → Fits n (unknown_lines unknown ++ others)
+all_unknown_fit n [] others all fits = fits
+all_unknown_fit n (row ∷ rows) others all fits = (
+  unknown_fits row (first_of IsRow row rows all),
+  all_unknown_fit n rows others (rest_of IsRow row rows all) fits,
+)
+
+-- ---- the line in the way
+
+-- no name of the table has an LF, and none is long
+abbrev is_short_name : List ℕ → Bool
+is_short_name name = is_calm name && leb (length name) 40
+
+short_names : list_all (λ f. is_short_name (row_of f).name) all_forms ≡ true
+unfolding all_forms
+short_names = refl
+
+listed_short : (f : Form) → is_short_name (row_of f).name ≡ true
+listed_short f = (find_takes (λ g. bytes_eq (row_of g).name (row_of f).name) (λ g. is_short_name (row_of g).name)
+    all_forms f short_names (form_again f)).1
+
+-- a call that capability mode forbids is one of the table
+call_listed : (c : Call) (a : Answer) → is_forbidden (call_demand c a).class ≡ true
+    → (f : Form) × (head_of_call c ≡ listed f)
+call_listed (calls.OnFd c x) a h = (forms.OnFd c, refl)
+call_listed (calls.Send c x) a h = (forms.Send c, refl)
+call_listed (calls.SendTo c x) a h = (forms.Send c, refl)
+call_listed (calls.Accept4 x y) a h = (forms.Accept4, refl)
+call_listed (calls.Dup2 x y) a h = (forms.Dup2, refl)
+call_listed (calls.Fcntl x y) a h = (forms.Fcntl, refl)
+call_listed (calls.FcntlDup c x y) a h = (forms.Fcntl, refl)
+call_listed (calls.FcntlSetFd x y) a h = (forms.Fcntl, refl)
+call_listed (calls.Mmap x y z) a h = (forms.Mmap, refl)
+call_listed (calls.RightsLimit x y) a h = (forms.RightsLimit, refl)
+call_listed (calls.Open x y) a h = (forms.Open, refl)
+call_listed (calls.OnPath c x) a h = (forms.OnPath c, refl)
+call_listed (calls.OnPaths c x y) a h = (forms.OnPaths c, refl)
+call_listed (calls.At c x y) a h = (forms.At c, refl)
+call_listed (calls.AtFlags c x y z) a h = (forms.AtFlags c, refl)
+call_listed (calls.SymlinkAt x y z) a h = (forms.SymlinkAt, refl)
+call_listed (calls.RenameAt x y z u) a h = (forms.RenameAt, refl)
+call_listed (calls.LinkAt x y z u v) a h = (forms.LinkAt, refl)
+call_listed (calls.OnFlags c x) a h = (forms.OnFlags c, refl)
+call_listed (calls.Bare c) a h = (forms.Bare c, refl)
+call_listed (calls.Other n args) a h = absurd cc
+
+item_listed : (i : Item) → is_forbidden (item_demand i).class ≡ true → (f : Form) × (head_of i ≡ listed f)
+item_listed (items.Call c a) h = call_listed c a h
+item_listed (items.Start fs) h = absurd cc
+item_listed items.Exit h = absurd cc
+item_listed (items.Foreign f) h = absurd cc
+
+name_short : (line : Entry) → is_forbidden (demand line).class ≡ true → is_short_name (name_of (head_of line.item)) ≡ true
+name_short line h =
+    let l = item_listed line.item h in
+    ap (λ (x : Head). is_short_name (name_of x)) l.1 ∙ listed_short l.0
+
+blocked_fits : (n : ℕ) (line : Entry) → n ≤ 1000000 → IsPid line.pid → is_forbidden (demand line).class ≡ true
+    → FitsComment (blocked_words n (Some line))
+blocked_fits n line most pid forbidden =
+    let name : List ℕ = name_of (head_of line.item) in
+    let short = and_parts (is_calm name) (leb (length name) 40) (name_short line forbidden) in
+    let long : length name ≤ 40 = leb-true _ _ short.1 in
+    let place = calm_both (decimal n) (codes ",") (calm_decimal n (omega (arith, most))) refl in
+    let p = pid.1 in
+    words_fit (blocked_words n (Some line))
+    (and_from _ _ place (and_from _ _ short.0 (and_from _ _ (calm_decimal line.pid (omega (arith, p))) refl)))
+    (omega (
+      arith,
+      length-append (decimal n) (codes ","),
+      decimal_short n (omega (arith, most)),
+      long,
+      decimal_short line.pid (omega (arith, p)),
+    ))
+
+-- ---- the whole script of a process
+
+entering_fits : (t : List Entry) (n p at : ℕ) (e : Entering) → StandsInTheWay t e → length t ≤ 1000000 → IsPid p
+    → 1 ≤ at → at ≤ n + 1 → at ≤ 9999999999999999999 → Fits n (entering_line t p at e ∷ [])
+entering_fits t n p at may_enter stands few pid low high small = (
+  record {
+    low = low;
+    high = high;
+    small = small;
+    calm = enter_calm p pid;
+    short = enter_short p pid;
+    put = enter_line p;
+    read = enter_read p pid;
+  },
+  tt,
+)
+entering_fits t n p at is_inside stands few pid low high small = (inside_fits p pid.1, tt)
+entering_fits t n p at (blocked k) stands few pid low high small =
+    let (line, found, first, last, own, forbidden) = stands in (
+      subst (λ (o : Option Entry). FitsComment (blocked_words k o)) (sym found)
+          (blocked_fits k line (omega (arith, last, few)) own forbidden),
+      tt,
+    )
+
+process_fits : (t : List Entry) (p k : ℕ) (rows unknown : List Row) (e : Entering) → length t ≤ 1000000 → 1 ≤ k
+    → k ≤ length t → length rows ≤ 4294967296 → IsPid p → All IsRow rows → All IsRow unknown → StandsInTheWay t e
+    → Fits (length t) (process_script t p k rows unknown e)
+process_fits t p k rows unknown e few low high some pid known others stands = (
+  place_fits p k pid.1 (omega (arith, high, few)),
+  rows_fit (length t) k p rows (unknown_lines unknown ++ entering_line t p (k + length rows) e ∷ []) low
+      (omega (arith, high)) (omega (arith, high, few, some)) pid known
+      (all_unknown_fit (length t + length rows) unknown (entering_line t p (k + length rows) e ∷ []) others
+      (entering_fits t (length t + length rows) p (k + length rows) e stands few pid (omega (arith, low))
+      (omega (arith, high)) (omega (arith, high, few, some)))),
+)
+
+pub process_script_is_accepted : ProcessScriptIsAccepted
+process_script_is_accepted profile t left p k rows unknown e replies few low high some pid known others stands run =
+    text_accepted profile t left (process_script t p k rows unknown e) replies few
+    (process_fits t p k rows unknown e few low high some pid known others stands) run

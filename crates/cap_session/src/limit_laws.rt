@@ -1,0 +1,13 @@
+//! Laws of the script that `limits` answers. Each function does nothing: its contract is what it says.
+ghost use Rattle.cap_session.specs.LimitScriptLaws.{MakersScriptIsAccepted, ProcessScriptIsAccepted};
+
+/// `edit` accepts each line of the limits behind the lines that made descriptors, while the trace has room and memory is
+/// there.
+pub fn makers_script_is_accepted()
+    ensures { MakersScriptIsAccepted }
+{}
+
+/// `edit` accepts each line of the limits of a process before a line, while the trace has room and memory is there.
+pub fn process_script_is_accepted()
+    ensures { ProcessScriptIsAccepted }
+{}
