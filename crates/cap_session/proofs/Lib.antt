@@ -34,3 +34,7 @@ pub mod Words
 pub mod LimitLines
 pub mod LimitScripts
 pub mod LinesOfText
+pub mod AnswersTrace
+pub mod MakerPlaces
+pub mod LimitStands
+pub mod LimitTexts

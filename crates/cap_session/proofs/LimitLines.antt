@@ -1,11 +1,10 @@
 -- The lines that the script of `limits` inserts: what spells them, and what a line of a script with one asks for.
-use Rattle.std.proofs.Common.{◌≡◌, ℕ, ◌+◌, ◌<◌, ◌≤◌, ◌&&◌, Bool, true, false, not, List, [], ◌∷◌, ◌++◌, length, refl, sym}
-use Rattle.std.proofs.Common.{ap, ◌∙◌, subst, arith, tests, length-append}
+use Rattle.std.proofs.Common.{◌≡◌, ℕ, ◌+◌, ◌<◌, ◌≤◌, Bool, true, false, not, List, [], ◌∷◌, ◌++◌, length, refl, sym}
+use Rattle.std.proofs.Common.{ap, ◌∙◌, arith, length-append}
 use Rattle.std.specs.Prelude.{◌==◌, ◌^◌, codes, decimal, Ok, Some}
-use Rattle.std.specs.List.{list_all, join_with_byte}
+use Rattle.std.specs.List.{list_all}
 use Rattle.std.proofs.lemmas.Bool.{and_parts, not-true}
 use Rattle.std.proofs.lemmas.Fmt.{digits_decimal}
-use Rattle.cap_rights.specs.Rights.{IsRightSet}
 use Rattle.cap_rights.specs.Text.{names, text, included}
 use Rattle.cap_rights.proofs.Again.{written_is_read, named_is_read}
 use Rattle.cap_rights.proofs.Short.{text_is_short}
@@ -15,7 +14,7 @@ use Rattle.cap_trace.specs.Spelling.{canon, Spells}
 use Rattle.cap_trace.proofs.Numerals.{own, num_again}
 use Rattle.cap_trace.proofs.WholeLines.{line_again, digits_lack}
 use Rattle.cap_machine.specs.LimitLaws.{Row}
-use Rattle.cap_session.specs.Commands.{Asked, asked, asked_with, first_word, after_word, position, insert_line}
+use Rattle.cap_session.specs.Commands.{asked, asked_with, first_word, after_word, position, insert_line}
 use Rattle.cap_session.specs.LimitScripts.{limit_line, enter_line, bytes_of, insertion}
 use Rattle.cap_session.specs.LimitScriptLaws.{IsRow, IsNamed}
 use Rattle.cap_session.proofs.LinesOfText.{is_calm, calm_both, calm_decimal, calm_rights, decimal_short}

@@ -1,14 +1,13 @@
 -- The script of `limits` is accepted.
-use Rattle.std.proofs.Common.{◌≡◌, ℕ, suc, ◌+◌, ◌-◌, ◌<◌, ◌≤◌, ◌⊎◌, ◌&&◌, Bool, true, false, leb, ltb, List, [], ◌∷◌, ◌++◌}
+use Rattle.std.proofs.Common.{◌≡◌, ℕ, suc, ◌+◌, ◌-◌, ◌<◌, ◌≤◌, ◌⊎◌, ◌&&◌, Bool, true, false, leb, List, [], ◌∷◌, ◌++◌}
 use Rattle.std.proofs.Common.{length, map, refl, sym, ap, ◌∙◌, subst, inl, inr, arith}
 use Rattle.std.specs.Prelude.{nat_le, nat_lt, codes, decimal, insert, Option, Result, Ok, Err, Some}
-use Rattle.std.specs.List.{All, list_all, slice_get}
+use Rattle.std.specs.List.{All, list_all}
 use Rattle.std.proofs.lemmas.List.Edits.{length-insert}
 use Rattle.std.specs.Str.{bytes_eq}
 use Rattle.std.proofs.lemmas.List.{length-append}
 use Rattle.std.proofs.lemmas.Bool.{and_from, and_parts, le-leb, le-ltb}
 use borrow.Author.Tests.{leb-true, leb-false}
-use Rattle.cap_rights.specs.Text.{text}
 use Rattle.cap_rights.proofs.Short.{text_is_short}
 use Rattle.cap_trace.specs.Entry.{Entry, IsPid, head_of, head_of_call}
 use Rattle.cap_trace.specs.Item.{Item}
@@ -30,15 +29,15 @@ use Rattle.cap_machine.specs.declared.makers.MakerLimit.{MakerLimit}
 use Rattle.cap_session.specs.declared.edit.Edit.TheVariants.{Insert}
 use Rattle.cap_session.specs.declared.refused.Refused.{Refused}
 use Rattle.cap_session.specs.declared.refused.Refused.TheVariants.{Full}
-use Rattle.cap_session.specs.Commands.{Asked, asked, insert_line}
-use Rattle.cap_session.specs.Edits.{inserted, is_position, with_read}
+use Rattle.cap_session.specs.Commands.{Asked, asked}
+use Rattle.cap_session.specs.Edits.{inserted, is_position}
 use Rattle.cap_session.specs.Limits.{most_lines}
 use Rattle.cap_session.specs.Lines.{lines}
 use Rattle.cap_session.specs.Replies.{refused_text}
 use Rattle.cap_session.specs.Scripts.{Answers, Commands, Run}
 use Rattle.cap_session.specs.Trace.{is_skipped}
 use Rattle.cap_session.specs.LimitScripts.{ScriptLine, comment, insertion, bytes_of, words_of, script_text, insertions}
-use Rattle.cap_session.specs.LimitScripts.{limit_line, enter_line, maker_line, makers_script, process_script, Entering}
+use Rattle.cap_session.specs.LimitScripts.{limit_line, enter_line, makers_script, process_script, Entering}
 use Rattle.cap_session.specs.LimitScripts.{may_enter, is_inside, blocked, place_words, unknown_words, inside_words}
 use Rattle.cap_session.specs.LimitScripts.{blocked_words, entering_line, unknown_lines}
 use Rattle.cap_session.specs.LimitScriptLaws.{Accepts, ok_text, IsRow, StandsInTheWay, IsMakerLimit}

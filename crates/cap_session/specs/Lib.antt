@@ -1,3 +1,4 @@
+pub mod AnswerStreams
 pub mod Commands
 pub mod Devices
 pub mod EditLaws
@@ -11,6 +12,7 @@ pub mod Gives
 pub mod Laws
 pub mod LimitScriptLaws
 pub mod LimitScripts
+pub mod LimitStreams
 pub mod Limits
 pub mod LineEnds
 pub mod Lines

@@ -59,6 +59,10 @@ maker_line limit = insertion (limit.at + 1) (limit_line limit.pid (limit.fd, lim
 abbrev pub makers_script : List MakerLimit → List ScriptLine
 makers_script limits = map maker_line limits
 
+-- its text, as the code has it
+abbrev pub maker_lines : List MakerLimit → List ℕ
+maker_lines limits = flat_map (λ (limit : MakerLimit). line_of_words (words_of (maker_line limit))) limits
+
 -- ---- of one process, before a line
 
 -- whether it may enter capability mode there: it may, it is inside already, or the call at a later line is in the way

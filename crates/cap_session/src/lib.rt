@@ -31,7 +31,9 @@ mod from_start;
 mod held;
 mod laws;
 mod limit_laws;
+mod limiting;
 mod limits;
+mod limits_text;
 mod line_ends;
 mod lines;
 mod loading;
@@ -64,7 +66,10 @@ pub use laws::{
     bad_is_refused, beginning_decides, each_report_is_of_its_trace, explains_what_is_reported,
     good_is_reported, pieces_agree, script_leaves_what_edits_give, script_reports_what_edits_give,
 };
-pub use limit_laws::{makers_script_is_accepted, process_script_is_accepted};
+pub use limit_laws::{
+    makers_script_is_accepted, process_script_is_accepted, process_script_stands,
+};
+pub use limiting::limits_stream;
 pub use limits::{LONGEST_LINE, LONGEST_PIECE, LONGEST_SCRIPT_LINE, MOST_LINES};
 pub use number::number_of;
 pub use outcome::{ExplainOutcome, Outcome};

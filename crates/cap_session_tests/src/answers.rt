@@ -7,7 +7,7 @@ use cap_machine::Profile;
 use cap_session::{
     ExplainOutcome, check_stream, check_stream_as, check_stream_from, check_stream_from_as,
     denials_stream, edit_stream, edit_stream_as, explain_stream, explain_stream_as,
-    explain_stream_from, explain_stream_from_as,
+    explain_stream_from, explain_stream_from_as, limits_stream,
 };
 use std::alloc::Global;
 use std::test::Fail;
@@ -31,6 +31,7 @@ pub enum Call {
     ExplainAs(Profile, usize),
     ExplainFrom(usize),
     ExplainFromAs(Profile, usize),
+    Limits(Profile),
 }
 
 /// The bytes of a reader, how many come with a read, and the read that fails, counted from 1: 0 where none does.
@@ -116,6 +117,9 @@ fn made(
         }
         Call::ExplainFromAs(profile, at) => {
             return explain_stream_from_as(alloc, profile, turns, at, other, trace, writer);
+        }
+        Call::Limits(profile) => {
+            return limits_stream(alloc, profile, turns, other, trace, writer);
         }
     };
     ExplainOutcome::Ended(outcome)

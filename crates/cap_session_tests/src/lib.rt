@@ -18,6 +18,8 @@ mod from_starts;
 #[cfg(test)]
 mod joins;
 #[cfg(test)]
+mod limits;
+#[cfg(test)]
 mod scripts;
 #[cfg(test)]
 mod sessions;
