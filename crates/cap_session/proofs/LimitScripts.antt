@@ -44,7 +44,8 @@ use Rattle.cap_session.specs.LimitScriptLaws.{Accepts, ok_text, IsRow, StandsInT
 use Rattle.cap_session.specs.LimitScriptLaws.{ProcessScriptIsAccepted, MakersScriptIsAccepted}
 use Rattle.cap_session.proofs.LimitLines.{limit_short, limit_read, limit_calm, enter_short, enter_read, enter_calm}
 use Rattle.cap_session.proofs.LimitLines.{asks_insert}
-use Rattle.cap_session.proofs.LinesOfText.{is_calm, calm_both, calm_joined, calm_decimal, calm_rights, room, joined_room}
+use Rattle.cap_session.proofs.LinesOfText.{is_calm, calm_both, calm_joined, calm_decimal, calm_rights, room}
+use Rattle.cap_session.proofs.LinesOfText.{joined_room}
 use Rattle.cap_session.proofs.LinesOfText.{decimal_short, AllCalm, script_lines}
 use Rattle.cap_session.proofs.Scripted.{EditReplied, edit_replied}
 
@@ -323,7 +324,8 @@ item_listed (items.Start fs) h = absurd cc
 item_listed items.Exit h = absurd cc
 item_listed (items.Foreign f) h = absurd cc
 
-name_short : (line : Entry) → is_forbidden (demand line).class ≡ true → is_short_name (name_of (head_of line.item)) ≡ true
+name_short : (line : Entry) → is_forbidden (demand line).class ≡ true
+    → is_short_name (name_of (head_of line.item)) ≡ true
 name_short line h =
     let l = item_listed line.item h in
     ap (λ (x : Head). is_short_name (name_of x)) l.1 ∙ listed_short l.0

@@ -142,7 +142,8 @@ all_steps profile before after p rows e =
 -- ---- the lines are read as they are
 
 rows_read : (at p : ℕ) (rows : List Row) (others : List ScriptLine) → IsPid p → All IsRow rows
-    → All (λ (row : Row). IsNamed row.1) rows → ReadsBack others → ReadsBack (insertions at (map (limit_line p) rows) ++ others)
+    → All (λ (row : Row). IsNamed row.1) rows → ReadsBack others
+    → ReadsBack (insertions at (map (limit_line p) rows) ++ others)
 rows_read at p [] others pid known named more = more
 rows_read at p (row ∷ rows) others pid known named more = (
   named_read p row pid (known 0 row (omega arith)) (named 0 row (omega arith)),
@@ -165,9 +166,11 @@ process_script_stands profile t left p k rows unknown e replies few low high som
     let before : List Entry = take (k - 1) t in
     let after : List Entry = drop (k - 1) t in
     let last : ScriptLine = entering_line t p (k + length rows) e in
-    let accepts = process_script_is_accepted profile t left p k rows unknown e replies few low high some pid known others
+    let accepts =
+    process_script_is_accepted profile t left p k rows unknown e replies few low high some pid known others
     stands run in
-    let reads : ReadsBack (process_script t p k rows unknown e) = rows_read k p rows (unknown_lines unknown ++ last ∷ [])
+    let reads : ReadsBack (process_script t p k rows unknown e) =
+    rows_read k p rows (unknown_lines unknown ++ last ∷ [])
     pid known named (unknown_read unknown (last ∷ []) (entering_read t p (k + length rows) e pid)) in
     let is : left ≡ with_script t (process_script t p k rows unknown e) =
     leaves t left (process_script t p k rows unknown e) replies reads accepts ok in

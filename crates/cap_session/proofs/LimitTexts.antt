@@ -19,7 +19,8 @@ parts o p f r z =
     ∙ append_assoc ((o ++ p) ++ codes " cap_rights_limit(") f (codes "," ++ (r ++ (codes ") RET " ++ z)))
     ∙ append_assoc (o ++ p) (codes " cap_rights_limit(") (f ++ (codes "," ++ (r ++ (codes ") RET " ++ z))))
     ∙ append_assoc o p (codes " cap_rights_limit(" ++ (f ++ (codes "," ++ (r ++ (codes ") RET " ++ z)))))
-    ∙ ap (λ (l : List ℕ). o ++ (p ++ (codes " cap_rights_limit(" ++ l))) (sym (append_assoc f (44 ∷ r) (41 ∷ (codes " RET " ++ z))))
+    ∙ ap (λ (l : List ℕ). o ++ (p ++ (codes " cap_rights_limit(" ++ l)))
+    (sym (append_assoc f (44 ∷ r) (41 ∷ (codes " RET " ++ z))))
 
 pub limit_put : (pid fd rights n m : ℕ) (o o1 o2 o3 o4 o5 o6 o7 : List ℕ) → n ≡ pid → m ≡ fd → o1 ≡ o ++ decimal n
     → o2 ≡ o1 ++ codes " cap_rights_limit(" → o3 ≡ o2 ++ decimal m → o4 ≡ o3 ++ codes "," → o5 ≡ o4 ++ text rights

@@ -63,7 +63,8 @@ decimal_short n lt = length-decimal-le 20 n (omega arith) (omega (arith, lt)) lt
 
 -- ---- the lines
 
-line_cut : (held xs ys : List ℕ) → is_calm xs ≡ true → (whole_lines held (xs ++ 10 ∷ ys) ≡ (held ++ xs) ∷ whole_lines [] ys)
+line_cut : (held xs ys : List ℕ) → is_calm xs ≡ true
+    → (whole_lines held (xs ++ 10 ∷ ys) ≡ (held ++ xs) ∷ whole_lines [] ys)
     × (last_piece held (xs ++ 10 ∷ ys) ≡ last_piece [] ys)
 unfolding whole_lines last_piece
 line_cut held [] ys h = (ap (λ l. l ∷ whole_lines [] ys) (sym (append-nil held)), refl)

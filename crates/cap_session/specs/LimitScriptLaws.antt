@@ -26,8 +26,8 @@ use Rattle.cap_trace.specs.Spelling.{canon}
 abbrev pub ok_text : ℕ → List ℕ
 ok_text count = codes "ok " ++ decimal count ++ line_feed
 
--- Each insertion is accepted, up to the first for which the trace is full or memory ran out; comments are skipped. Where
--- none is refused, the trace that is left has each line at its position, as it is read again.
+-- Each insertion is accepted, up to the first for which the trace is full or memory ran out; comments are skipped.
+-- Where none is refused, the trace that is left has each line at its position, as it is read again.
 abbrev pub Accepts : List Entry → List ScriptLine → List ℕ → List Entry → Type 0
 Accepts t [] replies left = (replies ≡ []) × (left ≡ t)
 Accepts t (comment words ∷ more) replies left = Accepts t more replies left
@@ -59,12 +59,13 @@ IsMakerLimit t limit =
 
 -- ---- the laws
 
--- The script for a process before line k of a trace: `edit` accepts each of its lines, while the trace has room and memory
--- is there.
+-- The script for a process before line k of a trace: `edit` accepts each of its lines, while the trace has room and
+-- memory is there.
 abbrev pub ProcessScriptIsAccepted : Type 0
 ProcessScriptIsAccepted = (profile : Profile) (t left : List Entry) (p k : ℕ) (rows unknown : List Row) (e : Entering)
-    (replies : List ℕ) → (length t ≤ most_lines) → (1 ≤ k) → (k ≤ length t) → (length rows ≤ 2 ^ 32) → IsPid p → All IsRow rows → All IsRow unknown
-    → StandsInTheWay t e → Run profile t (lines (script_text (process_script t p k rows unknown e))) replies left
+    (replies : List ℕ) → (length t ≤ most_lines) → (1 ≤ k) → (k ≤ length t) → (length rows ≤ 2 ^ 32) → IsPid p
+    → All IsRow rows → All IsRow unknown → StandsInTheWay t e
+    → Run profile t (lines (script_text (process_script t p k rows unknown e))) replies left
     → Accepts t (process_script t p k rows unknown e) replies left
 
 -- The script for the lines that made descriptors.

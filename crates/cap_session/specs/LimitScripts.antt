@@ -4,7 +4,8 @@
 --     insert 4 2101 cap_rights_limit(3,CAP_READ|CAP_SEEK) RET 0
 --     # descriptor 5 isn't known; later calls need CAP_READ
 --     # no cap_enter: line 5, openat of process 2102
-use Rattle.std.specs.Prelude.{ℕ, ◌+◌, ◌-◌, List, [], ◌∷◌, ◌++◌, length, map, flat_map, codes, decimal, Option, Some, None}
+use Rattle.std.specs.Prelude.{ℕ, ◌+◌, ◌-◌, List, [], ◌∷◌, ◌++◌, length, map, flat_map, codes, decimal}
+use Rattle.std.specs.Prelude.{Option, Some, None}
 use Rattle.std.specs.List.{slice_get, join_with_byte}
 use Rattle.cap_rights.specs.Text.{text}
 use Rattle.cap_trace.specs.Item as items
@@ -99,8 +100,8 @@ entering_line trace p at (blocked n) = comment (blocked_words n (slice_get trace
 abbrev pub unknown_lines : List Row → List ScriptLine
 unknown_lines unknown = map (λ (row : Row). comment (unknown_words row)) unknown
 
--- Process p before line k of a trace: the limit of each of these descriptors, what later calls need of those that aren't
--- known, and whether it may enter capability mode.
+-- Process p before line k of a trace: the limit of each of these descriptors, what later calls need of those that
+-- aren't known, and whether it may enter capability mode.
 abbrev pub process_script : List Entry → ℕ → ℕ → List Row → List Row → Entering → List ScriptLine
 process_script trace p k rows unknown entering =
     comment (place_words p k) ∷ insertions k (map (limit_line p) rows)

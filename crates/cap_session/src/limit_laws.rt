@@ -1,8 +1,9 @@
 //! Laws of the script that `limits` answers. Each function does nothing: its contract is what it says.
-ghost use Rattle.cap_session.specs.LimitScriptLaws.{MakersScriptIsAccepted, ProcessScriptIsAccepted, ProcessScriptStands};
+ghost use Rattle.cap_session.specs.LimitScriptLaws.{MakersScriptIsAccepted, ProcessScriptIsAccepted};
+ghost use Rattle.cap_session.specs.LimitScriptLaws.{ProcessScriptStands};
 
-/// `edit` accepts each line of the limits behind the lines that made descriptors, while the trace has room and memory is
-/// there.
+/// `edit` accepts each line of the limits behind the lines that made descriptors, while the trace has room and memory
+/// is there.
 pub fn makers_script_is_accepted()
     ensures { MakersScriptIsAccepted }
 {}

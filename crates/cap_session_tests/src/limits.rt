@@ -24,9 +24,12 @@ const TALLY: &[u8] = b"2101 @start(0,1,2)\n\
 2102 @exit()\n\
 2101 @exit()\n";
 
-/// A descriptor that an exec closes.
-const EXEC: &[u8] =
+/// A descriptor that an exec closes, and one that stays open.
+const CLOSED: &[u8] =
     b"100 open(\"a\",O_RDONLY|O_CLOEXEC) RET 5\n100 execve(\"/bin/x\") RET 0\n100 read(5) RET 1";
+
+const STAYS: &[u8] =
+    b"100 open(\"a\",O_RDONLY) RET 5\n100 execve(\"/bin/x\") RET 0\n100 read(5) RET 1";
 
 /// A start, a profile, a trace, the outcome, and what is written.
 type Row = (
@@ -37,7 +40,7 @@ type Row = (
     &'static str,
 );
 
-static ROWS: [Row; 8] = [
+static ROWS: [Row; 9] = [
     (b"", One, b"", CLEAN, ""),
     (b"", One, b"100 @start(0)\n100 read(0) RET 1\n", CLEAN, ""),
     // What a child needs is needed of its parent.
@@ -59,17 +62,25 @@ insert 3 2101 cap_rights_limit(3,CAP_READ|CAP_SEEK|CAP_FSTAT) RET 0\n",
         "insert 2 100 cap_rights_limit(4,CAP_WRITE) RET 0\n\
 insert 2 100 cap_rights_limit(3,NONE) RET 0\n",
     ),
+    // In profile 1 nothing is known behind an exec.
     (
         b"",
         One,
-        EXEC,
+        STAYS,
+        CLEAN,
+        "insert 2 100 cap_rights_limit(5,NONE) RET 0\n",
+    ),
+    (
+        b"",
+        Two,
+        STAYS,
         CLEAN,
         "insert 2 100 cap_rights_limit(5,CAP_READ) RET 0\n",
     ),
     (
         b"",
         Two,
-        EXEC,
+        CLOSED,
         CLEAN,
         "insert 2 100 cap_rights_limit(5,NONE) RET 0\n",
     ),
