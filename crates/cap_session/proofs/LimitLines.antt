@@ -17,7 +17,7 @@ use Rattle.cap_machine.specs.LimitLaws.{Row}
 use Rattle.cap_session.specs.Commands.{asked, asked_with, first_word, after_word, position, insert_line}
 use Rattle.cap_session.specs.LimitScripts.{limit_line, enter_line, bytes_of, insertion}
 use Rattle.cap_session.specs.LimitScriptLaws.{IsRow, IsNamed}
-use Rattle.cap_session.proofs.LinesOfText.{is_calm, calm_both, calm_decimal, calm_rights, decimal_short}
+use Rattle.cap_session.proofs.LinesOfText.{has_no_lf, no_lf_both, no_lf_decimal, no_lf_rights, decimal_short}
 
 -- ---- what is inserted
 
@@ -85,22 +85,23 @@ named_read p row pid is named =
 
 -- ---- without LF
 
-limit_calm_parts : (p f r a : List ℕ) → is_calm p ≡ true → is_calm f ≡ true → is_calm r ≡ true → is_calm a ≡ true →
-    is_calm (p ++ (32 ∷ (codes "cap_rights_limit" ++ (40 ∷ ((f ++ (44 ∷ r)) ++ (41 ∷ (codes " RET " ++ a))))))) ≡ true
-limit_calm_parts p f r a hp hf hr ha =
-    let args = calm_both f (44 ∷ r) hf hr in
-    let rest = calm_both (f ++ (44 ∷ r)) (41 ∷ (codes " RET " ++ a)) args ha in
-    calm_both p (32 ∷ (codes "cap_rights_limit" ++ (40 ∷ ((f ++ (44 ∷ r)) ++ (41 ∷ (codes " RET " ++ a)))))) hp rest
+limit_no_lf_parts : (p f r a : List ℕ) → has_no_lf p ≡ true → has_no_lf f ≡ true → has_no_lf r ≡ true
+    → has_no_lf a ≡ true →
+    has_no_lf (p ++ (32 ∷ (codes "cap_rights_limit" ++ (40 ∷ ((f ++ (44 ∷ r)) ++ (41 ∷ (codes " RET " ++ a))))))) ≡ true
+limit_no_lf_parts p f r a hp hf hr ha =
+    let args = no_lf_both f (44 ∷ r) hf hr in
+    let rest = no_lf_both (f ++ (44 ∷ r)) (41 ∷ (codes " RET " ++ a)) args ha in
+    no_lf_both p (32 ∷ (codes "cap_rights_limit" ++ (40 ∷ ((f ++ (44 ∷ r)) ++ (41 ∷ (codes " RET " ++ a)))))) hp rest
 
-pub limit_calm : (p : ℕ) (row : Row) → IsPid p → IsRow row → is_calm (canon (limit_line p row)) ≡ true
-limit_calm p row pid is = limit_calm_parts (decimal p) (decimal row.0) (text row.1) (decimal 0)
-    (calm_decimal p (omega (arith, pid.1))) (calm_decimal row.0 (omega (arith, is.0))) (calm_rights row.1 is.1)
-    (calm_decimal 0 (omega arith))
+pub limit_no_lf : (p : ℕ) (row : Row) → IsPid p → IsRow row → has_no_lf (canon (limit_line p row)) ≡ true
+limit_no_lf p row pid is = limit_no_lf_parts (decimal p) (decimal row.0) (text row.1) (decimal 0)
+    (no_lf_decimal p (omega (arith, pid.1))) (no_lf_decimal row.0 (omega (arith, is.0))) (no_lf_rights row.1 is.1)
+    (no_lf_decimal 0 (omega arith))
 
-pub enter_calm : (p : ℕ) → IsPid p → is_calm (canon (enter_line p)) ≡ true
-enter_calm p pid =
-    calm_both (decimal p) (codes " cap_enter() RET " ++ decimal 0) (calm_decimal p (omega (arith, pid.1)))
-    (calm_decimal 0 (omega arith))
+pub enter_no_lf : (p : ℕ) → IsPid p → has_no_lf (canon (enter_line p)) ≡ true
+enter_no_lf p pid =
+    no_lf_both (decimal p) (codes " cap_enter() RET " ++ decimal 0) (no_lf_decimal p (omega (arith, pid.1)))
+    (no_lf_decimal 0 (omega arith))
 
 -- ---- what is asked for
 

@@ -42,24 +42,24 @@ use Rattle.cap_session.specs.LimitScripts.{may_enter, is_inside, blocked, place_
 use Rattle.cap_session.specs.LimitScripts.{blocked_words, entering_line, unknown_lines}
 use Rattle.cap_session.specs.LimitScriptLaws.{Accepts, ok_text, IsRow, StandsInTheWay, IsMakerLimit}
 use Rattle.cap_session.specs.LimitScriptLaws.{ProcessScriptIsAccepted, MakersScriptIsAccepted}
-use Rattle.cap_session.proofs.LimitLines.{limit_short, limit_read, limit_calm, enter_short, enter_read, enter_calm}
+use Rattle.cap_session.proofs.LimitLines.{limit_short, limit_read, limit_no_lf, enter_short, enter_read, enter_no_lf}
 use Rattle.cap_session.proofs.LimitLines.{asks_insert}
-use Rattle.cap_session.proofs.LinesOfText.{is_calm, calm_both, calm_joined, calm_decimal, calm_rights, room}
+use Rattle.cap_session.proofs.LinesOfText.{has_no_lf, no_lf_both, no_lf_joined, no_lf_decimal, no_lf_rights, room}
 use Rattle.cap_session.proofs.LinesOfText.{joined_room}
-use Rattle.cap_session.proofs.LinesOfText.{decimal_short, AllCalm, script_lines}
+use Rattle.cap_session.proofs.LinesOfText.{decimal_short, AllHaveNoLf, script_lines}
 use Rattle.cap_session.proofs.Scripted.{EditReplied, edit_replied}
 
 -- ---- lines that fit a script
 
 record FitsComment (words : List (List ℕ)) : Type 0 where
-  calm : is_calm (bytes_of (comment words)) ≡ true
+  no_lf : has_no_lf (bytes_of (comment words)) ≡ true
   short : length (bytes_of (comment words)) ≤ 1056
 
 record FitsTrace (n at : ℕ) (line : Entry) : Type 0 where
   low : 1 ≤ at
   high : at ≤ n + 1
   small : at ≤ 9999999999999999999
-  calm : is_calm (canon line) ≡ true
+  no_lf : has_no_lf (canon line) ≡ true
   short : length (canon line) ≤ 1024
   put : Entry
   read : line_of (canon line) ≡ Ok put
@@ -176,24 +176,24 @@ accepts profile t left (insertion at line ∷ more) replies few fits run =
       ]
     ]
 
-insertion_calm : (at : ℕ) (line : Entry) → at < 18446744073709551616 → is_calm (canon line) ≡ true
-    → is_calm (bytes_of (insertion at line)) ≡ true
-insertion_calm at line small calm = calm_both (decimal at) (32 ∷ canon line) (calm_decimal at small) calm
+insertion_no_lf : (at : ℕ) (line : Entry) → at < 18446744073709551616 → has_no_lf (canon line) ≡ true
+    → has_no_lf (bytes_of (insertion at line)) ≡ true
+insertion_no_lf at line small no_lf = no_lf_both (decimal at) (32 ∷ canon line) (no_lf_decimal at small) no_lf
 
 -- no line of a script that fits has an LF
-all_calm : (n : ℕ) (script : List ScriptLine) → Fits n script → AllCalm script
-all_calm n [] fits = tt
-all_calm n (comment words ∷ more) fits = (fits.0.calm, all_calm n more fits.1)
-all_calm n (insertion at line ∷ more) fits =
+all_no_lf : (n : ℕ) (script : List ScriptLine) → Fits n script → AllHaveNoLf script
+all_no_lf n [] fits = tt
+all_no_lf n (comment words ∷ more) fits = (fits.0.no_lf, all_no_lf n more fits.1)
+all_no_lf n (insertion at line ∷ more) fits =
     let small = fits.0.small in
-    (insertion_calm at line (omega (arith, small)) fits.0.calm, all_calm (n + 1) more fits.1)
+    (insertion_no_lf at line (omega (arith, small)) fits.0.no_lf, all_no_lf (n + 1) more fits.1)
 
 text_accepted : (profile : Profile) (t left : List Entry) (script : List ScriptLine) (replies : List ℕ)
     → length t ≤ 1000000 → Fits (length t) script → Run profile t (lines (script_text script)) replies left
     → Accepts t script replies left
 text_accepted profile t left script replies few fits run = accepts profile t left script replies few fits
-    (subst (λ (l : List (List ℕ)). Run profile t l replies left) (script_lines script (all_calm (length t) script fits))
-    run)
+    (subst (λ (l : List (List ℕ)). Run profile t l replies left)
+    (script_lines script (all_no_lf (length t) script fits)) run)
 
 -- ---- behind the lines that made descriptors
 
@@ -209,7 +209,7 @@ limit_fits n at p row low high small pid is = record {
   low = low;
   high = high;
   small = small;
-  calm = limit_calm p row pid is;
+  no_lf = limit_no_lf p row pid is;
   short = limit_short p row pid is;
   put = _;
   read = limit_read p row pid is;
@@ -246,29 +246,29 @@ rows_fit n at p (row ∷ rows) others low high small pid all fits =
           (rest_of IsRow row rows all) (subst (λ (m : ℕ). Fits m others) same fits),
     )
 
-words_fit : (words : List (List ℕ)) → list_all is_calm words ≡ true → room words ≤ 1000 → FitsComment words
-words_fit words calm short =
-    let all : list_all is_calm (words_of (comment words)) ≡ true = calm in
+words_fit : (words : List (List ℕ)) → list_all has_no_lf words ≡ true → room words ≤ 1000 → FitsComment words
+words_fit words no_lf short =
+    let all : list_all has_no_lf (words_of (comment words)) ≡ true = no_lf in
     record {
-      calm = calm_joined (words_of (comment words)) all;
+      no_lf = no_lf_joined (words_of (comment words)) all;
       short = omega (arith, joined_room (words_of (comment words)), short);
     }
 
 place_fits : (p k : ℕ) → p ≤ 99999 → k ≤ 1000000 → FitsComment (place_words p k)
 place_fits p k pid at = words_fit (place_words p k)
-    (and_from _ _ (calm_decimal p (omega (arith, pid))) (and_from _ _ (calm_decimal k (omega (arith, at))) refl))
+    (and_from _ _ (no_lf_decimal p (omega (arith, pid))) (and_from _ _ (no_lf_decimal k (omega (arith, at))) refl))
     (omega (arith, decimal_short p (omega (arith, pid)), decimal_short k (omega (arith, at))))
 
 unknown_fits : (row : Row) → IsRow row → FitsComment (unknown_words row)
 unknown_fits row is =
     let fd = is.0 in
     words_fit (unknown_words row)
-    (and_from _ _ (calm_decimal row.0 (omega (arith, fd))) (and_from _ _ (calm_rights row.1 is.1) refl))
+    (and_from _ _ (no_lf_decimal row.0 (omega (arith, fd))) (and_from _ _ (no_lf_rights row.1 is.1) refl))
     (omega (arith, decimal_short row.0 (omega (arith, fd)), text_is_short row.1))
 
 inside_fits : (p : ℕ) → p ≤ 99999 → FitsComment (inside_words p)
 inside_fits p pid =
-    words_fit (inside_words p) (and_from _ _ (calm_decimal p (omega (arith, pid))) refl)
+    words_fit (inside_words p) (and_from _ _ (no_lf_decimal p (omega (arith, pid))) refl)
     (omega (arith, decimal_short p (omega (arith, pid))))
 
 all_unknown_fit : (n : ℕ) (unknown : List Row) (others : List ScriptLine) → All IsRow unknown → Fits n others
@@ -283,7 +283,7 @@ all_unknown_fit n (row ∷ rows) others all fits = (
 
 -- no name of the table has an LF, and none is long
 abbrev is_short_name : List ℕ → Bool
-is_short_name name = is_calm name && leb (length name) 40
+is_short_name name = has_no_lf name && leb (length name) 40
 
 short_names : list_all (λ f. is_short_name (row_of f).name) all_forms ≡ true
 unfolding all_forms
@@ -334,12 +334,12 @@ blocked_fits : (n : ℕ) (line : Entry) → n ≤ 1000000 → IsPid line.pid →
     → FitsComment (blocked_words n (Some line))
 blocked_fits n line most pid forbidden =
     let name : List ℕ = name_of (head_of line.item) in
-    let short = and_parts (is_calm name) (leb (length name) 40) (name_short line forbidden) in
+    let short = and_parts (has_no_lf name) (leb (length name) 40) (name_short line forbidden) in
     let long : length name ≤ 40 = leb-true _ _ short.1 in
-    let place = calm_both (decimal n) (codes ",") (calm_decimal n (omega (arith, most))) refl in
+    let place = no_lf_both (decimal n) (codes ",") (no_lf_decimal n (omega (arith, most))) refl in
     let p = pid.1 in
     words_fit (blocked_words n (Some line))
-    (and_from _ _ place (and_from _ _ short.0 (and_from _ _ (calm_decimal line.pid (omega (arith, p))) refl)))
+    (and_from _ _ place (and_from _ _ short.0 (and_from _ _ (no_lf_decimal line.pid (omega (arith, p))) refl)))
     (omega (
       arith,
       length-append (decimal n) (codes ","),
@@ -357,7 +357,7 @@ entering_fits t n p at may_enter stands few pid low high small = (
     low = low;
     high = high;
     small = small;
-    calm = enter_calm p pid;
+    no_lf = enter_no_lf p pid;
     short = enter_short p pid;
     put = enter_line p;
     read = enter_read p pid;

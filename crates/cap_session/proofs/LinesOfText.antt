@@ -19,33 +19,34 @@ use Rattle.cap_session.specs.LimitScripts.{ScriptLine, bytes_of, script_text}
 
 -- ---- no LF
 
-abbrev pub calm : ℕ → Bool
-calm c = not (c == 10)
+abbrev pub no_lf : ℕ → Bool
+no_lf c = not (c == 10)
 
-abbrev pub is_calm : List ℕ → Bool
-is_calm line = list_all calm line
+abbrev pub has_no_lf : List ℕ → Bool
+has_no_lf line = list_all no_lf line
 
-pub calm_both : (xs ys : List ℕ) → is_calm xs ≡ true → is_calm ys ≡ true → is_calm (xs ++ ys) ≡ true
-calm_both xs ys h k = list_all-append calm xs ys ∙ and_from (is_calm xs) (is_calm ys) h k
+pub no_lf_both : (xs ys : List ℕ) → has_no_lf xs ≡ true → has_no_lf ys ≡ true → has_no_lf (xs ++ ys) ≡ true
+no_lf_both xs ys h k = list_all-append no_lf xs ys ∙ and_from (has_no_lf xs) (has_no_lf ys) h k
 
-pub calm_joined : (words : List (List ℕ)) → list_all is_calm words ≡ true → is_calm (join_with_byte 32 words) ≡ true
-calm_joined [] h = refl
-calm_joined (w ∷ []) h = (and_parts (is_calm w) true h).0
-calm_joined (w ∷ u ∷ us) h =
-    let k = and_parts (is_calm w) (list_all is_calm (u ∷ us)) h in
-    calm_both w (32 ∷ join_with_byte 32 (u ∷ us)) k.0 (calm_joined (u ∷ us) k.1)
+pub no_lf_joined : (words : List (List ℕ)) → list_all has_no_lf words ≡ true
+    → has_no_lf (join_with_byte 32 words) ≡ true
+no_lf_joined [] h = refl
+no_lf_joined (w ∷ []) h = (and_parts (has_no_lf w) true h).0
+no_lf_joined (w ∷ u ∷ us) h =
+    let k = and_parts (has_no_lf w) (list_all has_no_lf (u ∷ us)) h in
+    no_lf_both w (32 ∷ join_with_byte 32 (u ∷ us)) k.0 (no_lf_joined (u ∷ us) k.1)
 
-digit_calm : (c : ℕ) → is_ascii_digit c ≡ true → calm c ≡ true
-digit_calm c h = grind (arith, tests)
+digit_no_lf : (c : ℕ) → is_ascii_digit c ≡ true → no_lf c ≡ true
+digit_no_lf c h = grind (arith, tests)
 
-pub calm_decimal : (n : ℕ) → n < 2 ^ 64 → is_calm (decimal n) ≡ true
-calm_decimal n lt = weaken is_ascii_digit calm digit_calm (decimal n) (digits_decimal own n lt)
+pub no_lf_decimal : (n : ℕ) → n < 2 ^ 64 → has_no_lf (decimal n) ≡ true
+no_lf_decimal n lt = weaken is_ascii_digit no_lf digit_no_lf (decimal n) (digits_decimal own n lt)
 
-plain_calm : (c : ℕ) → plain c ≡ true → calm c ≡ true
-plain_calm c h = grind (arith, tests)
+plain_no_lf : (c : ℕ) → plain c ≡ true → no_lf c ≡ true
+plain_no_lf c h = grind (arith, tests)
 
-pub calm_rights : (r : ℕ) → IsRightSet r → is_calm (text r) ≡ true
-calm_rights r is = weaken plain calm plain_calm (text r) (names_plain (text r) _ (written_is_read r is))
+pub no_lf_rights : (r : ℕ) → IsRightSet r → has_no_lf (text r) ≡ true
+no_lf_rights r is = weaken plain no_lf plain_no_lf (text r) (names_plain (text r) _ (written_is_read r is))
 
 -- ---- how long a line of words is
 
@@ -63,22 +64,22 @@ decimal_short n lt = length-decimal-le 20 n (omega arith) (omega (arith, lt)) lt
 
 -- ---- the lines
 
-line_cut : (held xs ys : List ℕ) → is_calm xs ≡ true
+line_cut : (held xs ys : List ℕ) → has_no_lf xs ≡ true
     → (whole_lines held (xs ++ 10 ∷ ys) ≡ (held ++ xs) ∷ whole_lines [] ys)
     × (last_piece held (xs ++ 10 ∷ ys) ≡ last_piece [] ys)
 unfolding whole_lines last_piece
 line_cut held [] ys h = (ap (λ l. l ∷ whole_lines [] ys) (sym (append-nil held)), refl)
 line_cut held (b ∷ xs) ys h =
-    let k = and_parts (calm b) (is_calm xs) h in
+    let k = and_parts (no_lf b) (has_no_lf xs) h in
     let none : (b == 10) ≡ false = not-true _ k.0 in
     let rest = line_cut (held ++ b ∷ []) xs ys k.1 in
     (rw none (rest.0 ∙ ap (λ l. l ∷ whole_lines [] ys) (append_assoc held (b ∷ []) xs)), rw none rest.1)
 
-abbrev pub AllCalm : List ScriptLine → Type 0
-AllCalm [] = Unit {0}
-AllCalm (line ∷ more) = (is_calm (bytes_of line) ≡ true) × AllCalm more
+abbrev pub AllHaveNoLf : List ScriptLine → Type 0
+AllHaveNoLf [] = Unit {0}
+AllHaveNoLf (line ∷ more) = (has_no_lf (bytes_of line) ≡ true) × AllHaveNoLf more
 
-script_cut : (script : List ScriptLine) → AllCalm script
+script_cut : (script : List ScriptLine) → AllHaveNoLf script
     → (whole_lines [] (script_text script) ≡ map bytes_of script) × (last_piece [] (script_text script) ≡ [])
 unfolding whole_lines last_piece
 script_cut [] h = (refl, refl)
@@ -92,7 +93,7 @@ script_cut (line ∷ more) h =
     )
 
 -- the lines of a script's text are its lines
-pub script_lines : (script : List ScriptLine) → AllCalm script → lines (script_text script) ≡ map bytes_of script
+pub script_lines : (script : List ScriptLine) → AllHaveNoLf script → lines (script_text script) ≡ map bytes_of script
 script_lines script h =
     let cut = script_cut script h in
     ap (λ (l : List (List ℕ)). l ++ line_if_any (last_piece [] (script_text script))) cut.0

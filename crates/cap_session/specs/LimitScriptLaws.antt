@@ -39,7 +39,7 @@ Accepts t (insertion at line ∷ more) replies left =
 
 -- ---- what `limits` answers of
 
--- a descriptor and a set of rights; rights that some text names, as all are that a trace or a start gives
+-- a descriptor and a set of rights; rights that some text names
 abbrev pub IsRow : Row → Type 0
 IsRow row = IsFd row.0 × IsRightSet row.1
 
