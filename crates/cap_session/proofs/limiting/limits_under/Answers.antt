@@ -1,3 +1,4 @@
+use Rattle.cap_machine.specs.declared.question.Question.TheVariants.{Findings}
 use Rattle.cap_machine.specs.Table.{start_state}
 use Rattle.cap_session.specs.LimitStreams.{makers_say}
 use Rattle.cap_session.proofs.AnswersTrace.{answer_kept, answer_stopped}
@@ -6,7 +7,7 @@ use Rattle.cap_session.proofs.limiting.limits_under.Goals as goal
 pub returns-in-Ok : goal.returns-in-Ok
 returns-in-Ok g c =
     let s = start_state c.args.start.now in
-    let r = c.in-Ok.ensures (record { profile = c.args.profile; start = s }) c.new.ensures.items in
+    let r = c.in-Ok.ensures (record { question = Findings; profile = c.args.profile; start = s }) c.new.ensures.items in
     let known = r.answer.1 in
     answer_kept (makers_say c.args.profile s) c.args.turns _ _ _ _ c.in-Ok.lines.items known.0
     c.write_makers.result (record {
@@ -22,4 +23,4 @@ pub returns-in-Err : goal.returns-in-Err
 returns-in-Err g c =
     let s = start_state c.args.start.now in
     answer_stopped (makers_say c.args.profile s) c.args.turns _ _ _ _ _ c.in-Err.stop _
-    (c.in-Err.ensures (record { profile = c.args.profile; start = s }) c.new.ensures.items) c.write_stop.ensures
+    (c.in-Err.ensures (record { question = Findings; profile = c.args.profile; start = s }) c.new.ensures.items) c.write_stop.ensures
