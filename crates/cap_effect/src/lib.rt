@@ -2,7 +2,9 @@
 #![tactic(auto)]
 
 mod key;
+mod test;
 mod value;
 
 pub use key::{Key, cell_of_mode, mode_of_cell};
+pub use test::{Flags, Kinds, Test};
 pub use value::{Derived, Value};

@@ -1,0 +1,29 @@
+-- Laws of Booleans.
+use Rattle.std.proofs.Common.{◌≡◌, Bool, true, false, ◌&&◌, ◌||◌, refl, sym, ap, ◌∙◌}
+use Rattle.std.specs.Prelude.{not}
+
+pub not_and : (x y : Bool) → not (x && y) ≡ (not x || not y)
+not_and true y = refl
+not_and false y = refl
+
+pub or_false : (x : Bool) → (x || false) ≡ x
+or_false true = refl
+or_false false = refl
+
+pub or_true : (x : Bool) → (x || true) ≡ true
+or_true true = refl
+or_true false = refl
+
+pub or_crossed : (a b x y : Bool) → ((a || b) || (x || y)) ≡ ((a || x) || (b || y))
+or_crossed true b x y = refl
+or_crossed false true x y = sym (or_true x)
+or_crossed false false x y = refl
+
+pub and_or : (f a b : Bool) → (f && (a || b)) ≡ ((f && a) || (f && b))
+and_or true a b = refl
+and_or false a b = refl
+
+-- a Boolean is false if it leads to a contradiction where it is true
+pub not_true : (b c : Bool) → c ≡ false → (b ≡ true → c ≡ true) → b ≡ false
+not_true true c is leads = sym (leads refl) ∙ is
+not_true false c is leads = refl
