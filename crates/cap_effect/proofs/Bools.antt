@@ -1,5 +1,5 @@
 -- Laws of Booleans.
-use Rattle.std.proofs.Common.{◌≡◌, Bool, true, false, ◌&&◌, ◌||◌, refl, sym, ap, ◌∙◌}
+use Rattle.std.proofs.Common.{◌≡◌, Bool, true, false, ◌&&◌, ◌||◌, ◌⊎◌, inl, inr, refl, sym, ap, ◌∙◌}
 use Rattle.std.specs.Prelude.{not}
 
 pub not_and : (x y : Bool) → not (x && y) ≡ (not x || not y)
@@ -27,3 +27,24 @@ and_or false a b = refl
 pub not_true : (b c : Bool) → c ≡ false → (b ≡ true → c ≡ true) → b ≡ false
 not_true true c is leads = sym (leads refl) ∙ is
 not_true false c is leads = refl
+
+pub and_left : (a b : Bool) → (a && b) ≡ true → a ≡ true
+and_left true b is = refl
+and_left false b is = is
+
+pub and_right : (a b : Bool) → (a && b) ≡ true → b ≡ true
+and_right true b is = is
+and_right false true is = refl
+and_right false false is = is
+
+pub and_false : (a b : Bool) → (a && b) ≡ false → (a ≡ false) ⊎ (b ≡ false)
+and_false true b is = inr is
+and_false false b is = inl refl
+
+pub or_one : (a b : Bool) → (a || b) ≡ true → (a ≡ true) ⊎ (b ≡ true)
+or_one true b is = inl refl
+or_one false b is = inr is
+
+pub and_with_false : (a : Bool) → (a && false) ≡ false
+and_with_false true = refl
+and_with_false false = refl

@@ -1,3 +1,4 @@
 pub mod Keys
 pub mod Values
 pub mod Tests
+pub mod Asks

@@ -1,6 +1,6 @@
 -- Tests of one cell: which kinds of cell pass, and of held cells those that lack rights.
-use Rattle.std.specs.Prelude.{◌≡◌, ℕ, ◌&&◌, ◌||◌, not, Bool, true, false, ◌<◌, ◌^◌}
-use Rattle.cap_rights.specs.Rights.{has_all}
+use Rattle.std.specs.Prelude.{ℕ, ◌&&◌, ◌||◌, not, Bool, true, false}
+use Rattle.cap_rights.specs.Rights.{none, has_all}
 use Rattle.cap_machine.specs.declared.cell.OnExec.{OnExec}
 use Rattle.cap_machine.specs.declared.cell.OnExec.TheVariants.{Set, Clear, Unsure}
 use Rattle.cap_machine.specs.declared.cell.Cell.{Cell}
@@ -33,18 +33,23 @@ lacks flags rights Closed = false
 abbrev pub passes : Test → Cell → Bool
 passes test cell = has_kind test.kinds cell || lacks test.lacking test.rights cell
 
--- rights that a program can name
-abbrev pub HasRights : Cell → Type 0
-HasRights (Held rights flag) = rights < 2 ^ 64
-HasRights Unknown = Unit {0}
-HasRights Closed = Unit {0}
-
 -- held cells with these rights pass, of a test for other rights
 abbrev pub held_passes : HeldTest → ℕ → ℕ → Bool
 held_passes Never rights held = false
 held_passes Lacking rights held = not (has_all held rights)
 held_passes Always rights held = true
 
--- each kind passes
+-- there is one
+abbrev pub any_flag : Flags → Bool
+any_flag flags = flags.set || (flags.clear || flags.unsure)
+
+abbrev pub any_kind : Kinds → Bool
+any_kind kinds = kinds.unknown || (kinds.closed || any_flag kinds.held)
+
+-- each kind of cell is among these
 abbrev pub is_full : Kinds → Bool
-is_full kinds = (kinds.unknown && kinds.closed) && (kinds.held.set && (kinds.held.clear && kinds.held.unsure))
+is_full kinds = kinds.unknown && (kinds.closed && (kinds.held.set && (kinds.held.clear && kinds.held.unsure)))
+
+-- some cell passes: one of a kind, or one that holds no rights, where it can lack some
+abbrev pub can_pass : Test → Bool
+can_pass test = any_kind test.kinds || (any_flag test.lacking && not (has_all none test.rights))

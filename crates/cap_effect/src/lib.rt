@@ -1,10 +1,12 @@
 //! What a segment of a trace does to what is known, and under which states before it something is found in it.
 #![tactic(auto)]
 
+mod ask;
 mod key;
 mod test;
 mod value;
 
+pub use ask::{Ask, Pulled};
 pub use key::{Key, cell_of_mode, mode_of_cell};
 pub use test::{Flags, Kinds, Test};
 pub use value::{Derived, Value};

@@ -4,7 +4,7 @@ ghost use Rattle.std.specs.Prelude.{◌≡◌, ℕ, ◌||◌, true, false};
 ghost use Rattle.cap_machine.specs.declared.cell.OnExec.{OnExec};
 ghost use Rattle.cap_machine.specs.declared.cell.Cell.{Cell};
 ghost use Rattle.cap_machine.specs.Op.{applied, held};
-ghost use Rattle.cap_effect.specs.Tests.{has_flag, has_kind, passes, held_passes};
+ghost use Rattle.cap_effect.specs.Tests.{has_flag, any_flag, has_kind, any_kind, is_full, passes, can_pass, held_passes};
 
 use cap_machine::{Cell, HeldOp, OnExec, Op};
 use cap_rights::RightSet;
@@ -46,18 +46,6 @@ enum HeldTest {
 }
 
 impl Flags {
-    pub const NONE: Flags = Flags {
-        set: false,
-        clear: false,
-        unsure: false,
-    };
-
-    pub const ALL: Flags = Flags {
-        set: true,
-        clear: true,
-        unsure: true,
-    };
-
     /// Whether a flag is among them.
     pub fn has(&self, flag: OnExec) -> bool
         ensures { result ≡ has_flag self.now flag }
@@ -67,6 +55,13 @@ impl Flags {
             OnExec::Clear => self.clear,
             OnExec::Unsure => self.unsure,
         }
+    }
+
+    /// Whether there is one.
+    fn any(&self) -> bool
+        ensures { result ≡ any_flag self.now }
+    {
+        self.set || self.clear || self.unsure
     }
 
     fn join(&self, other: &Flags) -> Flags
@@ -92,6 +87,20 @@ impl Kinds {
         }
     }
 
+    /// Whether there is one.
+    fn any(&self) -> bool
+        ensures { result ≡ any_kind self.now }
+    {
+        self.unknown || self.closed || self.held.any()
+    }
+
+    /// Whether each kind is among them.
+    pub(crate) fn is_full(&self) -> bool
+        ensures { result ≡ is_full self.now }
+    {
+        self.unknown && self.closed && self.held.set && self.held.clear && self.held.unsure
+    }
+
     fn join(&self, other: &Kinds) -> Kinds
         ensures { (c : Cell) → has_kind result c ≡ (has_kind self.now c || has_kind other.now c) }
     {
@@ -115,6 +124,13 @@ impl Test {
             Cell::Held(rights, flag) => self.lacking.has(*flag) && !rights.has_all(&self.rights),
             _ => false,
         }
+    }
+
+    /// Whether some cell passes.
+    pub(crate) fn can_pass(&self) -> bool
+        ensures { result ≡ can_pass self.now }
+    {
+        self.kinds.any() || (self.lacking.any() && !RightSet::none().has_all(&self.rights))
     }
 
     /// The test that passes what one of two tests passes. Both must speak of rights at the same flags.

@@ -1,0 +1,122 @@
+//! What is asked of the cells before a segment.
+
+ghost use Rattle.std.specs.Prelude.{◌≡◌, ℕ, Bool, true};
+ghost use Rattle.cap_machine.specs.State.{State};
+ghost use Rattle.cap_effect.specs.declared.key.Key.{Key};
+ghost use Rattle.cap_effect.specs.Keys.{cells_of};
+ghost use Rattle.cap_effect.specs.Tests.{passes};
+ghost use Rattle.cap_effect.specs.Values.{read, reads_within};
+ghost use Rattle.cap_effect.specs.Asks.{holds, certain_at, possible_at, pulled_holds, pulled_within, PulledIsOpen};
+
+use crate::key::{Key, cell_of_mode};
+use crate::test::Test;
+use crate::value::Value;
+use cap_machine::Mode;
+use cap_trace::Pid;
+
+/// A test of one cell before a segment.
+#[derive(Clone, Copy, Debug, PartialEq, Eq)]
+pub struct Ask {
+    /// The process.
+    pub pid: Pid,
+    /// The key of the cell.
+    pub key: Key,
+    /// The test.
+    pub test: Test,
+}
+
+/// What becomes of an ask where it is pulled back to an earlier state.
+#[derive(Clone, Copy, Debug, PartialEq, Eq)]
+pub enum Pulled {
+    /// It holds whatever the state.
+    Always,
+    /// It holds in no state.
+    Never,
+    /// It holds where this does.
+    Where(Ask),
+}
+
+impl Ask {
+    /// Whether it holds in every state.
+    fn is_certain(&self) -> bool
+        ensures { result ≡ certain_at self.now.key self.now.test }
+    {
+        match &self.key {
+            Key::Mode => {
+                self.test.passes(cell_of_mode(Mode::Unsure))
+                    && self.test.passes(cell_of_mode(Mode::Inside))
+                    && self.test.passes(cell_of_mode(Mode::Outside))
+            }
+            Key::Fd(_) => self.test.kinds.is_full(),
+        }
+    }
+
+    /// Whether it holds in some state.
+    fn is_possible(&self) -> bool
+        ensures { result ≡ possible_at self.now.key self.now.test }
+    {
+        match &self.key {
+            Key::Mode => {
+                self.test.passes(cell_of_mode(Mode::Unsure))
+                    || self.test.passes(cell_of_mode(Mode::Inside))
+                    || self.test.passes(cell_of_mode(Mode::Outside))
+            }
+            Key::Fd(_) => self.test.can_pass(),
+        }
+    }
+
+    /// This ask, or that it holds in every state or in none.
+
+    pub fn settled(self) -> Pulled
+        ensures holds { (s : State) → pulled_holds (cells_of s) result ≡ holds (cells_of s) self }
+        ensures open { PulledIsOpen result }
+        ensures names { (names : ℕ → Key → Bool) → names self.pid self.key ≡ true → pulled_within names result ≡ true }
+    {
+        if self.is_certain() {
+            return Pulled::Always;
+        }
+        if self.is_possible() {
+            Pulled::Where(self)
+        } else {
+            Pulled::Never
+        }
+    }
+
+    /// What it asks of the state before an earlier segment, where its cell has this value after that segment.
+    pub fn pulled_back(&self, value: &Value) -> Pulled
+        ensures holds { (s : State)
+            → pulled_holds (cells_of s) result ≡ passes self.now.test (read (cells_of s) value.now) }
+        ensures open { PulledIsOpen result }
+        ensures names { (names : ℕ → Key → Bool)
+            → reads_within names value.now ≡ true → pulled_within names result ≡ true }
+    {
+        let ask = match value {
+            Value::Is(cell) => return Pulled::of(self.test.passes(*cell)),
+            Value::Same(pid, key) => Ask {
+                pid: *pid,
+                key: *key,
+                test: self.test,
+            },
+            Value::Of(derived) => Ask {
+                pid: derived.pid,
+                key: derived.key,
+                test: self.test.before(&derived.op),
+            },
+        };
+        ask.settled()
+    }
+}
+
+impl Pulled {
+    fn of(holds: bool) -> Pulled
+        ensures holds { (s : State) → pulled_holds (cells_of s) result ≡ holds }
+        ensures open { PulledIsOpen result }
+        ensures names { (names : ℕ → Key → Bool) → pulled_within names result ≡ true }
+    {
+        if holds {
+            Pulled::Always
+        } else {
+            Pulled::Never
+        }
+    }
+}
