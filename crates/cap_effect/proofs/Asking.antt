@@ -1,5 +1,5 @@
 -- Asks that hold in every state, in none, or in some.
-use Rattle.std.proofs.Common.{◌≡◌, ℕ, Bool, true, false, ◌&&◌, ◌||◌, ◌⊎◌, inl, inr, refl, sym, ap, ◌∙◌, bit_and, eqb}
+use Rattle.std.proofs.Common.{◌≡◌, ℕ, true, false, inl, inr, refl, ap, bit_and}
 use Rattle.std.specs.Prelude.{not}
 use Rattle.std.specs.Int.Bits.{and_self}
 use Rattle.std.proofs.lemmas.Bool.{eq-eqb}

@@ -1,5 +1,5 @@
 -- Laws of Booleans.
-use Rattle.std.proofs.Common.{◌≡◌, Bool, true, false, ◌&&◌, ◌||◌, ◌⊎◌, inl, inr, refl, sym, ap, ◌∙◌}
+use Rattle.std.proofs.Common.{◌≡◌, Bool, true, false, ◌&&◌, ◌||◌, ◌⊎◌, inl, inr, refl, sym, ◌∙◌}
 use Rattle.std.specs.Prelude.{not}
 
 pub not_and : (x y : Bool) → not (x && y) ≡ (not x || not y)
@@ -48,3 +48,11 @@ or_one false b is = inr is
 pub and_with_false : (a : Bool) → (a && false) ≡ false
 and_with_false true = refl
 and_with_false false = refl
+
+pub or_assoc : (x y z : Bool) → ((x || y) || z) ≡ (x || (y || z))
+or_assoc true y z = refl
+or_assoc false y z = refl
+
+pub or_swapped : (a b c : Bool) → (b || (a || c)) ≡ (a || (b || c))
+or_swapped true b c = or_true b
+or_swapped false b c = refl

@@ -1,10 +1,11 @@
 -- What is asked of the cells before a segment.
-use Rattle.std.specs.Prelude.{◌≡◌, ℕ, ◌&&◌, ◌||◌, Bool, true, false, List}
-use Rattle.std.specs.List.{list_any}
+use Rattle.std.specs.Prelude.{◌≡◌, ℕ, ◌+◌, ◌*◌, ◌^◌, ◌<◌, ◌≤◌, ◌&&◌, ◌||◌, Bool, true, false, List, [], ◌∷◌, length}
+use Rattle.std.specs.List.{list_any, All}
 use Rattle.cap_machine.specs.declared.cell.Mode.TheVariants.{Inside, Outside, Unsure}
 use Rattle.cap_machine.specs.State.{State}
 use Rattle.cap_effect.specs.declared.key.Key.{Key}
 use Rattle.cap_effect.specs.declared.key.Key.TheVariants as key
+use Rattle.cap_effect.specs.declared.test.Flags.{Flags}
 use Rattle.cap_effect.specs.declared.test.Test.{Test}
 use Rattle.cap_effect.specs.declared.ask.Ask.{Ask}
 use Rattle.cap_effect.specs.declared.ask.Pulled.{Pulled}
@@ -57,3 +58,61 @@ abbrev pub pulled_within : (ℕ → Key → Bool) → Pulled → Bool
 pulled_within names Always = true
 pulled_within names Never = true
 pulled_within names (Where ask) = names ask.pid ask.key
+
+-- ---- order: by process, then by key, then by the flags at which rights are asked about
+abbrev pub key_number : Key → ℕ
+key_number key.Mode = 0
+key_number (key.Fd f) = f + 1
+
+abbrev pub digit : Bool → ℕ
+digit true = 1
+digit false = 0
+
+abbrev pub form_number : Flags → ℕ
+form_number flags = 4 * digit flags.set + (2 * digit flags.clear + digit flags.unsure)
+
+abbrev pub place_in_process : Ask → ℕ
+place_in_process ask = 8 * key_number ask.key + form_number ask.test.lacking
+
+abbrev pub place : Ask → ℕ
+place ask = ask.pid * 2 ^ 36 + place_in_process ask
+
+-- two asks stand at one place
+pub record IsAtPlace (ask other : Ask) : Type 0 where
+  pub pid : ask.pid ≡ other.pid
+  pub key : ask.key ≡ other.key
+  pub lacking : ask.test.lacking ≡ other.test.lacking
+
+-- the places strictly rise, and none is below the bound
+abbrev pub RisesFrom : ℕ → List Ask → Type 0
+RisesFrom bound [] = Unit {0}
+RisesFrom bound (ask ∷ asks) = (bound ≤ place ask) × RisesFrom (place ask + 1) asks
+
+-- the places strictly rise, so no two asks stand at one place
+abbrev pub Rises : List Ask → Type 0
+Rises asks = RisesFrom 0 asks
+
+-- the cell that an ask is about is among these
+abbrev pub AskWithin : (ℕ → Key → Bool) → Ask → Type 0
+AskWithin names ask = names ask.pid ask.key ≡ true
+
+abbrev pub AreWithin : (ℕ → Key → Bool) → List Ask → Type 0
+AreWithin names asks = All (AskWithin names) asks
+
+-- a list of asks that holds where one of two others does
+pub record IsUnionOf (lefts rights asks : List Ask) : Type 0 where
+  pub rises : Rises asks
+  pub holds : (cells : Cells) → any_holds cells asks ≡ (any_holds cells lefts || any_holds cells rights)
+  pub few : length asks ≤ length lefts + length rights
+  pub names : (names : ℕ → Key → Bool) → AreWithin names lefts → AreWithin names rights → AreWithin names asks
+
+-- the first ask of two lists, which holds where those at its place do, and what is left of both
+pub record IsFirst (lefts rights : List Ask) (ask : Ask) (left right : List Ask) : Type 0 where
+  pub holds : (cells : Cells) → (holds cells ask || (any_holds cells left || any_holds cells right))
+      ≡ (any_holds cells lefts || any_holds cells rights)
+  pub first : (bound : ℕ) → RisesFrom bound lefts → RisesFrom bound rights → bound ≤ place ask
+  pub left_rises : RisesFrom (place ask + 1) left
+  pub right_rises : RisesFrom (place ask + 1) right
+  pub fewer : length left + length right < length lefts + length rights
+  pub names : (names : ℕ → Key → Bool) → AreWithin names lefts → AreWithin names rights → AreWithin names (ask ∷ left)
+      × AreWithin names right

@@ -1,5 +1,5 @@
 -- What a cell is after a segment, read under the cells before it.
-use Rattle.std.specs.Prelude.{ℕ, ◌==◌, Bool, true, Option, Some, None}
+use Rattle.std.specs.Prelude.{ℕ, Bool, true, Option, Some, None}
 use Rattle.std.specs.Option.{option_map_or}
 use Rattle.cap_machine.specs.declared.cell.Cell.{Cell}
 use Rattle.cap_machine.specs.Op.{applied}

@@ -1,18 +1,20 @@
 //! What is asked of the cells before a segment.
 
-ghost use Rattle.std.specs.Prelude.{◌≡◌, ℕ, Bool, true};
+ghost use Rattle.std.specs.Prelude.{◌≡◌, ℕ, ◌<◌, ◌^◌, ◌||◌, Bool, true};
+ghost use Rattle.std.specs.Ordering.{nat_cmp};
 ghost use Rattle.cap_machine.specs.State.{State};
 ghost use Rattle.cap_effect.specs.declared.key.Key.{Key};
-ghost use Rattle.cap_effect.specs.Keys.{cells_of};
+ghost use Rattle.cap_effect.specs.Keys.{Cells, cells_of};
 ghost use Rattle.cap_effect.specs.Tests.{passes};
 ghost use Rattle.cap_effect.specs.Values.{read, reads_within};
-ghost use Rattle.cap_effect.specs.Asks.{holds, certain_at, possible_at, pulled_holds, pulled_within, PulledIsOpen};
+ghost use Rattle.cap_effect.specs.Asks.{holds, certain_at, possible_at, pulled_holds, pulled_within, PulledIsOpen, place, place_in_process, IsAtPlace};
 
 use crate::key::{Key, cell_of_mode};
 use crate::test::Test;
 use crate::value::Value;
 use cap_machine::Mode;
 use cap_trace::Pid;
+use std::cmp::Ordering;
 
 /// A test of one cell before a segment.
 #[derive(Clone, Copy, Debug, PartialEq, Eq)]
@@ -37,6 +39,41 @@ pub enum Pulled {
 }
 
 impl Ask {
+    /// The order of asks: by process, key, and the flags at which they ask about rights.
+    pub(crate) fn order(&self, other: &Ask) -> Ordering
+        ensures places { result ≡ nat_cmp (place self.now) (place other.now) }
+        ensures equal { result ≡ Ordering.Equal → IsAtPlace self.now other.now }
+    {
+        let own = self.place_in_process();
+        let theirs = other.place_in_process();
+        match self.pid.cmp(&other.pid) {
+            Ordering::Equal => own.cmp(&theirs),
+            order => order,
+        }
+    }
+
+    fn place_in_process(&self) -> u64
+        ensures place { result ≡ place_in_process self.now }
+        ensures fits { result < 2 ^ 36 }
+    {
+        8 * self.key.number() + self.test.lacking.number()
+    }
+
+    /// This ask or another at the same place.
+    pub(crate) fn or(&self, other: &Ask) -> Ask
+        requires { IsAtPlace self.now other.now }
+        ensures holds { (cells : Cells) → holds cells result ≡ (holds cells self.now || holds cells other.now) }
+        ensures place { place result ≡ place self.now }
+        ensures names { (names : ℕ → Key → Bool) → names self.now.pid self.now.key ≡ true
+            → names result.pid result.key ≡ true }
+    {
+        Ask {
+            pid: self.pid,
+            key: self.key,
+            test: self.test.or(&other.test),
+        }
+    }
+
     /// Whether it holds in every state.
     fn is_certain(&self) -> bool
         ensures { result ≡ certain_at self.now.key self.now.test }
@@ -113,10 +150,6 @@ impl Pulled {
         ensures open { PulledIsOpen result }
         ensures names { (names : ℕ → Key → Bool) → pulled_within names result ≡ true }
     {
-        if holds {
-            Pulled::Always
-        } else {
-            Pulled::Never
-        }
+        if holds { Pulled::Always } else { Pulled::Never }
     }
 }

@@ -1,7 +1,8 @@
 //! Keys: what is known of a process, descriptor by descriptor, and its mode.
 
-ghost use Rattle.std.specs.Prelude.{◌≡◌};
+ghost use Rattle.std.specs.Prelude.{◌≡◌, ◌<◌, ◌^◌};
 ghost use Rattle.cap_effect.specs.Keys.{mode_cell, cell_mode};
+ghost use Rattle.cap_effect.specs.Asks.{key_number};
 
 use cap_machine::{Cell, Mode, OnExec};
 use cap_rights::RightSet;
@@ -37,5 +38,18 @@ pub fn mode_of_cell(cell: Cell) -> Mode
         Cell::Unknown => Mode::Unsure,
         Cell::Closed => Mode::Inside,
         Cell::Held(..) => Mode::Outside,
+    }
+}
+
+impl Key {
+    /// Where it stands in the order of keys: the mode first, and then the descriptors.
+    pub(crate) fn number(&self) -> u64
+        ensures number { result ≡ key_number self.now }
+        ensures fits { result < 2 ^ 33 }
+    {
+        match self {
+            Key::Mode => 0,
+            Key::Fd(fd) => *fd as u64 + 1,
+        }
     }
 }

@@ -2,6 +2,7 @@
 #![tactic(auto)]
 
 mod ask;
+mod asks;
 mod key;
 mod test;
 mod value;

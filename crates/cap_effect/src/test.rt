@@ -1,9 +1,10 @@
 //! Tests of one cell.
 
-ghost use Rattle.std.specs.Prelude.{◌≡◌, ℕ, ◌||◌, true, false};
+ghost use Rattle.std.specs.Prelude.{◌≡◌, ℕ, ◌<◌, ◌||◌, true, false};
 ghost use Rattle.cap_machine.specs.declared.cell.OnExec.{OnExec};
 ghost use Rattle.cap_machine.specs.declared.cell.Cell.{Cell};
 ghost use Rattle.cap_machine.specs.Op.{applied, held};
+ghost use Rattle.cap_effect.specs.Asks.{form_number};
 ghost use Rattle.cap_effect.specs.Tests.{has_flag, any_flag, has_kind, any_kind, is_full, passes, can_pass, held_passes};
 
 use cap_machine::{Cell, HeldOp, OnExec, Op};
@@ -62,6 +63,14 @@ impl Flags {
         ensures { result ≡ any_flag self.now }
     {
         self.set || self.clear || self.unsure
+    }
+
+    /// Where they stand in the order of sets of flags.
+    pub(crate) fn number(&self) -> u64
+        ensures number { result ≡ form_number self.now }
+        ensures fits { result < 8 }
+    {
+        4 * self.set as u64 + 2 * self.clear as u64 + self.unsure as u64
     }
 
     fn join(&self, other: &Flags) -> Flags
