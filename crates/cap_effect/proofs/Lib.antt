@@ -3,3 +3,5 @@ pub mod Passing
 pub mod Asking
 pub mod Places
 pub mod Uniting
+pub mod SortedFound
+pub mod SortedMerging

@@ -2,3 +2,6 @@ pub mod Keys
 pub mod Values
 pub mod Tests
 pub mod Asks
+pub mod Place
+pub mod Shared
+pub mod Sorted

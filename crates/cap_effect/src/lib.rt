@@ -4,10 +4,12 @@
 mod ask;
 mod asks;
 mod key;
+mod sorted;
 mod test;
 mod value;
 
 pub use ask::{Ask, Pulled};
 pub use key::{Key, cell_of_mode, mode_of_cell};
+pub use sorted::Table;
 pub use test::{Flags, Kinds, Test};
 pub use value::{Derived, Value};

@@ -1,0 +1,21 @@
+-- A table as the list of its entries, each a key and a value.
+use Rattle.std.specs.Prelude.{ℕ, ◌+◌, ◌≤◌, ◌==◌, List, [], ◌∷◌, Option, Some, None, if◌then◌else◌}
+
+-- the value of the first entry that has the key
+abbrev pub found : {V : Type 0} → List (ℕ × V) → ℕ → Option V
+found [] key = None
+found ((k, v) ∷ rest) key = if k == key then Some v else found rest key
+
+-- the keys strictly rise, and none is below the bound
+abbrev pub RisesFrom : {V : Type 0} → ℕ → List (ℕ × V) → Type 0
+RisesFrom bound [] = Unit {0}
+RisesFrom bound ((k, v) ∷ rest) = (bound ≤ k) × RisesFrom (k + 1) rest
+
+-- the keys strictly rise, so no key comes twice
+abbrev pub Rises : {V : Type 0} → List (ℕ × V) → Type 0
+Rises entries = RisesFrom 0 entries
+
+-- the entries of a table, which has none where there is no list
+abbrev pub entries_of : {V : Type 0} → Option (List (ℕ × V)) → List (ℕ × V)
+entries_of None = []
+entries_of (Some entries) = entries
