@@ -1,5 +1,5 @@
 pub mod Bools
-pub mod Passing
+pub mod TestPassing
 pub mod Asking
 pub mod Places
 pub mod Uniting

@@ -5,3 +5,4 @@ pub mod Asks
 pub mod Place
 pub mod Shared
 pub mod Sorted
+pub mod Effects

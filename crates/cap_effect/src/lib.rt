@@ -2,6 +2,8 @@
 #![tactic(auto)]
 
 mod ask;
+mod base;
+mod effect;
 mod asks;
 mod key;
 mod sorted;
@@ -9,6 +11,8 @@ mod test;
 mod value;
 
 pub use ask::{Ask, Pulled};
+pub use base::{Base, Others, Passing};
+pub use effect::{Effect, Row};
 pub use key::{Key, cell_of_mode, mode_of_cell};
 pub use sorted::Table;
 pub use test::{Flags, Kinds, Test};

@@ -1,4 +1,4 @@
-use Rattle.cap_effect.proofs.Passing.{kept_within, kept_beyond}
+use Rattle.cap_effect.proofs.TestPassing.{kept_within, kept_beyond}
 use Rattle.cap_effect.proofs.test.Test.before_held.Goals as goal
 
 pub returns-then-has_all : goal.returns-then-has_all

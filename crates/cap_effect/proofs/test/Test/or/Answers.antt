@@ -1,4 +1,4 @@
-use Rattle.cap_effect.proofs.Passing.{passes_either}
+use Rattle.cap_effect.proofs.TestPassing.{passes_either}
 use Rattle.cap_effect.proofs.test.Test.or.Goals as goal
 use Rattle.std.proofs.Common.{refl}
 

@@ -1,0 +1,63 @@
+-- What becomes of each cell over a segment, whatever the cells before it: the transfer function of the segment.
+use Rattle.std.specs.Prelude.{◌≡◌, ℕ, ◌||◌, Bool, true, false, Option, Some, None, nat_le, if◌then◌else◌, option_map}
+use Rattle.std.specs.Option.{option_map_or, option_or}
+use Rattle.cap_machine.specs.declared.cell.Cell.{Cell}
+use Rattle.cap_machine.specs.declared.cell.Cell.TheVariants.{Unknown, Closed}
+use Rattle.cap_machine.specs.Op.{applied, exec}
+use Rattle.cap_effect.specs.declared.key.Key.{Key}
+use Rattle.cap_effect.specs.declared.key.Key.TheVariants as key
+use Rattle.cap_effect.specs.declared.value.Value.{Value}
+use Rattle.cap_effect.specs.declared.base.Passing.{Passing}
+use Rattle.cap_effect.specs.declared.base.Passing.TheVariants as passing
+use Rattle.cap_effect.specs.declared.base.Others.{Others}
+use Rattle.cap_effect.specs.declared.base.Others.TheVariants as others
+use Rattle.cap_effect.specs.declared.base.Base.{Base}
+use Rattle.cap_effect.specs.declared.effect.Row.{Row}
+use Rattle.cap_effect.specs.declared.effect.Effect.{Effect}
+use Rattle.cap_effect.specs.Keys.{Cells}
+use Rattle.cap_effect.specs.Values.{read}
+use Rattle.cap_effect.specs.Sorted.{found}
+
+-- how a whole table of cells is handed on: as it is (fork(2)), or by an exec (execve(2))
+abbrev pub passed : Passing → Cell → Cell
+passed passing.Same c = c
+passed passing.Exec c = applied exec c
+
+-- a descriptor at or above the one from which cells are closed, where there is one
+abbrev pub is_from : Option ℕ → ℕ → Bool
+is_from None f = false
+is_from (Some n) f = nat_le n f
+
+-- the cell of a descriptor that isn't listed
+abbrev pub others_cell : Cells → Others → ℕ → Cell
+others_cell cells others.Unknown f = Unknown
+others_cell cells others.Closed f = Closed
+others_cell cells (others.Of q passing) f = passed passing (cells q (key.Fd f))
+
+abbrev pub base_cell : Cells → Base → ℕ → Cell
+base_cell cells base f = if is_from base.closed_from f then Closed else others_cell cells base.others f
+
+-- the cell of a key of a process that has this row
+abbrev pub row_cell : Cells → Row → Key → Cell
+row_cell cells row key.Mode = read cells row.mode
+row_cell cells row (key.Fd f) = option_map_or (read cells) (found row.cells f) (base_cell cells row.base f)
+
+-- the cells after the segment; a process without a row keeps its own
+abbrev pub changed : Effect → Cells → Cells
+changed effect cells p k = option_map_or (λ row. row_cell cells row k) (found effect.rows p) (cells p k)
+
+-- the process whose cells are handed on so
+abbrev pub passing_of : Base → Passing
+passing_of base = handed base.others
+  where
+    handed : Others → Passing
+    handed others.Unknown = passing.Same
+    handed others.Closed = passing.Same
+    handed (others.Of q passing) = passing
+
+-- what is listed for a descriptor after two segments: what the second one lists, by the cells before the first, or else
+-- what the first one lists, handed on
+abbrev pub IsHanded : Effect → Passing → Option ℕ → ℕ → Option Value → Option Value → Option Value → Type 0
+IsHanded first passing closed_from f listed handed new = (cells : Cells) → option_map (read cells) new
+    ≡ option_or (option_map (read (changed first cells)) listed)
+        (if is_from closed_from f then None else option_map (λ v. passed passing (read cells v)) handed)
