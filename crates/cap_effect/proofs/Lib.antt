@@ -5,3 +5,4 @@ pub mod Places
 pub mod Uniting
 pub mod SortedFound
 pub mod SortedMerging
+pub mod RowsComposed

@@ -1,5 +1,5 @@
 -- What becomes of each cell over a segment, whatever the cells before it: the transfer function of the segment.
-use Rattle.std.specs.Prelude.{◌≡◌, ℕ, ◌||◌, Bool, true, false, Option, Some, None, nat_le, if◌then◌else◌, option_map}
+use Rattle.std.specs.Prelude.{◌≡◌, ℕ, ◌||◌, Bool, true, false, Option, Some, None, nat_le, if◌then◌else◌, option_map, option_and_then}
 use Rattle.std.specs.Option.{option_map_or, option_or}
 use Rattle.cap_machine.specs.declared.cell.Cell.{Cell}
 use Rattle.cap_machine.specs.declared.cell.Cell.TheVariants.{Unknown, Closed}
@@ -46,18 +46,30 @@ row_cell cells row (key.Fd f) = option_map_or (read cells) (found row.cells f) (
 abbrev pub changed : Effect → Cells → Cells
 changed effect cells p k = option_map_or (λ row. row_cell cells row k) (found effect.rows p) (cells p k)
 
--- the process whose cells are handed on so
-abbrev pub passing_of : Base → Passing
-passing_of base = handed base.others
-  where
-    handed : Others → Passing
-    handed others.Unknown = passing.Same
-    handed others.Closed = passing.Same
-    handed (others.Of q passing) = passing
+-- a cell where it is handed on, below the descriptor from which cells are closed
+abbrev pub handed_on : Passing → Option ℕ → ℕ → Cell → Option Cell
+handed_on passing closed_from f c = if is_from closed_from f then None else Some (passed passing c)
 
 -- what is listed for a descriptor after two segments: what the second one lists, by the cells before the first, or else
 -- what the first one lists, handed on
 abbrev pub IsHanded : Effect → Passing → Option ℕ → ℕ → Option Value → Option Value → Option Value → Type 0
 IsHanded first passing closed_from f listed handed new = (cells : Cells) → option_map (read cells) new
     ≡ option_or (option_map (read (changed first cells)) listed)
-        (if is_from closed_from f then None else option_map (λ v. passed passing (read cells v)) handed)
+    (option_and_then (handed_on passing closed_from f) (option_map (read cells) handed))
+
+-- a row after two segments, of a process that the second one gives this row
+abbrev pub IsRowAfter : Effect → Row → Row → Type 0
+IsRowAfter first row new = (cells : Cells) (k : Key) → row_cell cells new k ≡ row_cell (changed first cells) row k
+
+-- a row that may be there: without one a process keeps its cells
+abbrev pub cell_in : Cells → Option Row → ℕ → Key → Cell
+cell_in cells row p k = option_map_or (λ row. row_cell cells row k) row (cells p k)
+
+abbrev pub IsComposedAt : Effect → ℕ → Option Row → Option Row → Type 0
+IsComposedAt first p later new = (cells : Cells) (k : Key)
+    → cell_in cells new p k ≡ cell_in (changed first cells) later p k
+
+-- the cells after two segments
+abbrev pub IsComposed : Effect → Effect → Effect → Type 0
+IsComposed first later both = (cells : Cells) (p : ℕ) (k : Key)
+    → changed both cells p k ≡ changed later (changed first cells) p k

@@ -2,9 +2,10 @@
 #![tactic(auto)]
 
 mod ask;
-mod base;
-mod effect;
 mod asks;
+mod base;
+mod composed;
+mod effect;
 mod key;
 mod sorted;
 mod test;

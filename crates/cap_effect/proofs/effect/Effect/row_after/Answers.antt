@@ -1,0 +1,16 @@
+use Rattle.cap_effect.specs.declared.effect.Row.{Row}
+use Rattle.cap_effect.proofs.RowsComposed.{composed_cell, composed_row}
+use Rattle.cap_effect.proofs.effect.Effect.row_after.Goals as goal
+
+pub returns : goal.returns
+returns c =
+    let handed = c.handed-handed.ensures in
+    let new : Row = record {
+      base = c.handed-handed.result.base;
+      mode = c.in_ok-value_after.field-0;
+      cells = c.in_ok-cells.cells;
+    } in
+    composed_row c.args.self.now c.args.row.now new c.in_ok-value_after.ensures
+    (λ cells f. composed_cell c.args.self.now c.args.row.now.base c.handed-handed.result.base
+    c.handed-handed.result.passing c.args.row.now.cells c.handed-handed.result.cells.now c.in_ok-cells.cells cells f
+    (rw c.entries.ensures.all at (c.in_ok-cells.ensures.each f)) (handed.closed cells f) (handed.«open» cells f))
