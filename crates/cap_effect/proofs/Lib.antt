@@ -5,4 +5,8 @@ pub mod Places
 pub mod Uniting
 pub mod SortedFound
 pub mod SortedMerging
+pub mod SortedSetting
 pub mod RowsComposed
+pub mod LineCells
+pub mod LineAsking
+pub mod Meeting

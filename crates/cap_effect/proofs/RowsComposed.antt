@@ -1,5 +1,5 @@
 -- The cells of a process after two segments.
-use Rattle.std.proofs.Common.{◌≡◌, ℕ, Bool, true, false, Option, Some, None, option_map, refl, sym, ◌∙◌, List}
+use Rattle.std.proofs.Common.{◌≡◌, ℕ, Bool, true, false, Option, Some, None, option_map, refl, ◌∙◌, List}
 use Rattle.std.specs.Prelude.{unwrap_or, option_and_then}
 use Rattle.std.specs.Option.{option_map_or, option_or}
 use Rattle.cap_machine.specs.declared.cell.Cell.{Cell}

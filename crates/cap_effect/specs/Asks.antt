@@ -48,6 +48,11 @@ pulled_holds cells Always = true
 pulled_holds cells Never = false
 pulled_holds cells (Where ask) = holds cells ask
 
+abbrev pub is_always : Pulled → Bool
+is_always Always = true
+is_always Never = false
+is_always (Where ask) = false
+
 abbrev pub PulledIsOpen : Pulled → Type 0
 PulledIsOpen Always = Unit {0}
 PulledIsOpen Never = Unit {0}

@@ -6,3 +6,6 @@ pub mod Place
 pub mod Shared
 pub mod Sorted
 pub mod Effects
+pub mod Lines
+pub mod LineAsks
+pub mod Preconditions

@@ -1,18 +1,21 @@
 //! Sorted tables.
 
-ghost use Rattle.std.specs.Prelude.{◌≡◌, [], length, IfOk};
+ghost use Rattle.std.specs.Prelude.{◌≡◌, ℕ, ◌==◌, if◌then◌else◌, [], ◌∷◌, length, IfOk, Some, None};
 ghost use Rattle.std.specs.Option.{option_copied};
 ghost use Rattle.cap_effect.specs.Sorted.{found, Rises};
 
 use cap_rights::NoMemory;
 use place::place_of;
-use std::alloc::AllocError;
+use std::alloc::{AllocError, Global};
+use std::cmp::Ordering;
 use std::marker::Model;
 use std::rc::RcSlice;
 
+mod builder;
 mod merging;
 mod place;
 
+pub(crate) use builder::Builder;
 pub(crate) use merging::{Combine, merge};
 
 /// A table of values by key. A contract sees the list of its entries, each a key and a value, whose keys strictly rise.
@@ -88,6 +91,35 @@ impl<V> Table<V> {
 }
 
 impl<V: Drop> Table<V> {
+    /// The table of one entry.
+    pub fn one(alloc: Global, key: u32, value: V) -> Result<Table<V>, NoMemory>
+        ensures { IfOk result (λ t. t ≡ (key, value) ∷ []) }
+    {
+        let mut entries = Vec::with_capacity(alloc, 1)?;
+        entries.push((key, value))?;
+        Table::from_sorted(entries)
+    }
+
+    /// The table of two entries. If they have the same key, the second one stands there.
+    pub fn two(alloc: Global, first: (u32, V), second: (u32, V)) -> Result<Table<V>, NoMemory>
+        ensures { IfOk result (λ t. (k : ℕ) → found t k
+            ≡ (if k == second.0 then Some second.1 else (if k == first.0 then Some first.1 else None))) }
+    {
+        let mut entries = Vec::with_capacity(alloc, 2)?;
+        match first.0.cmp(&second.0) {
+            Ordering::Less => {
+                entries.push(first)?;
+                entries.push(second)?;
+            }
+            Ordering::Equal => entries.push(second)?,
+            Ordering::Greater => {
+                entries.push(second)?;
+                entries.push(first)?;
+            }
+        }
+        Table::from_sorted(entries)
+    }
+
     /// The table of these entries, whose keys must strictly rise. It has no spare room.
     pub fn from_sorted(entries: Vec<(u32, V)>) -> Result<Table<V>, NoMemory>
         requires { Rises entries.items }

@@ -47,6 +47,17 @@ enum HeldTest {
 }
 
 impl Flags {
+    /// All of them, or none.
+    pub(crate) fn all(are_there: bool) -> Flags
+        ensures { (flag : OnExec) → has_flag result flag ≡ are_there }
+    {
+        Flags {
+            set: are_there,
+            clear: are_there,
+            unsure: are_there,
+        }
+    }
+
     /// Whether a flag is among them.
     pub fn has(&self, flag: OnExec) -> bool
         ensures { result ≡ has_flag self.now flag }

@@ -1,0 +1,24 @@
+use Rattle.std.proofs.Common.{refl, sym}
+use Rattle.cap_effect.specs.Keys.{cells_of}
+use Rattle.cap_effect.specs.Effects.{changed}
+use Rattle.cap_effect.specs.LineAsks.{part_holds}
+use Rattle.cap_effect.proofs.Bools.{or_true}
+use Rattle.cap_effect.proofs.precondition.pulled_three.Goals as goal
+
+pub returns-then-is_always : goal.returns-then-is_always
+returns-then-is_always c = λ s.
+    rw (← c.in_ok-mode.ensures s, c.is_always.ensures.always c.if-is_always.true (cells_of s)) refl
+
+pub returns-then-is_always-2 : goal.returns-then-is_always-2
+returns-then-is_always-2 c = λ s.
+    rw (← c.in_ok-one.ensures s, c.is_always-2.ensures.always c.if-is_always-2.true (cells_of s))
+    (sym (or_true (part_holds (changed c.args.first.now (cells_of s)) c.args.asks.now.mode)))
+
+pub returns-then-is_always-3 : goal.returns-then-is_always-3
+returns-then-is_always-3 c = λ s.
+    rw (
+      ← c.in_ok-other.ensures s,
+      c.is_always-3.ensures.always c.if-is_always-3.true (cells_of s),
+      or_true (part_holds (changed c.args.first.now (cells_of s)) c.args.asks.now.first),
+    )
+    (sym (or_true (part_holds (changed c.args.first.now (cells_of s)) c.args.asks.now.mode)))

@@ -1,0 +1,183 @@
+//! Under which states before a segment something is found in it.
+
+ghost use Rattle.std.specs.Prelude.{◌≡◌, ◌||◌, not, false, true, IfOk, OnOk};
+ghost use Rattle.cap_machine.specs.State.{State};
+ghost use Rattle.cap_effect.specs.Keys.{Cells, cells_of};
+ghost use Rattle.cap_effect.specs.Asks.{pulled_holds, is_always};
+ghost use Rattle.cap_effect.specs.LineAsks.{part_holds, one_holds, asked_holds};
+ghost use Rattle.cap_effect.specs.Effects.{changed};
+ghost use Rattle.cap_effect.specs.Preconditions.{is_met, is_wrongful, three_hold, IsMetOr};
+
+use crate::ask::{Ask, Pulled};
+use crate::effect::Effect;
+use crate::line_asks::{LineAsks, UpToThree};
+use cap_rights::NoMemory;
+use std::alloc::Global;
+
+/// A refusal for lack of rights (errno 93). It is wrongful unless one of these asks holds.
+#[derive(Clone, Copy, Debug, PartialEq, Eq)]
+pub struct Refusal {
+    pub unless: UpToThree,
+}
+
+/// Under which states before a segment something is found in it: in every one, or where an ask holds or a refusal is
+/// wrongful.
+#[derive(Drop)]
+pub struct Precondition {
+    /// Something is found whatever the state.
+    pub certain: bool,
+    /// What is asked.
+    pub asks: Vec<Ask>,
+    /// The refusals.
+    pub refusals: Vec<Refusal>,
+}
+
+impl Pulled {
+    fn is_always(&self) -> bool
+        ensures always { result ≡ true → (cells : Cells) → pulled_holds cells self.now ≡ true }
+        ensures other { result ≡ false → is_always self.now ≡ false }
+    {
+        match self {
+            Pulled::Always => true,
+            _ => false,
+        }
+    }
+
+    /// The ask that is left, if one is.
+    fn ask(&self) -> Option<Ask>
+        requires { is_always self.now ≡ false }
+        ensures { (cells : Cells) → part_holds cells result ≡ pulled_holds cells self.now }
+    {
+        match self {
+            Pulled::Where(ask) => Some(*ask),
+            _ => None,
+        }
+    }
+}
+
+/// What an ask that may be left out asks before an earlier segment.
+fn pulled_part(alloc: Global, first: &Effect, ask: &Option<Ask>) -> Result<Pulled, NoMemory>
+    ensures { IfOk result (λ pulled. (s : State) → pulled_holds (cells_of s) pulled
+        ≡ part_holds (changed first.now (cells_of s)) ask.now) }
+{
+    match ask {
+        None => Ok(Pulled::Never),
+        Some(ask) => {
+            let value = first.read(alloc, ask.pid, ask.key)?;
+            Ok(ask.pulled_back(&value))
+        }
+    }
+}
+
+/// What up to three asks ask before an earlier segment: `None` where one of them holds in every state.
+fn pulled_three(
+    alloc: Global,
+    first: &Effect,
+    asks: &UpToThree,
+) -> Result<Option<UpToThree>, NoMemory>
+    ensures { IfOk result (λ pulled. (s : State)
+        → three_hold (cells_of s) pulled ≡ one_holds (changed first.now (cells_of s)) asks.now) }
+{
+    let mode = pulled_part(alloc, first, &asks.mode)?;
+    let one = pulled_part(alloc, first, &asks.first)?;
+    let other = pulled_part(alloc, first, &asks.second)?;
+    if mode.is_always() {
+        return Ok(None);
+    }
+    if one.is_always() {
+        return Ok(None);
+    }
+    if other.is_always() {
+        return Ok(None);
+    }
+    Ok(Some(UpToThree {
+        mode: mode.ask(),
+        first: one.ask(),
+        second: other.ask(),
+    }))
+}
+
+impl Precondition {
+    /// Nothing is found in any state.
+    pub fn never(alloc: Global) -> Precondition
+        ensures { (s : State) → is_met (cells_of s) result ≡ false }
+    {
+        Precondition {
+            certain: false,
+            asks: Vec::new(alloc),
+            refusals: Vec::new(alloc),
+        }
+    }
+
+    /// Something is also found where an ask that was pulled back holds.
+    fn put(&mut self, pulled: Pulled) -> Result<(), NoMemory>
+        ensures { OnOk result (IsMetOr self.old self.new (λ cells. pulled_holds cells pulled)) }
+    {
+        match pulled {
+            Pulled::Always => self.certain = true,
+            Pulled::Never => {}
+            Pulled::Where(ask) => self.asks.push(ask)?,
+        }
+        Ok(())
+    }
+
+    /// Something is also found where an ask holds after an earlier segment.
+    fn put_after(
+        &mut self,
+        alloc: Global,
+        first: &Effect,
+        ask: &Option<Ask>,
+    ) -> Result<(), NoMemory>
+        ensures { OnOk result (IsMetOr self.old self.new
+            (λ cells. part_holds (changed first.now cells) ask.now)) }
+    {
+        let pulled = pulled_part(alloc, first, ask)?;
+        self.put(pulled)
+    }
+
+    /// Something is also found where a refusal is wrongful after an earlier segment.
+    fn refuse_after(
+        &mut self,
+        alloc: Global,
+        first: &Effect,
+        unless: &UpToThree,
+    ) -> Result<(), NoMemory>
+        ensures { OnOk result (IsMetOr self.old self.new
+            (λ cells. not (one_holds (changed first.now cells) unless.now))) }
+    {
+        let Some(unless) = pulled_three(alloc, first, unless)? else {
+            return Ok(());
+        };
+        if unless.is_nothing() {
+            self.certain = true;
+        } else {
+            self.refusals.push(Refusal { unless })?;
+        }
+        Ok(())
+    }
+
+    /// Something is also found where it is in a line after an earlier segment.
+    pub fn line_after(
+        &mut self,
+        alloc: Global,
+        first: &Effect,
+        asks: &LineAsks,
+    ) -> Result<(), NoMemory>
+        ensures { OnOk result (IsMetOr self.old self.new
+            (λ cells. asked_holds (changed first.now cells) asks.now)) }
+    {
+        match asks {
+            LineAsks::Always => {
+                self.certain = true;
+                Ok(())
+            }
+            LineAsks::Where(asks) => {
+                self.put_after(alloc, first, &asks.mode)?;
+                self.put_after(alloc, first, &asks.first)?;
+                self.put_after(alloc, first, &asks.second)?;
+                Ok(())
+            }
+            LineAsks::Unless(asks) => self.refuse_after(alloc, first, asks),
+        }
+    }
+}
