@@ -10,3 +10,4 @@ pub mod RowsComposed
 pub mod LineCells
 pub mod LineAsking
 pub mod Meeting
+pub mod Summing

@@ -9,3 +9,4 @@ pub mod Effects
 pub mod Lines
 pub mod LineAsks
 pub mod Preconditions
+pub mod Summaries

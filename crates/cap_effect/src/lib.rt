@@ -11,6 +11,7 @@ mod line;
 mod line_asks;
 mod precondition;
 mod sorted;
+mod summary;
 mod test;
 mod value;
 
@@ -21,5 +22,6 @@ pub use key::{Key, cell_of_mode, mode_of_cell};
 pub use line_asks::{LineAsks, UpToThree};
 pub use precondition::{Precondition, Refusal};
 pub use sorted::Table;
+pub use summary::Summary;
 pub use test::{Flags, Kinds, Test};
 pub use value::{Derived, Value};

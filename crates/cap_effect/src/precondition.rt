@@ -1,9 +1,10 @@
 //! Under which states before a segment something is found in it.
 
 ghost use Rattle.std.specs.Prelude.{◌≡◌, ◌||◌, not, false, true, IfOk, OnOk};
+ghost use Rattle.std.specs.List.{list_any};
 ghost use Rattle.cap_machine.specs.State.{State};
 ghost use Rattle.cap_effect.specs.Keys.{Cells, cells_of};
-ghost use Rattle.cap_effect.specs.Asks.{pulled_holds, is_always};
+ghost use Rattle.cap_effect.specs.Asks.{any_holds, pulled_holds, is_always};
 ghost use Rattle.cap_effect.specs.LineAsks.{part_holds, one_holds, asked_holds};
 ghost use Rattle.cap_effect.specs.Effects.{changed};
 ghost use Rattle.cap_effect.specs.Preconditions.{is_met, is_wrongful, three_hold, IsMetOr};
@@ -179,5 +180,53 @@ impl Precondition {
             }
             LineAsks::Unless(asks) => self.refuse_after(alloc, first, asks),
         }
+    }
+
+    /// Something is also found where one of these asks holds after an earlier segment.
+    fn put_asks_after(
+        &mut self,
+        alloc: Global,
+        first: &Effect,
+        asks: &[Ask],
+    ) -> Result<(), NoMemory>
+        ensures { OnOk result (IsMetOr self.old self.new (λ cells. any_holds (changed first.now cells) asks.now)) }
+    {
+        for ask in asks {
+            self.put_after(alloc, first, &Some(*ask))?;
+        }
+        Ok(())
+    }
+
+    /// Something is also found where one of these refusals is wrongful after an earlier segment.
+    fn refuse_all_after(
+        &mut self,
+        alloc: Global,
+        first: &Effect,
+        refusals: &[Refusal],
+    ) -> Result<(), NoMemory>
+        ensures { OnOk result (IsMetOr self.old self.new
+            (λ cells. list_any (is_wrongful (changed first.now cells)) refusals.now)) }
+    {
+        for refusal in refusals {
+            self.refuse_after(alloc, first, &refusal.unless)?;
+        }
+        Ok(())
+    }
+
+    /// Something is also found where it is in a later segment, after this one.
+    pub fn put_all_after(
+        &mut self,
+        alloc: Global,
+        first: &Effect,
+        later: &Precondition,
+    ) -> Result<(), NoMemory>
+        ensures { OnOk result (IsMetOr self.old self.new (λ cells. is_met (changed first.now cells) later.now)) }
+    {
+        self.put_asks_after(alloc, first, &later.asks)?;
+        self.refuse_all_after(alloc, first, &later.refusals)?;
+        if later.certain {
+            self.certain = true;
+        }
+        Ok(())
     }
 }

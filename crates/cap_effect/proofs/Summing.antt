@@ -1,0 +1,93 @@
+-- What a summary says after one more step, or one more segment.
+use Rattle.std.proofs.Common.{◌≡◌, ℕ, List, [], ◌∷◌, ◌++◌, ◌+◌, false, ◌||◌, length, map, refl, sym, ap, ◌∙◌}
+use Rattle.std.proofs.Math.Path.{fun_ext}
+use Rattle.cap_machine.specs.declared.step.Step.{Step}
+use Rattle.cap_machine.specs.declared.rule.Effect.{Effect as LineEffect}
+use Rattle.cap_machine.specs.State.{State}
+use Rattle.cap_machine.specs.Touch.{Turn, stays, turns, follows, touch, turn}
+use Rattle.cap_machine.specs.Effect.{effect_touch, effect_turn}
+use Rattle.cap_machine.specs.History.{touched, turned, ended}
+use Rattle.cap_machine.specs.Check.{check, said, found_at}
+use Rattle.cap_machine.specs.Laws.{later}
+use Rattle.cap_machine.specs.Table.{step_after}
+use Rattle.cap_machine.proofs.Turns.{ends_in_turn, checks_in_turn, ends_more, checks_more}
+use Rattle.cap_effect.specs.declared.key.Key.{Key}
+use Rattle.cap_effect.specs.declared.key.Key.TheVariants as key
+use Rattle.cap_effect.specs.declared.effect.Effect.{Effect}
+use Rattle.cap_effect.specs.declared.line_asks.LineAsks.{LineAsks}
+use Rattle.cap_effect.specs.declared.summary.Summary.{Summary}
+use Rattle.cap_effect.specs.Keys.{Cells, mode_cell, cells_of}
+use Rattle.cap_effect.specs.Effects.{changed, IsComposed}
+use Rattle.cap_effect.specs.Lines.{turned_cell, line_after, IsEffectOf}
+use Rattle.cap_effect.specs.LineAsks.{asked_holds, has_any}
+use Rattle.cap_effect.specs.Preconditions.{is_met, IsMetOr}
+use Rattle.cap_effect.specs.Summaries.{Summarizes}
+use Rattle.cap_effect.proofs.LineAsking.{has_any-append}
+
+has_any-map : {X Y : Type 0} (f : X → Y) (xs : List X) → has_any (map f xs) ≡ has_any xs
+has_any-map f [] = refl
+has_any-map f (x ∷ xs) = refl
+
+-- the cells after the steps, as one
+cells_after : (summary : Summary) (t : List Step) → Summarizes summary t → (s : State)
+    → changed summary.effect (cells_of s) ≡ cells_of (ended s t)
+cells_after summary t says s = fun_ext (λ p. fun_ext (λ k. says.after s p k))
+
+pub summarizes_none : (summary : Summary) → ((cells : Cells) (p : ℕ) (k : Key) → changed summary.effect cells p k ≡ cells p k)
+    → ((s : State) → is_met (cells_of s) summary.precondition ≡ false) → Summarizes summary []
+summarizes_none summary same never = record { after = λ s p k. same (cells_of s) p k; finds = never }
+
+pub summarizes_both : (a b both : Summary) (t u : List Step) → Summarizes a t → Summarizes b u
+    → IsComposed a.effect b.effect both.effect
+    → IsMetOr a.precondition both.precondition (λ cells. is_met (changed a.effect cells) b.precondition)
+    → Summarizes both (t ++ u)
+summarizes_both a b both t u first second composed met = record {
+  after = λ s p k. composed (cells_of s) p k
+      ∙ ap (λ (cells : Cells). changed b.effect cells p k) (cells_after a t first s)
+      ∙ second.after (ended s t) p k
+      ∙ ap (λ (state : State). cells_of state p k) (sym (ends_in_turn s t u));
+  finds = λ s. met s
+      ∙ ap (λ (cells : Cells). is_met (cells_of s) a.precondition || is_met cells b.precondition)
+      (cells_after a t first s)
+      ∙ ap (λ r. r || is_met (cells_of (ended s t)) b.precondition) (first.finds s)
+      ∙ ap (λ r. has_any (check s t) || r) (second.finds (ended s t))
+      ∙ sym (found s);
+}
+  where
+    found : (s : State) → has_any (check s (t ++ u)) ≡ (has_any (check s t) || has_any (check (ended s t) u))
+    found s = ap has_any (checks_in_turn s t u)
+        ∙ has_any-append (check s t) (map (later (length t)) (check (ended s t) u))
+        ∙ ap (λ r. has_any (check s t) || r) (has_any-map (later (length t)) (check (ended s t) u))
+
+-- a mode is turned as its cell is
+turned_is : (t : Turn) (s : State) (p : ℕ) → turned_cell t (cells_of s) p ≡ mode_cell (turned t s.mode p)
+turned_is stays s p = refl
+turned_is (turns m) s p = refl
+turned_is (follows q) s p = refl
+
+module _ (step : Step) (line : LineEffect) (me : ℕ) (cells : (p f : ℕ) → effect_touch line me p f ≡ touch step p f)
+    (modes : (p : ℕ) → effect_turn line me p ≡ turn step p) where
+  line_is : (s : State) (p : ℕ) (k : Key) → line_after line me (cells_of s) p k ≡ cells_of (step_after step s) p k
+  line_is s p key.Mode = turned_is (effect_turn line me p) s p ∙ ap (λ t. mode_cell (turned t s.mode p)) (modes p)
+  line_is s p (key.Fd f) = ap (λ t. touched t s.cell p f) (cells p f)
+
+  pub summarizes_more : (a more : Summary) (own : Effect) (asks : LineAsks) (t : List Step) → Summarizes a t
+      → IsComposed a.effect own more.effect → IsEffectOf line me own
+      → IsMetOr a.precondition more.precondition (λ cells. asked_holds (changed a.effect cells) asks)
+      → ((s : State) → asked_holds (cells_of s) asks ≡ has_any (said step s)) → Summarizes more (t ++ step ∷ [])
+  summarizes_more a more own asks t so_far composed does met says = record {
+    after = λ s p k. composed (cells_of s) p k
+        ∙ ap (λ (cells : Cells). changed own cells p k) (cells_after a t so_far s)
+        ∙ does (cells_of (ended s t)) p k ∙ line_is (ended s t) p k
+        ∙ ap (λ (state : State). cells_of state p k) (sym (ends_more s t step));
+    finds = λ s. met s
+        ∙ ap (λ (cells : Cells). is_met (cells_of s) a.precondition || asked_holds cells asks) (cells_after a t so_far s)
+        ∙ ap (λ r. r || asked_holds (cells_of (ended s t)) asks) (so_far.finds s)
+        ∙ ap (λ r. has_any (check s t) || r) (says (ended s t))
+        ∙ sym (found s);
+  }
+    where
+      found : (s : State) → has_any (check s (t ++ step ∷ [])) ≡ (has_any (check s t) || has_any (said step (ended s t)))
+      found s = ap has_any (checks_more s t step)
+          ∙ has_any-append (check s t) (map (found_at (length t + 1)) (said step (ended s t)))
+          ∙ ap (λ r. has_any (check s t) || r) (has_any-map (found_at (length t + 1)) (said step (ended s t)))

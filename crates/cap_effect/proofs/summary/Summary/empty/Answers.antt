@@ -1,0 +1,8 @@
+use Rattle.cap_effect.specs.declared.summary.Summary.{Summary}
+use Rattle.cap_effect.proofs.Summing.{summarizes_none}
+use Rattle.cap_effect.proofs.summary.Summary.empty.Goals as goal
+
+pub returns : goal.returns
+returns c =
+    let none : Summary = record { effect = c.empty.result; precondition = c.never.result } in
+    summarizes_none none c.empty.ensures c.never.ensures

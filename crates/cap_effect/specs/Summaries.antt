@@ -1,0 +1,17 @@
+-- What a summary says of the steps of a segment, whatever the state before them.
+use Rattle.std.specs.Prelude.{◌≡◌, ℕ, List}
+use Rattle.cap_machine.specs.declared.step.Step.{Step}
+use Rattle.cap_machine.specs.State.{State}
+use Rattle.cap_machine.specs.History.{ended}
+use Rattle.cap_machine.specs.Check.{check}
+use Rattle.cap_effect.specs.declared.key.Key.{Key}
+use Rattle.cap_effect.specs.declared.summary.Summary.{Summary}
+use Rattle.cap_effect.specs.Keys.{cells_of}
+use Rattle.cap_effect.specs.Effects.{changed}
+use Rattle.cap_effect.specs.LineAsks.{has_any}
+use Rattle.cap_effect.specs.Preconditions.{is_met}
+
+-- In every state before the steps: each cell and each mode after them, and whether something is found in them.
+pub record Summarizes (summary : Summary) (steps : List Step) : Type 0 where
+  pub after : (s : State) (p : ℕ) (k : Key) → changed summary.effect (cells_of s) p k ≡ cells_of (ended s steps) p k
+  pub finds : (s : State) → is_met (cells_of s) summary.precondition ≡ has_any (check s steps)

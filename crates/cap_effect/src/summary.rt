@@ -1,0 +1,66 @@
+//! What a segment of a trace does, and under which states before it something is found in it.
+
+ghost use Rattle.std.specs.Prelude.{◌≡◌, List, [], ◌∷◌, ◌++◌, IfOk};
+ghost use Rattle.cap_machine.specs.declared.step.Step.{Step};
+ghost use Rattle.cap_effect.specs.Summaries.{Summarizes};
+
+use crate::effect::Effect;
+use crate::line_asks::LineAsks;
+use crate::precondition::Precondition;
+use cap_machine::{Step, rule_of};
+use cap_rights::NoMemory;
+use std::alloc::Global;
+
+/// The summary of a segment: what it does to each cell, and under which states before it something is found in it.
+#[derive(Drop)]
+pub struct Summary {
+    /// What becomes of each cell.
+    pub effect: Effect,
+    /// Where something is found.
+    pub precondition: Precondition,
+}
+
+impl Summary {
+    /// The summary of no steps.
+    pub fn empty(alloc: Global) -> Summary
+        ensures { Summarizes result [] }
+    {
+        Summary {
+            effect: Effect::empty(),
+            precondition: Precondition::never(alloc),
+        }
+    }
+
+    /// The summary of these steps and one more.
+    pub fn push(self, alloc: Global, step: &Step) -> Result<Summary, NoMemory>
+        ensures { (steps : List Step) → Summarizes self steps
+            → IfOk result (λ more. Summarizes more (steps ++ step.now ∷ [])) }
+    {
+        let line = step.line.seen();
+        let rule = rule_of(step.profile, &line);
+        let pid = step.line.pid();
+        let mut precondition = self.precondition;
+        let asks = LineAsks::of_line(pid, &rule.demand);
+        precondition.line_after(alloc, &self.effect, &asks)?;
+        let own = Effect::of_line(alloc, pid, &rule.effect)?;
+        let effect = self.effect.then(alloc, &own)?;
+        Ok(Summary {
+            effect,
+            precondition,
+        })
+    }
+
+    /// The summary of these steps and then those of a later one.
+    pub fn join(self, alloc: Global, later: &Summary) -> Result<Summary, NoMemory>
+        ensures { (first second : List Step) → Summarizes self first → Summarizes later.now second
+            → IfOk result (λ both. Summarizes both (first ++ second)) }
+    {
+        let mut precondition = self.precondition;
+        precondition.put_all_after(alloc, &self.effect, &later.precondition)?;
+        let effect = self.effect.then(alloc, &later.effect)?;
+        Ok(Summary {
+            effect,
+            precondition,
+        })
+    }
+}
