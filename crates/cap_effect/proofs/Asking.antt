@@ -1,5 +1,6 @@
 -- Asks that hold in every state, in none, or in some.
-use Rattle.std.proofs.Common.{◌≡◌, ℕ, true, false, inl, inr, refl, ap, bit_and}
+use Rattle.std.proofs.Common.{◌≡◌, ℕ, true, false, ◌&&◌, inl, inr, refl, ap, bit_and}
+use Rattle.std.proofs.Common.{List, [], ◌∷◌}
 use Rattle.std.specs.Prelude.{not}
 use Rattle.std.specs.Int.Bits.{and_self}
 use Rattle.std.proofs.lemmas.Bool.{eq-eqb}
@@ -18,8 +19,11 @@ use Rattle.cap_effect.specs.declared.test.Test.{Test}
 use Rattle.cap_effect.specs.declared.ask.Ask.{Ask}
 use Rattle.cap_effect.specs.Keys.{mode_cell, cells_of}
 use Rattle.cap_effect.specs.Tests.{has_flag, any_flag, any_kind, is_full, passes, can_pass}
-use Rattle.cap_effect.specs.Asks.{certain_at, possible_at, IsOpen}
-use Rattle.cap_effect.proofs.Bools.{or_true, and_left, and_right, and_false, and_with_false, or_one}
+use Rattle.cap_effect.specs.Asks.{any_holds, certain_at, possible_at, CanBe, IsOpen}
+use Rattle.cap_effect.specs.Preconditions.{any_certain}
+use Rattle.std.specs.List.{All}
+use Rattle.std.proofs.lemmas.List.Elements.{All-nil, All-cons}
+use Rattle.cap_effect.proofs.Bools.{or_true, and_left, and_right, and_false, and_with_false, or_one, or_left, or_right}
 
 -- the state in which each cell and each mode is as given
 abbrev everywhere : Cell → Mode → State
@@ -112,3 +116,38 @@ is_open ask certain possible = record {
   holds = holds_somewhere ask.pid ask.key ask.test possible;
   fails = fails_somewhere ask.pid ask.key ask.test certain;
 }
+
+-- ---- in every state
+full_passes : (t : Test) → is_full t.kinds ≡ true → (c : Cell) → passes t c ≡ true
+full_passes t full Unknown = rw (and_left t.kinds.unknown _ full) refl
+full_passes t full Closed = rw (and_left t.kinds.closed _ (and_right t.kinds.unknown _ full)) refl
+full_passes t full (Held r flag) = rw (held (and_right t.kinds.closed _ (and_right t.kinds.unknown _ full)) flag) refl
+  where
+    held : (t.kinds.held.set && (t.kinds.held.clear && t.kinds.held.unsure)) ≡ true → (flag : OnExec)
+        → has_flag t.kinds.held flag ≡ true
+    held all Set = and_left t.kinds.held.set _ all
+    held all Clear = and_left t.kinds.held.clear _ (and_right t.kinds.held.set _ all)
+    held all Unsure = and_right t.kinds.held.clear _ (and_right t.kinds.held.set _ all)
+
+modes_pass : (t : Test) → certain_at key.Mode t ≡ true → (m : Mode) → passes t (mode_cell m) ≡ true
+modes_pass t all NoMode = and_left (passes t (mode_cell NoMode)) _ all
+modes_pass t all Inside = and_left (passes t (mode_cell Inside)) _ (and_right (passes t (mode_cell NoMode)) _ all)
+modes_pass t all Outside = and_right (passes t (mode_cell Inside)) _ (and_right (passes t (mode_cell NoMode)) _ all)
+
+certain_holds : (p : ℕ) (k : Key) (t : Test) → certain_at k t ≡ true → (s : State) → passes t (cells_of s p k) ≡ true
+certain_holds p key.Mode t is s = modes_pass t is (s.mode p)
+certain_holds p (key.Fd f) t is s = full_passes t is (s.cell p f)
+
+-- where one ask is certain one holds, and else each fails in some state
+pub certain_any : (asks : List Ask) → any_certain asks ≡ true → (s : State) → any_holds (cells_of s) asks ≡ true
+certain_any [] is s = is
+certain_any (a ∷ asks) is s = elim (or_one (certain_at a.key a.test) (any_certain asks) is) [
+  | inl h ↦ rw (certain_holds a.pid a.key a.test h s) refl
+  | inr h ↦ rw (certain_any asks h s) (or_true (passes a.test (cells_of s a.pid a.key)))
+]
+
+pub certain_none : (asks : List Ask) → any_certain asks ≡ false → All (CanBe false) asks
+certain_none [] is = All-nil (CanBe false)
+certain_none (a ∷ asks) is = All-cons (CanBe false) a asks
+    (fails_somewhere a.pid a.key a.test (or_left (certain_at a.key a.test) (any_certain asks) is))
+    (certain_none asks (or_right (certain_at a.key a.test) (any_certain asks) is))

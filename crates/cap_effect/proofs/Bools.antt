@@ -56,3 +56,12 @@ or_assoc false y z = refl
 pub or_swapped : (a b c : Bool) → (b || (a || c)) ≡ (a || (b || c))
 or_swapped true b c = or_true b
 or_swapped false b c = refl
+
+pub or_left : (a b : Bool) → (a || b) ≡ false → a ≡ false
+or_left true b is = is
+or_left false b is = refl
+
+pub or_right : (a b : Bool) → (a || b) ≡ false → b ≡ false
+or_right true true is = is
+or_right true false is = refl
+or_right false b is = is

@@ -1,13 +1,14 @@
 -- Where something is found.
-use Rattle.std.proofs.Common.{◌≡◌, List, [], ◌∷◌, ◌++◌, Bool, true, false, ◌||◌, refl, ap, ◌∙◌}
+use Rattle.std.proofs.Common.{◌≡◌, List, [], ◌∷◌, ◌++◌, Bool, true, false, ◌||◌, refl, ap, ◌∙◌, sym}
 use Rattle.std.specs.List.{list_any}
 use Rattle.std.proofs.lemmas.List.Folds.{list_any-append}
+use Rattle.cap_effect.specs.declared.ask.Ask.{Ask}
 use Rattle.cap_effect.specs.declared.precondition.Refusal.{Refusal}
 use Rattle.cap_effect.specs.declared.precondition.Precondition.{Precondition}
 use Rattle.cap_effect.specs.Keys.{Cells, cells_of}
 use Rattle.cap_effect.specs.Asks.{any_holds}
 use Rattle.cap_effect.specs.Preconditions.{is_wrongful, is_met, IsMetOr}
-use Rattle.cap_effect.proofs.Bools.{or_false, or_assoc}
+use Rattle.cap_effect.proofs.Bools.{or_false, or_true, or_assoc}
 
 grouped : (certain asks refusals more : Bool) → (certain || (asks || (refusals || more)))
     ≡ ((certain || (asks || refusals)) || more)
@@ -33,3 +34,11 @@ met_three a b c d x y z first second third s =
     third s ∙ ap (λ r. r || z cells) (second s ∙ ap (λ r. r || y cells) (first s))
     ∙ or_assoc (is_met cells a || x cells) (y cells) (z cells)
     ∙ or_assoc (is_met cells a) (x cells) (y cells || z cells)
+
+-- an ask that holds is found
+pub met_by_ask : (cells : Cells) (pre : Precondition) (ordered : List Ask) → any_holds cells ordered ≡ true
+    → any_holds cells ordered ≡ (any_holds cells pre.asks.items || false) → true ≡ is_met cells pre
+met_by_ask cells pre ordered held same =
+    let own : any_holds cells pre.asks.items ≡ true =
+    sym (or_false (any_holds cells pre.asks.items)) ∙ sym same ∙ held in
+    rw own (sym (or_true pre.certain))

@@ -59,6 +59,14 @@ summarizes_both a b both t u first second composed met = record {
         ∙ has_any-append (check s t) (map (later (length t)) (check (ended s t) u))
         ∙ ap (λ r. has_any (check s t) || r) (has_any-map (later (length t)) (check (ended s t) u))
 
+-- another precondition that holds in the same states
+pub summarizes_same : (a new : Summary) (t : List Step) → Summarizes a t → new.effect ≡ a.effect
+    → ((s : State) → is_met (cells_of s) new.precondition ≡ is_met (cells_of s) a.precondition) → Summarizes new t
+summarizes_same a new t says effect met = record {
+  after = λ s p k. ap (λ e. changed e (cells_of s) p k) effect ∙ says.after s p k;
+  finds = λ s. met s ∙ says.finds s;
+}
+
 -- a mode is turned as its cell is
 turned_is : (t : Turn) (s : State) (p : ℕ) → turned_cell t (cells_of s) p ≡ mode_cell (turned t s.mode p)
 turned_is stays s p = refl

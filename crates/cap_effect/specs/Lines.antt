@@ -5,18 +5,16 @@ use Rattle.cap_machine.specs.declared.cell.Cell.{Cell}
 use Rattle.cap_machine.specs.declared.cell.Cell.TheVariants.{Unknown, Closed}
 use Rattle.cap_machine.specs.declared.rule.Effect.{Effect as LineEffect}
 use Rattle.cap_machine.specs.declared.rule.Effect.TheVariants as line
-use Rattle.cap_machine.specs.State.{State}
 use Rattle.cap_machine.specs.Op.{applied, exec}
 use Rattle.cap_machine.specs.Touch.{Turn, stays, turns, follows, started}
 use Rattle.cap_machine.specs.Effect.{effect_touch, effect_turn}
 use Rattle.cap_machine.specs.History.{touched}
-use Rattle.cap_machine.specs.Table.{effect_after}
 use Rattle.cap_effect.specs.declared.key.Key.{Key}
 use Rattle.cap_effect.specs.declared.key.Key.TheVariants as key
 use Rattle.cap_effect.specs.declared.value.Value.{Value}
 use Rattle.cap_effect.specs.declared.effect.Row.{Row}
 use Rattle.cap_effect.specs.declared.effect.Effect.{Effect}
-use Rattle.cap_effect.specs.Keys.{Cells, mode_cell, cells_of}
+use Rattle.cap_effect.specs.Keys.{Cells, mode_cell}
 use Rattle.cap_effect.specs.Effects.{row_cell, changed}
 use Rattle.cap_effect.specs.Values.{read}
 use Rattle.cap_effect.specs.Sorted.{found}
@@ -31,11 +29,6 @@ turned_cell (follows q) cells p = cells q key.Mode
 abbrev pub line_after : LineEffect → ℕ → Cells → Cells
 line_after effect me cells p key.Mode = turned_cell (effect_turn effect me p) cells p
 line_after effect me cells p (key.Fd f) = touched (effect_touch effect me p f) (λ q g. cells q (key.Fd g)) p f
-
--- that is what the line does to each state
-abbrev pub LinesDoAsTheyDo : Type 0
-LinesDoAsTheyDo = (effect : LineEffect) (me : ℕ) (s : State) (p : ℕ) (k : Key)
-    → line_after effect me (cells_of s) p k ≡ cells_of (effect_after effect me s) p k
 
 -- an effect does to all cells what the line does
 abbrev pub IsEffectOf : LineEffect → ℕ → Effect → Type 0

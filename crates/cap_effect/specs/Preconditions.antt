@@ -1,12 +1,13 @@
 -- Under which cells before a segment something is found in it.
-use Rattle.std.specs.Prelude.{◌≡◌, ◌||◌, not, Bool, true, Option, Some, None}
-use Rattle.std.specs.List.{list_any}
+use Rattle.std.specs.Prelude.{◌≡◌, ◌||◌, not, Bool, true, false, List, [], Option, Some, None}
+use Rattle.std.specs.List.{list_any, All}
 use Rattle.cap_machine.specs.State.{State}
+use Rattle.cap_effect.specs.declared.ask.Ask.{Ask}
 use Rattle.cap_effect.specs.declared.line_asks.UpToThree.{UpToThree}
 use Rattle.cap_effect.specs.declared.precondition.Refusal.{Refusal}
 use Rattle.cap_effect.specs.declared.precondition.Precondition.{Precondition}
 use Rattle.cap_effect.specs.Keys.{Cells, cells_of}
-use Rattle.cap_effect.specs.Asks.{any_holds}
+use Rattle.cap_effect.specs.Asks.{any_holds, certain_at, CanBe, Rises}
 use Rattle.cap_effect.specs.LineAsks.{one_holds}
 
 -- a refusal is wrongful: none of its asks holds
@@ -26,3 +27,13 @@ IsMetOr old new more = (s : State) → is_met (cells_of s) new ≡ (is_met (cell
 abbrev pub three_hold : Cells → Option UpToThree → Bool
 three_hold cells None = true
 three_hold cells (Some asks) = one_holds cells asks
+
+-- one of the asks holds in every state
+abbrev pub any_certain : List Ask → Bool
+any_certain asks = list_any (λ (ask : Ask). certain_at ask.key ask.test) asks
+
+-- the asks stand in order, none of them holds in every state, and where something is certain nothing else is asked
+pub record IsSettled (pre : Precondition) : Type 0 where
+  pub rises : Rises pre.asks.items
+  pub fails : All (CanBe false) pre.asks.items
+  pub alone : pre.certain ≡ true → (pre.asks.items ≡ []) × (pre.refusals.items ≡ [])

@@ -75,7 +75,7 @@ impl Ask {
     }
 
     /// Whether it holds in every state.
-    fn is_certain(&self) -> bool
+    pub(crate) fn is_certain(&self) -> bool
         ensures { result ≡ certain_at self.now.key self.now.test }
     {
         match &self.key {

@@ -1,15 +1,16 @@
 //! Under which states before a segment something is found in it.
 
-ghost use Rattle.std.specs.Prelude.{◌≡◌, ◌||◌, not, false, true, IfOk, OnOk};
+ghost use Rattle.std.specs.Prelude.{◌≡◌, ◌||◌, not, false, true, [], IfOk, OnOk};
 ghost use Rattle.std.specs.List.{list_any};
 ghost use Rattle.cap_machine.specs.State.{State};
 ghost use Rattle.cap_effect.specs.Keys.{Cells, cells_of};
 ghost use Rattle.cap_effect.specs.Asks.{any_holds, pulled_holds, is_always};
 ghost use Rattle.cap_effect.specs.LineAsks.{part_holds, one_holds, asked_holds};
 ghost use Rattle.cap_effect.specs.Effects.{changed};
-ghost use Rattle.cap_effect.specs.Preconditions.{is_met, is_wrongful, three_hold, IsMetOr};
+ghost use Rattle.cap_effect.specs.Preconditions.{is_met, is_wrongful, three_hold, any_certain, IsMetOr, IsSettled};
 
 use crate::ask::{Ask, Pulled};
+use crate::asks::in_order;
 use crate::effect::Effect;
 use crate::line_asks::{LineAsks, UpToThree};
 use cap_rights::NoMemory;
@@ -98,10 +99,18 @@ fn pulled_three(
     }))
 }
 
+/// Whether one of these asks holds in every state.
+fn any_is_certain(asks: &[Ask]) -> bool
+    ensures { result ≡ any_certain asks.now }
+{
+    asks.iter().any(|ask| ask.is_certain())
+}
+
 impl Precondition {
     /// Nothing is found in any state.
     pub fn never(alloc: Global) -> Precondition
-        ensures { (s : State) → is_met (cells_of s) result ≡ false }
+        ensures met { (s : State) → is_met (cells_of s) result ≡ false }
+        ensures nothing { (result.certain ≡ false) × (result.asks.items ≡ []) × (result.refusals.items ≡ []) }
     {
         Precondition {
             certain: false,
@@ -228,5 +237,23 @@ impl Precondition {
             self.certain = true;
         }
         Ok(())
+    }
+
+    /// The same, settled: its asks in order, and nothing asked where something is certain.
+    pub fn settled(self, alloc: Global) -> Result<Precondition, NoMemory>
+        ensures met { IfOk result (λ pre. (s : State) → is_met (cells_of s) pre ≡ is_met (cells_of s) self) }
+        ensures settled { IfOk result IsSettled }
+    {
+        let asks = in_order(alloc, &self.asks)?;
+        if self.certain || any_is_certain(&asks) {
+            let mut certain = Precondition::never(alloc);
+            certain.certain = true;
+            return Ok(certain);
+        }
+        Ok(Precondition {
+            certain: false,
+            asks,
+            refusals: self.refusals,
+        })
     }
 }

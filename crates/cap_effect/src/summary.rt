@@ -2,6 +2,7 @@
 
 ghost use Rattle.std.specs.Prelude.{◌≡◌, List, [], ◌∷◌, ◌++◌, IfOk};
 ghost use Rattle.cap_machine.specs.declared.step.Step.{Step};
+ghost use Rattle.cap_effect.specs.Preconditions.{IsSettled};
 ghost use Rattle.cap_effect.specs.Summaries.{Summarizes};
 
 use crate::effect::Effect;
@@ -50,13 +51,27 @@ impl Summary {
         })
     }
 
-    /// The summary of these steps and then those of a later one.
+    /// The same summary, settled: what is asked stands in order, and nothing is asked where something is certain.
+    pub fn settled(self, alloc: Global) -> Result<Summary, NoMemory>
+        ensures same { (steps : List Step) → Summarizes self steps → IfOk result (λ new. Summarizes new steps) }
+        ensures settled { IfOk result (λ new. IsSettled new.precondition) }
+    {
+        let precondition = self.precondition.settled(alloc)?;
+        Ok(Summary {
+            effect: self.effect,
+            precondition,
+        })
+    }
+
+    /// The summary of these steps and then those of a later one, settled.
     pub fn join(self, alloc: Global, later: &Summary) -> Result<Summary, NoMemory>
-        ensures { (first second : List Step) → Summarizes self first → Summarizes later.now second
+        ensures both { (first second : List Step) → Summarizes self first → Summarizes later.now second
             → IfOk result (λ both. Summarizes both (first ++ second)) }
+        ensures settled { IfOk result (λ both. IsSettled both.precondition) }
     {
         let mut precondition = self.precondition;
         precondition.put_all_after(alloc, &self.effect, &later.precondition)?;
+        let precondition = precondition.settled(alloc)?;
         let effect = self.effect.then(alloc, &later.effect)?;
         Ok(Summary {
             effect,
