@@ -37,6 +37,10 @@ possible_at (key.Fd f) test = can_pass test
 abbrev pub CanBe : Bool → Ask → Type 0
 CanBe answer ask = (s : State) × (holds (cells_of s) ask ≡ answer)
 
+-- each of these holds in some state
+abbrev pub ArePossible : List Ask → Type 0
+ArePossible asks = All (CanBe true) asks
+
 -- whether an ask holds depends on the state
 pub record IsOpen (ask : Ask) : Type 0 where
   pub holds : CanBe true ask
@@ -110,6 +114,7 @@ pub record IsUnionOf (lefts rights asks : List Ask) : Type 0 where
   pub holds : (cells : Cells) → any_holds cells asks ≡ (any_holds cells lefts || any_holds cells rights)
   pub few : length asks ≤ length lefts + length rights
   pub names : (names : ℕ → Key → Bool) → AreWithin names lefts → AreWithin names rights → AreWithin names asks
+  pub possible : ArePossible lefts → ArePossible rights → ArePossible asks
 
 -- the first ask of two lists, which holds where those at its place do, and what is left of both
 pub record IsFirst (lefts rights : List Ask) (ask : Ask) (left right : List Ask) : Type 0 where
@@ -121,3 +126,4 @@ pub record IsFirst (lefts rights : List Ask) (ask : Ask) (left right : List Ask)
   pub fewer : length left + length right < length lefts + length rights
   pub names : (names : ℕ → Key → Bool) → AreWithin names lefts → AreWithin names rights → AreWithin names (ask ∷ left)
       × AreWithin names right
+  pub possible : ArePossible lefts → ArePossible rights → ArePossible (ask ∷ left) × ArePossible right
