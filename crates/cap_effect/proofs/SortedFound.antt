@@ -1,12 +1,11 @@
 -- What a look-up finds in a list whose keys rise.
 use Rattle.std.proofs.Common.{◌≡◌, ℕ, zero, suc, ◌+◌, ◌<◌, ◌≤◌, ◌≢◌, List, [], ◌∷◌, length, get_or, None, Result, Ok}
-use Rattle.std.proofs.Common.{Err, IfOk, IfErr, option_map, slice_get, refl, sym, ap, ◌∙◌, arith}
+use Rattle.std.proofs.Common.{Err, IfOk, IfErr, option_map, slice_get, refl, sym, ap, arith}
 use Rattle.std.specs.List.Sorted.{IsSearchInRange, IsBinarySearchResult, IsNonDecreasingBy}
 use Rattle.std.specs.Ordering.{nat_cmp, ordering_index}
 use Rattle.std.proofs.lemmas.Cmp.{ranked}
 use Rattle.std.proofs.lemmas.Bool.Decides.{nat_tests}
-use Rattle.std.proofs.lemmas.List.{get_or_default}
-use Rattle.cap_effect.specs.Place.{IsAt, IsGap, key_at}
+use Rattle.cap_effect.specs.Place.{IsAt, IsGap}
 use Rattle.cap_effect.specs.Sorted.{found, RisesFrom, Rises}
 
 -- no key is below the bound
@@ -108,18 +107,3 @@ found_below_first key first rest rises other =
 pub found_nowhere : {V : Type 0} (l : List (ℕ × V)) (key : ℕ) → length l ≡ 0 → found l key ≡ None
 found_nowhere [] key none = refl
 found_nowhere (x ∷ rest) key none = absurd (omega arith)
-
--- a key above one that stands at a place is above those before it; one below it is below those behind it
-pub smaller_before : {V : Type 0} (l : List (ℕ × V)) → Rises l → (key at : ℕ) (x : ℕ × V) → at < length l
-    → x ≡ get_or l at x → x.0 < key → (i : ℕ) (d : ℕ × V) → i < at + 1 → key_at l i d < key
-smaller_before {V} l rises key at x in_range is below i d lt =
-    let same : x.0 ≡ (get_or l at d).0 = ap (λ (e : ℕ × V). e.0) (is ∙ get_or_default l at x d in_range) in
-    let keys : (get_or l i d).0 ≤ (get_or l at d).0 = keys_in_order l rises i at d (omega arith) in_range in
-    omega (arith, same, keys, below)
-
-pub greater_behind : {V : Type 0} (l : List (ℕ × V)) → Rises l → (key at : ℕ) (x : ℕ × V) → at < length l
-    → x ≡ get_or l at x → key < x.0 → (i : ℕ) (d : ℕ × V) → at ≤ i → i < length l → key < key_at l i d
-greater_behind {V} l rises key at x in_range is above i d le lt =
-    let same : x.0 ≡ (get_or l at d).0 = ap (λ (e : ℕ × V). e.0) (is ∙ get_or_default l at x d in_range) in
-    let keys : (get_or l at d).0 ≤ (get_or l i d).0 = keys_in_order l rises at i d le lt in
-    omega (arith, same, keys, above)

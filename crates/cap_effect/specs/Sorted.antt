@@ -14,8 +14,3 @@ RisesFrom bound ((k, v) ∷ rest) = (bound ≤ k) × RisesFrom (k + 1) rest
 -- the keys strictly rise, so no key comes twice
 abbrev pub Rises : {V : Type 0} → List (ℕ × V) → Type 0
 Rises entries = RisesFrom 0 entries
-
--- the entries of a table, which has none where there is no list
-abbrev pub entries_of : {V : Type 0} → Option (List (ℕ × V)) → List (ℕ × V)
-entries_of None = []
-entries_of (Some entries) = entries

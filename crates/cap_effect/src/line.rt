@@ -1,12 +1,12 @@
 //! The effect of one line.
 
-ghost use Rattle.std.specs.Prelude.{◌≡◌, ℕ, ◌==◌, if◌then◌else◌, IfOk};
+ghost use Rattle.std.specs.Prelude.{◌≡◌, ℕ, IfOk};
 ghost use Rattle.cap_trace.specs.Seen.{fds_spelled};
 ghost use Rattle.cap_machine.specs.Effect.{effect_turn};
 ghost use Rattle.cap_effect.specs.declared.key.Key.{Key};
 ghost use Rattle.cap_effect.specs.Keys.{Cells};
 ghost use Rattle.cap_effect.specs.Values.{read};
-ghost use Rattle.cap_effect.specs.Effects.{base_cell, row_cell, changed};
+ghost use Rattle.cap_effect.specs.Effects.{base_cell, changed};
 ghost use Rattle.cap_effect.specs.Lines.{turned_cell, unlisted, IsEffectOf, IsRowOf, IsListOf, IsStarted};
 
 use crate::base::{Base, Others, Passing};

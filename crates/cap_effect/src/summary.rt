@@ -1,6 +1,6 @@
 //! What a segment of a trace does, and under which states before it something is found in it.
 
-ghost use Rattle.std.specs.Prelude.{◌≡◌, List, [], ◌∷◌, ◌++◌, IfOk};
+ghost use Rattle.std.specs.Prelude.{List, [], ◌∷◌, ◌++◌, IfOk};
 ghost use Rattle.cap_machine.specs.declared.step.Step.{Step};
 ghost use Rattle.cap_effect.specs.Preconditions.{IsSettled};
 ghost use Rattle.cap_effect.specs.Summaries.{Summarizes};

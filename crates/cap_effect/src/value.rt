@@ -1,7 +1,6 @@
 //! What a cell is after a segment, by the cells before it.
 
 ghost use Rattle.std.specs.Prelude.{◌≡◌, ℕ, Bool, true, IfOk, Option};
-ghost use Rattle.std.specs.Option.{option_copied};
 ghost use Rattle.cap_machine.specs.Op.{applied};
 ghost use Rattle.cap_effect.specs.declared.key.Key.{Key};
 ghost use Rattle.cap_effect.specs.Keys.{Cells};

@@ -1,5 +1,5 @@
 //! The place of a key among sorted entries.
-ghost use Rattle.std.specs.Prelude.{◌≡◌, ℕ, None, slice_get, option_map, IfOk, IfErr};
+ghost use Rattle.std.specs.Prelude.{◌≡◌, None, slice_get, option_map, IfOk, IfErr};
 ghost use Rattle.cap_effect.specs.Place.{IsAt, IsGap};
 ghost use Rattle.cap_effect.specs.Sorted.{found, Rises};
 
