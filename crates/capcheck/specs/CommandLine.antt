@@ -30,17 +30,25 @@ abbrev pub verbose_rule : Rule
 verbose_rule =
     record (new_rule (codes "verbose")) { short = Some 118; long = Some (codes "verbose"); action = Some SetTrue }
 
--- check [FILE]
-abbrev pub check_trace_words : App
-check_trace_words = with_rule (new_app (codes "check")) trace_rule
-
 -- with --profile and --verbose
 abbrev pub with_options : App → App
 with_options words = with_rule (with_rule words profile_rule) verbose_rule
 
+-- check [FILE]
+abbrev pub check_trace_words : App
+check_trace_words = with_rule (new_app (codes "check")) trace_rule
+
 -- the same, with --start and the options
 abbrev pub check_words : App
 check_words = with_options (with_rule check_trace_words start_rule)
+
+-- denials [FILE]
+abbrev pub denials_trace_words : App
+denials_trace_words = with_rule (new_app (codes "denials")) trace_rule
+
+-- the same, with --start and the options
+abbrev pub denials_words : App
+denials_words = with_options (with_rule denials_trace_words start_rule)
 
 -- edit FILE [SCRIPT]
 abbrev pub edit_texts_words : App
@@ -70,6 +78,9 @@ bare_words = on_top (λ s. record s {
   has_version = true;
 }) (new_app (codes "capcheck"))
 
+-- with the commands that read a trace as it comes
+abbrev pub asking_words : App
+asking_words = with_subcommand (with_subcommand bare_words check_words.top) denials_words.top
+
 abbrev pub capcheck : App
-capcheck =
-    with_subcommand (with_subcommand (with_subcommand bare_words check_words.top) edit_words.top) explain_words.top
+capcheck = with_subcommand (with_subcommand asking_words edit_words.top) explain_words.top

@@ -12,8 +12,10 @@ use Rattle.capcheck.specs.declared.plan.Plan.{Plan}
 use Rattle.capcheck.specs.declared.plan.Subject.{Subject}
 use Rattle.cap_machine.specs.declared.cell.Profile.{Profile}
 use Rattle.cap_machine.specs.declared.cell.Profile.TheVariants.{One, Two}
+use Rattle.cap_machine.specs.declared.question.Question.{Question}
+use Rattle.cap_machine.specs.declared.question.Question.TheVariants.{Findings, Denials}
 use Rattle.cap_session.specs.Commands.{position}
-use Rattle.capcheck.specs.declared.plan.Plan.TheVariants.{Check, Edit, Explain, Help, Usage, Memory}
+use Rattle.capcheck.specs.declared.plan.Plan.TheVariants.{Ask, Edit, Explain, Help, Usage, Memory}
 
 -- What a run reads and how: the trace of this name, or standard input; what is known before the trace, nothing or what the
 -- text of this name says, or standard input; the profile; and whether words on standard error are asked for.
@@ -23,10 +25,10 @@ pub record Given : Type 0 where
   pub profile : Profile
   pub verbose : Bool
 
--- a run of the program: a check; an edit, by the script of this name, or standard input; an explanation, of the line at a
--- position
+-- a run of the program: a question that is asked of the trace; an edit, by the script of this name, or standard input; an
+-- explanation, of the line at a position
 pub data Run : Type 0 where
-  checks : Given → Run
+  asks : Question → Given → Run
   edits : Given → Option Text → Run
   explains : Given → ℕ → Run
 
@@ -81,8 +83,8 @@ given_among rows = option_and_then
     (unless (is_input_twice (start_among rows) (text_among (codes "trace") rows)))
     (given_by (text_among (codes "trace") rows) (start_among rows) rows)
 
-abbrev pub check_among : List Row → Option Run
-check_among rows = option_map checks (given_among rows)
+abbrev pub ask_among : Question → List Row → Option Run
+ask_among question rows = option_map (asks question) (given_among rows)
 
 -- nothing, where the trace and the script are standard input both
 abbrev pub edit_among : List Row → Option Run
@@ -100,9 +102,10 @@ explain_among rows = option_and_then (λ given. option_map (explains given) (pos
 
 -- the run that a command and the values of its arguments name
 abbrev pub run_in : Text × List Row → Option Run
-run_in found = if bytes_eq found.0 (codes "check") then check_among found.1
+run_in found = if bytes_eq found.0 (codes "check") then ask_among Findings found.1
+    else (if bytes_eq found.0 (codes "denials") then ask_among Denials found.1
     else (if bytes_eq found.0 (codes "edit") then edit_among found.1
-    else (if bytes_eq found.0 (codes "explain") then explain_among found.1 else None))
+    else (if bytes_eq found.0 (codes "explain") then explain_among found.1 else None)))
 
 -- the run that the words name by `clap`'s matches
 abbrev pub run_asked : List Text → Option Run
@@ -142,7 +145,7 @@ given_of s = record {
 
 -- the plan is what the words ask for; of running out of memory nothing is said
 abbrev pub Fits : List Text → Plan → Type 0
-Fits words (Check subject) = NamesRun words (checks (given_of subject))
+Fits words (Ask question subject) = NamesRun words (asks question (given_of subject))
 Fits words (Edit subject script) = NamesRun words (edits (given_of subject) (seen script))
 Fits words (Explain subject position) = NamesRun words (explains (given_of subject) position)
 Fits words (Help text) = Requests (fault_of capcheck words)
@@ -153,7 +156,7 @@ Fits words Memory = Unit {0}
 
 -- the run of a plan
 abbrev pub run_of : Plan → Option Run
-run_of (Check subject) = Some (checks (given_of subject))
+run_of (Ask question subject) = Some (asks question (given_of subject))
 run_of (Edit subject script) = Some (edits (given_of subject) (seen script))
 run_of (Explain subject position) = Some (explains (given_of subject) position)
 run_of (Help text) = None
@@ -162,7 +165,7 @@ run_of Memory = None
 
 -- the answer to words that give no matches, by the kind of the error
 abbrev pub TellsKind : ErrorKind → Plan → Type 0
-TellsKind k (Check subject) = ⊥
+TellsKind k (Ask question subject) = ⊥
 TellsKind k (Edit subject script) = ⊥
 TellsKind k (Explain subject position) = ⊥
 TellsKind k (Help text) = IsRequest k
@@ -171,7 +174,7 @@ TellsKind k Memory = Unit {0}
 
 -- the answer to words that name no run
 abbrev pub TellsMistake : Plan → Type 0
-TellsMistake (Check subject) = ⊥
+TellsMistake (Ask question subject) = ⊥
 TellsMistake (Edit subject script) = ⊥
 TellsMistake (Explain subject position) = ⊥
 TellsMistake (Help text) = ⊥

@@ -1,25 +1,23 @@
 -- What a run reads and writes, and the status that it ends with. `Finishes` is the contract of `answer`, which is the
 -- whole program but for its arguments and its devices.
-use Rattle.std.specs.Prelude.{◌≡◌, ◌⊎◌, ◌≤◌, ◌^◌, ℕ, List, Option, Some, None}
-use Rattle.std.specs.Option.{option_map}
+use Rattle.std.specs.Prelude.{◌≡◌, ◌⊎◌, ℕ, List, [], Option, Some, None}
 use Rattle.std.specs.Borrow.{Bor}
 use Rattle.clap.specs.Words.{Text}
 use Rattle.cap_machine.specs.declared.cell.Profile.{Profile}
-use Rattle.cap_machine.specs.State.{usual}
+use Rattle.cap_machine.specs.declared.question.Question.{Question}
 use Rattle.cap_session.specs.Devices.{SourceState, SinkState}
-use Rattle.cap_session.specs.Streams.{Streams}
-use Rattle.cap_session.specs.StartStreams.{StartStreams}
+use Rattle.cap_session.specs.StartStreams.{AskedStartStreams}
 use Rattle.cap_session.specs.EditStreams.{EditStreams}
-use Rattle.cap_session.specs.ExplainStreams.{ExplainStreams, ExplainStartStreams}
+use Rattle.cap_session.specs.ExplainStreams.{ExplainStartStreams}
 use Rattle.cap_session.specs.Outcome.{status_of, explain_status_of}
 use Rattle.cap_session.specs.declared.outcome.Outcome.{Outcome}
 use Rattle.cap_session.specs.declared.outcome.Outcome.TheVariants.{ReadFault}
 use Rattle.cap_session.specs.declared.outcome.ExplainOutcome.{ExplainOutcome}
 use Rattle.cap_session.specs.declared.outcome.ExplainOutcome.TheVariants.{Ended}
-use Rattle.capcheck.specs.Texts.{Known, Gives, MayFail}
+use Rattle.capcheck.specs.Texts.{Known, Gives, MayFail, holds}
 use Rattle.capcheck.specs.Plans.{Fits, seen}
 use Rattle.capcheck.specs.declared.plan.Plan.{Plan}
-use Rattle.capcheck.specs.declared.plan.Plan.TheVariants.{Check, Edit, Explain, Help, Usage, Memory}
+use Rattle.capcheck.specs.declared.plan.Plan.TheVariants.{Ask, Edit, Explain, Help, Usage, Memory}
 
 -- how often each text may be read
 abbrev pub turns : ℕ
@@ -31,95 +29,43 @@ pub record Unopened (may_fail : Type 0) (w0 w1 : SinkState) (outcome : Outcome) 
   pub silent : w1 ≡ w0
   pub fault : outcome ≡ ReadFault
 
--- ---- the runs: r is the reader of the trace, z that of the start, s that of the script
-
--- a trace was opened and checked as it came, from the usual start
-pub record Checks (profile : Profile) (trace : Known) (w0 w1 : SinkState) (outcome : Outcome) : Type 0 where
-  pub r0 : SourceState
-  pub r1 : SourceState
-  pub text : Gives trace r0.bytes
-  pub stream : Streams profile usual turns r0 r1 w0 w1 outcome
-
--- a start and a trace were opened, and the trace was checked from that start
-pub record ChecksFrom (profile : Profile) (start trace : Known) (w0 w1 : SinkState) (outcome : Outcome) : Type 0 where
-  pub z0 : SourceState
-  pub z1 : SourceState
-  pub r0 : SourceState
-  pub r1 : SourceState
-  pub start_text : Gives start z0.bytes
-  pub text : Gives trace r0.bytes
-  pub stream : StartStreams profile turns z0 z1 r0 r1 w0 w1 outcome
-
--- a trace and a script were opened, and the script was replied to
-pub record Edits (profile : Profile) (trace script : Known) (w0 w1 : SinkState) (outcome : Outcome) : Type 0 where
-  pub r0 : SourceState
-  pub r1 : SourceState
-  pub s0 : SourceState
-  pub s1 : SourceState
-  pub trace_text : Gives trace r0.bytes
-  pub script_text : Gives script s0.bytes
-  pub stream : EditStreams profile turns r0 r1 s0 s1 w0 w1 outcome
-
--- a trace was opened and read, and line k of it explained, from the usual start
-pub record Explains (profile : Profile) (k : ℕ) (trace : Known) (w0 w1 : SinkState) (outcome : ExplainOutcome) :
+-- Two texts of which this is known were opened, the first as x and the second as y, and then they were read so: each from
+-- its state at first to its state at the end.
+pub record OpensBoth (first second : Known) (P : SourceState → SourceState → SourceState → SourceState → Type 0) :
     Type 0 where
-  pub r0 : SourceState
-  pub r1 : SourceState
-  pub text : Gives trace r0.bytes
-  pub stream : ExplainStreams profile usual turns k r0 r1 w0 w1 outcome
+  pub x0 : SourceState
+  pub x1 : SourceState
+  pub y0 : SourceState
+  pub y1 : SourceState
+  pub first_text : Gives first x0.bytes
+  pub second_text : Gives second y0.bytes
+  pub reads : P x0 x1 y0 y1
 
--- a start and a trace were opened, and line k of the trace was explained from that start
-pub record ExplainsFrom (profile : Profile) (k : ℕ) (start trace : Known) (w0 w1 : SinkState)
-    (outcome : ExplainOutcome) : Type 0 where
-  pub z0 : SourceState
-  pub z1 : SourceState
-  pub r0 : SourceState
-  pub r1 : SourceState
-  pub start_text : Gives start z0.bytes
-  pub text : Gives trace r0.bytes
-  pub stream : ExplainStartStreams profile turns k z0 z1 r0 r1 w0 w1 outcome
+-- ---- the runs
 
--- the start or the trace may be one that can't be opened
-abbrev pub EitherMayFail : Option Known → Known → Type 0
-EitherMayFail None trace = MayFail trace
-EitherMayFail (Some start) trace = MayFail start ⊎ MayFail trace
+-- this was asked of the trace from the start
+abbrev pub AsksText : Question → Profile → Known → Known → SinkState → SinkState → Outcome → Type 0
+AsksText question profile start trace w0 w1 outcome = Unopened (MayFail start ⊎ MayFail trace) w0 w1 outcome
+    ⊎ OpensBoth start trace (λ z0 z1 r0 r1. AskedStartStreams question profile turns z0 z1 r0 r1 w0 w1 outcome)
 
-abbrev pub ChecksOpened : Profile → Option Known → Known → SinkState → SinkState → Outcome → Type 0
-ChecksOpened profile None trace w0 w1 outcome = Checks profile trace w0 w1 outcome
-ChecksOpened profile (Some start) trace w0 w1 outcome = ChecksFrom profile start trace w0 w1 outcome
-
-abbrev pub ChecksText : Profile → Option Known → Known → SinkState → SinkState → Outcome → Type 0
-ChecksText profile start trace w0 w1 outcome =
-    Unopened (EitherMayFail start trace) w0 w1 outcome ⊎ ChecksOpened profile start trace w0 w1 outcome
-
+-- the script was replied to, on the trace
 abbrev pub EditsText : Profile → Known → Known → SinkState → SinkState → Outcome → Type 0
-EditsText profile trace script w0 w1 outcome =
-    Unopened (MayFail trace ⊎ MayFail script) w0 w1 outcome
-    ⊎ Edits profile trace script w0 w1 outcome
+EditsText profile trace script w0 w1 outcome = Unopened (MayFail trace ⊎ MayFail script) w0 w1 outcome
+    ⊎ OpensBoth trace script (λ r0 r1 s0 s1. EditStreams profile turns r0 r1 s0 s1 w0 w1 outcome)
 
 -- a text can't be opened, and nothing was written
 abbrev pub Unexplained : Type 0 → SinkState → SinkState → ExplainOutcome → Type 0
 Unexplained may_fail w0 w1 outcome = (o : Outcome) × Unopened may_fail w0 w1 o × (outcome ≡ Ended o)
 
-abbrev pub ExplainsOpened : Profile → ℕ → Option Known → Known → SinkState → SinkState → ExplainOutcome → Type 0
-ExplainsOpened profile k None trace w0 w1 outcome = Explains profile k trace w0 w1 outcome
-ExplainsOpened profile k (Some start) trace w0 w1 outcome = ExplainsFrom profile k start trace w0 w1 outcome
+-- line k of the trace was explained from the start
+abbrev pub ExplainsText : Profile → ℕ → Known → Known → SinkState → SinkState → ExplainOutcome → Type 0
+ExplainsText profile k start trace w0 w1 outcome = Unexplained (MayFail start ⊎ MayFail trace) w0 w1 outcome
+    ⊎ OpensBoth start trace (λ z0 z1 r0 r1. ExplainStartStreams profile turns k z0 z1 r0 r1 w0 w1 outcome)
 
-abbrev pub ExplainsText : Profile → ℕ → Option Known → Known → SinkState → SinkState → ExplainOutcome → Type 0
-ExplainsText profile k start trace w0 w1 outcome =
-    Unexplained (EitherMayFail start trace) w0 w1 outcome ⊎ ExplainsOpened profile k start trace w0 w1 outcome
-
--- what is known of the start, where there is one
-abbrev pub known_start : (Option Text → Known) → Option (Option (Bor Text)) → Option Known
-known_start known = option_map (λ name. known (seen name))
-
--- the readers of a start and of a trace, where f says what a contract sees of a reader
-module _ {R : Type 0} where
-  abbrev pub StartGives : (R → SourceState) → Option Known → Option R → Type 0
-  StartGives f None None = Unit {0}
-  StartGives f (Some start) (Some reader) = Gives start (f reader).bytes × (2 ^ 32 ≤ (f reader).room)
-  StartGives f None (Some reader) = ⊥
-  StartGives f (Some start) None = ⊥
+-- What is known of the start: where none is named it is an empty text, which is the usual start.
+abbrev pub known_start : (Option Text → Known) → Option (Option (Bor Text)) → Known
+known_start known None = holds []
+known_start known (Some name) = known (seen name)
 
 -- the status is that of such an outcome
 abbrev pub StatusBy : (Outcome → Type 0) → ℕ → Type 0
@@ -130,8 +76,8 @@ ExplainStatusBy P status = (outcome : ExplainOutcome) × P outcome × (status �
 
 -- A plan was carried out, where this is known of the texts of names.
 abbrev pub CarriesOut : (Option Text → Known) → SinkState → SinkState → Plan → ℕ → Type 0
-CarriesOut known w0 w1 (Check subject) status =
-    StatusBy (ChecksText subject.profile (known_start known subject.start) (known (seen subject.trace)) w0 w1) status
+CarriesOut known w0 w1 (Ask question subject) status =
+    StatusBy (AsksText question subject.profile (known_start known subject.start) (known (seen subject.trace)) w0 w1) status
 CarriesOut known w0 w1 (Edit subject script) status =
     StatusBy (EditsText subject.profile (known (seen subject.trace)) (known (seen script)) w0 w1) status
 CarriesOut known w0 w1 (Explain subject position) status =

@@ -1,7 +1,7 @@
 -- What is known of the text that a name stands for: nothing, as of a file, that there is none, or its bytes.
-use Rattle.std.specs.Prelude.{◌≡◌, ℕ, Bool, true, false, List, Option, Some}
+use Rattle.std.specs.Prelude.{◌≡◌, ℕ, Bool, true, false, List, Option, Some, []}
 use Rattle.capcheck.specs.declared.texts.Opened.{Opened}
-use Rattle.capcheck.specs.declared.texts.Opened.TheVariants.{File, Standard}
+use Rattle.capcheck.specs.declared.texts.Opened.TheVariants.{File, Standard, Empty}
 
 -- what is known of the text of a name: nothing, that there is none, or its bytes
 pub data Known : Type 0 where
@@ -25,9 +25,11 @@ module _ {F S : Type 0} where
   abbrev pub is_file : Opened F S → Bool
   is_file (File file) = true
   is_file (Standard input) = false
+  is_file Empty = false
 
   -- the bytes still to come, where they are known: those of the device in it
   abbrev pub remaining_of : (F → Option (List ℕ)) → (S → Option (List ℕ)) → Opened F S
       → Option (List ℕ)
   remaining_of of_file of_standard (File file) = of_file file
   remaining_of of_file of_standard (Standard input) = of_standard input
+  remaining_of of_file of_standard Empty = Some []

@@ -21,8 +21,9 @@ Examples:
   capcheck check server.trace
   capcheck edit server.trace session.script
   capcheck explain server.trace 9
+  capcheck denials server.trace
 
-`capcheck help check`, `capcheck help edit` and `capcheck help explain` say more.";
+`capcheck help check` and the same for each other command say more.";
 
 /// The end of `capcheck check --help`.
 pub const CHECK: &str = "\
@@ -134,3 +135,30 @@ Exit status:
 Examples:
   capcheck explain server.trace 9
   capcheck explain --profile 2 --start server.start server.trace 9";
+
+/// The end of `capcheck denials --help`.
+pub const DENIALS: &str = "\
+Reads a trace, and prints what was lacking for each call that was refused with
+errno 93 (ENOTCAPABLE) or 94 (ECAPMODE), and then how many there are:
+  30 100 read lacks 5 CAP_READ
+  41 100 open inside
+  52 100 ioctl unexplained
+  denials 3
+At line 30 descriptor 5 was held without CAP_READ, which the call needs. At line 41
+the process was in capability mode, which doesn't always allow the call. At line 52
+nothing that is known explains the refusal: it may be another limit, a path that
+leaves its directory, or a descriptor of which nothing is known; where `check` has a
+finding, the refusal is wrong.
+
+A line that can't be read is refused as by `check`. Starts and profiles are those of
+`check`.
+
+Exit status:
+  0  no call was refused
+  1  some calls were refused
+  2  the command line is wrong, or a line was refused
+  3  no answer: memory ran out (E9), a file can't be opened or read (E11),
+     standard output can't be written (E12), or an input has no end (E13)
+
+Example:
+  capcheck denials server.trace";

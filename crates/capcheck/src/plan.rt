@@ -1,18 +1,18 @@
-//! What the words of the command line ask for: a check, an edit, an explanation, help, or nothing, where they are a
-//! mistake.
+//! What the words of the command line ask for: a check or its denials, an edit, an explanation, help, or nothing, where
+//! they are a mistake.
 //!
 //! `clap` reads the words. [`plan_of`] makes a [`Plan`] of its matches or of its error.
 ghost use Rattle.std.specs.Prelude.{◌≡◌, IfOk, IsTrue, Some, ◌↔◌, codes, map, option_and_then, option_map};
 ghost use Rattle.clap.specs.Words.{FailsBy, fault_of, first_of, found_of, kind_of, rows_of, subcommand_of};
 ghost use Rattle.clap.specs.Words.{subcommand_rows_of};
 ghost use Rattle.capcheck.specs.CommandLine.{capcheck};
-ghost use Rattle.capcheck.specs.Plans.{Fits, IsRequest, TellsKind, TellsMistake, check_among, edit_among};
+ghost use Rattle.capcheck.specs.Plans.{Fits, IsRequest, TellsKind, TellsMistake, ask_among, edit_among};
 ghost use Rattle.capcheck.specs.Plans.{explain_among, given_among, given_by, given_of, is_input_twice};
 ghost use Rattle.capcheck.specs.Plans.{position_among, profile_among, profile_named, run_in, run_of, seen};
 ghost use Rattle.capcheck.specs.Plans.{start_among, text_among, text_named, verbose_among};
 
 use crate::words::command;
-use cap_machine::Profile;
+use cap_machine::{Profile, Question};
 use cap_session::number_of;
 use clap::error::ErrorKind;
 use clap::{ArgMatches, Error};
@@ -43,8 +43,11 @@ pub struct Subject<'a> {
 /// What the program is to do.
 #[derive(Drop)]
 pub enum Plan<'a> {
-    /// Check the trace.
-    Check(Subject<'a>),
+    /// Ask this of the trace: a check asks for its findings.
+    Ask {
+        question: Question,
+        subject: Subject<'a>,
+    },
     /// Load the trace, and work through the script of this name, or standard input. There is no start.
     Edit {
         subject: Subject<'a>,
@@ -65,7 +68,7 @@ pub enum Plan<'a> {
 
 /// What the words after the program's name ask for.
 ///
-/// - `Check`, `Edit` and `Explain`: only where `clap` finds no fault in the words, and with just the names, the options,
+/// - `Ask`, `Edit` and `Explain`: only where `clap` finds no fault in the words, and with just the names, the options,
 ///   the position and the profile that its matches give. The name `-` is standard input, as is a trace or a script that
 ///   isn't named. The profile is 1 where the words name none.
 /// - `Help`: only where they ask for help or for the version.
@@ -105,18 +108,20 @@ fn plan_named<'a>(name: &str, found: &ArgMatches<'a>) -> Option<Plan<'a>>
     ensures { option_map run_of result ≡ option_map Some (run_in (name.now, rows_of (found_of found.now))) }
 {
     match name {
-        "check" => check_in(found),
+        "check" => ask_in(found, Question::Findings),
+        "denials" => ask_in(found, Question::Denials),
         "edit" => edit_in(found),
         "explain" => explain_in(found),
         _ => None,
     }
 }
 
-/// The plan of the arguments of `check`.
-fn check_in<'a>(found: &ArgMatches<'a>) -> Option<Plan<'a>>
-    ensures { option_map run_of result ≡ option_map Some (check_among (rows_of (found_of found.now))) }
+/// The plan of the arguments of `check` or of `denials`.
+fn ask_in<'a>(found: &ArgMatches<'a>, question: Question) -> Option<Plan<'a>>
+    ensures { option_map run_of result ≡ option_map Some (ask_among question (rows_of (found_of found.now))) }
 {
-    Some(Plan::Check(subject_in(found)?))
+    let subject = subject_in(found)?;
+    Some(Plan::Ask { question, subject })
 }
 
 /// The plan of the arguments of `edit`.

@@ -1,24 +1,24 @@
-//! What the program does with its words: it opens the texts, makes the check, the edit or the explanation, says on standard error why
-//! there is no answer, and ends with the exit status.
+//! What the program does with its words: it opens the texts, asks what is to be asked of the trace, replies to the script or
+//! explains the line, says on standard error why there is no answer, and ends with the exit status.
 //!
 //! [`run`] takes words and devices from the runtime. [`answer`] is all the rest, over any texts and any output.
 
-ghost use Rattle.std.specs.Prelude.{◌≡◌, ◌≤◌, ◌^◌, IfErr, IfOk, map};
+ghost use Rattle.std.specs.Prelude.{◌≡◌, ◌≤◌, ◌^◌, ◌⊎◌, IfErr, IfOk, map};
 ghost use Rattle.std.specs.Option.{option_map};
 ghost use Rattle.cap_session.specs.Outcome.{status_of, explain_status_of};
 ghost use Rattle.capcheck.specs.Faults.{fault_code};
 ghost use Rattle.capcheck.specs.Plans.{seen};
-ghost use Rattle.capcheck.specs.Runs.{Finishes, CarriesOut, ChecksText, EditsText, ExplainsText, known_start};
-ghost use Rattle.capcheck.specs.Runs.{EitherMayFail, StartGives};
-ghost use Rattle.capcheck.specs.Texts.{Gives};
+ghost use Rattle.capcheck.specs.Runs.{AsksText, CarriesOut, EditsText, ExplainsText, Finishes, known_start};
+ghost use Rattle.capcheck.specs.Texts.{Gives, MayFail};
 
 use crate::messages::{Messages, Output};
 use crate::notes::Notes;
 use crate::plan::{Plan, Subject, plan_of};
 use crate::texts::{SystemTexts, Texts};
+use cap_machine::Question;
 use cap_session::{
-    Counted, ExplainOutcome, Failed, Outcome, Sink, check_stream_as, check_stream_from_as,
-    edit_stream_as, explain_stream_as, explain_stream_from_as,
+    Counted, ExplainOutcome, Failed, Outcome, Sink, check_stream_from_as, denials_stream,
+    edit_stream_as, explain_stream_from_as,
 };
 use std::alloc::Global;
 use std::rt::{Env, Files};
@@ -99,9 +99,9 @@ fn carry_out<T: Texts, W: Sink, R: Print + Eprint + AllocGlobal>(
     ensures { CarriesOut (T.known texts.now) (W.state output.old) (W.state output.new) plan.entry result }
 {
     match plan {
-        Plan::Check(subject) => {
+        Plan::Ask { question, subject } => {
             let messages = Messages::of(notes, &subject);
-            let outcome = check(rt.alloc(), texts, output, &subject);
+            let outcome = ask(rt.alloc(), texts, output, question, &subject);
             ended(rt, &messages, outcome)
         }
         Plan::Edit { subject, script } => {
@@ -126,57 +126,60 @@ fn carry_out<T: Texts, W: Sink, R: Print + Eprint + AllocGlobal>(
     }
 }
 
-/// Opens the start, where there is one, and then the trace.
-fn open_both<T: Texts>(
-    texts: &T,
-    subject: &Subject<'_>,
-) -> Result<(Option<T::Reader>, T::Reader), Failed>
-    ensures start { IfOk result
-        (λ r. StartGives T.Reader.state (known_start (T.known texts.now) subject.now.start) r.0) }
-    ensures trace { IfOk result
-        (λ r. Gives (T.known texts.now (seen subject.now.trace)) (T.Reader.state r.1).bytes) }
-    ensures room { IfOk result (λ r. 2 ^ 32 ≤ (T.Reader.state r.1).room) }
-    ensures fails { IfErr result (λ _. EitherMayFail (known_start (T.known texts.now) subject.now.start)
-        (T.known texts.now (seen subject.now.trace))) }
+/// Opens the start. Where none is named that is a text without any bytes, which is the usual start.
+fn open_start<T: Texts>(texts: &T, start: Option<Option<&str>>) -> Result<T::Reader, Failed>
+    ensures text { IfOk result (λ z. Gives (known_start (T.known texts.now) start.entry) (T.Reader.state z).bytes) }
+    ensures room { IfOk result (λ z. 2 ^ 32 ≤ (T.Reader.state z).room) }
+    ensures fails { IfErr result (λ _. MayFail (known_start (T.known texts.now) start.entry)) }
 {
-    match subject.start {
-        None => {
-            let trace = texts.open(subject.trace)?;
-            Ok((None, trace))
-        }
-        Some(start) => {
-            let start = texts.open(start)?;
-            let trace = texts.open(subject.trace)?;
-            Ok((Some(start), trace))
-        }
+    match start {
+        Some(name) => texts.open(name),
+        None => Ok(texts.empty()),
     }
 }
 
-/// Checks the trace in the profile, from the start or from the usual one, and writes its report or its first refused
-/// line.
+/// Opens the start, and then the trace.
+fn open_both<T: Texts>(texts: &T, subject: &Subject<'_>) -> Result<(T::Reader, T::Reader), Failed>
+    ensures start { IfOk result
+        (λ r. Gives (known_start (T.known texts.now) subject.now.start) (T.Reader.state r.0).bytes) }
+    ensures trace { IfOk result
+        (λ r. Gives (T.known texts.now (seen subject.now.trace)) (T.Reader.state r.1).bytes) }
+    ensures start_room { IfOk result (λ r. 2 ^ 32 ≤ (T.Reader.state r.0).room) }
+    ensures trace_room { IfOk result (λ r. 2 ^ 32 ≤ (T.Reader.state r.1).room) }
+    ensures fails { IfErr result (λ _. MayFail (known_start (T.known texts.now) subject.now.start)
+        ⊎ MayFail (T.known texts.now (seen subject.now.trace))) }
+{
+    let start = open_start(texts, subject.start)?;
+    let trace = texts.open(subject.trace)?;
+    Ok((start, trace))
+}
+
+/// Asks this of the trace in the profile, from the start, and writes the answer or the first refused line: a check asks for
+/// the findings.
 ///
 /// The start is opened first, and both are opened before either is read. Neither stream is buffered here: a piece
 /// is read by one system call, and the report is written by one where the system takes it whole.
-pub fn check<T: Texts, W: Sink>(
+pub fn ask<T: Texts, W: Sink>(
     alloc: Global,
     texts: &T,
-    report: &mut W,
+    output: &mut W,
+    question: Question,
     subject: &Subject<'_>,
 ) -> Outcome
-    requires { 1 ≤ (W.state report.old).room }
-    ensures { ChecksText subject.now.profile (known_start (T.known texts.now) subject.now.start)
-        (T.known texts.now (seen subject.now.trace)) (W.state report.old) (W.state report.new) result }
+    requires { 1 ≤ (W.state output.old).room }
+    ensures { AsksText question subject.now.profile (known_start (T.known texts.now) subject.now.start)
+        (T.known texts.now (seen subject.now.trace)) (W.state output.old) (W.state output.new) result }
 {
     let Ok(opened) = open_both(texts, subject) else {
         return Outcome::ReadFault;
     };
-    let (start, mut trace) = opened;
+    let (mut start, mut trace) = opened;
     let profile = subject.profile;
-    match start {
-        None => check_stream_as(alloc, profile, TURNS, &mut trace, report),
-        Some(mut start) => {
-            check_stream_from_as(alloc, profile, TURNS, &mut start, &mut trace, report)
-        }
+    match question {
+        Question::Findings => check_stream_from_as(
+            alloc, profile, TURNS, &mut start, &mut trace, output,
+        ),
+        Question::Denials => denials_stream(alloc, profile, TURNS, &mut start, &mut trace, output),
     }
 }
 
@@ -203,8 +206,8 @@ pub fn edit<T: Texts, W: Sink>(
     edit_stream_as(alloc, profile, TURNS, &mut trace, &mut script, replies)
 }
 
-/// Explains a line of the trace in the profile, from the start or from the usual one, and writes that, or why there is
-/// no explanation. The start is opened first, and both are opened before either is read.
+/// Explains a line of the trace in the profile, from the start, and writes that, or why there is no explanation. The start
+/// is opened first, and both are opened before either is read.
 pub fn explain<T: Texts, W: Sink>(
     alloc: Global,
     texts: &T,
@@ -219,14 +222,11 @@ pub fn explain<T: Texts, W: Sink>(
     let Ok(opened) = open_both(texts, subject) else {
         return ExplainOutcome::Ended(Outcome::ReadFault);
     };
-    let (start, mut trace) = opened;
+    let (mut start, mut trace) = opened;
     let profile = subject.profile;
-    match start {
-        None => explain_stream_as(alloc, profile, TURNS, position, &mut trace, output),
-        Some(mut start) => explain_stream_from_as(
-            alloc, profile, TURNS, position, &mut start, &mut trace, output,
-        ),
-    }
+    explain_stream_from_as(
+        alloc, profile, TURNS, position, &mut start, &mut trace, output,
+    )
 }
 
 /// Prints on standard error what is wrong with the words; whether that can be written doesn't matter.

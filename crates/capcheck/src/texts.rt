@@ -2,7 +2,7 @@
 //! standard input.
 //!
 //! Contracts say of a text what is known of its bytes: of a file nothing, and over texts in memory all.
-ghost use Rattle.std.specs.Prelude.{◌≡◌, ◌^◌, ◌≤◌, List, ℕ, Option, IfErr, IfOk, is_some};
+ghost use Rattle.std.specs.Prelude.{◌≡◌, ◌^◌, ◌≤◌, List, [], Some, ℕ, Option, IfErr, IfOk, is_some};
 ghost use Rattle.std.specs.Option.{option_map};
 ghost use Rattle.capcheck.specs.Texts.{Gives, Known, MayFail, is_file, remaining_of, unknown};
 
@@ -27,6 +27,11 @@ pub trait Texts {
             (λ r. Gives (known self.now (option_map (λ n. n.now) name.entry)) (Self.Reader.state r).bytes) }
         ensures room { IfOk result (λ r. 2 ^ 32 ≤ (Self.Reader.state r).room) }
         ensures fails { IfErr result (λ _. MayFail (known self.now (option_map (λ n. n.now) name.entry))) };
+
+    /// A text without any bytes.
+    fn empty(&self) -> Self::Reader
+        ensures text { (Self.Reader.state result).bytes ≡ Some [] }
+        ensures room { 2 ^ 32 ≤ (Self.Reader.state result).room };
 }
 
 /// The files of the system and standard input, with notes of what is read. Of their bytes nothing is known.
@@ -60,15 +65,20 @@ impl<'a, R: Files + Input> Texts for SystemTexts<'a, R> {
             }
         }
     }
+
+    fn empty(&self) -> Counted<Noted<'a, Opened<R::File, R::Reader>>> {
+        Counted::new(Noted::new(Opened::Empty, self.notes.open(), self.notes))
+    }
 }
 
-/// A file, or standard input.
+/// A file, standard input, or nothing.
 ///
-/// Neither is buffered here: each read is one system call into the caller's buffer.
+/// None is buffered here: each read is one system call into the caller's buffer.
 #[derive(Drop)]
 pub enum Opened<F: Drop, S: Drop> {
     File(F),
     Standard(S),
+    Empty,
 }
 
 /// Opens the file of this name, or standard input where there is none.
@@ -88,6 +98,7 @@ impl<F: Read + Drop, S: Read + Drop> Read for Opened<F, S> {
         match self {
             Opened::File(file) => file.read(buf),
             Opened::Standard(input) => input.read(buf),
+            Opened::Empty => Ok(0),
         }
     }
 }

@@ -1,11 +1,12 @@
-//! The command line, as `clap` is given it: the three commands and their arguments. The texts of help stand in `help`.
+//! The command line, as `clap` is given it: the commands and their arguments. The texts of help stand in `help`.
 //!
 //! The contract of [`command`] says that it builds the command line which `specs/CommandLine.antt` has as a value.
 ghost use Rattle.std.specs.Prelude.{◌≡◌, IfOk, false};
 ghost use Rattle.clap.specs.Words.{app_of, rule_of, shape_of};
 ghost use Rattle.clap.specs.declared.builder.command.Command.TheViews.{out-Command};
-ghost use Rattle.capcheck.specs.CommandLine.{bare_words, capcheck, check_words, edit_words, explain_words};
-ghost use Rattle.capcheck.specs.CommandLine.{check_trace_words, edit_texts_words, explain_line_words};
+ghost use Rattle.capcheck.specs.CommandLine.{asking_words, bare_words, capcheck, check_words, denials_words};
+ghost use Rattle.capcheck.specs.CommandLine.{check_trace_words, denials_trace_words, edit_texts_words, edit_words};
+ghost use Rattle.capcheck.specs.CommandLine.{explain_line_words, explain_words};
 ghost use Rattle.capcheck.specs.CommandLine.{needed_trace_rule, position_rule, profile_rule, script_rule, start_rule};
 ghost use Rattle.capcheck.specs.CommandLine.{trace_rule, verbose_rule};
 
@@ -17,10 +18,18 @@ use std::alloc::{AllocError, Global};
 pub fn command<'a>(alloc: Global) -> Result<Command<'a>, AllocError>
     ensures { IfOk result (λ c. app_of c ≡ capcheck) }
 {
-    bare_command(alloc)?
-        .subcommand(check_command(alloc)?)?
+    asking_command(alloc)?
         .subcommand(edit_command(alloc)?)?
         .subcommand(explain_command(alloc)?)
+}
+
+/// The commands that read a trace as it comes.
+fn asking_command<'a>(alloc: Global) -> Result<Command<'a>, AllocError>
+    ensures { IfOk result (λ c. app_of c ≡ asking_words) }
+{
+    bare_command(alloc)?
+        .subcommand(check_command(alloc)?)?
+        .subcommand(denials_command(alloc)?)
 }
 
 /// The program's own settings, with no command yet.
@@ -58,7 +67,29 @@ fn check_trace_command<'a>(alloc: Global) -> Result<Command<'a>, AllocError>
         .arg(trace_arg(alloc))
 }
 
-/// The trace of `check`.
+/// `denials [FILE]`, with `--start` and the options.
+fn denials_command<'a>(alloc: Global) -> Result<Command<'a>, AllocError>
+    ensures shape { IfOk result (λ c. shape_of c ≡ denials_words.top) }
+    ensures local { IfOk result (λ c. (out-Command c).has_globals ≡ false) }
+{
+    denials_trace_command(alloc)?
+        .arg(start_arg(alloc))?
+        .arg(profile_arg(alloc))?
+        .arg(verbose_arg(alloc))
+}
+
+/// `denials [FILE]`.
+fn denials_trace_command<'a>(alloc: Global) -> Result<Command<'a>, AllocError>
+    ensures shape { IfOk result (λ c. shape_of c ≡ denials_trace_words.top) }
+    ensures local { IfOk result (λ c. (out-Command c).has_globals ≡ false) }
+{
+    Command::new(alloc, "denials")
+        .about("Shows what was lacking for calls that were refused")
+        .after_help(help::DENIALS)
+        .arg(trace_arg(alloc))
+}
+
+/// The trace of `check` and of `denials`.
 fn trace_arg<'a>(alloc: Global) -> Arg<'a>
     ensures rule { rule_of result ≡ trace_rule }
     ensures local { result.global ≡ false }
