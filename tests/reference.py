@@ -1,10 +1,11 @@
 #!/usr/bin/env python3
 """The rules of capcheck once more, not made from the definitions that the proofs rest on, as plainly as Python
 allows. `tests/compare` holds the program against it: a proof ties the program to its definitions, and this ties the
-definitions to a second reading of docs/FORMAT.md, docs/RULES.md, docs/SCRIPTS.md and docs/EXPLAIN.md.
+definitions to a second reading of docs/FORMAT.md, docs/RULES.md, docs/SCRIPTS.md, docs/EXPLAIN.md and docs/SANDBOXING.md.
 
-It runs as the program does: tests/reference.py check [FILE] [--start FILE] [--profile N], edit FILE [SCRIPT] [--profile N], or
-explain FILE K [--start FILE] [--profile N].
+It runs as the program does: tests/reference.py check [FILE] [--start FILE] [--profile N], edit FILE [SCRIPT] [--profile N],
+explain FILE K [--start FILE] [--profile N], limits FILE [K] [--start FILE] [--profile N], or
+denials [FILE] [--start FILE] [--profile N]. `tests/compare --laws` tries what is proved of limits on the answers given here.
 """
 
 import argparse
@@ -388,10 +389,12 @@ SET, CLEAR, UNSURE = "set", "clear", "unsure"
 
 
 class Held(NamedTuple):
-    """The cell of a descriptor that is open: its rights, and its close-on-exec flag."""
+    """The cell of a descriptor that is open: its rights, and its close-on-exec flag. The marks are for limits: a cell that comes from
+    a marked one, through held cells alone, has its marks."""
 
     rights: frozenset
     flag: str = UNSURE
+    marks: frozenset = frozenset()
 
 
 class Process:
@@ -442,20 +445,20 @@ def flag_of_copy(name, given, old):
 def limited(cell, asked):
     """A cell after a limit."""
     if isinstance(cell, Held):
-        return Held(cell.rights & asked, cell.flag)
+        return cell._replace(rights=cell.rights & asked)
     return Held(asked - {NEVER_LIMITED}, UNSURE)
 
 
 def narrowed(cell):
     """A cell after a limit that isn't one of rights."""
-    return Held(cell.rights - {NEVER_LIMITED}, cell.flag) if isinstance(cell, Held) else UNKNOWN
+    return cell._replace(rights=cell.rights - {NEVER_LIMITED}) if isinstance(cell, Held) else UNKNOWN
 
 
 def with_flags(cell, words):
     """A cell after F_SETFD."""
     if set(words) - {"FD_CLOEXEC"}:
         cell = narrowed(cell)
-    return Held(cell.rights, SET if "FD_CLOEXEC" in words else CLEAR) if isinstance(cell, Held) else cell
+    return cell._replace(flag=SET if "FD_CLOEXEC" in words else CLEAR) if isinstance(cell, Held) else cell
 
 
 # ---- the processes
@@ -503,6 +506,16 @@ class Processes:
                 out.append(f"{word} {place} {rights_text(needs - cell.rights)}")
         return out
 
+    def denied(self, pid, name, given, answer):
+        """What was lacking for a line that was refused with errno 93 or 94, each as its words."""
+        if answer not in (93, 94):
+            return []
+        kind, checks = rule(name, given)
+        if answer == 94:
+            return ["inside" if kind != "allowed" and self.of(pid).mode == "inside" else "unexplained"]
+        lacked = [(place, needs - cell.rights) for place, needs, _ in checks if isinstance(cell := self.cell(pid, place), Held)]
+        return [f"lacks {place} {rights_text(rights)}" for place, rights in lacked if rights] or ["unexplained"]
+
     def follow(self, pid, name, given, answer):
         """What is known after a line."""
         if name == "@start":
@@ -540,10 +553,10 @@ class Processes:
         """The descriptors that a call made."""
         if name in ("dup", "dup2") or (name == "fcntl" and given[1] in COPIES + COPIES_TO):
             cell = self.cell(pid, given[0])
-            self.put(pid, answer[0], Held(cell.rights, flag_of_copy(name, given, cell.flag)) if isinstance(cell, Held) else UNKNOWN)
+            self.put(pid, answer[0], cell._replace(flag=flag_of_copy(name, given, cell.flag)) if isinstance(cell, Held) else UNKNOWN)
         elif name == "openat" and given[0] != "AT_FDCWD" and given[1] and given[1][0] != "/":
             cell = self.cell(pid, given[0])
-            self.put(pid, answer[0], Held(cell.rights, flag_of_new(name, given)) if isinstance(cell, Held) else UNKNOWN)
+            self.put(pid, answer[0], cell._replace(flag=flag_of_new(name, given)) if isinstance(cell, Held) else UNKNOWN)
         elif name in ("open", "socket") or name in MAKES_TWO or (name == "openat" and given[0] == "AT_FDCWD" and given[1]):
             for place in answer:
                 self.put(pid, place, Held(EVERYTHING, flag_of_new(name, given)))
@@ -566,14 +579,18 @@ class Processes:
             self.known[pid] = Process(mode=self.of(pid).mode)
 
 
-def findings(trace, profile=1, start=None):
-    """The findings of a trace, each with its position."""
+def findings_of(lines, profile=1, start=None):
+    """The findings of lines that were read, each with its position."""
     processes, found = Processes(profile, start), []
-    for at, line in enumerate(trace, 1):
-        pid, name, given, answer = read(line)
+    for at, (pid, name, given, answer) in enumerate(lines, 1):
         found += [(at, f"{at} {pid} {name} {words}\n") for words in processes.said(pid, name, given, answer)]
         processes.follow(pid, name, given, answer)
     return found
+
+
+def findings(trace, profile=1, start=None):
+    """The findings of a trace, each with its position."""
+    return findings_of(map(read, trace), profile, start)
 
 
 def report(found):
@@ -825,7 +842,8 @@ def explained(text, asked, profile=1, start=""):
     for line in before:
         processes.follow(*line)
     said = processes.said(pid, name, given, answer)
-    out = f"{asked} {written(trace[asked - 1])}\n" + "".join(f"{words}\n" for words in said)
+    denied = processes.denied(pid, name, given, answer)
+    out = f"{asked} {written(trace[asked - 1])}\n" + "".join(f"{words}\n" for words in said + denied)
     kind, checks = ("either", []) if answer is None else rule(name, given)
     for place, _, _ in checks:
         named, cell = chain_of_cell(profile, known, before, pid, place)
@@ -835,6 +853,121 @@ def explained(text, asked, profile=1, start=""):
         words = {long: short for short, long in MODES.items()}
         out += chain_text(trace, "mode", named, words.get(mode))
     return out, 1 if said else 0
+
+
+# ---- denials
+
+
+def denials(text, profile=1, start=""):
+    """What the program writes of the calls that were refused in a trace, and its exit status."""
+    known, refusal = load_start(start)
+    trace, refusal = (None, refusal) if refusal else load(text)
+    if refusal:
+        return refusal, 2
+    processes, out = Processes(profile, known), []
+    for at, (pid, name, given, answer) in enumerate(map(read, trace), 1):
+        out += [f"{at} {pid} {name} {words}\n" for words in processes.denied(pid, name, given, answer)]
+        processes.follow(pid, name, given, answer)
+    return "".join(out) + f"denials {len(out)}\n", 1 if out else 0
+
+
+# ---- limits
+
+# A right is needed of a descriptor where a later call asks for it of a cell that comes from the descriptor's. So that cell is marked,
+# lines hand the marks on with the cells, and what a call needs of a cell is needed of each of its marks.
+
+MARKED = "marked"  # the mode of the process that is asked about, and of those that have their mode from it
+
+
+def is_success(line):
+    return line[3] is not None and not isinstance(line[3], int)
+
+
+def add_needs(processes, line, needs):
+    """Adds to the needs, which are rights by mark, what a line asks for of the cells that it checks and what these hold of it."""
+    pid, name, given, _ = line
+    for place, asked, _ in rule(name, given)[1] if is_success(line) else []:
+        cell = processes.cell(pid, place)
+        for mark in cell.marks if isinstance(cell, Held) else ():
+            needs[mark] = needs.get(mark, frozenset()) | (asked & cell.rights)
+
+
+def limit(at, pid, place, needed):
+    return f"insert {at} {pid} cap_rights_limit({place},{rights_text(needed)}) RET 0\n"
+
+
+def mark(process, lines):
+    """Marks the mode of a process, and by its number each descriptor that is held and stands by itself, or that is unknown and checked
+    by one of these lines: it then holds all rights, so that no need is lost. Answers the numbers of the held and of the unknown ones."""
+    checked = {place for line in lines if line[3] is not None for place, _, _ in rule(*line[1:3])[1]}
+    unknown = sorted(place for place in checked if process.cell(place) == UNKNOWN)
+    held = sorted(place for place, cell in process.cells.items() if isinstance(cell, Held))
+    for place in held:
+        process.cells[place] = process.cells[place]._replace(marks=frozenset({place}))
+    for place in unknown:
+        process.cells[place] = Held(EVERYTHING, UNSURE, frozenset({place}))
+    process.mode = MARKED
+    return held, unknown
+
+
+def limits_before(processes, lines, first):
+    """The script for the process of the first of these lines, which has this position."""
+    pid = lines[0][0]
+    is_inside = processes.of(pid).mode == "inside"
+    held, unknown = mark(processes.of(pid), lines)
+    needs, in_the_way = {}, []
+    for at, line in enumerate(lines, first):
+        if is_success(line) and rule(*line[1:3])[0] == "forbidden" and processes.of(line[0]).mode == MARKED:
+            in_the_way.append(f"line {at}, {line[1]} of process {line[0]}")
+        add_needs(processes, line, needs)
+        processes.follow(*line)
+    out = [f"# process {pid} before line {first}\n"]
+    out += [limit(at, pid, place, needs.get(place, frozenset())) for at, place in enumerate(held, first)]
+    out += [f"# descriptor {place} isn't known; later calls need {rights_text(needs[place])}\n" for place in unknown if needs.get(place)]
+    if is_inside:
+        out.append(f"# process {pid} is in capability mode already\n")
+    elif in_the_way:
+        out.append(f"# no cap_enter: {in_the_way[0]}\n")
+    else:
+        out.append(f"insert {first + len(held)} {pid} cap_enter() RET 0\n")
+    return "".join(out)
+
+
+def made_by(line):
+    """The descriptors that a call made, without that of pdfork, of which nothing is ever known."""
+    _, name, given, answer = line
+    makes = name in MAKES_ONE + MAKES_TWO + ["dup2"] or (name == "fcntl" and given[1] in COPIES + COPIES_TO)
+    return set(answer) if makes and is_success(line) else set()
+
+
+def limits_of_made(processes, lines):
+    """The script with a limit after each line that made a descriptor. Marks are the position and the descriptor."""
+    needs = {}
+    for at, line in enumerate(lines, 1):
+        add_needs(processes, line, needs)
+        processes.follow(*line)
+        for place in made_by(line):
+            cell = processes.cell(line[0], place)
+            if isinstance(cell, Held):
+                processes.put(line[0], place, cell._replace(marks=cell.marks | {(at, place)}))
+                needs[at, place] = frozenset()
+    return "".join(limit(at + 1, lines[at - 1][0], place, needs[at, place]) for at, place in sorted(needs, reverse=True))
+
+
+def limits(text, asked=None, profile=1, start=""):
+    """What the program writes as limits before a line, or without one as limits of all that was made, and its exit status."""
+    known, refusal = load_start(start)
+    trace, refusal = (None, refusal) if refusal else load(text)
+    if refusal:
+        return refusal, 2
+    if asked is not None and not 1 <= asked <= len(trace):
+        return "refused E7\n", 2
+    lines, processes = [read(line) for line in trace], Processes(profile, known)
+    if asked is None:
+        return limits_of_made(processes, lines), 0
+    for line in lines[: asked - 1]:
+        processes.follow(*line)
+    return limits_before(processes, lines[asked - 1 :], asked), 0
 
 
 # ---- the command line
@@ -851,27 +984,22 @@ def text_of(name):
 def main():
     parser = argparse.ArgumentParser(description="a second reading of the rules of capcheck")
     commands = parser.add_subparsers(dest="command", required=True)
-    plain = commands.add_parser("check")
-    plain.add_argument("trace", nargs="?")
-    plain.add_argument("--start")
-    edit = commands.add_parser("edit")
-    edit.add_argument("trace")
-    edit.add_argument("script", nargs="?")
-    explain = commands.add_parser("explain")
-    explain.add_argument("trace")
-    explain.add_argument("position", type=int)
-    explain.add_argument("--start")
-    for command in (plain, edit, explain):
+    for name, words in (("check", "trace?"), ("edit", "trace script?"), ("explain", "trace K"), ("limits", "trace K?"), ("denials", "trace?")):
+        command = commands.add_parser(name)
+        for word in words.split():
+            command.add_argument(word.rstrip("?"), nargs="?" if word.endswith("?") else None, type=int if word[0] == "K" else str)
         command.add_argument("--profile", type=int, choices=(1, 2), default=1)
+        if name != "edit":
+            command.add_argument("--start")
     words = parser.parse_args()
-    if words.command == "check":
-        start = text_of(words.start) if words.start is not None else ""
-        out, status = check(text_of(words.trace), words.profile, start)
-    elif words.command == "explain":
-        start = text_of(words.start) if words.start is not None else ""
-        out, status = explained(text_of(words.trace), words.position, words.profile, start)
+    trace, profile = text_of(words.trace), words.profile
+    if words.command == "edit":
+        out, status = replies(trace, text_of(words.script), profile)
     else:
-        out, status = replies(text_of(words.trace), text_of(words.script), words.profile)
+        start = text_of(words.start) if words.start is not None else ""
+        answers = {"check": check, "denials": denials, "explain": explained, "limits": limits}
+        place = [words.K] if "K" in words else []
+        out, status = answers[words.command](trace, *place, profile, start)
     sys.stdout.buffer.write(out.encode("latin1"))
     sys.exit(status)
 
