@@ -17,16 +17,16 @@ use Rattle.cap_machine.specs.declared.question.Question.TheVariants.{Findings, D
 use Rattle.cap_session.specs.Commands.{position}
 use Rattle.capcheck.specs.declared.plan.Plan.TheVariants.{Ask, Edit, Explain, Help, Usage, Memory}
 
--- What a run reads and how: the trace of this name, or standard input; what is known before the trace, nothing or what the
--- text of this name says, or standard input; the profile; and whether words on standard error are asked for.
+-- What a run reads and how: the trace of this name, or standard input; what is known before the trace, nothing or what
+-- the text of this name says, or standard input; the profile; and whether words on standard error are asked for.
 pub record Given : Type 0 where
   pub trace : Option Text
   pub start : Option (Option Text)
   pub profile : Profile
   pub verbose : Bool
 
--- a run of the program: a question that is asked of the trace; an edit, by the script of this name, or standard input; an
--- explanation, of the line at a position
+-- a run of the program: a question that is asked of the trace; an edit, by the script of this name, or standard input;
+-- an explanation, of the line at a position
 pub data Run : Type 0 where
   asks : Question → Given → Run
   edits : Given → Option Text → Run

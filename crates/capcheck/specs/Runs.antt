@@ -29,8 +29,8 @@ pub record Unopened (may_fail : Type 0) (w0 w1 : SinkState) (outcome : Outcome) 
   pub silent : w1 ≡ w0
   pub fault : outcome ≡ ReadFault
 
--- Two texts of which this is known were opened, the first as x and the second as y, and then they were read so: each from
--- its state at first to its state at the end.
+-- Two texts of which this is known were opened, the first as x and the second as y, and then they were read so: each
+-- from its state at first to its state at the end.
 pub record OpensBoth (first second : Known) (P : SourceState → SourceState → SourceState → SourceState → Type 0) :
     Type 0 where
   pub x0 : SourceState
@@ -77,7 +77,8 @@ ExplainStatusBy P status = (outcome : ExplainOutcome) × P outcome × (status �
 -- A plan was carried out, where this is known of the texts of names.
 abbrev pub CarriesOut : (Option Text → Known) → SinkState → SinkState → Plan → ℕ → Type 0
 CarriesOut known w0 w1 (Ask question subject) status =
-    StatusBy (AsksText question subject.profile (known_start known subject.start) (known (seen subject.trace)) w0 w1) status
+    StatusBy (AsksText question subject.profile (known_start known subject.start) (known (seen subject.trace)) w0 w1)
+    status
 CarriesOut known w0 w1 (Edit subject script) status =
     StatusBy (EditsText subject.profile (known (seen subject.trace)) (known (seen script)) w0 w1) status
 CarriesOut known w0 w1 (Explain subject position) status =

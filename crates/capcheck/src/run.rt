@@ -1,11 +1,13 @@
-//! What the program does with its words: it opens the texts, asks what is to be asked of the trace, replies to the script or
-//! explains the line, says on standard error why there is no answer, and ends with the exit status.
+//! What the program does with its words: it opens the texts, asks what is to be asked of the trace, replies to the
+//! script or explains the line, says on standard error why there is no answer, and ends with the exit status.
 //!
 //! [`run`] takes words and devices from the runtime. [`answer`] is all the rest, over any texts and any output.
 
-ghost use Rattle.std.specs.Prelude.{◌≡◌, ◌≤◌, ◌^◌, ◌⊎◌, IfErr, IfOk, map};
+ghost use Rattle.std.specs.Prelude.{◌≡◌, ◌≤◌, ◌^◌, ◌⊎◌, [], IfErr, IfOk, Ok, map};
 ghost use Rattle.std.specs.Option.{option_map};
+ghost use Rattle.cap_machine.specs.State.{usual};
 ghost use Rattle.cap_session.specs.Outcome.{status_of, explain_status_of};
+ghost use Rattle.cap_session.specs.StartTexts.{start as start_said};
 ghost use Rattle.capcheck.specs.Faults.{fault_code};
 ghost use Rattle.capcheck.specs.Plans.{seen};
 ghost use Rattle.capcheck.specs.Runs.{AsksText, CarriesOut, EditsText, ExplainsText, Finishes, known_start};
@@ -126,6 +128,12 @@ fn carry_out<T: Texts, W: Sink, R: Print + Eprint + AllocGlobal>(
     }
 }
 
+/// A start text without any bytes is the usual start.
+#[tactic(auto, unfolding(cap_session::specs::Texts::with_lines, cap_session::specs::Lines::whole_lines, cap_session::specs::Lines::last_piece))]
+pub fn empty_start_is_usual()
+    ensures { start_said [] ≡ Ok usual }
+{}
+
 /// Opens the start. Where none is named that is a text without any bytes, which is the usual start.
 fn open_start<T: Texts>(texts: &T, start: Option<Option<&str>>) -> Result<T::Reader, Failed>
     ensures text { IfOk result (λ z. Gives (known_start (T.known texts.now) start.entry) (T.Reader.state z).bytes) }
@@ -154,8 +162,8 @@ fn open_both<T: Texts>(texts: &T, subject: &Subject<'_>) -> Result<(T::Reader, T
     Ok((start, trace))
 }
 
-/// Asks this of the trace in the profile, from the start, and writes the answer or the first refused line: a check asks for
-/// the findings.
+/// Asks this of the trace in the profile, from the start, and writes the answer or the first refused line: a check asks
+/// for the findings.
 ///
 /// The start is opened first, and both are opened before either is read. Neither stream is buffered here: a piece
 /// is read by one system call, and the report is written by one where the system takes it whole.
@@ -183,8 +191,9 @@ pub fn ask<T: Texts, W: Sink>(
     }
 }
 
-/// Works through the script of this name, or standard input, over the trace in the profile, and writes the reply to each
-/// of its lines before the next is looked at. The trace is opened first, and both are opened before either is read.
+/// Works through the script of this name, or standard input, over the trace in the profile, and writes the reply to
+/// each of its lines before the next is looked at. The trace is opened first, and both are opened before either is
+/// read.
 pub fn edit<T: Texts, W: Sink>(
     alloc: Global,
     texts: &T,
@@ -206,8 +215,8 @@ pub fn edit<T: Texts, W: Sink>(
     edit_stream_as(alloc, profile, TURNS, &mut trace, &mut script, replies)
 }
 
-/// Explains a line of the trace in the profile, from the start, and writes that, or why there is no explanation. The start
-/// is opened first, and both are opened before either is read.
+/// Explains a line of the trace in the profile, from the start, and writes that, or why there is no explanation. The
+/// start is opened first, and both are opened before either is read.
 pub fn explain<T: Texts, W: Sink>(
     alloc: Global,
     texts: &T,

@@ -244,7 +244,8 @@ fn call_of(line: &str) -> (&str, &str) {
     (name, args)
 }
 
-/// Arguments that calls of some form have, and what they are in words. The first that a call takes are those of its form.
+/// Arguments that calls of some form have, and what they are in words. The first that a call takes are those of its
+/// form.
 const FORMS: [(&str, &str); 17] = [
     ("3,3", "two descriptors"),
     ("3,DEST", "a descriptor, and maybe DEST"),
