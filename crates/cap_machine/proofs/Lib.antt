@@ -47,3 +47,5 @@ pub mod LiveBack
 pub mod BlockedBack
 pub mod MakerLimits
 pub mod LeastRows
+pub mod NoMoreNeeds
+pub mod StandingBack

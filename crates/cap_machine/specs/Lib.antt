@@ -19,6 +19,7 @@ pub mod Laws
 pub mod Live
 pub mod Wanted
 pub mod LiveRights
+pub mod Standing
 pub mod Limits
 pub mod Makers
 pub mod LimitLaws

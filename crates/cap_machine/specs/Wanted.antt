@@ -1,6 +1,6 @@
 -- What the code keeps of the rights that are live, of each process by descriptor and flag, and how a line changes it on
 -- the way back. Only the code's contracts use this; Live says what is live.
-use Rattle.std.specs.Prelude.{ℕ, ◌≤◌, ◌==◌, ◌||◌, ◌&&◌, nat_le, nat_lt, Bool, false, if◌then◌else◌, IsSome, List, [], ◌∷◌}
+use Rattle.std.specs.Prelude.{◌≡◌, ℕ, ◌≤◌, ◌==◌, ◌||◌, ◌&&◌, nat_le, nat_lt, Bool, false, if◌then◌else◌, IsSome, List, [], ◌∷◌}
 use Rattle.std.specs.Prelude.{Option, Some, None}
 use Rattle.std.specs.Option.{unwrap_or, option_map_or}
 use Rattle.std.specs.Ordering.{nat_cmp}
@@ -89,6 +89,10 @@ abbrev pub earlier : Option ℕ → Option ℕ → Option ℕ
 earlier None other = other
 earlier (Some n) None = Some n
 earlier (Some n) (Some m) = Some (if nat_lt n m then n else m)
+
+-- all that a check needs is wanted already
+abbrev pub NeedsNoMore : (ℕ → OnExec → ℕ) → Check → Type 0
+NeedsNoMore wanted check = (x : OnExec) → join (wanted check.fd x) check.needs ≡ wanted check.fd x
 
 -- with what checks need
 abbrev pub with_checks : List Check → (ℕ → OnExec → ℕ) → ℕ → OnExec → ℕ

@@ -50,6 +50,7 @@ mod places;
 mod question;
 mod report;
 mod rule;
+mod standing;
 mod start;
 mod step;
 mod table;
@@ -90,6 +91,7 @@ pub use origin_laws::{
 pub use question::Question;
 pub use report::{put_count, put_denial, put_denial_count, put_denial_words, put_finding};
 pub use rule::{Check, Checks, Class, Demand, Effect, Reply, Rule, Word, rule_of};
+pub use standing::standing_fds;
 pub use start::Start;
 pub use step::Step;
 pub use touched::{Touched, Turned};

@@ -3,7 +3,7 @@
 mod fd_rights;
 mod process;
 
-ghost use Rattle.std.specs.Prelude.{◌≡◌, ℕ, ◌+◌, ◌||◌, ◌==◌, OnOk, OnErr, IfOk, IfSome, List, [], ◌∷◌, None, if◌then◌else◌};
+ghost use Rattle.std.specs.Prelude.{◌≡◌, ℕ, ◌+◌, ◌||◌, ◌==◌, OnOk, OnErr, IfOk, IfSome, List, [], ◌∷◌, None, true, if◌then◌else◌};
 ghost use Rattle.cap_machine.specs.declared.cell.OnExec.{OnExec};
 ghost use Rattle.cap_machine.specs.declared.step.Step.{Step};
 ghost use Rattle.cap_machine.specs.Steps.{step};
@@ -106,8 +106,21 @@ impl LiveRights {
         }
     }
 
-    /// Passes a line of a process with this demand and this effect.
-    fn pass_rule(
+    /// Whether a line of a process with this demand and this effect leaves all as it is.
+    fn is_settled(&self, me: Pid, demand: &Demand, effect: &Effect<'_>) -> bool
+        ensures rights { result ≡ true → (p f : ℕ) (x : OnExec)
+            → wanted self.now p f x ≡ wanted_before demand.now effect.now me (wanted self.now) p f x }
+        ensures blocked { result ≡ true → (at p : ℕ)
+            → blocked self.now p ≡ blocked_before demand.now effect.now at me (blocked self.now) p }
+    {
+        match (effect, self.processes.get(&me)) {
+            (Effect::Keep, Some(own)) => own.is_settled(demand),
+            _ => false,
+        }
+    }
+
+    /// Passes a line of a process with this demand and this effect, by taking out what is needed of it.
+    fn pass_change(
         &mut self,
         at: usize,
         me: Pid,
@@ -123,6 +136,25 @@ impl LiveRights {
         own.undo(effect)?;
         own.demand(at, demand)?;
         self.put(me, own)
+    }
+
+    /// Passes a line of a process with this demand and this effect.
+    fn pass_rule(
+        &mut self,
+        at: usize,
+        me: Pid,
+        demand: &Demand,
+        effect: &Effect<'_>,
+    ) -> Result<(), NoMemory>
+        ensures rights { OnOk result ((p f : ℕ) (x : OnExec)
+            → wanted self.new p f x ≡ wanted_before demand.now effect.now me (wanted self.old) p f x) }
+        ensures blocked { OnOk result ((p : ℕ)
+            → blocked self.new p ≡ blocked_before demand.now effect.now at me (blocked self.old) p) }
+    {
+        if self.is_settled(me, demand, effect) {
+            return Ok(());
+        }
+        self.pass_change(at, me, demand, effect)
     }
 
     /// Passes the line before those that it has passed; `at` is its position.

@@ -1,14 +1,20 @@
 //! What is known before the first line of a trace.
 
-ghost use Rattle.std.specs.Prelude.{◌≡◌, OnOk, OnErr, [], ◌∷◌, ◌++◌};
+ghost use Rattle.std.specs.Prelude.{◌≡◌, ℕ, OnOk, OnErr, [], ◌∷◌, ◌++◌, ◌||◌};
+ghost use Rattle.std.specs.List.{list_any};
+ghost use Rattle.cap_machine.specs.declared.start.Entry.{Entry};
+ghost use Rattle.cap_machine.specs.Starts.{added_by};
+ghost use Rattle.cap_machine.specs.Standing.{start_lists, added_lists, has_fd};
 ghost use Rattle.cap_machine.specs.State.{usual, with_listed};
 ghost use Rattle.cap_machine.specs.Table.{start_state};
 
 use crate::cell::{Cell, Mode};
+use crate::standing::add_listed;
 use crate::table::Table;
 use cap_rights::NoMemory;
 use cap_trace::{Fd, Pid};
 use std::alloc::Global;
+use std::collections::BTreeSet;
 use std::marker::Model;
 
 /// What was added of one process.
@@ -27,6 +33,19 @@ struct Entry {
 pub struct Start {
     added: Vec<Entry>,
     pub(crate) table: Table,
+}
+
+/// Adds the descriptors that these list for a process.
+fn add_entries(fds: &mut BTreeSet<Fd>, entries: &[Entry], pid: Pid) -> Result<(), NoMemory>
+    ensures { OnOk result ((f : ℕ) → has_fd fds.new f
+        ≡ (list_any (λ (entry : Entry). added_lists (added_by entry) pid f) entries.now || has_fd fds.old f)) }
+{
+    for entry in entries {
+        if pid == entry.pid {
+            add_listed(fds, &entry.cells)?;
+        }
+    }
+    Ok(())
 }
 
 impl Model for Start {
@@ -87,6 +106,14 @@ impl Start {
             .add(entry.pid, entry.mode, entry.rest, &entry.cells)?;
         self.added.push_reserved(entry);
         Ok(())
+    }
+
+    /// Adds the descriptors that it lists for a process.
+    #[tactic(auto, using(crate::proofs::StandingBack::lists_mapped))]
+    pub(crate) fn add_listed(&self, pid: Pid, fds: &mut BTreeSet<Fd>) -> Result<(), NoMemory>
+        ensures { OnOk result ((f : ℕ) → has_fd fds.new f ≡ (start_lists self.now pid f || has_fd fds.old f)) }
+    {
+        add_entries(fds, &self.added, pid)
     }
 
     /// What is known of a descriptor of a process.

@@ -35,6 +35,14 @@ impl FdRights {
         }
     }
 
+    /// Whether a descriptor has all of these rights.
+    pub(crate) fn has(&self, fd: Fd, rights: &RightSet) -> bool
+        ensures { result ≡ (join (rights_of self.now fd) rights.now == rights_of self.now fd) }
+    {
+        let own = self.get(fd);
+        own.join(rights) == own
+    }
+
     /// Adds rights to those of a descriptor.
     pub(crate) fn add(&mut self, fd: Fd, rights: RightSet) -> Result<(), NoMemory>
         ensures { OnOk result ((f : ℕ) → rights_of self.new f

@@ -1,11 +1,13 @@
 //! What lines need of one process.
 
-ghost use Rattle.std.specs.Prelude.{◌≡◌, ℕ, OnOk, IfOk, ◌==◌, ◌&&◌, nat_le, if◌then◌else◌, None};
+ghost use Rattle.std.specs.Prelude.{◌≡◌, ℕ, OnOk, IfOk, ◌==◌, ◌&&◌, nat_le, if◌then◌else◌, None, true};
+ghost use Rattle.std.specs.List.{All};
 ghost use Rattle.cap_rights.specs.Rights.{join};
 ghost use Rattle.cap_machine.specs.declared.cell.OnExec.{OnExec};
+ghost use Rattle.cap_machine.specs.Judge.{listed};
 ghost use Rattle.cap_machine.specs.Op.{held_op, exec};
 ghost use Rattle.cap_machine.specs.Wanted.{rights_of, flag_rights, wanted_of, back_through, wanted_without, wanted_with};
-ghost use Rattle.cap_machine.specs.Wanted.{undone, unblocked, earlier, with_demand, blocked_with};
+ghost use Rattle.cap_machine.specs.Wanted.{undone, unblocked, earlier, with_demand, blocked_with, NeedsNoMore};
 
 use crate::cell::{HeldOp, OnExec, Op};
 use crate::live::fd_rights::FdRights;
@@ -229,6 +231,41 @@ impl LiveProcess {
             unsure: check.needs,
         };
         self.add(check.fd, &rights)
+    }
+
+    /// Whether all that a check needs is needed already.
+    fn has(&self, check: &Check) -> bool
+        ensures { result ≡ true → (x : OnExec)
+            → join (wanted_of self.now check.now.fd x) check.now.needs ≡ wanted_of self.now check.now.fd x }
+    {
+        self.set.has(check.fd, &check.needs)
+            && self.clear.has(check.fd, &check.needs)
+            && self.unsure.has(check.fd, &check.needs)
+    }
+
+    /// Whether all that these checks need is needed already.
+    fn has_all(&self, checks: &Checks) -> bool
+        ensures { result ≡ true → All (NeedsNoMore (wanted_of self.now)) (listed checks.now) }
+    {
+        match checks {
+            Checks::Nothing => true,
+            Checks::One(a) => self.has(a),
+            Checks::Two(a, b) => self.has(a) && self.has(b),
+        }
+    }
+
+    /// Whether a line with this demand needs nothing more, and isn't in the way.
+    #[tactic(auto, using(crate::proofs::NoMoreNeeds::no_more))]
+    pub(crate) fn is_settled(&self, demand: &Demand) -> bool
+        ensures rights { result ≡ true → (f : ℕ) (x : OnExec)
+            → with_demand demand.now (wanted_of self.now) f x ≡ wanted_of self.now f x }
+        ensures blocked { result ≡ true → (at : ℕ)
+            → blocked_with demand.now at self.now.blocked ≡ self.now.blocked }
+    {
+        match demand.reply {
+            Reply::Success => demand.class != Class::Forbidden && self.has_all(&demand.checks),
+            _ => true,
+        }
     }
 
     /// Adds what a line with this demand needs; `at` is its position.

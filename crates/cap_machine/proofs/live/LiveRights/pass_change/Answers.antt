@@ -1,7 +1,7 @@
 use Rattle.std.proofs.lemmas.Result.{on_ok_weaker}
 use Rattle.cap_machine.specs.Wanted.{wanted_of, wanted}
 use Rattle.cap_machine.proofs.LiveBack.{before_rule}
-use Rattle.cap_machine.proofs.live.LiveRights.pass_rule.Goals as goal
+use Rattle.cap_machine.proofs.live.LiveRights.pass_change.Goals as goal
 
 pub returns-clause-rights : goal.returns-clause-rights
 returns-clause-rights c =

@@ -1,0 +1,42 @@
+use Rattle.std.proofs.Common.{◌≡◌, ℕ, List, [], ◌∷◌, ◌++◌, ap, sym, ◌∙◌, subst, reverse}
+use Rattle.std.proofs.lemmas.List.{reverse-append}
+use Rattle.std.proofs.Math.Path.{fun_ext}
+use Rattle.cap_trace.specs.Entry.{Entry}
+use Rattle.cap_machine.specs.declared.step.Step.{Step}
+use Rattle.cap_machine.specs.declared.rule.Effect.{Effect}
+use Rattle.cap_machine.specs.State.{State}
+use Rattle.cap_machine.specs.Steps.{step, steps}
+use Rattle.cap_machine.specs.Table.{start_state}
+use Rattle.cap_machine.specs.Touch.{Touch, touch}
+use Rattle.cap_machine.specs.Effect.{effect_touch}
+use Rattle.cap_machine.specs.Standing.{has_fd}
+use Rattle.cap_machine.proofs.OneMore.{steps-more}
+use Rattle.cap_machine.proofs.StandingBack.{SoFar, over_line}
+use Rattle.cap_machine.proofs.standing.standing_fds.Goals as goal
+
+pub loop-line-preserved : goal.loop-line-preserved
+loop-line-preserved c = λ f.
+    let s : State = start_state c.args.start.now in
+    let line : Entry = c.in-Some.line.now in
+    let earlier : List Entry = c.in-Some.earlier.now in
+    let whole : List Step = reverse (steps c.args.profile c.args.lines.now) in
+    let older : List Step = reverse (steps c.args.profile earlier) in
+    let l : Step = step c.args.profile line in
+    let effect : Effect = c.rule_of-rule.result.effect in
+    let back : reverse (steps c.args.profile c.loop-line.rest.now) ≡ l ∷ older =
+    ap (λ (r : List Entry). reverse (steps c.args.profile r)) c.in-Some.ensures.cases.0
+    ∙ ap reverse (steps-more c.args.profile earlier line)
+    ∙ reverse-append (steps c.args.profile earlier) (l ∷ []) in
+    let owner : c.pid-me.result ≡ c.seen.result.pid =
+    c.pid-me.ensures ∙ ap (λ (e : Entry). e.pid) (sym c.seen.ensures) in
+    let same_touch : effect_touch effect c.pid-me.result ≡ touch l =
+    fun_ext (λ p. fun_ext (λ g. ap (λ (me : ℕ). effect_touch effect me p g) owner ∙ c.rule_of-rule.ensures.cells p g
+    ∙ ap (λ (e : Entry). touch (step c.args.profile e) p g) c.seen.ensures)) in
+    subst (λ (from : ℕ). SoFar s c.args.start.now whole c.args.pid older from (has_fd c.add_single.new.fds) f)
+    (sym c.source-own.ensures)
+    (over_line s c.args.start.now whole c.args.pid older l c.loop-line.own effect c.pid-me.result
+    (has_fd c.loop-line.fds) (has_fd c.add_single.new.fds) same_touch c.in_ok-add_single.ensures
+    (λ g. subst (λ (h : List Step).
+    SoFar s c.args.start.now whole c.args.pid h c.loop-line.own (has_fd c.loop-line.fds) g) back
+    (c.loop-line.invariant g))
+    f)

@@ -1,0 +1,118 @@
+//! Which descriptors of a process stand in what is known of it, one by one.
+
+ghost use Rattle.std.specs.Prelude.{◌≡◌, ◌↔◌, ℕ, ◌==◌, ◌||◌, ◌&&◌, true, List, reverse, OnOk, IfOk};
+ghost use Rattle.std.specs.List.{list_any};
+ghost use Rattle.cap_trace.specs.Seen.{fds_spelled};
+ghost use Rattle.cap_machine.specs.declared.cell.Cell.{Cell};
+ghost use Rattle.cap_machine.specs.Steps.{steps};
+ghost use Rattle.cap_machine.specs.History.{ended};
+ghost use Rattle.cap_machine.specs.Table.{start_state};
+ghost use Rattle.cap_machine.specs.Standing.{Stands, IsHeld, has_fd, is_single, source_of};
+
+use crate::cell::{Cell, Profile};
+use crate::rule::{Effect, rule_of};
+use crate::start::Start;
+use cap_rights::NoMemory;
+use cap_trace::{Fd, Line, Pid, fds_of};
+use std::alloc::Global;
+use std::collections::BTreeSet;
+
+/// Adds a descriptor.
+fn add(fds: &mut BTreeSet<Fd>, fd: Fd) -> Result<(), NoMemory>
+    ensures { OnOk result ((f : ℕ) → has_fd fds.new f ≡ (f == fd || has_fd fds.old f)) }
+{
+    fds.insert(fd)?;
+    Ok(())
+}
+
+/// Adds these descriptors.
+fn add_all(fds: &mut BTreeSet<Fd>, more: &[Fd]) -> Result<(), NoMemory>
+    ensures { OnOk result ((f : ℕ) → has_fd fds.new f ≡ (list_any (λ g. f == g) more.now || has_fd fds.old f)) }
+{
+    for fd in more {
+        add(fds, *fd)?;
+    }
+    Ok(())
+}
+
+/// Adds descriptors that are listed with their cells.
+pub(crate) fn add_listed(fds: &mut BTreeSet<Fd>, cells: &[(Fd, Cell)]) -> Result<(), NoMemory>
+    ensures { OnOk result ((f : ℕ) → has_fd fds.new f
+        ≡ (list_any (λ (entry : ℕ × Cell). f == entry.0) cells.now || has_fd fds.old f)) }
+{
+    for entry in cells {
+        add(fds, entry.0)?;
+    }
+    Ok(())
+}
+
+/// Adds the descriptors of a start as they are spelled.
+fn add_spelled(alloc: Global, fds: &mut BTreeSet<Fd>, spelled: &[u8]) -> Result<(), NoMemory>
+    ensures { OnOk result ((f : ℕ)
+        → has_fd fds.new f ≡ (list_any (λ g. f == g) (fds_spelled spelled.now) || has_fd fds.old f)) }
+{
+    let more = fds_of(alloc, spelled)?;
+    add_all(fds, &more)
+}
+
+/// Adds the descriptors of a process that an effect of a line of process `me` gives or changes alone, or lists.
+fn add_single(
+    alloc: Global,
+    fds: &mut BTreeSet<Fd>,
+    effect: &Effect<'_>,
+    me: Pid,
+    pid: Pid,
+) -> Result<(), NoMemory>
+    ensures { OnOk result ((f : ℕ) → has_fd fds.new f ≡ (is_single effect.now me pid f || has_fd fds.old f)) }
+{
+    if pid != me {
+        return Ok(());
+    }
+    match effect {
+        Effect::Start(spelled) => add_spelled(alloc, fds, spelled),
+        Effect::Give(fd, _) | Effect::Change(fd, _, _) => add(fds, *fd),
+        Effect::GiveTwo(first, second, _) => {
+            add(fds, *second)?;
+            add(fds, *first)
+        }
+        _ => Ok(()),
+    }
+}
+
+/// The process from which a process has what else it has after an effect of a line of process `me`.
+fn source(effect: &Effect<'_>, me: Pid, pid: Pid) -> Pid
+    ensures { result ≡ source_of effect.now me pid }
+{
+    match effect {
+        Effect::Fork(child) | Effect::ForkAs(child, _) => { if pid == *child { me } else { pid } }
+        _ => pid,
+    }
+}
+
+/// Which of the descriptors that a process holds after these lines stand in what is known of it, one by one. Others that
+/// it doesn't hold may be among them.
+///
+/// It goes through the lines once, from the last one back. `NoMemory` when out of memory.
+pub fn standing_fds(
+    alloc: Global,
+    profile: Profile,
+    start: &Start,
+    lines: &[Line],
+    pid: Pid,
+) -> Result<BTreeSet<Fd>, NoMemory>
+    ensures { IfOk result (λ fds. (f : ℕ) → IsHeld ((ended (start_state start.now) (steps profile lines.now)).cell pid f)
+        → (has_fd fds f ≡ true) ↔ Stands start.now (reverse (steps profile lines.now)) pid f) }
+{
+    let mut fds = BTreeSet::new(alloc);
+    let mut own = pid;
+    let mut rest = lines;
+    while let Some((line, earlier)) = rest.split_last() {
+        let me = line.pid();
+        let rule = rule_of(profile, &line.seen());
+        add_single(alloc, &mut fds, &rule.effect, me, own)?;
+        own = source(&rule.effect, me, own);
+        rest = earlier;
+    }
+    start.add_listed(own, &mut fds)?;
+    Ok(fds)
+}
