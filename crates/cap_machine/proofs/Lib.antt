@@ -49,3 +49,4 @@ pub mod MakerLimits
 pub mod LeastRows
 pub mod NoMoreNeeds
 pub mod StandingBack
+pub mod StandingRows

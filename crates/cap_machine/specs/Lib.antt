@@ -21,6 +21,7 @@ pub mod Wanted
 pub mod LiveRights
 pub mod Standing
 pub mod Limits
+pub mod LimitsBefore
 pub mod Makers
 pub mod LimitLaws
 pub mod ProfileLaws

@@ -7,10 +7,13 @@ ghost use Rattle.cap_machine.specs.History.{ended};
 ghost use Rattle.cap_machine.specs.Table.{start_state};
 ghost use Rattle.cap_machine.specs.LiveRights.{AreLive, AreBlocked};
 ghost use Rattle.cap_machine.specs.Limits.{IsEntering};
+ghost use Rattle.cap_machine.specs.LimitsBefore.{AreLimitsOf, AreLimitsBefore};
 
 use crate::cell::{Mode, Profile};
+use crate::limit::{Limit, limits_among};
 use crate::live::LiveRights;
 use crate::machine::Machine;
+use crate::standing::standing_fds;
 use crate::start::Start;
 use cap_rights::NoMemory;
 use cap_trace::{Line, Pid};
@@ -81,5 +84,67 @@ impl Entering {
                 None => Entering::May,
             },
         }
+    }
+}
+
+/// The least rights of the descriptors of a process before a line, and whether it may enter capability mode there.
+#[derive(Drop)]
+pub struct Limits {
+    /// The process.
+    pub pid: Pid,
+    /// The limit of each descriptor that it holds and that stands in what is known, one by one.
+    pub held: Vec<Limit>,
+    /// Whether it may enter capability mode.
+    pub entering: Entering,
+}
+
+/// The limits of a process between these lines.
+fn limits_of(
+    alloc: Global,
+    profile: Profile,
+    start: &Start,
+    before: &[Line],
+    later: &[Line],
+    pid: Pid,
+) -> Result<Limits, NoMemory>
+    requires fits { length before.now + length later.now < 2 ^ 64 }
+    ensures { IfOk result (AreLimitsOf start.now (steps profile before.now) (steps profile later.now)
+        (length before.now + 1) pid) }
+{
+    let machine = machine_after(alloc, profile, start, before)?;
+    let live = live_behind(alloc, profile, before.len(), later)?;
+    let fds = standing_fds(alloc, profile, start, before, pid)?;
+    let entering = Entering::of(&machine, &live, pid);
+    let held = limits_among(alloc, &machine, &live, pid, fds)?;
+    Ok(Limits {
+        pid,
+        held,
+        entering,
+    })
+}
+
+/// The least rights of the descriptors of the process of a line before that line, by the line's position, from 1; none
+/// where there is no such line.
+///
+/// It goes through the lines before it twice, and once through the others. `NoMemory` when out of memory.
+pub fn limits_before(
+    alloc: Global,
+    profile: Profile,
+    start: &Start,
+    lines: &[Line],
+    at: usize,
+) -> Result<Option<Limits>, NoMemory>
+    ensures { IfOk result (AreLimitsBefore profile start.now lines.now at) }
+{
+    if at == 0 || lines.len() < at {
+        return Ok(None);
+    }
+    let (before, later) = lines.split_at(at - 1);
+    match later.split_first() {
+        Some((line, _)) => {
+            let limits = limits_of(alloc, profile, start, before, later, line.pid())?;
+            Ok(Some(limits))
+        }
+        None => Ok(None),
     }
 }

@@ -1,0 +1,34 @@
+use Rattle.std.proofs.Common.{◌≡◌, ℕ, ◌+◌, true, List, refl, ap, sym, ◌∙◌, subst, length, map}
+use Rattle.cap_machine.specs.declared.step.Step.{Step}
+use Rattle.cap_machine.specs.State.{State}
+use Rattle.cap_machine.specs.Steps.{steps}
+use Rattle.cap_machine.specs.History.{ended}
+use Rattle.cap_machine.specs.Table.{start_state}
+use Rattle.cap_machine.specs.LimitLaws.{Row, IsLimit}
+use Rattle.cap_machine.specs.Limits.{row_of, IsEntering}
+use Rattle.cap_machine.specs.LimitsBefore.{rows_name}
+use Rattle.cap_machine.specs.Standing.{IsHeld}
+use Rattle.cap_machine.specs.Wanted.{wanted}
+use Rattle.std.specs.List.{All}
+use Rattle.cap_machine.proofs.StandingRows.{rows_named}
+use Rattle.cap_machine.proofs.limits.limits_of.Goals as goal
+
+pub returns : goal.returns
+returns c =
+    let s : State = ended (start_state c.args.start.now) (steps c.args.profile c.args.before.now) in
+    let later : List Step = steps c.args.profile c.args.later.now in
+    let is : start_state c.in_ok-machine.machine ≡ s = c.in_ok-machine.ensures in
+    let rows : List Row = map row_of c.in_ok-held.held.items in
+    record {
+      pid = refl;
+      least = subst (λ (u : State). All (IsLimit u later c.args.pid) rows) is
+          (c.in_ok-held.ensures.limits later c.in_ok-live.ensures.rights);
+      standing = λ f held.
+          let named = ap (λ (r : List Row). rows_name r f) c.in_ok-held.ensures.rows
+          ∙ rows_named (start_state c.in_ok-machine.machine) (wanted c.in_ok-live.live) c.args.pid
+          c.in_ok-fds.fds.keys f (subst (λ (u : State). IsHeld (u.cell c.args.pid f)) (sym is) held) in
+          let stands = c.in_ok-fds.ensures f held in
+          (λ h. stands.0 (sym named ∙ h), λ h. named ∙ stands.1 h);
+      entering = subst (λ (u : State). IsEntering u (length c.args.before.now + 1) later c.args.pid c.of-entering.result) is
+          (c.of-entering.ensures (length c.args.before.now + 1) later c.in_ok-live.ensures.blocked);
+    }

@@ -1,0 +1,36 @@
+-- What limits_before answers: the least rights of the descriptors of a process before a line of a trace.
+use Rattle.std.specs.Prelude.{◌≡◌, ◌⊎◌, ◌↔◌, ◌<◌, ◌+◌, ℕ, ◌==◌, Bool, true, List, ◌∷◌, ◌++◌, map, reverse, length, Option, Some, None}
+use Rattle.std.specs.List.{All, list_any}
+use Rattle.cap_trace.specs.Entry.{Entry}
+use Rattle.cap_machine.specs.declared.cell.Profile.{Profile}
+use Rattle.cap_machine.specs.declared.step.Step.{Step}
+use Rattle.cap_machine.specs.declared.limits.Limits.{Limits}
+use Rattle.cap_machine.specs.State.{Added}
+use Rattle.cap_machine.specs.Steps.{steps}
+use Rattle.cap_machine.specs.History.{ended}
+use Rattle.cap_machine.specs.Table.{start_state}
+use Rattle.cap_machine.specs.LimitLaws.{Row, IsLimit}
+use Rattle.cap_machine.specs.Limits.{row_of, IsEntering}
+use Rattle.cap_machine.specs.Standing.{Stands, IsHeld}
+
+-- one of these rows is of this descriptor
+abbrev pub rows_name : List Row → ℕ → Bool
+rows_name rows f = list_any (λ (row : Row). f == row.0) rows
+
+-- of process p between the steps before and those later, the first of which stands at a position
+pub record AreLimitsOf (start : List Added) (before later : List Step) (at p : ℕ) (limits : Limits) : Type 0 where
+  pub pid : limits.pid ≡ p
+  -- each row limits a held descriptor to its live rights
+  pub least : All (IsLimit (ended (start_state start) before) later p) (map row_of limits.held.items)
+  -- of those that are held, just the ones that stand have a row
+  pub standing : (f : ℕ) → IsHeld ((ended (start_state start) before).cell p f)
+      → (rows_name (map row_of limits.held.items) f ≡ true) ↔ Stands start (reverse before) p f
+  pub entering : IsEntering (ended (start_state start) before) at later p limits.entering
+
+-- of the process of the line at a position of a trace, from 1; none where there is no such line
+abbrev pub AreLimitsBefore : Profile → List Added → List Entry → ℕ → Option Limits → Type 0
+AreLimitsBefore profile start lines at None = (at ≡ 0) ⊎ (length lines < at)
+AreLimitsBefore profile start lines at (Some limits) =
+    (before : List Entry) × (line : Entry) × (later : List Entry) × (lines ≡ before ++ line ∷ later)
+    × (at ≡ length before + 1)
+    × AreLimitsOf start (steps profile before) (steps profile (line ∷ later)) at line.pid limits
