@@ -2,7 +2,10 @@
 
 use crate::lines::lines_of;
 use crate::starts::rights_of;
-use cap_machine::{LiveRights, MakerLimit, OnExec, Profile, Start, limits_of_makers};
+use cap_machine::{
+    Cell, Entering, Limit, Limits, LiveRights, MakerLimit, Mode, OnExec, Profile, Start,
+    limits_before, limits_of_makers,
+};
 use cap_rights::RightSet;
 use cap_trace::Line;
 use std::alloc::Global;
@@ -198,6 +201,88 @@ static MADE: [MakerRow; 5] = [
     ),
 ];
 
+/// A trace, a line of it, that line's process, the limits of what that holds before the line, and whether it may enter.
+type BeforeRow = (
+    &'static [u8],
+    usize,
+    u32,
+    &'static [(u32, &'static [u8])],
+    Entering,
+);
+
+static BEFORE: [BeforeRow; 5] = [
+    (
+        TALLY,
+        4,
+        2101,
+        &[
+            (0, b"NONE"),
+            (1, b"NONE"),
+            (2, b"NONE"),
+            (3, b"CAP_READ|CAP_SEEK|CAP_FSTAT"),
+            (4, b"CAP_WRITE|CAP_FSYNC"),
+        ],
+        Entering::Blocked(5),
+    ),
+    // What a child got at the fork stands as it stood with its parent.
+    (
+        TALLY,
+        6,
+        2102,
+        &[
+            (0, b"NONE"),
+            (1, b"NONE"),
+            (2, b"NONE"),
+            (3, b"CAP_READ|CAP_SEEK|CAP_FSTAT"),
+            (4, b"CAP_WRITE|CAP_FSYNC"),
+            (5, b"CAP_READ"),
+        ],
+        Entering::May,
+    ),
+    // Nothing is held of which nothing is known.
+    (
+        b"100 @start(3)\n100 execve(\"x\") RET 0\n100 read(3) RET 1",
+        3,
+        100,
+        &[],
+        Entering::May,
+    ),
+    (
+        b"100 cap_enter() RET 0\n100 read(3) RET 1",
+        2,
+        100,
+        &[],
+        Entering::Inside,
+    ),
+    // A closed descriptor isn't held.
+    (
+        b"100 @start(0,3)\n100 close(3) RET 0\n100 read(0) RET 1",
+        3,
+        100,
+        &[(0, b"CAP_READ")],
+        Entering::May,
+    ),
+];
+
+/// The same after a start in which process 100 holds 7, which is listed, and all others.
+static STARTED: [BeforeRow; 2] = [
+    (
+        b"100 dup(3) RET 4\n100 read(4) RET 1\n100 read(5) RET 1",
+        2,
+        100,
+        &[(4, b"CAP_READ"), (7, b"NONE")],
+        Entering::May,
+    ),
+    // An exec doesn't make the others stand.
+    (
+        b"100 execve(\"x\") RET 0\n100 fork() RET 101\n101 write(7) RET 1\n101 read(5) RET 1",
+        3,
+        101,
+        &[(7, b"CAP_WRITE")],
+        Entering::May,
+    ),
+];
+
 /// Lets live rights pass the lines from the last one back to one.
 fn passed(alloc: Global, lines: &[Line], from: usize) -> Option<LiveRights> {
     let mut live = LiveRights::none(alloc);
@@ -275,6 +360,80 @@ fn is_made(alloc: Global, row: &MakerRow) -> bool {
         Some(lines) => makes(alloc, &start, &lines, row.1),
         None => false,
     }
+}
+
+/// Whether these are the limits of descriptors.
+fn are_held(limits: &[Limit], rows: &[(u32, &[u8])]) -> bool {
+    let mut are_same = limits.len() == rows.len();
+    for (limit, row) in limits.iter().zip(rows) {
+        are_same = are_same && limit.fd == row.0 && limit.rights == rights_of(row.1);
+    }
+    are_same
+}
+
+/// Whether limits are as in a row.
+fn are_before(limits: &Limits, row: &BeforeRow) -> bool {
+    limits.pid == row.2 && limits.entering == row.4 && are_held(&limits.held, row.3)
+}
+
+/// Whether the limits before a line are those of a row.
+fn is_before(alloc: Global, start: &Start, lines: &[Line], row: &BeforeRow) -> bool {
+    match limits_before(alloc, Profile::Two, start, lines, row.1) {
+        Ok(Some(limits)) => are_before(&limits, row),
+        _ => false,
+    }
+}
+
+/// The same of the lines of a trace, after the usual start.
+fn is_usual(alloc: Global, row: &BeforeRow) -> bool {
+    let start = Start::unknown(alloc);
+    match lines_of(alloc, row.0) {
+        Some(lines) => is_before(alloc, &start, &lines, row),
+        None => false,
+    }
+}
+
+/// A start in which process 100 holds 7, which is listed, and all others.
+fn all_held(alloc: Global) -> Option<Start> {
+    let mut start = Start::unknown(alloc);
+    let mut cells = Vec::new(alloc);
+    let held = Cell::Held(RightSet::all(), OnExec::Clear);
+    if cells.push((7, held)).is_err() || start.add(100, Mode::Outside, held, cells).is_err() {
+        return None;
+    }
+    Some(start)
+}
+
+/// The same of the lines of a trace, after that start.
+fn is_started(alloc: Global, row: &BeforeRow) -> bool {
+    match (all_held(alloc), lines_of(alloc, row.0)) {
+        (Some(start), Some(lines)) => is_before(alloc, &start, &lines, row),
+        _ => false,
+    }
+}
+
+/// Whether there is no line at a position.
+fn is_no_line(alloc: Global, at: usize) -> bool {
+    let start = Start::unknown(alloc);
+    match lines_of(alloc, TALLY) {
+        Some(lines) => matches!(
+            limits_before(alloc, Profile::Two, &start, &lines, at),
+            Ok(None)
+        ),
+        None => false,
+    }
+}
+
+#[test]
+fn processes_are_limited_before_a_line(rt: HostRuntime) {
+    for row in &BEFORE {
+        assert!(rt; is_usual(rt.alloc(), row));
+    }
+    for row in &STARTED {
+        assert!(rt; is_started(rt.alloc(), row));
+    }
+    assert!(rt; is_no_line(rt.alloc(), 0));
+    assert!(rt; is_no_line(rt.alloc(), 16));
 }
 
 #[test]
