@@ -50,3 +50,4 @@ pub mod LeastRows
 pub mod NoMoreNeeds
 pub mod StandingBack
 pub mod StandingRows
+pub mod UnknownRows

@@ -22,6 +22,7 @@ pub mod LiveRights
 pub mod Standing
 pub mod Limits
 pub mod LimitsBefore
+pub mod Unknown
 pub mod Makers
 pub mod LimitLaws
 pub mod ProfileLaws

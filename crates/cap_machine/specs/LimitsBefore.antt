@@ -5,17 +5,26 @@ use Rattle.cap_trace.specs.Entry.{Entry}
 use Rattle.cap_machine.specs.declared.cell.Profile.{Profile}
 use Rattle.cap_machine.specs.declared.step.Step.{Step}
 use Rattle.cap_machine.specs.declared.limits.Limits.{Limits}
-use Rattle.cap_machine.specs.State.{Added}
+use Rattle.cap_rights.specs.Rights.{all}
+use Rattle.cap_machine.specs.declared.cell.OnExec.TheVariants.{Unsure}
+use Rattle.cap_machine.specs.declared.cell.Cell.TheVariants.{Unknown}
+use Rattle.cap_machine.specs.State.{State, Added}
 use Rattle.cap_machine.specs.Steps.{steps}
 use Rattle.cap_machine.specs.History.{ended}
 use Rattle.cap_machine.specs.Table.{start_state}
-use Rattle.cap_machine.specs.LimitLaws.{Row, IsLimit}
+use Rattle.cap_machine.specs.LimitLaws.{Row, IsLeast, IsLimit}
+use Rattle.cap_machine.specs.Live.{Live}
 use Rattle.cap_machine.specs.Limits.{row_of, IsEntering}
 use Rattle.cap_machine.specs.Standing.{Stands, IsHeld}
 
 -- one of these rows is of this descriptor
 abbrev pub rows_name : List Row → ℕ → Bool
 rows_name rows f = list_any (λ (row : Row). f == row.0) rows
+
+-- nothing is known of the descriptor, and the row has the rights that are live in it, of which there are some
+abbrev pub IsUnknownLimit : State → List Step → ℕ → Row → Type 0
+IsUnknownLimit s later p row =
+    (s.cell p row.0 ≡ Unknown) × IsLeast later p row.0 all Unsure row.1 × (row.1 ≡ 0 → ⊥)
 
 -- of process p between the steps before and those later, the first of which stands at a position
 pub record AreLimitsOf (start : List Added) (before later : List Step) (at p : ℕ) (limits : Limits) : Type 0 where
@@ -25,6 +34,10 @@ pub record AreLimitsOf (start : List Added) (before later : List Step) (at p : �
   -- of those that are held, just the ones that stand have a row
   pub standing : (f : ℕ) → IsHeld ((ended (start_state start) before).cell p f)
       → (rows_name (map row_of limits.held.items) f ≡ true) ↔ Stands start (reverse before) p f
+  pub unknown : All (IsUnknownLimit (ended (start_state start) before) later p) (map row_of limits.unknown.items)
+  -- each descriptor of which nothing is known and some right is live has a row
+  pub unknown_live : (f k : ℕ) → k < 63 → (ended (start_state start) before).cell p f ≡ Unknown
+      → Live later p f Unsure k → rows_name (map row_of limits.unknown.items) f ≡ true
   pub entering : IsEntering (ended (start_state start) before) at later p limits.entering
 
 -- of the process of the line at a position of a trace, from 1; none where there is no such line

@@ -55,6 +55,7 @@ mod start;
 mod step;
 mod table;
 mod touched;
+mod unknown;
 mod verdict;
 mod walks;
 

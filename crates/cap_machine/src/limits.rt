@@ -15,6 +15,7 @@ use crate::live::LiveRights;
 use crate::machine::Machine;
 use crate::standing::standing_fds;
 use crate::start::Start;
+use crate::unknown::unknown_limits;
 use cap_rights::NoMemory;
 use cap_trace::{Line, Pid};
 use std::alloc::Global;
@@ -94,6 +95,8 @@ pub struct Limits {
     pub pid: Pid,
     /// The limit of each descriptor that it holds and that stands in what is known, one by one.
     pub held: Vec<Limit>,
+    /// What later lines need of each descriptor of which nothing is known.
+    pub unknown: Vec<Limit>,
     /// Whether it may enter capability mode.
     pub entering: Entering,
 }
@@ -116,9 +119,11 @@ fn limits_of(
     let fds = standing_fds(alloc, profile, start, before, pid)?;
     let entering = Entering::of(&machine, &live, pid);
     let held = limits_among(alloc, &machine, &live, pid, fds)?;
+    let unknown = unknown_limits(alloc, &machine, pid, live.into_unsure(pid))?;
     Ok(Limits {
         pid,
         held,
+        unknown,
         entering,
     })
 }

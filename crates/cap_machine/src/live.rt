@@ -1,6 +1,6 @@
 //! Which rights of each descriptor the lines from here on need, and which line is in the way of capability mode.
 
-mod fd_rights;
+pub(crate) mod fd_rights;
 mod process;
 
 ghost use Rattle.std.specs.Prelude.{◌≡◌, ℕ, ◌+◌, ◌||◌, ◌==◌, OnOk, OnErr, IfOk, IfSome, List, [], ◌∷◌, None, true, if◌then◌else◌};
@@ -10,10 +10,11 @@ ghost use Rattle.cap_machine.specs.Steps.{step};
 ghost use Rattle.cap_machine.specs.Rule.{demand};
 ghost use Rattle.cap_machine.specs.Effect.{effect_touch, effect_turn};
 ghost use Rattle.cap_machine.specs.LiveRights.{AreLive, AreBlocked};
-ghost use Rattle.cap_machine.specs.Wanted.{wanted_of, wanted, blocked, gathered, gathered_blocked, is_child};
+ghost use Rattle.cap_machine.specs.Wanted.{rights_of, wanted_of, wanted, blocked, gathered, gathered_blocked, is_child};
 ghost use Rattle.cap_machine.specs.Wanted.{undone, unblocked, with_demand, blocked_with, wanted_before, blocked_before};
 
 use crate::cell::{OnExec, Profile};
+use crate::live::fd_rights::FdRights;
 use crate::live::process::LiveProcess;
 use crate::rule::{Demand, Effect, rule_of};
 use cap_rights::{NoMemory, RightSet};
@@ -62,6 +63,14 @@ impl LiveRights {
             Some(own) => own.blocked,
             None => None,
         }
+    }
+
+    /// What is needed of each descriptor of a process where its flag isn't known.
+    pub(crate) fn into_unsure(self, pid: Pid) -> FdRights
+        ensures { (f : ℕ) → rights_of result f ≡ wanted self pid f OnExec.Unsure }
+    {
+        let mut live = self;
+        live.take(pid).into_unsure()
     }
 
     /// Takes out what is needed of a process.

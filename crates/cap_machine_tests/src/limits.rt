@@ -201,16 +201,27 @@ static MADE: [MakerRow; 5] = [
     ),
 ];
 
-/// A trace, a line of it, that line's process, the limits of what that holds before the line, and whether it may enter.
+/// A trace, a line of it, that line's process, the limits of what that holds before the line, what is needed of others,
+/// and whether it may enter.
 type BeforeRow = (
     &'static [u8],
     usize,
     u32,
     &'static [(u32, &'static [u8])],
+    &'static [(u32, &'static [u8])],
     Entering,
 );
 
-static BEFORE: [BeforeRow; 5] = [
+static BEFORE: [BeforeRow; 6] = [
+    // Of what isn't known each is named of which something is needed.
+    (
+        b"100 read(9) RET 1\n100 dup2(7,8) RET 8\n100 close(3) RET 0\n100 write(8) RET 1\n100 @exit()",
+        2,
+        100,
+        &[],
+        &[(7, b"CAP_WRITE")],
+        Entering::May,
+    ),
     (
         TALLY,
         4,
@@ -222,6 +233,7 @@ static BEFORE: [BeforeRow; 5] = [
             (3, b"CAP_READ|CAP_SEEK|CAP_FSTAT"),
             (4, b"CAP_WRITE|CAP_FSYNC"),
         ],
+        &[],
         Entering::Blocked(5),
     ),
     // What a child got at the fork stands as it stood with its parent.
@@ -237,6 +249,7 @@ static BEFORE: [BeforeRow; 5] = [
             (4, b"CAP_WRITE|CAP_FSYNC"),
             (5, b"CAP_READ"),
         ],
+        &[],
         Entering::May,
     ),
     // Nothing is held of which nothing is known.
@@ -245,6 +258,7 @@ static BEFORE: [BeforeRow; 5] = [
         3,
         100,
         &[],
+        &[(3, b"CAP_READ")],
         Entering::May,
     ),
     (
@@ -252,6 +266,7 @@ static BEFORE: [BeforeRow; 5] = [
         2,
         100,
         &[],
+        &[(3, b"CAP_READ")],
         Entering::Inside,
     ),
     // A closed descriptor isn't held.
@@ -260,6 +275,7 @@ static BEFORE: [BeforeRow; 5] = [
         3,
         100,
         &[(0, b"CAP_READ")],
+        &[],
         Entering::May,
     ),
 ];
@@ -271,6 +287,7 @@ static STARTED: [BeforeRow; 2] = [
         2,
         100,
         &[(4, b"CAP_READ"), (7, b"NONE")],
+        &[],
         Entering::May,
     ),
     // An exec doesn't make the others stand.
@@ -279,6 +296,7 @@ static STARTED: [BeforeRow; 2] = [
         3,
         101,
         &[(7, b"CAP_WRITE")],
+        &[],
         Entering::May,
     ),
 ];
@@ -373,7 +391,10 @@ fn are_held(limits: &[Limit], rows: &[(u32, &[u8])]) -> bool {
 
 /// Whether limits are as in a row.
 fn are_before(limits: &Limits, row: &BeforeRow) -> bool {
-    limits.pid == row.2 && limits.entering == row.4 && are_held(&limits.held, row.3)
+    limits.pid == row.2
+        && limits.entering == row.5
+        && are_held(&limits.held, row.3)
+        && are_held(&limits.unknown, row.4)
 }
 
 /// Whether the limits before a line are those of a row.

@@ -12,7 +12,7 @@ use std::collections::BTreeMap;
 /// A set of rights for each descriptor. Most have none.
 #[derive(Drop)]
 pub(crate) struct FdRights {
-    map: BTreeMap<Fd, RightSet>,
+    pub(crate) map: BTreeMap<Fd, RightSet>,
 }
 
 impl FdRights {

@@ -100,6 +100,13 @@ impl LiveProcess {
         }
     }
 
+    /// What is needed of each descriptor where its flag isn't known.
+    pub(crate) fn into_unsure(self) -> FdRights
+        ensures { (f : ℕ) → rights_of result f ≡ wanted_of self f OnExec.Unsure }
+    {
+        self.unsure
+    }
+
     /// Adds rights of a descriptor.
     fn add(&mut self, fd: Fd, rights: &ByFlag) -> Result<(), NoMemory>
         ensures rights { OnOk result ((f : ℕ) (x : OnExec)

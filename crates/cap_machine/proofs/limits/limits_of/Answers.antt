@@ -6,9 +6,10 @@ use Rattle.cap_machine.specs.History.{ended}
 use Rattle.cap_machine.specs.Table.{start_state}
 use Rattle.cap_machine.specs.LimitLaws.{Row, IsLimit}
 use Rattle.cap_machine.specs.Limits.{row_of, IsEntering}
-use Rattle.cap_machine.specs.LimitsBefore.{rows_name}
+use Rattle.cap_machine.specs.LimitsBefore.{rows_name, IsUnknownLimit}
 use Rattle.cap_machine.specs.Standing.{IsHeld}
-use Rattle.cap_machine.specs.Wanted.{wanted}
+use Rattle.cap_machine.specs.Wanted.{rights_of, wanted}
+use Rattle.cap_machine.proofs.UnknownRows.{unknown_are}
 use Rattle.std.specs.List.{All}
 use Rattle.cap_machine.proofs.StandingRows.{rows_named}
 use Rattle.cap_machine.proofs.limits.limits_of.Goals as goal
@@ -19,6 +20,9 @@ returns c =
     let later : List Step = steps c.args.profile c.args.later.now in
     let is : start_state c.in_ok-machine.machine ≡ s = c.in_ok-machine.ensures in
     let rows : List Row = map row_of c.in_ok-held.held.items in
+    let unknown = unknown_are (start_state c.in_ok-machine.machine) later c.args.pid (wanted c.in_ok-live.live c.args.pid)
+    (rights_of c.into_unsure.result) (map row_of c.in_ok-unknown.unknown.items) c.into_unsure.ensures
+    (c.in_ok-live.ensures.rights c.args.pid) c.in_ok-unknown.ensures in
     record {
       pid = refl;
       least = subst (λ (u : State). All (IsLimit u later c.args.pid) rows) is
@@ -29,6 +33,9 @@ returns c =
           c.in_ok-fds.fds.keys f (subst (λ (u : State). IsHeld (u.cell c.args.pid f)) (sym is) held) in
           let stands = c.in_ok-fds.ensures f held in
           (λ h. stands.0 (sym named ∙ h), λ h. named ∙ stands.1 h);
+      unknown = subst (λ (u : State). All (IsUnknownLimit u later c.args.pid) (map row_of c.in_ok-unknown.unknown.items)) is
+          unknown.0;
+      unknown_live = λ f k lt none live. unknown.1 f k lt (ap (λ (u : State). u.cell c.args.pid f) is ∙ none) live;
       entering = subst (λ (u : State). IsEntering u (length c.args.before.now + 1) later c.args.pid c.of-entering.result) is
           (c.of-entering.ensures (length c.args.before.now + 1) later c.in_ok-live.ensures.blocked);
     }

@@ -1,0 +1,53 @@
+//! What later lines need of descriptors of which nothing is known.
+
+ghost use Rattle.std.specs.Prelude.{◌≡◌, IfOk, map};
+ghost use Rattle.cap_machine.specs.Limits.{row_of, option_rows};
+ghost use Rattle.cap_machine.specs.Table.{start_state};
+ghost use Rattle.cap_machine.specs.Unknown.{unknown_row, AreUnknownRows};
+ghost use Rattle.cap_machine.specs.Wanted.{rights_of};
+
+use crate::cell::Cell;
+use crate::limit::{Limit, least_rights};
+use crate::live::fd_rights::FdRights;
+use crate::machine::Machine;
+use cap_rights::{NoMemory, RightSet};
+use cap_trace::{Fd, Pid};
+use std::alloc::Global;
+
+/// What is needed of a descriptor, where nothing is known of it and something is needed.
+fn unknown_limit(machine: &Machine, pid: Pid, fd: Fd, needed: &RightSet) -> Option<Limit>
+    ensures { option_rows result ≡ unknown_row ((start_state machine.now).cell pid fd) fd needed.now }
+{
+    let rights = least_rights(&RightSet::all(), needed);
+    match machine.cell(pid, fd) {
+        Cell::Unknown => {
+            if rights == RightSet::none() {
+                None
+            } else {
+                Some(Limit { fd, rights })
+            }
+        }
+        _ => None,
+    }
+}
+
+/// What is needed of the descriptors of a process of which nothing is known, by what is needed of each whose flag isn't
+/// known.
+pub(crate) fn unknown_limits(
+    alloc: Global,
+    machine: &Machine,
+    pid: Pid,
+    unsure: FdRights,
+) -> Result<Vec<Limit>, NoMemory>
+    ensures { IfOk result (λ limits.
+        AreUnknownRows ((start_state machine.now).cell pid) (rights_of unsure) (map row_of limits.items)) }
+{
+    let mut limits = Vec::new(alloc);
+    let mut rest = unsure;
+    while let Some(entry) = rest.map.pop_first() {
+        if let Some(limit) = unknown_limit(machine, pid, entry.0, &entry.1) {
+            limits.push(limit)?;
+        }
+    }
+    Ok(limits)
+}
