@@ -1,8 +1,8 @@
 -- The first line in the way of capability mode, before a line.
 use Rattle.std.proofs.Common.{◌≡◌, ◌⊎◌, ℕ, zero, suc, ◌+◌, ◌<◌, ◌==◌, nat_lt, ◌&&◌, if◌then◌else◌, Bool, true, false}
 use Rattle.std.proofs.Common.{List, ◌∷◌, Option, Some, None, refl, sym, ap, ◌∙◌, subst, inl, inr, arith}
-use Rattle.std.proofs.lemmas.Bool.{cases_Bool, and_parts, and_from, cond-true, cond-false, eqb-true, eq-eqb, both_ways}
-use Rattle.std.proofs.lemmas.Bool.{cases_lt, lt-ltb, le-ltb, and_left, and_right}
+use Rattle.std.proofs.lemmas.Bool.{cases_Bool, cond-true, cond-false, eqb-true, eq-eqb, both_ways}
+use Rattle.std.proofs.lemmas.Bool.{cases_lt, lt-ltb, le-ltb}
 use Rattle.std.proofs.Math.Logic.{⊎_elim}
 use Rattle.cap_machine.specs.declared.cell.Mode.{Mode}
 use Rattle.cap_machine.specs.declared.cell.Mode.TheVariants.{Inside, Outside, Unsure}
@@ -17,7 +17,7 @@ use Rattle.cap_machine.specs.Touch.{Turn, stays, turns, follows, turn}
 use Rattle.cap_machine.specs.Effect.{effect_turn}
 use Rattle.cap_machine.specs.Live.{is_success, step_blocks, ModePasses, Blocks}
 use Rattle.cap_machine.specs.LiveRights.{IsFirstBlock}
-use Rattle.cap_machine.specs.Wanted.{earlier, unblocked, gathered_blocked, is_child, blocked_with, blocked_before}
+use Rattle.cap_machine.specs.Wanted.{earlier, unblocked, gathered_blocked, is_child, blocked_before}
 
 -- ---- the first number, from one on, at which a fact holds
 

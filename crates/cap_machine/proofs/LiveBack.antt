@@ -1,10 +1,10 @@
 -- What is wanted before a line is what is live there.
-use Rattle.std.proofs.Common.{◌≡◌, ◌⊎◌, ◌↔◌, ℕ, zero, suc, ◌+◌, ◌-◌, ◌<◌, ◌≤◌, ◌^◌, ◌==◌, nat_le, nat_lt, ◌&&◌, ◌||◌, if◌then◌else◌}
-use Rattle.std.proofs.Common.{Bool, true, false, List, [], ◌∷◌, Option, Some, None, refl, sym, ap, ◌∙◌, subst, inl, inr, arith}
+use Rattle.std.proofs.Common.{◌≡◌, ◌⊎◌, ◌↔◌, ℕ, ◌<◌, ◌==◌, nat_le, ◌&&◌, ◌||◌, if◌then◌else◌}
+use Rattle.std.proofs.Common.{Bool, true, false, List, [], ◌∷◌, Some, None, refl, sym, ap, ◌∙◌, subst, inl, inr, arith}
 use Rattle.std.proofs.lemmas.Bool.{cases_Bool, cases_eq, or_cases, and_parts, and_from, cond-true, cond-false, eqb-true, eq-eqb}
-use Rattle.std.proofs.lemmas.Bool.{and_cases, or_left, or_right, and_left, and_right, both_ways, lt-ltb, false≢true, ne_eqb, eqb-false, or_parts, or_from}
+use Rattle.std.proofs.lemmas.Bool.{and_cases, or_left, or_right, and_left, and_right, both_ways, lt-ltb, ne_eqb, or_parts, or_from}
 use Rattle.std.proofs.Math.Logic.{⊎_elim}
-use Rattle.cap_rights.specs.Rights.{all, holds, join, meet}
+use Rattle.cap_rights.specs.Rights.{all, holds, join}
 use Rattle.cap_rights.proofs.Members.{join_holds, meet_holds, all_holds, none_holds}
 use Rattle.cap_machine.specs.declared.cell.OnExec.{OnExec}
 use Rattle.cap_machine.specs.declared.cell.OnExec.TheVariants.{Set, Clear, Unsure}
@@ -18,7 +18,7 @@ use Rattle.cap_machine.specs.declared.rule.Demand.{Demand}
 use Rattle.cap_machine.specs.declared.rule.Effect.{Effect}
 use Rattle.cap_machine.specs.declared.rule.Effect.TheVariants.{Keep, Start, Exit, Forget, Exec, CloseFrom, Enter, Give}
 use Rattle.cap_machine.specs.declared.rule.Effect.TheVariants.{GiveTwo, Change, Fork, ForkAs}
-use Rattle.cap_machine.specs.Op.{masked, held_op, same, exec}
+use Rattle.cap_machine.specs.Op.{held_op, same, exec}
 use Rattle.cap_trace.specs.Seen.{fds_spelled}
 use Rattle.cap_machine.specs.declared.step.Step.{Step}
 use Rattle.cap_machine.specs.Rule.{demand}
@@ -26,7 +26,7 @@ use Rattle.cap_machine.specs.Touch.{Touch, kept, given, taken, started, touch}
 use Rattle.cap_machine.specs.Effect.{effect_touch}
 use Rattle.cap_machine.specs.Judge.{listed}
 use Rattle.cap_machine.specs.Live.{is_success, checks_need, step_needs, HandsOn, Passes, Live}
-use Rattle.cap_machine.specs.Wanted.{back_through, wanted_without, wanted_with, undone, gathered, is_child, with_checks}
+use Rattle.cap_machine.specs.Wanted.{back_through, wanted_with, undone, gathered, is_child, with_checks}
 use Rattle.cap_machine.specs.Wanted.{with_demand, wanted_before}
 use Rattle.std.proofs.Math.Path.{fun_ext}
 

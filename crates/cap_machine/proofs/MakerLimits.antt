@@ -1,13 +1,12 @@
 -- The limits of what a trace makes, from the last step back.
-use Rattle.std.proofs.Common.{◌≡◌, ◌↔◌, ℕ, zero, suc, ◌+◌, ◌-◌, ◌<◌, ◌≤◌, ◌^◌, ◌==◌, ◌&&◌, Bool, true, false, List, [], ◌∷◌, ◌++◌}
-use Rattle.std.proofs.Common.{map, length, Option, Some, None, refl, sym, ap, ◌∙◌, subst, arith}
-use Rattle.std.specs.Prelude.{reverse}
+use Rattle.std.proofs.Common.{◌≡◌, ◌↔◌, ℕ, ◌+◌, ◌-◌, ◌<◌, ◌≤◌, ◌^◌, ◌==◌, ◌&&◌, Bool, true, false, List, [], ◌∷◌, ◌++◌}
+use Rattle.std.proofs.Common.{map, refl, sym, ap, ◌∙◌, subst, arith}
 use Rattle.std.specs.List.{All}
 use Rattle.std.proofs.lemmas.List.Elements.{All-nil, All-cons}
-use Rattle.std.proofs.lemmas.List.{reverse-append, map-append}
+use Rattle.std.proofs.lemmas.List.{reverse-append}
 use Rattle.std.proofs.lemmas.Bool.{and_parts, and_from, lt-ltb}
 use Rattle.std.proofs.lemmas.Nat.{and_le_r}
-use Rattle.cap_rights.specs.Rights.{holds, meet, without_full, named as all_named}
+use Rattle.cap_rights.specs.Rights.{holds, meet, named as all_named}
 use Rattle.cap_rights.proofs.Members.{meet_holds, all_named_hold}
 use Rattle.cap_machine.specs.declared.cell.OnExec.{OnExec}
 use Rattle.cap_machine.specs.declared.cell.Cell.{Cell}
@@ -24,7 +23,6 @@ use Rattle.cap_machine.specs.declared.step.Step.{Step}
 use Rattle.cap_machine.specs.declared.makers.Made.{Made}
 use Rattle.cap_machine.specs.declared.makers.Made.TheVariants.{Nothing, One, Two}
 use Rattle.cap_machine.specs.declared.makers.MakerLimit.{MakerLimit}
-use Rattle.cap_machine.specs.declared.makers.MadeCells.{MadeCells}
 use Rattle.cap_machine.specs.State.{State}
 use Rattle.cap_machine.specs.History.{after, ended}
 use Rattle.cap_machine.specs.Live.{Live}

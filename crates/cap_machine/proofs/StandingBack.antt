@@ -8,7 +8,6 @@ use Rattle.std.proofs.Math.Logic.{⊎_elim}
 use Rattle.cap_trace.specs.Seen.{fds_spelled}
 use Rattle.cap_rights.specs.Rights.{all}
 use Rattle.cap_machine.specs.declared.cell.OnExec.TheVariants as flags
-use Rattle.cap_machine.specs.declared.cell.OnExec.{OnExec}
 use Rattle.cap_machine.specs.declared.cell.Cell.{Cell}
 use Rattle.cap_machine.specs.declared.cell.Cell.TheVariants.{Unknown, Closed, Held}
 use Rattle.cap_machine.specs.declared.cell.Op.{Op}

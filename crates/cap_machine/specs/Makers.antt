@@ -10,7 +10,7 @@ use Rattle.cap_trace.specs.declared.line.Answer.{Answer}
 use Rattle.cap_trace.specs.declared.line.Answer.TheVariants as answers
 use Rattle.cap_machine.specs.declared.cell.OnExec.{OnExec}
 use Rattle.cap_machine.specs.declared.cell.Cell.{Cell}
-use Rattle.cap_machine.specs.declared.cell.Cell.TheVariants.{Unknown, Closed, Held}
+use Rattle.cap_machine.specs.declared.cell.Cell.TheVariants.{Unknown, Held}
 use Rattle.cap_machine.specs.declared.step.Step.{Step}
 use Rattle.cap_machine.specs.declared.makers.Made.{Made}
 use Rattle.cap_machine.specs.declared.makers.Made.TheVariants.{Nothing, One, Two}

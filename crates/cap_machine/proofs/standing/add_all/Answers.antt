@@ -1,4 +1,4 @@
-use Rattle.std.proofs.Common.{◌≡◌, ℕ, ◌==◌, ◌||◌, Bool, ap, sym, ◌∙◌, get_or, take_all}
+use Rattle.std.proofs.Common.{◌==◌, ◌||◌, Bool, ap, ◌∙◌, get_or, take_all}
 use Rattle.std.proofs.lemmas.List.Folds.{list_any_more}
 use Rattle.std.specs.List.{list_any}
 use Rattle.cap_machine.specs.Standing.{has_fd}

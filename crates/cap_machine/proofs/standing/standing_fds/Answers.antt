@@ -1,4 +1,4 @@
-use Rattle.std.proofs.Common.{◌≡◌, ℕ, List, [], ◌∷◌, ◌++◌, ap, sym, ◌∙◌, subst, reverse}
+use Rattle.std.proofs.Common.{◌≡◌, ℕ, List, [], ◌∷◌, ap, sym, ◌∙◌, subst, reverse}
 use Rattle.std.proofs.lemmas.List.{reverse-append}
 use Rattle.std.proofs.Math.Path.{fun_ext}
 use Rattle.cap_trace.specs.Entry.{Entry}
@@ -7,7 +7,7 @@ use Rattle.cap_machine.specs.declared.rule.Effect.{Effect}
 use Rattle.cap_machine.specs.State.{State}
 use Rattle.cap_machine.specs.Steps.{step, steps}
 use Rattle.cap_machine.specs.Table.{start_state}
-use Rattle.cap_machine.specs.Touch.{Touch, touch}
+use Rattle.cap_machine.specs.Touch.{touch}
 use Rattle.cap_machine.specs.Effect.{effect_touch}
 use Rattle.cap_machine.specs.Standing.{has_fd}
 use Rattle.cap_machine.proofs.OneMore.{steps-more}

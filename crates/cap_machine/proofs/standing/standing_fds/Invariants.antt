@@ -1,4 +1,4 @@
-use Rattle.std.proofs.Common.{◌≡◌, ℕ, reverse, length}
+use Rattle.std.proofs.Common.{ℕ, reverse, length}
 use Rattle.cap_machine.specs.Steps.{steps}
 use Rattle.cap_machine.specs.Table.{start_state}
 use Rattle.cap_machine.specs.Standing.{has_fd}

@@ -1,4 +1,4 @@
-use Rattle.std.proofs.Common.{◌≡◌, ℕ, List, [], ◌∷◌, ◌++◌, map, arith, ap, sym, ◌∙◌, subst, nat_cmp}
+use Rattle.std.proofs.Common.{ℕ, List, [], ◌∷◌, map, arith, ap, sym, ◌∙◌, subst}
 use Rattle.std.specs.Option.{unwrap_or}
 use Rattle.std.proofs.lemmas.Grind.{common_steps}
 use Rattle.std.proofs.lemmas.List.{map-append}
@@ -7,7 +7,7 @@ use Rattle.cap_machine.specs.LimitLaws.{Row}
 use Rattle.cap_machine.specs.Limits.{row_of}
 use Rattle.cap_machine.specs.Table.{start_state}
 use Rattle.cap_machine.specs.Wanted.{rights_of}
-use Rattle.cap_machine.proofs.UnknownRows.{RowsSoFar, rows_begin, rows_more}
+use Rattle.cap_machine.proofs.UnknownRows.{RowsSoFar, rows_more}
 use Rattle.cap_machine.proofs.unknown.unknown_limits.Goals as goal
 
 pub loop-entry-preserved-in-Continue-1 : goal.loop-entry-preserved-in-Continue-1
