@@ -414,15 +414,22 @@ fn is_usual(alloc: Global, row: &BeforeRow) -> bool {
     }
 }
 
+/// A descriptor that was never limited.
+fn whole() -> Cell {
+    Cell::Held(RightSet::all(), OnExec::Clear)
+}
+
 /// A start in which process 100 holds 7, which is listed, and all others.
 fn all_held(alloc: Global) -> Option<Start> {
     let mut start = Start::unknown(alloc);
     let mut cells = Vec::new(alloc);
-    let held = Cell::Held(RightSet::all(), OnExec::Clear);
-    if cells.push((7, held)).is_err() || start.add(100, Mode::Outside, held, cells).is_err() {
+    if cells.push((7, whole())).is_err() {
         return None;
     }
-    Some(start)
+    match start.add(100, Mode::Outside, whole(), cells) {
+        Ok(()) => Some(start),
+        Err(_) => None,
+    }
 }
 
 /// The same of the lines of a trace, after that start.
