@@ -46,6 +46,7 @@ pub mod JoinedRights
 pub mod LiveBack
 pub mod BlockedBack
 pub mod MakerLimits
+pub mod RowOrder
 pub mod LeastRows
 pub mod NoMoreNeeds
 pub mod StandingBack

@@ -15,7 +15,7 @@ use Rattle.cap_machine.specs.Limits.{cell_row, held_rows}
 use Rattle.cap_machine.specs.LimitsBefore.{rows_name}
 use Rattle.cap_machine.specs.Standing.{IsHeld}
 
-at_is : (f g : ℕ) → is_at (nat_cmp f) g ≡ (f == g)
+pub at_is : (f g : ℕ) → is_at (nat_cmp f) g ≡ (f == g)
 at_is f g = grind (arith, nat_tests, common_steps)
 
 -- a row that isn't there names none that is held

@@ -1,55 +1,37 @@
 -- The rows of descriptors of which nothing is known.
-use Rattle.std.proofs.Common.{◌≡◌, ◌⊎◌, ℕ, ◌==◌, ◌||◌, Bool, true, false, List, [], ◌∷◌, ◌++◌, inl, inr}
-use Rattle.std.proofs.Common.{refl, sym, ap, ◌∙◌, subst, arith}
+use Rattle.std.proofs.Common.{◌≡◌, ◌<◌, ◌↔◌, ℕ, ◌==◌, ◌||◌, nat_cmp, Bool, true, false, List, [], ◌∷◌, ◌++◌, inl, inr, map}
+use Rattle.std.proofs.Common.{Option, Some, get_or, if◌then◌else◌, refl, sym, ap, ◌∙◌, subst, arith}
 use Rattle.std.specs.List.{All}
-use Rattle.std.proofs.lemmas.List.Elements.{All-nil, All-cons, All-append}
-use Rattle.std.proofs.lemmas.Bool.{cases_Bool, cases_eq, cond-true, cond-false, eqb-true}
-use Rattle.std.proofs.lemmas.Bool.Decides.{nat_tests}
+use Rattle.std.specs.List.Sorted.{IsStrictlySortedBy}
+use Rattle.std.specs.Option.{unwrap_or}
+use Rattle.std.specs.Map.{keys_of, lookup}
+use Rattle.std.specs.BTreeMap.{IsOrdered, get, is_at}
+use Rattle.std.proofs.lemmas.List.Elements.{All-nil, All-cons, All-head, All-tail, All-append, All-weaker}
 use Rattle.std.proofs.lemmas.List.Folds.{list_any-append}
+use Rattle.std.proofs.lemmas.Bool.{both_ways, lt-ltb, cases_Bool, cond-true, cond-false, eqb-true}
+use Rattle.std.proofs.lemmas.Bool.Decides.{nat_tests}
+use Rattle.std.proofs.lemmas.Map.Entries.{lookup_head, lookup_tail}
+use Rattle.std.proofs.lemmas.Map.Views.{All-found}
+use Rattle.std.proofs.lemmas.Cmp.{nat_cmp_total}
 use Rattle.std.proofs.Math.Logic.{⊎_elim}
-use Rattle.cap_rights.specs.Rights.{all}
-use Rattle.cap_machine.specs.declared.cell.Cell.{Cell}
-use Rattle.cap_machine.specs.declared.cell.Cell.TheVariants.{Unknown, Closed, Held}
-use Rattle.cap_machine.specs.LimitLaws.{Row}
-use Rattle.std.proofs.Common.{◌<◌, ◌↔◌, get_or}
-use Rattle.std.proofs.lemmas.Bool.{both_ways, lt-ltb}
-use Rattle.cap_rights.specs.Rights.{holds}
+use Rattle.cap_rights.specs.Rights.{all, holds}
 use Rattle.cap_rights.proofs.Members.{all_holds, none_holds}
 use Rattle.cap_machine.specs.declared.cell.OnExec.{OnExec}
 use Rattle.cap_machine.specs.declared.cell.OnExec.TheVariants.{Unsure}
+use Rattle.cap_machine.specs.declared.cell.Cell.{Cell}
+use Rattle.cap_machine.specs.declared.cell.Cell.TheVariants.{Unknown, Closed, Held}
 use Rattle.cap_machine.specs.declared.step.Step.{Step}
+use Rattle.cap_machine.specs.declared.live.fd_rights.FdRights.{FdRights}
 use Rattle.cap_machine.specs.State.{State}
 use Rattle.cap_machine.specs.Live.{Live}
-use Rattle.cap_machine.specs.LimitLaws.{IsLeast}
-use Rattle.cap_machine.specs.LimitsBefore.{IsUnknownLimit}
-use Rattle.cap_machine.proofs.MakerLimits.{least_is}
+use Rattle.cap_machine.specs.LimitLaws.{Row, IsLeast}
 use Rattle.cap_machine.specs.Limits.{least_of}
-use Rattle.cap_machine.specs.LimitsBefore.{rows_name}
-use Rattle.cap_machine.specs.Unknown.{unknown_row, IsUnknownRow, AreUnknownRows}
-
--- rows so far, with what is left to look at
-abbrev pub RowsSoFar : (ℕ → Cell) → (ℕ → ℕ) → (ℕ → ℕ) → List Row → Type 0
-RowsSoFar cells wanted left rows = All (IsUnknownRow cells wanted) rows
-    × ((f : ℕ) → (left f ≡ wanted f) ⊎ ((left f ≡ 0)
-    × (cells f ≡ Unknown → (least_of all (wanted f) ≡ 0 → ⊥) → rows_name rows f ≡ true)))
-
-pub rows_begin : (cells : ℕ → Cell) (wanted : ℕ → ℕ) → RowsSoFar cells wanted wanted []
-rows_begin cells wanted = (All-nil (IsUnknownRow cells wanted), λ f. inl refl)
-
-pub rows_end : (cells : ℕ → Cell) (wanted left : ℕ → ℕ) (rows : List Row) → ((f : ℕ) → left f ≡ 0)
-    → RowsSoFar cells wanted left rows → AreUnknownRows cells wanted rows
-rows_end cells wanted left rows none so_far = (
-  so_far.0,
-  λ f is some. ⊎_elim
-      (λ e. absurd (some (ap (least_of all) (sym e ∙ none f))))
-      (λ done. done.1 is some)
-      (so_far.1 f),
-)
-
-empty_row : (c : Cell) (g : ℕ) → unknown_row c g 0 ≡ []
-empty_row Unknown g = refl
-empty_row Closed g = refl
-empty_row (Held rights flag) g = refl
+use Rattle.cap_machine.specs.LimitsBefore.{rows_name, IsUnknownLimit}
+use Rattle.cap_machine.specs.Unknown.{unknown_row, unknown_rows, IsUnknownRow, AreUnknownRows}
+use Rattle.cap_machine.specs.Wanted.{rights_of}
+use Rattle.cap_machine.proofs.MakerLimits.{least_is}
+use Rattle.cap_machine.proofs.RowOrder.{fd_of, HasOne, rows_sorted}
+use Rattle.cap_machine.proofs.StandingRows.{at_is}
 
 row_ok : (cells : ℕ → Cell) (wanted : ℕ → ℕ) (g : ℕ) (c : Cell) → cells g ≡ c
     → All (IsUnknownRow cells wanted) (unknown_row c g (wanted g))
@@ -88,45 +70,64 @@ or_right_true : (a b : Bool) → b ≡ true → (a || b) ≡ true
 or_right_true true b e = refl
 or_right_true false b e = e
 
--- one more is looked at
-pub rows_more : (cells : ℕ → Cell) (wanted left next : ℕ → ℕ) (rows more : List Row) (g r : ℕ)
-    → left g ≡ r → next g ≡ 0 → ((f : ℕ) → (f ≡ g → ⊥) → next f ≡ left f)
-    → more ≡ unknown_row (cells g) g r
-    → RowsSoFar cells wanted left rows → RowsSoFar cells wanted next (rows ++ more)
-rows_more cells wanted left next rows more g r here gone others is so_far =
-    let row_is : (n : ℕ) → left g ≡ n → more ≡ unknown_row (cells g) g n =
-    λ n e. is ∙ ap (unknown_row (cells g) g) (sym here ∙ e) in
-    let new : All (IsUnknownRow cells wanted) more =
-    ⊎_elim
-    (λ e. subst (All (IsUnknownRow cells wanted)) (sym (row_is (wanted g) e)) (row_ok cells wanted g (cells g) refl))
-    (λ done. subst (All (IsUnknownRow cells wanted)) (sym (row_is 0 done.0 ∙ empty_row (cells g) g))
-    (All-nil (IsUnknownRow cells wanted)))
-    (so_far.1 g) in
-    let both : (f : ℕ) → rows_name (rows ++ more) f ≡ (rows_name rows f || rows_name more f) =
-    λ f. list_any-append (λ (row : Row). f == row.0) rows more in
-    let own : cells g ≡ Unknown → (least_of all (wanted g) ≡ 0 → ⊥) → rows_name (rows ++ more) g ≡ true =
-    λ unknown some. both g ∙ ⊎_elim
-    (λ e. or_right_true (rows_name rows g) (rows_name more g)
-    (ap (λ (l : List Row). rows_name l g) (row_is (wanted g) e ∙ ap (λ (c : Cell). unknown_row c g (wanted g)) unknown)
-    ∙ row_names g (wanted g) some))
-    (λ done. or_left_true (rows_name rows g) (rows_name more g) (done.1 unknown some))
-    (so_far.1 g) in (
-      All-append (IsUnknownRow cells wanted) rows more so_far.0 new,
-      λ f. ⊎_elim
-          (λ e. inr (
-            ap next e ∙ gone,
-            subst (λ (h : ℕ). cells h ≡ Unknown → (least_of all (wanted h) ≡ 0 → ⊥) → rows_name (rows ++ more) h ≡ true)
-                (sym e) own,
-          ))
-          (λ ne. ⊎_elim
-          (λ e. inl (others f ne ∙ e))
-          (λ done. inr (
-            others f ne ∙ done.0,
-            λ unknown some. both f ∙ or_left_true (rows_name rows f) (rows_name more f) (done.1 unknown some),
-          ))
-          (so_far.1 f))
-          (cases_eq f g),
-    )
+rows_ok : (cells : ℕ → Cell) (wanted : ℕ → ℕ) (entries : List (ℕ × ℕ))
+    → All (λ (entry : ℕ × ℕ). wanted entry.0 ≡ entry.1) entries
+    → All (IsUnknownRow cells wanted) (unknown_rows cells entries)
+rows_ok cells wanted [] are = All-nil (IsUnknownRow cells wanted)
+rows_ok cells wanted (entry ∷ entries) are =
+    All-append (IsUnknownRow cells wanted) (unknown_row (cells entry.0) entry.0 entry.1) (unknown_rows cells entries)
+    (subst (λ (n : ℕ). All (IsUnknownRow cells wanted) (unknown_row (cells entry.0) entry.0 n))
+    (All-head (λ (e : ℕ × ℕ). wanted e.0 ≡ e.1) entry entries are)
+    (row_ok cells wanted entry.0 (cells entry.0) refl))
+    (rows_ok cells wanted entries (All-tail (λ (e : ℕ × ℕ). wanted e.0 ≡ e.1) entry entries are))
+
+all_named : (cells : ℕ → Cell) (entries : List (ℕ × ℕ)) (f : ℕ) → cells f ≡ Unknown
+    → (least_of all (unwrap_or (lookup (is_at (nat_cmp f)) entries) 0) ≡ 0 → ⊥)
+    → rows_name (unknown_rows cells entries) f ≡ true
+all_named cells [] f unknown some = absurd (some refl)
+all_named cells (entry ∷ entries) f unknown some =
+    let own : List Row = unknown_row (cells entry.0) entry.0 entry.1 in
+    let both : rows_name (own ++ unknown_rows cells entries) f ≡ (rows_name own f || rows_name (unknown_rows cells entries) f) =
+    list_any-append (λ (row : Row). f == row.0) own (unknown_rows cells entries) in
+    both ∙ ⊎_elim
+    (λ here. let same : f ≡ entry.0 = eqb-true f entry.0 (sym (at_is f entry.0) ∙ here) in
+    or_left_true (rows_name own f) (rows_name (unknown_rows cells entries) f)
+    (ap (λ (c : Cell). rows_name (unknown_row c entry.0 entry.1) f) (ap cells (sym same) ∙ unknown)
+    ∙ ap (rows_name (unknown_row Unknown entry.0 entry.1)) same
+    ∙ row_names entry.0 entry.1
+    (λ none. some (ap (λ (o : Option ℕ). least_of all (unwrap_or o 0))
+    (lookup_head (is_at (nat_cmp f)) entry entries here) ∙ none))))
+    (λ there. or_right_true (rows_name own f) (rows_name (unknown_rows cells entries) f)
+    (all_named cells entries f unknown
+    (λ none. some (ap (λ (o : Option ℕ). least_of all (unwrap_or o 0))
+    (lookup_tail (is_at (nat_cmp f)) entry entries there) ∙ none))))
+    (cases_Bool (is_at (nat_cmp f) entry.0))
+
+-- the rows of a table that is in order
+pub rows_are : (cells : ℕ → Cell) (rights : FdRights) → IsOrdered nat_cmp rights.map
+    → AreUnknownRows cells (rights_of rights) (unknown_rows cells rights.map.entries)
+rows_are cells rights sorted = (
+  rows_ok cells (rights_of rights) rights.map.entries
+      (All-weaker (λ (e : ℕ × ℕ). get nat_cmp rights.map e.0 ≡ Some e.1) (λ (e : ℕ × ℕ). rights_of rights e.0 ≡ e.1)
+      (λ e is. ap (λ (o : Option ℕ). unwrap_or o 0) is) rights.map.entries
+      (All-found nat_cmp_total rights.map sorted)),
+  λ f. all_named cells rights.map.entries f,
+)
+
+has_one : (c : Cell) (f wanted : ℕ) → HasOne f (unknown_row c f wanted)
+has_one Unknown f wanted = pick (least_of all wanted == 0)
+  where
+    pick : (b : Bool) → HasOne f (if b then [] else (f, least_of all wanted) ∷ [])
+    pick true = inl refl
+    pick false = inr (least_of all wanted, refl)
+has_one Closed f wanted = inl refl
+has_one (Held rights flag) f wanted = inl refl
+
+pub rows_in_order : (cells : ℕ → Cell) (entries : List (ℕ × ℕ)) → IsStrictlySortedBy nat_cmp (keys_of entries)
+    → IsStrictlySortedBy nat_cmp (map fd_of (unknown_rows cells entries))
+rows_in_order cells entries sorted =
+    rows_sorted (λ (e : ℕ × ℕ). e.0) (λ (e : ℕ × ℕ). unknown_row (cells e.0) e.0 e.1)
+    (λ e. has_one (cells e.0) e.0 e.1) entries sorted
 
 -- ---- what is live
 

@@ -1,5 +1,7 @@
 -- The least rights of the descriptors of a process before a line.
-use Rattle.std.specs.Prelude.{◌≡◌, ℕ, List, [], ◌∷◌, ◌++◌, Option, Some, None}
+use Rattle.std.specs.Prelude.{◌≡◌, ◌≤◌, ◌^◌, ℕ, List, [], ◌∷◌, map, length, Option, Some, None}
+use Rattle.std.specs.List.{flat_map}
+use Rattle.std.specs.List.Sorted.{IsStrictlyIncreasing}
 use Rattle.cap_rights.specs.Rights.{meet, without_full}
 use Rattle.cap_machine.specs.declared.cell.OnExec.{OnExec}
 use Rattle.cap_machine.specs.declared.cell.Cell.{Cell}
@@ -15,6 +17,11 @@ use Rattle.cap_machine.specs.LimitLaws.{Row}
 
 abbrev pub row_of : Limit → Row
 row_of limit = (limit.fd, limit.rights)
+
+-- each row has a descriptor above that of the row before it; a descriptor has 32 bits
+pub record AreInOrder (rows : List Row) : Type 0 where
+  pub rise : IsStrictlyIncreasing (map (λ (row : Row). row.0) rows)
+  pub few : length rows ≤ 2 ^ 32
 
 -- ---- as the code has them
 
@@ -35,8 +42,7 @@ abbrev pub held_row : State → (ℕ → ℕ → OnExec → ℕ) → ℕ → ℕ
 held_row s wanted p f = cell_row (s.cell p f) f (wanted p f)
 
 abbrev pub held_rows : State → (ℕ → ℕ → OnExec → ℕ) → ℕ → List ℕ → List Row
-held_rows s wanted p [] = []
-held_rows s wanted p (f ∷ fds) = held_row s wanted p f ++ held_rows s wanted p fds
+held_rows s wanted p fds = flat_map (held_row s wanted p) fds
 
 -- ---- capability mode
 

@@ -14,7 +14,7 @@ use Rattle.cap_machine.specs.History.{ended}
 use Rattle.cap_machine.specs.Table.{start_state}
 use Rattle.cap_machine.specs.LimitLaws.{Row, IsLeast, IsLimit}
 use Rattle.cap_machine.specs.Live.{Live}
-use Rattle.cap_machine.specs.Limits.{row_of, IsEntering}
+use Rattle.cap_machine.specs.Limits.{row_of, AreInOrder, IsEntering}
 use Rattle.cap_machine.specs.Standing.{Stands, IsHeld}
 
 -- one of these rows is of this descriptor
@@ -31,10 +31,12 @@ pub record AreLimitsOf (start : List Added) (before later : List Step) (at p : �
   pub pid : limits.pid ≡ p
   -- each row limits a held descriptor to its live rights
   pub least : All (IsLimit (ended (start_state start) before) later p) (map row_of limits.held.items)
+  pub held_in_order : AreInOrder (map row_of limits.held.items)
   -- of those that are held, just the ones that stand have a row
   pub standing : (f : ℕ) → IsHeld ((ended (start_state start) before).cell p f)
       → (rows_name (map row_of limits.held.items) f ≡ true) ↔ Stands start (reverse before) p f
   pub unknown : All (IsUnknownLimit (ended (start_state start) before) later p) (map row_of limits.unknown.items)
+  pub unknown_in_order : AreInOrder (map row_of limits.unknown.items)
   -- each descriptor of which nothing is known and some right is live has a row
   pub unknown_live : (f k : ℕ) → k < 63 → (ended (start_state start) before).cell p f ≡ Unknown
       → Live later p f Unsure k → rows_name (map row_of limits.unknown.items) f ≡ true

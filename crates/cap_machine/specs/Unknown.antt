@@ -1,6 +1,6 @@
 -- What later steps need of the descriptors of a process of which nothing is known.
 use Rattle.std.specs.Prelude.{◌≡◌, ℕ, ◌==◌, if◌then◌else◌, true, List, [], ◌∷◌}
-use Rattle.std.specs.List.{All}
+use Rattle.std.specs.List.{All, flat_map}
 use Rattle.cap_rights.specs.Rights.{all}
 use Rattle.cap_machine.specs.declared.cell.Cell.{Cell}
 use Rattle.cap_machine.specs.declared.cell.Cell.TheVariants.{Unknown, Closed, Held}
@@ -13,6 +13,10 @@ abbrev pub unknown_row : Cell → ℕ → ℕ → List Row
 unknown_row Unknown f wanted = if least_of all wanted == 0 then [] else (f, least_of all wanted) ∷ []
 unknown_row Closed f wanted = []
 unknown_row (Held rights flag) f wanted = []
+
+-- the rows of descriptors with what is wanted of each
+abbrev pub unknown_rows : (ℕ → Cell) → List (ℕ × ℕ) → List Row
+unknown_rows cells wanted = flat_map (λ (entry : ℕ × ℕ). unknown_row (cells entry.0) entry.0 entry.1) wanted
 
 abbrev pub IsUnknownRow : (ℕ → Cell) → (ℕ → ℕ) → Row → Type 0
 IsUnknownRow cells wanted row =

@@ -1,10 +1,13 @@
 //! What later lines need of descriptors of which nothing is known.
 
-ghost use Rattle.std.specs.Prelude.{◌≡◌, IfOk, map};
+ghost use Rattle.std.specs.Prelude.{◌≡◌, ◌<◌, ◌^◌, IfOk, map};
+ghost use Rattle.std.specs.List.{All};
+ghost use Rattle.std.specs.Ordering.{nat_cmp};
+ghost use Rattle.std.specs.BTreeMap.{IsOrdered};
+ghost use Rattle.cap_machine.specs.declared.limit.Limit.{Limit};
 ghost use Rattle.cap_machine.specs.Limits.{row_of, option_rows};
 ghost use Rattle.cap_machine.specs.Table.{start_state};
-ghost use Rattle.cap_machine.specs.Unknown.{unknown_row, AreUnknownRows};
-ghost use Rattle.cap_machine.specs.Wanted.{rights_of};
+ghost use Rattle.cap_machine.specs.Unknown.{unknown_row, unknown_rows};
 
 use crate::cell::Cell;
 use crate::limit::{Limit, least_rights};
@@ -39,10 +42,12 @@ pub(crate) fn unknown_limits(
     pid: Pid,
     unsure: FdRights,
 ) -> Result<Vec<Limit>, NoMemory>
-    ensures { IfOk result (λ limits.
-        AreUnknownRows ((start_state machine.now).cell pid) (rights_of unsure) (map row_of limits.items)) }
+    ensures rows { IfOk result (λ limits. map row_of limits.items
+        ≡ unknown_rows ((start_state machine.now).cell pid) unsure.map.entries) }
+    ensures fds { IfOk result (λ limits. All (λ (limit : Limit). limit.fd < 2 ^ 32) limits.items) }
+    ensures sorted { IfOk result (λ limits. IsOrdered nat_cmp unsure.map) }
 {
-    let mut limits = Vec::new(alloc);
+    let mut limits = Vec::with_capacity(alloc, unsure.map.len())?;
     let mut rest = unsure;
     while let Some(entry) = rest.map.pop_first() {
         if let Some(limit) = unknown_limit(machine, pid, entry.0, &entry.1) {

@@ -1,13 +1,17 @@
-use Rattle.std.proofs.Common.{◌≡◌, ◌++◌, map, length}
+use Rattle.std.proofs.Common.{◌≡◌, ◌<◌, ◌^◌, ◌++◌, map, length}
+use Rattle.std.specs.List.{All}
+use Rattle.cap_machine.specs.declared.limit.Limit.{Limit}
 use Rattle.cap_machine.specs.Table.{start_state}
 use Rattle.cap_machine.specs.Wanted.{wanted}
 use Rattle.cap_machine.specs.Limits.{row_of, held_rows}
 use Rattle.cap_machine.proofs.limit.held_limits.Given as goal
 
 abbrev pub invariant-loop-fd : goal.invariant-loop-fd
-invariant-loop-fd l =
-    map row_of l.limits.items ++ held_rows (start_state l.machine) (wanted l.live) l.pid l.rest.keys
-    ≡ held_rows (start_state l.machine) (wanted l.live) l.pid l.fn.fds.keys
+invariant-loop-fd l = record {
+  rows : map row_of l.limits.items ++ held_rows (start_state l.machine) (wanted l.live) l.pid l.rest.keys
+      ≡ held_rows (start_state l.machine) (wanted l.live) l.pid l.fn.fds.keys;
+  fds : All (λ (limit : Limit). limit.fd < 2 ^ 32) l.limits.items;
+}
 
 abbrev pub decreases-loop-fd : goal.decreases-loop-fd
 decreases-loop-fd l = length l.rest.keys
