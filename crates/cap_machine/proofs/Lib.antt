@@ -48,7 +48,7 @@ pub mod BlockedBack
 pub mod MakerLimits
 pub mod RowOrder
 pub mod LeastRows
-pub mod NoMoreNeeds
+pub mod NearAndFar
 pub mod StandingBack
 pub mod StandingRows
 pub mod UnknownRows

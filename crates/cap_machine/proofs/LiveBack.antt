@@ -1,6 +1,7 @@
 -- What is wanted before a line is what is live there.
 use Rattle.std.proofs.Common.{◌≡◌, ◌⊎◌, ◌↔◌, ℕ, ◌<◌, ◌==◌, nat_le, ◌&&◌, ◌||◌, if◌then◌else◌}
-use Rattle.std.proofs.Common.{Bool, true, false, List, [], ◌∷◌, Some, None, refl, sym, ap, ◌∙◌, subst, inl, inr, arith}
+use Rattle.std.proofs.Common.{Bool, true, false, List, [], ◌∷◌, Option, Some, None, refl, sym, ap, ◌∙◌, subst, inl, inr}
+use Rattle.std.proofs.Common.{arith}
 use Rattle.std.proofs.lemmas.Bool.{cases_Bool, cases_eq, or_cases, and_parts, and_from, cond-true, cond-false, eqb-true, eq-eqb}
 use Rattle.std.proofs.lemmas.Bool.{and_cases, or_left, or_right, and_left, and_right, both_ways, lt-ltb, ne_eqb, or_parts, or_from}
 use Rattle.std.proofs.Math.Logic.{⊎_elim}
@@ -32,28 +33,57 @@ use Rattle.std.proofs.Math.Path.{fun_ext}
 
 -- ---- one line of a process, as the code takes it apart
 
-cond_twice : (b : Bool) (a r : ℕ) → (if b then a else (if b then 0 else r)) ≡ (if b then a else r)
-cond_twice true a r = refl
-cond_twice false a r = refl
+pub same_own : {A : Type 0} (w : ℕ → A) (p me : ℕ) → (if p == me then w me else w p) ≡ w p
+same_own w p me =
+    ⊎_elim (λ yes. cond-true (p == me) (w me) (w p) yes ∙ ap w (sym (eqb-true p me yes)))
+    (λ no. cond-false (p == me) (w me) (w p) no) (cases_Bool (p == me))
 
-pub before_rule : (d : Demand) (effect : Effect) (me : ℕ) (w : ℕ → ℕ → OnExec → ℕ) (own undo asked : ℕ → OnExec → ℕ)
-    (rest new : ℕ → ℕ → OnExec → ℕ) → ((f : ℕ) (x : OnExec) → own f x ≡ gathered effect me w f x)
-    → ((f : ℕ) (x : OnExec) → undo f x ≡ undone effect own f x)
-    → ((f : ℕ) (x : OnExec) → asked f x ≡ with_demand d undo f x)
-    → ((p f : ℕ) (x : OnExec) → rest p f x
-    ≡ (if p == me then 0 else (if is_child effect p then 0 else w p f x)))
-    → (p f : ℕ) (x : OnExec) → new p f x ≡ (if p == me then asked f x else rest p f x)
+own_then : {A : Type 0} (b : Bool) (own mid rest : A) → mid ≡ (if b then own else rest)
+    → (a : A) → (if b then a else mid) ≡ (if b then a else rest)
+own_then true own mid rest is a = refl
+own_then false own mid rest is a = is
+
+eq_turned : (f g : ℕ) → (f == g) ≡ (g == f)
+eq_turned f g =
+    ⊎_elim (λ e. eq-eqb f g e ∙ sym (eq-eqb g f (sym e))) (λ ne. ne_eqb f g ne ∙ sym (ne_eqb g f (λ e. ne (sym e))))
+    (cases_eq f g)
+
+-- what is read of a table once one value was written
+pub written_at : {V A : Type 0} (read : Option V → A) (me p : ℕ) (b : Bool) (value : V) (old new : Option V)
+    → b ≡ (me == p) → new ≡ (if b then Some value else old)
+    → read new ≡ (if p == me then read (Some value) else read old)
+written_at read me p b value old new is written =
+    ap read (written ∙ ap (λ (t : Bool). if t then Some value else old) (is ∙ eq_turned me p))
+    ∙ read_if (p == me)
+  where
+    read_if : (t : Bool) → read (if t then Some value else old) ≡ (if t then read (Some value) else read old)
+    read_if true = refl
+    read_if false = refl
+
+-- what one of them becomes by itself, in two steps
+pub by_own : {A : Type 0} (me p : ℕ) (own new : A) (mid rest : ℕ → A) (f : A → A)
+    → ((q : ℕ) → mid q ≡ (if q == me then own else rest q))
+    → new ≡ (if p == me then f (mid me) else mid p) → new ≡ (if p == me then f own else rest p)
+by_own me p own new mid rest f is_mid is =
+    is
+    ∙ ap (λ a. if p == me then f a else mid p)
+    (is_mid me ∙ cond-true (me == me) own (rest me) (eq-eqb me me refl))
+    ∙ own_then (p == me) own (mid p) (rest p) (is_mid p) (f own)
+
+pub before_rule : (d : Demand) (effect : Effect) (me : ℕ) (w mid new : ℕ → ℕ → OnExec → ℕ)
+    → ((p f : ℕ) (x : OnExec) → mid p f x
+    ≡ (if p == me then gathered effect me w f x else (if is_child effect p then 0 else w p f x)))
+    → (p f : ℕ) (x : OnExec) → new p f x ≡ (if p == me then with_demand d (undone effect (mid me)) f x else mid p f x)
     → new p f x ≡ wanted_before d effect me w p f x
-before_rule d effect me w own undo asked rest new is_own is_undo is_asked is_rest p f x is =
-    let a : own ≡ gathered effect me w = fun_ext (λ g. fun_ext (λ y. is_own g y)) in
-    let b : undo ≡ undone effect (gathered effect me w) =
-    fun_ext (λ g. fun_ext (λ y. is_undo g y)) ∙ ap (undone effect) a in
-    let e : asked f x ≡ with_demand d (undone effect (gathered effect me w)) f x =
-    is_asked f x ∙ ap (λ (u : ℕ → OnExec → ℕ). with_demand d u f x) b in
-    let r : ℕ = if is_child effect p then 0 else w p f x in
-    is ∙ ap (λ n. if p == me then asked f x else n) (is_rest p f x)
-    ∙ cond_twice (p == me) (asked f x) r
-    ∙ ap (λ n. if p == me then n else r) e
+before_rule d effect me w mid new is_mid p f x is =
+    let own : mid me ≡ gathered effect me w =
+    fun_ext (λ g. fun_ext (λ y. is_mid me g y
+    ∙ cond-true (me == me) (gathered effect me w g y) (if is_child effect me then 0 else w me g y)
+    (eq-eqb me me refl))) in
+    is
+    ∙ ap (λ (u : ℕ → OnExec → ℕ). if p == me then with_demand d (undone effect u) f x else mid p f x) own
+    ∙ own_then (p == me) (gathered effect me w f x) (mid p f x) (if is_child effect p then 0 else w p f x)
+    (is_mid p f x) (with_demand d (undone effect (gathered effect me w)) f x)
 
 -- ---- where rights come from
 
@@ -173,11 +203,6 @@ own_if w p me c =
     (λ no. cond-false (p == me) (if c then 0 else w me) (w p) no
     ∙ ap (λ (b : Bool). if b && c then 0 else w p) (sym no))
     (cases_Bool (p == me))
-
-same_own : (w : ℕ → ℕ) (p me : ℕ) → (if p == me then w me else w p) ≡ w p
-same_own w p me =
-    ⊎_elim (λ yes. cond-true (p == me) (w me) (w p) yes ∙ ap w (sym (eqb-true p me yes)))
-    (λ no. cond-false (p == me) (w me) (w p) no) (cases_Bool (p == me))
 
 or_if : (a b : Bool) (n : ℕ) → (if b then 0 else (if a then 0 else n)) ≡ (if a || b then 0 else n)
 or_if true true n = refl
@@ -437,11 +462,6 @@ or_comm true true = refl
 or_comm true false = refl
 or_comm false true = refl
 or_comm false false = refl
-
-eq_turned : (f g : ℕ) → (f == g) ≡ (g == f)
-eq_turned f g =
-    ⊎_elim (λ e. eq-eqb f g e ∙ sym (eq-eqb g f (sym e))) (λ ne. ne_eqb f g ne ∙ sym (ne_eqb g f (λ e. ne (sym e))))
-    (cases_eq f g)
 
 either : (a b n : Bool) → (a || (b || n)) ≡ ((b || a) || n)
 either true true n = refl

@@ -1,14 +1,14 @@
 -- The rows of descriptors of which nothing is known.
-use Rattle.std.proofs.Common.{◌≡◌, ◌<◌, ◌↔◌, ℕ, ◌==◌, ◌||◌, nat_cmp, Bool, true, false, List, [], ◌∷◌, ◌++◌, inl, inr, map}
-use Rattle.std.proofs.Common.{Option, Some, get_or, if◌then◌else◌, refl, sym, ap, ◌∙◌, subst, arith}
+use Rattle.std.proofs.Common.{◌≡◌, ◌<◌, ◌↔◌, ℕ, ◌==◌, ◌||◌, nat_cmp, Bool, true, false, List, [], ◌∷◌, map}
+use Rattle.std.proofs.Common.{Option, Some, inl, inr, get_or, if◌then◌else◌, refl, sym, ap, ◌∙◌, subst, arith}
 use Rattle.std.specs.List.{All}
 use Rattle.std.specs.List.Sorted.{IsStrictlySortedBy}
-use Rattle.std.specs.Option.{unwrap_or}
+use Rattle.std.specs.Option.{option_map_or}
 use Rattle.std.specs.Map.{keys_of, lookup}
 use Rattle.std.specs.BTreeMap.{IsOrdered, get, is_at}
 use Rattle.std.proofs.lemmas.List.Elements.{All-nil, All-cons, All-head, All-tail, All-append, All-weaker}
 use Rattle.std.proofs.lemmas.List.Folds.{list_any-append}
-use Rattle.std.proofs.lemmas.Bool.{both_ways, lt-ltb, cases_Bool, cond-true, cond-false, eqb-true}
+use Rattle.std.proofs.lemmas.Bool.{both_ways, lt-ltb, cases_Bool, cond-true, cond-false, eqb-true, or_left, or_right}
 use Rattle.std.proofs.lemmas.Bool.Decides.{nat_tests}
 use Rattle.std.proofs.lemmas.Map.Entries.{lookup_head, lookup_tail}
 use Rattle.std.proofs.lemmas.Map.Views.{All-found}
@@ -21,6 +21,7 @@ use Rattle.cap_machine.specs.declared.cell.OnExec.TheVariants.{Unsure}
 use Rattle.cap_machine.specs.declared.cell.Cell.{Cell}
 use Rattle.cap_machine.specs.declared.cell.Cell.TheVariants.{Unknown, Closed, Held}
 use Rattle.cap_machine.specs.declared.step.Step.{Step}
+use Rattle.cap_machine.specs.declared.live.fd_rights.ByFlag.{ByFlag}
 use Rattle.cap_machine.specs.declared.live.fd_rights.FdRights.{FdRights}
 use Rattle.cap_machine.specs.State.{State}
 use Rattle.cap_machine.specs.Live.{Live}
@@ -28,7 +29,7 @@ use Rattle.cap_machine.specs.LimitLaws.{Row, IsLeast}
 use Rattle.cap_machine.specs.Limits.{least_of}
 use Rattle.cap_machine.specs.LimitsBefore.{rows_name, IsUnknownLimit}
 use Rattle.cap_machine.specs.Unknown.{unknown_row, unknown_rows, IsUnknownRow, AreUnknownRows}
-use Rattle.cap_machine.specs.Wanted.{rights_of}
+use Rattle.cap_machine.specs.Wanted.{flag_rights, rights_of}
 use Rattle.cap_machine.proofs.MakerLimits.{least_is}
 use Rattle.cap_machine.proofs.RowOrder.{fd_of, HasOne, rows_sorted}
 use Rattle.cap_machine.proofs.StandingRows.{at_is}
@@ -63,53 +64,49 @@ row_names g w some =
     leading : (n : ℕ) → (n == n || false) ≡ true
     leading n = grind (arith, nat_tests)
 
-or_left_true : (a b : Bool) → a ≡ true → (a || b) ≡ true
-or_left_true a b e = ap (λ (x : Bool). x || b) e
-
-or_right_true : (a b : Bool) → b ≡ true → (a || b) ≡ true
-or_right_true true b e = refl
-or_right_true false b e = e
-
-rows_ok : (cells : ℕ → Cell) (wanted : ℕ → ℕ) (entries : List (ℕ × ℕ))
-    → All (λ (entry : ℕ × ℕ). wanted entry.0 ≡ entry.1) entries
+rows_ok : (cells : ℕ → Cell) (wanted : ℕ → ℕ) (entries : List (ℕ × ByFlag))
+    → All (λ (entry : ℕ × ByFlag). wanted entry.0 ≡ entry.1.unsure) entries
     → All (IsUnknownRow cells wanted) (unknown_rows cells entries)
 rows_ok cells wanted [] are = All-nil (IsUnknownRow cells wanted)
 rows_ok cells wanted (entry ∷ entries) are =
-    All-append (IsUnknownRow cells wanted) (unknown_row (cells entry.0) entry.0 entry.1) (unknown_rows cells entries)
+    All-append (IsUnknownRow cells wanted) (unknown_row (cells entry.0) entry.0 entry.1.unsure)
+    (unknown_rows cells entries)
     (subst (λ (n : ℕ). All (IsUnknownRow cells wanted) (unknown_row (cells entry.0) entry.0 n))
-    (All-head (λ (e : ℕ × ℕ). wanted e.0 ≡ e.1) entry entries are)
+    (All-head (λ (e : ℕ × ByFlag). wanted e.0 ≡ e.1.unsure) entry entries are)
     (row_ok cells wanted entry.0 (cells entry.0) refl))
-    (rows_ok cells wanted entries (All-tail (λ (e : ℕ × ℕ). wanted e.0 ≡ e.1) entry entries are))
+    (rows_ok cells wanted entries (All-tail (λ (e : ℕ × ByFlag). wanted e.0 ≡ e.1.unsure) entry entries are))
 
-all_named : (cells : ℕ → Cell) (entries : List (ℕ × ℕ)) (f : ℕ) → cells f ≡ Unknown
-    → (least_of all (unwrap_or (lookup (is_at (nat_cmp f)) entries) 0) ≡ 0 → ⊥)
+abbrev unsure_of : Option ByFlag → ℕ
+unsure_of rights = option_map_or (λ (own : ByFlag). flag_rights own Unsure) rights 0
+
+all_named : (cells : ℕ → Cell) (entries : List (ℕ × ByFlag)) (f : ℕ) → cells f ≡ Unknown
+    → (least_of all (unsure_of (lookup (is_at (nat_cmp f)) entries)) ≡ 0 → ⊥)
     → rows_name (unknown_rows cells entries) f ≡ true
 all_named cells [] f unknown some = absurd (some refl)
 all_named cells (entry ∷ entries) f unknown some =
-    let own : List Row = unknown_row (cells entry.0) entry.0 entry.1 in
-    let both : rows_name (own ++ unknown_rows cells entries) f ≡ (rows_name own f || rows_name (unknown_rows cells entries) f) =
-    list_any-append (λ (row : Row). f == row.0) own (unknown_rows cells entries) in
-    both ∙ ⊎_elim
+    let own : List Row = unknown_row (cells entry.0) entry.0 entry.1.unsure in
+    list_any-append (λ (row : Row). f == row.0) own (unknown_rows cells entries) ∙ ⊎_elim
     (λ here. let same : f ≡ entry.0 = eqb-true f entry.0 (sym (at_is f entry.0) ∙ here) in
-    or_left_true (rows_name own f) (rows_name (unknown_rows cells entries) f)
-    (ap (λ (c : Cell). rows_name (unknown_row c entry.0 entry.1) f) (ap cells (sym same) ∙ unknown)
-    ∙ ap (rows_name (unknown_row Unknown entry.0 entry.1)) same
-    ∙ row_names entry.0 entry.1
-    (λ none. some (ap (λ (o : Option ℕ). least_of all (unwrap_or o 0))
+    or_left (rows_name own f) (rows_name (unknown_rows cells entries) f)
+    (ap (λ (c : Cell). rows_name (unknown_row c entry.0 entry.1.unsure) f) (ap cells (sym same) ∙ unknown)
+    ∙ ap (rows_name (unknown_row Unknown entry.0 entry.1.unsure)) same
+    ∙ row_names entry.0 entry.1.unsure
+    (λ none. some (ap (λ (o : Option ByFlag). least_of all (unsure_of o))
     (lookup_head (is_at (nat_cmp f)) entry entries here) ∙ none))))
-    (λ there. or_right_true (rows_name own f) (rows_name (unknown_rows cells entries) f)
+    (λ there. or_right (rows_name own f) (rows_name (unknown_rows cells entries) f)
     (all_named cells entries f unknown
-    (λ none. some (ap (λ (o : Option ℕ). least_of all (unwrap_or o 0))
+    (λ none. some (ap (λ (o : Option ByFlag). least_of all (unsure_of o))
     (lookup_tail (is_at (nat_cmp f)) entry entries there) ∙ none))))
     (cases_Bool (is_at (nat_cmp f) entry.0))
 
 -- the rows of a table that is in order
 pub rows_are : (cells : ℕ → Cell) (rights : FdRights) → IsOrdered nat_cmp rights.map
-    → AreUnknownRows cells (rights_of rights) (unknown_rows cells rights.map.entries)
+    → AreUnknownRows cells (λ f. rights_of rights f Unsure) (unknown_rows cells rights.map.entries)
 rows_are cells rights sorted = (
-  rows_ok cells (rights_of rights) rights.map.entries
-      (All-weaker (λ (e : ℕ × ℕ). get nat_cmp rights.map e.0 ≡ Some e.1) (λ (e : ℕ × ℕ). rights_of rights e.0 ≡ e.1)
-      (λ e is. ap (λ (o : Option ℕ). unwrap_or o 0) is) rights.map.entries
+  rows_ok cells (λ f. rights_of rights f Unsure) rights.map.entries
+      (All-weaker (λ (e : ℕ × ByFlag). get nat_cmp rights.map e.0 ≡ Some e.1)
+      (λ (e : ℕ × ByFlag). rights_of rights e.0 Unsure ≡ e.1.unsure)
+      (λ e is. ap unsure_of is) rights.map.entries
       (All-found nat_cmp_total rights.map sorted)),
   λ f. all_named cells rights.map.entries f,
 )
@@ -123,11 +120,11 @@ has_one Unknown f wanted = pick (least_of all wanted == 0)
 has_one Closed f wanted = inl refl
 has_one (Held rights flag) f wanted = inl refl
 
-pub rows_in_order : (cells : ℕ → Cell) (entries : List (ℕ × ℕ)) → IsStrictlySortedBy nat_cmp (keys_of entries)
+pub rows_in_order : (cells : ℕ → Cell) (entries : List (ℕ × ByFlag)) → IsStrictlySortedBy nat_cmp (keys_of entries)
     → IsStrictlySortedBy nat_cmp (map fd_of (unknown_rows cells entries))
 rows_in_order cells entries sorted =
-    rows_sorted (λ (e : ℕ × ℕ). e.0) (λ (e : ℕ × ℕ). unknown_row (cells e.0) e.0 e.1)
-    (λ e. has_one (cells e.0) e.0 e.1) entries sorted
+    rows_sorted (λ (e : ℕ × ByFlag). e.0) (λ (e : ℕ × ByFlag). unknown_row (cells e.0) e.0 e.1.unsure)
+    (λ e. has_one (cells e.0) e.0 e.1.unsure) entries sorted
 
 -- ---- what is live
 

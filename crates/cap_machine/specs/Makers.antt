@@ -1,6 +1,6 @@
 -- The least rights of each descriptor that a trace makes, right behind the step that made it.
 use Rattle.std.specs.Prelude.{◌≡◌, ℕ, ◌+◌, ◌==◌, nat_lt, if◌then◌else◌, List, [], ◌∷◌, ◌++◌, map, reverse}
-use Rattle.std.specs.List.{All}
+use Rattle.std.specs.List.{All, flat_map}
 use Rattle.cap_trace.specs.Item.{Item}
 use Rattle.cap_trace.specs.Item as items
 use Rattle.cap_trace.specs.Entry.{kind_of}
@@ -10,11 +10,10 @@ use Rattle.cap_trace.specs.declared.line.Answer.{Answer}
 use Rattle.cap_trace.specs.declared.line.Answer.TheVariants as answers
 use Rattle.cap_machine.specs.declared.cell.OnExec.{OnExec}
 use Rattle.cap_machine.specs.declared.cell.Cell.{Cell}
-use Rattle.cap_machine.specs.declared.cell.Cell.TheVariants.{Unknown, Held}
+use Rattle.cap_machine.specs.declared.cell.Cell.TheVariants.{Held}
 use Rattle.cap_machine.specs.declared.step.Step.{Step}
 use Rattle.cap_machine.specs.declared.makers.Made.{Made}
 use Rattle.cap_machine.specs.declared.makers.Made.TheVariants.{Nothing, One, Two}
-use Rattle.cap_machine.specs.declared.makers.MadeCells.{MadeCells}
 use Rattle.cap_machine.specs.declared.makers.MakerLimit.{MakerLimit}
 use Rattle.cap_machine.specs.State.{State}
 use Rattle.cap_machine.specs.History.{after, ended}
@@ -80,28 +79,24 @@ listed_made Nothing = []
 listed_made (One f) = f ∷ []
 listed_made (Two f g) = f ∷ g ∷ []
 
--- the cells of the first two of these descriptors
-abbrev pub cells_made : State → ℕ → List ℕ → MadeCells
-cells_made s p [] = record { first = Unknown; second = Unknown }
-cells_made s p (f ∷ []) = record { first = s.cell p f; second = Unknown }
-cells_made s p (f ∷ g ∷ more) = record { first = s.cell p f; second = s.cell p g }
-
+-- the limit of a descriptor with this cell, of which these rights are wanted by its flag
 abbrev pub maker_row : ℕ → ℕ → ℕ → Cell → (OnExec → ℕ) → List MakerLimit
 maker_row at p f (Held rights flag) wanted =
     record { at = at; pid = p; fd = f; rights = least_of rights (wanted flag) } ∷ []
 maker_row at p f _ wanted = []
 
-abbrev pub maker_rows : ℕ → ℕ → List ℕ → MadeCells → (ℕ → OnExec → ℕ) → List MakerLimit
-maker_rows at p [] cells wanted = []
-maker_rows at p (f ∷ []) cells wanted = maker_row at p f cells.first (wanted f)
-maker_rows at p (f ∷ g ∷ more) cells wanted =
-    maker_row at p f cells.first (wanted f) ++ maker_row at p g cells.second (wanted g)
+abbrev pub maker_rows : State → ℕ → ℕ → List ℕ → (ℕ → OnExec → ℕ) → List MakerLimit
+maker_rows s at p fds wanted = flat_map (λ f. maker_row at p f (s.cell p f) (wanted f)) fds
 
--- the cells that each step of a history made, its newest step first; those of a trace, its steps in their order
-abbrev pub cells_back : State → List Step → List MadeCells
+-- the cells of these descriptors, the last one's first
+abbrev pub cells_made : State → ℕ → List ℕ → List Cell
+cells_made s p fds = map (s.cell p) (reverse fds)
+
+-- the cells that the steps of a history made, its newest step first; those of a trace, its steps in their order
+abbrev pub cells_back : State → List Step → List Cell
 cells_back s [] = []
 cells_back s (step ∷ history) =
-    cells_back s history ++ cells_made (after s (step ∷ history)) step.line.pid (made_fds step.line.item) ∷ []
+    cells_back s history ++ cells_made (after s (step ∷ history)) step.line.pid (made_fds step.line.item)
 
-abbrev pub cells_along : State → List Step → List MadeCells
+abbrev pub cells_along : State → List Step → List Cell
 cells_along s trace = cells_back s (reverse trace)

@@ -4,6 +4,7 @@ use Rattle.std.specs.List.{All, flat_map}
 use Rattle.cap_rights.specs.Rights.{all}
 use Rattle.cap_machine.specs.declared.cell.Cell.{Cell}
 use Rattle.cap_machine.specs.declared.cell.Cell.TheVariants.{Unknown, Closed, Held}
+use Rattle.cap_machine.specs.declared.live.fd_rights.ByFlag.{ByFlag}
 use Rattle.cap_machine.specs.LimitLaws.{Row}
 use Rattle.cap_machine.specs.Limits.{least_of}
 use Rattle.cap_machine.specs.LimitsBefore.{rows_name}
@@ -14,9 +15,10 @@ unknown_row Unknown f wanted = if least_of all wanted == 0 then [] else (f, leas
 unknown_row Closed f wanted = []
 unknown_row (Held rights flag) f wanted = []
 
--- the rows of descriptors with what is wanted of each
-abbrev pub unknown_rows : (ℕ → Cell) → List (ℕ × ℕ) → List Row
-unknown_rows cells wanted = flat_map (λ (entry : ℕ × ℕ). unknown_row (cells entry.0) entry.0 entry.1) wanted
+-- the rows of descriptors with what is wanted of each by its flag
+abbrev pub unknown_rows : (ℕ → Cell) → List (ℕ × ByFlag) → List Row
+unknown_rows cells wanted =
+    flat_map (λ (entry : ℕ × ByFlag). unknown_row (cells entry.0) entry.0 entry.1.unsure) wanted
 
 abbrev pub IsUnknownRow : (ℕ → Cell) → (ℕ → ℕ) → Row → Type 0
 IsUnknownRow cells wanted row =

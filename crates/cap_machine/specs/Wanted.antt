@@ -1,8 +1,8 @@
 -- What the code keeps of the rights that are live, of each process by descriptor and flag, and how a line changes it on
 -- the way back. Only the code's contracts use this; Live says what is live.
-use Rattle.std.specs.Prelude.{◌≡◌, ℕ, ◌≤◌, ◌==◌, ◌&&◌, nat_le, nat_lt, Bool, false, if◌then◌else◌, IsSome, List, [], ◌∷◌}
+use Rattle.std.specs.Prelude.{ℕ, ◌≤◌, ◌==◌, ◌&&◌, nat_le, nat_lt, Bool, false, if◌then◌else◌, IsSome, List, [], ◌∷◌}
 use Rattle.std.specs.Prelude.{Option, Some, None}
-use Rattle.std.specs.Option.{unwrap_or, option_map_or}
+use Rattle.std.specs.Option.{option_map_or}
 use Rattle.std.specs.Ordering.{nat_cmp}
 use Rattle.std.specs.BTreeMap.{get}
 use Rattle.cap_rights.specs.Rights.{join}
@@ -15,8 +15,8 @@ use Rattle.cap_machine.specs.declared.rule.Demand.{Demand}
 use Rattle.cap_machine.specs.declared.rule.Effect.{Effect}
 use Rattle.cap_machine.specs.declared.rule.Effect.TheVariants.{Keep, Start, Exit, Forget, Exec, CloseFrom, Enter, Give}
 use Rattle.cap_machine.specs.declared.rule.Effect.TheVariants.{GiveTwo, Change, Fork, ForkAs}
+use Rattle.cap_machine.specs.declared.live.fd_rights.ByFlag.{ByFlag}
 use Rattle.cap_machine.specs.declared.live.fd_rights.FdRights.{FdRights}
-use Rattle.cap_machine.specs.declared.live.process.ByFlag.{ByFlag}
 use Rattle.cap_machine.specs.declared.live.process.LiveProcess.{LiveProcess}
 use Rattle.cap_machine.specs.declared.live.LiveRights.{LiveRights}
 use Rattle.cap_machine.specs.Op.{masked, held_op, exec}
@@ -25,9 +25,15 @@ use Rattle.cap_machine.specs.Live.{is_success}
 
 -- ---- rights by descriptor
 
--- the rights of a descriptor
-abbrev pub rights_of : FdRights → ℕ → ℕ
-rights_of rights f = unwrap_or (get nat_cmp rights.map f) 0
+-- rights for each flag
+abbrev pub flag_rights : ByFlag → OnExec → ℕ
+flag_rights rights Set = rights.set
+flag_rights rights Clear = rights.clear
+flag_rights rights Unsure = rights.unsure
+
+-- the rights of a descriptor with this flag
+abbrev pub rights_of : FdRights → ℕ → OnExec → ℕ
+rights_of rights f x = option_map_or (λ (own : ByFlag). flag_rights own x) (get nat_cmp rights.map f) 0
 
 -- it has rights, or none, of one of the descriptors from this one on
 abbrev pub HasFrom : FdRights → ℕ → Type 0
@@ -35,17 +41,15 @@ HasFrom rights n = (f : ℕ) × (n ≤ f) × IsSome (get nat_cmp rights.map f)
 
 -- ---- one process
 
--- rights for each flag
-abbrev pub flag_rights : ByFlag → OnExec → ℕ
-flag_rights rights Set = rights.set
-flag_rights rights Clear = rights.clear
-flag_rights rights Unsure = rights.unsure
+-- what is wanted before the next exec, and what it hands on of what is wanted behind it
+abbrev pub near_and_far : (ℕ → OnExec → ℕ) → (ℕ → OnExec → ℕ) → ℕ → OnExec → ℕ
+near_and_far near far f Set = near f Set
+near_and_far near far f Clear = join (near f Clear) (far f Clear)
+near_and_far near far f Unsure = near f Unsure
 
 -- the rights that are wanted of a descriptor where it is held with this flag
 abbrev pub wanted_of : LiveProcess → ℕ → OnExec → ℕ
-wanted_of own f Set = rights_of own.set f
-wanted_of own f Clear = rights_of own.clear f
-wanted_of own f Unsure = rights_of own.unsure f
+wanted_of own f x = near_and_far (rights_of own.near) (rights_of own.far) f x
 
 -- what is wanted of a held cell, from what is wanted of what it becomes
 abbrev pub back_through : HeldOp → (OnExec → ℕ) → ℕ
@@ -89,10 +93,6 @@ abbrev pub earlier : Option ℕ → Option ℕ → Option ℕ
 earlier None other = other
 earlier (Some n) None = Some n
 earlier (Some n) (Some m) = Some (if nat_lt n m then n else m)
-
--- all that a check needs is wanted already
-abbrev pub NeedsNoMore : (ℕ → OnExec → ℕ) → Check → Type 0
-NeedsNoMore wanted check = (x : OnExec) → join (wanted check.fd x) check.needs ≡ wanted check.fd x
 
 -- with what checks need
 abbrev pub with_checks : List Check → (ℕ → OnExec → ℕ) → ℕ → OnExec → ℕ

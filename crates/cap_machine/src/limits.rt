@@ -93,9 +93,9 @@ impl Entering {
 pub struct Limits {
     /// The process.
     pub pid: Pid,
-    /// The limit of each descriptor that it holds and that stands in what is known, one by one.
+    /// The limit of each descriptor that it holds and that stands in what is known, one by one, in rising order.
     pub held: Vec<Limit>,
-    /// What later lines need of each descriptor of which nothing is known.
+    /// What later lines need of each descriptor of which nothing is known, in rising order.
     pub unknown: Vec<Limit>,
     /// Whether it may enter capability mode.
     pub entering: Entering,
@@ -119,7 +119,7 @@ fn limits_of(
     let fds = standing_fds(alloc, profile, start, before, pid)?;
     let entering = Entering::of(&machine, &live, pid);
     let held = limits_among(alloc, &machine, &live, pid, fds)?;
-    let unknown = unknown_limits(alloc, &machine, pid, live.into_unsure(pid))?;
+    let unknown = unknown_limits(alloc, &machine, pid, live.into_near(pid))?;
     Ok(Limits {
         pid,
         held,

@@ -3,22 +3,22 @@
 pub(crate) mod fd_rights;
 mod process;
 
-ghost use Rattle.std.specs.Prelude.{◌≡◌, ℕ, ◌+◌, ◌||◌, ◌==◌, OnOk, OnErr, IfOk, IfSome, List, [], ◌∷◌, None, true, if◌then◌else◌};
+ghost use Rattle.std.specs.Prelude.{◌≡◌, ℕ, ◌+◌, ◌==◌, OnOk, List, [], ◌∷◌, None, if◌then◌else◌};
+ghost use Rattle.cap_rights.specs.Rights.{join};
 ghost use Rattle.cap_machine.specs.declared.cell.OnExec.{OnExec};
 ghost use Rattle.cap_machine.specs.declared.step.Step.{Step};
 ghost use Rattle.cap_machine.specs.Steps.{step};
-ghost use Rattle.cap_machine.specs.Rule.{demand};
-ghost use Rattle.cap_machine.specs.Effect.{effect_touch, effect_turn};
 ghost use Rattle.cap_machine.specs.LiveRights.{AreLive, AreBlocked};
 ghost use Rattle.cap_machine.specs.Wanted.{rights_of, wanted_of, wanted, blocked, gathered, gathered_blocked, is_child};
-ghost use Rattle.cap_machine.specs.Wanted.{undone, unblocked, with_demand, blocked_with, wanted_before, blocked_before};
+ghost use Rattle.cap_machine.specs.Wanted.{undone, unblocked, earlier, with_demand, blocked_with, wanted_before};
+ghost use Rattle.cap_machine.specs.Wanted.{blocked_before};
 
 use crate::cell::{OnExec, Profile};
 use crate::live::fd_rights::FdRights;
 use crate::live::process::LiveProcess;
 use crate::rule::{Demand, Effect, rule_of};
 use cap_rights::{NoMemory, RightSet};
-use cap_trace::{Fd, Line, Pid};
+use cap_trace::{Fd, Line, LineRef, Pid};
 use std::alloc::Global;
 use std::collections::BTreeMap;
 
@@ -65,12 +65,12 @@ impl LiveRights {
         }
     }
 
-    /// What is needed of each descriptor of a process where its flag isn't known.
-    pub(crate) fn into_unsure(self, pid: Pid) -> FdRights
-        ensures { (f : ℕ) → rights_of result f ≡ wanted self pid f OnExec.Unsure }
+    /// What is needed of each descriptor of a process before its next exec. Of one whose flag isn't known that is all.
+    pub(crate) fn into_near(self, pid: Pid) -> FdRights
+        ensures { (f : ℕ) → rights_of result f OnExec.Unsure ≡ wanted self pid f OnExec.Unsure }
     {
         let mut live = self;
-        live.take(pid).into_unsure()
+        live.take(pid).into_near()
     }
 
     /// Takes out what is needed of a process.
@@ -97,54 +97,58 @@ impl LiveRights {
         Ok(())
     }
 
-    /// Takes out what is needed of a process, and with it what is needed of the child that an effect makes.
-    fn gather(&mut self, me: Pid, effect: &Effect<'_>) -> Result<LiveProcess, NoMemory>
-        ensures own { IfOk result (λ own. (f : ℕ) (x : OnExec)
-            → wanted_of own f x ≡ gathered effect.now me (wanted self.old) f x) }
-        ensures own_blocked { IfOk result (λ own. own.blocked ≡ gathered_blocked effect.now me (blocked self.old)) }
+    /// Joins what is needed of a child to what is needed of its parent.
+    fn adopt(&mut self, me: Pid, child: Pid) -> Result<(), NoMemory>
         ensures rights { OnOk result ((p f : ℕ) (x : OnExec) → wanted self.new p f x
-            ≡ (if p == me then 0 else (if is_child effect.now p then 0 else wanted self.old p f x))) }
+            ≡ (if p == me then join (wanted self.old me f x) (if child == me then 0 else wanted self.old child f x)
+            else (if p == child then 0 else wanted self.old p f x))) }
         ensures blocked { OnOk result ((p : ℕ) → blocked self.new p
-            ≡ (if p == me then None else (if is_child effect.now p then None else blocked self.old p))) }
+            ≡ (if p == me then earlier (blocked self.old me) (if child == me then None else blocked self.old child)
+            else (if p == child then None else blocked self.old p))) }
     {
         let own = self.take(me);
-        match effect {
-            Effect::Fork(child) => own.joined(self.take(*child)),
-            Effect::ForkAs(child, _) => own.joined(self.take(*child)),
-            _ => Ok(own),
-        }
+        let both = own.joined(self.take(child))?;
+        self.put(me, both)
     }
 
-    /// Whether a line of a process with this demand and this effect leaves all as it is.
-    fn is_settled(&self, me: Pid, demand: &Demand, effect: &Effect<'_>) -> bool
-        ensures rights { result ≡ true → (p f : ℕ) (x : OnExec)
-            → wanted self.now p f x ≡ wanted_before demand.now effect.now me (wanted self.now) p f x }
-        ensures blocked { result ≡ true → (at p : ℕ)
-            → blocked self.now p ≡ blocked_before demand.now effect.now at me (blocked self.now) p }
+    /// Joins what is needed of the child that an effect makes to what is needed of its process.
+    fn gather(&mut self, me: Pid, effect: &Effect<'_>) -> Result<(), NoMemory>
+        ensures rights { OnOk result ((p f : ℕ) (x : OnExec) → wanted self.new p f x
+            ≡ (if p == me then gathered effect.now me (wanted self.old) f x
+            else (if is_child effect.now p then 0 else wanted self.old p f x))) }
+        ensures blocked { OnOk result ((p : ℕ) → blocked self.new p
+            ≡ (if p == me then gathered_blocked effect.now me (blocked self.old)
+            else (if is_child effect.now p then None else blocked self.old p))) }
     {
-        match (effect, self.processes.get(&me)) {
-            (Effect::Keep, Some(own)) => own.is_settled(demand),
-            _ => false,
+        match effect {
+            Effect::Fork(child) | Effect::ForkAs(child, _) => self.adopt(me, *child),
+            _ => Ok(()),
         }
     }
 
-    /// Passes a line of a process with this demand and this effect, by taking out what is needed of it.
-    fn pass_change(
+    /// Passes a line of a process with this demand and this effect. What is needed of a child stands with it.
+    fn pass_own(
         &mut self,
         at: usize,
         me: Pid,
         demand: &Demand,
         effect: &Effect<'_>,
     ) -> Result<(), NoMemory>
-        ensures rights { OnOk result ((p f : ℕ) (x : OnExec)
-            → wanted self.new p f x ≡ wanted_before demand.now effect.now me (wanted self.old) p f x) }
-        ensures blocked { OnOk result ((p : ℕ)
-            → blocked self.new p ≡ blocked_before demand.now effect.now at me (blocked self.old) p) }
+        ensures rights { OnOk result ((p f : ℕ) (x : OnExec) → wanted self.new p f x
+            ≡ (if p == me then with_demand demand.now (undone effect.now (wanted self.old me)) f x
+            else wanted self.old p f x)) }
+        ensures blocked { OnOk result ((p : ℕ) → blocked self.new p
+            ≡ (if p == me then blocked_with demand.now at (unblocked effect.now (blocked self.old me))
+            else blocked self.old p)) }
     {
-        let mut own = self.gather(me, effect)?;
-        own.undo(effect)?;
-        own.demand(at, demand)?;
-        self.put(me, own)
+        match self.processes.get_mut(&me) {
+            Some(own) => own.pass(at, demand, effect),
+            None => {
+                let mut own = LiveProcess::none(self.alloc);
+                own.pass(at, demand, effect)?;
+                self.put(me, own)
+            }
+        }
     }
 
     /// Passes a line of a process with this demand and this effect.
@@ -160,10 +164,24 @@ impl LiveRights {
         ensures blocked { OnOk result ((p : ℕ)
             → blocked self.new p ≡ blocked_before demand.now effect.now at me (blocked self.old) p) }
     {
-        if self.is_settled(me, demand, effect) {
-            return Ok(());
-        }
-        self.pass_change(at, me, demand, effect)
+        self.gather(me, effect)?;
+        self.pass_own(at, me, demand, effect)
+    }
+
+    /// Passes a line where it lies.
+    pub(crate) fn pass_seen(
+        &mut self,
+        at: usize,
+        profile: Profile,
+        line: &LineRef<'_>,
+    ) -> Result<(), NoMemory>
+        ensures rights { OnOk result ((later : List Step)
+            → AreLive self.old later → AreLive self.new (step profile line.now ∷ later)) }
+        ensures blocked { OnOk result ((later : List Step)
+            → AreBlocked self.old (at + 1) later → AreBlocked self.new at (step profile line.now ∷ later)) }
+    {
+        let rule = rule_of(profile, line);
+        self.pass_rule(at, line.pid, &rule.demand, &rule.effect)
     }
 
     /// Passes the line before those that it has passed; `at` is its position.
@@ -175,7 +193,6 @@ impl LiveRights {
         ensures blocked { OnOk result ((later : List Step)
             → AreBlocked self.old (at + 1) later → AreBlocked self.new at (step profile line.now ∷ later)) }
     {
-        let rule = rule_of(profile, &line.seen());
-        self.pass_rule(at, line.pid(), &rule.demand, &rule.effect)
+        self.pass_seen(at, profile, &line.seen())
     }
 }

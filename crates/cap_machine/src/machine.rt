@@ -12,7 +12,7 @@ use crate::start::Start;
 use crate::table::Table;
 use crate::verdict::Verdict;
 use cap_rights::NoMemory;
-use cap_trace::{Fd, Line, Pid};
+use cap_trace::{Fd, Line, LineRef, Pid};
 use std::alloc::Global;
 use std::marker::Model;
 
@@ -66,7 +66,19 @@ impl Machine {
         ensures { OnOk result
             (start_state self.new ≡ ended (start_state self.old) (step profile line.now ∷ [])) }
     {
-        self.table.follow(profile, &line.seen())
+        self.follow_seen(profile, &line.seen())
+    }
+
+    /// The same of a line where it lies.
+    pub(crate) fn follow_seen(
+        &mut self,
+        profile: Profile,
+        line: &LineRef<'_>,
+    ) -> Result<(), NoMemory>
+        ensures { OnOk result
+            (start_state self.new ≡ ended (start_state self.old) (step profile line.now ∷ [])) }
+    {
+        self.table.follow(profile, line)
     }
 
     /// What is known of a descriptor of a process.

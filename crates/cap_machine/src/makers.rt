@@ -1,13 +1,15 @@
 //! The least rights of each descriptor that a trace makes.
 
-ghost use Rattle.std.specs.Prelude.{◌≡◌, ℕ, ◌+◌, ◌++◌, OnOk, IfOk, List, [], ◌∷◌};
+ghost use Rattle.std.specs.Prelude.{◌≡◌, ◌++◌, OnOk, IfOk, List, [], ◌∷◌};
 ghost use Rattle.cap_trace.specs.Entry.{IsAnswer, kind_of, fcntl_kind};
 ghost use Rattle.cap_trace.specs.Call as calls;
 ghost use Rattle.cap_trace.specs.Seen.{call_seen};
 ghost use Rattle.cap_machine.specs.Effect.{FitsMade, FitsPair};
 ghost use Rattle.cap_machine.specs.History.{ended};
-ghost use Rattle.cap_machine.specs.declared.makers.Made.{Made};
-ghost use Rattle.cap_machine.specs.declared.makers.MadeCells.{MadeCells};
+ghost use Rattle.cap_machine.specs.declared.cell.Cell.{Cell};
+ghost use Rattle.cap_machine.specs.declared.step.Step.{Step};
+ghost use Rattle.cap_machine.specs.LiveRights.{AreLive};
+ghost use Rattle.cap_machine.specs.State.{State};
 ghost use Rattle.cap_machine.specs.Steps.{step, steps};
 ghost use Rattle.cap_machine.specs.Table.{start_state};
 ghost use Rattle.cap_machine.specs.Makers.{listed_made, one_fd, two_fds, made_of, made_fds, cells_made};
@@ -123,34 +125,6 @@ fn made_by(line: &LineRef<'_>) -> Made
     }
 }
 
-/// What is known of the descriptors that a line made, after it.
-#[derive(Clone, Copy)]
-struct MadeCells {
-    first: Cell,
-    second: Cell,
-}
-
-impl MadeCells {
-    fn of(machine: &Machine, pid: Pid, made: &Made) -> MadeCells
-        ensures { result ≡ cells_made (start_state machine.now) pid (listed_made made.now) }
-    {
-        match made {
-            Made::Nothing => MadeCells {
-                first: Cell::Unknown,
-                second: Cell::Unknown,
-            },
-            Made::One(fd) => MadeCells {
-                first: machine.cell(pid, *fd),
-                second: Cell::Unknown,
-            },
-            Made::Two(first, second) => MadeCells {
-                first: machine.cell(pid, *first),
-                second: machine.cell(pid, *second),
-            },
-        }
-    }
-}
-
 /// The least rights of a descriptor that a line made.
 #[derive(Clone, Copy, Debug, PartialEq, Eq)]
 pub struct MakerLimit {
@@ -191,38 +165,98 @@ fn add_limit(
     }
 }
 
-/// Adds the limits of the descriptors that a line made, which have these cells after it.
+/// Takes the last of the cells.
+fn take_last(cells: &mut Vec<Cell>) -> Cell
+    ensures { (before : List Cell) (last : Cell) → cells.old.items ≡ before ++ last ∷ []
+        → (result ≡ last) × (cells.new.items ≡ before) }
+{
+    match cells.pop() {
+        Some(last) => last,
+        None => Cell::Unknown,
+    }
+}
+
+/// Takes the last of the cells, and adds the limit of a descriptor with this cell, where it is held.
+fn add_last(
+    limits: &mut Vec<MakerLimit>,
+    cells: &mut Vec<Cell>,
+    at: usize,
+    pid: Pid,
+    fd: Fd,
+    live: &LiveRights,
+) -> Result<(), NoMemory>
+    ensures { (before : List Cell) (last : Cell) → cells.old.items ≡ before ++ last ∷ []
+        → OnOk result ((cells.new.items ≡ before)
+        × (limits.new.items ≡ limits.old.items ++ maker_row at pid fd last (wanted live.now pid fd))) }
+{
+    let last = take_last(cells);
+    add_limit(limits, at, pid, fd, &last, live)
+}
+
+/// Takes the cells of the descriptors that a line made, and adds the limits of those that are held.
 fn add_limits(
     limits: &mut Vec<MakerLimit>,
+    cells: &mut Vec<Cell>,
     at: usize,
     pid: Pid,
     made: &Made,
-    cells: &MadeCells,
     live: &LiveRights,
 ) -> Result<(), NoMemory>
-    ensures { OnOk result (limits.new.items
-        ≡ limits.old.items ++ maker_rows at pid (listed_made made.now) cells.now (wanted live.now pid)) }
+    ensures { (s : State) (before : List Cell) → cells.old.items ≡ before ++ cells_made s pid (listed_made made.now)
+        → OnOk result ((cells.new.items ≡ before)
+        × (limits.new.items ≡ limits.old.items ++ maker_rows s at pid (listed_made made.now) (wanted live.now pid))) }
 {
     match made {
         Made::Nothing => Ok(()),
-        Made::One(fd) => add_limit(limits, at, pid, *fd, &cells.first, live),
+        Made::One(fd) => add_last(limits, cells, at, pid, *fd, live),
         Made::Two(first, second) => {
-            add_limit(limits, at, pid, *first, &cells.first, live)?;
-            add_limit(limits, at, pid, *second, &cells.second, live)
+            add_last(limits, cells, at, pid, *first, live)?;
+            add_last(limits, cells, at, pid, *second, live)
         }
     }
 }
 
-/// Moves a machine on by a line, and answers what is then known of the descriptors that it made.
-fn next_cells(machine: &mut Machine, profile: Profile, line: &Line) -> Result<MadeCells, NoMemory>
+/// Adds what is known of the descriptors that a line made, the smaller first.
+fn add_cells(
+    cells: &mut Vec<Cell>,
+    machine: &Machine,
+    pid: Pid,
+    made: &Made,
+) -> Result<(), NoMemory>
+    ensures { OnOk result (cells.new.items
+        ≡ cells.old.items ++ cells_made (start_state machine.now) pid (listed_made made.now)) }
+{
+    match made {
+        Made::Nothing => Ok(()),
+        Made::One(fd) => {
+            cells.push(machine.cell(pid, *fd))?;
+            Ok(())
+        }
+        Made::Two(first, second) => {
+            cells.push(machine.cell(pid, *second))?;
+            cells.push(machine.cell(pid, *first))?;
+            Ok(())
+        }
+    }
+}
+
+/// Moves a machine on by a line, and adds what is then known of the descriptors that it made.
+fn follow_line(
+    machine: &mut Machine,
+    cells: &mut Vec<Cell>,
+    profile: Profile,
+    line: &Line,
+) -> Result<(), NoMemory>
     ensures moves { OnOk result
         (start_state machine.new ≡ ended (start_state machine.old) (step profile line.now ∷ [])) }
-    ensures cells { IfOk result (λ cells. cells
-        ≡ cells_made (start_state machine.new) line.now.pid (made_fds line.now.item)) }
+    ensures cells { OnOk result (cells.new.items
+        ≡ cells.old.items ++ cells_made (start_state machine.new) line.now.pid (made_fds line.now.item)) }
 {
-    machine.follow(profile, line)?;
-    let made = made_by(&line.seen());
-    Ok(MadeCells::of(machine, line.pid(), &made))
+    let seen = line.seen();
+    let pid = seen.pid;
+    let made = made_by(&seen);
+    machine.follow_seen(profile, &seen)?;
+    add_cells(cells, machine, pid, &made)
 }
 
 /// What is known of the descriptors that each line made, after it.
@@ -231,51 +265,43 @@ fn made_along(
     profile: Profile,
     start: &Start,
     lines: &[Line],
-) -> Result<Vec<MadeCells>, NoMemory>
+) -> Result<Vec<Cell>, NoMemory>
     ensures { IfOk result (λ cells. cells.items ≡ cells_along (start_state start.now) (steps profile lines.now)) }
 {
     let mut machine = Machine::from_start(alloc, start)?;
     let mut cells = Vec::new(alloc);
     for line in lines {
-        let next = next_cells(&mut machine, profile, line)?;
-        cells.push(next)?;
+        follow_line(&mut machine, &mut cells, profile, line)?;
     }
     Ok(cells)
 }
 
-/// Takes the last of the cells.
-fn take_last(cells: &mut Vec<MadeCells>) -> MadeCells
-    ensures { (before : List MadeCells) (last : MadeCells) → cells.old.items ≡ before ++ last ∷ []
-        → (result ≡ last) × (cells.new.items ≡ before) }
-{
-    match cells.pop() {
-        Some(last) => last,
-        None => MadeCells {
-            first: Cell::Unknown,
-            second: Cell::Unknown,
-        },
-    }
-}
-
-/// Adds the limits of the descriptors that a line made, which have these cells after it.
-fn add_line(
+/// Adds the limits of the descriptors that a line made, and passes it.
+fn pass_line(
     limits: &mut Vec<MakerLimit>,
+    cells: &mut Vec<Cell>,
+    live: &mut LiveRights,
     at: usize,
+    profile: Profile,
     line: &Line,
-    cells: &MadeCells,
-    live: &LiveRights,
 ) -> Result<(), NoMemory>
-    ensures { (made : Made) → listed_made made ≡ made_fds line.now.item → OnOk result (limits.new.items
-        ≡ limits.old.items ++ maker_rows at line.now.pid (listed_made made) cells.now (wanted live.now line.now.pid)) }
+    ensures limits { (s : State) (before : List Cell)
+        → cells.old.items ≡ before ++ cells_made s line.now.pid (made_fds line.now.item)
+        → OnOk result ((cells.new.items ≡ before) × (limits.new.items
+        ≡ limits.old.items ++ maker_rows s at line.now.pid (made_fds line.now.item) (wanted live.old line.now.pid))) }
+    ensures live { OnOk result ((later : List Step)
+        → AreLive live.old later → AreLive live.new (step profile line.now ∷ later)) }
 {
-    let made = made_by(&line.seen());
-    add_limits(limits, at, line.pid(), &made, cells, live)
+    let seen = line.seen();
+    add_limits(limits, cells, at, seen.pid, &made_by(&seen), live)?;
+    live.pass_seen(at, profile, &seen)
 }
 
 /// The least rights of each descriptor that a trace makes and that is then held, right behind the line that made it. The
 /// last line comes first, and of two descriptors of a line the larger.
 ///
-/// It goes through the lines once forth and once back. Its memory grows with the lines.
+/// It goes through the lines once forth and once back. Its memory grows with the descriptors that they make or need
+/// rights of.
 ///
 /// `NoMemory` when out of memory.
 pub fn limits_of_makers(
@@ -292,10 +318,14 @@ pub fn limits_of_makers(
     let mut limits = Vec::new(alloc);
     let mut rest = lines;
     while let Some((line, before)) = rest.split_last() {
-        let at = rest.len();
-        let made = take_last(&mut cells);
-        add_line(&mut limits, at, line, &made, &live)?;
-        live.pass(at, profile, line)?;
+        pass_line(
+            &mut limits,
+            &mut cells,
+            &mut live,
+            rest.len(),
+            profile,
+            line,
+        )?;
         rest = before;
     }
     Ok(limits)

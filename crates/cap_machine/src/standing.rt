@@ -1,6 +1,6 @@
 //! Which descriptors of a process stand in what is known of it, one by one.
 
-ghost use Rattle.std.specs.Prelude.{◌≡◌, ◌↔◌, ℕ, ◌==◌, ◌||◌, ◌&&◌, true, List, reverse, OnOk, IfOk};
+ghost use Rattle.std.specs.Prelude.{◌≡◌, ◌↔◌, ℕ, ◌==◌, ◌||◌, true, reverse, OnOk, IfOk};
 ghost use Rattle.std.specs.List.{list_any};
 ghost use Rattle.cap_trace.specs.Seen.{fds_spelled};
 ghost use Rattle.cap_machine.specs.declared.cell.Cell.{Cell};
@@ -107,8 +107,9 @@ pub fn standing_fds(
     let mut own = pid;
     let mut rest = lines;
     while let Some((line, earlier)) = rest.split_last() {
-        let me = line.pid();
-        let rule = rule_of(profile, &line.seen());
+        let seen = line.seen();
+        let me = seen.pid;
+        let rule = rule_of(profile, &seen);
         add_single(alloc, &mut fds, &rule.effect, me, own)?;
         own = source(&rule.effect, me, own);
         rest = earlier;

@@ -34,23 +34,23 @@ fn unknown_limit(machine: &Machine, pid: Pid, fd: Fd, needed: &RightSet) -> Opti
     }
 }
 
-/// What is needed of the descriptors of a process of which nothing is known, by what is needed of each whose flag isn't
-/// known.
+/// What is needed of the descriptors of a process of which nothing is known, and so not their flags, by what is needed of
+/// each by its flag.
 pub(crate) fn unknown_limits(
     alloc: Global,
     machine: &Machine,
     pid: Pid,
-    unsure: FdRights,
+    needed: FdRights,
 ) -> Result<Vec<Limit>, NoMemory>
     ensures rows { IfOk result (λ limits. map row_of limits.items
-        ≡ unknown_rows ((start_state machine.now).cell pid) unsure.map.entries) }
+        ≡ unknown_rows ((start_state machine.now).cell pid) needed.map.entries) }
     ensures fds { IfOk result (λ limits. All (λ (limit : Limit). limit.fd < 2 ^ 32) limits.items) }
-    ensures sorted { IfOk result (λ limits. IsOrdered nat_cmp unsure.map) }
+    ensures sorted { IfOk result (λ limits. IsOrdered nat_cmp needed.map) }
 {
-    let mut limits = Vec::with_capacity(alloc, unsure.map.len())?;
-    let mut rest = unsure;
+    let mut limits = Vec::with_capacity(alloc, needed.map.len())?;
+    let mut rest = needed;
     while let Some(entry) = rest.map.pop_first() {
-        if let Some(limit) = unknown_limit(machine, pid, entry.0, &entry.1) {
+        if let Some(limit) = unknown_limit(machine, pid, entry.0, &entry.1.unsure) {
             limits.push(limit)?;
         }
     }

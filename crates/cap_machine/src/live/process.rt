@@ -1,40 +1,18 @@
 //! What lines need of one process.
 
-ghost use Rattle.std.specs.Prelude.{◌≡◌, ℕ, OnOk, IfOk, ◌==◌, ◌&&◌, nat_le, if◌then◌else◌, None, true};
-ghost use Rattle.std.specs.List.{All};
+ghost use Rattle.std.specs.Prelude.{◌≡◌, ℕ, OnOk, IfOk, nat_le, if◌then◌else◌, None};
 ghost use Rattle.cap_rights.specs.Rights.{join};
 ghost use Rattle.cap_machine.specs.declared.cell.OnExec.{OnExec};
-ghost use Rattle.cap_machine.specs.Judge.{listed};
 ghost use Rattle.cap_machine.specs.Op.{held_op, exec};
 ghost use Rattle.cap_machine.specs.Wanted.{rights_of, flag_rights, wanted_of, back_through, wanted_without, wanted_with};
-ghost use Rattle.cap_machine.specs.Wanted.{undone, unblocked, earlier, with_demand, blocked_with, NeedsNoMore};
+ghost use Rattle.cap_machine.specs.Wanted.{undone, unblocked, earlier, with_demand, blocked_with};
 
 use crate::cell::{HeldOp, OnExec, Op};
-use crate::live::fd_rights::FdRights;
+use crate::live::fd_rights::{ByFlag, FdRights};
 use crate::rule::{Check, Checks, Class, Demand, Effect, Reply};
 use cap_rights::{NoMemory, RightSet};
 use cap_trace::Fd;
 use std::alloc::Global;
-
-/// Rights for each flag that a held descriptor can have.
-#[derive(Clone, Copy)]
-pub(crate) struct ByFlag {
-    set: RightSet,
-    clear: RightSet,
-    unsure: RightSet,
-}
-
-impl ByFlag {
-    fn of(&self, flag: OnExec) -> RightSet
-        ensures { result ≡ flag_rights self.now flag }
-    {
-        match flag {
-            OnExec::Set => self.set,
-            OnExec::Clear => self.clear,
-            OnExec::Unsure => self.unsure,
-        }
-    }
-}
 
 impl HeldOp {
     /// The rights that are wanted of a held cell, from those that are wanted of what it becomes.
@@ -62,15 +40,14 @@ impl Op {
     }
 }
 
-/// What the lines from one on need of a process.
+/// What the lines from one on need of a process. What is needed behind the next exec is kept apart, so that what is
+/// needed of a descriptor is moved by one exec alone, however many there are.
 #[derive(Drop)]
 pub(crate) struct LiveProcess {
-    /// The rights that they need of each descriptor where it is held with the close-on-exec flag.
-    set: FdRights,
-    /// Those where it is held without it.
-    clear: FdRights,
-    /// Those where the flag isn't known.
-    unsure: FdRights,
+    /// The rights that are needed of each descriptor before the next exec.
+    near: FdRights,
+    /// Those that are needed behind it, of which an exec hands on those where the flag is clear.
+    far: FdRights,
     /// The position of the first line that is in the way of entering capability mode.
     pub(crate) blocked: Option<usize>,
 }
@@ -82,9 +59,8 @@ impl LiveProcess {
         ensures blocked { result.blocked ≡ None }
     {
         LiveProcess {
-            set: FdRights::none(alloc),
-            clear: FdRights::none(alloc),
-            unsure: FdRights::none(alloc),
+            near: FdRights::none(alloc),
+            far: FdRights::none(alloc),
             blocked: None,
         }
     }
@@ -93,18 +69,18 @@ impl LiveProcess {
     pub(crate) fn get(&self, fd: Fd, flag: OnExec) -> RightSet
         ensures { result ≡ wanted_of self.now fd flag }
     {
+        let near = self.near.get(fd, flag);
         match flag {
-            OnExec::Set => self.set.get(fd),
-            OnExec::Clear => self.clear.get(fd),
-            OnExec::Unsure => self.unsure.get(fd),
+            OnExec::Clear => near.join(&self.far.get(fd, flag)),
+            OnExec::Set | OnExec::Unsure => near,
         }
     }
 
-    /// What is needed of each descriptor where its flag isn't known.
-    pub(crate) fn into_unsure(self) -> FdRights
-        ensures { (f : ℕ) → rights_of result f ≡ wanted_of self f OnExec.Unsure }
+    /// What is needed of each descriptor before the next exec. Of one whose flag isn't known that is all.
+    pub(crate) fn into_near(self) -> FdRights
+        ensures { (f : ℕ) → rights_of result f OnExec.Unsure ≡ wanted_of self f OnExec.Unsure }
     {
-        self.unsure
+        self.near
     }
 
     /// Adds rights of a descriptor.
@@ -113,9 +89,7 @@ impl LiveProcess {
             → wanted_of self.new f x ≡ wanted_with fd (flag_rights rights.now) (wanted_of self.old) f x) }
         ensures blocked { OnOk result (self.new.blocked ≡ self.old.blocked) }
     {
-        self.set.add(fd, rights.set)?;
-        self.clear.add(fd, rights.clear)?;
-        self.unsure.add(fd, rights.unsure)
+        self.near.add(fd, rights)
     }
 
     /// Takes the rights of a descriptor away.
@@ -124,10 +98,12 @@ impl LiveProcess {
         ensures rest { (f : ℕ) (x : OnExec) → wanted_of self.new f x ≡ wanted_without fd (wanted_of self.old) f x }
         ensures blocked { self.new.blocked ≡ self.old.blocked }
     {
+        let near = self.near.take(fd);
+        let far = self.far.take(fd);
         ByFlag {
-            set: self.set.take(fd),
-            clear: self.clear.take(fd),
-            unsure: self.unsure.take(fd),
+            set: near.set,
+            clear: near.clear.join(&far.clear),
+            unsure: near.unsure,
         }
     }
 
@@ -136,9 +112,8 @@ impl LiveProcess {
         ensures rights { (f : ℕ) (x : OnExec) → wanted_of self.new f x ≡ 0 }
         ensures blocked { self.new.blocked ≡ self.old.blocked }
     {
-        self.set.clear();
-        self.clear.clear();
-        self.unsure.clear();
+        self.near.clear();
+        self.far.clear();
     }
 
     /// Nothing is needed of it.
@@ -155,20 +130,19 @@ impl LiveProcess {
         ensures rights { (f : ℕ) (x : OnExec) → wanted_of self.new f x ≡ (if nat_le fd f then 0 else wanted_of self.old f x) }
         ensures blocked { self.new.blocked ≡ self.old.blocked }
     {
-        self.set.clear_from(fd);
-        self.clear.clear_from(fd);
-        self.unsure.clear_from(fd);
+        self.near.clear_from(fd);
+        self.far.clear_from(fd);
     }
 
     /// What an exec hands on in profile 2: a descriptor with the flag is closed, and of one whose flag isn't known
     /// nothing is known behind it.
-    fn exec(&mut self)
-        ensures rights { (f : ℕ) (x : OnExec)
-            → wanted_of self.new f x ≡ back_through (held_op exec x) (wanted_of self.old f) }
-        ensures blocked { self.new.blocked ≡ self.old.blocked }
+    fn exec(&mut self) -> Result<(), NoMemory>
+        ensures rights { OnOk result ((f : ℕ) (x : OnExec)
+            → wanted_of self.new f x ≡ back_through (held_op exec x) (wanted_of self.old f)) }
+        ensures blocked { OnOk result (self.new.blocked ≡ self.old.blocked) }
     {
-        self.set.clear();
-        self.unsure.clear();
+        self.far.add_all(&mut self.near)?;
+        Ok(())
     }
 
     /// What becomes of one descriptor is needed of the one that it is taken from.
@@ -189,19 +163,13 @@ impl LiveProcess {
         ensures blocked { IfOk result (λ both. both.blocked ≡ earlier self.blocked other.blocked) }
     {
         let blocked = earlier_of(self.blocked, other.blocked);
-        let set = self.set.joined(other.set)?;
-        let clear = self.clear.joined(other.clear)?;
-        let unsure = self.unsure.joined(other.unsure)?;
-        Ok(LiveProcess {
-            set,
-            clear,
-            unsure,
-            blocked,
-        })
+        let near = self.near.joined(other.near)?;
+        let far = self.far.joined(other.far)?;
+        Ok(LiveProcess { near, far, blocked })
     }
 
     /// Goes back before an effect of a line of the process. What is needed of a child stands with it.
-    pub(crate) fn undo(&mut self, effect: &Effect<'_>) -> Result<(), NoMemory>
+    fn undo(&mut self, effect: &Effect<'_>) -> Result<(), NoMemory>
         ensures rights { OnOk result ((f : ℕ) (x : OnExec)
             → wanted_of self.new f x ≡ undone effect.now (wanted_of self.old) f x) }
         ensures blocked { OnOk result (self.new.blocked ≡ unblocked effect.now self.old.blocked) }
@@ -212,7 +180,7 @@ impl LiveProcess {
             Effect::Start(_) => self.forget(),
             Effect::Exit => self.forget(),
             Effect::Forget => self.clear(),
-            Effect::Exec => self.exec(),
+            Effect::Exec => self.exec()?,
             Effect::CloseFrom(fd) => self.clear_from(*fd),
             Effect::Give(fd, _) | Effect::ForkAs(_, fd) => {
                 self.take(*fd);
@@ -232,51 +200,11 @@ impl LiveProcess {
             → wanted_of self.new f x ≡ wanted_with check.now.fd (λ y. check.now.needs) (wanted_of self.old) f x) }
         ensures blocked { OnOk result (self.new.blocked ≡ self.old.blocked) }
     {
-        let rights = ByFlag {
-            set: check.needs,
-            clear: check.needs,
-            unsure: check.needs,
-        };
-        self.add(check.fd, &rights)
-    }
-
-    /// Whether all that a check needs is needed already.
-    fn has(&self, check: &Check) -> bool
-        ensures { result ≡ true → (x : OnExec)
-            → join (wanted_of self.now check.now.fd x) check.now.needs ≡ wanted_of self.now check.now.fd x }
-    {
-        self.set.has(check.fd, &check.needs)
-            && self.clear.has(check.fd, &check.needs)
-            && self.unsure.has(check.fd, &check.needs)
-    }
-
-    /// Whether all that these checks need is needed already.
-    fn has_all(&self, checks: &Checks) -> bool
-        ensures { result ≡ true → All (NeedsNoMore (wanted_of self.now)) (listed checks.now) }
-    {
-        match checks {
-            Checks::Nothing => true,
-            Checks::One(a) => self.has(a),
-            Checks::Two(a, b) => self.has(a) && self.has(b),
-        }
-    }
-
-    /// Whether a line with this demand needs nothing more, and isn't in the way.
-    #[tactic(auto, using(crate::proofs::NoMoreNeeds::no_more))]
-    pub(crate) fn is_settled(&self, demand: &Demand) -> bool
-        ensures rights { result ≡ true → (f : ℕ) (x : OnExec)
-            → with_demand demand.now (wanted_of self.now) f x ≡ wanted_of self.now f x }
-        ensures blocked { result ≡ true → (at : ℕ)
-            → blocked_with demand.now at self.now.blocked ≡ self.now.blocked }
-    {
-        match demand.reply {
-            Reply::Success => demand.class != Class::Forbidden && self.has_all(&demand.checks),
-            _ => true,
-        }
+        self.add(check.fd, &ByFlag::all(check.needs))
     }
 
     /// Adds what a line with this demand needs; `at` is its position.
-    pub(crate) fn demand(&mut self, at: usize, demand: &Demand) -> Result<(), NoMemory>
+    fn demand(&mut self, at: usize, demand: &Demand) -> Result<(), NoMemory>
         ensures rights { OnOk result ((f : ℕ) (x : OnExec)
             → wanted_of self.new f x ≡ with_demand demand.now (wanted_of self.old) f x) }
         ensures blocked { OnOk result (self.new.blocked ≡ blocked_with demand.now at self.old.blocked) }
@@ -295,6 +223,23 @@ impl LiveProcess {
                 self.need(b)
             }
         }
+    }
+
+    /// Passes a line of the process with this demand and this effect; `at` is its position. What is needed of a child
+    /// stands with it.
+    pub(crate) fn pass(
+        &mut self,
+        at: usize,
+        demand: &Demand,
+        effect: &Effect<'_>,
+    ) -> Result<(), NoMemory>
+        ensures rights { OnOk result ((f : ℕ) (x : OnExec) → wanted_of self.new f x
+            ≡ with_demand demand.now (undone effect.now (wanted_of self.old)) f x) }
+        ensures blocked { OnOk result
+            (self.new.blocked ≡ blocked_with demand.now at (unblocked effect.now self.old.blocked)) }
+    {
+        self.undo(effect)?;
+        self.demand(at, demand)
     }
 }
 

@@ -2,7 +2,7 @@ use Rattle.std.proofs.Common.{◌≡◌, ◌+◌, ◌<◌, List, [], ◌∷◌, 
 use Rattle.std.proofs.lemmas.List.{take_more}
 use Rattle.cap_trace.specs.Entry.{Entry}
 use Rattle.cap_machine.specs.declared.step.Step.{Step}
-use Rattle.cap_machine.specs.declared.makers.MadeCells.{MadeCells}
+use Rattle.cap_machine.specs.declared.cell.Cell.{Cell}
 use Rattle.cap_machine.specs.Steps.{step, steps}
 use Rattle.cap_machine.specs.State.{State}
 use Rattle.cap_machine.specs.History.{ended}
@@ -26,14 +26,14 @@ loop-line-preserved c =
     ∙ ap (λ (r : Entry). before ++ r ∷ []) (sym c.line-item.is) in
     let more : steps c.args.profile (take (c.loop-line.line-index + 1) c.args.lines.now) ≡ t ++ l ∷ [] =
     ap (steps c.args.profile) lines ∙ steps-more c.args.profile before line in
-    let now : start_state c.next_cells.new.machine ≡ ended s (t ++ l ∷ []) =
-    c.in_ok-next.ensures.moves ∙ ap (λ (u : State). ended u (l ∷ [])) c.loop-line.invariant.state
+    let now : start_state c.follow_line.new.machine ≡ ended s (t ++ l ∷ []) =
+    c.in_ok-follow_line.ensures.moves ∙ ap (λ (u : State). ended u (l ∷ [])) c.loop-line.invariant.state
     ∙ sym (ends_more s t l) in
     record {
       state = now ∙ ap (ended s) (sym more);
-      cells = c.in_ok-push.ensures.items
-          ∙ ap (λ (r : List MadeCells). r ++ c.in_ok-next.next ∷ []) c.loop-line.invariant.cells
-          ∙ ap (λ (m : MadeCells). cells_along s t ++ m ∷ [])
-          (c.in_ok-next.ensures.cells ∙ ap (λ (u : State). cells_made u line.pid (made_fds line.item)) now)
+      cells = c.in_ok-follow_line.ensures.cells
+          ∙ ap (λ (r : List Cell). r ++ cells_made (start_state c.follow_line.new.machine) line.pid (made_fds line.item))
+          c.loop-line.invariant.cells
+          ∙ ap (λ (u : State). cells_along s t ++ cells_made u line.pid (made_fds line.item)) now
           ∙ sym (cells_more s t l) ∙ ap (cells_along s) (sym more);
     }

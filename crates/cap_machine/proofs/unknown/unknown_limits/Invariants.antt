@@ -10,7 +10,7 @@ use Rattle.cap_machine.proofs.unknown.unknown_limits.Given as goal
 abbrev pub invariant-loop-entry : goal.invariant-loop-entry
 invariant-loop-entry l = record {
   rows : map row_of l.limits.items ++ unknown_rows ((start_state l.machine).cell l.pid) l.rest.map.entries
-      ≡ unknown_rows ((start_state l.machine).cell l.pid) l.fn.unsure.map.entries;
+      ≡ unknown_rows ((start_state l.machine).cell l.pid) l.fn.needed.map.entries;
   fds : All (λ (limit : Limit). limit.fd < 2 ^ 32) l.limits.items;
 }
 

@@ -1,35 +1,20 @@
-use Rattle.std.proofs.Common.{◌≡◌, ℕ, ap, sym, ◌∙◌}
+use Rattle.std.proofs.Common.{◌∷◌, subst}
 use Rattle.std.proofs.lemmas.Result.{on_ok_weaker}
 use Rattle.cap_trace.specs.Entry.{Entry}
 use Rattle.cap_machine.specs.Steps.{step}
-use Rattle.cap_machine.specs.Rule.{demand}
-use Rattle.cap_machine.specs.Touch.{touch, turn}
-use Rattle.cap_machine.specs.Effect.{effect_touch, effect_turn}
-use Rattle.cap_machine.specs.Wanted.{wanted, blocked}
-use Rattle.cap_machine.proofs.LiveBack.{live_before}
-use Rattle.cap_machine.proofs.BlockedBack.{blocked_line}
+use Rattle.cap_machine.specs.LiveRights.{AreLive, AreBlocked}
 use Rattle.cap_machine.proofs.live.LiveRights.pass.Goals as goal
 
 pub returns-clause-rights : goal.returns-clause-rights
 returns-clause-rights c =
-    let owner : c.pid.result ≡ c.seen.result.pid = c.pid.ensures ∙ ap (λ (e : Entry). e.pid) (sym c.seen.ensures) in
-    on_ok_weaker c.pass_rule.result
-    (λ is later live. live_before (step c.args.profile c.args.line.now) c.rule_of-rule.result.demand c.rule_of-rule.result.effect
-    c.pid.result (wanted c.args.self.now) (wanted c.pass_rule.new.self) later
-    (c.rule_of-rule.ensures.demand ∙ ap demand c.seen.ensures) c.pid.ensures
-    (λ p f. ap (λ (me : ℕ). effect_touch c.rule_of-rule.result.effect me p f) owner ∙ c.rule_of-rule.ensures.cells p f
-    ∙ ap (λ (e : Entry). touch (step c.args.profile e) p f) c.seen.ensures)
-    is live)
-    c.pass_rule.ensures.rights
+    on_ok_weaker c.pass_seen.result
+    (λ is later live. subst (λ (e : Entry). AreLive c.pass_seen.new.self (step c.args.profile e ∷ later)) c.seen.ensures
+    (is later live))
+    c.pass_seen.ensures.rights
 
 pub returns-clause-blocked : goal.returns-clause-blocked
 returns-clause-blocked c =
-    let owner : c.pid.result ≡ c.seen.result.pid = c.pid.ensures ∙ ap (λ (e : Entry). e.pid) (sym c.seen.ensures) in
-    on_ok_weaker c.pass_rule.result
-    (λ is later first. blocked_line (step c.args.profile c.args.line.now) c.rule_of-rule.result.demand
-    c.rule_of-rule.result.effect c.args.at c.pid.result (blocked c.args.self.now) (blocked c.pass_rule.new.self) later
-    (c.rule_of-rule.ensures.demand ∙ ap demand c.seen.ensures) c.pid.ensures
-    (λ p. ap (λ (me : ℕ). effect_turn c.rule_of-rule.result.effect me p) owner ∙ c.rule_of-rule.ensures.modes p
-    ∙ ap (λ (e : Entry). turn (step c.args.profile e) p) c.seen.ensures)
-    is first)
-    c.pass_rule.ensures.blocked
+    on_ok_weaker c.pass_seen.result
+    (λ is later first. subst (λ (e : Entry). AreBlocked c.pass_seen.new.self c.args.at (step c.args.profile e ∷ later))
+    c.seen.ensures (is later first))
+    c.pass_seen.ensures.blocked

@@ -1,20 +1,14 @@
-use Rattle.std.proofs.Common.{◌≡◌, ap, sym, ◌∙◌}
+use Rattle.std.proofs.Common.{[], ◌∷◌, ap, ◌∙◌}
 use Rattle.std.proofs.lemmas.Result.{on_ok_weaker}
 use Rattle.cap_trace.specs.Entry.{Entry}
 use Rattle.cap_machine.specs.Steps.{step}
-use Rattle.cap_machine.specs.Table.{start_state, state_of, step_after}
-use Rattle.cap_machine.proofs.KnownTables.{state_known}
-use Rattle.cap_machine.proofs.OneMore.{state_kept}
+use Rattle.cap_machine.specs.History.{ended}
+use Rattle.cap_machine.specs.Table.{start_state}
 use Rattle.cap_machine.proofs.machine.Machine.follow.Goals as goal
 
 pub returns : goal.returns
 returns c =
-    let before : state_of c.self.inside.table ≡ start_state c.args.self.now =
-    sym (state_known c.self.inside.table) ∙ ap start_state c.self.view_is in
-    let now = c.follow.new.self in
-    on_ok_weaker c.follow.result
-    (λ keeps. state_known now
-    ∙ state_kept now (step_after (step c.args.profile c.seen.result) (state_of c.self.inside.table)) keeps
-    ∙ ap (λ (e : Entry). step_after (step c.args.profile e) (state_of c.self.inside.table)) c.seen.ensures
-    ∙ ap (step_after (step c.args.profile c.args.line.now)) before)
-    c.follow.ensures
+    on_ok_weaker c.follow_seen.result
+    (λ moves. moves
+    ∙ ap (λ (e : Entry). ended (start_state c.args.self.now) (step c.args.profile e ∷ [])) c.seen.ensures)
+    c.follow_seen.ensures

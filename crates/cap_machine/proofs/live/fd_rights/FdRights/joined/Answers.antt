@@ -7,11 +7,11 @@ use Rattle.cap_machine.proofs.live.fd_rights.FdRights.joined.Goals as goal
 use Rattle.cap_machine.proofs.live.fd_rights.FdRights.joined.Goals.{then-len, else-len}
 
 pub returns : goal.returns
-returns c = λ f.
+returns c = λ f x.
     elim c.if-len.branch [
-      | then-len w ↦ c.in_ok-add_all.ensures f
-          ∙ ap (λ (p : FdRights × FdRights). join (rights_of p.0 f) (rights_of p.1 f)) w.large-is
-          ∙ join_comm (rights_of c.args.other f) (rights_of c.args.self f)
-      | else-len w ↦ c.in_ok-add_all.ensures f
-          ∙ ap (λ (p : FdRights × FdRights). join (rights_of p.0 f) (rights_of p.1 f)) w.large-is
+      | then-len w ↦ c.in_ok-add_all.ensures.added f x
+          ∙ ap (λ (p : FdRights × FdRights). join (rights_of p.0 f x) (rights_of p.1 f x)) w.large-is
+          ∙ join_comm (rights_of c.args.other f x) (rights_of c.args.self f x)
+      | else-len w ↦ c.in_ok-add_all.ensures.added f x
+          ∙ ap (λ (p : FdRights × FdRights). join (rights_of p.0 f x) (rights_of p.1 f x)) w.large-is
     ]

@@ -1,0 +1,13 @@
+use Rattle.std.proofs.Common.{◌∷◌, subst}
+use Rattle.std.proofs.lemmas.Result.{on_ok_weaker}
+use Rattle.cap_trace.specs.Entry.{Entry}
+use Rattle.cap_machine.specs.Steps.{step}
+use Rattle.cap_machine.specs.LiveRights.{AreLive}
+use Rattle.cap_machine.proofs.makers.pass_line.Goals as goal
+
+pub returns-clause-live : goal.returns-clause-live
+returns-clause-live c =
+    on_ok_weaker c.pass_seen.result
+    (λ is later live. subst (λ (e : Entry). AreLive c.pass_seen.new.self (step c.args.profile e ∷ later))
+    c.seen-seen.ensures (is later live))
+    c.pass_seen.ensures.rights
