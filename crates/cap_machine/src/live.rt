@@ -112,6 +112,7 @@ impl LiveRights {
     }
 
     /// Joins what is needed of the child that an effect makes to what is needed of its process.
+    #[inline(always)]
     fn gather(&mut self, me: Pid, effect: &Effect<'_>) -> Result<(), NoMemory>
         ensures rights { OnOk result ((p f : ℕ) (x : OnExec) → wanted self.new p f x
             ≡ (if p == me then gathered effect.now me (wanted self.old) f x
@@ -127,6 +128,7 @@ impl LiveRights {
     }
 
     /// Passes a line of a process with this demand and this effect. What is needed of a child stands with it.
+    #[inline(always)]
     fn pass_own(
         &mut self,
         at: usize,
@@ -152,6 +154,7 @@ impl LiveRights {
     }
 
     /// Passes a line of a process with this demand and this effect.
+    #[inline(always)]
     fn pass_rule(
         &mut self,
         at: usize,
@@ -169,6 +172,7 @@ impl LiveRights {
     }
 
     /// Passes a line where it lies.
+    #[inline(always)]
     pub(crate) fn pass_seen(
         &mut self,
         at: usize,

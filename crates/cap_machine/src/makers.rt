@@ -66,6 +66,7 @@ fn two_made(answer: &Answer) -> Made
 }
 
 /// The descriptors that a call made.
+#[inline(always)]
 fn made_by_call(call: &Call<'_>, answer: &Answer) -> Made
     requires { IsAnswer (kind_of (call_seen call.now)) answer.now }
     ensures { listed_made result ≡ made_of (kind_of (call_seen call.now)) answer.now }
@@ -116,6 +117,7 @@ fn made_by_bare(call: BareCall, answer: &Answer) -> Made
 }
 
 /// The descriptors that a line made.
+#[inline(always)]
 fn made_by(line: &LineRef<'_>) -> Made
     ensures { listed_made result ≡ made_fds line.now.item }
 {

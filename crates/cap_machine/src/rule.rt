@@ -121,6 +121,7 @@ pub struct Rule<'a> {
 ///
 /// The demand follows rights(4) and cap_enter(2); the effect follows what the line records, close(2) and
 /// cap_rights_limit(2) among others, whatever is said of the line.
+#[inline(always)]
 pub fn rule_of<'a>(profile: Profile, line: &LineRef<'a>) -> Rule<'a>
     ensures demand { result.demand ≡ demand line.now }
     // The effect does to each cell and to each mode what the line does.

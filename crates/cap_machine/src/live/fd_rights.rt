@@ -81,6 +81,7 @@ impl FdRights {
     }
 
     /// Adds rights to those of a descriptor.
+    #[inline(always)]
     pub(crate) fn add(&mut self, fd: Fd, rights: &ByFlag) -> Result<(), NoMemory>
         ensures { OnOk result ((f : ℕ) (x : OnExec) → rights_of self.new f x
             ≡ (if f == fd then join (rights_of self.old f x) (flag_rights rights.now x) else rights_of self.old f x)) }

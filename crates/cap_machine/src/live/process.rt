@@ -84,6 +84,7 @@ impl LiveProcess {
     }
 
     /// Adds rights of a descriptor.
+    #[inline(always)]
     fn add(&mut self, fd: Fd, rights: &ByFlag) -> Result<(), NoMemory>
         ensures rights { OnOk result ((f : ℕ) (x : OnExec)
             → wanted_of self.new f x ≡ wanted_with fd (flag_rights rights.now) (wanted_of self.old) f x) }
@@ -169,6 +170,7 @@ impl LiveProcess {
     }
 
     /// Goes back before an effect of a line of the process. What is needed of a child stands with it.
+    #[inline(always)]
     fn undo(&mut self, effect: &Effect<'_>) -> Result<(), NoMemory>
         ensures rights { OnOk result ((f : ℕ) (x : OnExec)
             → wanted_of self.new f x ≡ undone effect.now (wanted_of self.old) f x) }
@@ -195,6 +197,7 @@ impl LiveProcess {
     }
 
     /// Adds what a check needs.
+    #[inline(always)]
     fn need(&mut self, check: &Check) -> Result<(), NoMemory>
         ensures rights { OnOk result ((f : ℕ) (x : OnExec)
             → wanted_of self.new f x ≡ wanted_with check.now.fd (λ y. check.now.needs) (wanted_of self.old) f x) }
@@ -204,6 +207,7 @@ impl LiveProcess {
     }
 
     /// Adds what a line with this demand needs; `at` is its position.
+    #[inline(always)]
     fn demand(&mut self, at: usize, demand: &Demand) -> Result<(), NoMemory>
         ensures rights { OnOk result ((f : ℕ) (x : OnExec)
             → wanted_of self.new f x ≡ with_demand demand.now (wanted_of self.old) f x) }
@@ -227,6 +231,7 @@ impl LiveProcess {
 
     /// Passes a line of the process with this demand and this effect; `at` is its position. What is needed of a child
     /// stands with it.
+    #[inline(always)]
     pub(crate) fn pass(
         &mut self,
         at: usize,
