@@ -5,7 +5,6 @@ pub mod Applied
 pub mod Calls
 pub mod Cuts
 pub mod NextEntry
-pub mod ExplainAnswered
 pub mod Explains
 pub mod Fed
 pub mod FoundText
@@ -38,3 +37,19 @@ pub mod AnswersTrace
 pub mod MakerPlaces
 pub mod LimitStands
 pub mod LimitTexts
+pub mod LimitPremises
+pub mod MovedFindings
+pub mod LimitsBeforeLaws
+pub mod MakerSpots
+pub mod MakersEnough
+pub mod MakerLimitsLaws
+pub mod LimitAccepted
+pub mod ClosedSets
+pub mod FineLines
+pub mod ClosedNeeds
+pub mod FineTouches
+pub mod LimitCells
+pub mod LimitFds
+pub mod MakerFacts
+pub mod LimitFacts
+pub mod TextsSpelled

@@ -16,7 +16,8 @@ use Rattle.cap_trace.proofs.WholeLines.{line_again, digits_lack}
 use Rattle.cap_machine.specs.LimitLaws.{Row}
 use Rattle.cap_session.specs.Commands.{asked, asked_with, first_word, after_word, position, insert_line}
 use Rattle.cap_session.specs.LimitScripts.{limit_line, enter_line, bytes_of, insertion}
-use Rattle.cap_session.specs.LimitScriptLaws.{IsRow, IsNamed}
+use Rattle.cap_session.specs.LimitScriptLaws.{IsNamed}
+use Rattle.cap_session.proofs.LimitPremises.{IsRow}
 use Rattle.cap_session.proofs.LinesOfText.{has_no_lf, no_lf_both, no_lf_decimal, no_lf_rights, decimal_short}
 
 -- ---- what is inserted

@@ -22,6 +22,8 @@ use Rattle.cap_trace.specs.Reading.{line_of}
 use Rattle.cap_trace.specs.Spelling.{canon}
 use Rattle.cap_trace.proofs.Heads.{find_takes, form_again}
 use Rattle.cap_machine.specs.LimitLaws.{Row}
+use Rattle.cap_machine.specs.Limits.{row_of as line_row}
+use Rattle.cap_machine.specs.declared.limits.Limits.{Limits}
 use Rattle.cap_machine.specs.Judge.{is_forbidden}
 use Rattle.cap_machine.specs.Rule.{demand, call_demand, item_demand}
 use Rattle.cap_machine.specs.declared.cell.Profile.{Profile}
@@ -37,11 +39,14 @@ use Rattle.cap_session.specs.Replies.{refused_text}
 use Rattle.cap_session.specs.Scripts.{Answers, Commands, Run}
 use Rattle.cap_session.specs.Trace.{is_skipped}
 use Rattle.cap_session.specs.LimitScripts.{ScriptLine, comment, insertion, bytes_of, words_of, script_text, insertions}
-use Rattle.cap_session.specs.LimitScripts.{limit_line, enter_line, makers_script, process_script, Entering}
-use Rattle.cap_session.specs.LimitScripts.{may_enter, is_inside, blocked, place_words, unknown_words, inside_words}
-use Rattle.cap_session.specs.LimitScripts.{blocked_words, entering_line, unknown_lines}
-use Rattle.cap_session.specs.LimitScriptLaws.{Accepts, ok_text, IsRow, StandsInTheWay, IsMakerLimit}
-use Rattle.cap_session.specs.LimitScriptLaws.{ProcessScriptIsAccepted, MakersScriptIsAccepted}
+use Rattle.cap_machine.specs.declared.limits.Entering.{Entering}
+use Rattle.cap_machine.specs.declared.limits.Entering.TheVariants.{Inside, Blocked, May}
+use Rattle.cap_session.specs.LimitScripts.{limit_line, enter_line, makers_script, process_script}
+use Rattle.cap_session.specs.LimitScripts.{place_words, unknown_words, inside_words}
+use Rattle.cap_session.specs.LimitScripts.{blocked_words, call_text, entering_line, unknown_lines}
+use Rattle.cap_session.specs.LimitScriptLaws.{Accepts, ok_text}
+use Rattle.cap_session.specs.LimitStreams.{limits_script}
+use Rattle.cap_session.proofs.LimitPremises.{IsRow, StandsInTheWay, IsMakerLimit, ProcessFacts}
 use Rattle.cap_session.proofs.LimitLines.{limit_short, limit_read, limit_no_lf, enter_short, enter_read, enter_no_lf}
 use Rattle.cap_session.proofs.LimitLines.{asks_insert}
 use Rattle.cap_session.proofs.LinesOfText.{has_no_lf, no_lf_both, no_lf_joined, no_lf_decimal, no_lf_rights, room}
@@ -226,8 +231,12 @@ makers_fit t n (limit ∷ more) le few all =
       makers_fit t (n + 1) more (omega (arith, le)) few (rest_of (IsMakerLimit t) limit more all),
     )
 
-pub makers_script_is_accepted : MakersScriptIsAccepted
-makers_script_is_accepted profile t left limits replies few all run =
+-- `edit` accepts each line of it, while the trace has room and memory is there
+pub makers_accepted : (profile : Profile) (t left : List Entry) (limits : List MakerLimit) (replies : List ℕ)
+    → length t ≤ most_lines → All (IsMakerLimit t) limits
+    → Run profile t (lines (script_text (makers_script limits))) replies left
+    → Accepts t (makers_script limits) replies left
+makers_accepted profile t left limits replies few all run =
     text_accepted profile t left (makers_script limits) replies few
     (makers_fit t (length t) limits (omega arith) few all) run
 
@@ -330,29 +339,45 @@ name_short line h =
     let l = item_listed line.item h in
     ap (λ (x : Head). is_short_name (name_of x)) l.1 ∙ listed_short l.0
 
+call_fits : (line : Entry) → IsPid line.pid → is_forbidden (demand line).class ≡ true
+    → (has_no_lf (call_text (Some line)) ≡ true) × (length (call_text (Some line)) ≤ 74)
+call_fits line pid forbidden =
+    let name : List ℕ = name_of (head_of line.item) in
+    let first : List ℕ = codes ", " ++ name in
+    let second : List ℕ = first ++ codes " of process " in
+    let short = and_parts (has_no_lf name) (leb (length name) 40) (name_short line forbidden) in
+    let long : length name ≤ 40 = leb-true _ _ short.1 in
+    let p : line.pid < 18446744073709551616 = (let few = pid.1 in omega (arith, few)) in (
+      no_lf_both second (decimal line.pid) (no_lf_both first (codes " of process ")
+          (no_lf_both (codes ", ") name refl short.0) refl) (no_lf_decimal line.pid p),
+      omega (
+        arith,
+        length-append (codes ", ") name,
+        length-append first (codes " of process "),
+        length-append second (decimal line.pid),
+        long,
+        decimal_short line.pid p,
+      ),
+    )
+
 blocked_fits : (n : ℕ) (line : Entry) → n ≤ 1000000 → IsPid line.pid → is_forbidden (demand line).class ≡ true
     → FitsComment (blocked_words n (Some line))
 blocked_fits n line most pid forbidden =
-    let name : List ℕ = name_of (head_of line.item) in
-    let short = and_parts (has_no_lf name) (leb (length name) 40) (name_short line forbidden) in
-    let long : length name ≤ 40 = leb-true _ _ short.1 in
-    let place = no_lf_both (decimal n) (codes ",") (no_lf_decimal n (omega (arith, most))) refl in
-    let p = pid.1 in
+    let call = call_fits line pid forbidden in
     words_fit (blocked_words n (Some line))
-    (and_from _ _ place (and_from _ _ short.0 (and_from _ _ (no_lf_decimal line.pid (omega (arith, p))) refl)))
+    (and_from _ _ (no_lf_both (decimal n) (call_text (Some line)) (no_lf_decimal n (omega (arith, most))) call.0) refl)
     (omega (
       arith,
-      length-append (decimal n) (codes ","),
+      length-append (decimal n) (call_text (Some line)),
       decimal_short n (omega (arith, most)),
-      long,
-      decimal_short line.pid (omega (arith, p)),
+      call.1,
     ))
 
 -- ---- the whole script of a process
 
 entering_fits : (t : List Entry) (n p at : ℕ) (e : Entering) → StandsInTheWay t e → length t ≤ 1000000 → IsPid p
     → 1 ≤ at → at ≤ n + 1 → at ≤ 9999999999999999999 → Fits n (entering_line t p at e ∷ [])
-entering_fits t n p at may_enter stands few pid low high small = (
+entering_fits t n p at May stands few pid low high small = (
   record {
     low = low;
     high = high;
@@ -364,8 +389,8 @@ entering_fits t n p at may_enter stands few pid low high small = (
   },
   tt,
 )
-entering_fits t n p at is_inside stands few pid low high small = (inside_fits p pid.1, tt)
-entering_fits t n p at (blocked k) stands few pid low high small =
+entering_fits t n p at Inside stands few pid low high small = (inside_fits p pid.1, tt)
+entering_fits t n p at (Blocked k) stands few pid low high small =
     let (line, found, first, last, own, forbidden) = stands in (
       subst (λ (o : Option Entry). FitsComment (blocked_words k o)) (sym found)
           (blocked_fits k line (omega (arith, last, few)) own forbidden),
@@ -384,7 +409,14 @@ process_fits t p k rows unknown e few low high some pid known others stands = (
       (omega (arith, high)) (omega (arith, high, few, some)))),
 )
 
-pub process_script_is_accepted : ProcessScriptIsAccepted
-process_script_is_accepted profile t left p k rows unknown e replies few low high some pid known others stands run =
-    text_accepted profile t left (process_script t p k rows unknown e) replies few
-    (process_fits t p k rows unknown e few low high some pid known others stands) run
+-- so too of this
+pub process_accepted : (profile : Profile) (t left : List Entry) (k : ℕ) (limits : Limits) (replies : List ℕ)
+    → length t ≤ most_lines → 1 ≤ k → k ≤ length t → ProcessFacts t limits
+    → Run profile t (lines (script_text (limits_script t k limits))) replies left
+    → Accepts t (limits_script t k limits) replies left
+process_accepted profile t left k limits replies few low high facts run =
+    let rows : List Row = map line_row limits.held.items in
+    let unknown : List Row = map line_row limits.unknown.items in
+    text_accepted profile t left (limits_script t k limits) replies few
+    (process_fits t limits.pid k rows unknown limits.entering few low high facts.few facts.pid facts.rows facts.unknown
+    facts.stands) run

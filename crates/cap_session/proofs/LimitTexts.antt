@@ -1,13 +1,19 @@
 -- The text of a limit and of the script of limits, as they are written part by part.
-use Rattle.std.proofs.Common.{◌≡◌, ℕ, ◌+◌, ◌<◌, List, [], ◌∷◌, ◌++◌, length, take, get_or, sym, ap, ◌∙◌, append_assoc}
+use Rattle.std.proofs.Common.{◌≡◌, ℕ, suc, ◌+◌, ◌<◌, ◌≤◌, List, [], ◌∷◌, ◌++◌, length, map, take, get_or, refl, sym, ap, ◌∙◌}
+use Rattle.std.proofs.Common.{append_assoc, arith}
 use Rattle.std.specs.Prelude.{codes, decimal}
-use Rattle.std.proofs.lemmas.List.{append-nil, take_more}
+use Rattle.std.proofs.lemmas.List.{append-nil, take_more, map-append, length-map, length-take-le}
 use Rattle.std.proofs.lemmas.List.Concat.{flat_map-append}
 use Rattle.cap_rights.specs.Text.{text}
 use Rattle.cap_trace.specs.Spelling.{canon}
 use Rattle.cap_machine.specs.Report.{line_of_words}
 use Rattle.cap_machine.specs.declared.makers.MakerLimit.{MakerLimit}
-use Rattle.cap_session.specs.LimitScripts.{limit_line, maker_line, maker_lines, words_of}
+use Rattle.cap_trace.specs.Entry.{Entry}
+use Rattle.cap_machine.specs.LimitLaws.{Row}
+use Rattle.cap_machine.specs.Limits.{row_of}
+use Rattle.cap_machine.specs.declared.limit.Limit.{Limit}
+use Rattle.cap_session.specs.LimitScripts.{ScriptLine, insertion, comment, insertions, limit_line, maker_line, maker_lines}
+use Rattle.cap_session.specs.LimitScripts.{enter_line, words_of, script_text, place_words, unknown_lines, unknown_words}
 
 parts : (o p f r z : List ℕ) →
     ((((((o ++ p) ++ codes " cap_rights_limit(") ++ f) ++ codes ",") ++ r) ++ codes ") RET ") ++ z
@@ -49,3 +55,114 @@ makers_more limits i one before after lt at so_far is =
     ∙ sym (flat_map-append (λ (limit : MakerLimit). line_of_words (words_of (maker_line limit))) (take i limits)
     (get_or limits i one ∷ []))
     ∙ ap maker_lines (sym (take_more limits i one lt))
+
+-- ---- limits that are put in one behind the other
+
+insertions_last : (at : ℕ) (lines : List Entry) (line : Entry)
+    → insertions at (lines ++ line ∷ []) ≡ insertions at lines ++ insertion (at + length lines) line ∷ []
+insertions_last at [] line =
+    let here : at ≡ at + 0 = omega arith in
+    ap (λ (n : ℕ). insertion n line ∷ []) here
+insertions_last at (first ∷ lines) line =
+    let there : at + 1 + length lines ≡ at + suc (length lines) = omega arith in
+    ap (λ (l : List ScriptLine). insertion at first ∷ l) (insertions_last (at + 1) lines line
+    ∙ ap (λ (n : ℕ). insertions (at + 1) lines ++ insertion n line ∷ []) there)
+
+abbrev line_text : ScriptLine → List ℕ
+line_text line = line_of_words (words_of line)
+
+text_last : (lines : List ScriptLine) (line : ScriptLine)
+    → script_text (lines ++ line ∷ []) ≡ script_text lines ++ line_text line
+text_last lines line = flat_map-append line_text lines (line ∷ [])
+    ∙ ap (λ (l : List ℕ). script_text lines ++ l) (append-nil (line_text line))
+
+-- the limits of a process as lines of a trace
+abbrev pub limit_lines : ℕ → List Limit → List Entry
+limit_lines pid limits = map (limit_line pid) (map row_of limits)
+
+limit_lines_last : (pid : ℕ) (limits : List Limit) (one : Limit)
+    → limit_lines pid (limits ++ one ∷ []) ≡ limit_lines pid limits ++ limit_line pid (row_of one) ∷ []
+limit_lines_last pid limits one = ap (map (limit_line pid)) (map-append row_of limits (one ∷ []))
+    ∙ map-append (limit_line pid) (map row_of limits) (row_of one ∷ [])
+
+pub limits_more : (at pid next i : ℕ) (limits : List Limit) (one : Limit) (first before after : List ℕ)
+    → i < length limits → one ≡ get_or limits i one → next ≡ at + i
+    → before ≡ first ++ script_text (insertions at (limit_lines pid (take i limits)))
+    → after ≡ before ++ line_text (insertion next (limit_line pid (row_of one)))
+    → after ≡ first ++ script_text (insertions at (limit_lines pid (take (i + 1) limits)))
+limits_more at pid next i limits one first before after lt at_i place so_far is =
+    let some = take i limits in
+    let long : length (limit_lines pid some) ≡ i = length-map (map row_of some) (limit_line pid) ∙ length-map some row_of
+    ∙ length-take-le i limits (omega (arith, lt)) in
+    let line = limit_line pid (row_of one) in
+    let there : at + length (limit_lines pid some) ≡ next = omega (arith, long, place) in
+    let more : take (i + 1) limits ≡ some ++ one ∷ [] = take_more limits i one lt
+    ∙ ap (λ (limit : Limit). some ++ limit ∷ []) (sym at_i) in
+    let last : script_text (insertions at (limit_lines pid (take (i + 1) limits)))
+    ≡ script_text (insertions at (limit_lines pid some)) ++ line_text (insertion next line) =
+    ap (λ (l : List Limit). script_text (insertions at (limit_lines pid l))) more
+    ∙ ap (λ (l : List Entry). script_text (insertions at l)) (limit_lines_last pid some one)
+    ∙ ap script_text (insertions_last at (limit_lines pid some) line)
+    ∙ text_last (insertions at (limit_lines pid some)) (insertion (at + length (limit_lines pid some)) line)
+    ∙ ap (λ (n : ℕ). script_text (insertions at (limit_lines pid some)) ++ line_text (insertion n line)) there in
+    is ∙ ap (λ (l : List ℕ). l ++ line_text (insertion next line)) so_far
+    ∙ append_assoc first (script_text (insertions at (limit_lines pid some))) (line_text (insertion next line))
+    ∙ ap (λ (l : List ℕ). first ++ l) (sym last)
+
+-- ---- descriptors that aren't known
+
+pub unknown_more : (i : ℕ) (limits : List Limit) (one : Limit) (first before after : List ℕ)
+    → i < length limits → one ≡ get_or limits i one
+    → before ≡ first ++ script_text (unknown_lines (map row_of (take i limits)))
+    → after ≡ before ++ line_text (comment (unknown_words (row_of one)))
+    → after ≡ first ++ script_text (unknown_lines (map row_of (take (i + 1) limits)))
+unknown_more i limits one first before after lt at_i so_far is =
+    let some = take i limits in
+    let line = comment (unknown_words (row_of one)) in
+    let more : take (i + 1) limits ≡ some ++ one ∷ [] = take_more limits i one lt
+    ∙ ap (λ (limit : Limit). some ++ limit ∷ []) (sym at_i) in
+    let last : script_text (unknown_lines (map row_of (take (i + 1) limits)))
+    ≡ script_text (unknown_lines (map row_of some)) ++ line_text line =
+    ap (λ (l : List Limit). script_text (unknown_lines (map row_of l))) more
+    ∙ ap (λ (l : List Row). script_text (unknown_lines l)) (map-append row_of some (one ∷ []))
+    ∙ ap script_text (map-append (λ (row : Row). comment (unknown_words row)) (map row_of some) (row_of one ∷ []))
+    ∙ text_last (unknown_lines (map row_of some)) line in
+    is ∙ ap (λ (l : List ℕ). l ++ line_text line) so_far
+    ∙ append_assoc first (script_text (unknown_lines (map row_of some))) (line_text line)
+    ∙ ap (λ (l : List ℕ). first ++ l) (sym last)
+
+-- ---- two parts of a comment, with texts before, between and after them
+
+pub two_put : (o a p b k c o1 o2 o3 o4 o5 : List ℕ) → o1 ≡ o ++ a → o2 ≡ o1 ++ p → o3 ≡ o2 ++ b → o4 ≡ o3 ++ k
+    → o5 ≡ o4 ++ c → o5 ≡ o ++ (a ++ ((p ++ (b ++ k)) ++ c))
+two_put o a p b k c o1 o2 o3 o4 o5 e1 e2 e3 e4 e5 =
+    e5 ∙ ap (λ (l : List ℕ). l ++ c) (e4 ∙ ap (λ (l : List ℕ). l ++ k) (e3 ∙ ap (λ (l : List ℕ). l ++ b)
+    (e2 ∙ ap (λ (l : List ℕ). l ++ p) e1)))
+    ∙ ap (λ (l : List ℕ). l ++ c) (append_assoc ((o ++ a) ++ p) b k ∙ append_assoc (o ++ a) p (b ++ k)
+    ∙ append_assoc o a (p ++ (b ++ k)))
+    ∙ append_assoc o (a ++ (p ++ (b ++ k))) c ∙ ap (λ (l : List ℕ). o ++ l) (append_assoc a (p ++ (b ++ k)) c)
+
+number_put : (n pid : ℕ) (before after : List ℕ) → n ≡ pid → after ≡ before ++ decimal n → after ≡ before ++ decimal pid
+number_put n pid before after same is = is ∙ ap (λ (m : ℕ). before ++ decimal m) same
+
+pub place_put : (pid at n : ℕ) (o o1 o2 o3 o4 o5 : List ℕ) → n ≡ pid → o1 ≡ o ++ codes "# process "
+    → o2 ≡ o1 ++ decimal n → o3 ≡ o2 ++ codes " before line " → o4 ≡ o3 ++ decimal at → o5 ≡ o4 ++ codes "\n"
+    → o5 ≡ o ++ line_text (comment (place_words pid at))
+place_put pid at n o o1 o2 o3 o4 o5 same e1 e2 e3 e4 e5 =
+    two_put o (codes "# process ") (decimal pid) (codes " before line ") (decimal at) (codes "\n") o1 o2 o3 o4 o5 e1
+    (number_put n pid o1 o2 same e2) e3 e4 e5
+
+pub needed_put : (row : Row) (n : ℕ) (o o1 o2 o3 o4 o5 : List ℕ) → n ≡ row.0 → o1 ≡ o ++ codes "# descriptor "
+    → o2 ≡ o1 ++ decimal n → o3 ≡ o2 ++ codes " isn't known; later calls need " → o4 ≡ o3 ++ text row.1
+    → o5 ≡ o4 ++ codes "\n" → o5 ≡ o ++ line_text (comment (unknown_words row))
+needed_put row n o o1 o2 o3 o4 o5 same e1 e2 e3 e4 e5 =
+    two_put o (codes "# descriptor ") (decimal row.0) (codes " isn't known; later calls need ") (text row.1) (codes "\n")
+    o1 o2 o3 o4 o5 e1 (number_put n row.0 o1 o2 same e2) e3 e4 e5
+
+pub enter_put : (pid n : ℕ) (o o1 o2 o3 : List ℕ) → n ≡ pid → o1 ≡ o ++ decimal n
+    → o2 ≡ o1 ++ codes " cap_enter() RET " → o3 ≡ o2 ++ decimal 0 → o3 ≡ o ++ canon (enter_line pid)
+enter_put pid n o o1 o2 o3 same e1 e2 e3 =
+    e3 ∙ ap (λ (l : List ℕ). l ++ decimal 0) (e2 ∙ ap (λ (l : List ℕ). l ++ codes " cap_enter() RET ")
+    (number_put n pid o o1 same e1))
+    ∙ append_assoc (o ++ decimal pid) (codes " cap_enter() RET ") (decimal 0)
+    ∙ append_assoc o (decimal pid) (codes " cap_enter() RET " ++ decimal 0)

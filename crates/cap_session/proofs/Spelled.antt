@@ -12,7 +12,8 @@ use Rattle.cap_trace.specs.Number.{num_at, digits_at, is_odd}
 use Rattle.cap_session.specs.Commands.{position as position_spelled}
 use Rattle.cap_session.specs.StartWords.{words}
 use Rattle.cap_session.specs.StartTexts.{number_spelled, at_least, need, rest_at, mode_spelled, cells_from, described}
-use Rattle.cap_session.specs.StartTexts.{◌>>=◌, Described}
+use Rattle.cap_session.specs.StartTexts.{◌>>=◌}
+use Rattle.cap_machine.specs.State.{Added}
 use Rattle.cap_session.specs.StartLines.{completed}
 use Rattle.cap_machine.specs.declared.cell.Cell.{Cell}
 use Rattle.cap_machine.specs.declared.cell.Mode.{Mode}
@@ -203,7 +204,7 @@ pub bad_rest : (low : ℕ) (ws : List (List ℕ)) (pid : ℕ) (mode : Mode) (e :
 unfolding described
 bad_rest low ws pid mode e first second is = rw (first, second, is) refl
 
-abbrev whole : Head → List (ℕ × Cell) → Result Described Refused
+abbrev whole : Head → List (ℕ × Cell) → Result Added Refused
 whole head cells = Ok (record { pid = head.pid; mode = head.mode; rest = head.rest; cells = cells })
 
 completes : (head : Head) (cells : Result (List (ℕ × Cell)) Refused) →

@@ -1,13 +1,14 @@
 -- What is read of a start and what is written, together.
-use Rattle.std.proofs.Common.{◌≡◌, ℕ, List, [], refl, inl, inr, subst, arith}
+use Rattle.std.proofs.Common.{◌≡◌, ℕ, List, [], refl, ap, inl, inr, subst, arith}
 use Rattle.std.specs.Prelude.{Err, Ok}
 use Rattle.cap_machine.specs.declared.cell.Profile.{Profile}
 use Rattle.cap_machine.specs.declared.question.Question.{Question}
-use Rattle.cap_machine.specs.State.{State}
+use Rattle.cap_machine.specs.State.{State, Added}
+use Rattle.cap_machine.specs.Table.{start_state}
 use Rattle.cap_trace.specs.Entry.{Entry}
 use Rattle.cap_session.specs.Devices.{SourceState, SinkState}
 use Rattle.cap_session.specs.Trace.{next_entry}
-use Rattle.cap_session.specs.StartTexts.{start, start_soon}
+use Rattle.cap_session.specs.StartTexts.{start, described_by, good_as, start_soon}
 use Rattle.cap_session.specs.Reads.{Reads}
 use Rattle.cap_session.specs.Refusal.{start_refusal_text}
 use Rattle.cap_session.specs.Streams.{AskedStreams}
@@ -21,6 +22,7 @@ use Rattle.cap_session.specs.declared.outcome.Outcome.TheVariants.{Clean, Findin
 use Rattle.cap_session.specs.declared.outcome.Outcome.TheVariants.{ReadFault, WriteFault, TooLong}
 use Rattle.cap_session.proofs.Answered.{with_stop}
 use Rattle.cap_session.proofs.Calls.{appends_none}
+use Rattle.cap_session.proofs.StartReads.{stopped_as}
 use Rattle.cap_session.proofs.Texted.{goes_nowhere}
 
 line_refused : {T : Type 0} (holds : T → State → Type 0) (turns : ℕ) (s0 s1 r : SourceState)
@@ -59,14 +61,13 @@ line_refused holds turns s0 s1 r w0 w1 e Memory d w = absurd w
 line_refused holds turns s0 s1 r w0 w1 e ReadFault d w = absurd w
 line_refused holds turns s0 s1 r w0 w1 e TooLong d w = absurd w
 
--- reading the start stopped
-pub not_taken : {T : Type 0} (holds : T → State → Type 0) (turns : ℕ) (s0 s1 r : SourceState)
+not_known : {T : Type 0} (holds : T → State → Type 0) (turns : ℕ) (s0 s1 r : SourceState)
     (w0 w1 : SinkState) (stop : Stop) (o : Outcome)
     → Reads start start_soon holds turns s0 s1 (Err stop) → EndsStart stop w0 w1 o →
     StartRejected turns s0 s1 r r w0 w1 o
-not_taken holds turns s0 s1 r w0 w1 (stops.Refused e) o d w =
+not_known holds turns s0 s1 r w0 w1 (stops.Refused e) o d w =
     line_refused holds turns s0 s1 r w0 w1 e o d w
-not_taken holds turns s0 s1 r w0 w1 stops.Memory o d w =
+not_known holds turns s0 s1 r w0 w1 stops.Memory o d w =
     rw (w.0, w.1) (record {
       given = d.given;
       read = d.read;
@@ -78,7 +79,7 @@ not_taken holds turns s0 s1 r w0 w1 stops.Memory o d w =
       answer = record { good = d.answer; silent = refl };
       unread = refl;
     })
-not_taken holds turns s0 s1 r w0 w1 stops.ReadFault o d w =
+not_known holds turns s0 s1 r w0 w1 stops.ReadFault o d w =
     rw (w.0, w.1) (record {
       given = d.given;
       read = d.read;
@@ -90,7 +91,7 @@ not_taken holds turns s0 s1 r w0 w1 stops.ReadFault o d w =
       answer = record { going = d.answer.0; good = d.answer.1; silent = refl };
       unread = refl;
     })
-not_taken holds turns s0 s1 r w0 w1 stops.TooLong o d w =
+not_known holds turns s0 s1 r w0 w1 stops.TooLong o d w =
     rw (w.0, w.1) (record {
       given = d.given;
       read = d.read;
@@ -102,21 +103,32 @@ not_taken holds turns s0 s1 r w0 w1 stops.TooLong o d w =
       answer = (record { going = d.answer.0; good = d.answer.1; silent = refl }, d.answer.2);
       unread = refl;
     })
-not_taken holds turns s0 s1 r w0 w1 stops.WriteFault o d w = absurd d.answer
+not_known holds turns s0 s1 r w0 w1 stops.WriteFault o d w = absurd d.answer
 
-pub start_rejected : (question : Question) (profile : Profile) {T : Type 0} (holds : T → State → Type 0) (turns : ℕ)
-    (s0 s1 r : SourceState) (w0 w1 : SinkState) (stop : Stop) (o : Outcome)
-    → Reads start start_soon holds turns s0 s1 (Err stop) → EndsStart stop w0 w1 o →
+-- reading the start stopped
+pub not_taken : {T : Type 0} (holds : T → List Added → Type 0) (turns : ℕ) (s0 s1 r : SourceState) (w0 w1 : SinkState)
+    (stop : Stop) (o : Outcome) → Reads described_by start_soon holds turns s0 s1 (Err stop) → EndsStart stop w0 w1 o
+    → StartRejected turns s0 s1 r r w0 w1 o
+not_taken {T = T} holds turns s0 s1 r w0 w1 stop o d w =
+    let keeps : T → State → Type 0 = λ x s. Unit {0} in
+    not_known keeps turns s0 s1 r w0 w1 stop o
+    (stopped_as start_state described_by start_soon holds keeps turns s0 s1 stop d) w
+
+pub start_rejected : (question : Question) (profile : Profile) {T : Type 0} (holds : T → List Added → Type 0)
+    (turns : ℕ) (s0 s1 r : SourceState) (w0 w1 : SinkState) (stop : Stop) (o : Outcome)
+    → Reads described_by start_soon holds turns s0 s1 (Err stop) → EndsStart stop w0 w1 o →
     AskedStartStreams question profile turns s0 s1 r r w0 w1 o
 start_rejected question profile holds turns s0 s1 r w0 w1 stop o d w =
     inl (not_taken holds turns s0 s1 r w0 w1 stop o d w)
 
 -- the start was read to its end, and this was asked of the trace from it
-pub start_taken : (question : Question) (profile : Profile) {T : Type 0} (holds : T → State → Type 0) (turns : ℕ)
-    (s0 s1 r0 r1 : SourceState) (w0 w1 : SinkState) (x : T) (s : State) (o : Outcome)
-    → Reads start start_soon holds turns s0 s1 (Ok x) → ((known : State) → holds x known → s ≡ known) →
-    AskedStreams question profile s turns r0 r1 w0 w1 o → AskedStartStreams question profile turns s0 s1 r0 r1 w0 w1 o
-start_taken question profile holds turns s0 s1 r0 r1 w0 w1 x s o d is asks =
+pub start_taken : (question : Question) (profile : Profile) {T : Type 0} (holds : T → List Added → Type 0) (turns : ℕ)
+    (s0 s1 r0 r1 : SourceState) (w0 w1 : SinkState) (x : T) (added : List Added) (o : Outcome)
+    → Reads described_by start_soon holds turns s0 s1 (Ok x)
+    → ((known : List Added) → holds x known → added ≡ known) →
+    AskedStreams question profile (start_state added) turns r0 r1 w0 w1 o
+    → AskedStartStreams question profile turns s0 s1 r0 r1 w0 w1 o
+start_taken question profile holds turns s0 s1 r0 r1 w0 w1 x added o d is asks =
     let known = d.answer.1 in
     let same = d.failures in
     inr (record {
@@ -125,9 +137,10 @@ start_taken question profile holds turns s0 s1 r0 r1 w0 w1 x s o d is asks =
       calls = d.calls;
       failures = omega arith;
       end = d.answer.0;
-      known = known.0;
-      good = known.1;
-      asked = subst (λ (k : State). AskedStreams question profile k turns r0 r1 w0 w1 o) (is known.0 known.2) asks;
+      known = start_state known.0;
+      good = ap (good_as start_state) known.1;
+      asked = subst (λ (k : List Added). AskedStreams question profile (start_state k) turns r0 r1 w0 w1 o)
+          (is known.0 known.2) asks;
     })
 
 -- memory ran out before the first read of the trace

@@ -4,7 +4,6 @@ use Rattle.std.proofs.Common.{arith, append_assoc, true, false}
 use Rattle.std.specs.Prelude.{Result, Ok, Err, Some, None, OnOk, IfErr}
 use Rattle.std.proofs.lemmas.List.{take-append-drop, length-drop, append-nil}
 use Rattle.memchr.specs.Find.{IsFirstByte, is_byte}
-use Rattle.cap_machine.specs.State.{with_listed}
 use Rattle.cap_machine.specs.declared.cell.Cell.{Cell}
 use Rattle.cap_session.specs.Lines.{whole_lines, last_piece, line_if_any, lines}
 use Rattle.cap_session.specs.Texts.{with_line, with_lines, whole_text, refused_so_far}
@@ -12,8 +11,8 @@ use Rattle.cap_session.specs.Trace.{is_skipped}
 use Rattle.cap_session.specs.Feeds.{Reached}
 use Rattle.cap_session.specs.StartWords.{words}
 use Rattle.cap_session.specs.StartTexts.{Listed, none_listed, described, with_described, next_process, cells_from}
-use Rattle.cap_session.specs.StartTexts.{state_of, start}
-use Rattle.cap_session.specs.StartLines.{completed, TakesNumbered}
+use Rattle.cap_session.specs.StartTexts.{good_as, described_by}
+use Rattle.cap_session.specs.StartLines.{completed, process_of, TakesNumbered}
 use Rattle.cap_session.specs.declared.refused.Refusal.{Refusal}
 use Rattle.cap_session.specs.declared.refused.Refused.{Refused}
 use Rattle.cap_session.specs.declared.start_fields.Head.{Head}
@@ -49,10 +48,7 @@ cells_bad listed line low head field same counts says is =
 
 -- what is known after a line
 abbrev pub now_listed : Listed → Head → List (ℕ × Cell) → Listed
-now_listed listed head cells = record {
-  state = with_listed listed.state head.pid head.mode head.rest cells;
-  low = head.pid + 1;
-}
+now_listed listed head cells = record { added = listed.added ++ process_of head cells ∷ []; low = head.pid + 1 }
 
 pub process_added : (listed : Listed) (line : List ℕ) (low : ℕ) (head : Head) (cells : List (ℕ × Cell))
     → low ≡ listed.low → is_skipped line ≡ false →
@@ -101,7 +97,7 @@ pub through_bad : (T : Type 0) (holds after : Listed → Type 0) (bytes rest : L
     → Through holds bytes number rest → IsFirstByte (is_byte 10) rest (Some at) →
     ((known : Listed) → holds known
     → TakesNumbered {T = T} (with_line next_process known (take at rest)) after (number + 1) (Err e))
-    → start bytes ≡ Err e
+    → described_by bytes ≡ Err e
 through_bad T holds after bytes rest number at e t found takes =
     let r = t.reached in
     let bad = takes r.known r.does in
@@ -110,7 +106,8 @@ through_bad T holds after bytes rest number at e t found takes =
     let soon : refused_so_far next_process none_listed (t.front ++ rest) ≡ Some e =
     refused_line next_process none_listed holds t.front [] rest number at e.reason r found bad.0
     ∙ ap (λ (x : Refusal). Some x) one in
-    ap start t.cut ∙ ap state_of (whole_too next_process none_listed (t.front ++ rest) e soon)
+    ap described_by t.cut
+    ∙ ap (good_as (λ (listed : Listed). listed.added)) (whole_too next_process none_listed (t.front ++ rest) e soon)
 
 -- the last piece is a line, unless it is empty
 whole_end : (holds : Listed → Type 0) (bytes rest : List ℕ) (number : ℕ) → (t : Through holds bytes number rest)
@@ -152,7 +149,7 @@ last_good holds after bytes rest number (Err e) t found takes = tt
 pub last_bad : {T : Type 0} (holds after : Listed → Type 0) (bytes rest : List ℕ) (number : ℕ)
     (result : Result T Refusal) → Through holds bytes number rest → IsFirstByte (is_byte 10) rest None →
     ((known : Listed) → holds known → TakesNumbered (with_line next_process known rest) after (number + 1) result)
-    → IfErr result (λ e. start bytes ≡ Err e)
+    → IfErr result (λ e. described_by bytes ≡ Err e)
 last_bad holds after bytes rest number (Ok x) t found takes = tt
 last_bad holds after bytes [] number (Err e) t found takes =
     let bad = takes t.reached.known t.reached.does in
@@ -163,5 +160,5 @@ last_bad holds after bytes (b ∷ rest) number (Err e) t found takes =
     let bad = takes t.reached.known t.reached.does in
     let one : record { reason = e.reason; line = number + 1 } ≡ e =
     ap (λ (n : ℕ). record { reason = e.reason; line = n }) (sym bad.1) in
-    ap state_of (whole_end holds bytes (b ∷ rest) number t found
+    ap (good_as (λ (listed : Listed). listed.added)) (whole_end holds bytes (b ∷ rest) number t found
     ∙ line_bad next_process t.reached.known number e.reason (b ∷ rest) [] bad.0 ∙ ap (λ (x : Refusal). Err x) one)

@@ -3,12 +3,12 @@
 use Rattle.std.specs.Prelude.{◌≡◌, ℕ, ◌+◌, ◌≤◌, ◌⊎◌, List, Ok}
 use Rattle.std.specs.Io.KnownBytes.{Consumes, Appends}
 use Rattle.cap_trace.specs.Entry.{Entry}
-use Rattle.cap_machine.specs.State.{State}
+use Rattle.cap_machine.specs.State.{Added}
 use Rattle.cap_session.specs.Devices.{SourceState, SinkState}
 use Rattle.cap_session.specs.Outcome.{explain_read_faults, explain_write_faults}
 use Rattle.cap_session.specs.Reads.{IsEnded, UsedUp}
 use Rattle.cap_session.specs.StartStreams.{StartRejected}
-use Rattle.cap_session.specs.StartTexts.{start as start_said}
+use Rattle.cap_session.specs.StartTexts.{described_by}
 use Rattle.cap_session.specs.Streams.{IsRefusal, NamesLine, IsSilent, IsOpen, IsPrefix}
 use Rattle.cap_session.specs.Trace.{trace}
 use Rattle.cap_session.specs.Writes.{Wrote, WrotePrefix}
@@ -68,18 +68,18 @@ RejectedFirst turns z0 z1 r0 r1 w0 w1 (Ended outcome) = StartRejected turns z0 z
 RejectedFirst turns z0 z1 r0 r1 w0 w1 OutOfRange = ⊥
 
 -- The start was read to its end, no line of it is refused, and the trace was answered from it.
-pub record AnsweredFrom (says : State → Says) (turns : ℕ) (z0 z1 r0 r1 : SourceState) (w0 w1 : SinkState)
+pub record AnsweredFrom (says : List Added → Says) (turns : ℕ) (z0 z1 r0 r1 : SourceState) (w0 w1 : SinkState)
     (outcome : ExplainOutcome) : Type 0 where
   pub given : List ℕ
   pub read : Consumes z0.bytes z1.bytes given
   pub calls : z1.calls ≤ z0.calls + turns
   pub failures : z1.failures ≡ z0.failures
   pub end : IsEnded z0 z1
-  pub known : State
-  pub good : start_said given ≡ Ok known
+  pub known : List Added
+  pub good : described_by given ≡ Ok known
   pub answered : AnswerStreams (says known) turns r0 r1 w0 w1 outcome
 
-abbrev pub AnswerStartStreams : (State → Says) → ℕ → SourceState → SourceState → SourceState → SourceState → SinkState
+abbrev pub AnswerStartStreams : (List Added → Says) → ℕ → SourceState → SourceState → SourceState → SourceState → SinkState
     → SinkState → ExplainOutcome → Type 0
 AnswerStartStreams says turns z0 z1 r0 r1 w0 w1 outcome =
     RejectedFirst turns z0 z1 r0 r1 w0 w1 outcome ⊎ AnsweredFrom says turns z0 z1 r0 r1 w0 w1 outcome

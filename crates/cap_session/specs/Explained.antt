@@ -1,19 +1,16 @@
--- What each part of the code that explains a line does. Only the code's contracts use this; Explaining and
--- ExplainStreams say what a call answers.
-use Rattle.std.specs.Prelude.{◌≡◌, ℕ, ◌≤◌, Bool, IsTrue, List, length, Option, None, Some, IsOk, Err, ⊤}
+-- What each part of the code that explains a line does, and of the code that writes an answer of a trace. Only the code's
+-- contracts use this; Explaining and ExplainStreams say what a call answers.
+use Rattle.std.specs.Prelude.{◌≡◌, ℕ, ◌≤◌, Bool, IsTrue, List, length, Option, None, Some, ⊤}
 use Rattle.std.specs.List.{All}
 use Rattle.cap_trace.specs.Entry.{Entry}
-use Rattle.cap_machine.specs.declared.cell.Profile.{Profile}
 use Rattle.cap_machine.specs.declared.origin.CellLink.{CellLink}
 use Rattle.cap_machine.specs.declared.origin.ModeLink.{ModeLink}
 use Rattle.cap_machine.specs.Explain.{Explained}
 use Rattle.cap_machine.specs.Origin.{CellChain, ModeChain}
-use Rattle.cap_machine.specs.State.{State}
 use Rattle.cap_session.specs.Devices.{SinkState}
-use Rattle.cap_session.specs.Explaining.{checks_at, explained_line, IsClean}
-use Rattle.cap_session.specs.ExplainStreams.{answer_text}
+use Rattle.cap_session.specs.Explaining.{checks_at}
+use Rattle.cap_session.specs.Replies.{refused_text}
 use Rattle.cap_session.specs.Writes.{Wrote, WrotePrefix}
-use Rattle.cap_session.specs.declared.refused.Refused.TheVariants.{Position}
 use Rattle.cap_session.specs.declared.outcome.Outcome.{Outcome}
 use Rattle.cap_session.specs.declared.outcome.Outcome.TheVariants as outcomes
 use Rattle.cap_session.specs.declared.outcome.ExplainOutcome.{ExplainOutcome}
@@ -41,7 +38,7 @@ pub record FitsLine (trace : List Entry) (k : ℕ) (e : Explained) : Type 0 wher
   pub cells : All (CellStands (length trace)) e.cells
   pub mode : AnyModeStands (length trace) e.mode
 
--- What writing the text of a line does and answers, which has no finding or has some.
+-- What writing a text does and answers, which says that there is no finding, or that there are some.
 abbrev pub WritesText : List ℕ → Bool → SinkState → SinkState → Outcome → Type 0
 WritesText text clean w0 w1 outcomes.Clean = Wrote w0 w1 text × IsTrue clean
 WritesText text clean w0 w1 outcomes.Findings = Wrote w0 w1 text × (IsTrue clean → ⊥)
@@ -54,8 +51,8 @@ WritesText text clean w0 w1 outcomes.TooLong = ⊥
 
 -- What writing that there is no such line does and answers.
 abbrev pub WritesOutOfRange : SinkState → SinkState → ExplainOutcome → Type 0
-WritesOutOfRange w0 w1 OutOfRange = Wrote w0 w1 (answer_text (Err Position))
-WritesOutOfRange w0 w1 (Ended outcomes.WriteFault) = WrotePrefix w0 w1 (answer_text (Err Position))
+WritesOutOfRange w0 w1 OutOfRange = Wrote w0 w1 (refused_text 7)
+WritesOutOfRange w0 w1 (Ended outcomes.WriteFault) = WrotePrefix w0 w1 (refused_text 7)
 WritesOutOfRange w0 w1 (Ended outcomes.Clean) = ⊥
 WritesOutOfRange w0 w1 (Ended outcomes.Findings) = ⊥
 WritesOutOfRange w0 w1 (Ended outcomes.Memory) = ⊥
@@ -63,19 +60,3 @@ WritesOutOfRange w0 w1 (Ended (outcomes.Refused code line)) = ⊥
 WritesOutOfRange w0 w1 (Ended (outcomes.StartRefused code line)) = ⊥
 WritesOutOfRange w0 w1 (Ended outcomes.ReadFault) = ⊥
 WritesOutOfRange w0 w1 (Ended outcomes.TooLong) = ⊥
-
--- What writing the explanation of line k of a trace does and answers.
-abbrev pub WritesLine : State → Profile → List Entry → ℕ → SinkState → SinkState → ExplainOutcome → Type 0
-WritesLine s profile t k w0 w1 (Ended outcomes.Clean) = Wrote w0 w1 (answer_text (explained_line s profile t k))
-    × IsOk (explained_line s profile t k) × IsClean s profile t k
-WritesLine s profile t k w0 w1 (Ended outcomes.Findings) = Wrote w0 w1 (answer_text (explained_line s profile t k))
-    × IsOk (explained_line s profile t k) × (IsClean s profile t k → ⊥)
-WritesLine s profile t k w0 w1 OutOfRange = Wrote w0 w1 (answer_text (explained_line s profile t k))
-    × (explained_line s profile t k ≡ Err Position)
-WritesLine s profile t k w0 w1 (Ended outcomes.Memory) = w1 ≡ w0
-WritesLine s profile t k w0 w1 (Ended outcomes.WriteFault) =
-    WrotePrefix w0 w1 (answer_text (explained_line s profile t k))
-WritesLine s profile t k w0 w1 (Ended (outcomes.Refused code line)) = ⊥
-WritesLine s profile t k w0 w1 (Ended (outcomes.StartRefused code line)) = ⊥
-WritesLine s profile t k w0 w1 (Ended outcomes.ReadFault) = ⊥
-WritesLine s profile t k w0 w1 (Ended outcomes.TooLong) = ⊥

@@ -13,6 +13,7 @@ pub mod Laws
 pub mod LimitScriptLaws
 pub mod LimitScripts
 pub mod LimitStreams
+pub mod LimitTextLaws
 pub mod Limits
 pub mod LineEnds
 pub mod Lines

@@ -17,6 +17,8 @@ use Rattle.cap_trace.specs.Names.{name_of}
 use Rattle.cap_trace.specs.Spelling.{canon}
 use Rattle.cap_machine.specs.LimitLaws.{Row}
 use Rattle.cap_machine.specs.Report.{line_of_words}
+use Rattle.cap_machine.specs.declared.limits.Entering.{Entering}
+use Rattle.cap_machine.specs.declared.limits.Entering.TheVariants.{Inside, Blocked, May}
 use Rattle.cap_machine.specs.declared.makers.MakerLimit.{MakerLimit}
 
 -- ---- lines of a script
@@ -66,12 +68,6 @@ maker_lines limits = flat_map (λ (limit : MakerLimit). line_of_words (words_of 
 
 -- ---- of one process, before a line
 
--- whether it may enter capability mode there: it may, it is inside already, or the call at a later line is in the way
-pub data Entering : Type 0 where
-  may_enter : Entering
-  is_inside : Entering
-  blocked : ℕ → Entering
-
 -- `process 2101 before line 4`
 abbrev pub place_words : ℕ → ℕ → List (List ℕ)
 place_words p k = codes "process" ∷ decimal p ∷ codes "before line" ∷ decimal k ∷ []
@@ -85,17 +81,20 @@ unknown_words row =
 abbrev pub inside_words : ℕ → List (List ℕ)
 inside_words p = codes "process" ∷ decimal p ∷ codes "is in capability mode already" ∷ []
 
+-- `, openat of process 2102`
+abbrev pub call_text : Option Entry → List ℕ
+call_text None = []
+call_text (Some line) = codes ", " ++ name_of (head_of line.item) ++ codes " of process " ++ decimal line.pid
+
 -- `no cap_enter: line 5, openat of process 2102`
 abbrev pub blocked_words : ℕ → Option Entry → List (List ℕ)
-blocked_words n None = codes "no cap_enter: line" ∷ decimal n ∷ []
-blocked_words n (Some line) = codes "no cap_enter: line" ∷ (decimal n ++ codes ",") ∷ name_of (head_of line.item)
-    ∷ codes "of process" ∷ decimal line.pid ∷ []
+blocked_words n line = codes "no cap_enter: line" ∷ (decimal n ++ call_text line) ∷ []
 
 -- what is said of entering, or its line inserted at a position
 abbrev pub entering_line : List Entry → ℕ → ℕ → Entering → ScriptLine
-entering_line trace p at may_enter = insertion at (enter_line p)
-entering_line trace p at is_inside = comment (inside_words p)
-entering_line trace p at (blocked n) = comment (blocked_words n (slice_get trace (n - 1)))
+entering_line trace p at May = insertion at (enter_line p)
+entering_line trace p at Inside = comment (inside_words p)
+entering_line trace p at (Blocked n) = comment (blocked_words n (slice_get trace (n - 1)))
 
 abbrev pub unknown_lines : List Row → List ScriptLine
 unknown_lines unknown = map (λ (row : Row). comment (unknown_words row)) unknown

@@ -1,22 +1,50 @@
 -- What the limits of a trace say of it: the script of limits, which comes in the outcome Clean.
-use Rattle.std.specs.Prelude.{◌≡◌, ℕ, List}
+use Rattle.std.specs.Prelude.{◌≡◌, ◌⊎◌, ◌<◌, ℕ, List, length, map, Option, Some, None}
 use Rattle.cap_trace.specs.Entry.{Entry}
 use Rattle.cap_machine.specs.declared.cell.Profile.{Profile}
+use Rattle.cap_machine.specs.declared.limits.Limits.{Limits}
 use Rattle.cap_machine.specs.declared.makers.MakerLimit.{MakerLimit}
+use Rattle.cap_machine.specs.Limits.{row_of}
+use Rattle.cap_machine.specs.LimitsBefore.{AreLimitsBefore}
 use Rattle.cap_machine.specs.Makers.{AreMakerLimits}
-use Rattle.cap_machine.specs.State.{State}
+use Rattle.cap_machine.specs.State.{Added}
 use Rattle.cap_machine.specs.Steps.{steps}
+use Rattle.cap_machine.specs.Table.{start_state}
 use Rattle.cap_session.specs.AnswerStreams.{Says}
-use Rattle.cap_session.specs.LimitScripts.{script_text, makers_script}
+use Rattle.cap_session.specs.LimitScripts.{ScriptLine, script_text, makers_script, process_script}
+use Rattle.cap_session.specs.Replies.{refused_text}
 use Rattle.cap_session.specs.declared.outcome.Outcome.TheVariants as outcomes
-use Rattle.cap_session.specs.declared.outcome.ExplainOutcome.TheVariants.{Ended}
+use Rattle.cap_session.specs.declared.outcome.ExplainOutcome.TheVariants.{Ended, OutOfRange}
+
+-- the script of the limits of a process before line k of a trace
+abbrev pub limits_script : List Entry → ℕ → Limits → List ScriptLine
+limits_script t k limits = process_script t limits.pid k (map row_of limits.held.items) (map row_of limits.unknown.items)
+    limits.entering
 
 -- The text is the script of the least rights of each descriptor that the trace makes, from a start in a profile.
-pub record IsMakersText (profile : Profile) (s : State) (t : List Entry) (text : List ℕ) : Type 0 where
+pub record IsMakersText (profile : Profile) (start : List Added) (t : List Entry) (text : List ℕ) : Type 0 where
   pub limits : List MakerLimit
-  pub least : AreMakerLimits s 1 (steps profile t) limits
+  pub least : AreMakerLimits (start_state start) 1 (steps profile t) limits
   pub is : text ≡ script_text (makers_script limits)
 
-abbrev pub makers_say : Profile → State → Says
-makers_say profile s t (Ended outcomes.Clean) text = IsMakersText profile s t text
-makers_say profile s t _ text = ⊥
+-- The text is the script of the least rights of the descriptors of the process of line k, before that line.
+pub record IsProcessText (profile : Profile) (start : List Added) (t : List Entry) (k : ℕ) (text : List ℕ) : Type 0 where
+  pub limits : Limits
+  pub least : AreLimitsBefore profile start t k (Some limits)
+  pub is : text ≡ script_text (limits_script t k limits)
+
+-- behind the lines that made descriptors, or before a line
+abbrev pub IsLimitsText : Profile → Option ℕ → List Added → List Entry → List ℕ → Type 0
+IsLimitsText profile None start t text = IsMakersText profile start t text
+IsLimitsText profile (Some k) start t text = IsProcessText profile start t k text
+
+-- a position was asked for at which the trace has no line
+abbrev pub IsOutside : Option ℕ → List Entry → Type 0
+IsOutside None t = ⊥
+IsOutside (Some k) t = (k ≡ 0) ⊎ (length t < k)
+
+-- `refused E7` where the trace has no such line, and else the script
+abbrev pub limits_say : Profile → Option ℕ → List Added → Says
+limits_say profile at start t (Ended outcomes.Clean) text = IsLimitsText profile at start t text
+limits_say profile at start t OutOfRange text = IsOutside at t × (text ≡ refused_text 7)
+limits_say profile at start t _ text = ⊥

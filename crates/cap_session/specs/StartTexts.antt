@@ -3,14 +3,15 @@
 -- A line is about one process, in words with one space between: its pid, its mode, the cell of each descriptor that
 -- isn't listed, and the listed descriptors, each with its cell: `100 out closed 0=ALL 3=CAP_READ|CAP_SEEK 5=unknown`.
 -- Pids rise from line to line, and descriptors within a line. Empty lines and lines that begin with `#` are skipped.
-use Rattle.std.specs.Prelude.{ℕ, ◌+◌, nat_le, List, [], ◌∷◌, drop, codes, if◌then◌else◌, Result, Ok, Err, Option, None}
+use Rattle.std.specs.Prelude.{ℕ, ◌+◌, nat_le, List, [], ◌∷◌, ◌++◌, drop, codes, if◌then◌else◌, Result, Ok, Err, Option, None}
 use Rattle.std.specs.Prelude.{Some, option_map, option_and_then}
 use Rattle.std.specs.Str.{bytes_eq}
 use Rattle.std.specs.List.{slice_get}
 use Rattle.cap_rights.specs.Text.{names}
 use Rattle.cap_trace.specs.Number.{num_at}
 use Rattle.cap_trace.specs.Quotes.{cut_at_byte}
-use Rattle.cap_machine.specs.State.{State, usual, with_listed}
+use Rattle.cap_machine.specs.State.{State, Added}
+use Rattle.cap_machine.specs.Table.{start_state}
 use Rattle.cap_machine.specs.declared.cell.Cell.{Cell}
 use Rattle.cap_machine.specs.declared.cell.Cell.TheVariants.{Unknown, Closed, Held}
 use Rattle.cap_machine.specs.declared.cell.Mode.{Mode}
@@ -85,15 +86,8 @@ cells_from low (word ∷ words) = do
   others ← cells_from (first.0 + 1) words
   Ok (first ∷ others)
 
--- what a line says of a process
-pub record Described : Type 0 where
-  pub pid : ℕ
-  pub mode : Mode
-  pub rest : Cell
-  pub cells : List (ℕ × Cell)
-
--- A process whose pid is `low` at least. A mode or a cell that is missing is a bad argument.
-unfoldable pub described : ℕ → List (List ℕ) → Result Described Refused
+-- What a line says of a process, whose pid is `low` at least. A mode or a cell that is missing is a bad argument.
+unfoldable pub described : ℕ → List (List ℕ) → Result Added Refused
 described low words = do
   pid ← need bad.Pid (option_and_then (number_spelled low 99999) (slice_get words 0))
   mode ← need bad.Argument (option_and_then mode_spelled (slice_get words 1))
@@ -103,17 +97,16 @@ described low words = do
 
 -- ---- the text
 
--- the state so far, and the least pid that may come next
+-- what the lines so far say, and the least pid that may come next
 pub record Listed : Type 0 where
-  pub state : State
+  pub added : List Added
   pub low : ℕ
 
 abbrev pub none_listed : Listed
-none_listed = record { state = usual; low = 1 }
+none_listed = record { added = []; low = 1 }
 
-abbrev pub with_described : Listed → Result Described Refused → Result Listed Refused
-with_described listed (Ok d) =
-    Ok (record { state = with_listed listed.state d.pid d.mode d.rest d.cells; low = d.pid + 1 })
+abbrev pub with_described : Listed → Result Added Refused → Result Listed Refused
+with_described listed (Ok d) = Ok (record { added = listed.added ++ d ∷ []; low = d.pid + 1 })
 with_described listed (Err field) = Err field
 
 -- A line is skipped, or adds a process, or is refused for its first bad field.
@@ -121,13 +114,17 @@ unfoldable pub next_process : Listed → List ℕ → Result Listed Refused
 next_process listed line = if is_skipped line then Ok listed
     else with_described listed (described listed.low (words line))
 
-abbrev pub state_of : Result Listed Refusal → Result State Refusal
-state_of (Ok listed) = Ok listed.state
-state_of (Err e) = Err e
+abbrev pub good_as : {A B : Type 0} → (A → B) → Result A Refusal → Result B Refusal
+good_as f (Ok x) = Ok (f x)
+good_as f (Err e) = Err e
 
--- the start that a whole text says, or its first refused line
+-- what a whole text says of each process, or its first refused line
+abbrev pub described_by : List ℕ → Result (List Added) Refusal
+described_by text = good_as (λ (listed : Listed). listed.added) (whole_text next_process none_listed text)
+
+-- the start that it says
 abbrev pub start : List ℕ → Result State Refusal
-start text = state_of (whole_text next_process none_listed text)
+start text = good_as start_state (described_by text)
 
 -- the first refused line of a text whose end isn't reached: one with its LF, or a last piece that is too long
 abbrev pub start_soon : List ℕ → Option Refusal

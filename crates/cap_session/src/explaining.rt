@@ -6,13 +6,14 @@ ghost use Rattle.std.specs.Prelude.{◌≡◌, ◌^◌, ◌≤◌, length};
 ghost use Rattle.cap_machine.specs.State.{usual};
 ghost use Rattle.cap_machine.specs.Table.{start_state};
 ghost use Rattle.cap_machine.specs.declared.cell.Profile.TheVariants.{One};
-ghost use Rattle.cap_session.specs.Explained.{WritesLine, WritesText, WritesOutOfRange};
-ghost use Rattle.cap_session.specs.ExplainStreams.{ExplainStreams, ExplainStartStreams};
+ghost use Rattle.cap_session.specs.AnswerStreams.{WritesAnswer};
+ghost use Rattle.cap_session.specs.Explained.{WritesText, WritesOutOfRange};
+ghost use Rattle.cap_session.specs.ExplainStreams.{explain_says, ExplainStreams, ExplainStartStreams};
 
 use crate::check::write_stop;
 use crate::devices::{Sink, Source};
 use crate::entries::{Keep, read_trace};
-use crate::explained::{ExplainedLine, explain_among};
+use crate::explained::explain_among;
 use crate::from_start::write_start_stop;
 use crate::outcome::{ExplainOutcome, Outcome};
 use crate::refused::Refused;
@@ -45,14 +46,14 @@ impl Keep for Vec<Line> {
     }
 }
 
-/// Writes an explanation.
-fn write_line<W: Sink>(line: &ExplainedLine, writer: &mut W) -> Outcome
+/// Writes a text that answers what was asked of a trace, and says whether something was found.
+pub fn write_answer<W: Sink>(text: &[u8], is_clean: bool, writer: &mut W) -> Outcome
     requires { 1 ≤ (W.state writer.old).room }
-    ensures { WritesText line.now.text.items line.now.is_clean (W.state writer.old) (W.state writer.new) result }
+    ensures { WritesText text.now is_clean (W.state writer.old) (W.state writer.new) result }
 {
-    if write_text(writer, line.text.as_slice()).is_err() {
+    if write_text(writer, text).is_err() {
         Outcome::WriteFault
-    } else if line.is_clean {
+    } else if is_clean {
         Outcome::Clean
     } else {
         Outcome::Findings
@@ -60,7 +61,7 @@ fn write_line<W: Sink>(line: &ExplainedLine, writer: &mut W) -> Outcome
 }
 
 /// Writes that no line stands at the position.
-fn write_out_of_range<W: Sink>(writer: &mut W) -> ExplainOutcome
+pub fn write_out_of_range<W: Sink>(writer: &mut W) -> ExplainOutcome
     requires { 1 ≤ (W.state writer.old).room }
     ensures { WritesOutOfRange (W.state writer.old) (W.state writer.new) result }
 {
@@ -81,11 +82,15 @@ fn write_explained<W: Sink>(
     writer: &mut W,
 ) -> ExplainOutcome
     requires { 1 ≤ (W.state writer.old).room }
-    ensures { WritesLine (start_state start.now) profile lines.now.items position (W.state writer.old)
+    ensures { WritesAnswer (explain_says profile position (start_state start.now) lines.now.items) (W.state writer.old)
         (W.state writer.new) result }
 {
     match explain_among(alloc, profile, start, lines, position) {
-        Ok(line) => ExplainOutcome::Ended(write_line(&line, writer)),
+        Ok(line) => ExplainOutcome::Ended(write_answer(
+            line.text.as_slice(),
+            line.is_clean,
+            writer,
+        )),
         Err(Refused::Position) => write_out_of_range(writer),
         Err(_) => ExplainOutcome::Ended(Outcome::Memory),
     }

@@ -67,7 +67,8 @@ pub use laws::{
     good_is_reported, pieces_agree, script_leaves_what_edits_give, script_reports_what_edits_give,
 };
 pub use limit_laws::{
-    makers_script_is_accepted, process_script_is_accepted, process_script_stands,
+    entering_before_is_forbidden, limits_script_is_accepted, limits_script_is_enough,
+    limits_script_is_least, read_texts_are_spelled,
 };
 pub use limiting::limits_stream;
 pub use limits::{LONGEST_LINE, LONGEST_PIECE, LONGEST_SCRIPT_LINE, MOST_LINES};

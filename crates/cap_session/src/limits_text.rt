@@ -1,15 +1,23 @@
 //! The limits of a trace as the text of a script that puts them in.
-ghost use Rattle.std.specs.Prelude.{◌≡◌, ◌++◌, ◌<◌, ◌^◌, length, IfOk, OnOk};
+ghost use Rattle.std.specs.Prelude.{◌≡◌, ◌⊎◌, ◌↔◌, ◌++◌, ◌+◌, ◌<◌, ◌^◌, length, map, IfOk, OnOk, OnErr, IsTrue, Err, List};
+ghost use Rattle.std.specs.Prelude.{option_copied};
 ghost use Rattle.std.specs.List.{All};
+ghost use Rattle.cap_trace.specs.Entry.{Entry};
 ghost use Rattle.cap_trace.specs.Spelling.{canon};
+ghost use Rattle.cap_machine.specs.Limits.{row_of};
 ghost use Rattle.cap_machine.specs.Report.{line_of_words};
-ghost use Rattle.cap_machine.specs.Table.{start_state};
 ghost use Rattle.cap_machine.specs.declared.makers.MakerLimit.{MakerLimit};
-ghost use Rattle.cap_session.specs.LimitScripts.{limit_line, maker_line, maker_lines, words_of};
-ghost use Rattle.cap_session.specs.LimitStreams.{IsMakersText};
+ghost use Rattle.cap_session.specs.LimitScripts.{limit_line, enter_line, maker_line, maker_lines, words_of, comment};
+ghost use Rattle.cap_session.specs.LimitScripts.{insertion, insertions, script_text, place_words, unknown_words};
+ghost use Rattle.cap_session.specs.LimitScripts.{unknown_lines, inside_words, blocked_words, call_text, entering_line};
+ghost use Rattle.cap_session.specs.LimitStreams.{limits_script, IsMakersText, IsProcessText, IsLimitsText, IsOutside};
 
+use crate::refused::Refused;
+use crate::session::is_position;
 use crate::wording::put_number;
-use cap_machine::{MakerLimit, NoMemory, Profile, Start, limits_of_makers};
+use cap_machine::{
+    Entering, Limit, Limits, MakerLimit, NoMemory, Profile, Start, limits_before, limits_of_makers,
+};
 use cap_rights::{RightSet, write_rights};
 use cap_trace::{Fd, Line, Pid};
 use std::alloc::Global;
@@ -28,17 +36,31 @@ fn put_limit(out: &mut Vec<u8>, pid: Pid, fd: Fd, rights: &RightSet) -> Result<(
     Ok(())
 }
 
+/// Appends the line of a script that puts a limit in at a position.
+fn put_insertion(
+    out: &mut Vec<u8>,
+    at: usize,
+    pid: Pid,
+    fd: Fd,
+    rights: &RightSet,
+) -> Result<(), NoMemory>
+    ensures { OnOk result (out.new.items
+        ≡ out.old.items ++ line_of_words (words_of (insertion at (limit_line pid (fd, rights.now))))) }
+{
+    out.extend_from_slice(b"insert ")?;
+    put_number(out, at as u64)?;
+    out.extend_from_slice(b" ")?;
+    put_limit(out, pid, fd, rights)?;
+    out.extend_from_slice(b"\n")?;
+    Ok(())
+}
+
 /// Appends the line of a script that puts a limit right behind the line that made its descriptor.
 fn put_maker(out: &mut Vec<u8>, limit: &MakerLimit) -> Result<(), NoMemory>
     requires { limit.now.at < 2 ^ 63 }
     ensures { OnOk result (out.new.items ≡ out.old.items ++ line_of_words (words_of (maker_line limit.now))) }
 {
-    out.extend_from_slice(b"insert ")?;
-    put_number(out, limit.at as u64 + 1)?;
-    out.extend_from_slice(b" ")?;
-    put_limit(out, limit.pid, limit.fd, &limit.rights)?;
-    out.extend_from_slice(b"\n")?;
-    Ok(())
+    put_insertion(out, limit.at + 1, limit.pid, limit.fd, &limit.rights)
 }
 
 /// The script of limits that each stand right behind a line.
@@ -54,16 +76,217 @@ fn script_of(alloc: Global, limits: &[MakerLimit]) -> Result<Vec<u8>, NoMemory>
 }
 
 /// The script of the least rights of each descriptor that a trace makes, right behind the line that made it.
-pub fn makers_text(
+fn makers_text(
     alloc: Global,
     profile: Profile,
     start: &Start,
     lines: &Vec<Line>,
 ) -> Result<Vec<u8>, NoMemory>
-    ensures { IfOk result
-        (λ text. IsMakersText profile (start_state start.now) lines.now.items text.items) }
+    ensures { IfOk result (λ text. IsMakersText profile start.now lines.now.items text.items) }
 {
     let limits = limits_of_makers(alloc, profile, start, lines.as_slice())?;
     let text = script_of(alloc, limits.as_slice())?;
     Ok(text)
+}
+
+/// Appends the comment that says of which process the limits are, and before which line.
+fn put_place(out: &mut Vec<u8>, pid: Pid, at: usize) -> Result<(), NoMemory>
+    ensures { OnOk result (out.new.items ≡ out.old.items ++ line_of_words (words_of (comment (place_words pid at)))) }
+{
+    out.extend_from_slice(b"# process ")?;
+    put_number(out, u64::from(pid))?;
+    out.extend_from_slice(b" before line ")?;
+    put_number(out, at as u64)?;
+    out.extend_from_slice(b"\n")?;
+    Ok(())
+}
+
+/// Appends the limits of a process, the first put in at a position and each other behind the one before.
+fn put_limits(out: &mut Vec<u8>, at: usize, pid: Pid, limits: &[Limit]) -> Result<(), NoMemory>
+    requires { at + length limits.now < 2 ^ 64 }
+    ensures { OnOk result (out.new.items
+        ≡ out.old.items ++ script_text (insertions at (map (limit_line pid) (map row_of limits.now)))) }
+{
+    let mut next = at;
+    for limit in limits {
+        put_insertion(out, next, pid, limit.fd, &limit.rights)?;
+        next += 1;
+    }
+    Ok(())
+}
+
+/// Appends the comment that says what later calls need of a descriptor of which nothing is known.
+fn put_needed(out: &mut Vec<u8>, limit: &Limit) -> Result<(), NoMemory>
+    ensures { OnOk result (out.new.items
+        ≡ out.old.items ++ line_of_words (words_of (comment (unknown_words (row_of limit.now))))) }
+{
+    out.extend_from_slice(b"# descriptor ")?;
+    put_number(out, u64::from(limit.fd))?;
+    out.extend_from_slice(b" isn't known; later calls need ")?;
+    write_rights(&limit.rights, out)?;
+    out.extend_from_slice(b"\n")?;
+    Ok(())
+}
+
+/// Appends such a comment for each of these.
+fn put_unknown(out: &mut Vec<u8>, limits: &[Limit]) -> Result<(), NoMemory>
+    ensures { OnOk result (out.new.items
+        ≡ out.old.items ++ script_text (unknown_lines (map row_of limits.now))) }
+{
+    for limit in limits {
+        put_needed(out, limit)?;
+    }
+    Ok(())
+}
+
+/// Appends the line by which a process enters capability mode.
+fn put_enter(out: &mut Vec<u8>, pid: Pid) -> Result<(), NoMemory>
+    ensures { OnOk result (out.new.items ≡ out.old.items ++ canon (enter_line pid)) }
+{
+    put_number(out, u64::from(pid))?;
+    out.extend_from_slice(b" cap_enter() RET ")?;
+    put_number(out, 0)?;
+    Ok(())
+}
+
+/// Appends the line of a script by which a process enters capability mode at a position.
+fn put_entry(out: &mut Vec<u8>, at: usize, pid: Pid) -> Result<(), NoMemory>
+    ensures { OnOk result (out.new.items ≡ out.old.items ++ line_of_words (words_of (insertion at (enter_line pid)))) }
+{
+    out.extend_from_slice(b"insert ")?;
+    put_number(out, at as u64)?;
+    out.extend_from_slice(b" ")?;
+    put_enter(out, pid)?;
+    out.extend_from_slice(b"\n")?;
+    Ok(())
+}
+
+/// Appends the comment that says that a process is in capability mode already.
+fn put_inside(out: &mut Vec<u8>, pid: Pid) -> Result<(), NoMemory>
+    ensures { OnOk result (out.new.items ≡ out.old.items ++ line_of_words (words_of (comment (inside_words pid)))) }
+{
+    out.extend_from_slice(b"# process ")?;
+    put_number(out, u64::from(pid))?;
+    out.extend_from_slice(b" is in capability mode already\n")?;
+    Ok(())
+}
+
+/// Appends the call and the process of the line that is in the way.
+fn put_call(out: &mut Vec<u8>, line: Option<&Line>) -> Result<(), NoMemory>
+    ensures { OnOk result (out.new.items ≡ out.old.items ++ call_text (option_copied line.entry)) }
+{
+    if let Some(line) = line {
+        out.extend_from_slice(b", ")?;
+        out.extend_from_slice(line.name())?;
+        out.extend_from_slice(b" of process ")?;
+        put_number(out, u64::from(line.pid()))?;
+    }
+    Ok(())
+}
+
+/// Appends the comment that says which line is in the way of capability mode.
+fn put_blocked(out: &mut Vec<u8>, at: usize, line: Option<&Line>) -> Result<(), NoMemory>
+    ensures { OnOk result (out.new.items
+        ≡ out.old.items ++ line_of_words (words_of (comment (blocked_words at (option_copied line.entry))))) }
+{
+    out.extend_from_slice(b"# no cap_enter: line ")?;
+    put_number(out, at as u64)?;
+    put_call(out, line)?;
+    out.extend_from_slice(b"\n")?;
+    Ok(())
+}
+
+/// Appends what is said of a process's entering capability mode, or its line, put in at a position.
+fn put_entering(
+    out: &mut Vec<u8>,
+    lines: &[Line],
+    pid: Pid,
+    at: usize,
+    entering: Entering,
+) -> Result<(), NoMemory>
+    ensures { OnOk result (out.new.items
+        ≡ out.old.items ++ line_of_words (words_of (entering_line lines.now pid at entering))) }
+{
+    match entering {
+        Entering::May => put_entry(out, at, pid),
+        Entering::Inside => put_inside(out, pid),
+        Entering::Blocked(line) => put_blocked(out, line, lines.get(line.saturating_sub(1))),
+    }
+}
+
+/// The script of the limits of a process before the line at a position.
+fn limits_text(
+    alloc: Global,
+    lines: &[Line],
+    at: usize,
+    limits: &Limits,
+) -> Result<Vec<u8>, NoMemory>
+    requires { at + length limits.now.held.items < 2 ^ 64 }
+    ensures { IfOk result (λ text. text.items ≡ script_text (limits_script lines.now at limits.now)) }
+{
+    let held = limits.held.as_slice();
+    let mut text = Vec::new(alloc);
+    put_place(&mut text, limits.pid, at)?;
+    put_limits(&mut text, at, limits.pid, held)?;
+    put_unknown(&mut text, limits.unknown.as_slice())?;
+    put_entering(
+        &mut text,
+        lines,
+        limits.pid,
+        at + held.len(),
+        limits.entering,
+    )?;
+    Ok(text)
+}
+
+/// Whether a position was asked for at which a trace of so many lines has none.
+pub fn is_outside(at: Option<usize>, count: usize) -> bool
+    ensures { (lines : List Entry) → length lines ≡ count → IsTrue result ↔ IsOutside at lines }
+{
+    match at {
+        Some(at) => !is_position(at, count),
+        None => false,
+    }
+}
+
+/// The script of the least rights of the descriptors of the process of a line, before that line.
+fn process_text(
+    alloc: Global,
+    profile: Profile,
+    start: &Start,
+    lines: &[Line],
+    at: usize,
+) -> Result<Vec<u8>, Refused>
+    ensures text { IfOk result (λ text. IsProcessText profile start.now lines.now at text.items) }
+    ensures position { (result ≡ Err Refused.Position) ↔ IsOutside (Some at) lines.now }
+    ensures only { OnErr result ((result ≡ Err Refused.Position) ⊎ (result ≡ Err Refused.Memory)) }
+{
+    if is_outside(Some(at), lines.len()) {
+        return Err(Refused::Position);
+    }
+    let Some(limits) = limits_before(alloc, profile, start, lines, at)? else {
+        return Err(Refused::Position);
+    };
+    Ok(limits_text(alloc, lines, at, &limits)?)
+}
+
+/// The script of the least rights of a trace: right behind each line that made a descriptor; or before the line at a
+/// position, of the descriptors of its process.
+///
+/// `Position` where no line stands there, and `Memory` where memory runs out.
+pub fn limits_among(
+    alloc: Global,
+    profile: Profile,
+    start: &Start,
+    lines: &Vec<Line>,
+    at: Option<usize>,
+) -> Result<Vec<u8>, Refused>
+    ensures text { IfOk result (λ text. IsLimitsText profile at start.now lines.now.items text.items) }
+    ensures position { (result ≡ Err Refused.Position) ↔ IsOutside at lines.now.items }
+    ensures only { OnErr result ((result ≡ Err Refused.Position) ⊎ (result ≡ Err Refused.Memory)) }
+{
+    match at {
+        Some(at) => process_text(alloc, profile, start, lines.as_slice(), at),
+        None => Ok(makers_text(alloc, profile, start, lines)?),
+    }
 }

@@ -13,6 +13,7 @@ ghost use Rattle.cap_machine.specs.Table.{start_state};
 ghost use Rattle.cap_machine.specs.declared.cell.Profile.TheVariants.{One};
 ghost use Rattle.cap_session.specs.Edits.{is_position, inserted, deleted, replaced, loaded, edited, after, answers};
 ghost use Rattle.cap_session.specs.Explaining.{explained_line, IsClean};
+ghost use Rattle.cap_session.specs.LimitStreams.{IsLimitsText, IsOutside};
 ghost use Rattle.cap_session.specs.Limits.{most_lines};
 ghost use Rattle.cap_session.specs.Replies.{shown, is_range, ranged, range_report};
 ghost use Rattle.cap_session.specs.Session.{SessionState, RefusesExactly, ran_out, lines_of, lines_at, IsIn, IsKept};
@@ -25,8 +26,9 @@ use crate::denied::denials_of;
 use crate::edit::Edit;
 use crate::explained::{ExplainedLine, line_explained};
 use crate::found::text_of;
+use crate::limits_text::{is_outside, limits_among};
 use crate::refused::Refused;
-use crate::steps::{step_of, steps_of};
+use crate::steps::{copies_of, step_of, steps_of};
 use cap_machine::{NoMemory, Profile, Start, Step};
 use cap_summary::{Summary, explain, resolve, resolve_range};
 use cap_trace::{Line, parse_line, write_line};
@@ -339,6 +341,37 @@ impl Session {
         ensures only { IsOkUnless result Refused.Memory }
     {
         Ok(denials_of(self.alloc, self.profile, start, &self.tree)?)
+    }
+
+    /// The script of the limits that the trace needs, under the usual start: right behind each line that made a
+    /// descriptor; or before the line at a position, from 1, of the descriptors of its process. `limits_stream` says
+    /// more. It copies the lines.
+    ///
+    /// `Position` where no line stands at the position, and `Memory` where memory runs out.
+    pub fn limits(&self, at: Option<usize>) -> Result<Vec<u8>, Refused>
+        ensures text { IfOk result (λ text. IsLimitsText self.now.profile at [] self.now.trace text.items) }
+        ensures position { (result ≡ Err Refused.Position) ↔ IsOutside at self.now.trace }
+        ensures only { OnErr result ((result ≡ Err Refused.Position) ⊎ (result ≡ Err Refused.Memory)) }
+    {
+        let start = Start::unknown(self.alloc);
+        let text = self.limits_from(at, &start);
+        drop(start);
+        text
+    }
+
+    /// The script of the limits that the trace needs, as `limits` answers it, under another start.
+    ///
+    /// `Position` where no line stands at the position, and `Memory` where memory runs out.
+    pub fn limits_from(&self, at: Option<usize>, start: &Start) -> Result<Vec<u8>, Refused>
+        ensures text { IfOk result (λ text. IsLimitsText self.now.profile at start.now self.now.trace text.items) }
+        ensures position { (result ≡ Err Refused.Position) ↔ IsOutside at self.now.trace }
+        ensures only { OnErr result ((result ≡ Err Refused.Position) ⊎ (result ≡ Err Refused.Memory)) }
+    {
+        if is_outside(at, self.count()) {
+            return Err(Refused::Position);
+        }
+        let lines = copies_of(self.alloc, &self.tree)?;
+        limits_among(self.alloc, self.profile, start, &lines, at)
     }
 
     /// The text of all findings under a start.

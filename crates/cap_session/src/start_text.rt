@@ -1,10 +1,11 @@
 //! Start texts: what was known of each process before a trace, read line by line ([`parse_start`], `read_start`).
-ghost use Rattle.std.specs.Prelude.{◌≡◌, ◌↔◌, ◌+◌, ◌^◌, ◌<◌, ◌≤◌, Ok, Err, IfOk, IfErr, OnOk, IsOk};
-ghost use Rattle.cap_machine.specs.State.{State, with_listed};
+ghost use Rattle.std.specs.Prelude.{◌≡◌, ◌↔◌, ◌+◌, ◌^◌, ◌<◌, ◌≤◌, List, [], ◌∷◌, ◌++◌, Ok, Err, IfOk, IfErr, OnOk};
+ghost use Rattle.std.specs.Prelude.{IsOk};
+ghost use Rattle.cap_machine.specs.State.{Added};
 ghost use Rattle.cap_machine.specs.Table.{start_state};
 ghost use Rattle.cap_session.specs.Reads.{Reads};
 ghost use Rattle.cap_session.specs.StartTexts.{Listed, none_listed, next_process, cells_from, start as start_said};
-ghost use Rattle.cap_session.specs.StartTexts.{start_soon};
+ghost use Rattle.cap_session.specs.StartTexts.{described_by, start_soon};
 ghost use Rattle.cap_session.specs.StartLines.{StandsFor, Follows, Holds, Adds, TakesNumbered};
 ghost use Rattle.cap_session.specs.StartParsed.{fault_of, Parses};
 ghost use Rattle.cap_session.specs.Texts.{with_line, whole_text};
@@ -74,8 +75,8 @@ impl Starting {
         rest: Cell,
         cells: Vec<(Fd, Cell)>,
     ) -> Result<(), NoMemory>
-        ensures added { (s : State) → StandsFor self.old.kept s
-            → OnOk result (StandsFor self.new.kept (with_listed s pid mode rest cells.items)) }
+        ensures added { (added : List Added) → StandsFor self.old.kept added → OnOk result (StandsFor self.new.kept
+            (added ++ (record { pid = pid; mode = mode; rest = rest; cells = cells.items }) ∷ [])) }
         ensures low { self.new.low ≡ self.old.low }
     {
         match &mut self.kept {
@@ -125,7 +126,7 @@ impl Starting {
         requires first { Follows self.old.kept self.old.low none_listed }
         ensures good { OnOk result ((known : Listed) × (whole_text next_process none_listed bytes.now ≡ Ok known)
             × Follows self.new.kept self.new.low known) }
-        ensures bad { IfErr result (λ e. start_said bytes.now ≡ Err e) }
+        ensures bad { IfErr result (λ e. described_by bytes.now ≡ Err e) }
     {
         let mut before: usize = 0;
         let mut rest = bytes;
@@ -164,7 +165,7 @@ impl Lines for Starting {
 
 /// Reads a start text from its bytes.
 fn read_bytes(alloc: Global, bytes: &[u8]) -> Result<Start, StartFault>
-    ensures { Parses (start_said bytes.now) result }
+    ensures { Parses (described_by bytes.now) result }
 {
     let mut starting = Starting::new(alloc);
     starting.text(bytes)?;
@@ -175,7 +176,7 @@ fn read_bytes(alloc: Global, bytes: &[u8]) -> Result<Start, StartFault>
 pub fn read_start<R: Source>(alloc: Global, turns: u64, reader: &mut R) -> Result<Start, Stop>
     requires turns { turns ≤ 2 ^ 32 }
     requires calls { turns ≤ (R.state reader.old).room }
-    ensures { Reads start_said start_soon (λ start s. start_state start ≡ s) turns (R.state reader.old)
+    ensures { Reads described_by start_soon (λ start known. start ≡ known) turns (R.state reader.old)
         (R.state reader.new) result }
 {
     let starting = read_text(alloc, turns, reader, Starting::new(alloc))?;
@@ -207,6 +208,7 @@ pub fn read_start<R: Source>(alloc: Global, turns: u64, reader: &mut R) -> Resul
 /// assert_eq!(start.mode(100), Mode::Outside);
 /// ```
 pub fn parse_start(alloc: Global, bytes: &[u8]) -> Result<Start, StartFault>
+    ensures described { IfOk result (λ start. described_by bytes.now ≡ Ok start) }
     ensures good { IfOk result (λ start. start_said bytes.now ≡ Ok (start_state start)) }
     ensures bad { (e : Refusal) → (result ≡ Err (fault_of e)) ↔ (start_said bytes.now ≡ Err e) }
     ensures memory { result ≡ Err StartFault.Memory → IsOk (start_said bytes.now) }

@@ -1,9 +1,8 @@
-use Rattle.cap_machine.specs.Table.{start_state}
 use Rattle.cap_session.proofs.StartRejecting.{start_rejected, start_taken}
 use Rattle.cap_session.proofs.from_start.ask_stream_from.Goals as goal
 
 pub returns-in-Ok : goal.returns-in-Ok
-returns-in-Ok g c = start_taken _ _ _ _ _ _ _ _ _ _ c.in-Ok.known (start_state c.in-Ok.known) _ c.in-Ok.ensures
+returns-in-Ok g c = start_taken _ _ _ _ _ _ _ _ _ _ c.in-Ok.known c.in-Ok.known _ c.in-Ok.ensures
     (λ known is. is) c.ask_from-outcome.ensures
 
 pub returns-in-Err : goal.returns-in-Err

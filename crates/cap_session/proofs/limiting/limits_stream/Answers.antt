@@ -1,12 +1,11 @@
-use Rattle.cap_machine.specs.Table.{start_state}
-use Rattle.cap_session.specs.LimitStreams.{makers_say}
+use Rattle.cap_session.specs.LimitStreams.{limits_say}
 use Rattle.cap_session.proofs.AnswersTrace.{answer_not_started, answer_started}
 use Rattle.cap_session.proofs.limiting.limits_stream.Goals as goal
 
 pub returns-in-Ok : goal.returns-in-Ok
-returns-in-Ok g c = answer_started (makers_say c.args.profile) _ _ _ _ _ _ _ _ c.in-Ok.known
-    (start_state c.in-Ok.known) _ c.in-Ok.ensures (λ known is. is) c.limits_under-outcome.ensures
+returns-in-Ok g c = answer_started (limits_say c.args.profile c.args.at) _ _ _ _ _ _ _ _ c.in-Ok.known c.in-Ok.known _
+    c.in-Ok.ensures (λ known is. is) c.limits_under-outcome.ensures
 
 pub returns-in-Err : goal.returns-in-Err
-returns-in-Err g c = answer_not_started (makers_say c.args.profile) _ _ _ _ _ _ _ c.in-Err.stop _ c.in-Err.ensures
+returns-in-Err g c = answer_not_started (limits_say c.args.profile c.args.at) _ _ _ _ _ _ _ c.in-Err.stop _ c.in-Err.ensures
     c.write_start_stop.ensures

@@ -1,15 +1,16 @@
 use Rattle.std.proofs.lemmas.Result.{err_from_is_err_and}
-use Rattle.cap_session.specs.StartTexts.{none_listed}
+use Rattle.cap_session.specs.StartTexts.{Listed, none_listed, next_process, start_soon}
 use Rattle.cap_session.specs.StartLines.{Holds}
+use Rattle.cap_session.specs.Texts.{whole_text}
 use Rattle.cap_session.specs.declared.start_text.Starting.{Starting}
-use Rattle.cap_session.proofs.StartReads.{start_stopped, start_kept}
+use Rattle.cap_session.proofs.StartReads.{stopped_as, start_kept}
 use Rattle.cap_session.proofs.start_text.read_start.Goals as goal
 
 pub returns-in_err-starting : goal.returns-in_err-starting
 returns-in_err-starting g c =
     let p = err_from_is_err_and c.from_residual.result c.from_residual.ensures.1 in
-    rw (p.1, p.2) (start_stopped _ _ c.args.turns _ _ c.in_err-starting.field-0.0
-    (c.in_err-starting.ensures none_listed c.new.ensures))
+    rw (p.1, p.2) (stopped_as (λ (listed : Listed). listed.added) (whole_text next_process none_listed) start_soon _ _
+    c.args.turns _ _ c.in_err-starting.field-0.0 (c.in_err-starting.ensures none_listed c.new.ensures))
 
 pub returns : goal.returns
 returns g c =

@@ -26,5 +26,5 @@ returns c = λ known has.
       now_listed known head adds.0,
       process_added known c.args.line.now c.args.self.now.low head adds.0 has.1
           (sym c.is_skipped.ensures ∙ c.if-is_skipped.false) c.in_ok-head.ensures.good adds.1,
-      (adds.2 known.state has.0, c.keep.ensures.low),
+      (adds.2 known.added has.0, c.keep.ensures.low),
     )

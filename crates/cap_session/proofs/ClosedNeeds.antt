@@ -1,0 +1,238 @@
+-- What a call needs of a descriptor is closed: it asks with each right for all that the name of that right stands for.
+use Rattle.std.proofs.Common.{◌≡◌, ℕ, ◌<◌, ◌==◌, Bool, true, false, ◌&&◌, ◌||◌, if◌then◌else◌, List, []}
+use Rattle.std.proofs.Common.{◌∷◌, Option, Some, None, inl, inr}
+use Rattle.std.specs.Prelude.{codes}
+use Rattle.std.specs.Str.{bytes_eq}
+use Rattle.std.proofs.lemmas.Bool.{and_parts, and_from, or_left, or_right, or_cases}
+use Rattle.cap_rights.specs.Names.{value_at}
+use Rattle.cap_rights.specs.Rights.{join, none, holds}
+use Rattle.cap_trace.specs.Item.{Item}
+use Rattle.cap_trace.specs.Item as items
+use Rattle.cap_trace.specs.Call.{Call}
+use Rattle.cap_trace.specs.Call as calls
+use Rattle.cap_trace.specs.Entry.{args_of, args_of_call}
+use Rattle.cap_trace.specs.declared.line.Answer.{Answer}
+use Rattle.cap_trace.specs.declared.calls.FdCall.{FdCall}
+use Rattle.cap_trace.specs.declared.calls.FdCall.TheVariants.{Close, Closefrom, Dup, CapIoctlsLimit, CapFcntlsLimit}
+use Rattle.cap_trace.specs.declared.calls.AtCall.{AtCall}
+use Rattle.cap_trace.specs.declared.calls.AtCall.TheVariants.{Mkdirat, Mkfifoat, Mknodat, Readlinkat, Futimesat}
+use Rattle.cap_trace.specs.declared.calls.AtFlagsCall.{AtFlagsCall}
+use Rattle.cap_trace.specs.declared.calls.AtFlagsCall.TheVariants.{Openat}
+use Rattle.cap_machine.specs.declared.rule.Check.{Check}
+use Rattle.cap_machine.specs.Flags.{has_flag, is_one_of}
+use Rattle.cap_machine.specs.Needs.{named, asked, fd_needs, send_needs, send_to_needs, accept_needs, fcntl_needs}
+use Rattle.cap_machine.specs.Needs.{descriptor_commands, status_commands, lock_commands, mmap_needs, at_needs}
+use Rattle.cap_machine.specs.Needs.{access_needs, opening_needs, openat_needs, at_flags_needs, symlink_needs}
+use Rattle.cap_machine.specs.Needs.{rename_from_needs, rename_to_needs, link_from_needs, link_to_needs}
+use Rattle.cap_machine.specs.Places.{Place, below}
+use Rattle.cap_machine.specs.Judge.{listed}
+use Rattle.cap_machine.specs.Live.{checks_need}
+use Rattle.cap_machine.specs.Rule.{fd_demand, fcntl_demand, call_demand, item_demand, place_check, place_checks, both}
+use Rattle.cap_session.proofs.ClosedSets.{IsClosed, none_closed, join_closed, without_full_closed, found_closed}
+use Rattle.cap_session.proofs.FineLines.{FineArgs}
+
+-- each check needs a closed set
+abbrev pub AllClosed : List Check → Type 0
+AllClosed [] = Unit {0}
+AllClosed (check ∷ checks) = IsClosed check.needs × AllClosed checks
+
+-- ---- the needs of each call
+
+chosen : (b : Bool) (m n : ℕ) → IsClosed m → IsClosed n → IsClosed (if b then m else n)
+chosen true m n first second = first
+chosen false m n first second = second
+
+asked_closed : (b : Bool) (n : ℕ) → IsClosed n → IsClosed (asked b n)
+asked_closed b n is = chosen b n none is none_closed
+
+by_name : (name : List ℕ) → IsClosed (named name)
+unfolding named
+by_name name = found_closed (λ row. bytes_eq row.0 name)
+
+fd_closed : (call : FdCall) → IsClosed (fd_needs call)
+unfolding fd_needs
+fd_closed Close = none_closed
+fd_closed Closefrom = none_closed
+fd_closed Dup = none_closed
+fd_closed CapIoctlsLimit = none_closed
+fd_closed CapFcntlsLimit = none_closed
+fd_closed _ = by_name _
+
+send_closed : IsClosed send_needs
+unfolding send_needs
+send_closed = by_name _
+
+send_to_closed : IsClosed send_to_needs
+unfolding send_to_needs
+send_to_closed = join_closed _ _ (by_name _) (by_name _)
+
+accept_closed : IsClosed accept_needs
+unfolding accept_needs
+accept_closed = by_name _
+
+-- a need that is there is closed
+abbrev IsClosedOption : Option ℕ → Type 0
+IsClosedOption None = Unit {0}
+IsClosedOption (Some n) = IsClosed n
+
+fcntl_closed : (command : List ℕ) → IsClosedOption (fcntl_needs command)
+unfolding fcntl_needs
+fcntl_closed command =
+    one (is_one_of descriptor_commands command) (is_one_of status_commands command) (is_one_of lock_commands command)
+  where
+    one : (a b c : Bool) → IsClosedOption (if a then Some none else if b then Some (named (codes "CAP_FCNTL"))
+        else if c then Some (named (codes "CAP_FLOCK")) else None)
+    one true b c = none_closed
+    one false true c = by_name _
+    one false false true = by_name _
+    one false false false = tt
+
+mmap_closed : (protection kind : List ℕ) → IsClosed (mmap_needs protection kind)
+unfolding mmap_needs
+mmap_closed protection kind =
+    join_closed _ _ (by_name _) (join_closed _ _ (asked_closed (has_flag protection (codes "PROT_READ")) _ (by_name _))
+    (join_closed _ _ (asked_closed (has_flag protection (codes "PROT_EXEC")) _ (by_name _))
+    (asked_closed (has_flag protection (codes "PROT_WRITE") && has_flag kind (codes "MAP_SHARED")) _ (by_name _))))
+
+at_closed : (call : AtCall) → IsClosed (at_needs call)
+unfolding at_needs
+at_closed Mkdirat = by_name _
+at_closed Mkfifoat = by_name _
+at_closed Mknodat = by_name _
+at_closed Readlinkat = by_name _
+at_closed Futimesat = by_name _
+
+access_closed : (flags : List ℕ) → IsClosed (access_needs flags)
+unfolding access_needs
+access_closed flags =
+    chosen (has_flag flags (codes "O_EXEC")) (named (codes "CAP_FEXECVE"))
+    (if has_flag flags (codes "O_RDWR") then join (named (codes "CAP_READ")) (named (codes "CAP_WRITE"))
+    else if has_flag flags (codes "O_WRONLY") then named (codes "CAP_WRITE") else named (codes "CAP_READ"))
+    (by_name _)
+    (chosen (has_flag flags (codes "O_RDWR")) (join (named (codes "CAP_READ")) (named (codes "CAP_WRITE")))
+    (if has_flag flags (codes "O_WRONLY") then named (codes "CAP_WRITE") else named (codes "CAP_READ"))
+    (join_closed _ _ (by_name _) (by_name _))
+    (chosen (has_flag flags (codes "O_WRONLY")) (named (codes "CAP_WRITE")) (named (codes "CAP_READ")) (by_name _)
+    (by_name _)))
+
+opening_closed : (flags : List ℕ) → IsClosed (opening_needs flags)
+unfolding opening_needs
+opening_closed flags =
+    join_closed _ _ (asked_closed (has_flag flags (codes "O_CREAT")) _ (by_name _))
+    (join_closed _ _ (asked_closed (has_flag flags (codes "O_TRUNC")) _ (by_name _))
+    (join_closed _ _
+    (asked_closed (has_flag flags (codes "O_SYNC") || has_flag flags (codes "O_FSYNC")) _ (by_name _))
+    (asked_closed (has_flag flags (codes "O_EXLOCK") || has_flag flags (codes "O_SHLOCK")) _ (by_name _))))
+
+openat_closed : (flags : List ℕ) → IsClosed (openat_needs flags)
+unfolding openat_needs
+openat_closed flags =
+    chosen (has_flag flags (codes "O_PATH") || has_flag flags (codes "O_SEARCH")) _ _ (by_name _)
+    (join_closed _ _ (by_name _) (join_closed _ _ (access_closed flags) (opening_closed flags)))
+
+at_flags_closed : (call : AtFlagsCall) (flags : List ℕ) → IsClosed (at_flags_needs call flags)
+unfolding at_flags_needs
+at_flags_closed Openat flags = openat_closed flags
+at_flags_closed _ flags = by_name _
+
+symlink_closed : IsClosed symlink_needs
+unfolding symlink_needs
+symlink_closed = by_name _
+
+rename_from_closed : IsClosed rename_from_needs
+unfolding rename_from_needs
+rename_from_closed = by_name _
+
+rename_to_closed : IsClosed rename_to_needs
+unfolding rename_to_needs
+rename_to_closed = by_name _
+
+link_from_closed : IsClosed link_from_needs
+unfolding link_from_needs
+link_from_closed = by_name _
+
+link_to_closed : IsClosed link_to_needs
+unfolding link_to_needs
+link_to_closed = by_name _
+
+-- ---- calls at a directory
+
+abbrev IsClosedCheck : Option Check → Type 0
+IsClosedCheck None = Unit {0}
+IsClosedCheck (Some check) = IsClosed check.needs
+
+place_closed : (excuse : Option ℕ) (x : Place) → IsClosed x.needs → IsClosedCheck (place_check excuse x)
+place_closed excuse x is = elim (below x.dir x.path) as (λ b. IsClosedCheck (elim b [
+  | None ↦ None
+  | Some f ↦ Some (record { fd = f; needs = x.needs; excuse = excuse })
+])) [ None ↦ tt | Some f ↦ is ]
+
+both_closed : (a b : Option Check) → IsClosedCheck a → IsClosedCheck b → AllClosed (listed (both a b))
+both_closed None None first second = tt
+both_closed (Some a) None first second = (first, tt)
+both_closed None (Some b) first second = (second, tt)
+both_closed (Some a) (Some b) first second = (first, (second, tt))
+
+one_place : (excuse : Option ℕ) (x : Place) → IsClosed x.needs → AllClosed (listed (place_checks excuse (x ∷ [])))
+one_place excuse x is = both_closed (place_check excuse x) None (place_closed excuse x is) tt
+
+two_places : (excuse : Option ℕ) (x y : Place) → IsClosed x.needs → IsClosed y.needs
+    → AllClosed (listed (place_checks excuse (x ∷ y ∷ [])))
+two_places excuse x y first second = both_closed (place_check excuse x) (place_check excuse y)
+    (place_closed excuse x first) (place_closed excuse y second)
+
+-- ---- each form of call
+
+fd_checks : (call : FdCall) (f : ℕ) (answer : Answer) → AllClosed (listed (fd_demand call f answer).checks)
+fd_checks Closefrom f answer = tt
+fd_checks call f answer = (fd_closed call, tt)
+
+fcntl_checks : (needs : Option ℕ) (f : ℕ) (answer : Answer) → IsClosedOption needs
+    → AllClosed (listed (fcntl_demand needs f answer).checks)
+fcntl_checks None f answer is = tt
+fcntl_checks (Some n) f answer is = (is, tt)
+
+call_checks : (call : Call) (answer : Answer) → FineArgs (args_of_call call)
+    → AllClosed (listed (call_demand call answer).checks)
+call_checks (calls.OnFd call f) answer fine = fd_checks call f answer
+call_checks (calls.Send call f) answer fine = (send_closed, tt)
+call_checks (calls.SendTo call f) answer fine = (send_to_closed, tt)
+call_checks (calls.Accept4 f flags) answer fine = (accept_closed, tt)
+call_checks (calls.Dup2 f g) answer fine = (none_closed, tt)
+call_checks (calls.Fcntl f command) answer fine = fcntl_checks (fcntl_needs command) f answer (fcntl_closed command)
+call_checks (calls.FcntlDup command f g) answer fine = (none_closed, tt)
+call_checks (calls.FcntlSetFd f flags) answer fine = (none_closed, tt)
+call_checks (calls.Mmap f protection kind) answer fine = (mmap_closed protection kind, tt)
+call_checks (calls.RightsLimit f asked) answer fine = (without_full_closed asked fine.1.0, tt)
+call_checks (calls.At call dir path) answer fine =
+    one_place _ (record { dir = dir; path = path; needs = at_needs call }) (at_closed call)
+call_checks (calls.AtFlags call dir path flags) answer fine =
+    one_place _ (record { dir = dir; path = path; needs = at_flags_needs call flags }) (at_flags_closed call flags)
+call_checks (calls.SymlinkAt target dir path) answer fine =
+    one_place _ (record { dir = dir; path = path; needs = symlink_needs }) symlink_closed
+call_checks (calls.RenameAt dir path to_dir to_path) answer fine =
+    two_places _ (record { dir = dir; path = path; needs = rename_from_needs })
+    (record { dir = to_dir; path = to_path; needs = rename_to_needs }) rename_from_closed rename_to_closed
+call_checks (calls.LinkAt dir path to_dir to_path flags) answer fine =
+    two_places _ (record { dir = dir; path = path; needs = link_from_needs })
+    (record { dir = to_dir; path = to_path; needs = link_to_needs }) link_from_closed link_to_closed
+call_checks _ answer fine = tt
+
+pub item_checks : (item : Item) → FineArgs (args_of item) → AllClosed (listed (item_demand item).checks)
+item_checks (items.Call call answer) fine = call_checks call answer fine
+item_checks _ fine = tt
+
+-- ---- what checks need
+
+-- of a descriptor of which right k is needed, each right is needed that the name of right k stands for
+pub needs_more : (checks : List Check) (f k j : ℕ) → k < 63 → holds (value_at k) j ≡ true → AllClosed checks
+    → checks_need checks f k ≡ true → checks_need checks f j ≡ true
+needs_more [] f k j lt value are is = absurd (cc)
+needs_more (check ∷ checks) f k j lt value are is =
+    elim (or_cases (check.fd == f && holds check.needs k) (checks_need checks f k) is) [
+      | inl here ↦ (let parts = and_parts (check.fd == f) (holds check.needs k) here in
+          or_left (check.fd == f && holds check.needs j) (checks_need checks f j)
+          (and_from (check.fd == f) (holds check.needs j) parts.0 (are.0.closed k j lt value parts.1)))
+      | inr later ↦ or_right (check.fd == f && holds check.needs j) (checks_need checks f j)
+          (needs_more checks f k j lt value are.1 later)
+    ]

@@ -1,5 +1,0 @@
-use Rattle.cap_session.proofs.LimitScripts.{process_script_is_accepted as law}
-use Rattle.cap_session.proofs.limit_laws.process_script_is_accepted.Goals as goal
-
-pub returns : goal.returns
-returns c = law

@@ -1,0 +1,7 @@
+use Rattle.std.proofs.Common.{◌≡◌, ◌++◌, List}
+use Rattle.cap_machine.specs.declared.step.Step.{Step}
+use Rattle.cap_session.specs.Session.{lines_of}
+use Rattle.cap_session.proofs.steps.copies_of.Given as goal
+
+abbrev pub invariant-loop-step : goal.invariant-loop-step
+invariant-loop-step l = (done : List Step) × (l.tree ≡ done ++ l.step-iterator) × (l.lines.items ≡ lines_of done)
