@@ -17,7 +17,7 @@ pub fn wanted(is_so: bool, words: &str) -> Result<(), Fail> {
     if is_so { Ok(()) } else { Err(Fail::new(words)) }
 }
 
-/// A call over devices. Those that explain a line have its position.
+/// A call over devices. Those that explain a line have its position, and so may those that write limits.
 #[derive(Clone, Copy)]
 pub enum Call {
     Check,
@@ -31,7 +31,7 @@ pub enum Call {
     ExplainAs(Profile, usize),
     ExplainFrom(usize),
     ExplainFromAs(Profile, usize),
-    Limits(Profile),
+    Limits(Profile, Option<usize>),
 }
 
 /// The bytes of a reader, how many come with a read, and the read that fails, counted from 1: 0 where none does.
@@ -62,7 +62,7 @@ impl<'a> Run<'a> {
         Run {
             trace: (self.trace.0, size, 0),
             other: (self.other.0, size, 0),
-            room: (size, 256),
+            room: (size, 512),
             ..*self
         }
     }
@@ -118,8 +118,8 @@ fn made(
         Call::ExplainFromAs(profile, at) => {
             return explain_stream_from_as(alloc, profile, turns, at, other, trace, writer);
         }
-        Call::Limits(profile) => {
-            return limits_stream(alloc, profile, turns, other, trace, writer);
+        Call::Limits(profile, at) => {
+            return limits_stream(alloc, profile, turns, at, other, trace, writer);
         }
     };
     ExplainOutcome::Ended(outcome)
@@ -148,7 +148,7 @@ pub fn is_answered(alloc: Global, worked: &Worked<'_>) -> Result<(), Fail> {
         turns: 4096,
         trace: (trace, 1, 0),
         other: (other, 1, 0),
-        room: (1, 256),
+        room: (1, 512),
         outcome: *outcome,
         written,
         reads: None,

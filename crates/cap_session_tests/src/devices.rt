@@ -59,15 +59,15 @@ impl<'a> Source for Pieces<'a> {
     }
 }
 
-/// Keeps what it takes, at most `size` bytes a call, and fails once it has `most`.
+/// Keeps what it takes, at most `size` bytes a call, and fails once it has `most`, or 512.
 #[derive(Drop)]
 pub struct Kept {
-    bytes: [u8; 256],
+    bytes: [u8; 512],
     len: usize,
     size: usize,
     most: usize,
     faults: u64,
-    ghost fits: { len ≤ 256 },
+    ghost fits: { len ≤ 512 },
 }
 
 impl Kept {
@@ -75,10 +75,10 @@ impl Kept {
         ensures { result.faults ≡ 0 }
     {
         Kept {
-            bytes: [0; 256],
+            bytes: [0; 512],
             len: 0,
             size,
-            most: most.min(256),
+            most: most.min(512),
             faults: 0,
         }
     }
@@ -96,7 +96,7 @@ impl Sink for Kept {
             .size
             .min(bytes.len())
             .min(self.most.saturating_sub(self.len))
-            .min(256 - self.len);
+            .min(512 - self.len);
         if n == 0 {
             self.faults += 1;
             return Err(Failed);

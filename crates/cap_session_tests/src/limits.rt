@@ -1,15 +1,28 @@
-//! The limits that a trace needs, by the call over devices.
+//! Limits, by the call over devices and by a session: behind the lines that made descriptors, and before a line.
 
 use crate::answers::{Call, is_answered};
+use crate::sessions::{Case, Change, Query, Step, holds};
 use cap_machine::Profile::{self, One, Two};
-use cap_session::ExplainOutcome::{self, Ended};
-use cap_session::Outcome;
+use cap_session::ExplainOutcome::{self, Ended, OutOfRange};
+use cap_session::{Outcome, Refused};
+use std::alloc::Global;
 use std::test::Fail;
 
-const CLEAN: ExplainOutcome = Ended(Outcome::Clean);
+/// A trace, and how many lines it has.
+type Trace = (&'static [u8], usize);
+
+/// A start, a profile, a trace, the position of a line if one is asked for, and the script, or why there is none.
+type Row = (
+    &'static [u8],
+    Profile,
+    Trace,
+    Option<usize>,
+    Result<&'static str, Refused>,
+);
 
 /// A process that opens two files, and a child that reads one and writes the other.
-const TALLY: &[u8] = b"2101 @start(0,1,2)\n\
+const TALLY: Trace = (
+    b"2101 @start(0,1,2)\n\
 2101 openat(AT_FDCWD,\"access.log\",O_RDONLY) RET 3\n\
 2101 openat(AT_FDCWD,\"tally.out\",O_WRONLY|O_CREAT|O_TRUNC) RET 4\n\
 2101 fork() RET 2102\n\
@@ -22,92 +35,392 @@ const TALLY: &[u8] = b"2101 @start(0,1,2)\n\
 2102 write(4) RET 9\n\
 2102 fsync(4) RET 0\n\
 2102 @exit()\n\
-2101 @exit()\n";
-
-/// A descriptor that an exec closes, and one that stays open.
-const CLOSED: &[u8] =
-    b"100 open(\"a\",O_RDONLY|O_CLOEXEC) RET 5\n100 execve(\"/bin/x\") RET 0\n100 read(5) RET 1";
-
-const STAYS: &[u8] =
-    b"100 open(\"a\",O_RDONLY) RET 5\n100 execve(\"/bin/x\") RET 0\n100 read(5) RET 1";
-
-/// A start, a profile, a trace, the outcome, and what is written.
-type Row = (
-    &'static [u8],
-    Profile,
-    &'static [u8],
-    ExplainOutcome,
-    &'static str,
+2101 @exit()\n",
+    14,
 );
 
-static ROWS: [Row; 9] = [
-    (b"", One, b"", CLEAN, ""),
-    (b"", One, b"100 @start(0)\n100 read(0) RET 1\n", CLEAN, ""),
+/// A process that reads what it began with.
+const READ: Trace = (b"100 @start(0)\n100 read(0) RET 1\n", 2);
+
+/// A descriptor that an exec closes, and one that stays open.
+const EXEC: Trace = (
+    b"100 open(\"a\",O_RDONLY|O_CLOEXEC) RET 5\n\
+100 open(\"b\",O_RDONLY) RET 6\n\
+100 execve(\"/bin/x\") RET 0\n\
+100 read(5) RET 1\n\
+100 read(6) RET 1",
+    5,
+);
+
+/// Descriptors that the process had before the trace.
+const OLDER: Trace = (
+    b"100 open(\"a\",O_RDWR) RET 4\n\
+100 write(9) RET 1\n\
+100 read(4) RET 1\n\
+100 fstat(7) RET 0\n",
+    4,
+);
+
+/// A process that enters capability mode, and is then in its own way.
+const ENTERED: Trace = (
+    b"100 @start(0)\n\
+100 read(0) RET 1\n\
+100 cap_enter() RET 0\n\
+100 write(0) RET 1\n\
+100 unlink(\"a\") RET 0\n",
+    5,
+);
+
+/// A process that uses a copy, and two descriptors that a start may know.
+const STARTED: Trace = (
+    b"100 dup(3) RET 4\n\
+# The copy is read.\n\
+100 read(4) RET 1\n\
+100 write(7) RET 1\n\
+100 read(5) RET 1",
+    4,
+);
+
+static MAKERS: [Row; 7] = [
+    (b"", One, (b"", 0), None, Ok("")),
+    (b"", One, READ, None, Ok("")),
     // What a child needs is needed of its parent.
     (
         b"",
         One,
         TALLY,
-        CLEAN,
-        "insert 6 2102 cap_rights_limit(5,CAP_READ) RET 0\n\
+        None,
+        Ok(
+            "insert 6 2102 cap_rights_limit(5,CAP_READ) RET 0\n\
 insert 4 2101 cap_rights_limit(4,CAP_WRITE|CAP_FSYNC) RET 0\n\
 insert 3 2101 cap_rights_limit(3,CAP_READ|CAP_SEEK|CAP_FSTAT) RET 0\n",
+        ),
     ),
     // Comments aren't counted, and a descriptor that nothing uses needs nothing.
     (
         b"",
         One,
-        b"# A pipe.\n\n100 pipe() RET 3,4\n100 write(4) RET 1\n",
-        CLEAN,
-        "insert 2 100 cap_rights_limit(4,CAP_WRITE) RET 0\n\
+        (b"# A pipe.\n\n100 pipe() RET 3,4\n100 write(4) RET 1\n", 2),
+        None,
+        Ok(
+            "insert 2 100 cap_rights_limit(4,CAP_WRITE) RET 0\n\
 insert 2 100 cap_rights_limit(3,NONE) RET 0\n",
+        ),
     ),
     // In profile 1 nothing is known behind an exec.
     (
         b"",
         One,
-        STAYS,
-        CLEAN,
-        "insert 2 100 cap_rights_limit(5,NONE) RET 0\n",
+        EXEC,
+        None,
+        Ok(
+            "insert 3 100 cap_rights_limit(6,NONE) RET 0\n\
+insert 2 100 cap_rights_limit(5,NONE) RET 0\n",
+        ),
     ),
     (
         b"",
         Two,
-        STAYS,
-        CLEAN,
-        "insert 2 100 cap_rights_limit(5,CAP_READ) RET 0\n",
+        EXEC,
+        None,
+        Ok(
+            "insert 3 100 cap_rights_limit(6,CAP_READ) RET 0\n\
+insert 2 100 cap_rights_limit(5,NONE) RET 0\n",
+        ),
     ),
+    // A start says what is copied.
+    (
+        b"100 out closed 3=CAP_READ|CAP_WRITE",
+        One,
+        STARTED,
+        None,
+        Ok("insert 2 100 cap_rights_limit(4,CAP_READ) RET 0\n"),
+    ),
+];
+
+static BEFORE: [Row; 16] = [
     (
         b"",
-        Two,
-        CLOSED,
-        CLEAN,
-        "insert 2 100 cap_rights_limit(5,NONE) RET 0\n",
+        One,
+        TALLY,
+        Some(4),
+        Ok(
+            "# process 2101 before line 4\n\
+insert 4 2101 cap_rights_limit(0,NONE) RET 0\n\
+insert 5 2101 cap_rights_limit(1,NONE) RET 0\n\
+insert 6 2101 cap_rights_limit(2,NONE) RET 0\n\
+insert 7 2101 cap_rights_limit(3,CAP_READ|CAP_SEEK|CAP_FSTAT) RET 0\n\
+insert 8 2101 cap_rights_limit(4,CAP_WRITE|CAP_FSYNC) RET 0\n\
+# no cap_enter: line 5, openat of process 2102\n",
+        ),
     ),
     (
         b"",
         One,
+        TALLY,
+        Some(6),
+        Ok(
+            "# process 2102 before line 6\n\
+insert 6 2102 cap_rights_limit(0,NONE) RET 0\n\
+insert 7 2102 cap_rights_limit(1,NONE) RET 0\n\
+insert 8 2102 cap_rights_limit(2,NONE) RET 0\n\
+insert 9 2102 cap_rights_limit(3,CAP_READ|CAP_SEEK|CAP_FSTAT) RET 0\n\
+insert 10 2102 cap_rights_limit(4,CAP_WRITE|CAP_FSYNC) RET 0\n\
+insert 11 2102 cap_rights_limit(5,CAP_READ) RET 0\n\
+insert 12 2102 cap_enter() RET 0\n",
+        ),
+    ),
+    (b"", One, TALLY, Some(0), Err(Refused::Position)),
+    (b"", One, TALLY, Some(15), Err(Refused::Position)),
+    (b"", Two, (b"", 0), Some(1), Err(Refused::Position)),
+    // The first line and the last.
+    (
+        b"",
+        One,
+        READ,
+        Some(1),
+        Ok(
+            "# process 100 before line 1\n\
+insert 1 100 cap_enter() RET 0\n",
+        ),
+    ),
+    (
+        b"",
+        One,
+        READ,
+        Some(2),
+        Ok(
+            "# process 100 before line 2\n\
+insert 2 100 cap_rights_limit(0,CAP_READ) RET 0\n\
+insert 3 100 cap_enter() RET 0\n",
+        ),
+    ),
+    // What is needed of descriptors that aren't known stands behind the limits.
+    (
+        b"",
+        One,
+        OLDER,
+        Some(2),
+        Ok(
+            "# process 100 before line 2\n\
+insert 2 100 cap_rights_limit(4,CAP_READ) RET 0\n\
+# descriptor 7 isn't known; later calls need CAP_FSTAT\n\
+# descriptor 9 isn't known; later calls need CAP_WRITE\n\
+insert 3 100 cap_enter() RET 0\n",
+        ),
+    ),
+    // What stands behind cap_enter is in the way of nothing that it isn't in already.
+    (
+        b"",
+        One,
+        ENTERED,
+        Some(4),
+        Ok(
+            "# process 100 before line 4\n\
+insert 4 100 cap_rights_limit(0,CAP_WRITE) RET 0\n\
+# process 100 is in capability mode already\n",
+        ),
+    ),
+    (
+        b"",
+        Two,
+        (
+            b"100 @start(0)\n100 read(0) RET 1\n100 unlink(\"a\") RET 0\n100 rmdir(\"b\") RET 0\n",
+            4,
+        ),
+        Some(2),
+        Ok(
+            "# process 100 before line 2\n\
+insert 2 100 cap_rights_limit(0,CAP_READ) RET 0\n\
+# no cap_enter: line 3, unlink of process 100\n",
+        ),
+    ),
+    // Of what a start knows only what it lists has a line, and no right that isn't held.
+    (
+        b"100 out ALL 7=CAP_READ|CAP_WRITE",
+        One,
+        STARTED,
+        Some(2),
+        Ok(
+            "# process 100 before line 2\n\
+insert 2 100 cap_rights_limit(4,CAP_READ) RET 0\n\
+insert 3 100 cap_rights_limit(7,CAP_WRITE) RET 0\n\
+insert 4 100 cap_enter() RET 0\n",
+        ),
+    ),
+    (
+        b"100 in unknown 7=CAP_READ",
+        Two,
+        STARTED,
+        Some(3),
+        Ok(
+            "# process 100 before line 3\n\
+insert 3 100 cap_rights_limit(7,NONE) RET 0\n\
+# descriptor 5 isn't known; later calls need CAP_READ\n\
+# process 100 is in capability mode already\n",
+        ),
+    ),
+    // The start is of another process.
+    (
+        b"99 in ALL 7=CAP_WRITE",
+        One,
+        STARTED,
+        Some(4),
+        Ok(
+            "# process 100 before line 4\n\
+# descriptor 5 isn't known; later calls need CAP_READ\n\
+insert 4 100 cap_enter() RET 0\n",
+        ),
+    ),
+    // A descriptor that an exec closes needs nothing that stands behind it.
+    (
+        b"",
+        Two,
+        EXEC,
+        Some(3),
+        Ok(
+            "# process 100 before line 3\n\
+insert 3 100 cap_rights_limit(5,NONE) RET 0\n\
+insert 4 100 cap_rights_limit(6,CAP_READ) RET 0\n\
+# no cap_enter: line 3, execve of process 100\n",
+        ),
+    ),
+    (
+        b"",
+        Two,
+        EXEC,
+        Some(4),
+        Ok(
+            "# process 100 before line 4\n\
+insert 4 100 cap_rights_limit(6,CAP_READ) RET 0\n\
+insert 5 100 cap_enter() RET 0\n",
+        ),
+    ),
+    (
+        b"",
+        One,
+        EXEC,
+        Some(4),
+        Ok(
+            "# process 100 before line 4\n\
+# descriptor 5 isn't known; later calls need CAP_READ\n\
+# descriptor 6 isn't known; later calls need CAP_READ\n\
+insert 4 100 cap_enter() RET 0\n",
+        ),
+    ),
+];
+
+/// How a call over devices ends that answers so, and what it writes.
+fn ended(answer: Result<&'static str, Refused>) -> (ExplainOutcome, &'static str) {
+    match answer {
+        Ok(text) => (Ended(Outcome::Clean), text),
+        Err(_) => (OutOfRange, "refused E7\n"),
+    }
+}
+
+/// Fails a test where a call over devices doesn't answer so in pieces of any size.
+fn are_written(alloc: Global, rows: &[Row]) -> Result<(), Fail> {
+    for (start, profile, (trace, _), at, answer) in rows {
+        let (outcome, text) = ended(*answer);
+        let call = Call::Limits(*profile, *at);
+        is_answered(alloc, &(call, trace, start, outcome, text))?;
+    }
+    Ok(())
+}
+
+#[test]
+fn limits_are_written_in_pieces_of_any_size(rt: HostRuntime) -> Result<(), Fail> {
+    are_written(rt.alloc(), &MAKERS)?;
+    are_written(rt.alloc(), &BEFORE)
+}
+
+/// A profile, a trace and a start of which a line is refused, a position, the outcome, and what is written.
+type Refusal = (
+    Profile,
+    &'static [u8],
+    &'static [u8],
+    Option<usize>,
+    Outcome,
+    &'static str,
+);
+
+/// A refused line comes before a position at which there is none, and a refused start before both.
+static REFUSALS: [Refusal; 4] = [
+    (
+        One,
         b"100 open(\"a\",O_RDONLY) RET 5\n100 read(5 RET 1\n",
-        Ended(Outcome::Refused { code: 2, line: 2 }),
+        b"",
+        None,
+        Outcome::Refused { code: 2, line: 2 },
         "refused E2 line 2\n",
     ),
     (
-        b"101 out closed\n100 out closed",
+        Two,
+        b"100 open(\"a\",O_RDONLY) RET 5\n# note\n100 read(x) RET 1\n",
+        b"100 out closed",
+        Some(9),
+        Outcome::Refused { code: 4, line: 3 },
+        "refused E4 line 3\n",
+    ),
+    (
         One,
         b"100 open(\"a\",O_RDONLY) RET 5\n",
-        Ended(Outcome::StartRefused { code: 3, line: 2 }),
+        b"101 out closed\n100 out closed",
+        None,
+        Outcome::StartRefused { code: 3, line: 2 },
         "refused E3 start line 2\n",
+    ),
+    (
+        Two,
+        b"x",
+        b"100 out open",
+        Some(0),
+        Outcome::StartRefused { code: 5, line: 1 },
+        "refused E5 start line 1\n",
     ),
 ];
 
 #[test]
-fn limits_are_written_in_pieces_of_any_size(rt: HostRuntime) -> Result<(), Fail> {
-    for row in &ROWS {
-        let (start, profile, trace, outcome, text) = row;
-        is_answered(
-            rt.alloc(),
-            &(Call::Limits(*profile), trace, start, *outcome, text),
-        )?;
+fn a_refused_line_has_no_limits(rt: HostRuntime) -> Result<(), Fail> {
+    for (profile, trace, start, at, outcome, text) in &REFUSALS {
+        let call = Call::Limits(*profile, *at);
+        is_answered(rt.alloc(), &(call, trace, start, Ended(*outcome), text))?;
     }
     Ok(())
+}
+
+/// Fails a test where a session doesn't answer a row so, from its start, and from the usual one where it is that.
+fn session_has(alloc: Global, row: &Row) -> Result<(), Fail> {
+    let (start, profile, (trace, count), at, answer) = row;
+    let (_, name) = ended(*answer);
+    let steps = [
+        Step::Change(Change::Load(trace), Ok(*count)),
+        Step::Ask(Query::LimitsFrom(*at), *answer),
+        Step::Ask(Query::Limits(*at), *answer),
+    ];
+    let known = if start.is_empty() { 3 } else { 2 };
+    holds(
+        alloc,
+        &Case {
+            name,
+            limit: 14,
+            profile: Some(*profile),
+            start,
+            steps: &steps[..known],
+        },
+    )
+}
+
+/// Fails a test where a session doesn't answer each row so.
+fn sessions_have(alloc: Global, rows: &[Row]) -> Result<(), Fail> {
+    for row in rows {
+        session_has(alloc, row)?;
+    }
+    Ok(())
+}
+
+#[test]
+fn a_session_has_its_limits(rt: HostRuntime) -> Result<(), Fail> {
+    sessions_have(rt.alloc(), &MAKERS)?;
+    sessions_have(rt.alloc(), &BEFORE)
 }

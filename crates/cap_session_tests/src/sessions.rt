@@ -21,6 +21,10 @@ pub enum Query {
     ReportFrom,
     /// The denials from the start of the case.
     Denials,
+    /// The limits, behind the lines that made descriptors or before a line.
+    Limits(Option<usize>),
+    /// The same from the start of the case.
+    LimitsFrom(Option<usize>),
     Range(usize, usize),
     Show(usize),
 }
@@ -135,6 +139,8 @@ fn answers_query(
         Query::Report => session.report(),
         Query::ReportFrom => session.report_from(start),
         Query::Denials => session.denials(start),
+        Query::Limits(at) => session.limits(*at),
+        Query::LimitsFrom(at) => session.limits_from(*at, start),
         Query::Range(first, last) => session.report_range(*first, *last),
         Query::Show(position) => session.show(*position),
     };
