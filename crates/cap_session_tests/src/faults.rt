@@ -3,7 +3,7 @@
 
 use crate::answers::{Call, Run, ends};
 use cap_machine::Profile;
-use cap_session::ExplainOutcome::Ended;
+use cap_session::ExplainOutcome::{Ended, OutOfRange};
 use cap_session::Outcome;
 use std::alloc::Global;
 use std::test::Fail;
@@ -187,6 +187,18 @@ const DENIED: Run<'static> = Run {
     ..CHECKED
 };
 
+/// The limits of a descriptor that the start lists.
+const LIMITS: Run<'static> = Run {
+    call: Call::Limits(Profile::Two, Some(1)),
+    trace: (b"100 read(5) RET 1\n", 1, 0),
+    other: (START, 1, 0),
+    outcome: Ended(Outcome::Clean),
+    written: "# process 100 before line 1\n\
+insert 1 100 cap_rights_limit(5,CAP_READ) RET 0\n\
+insert 2 100 cap_enter() RET 0\n",
+    ..CHECKED
+};
+
 const EDITED: Run<'static> = Run {
     call: Call::EditAs(Profile::Two),
     other: (SCRIPT, 1, 0),
@@ -204,7 +216,7 @@ const EDITED_IN_ONE: Run<'static> = Run {
     ..EDITED
 };
 
-static SWEEPS: [Sweep; 10] = [
+static SWEEPS: [Sweep; 14] = [
     Sweep {
         run: CHECKED,
         is_of_trace: true,
@@ -245,6 +257,50 @@ static SWEEPS: [Sweep; 10] = [
         },
         is_of_trace: true,
         other_reads: 4,
+        replies: &[],
+        pieces: (64, 16),
+    },
+    // And of limits before a line, or where there is none, and behind the lines that made descriptors.
+    Sweep {
+        run: LIMITS,
+        is_of_trace: false,
+        other_reads: 0,
+        replies: &[],
+        pieces: (64, 1),
+    },
+    Sweep {
+        run: Run {
+            other: (START, 16, 0),
+            ..LIMITS
+        },
+        is_of_trace: true,
+        other_reads: 3,
+        replies: &[],
+        pieces: (64, 16),
+    },
+    Sweep {
+        run: Run {
+            call: Call::Limits(Profile::Two, Some(2)),
+            other: (START, 16, 0),
+            outcome: OutOfRange,
+            written: "refused E7\n",
+            ..LIMITS
+        },
+        is_of_trace: true,
+        other_reads: 3,
+        replies: &[],
+        pieces: (64, 16),
+    },
+    Sweep {
+        run: Run {
+            call: Call::Limits(Profile::Two, None),
+            trace: (b"100 dup(5) RET 6\n100 read(6) RET 1\n", 1, 0),
+            other: (START, 16, 0),
+            written: "insert 2 100 cap_rights_limit(6,CAP_READ) RET 0\n",
+            ..LIMITS
+        },
+        is_of_trace: true,
+        other_reads: 3,
         replies: &[],
         pieces: (64, 16),
     },
