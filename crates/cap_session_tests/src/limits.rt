@@ -4,7 +4,10 @@ use crate::answers::{Call, is_answered};
 use crate::sessions::{Case, Change, Query, Step, holds};
 use cap_machine::Profile::{self, One, Two};
 use cap_session::ExplainOutcome::{self, Ended, OutOfRange};
-use cap_session::{Outcome, Refused};
+use cap_session::{
+    Outcome, Refused, entering_before_is_forbidden, limits_script_is_accepted,
+    limits_script_is_enough, limits_script_is_least, read_texts_are_spelled,
+};
 use std::alloc::Global;
 use std::test::Fail;
 
@@ -423,4 +426,13 @@ fn sessions_have(alloc: Global, rows: &[Row]) -> Result<(), Fail> {
 fn a_session_has_its_limits(rt: HostRuntime) -> Result<(), Fail> {
     sessions_have(rt.alloc(), &MAKERS)?;
     sessions_have(rt.alloc(), &BEFORE)
+}
+
+#[test]
+fn the_laws_of_limits_are_calls() {
+    read_texts_are_spelled();
+    limits_script_is_accepted();
+    limits_script_is_enough();
+    limits_script_is_least();
+    entering_before_is_forbidden();
 }
