@@ -1,5 +1,6 @@
 //! Calls that are tried with each of their allocations refused. Each says whether it answers what is right.
 
+use crate::limits::limits;
 use crate::machine::{
     OnTrace, checks, explains, reports, traces_cell, traces_mode, two_found_by_machine,
 };
@@ -44,6 +45,7 @@ fn answers_on_trace(
         OnTrace::Cell => traces_cell(alloc, start, lines),
         OnTrace::Mode => traces_mode(alloc, start, lines),
         OnTrace::Explain(at, behind) => explains(alloc, start, lines, *at, behind),
+        OnTrace::Limits(part) => limits(alloc, start, lines, *part),
     }
 }
 

@@ -1,6 +1,7 @@
 //! Starts, checks, checkers, machines and explanations.
 
 use crate::calls::{Call, tried};
+use crate::limits::Part;
 use crate::marks::{Mark, lacked, right};
 use cap_machine::{
     Cell, Checker, Explanation, Finding, Found, Machine, Mode, NoMemory, OnExec, Profile, Start,
@@ -73,7 +74,7 @@ pub fn start_of(alloc: Global, before: Before) -> Result<Start, Fail> {
     }
 }
 
-/// A call on the trace, with what is right.
+/// A call on a trace, with what is right.
 #[derive(Drop)]
 pub enum OnTrace {
     /// A check finds something at these positions.
@@ -88,6 +89,8 @@ pub enum OnTrace {
     Mode,
     /// The cells of a line come from these lines.
     Explain(usize, &'static [usize]),
+    /// What the limits rest on, or the limits.
+    Limits(Part),
 }
 
 /// Makes each of these calls.
@@ -102,9 +105,14 @@ fn try_each(alloc: Global, start: &Start, lines: &[Line], calls: &[OnTrace]) -> 
     Ok(())
 }
 
-/// The same with what is known before the trace, and its lines.
-fn try_all(alloc: Global, before: Before, calls: &[OnTrace]) -> Result<(), Fail> {
-    let lines = lines_of(alloc, &TRACE)?;
+/// The same with what is known before a trace, and its lines.
+pub fn try_all(
+    alloc: Global,
+    before: Before,
+    trace: &[&str],
+    calls: &[OnTrace],
+) -> Result<(), Fail> {
+    let lines = lines_of(alloc, trace)?;
     let start = start_of(alloc, before)?;
     let result = try_each(alloc, &start, &lines, calls);
     drop(start);
@@ -197,7 +205,7 @@ static CHECKS: [OnTrace; 2] = [
 
 #[test]
 fn check_refused(rt: HostRuntime) -> Result<(), Fail> {
-    try_all(rt.alloc(), CELLS, &CHECKS)
+    try_all(rt.alloc(), CELLS, &TRACE, &CHECKS)
 }
 
 /// Gives a checker these lines.
@@ -231,7 +239,7 @@ pub fn reports(alloc: Global, start: &Start, lines: &[Line]) -> Result<bool, NoM
 
 #[test]
 fn checker_refused(rt: HostRuntime) -> Result<(), Fail> {
-    try_all(rt.alloc(), CELLS, &[OnTrace::Report])
+    try_all(rt.alloc(), CELLS, &TRACE, &[OnTrace::Report])
 }
 
 /// How many findings a machine has of these lines.
@@ -257,7 +265,7 @@ pub fn two_found_by_machine(
 
 #[test]
 fn machine_refused(rt: HostRuntime) -> Result<(), Fail> {
-    try_all(rt.alloc(), CELLS, &[OnTrace::Machine])
+    try_all(rt.alloc(), CELLS, &TRACE, &[OnTrace::Machine])
 }
 
 /// Whether the cell of descriptor 3 of process 100 comes from two lines.
@@ -268,7 +276,7 @@ pub fn traces_cell(alloc: Global, start: &Start, lines: &[Line]) -> Result<bool,
 
 #[test]
 fn origin_of_cell_refused(rt: HostRuntime) -> Result<(), Fail> {
-    try_all(rt.alloc(), Before::Usual, &[OnTrace::Cell])
+    try_all(rt.alloc(), Before::Usual, &TRACE, &[OnTrace::Cell])
 }
 
 /// Whether the mode of process 101 comes from two lines.
@@ -279,7 +287,7 @@ pub fn traces_mode(alloc: Global, start: &Start, lines: &[Line]) -> Result<bool,
 
 #[test]
 fn origin_of_mode_refused(rt: HostRuntime) -> Result<(), Fail> {
-    try_all(rt.alloc(), Before::Usual, &[OnTrace::Mode])
+    try_all(rt.alloc(), Before::Usual, &TRACE, &[OnTrace::Mode])
 }
 
 /// The positions of the lines that the cells of an explanation come from.
@@ -326,5 +334,5 @@ static EXPLANATIONS: [OnTrace; 2] = [OnTrace::Explain(5, &[2, 1]), OnTrace::Expl
 
 #[test]
 fn explain_refused(rt: HostRuntime) -> Result<(), Fail> {
-    try_all(rt.alloc(), Before::Usual, &EXPLANATIONS)
+    try_all(rt.alloc(), Before::Usual, &TRACE, &EXPLANATIONS)
 }

@@ -1,7 +1,7 @@
 //! Reports of a session, and texts of starts.
 
 use crate::calls::{Call, is_answered, tried};
-use crate::machine::{CELLS, start_of};
+use crate::machine::{CELLS, TRACE, start_of};
 use crate::marks::right;
 use crate::sessions::{Query, REPORT, ask_each, is_at, session_of, session_with};
 use cap_machine::{Cell, Mode, NoMemory, Start};
@@ -21,7 +21,7 @@ static REPORTS: [(Query, &str); 3] = [
 
 #[test]
 fn reports_refused(rt: HostRuntime) -> Result<(), Fail> {
-    ask_each(rt.alloc(), &REPORTS)
+    ask_each(rt.alloc(), &TRACE, REPORT, &REPORTS)
 }
 
 /// Asks for the report from a start: whether it is that of the trace.

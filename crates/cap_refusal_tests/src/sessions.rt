@@ -267,6 +267,8 @@ pub enum Query {
     Show(usize),
     /// What a line with findings rests on.
     Explain(usize),
+    /// The limits, behind the lines that made descriptors or before a line.
+    Limits(Option<usize>),
 }
 
 /// What a session answers. No line that it explains is clean.
@@ -279,6 +281,7 @@ fn asked(session: &Session, query: &Query) -> Result<Vec<u8>, Refused> {
             line if line.is_clean => Err(Refused::Position),
             line => Ok(line.text),
         },
+        Query::Limits(at) => session.limits(*at),
     }
 }
 
@@ -291,23 +294,30 @@ pub fn answers_query(session: &Session, query: &Query, text: &str) -> Result<boo
     }
 }
 
-/// Asks each of those: this is the answer, and the session is as it was.
+/// Asks each of those: this is the answer, and the session is as it was, with this report.
 fn ask_all(
     alloc: Global,
     session: &Session,
+    report: &str,
     queries: &[(Query, &'static str)],
 ) -> Result<(), Fail> {
+    let count = session.count();
     for (query, text) in queries {
         let is_right = is_answered(alloc, &Call::Ask(session, query, text));
-        right(alloc, is_right && is_at(session, 8, REPORT), text)?;
+        right(alloc, is_right && is_at(session, count, report), text)?;
     }
     Ok(())
 }
 
-/// Asks a session of the trace each of those.
-pub fn ask_each(alloc: Global, queries: &[(Query, &'static str)]) -> Result<(), Fail> {
-    let session = session_of(alloc)?;
-    let result = ask_all(alloc, &session, queries);
+/// Asks a session of a trace with this report each of those.
+pub fn ask_each(
+    alloc: Global,
+    trace: &[&str],
+    report: &str,
+    queries: &[(Query, &'static str)],
+) -> Result<(), Fail> {
+    let session = session_with(alloc, trace)?;
+    let result = ask_all(alloc, &session, report, queries);
     drop(session);
     result
 }
@@ -326,7 +336,7 @@ static SHOWN: [(Query, &str); 8] = [
 
 #[test]
 fn show_refused(rt: HostRuntime) -> Result<(), Fail> {
-    ask_each(rt.alloc(), &SHOWN)
+    ask_each(rt.alloc(), &TRACE, REPORT, &SHOWN)
 }
 
 /// Lines of the trace, and what they rest on.
@@ -343,5 +353,5 @@ static EXPLAINED: [(Query, &str); 2] = [
 
 #[test]
 fn explain_refused(rt: HostRuntime) -> Result<(), Fail> {
-    ask_each(rt.alloc(), &EXPLAINED)
+    ask_each(rt.alloc(), &TRACE, REPORT, &EXPLAINED)
 }

@@ -8,7 +8,7 @@ use cap_session::ExplainOutcome::{self, Ended};
 use cap_session::{
     Failed, Outcome, Source, check_stream, check_stream_as, check_stream_from,
     check_stream_from_as, denials_stream, edit_stream, edit_stream_as, explain_stream,
-    explain_stream_as, explain_stream_from, explain_stream_from_as,
+    explain_stream_as, explain_stream_from, explain_stream_from_as, limits_stream,
 };
 use cap_session_tests::devices::{Kept, Pieces};
 use std::alloc::Global;
@@ -25,6 +25,17 @@ const DENIED: &[u8] =
 
 const DENIALS: &[u8] =
     b"1 100 write lacks 3 CAP_WRITE\n4 101 open inside\n5 101 read unexplained\ndenials 3\n";
+
+/// A pipe that a child reads, and a file that it opens.
+const LIMITED: &[u8] =
+    b"100 pipe() RET 3,4\n100 fork() RET 101\n101 read(3) RET 1\n100 write(4) RET 1\n100 fsync(70) RET 0\n101 open(\"a\",O_RDONLY) RET 5\n";
+
+const MAKER_LIMITS: &[u8] =
+    b"insert 7 101 cap_rights_limit(5,NONE) RET 0\ninsert 2 100 cap_rights_limit(4,CAP_WRITE) RET 0\ninsert 2 100 cap_rights_limit(3,CAP_READ) RET 0\n";
+
+/// Before the fork.
+const LIMITS_BEFORE: &[u8] =
+    b"# process 100 before line 2\ninsert 2 100 cap_rights_limit(3,CAP_READ) RET 0\ninsert 3 100 cap_rights_limit(4,CAP_WRITE) RET 0\ninsert 4 100 cap_rights_limit(70,CAP_FSYNC) RET 0\n# no cap_enter: line 6, open of process 101\n";
 
 const START: &[u8] = b"100 out closed 3=CAP_READ 70=ALL\n";
 
@@ -54,6 +65,8 @@ enum Call {
     Edit,
     EditAs,
     Denials,
+    Limits,
+    LimitsBefore,
     Explain,
     ExplainAs,
     ExplainFrom,
@@ -83,6 +96,8 @@ fn made(
         Call::Edit => edit_stream(alloc, 4096, trace, script, kept),
         Call::EditAs => edit_stream_as(alloc, two, 4096, trace, script, kept),
         Call::Denials => denials_stream(alloc, two, 4096, start, trace, kept),
+        Call::Limits => return limits_stream(alloc, two, 4096, None, start, trace, kept),
+        Call::LimitsBefore => return limits_stream(alloc, two, 4096, Some(2), start, trace, kept),
         Call::Explain => return explain_stream(alloc, 4096, 5, trace, kept),
         Call::ExplainAs => return explain_stream_as(alloc, two, 4096, 5, trace, kept),
         Call::ExplainFrom => return explain_stream_from(alloc, 4096, 5, start, trace, kept),
@@ -97,6 +112,7 @@ fn made(
 fn trace_of(call: Call) -> &'static [u8] {
     match call {
         Call::Denials => DENIED,
+        Call::Limits | Call::LimitsBefore => LIMITED,
         _ => TRACE,
     }
 }
@@ -117,20 +133,21 @@ fn gives(alloc: Global, call: Call, outcome: Outcome, text: &[u8]) -> bool {
     ended == Ended(outcome) && kept.text() == text
 }
 
-/// Whether a call finds what is right and writes this, in a second call where the first lacks memory and has written nothing.
-fn finds(alloc: Global, call: Call, text: &[u8]) -> bool {
+/// Whether a call has this outcome and writes this, in a second call where the first lacks memory and has written nothing.
+fn answers(alloc: Global, call: Call, outcome: Outcome, text: &[u8]) -> bool {
     Mark::Begin.set(alloc);
-    let (outcome, kept) = streamed(alloc, call);
-    if lacked(alloc, outcome == Ended(Outcome::Memory)) {
-        return kept.text().is_empty() && gives(alloc, call, Outcome::Findings, text);
+    let (ended, kept) = streamed(alloc, call);
+    if lacked(alloc, ended == Ended(Outcome::Memory)) {
+        return kept.text().is_empty() && gives(alloc, call, outcome, text);
     }
-    outcome == Ended(Outcome::Findings) && kept.text() == text
+    ended == Ended(outcome) && kept.text() == text
 }
 
 /// Fails a test where these calls don't.
 fn all_find(alloc: Global, calls: &[Call], text: &[u8], words: &str) -> Result<(), Fail> {
     for call in calls {
-        right(alloc, finds(alloc, *call, text), words)?;
+        let is_right = answers(alloc, *call, Outcome::Findings, text);
+        right(alloc, is_right, words)?;
     }
     Ok(())
 }
@@ -150,6 +167,18 @@ fn check_streams_refused(rt: HostRuntime) -> Result<(), Fail> {
 #[test]
 fn denials_stream_refused(rt: HostRuntime) -> Result<(), Fail> {
     all_find(rt.alloc(), &[Call::Denials], DENIALS, "denials are written")
+}
+
+#[test]
+fn limits_streams_refused(rt: HostRuntime) -> Result<(), Fail> {
+    for (call, text) in [
+        (Call::Limits, MAKER_LIMITS),
+        (Call::LimitsBefore, LIMITS_BEFORE),
+    ] {
+        let is_right = answers(rt.alloc(), call, Outcome::Clean, text);
+        right(rt.alloc(), is_right, "limits are written")?;
+    }
+    Ok(())
 }
 
 static EXPLAINS: [Call; 4] = [

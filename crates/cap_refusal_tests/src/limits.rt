@@ -1,0 +1,225 @@
+//! What limits rest on, and limits: behind the lines that made descriptors, and before a line.
+
+use crate::machine::{Before, CELLS, OnTrace, try_all};
+use crate::sessions::{Query, ask_each};
+use cap_machine::{
+    Cell, Entering, Limit, Limits, MakerLimit, NoMemory, OnExec, Profile, Start, limits_among,
+    limits_before, limits_of_makers, live_behind, machine_after, standing_fds,
+};
+use cap_rights::{RightSet, parse_rights};
+use cap_trace::{Fd, Line};
+use std::alloc::Global;
+use std::test::Fail;
+
+/// A pipe that a child reads, a descriptor from before the trace, and a file that the child opens.
+static TRACE: [&str; 7] = [
+    "100 pipe() RET 3,4",
+    "100 fork() RET 101",
+    "101 read(3) RET 1",
+    "100 write(4) RET 1",
+    "100 fsync(7) RET 0",
+    "101 open(\"a\",O_RDONLY) RET 5",
+    "101 fstat(5) RET 0",
+];
+
+/// What is asked for, in profile 2.
+#[derive(Clone, Copy)]
+pub enum Part {
+    /// What a machine knows that has followed the lines.
+    Followed,
+    /// Which descriptors of the child stand in what is known.
+    Standing,
+    /// What the lines need.
+    Live,
+    /// The limits of some descriptors before the second line.
+    Among,
+    /// All that is known of limits before the second line.
+    Before,
+    /// The limits of what the lines made.
+    Makers,
+}
+
+/// Whether these are the rights of a name.
+fn is_named(rights: RightSet, name: &[u8]) -> bool {
+    parse_rights(name) == Ok(rights)
+}
+
+/// Whether a machine that has followed the lines knows what the child opened, and the parent didn't.
+fn follows(alloc: Global, start: &Start, lines: &[Line]) -> Result<bool, NoMemory> {
+    let machine = machine_after(alloc, Profile::Two, start, lines)?;
+    let whole = Cell::Held(RightSet::all(), OnExec::Clear);
+    let is_right = machine.cell(101, 5) == whole && machine.cell(100, 5) == Cell::Unknown;
+    drop(machine);
+    Ok(is_right)
+}
+
+/// Whether the descriptors of the child stand that the start lists or a line made, and no others.
+fn stands(alloc: Global, start: &Start, lines: &[Line]) -> Result<bool, NoMemory> {
+    let mut rest = standing_fds(alloc, Profile::Two, start, lines, 101)?;
+    let mut are_right = true;
+    for fd in [0, 3, 4, 5, 70] {
+        are_right = are_right && rest.pop_first() == Some(fd);
+    }
+    are_right = are_right && rest.is_empty();
+    drop(rest);
+    Ok(are_right)
+}
+
+/// Whether a descriptor from before the trace is needed, and a line is in the way of capability mode.
+fn needs(alloc: Global, lines: &[Line]) -> Result<bool, NoMemory> {
+    let live = live_behind(alloc, Profile::Two, 0, lines)?;
+    let is_right = is_named(live.rights(100, 7, OnExec::Unsure), b"CAP_FSYNC")
+        && live.blocked(100) == Some(6);
+    drop(live);
+    Ok(is_right)
+}
+
+/// Whether these are the limits of the pipe.
+fn are_of_pipe(limits: &[Limit]) -> bool {
+    match limits {
+        [first, second] => {
+            first.fd == 3
+                && is_named(first.rights, b"CAP_READ")
+                && second.fd == 4
+                && is_named(second.rights, b"CAP_WRITE")
+        }
+        _ => false,
+    }
+}
+
+/// The limits of the parent's standing descriptors between these lines.
+fn limits_between(
+    alloc: Global,
+    start: &Start,
+    before: &[Line],
+    later: &[Line],
+) -> Result<Vec<Limit>, NoMemory> {
+    let machine = machine_after(alloc, Profile::Two, start, before)?;
+    let live = live_behind(alloc, Profile::Two, 1, later)?;
+    let fds = standing_fds(alloc, Profile::Two, start, before, 100)?;
+    limits_among(alloc, &machine, &live, 100, fds)
+}
+
+/// Whether they are those of the pipe before the second line.
+fn limits_pipe(alloc: Global, start: &Start, lines: &[Line]) -> Result<bool, NoMemory> {
+    let (before, later) = lines.split_at(lines.len().min(1));
+    let limits = limits_between(alloc, start, before, later)?;
+    Ok(are_of_pipe(&limits))
+}
+
+/// Whether these are needed of one descriptor of which nothing is known.
+fn are_unknown(limits: &[Limit]) -> bool {
+    match limits {
+        [one] => one.fd == 7 && is_named(one.rights, b"CAP_FSYNC"),
+        _ => false,
+    }
+}
+
+/// Whether these are the limits of the parent before the second line.
+fn are_before(limits: &Limits) -> bool {
+    limits.pid == 100
+        && limits.entering == Entering::Blocked(6)
+        && are_of_pipe(&limits.held)
+        && are_unknown(&limits.unknown)
+}
+
+/// Whether they are answered so.
+fn limits_parent(alloc: Global, start: &Start, lines: &[Line]) -> Result<bool, NoMemory> {
+    match limits_before(alloc, Profile::Two, start, lines, 2)? {
+        Some(limits) => {
+            let is_right = are_before(&limits);
+            drop(limits);
+            Ok(is_right)
+        }
+        None => Ok(false),
+    }
+}
+
+/// Whether this is the limit of a descriptor behind the line at a position.
+fn is_limit(limit: &MakerLimit, at: usize, fd: Fd, name: &[u8]) -> bool {
+    limit.at == at && limit.fd == fd && is_named(limit.rights, name)
+}
+
+/// Whether the limits of what the lines made are those of the file and of the pipe.
+fn limits_made(alloc: Global, start: &Start, lines: &[Line]) -> Result<bool, NoMemory> {
+    let limits = limits_of_makers(alloc, Profile::Two, start, lines)?;
+    match limits.as_slice() {
+        [file, write, read] => Ok(
+            is_limit(file, 6, 5, b"CAP_FSTAT")
+                && is_limit(write, 1, 4, b"CAP_WRITE")
+                && is_limit(read, 1, 3, b"CAP_READ"),
+        ),
+        _ => Ok(false),
+    }
+}
+
+/// Asks for one of those: whether it is right.
+pub fn limits(alloc: Global, start: &Start, lines: &[Line], part: Part) -> Result<bool, NoMemory> {
+    match part {
+        Part::Followed => follows(alloc, start, lines),
+        Part::Standing => stands(alloc, start, lines),
+        Part::Live => needs(alloc, lines),
+        Part::Among => limits_pipe(alloc, start, lines),
+        Part::Before => limits_parent(alloc, start, lines),
+        Part::Makers => limits_made(alloc, start, lines),
+    }
+}
+
+/// Asks for one of those on the trace.
+fn try_part(alloc: Global, before: Before, part: Part) -> Result<(), Fail> {
+    try_all(alloc, before, &TRACE, &[OnTrace::Limits(part)])
+}
+
+#[test]
+fn follow_refused(rt: HostRuntime) -> Result<(), Fail> {
+    try_part(rt.alloc(), Before::Usual, Part::Followed)
+}
+
+/// The start lists two descriptors.
+#[test]
+fn standing_fds_refused(rt: HostRuntime) -> Result<(), Fail> {
+    try_part(rt.alloc(), CELLS, Part::Standing)
+}
+
+#[test]
+fn live_behind_refused(rt: HostRuntime) -> Result<(), Fail> {
+    try_part(rt.alloc(), Before::Usual, Part::Live)
+}
+
+#[test]
+fn limits_among_refused(rt: HostRuntime) -> Result<(), Fail> {
+    try_part(rt.alloc(), Before::Usual, Part::Among)
+}
+
+#[test]
+fn limits_before_refused(rt: HostRuntime) -> Result<(), Fail> {
+    try_part(rt.alloc(), Before::Usual, Part::Before)
+}
+
+#[test]
+fn limits_of_makers_refused(rt: HostRuntime) -> Result<(), Fail> {
+    try_part(rt.alloc(), Before::Usual, Part::Makers)
+}
+
+/// The scripts of these limits.
+static SCRIPTS: [(Query, &str); 2] = [
+    (
+        Query::Limits(None),
+        "insert 7 101 cap_rights_limit(5,CAP_FSTAT) RET 0\n\
+insert 2 100 cap_rights_limit(4,CAP_WRITE) RET 0\n\
+insert 2 100 cap_rights_limit(3,CAP_READ) RET 0\n",
+    ),
+    (
+        Query::Limits(Some(2)),
+        "# process 100 before line 2\n\
+insert 2 100 cap_rights_limit(3,CAP_READ) RET 0\n\
+insert 3 100 cap_rights_limit(4,CAP_WRITE) RET 0\n\
+# descriptor 7 isn't known; later calls need CAP_FSYNC\n\
+# no cap_enter: line 6, open of process 101\n",
+    ),
+];
+
+#[test]
+fn session_limits_refused(rt: HostRuntime) -> Result<(), Fail> {
+    ask_each(rt.alloc(), &TRACE, "findings 0\n", &SCRIPTS)
+}
