@@ -11,8 +11,10 @@ use cap_trace::{Fd, Line};
 use std::alloc::Global;
 use std::test::Fail;
 
-/// A pipe that a child reads, a descriptor from before the trace, and a file that the child opens.
-static TRACE: [&str; 7] = [
+/// A descriptor of which nothing is known, a pipe that a child reads, and a file that the child opens.
+static TRACE: [&str; 9] = [
+    "100 @start(0)",
+    "100 @foreign(7)",
     "100 pipe() RET 3,4",
     "100 fork() RET 101",
     "101 read(3) RET 1",
@@ -29,11 +31,11 @@ pub enum Part {
     Followed,
     /// Which descriptors of the child stand in what is known.
     Standing,
-    /// What the lines need.
+    /// What the fork and the lines behind it need.
     Live,
-    /// The limits of some descriptors before the second line.
+    /// The limits of some descriptors before the fork.
     Among,
-    /// All that is known of limits before the second line.
+    /// All that is known of limits before the fork.
     Before,
     /// The limits of what the lines made.
     Makers,
@@ -48,40 +50,46 @@ fn is_named(rights: RightSet, name: &[u8]) -> bool {
 fn follows(alloc: Global, start: &Start, lines: &[Line]) -> Result<bool, NoMemory> {
     let machine = machine_after(alloc, Profile::Two, start, lines)?;
     let whole = Cell::Held(RightSet::all(), OnExec::Clear);
-    let is_right = machine.cell(101, 5) == whole && machine.cell(100, 5) == Cell::Unknown;
+    let is_right = machine.cell(101, 5) == whole && machine.cell(100, 5) == Cell::Closed;
     drop(machine);
     Ok(is_right)
 }
 
-/// Whether the descriptors of the child stand that the start lists or a line made, and no others.
+/// Whether the descriptors of the child stand.
 fn stands(alloc: Global, start: &Start, lines: &[Line]) -> Result<bool, NoMemory> {
-    let mut rest = standing_fds(alloc, Profile::Two, start, lines, 101)?;
-    let mut are_right = true;
-    for fd in [0, 3, 4, 5, 70] {
-        are_right = are_right && rest.pop_first() == Some(fd);
-    }
-    are_right = are_right && rest.is_empty();
-    drop(rest);
-    Ok(are_right)
+    let fds = standing_fds(alloc, Profile::Two, start, lines, 101)?;
+    let do_stand = fds.contains(&0) && fds.contains(&3) && fds.contains(&4) && fds.contains(&5);
+    drop(fds);
+    Ok(do_stand)
 }
 
-/// Whether a descriptor from before the trace is needed, and a line is in the way of capability mode.
+/// The lines before the fork, and those from it on.
+fn parted(lines: &[Line]) -> (&[Line], &[Line]) {
+    lines.split_at(lines.len().min(3))
+}
+
+/// Whether the descriptor that isn't known is needed, and the fifth line from the fork on is in the way of capability mode.
 fn needs(alloc: Global, lines: &[Line]) -> Result<bool, NoMemory> {
-    let live = live_behind(alloc, Profile::Two, 0, lines)?;
+    let (_, later) = parted(lines);
+    let live = live_behind(alloc, Profile::Two, 0, later)?;
     let is_right = is_named(live.rights(100, 7, OnExec::Unsure), b"CAP_FSYNC")
-        && live.blocked(100) == Some(6);
+        && live.blocked(100) == Some(5);
     drop(live);
     Ok(is_right)
 }
 
-/// Whether these are the limits of the pipe.
-fn are_of_pipe(limits: &[Limit]) -> bool {
+/// Whether this limits a descriptor to the rights of a name.
+fn is_limit(limit: &Limit, fd: Fd, name: &[u8]) -> bool {
+    limit.fd == fd && is_named(limit.rights, name)
+}
+
+/// Whether these are the limits of what the parent holds before the fork.
+fn are_held(limits: &[Limit]) -> bool {
     match limits {
-        [first, second] => {
-            first.fd == 3
-                && is_named(first.rights, b"CAP_READ")
-                && second.fd == 4
-                && is_named(second.rights, b"CAP_WRITE")
+        [began, read, write] => {
+            is_limit(began, 0, b"NONE")
+                && is_limit(read, 3, b"CAP_READ")
+                && is_limit(write, 4, b"CAP_WRITE")
         }
         _ => false,
     }
@@ -95,37 +103,37 @@ fn limits_between(
     later: &[Line],
 ) -> Result<Vec<Limit>, NoMemory> {
     let machine = machine_after(alloc, Profile::Two, start, before)?;
-    let live = live_behind(alloc, Profile::Two, 1, later)?;
+    let live = live_behind(alloc, Profile::Two, 0, later)?;
     let fds = standing_fds(alloc, Profile::Two, start, before, 100)?;
     limits_among(alloc, &machine, &live, 100, fds)
 }
 
-/// Whether they are those of the pipe before the second line.
-fn limits_pipe(alloc: Global, start: &Start, lines: &[Line]) -> Result<bool, NoMemory> {
-    let (before, later) = lines.split_at(lines.len().min(1));
+/// Whether they are right before the fork.
+fn limits_held(alloc: Global, start: &Start, lines: &[Line]) -> Result<bool, NoMemory> {
+    let (before, later) = parted(lines);
     let limits = limits_between(alloc, start, before, later)?;
-    Ok(are_of_pipe(&limits))
+    Ok(are_held(&limits))
 }
 
 /// Whether these are needed of one descriptor of which nothing is known.
 fn are_unknown(limits: &[Limit]) -> bool {
     match limits {
-        [one] => one.fd == 7 && is_named(one.rights, b"CAP_FSYNC"),
+        [one] => is_limit(one, 7, b"CAP_FSYNC"),
         _ => false,
     }
 }
 
-/// Whether these are the limits of the parent before the second line.
+/// Whether these are the limits of the parent before the fork.
 fn are_before(limits: &Limits) -> bool {
     limits.pid == 100
-        && limits.entering == Entering::Blocked(6)
-        && are_of_pipe(&limits.held)
+        && limits.entering == Entering::Blocked(8)
+        && are_held(&limits.held)
         && are_unknown(&limits.unknown)
 }
 
 /// Whether they are answered so.
 fn limits_parent(alloc: Global, start: &Start, lines: &[Line]) -> Result<bool, NoMemory> {
-    match limits_before(alloc, Profile::Two, start, lines, 2)? {
+    match limits_before(alloc, Profile::Two, start, lines, 4)? {
         Some(limits) => {
             let is_right = are_before(&limits);
             drop(limits);
@@ -135,8 +143,8 @@ fn limits_parent(alloc: Global, start: &Start, lines: &[Line]) -> Result<bool, N
     }
 }
 
-/// Whether this is the limit of a descriptor behind the line at a position.
-fn is_limit(limit: &MakerLimit, at: usize, fd: Fd, name: &[u8]) -> bool {
+/// Whether this limits a descriptor to the rights of a name, behind the line at a position.
+fn is_behind(limit: &MakerLimit, at: usize, fd: Fd, name: &[u8]) -> bool {
     limit.at == at && limit.fd == fd && is_named(limit.rights, name)
 }
 
@@ -145,9 +153,9 @@ fn limits_made(alloc: Global, start: &Start, lines: &[Line]) -> Result<bool, NoM
     let limits = limits_of_makers(alloc, Profile::Two, start, lines)?;
     match limits.as_slice() {
         [file, write, read] => Ok(
-            is_limit(file, 6, 5, b"CAP_FSTAT")
-                && is_limit(write, 1, 4, b"CAP_WRITE")
-                && is_limit(read, 1, 3, b"CAP_READ"),
+            is_behind(file, 8, 5, b"CAP_FSTAT")
+                && is_behind(write, 3, 4, b"CAP_WRITE")
+                && is_behind(read, 3, 3, b"CAP_READ"),
         ),
         _ => Ok(false),
     }
@@ -159,7 +167,7 @@ pub fn limits(alloc: Global, start: &Start, lines: &[Line], part: Part) -> Resul
         Part::Followed => follows(alloc, start, lines),
         Part::Standing => stands(alloc, start, lines),
         Part::Live => needs(alloc, lines),
-        Part::Among => limits_pipe(alloc, start, lines),
+        Part::Among => limits_held(alloc, start, lines),
         Part::Before => limits_parent(alloc, start, lines),
         Part::Makers => limits_made(alloc, start, lines),
     }
@@ -205,17 +213,18 @@ fn limits_of_makers_refused(rt: HostRuntime) -> Result<(), Fail> {
 static SCRIPTS: [(Query, &str); 2] = [
     (
         Query::Limits(None),
-        "insert 7 101 cap_rights_limit(5,CAP_FSTAT) RET 0\n\
-insert 2 100 cap_rights_limit(4,CAP_WRITE) RET 0\n\
-insert 2 100 cap_rights_limit(3,CAP_READ) RET 0\n",
+        "insert 9 101 cap_rights_limit(5,CAP_FSTAT) RET 0\n\
+insert 4 100 cap_rights_limit(4,CAP_WRITE) RET 0\n\
+insert 4 100 cap_rights_limit(3,CAP_READ) RET 0\n",
     ),
     (
-        Query::Limits(Some(2)),
-        "# process 100 before line 2\n\
-insert 2 100 cap_rights_limit(3,CAP_READ) RET 0\n\
-insert 3 100 cap_rights_limit(4,CAP_WRITE) RET 0\n\
+        Query::Limits(Some(4)),
+        "# process 100 before line 4\n\
+insert 4 100 cap_rights_limit(0,NONE) RET 0\n\
+insert 5 100 cap_rights_limit(3,CAP_READ) RET 0\n\
+insert 6 100 cap_rights_limit(4,CAP_WRITE) RET 0\n\
 # descriptor 7 isn't known; later calls need CAP_FSYNC\n\
-# no cap_enter: line 6, open of process 101\n",
+# no cap_enter: line 8, open of process 101\n",
     ),
 ];
 
