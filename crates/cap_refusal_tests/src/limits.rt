@@ -68,7 +68,7 @@ fn parted(lines: &[Line]) -> (&[Line], &[Line]) {
     lines.split_at(lines.len().min(3))
 }
 
-/// Whether the descriptor that isn't known is needed, and the fifth line from the fork on is in the way of capability mode.
+/// Whether the descriptor that isn't known is needed, and the fifth line from the fork on is in the way.
 fn needs(alloc: Global, lines: &[Line]) -> Result<bool, NoMemory> {
     let (_, later) = parted(lines);
     let live = live_behind(alloc, Profile::Two, 0, later)?;

@@ -27,15 +27,23 @@ const DENIALS: &[u8] =
     b"1 100 write lacks 3 CAP_WRITE\n4 101 open inside\n5 101 read unexplained\ndenials 3\n";
 
 /// A pipe that a child reads, and a file that it opens.
-const LIMITED: &[u8] =
-    b"100 pipe() RET 3,4\n100 fork() RET 101\n101 read(3) RET 1\n100 write(4) RET 1\n100 fsync(70) RET 0\n101 open(\"a\",O_RDONLY) RET 5\n";
+const LIMITED: &[u8] = b"100 pipe() RET 3,4\n\
+100 fork() RET 101\n\
+101 read(3) RET 1\n\
+100 write(4) RET 1\n\
+100 fsync(70) RET 0\n\
+101 open(\"a\",O_RDONLY) RET 5\n";
 
-const MAKER_LIMITS: &[u8] =
-    b"insert 7 101 cap_rights_limit(5,NONE) RET 0\ninsert 2 100 cap_rights_limit(4,CAP_WRITE) RET 0\ninsert 2 100 cap_rights_limit(3,CAP_READ) RET 0\n";
+const MAKER_LIMITS: &[u8] = b"insert 7 101 cap_rights_limit(5,NONE) RET 0\n\
+insert 2 100 cap_rights_limit(4,CAP_WRITE) RET 0\n\
+insert 2 100 cap_rights_limit(3,CAP_READ) RET 0\n";
 
 /// Before the fork.
-const LIMITS_BEFORE: &[u8] =
-    b"# process 100 before line 2\ninsert 2 100 cap_rights_limit(3,CAP_READ) RET 0\ninsert 3 100 cap_rights_limit(4,CAP_WRITE) RET 0\ninsert 4 100 cap_rights_limit(70,CAP_FSYNC) RET 0\n# no cap_enter: line 6, open of process 101\n";
+const LIMITS_BEFORE: &[u8] = b"# process 100 before line 2\n\
+insert 2 100 cap_rights_limit(3,CAP_READ) RET 0\n\
+insert 3 100 cap_rights_limit(4,CAP_WRITE) RET 0\n\
+insert 4 100 cap_rights_limit(70,CAP_FSYNC) RET 0\n\
+# no cap_enter: line 6, open of process 101\n";
 
 const START: &[u8] = b"100 out closed 3=CAP_READ 70=ALL\n";
 
@@ -133,7 +141,7 @@ fn gives(alloc: Global, call: Call, outcome: Outcome, text: &[u8]) -> bool {
     ended == Ended(outcome) && kept.text() == text
 }
 
-/// Whether a call has this outcome and writes this, in a second call where the first lacks memory and has written nothing.
+/// Whether a call has this outcome and writes this, or a second one where the first lacks memory and wrote nothing.
 fn answers(alloc: Global, call: Call, outcome: Outcome, text: &[u8]) -> bool {
     Mark::Begin.set(alloc);
     let (ended, kept) = streamed(alloc, call);
