@@ -5,7 +5,7 @@ use Rattle.clap.specs.declared.error.Error.{Error}
 use Rattle.capcheck.specs.CommandLine.{capcheck}
 use Rattle.capcheck.specs.Plans.{Fits, TellsKind}
 use Rattle.capcheck.specs.declared.plan.Plan.{Plan}
-use Rattle.capcheck.specs.declared.plan.Plan.TheVariants.{Ask, Edit, Explain, Help, Usage, Memory}
+use Rattle.capcheck.specs.declared.plan.Plan.TheVariants.{Ask, Edit, Explain, Limits, Help, Usage, Memory}
 
 -- the answer to an error fits the words that have its kind
 pub told_fits : (words : List Text) (plan : Plan) (e : Error) → HasKind (fault_of capcheck words) e
@@ -19,3 +19,4 @@ told_fits words Memory e h t = tt
 told_fits words (Ask question subject) e h t = absurd t
 told_fits words (Edit subject script) e h t = absurd t
 told_fits words (Explain subject position) e h t = absurd t
+told_fits words (Limits subject at) e h t = absurd t

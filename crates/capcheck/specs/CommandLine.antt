@@ -58,17 +58,29 @@ edit_texts_words = with_rule (with_rule (new_app (codes "edit")) needed_trace_ru
 abbrev pub edit_words : App
 edit_words = with_options edit_texts_words
 
--- the position of a line
+-- the position of a line, which may be absent
 abbrev pub position_rule : Rule
-position_rule = record (new_rule (codes "position")) { value_names = 1; required = true }
+position_rule = record (new_rule (codes "position")) { value_names = 1 }
+
+-- one that may not be absent
+abbrev pub needed_position_rule : Rule
+needed_position_rule = record position_rule { required = true }
 
 -- explain FILE K
 abbrev pub explain_line_words : App
-explain_line_words = with_rule (with_rule (new_app (codes "explain")) needed_trace_rule) position_rule
+explain_line_words = with_rule (with_rule (new_app (codes "explain")) needed_trace_rule) needed_position_rule
 
 -- the same, with --start and the options
 abbrev pub explain_words : App
 explain_words = with_options (with_rule explain_line_words start_rule)
+
+-- limits FILE [K]
+abbrev pub limits_line_words : App
+limits_line_words = with_rule (with_rule (new_app (codes "limits")) needed_trace_rule) position_rule
+
+-- the same, with --start and the options
+abbrev pub limits_words : App
+limits_words = with_options (with_rule limits_line_words start_rule)
 
 -- the first word names a command, and there are --help, --version and help
 abbrev pub bare_words : App
@@ -82,5 +94,9 @@ bare_words = on_top (λ s. record s {
 abbrev pub asking_words : App
 asking_words = with_subcommand (with_subcommand bare_words check_words.top) denials_words.top
 
+-- with the one that replies to a script
+abbrev pub editing_words : App
+editing_words = with_subcommand asking_words edit_words.top
+
 abbrev pub capcheck : App
-capcheck = with_subcommand (with_subcommand asking_words edit_words.top) explain_words.top
+capcheck = with_subcommand (with_subcommand editing_words explain_words.top) limits_words.top

@@ -15,7 +15,7 @@ use Rattle.cap_machine.specs.declared.cell.Profile.TheVariants.{One, Two}
 use Rattle.cap_machine.specs.declared.question.Question.{Question}
 use Rattle.cap_machine.specs.declared.question.Question.TheVariants.{Findings, Denials}
 use Rattle.cap_session.specs.Commands.{position}
-use Rattle.capcheck.specs.declared.plan.Plan.TheVariants.{Ask, Edit, Explain, Help, Usage, Memory}
+use Rattle.capcheck.specs.declared.plan.Plan.TheVariants.{Ask, Edit, Explain, Limits, Help, Usage, Memory}
 
 -- What a run reads and how: the trace of this name, or standard input; what is known before the trace, nothing or what
 -- the text of this name says, or standard input; the profile; and whether words on standard error are asked for.
@@ -26,11 +26,12 @@ pub record Given : Type 0 where
   pub verbose : Bool
 
 -- a run of the program: a question that is asked of the trace; an edit, by the script of this name, or standard input;
--- an explanation, of the line at a position
+-- an explanation, of the line at a position; limits, before the line at a position or without one
 pub data Run : Type 0 where
   asks : Question → Given → Run
   edits : Given → Option Text → Run
   explains : Given → ℕ → Run
+  limits : Given → Option ℕ → Run
 
 -- what a name stands for: `-` is standard input
 abbrev pub text_named : Text → Option Text
@@ -93,19 +94,31 @@ edit_among rows = option_and_then (λ given.
     (edits given (text_among (codes "script") rows)))
     (given_by (text_among (codes "trace") rows) None rows)
 
--- the line that is to be explained, spelled as the positions of a script
+-- the position of a line, spelled as those of a script, or that none is named
+abbrev pub place_named : Option Text → Option (Option ℕ)
+place_named None = Some None
+place_named (Some word) = option_map Some (position word)
+
+abbrev pub place_among : List Row → Option (Option ℕ)
+place_among rows = place_named (first_of (codes "position") rows)
+
+-- the line that is to be explained
 abbrev pub position_among : List Row → Option ℕ
-position_among rows = option_and_then position (first_of (codes "position") rows)
+position_among rows = option_and_then (λ place. place) (place_among rows)
 
 abbrev pub explain_among : List Row → Option Run
 explain_among rows = option_and_then (λ given. option_map (explains given) (position_among rows)) (given_among rows)
+
+abbrev pub limits_among : List Row → Option Run
+limits_among rows = option_and_then (λ given. option_map (limits given) (place_among rows)) (given_among rows)
 
 -- the run that a command and the values of its arguments name
 abbrev pub run_in : Text × List Row → Option Run
 run_in found = if bytes_eq found.0 (codes "check") then ask_among Findings found.1
     else (if bytes_eq found.0 (codes "denials") then ask_among Denials found.1
     else (if bytes_eq found.0 (codes "edit") then edit_among found.1
-    else (if bytes_eq found.0 (codes "explain") then explain_among found.1 else None)))
+    else (if bytes_eq found.0 (codes "explain") then explain_among found.1
+    else (if bytes_eq found.0 (codes "limits") then limits_among found.1 else None))))
 
 -- the run that the words name by `clap`'s matches
 abbrev pub run_asked : List Text → Option Run
@@ -148,6 +161,7 @@ abbrev pub Fits : List Text → Plan → Type 0
 Fits words (Ask question subject) = NamesRun words (asks question (given_of subject))
 Fits words (Edit subject script) = NamesRun words (edits (given_of subject) (seen script))
 Fits words (Explain subject position) = NamesRun words (explains (given_of subject) position)
+Fits words (Limits subject at) = NamesRun words (limits (given_of subject) at)
 Fits words (Help text) = Requests (fault_of capcheck words)
 Fits words (Usage text) = IsMistake words
 Fits words Memory = Unit {0}
@@ -159,6 +173,7 @@ abbrev pub run_of : Plan → Option Run
 run_of (Ask question subject) = Some (asks question (given_of subject))
 run_of (Edit subject script) = Some (edits (given_of subject) (seen script))
 run_of (Explain subject position) = Some (explains (given_of subject) position)
+run_of (Limits subject at) = Some (limits (given_of subject) at)
 run_of (Help text) = None
 run_of (Usage text) = None
 run_of Memory = None
@@ -168,6 +183,7 @@ abbrev pub TellsKind : ErrorKind → Plan → Type 0
 TellsKind k (Ask question subject) = ⊥
 TellsKind k (Edit subject script) = ⊥
 TellsKind k (Explain subject position) = ⊥
+TellsKind k (Limits subject at) = ⊥
 TellsKind k (Help text) = IsRequest k
 TellsKind k (Usage text) = (k ≡ kind.OutOfMemory → ⊥) × (IsRequest k → ⊥)
 TellsKind k Memory = Unit {0}
@@ -177,6 +193,7 @@ abbrev pub TellsMistake : Plan → Type 0
 TellsMistake (Ask question subject) = ⊥
 TellsMistake (Edit subject script) = ⊥
 TellsMistake (Explain subject position) = ⊥
+TellsMistake (Limits subject at) = ⊥
 TellsMistake (Help text) = ⊥
 TellsMistake (Usage text) = Unit {0}
 TellsMistake Memory = Unit {0}

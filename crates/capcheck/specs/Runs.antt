@@ -5,10 +5,14 @@ use Rattle.std.specs.Borrow.{Bor}
 use Rattle.clap.specs.Words.{Text}
 use Rattle.cap_machine.specs.declared.cell.Profile.{Profile}
 use Rattle.cap_machine.specs.declared.question.Question.{Question}
+use Rattle.cap_machine.specs.State.{Added}
+use Rattle.cap_machine.specs.Table.{start_state}
 use Rattle.cap_session.specs.Devices.{SourceState, SinkState}
 use Rattle.cap_session.specs.StartStreams.{AskedStartStreams}
 use Rattle.cap_session.specs.EditStreams.{EditStreams}
-use Rattle.cap_session.specs.ExplainStreams.{ExplainStartStreams}
+use Rattle.cap_session.specs.AnswerStreams.{Says, AnswerStartStreams}
+use Rattle.cap_session.specs.ExplainStreams.{explain_says}
+use Rattle.cap_session.specs.LimitStreams.{limits_say}
 use Rattle.cap_session.specs.Outcome.{status_of, explain_status_of}
 use Rattle.cap_session.specs.declared.outcome.Outcome.{Outcome}
 use Rattle.cap_session.specs.declared.outcome.Outcome.TheVariants.{ReadFault}
@@ -17,7 +21,7 @@ use Rattle.cap_session.specs.declared.outcome.ExplainOutcome.TheVariants.{Ended}
 use Rattle.capcheck.specs.Texts.{Known, Gives, MayFail, holds}
 use Rattle.capcheck.specs.Plans.{Fits, seen}
 use Rattle.capcheck.specs.declared.plan.Plan.{Plan}
-use Rattle.capcheck.specs.declared.plan.Plan.TheVariants.{Ask, Edit, Explain, Help, Usage, Memory}
+use Rattle.capcheck.specs.declared.plan.Plan.TheVariants.{Ask, Edit, Explain, Limits, Help, Usage, Memory}
 
 -- how often each text may be read
 abbrev pub turns : ℕ
@@ -54,13 +58,17 @@ EditsText profile trace script w0 w1 outcome = Unopened (MayFail trace ⊎ MayFa
     ⊎ OpensBoth trace script (λ r0 r1 s0 s1. EditStreams profile turns r0 r1 s0 s1 w0 w1 outcome)
 
 -- a text can't be opened, and nothing was written
-abbrev pub Unexplained : Type 0 → SinkState → SinkState → ExplainOutcome → Type 0
-Unexplained may_fail w0 w1 outcome = (o : Outcome) × Unopened may_fail w0 w1 o × (outcome ≡ Ended o)
+abbrev pub Unanswered : Type 0 → SinkState → SinkState → ExplainOutcome → Type 0
+Unanswered may_fail w0 w1 outcome = (o : Outcome) × Unopened may_fail w0 w1 o × (outcome ≡ Ended o)
 
--- line k of the trace was explained from the start
-abbrev pub ExplainsText : Profile → ℕ → Known → Known → SinkState → SinkState → ExplainOutcome → Type 0
-ExplainsText profile k start trace w0 w1 outcome = Unexplained (MayFail start ⊎ MayFail trace) w0 w1 outcome
-    ⊎ OpensBoth start trace (λ z0 z1 r0 r1. ExplainStartStreams profile turns k z0 z1 r0 r1 w0 w1 outcome)
+-- the trace was read from the start, and then answered
+abbrev pub AnswersText : (List Added → Says) → Known → Known → SinkState → SinkState → ExplainOutcome → Type 0
+AnswersText says start trace w0 w1 outcome = Unanswered (MayFail start ⊎ MayFail trace) w0 w1 outcome
+    ⊎ OpensBoth start trace (λ z0 z1 r0 r1. AnswerStartStreams says turns z0 z1 r0 r1 w0 w1 outcome)
+
+-- line k of the trace is explained from the start
+abbrev pub explanation_says : Profile → ℕ → List Added → Says
+explanation_says profile k start = explain_says profile k (start_state start)
 
 -- What is known of the start: where none is named it is an empty text, which is the usual start.
 abbrev pub known_start : (Option Text → Known) → Option (Option (Bor Text)) → Known
@@ -71,8 +79,8 @@ known_start known (Some name) = known (seen name)
 abbrev pub StatusBy : (Outcome → Type 0) → ℕ → Type 0
 StatusBy P status = (outcome : Outcome) × P outcome × (status ≡ status_of outcome)
 
-abbrev pub ExplainStatusBy : (ExplainOutcome → Type 0) → ℕ → Type 0
-ExplainStatusBy P status = (outcome : ExplainOutcome) × P outcome × (status ≡ explain_status_of outcome)
+abbrev pub AnswerStatusBy : (ExplainOutcome → Type 0) → ℕ → Type 0
+AnswerStatusBy P status = (outcome : ExplainOutcome) × P outcome × (status ≡ explain_status_of outcome)
 
 -- A plan was carried out, where this is known of the texts of names.
 abbrev pub CarriesOut : (Option Text → Known) → SinkState → SinkState → Plan → ℕ → Type 0
@@ -82,7 +90,10 @@ CarriesOut known w0 w1 (Ask question subject) status =
 CarriesOut known w0 w1 (Edit subject script) status =
     StatusBy (EditsText subject.profile (known (seen subject.trace)) (known (seen script)) w0 w1) status
 CarriesOut known w0 w1 (Explain subject position) status =
-    ExplainStatusBy (ExplainsText subject.profile position (known_start known subject.start)
+    AnswerStatusBy (AnswersText (explanation_says subject.profile position) (known_start known subject.start)
+    (known (seen subject.trace)) w0 w1) status
+CarriesOut known w0 w1 (Limits subject at) status =
+    AnswerStatusBy (AnswersText (limits_say subject.profile at) (known_start known subject.start)
     (known (seen subject.trace)) w0 w1) status
 -- 3 where it can't be printed
 CarriesOut known w0 w1 (Help text) status = (w1 ≡ w0) × ((status ≡ 0) ⊎ (status ≡ 3))

@@ -6,7 +6,7 @@ pub const VERSION: &str = "0.1.0";
 /// The end of `capcheck --help`.
 pub const PROGRAM: &str = "\
 Exit status:
-  0  nothing was found; also after help
+  0  nothing was found; also after help and limits
   1  something was found
   2  the command line is wrong, or a line of the trace was refused
   3  no answer, for the reason on standard error:
@@ -22,6 +22,7 @@ Examples:
   capcheck edit server.trace session.script
   capcheck explain server.trace 9
   capcheck denials server.trace
+  capcheck limits server.trace 5
 
 `capcheck help check` and the same for each other command say more.";
 
@@ -162,3 +163,46 @@ Exit status:
 
 Example:
   capcheck denials server.trace";
+
+/// The end of `capcheck limits --help`.
+pub const LIMITS: &str = "\
+Reads the trace, and prints a script for `capcheck edit` that limits descriptors to
+the rights which later lines need of them. With K the limits stand before line K, for
+the process of that line:
+  # process 201 before line 4
+  insert 4 201 cap_rights_limit(0,NONE) RET 0
+  insert 5 201 cap_rights_limit(1,NONE) RET 0
+  insert 6 201 cap_rights_limit(2,NONE) RET 0
+  insert 7 201 cap_rights_limit(3,NONE) RET 0
+  # descriptor 4 isn't known; later calls need CAP_READ|CAP_WRITE
+  insert 8 201 cap_enter() RET 0
+There is a limit for each descriptor that is known to be held, but for those that a
+start gives only by what it says of all others. In place of cap_enter() a comment may
+say that the process is in capability mode already, or name the first line that the
+mode would forbid:
+  # process 201 is in capability mode already
+  # no cap_enter: line 5, openat of process 201
+
+Without K there is a limit right behind each line that made a descriptor which is
+then known to be held. The last comes first, so that each position is one of the
+trace:
+  insert 8 300 cap_rights_limit(4,CAP_READ) RET 0
+  insert 3 300 cap_rights_limit(3,CAP_READ|CAP_SEEK) RET 0
+
+With the script in the trace no line has a finding that it hadn't before, and with
+one right less some line lacks that right. Calls that failed need nothing.
+
+A trace or a start with a line that can't be read is refused as by `check`. Where
+the trace has no line K, that is refused:
+  refused E7
+The start and the profiles are those of `check`.
+
+Exit status:
+  0  the script was printed
+  2  the command line is wrong, a line was refused, or there is no line K
+  3  no answer: memory ran out (E9), a file can't be opened or read (E11),
+     standard output can't be written (E12), or an input has no end (E13)
+
+Examples:
+  capcheck limits server.trace
+  capcheck limits server.trace 5 | capcheck edit server.trace";

@@ -1,5 +1,5 @@
-//! What the words of the command line ask for: a check or its denials, an edit, an explanation, help, or nothing, where
-//! they are a mistake.
+//! What the words of the command line ask for: a check or its denials, an edit, an explanation, limits, help, or
+//! nothing, where they are a mistake.
 //!
 //! `clap` reads the words. [`plan_of`] makes a [`Plan`] of its matches or of its error.
 ghost use Rattle.std.specs.Prelude.{◌≡◌, IfOk, IsTrue, Some, ◌↔◌, codes, map, option_and_then, option_map};
@@ -8,8 +8,8 @@ ghost use Rattle.clap.specs.Words.{subcommand_rows_of};
 ghost use Rattle.capcheck.specs.CommandLine.{capcheck};
 ghost use Rattle.capcheck.specs.Plans.{Fits, IsRequest, TellsKind, TellsMistake, ask_among, edit_among};
 ghost use Rattle.capcheck.specs.Plans.{explain_among, given_among, given_by, given_of, is_input_twice};
-ghost use Rattle.capcheck.specs.Plans.{position_among, profile_among, profile_named, run_in, run_of, seen};
-ghost use Rattle.capcheck.specs.Plans.{start_among, text_among, text_named, verbose_among};
+ghost use Rattle.capcheck.specs.Plans.{limits_among, place_among, profile_among, profile_named, run_in, run_of};
+ghost use Rattle.capcheck.specs.Plans.{seen, start_among, text_among, text_named, verbose_among};
 
 use crate::words::command;
 use cap_machine::{Profile, Question};
@@ -58,6 +58,12 @@ pub enum Plan<'a> {
         subject: Subject<'a>,
         position: usize,
     },
+    /// Write the limits that later lines need, before the line at this position of the trace, or where there is none
+    /// behind each line that made a descriptor.
+    Limits {
+        subject: Subject<'a>,
+        at: Option<usize>,
+    },
     /// Print this text, help or the version, which was asked for.
     Help(String),
     /// Print this text: the words are a mistake.
@@ -68,9 +74,9 @@ pub enum Plan<'a> {
 
 /// What the words after the program's name ask for.
 ///
-/// - `Ask`, `Edit` and `Explain`: only where `clap` finds no fault in the words, and with just the names, the options,
-///   the position and the profile that its matches give. The name `-` is standard input, as is a trace or a script that
-///   isn't named. The profile is 1 where the words name none.
+/// - `Ask`, `Edit`, `Explain` and `Limits`: only where `clap` finds no fault in the words, and with just the names, the
+///   options, the position and the profile that its matches give. The name `-` is standard input, as is a trace or a
+///   script that isn't named. The profile is 1 where the words name none.
 /// - `Help`: only where they ask for help or for the version.
 /// - `Usage`: only where they are a mistake. `clap` finds it, or the profile is neither 1 nor 2, or the position is no
 ///   number as a script spells it, or two texts are standard input.
@@ -112,6 +118,7 @@ fn plan_named<'a>(name: &str, found: &ArgMatches<'a>) -> Option<Plan<'a>>
         "denials" => ask_in(found, Question::Denials),
         "edit" => edit_in(found),
         "explain" => explain_in(found),
+        "limits" => limits_in(found),
         _ => None,
     }
 }
@@ -141,8 +148,17 @@ fn explain_in<'a>(found: &ArgMatches<'a>) -> Option<Plan<'a>>
     ensures { option_map run_of result ≡ option_map Some (explain_among (rows_of (found_of found.now))) }
 {
     let subject = subject_in(found)?;
-    let position = position_in(found)?;
+    let position = place_in(found)??;
     Some(Plan::Explain { subject, position })
+}
+
+/// The plan of the arguments of `limits`.
+fn limits_in<'a>(found: &ArgMatches<'a>) -> Option<Plan<'a>>
+    ensures { option_map run_of result ≡ option_map Some (limits_among (rows_of (found_of found.now))) }
+{
+    let subject = subject_in(found)?;
+    let at = place_in(found)?;
+    Some(Plan::Limits { subject, at })
 }
 
 /// The trace and the start that the arguments name, and the options.
@@ -216,12 +232,14 @@ fn is_verbose(found: &ArgMatches<'_>) -> bool
     }
 }
 
-/// The position that the arguments name.
-fn position_in(found: &ArgMatches<'_>) -> Option<usize>
-    ensures { result ≡ position_among (rows_of (found_of found.now)) }
+/// The position that the arguments name, where they name one.
+fn place_in(found: &ArgMatches<'_>) -> Option<Option<usize>>
+    ensures { result ≡ place_among (rows_of (found_of found.now)) }
 {
-    let word = value(found, "position")?;
-    number_of(word.as_bytes())
+    match value(found, "position") {
+        Some(word) => Some(Some(number_of(word.as_bytes())?)),
+        None => Some(None),
+    }
 }
 
 /// The profile that the arguments name.
@@ -280,7 +298,7 @@ fn no_run<'a>(alloc: Global, matches: &ArgMatches<'_>) -> Plan<'a>
 /// What is wrong with such words.
 fn mistake_in(matches: &ArgMatches<'_>) -> &'static str {
     match matches.subcommand() {
-        Some(("explain", found)) if position_in(found).is_none() => NO_POSITION,
+        Some((_, found)) if place_in(found).is_none() => NO_POSITION,
         Some((_, found)) if profile_in(found).is_none() => NO_PROFILE,
         _ => INPUT_TWICE,
     }

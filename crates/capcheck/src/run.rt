@@ -1,5 +1,6 @@
 //! What the program does with its words: it opens the texts, asks what is to be asked of the trace, replies to the
-//! script or explains the line, says on standard error why there is no answer, and ends with the exit status.
+//! script, explains the line or writes limits, says on standard error why there is no answer, and ends with the exit
+//! status.
 //!
 //! [`run`] takes words and devices from the runtime. [`answer`] is all the rest, over any texts and any output.
 
@@ -10,7 +11,9 @@ ghost use Rattle.cap_session.specs.Outcome.{status_of, explain_status_of};
 ghost use Rattle.cap_session.specs.StartTexts.{start as start_said};
 ghost use Rattle.capcheck.specs.Faults.{fault_code};
 ghost use Rattle.capcheck.specs.Plans.{seen};
-ghost use Rattle.capcheck.specs.Runs.{AsksText, CarriesOut, EditsText, ExplainsText, Finishes, known_start};
+ghost use Rattle.cap_session.specs.LimitStreams.{limits_say};
+ghost use Rattle.capcheck.specs.Runs.{AnswersText, AsksText, CarriesOut, EditsText, Finishes, explanation_says};
+ghost use Rattle.capcheck.specs.Runs.{known_start};
 ghost use Rattle.capcheck.specs.Texts.{Gives, MayFail};
 
 use crate::messages::{Messages, Output};
@@ -20,7 +23,7 @@ use crate::texts::{SystemTexts, Texts};
 use cap_machine::Question;
 use cap_session::{
     Counted, ExplainOutcome, Failed, Outcome, Sink, check_stream_from_as, denials_stream,
-    edit_stream_as, explain_stream_from_as,
+    edit_stream_as, explain_stream_from_as, limits_stream,
 };
 use std::alloc::Global;
 use std::rt::{Env, Files};
@@ -114,7 +117,12 @@ fn carry_out<T: Texts, W: Sink, R: Print + Eprint + AllocGlobal>(
         Plan::Explain { subject, position } => {
             let messages = Messages::of(notes, &subject);
             let outcome = explain(rt.alloc(), texts, output, &subject, position);
-            ended_explaining(rt, &messages, outcome, position)
+            ended_answering(rt, &messages, outcome, Some(position))
+        }
+        Plan::Limits { subject, at } => {
+            let messages = Messages::of(notes, &subject);
+            let outcome = limits(rt.alloc(), texts, output, &subject, at);
+            ended_answering(rt, &messages, outcome, at)
         }
         Plan::Help(text) => match rt.print(text) {
             Ok(()) => 0,
@@ -225,8 +233,9 @@ pub fn explain<T: Texts, W: Sink>(
     position: usize,
 ) -> ExplainOutcome
     requires { 1 ≤ (W.state output.old).room }
-    ensures { ExplainsText subject.now.profile position (known_start (T.known texts.now) subject.now.start)
-        (T.known texts.now (seen subject.now.trace)) (W.state output.old) (W.state output.new) result }
+    ensures { AnswersText (explanation_says subject.now.profile position)
+        (known_start (T.known texts.now) subject.now.start) (T.known texts.now (seen subject.now.trace))
+        (W.state output.old) (W.state output.new) result }
 {
     let Ok(opened) = open_both(texts, subject) else {
         return ExplainOutcome::Ended(Outcome::ReadFault);
@@ -236,6 +245,28 @@ pub fn explain<T: Texts, W: Sink>(
     explain_stream_from_as(
         alloc, profile, TURNS, position, &mut start, &mut trace, output,
     )
+}
+
+/// Writes the limits that later lines of the trace need, in the profile, from the start, or why there are none. The texts
+/// are opened as those of [`explain`].
+pub fn limits<T: Texts, W: Sink>(
+    alloc: Global,
+    texts: &T,
+    output: &mut W,
+    subject: &Subject<'_>,
+    at: Option<usize>,
+) -> ExplainOutcome
+    requires { 1 ≤ (W.state output.old).room }
+    ensures { AnswersText (limits_say subject.now.profile at)
+        (known_start (T.known texts.now) subject.now.start) (T.known texts.now (seen subject.now.trace))
+        (W.state output.old) (W.state output.new) result }
+{
+    let Ok(opened) = open_both(texts, subject) else {
+        return ExplainOutcome::Ended(Outcome::ReadFault);
+    };
+    let (mut start, mut trace) = opened;
+    let profile = subject.profile;
+    limits_stream(alloc, profile, TURNS, at, &mut start, &mut trace, output)
 }
 
 /// Prints on standard error what is wrong with the words; whether that can be written doesn't matter.
@@ -258,20 +289,22 @@ fn ended<R: Eprint + AllocGlobal>(rt: &R, messages: &Messages<'_, '_>, outcome: 
     outcome.status()
 }
 
-/// The exit status of a call that explains the line at a position, as [`ended`] has it. Where there is no such line it
-/// is that of a refused one.
-fn ended_explaining<R: Eprint + AllocGlobal>(
+/// The exit status of a call that answers of a whole trace, as [`ended`] has it, or of the line at a position. Where
+/// there is no such line it is that of a refused one.
+fn ended_answering<R: Eprint + AllocGlobal>(
     rt: &R,
     messages: &Messages<'_, '_>,
     how: ExplainOutcome,
-    position: usize,
+    at: Option<usize>,
 ) -> u8
     ensures { result ≡ explain_status_of how }
 {
     match how {
         ExplainOutcome::Ended(outcome) => ended(rt, messages, outcome),
         ExplainOutcome::OutOfRange => {
-            messages.tell_no_line(rt, position);
+            if let Some(position) = at {
+                messages.tell_no_line(rt, position);
+            }
             how.status()
         }
     }

@@ -6,9 +6,9 @@ ghost use Rattle.clap.specs.Words.{app_of, rule_of, shape_of};
 ghost use Rattle.clap.specs.declared.builder.command.Command.TheViews.{out-Command};
 ghost use Rattle.capcheck.specs.CommandLine.{asking_words, bare_words, capcheck, check_words, denials_words};
 ghost use Rattle.capcheck.specs.CommandLine.{check_trace_words, denials_trace_words, edit_texts_words, edit_words};
-ghost use Rattle.capcheck.specs.CommandLine.{explain_line_words, explain_words};
-ghost use Rattle.capcheck.specs.CommandLine.{needed_trace_rule, position_rule, profile_rule, script_rule, start_rule};
-ghost use Rattle.capcheck.specs.CommandLine.{trace_rule, verbose_rule};
+ghost use Rattle.capcheck.specs.CommandLine.{editing_words, explain_line_words, explain_words, limits_line_words};
+ghost use Rattle.capcheck.specs.CommandLine.{limits_words, needed_position_rule, needed_trace_rule, position_rule};
+ghost use Rattle.capcheck.specs.CommandLine.{profile_rule, script_rule, start_rule, trace_rule, verbose_rule};
 
 use crate::help;
 use clap::{Arg, ArgAction, Command};
@@ -18,9 +18,16 @@ use std::alloc::{AllocError, Global};
 pub fn command<'a>(alloc: Global) -> Result<Command<'a>, AllocError>
     ensures { IfOk result (λ c. app_of c ≡ capcheck) }
 {
-    asking_command(alloc)?
-        .subcommand(edit_command(alloc)?)?
-        .subcommand(explain_command(alloc)?)
+    editing_command(alloc)?
+        .subcommand(explain_command(alloc)?)?
+        .subcommand(limits_command(alloc)?)
+}
+
+/// The commands but for those that answer of a whole trace.
+fn editing_command<'a>(alloc: Global) -> Result<Command<'a>, AllocError>
+    ensures { IfOk result (λ c. app_of c ≡ editing_words) }
+{
+    asking_command(alloc)?.subcommand(edit_command(alloc)?)
 }
 
 /// The commands that read a trace as it comes.
@@ -159,7 +166,7 @@ fn edit_texts_command<'a>(alloc: Global) -> Result<Command<'a>, AllocError>
         .arg(script_arg(alloc))
 }
 
-/// The trace of `edit`.
+/// The trace where it must be named.
 fn needed_trace_arg<'a>(alloc: Global) -> Arg<'a>
     ensures rule { rule_of result ≡ needed_trace_rule }
     ensures local { result.global ≡ false }
@@ -200,16 +207,49 @@ fn explain_line_command<'a>(alloc: Global) -> Result<Command<'a>, AllocError>
         .about("Shows a line of a trace with its findings, and the lines that they rest on")
         .after_help(help::EXPLAIN)
         .arg(needed_trace_arg(alloc))?
-        .arg(position_arg(alloc))
+        .arg(needed_position_arg(alloc))
 }
 
 /// The position of `explain`.
-fn position_arg<'a>(alloc: Global) -> Arg<'a>
-    ensures rule { rule_of result ≡ position_rule }
+fn needed_position_arg<'a>(alloc: Global) -> Arg<'a>
+    ensures rule { rule_of result ≡ needed_position_rule }
     ensures local { result.global ≡ false }
 {
     Arg::new(alloc, "position")
         .value_name("K")
         .required(true)
         .help("The line, counted from 1 without empty lines and comments")
+}
+
+/// `limits FILE [K]`, with `--start` and the options.
+fn limits_command<'a>(alloc: Global) -> Result<Command<'a>, AllocError>
+    ensures shape { IfOk result (λ c. shape_of c ≡ limits_words.top) }
+    ensures local { IfOk result (λ c. (out-Command c).has_globals ≡ false) }
+{
+    limits_line_command(alloc)?
+        .arg(start_arg(alloc))?
+        .arg(profile_arg(alloc))?
+        .arg(verbose_arg(alloc))
+}
+
+/// `limits FILE [K]`.
+fn limits_line_command<'a>(alloc: Global) -> Result<Command<'a>, AllocError>
+    ensures shape { IfOk result (λ c. shape_of c ≡ limits_line_words.top) }
+    ensures local { IfOk result (λ c. (out-Command c).has_globals ≡ false) }
+{
+    Command::new(alloc, "limits")
+        .about("Writes a script that limits descriptors to the rights that later lines need")
+        .after_help(help::LIMITS)
+        .arg(needed_trace_arg(alloc))?
+        .arg(position_arg(alloc))
+}
+
+/// The position of `limits`.
+fn position_arg<'a>(alloc: Global) -> Arg<'a>
+    ensures rule { rule_of result ≡ position_rule }
+    ensures local { result.global ≡ false }
+{
+    Arg::new(alloc, "position").value_name("K").help(
+        "The line before which to limit, counted as by explain; else behind each line that made a descriptor",
+    )
 }
