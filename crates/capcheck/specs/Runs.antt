@@ -68,7 +68,7 @@ AnswersText says start trace w0 w1 outcome = Unanswered (MayFail start ⊎ MayFa
 
 -- line k of the trace is explained from the start
 abbrev pub explanation_says : Profile → ℕ → List Added → Says
-explanation_says profile k start = explain_says profile k (start_state start)
+explanation_says profile k = λ (start : List Added). explain_says profile k (start_state start)
 
 -- What is known of the start: where none is named it is an empty text, which is the usual start.
 abbrev pub known_start : (Option Text → Known) → Option (Option (Bor Text)) → Known
