@@ -8,8 +8,8 @@
 #   make examples   the same scripts alone, with ./capcheck
 #   make wrong      the wrong bodies that the gate leaves out (tests/wrong), each of which the prover must refuse: this takes hours
 #   make refusals   each call that takes memory, with each of its allocations refused
-#   make bench      times the program, and reading alone, on traces of a million lines beside `wc -l`, and sessions beside a check;
-#                   where valgrind is installed, counts instructions too
+#   make bench      times the program, and reading alone, on traces of a million lines beside `wc -l`, and sessions, denials and
+#                   limits beside a check; where valgrind is installed, counts instructions too
 #   make install    puts the program, its tools, manual pages and completions under PREFIX (default /usr/local)
 #   make uninstall  takes them away
 
@@ -68,6 +68,7 @@ bench: capcheck
 	bench/run ./capcheck
 	bench/edits ./capcheck
 	bench/sessions ./capcheck
+	bench/commands ./capcheck
 	bench/reading
 	if command -v valgrind >/dev/null; then bench/instructions ./capcheck; bench/edited ./capcheck; bench/replaced ./capcheck; fi
 

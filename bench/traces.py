@@ -368,6 +368,19 @@ def packed(lines):
     return out[:lines]
 
 
+def families(lines):
+    """One process makes half as many descriptors as there are lines to be. Then all processes fork, again and again, and in the end
+    each uses descriptors that no other does: what the children need comes together in their parents."""
+    pids = 1 << (lines // 32).bit_length() - 1
+    count = (lines - pids) // 2
+    out = ["1 @start()"] + [f"1 socket(0) RET {fd}" for fd in range(count)]
+    grown = 1
+    while grown < pids:
+        out += [f"{pid} fork() RET {pid + grown}" for pid in range(1, grown + 1)]
+        grown *= 2
+    return out + [f"{fd % pids + 1} read({fd}) RET 1" for fd in range(count)]
+
+
 def execs(lines):
     """One process makes many descriptors, half as many as there are lines to be, and then forks; the child closes one, executes
     a program, closes those above a number, and another one, in turn. For profile 2."""
@@ -428,7 +441,7 @@ TRACES = {
     make.__name__: make
     for make in (
         quiet, loud, wide, forms, mixed, crowd, hostile, pairs, spread, closes, socketpairs, chain, long_chain, narrowing, long_narrowing,
-        limits, heirs, lineage, strangers, starts, packed, execs, turns,
+        limits, heirs, lineage, families, strangers, starts, packed, execs, turns,
     )
 }
 
