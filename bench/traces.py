@@ -208,7 +208,7 @@ LAST_PID = 99_999
 
 def scattered(count, shift):
     """As many descriptors, far from one another."""
-    step = LAST_FD // count
+    step = LAST_FD // max(count, 1)
     return [place * step + shift % step for place in range(count)]
 
 
