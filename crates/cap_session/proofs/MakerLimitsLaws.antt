@@ -21,7 +21,8 @@ use Rattle.cap_session.specs.LimitScriptLaws.{with_script}
 use Rattle.cap_session.specs.LimitTextLaws.{checked, moved_down, MakerLimitsAreEnough, MakerLimitsAreLeast}
 use Rattle.cap_session.proofs.LimitCells.{start_holds_sets}
 use Rattle.cap_session.proofs.MakersEnough.{within_spots}
-use Rattle.cap_session.proofs.MakerSpots.{Spot, lines_of, limits_of, AreAt, AreAligned, maker_row, rows_of, rows_among}
+use Rattle.cap_session.proofs.MakerPlaces.{AreAt}
+use Rattle.cap_session.proofs.MakerSpots.{Spot, lines_of, limits_of, AreAligned, maker_row, rows_of, rows_among}
 use Rattle.cap_session.proofs.MakerSpots.{limited, all_limited, makers_steps, spots_of}
 
 -- ---- enough

@@ -11,22 +11,23 @@ use Rattle.cap_machine.specs.Makers.{Place, place_of, held_place, held_places, m
 use Rattle.cap_machine.specs.State.{State}
 use Rattle.cap_session.specs.LimitScripts.{script_text, makers_script, maker_lines, maker_line, bytes_of}
 
-abbrev AllAt : ℕ → List Place → Type 0
-AllAt at [] = Unit {0}
-AllAt at (place ∷ places) = (place.0 ≡ at) × AllAt at places
+-- each is of this position and process
+abbrev pub AreAt : ℕ → ℕ → List Place → Type 0
+AreAt at p [] = Unit {0}
+AreAt at p (place ∷ places) = ((place.0 ≡ at) × (place.1 ≡ p)) × AreAt at p places
 
-at_both : (at : ℕ) (xs ys : List Place) → AllAt at xs → AllAt at ys → AllAt at (xs ++ ys)
-at_both at [] ys h k = k
-at_both at (x ∷ xs) ys h k = (h.0, at_both at xs ys h.1 k)
+at_both : (at p : ℕ) (xs ys : List Place) → AreAt at p xs → AreAt at p ys → AreAt at p (xs ++ ys)
+at_both at p [] ys h k = k
+at_both at p (x ∷ xs) ys h k = (h.0, at_both at p xs ys h.1 k)
 
-one_at : (c : Cell) (at p f : ℕ) → AllAt at (held_place c at p f)
+one_at : (c : Cell) (at p f : ℕ) → AreAt at p (held_place c at p f)
 one_at Unknown at p f = tt
 one_at Closed at p f = tt
-one_at (Held rights flag) at p f = (refl, tt)
+one_at (Held rights flag) at p f = ((refl, refl), tt)
 
-held_at : (s : State) (at p : ℕ) (fds : List ℕ) → AllAt at (held_places s at p fds)
+pub held_at : (s : State) (at p : ℕ) (fds : List ℕ) → AreAt at p (held_places s at p fds)
 held_at s at p [] = tt
-held_at s at p (f ∷ fds) = at_both at (held_place (s.cell p f) at p f) (held_places s at p fds)
+held_at s at p (f ∷ fds) = at_both at p (held_place (s.cell p f) at p f) (held_places s at p fds)
     (one_at (s.cell p f) at p f) (held_at s at p fds)
 
 abbrev Below : ℕ → List MakerLimit → Type 0
@@ -37,9 +38,9 @@ below_both : (n : ℕ) (xs ys : List MakerLimit) → Below n xs → Below n ys �
 below_both n [] ys h k = k
 below_both n (x ∷ xs) ys h k = (h.0, below_both n xs ys h.1 k)
 
-own_below : (n at : ℕ) (own : List MakerLimit) → AllAt at (map place_of own) → at < n → Below n own
-own_below n at [] h lt = tt
-own_below n at (limit ∷ own) h lt = (subst (λ (x : ℕ). x < n) (sym h.0) lt, own_below n at own h.1 lt)
+own_below : (n at p : ℕ) (own : List MakerLimit) → AreAt at p (map place_of own) → at < n → Below n own
+own_below n at p [] h lt = tt
+own_below n at p (limit ∷ own) h lt = (subst (λ (x : ℕ). x < n) (sym h.0.0) lt, own_below n at p own h.1 lt)
 
 limits_below : (s : State) (at : ℕ) (trace : List Step) (limits : List MakerLimit) → AreMakerLimits s at trace limits
     → Below (at + length trace) limits
@@ -51,8 +52,9 @@ limits_below s at (step ∷ later) limits are =
     let same : at + 1 + length later ≡ at + suc (length later) = omega arith in
     let others : Below (at + suc (length later)) behind =
     subst (λ (m : ℕ). Below m behind) same (limits_below next (at + 1) later behind before) in
-    let mine : Below (at + suc (length later)) own = own_below (at + suc (length later)) at own
-    (subst (AllAt at) (sym places) (held_at next at step.line.pid (made_fds step.line.item))) (omega arith) in
+    let p = step.line.pid in
+    let mine : Below (at + suc (length later)) own = own_below (at + suc (length later)) at p own
+    (subst (AreAt at p) (sym places) (held_at next at p (made_fds step.line.item))) (omega arith) in
     subst (Below (at + suc (length later))) (sym cut) (below_both (at + suc (length later)) behind own others mine)
 
 all_below : (m n : ℕ) (limits : List MakerLimit) → Below m limits → m ≤ n

@@ -7,18 +7,17 @@ use Rattle.std.proofs.lemmas.List.{map-append, append-nil}
 use Rattle.std.proofs.lemmas.List.Elements.{All-head, All-tail, All-append, All-cons, All-nil}
 use Rattle.cap_trace.specs.Entry.{Entry}
 use Rattle.cap_machine.specs.declared.cell.Profile.{Profile}
-use Rattle.cap_machine.specs.declared.cell.Cell.{Cell}
-use Rattle.cap_machine.specs.declared.cell.Cell.TheVariants.{Unknown, Closed, Held}
 use Rattle.cap_machine.specs.declared.makers.MakerLimit.{MakerLimit}
 use Rattle.cap_machine.specs.declared.step.Step.{Step}
 use Rattle.cap_machine.specs.History.{ended}
 use Rattle.cap_machine.specs.LimitLaws.{Row, IsLimit, Limited, AreLimits, limit_step, with_limits, without_limits}
-use Rattle.cap_machine.specs.Makers.{Place, place_of, held_place, held_places, made_fds, AreMakerLimits}
+use Rattle.cap_machine.specs.Makers.{place_of, made_fds, AreMakerLimits}
 use Rattle.cap_machine.specs.State.{State}
 use Rattle.cap_machine.specs.Steps.{step, steps}
 use Rattle.cap_session.specs.LimitScripts.{ScriptLine, limit_line, maker_line, makers_script}
 use Rattle.cap_session.specs.LimitScriptLaws.{with_script}
 use Rattle.cap_session.proofs.LimitStands.{insert_seam, rows_steps}
+use Rattle.cap_session.proofs.MakerPlaces.{AreAt, held_at}
 
 -- ---- a line with its limits, in the order in which these are put in
 
@@ -32,11 +31,6 @@ lines_of spots = map (λ (spot : Spot). spot.0) spots
 abbrev pub limits_of : List Spot → List MakerLimit
 limits_of [] = []
 limits_of (spot ∷ more) = limits_of more ++ spot.1
-
--- each is of this position and process
-abbrev pub AreAt : ℕ → ℕ → List Place → Type 0
-AreAt at p [] = Unit {0}
-AreAt at p (place ∷ places) = ((place.0 ≡ at) × (place.1 ≡ p)) × AreAt at p places
 
 -- each limit is of the line that it is with, the first of which stands at a position
 abbrev pub AreAligned : ℕ → List Spot → Type 0
@@ -142,20 +136,6 @@ without_steps profile [] = refl
 without_steps profile (spot ∷ more) = ap (λ (l : List Step). step profile spot.0 ∷ l) (without_steps profile more)
 
 -- ---- the limits of a trace are so
-
-at_both : (at p : ℕ) (xs ys : List Place) → AreAt at p xs → AreAt at p ys → AreAt at p (xs ++ ys)
-at_both at p [] ys h k = k
-at_both at p (x ∷ xs) ys h k = (h.0, at_both at p xs ys h.1 k)
-
-one_at : (c : Cell) (at p f : ℕ) → AreAt at p (held_place c at p f)
-one_at Unknown at p f = tt
-one_at Closed at p f = tt
-one_at (Held rights flag) at p f = ((refl, refl), tt)
-
-held_at : (s : State) (at p : ℕ) (fds : List ℕ) → AreAt at p (held_places s at p fds)
-held_at s at p [] = tt
-held_at s at p (f ∷ fds) = at_both at p (held_place (s.cell p f) at p f) (held_places s at p fds)
-    (one_at (s.cell p f) at p f) (held_at s at p fds)
 
 -- the rows limit what the limits do
 rows_limit : (s : State) (later : List Step) (at p : ℕ) (own : List MakerLimit) → AreAt at p (map place_of own)

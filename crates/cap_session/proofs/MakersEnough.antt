@@ -21,7 +21,8 @@ use Rattle.cap_machine.specs.Table.{step_after}
 use Rattle.cap_machine.proofs.LimitEnough.{ended_first}
 use Rattle.cap_machine.proofs.LimitFindings.{In, in_map, within_all, found_after, found_now, found_later, found_when}
 use Rattle.cap_session.specs.LimitTextLaws.{lines_above, moved_down}
-use Rattle.cap_session.proofs.MakerSpots.{Spot, lines_of, limits_of, AreAt, AreAligned, rows_of, rows_length}
+use Rattle.cap_session.proofs.MakerPlaces.{AreAt}
+use Rattle.cap_session.proofs.MakerSpots.{Spot, lines_of, limits_of, AreAligned, rows_of, rows_length}
 use Rattle.cap_session.proofs.MakerSpots.{limited, all_limited}
 use Rattle.cap_session.proofs.MovedFindings.{all_in, found_where}
 
