@@ -187,7 +187,7 @@ const DENIED: Run<'static> = Run {
     ..CHECKED
 };
 
-/// The limits of a descriptor that the start lists.
+/// The limits before a line, of a descriptor that the start lists.
 const LIMITS: Run<'static> = Run {
     call: Call::Limits(Profile::Two, Some(1)),
     trace: (b"100 read(5) RET 1\n", 1, 0),
@@ -216,7 +216,7 @@ const EDITED_IN_ONE: Run<'static> = Run {
     ..EDITED
 };
 
-static SWEEPS: [Sweep; 14] = [
+static SWEEPS: [Sweep; 13] = [
     Sweep {
         run: CHECKED,
         is_of_trace: true,
@@ -260,9 +260,14 @@ static SWEEPS: [Sweep; 14] = [
         replies: &[],
         pieces: (64, 16),
     },
-    // And of limits before a line, or where there is none, and behind the lines that made descriptors.
+    // And of limits: behind the lines that made descriptors, before a line, and where there is no such line.
     Sweep {
-        run: LIMITS,
+        run: Run {
+            call: Call::Limits(Profile::Two, None),
+            trace: (b"100 dup(5) RET 6\n100 read(6) RET 1\n", 1, 0),
+            written: "insert 2 100 cap_rights_limit(6,CAP_READ) RET 0\n",
+            ..LIMITS
+        },
         is_of_trace: false,
         other_reads: 0,
         replies: &[],
@@ -284,19 +289,6 @@ static SWEEPS: [Sweep; 14] = [
             other: (START, 16, 0),
             outcome: OutOfRange,
             written: "refused E7\n",
-            ..LIMITS
-        },
-        is_of_trace: true,
-        other_reads: 3,
-        replies: &[],
-        pieces: (64, 16),
-    },
-    Sweep {
-        run: Run {
-            call: Call::Limits(Profile::Two, None),
-            trace: (b"100 dup(5) RET 6\n100 read(6) RET 1\n", 1, 0),
-            other: (START, 16, 0),
-            written: "insert 2 100 cap_rights_limit(6,CAP_READ) RET 0\n",
             ..LIMITS
         },
         is_of_trace: true,
