@@ -8,6 +8,7 @@ pub mod SortedMerging
 pub mod SortedSetting
 pub mod RowsComposed
 pub mod LineCells
+pub mod LineRows
 pub mod LineAsking
 pub mod Meeting
 pub mod Summing

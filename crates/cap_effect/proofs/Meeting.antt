@@ -1,14 +1,20 @@
 -- Where something is found.
-use Rattle.std.proofs.Common.{◌≡◌, List, [], ◌∷◌, ◌++◌, Bool, true, false, ◌||◌, refl, ap, ◌∙◌, sym}
-use Rattle.std.specs.List.{list_any}
+use Rattle.std.proofs.Common.{◌≡◌, List, [], ◌∷◌, ◌++◌, Bool, true, false, ◌||◌, refl, ap, ◌∙◌, sym, inl, inr}
+use Rattle.std.proofs.Common.{Option, Some, None}
+use Rattle.std.specs.Prelude.{not, IfSome, is_some}
+use Rattle.std.specs.List.{list_any, All}
+use Rattle.std.proofs.lemmas.List.Elements.{All-nil, All-push}
+use Rattle.cap_machine.specs.State.{State}
 use Rattle.std.proofs.lemmas.List.Folds.{list_any-append}
 use Rattle.cap_effect.specs.declared.ask.Ask.{Ask}
 use Rattle.cap_effect.specs.declared.precondition.Refusal.{Refusal}
 use Rattle.cap_effect.specs.declared.precondition.Precondition.{Precondition}
 use Rattle.cap_effect.specs.Keys.{Cells, cells_of}
-use Rattle.cap_effect.specs.Asks.{any_holds}
-use Rattle.cap_effect.specs.Preconditions.{is_wrongful, is_met, IsMetOr}
-use Rattle.cap_effect.proofs.Bools.{or_false, or_true, or_assoc}
+use Rattle.cap_effect.specs.declared.line_asks.UpToThree.{UpToThree}
+use Rattle.cap_effect.specs.Asks.{any_holds, CanBe, IsOpen}
+use Rattle.cap_effect.specs.LineAsks.{part_holds, one_holds}
+use Rattle.cap_effect.specs.Preconditions.{is_wrongful, is_met, has_part, PartsAreOpen, RefusalIsOpen, IsPossible, IsMetOr}
+use Rattle.cap_effect.proofs.Bools.{or_false, or_true, or_assoc, or_one}
 
 grouped : (certain asks refusals more : Bool) → (certain || (asks || (refusals || more)))
     ≡ ((certain || (asks || refusals)) || more)
@@ -42,3 +48,53 @@ met_by_ask cells pre ordered held same =
     let own : any_holds cells pre.asks.items ≡ true =
     sym (or_false (any_holds cells pre.asks.items)) ∙ sym same ∙ held in
     rw own (sym (or_true pre.certain))
+
+-- ---- what holds in some state
+-- an ask that is there, of which it depends on the state, holds in some
+part_somewhere : (ask : Option Ask) → IfSome ask IsOpen → is_some ask ≡ true
+    → (s : State) × (part_holds (cells_of s) ask ≡ true)
+part_somewhere None open_ is = absurd cc
+part_somewhere (Some ask) open_ is = open_.holds
+
+-- so does one of up to three, where there is one
+one_somewhere : (asks : UpToThree) → PartsAreOpen asks → has_part asks ≡ true
+    → (s : State) × (one_holds (cells_of s) asks ≡ true)
+one_somewhere asks open_ is = elim (or_one (is_some asks.mode) _ is) [
+  | inl h ↦ let at = part_somewhere asks.mode open_.mode h in (at.0, rw at.1 refl)
+  | inr more ↦ elim (or_one (is_some asks.first) (is_some asks.second) more) [
+    | inl h ↦
+        let at = part_somewhere asks.first open_.first h in
+        (at.0, rw at.1 (or_true (part_holds (cells_of at.0) asks.mode)))
+    | inr h ↦
+        let at = part_somewhere asks.second open_.second h in (
+          at.0,
+          rw (at.1, or_true (part_holds (cells_of at.0) asks.first))
+              (or_true (part_holds (cells_of at.0) asks.mode)),
+        )
+  ]
+]
+
+pub refusal_open : (asks : UpToThree) (refusal : Refusal) → refusal.unless ≡ asks → PartsAreOpen asks
+    → has_part asks ≡ true → RefusalIsOpen refusal
+refusal_open asks refusal is open_ some =
+    let at = one_somewhere asks open_ some in
+    record { parts = rw is open_; right = (at.0, rw is (ap not at.1)) }
+
+-- with nothing, one more ask, one more refusal
+pub possible_none : (pre : Precondition) → pre.asks.items ≡ [] → pre.refusals.items ≡ [] → IsPossible pre
+possible_none pre asks refusals =
+    record { asks = rw asks (All-nil (CanBe true)); refusals = rw refusals (All-nil RefusalIsOpen) }
+
+pub possible_asked : (old new : Precondition) (ask : Ask) → new.asks.items ≡ old.asks.items ++ ask ∷ []
+    → new.refusals.items ≡ old.refusals.items → CanBe true ask → IsPossible old → IsPossible new
+possible_asked old new ask asks refusals can possible = record {
+  asks = rw asks (All-push (CanBe true) old.asks.items ask possible.asks can);
+  refusals = rw refusals possible.refusals;
+}
+
+pub possible_refused : (old new : Precondition) (r : Refusal) → new.refusals.items ≡ old.refusals.items ++ r ∷ []
+    → new.asks.items ≡ old.asks.items → RefusalIsOpen r → IsPossible old → IsPossible new
+possible_refused old new r refusals asks can possible = record {
+  asks = rw asks possible.asks;
+  refusals = rw refusals (All-push RefusalIsOpen old.refusals.items r possible.refusals can);
+}

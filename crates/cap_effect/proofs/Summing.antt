@@ -1,5 +1,9 @@
 -- What a summary says after one more step, or one more segment.
-use Rattle.std.proofs.Common.{◌≡◌, ℕ, List, [], ◌∷◌, ◌++◌, ◌+◌, false, ◌||◌, length, map, refl, sym, ap, ◌∙◌}
+use Rattle.std.proofs.Common.{◌≡◌, ℕ, List, [], ◌∷◌, ◌++◌, ◌+◌, ◌<◌, false, ◌||◌, length, map, refl, sym, ap, ◌∙◌}
+use Rattle.std.proofs.Common.{get_or, take}
+use Rattle.std.proofs.lemmas.List.{map-append, take_more}
+use Rattle.std.specs.declared.rc.Rc.{Rc}
+use Rattle.cap_tree.specs.Run.{values}
 use Rattle.std.proofs.Math.Path.{fun_ext}
 use Rattle.cap_machine.specs.declared.step.Step.{Step}
 use Rattle.cap_machine.specs.declared.rule.Effect.{Effect as LineEffect}
@@ -18,11 +22,18 @@ use Rattle.cap_effect.specs.declared.line_asks.LineAsks.{LineAsks}
 use Rattle.cap_effect.specs.declared.summary.Summary.{Summary}
 use Rattle.cap_effect.specs.Keys.{Cells, mode_cell, cells_of}
 use Rattle.cap_effect.specs.Effects.{changed, IsComposed}
-use Rattle.cap_effect.specs.Lines.{turned_cell, line_after, IsEffectOf}
+use Rattle.cap_effect.specs.Lines.{turned_cell, line_after, IsThenLine}
 use Rattle.cap_effect.specs.LineAsks.{asked_holds, has_any}
-use Rattle.cap_effect.specs.Preconditions.{is_met, IsMetOr}
+use Rattle.cap_effect.specs.Preconditions.{is_met, IsMetOr, IsPossible}
 use Rattle.cap_effect.specs.Summaries.{Summarizes}
 use Rattle.cap_effect.proofs.LineAsking.{has_any-append}
+
+-- one more item of a run
+pub one_more : {X Z : Type 0} (run : List (Rc X Z)) (i : ℕ) (x : Rc X Z) → i < length run → x ≡ get_or run i x
+    → values (take (i + 1) run) ≡ values (take i run) ++ x.value ∷ []
+one_more run i x within at = ap values (take_more run i x within)
+    ∙ map-append (λ item. item.value) (take i run) (get_or run i x ∷ [])
+    ∙ ap (λ y. values (take i run) ++ y.value ∷ []) (sym at)
 
 has_any-map : {X Y : Type 0} (f : X → Y) (xs : List X) → has_any (map f xs) ≡ has_any xs
 has_any-map f [] = refl
@@ -34,14 +45,16 @@ cells_after : (summary : Summary) (t : List Step) → Summarizes summary t → (
 cells_after summary t says s = fun_ext (λ p. fun_ext (λ k. says.after s p k))
 
 pub summarizes_none : (summary : Summary) → ((cells : Cells) (p : ℕ) (k : Key) → changed summary.effect cells p k ≡ cells p k)
-    → ((s : State) → is_met (cells_of s) summary.precondition ≡ false) → Summarizes summary []
-summarizes_none summary same never = record { after = λ s p k. same (cells_of s) p k; finds = never }
+    → ((s : State) → is_met (cells_of s) summary.precondition ≡ false) → IsPossible summary.precondition
+    → Summarizes summary []
+summarizes_none summary same never possible =
+    record { after = λ s p k. same (cells_of s) p k; finds = never; possible = possible }
 
 pub summarizes_both : (a b both : Summary) (t u : List Step) → Summarizes a t → Summarizes b u
     → IsComposed a.effect b.effect both.effect
     → IsMetOr a.precondition both.precondition (λ cells. is_met (changed a.effect cells) b.precondition)
-    → Summarizes both (t ++ u)
-summarizes_both a b both t u first second composed met = record {
+    → (IsPossible a.precondition → IsPossible both.precondition) → Summarizes both (t ++ u)
+summarizes_both a b both t u first second composed met possible = record {
   after = λ s p k. composed (cells_of s) p k
       ∙ ap (λ (cells : Cells). changed b.effect cells p k) (cells_after a t first s)
       ∙ second.after (ended s t) p k
@@ -52,6 +65,7 @@ summarizes_both a b both t u first second composed met = record {
       ∙ ap (λ r. r || is_met (cells_of (ended s t)) b.precondition) (first.finds s)
       ∙ ap (λ r. has_any (check s t) || r) (second.finds (ended s t))
       ∙ sym (found s);
+  possible = possible first.possible;
 }
   where
     found : (s : State) → has_any (check s (t ++ u)) ≡ (has_any (check s t) || has_any (check (ended s t) u))
@@ -61,10 +75,12 @@ summarizes_both a b both t u first second composed met = record {
 
 -- another precondition that holds in the same states
 pub summarizes_same : (a new : Summary) (t : List Step) → Summarizes a t → new.effect ≡ a.effect
-    → ((s : State) → is_met (cells_of s) new.precondition ≡ is_met (cells_of s) a.precondition) → Summarizes new t
-summarizes_same a new t says effect met = record {
+    → ((s : State) → is_met (cells_of s) new.precondition ≡ is_met (cells_of s) a.precondition)
+    → (IsPossible a.precondition → IsPossible new.precondition) → Summarizes new t
+summarizes_same a new t says effect met possible = record {
   after = λ s p k. ap (λ e. changed e (cells_of s) p k) effect ∙ says.after s p k;
   finds = λ s. met s ∙ says.finds s;
+  possible = possible says.possible;
 }
 
 -- a mode is turned as its cell is
@@ -79,20 +95,21 @@ module _ (step : Step) (line : LineEffect) (me : ℕ) (cells : (p f : ℕ) → e
   line_is s p key.Mode = turned_is (effect_turn line me p) s p ∙ ap (λ t. mode_cell (turned t s.mode p)) (modes p)
   line_is s p (key.Fd f) = ap (λ t. touched t s.cell p f) (cells p f)
 
-  pub summarizes_more : (a more : Summary) (own : Effect) (asks : LineAsks) (t : List Step) → Summarizes a t
-      → IsComposed a.effect own more.effect → IsEffectOf line me own
+  pub summarizes_more : (a more : Summary) (asks : LineAsks) (t : List Step) → Summarizes a t
+      → IsThenLine a.effect line me more.effect
       → IsMetOr a.precondition more.precondition (λ cells. asked_holds (changed a.effect cells) asks)
+      → (IsPossible a.precondition → IsPossible more.precondition)
       → ((s : State) → asked_holds (cells_of s) asks ≡ has_any (said step s)) → Summarizes more (t ++ step ∷ [])
-  summarizes_more a more own asks t so_far composed does met says = record {
-    after = λ s p k. composed (cells_of s) p k
-        ∙ ap (λ (cells : Cells). changed own cells p k) (cells_after a t so_far s)
-        ∙ does (cells_of (ended s t)) p k ∙ line_is (ended s t) p k
+  summarizes_more a more asks t so_far does met possible says = record {
+    after = λ s p k. does (cells_of s) p k
+        ∙ ap (λ (cells : Cells). line_after line me cells p k) (cells_after a t so_far s) ∙ line_is (ended s t) p k
         ∙ ap (λ (state : State). cells_of state p k) (sym (ends_more s t step));
     finds = λ s. met s
         ∙ ap (λ (cells : Cells). is_met (cells_of s) a.precondition || asked_holds cells asks) (cells_after a t so_far s)
         ∙ ap (λ r. r || asked_holds (cells_of (ended s t)) asks) (so_far.finds s)
         ∙ ap (λ r. has_any (check s t) || r) (says (ended s t))
         ∙ sym (found s);
+    possible = possible so_far.possible;
   }
     where
       found : (s : State) → has_any (check s (t ++ step ∷ [])) ≡ (has_any (check s t) || has_any (said step (ended s t)))

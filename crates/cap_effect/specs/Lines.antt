@@ -1,5 +1,5 @@
 -- What one line does to each cell and to each mode, by key; me is the process of the line.
-use Rattle.std.specs.Prelude.{◌≡◌, ℕ, List, nat_le, if◌then◌else◌}
+use Rattle.std.specs.Prelude.{◌≡◌, ℕ, ◌==◌, ◌||◌, Bool, false, List, nat_le, if◌then◌else◌}
 use Rattle.std.specs.Option.{option_map_or}
 use Rattle.cap_machine.specs.declared.cell.Cell.{Cell}
 use Rattle.cap_machine.specs.declared.cell.Cell.TheVariants.{Unknown, Closed}
@@ -15,7 +15,7 @@ use Rattle.cap_effect.specs.declared.value.Value.{Value}
 use Rattle.cap_effect.specs.declared.effect.Row.{Row}
 use Rattle.cap_effect.specs.declared.effect.Effect.{Effect}
 use Rattle.cap_effect.specs.Keys.{Cells, mode_cell}
-use Rattle.cap_effect.specs.Effects.{row_cell, changed}
+use Rattle.cap_effect.specs.Effects.{row_cell, cell_in, changed}
 use Rattle.cap_effect.specs.Values.{read}
 use Rattle.cap_effect.specs.Sorted.{found}
 
@@ -30,10 +30,22 @@ abbrev pub line_after : LineEffect → ℕ → Cells → Cells
 line_after effect me cells p key.Mode = turned_cell (effect_turn effect me p) cells p
 line_after effect me cells p (key.Fd f) = touched (effect_touch effect me p f) (λ q g. cells q (key.Fd g)) p f
 
--- an effect does to all cells what the line does
-abbrev pub IsEffectOf : LineEffect → ℕ → Effect → Type 0
-IsEffectOf line me effect = (cells : Cells) (p : ℕ) (k : Key)
-    → changed effect cells p k ≡ line_after line me cells p k
+-- the cells after a segment and then a line with this effect
+abbrev pub IsThenLine : Effect → LineEffect → ℕ → Effect → Type 0
+IsThenLine first line me new = (cells : Cells) (p : ℕ) (k : Key)
+    → changed new cells p k ≡ line_after line me (changed first cells) p k
+
+-- a process that a line touches: its own, and the child that it makes
+abbrev pub is_touched : LineEffect → ℕ → ℕ → Bool
+is_touched line.Keep me p = false
+is_touched (line.Fork child) me p = p == child
+is_touched (line.ForkAs child f) me p = p == me || p == child
+is_touched _ me p = p == me
+
+-- each process that a line touches has the cells of this row, and each other one those that it had
+abbrev pub IsPut : LineEffect → ℕ → Row → List (ℕ × Row) → List (ℕ × Row) → Type 0
+IsPut line me row old new = (cells : Cells) (p : ℕ) (k : Key) → cell_in cells (found new p) p k
+    ≡ (if is_touched line me p then row_cell cells row k else cell_in cells (found old p) p k)
 
 -- the cell of a descriptor of the process that the line doesn't list by itself
 abbrev pub unlisted : LineEffect → ℕ → Cells → ℕ → Cell

@@ -1,5 +1,5 @@
 -- Under which cells before a segment something is found in it.
-use Rattle.std.specs.Prelude.{◌≡◌, ◌||◌, not, Bool, true, false, List, [], Option, Some, None}
+use Rattle.std.specs.Prelude.{◌≡◌, ◌||◌, not, Bool, true, false, List, [], Option, Some, None, IfSome, is_some}
 use Rattle.std.specs.List.{list_any, All}
 use Rattle.cap_machine.specs.State.{State}
 use Rattle.cap_effect.specs.declared.ask.Ask.{Ask}
@@ -7,7 +7,7 @@ use Rattle.cap_effect.specs.declared.line_asks.UpToThree.{UpToThree}
 use Rattle.cap_effect.specs.declared.precondition.Refusal.{Refusal}
 use Rattle.cap_effect.specs.declared.precondition.Precondition.{Precondition}
 use Rattle.cap_effect.specs.Keys.{Cells, cells_of}
-use Rattle.cap_effect.specs.Asks.{any_holds, certain_at, CanBe, Rises}
+use Rattle.cap_effect.specs.Asks.{any_holds, certain_at, CanBe, ArePossible, IsOpen, Rises}
 use Rattle.cap_effect.specs.LineAsks.{one_holds}
 
 -- a refusal is wrongful: none of its asks holds
@@ -27,6 +27,30 @@ IsMetOr old new more = (s : State) → is_met (cells_of s) new ≡ (is_met (cell
 abbrev pub three_hold : Cells → Option UpToThree → Bool
 three_hold cells None = true
 three_hold cells (Some asks) = one_holds cells asks
+
+-- there is one of up to three asks
+abbrev pub has_part : UpToThree → Bool
+has_part asks = is_some asks.mode || (is_some asks.first || is_some asks.second)
+
+-- whether each of up to three asks holds depends on the state
+pub record PartsAreOpen (asks : UpToThree) : Type 0 where
+  pub mode : IfSome asks.mode IsOpen
+  pub first : IfSome asks.first IsOpen
+  pub second : IfSome asks.second IsOpen
+
+-- the same, where they were pulled back
+abbrev pub ThreeAreOpen : Option UpToThree → Type 0
+ThreeAreOpen asks = IfSome asks PartsAreOpen
+
+-- whether each ask of a refusal holds depends on the state, and in some state one does
+pub record RefusalIsOpen (refusal : Refusal) : Type 0 where
+  pub parts : PartsAreOpen refusal.unless
+  pub right : (s : State) × (is_wrongful (cells_of s) refusal ≡ false)
+
+-- each ask holds in some state, and each refusal is right in some
+pub record IsPossible (pre : Precondition) : Type 0 where
+  pub asks : ArePossible pre.asks.items
+  pub refusals : All RefusalIsOpen pre.refusals.items
 
 -- one of the asks holds in every state
 abbrev pub any_certain : List Ask → Bool

@@ -145,7 +145,7 @@ impl Combine for Composing<'_> {
 
 impl Effect {
     /// A row of a later segment, by the cells before this one.
-    fn row_after(&self, alloc: Global, row: &Row) -> Result<Row, NoMemory>
+    pub(crate) fn row_after(&self, alloc: Global, row: &Row) -> Result<Row, NoMemory>
         ensures { IfOk result (λ new. IsRowAfter self.now row.now new) }
     {
         let handed = self.handed(&row.base);
@@ -154,7 +154,7 @@ impl Effect {
             passing: handed.passing,
             base: row.base,
         };
-        let cells = merge(alloc, &handing, row.cells.entries(), handed.cells)?;
+        let cells = merge(alloc, &handing, row.cells.entries(), handed.cells)?.finish()?;
         Ok(Row {
             base: handed.base,
             mode: self.value_after(alloc, &row.mode)?,

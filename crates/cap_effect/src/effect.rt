@@ -8,7 +8,7 @@ ghost use Rattle.cap_effect.specs.Effects.{row_cell, changed};
 
 use crate::base::{Base, Others, Passing};
 use crate::key::Key;
-use crate::sorted::Table;
+use crate::sorted::{Map, Table};
 use crate::value::Value;
 use cap_rights::NoMemory;
 use cap_trace::Pid;
@@ -29,7 +29,7 @@ pub struct Row {
 #[derive(Drop)]
 pub struct Effect {
     /// A row for each process that is touched, by pid. A process without a row stays as it is.
-    pub rows: Table<Row>,
+    pub rows: Map<Row>,
 }
 
 impl Row {

@@ -1,18 +1,18 @@
 //! The effect of one line.
 
-ghost use Rattle.std.specs.Prelude.{◌≡◌, ℕ, IfOk};
+ghost use Rattle.std.specs.Prelude.{◌≡◌, ℕ, IfOk, OnOk};
 ghost use Rattle.cap_trace.specs.Seen.{fds_spelled};
 ghost use Rattle.cap_machine.specs.Effect.{effect_turn};
 ghost use Rattle.cap_effect.specs.declared.key.Key.{Key};
 ghost use Rattle.cap_effect.specs.Keys.{Cells};
 ghost use Rattle.cap_effect.specs.Values.{read};
 ghost use Rattle.cap_effect.specs.Effects.{base_cell, changed};
-ghost use Rattle.cap_effect.specs.Lines.{turned_cell, unlisted, IsEffectOf, IsRowOf, IsListOf, IsStarted};
+ghost use Rattle.cap_effect.specs.Lines.{turned_cell, unlisted, IsThenLine, IsPut, IsRowOf, IsListOf, IsStarted};
 
 use crate::base::{Base, Others, Passing};
 use crate::effect::{Effect, Row};
 use crate::key::{Key, cell_of_mode};
-use crate::sorted::{Builder, Table};
+use crate::sorted::{Map, Table};
 use crate::value::Value;
 use cap_machine::{Cell, Effect as LineEffect, Mode, OnExec};
 use cap_rights::{NoMemory, RightSet};
@@ -24,7 +24,7 @@ fn started_cells(alloc: Global, spelled: &[u8]) -> Result<Table<Value>, NoMemory
     ensures { IfOk result (λ listed. IsStarted (fds_spelled spelled.now) listed) }
 {
     let fds = fds_of(alloc, spelled)?;
-    let mut listed = Builder::new(alloc);
+    let mut listed = Map::new(alloc);
     for fd in &fds {
         listed.set(*fd, Value::Is(Cell::Held(RightSet::all(), OnExec::Unsure)))?;
     }
@@ -93,30 +93,43 @@ impl Row {
     }
 }
 
+/// Puts a row for each process that a line of process `me` touches.
+fn put_rows(rows: &mut Map<Row>, me: Pid, line: &LineEffect<'_>, row: Row) -> Result<(), NoMemory>
+    ensures { OnOk result (IsPut line.now me row rows.old rows.new) }
+{
+    match line {
+        LineEffect::Keep => Ok(()),
+        LineEffect::Fork(child) => rows.set(*child, row),
+        LineEffect::ForkAs(child, _) => {
+            rows.set(me, row.share()?)?;
+            rows.set(*child, row)
+        }
+        _ => rows.set(me, row),
+    }
+}
+
 impl Effect {
     /// Nothing is touched.
-    pub fn empty() -> Effect
+    pub fn empty(alloc: Global) -> Effect
         ensures { (cells : Cells) (p : ℕ) (k : Key) → changed result cells p k ≡ cells p k }
     {
         Effect {
-            rows: Table::empty(),
+            rows: Map::new(alloc),
         }
     }
 
-    /// The effect of a line of process `me`.
-    pub fn of_line(alloc: Global, me: Pid, line: &LineEffect<'_>) -> Result<Effect, NoMemory>
-        ensures { IfOk result (λ effect. IsEffectOf line.now me effect) }
+    /// The effect of this segment and then a line of process `me`. Only the rows of that process and of a child that it
+    /// makes are made anew.
+    pub fn push(self, alloc: Global, me: Pid, line: &LineEffect<'_>) -> Result<Effect, NoMemory>
+        ensures { IfOk result (λ new. IsThenLine self line.now me new) }
     {
-        let row = Row::of_line(alloc, me, line)?;
-        let rows = match line {
-            LineEffect::Keep => return Ok(Effect::empty()),
-            LineEffect::Fork(child) => Table::one(alloc, *child, row)?,
-            LineEffect::ForkAs(child, _) => {
-                let own = (me, row.share()?);
-                Table::two(alloc, own, (*child, row))?
-            }
-            _ => Table::one(alloc, me, row)?,
-        };
+        if let LineEffect::Keep = line {
+            return Ok(self);
+        }
+        let own = Row::of_line(alloc, me, line)?;
+        let row = self.row_after(alloc, &own)?;
+        let mut rows = self.rows;
+        put_rows(&mut rows, me, line, row)?;
         Ok(Effect { rows })
     }
 }

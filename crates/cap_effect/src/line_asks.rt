@@ -13,6 +13,7 @@ ghost use Rattle.cap_effect.specs.declared.key.Key.TheVariants as key;
 ghost use Rattle.cap_effect.specs.Keys.{Cells, cells_of};
 ghost use Rattle.cap_effect.specs.Asks.{holds};
 ghost use Rattle.cap_effect.specs.Tests.{passes};
+ghost use Rattle.cap_effect.specs.Preconditions.{has_part};
 ghost use Rattle.cap_effect.specs.LineAsks.{has_any, part_holds, one_holds, excuses_hold, checked_cells, asked_holds, IsAskedBy};
 
 use crate::ask::Ask;
@@ -33,7 +34,8 @@ pub struct UpToThree {
 impl UpToThree {
     /// Whether there are none.
     pub(crate) fn is_nothing(&self) -> bool
-        ensures { result ≡ true → (cells : Cells) → one_holds cells self.now ≡ false }
+        ensures nothing { result ≡ true → (cells : Cells) → one_holds cells self.now ≡ false }
+        ensures some { result ≡ false → has_part self.now ≡ true }
     {
         match (&self.mode, &self.first, &self.second) {
             (None, None, None) => true,

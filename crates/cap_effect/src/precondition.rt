@@ -1,13 +1,14 @@
 //! Under which states before a segment something is found in it.
 
-ghost use Rattle.std.specs.Prelude.{◌≡◌, ◌||◌, not, false, true, [], IfOk, OnOk};
+ghost use Rattle.std.specs.Prelude.{◌≡◌, ◌||◌, not, false, true, [], IfOk, IfSome, OnOk};
 ghost use Rattle.std.specs.List.{list_any};
 ghost use Rattle.cap_machine.specs.State.{State};
 ghost use Rattle.cap_effect.specs.Keys.{Cells, cells_of};
-ghost use Rattle.cap_effect.specs.Asks.{any_holds, pulled_holds, is_always};
+ghost use Rattle.cap_effect.specs.Asks.{any_holds, pulled_holds, is_always, PulledIsOpen, IsOpen};
 ghost use Rattle.cap_effect.specs.LineAsks.{part_holds, one_holds, asked_holds};
 ghost use Rattle.cap_effect.specs.Effects.{changed};
 ghost use Rattle.cap_effect.specs.Preconditions.{is_met, is_wrongful, three_hold, any_certain, IsMetOr, IsSettled};
+ghost use Rattle.cap_effect.specs.Preconditions.{ThreeAreOpen, IsPossible};
 
 use crate::ask::{Ask, Pulled};
 use crate::asks::in_order;
@@ -48,7 +49,8 @@ impl Pulled {
     /// The ask that is left, if one is.
     fn ask(&self) -> Option<Ask>
         requires { is_always self.now ≡ false }
-        ensures { (cells : Cells) → part_holds cells result ≡ pulled_holds cells self.now }
+        ensures holds { (cells : Cells) → part_holds cells result ≡ pulled_holds cells self.now }
+        ensures open { PulledIsOpen self.now → IfSome result IsOpen }
     {
         match self {
             Pulled::Where(ask) => Some(*ask),
@@ -59,8 +61,9 @@ impl Pulled {
 
 /// What an ask that may be left out asks before an earlier segment.
 fn pulled_part(alloc: Global, first: &Effect, ask: &Option<Ask>) -> Result<Pulled, NoMemory>
-    ensures { IfOk result (λ pulled. (s : State) → pulled_holds (cells_of s) pulled
+    ensures holds { IfOk result (λ pulled. (s : State) → pulled_holds (cells_of s) pulled
         ≡ part_holds (changed first.now (cells_of s)) ask.now) }
+    ensures open { IfOk result PulledIsOpen }
 {
     match ask {
         None => Ok(Pulled::Never),
@@ -77,8 +80,9 @@ fn pulled_three(
     first: &Effect,
     asks: &UpToThree,
 ) -> Result<Option<UpToThree>, NoMemory>
-    ensures { IfOk result (λ pulled. (s : State)
+    ensures hold { IfOk result (λ pulled. (s : State)
         → three_hold (cells_of s) pulled ≡ one_holds (changed first.now (cells_of s)) asks.now) }
+    ensures open { IfOk result ThreeAreOpen }
 {
     let mode = pulled_part(alloc, first, &asks.mode)?;
     let one = pulled_part(alloc, first, &asks.first)?;
@@ -110,6 +114,7 @@ impl Precondition {
     /// Nothing is found in any state.
     pub fn never(alloc: Global) -> Precondition
         ensures met { (s : State) → is_met (cells_of s) result ≡ false }
+        ensures possible { IsPossible result }
         ensures nothing { (result.certain ≡ false) × (result.asks.items ≡ []) × (result.refusals.items ≡ []) }
     {
         Precondition {
@@ -121,7 +126,8 @@ impl Precondition {
 
     /// Something is also found where an ask that was pulled back holds.
     fn put(&mut self, pulled: Pulled) -> Result<(), NoMemory>
-        ensures { OnOk result (IsMetOr self.old self.new (λ cells. pulled_holds cells pulled)) }
+        ensures met { OnOk result (IsMetOr self.old self.new (λ cells. pulled_holds cells pulled)) }
+        ensures possible { OnOk result (PulledIsOpen pulled → IsPossible self.old → IsPossible self.new) }
     {
         match pulled {
             Pulled::Always => self.certain = true,
@@ -138,8 +144,9 @@ impl Precondition {
         first: &Effect,
         ask: &Option<Ask>,
     ) -> Result<(), NoMemory>
-        ensures { OnOk result (IsMetOr self.old self.new
+        ensures met { OnOk result (IsMetOr self.old self.new
             (λ cells. part_holds (changed first.now cells) ask.now)) }
+        ensures possible { OnOk result (IsPossible self.old → IsPossible self.new) }
     {
         let pulled = pulled_part(alloc, first, ask)?;
         self.put(pulled)
@@ -152,8 +159,9 @@ impl Precondition {
         first: &Effect,
         unless: &UpToThree,
     ) -> Result<(), NoMemory>
-        ensures { OnOk result (IsMetOr self.old self.new
+        ensures met { OnOk result (IsMetOr self.old self.new
             (λ cells. not (one_holds (changed first.now cells) unless.now))) }
+        ensures possible { OnOk result (IsPossible self.old → IsPossible self.new) }
     {
         let Some(unless) = pulled_three(alloc, first, unless)? else {
             return Ok(());
@@ -173,8 +181,9 @@ impl Precondition {
         first: &Effect,
         asks: &LineAsks,
     ) -> Result<(), NoMemory>
-        ensures { OnOk result (IsMetOr self.old self.new
+        ensures met { OnOk result (IsMetOr self.old self.new
             (λ cells. asked_holds (changed first.now cells) asks.now)) }
+        ensures possible { OnOk result (IsPossible self.old → IsPossible self.new) }
     {
         match asks {
             LineAsks::Always => {
@@ -198,7 +207,9 @@ impl Precondition {
         first: &Effect,
         asks: &[Ask],
     ) -> Result<(), NoMemory>
-        ensures { OnOk result (IsMetOr self.old self.new (λ cells. any_holds (changed first.now cells) asks.now)) }
+        ensures met { OnOk result (IsMetOr self.old self.new
+            (λ cells. any_holds (changed first.now cells) asks.now)) }
+        ensures possible { OnOk result (IsPossible self.old → IsPossible self.new) }
     {
         for ask in asks {
             self.put_after(alloc, first, &Some(*ask))?;
@@ -213,8 +224,9 @@ impl Precondition {
         first: &Effect,
         refusals: &[Refusal],
     ) -> Result<(), NoMemory>
-        ensures { OnOk result (IsMetOr self.old self.new
+        ensures met { OnOk result (IsMetOr self.old self.new
             (λ cells. list_any (is_wrongful (changed first.now cells)) refusals.now)) }
+        ensures possible { OnOk result (IsPossible self.old → IsPossible self.new) }
     {
         for refusal in refusals {
             self.refuse_after(alloc, first, &refusal.unless)?;
@@ -229,7 +241,8 @@ impl Precondition {
         first: &Effect,
         later: &Precondition,
     ) -> Result<(), NoMemory>
-        ensures { OnOk result (IsMetOr self.old self.new (λ cells. is_met (changed first.now cells) later.now)) }
+        ensures met { OnOk result (IsMetOr self.old self.new (λ cells. is_met (changed first.now cells) later.now)) }
+        ensures possible { OnOk result (IsPossible self.old → IsPossible self.new) }
     {
         self.put_asks_after(alloc, first, &later.asks)?;
         self.refuse_all_after(alloc, first, &later.refusals)?;
@@ -243,6 +256,7 @@ impl Precondition {
     pub fn settled(self, alloc: Global) -> Result<Precondition, NoMemory>
         ensures met { IfOk result (λ pre. (s : State) → is_met (cells_of s) pre ≡ is_met (cells_of s) self) }
         ensures settled { IfOk result IsSettled }
+        ensures possible { IfOk result (λ pre. IsPossible self → IsPossible pre) }
     {
         let asks = in_order(alloc, &self.asks)?;
         if self.certain || any_is_certain(&asks) {

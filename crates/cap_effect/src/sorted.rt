@@ -11,11 +11,11 @@ use std::cmp::Ordering;
 use std::marker::Model;
 use std::rc::RcSlice;
 
-mod builder;
+mod map;
 mod merging;
 mod place;
 
-pub(crate) use builder::Builder;
+pub use map::Map;
 pub(crate) use merging::{Combine, merge};
 
 /// A table of values by key. A contract sees the list of its entries, each a key and a value, whose keys strictly rise.

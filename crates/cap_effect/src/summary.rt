@@ -3,6 +3,7 @@
 ghost use Rattle.std.specs.Prelude.{List, [], ◌∷◌, ◌++◌, IfOk};
 ghost use Rattle.cap_machine.specs.declared.step.Step.{Step};
 ghost use Rattle.cap_effect.specs.Preconditions.{IsSettled};
+ghost use Rattle.cap_tree.specs.Run.{values};
 ghost use Rattle.cap_effect.specs.Summaries.{Summarizes};
 
 use crate::effect::Effect;
@@ -11,6 +12,7 @@ use crate::precondition::Precondition;
 use cap_machine::{Step, rule_of};
 use cap_rights::NoMemory;
 use std::alloc::Global;
+use std::rc::Rc;
 
 /// The summary of a segment: what it does to each cell, and under which states before it something is found in it.
 #[derive(Drop)]
@@ -27,7 +29,7 @@ impl Summary {
         ensures { Summarizes result [] }
     {
         Summary {
-            effect: Effect::empty(),
+            effect: Effect::empty(alloc),
             precondition: Precondition::never(alloc),
         }
     }
@@ -43,12 +45,23 @@ impl Summary {
         let mut precondition = self.precondition;
         let asks = LineAsks::of_line(pid, &rule.demand);
         precondition.line_after(alloc, &self.effect, &asks)?;
-        let own = Effect::of_line(alloc, pid, &rule.effect)?;
-        let effect = self.effect.then(alloc, &own)?;
+        let effect = self.effect.push(alloc, pid, &rule.effect)?;
         Ok(Summary {
             effect,
             precondition,
         })
+    }
+
+    /// The summary of a run of steps, settled.
+    pub fn of_run(alloc: Global, steps: &[Rc<Step>]) -> Result<Summary, NoMemory>
+        ensures says { IfOk result (λ run. Summarizes run (values steps.now)) }
+        ensures settled { IfOk result (λ run. IsSettled run.precondition) }
+    {
+        let mut run = Summary::empty(alloc);
+        for step in steps {
+            run = run.push(alloc, step)?;
+        }
+        run.settled(alloc)
     }
 
     /// The same summary, settled: what is asked stands in order, and nothing is asked where something is certain.

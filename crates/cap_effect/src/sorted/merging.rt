@@ -1,10 +1,10 @@
-//! Tables that are made of two.
+//! Maps that are made of two.
 ghost use Rattle.std.specs.Prelude.{◌≡◌, ℕ, ◌+◌, ◌<◌, ◌≤◌, ◌||◌, true, Option, Some, None, [], length, is_some};
 ghost use Rattle.std.specs.Prelude.{if◌then◌else◌, IfOk, OnOk, IfNone, IfSome};
 ghost use Rattle.std.specs.Option.{option_copied};
 ghost use Rattle.cap_effect.specs.Sorted.{found, Rises, RisesFrom};
 
-use super::Table;
+use super::Map;
 use cap_rights::NoMemory;
 use std::alloc::Global;
 
@@ -16,7 +16,7 @@ pub trait Combine {
 
     type Out: Drop;
 
-    /// What may stand at a key of the merged table, by what the two tables have there.
+    /// What may stand at a key of the merged map, by what the two tables have there.
     ghost gives: { Self → ℕ → Option Self.Left → Option Self.Right → Option Self.Out → Type 0 };
 
     /// What stands at a key that only the left table has.
@@ -81,15 +81,14 @@ fn put_each<M: Combine>(
     Ok(())
 }
 
-/// The table that has at each key what `step` makes of the values that two lists of entries have there, whose keys must
-/// strictly rise. It goes once over both,
-/// which stay as they are, and fails only where an allocation is refused.
+/// The map that has at each key what `step` makes of the values that two lists of entries have there, whose keys must
+/// strictly rise. It goes once over both, which stay as they are, and fails only where an allocation is refused.
 pub fn merge<M: Combine>(
     alloc: Global,
     step: &M,
     left: &[(u32, M::Left)],
     right: &[(u32, M::Right)],
-) -> Result<Table<M::Out>, NoMemory>
+) -> Result<Map<M::Out>, NoMemory>
     requires left { Rises left.now }
     requires right { Rises right.now }
     ensures each { IfOk result
@@ -98,7 +97,7 @@ pub fn merge<M: Combine>(
 {
     let mut merged = Vec::with_capacity(alloc, left.len().saturating_add(right.len()))?;
     put_each(alloc, step, left, right, &mut merged)?;
-    Table::from_sorted(merged)
+    Ok(Map::from_sorted(merged))
 }
 
 /// The least key of both.

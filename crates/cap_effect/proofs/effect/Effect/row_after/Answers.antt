@@ -13,4 +13,4 @@ returns c =
     composed_row c.args.self.now c.args.row.now new c.in_ok-value_after.ensures
     (λ cells f. composed_cell c.args.self.now c.args.row.now.base c.handed-handed.result.base
     c.handed-handed.result.passing c.args.row.now.cells c.handed-handed.result.cells.now c.in_ok-cells.cells cells f
-    (rw c.entries.ensures.all at (c.in_ok-cells.ensures.each f)) (handed.closed cells f) (handed.«open» cells f))
+    (rw c.in_ok-cells.ensures (rw c.entries.ensures.all at (c.in_ok-merge.ensures.each f))) (handed.closed cells f) (handed.«open» cells f))

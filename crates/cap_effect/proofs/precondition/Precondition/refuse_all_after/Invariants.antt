@@ -1,9 +1,12 @@
 use Rattle.std.proofs.Common.{take}
 use Rattle.std.specs.List.{list_any}
 use Rattle.cap_effect.specs.Effects.{changed}
-use Rattle.cap_effect.specs.Preconditions.{is_wrongful, IsMetOr}
+use Rattle.cap_effect.specs.Preconditions.{is_wrongful, IsMetOr, IsPossible}
 use Rattle.cap_effect.proofs.precondition.Precondition.refuse_all_after.Given as goal
 
 abbrev pub invariant-loop-refusal : goal.invariant-loop-refusal
-invariant-loop-refusal l = IsMetOr l.initial.self l.self
-    (λ cells. list_any (is_wrongful (changed l.first cells)) (take l.refusal-index l.refusals))
+invariant-loop-refusal l = record {
+  met : IsMetOr l.initial.self l.self
+      (λ cells. list_any (is_wrongful (changed l.first cells)) (take l.refusal-index l.refusals));
+  possible : IsPossible l.initial.self → IsPossible l.self;
+}

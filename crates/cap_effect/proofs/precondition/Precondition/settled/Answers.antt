@@ -1,5 +1,7 @@
 use Rattle.std.proofs.Common.{◌≡◌, true, false, refl, sym, ◌∙◌}
+use Rattle.std.proofs.lemmas.List.Elements.{All-nil}
 use Rattle.cap_effect.specs.Keys.{cells_of}
+use Rattle.cap_effect.specs.Asks.{CanBe}
 use Rattle.cap_effect.proofs.Asking.{certain_any, certain_none}
 use Rattle.cap_effect.proofs.Meeting.{met_by_ask}
 use Rattle.cap_effect.proofs.precondition.Precondition.settled.Goals as goal
@@ -26,3 +28,8 @@ returns-clause-settled c =
       fails = certain_none c.in_ok-asks.asks.items open_;
       alone = λ (is : false ≡ true). absurd cc;
     }
+
+pub returns-clause-possible : goal.returns-clause-possible
+returns-clause-possible c = λ old.
+    let united = rw c.deref.ensures.value at c.in_ok-asks.ensures in
+    record { asks = united.possible old.asks (All-nil (CanBe true)); refusals = old.refusals }

@@ -5,4 +5,4 @@ use Rattle.cap_effect.proofs.summary.Summary.empty.Goals as goal
 pub returns : goal.returns
 returns c =
     let none : Summary = record { effect = c.empty.result; precondition = c.never.result } in
-    summarizes_none none c.empty.ensures c.never.ensures.met
+    summarizes_none none c.empty.ensures c.never.ensures.met c.never.ensures.possible

@@ -11,5 +11,5 @@ returns c = λ steps so_far.
     let demand = rw seen at rule.demand in
     summarizes_more c.args.step.now c.rule_of-rule.result.effect c.pid-pid.result
     (λ p f. rw pid (rw seen at (rule.cells p f))) (λ p. rw pid (rw seen at (rule.modes p)))
-    c.args.self more c.in_ok-own.own c.of_line-asks.result steps so_far c.in_ok-effect.ensures c.in_ok-own.ensures
-    c.in_ok-line_after.ensures (λ s. rw (pid, demand) at (c.of_line-asks.ensures s))
+    c.args.self more c.of_line-asks.result steps so_far c.in_ok-effect.ensures
+    c.in_ok-line_after.ensures.met c.in_ok-line_after.ensures.possible (λ s. rw (pid, demand) at (c.of_line-asks.ensures s))

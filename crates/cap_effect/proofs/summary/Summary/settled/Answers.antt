@@ -6,4 +6,4 @@ use Rattle.cap_effect.proofs.summary.Summary.settled.Goals as goal
 pub returns-clause-same : goal.returns-clause-same
 returns-clause-same c = λ steps says.
     let new : Summary = record { effect = c.args.self.effect; precondition = c.in_ok-precondition.precondition } in
-    summarizes_same c.args.self new steps says refl c.in_ok-precondition.ensures.met
+    summarizes_same c.args.self new steps says refl c.in_ok-precondition.ensures.met c.in_ok-precondition.ensures.possible

@@ -1,6 +1,6 @@
 use Rattle.std.proofs.Common.{rules}
 use Rattle.cap_effect.proofs.SortedSetting.{RisesFrom-insert, RisesFrom-set}
-use Rattle.cap_effect.proofs.sorted.builder.Builder.set.Goals as goal
+use Rattle.cap_effect.proofs.sorted.map.Map.set.Goals as goal
 
 -- the entry that has the key is written over
 pub invariant_of-self : goal.invariant_of-self
