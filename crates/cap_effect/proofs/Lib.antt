@@ -10,5 +10,8 @@ pub mod RowsComposed
 pub mod LineCells
 pub mod LineRows
 pub mod LineAsking
+pub mod LineListed
+pub mod LineNamed
+pub mod Naming
 pub mod Meeting
 pub mod Summing

@@ -1,6 +1,6 @@
 -- Where something is found.
 use Rattle.std.proofs.Common.{◌≡◌, List, [], ◌∷◌, ◌++◌, Bool, true, false, ◌||◌, refl, ap, ◌∙◌, sym, inl, inr}
-use Rattle.std.proofs.Common.{Option, Some, None}
+use Rattle.std.proofs.Common.{Option, Some, None, ℕ, ◌<◌, length, get_or, subst}
 use Rattle.std.specs.Prelude.{not, IfSome, is_some}
 use Rattle.std.specs.List.{list_any, All}
 use Rattle.std.proofs.lemmas.List.Elements.{All-nil, All-push}
@@ -98,3 +98,8 @@ possible_refused old new r refusals asks can possible = record {
   asks = rw asks possible.asks;
   refusals = rw refusals (All-push RefusalIsOpen old.refusals.items r possible.refusals can);
 }
+
+-- what holds of each holds of one of them
+pub read_all : {X : Type 0} (P : X → Type 0) (xs : List X) (i : ℕ) (x : X) → i < length xs → x ≡ get_or xs i x
+    → All P xs → P x
+read_all P xs i x within is all = subst P (sym is) (all i x within)

@@ -25,8 +25,10 @@ use Rattle.cap_effect.specs.Effects.{changed, IsComposed}
 use Rattle.cap_effect.specs.Lines.{turned_cell, line_after, IsThenLine}
 use Rattle.cap_effect.specs.LineAsks.{asked_holds, has_any}
 use Rattle.cap_effect.specs.Preconditions.{is_met, IsMetOr, IsPossible}
+use Rattle.cap_effect.specs.Names.{Names, names_in, AreAmong, EffectWithin, LineWithin, LineAsksWithin, PreWithin}
 use Rattle.cap_effect.specs.Summaries.{Summarizes}
 use Rattle.cap_effect.proofs.LineAsking.{has_any-append}
+use Rattle.cap_effect.proofs.Naming.{effect_among, asks_among, first_among, second_among}
 
 -- one more item of a run
 pub one_more : {X Z : Type 0} (run : List (Rc X Z)) (i : ℕ) (x : Rc X Z) → i < length run → x ≡ get_or run i x
@@ -46,15 +48,24 @@ cells_after summary t says s = fun_ext (λ p. fun_ext (λ k. says.after s p k))
 
 pub summarizes_none : (summary : Summary) → ((cells : Cells) (p : ℕ) (k : Key) → changed summary.effect cells p k ≡ cells p k)
     → ((s : State) → is_met (cells_of s) summary.precondition ≡ false) → IsPossible summary.precondition
+    → ((names : Names) → EffectWithin names summary.effect) → ((names : Names) → PreWithin names summary.precondition)
     → Summarizes summary []
-summarizes_none summary same never possible =
-    record { after = λ s p k. same (cells_of s) p k; finds = never; possible = possible }
+summarizes_none summary same never possible effect asks = record {
+  after = λ s p k. same (cells_of s) p k;
+  finds = never;
+  possible = possible;
+  effect_named = effect (names_in []);
+  asks_named = asks (names_in []);
+}
 
 pub summarizes_both : (a b both : Summary) (t u : List Step) → Summarizes a t → Summarizes b u
     → IsComposed a.effect b.effect both.effect
     → IsMetOr a.precondition both.precondition (λ cells. is_met (changed a.effect cells) b.precondition)
-    → (IsPossible a.precondition → IsPossible both.precondition) → Summarizes both (t ++ u)
-summarizes_both a b both t u first second composed met possible = record {
+    → (IsPossible a.precondition → IsPossible both.precondition)
+    → ((names : Names) → EffectWithin names a.effect → EffectWithin names b.effect → EffectWithin names both.effect)
+    → ((names : Names) → EffectWithin names a.effect → PreWithin names b.precondition
+    → PreWithin names a.precondition → PreWithin names both.precondition) → Summarizes both (t ++ u)
+summarizes_both a b both t u first second composed met possible effects asks = record {
   after = λ s p k. composed (cells_of s) p k
       ∙ ap (λ (cells : Cells). changed b.effect cells p k) (cells_after a t first s)
       ∙ second.after (ended s t) p k
@@ -66,8 +77,20 @@ summarizes_both a b both t u first second composed met possible = record {
       ∙ ap (λ r. has_any (check s t) || r) (second.finds (ended s t))
       ∙ sym (found s);
   possible = possible first.possible;
+  effect_named = effects (names_in (t ++ u)) effect (effect_among (names_in u) (names_in (t ++ u)) behind b.effect second.effect_named);
+  asks_named = asks (names_in (t ++ u)) effect (asks_among (names_in u) (names_in (t ++ u)) behind b.precondition second.asks_named)
+      (asks_among (names_in t) (names_in (t ++ u)) front a.precondition first.asks_named);
 }
   where
+    front : AreAmong (names_in t) (names_in (t ++ u))
+    front = first_among t u
+
+    behind : AreAmong (names_in u) (names_in (t ++ u))
+    behind = second_among t u
+
+    effect : EffectWithin (names_in (t ++ u)) a.effect
+    effect = effect_among (names_in t) (names_in (t ++ u)) front a.effect first.effect_named
+
     found : (s : State) → has_any (check s (t ++ u)) ≡ (has_any (check s t) || has_any (check (ended s t) u))
     found s = ap has_any (checks_in_turn s t u)
         ∙ has_any-append (check s t) (map (later (length t)) (check (ended s t) u))
@@ -76,11 +99,14 @@ summarizes_both a b both t u first second composed met possible = record {
 -- another precondition that holds in the same states
 pub summarizes_same : (a new : Summary) (t : List Step) → Summarizes a t → new.effect ≡ a.effect
     → ((s : State) → is_met (cells_of s) new.precondition ≡ is_met (cells_of s) a.precondition)
-    → (IsPossible a.precondition → IsPossible new.precondition) → Summarizes new t
-summarizes_same a new t says effect met possible = record {
+    → (IsPossible a.precondition → IsPossible new.precondition)
+    → ((names : Names) → PreWithin names a.precondition → PreWithin names new.precondition) → Summarizes new t
+summarizes_same a new t says effect met possible asks = record {
   after = λ s p k. ap (λ e. changed e (cells_of s) p k) effect ∙ says.after s p k;
   finds = λ s. met s ∙ says.finds s;
   possible = possible says.possible;
+  effect_named = rw effect says.effect_named;
+  asks_named = asks (names_in t) says.asks_named;
 }
 
 -- a mode is turned as its cell is
@@ -99,8 +125,12 @@ module _ (step : Step) (line : LineEffect) (me : ℕ) (cells : (p f : ℕ) → e
       → IsThenLine a.effect line me more.effect
       → IsMetOr a.precondition more.precondition (λ cells. asked_holds (changed a.effect cells) asks)
       → (IsPossible a.precondition → IsPossible more.precondition)
-      → ((s : State) → asked_holds (cells_of s) asks ≡ has_any (said step s)) → Summarizes more (t ++ step ∷ [])
-  summarizes_more a more asks t so_far does met possible says = record {
+      → ((s : State) → asked_holds (cells_of s) asks ≡ has_any (said step s))
+      → ((names : Names) → LineWithin names me line → EffectWithin names a.effect → EffectWithin names more.effect)
+      → ((names : Names) → EffectWithin names a.effect → LineAsksWithin names asks → PreWithin names a.precondition
+      → PreWithin names more.precondition) → LineWithin (names_in (t ++ step ∷ [])) me line
+      → LineAsksWithin (names_in (t ++ step ∷ [])) asks → Summarizes more (t ++ step ∷ [])
+  summarizes_more a more asks t so_far does met possible says effects pres line_named asks_named = record {
     after = λ s p k. does (cells_of s) p k
         ∙ ap (λ (cells : Cells). line_after line me cells p k) (cells_after a t so_far s) ∙ line_is (ended s t) p k
         ∙ ap (λ (state : State). cells_of state p k) (sym (ends_more s t step));
@@ -110,8 +140,16 @@ module _ (step : Step) (line : LineEffect) (me : ℕ) (cells : (p f : ℕ) → e
         ∙ ap (λ r. has_any (check s t) || r) (says (ended s t))
         ∙ sym (found s);
     possible = possible so_far.possible;
+    effect_named = effects (names_in (t ++ step ∷ [])) line_named effect;
+    asks_named = pres (names_in (t ++ step ∷ [])) effect asks_named (asks_among (names_in t) (names_in (t ++ step ∷ [])) front a.precondition so_far.asks_named);
   }
     where
+      front : AreAmong (names_in t) (names_in (t ++ step ∷ []))
+      front = first_among t (step ∷ [])
+
+      effect : EffectWithin (names_in (t ++ step ∷ [])) a.effect
+      effect = effect_among (names_in t) (names_in (t ++ step ∷ [])) front a.effect so_far.effect_named
+
       found : (s : State) → has_any (check s (t ++ step ∷ [])) ≡ (has_any (check s t) || has_any (said step (ended s t)))
       found s = ap has_any (checks_more s t step)
           ∙ has_any-append (check s t) (map (found_at (length t + 1)) (said step (ended s t)))

@@ -8,5 +8,7 @@ pub mod Sorted
 pub mod Effects
 pub mod Lines
 pub mod LineAsks
+pub mod Names
+pub mod Composing
 pub mod Preconditions
 pub mod Summaries

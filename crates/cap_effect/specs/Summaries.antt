@@ -10,10 +10,13 @@ use Rattle.cap_effect.specs.Keys.{cells_of}
 use Rattle.cap_effect.specs.Effects.{changed}
 use Rattle.cap_effect.specs.LineAsks.{has_any}
 use Rattle.cap_effect.specs.Preconditions.{is_met, IsPossible}
+use Rattle.cap_effect.specs.Names.{names_in, EffectWithin, PreWithin}
 
 -- In every state before the steps: each cell and each mode after them, and whether something is found in them. Nothing is
--- asked that holds in no state.
+-- asked that holds in no state, and nothing is listed, read or asked that no line names.
 pub record Summarizes (summary : Summary) (steps : List Step) : Type 0 where
   pub after : (s : State) (p : ℕ) (k : Key) → changed summary.effect (cells_of s) p k ≡ cells_of (ended s steps) p k
   pub finds : (s : State) → is_met (cells_of s) summary.precondition ≡ has_any (check s steps)
   pub possible : IsPossible summary.precondition
+  pub effect_named : EffectWithin (names_in steps) summary.effect
+  pub asks_named : PreWithin (names_in steps) summary.precondition

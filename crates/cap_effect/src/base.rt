@@ -1,8 +1,9 @@
 //! The cells of a process that aren't listed.
 
-ghost use Rattle.std.specs.Prelude.{◌≡◌, ℕ, ◌||◌, IfOk};
+ghost use Rattle.std.specs.Prelude.{◌≡◌, ℕ, ◌||◌, true, IfOk};
 ghost use Rattle.cap_effect.specs.Keys.{Cells};
-ghost use Rattle.cap_effect.specs.Values.{read, source};
+ghost use Rattle.cap_effect.specs.Values.{read, source, reads_within};
+ghost use Rattle.cap_effect.specs.Names.{Names, has_cell, others_within};
 ghost use Rattle.cap_effect.specs.Effects.{passed, is_from, others_cell, base_cell};
 
 use crate::key::Key;
@@ -67,7 +68,9 @@ impl Passing {
 impl Others {
     /// The cells where they are handed on.
     pub(crate) fn pass(&self, passing: Passing) -> Others
-        ensures { (cells : Cells) (f : ℕ) → others_cell cells result f ≡ passed passing (others_cell cells self.now f) }
+        ensures cells { (cells : Cells) (f : ℕ)
+            → others_cell cells result f ≡ passed passing (others_cell cells self.now f) }
+        ensures names { (names : Names) → others_within names result ≡ others_within names self.now }
     {
         match self {
             Others::Unknown => Others::Unknown,
@@ -91,7 +94,8 @@ pub(crate) fn lower_of(a: Option<Fd>, b: Option<Fd>) -> Option<Fd>
 impl Base {
     /// These cells, all of them listed nowhere and none closed.
     pub(crate) fn of(others: Others) -> Base
-        ensures { (cells : Cells) (f : ℕ) → base_cell cells result f ≡ others_cell cells others f }
+        ensures cells { (cells : Cells) (f : ℕ) → base_cell cells result f ≡ others_cell cells others f }
+        ensures others { result.others ≡ others }
     {
         Base {
             others,
@@ -111,7 +115,9 @@ impl Base {
 
     /// The cell of a descriptor that isn't listed.
     pub(crate) fn value(&self, alloc: Global, fd: Fd) -> Result<Value, NoMemory>
-        ensures { IfOk result (λ v. (cells : Cells) → read cells v ≡ base_cell cells self.now fd) }
+        ensures reads { IfOk result (λ v. (cells : Cells) → read cells v ≡ base_cell cells self.now fd) }
+        ensures names { IfOk result (λ v. (names : Names) → others_within names self.now.others ≡ true
+            → names.fds fd ≡ true → reads_within (has_cell names) v ≡ true) }
     {
         if self.closes(fd) {
             return Ok(Value::Is(Cell::Closed));

@@ -7,6 +7,7 @@ ghost use Rattle.cap_effect.specs.Keys.{Cells};
 ghost use Rattle.cap_effect.specs.Values.{read};
 ghost use Rattle.cap_effect.specs.Sorted.{found, Rises};
 ghost use Rattle.cap_effect.specs.Effects.{passed, is_from, base_cell, changed, IsRowAfter, IsComposed};
+ghost use Rattle.cap_effect.specs.Names.{Names, others_within, ListWithin, RowWithin, EffectWithin};
 
 use crate::base::{Base, Others, Passing, lower_of};
 use crate::effect::{Effect, Row};
@@ -33,6 +34,9 @@ impl Effect {
         ensures closed { (cells : Cells) (f : ℕ) → is_from base.now.closed_from f ≡ true
             → base_cell cells result.base f ≡ Closed }
         ensures rises { Rises result.cells.now }
+        ensures others_named { (names : Names) → EffectWithin names self.now
+            → others_within names base.now.others ≡ true → others_within names result.base.others ≡ true }
+        ensures cells_named { (names : Names) → EffectWithin names self.now → ListWithin names result.cells.now }
     {
         let none = Handed {
             base: *base,
@@ -74,9 +78,9 @@ impl Combine for Handing<'_> {
     type Out = Value;
 
     ghost use Rattle.std.specs.Prelude.{refl};
-    ghost use Rattle.cap_effect.specs.Effects.{IsHanded};
+    ghost use Rattle.cap_effect.specs.Composing.{IsHandedSo};
 
-    ghost gives = { λ s f left right out. IsHanded s.first.now s.passing s.base.closed_from f left right out };
+    ghost gives = { λ s f left right out. IsHandedSo s.first.now s.passing s.base.closed_from f left right out };
 
     fn left(&self, alloc: Global, _fd: u32, left: &Value) -> Result<Option<Value>, NoMemory> {
         Ok(Some(self.first.value_after(alloc, left)?))
@@ -99,7 +103,7 @@ impl Combine for Handing<'_> {
         self.left(alloc, fd, left)
     }
 
-    ghost neither = { λ s f cells. refl };
+    ghost neither = { λ s f. record { cells = λ cells. refl; names = λ names within left right. tt } };
 }
 
 /// Gives each process its row after two segments.
@@ -118,9 +122,10 @@ impl Combine for Composing<'_> {
     ghost use Rattle.std.specs.Prelude.{◌≡◌};
     ghost use Rattle.std.proofs.Common.{ap};
     ghost use Rattle.cap_effect.specs.Sorted.{found};
-    ghost use Rattle.cap_effect.specs.Effects.{cell_in, IsComposedAt};
+    ghost use Rattle.cap_effect.specs.Effects.{cell_in};
+    ghost use Rattle.cap_effect.specs.Composing.{IsComposedSo};
 
-    ghost gives = { λ s p left right out. left ≡ found s.first.now.rows p → IsComposedAt s.first.now p right out };
+    ghost gives = { λ s p left right out. left ≡ found s.first.now.rows p → IsComposedSo s.first.now p left right out };
 
     fn left(&self, _alloc: Global, _pid: u32, left: &Row) -> Result<Option<Row>, NoMemory> {
         Ok(Some(left.share()?))
@@ -140,13 +145,18 @@ impl Combine for Composing<'_> {
         Ok(Some(self.first.row_after(alloc, right)?))
     }
 
-    ghost neither = { λ s p is cells k. ap (λ row. cell_in cells row p k) is };
+    ghost neither = { λ s p is. record {
+      cells = λ cells k. ap (λ row. cell_in cells row p k) is;
+      names = λ names within left right. tt;
+    } };
 }
 
 impl Effect {
     /// A row of a later segment, by the cells before this one.
     pub(crate) fn row_after(&self, alloc: Global, row: &Row) -> Result<Row, NoMemory>
-        ensures { IfOk result (λ new. IsRowAfter self.now row.now new) }
+        ensures cells { IfOk result (λ new. IsRowAfter self.now row.now new) }
+        ensures names { IfOk result (λ new. (names : Names) → EffectWithin names self.now
+            → RowWithin names row.now → RowWithin names new) }
     {
         let handed = self.handed(&row.base);
         let handing = Handing {
@@ -164,7 +174,9 @@ impl Effect {
 
     /// The effect of this segment and then a later one.
     pub fn then(&self, alloc: Global, later: &Effect) -> Result<Effect, NoMemory>
-        ensures { IfOk result (λ both. IsComposed self.now later.now both) }
+        ensures cells { IfOk result (λ both. IsComposed self.now later.now both) }
+        ensures names { IfOk result (λ both. (names : Names) → EffectWithin names self.now
+            → EffectWithin names later.now → EffectWithin names both) }
     {
         let step = Composing { first: self };
         let rows = merge(alloc, &step, self.rows.entries(), later.rows.entries())?;

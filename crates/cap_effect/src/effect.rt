@@ -1,9 +1,10 @@
 //! What becomes of each cell over a segment.
 
-ghost use Rattle.std.specs.Prelude.{◌≡◌, IfOk};
+ghost use Rattle.std.specs.Prelude.{◌≡◌, true, IfOk};
 ghost use Rattle.cap_effect.specs.declared.key.Key.{Key};
 ghost use Rattle.cap_effect.specs.Keys.{Cells};
-ghost use Rattle.cap_effect.specs.Values.{read};
+ghost use Rattle.cap_effect.specs.Values.{read, reads_within};
+ghost use Rattle.cap_effect.specs.Names.{Names, has_key, has_cell, RowWithin, EffectWithin};
 ghost use Rattle.cap_effect.specs.Effects.{row_cell, changed};
 
 use crate::base::{Base, Others, Passing};
@@ -35,7 +36,9 @@ pub struct Effect {
 impl Row {
     /// A copy, which shares the cells. Allocates nothing.
     pub fn share(&self) -> Result<Row, NoMemory>
-        ensures { IfOk result (λ row. (cells : Cells) (k : Key) → row_cell cells row k ≡ row_cell cells self.now k) }
+        ensures reads { IfOk result (λ row. (cells : Cells) (k : Key)
+            → row_cell cells row k ≡ row_cell cells self.now k) }
+        ensures names { IfOk result (λ row. (names : Names) → RowWithin names self.now → RowWithin names row) }
     {
         Ok(Row {
             base: self.base,
@@ -46,7 +49,9 @@ impl Row {
 
     /// The cell of a key.
     pub fn read(&self, alloc: Global, key: Key) -> Result<Value, NoMemory>
-        ensures { IfOk result (λ v. (cells : Cells) → read cells v ≡ row_cell cells self.now key) }
+        ensures reads { IfOk result (λ v. (cells : Cells) → read cells v ≡ row_cell cells self.now key) }
+        ensures names { IfOk result (λ v. (names : Names) → RowWithin names self.now
+            → has_key names key ≡ true → reads_within (has_cell names) v ≡ true) }
     {
         let fd = match key {
             Key::Mode => return self.mode.share(),
@@ -62,7 +67,9 @@ impl Row {
 impl Effect {
     /// What becomes of a cell.
     pub fn read(&self, alloc: Global, pid: Pid, key: Key) -> Result<Value, NoMemory>
-        ensures { IfOk result (λ v. (cells : Cells) → read cells v ≡ changed self.now cells pid key) }
+        ensures reads { IfOk result (λ v. (cells : Cells) → read cells v ≡ changed self.now cells pid key) }
+        ensures names { IfOk result (λ v. (names : Names) → EffectWithin names self.now
+            → has_cell names pid key ≡ true → reads_within (has_cell names) v ≡ true) }
     {
         match self.rows.get(pid) {
             Some(row) => row.read(alloc, key),
@@ -72,7 +79,9 @@ impl Effect {
 
     /// A value of a later segment, by the cells before this one.
     pub(crate) fn value_after(&self, alloc: Global, value: &Value) -> Result<Value, NoMemory>
-        ensures { IfOk result (λ v. (cells : Cells) → read cells v ≡ read (changed self.now cells) value.now) }
+        ensures reads { IfOk result (λ v. (cells : Cells) → read cells v ≡ read (changed self.now cells) value.now) }
+        ensures names { IfOk result (λ v. (names : Names) → EffectWithin names self.now
+            → reads_within (has_cell names) value.now ≡ true → reads_within (has_cell names) v ≡ true) }
     {
         match value.source() {
             None => value.share(),

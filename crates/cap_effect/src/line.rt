@@ -1,11 +1,13 @@
 //! The effect of one line.
 
-ghost use Rattle.std.specs.Prelude.{◌≡◌, ℕ, IfOk, OnOk};
+ghost use Rattle.std.specs.Prelude.{◌≡◌, ℕ, true, IfOk, OnOk};
+ghost use Rattle.std.specs.List.{All};
 ghost use Rattle.cap_trace.specs.Seen.{fds_spelled};
 ghost use Rattle.cap_machine.specs.Effect.{effect_turn};
 ghost use Rattle.cap_effect.specs.declared.key.Key.{Key};
 ghost use Rattle.cap_effect.specs.Keys.{Cells};
-ghost use Rattle.cap_effect.specs.Values.{read};
+ghost use Rattle.cap_effect.specs.Values.{read, reads_within};
+ghost use Rattle.cap_effect.specs.Names.{Names, has_cell, others_within, ListWithin, RowWithin, RowsWithin, EffectWithin, LineWithin};
 ghost use Rattle.cap_effect.specs.Effects.{base_cell, changed};
 ghost use Rattle.cap_effect.specs.Lines.{turned_cell, unlisted, IsThenLine, IsPut, IsRowOf, IsListOf, IsStarted};
 
@@ -21,7 +23,9 @@ use std::alloc::Global;
 
 /// The descriptors that a process starts with, as they are spelled.
 fn started_cells(alloc: Global, spelled: &[u8]) -> Result<Table<Value>, NoMemory>
-    ensures { IfOk result (λ listed. IsStarted (fds_spelled spelled.now) listed) }
+    ensures cells { IfOk result (λ listed. IsStarted (fds_spelled spelled.now) listed) }
+    ensures names { IfOk result (λ listed. (names : Names) → All (λ f. names.fds f ≡ true) (fds_spelled spelled.now)
+        → ListWithin names listed) }
 {
     let fds = fds_of(alloc, spelled)?;
     let mut listed = Map::new(alloc);
@@ -33,7 +37,8 @@ fn started_cells(alloc: Global, spelled: &[u8]) -> Result<Table<Value>, NoMemory
 
 /// The cells that a line of process `me` doesn't list one by one.
 fn base_of(me: Pid, line: &LineEffect<'_>) -> Base
-    ensures { (cells : Cells) (f : ℕ) → base_cell cells result f ≡ unlisted line.now me cells f }
+    ensures cells { (cells : Cells) (f : ℕ) → base_cell cells result f ≡ unlisted line.now me cells f }
+    ensures names { (names : Names) → names.pids me ≡ true → others_within names result.others ≡ true }
 {
     let own = Others::Of(me, Passing::Same);
     match line {
@@ -50,7 +55,8 @@ fn base_of(me: Pid, line: &LineEffect<'_>) -> Base
 
 /// The mode of process `me` after its line.
 fn mode_of(me: Pid, line: &LineEffect<'_>) -> Value
-    ensures { (cells : Cells) → read cells result ≡ turned_cell (effect_turn line.now me me) cells me }
+    ensures reads { (cells : Cells) → read cells result ≡ turned_cell (effect_turn line.now me me) cells me }
+    ensures names { (names : Names) → names.pids me ≡ true → reads_within (has_cell names) result ≡ true }
 {
     match line {
         LineEffect::Start(_) => Value::Is(cell_of_mode(Mode::Outside)),
@@ -62,7 +68,8 @@ fn mode_of(me: Pid, line: &LineEffect<'_>) -> Value
 
 /// The cells that a line of process `me` lists one by one.
 fn listed_by(alloc: Global, me: Pid, line: &LineEffect<'_>) -> Result<Table<Value>, NoMemory>
-    ensures { IfOk result (λ listed. IsListOf line.now me listed) }
+    ensures cells { IfOk result (λ listed. IsListOf line.now me listed) }
+    ensures names { IfOk result (λ listed. (names : Names) → LineWithin names me line.now → ListWithin names listed) }
 {
     match line {
         LineEffect::Start(fds) => started_cells(alloc, fds),
@@ -83,7 +90,8 @@ fn listed_by(alloc: Global, me: Pid, line: &LineEffect<'_>) -> Result<Table<Valu
 impl Row {
     /// What a line of process `me` makes of the process, and of a child that it makes.
     fn of_line(alloc: Global, me: Pid, line: &LineEffect<'_>) -> Result<Row, NoMemory>
-        ensures { IfOk result (λ row. IsRowOf line.now me row) }
+        ensures cells { IfOk result (λ row. IsRowOf line.now me row) }
+        ensures names { IfOk result (λ row. (names : Names) → LineWithin names me line.now → RowWithin names row) }
     {
         Ok(Row {
             base: base_of(me, line),
@@ -95,7 +103,9 @@ impl Row {
 
 /// Puts a row for each process that a line of process `me` touches.
 fn put_rows(rows: &mut Map<Row>, me: Pid, line: &LineEffect<'_>, row: Row) -> Result<(), NoMemory>
-    ensures { OnOk result (IsPut line.now me row rows.old rows.new) }
+    ensures cells { OnOk result (IsPut line.now me row rows.old rows.new) }
+    ensures names { OnOk result ((names : Names) → LineWithin names me line.now → RowWithin names row
+        → RowsWithin names rows.old → RowsWithin names rows.new) }
 {
     match line {
         LineEffect::Keep => Ok(()),
@@ -111,7 +121,8 @@ fn put_rows(rows: &mut Map<Row>, me: Pid, line: &LineEffect<'_>, row: Row) -> Re
 impl Effect {
     /// Nothing is touched.
     pub fn empty(alloc: Global) -> Effect
-        ensures { (cells : Cells) (p : ℕ) (k : Key) → changed result cells p k ≡ cells p k }
+        ensures cells { (cells : Cells) (p : ℕ) (k : Key) → changed result cells p k ≡ cells p k }
+        ensures names { (names : Names) → EffectWithin names result }
     {
         Effect {
             rows: Map::new(alloc),
@@ -121,7 +132,9 @@ impl Effect {
     /// The effect of this segment and then a line of process `me`. Only the rows of that process and of a child that it
     /// makes are made anew.
     pub fn push(self, alloc: Global, me: Pid, line: &LineEffect<'_>) -> Result<Effect, NoMemory>
-        ensures { IfOk result (λ new. IsThenLine self line.now me new) }
+        ensures cells { IfOk result (λ new. IsThenLine self line.now me new) }
+        ensures names { IfOk result (λ new. (names : Names) → LineWithin names me line.now
+            → EffectWithin names self → EffectWithin names new) }
     {
         if let LineEffect::Keep = line {
             return Ok(self);

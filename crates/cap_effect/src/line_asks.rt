@@ -14,6 +14,8 @@ ghost use Rattle.cap_effect.specs.Keys.{Cells, cells_of};
 ghost use Rattle.cap_effect.specs.Asks.{holds};
 ghost use Rattle.cap_effect.specs.Tests.{passes};
 ghost use Rattle.cap_effect.specs.Preconditions.{has_part};
+ghost use Rattle.cap_effect.specs.Names.{Names, part_within, ChecksWithin, ExcusesWithin};
+ghost use Rattle.cap_effect.specs.Names.{LineAsksWithin, DemandWithin};
 ghost use Rattle.cap_effect.specs.LineAsks.{has_any, part_holds, one_holds, excuses_hold, checked_cells, asked_holds, IsAskedBy};
 
 use crate::ask::Ask;
@@ -95,7 +97,8 @@ fn of_rights(unknown: bool, rights: &RightSet) -> Test
 
 /// The process is in capability mode.
 fn inside(me: Pid) -> Ask
-    ensures { (s : State) → holds (cells_of s) result ≡ is_inside (s.mode me) }
+    ensures holds { (s : State) → holds (cells_of s) result ≡ is_inside (s.mode me) }
+    ensures cell { (result.pid ≡ me) × (result.key ≡ key.Mode) }
 {
     Ask {
         pid: me,
@@ -106,7 +109,8 @@ fn inside(me: Pid) -> Ask
 
 /// The process is outside capability mode.
 fn outside(me: Pid) -> Ask
-    ensures { (s : State) → holds (cells_of s) result ≡ is_outside (s.mode me) }
+    ensures holds { (s : State) → holds (cells_of s) result ≡ is_outside (s.mode me) }
+    ensures cell { (result.pid ≡ me) × (result.key ≡ key.Mode) }
 {
     Ask {
         pid: me,
@@ -117,7 +121,8 @@ fn outside(me: Pid) -> Ask
 
 /// The process may be in capability mode.
 fn may_be_inside(me: Pid) -> Ask
-    ensures { (s : State) → holds (cells_of s) result ≡ not (is_outside (s.mode me)) }
+    ensures holds { (s : State) → holds (cells_of s) result ≡ not (is_outside (s.mode me)) }
+    ensures cell { (result.pid ≡ me) × (result.key ≡ key.Mode) }
 {
     Ask {
         pid: me,
@@ -128,8 +133,9 @@ fn may_be_inside(me: Pid) -> Ask
 
 /// A call that succeeded lacked the rights that a check needs.
 fn missing(me: Pid, check: &Check) -> Ask
-    ensures { (word : Word) (cells : Cells)
+    ensures holds { (word : Word) (cells : Cells)
         → holds cells result ≡ has_any (fault word check.now (cells me (key.Fd check.now.fd))) }
+    ensures cell { (result.pid ≡ me) × (result.key ≡ key.Fd check.now.fd) }
 {
     Ask {
         pid: me,
@@ -140,7 +146,9 @@ fn missing(me: Pid, check: &Check) -> Ask
 
 /// The cell may lack the rights with which a refusal is wrongful.
 fn may_lack(me: Pid, fd: Fd, excuse: &RightSet) -> Ask
-    ensures { (cells : Cells) → holds cells result ≡ not (is_excused (Some excuse.now) (cells me (key.Fd fd))) }
+    ensures holds { (cells : Cells)
+        → holds cells result ≡ not (is_excused (Some excuse.now) (cells me (key.Fd fd))) }
+    ensures cell { (result.pid ≡ me) × (result.key ≡ key.Fd fd) }
 {
     Ask {
         pid: me,
@@ -151,7 +159,8 @@ fn may_lack(me: Pid, fd: Fd, excuse: &RightSet) -> Ask
 
 /// What a call that succeeded asks of the mode.
 fn mode_ask(me: Pid, class: Class) -> Option<Ask>
-    ensures { (s : State) → part_holds (cells_of s) result ≡ has_any (forbidden class (s.mode me)) }
+    ensures holds { (s : State) → part_holds (cells_of s) result ≡ has_any (forbidden class (s.mode me)) }
+    ensures names { (names : Names) → names.pids me ≡ true → part_within names result ≡ true }
 {
     match class {
         Class::Forbidden => Some(inside(me)),
@@ -161,8 +170,10 @@ fn mode_ask(me: Pid, class: Class) -> Option<Ask>
 
 /// What a call that succeeded asks of the cells of its checks.
 fn check_asks(me: Pid, checks: &Checks) -> (Option<Ask>, Option<Ask>)
-    ensures { (word : Word) (s : State) → (part_holds (cells_of s) result.0 || part_holds (cells_of s) result.1)
+    ensures hold { (word : Word) (s : State) → (part_holds (cells_of s) result.0 || part_holds (cells_of s) result.1)
         ≡ has_any (faults word (listed checks.now) (checked_cells me checks.now s)) }
+    ensures names { (names : Names) → names.pids me ≡ true → ChecksWithin names checks.now
+        → (part_within names result.0 ≡ true) × (part_within names result.1 ≡ true) }
 {
     match checks {
         Checks::Nothing => (None, None),
@@ -173,8 +184,10 @@ fn check_asks(me: Pid, checks: &Checks) -> (Option<Ask>, Option<Ask>)
 
 /// What a refusal asks of the cells of its checks, if it is judged.
 fn excuse_asks(me: Pid, checks: &Checks) -> Option<(Ask, Option<Ask>)>
-    ensures { (s : State) → excuses_hold (cells_of s) result
+    ensures hold { (s : State) → excuses_hold (cells_of s) result
         ≡ (has_check checks.now && all_excused (listed checks.now) (checked_cells me checks.now s)) }
+    ensures names { (names : Names) → names.pids me ≡ true → ChecksWithin names checks.now
+        → ExcusesWithin names result }
 {
     match checks {
         Checks::Nothing => None,
@@ -193,7 +206,8 @@ impl LineAsks {
     /// What a call that succeeded asks.
     fn of_success(me: Pid, demand: &Demand) -> LineAsks
         requires { demand.now.reply ≡ Success }
-        ensures { IsAskedBy demand.now me result }
+        ensures holds { IsAskedBy demand.now me result }
+        ensures names { (names : Names) → DemandWithin names me demand.now → LineAsksWithin names result }
     {
         let mode = mode_ask(me, demand.class);
         let (first, second) = check_asks(me, &demand.checks);
@@ -207,7 +221,8 @@ impl LineAsks {
     /// What a call that was refused for lack of rights asks.
     fn of_refusal(me: Pid, demand: &Demand) -> LineAsks
         requires { demand.now.reply ≡ NotCapable }
-        ensures { IsAskedBy demand.now me result }
+        ensures holds { IsAskedBy demand.now me result }
+        ensures names { (names : Names) → DemandWithin names me demand.now → LineAsksWithin names result }
     {
         let Some((first, second)) = excuse_asks(me, &demand.checks) else {
             return LineAsks::nothing();
@@ -226,7 +241,8 @@ impl LineAsks {
 
     /// Nothing is ever found.
     fn nothing() -> LineAsks
-        ensures { (cells : Cells) → asked_holds cells result ≡ false }
+        ensures holds { (cells : Cells) → asked_holds cells result ≡ false }
+        ensures names { (names : Names) → LineAsksWithin names result }
     {
         LineAsks::Where(UpToThree {
             mode: None,
@@ -237,7 +253,8 @@ impl LineAsks {
 
     /// What a line with this demand of process `me` asks.
     pub fn of_line(me: Pid, demand: &Demand) -> LineAsks
-        ensures { IsAskedBy demand.now me result }
+        ensures holds { IsAskedBy demand.now me result }
+        ensures names { (names : Names) → DemandWithin names me demand.now → LineAsksWithin names result }
     {
         match demand.reply {
             Reply::Success => LineAsks::of_success(me, demand),

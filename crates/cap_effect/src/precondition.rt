@@ -4,11 +4,13 @@ ghost use Rattle.std.specs.Prelude.{◌≡◌, ◌||◌, not, false, true, [], I
 ghost use Rattle.std.specs.List.{list_any};
 ghost use Rattle.cap_machine.specs.State.{State};
 ghost use Rattle.cap_effect.specs.Keys.{Cells, cells_of};
-ghost use Rattle.cap_effect.specs.Asks.{any_holds, pulled_holds, is_always, PulledIsOpen, IsOpen};
+ghost use Rattle.cap_effect.specs.Asks.{any_holds, pulled_holds, pulled_within, is_always, PulledIsOpen, IsOpen, AreWithin};
 ghost use Rattle.cap_effect.specs.LineAsks.{part_holds, one_holds, asked_holds};
 ghost use Rattle.cap_effect.specs.Effects.{changed};
 ghost use Rattle.cap_effect.specs.Preconditions.{is_met, is_wrongful, three_hold, any_certain, IsMetOr, IsSettled};
 ghost use Rattle.cap_effect.specs.Preconditions.{ThreeAreOpen, IsPossible};
+ghost use Rattle.cap_effect.specs.Names.{Names, has_cell, part_within, PartsWithin, LineAsksWithin, RefusalsWithin};
+ghost use Rattle.cap_effect.specs.Names.{EffectWithin, PreWithin};
 
 use crate::ask::{Ask, Pulled};
 use crate::asks::in_order;
@@ -51,6 +53,8 @@ impl Pulled {
         requires { is_always self.now ≡ false }
         ensures holds { (cells : Cells) → part_holds cells result ≡ pulled_holds cells self.now }
         ensures open { PulledIsOpen self.now → IfSome result IsOpen }
+        ensures names { (names : Names) → pulled_within (has_cell names) self.now ≡ true
+            → part_within names result ≡ true }
     {
         match self {
             Pulled::Where(ask) => Some(*ask),
@@ -64,6 +68,8 @@ fn pulled_part(alloc: Global, first: &Effect, ask: &Option<Ask>) -> Result<Pulle
     ensures holds { IfOk result (λ pulled. (s : State) → pulled_holds (cells_of s) pulled
         ≡ part_holds (changed first.now (cells_of s)) ask.now) }
     ensures open { IfOk result PulledIsOpen }
+    ensures names { IfOk result (λ pulled. (names : Names) → EffectWithin names first.now
+        → part_within names ask.now ≡ true → pulled_within (has_cell names) pulled ≡ true) }
 {
     match ask {
         None => Ok(Pulled::Never),
@@ -83,6 +89,8 @@ fn pulled_three(
     ensures hold { IfOk result (λ pulled. (s : State)
         → three_hold (cells_of s) pulled ≡ one_holds (changed first.now (cells_of s)) asks.now) }
     ensures open { IfOk result ThreeAreOpen }
+    ensures names { IfOk result (λ pulled. (names : Names) → EffectWithin names first.now
+        → PartsWithin names asks.now → IfSome pulled (PartsWithin names)) }
 {
     let mode = pulled_part(alloc, first, &asks.mode)?;
     let one = pulled_part(alloc, first, &asks.first)?;
@@ -115,6 +123,7 @@ impl Precondition {
     pub fn never(alloc: Global) -> Precondition
         ensures met { (s : State) → is_met (cells_of s) result ≡ false }
         ensures possible { IsPossible result }
+        ensures names { (names : Names) → PreWithin names result }
         ensures nothing { (result.certain ≡ false) × (result.asks.items ≡ []) × (result.refusals.items ≡ []) }
     {
         Precondition {
@@ -128,6 +137,8 @@ impl Precondition {
     fn put(&mut self, pulled: Pulled) -> Result<(), NoMemory>
         ensures met { OnOk result (IsMetOr self.old self.new (λ cells. pulled_holds cells pulled)) }
         ensures possible { OnOk result (PulledIsOpen pulled → IsPossible self.old → IsPossible self.new) }
+        ensures names { OnOk result ((names : Names) → pulled_within (has_cell names) pulled ≡ true
+            → PreWithin names self.old → PreWithin names self.new) }
     {
         match pulled {
             Pulled::Always => self.certain = true,
@@ -147,6 +158,8 @@ impl Precondition {
         ensures met { OnOk result (IsMetOr self.old self.new
             (λ cells. part_holds (changed first.now cells) ask.now)) }
         ensures possible { OnOk result (IsPossible self.old → IsPossible self.new) }
+        ensures names { OnOk result ((names : Names) → EffectWithin names first.now
+            → part_within names ask.now ≡ true → PreWithin names self.old → PreWithin names self.new) }
     {
         let pulled = pulled_part(alloc, first, ask)?;
         self.put(pulled)
@@ -162,6 +175,8 @@ impl Precondition {
         ensures met { OnOk result (IsMetOr self.old self.new
             (λ cells. not (one_holds (changed first.now cells) unless.now))) }
         ensures possible { OnOk result (IsPossible self.old → IsPossible self.new) }
+        ensures names { OnOk result ((names : Names) → EffectWithin names first.now
+            → PartsWithin names unless.now → PreWithin names self.old → PreWithin names self.new) }
     {
         let Some(unless) = pulled_three(alloc, first, unless)? else {
             return Ok(());
@@ -184,6 +199,8 @@ impl Precondition {
         ensures met { OnOk result (IsMetOr self.old self.new
             (λ cells. asked_holds (changed first.now cells) asks.now)) }
         ensures possible { OnOk result (IsPossible self.old → IsPossible self.new) }
+        ensures names { OnOk result ((names : Names) → EffectWithin names first.now
+            → LineAsksWithin names asks.now → PreWithin names self.old → PreWithin names self.new) }
     {
         match asks {
             LineAsks::Always => {
@@ -210,6 +227,8 @@ impl Precondition {
         ensures met { OnOk result (IsMetOr self.old self.new
             (λ cells. any_holds (changed first.now cells) asks.now)) }
         ensures possible { OnOk result (IsPossible self.old → IsPossible self.new) }
+        ensures names { OnOk result ((names : Names) → EffectWithin names first.now
+            → AreWithin (has_cell names) asks.now → PreWithin names self.old → PreWithin names self.new) }
     {
         for ask in asks {
             self.put_after(alloc, first, &Some(*ask))?;
@@ -227,6 +246,8 @@ impl Precondition {
         ensures met { OnOk result (IsMetOr self.old self.new
             (λ cells. list_any (is_wrongful (changed first.now cells)) refusals.now)) }
         ensures possible { OnOk result (IsPossible self.old → IsPossible self.new) }
+        ensures names { OnOk result ((names : Names) → EffectWithin names first.now
+            → RefusalsWithin names refusals.now → PreWithin names self.old → PreWithin names self.new) }
     {
         for refusal in refusals {
             self.refuse_after(alloc, first, &refusal.unless)?;
@@ -243,6 +264,8 @@ impl Precondition {
     ) -> Result<(), NoMemory>
         ensures met { OnOk result (IsMetOr self.old self.new (λ cells. is_met (changed first.now cells) later.now)) }
         ensures possible { OnOk result (IsPossible self.old → IsPossible self.new) }
+        ensures names { OnOk result ((names : Names) → EffectWithin names first.now
+            → PreWithin names later.now → PreWithin names self.old → PreWithin names self.new) }
     {
         self.put_asks_after(alloc, first, &later.asks)?;
         self.refuse_all_after(alloc, first, &later.refusals)?;
@@ -257,6 +280,7 @@ impl Precondition {
         ensures met { IfOk result (λ pre. (s : State) → is_met (cells_of s) pre ≡ is_met (cells_of s) self) }
         ensures settled { IfOk result IsSettled }
         ensures possible { IfOk result (λ pre. IsPossible self → IsPossible pre) }
+        ensures names { IfOk result (λ pre. (names : Names) → PreWithin names self → PreWithin names pre) }
     {
         let asks = in_order(alloc, &self.asks)?;
         if self.certain || any_is_certain(&asks) {

@@ -9,15 +9,18 @@ use Rattle.cap_effect.proofs.LineAsking.{refusal_found}
 use Rattle.cap_effect.proofs.line_asks.LineAsks.of_refusal.Goals as goal
 use Rattle.cap_effect.proofs.line_asks.LineAsks.of_refusal.Goals.{then-demand, else-demand}
 
-pub returns : goal.returns
-returns c = λ s.
+pub returns-clause-holds : goal.returns-clause-holds
+returns-clause-holds c = λ s.
     let demand = c.args.demand.now in
     let outside = is_outside (s.mode c.args.me) in
     let inside : part_holds (cells_of s) c.if-demand.mode ≡ (demand.at && not outside) = elim c.if-demand.branch [
-      | then-demand w ↦ rw (w.mode-is, w.if-demand.true) (w.may_be_inside.ensures s)
+      | then-demand w ↦ rw (w.mode-is, w.if-demand.true) (w.may_be_inside.ensures.holds s)
       | else-demand w ↦ rw (w.mode-is, w.if-demand.false) refl
     ] in
     rw c.requires (refusal_found say.Refusal (has_check demand.checks)
     (all_excused (listed demand.checks) (checked_cells c.args.me demand.checks s)) demand.at outside
     (holds (cells_of s) c.in-Some.first || part_holds (cells_of s) c.in-Some.second)
-    (part_holds (cells_of s) c.if-demand.mode) (c.in-Some.ensures s) inside)
+    (part_holds (cells_of s) c.if-demand.mode) (c.in-Some.ensures.hold s) inside)
+
+pub returns-in_default-clause-names : goal.returns-in_default-clause-names
+returns-in_default-clause-names c = λ names within. c.nothing.ensures.names names

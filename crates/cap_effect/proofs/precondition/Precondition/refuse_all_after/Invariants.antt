@@ -2,6 +2,7 @@ use Rattle.std.proofs.Common.{take}
 use Rattle.std.specs.List.{list_any}
 use Rattle.cap_effect.specs.Effects.{changed}
 use Rattle.cap_effect.specs.Preconditions.{is_wrongful, IsMetOr, IsPossible}
+use Rattle.cap_effect.specs.Names.{Names, EffectWithin, PreWithin, RefusalsWithin}
 use Rattle.cap_effect.proofs.precondition.Precondition.refuse_all_after.Given as goal
 
 abbrev pub invariant-loop-refusal : goal.invariant-loop-refusal
@@ -9,4 +10,6 @@ invariant-loop-refusal l = record {
   met : IsMetOr l.initial.self l.self
       (λ cells. list_any (is_wrongful (changed l.first cells)) (take l.refusal-index l.refusals));
   possible : IsPossible l.initial.self → IsPossible l.self;
+  names : (names : Names) → EffectWithin names l.first → RefusalsWithin names l.refusals
+      → PreWithin names l.initial.self → PreWithin names l.self;
 }

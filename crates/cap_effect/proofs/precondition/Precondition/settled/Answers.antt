@@ -1,7 +1,8 @@
 use Rattle.std.proofs.Common.{◌≡◌, true, false, refl, sym, ◌∙◌}
 use Rattle.std.proofs.lemmas.List.Elements.{All-nil}
 use Rattle.cap_effect.specs.Keys.{cells_of}
-use Rattle.cap_effect.specs.Asks.{CanBe}
+use Rattle.cap_effect.specs.Asks.{CanBe, AskWithin}
+use Rattle.cap_effect.specs.Names.{has_cell}
 use Rattle.cap_effect.proofs.Asking.{certain_any, certain_none}
 use Rattle.cap_effect.proofs.Meeting.{met_by_ask}
 use Rattle.cap_effect.proofs.precondition.Precondition.settled.Goals as goal
@@ -33,3 +34,10 @@ pub returns-clause-possible : goal.returns-clause-possible
 returns-clause-possible c = λ old.
     let united = rw c.deref.ensures.value at c.in_ok-asks.ensures in
     record { asks = united.possible old.asks (All-nil (CanBe true)); refusals = old.refusals }
+
+pub returns-clause-names : goal.returns-clause-names
+returns-clause-names c = λ names old.
+    let united = rw c.deref.ensures.value at c.in_ok-asks.ensures in record {
+      asks = united.names (has_cell names) old.asks (All-nil (AskWithin (has_cell names)));
+      refusals = old.refusals;
+    }

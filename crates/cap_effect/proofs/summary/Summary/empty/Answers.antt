@@ -5,4 +5,5 @@ use Rattle.cap_effect.proofs.summary.Summary.empty.Goals as goal
 pub returns : goal.returns
 returns c =
     let none : Summary = record { effect = c.empty.result; precondition = c.never.result } in
-    summarizes_none none c.empty.ensures c.never.ensures.met c.never.ensures.possible
+    summarizes_none none c.empty.ensures.cells c.never.ensures.met c.never.ensures.possible c.empty.ensures.names
+    c.never.ensures.names

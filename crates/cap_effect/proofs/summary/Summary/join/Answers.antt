@@ -11,5 +11,6 @@ returns-clause-both c = λ first second a b.
       precondition = c.in_ok-precondition.precondition;
     } in
     summarizes_same both new _ (summarizes_both c.args.self c.args.later.now both first second a b
-    c.in_ok-effect.ensures c.in_ok-put_all_after.ensures.met c.in_ok-put_all_after.ensures.possible) refl
-    c.in_ok-precondition.ensures.met c.in_ok-precondition.ensures.possible
+    c.in_ok-effect.ensures.cells c.in_ok-put_all_after.ensures.met c.in_ok-put_all_after.ensures.possible
+    c.in_ok-effect.ensures.names c.in_ok-put_all_after.ensures.names) refl
+    c.in_ok-precondition.ensures.met c.in_ok-precondition.ensures.possible c.in_ok-precondition.ensures.names

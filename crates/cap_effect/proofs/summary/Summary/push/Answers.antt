@@ -1,4 +1,7 @@
+use Rattle.std.proofs.Common.{[], ◌∷◌, ◌++◌}
 use Rattle.cap_effect.specs.declared.summary.Summary.{Summary}
+use Rattle.cap_effect.specs.Names.{names_in}
+use Rattle.cap_effect.proofs.Naming.{line_in, demand_in}
 use Rattle.cap_effect.proofs.Summing.{summarizes_more}
 use Rattle.cap_effect.proofs.summary.Summary.push.Goals as goal
 
@@ -10,6 +13,10 @@ returns c = λ steps so_far.
     let pid = c.pid-pid.ensures in
     let demand = rw seen at rule.demand in
     summarizes_more c.args.step.now c.rule_of-rule.result.effect c.pid-pid.result
-    (λ p f. rw pid (rw seen at (rule.cells p f))) (λ p. rw pid (rw seen at (rule.modes p)))
-    c.args.self more c.of_line-asks.result steps so_far c.in_ok-effect.ensures
-    c.in_ok-line_after.ensures.met c.in_ok-line_after.ensures.possible (λ s. rw (pid, demand) at (c.of_line-asks.ensures s))
+    (λ p f. rw pid (rw seen at (rule.cells p f)))
+    (λ p. rw pid (rw seen at (rule.modes p))) c.args.self more c.of_line-asks.result steps so_far
+    c.in_ok-effect.ensures.cells c.in_ok-line_after.ensures.met c.in_ok-line_after.ensures.possible
+    (λ s. rw (pid, demand) at (c.of_line-asks.ensures.holds s)) c.in_ok-effect.ensures.names
+    c.in_ok-line_after.ensures.names (rw pid (line_in c.args.step.now steps c.rule_of-rule.result.effect
+    (λ p f. rw seen at (rule.cells p f)))) (c.of_line-asks.ensures.names (names_in (steps ++ c.args.step.now ∷ []))
+    (rw (pid, demand) (demand_in c.args.step.now steps)))

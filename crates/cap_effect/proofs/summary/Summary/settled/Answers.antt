@@ -7,3 +7,4 @@ pub returns-clause-same : goal.returns-clause-same
 returns-clause-same c = λ steps says.
     let new : Summary = record { effect = c.args.self.effect; precondition = c.in_ok-precondition.precondition } in
     summarizes_same c.args.self new steps says refl c.in_ok-precondition.ensures.met c.in_ok-precondition.ensures.possible
+    c.in_ok-precondition.ensures.names
