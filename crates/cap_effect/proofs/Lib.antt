@@ -14,4 +14,7 @@ pub mod LineListed
 pub mod LineNamed
 pub mod Naming
 pub mod Meeting
-pub mod Summing
+pub mod Runs
+pub mod Knowing
+pub mod Counting
+pub mod Keeping

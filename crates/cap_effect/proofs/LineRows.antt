@@ -35,7 +35,7 @@ untouched _ me p cells key.Mode is = refl
 untouched _ me p cells (key.Fd f) is = rw is refl
 
 -- ---- those that are touched have the cells of the line's own
-same_is : (c : Cell) → applied same c ≡ c
+pub same_is : (c : Cell) → applied same c ≡ c
 same_is Unknown = refl
 same_is Closed = refl
 same_is (Held r Set) = refl

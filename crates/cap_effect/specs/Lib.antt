@@ -11,4 +11,13 @@ pub mod LineAsks
 pub mod Names
 pub mod Composing
 pub mod Preconditions
-pub mod Summaries
+pub mod Knows
+pub mod Sizes
+pub mod Kept
+pub mod View
+pub mod Content
+pub mod Falls
+pub mod Stands
+pub mod Sized
+pub mod Seen
+pub mod Before

@@ -61,3 +61,9 @@ pub record IsSettled (pre : Precondition) : Type 0 where
   pub rises : Rises pre.asks.items
   pub fails : All (CanBe false) pre.asks.items
   pub alone : pre.certain ≡ true → (pre.asks.items ≡ []) × (pre.refusals.items ≡ [])
+
+-- the same asks and refusals
+pub record IsCopyOf (pre copy : Precondition) : Type 0 where
+  pub certain : copy.certain ≡ pre.certain
+  pub asks : copy.asks.items ≡ pre.asks.items
+  pub refusals : copy.refusals.items ≡ pre.refusals.items

@@ -9,8 +9,8 @@ ghost use Rattle.cap_effect.specs.Effects.{passed, is_from, others_cell, base_ce
 use crate::key::Key;
 use crate::value::Value;
 use cap_machine::{Cell, Op};
-use cap_rights::NoMemory;
 use cap_trace::{Fd, Pid};
+use cap_tree::NoMemory;
 use std::alloc::Global;
 
 /// How a whole table of cells is handed on.

@@ -13,7 +13,7 @@ use crate::base::{Base, Others, Passing, lower_of};
 use crate::effect::{Effect, Row};
 use crate::sorted::{Combine, merge};
 use crate::value::Value;
-use cap_rights::NoMemory;
+use cap_tree::NoMemory;
 use std::alloc::Global;
 
 /// The cells that a base of a later segment hands on, as an earlier segment leaves them: those that are listed there,

@@ -1,18 +1,19 @@
 //! What becomes of each cell over a segment.
 
-ghost use Rattle.std.specs.Prelude.{◌≡◌, true, IfOk};
+ghost use Rattle.std.specs.Prelude.{◌≡◌, ◌+◌, ◌<◌, true, IfOk, IfSome, IfNone};
 ghost use Rattle.cap_effect.specs.declared.key.Key.{Key};
 ghost use Rattle.cap_effect.specs.Keys.{Cells};
 ghost use Rattle.cap_effect.specs.Values.{read, reads_within};
 ghost use Rattle.cap_effect.specs.Names.{Names, has_key, has_cell, RowWithin, EffectWithin};
 ghost use Rattle.cap_effect.specs.Effects.{row_cell, changed};
+ghost use Rattle.cap_effect.specs.Sizes.{rows_size};
 
 use crate::base::{Base, Others, Passing};
 use crate::key::Key;
 use crate::sorted::{Map, Table};
 use crate::value::Value;
-use cap_rights::NoMemory;
 use cap_trace::Pid;
+use cap_tree::NoMemory;
 use std::alloc::Global;
 
 /// What becomes of the cells of a process.
@@ -87,5 +88,21 @@ impl Effect {
             None => value.share(),
             Some((pid, key)) => value.composed(alloc, &self.read(alloc, pid, key)?),
         }
+    }
+
+    /// What is left of some room beside its rows and the cells that they list; none where these are more.
+    pub(crate) fn room_beside(&self, room: usize) -> Option<usize>
+        ensures left { IfSome result (λ left. left + rows_size self.now.rows ≡ room) }
+        ensures none { IfNone result (room < rows_size self.now.rows) }
+    {
+        let mut left = room;
+        for entry in self.rows.entries() {
+            let cells = entry.1.cells.len();
+            if left <= cells {
+                return None;
+            }
+            left -= cells + 1;
+        }
+        Some(left)
     }
 }

@@ -17,8 +17,9 @@ use crate::key::{Key, cell_of_mode};
 use crate::sorted::{Map, Table};
 use crate::value::Value;
 use cap_machine::{Cell, Effect as LineEffect, Mode, OnExec};
-use cap_rights::{NoMemory, RightSet};
+use cap_rights::RightSet;
 use cap_trace::{Pid, fds_of};
+use cap_tree::NoMemory;
 use std::alloc::Global;
 
 /// The descriptors that a process starts with, as they are spelled.
@@ -27,7 +28,9 @@ fn started_cells(alloc: Global, spelled: &[u8]) -> Result<Table<Value>, NoMemory
     ensures names { IfOk result (λ listed. (names : Names) → All (λ f. names.fds f ≡ true) (fds_spelled spelled.now)
         → ListWithin names listed) }
 {
-    let fds = fds_of(alloc, spelled)?;
+    let Ok(fds) = fds_of(alloc, spelled) else {
+        return Err(NoMemory);
+    };
     let mut listed = Map::new(alloc);
     for fd in &fds {
         listed.set(*fd, Value::Is(Cell::Held(RightSet::all(), OnExec::Unsure)))?;

@@ -1,6 +1,6 @@
 //! Under which states before a segment something is found in it.
 
-ghost use Rattle.std.specs.Prelude.{◌≡◌, ◌||◌, not, false, true, [], IfOk, IfSome, OnOk};
+ghost use Rattle.std.specs.Prelude.{◌≡◌, ◌||◌, not, false, true, [], nat_le, IfOk, IfSome, OnOk};
 ghost use Rattle.std.specs.List.{list_any};
 ghost use Rattle.cap_machine.specs.State.{State};
 ghost use Rattle.cap_effect.specs.Keys.{Cells, cells_of};
@@ -8,7 +8,8 @@ ghost use Rattle.cap_effect.specs.Asks.{any_holds, pulled_holds, pulled_within, 
 ghost use Rattle.cap_effect.specs.LineAsks.{part_holds, one_holds, asked_holds};
 ghost use Rattle.cap_effect.specs.Effects.{changed};
 ghost use Rattle.cap_effect.specs.Preconditions.{is_met, is_wrongful, three_hold, any_certain, IsMetOr, IsSettled};
-ghost use Rattle.cap_effect.specs.Preconditions.{ThreeAreOpen, IsPossible};
+ghost use Rattle.cap_effect.specs.Preconditions.{ThreeAreOpen, IsPossible, IsCopyOf};
+ghost use Rattle.cap_effect.specs.Sizes.{asks_size};
 ghost use Rattle.cap_effect.specs.Names.{Names, has_cell, part_within, PartsWithin, LineAsksWithin, RefusalsWithin};
 ghost use Rattle.cap_effect.specs.Names.{EffectWithin, PreWithin};
 
@@ -16,7 +17,7 @@ use crate::ask::{Ask, Pulled};
 use crate::asks::in_order;
 use crate::effect::Effect;
 use crate::line_asks::{LineAsks, UpToThree};
-use cap_rights::NoMemory;
+use cap_tree::NoMemory;
 use std::alloc::Global;
 
 /// A refusal for lack of rights (errno 93). It is wrongful unless one of these asks holds.
@@ -130,6 +131,31 @@ impl Precondition {
             certain: false,
             asks: Vec::new(alloc),
             refusals: Vec::new(alloc),
+        }
+    }
+
+    /// A copy.
+    pub fn copy(&self, alloc: Global) -> Result<Precondition, NoMemory>
+        ensures { IfOk result (IsCopyOf self.now) }
+    {
+        let mut asks = Vec::with_capacity(alloc, self.asks.len())?;
+        asks.extend_from_slice(&self.asks)?;
+        let mut refusals = Vec::with_capacity(alloc, self.refusals.len())?;
+        refusals.extend_from_slice(&self.refusals)?;
+        Ok(Precondition {
+            certain: self.certain,
+            asks,
+            refusals,
+        })
+    }
+
+    /// Whether there is room for its asks and its refusals.
+    pub(crate) fn fits(&self, room: usize) -> bool
+        ensures { result ≡ nat_le (asks_size self.now) room }
+    {
+        match room.checked_sub(self.asks.len()) {
+            None => false,
+            Some(left) => self.refusals.len() <= left,
         }
     }
 

@@ -4,7 +4,7 @@ ghost use Rattle.std.specs.Prelude.{◌≡◌, ℕ, ◌==◌, if◌then◌else�
 ghost use Rattle.std.specs.Option.{option_copied};
 ghost use Rattle.cap_effect.specs.Sorted.{found, Rises};
 
-use cap_rights::NoMemory;
+use cap_tree::NoMemory;
 use place::place_of;
 use std::alloc::{AllocError, Global};
 use std::cmp::Ordering;

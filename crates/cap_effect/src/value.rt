@@ -8,8 +8,8 @@ ghost use Rattle.cap_effect.specs.Values.{read, made_of, source, reads_within};
 
 use crate::key::Key;
 use cap_machine::{Cell, Op};
-use cap_rights::NoMemory;
 use cap_trace::Pid;
+use cap_tree::NoMemory;
 use std::alloc::Global;
 use std::rc::Rc;
 

@@ -5,7 +5,7 @@ ghost use Rattle.cap_effect.specs.Sorted.{found, Rises};
 
 use super::Table;
 use super::place::place_of;
-use cap_rights::NoMemory;
+use cap_tree::NoMemory;
 use std::alloc::Global;
 use std::marker::Model;
 

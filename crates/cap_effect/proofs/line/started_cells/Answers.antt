@@ -27,12 +27,12 @@ pub returns-clause-cells : goal.returns-clause-cells
 returns-clause-cells c =
     let started = started_all c.deref-fd-items.result.now c.loop-fd.fd-index c.loop-fd.listed c.loop-fd-test.false
     c.loop-fd.invariant.cells in
-    let all = rw (c.deref-fd-items.ensures.value, c.in_ok-fds.ensures) at started in
+    let all = rw (c.deref-fd-items.ensures.value, c.in-Ok.ensures) at started in
     let P : List (ℕ × Value) → Type 0 = IsStarted _ in
     IfOk-weaker c.finish.result (λ listed. listed ≡ c.loop-fd.listed) P (λ listed is. subst P (sym is) all)
     c.finish.ensures
 
 pub returns-clause-names : goal.returns-clause-names
 returns-clause-names c = IfOk-weaker c.finish.result _ _ (λ listed is names all.
-    rw is (c.loop-fd.invariant.names names (rw (c.deref-fd-items.ensures.value, c.in_ok-fds.ensures) all)))
+    rw is (c.loop-fd.invariant.names names (rw (c.deref-fd-items.ensures.value, c.in-Ok.ensures) all)))
     c.finish.ensures

@@ -1,18 +1,18 @@
 use Rattle.std.proofs.Common.{[], ◌∷◌, ◌++◌}
-use Rattle.cap_effect.specs.declared.summary.Summary.{Summary}
+use Rattle.cap_effect.specs.declared.known.Known.{Known}
 use Rattle.cap_effect.specs.Names.{names_in}
 use Rattle.cap_effect.proofs.Naming.{line_in, demand_in}
-use Rattle.cap_effect.proofs.Summing.{summarizes_more}
-use Rattle.cap_effect.proofs.summary.Summary.push.Goals as goal
+use Rattle.cap_effect.proofs.Knowing.{knows_more}
+use Rattle.cap_effect.proofs.known.Known.push.Goals as goal
 
 pub returns : goal.returns
 returns c = λ steps so_far.
-    let more : Summary = record { effect = c.in_ok-effect.effect; precondition = c.line_after.new.self } in
+    let more : Known = record { effect = c.in_ok-effect.effect; precondition = c.line_after.new.self } in
     let rule = c.rule_of-rule.ensures in
     let seen = c.seen-line.ensures in
     let pid = c.pid-pid.ensures in
     let demand = rw seen at rule.demand in
-    summarizes_more c.args.step.now c.rule_of-rule.result.effect c.pid-pid.result
+    knows_more c.args.step.now c.rule_of-rule.result.effect c.pid-pid.result
     (λ p f. rw pid (rw seen at (rule.cells p f)))
     (λ p. rw pid (rw seen at (rule.modes p))) c.args.self more c.of_line-asks.result steps so_far
     c.in_ok-effect.ensures.cells c.in_ok-line_after.ensures.met c.in_ok-line_after.ensures.possible

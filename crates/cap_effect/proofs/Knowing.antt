@@ -19,14 +19,14 @@ use Rattle.cap_effect.specs.declared.key.Key.{Key}
 use Rattle.cap_effect.specs.declared.key.Key.TheVariants as key
 use Rattle.cap_effect.specs.declared.effect.Effect.{Effect}
 use Rattle.cap_effect.specs.declared.line_asks.LineAsks.{LineAsks}
-use Rattle.cap_effect.specs.declared.summary.Summary.{Summary}
+use Rattle.cap_effect.specs.declared.known.Known.{Known}
 use Rattle.cap_effect.specs.Keys.{Cells, mode_cell, cells_of}
 use Rattle.cap_effect.specs.Effects.{changed, IsComposed}
 use Rattle.cap_effect.specs.Lines.{turned_cell, line_after, IsThenLine}
 use Rattle.cap_effect.specs.LineAsks.{asked_holds, has_any}
-use Rattle.cap_effect.specs.Preconditions.{is_met, IsMetOr, IsPossible}
+use Rattle.cap_effect.specs.Preconditions.{is_met, IsMetOr, IsPossible, IsCopyOf}
 use Rattle.cap_effect.specs.Names.{Names, names_in, AreAmong, EffectWithin, LineWithin, LineAsksWithin, PreWithin}
-use Rattle.cap_effect.specs.Summaries.{Summarizes}
+use Rattle.cap_effect.specs.Knows.{Knows}
 use Rattle.cap_effect.proofs.LineAsking.{has_any-append}
 use Rattle.cap_effect.proofs.Naming.{effect_among, asks_among, first_among, second_among}
 
@@ -42,15 +42,15 @@ has_any-map f [] = refl
 has_any-map f (x ∷ xs) = refl
 
 -- the cells after the steps, as one
-cells_after : (summary : Summary) (t : List Step) → Summarizes summary t → (s : State)
-    → changed summary.effect (cells_of s) ≡ cells_of (ended s t)
-cells_after summary t says s = fun_ext (λ p. fun_ext (λ k. says.after s p k))
+cells_after : (known : Known) (t : List Step) → Knows known t → (s : State)
+    → changed known.effect (cells_of s) ≡ cells_of (ended s t)
+cells_after known t says s = fun_ext (λ p. fun_ext (λ k. says.after s p k))
 
-pub summarizes_none : (summary : Summary) → ((cells : Cells) (p : ℕ) (k : Key) → changed summary.effect cells p k ≡ cells p k)
-    → ((s : State) → is_met (cells_of s) summary.precondition ≡ false) → IsPossible summary.precondition
-    → ((names : Names) → EffectWithin names summary.effect) → ((names : Names) → PreWithin names summary.precondition)
-    → Summarizes summary []
-summarizes_none summary same never possible effect asks = record {
+pub knows_none : (known : Known) → ((cells : Cells) (p : ℕ) (k : Key) → changed known.effect cells p k ≡ cells p k)
+    → ((s : State) → is_met (cells_of s) known.precondition ≡ false) → IsPossible known.precondition
+    → ((names : Names) → EffectWithin names known.effect) → ((names : Names) → PreWithin names known.precondition)
+    → Knows known []
+knows_none known same never possible effect asks = record {
   after = λ s p k. same (cells_of s) p k;
   finds = never;
   possible = possible;
@@ -58,14 +58,14 @@ summarizes_none summary same never possible effect asks = record {
   asks_named = asks (names_in []);
 }
 
-pub summarizes_both : (a b both : Summary) (t u : List Step) → Summarizes a t → Summarizes b u
+pub knows_both : (a b both : Known) (t u : List Step) → Knows a t → Knows b u
     → IsComposed a.effect b.effect both.effect
     → IsMetOr a.precondition both.precondition (λ cells. is_met (changed a.effect cells) b.precondition)
     → (IsPossible a.precondition → IsPossible both.precondition)
     → ((names : Names) → EffectWithin names a.effect → EffectWithin names b.effect → EffectWithin names both.effect)
     → ((names : Names) → EffectWithin names a.effect → PreWithin names b.precondition
-    → PreWithin names a.precondition → PreWithin names both.precondition) → Summarizes both (t ++ u)
-summarizes_both a b both t u first second composed met possible effects asks = record {
+    → PreWithin names a.precondition → PreWithin names both.precondition) → Knows both (t ++ u)
+knows_both a b both t u first second composed met possible effects asks = record {
   after = λ s p k. composed (cells_of s) p k
       ∙ ap (λ (cells : Cells). changed b.effect cells p k) (cells_after a t first s)
       ∙ second.after (ended s t) p k
@@ -97,17 +97,25 @@ summarizes_both a b both t u first second composed met possible effects asks = r
         ∙ ap (λ r. has_any (check s t) || r) (has_any-map (later (length t)) (check (ended s t) u))
 
 -- another precondition that holds in the same states
-pub summarizes_same : (a new : Summary) (t : List Step) → Summarizes a t → new.effect ≡ a.effect
+pub knows_same : (a new : Known) (t : List Step) → Knows a t → new.effect ≡ a.effect
     → ((s : State) → is_met (cells_of s) new.precondition ≡ is_met (cells_of s) a.precondition)
     → (IsPossible a.precondition → IsPossible new.precondition)
-    → ((names : Names) → PreWithin names a.precondition → PreWithin names new.precondition) → Summarizes new t
-summarizes_same a new t says effect met possible asks = record {
+    → ((names : Names) → PreWithin names a.precondition → PreWithin names new.precondition) → Knows new t
+knows_same a new t says effect met possible asks = record {
   after = λ s p k. ap (λ e. changed e (cells_of s) p k) effect ∙ says.after s p k;
   finds = λ s. met s ∙ says.finds s;
   possible = possible says.possible;
   effect_named = rw effect says.effect_named;
   asks_named = asks (names_in t) says.asks_named;
 }
+
+-- a copy of the precondition
+pub knows_copy : (a new : Known) (t : List Step) → Knows a t → new.effect ≡ a.effect
+    → IsCopyOf a.precondition new.precondition → Knows new t
+knows_copy a new t says effect copy = knows_same a new t says effect
+    (λ s. rw (copy.certain, copy.asks, copy.refusals) refl)
+    (λ is. record { asks = rw copy.asks is.asks; refusals = rw copy.refusals is.refusals })
+    (λ names is. record { asks = rw copy.asks is.asks; refusals = rw copy.refusals is.refusals })
 
 -- a mode is turned as its cell is
 turned_is : (t : Turn) (s : State) (p : ℕ) → turned_cell t (cells_of s) p ≡ mode_cell (turned t s.mode p)
@@ -121,7 +129,7 @@ module _ (step : Step) (line : LineEffect) (me : ℕ) (cells : (p f : ℕ) → e
   line_is s p key.Mode = turned_is (effect_turn line me p) s p ∙ ap (λ t. mode_cell (turned t s.mode p)) (modes p)
   line_is s p (key.Fd f) = ap (λ t. touched t s.cell p f) (cells p f)
 
-  pub summarizes_more : (a more : Summary) (asks : LineAsks) (t : List Step) → Summarizes a t
+  pub knows_more : (a more : Known) (asks : LineAsks) (t : List Step) → Knows a t
       → IsThenLine a.effect line me more.effect
       → IsMetOr a.precondition more.precondition (λ cells. asked_holds (changed a.effect cells) asks)
       → (IsPossible a.precondition → IsPossible more.precondition)
@@ -129,8 +137,8 @@ module _ (step : Step) (line : LineEffect) (me : ℕ) (cells : (p f : ℕ) → e
       → ((names : Names) → LineWithin names me line → EffectWithin names a.effect → EffectWithin names more.effect)
       → ((names : Names) → EffectWithin names a.effect → LineAsksWithin names asks → PreWithin names a.precondition
       → PreWithin names more.precondition) → LineWithin (names_in (t ++ step ∷ [])) me line
-      → LineAsksWithin (names_in (t ++ step ∷ [])) asks → Summarizes more (t ++ step ∷ [])
-  summarizes_more a more asks t so_far does met possible says effects pres line_named asks_named = record {
+      → LineAsksWithin (names_in (t ++ step ∷ [])) asks → Knows more (t ++ step ∷ [])
+  knows_more a more asks t so_far does met possible says effects pres line_named asks_named = record {
     after = λ s p k. does (cells_of s) p k
         ∙ ap (λ (cells : Cells). line_after line me cells p k) (cells_after a t so_far s) ∙ line_is (ended s t) p k
         ∙ ap (λ (state : State). cells_of state p k) (sym (ends_more s t step));

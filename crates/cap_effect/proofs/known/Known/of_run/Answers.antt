@@ -1,5 +1,5 @@
-use Rattle.cap_effect.proofs.Summing.{one_more}
-use Rattle.cap_effect.proofs.summary.Summary.of_run.Goals as goal
+use Rattle.cap_effect.proofs.Knowing.{one_more}
+use Rattle.cap_effect.proofs.known.Known.of_run.Goals as goal
 
 pub loop-step-preserved : goal.loop-step-preserved
 loop-step-preserved c =
