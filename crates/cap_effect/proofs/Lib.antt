@@ -18,3 +18,5 @@ pub mod Runs
 pub mod Knowing
 pub mod Counting
 pub mod Keeping
+pub mod Ends
+pub mod Resolving

@@ -1,5 +1,5 @@
 -- What a node of a summary is seen as, and what always holds of it.
-use Rattle.std.specs.Prelude.{◌≡◌, ℕ, ◌^◌, ◌<◌, ◌≤◌, List, ◌++◌, length, Option, option_map, IfSome, IfNone}
+use Rattle.std.specs.Prelude.{◌≡◌, ℕ, ◌^◌, ◌<◌, ◌≤◌, List, ◌++◌, length, Option, option_map, IfSome, IfNone, is_some, true}
 use Rattle.std.specs.declared.rc.Rc.{Rc}
 use Rattle.std.specs.declared.alloc.Global.{Global}
 use Rattle.cap_machine.specs.declared.step.Step.{Step}
@@ -32,6 +32,11 @@ abbrev pub IsBoth : Content → Type 0
 IsBoth (Run run) = ⊥
 IsBoth (Both a b) = Unit {0}
 
+-- where something is kept of a node, it is kept of its parts
+abbrev pub PartsKept : Content → Type 0
+PartsKept (Run run) = Unit {0}
+PartsKept (Both a b) = (is_some a.value.known ≡ true) × (is_some b.value.known ≡ true)
+
 -- what always holds of a node; one of which nothing is kept is read through its parts
 pub record IsGood (size : ℕ) (kept : Option (Rc Known Global)) (content : Content) : Type 0 where
   pub len : size ≡ length (content_steps content)
@@ -39,4 +44,5 @@ pub record IsGood (size : ℕ) (kept : Option (Rc Known Global)) (content : Cont
   pub few : size ≤ 2 ^ 30
   pub known : IfSome kept (λ known. IsKept known.value (content_steps content))
   pub wide : IfNone kept (IsBoth content)
+  pub whole : IfSome kept (λ known. PartsKept content)
   pub large : IfNone kept (IsTooLarge (content_steps content))

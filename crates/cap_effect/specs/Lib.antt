@@ -21,3 +21,4 @@ pub mod Stands
 pub mod Sized
 pub mod Seen
 pub mod Before
+pub mod Positions

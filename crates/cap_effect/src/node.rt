@@ -1,11 +1,22 @@
 //! The nodes of a summary. A contract sees a node as its steps, and what is known of them where that is kept.
 
 ghost use Rattle.std.specs.Prelude.{◌≡◌, ◌+◌, ◌^◌, ◌<◌, ◌≤◌, ◌++◌, ◌∷◌, [], length, IfOk, OnOk, IfSome, IfNone};
+ghost use Rattle.std.specs.Prelude.{true, false, is_some, map};
+ghost use Rattle.cap_machine.specs.Check.{check};
+ghost use Rattle.cap_machine.specs.History.{ended};
+ghost use Rattle.cap_machine.specs.Table.{start_state};
+ghost use Rattle.cap_machine.specs.Laws.{later};
 ghost use Rattle.cap_tree.specs.Run.{values};
+ghost use Rattle.cap_effect.specs.Before.{state_before};
+ghost use Rattle.cap_effect.specs.LineAsks.{has_any};
+ghost use Rattle.cap_effect.specs.Positions.{within};
 ghost use Rattle.cap_effect.specs.Kept.{limit, IsKept, IsTooLarge};
 
+use crate::before::Before;
+use crate::in_order::judge_in_order;
+use crate::judging::{Asked, judge_run};
 use crate::known::Known;
-use cap_machine::Step;
+use cap_machine::{Found, Machine, Step};
 use cap_tree::{Meter, NoMemory};
 use std::alloc::Global;
 use std::marker::Model;
@@ -81,6 +92,7 @@ impl Node {
     pub(crate) fn known(&self) -> Option<&Known>
         ensures kept { IfSome result (λ known. IsKept known.now self.now.steps) }
         ensures large { IfNone result (IsTooLarge self.now.steps) }
+        ensures seen { is_some result ≡ is_some self.now.known }
     {
         match &self.known {
             Some(known) => Some(known),
@@ -190,6 +202,8 @@ impl Node {
     ) -> Result<Option<Rc<Known>>, NoMemory>
         requires { length left.now.steps + length right.now.steps ≤ 2 ^ 30 }
         ensures kept { IfOk result (λ o. IfSome o (λ known. IsKept known.value (left.now.steps ++ right.now.steps))) }
+        ensures parts { IfOk result (λ o. IfSome o
+            (λ known. (is_some left.now.known ≡ true) × (is_some right.now.known ≡ true))) }
         ensures large { IfOk result (λ o. IfNone o (IsTooLarge (left.now.steps ++ right.now.steps))) }
     {
         let Some(first) = left.known() else {
@@ -217,6 +231,8 @@ impl Node {
         requires few { length left.now.value.steps + length right.now.value.steps ≤ 2 ^ 30 }
         requires known { IfSome known
             (λ known. IsKept known.value (left.now.value.steps ++ right.now.value.steps)) }
+        requires parts { IfSome known
+            (λ known. (is_some left.now.value.known ≡ true) × (is_some right.now.value.known ≡ true)) }
         requires large { IfNone known (IsTooLarge (left.now.value.steps ++ right.now.value.steps)) }
         ensures { IfOk result (λ n. n.value.steps ≡ left.now.value.steps ++ right.now.value.steps) }
     {
@@ -226,5 +242,76 @@ impl Node {
             content: Content::Both(left.clone()?, right.clone()?),
         };
         Ok(Rc::new(alloc, node)?)
+    }
+}
+
+impl Node {
+    /// Whether something is found in the steps, of which that is kept; yes where it isn't.
+    fn may_find(&self, before: &Before<'_>) -> bool
+        ensures { result ≡ false → has_any (check (state_before before.now) self.now.steps) ≡ false }
+    {
+        match &self.known {
+            Some(known) => before.meets(&known.precondition),
+            None => true,
+        }
+    }
+
+    /// Notes what is found in the steps, which begin in this state behind so many others, at the positions that are asked
+    /// for. It visits only parts that have such positions, and in which something is found.
+    pub(crate) fn resolve(
+        &self,
+        before: &Before<'_>,
+        at: usize,
+        asked: &Asked,
+        found: &mut Vec<Found>,
+    ) -> Result<(), NoMemory>
+        requires short { at + length self.now.steps ≤ 2 ^ 31 }
+        requires kept { is_some self.now.known ≡ true }
+        ensures { OnOk result (found.new.items ≡ found.old.items ++ within asked.now.from asked.now.to
+            (map (later at) (check (state_before before.now) self.now.steps))) }
+    {
+        if asked.to <= at {
+            return Ok(());
+        }
+        if at + self.len < asked.from {
+            return Ok(());
+        }
+        if !self.may_find(before) {
+            return Ok(());
+        }
+        match &self.content {
+            Content::Run(run) => judge_run(run, before, at, asked, found),
+            Content::Both(a, b) => {
+                a.resolve(before, at, asked, found)?;
+                let Some(first) = a.known() else {
+                    unreachable!()
+                };
+                let after = Before::After(&*before, &first.effect);
+                b.resolve(&after, at + a.len(), asked, found)
+            }
+        }
+    }
+
+    /// Notes what is found in the steps behind so many others, at the positions that are asked for, and moves the machine on
+    /// to what is known after them.
+    pub(crate) fn judge(
+        &self,
+        machine: &mut Machine,
+        at: usize,
+        asked: &Asked,
+        found: &mut Vec<Found>,
+    ) -> Result<(), NoMemory>
+        requires short { at + length self.now.steps ≤ 2 ^ 31 }
+        ensures found { OnOk result (found.new.items ≡ found.old.items ++ within asked.now.from asked.now.to
+            (map (later at) (check (start_state machine.old) self.now.steps))) }
+        ensures moves { OnOk result (start_state machine.new ≡ ended (start_state machine.old) self.now.steps) }
+    {
+        match &self.content {
+            Content::Run(run) => judge_in_order(run, machine, at, asked, found),
+            Content::Both(a, b) => {
+                a.judge(machine, at, asked, found)?;
+                b.judge(machine, at + a.len(), asked, found)
+            }
+        }
     }
 }

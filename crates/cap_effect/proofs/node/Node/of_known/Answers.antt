@@ -15,6 +15,7 @@ invariant_of-node c =
       few = omega (arith, c.requires.few, c.len.ensures);
       known = rw c.in_ok-new.ensures.ok c.requires.known;
       wide = tt;
+      whole = tt;
       large = tt;
     }
 

@@ -28,6 +28,7 @@ invariant_of-node c =
       few = rw (a, b) c.requires.few;
       known = rw (left, right) c.requires.known;
       wide = of_parts c.args.known (Both c.in_ok-clone.field-0 c.in_ok-clone-2.field-0) tt;
+      whole = rw (left, right) c.requires.parts;
       large = rw (left, right) c.requires.large;
     }
 

@@ -1,0 +1,167 @@
+-- Findings of segments, one after the other.
+use Rattle.std.proofs.Common.{◌≡◌, ℕ, ◌+◌, ◌<◌, ◌≤◌, List, [], ◌∷◌, ◌++◌, Bool, true, false, ◌&&◌, cond, length, map}
+use Rattle.std.proofs.Common.{refl, sym, ap, ◌∙◌, add_assoc, append_assoc, arith}
+use Rattle.std.specs.List.{All}
+use Rattle.std.proofs.lemmas.List.{map-append, append-nil}
+use Rattle.std.proofs.lemmas.List.Elements.{filter-append, All-head, All-tail}
+use Rattle.std.proofs.lemmas.Bool.{lt-leb, le-leb}
+use Rattle.std.specs.Prelude.{nat_le}
+use Rattle.cap_machine.specs.declared.step.Step.{Step}
+use Rattle.cap_machine.specs.declared.verdict.Found.{Found}
+use Rattle.cap_machine.specs.declared.verdict.Finding.{Finding}
+use Rattle.cap_machine.specs.State.{State}
+use Rattle.cap_machine.specs.History.{ended}
+use Rattle.cap_machine.specs.Check.{check, said, found_at}
+use Rattle.cap_machine.specs.Laws.{later}
+use Rattle.cap_machine.proofs.Turns.{checks_in_turn}
+use Rattle.cap_machine.proofs.Positions.{positions_within}
+use Rattle.cap_effect.specs.LineAsks.{has_any}
+use Rattle.cap_effect.specs.Positions.{is_at, within}
+use Rattle.cap_effect.proofs.Bools.{and_with_false as and_false}
+
+later-later : (m n : ℕ) (xs : List Found) → map (later m) (map (later n) xs) ≡ map (later (m + n)) xs
+later-later m n [] = refl
+later-later m n (x ∷ xs) =
+    ap (λ (k : ℕ). record { at = k; finding = x.finding } ∷ map (later m) (map (later n) xs)) (sym (add_assoc m n x.at))
+    ∙ ap (λ (r : List Found). later (m + n) x ∷ r) (later-later m n xs)
+
+later-at : (n i : ℕ) (xs : List Finding) → map (later n) (map (found_at i) xs) ≡ map (found_at (n + i)) xs
+later-at n i [] = refl
+later-at n i (x ∷ xs) = ap (λ r. found_at (n + i) x ∷ r) (later-at n i xs)
+
+later_parts : (s : State) (t u : List Step) (at : ℕ) → map (later at) (check s (t ++ u))
+    ≡ map (later at) (check s t) ++ map (later (at + length t)) (check (ended s t) u)
+later_parts s t u at =
+    ap (map (later at)) (checks_in_turn s t u)
+    ∙ map-append (later at) (check s t) (map (later (length t)) (check (ended s t) u))
+    ∙ ap (λ r. map (later at) (check s t) ++ r) (later-later at (length t) (check (ended s t) u))
+
+-- what was found in a segment, and then in what follows it
+pub found_parts : (s : State) (t u : List Step) (at n from to : ℕ) (old first all : List Found) → n ≡ length t →
+    first ≡ old ++ within from to (map (later at) (check s t))
+    → all ≡ first ++ within from to (map (later (at + n)) (check (ended s t) u)) →
+    all ≡ old ++ within from to (map (later at) (check s (t ++ u)))
+found_parts s t u at n from to old first all len one two =
+    two
+    ∙ ap (λ r. r ++ within from to (map (later (at + n)) (check (ended s t) u))) one
+    ∙ ap (λ m. (old ++ within from to (map (later at) (check s t)))
+    ++ within from to (map (later (at + m)) (check (ended s t) u))) len
+    ∙ append_assoc old (within from to (map (later at) (check s t)))
+    (within from to (map (later (at + length t)) (check (ended s t) u)))
+    ∙ ap (λ r. old ++ r) (sym (filter-append (is_at from to) (map (later at) (check s t))
+    (map (later (at + length t)) (check (ended s t) u))))
+    ∙ ap (λ r. old ++ within from to r) (sym (later_parts s t u at))
+
+-- what was found in a step, and then in what follows it
+pub found_step : (s : State) (l : Step) (u : List Step) (at from to : ℕ) (old first all : List Found) →
+    first ≡ old ++ within from to (map (found_at (at + 1)) (said l s))
+    → all ≡ first ++ within from to (map (later (at + 1)) (check (ended s (l ∷ [])) u)) →
+    all ≡ old ++ within from to (map (later at) (check s (l ∷ u)))
+found_step s l u at from to old first all one two =
+    found_parts s (l ∷ []) u at 1 from to old first all refl
+    (one ∙ ap (λ r. old ++ within from to r) (sym (later-at at 1 (said l s)))) two
+
+none_of : {X : Type 0} (xs : List X) → has_any xs ≡ false → xs ≡ []
+none_of [] e = refl
+none_of (x ∷ xs) e = absurd cc
+
+-- nothing is found in a segment of which that is known
+pub found_none : (s : State) (t : List Step) (at from to : ℕ) (old : List Found) (finds : Bool)
+    → finds ≡ has_any (check s t) → finds ≡ false →
+    old ≡ old ++ within from to (map (later at) (check s t))
+found_none s t at from to old finds is quiet = sym (append-nil old)
+    ∙ ap (λ (r : List Found). old ++ within from to (map (later at) r)) (sym (none_of (check s t) (sym is ∙ quiet)))
+
+-- findings stand at positions from 1
+abbrev IsBelow : ℕ → Found → Type 0
+IsBelow n found = (1 ≤ found.at) × (found.at ≤ n)
+
+-- nothing of a segment stands at positions before it or behind it
+not_before : (from to at n : ℕ) (xs : List Found) → All (IsBelow n) xs → at + n < from
+    → within from to (map (later at) xs) ≡ []
+not_before from to at n [] all before = refl
+not_before from to at n (x ∷ xs) all before =
+    let is : IsBelow n x = All-head (IsBelow n) x xs all in
+    let out : nat_le from (at + x.at) ≡ false = lt-leb from (at + x.at) (omega (arith, is.1)) in
+    ap (λ b. cond (b && nat_le (at + x.at) to) (later at x ∷ within from to (map (later at) xs))
+    (within from to (map (later at) xs))) out
+    ∙ not_before from to at n xs (All-tail (IsBelow n) x xs all) before
+
+not_behind : (from to at n : ℕ) (xs : List Found) → All (IsBelow n) xs
+    → to ≤ at → within from to (map (later at) xs) ≡ []
+not_behind from to at n [] all behind = refl
+not_behind from to at n (x ∷ xs) all behind =
+    let is : IsBelow n x = All-head (IsBelow n) x xs all in
+    let out : nat_le (at + x.at) to ≡ false = lt-leb (at + x.at) to (omega (arith, is.0)) in
+    ap (λ b. cond (nat_le from (at + x.at) && b) (later at x ∷ within from to (map (later at) xs))
+    (within from to (map (later at) xs))) out
+    ∙ ap (λ b. cond b (later at x ∷ within from to (map (later at) xs)) (within from to (map (later at) xs)))
+    (and_false (nat_le from (at + x.at)))
+    ∙ not_behind from to at n xs (All-tail (IsBelow n) x xs all) behind
+
+pub found_before : (s : State) (t : List Step) (at from to : ℕ) (old : List Found) → at + length t < from
+    → old ≡ old ++ within from to (map (later at) (check s t))
+found_before s t at from to old before = sym (append-nil old) ∙ ap (λ (r : List Found). old ++ r)
+    (sym (not_before from to at (length t) (check s t) (positions_within s t) before))
+
+pub found_behind : (s : State) (t : List Step) (at from to : ℕ) (old : List Found)
+    → to ≤ at → old ≡ old ++ within from to (map (later at) (check s t))
+found_behind s t at from to old behind = sym (append-nil old) ∙ ap (λ (r : List Found). old ++ r)
+    (sym (not_behind from to at (length t) (check s t) (positions_within s t) behind))
+
+-- what is said of one step, where its position is asked for and where not
+said_at : (from to at : ℕ) (xs : List Finding) (asked : Bool) → asked ≡ (nat_le from at && nat_le at to)
+    → within from to (map (found_at at) xs) ≡ cond asked (map (found_at at) xs) []
+said_at from to at xs asked is = all xs ∙ ap (λ b. cond b (map (found_at at) xs) []) (sym is)
+  where
+    all : (xs : List Finding)
+        → within from to (map (found_at at) xs) ≡ cond (nat_le from at && nat_le at to) (map (found_at at) xs) []
+    all [] = none (nat_le from at && nat_le at to)
+      where
+        none : (b : Bool) → (let no : List Found = [] in no ≡ cond b no no)
+        none true = refl
+        none false = refl
+    all (x ∷ xs) = ap (λ r. cond (nat_le from at && nat_le at to) (found_at at x ∷ r) r) (all xs)
+        ∙ one (nat_le from at && nat_le at to)
+      where
+        one : (b : Bool) → cond b (found_at at x ∷ cond b (map (found_at at) xs) []) (cond b (map (found_at at) xs) [])
+            ≡ cond b (found_at at x ∷ map (found_at at) xs) []
+        one true = refl
+        one false = refl
+
+pub not_asked : (from to at : ℕ) (xs : List Finding) (old : List Found) (asked : Bool)
+    → asked ≡ (nat_le from at && nat_le at to) → asked ≡ false → old ≡ old ++ within from to (map (found_at at) xs)
+not_asked from to at xs old asked is isn = sym (append-nil old)
+    ∙ ap (λ r. old ++ r) (sym (said_at from to at xs asked is ∙ ap (λ b. cond b (map (found_at at) xs) []) isn))
+
+pub asked_for : (from to at : ℕ) (xs : List Finding) (old all : List Found) (asked : Bool)
+    → asked ≡ (nat_le from at && nat_le at to)
+    → asked ≡ true → all ≡ old ++ map (found_at at) xs → all ≡ old ++ within from to (map (found_at at) xs)
+asked_for from to at xs old all asked is asks found = found
+    ∙ ap (λ r. old ++ r) (sym (said_at from to at xs asked is ∙ ap (λ b. cond b (map (found_at at) xs) []) asks))
+
+later-none : (xs : List Found) → map (later 0) xs ≡ xs
+later-none [] = refl
+later-none (x ∷ xs) =
+    let zero : 0 + x.at ≡ x.at = omega arith in
+    ap (λ (k : ℕ). record { at = k; finding = x.finding } ∷ map (later 0) xs) zero
+    ∙ ap (λ (r : List Found). x ∷ r) (later-none xs)
+
+-- what is found from the first position on
+pub found_in_order : (s : State) (t : List Step) (from to : ℕ) (all : List Found)
+    → all ≡ within from to (map (later 0) (check s t)) → all ≡ within from to (check s t)
+found_in_order s t from to all is = is ∙ ap (within from to) (later-none (check s t))
+
+-- a range of positions that has them all
+all_within : (to n : ℕ) (xs : List Found) → All (IsBelow n) xs → n ≤ to → within 1 to xs ≡ xs
+all_within to n [] all long = refl
+all_within to n (x ∷ xs) all long =
+    let is : IsBelow n x = All-head (IsBelow n) x xs all in
+    let lower : nat_le 1 x.at ≡ true = le-leb 1 x.at is.0 in
+    let upper : nat_le x.at to ≡ true = le-leb x.at to (omega (arith, is.1)) in
+    ap (λ b. cond (b && nat_le x.at to) (x ∷ within 1 to xs) (within 1 to xs)) lower
+    ∙ ap (λ b. cond b (x ∷ within 1 to xs) (within 1 to xs)) upper
+    ∙ ap (λ (r : List Found). x ∷ r) (all_within to n xs (All-tail (IsBelow n) x xs all) long)
+
+pub found_whole : (s : State) (t : List Step) (to : ℕ) → length t ≤ to → within 1 to (check s t) ≡ check s t
+found_whole s t to long = all_within to (length t) (check s t) (positions_within s t) long

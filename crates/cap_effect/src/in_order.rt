@@ -1,0 +1,63 @@
+//! Steps that are judged one after the other by one machine.
+
+ghost use Rattle.std.specs.Prelude.{◌≡◌, ◌+◌, ◌^◌, ◌≤◌, ◌++◌, ◌∷◌, [], length, map, IfOk, OnOk};
+ghost use Rattle.cap_machine.specs.Check.{check, said, found_at};
+ghost use Rattle.cap_machine.specs.History.{ended};
+ghost use Rattle.cap_machine.specs.Laws.{later};
+ghost use Rattle.cap_machine.specs.Table.{start_state};
+ghost use Rattle.cap_effect.specs.Positions.{within};
+ghost use Rattle.cap_tree.specs.Run.{values};
+
+use crate::judging::{Asked, note};
+use cap_machine::{Found, Machine, Step, Verdict};
+use cap_tree::NoMemory;
+use std::rc::Rc;
+
+/// Notes what is said of a step at a position, where that is asked for.
+fn note_asked(
+    verdict: &Verdict,
+    at: usize,
+    asked: &Asked,
+    found: &mut Vec<Found>,
+) -> Result<(), NoMemory>
+    ensures { OnOk result (found.new.items ≡ found.old.items
+        ++ within asked.now.from asked.now.to (map (found_at at) verdict.now)) }
+{
+    if !asked.has(at) {
+        return Ok(());
+    }
+    note(found, at, verdict)
+}
+
+/// Judges the next step.
+fn judged(machine: &mut Machine, step: &Step) -> Result<Verdict, NoMemory>
+    ensures says { IfOk result (λ verdict. verdict ≡ said step.now (start_state machine.old)) }
+    ensures moves { OnOk result (start_state machine.new ≡ ended (start_state machine.old) (step.now ∷ [])) }
+{
+    match machine.step(step.profile, &step.line) {
+        Ok(verdict) => Ok(verdict),
+        Err(_) => Err(NoMemory),
+    }
+}
+
+/// Notes what is found in a run of steps behind so many others, at the positions that are asked for, and moves the
+/// machine on to what is known after them.
+pub(crate) fn judge_in_order(
+    run: &[Rc<Step>],
+    machine: &mut Machine,
+    at: usize,
+    asked: &Asked,
+    found: &mut Vec<Found>,
+) -> Result<(), NoMemory>
+    requires short { at + length run.now ≤ 2 ^ 31 }
+    ensures found { OnOk result (found.new.items ≡ found.old.items
+        ++ within asked.now.from asked.now.to (map (later at) (check (start_state machine.old) (values run.now)))) }
+    ensures moves { OnOk result (start_state machine.new ≡ ended (start_state machine.old) (values run.now)) }
+{
+    if run.len() == 0 {
+        return Ok(());
+    }
+    let verdict = judged(machine, &run[0])?;
+    note_asked(&verdict, at + 1, asked, found)?;
+    judge_in_order(&run[1..], machine, at + 1, asked, found)
+}
