@@ -77,8 +77,10 @@ knows_both a b both t u first second composed met possible effects asks = record
       ∙ ap (λ r. has_any (check s t) || r) (second.finds (ended s t))
       ∙ sym (found s);
   possible = possible first.possible;
-  effect_named = effects (names_in (t ++ u)) effect (effect_among (names_in u) (names_in (t ++ u)) behind b.effect second.effect_named);
-  asks_named = asks (names_in (t ++ u)) effect (asks_among (names_in u) (names_in (t ++ u)) behind b.precondition second.asks_named)
+  effect_named = effects (names_in (t ++ u)) effect (effect_among (names_in u) (names_in (t ++ u)) behind b.effect
+      second.effect_named);
+  asks_named = asks (names_in (t ++ u)) effect (asks_among (names_in u) (names_in (t ++ u)) behind b.precondition
+      second.asks_named)
       (asks_among (names_in t) (names_in (t ++ u)) front a.precondition first.asks_named);
 }
   where
@@ -143,13 +145,15 @@ module _ (step : Step) (line : LineEffect) (me : ℕ) (cells : (p f : ℕ) → e
         ∙ ap (λ (cells : Cells). line_after line me cells p k) (cells_after a t so_far s) ∙ line_is (ended s t) p k
         ∙ ap (λ (state : State). cells_of state p k) (sym (ends_more s t step));
     finds = λ s. met s
-        ∙ ap (λ (cells : Cells). is_met (cells_of s) a.precondition || asked_holds cells asks) (cells_after a t so_far s)
+        ∙ ap (λ (cells : Cells). is_met (cells_of s) a.precondition || asked_holds cells asks) (cells_after a t
+        so_far s)
         ∙ ap (λ r. r || asked_holds (cells_of (ended s t)) asks) (so_far.finds s)
         ∙ ap (λ r. has_any (check s t) || r) (says (ended s t))
         ∙ sym (found s);
     possible = possible so_far.possible;
     effect_named = effects (names_in (t ++ step ∷ [])) line_named effect;
-    asks_named = pres (names_in (t ++ step ∷ [])) effect asks_named (asks_among (names_in t) (names_in (t ++ step ∷ [])) front a.precondition so_far.asks_named);
+    asks_named = pres (names_in (t ++ step ∷ [])) effect asks_named (asks_among (names_in t) (names_in (t ++ step ∷
+        [])) front a.precondition so_far.asks_named);
   }
     where
       front : AreAmong (names_in t) (names_in (t ++ step ∷ []))
@@ -158,7 +162,8 @@ module _ (step : Step) (line : LineEffect) (me : ℕ) (cells : (p f : ℕ) → e
       effect : EffectWithin (names_in (t ++ step ∷ [])) a.effect
       effect = effect_among (names_in t) (names_in (t ++ step ∷ [])) front a.effect so_far.effect_named
 
-      found : (s : State) → has_any (check s (t ++ step ∷ [])) ≡ (has_any (check s t) || has_any (said step (ended s t)))
+      found : (s : State) → has_any (check s (t ++ step ∷ [])) ≡ (has_any (check s t) || has_any (said step (ended s
+          t)))
       found s = ap has_any (checks_more s t step)
           ∙ has_any-append (check s t) (map (found_at (length t + 1)) (said step (ended s t)))
           ∙ ap (λ r. has_any (check s t) || r) (has_any-map (found_at (length t + 1)) (said step (ended s t)))

@@ -18,5 +18,6 @@ pub mod Runs
 pub mod Knowing
 pub mod Counting
 pub mod Keeping
+pub mod Shared
 pub mod Ends
 pub mod Resolving

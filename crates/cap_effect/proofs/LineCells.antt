@@ -42,6 +42,7 @@ pub started_all : (fds : List ℕ) (i : ℕ) (listed : List (ℕ × Value)) → 
 started_all fds i listed whole started = rw (take_all i fds whole) at started
 
 -- a start lists just these
-pub started_list : (line : LineEffect) (fds : Bor (List ℕ)) (me : ℕ) (listed : List (ℕ × Value)) → line ≡ lines.Start fds
+pub started_list : (line : LineEffect) (fds : Bor (List ℕ)) (me : ℕ) (listed : List (ℕ × Value)) → line ≡
+    lines.Start fds
     → IsStarted (fds_spelled fds.now) listed → IsListOf line me listed
 started_list line fds me listed is started cells f = rw (is, eq-eqb me me refl) (started cells f)

@@ -1,5 +1,6 @@
 -- The descriptors that the effect of a line has one by one stand in the line.
-use Rattle.std.proofs.Common.{◌≡◌, ℕ, suc, ◌+◌, ◌==◌, ◌&&◌, ◌||◌, Bool, true, false, not, cond, List, [], ◌∷◌, refl, sym}
+use Rattle.std.proofs.Common.{◌≡◌, ℕ, suc, ◌+◌, ◌==◌, ◌&&◌, ◌||◌, Bool, true, false, not, cond, List, [], ◌∷◌, refl}
+use Rattle.std.proofs.Common.{sym}
 use Rattle.std.proofs.Common.{ap, ◌∙◌, arith, slice_index_or, length, ◌<◌}
 use Rattle.std.specs.Prelude.{codes}
 use Rattle.std.specs.List.{list_any, All}
@@ -196,7 +197,8 @@ module _ (me : ℕ) (touches : ℕ → ℕ → Touch) (told b : ℕ → Bool)
   taken_never f g n op is untold none free_n = by (b me) refl
     where
       by : (mine : Bool) → b me ≡ mine → ⊥
-      by true e = let at : touches me n ≡ taken same me n = free me n free_n ∙ ap (λ r. cond r (taken same me n) kept) e in
+      by true e = let at : touches me n ≡ taken same me n = free me n free_n ∙ ap (λ r. cond r (taken same me n)
+          kept) e in
           let wrong : kept ≡ taken same me n = sym none ∙ at in cc
       by false e = let at : touches me f ≡ kept = free me f untold ∙ ap (λ r. cond r (taken same me f) kept) e in
           let wrong : kept ≡ taken op me g = sym at ∙ is in cc
@@ -206,7 +208,12 @@ module _ (me : ℕ) (touches : ℕ → ℕ → Touch) (told b : ℕ → Bool)
       All-cons Told g [] (given_told me g c (sym (does me g) ∙ rw (itself me, itself g) refl)) (All-nil Told)
   forked_told (lines.GiveTwo g h c) does =
       All-cons Told g (h ∷ []) (given_told me g c (sym (does me g) ∙ rw (itself me, itself g) refl))
-      (All-cons Told h [] (given_told me h c (sym (does me h) ∙ rw (itself me, itself h, or_right (h == g) true refl) refl))
+      (All-cons Told h [] (given_told me h c (sym (does me h) ∙ rw (
+        itself me,
+        itself h,
+        or_right (h == g) true
+            refl,
+      ) refl))
       (All-nil Told))
   forked_told (lines.Change g op h) does =
       let here : touches me g ≡ taken op me h = sym (does me g) ∙ rw (itself me, itself g) refl in
@@ -235,12 +242,16 @@ module _ (profile : Profile) (me : ℕ) (line : LineEffect) where
   fork_named : (call : BareCall) (answer : Answer) → is_fork (calls.Bare call) ≡ true
       → Does line (step_of profile me (items.Call (calls.Bare call) answer))
       → All (Named (step_of profile me (items.Call (calls.Bare call) answer))) (fds_of line)
-  fork_named Fork (answers.Made c) is does = no_fds Fork (answers.Made c) (λ p. not (c == 0) && p == c) (λ p f. refl) does
-  fork_named Vfork (answers.Made c) is does = no_fds Vfork (answers.Made c) (λ p. not (c == 0) && p == c) (λ p f. refl) does
+  fork_named Fork (answers.Made c) is does = no_fds Fork (answers.Made c) (λ p. not (c == 0) && p == c) (λ p f.
+      refl) does
+  fork_named Vfork (answers.Made c) is does = no_fds Vfork (answers.Made c) (λ p. not (c == 0) && p == c) (λ p f.
+      refl) does
   fork_named Pdfork (answers.Pair c e) is does =
       forked_told me (λ p f. pdfork_touch (answers.Pair c e) me p f) (λ f. f == e) (λ p. not (c == 0) && p == c)
-      (λ p f untold. rw untold (free (c == 0) (p == c) (p == me) f)) (λ p f op q g here. rw here (bound (c == 0) (p == c) (p == me) f op q g))
-      (λ g. (suc (g + e), ne_eqb (suc (g + e)) e (λ h. omega arith), ne_eqb (suc (g + e)) g (λ h. omega arith))) line does
+      (λ p f untold. rw untold (free (c == 0) (p == c) (p == me) f)) (λ p f op q g here. rw here (bound (c == 0) (p
+      == c) (p == me) f op q g))
+      (λ g. (suc (g + e), ne_eqb (suc (g + e)) e (λ h. omega arith), ne_eqb (suc (g + e)) g (λ h. omega arith)))
+      line does
     where
       free : (none child mine : Bool) (f : ℕ)
           → cond none kept (cond ((mine || child) && false) (given Unknown) (cond child (taken same me f) kept))

@@ -13,7 +13,8 @@ use Rattle.cap_effect.specs.Keys.{Cells, cells_of}
 use Rattle.cap_effect.specs.declared.line_asks.UpToThree.{UpToThree}
 use Rattle.cap_effect.specs.Asks.{any_holds, CanBe, IsOpen}
 use Rattle.cap_effect.specs.LineAsks.{part_holds, one_holds}
-use Rattle.cap_effect.specs.Preconditions.{is_wrongful, is_met, has_part, PartsAreOpen, RefusalIsOpen, IsPossible, IsMetOr}
+use Rattle.cap_effect.specs.Preconditions.{is_wrongful, is_met, has_part, PartsAreOpen, RefusalIsOpen, IsPossible}
+use Rattle.cap_effect.specs.Preconditions.{IsMetOr}
 use Rattle.cap_effect.proofs.Bools.{or_false, or_true, or_assoc, or_one}
 
 grouped : (certain asks refusals more : Bool) → (certain || (asks || (refusals || more)))

@@ -1,9 +1,11 @@
 -- What is named by some lines is named by more.
-use Rattle.std.proofs.Common.{◌≡◌, ℕ, ◌==◌, Bool, true, false, ◌||◌, ◌&&◌, List, [], ◌∷◌, ◌++◌, Option, Some, None, refl}
+use Rattle.std.proofs.Common.{◌≡◌, ℕ, ◌==◌, Bool, true, false, ◌||◌, ◌&&◌, List, [], ◌∷◌, ◌++◌, Option, Some, None}
+use Rattle.std.proofs.Common.{refl}
 use Rattle.std.proofs.Common.{sym, ap, ◌∙◌, cond}
 use Rattle.std.specs.Prelude.{IfSome}
 use Rattle.std.specs.List.{list_any, All}
-use Rattle.std.proofs.lemmas.Bool.{and_from, eq-eqb, eqb-true, true_from_ne_false, or_left as or_first, or_right as or_second}
+use Rattle.std.proofs.lemmas.Bool.{and_from, eq-eqb, eqb-true, true_from_ne_false, or_left as or_first}
+use Rattle.std.proofs.lemmas.Bool.{or_right as or_second}
 use Rattle.std.proofs.lemmas.List.Folds.{list_any-append}
 use Rattle.cap_machine.specs.declared.step.Step.{Step}
 use Rattle.cap_machine.specs.declared.rule.Check.{Check}

@@ -1,5 +1,6 @@
 -- What a node of a summary is seen as, and what always holds of it.
-use Rattle.std.specs.Prelude.{◌≡◌, ℕ, ◌^◌, ◌<◌, ◌≤◌, List, ◌++◌, length, Option, option_map, IfSome, IfNone, is_some, true}
+use Rattle.std.specs.Prelude.{◌≡◌, ℕ, ◌^◌, ◌<◌, ◌≤◌, List, ◌++◌, length, Option, option_map, IfSome, IfNone, is_some}
+use Rattle.std.specs.Prelude.{true}
 use Rattle.std.specs.declared.rc.Rc.{Rc}
 use Rattle.std.specs.declared.alloc.Global.{Global}
 use Rattle.cap_machine.specs.declared.step.Step.{Step}

@@ -12,8 +12,8 @@ use Rattle.cap_effect.specs.LineAsks.{has_any}
 use Rattle.cap_effect.specs.Preconditions.{is_met, IsPossible}
 use Rattle.cap_effect.specs.Names.{names_in, EffectWithin, PreWithin}
 
--- In every state before the steps: each cell and each mode after them, and whether something is found in them. Nothing is
--- asked that holds in no state, and nothing is listed, read or asked that no line names.
+-- In every state before the steps: each cell and each mode after them, and whether something is found in them. Nothing
+-- is asked that holds in no state, and nothing is listed, read or asked that no line names.
 pub record Knows (known : Known) (steps : List Step) : Type 0 where
   pub after : (s : State) (p : ℕ) (k : Key) → changed known.effect (cells_of s) p k ≡ cells_of (ended s steps) p k
   pub finds : (s : State) → is_met (cells_of s) known.precondition ≡ has_any (check s steps)

@@ -70,6 +70,10 @@ pub record AreAmong (some names : Names) : Type 0 where
   pub pids : (p : ℕ) → some.pids p ≡ true → names.pids p ≡ true
   pub fds : (f : ℕ) → some.fds f ≡ true → names.fds f ≡ true
 
+-- one process, with all its descriptors
+abbrev pub only : ℕ → Names
+only p = record { pids = λ q. q == p; fds = λ f. true }
+
 -- each process has a mode, which needs no naming
 abbrev pub has_key : Names → Key → Bool
 has_key names key.Mode = true

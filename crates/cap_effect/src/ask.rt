@@ -7,7 +7,8 @@ ghost use Rattle.cap_effect.specs.declared.key.Key.{Key};
 ghost use Rattle.cap_effect.specs.Keys.{Cells, cells_of};
 ghost use Rattle.cap_effect.specs.Tests.{passes};
 ghost use Rattle.cap_effect.specs.Values.{read, reads_within};
-ghost use Rattle.cap_effect.specs.Asks.{holds, certain_at, possible_at, pulled_holds, pulled_within, PulledIsOpen, place, place_in_process, IsAtPlace};
+ghost use Rattle.cap_effect.specs.Asks.{holds, certain_at, possible_at, pulled_holds, pulled_within, PulledIsOpen};
+ghost use Rattle.cap_effect.specs.Asks.{place, place_in_process, IsAtPlace};
 
 use crate::key::{Key, cell_of_mode};
 use crate::test::Test;

@@ -6,7 +6,8 @@ ghost use Rattle.cap_machine.specs.declared.cell.Cell.TheVariants.{Closed};
 ghost use Rattle.cap_effect.specs.Keys.{Cells};
 ghost use Rattle.cap_effect.specs.Values.{read};
 ghost use Rattle.cap_effect.specs.Sorted.{found, Rises};
-ghost use Rattle.cap_effect.specs.Effects.{passed, is_from, base_cell, changed, IsRowAfter, IsComposed};
+ghost use Rattle.cap_effect.specs.declared.key.Key.TheVariants as key;
+ghost use Rattle.cap_effect.specs.Effects.{passed, is_from, base_cell, row_cell, changed, IsRowAfter, IsComposed};
 ghost use Rattle.cap_effect.specs.Names.{Names, others_within, ListWithin, RowWithin, EffectWithin};
 
 use crate::base::{Base, Others, Passing, lower_of};
@@ -61,8 +62,8 @@ impl Effect {
     }
 }
 
-/// Lists the cells of a process after two segments: those of the second, by the cells before the first, and those of the
-/// first that the second hands on.
+/// Lists the cells of a process after two segments: those of the second, by the cells before the first, and those of
+/// the first that the second hands on.
 #[derive(Clone, Copy)]
 struct Handing<'a> {
     first: &'a Effect,
@@ -131,7 +132,10 @@ impl Combine for Composing<'_> {
         Ok(Some(left.share()?))
     }
 
-    fn right(&self, alloc: Global, _pid: u32, right: &Row) -> Result<Option<Row>, NoMemory> {
+    fn right(&self, alloc: Global, pid: u32, right: &Row) -> Result<Option<Row>, NoMemory> {
+        if right.reads_only(pid) {
+            return Ok(Some(right.share()?));
+        }
         Ok(Some(self.first.row_after(alloc, right)?))
     }
 
@@ -154,6 +158,35 @@ impl Combine for Composing<'_> {
 impl Effect {
     /// A row of a later segment, by the cells before this one.
     pub(crate) fn row_after(&self, alloc: Global, row: &Row) -> Result<Row, NoMemory>
+        ensures cells { IfOk result (λ new. IsRowAfter self.now row.now new) }
+        ensures names { IfOk result (λ new. (names : Names) → EffectWithin names self.now
+            → RowWithin names row.now → RowWithin names new) }
+    {
+        match self.handed_whole(row) {
+            Some(own) => self.row_with(alloc, row, own),
+            None => self.row_made(alloc, row),
+        }
+    }
+
+    /// The same, where its descriptors are those of a row of this segment. It shares them.
+    fn row_with(&self, alloc: Global, row: &Row, own: &Row) -> Result<Row, NoMemory>
+        requires { (cells : Cells) (f : ℕ)
+            → row_cell cells own.now (key.Fd f) ≡ row_cell (changed self.now cells) row.now (key.Fd f) }
+        ensures cells { IfOk result (λ new. IsRowAfter self.now row.now new) }
+        ensures names { IfOk result (λ new. (names : Names) → EffectWithin names self.now
+            → RowWithin names row.now → RowWithin names own.now → RowWithin names new) }
+    {
+        let mode = self.value_after(alloc, &row.mode)?;
+        let cells = own.cells.clone()?;
+        Ok(Row {
+            base: own.base,
+            mode,
+            cells,
+        })
+    }
+
+    /// The same, with its descriptors made anew.
+    fn row_made(&self, alloc: Global, row: &Row) -> Result<Row, NoMemory>
         ensures cells { IfOk result (λ new. IsRowAfter self.now row.now new) }
         ensures names { IfOk result (λ new. (names : Names) → EffectWithin names self.now
             → RowWithin names row.now → RowWithin names new) }

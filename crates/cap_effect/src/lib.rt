@@ -16,6 +16,7 @@ mod line_asks;
 mod node;
 mod precondition;
 mod seen;
+mod sharing;
 mod sorted;
 mod summary;
 mod test;

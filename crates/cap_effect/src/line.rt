@@ -7,7 +7,8 @@ ghost use Rattle.cap_machine.specs.Effect.{effect_turn};
 ghost use Rattle.cap_effect.specs.declared.key.Key.{Key};
 ghost use Rattle.cap_effect.specs.Keys.{Cells};
 ghost use Rattle.cap_effect.specs.Values.{read, reads_within};
-ghost use Rattle.cap_effect.specs.Names.{Names, has_cell, others_within, ListWithin, RowWithin, RowsWithin, EffectWithin, LineWithin};
+ghost use Rattle.cap_effect.specs.Names.{Names, has_cell, others_within, ListWithin, RowWithin, RowsWithin};
+ghost use Rattle.cap_effect.specs.Names.{EffectWithin, LineWithin};
 ghost use Rattle.cap_effect.specs.Effects.{base_cell, changed};
 ghost use Rattle.cap_effect.specs.Lines.{turned_cell, unlisted, IsThenLine, IsPut, IsRowOf, IsListOf, IsStarted};
 

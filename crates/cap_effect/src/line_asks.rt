@@ -8,7 +8,8 @@ ghost use Rattle.cap_machine.specs.declared.cell.Cell.TheVariants.{Unknown, Clos
 ghost use Rattle.cap_machine.specs.declared.rule.Word.{Word};
 ghost use Rattle.cap_machine.specs.declared.rule.Reply.TheVariants.{Success, NotCapable};
 ghost use Rattle.cap_machine.specs.State.{State};
-ghost use Rattle.cap_machine.specs.Judge.{is_inside, is_outside, fault, is_excused, forbidden, faults, listed, has_check, all_excused};
+ghost use Rattle.cap_machine.specs.Judge.{is_inside, is_outside, fault, is_excused, forbidden, faults, listed};
+ghost use Rattle.cap_machine.specs.Judge.{has_check, all_excused};
 ghost use Rattle.cap_effect.specs.declared.key.Key.TheVariants as key;
 ghost use Rattle.cap_effect.specs.Keys.{Cells, cells_of};
 ghost use Rattle.cap_effect.specs.Asks.{holds};
@@ -16,7 +17,8 @@ ghost use Rattle.cap_effect.specs.Tests.{passes};
 ghost use Rattle.cap_effect.specs.Preconditions.{has_part};
 ghost use Rattle.cap_effect.specs.Names.{Names, part_within, ChecksWithin, ExcusesWithin};
 ghost use Rattle.cap_effect.specs.Names.{LineAsksWithin, DemandWithin};
-ghost use Rattle.cap_effect.specs.LineAsks.{has_any, part_holds, one_holds, excuses_hold, checked_cells, asked_holds, IsAskedBy};
+ghost use Rattle.cap_effect.specs.LineAsks.{has_any, part_holds, one_holds, excuses_hold, checked_cells, asked_holds};
+ghost use Rattle.cap_effect.specs.LineAsks.{IsAskedBy};
 
 use crate::ask::Ask;
 use crate::key::Key;

@@ -256,8 +256,8 @@ impl Node {
         }
     }
 
-    /// Notes what is found in the steps, which begin in this state behind so many others, at the positions that are asked
-    /// for. It visits only parts that have such positions, and in which something is found.
+    /// Notes what is found in the steps, which begin in this state behind so many others, at the positions that are
+    /// asked for. It visits only parts that have such positions, and in which something is found.
     pub(crate) fn resolve(
         &self,
         before: &Before<'_>,
@@ -292,8 +292,8 @@ impl Node {
         }
     }
 
-    /// Notes what is found in the steps behind so many others, at the positions that are asked for, and moves the machine on
-    /// to what is known after them.
+    /// Notes what is found in the steps behind so many others, at the positions that are asked for, and moves the
+    /// machine on to what is known after them.
     pub(crate) fn judge(
         &self,
         machine: &mut Machine,

@@ -4,7 +4,8 @@ ghost use Rattle.std.specs.Prelude.{◌≡◌, ◌||◌, not, false, true, [], n
 ghost use Rattle.std.specs.List.{list_any};
 ghost use Rattle.cap_machine.specs.State.{State};
 ghost use Rattle.cap_effect.specs.Keys.{Cells, cells_of};
-ghost use Rattle.cap_effect.specs.Asks.{any_holds, pulled_holds, pulled_within, is_always, PulledIsOpen, IsOpen, AreWithin};
+ghost use Rattle.cap_effect.specs.Asks.{any_holds, pulled_holds, pulled_within, is_always, PulledIsOpen, IsOpen};
+ghost use Rattle.cap_effect.specs.Asks.{AreWithin};
 ghost use Rattle.cap_effect.specs.LineAsks.{part_holds, one_holds, asked_holds};
 ghost use Rattle.cap_effect.specs.Effects.{changed};
 ghost use Rattle.cap_effect.specs.Preconditions.{is_met, is_wrongful, three_hold, any_certain, IsMetOr, IsSettled};

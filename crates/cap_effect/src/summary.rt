@@ -23,8 +23,8 @@ pub struct Summary {
 }
 
 impl Summary {
-    /// What is known of the steps. Of more than 48 steps it is kept only within a limit, which grows with the steps; none
-    /// only where what is known of a part of them is above the limit of that part.
+    /// What is known of the steps. Of more than 48 steps it is kept only within a limit, which grows with the steps;
+    /// none only where what is known of a part of them is above the limit of that part.
     pub fn known(&self) -> Option<&Known>
         ensures kept { IfSome result (λ known. IsKept known.now (summed_up self.now)) }
         ensures large { IfNone result (IsTooLarge (summed_up self.now)) }

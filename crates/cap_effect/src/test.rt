@@ -5,7 +5,8 @@ ghost use Rattle.cap_machine.specs.declared.cell.OnExec.{OnExec};
 ghost use Rattle.cap_machine.specs.declared.cell.Cell.{Cell};
 ghost use Rattle.cap_machine.specs.Op.{applied, held};
 ghost use Rattle.cap_effect.specs.Asks.{form_number};
-ghost use Rattle.cap_effect.specs.Tests.{has_flag, any_flag, has_kind, any_kind, is_full, passes, can_pass, held_passes};
+ghost use Rattle.cap_effect.specs.Tests.{has_flag, any_flag, has_kind, any_kind, is_full, passes, can_pass};
+ghost use Rattle.cap_effect.specs.Tests.{held_passes};
 
 use cap_machine::{Cell, HeldOp, OnExec, Op};
 use cap_rights::RightSet;

@@ -5,5 +5,6 @@ use Rattle.cap_effect.proofs.LineAsking.{of_mode}
 use Rattle.cap_effect.proofs.line_asks.may_be_inside.Goals as goal
 
 pub returns-clause-holds : goal.returns-clause-holds
-returns-clause-holds c = λ s. of_mode (λ (m : Mode). not (is_outside m)) c.of_kinds.result c.of_kinds.ensures.unknown c.of_kinds.ensures.closed
+returns-clause-holds c = λ s. of_mode (λ (m : Mode). not (is_outside m)) c.of_kinds.result
+    c.of_kinds.ensures.unknown c.of_kinds.ensures.closed
     c.of_kinds.ensures.clear (s.mode c.args.me)

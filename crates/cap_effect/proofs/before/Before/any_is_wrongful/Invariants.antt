@@ -6,4 +6,5 @@ use Rattle.cap_effect.specs.Preconditions.{is_wrongful}
 use Rattle.cap_effect.proofs.before.Before.any_is_wrongful.Given as goal
 
 abbrev pub invariant-loop-refusal : goal.invariant-loop-refusal
-invariant-loop-refusal l = list_any (is_wrongful (cells_of (state_before l.self))) (take l.refusal-index l.refusals) ≡ false
+invariant-loop-refusal l = list_any (is_wrongful (cells_of (state_before l.self))) (take l.refusal-index l.refusals)
+    ≡ false

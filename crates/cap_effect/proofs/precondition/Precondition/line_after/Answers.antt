@@ -11,7 +11,8 @@ returns-in_ok-put_after-in-Where-3-clause-met c = λ s.
     rw c.in-Where.is (met_three c.args.self.now c.put_after.new.self c.put_after-in-Where.new.self
     c.put_after-in-Where-2.new.self (λ cells. part_holds (changed first cells) asks.mode)
     (λ cells. part_holds (changed first cells) asks.first) (λ cells. part_holds (changed first cells) asks.second)
-    c.in_ok-put_after-in-Where.ensures.met c.in_ok-put_after-in-Where-2.ensures.met c.in_ok-put_after-in-Where-3.ensures.met s)
+    c.in_ok-put_after-in-Where.ensures.met c.in_ok-put_after-in-Where-2.ensures.met
+    c.in_ok-put_after-in-Where-3.ensures.met s)
 
 pub returns-in_ok-put_after-in-Where-3-clause-names : goal.returns-in_ok-put_after-in-Where-3-clause-names
 returns-in_ok-put_after-in-Where-3-clause-names c = λ names effect asks old.

@@ -16,7 +16,8 @@ returns-then-self-clause-met c = λ s.
     elim c.then-self.branch [
       | then-self-via-then-self w ↦ rw w.if-self.true refl
       | then-self-via-else-self+then-any_is_certain w ↦
-          let certain = rw w.deref-else-self.ensures.value at (sym w.any_is_certain.ensures ∙ w.if-any_is_certain.true) in
+          let certain = rw w.deref-else-self.ensures.value at (sym w.any_is_certain.ensures ∙
+          w.if-any_is_certain.true) in
           met_by_ask (cells_of s) c.args.self ordered (certain_any ordered certain s) (united.holds (cells_of s))
     ]
 

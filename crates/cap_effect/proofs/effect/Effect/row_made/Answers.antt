@@ -1,6 +1,6 @@
 use Rattle.cap_effect.specs.declared.effect.Row.{Row}
 use Rattle.cap_effect.proofs.RowsComposed.{composed_cell, composed_row}
-use Rattle.cap_effect.proofs.effect.Effect.row_after.Goals as goal
+use Rattle.cap_effect.proofs.effect.Effect.row_made.Goals as goal
 
 pub returns-clause-cells : goal.returns-clause-cells
 returns-clause-cells c =
@@ -13,7 +13,8 @@ returns-clause-cells c =
     composed_row c.args.self.now c.args.row.now new c.in_ok-value_after.ensures.reads
     (λ cells f. composed_cell c.args.self.now c.args.row.now.base c.handed-handed.result.base
     c.handed-handed.result.passing c.args.row.now.cells c.handed-handed.result.cells.now c.in_ok-cells.cells cells f
-    (rw c.in_ok-cells.ensures (rw c.entries.ensures.all at (c.in_ok-merge.ensures.each f).cells)) (handed.closed cells f) (handed.«open» cells f))
+    (rw c.in_ok-cells.ensures (rw c.entries.ensures.all at (c.in_ok-merge.ensures.each f).cells)) (handed.closed
+    cells f) (handed.«open» cells f))
 
 pub returns-clause-names : goal.returns-clause-names
 returns-clause-names c = λ names effect row.
