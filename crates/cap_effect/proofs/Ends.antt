@@ -1,6 +1,5 @@
 -- The state behind what is known, and behind one step.
 use Rattle.std.proofs.Common.{◌≡◌, ℕ, List, [], ◌∷◌, ap, ◌∙◌, refl}
-use Rattle.std.proofs.Math.Path.{fun_ext}
 use Rattle.cap_machine.specs.declared.step.Step.{Step}
 use Rattle.cap_machine.specs.declared.cell.Mode.{Mode}
 use Rattle.cap_machine.specs.declared.cell.Mode.TheVariants.{Inside, Outside, Unsure}

@@ -1,5 +1,5 @@
 -- What is kept of steps, and what isn't.
-use Rattle.std.proofs.Common.{◌≡◌, List, [], ◌++◌, ◌<◌, ℕ, length, true, false, refl, sym, ap, ◌∙◌}
+use Rattle.std.proofs.Common.{◌≡◌, List, [], ◌++◌, ◌<◌, length, true, false, sym, ap, ◌∙◌}
 use Rattle.std.proofs.lemmas.List.{append_assoc, append-nil}
 use Rattle.std.proofs.lemmas.List.Elements.{All-nil}
 use Rattle.cap_machine.specs.declared.step.Step.{Step}

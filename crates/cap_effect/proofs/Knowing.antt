@@ -17,7 +17,6 @@ use Rattle.cap_machine.specs.Table.{step_after}
 use Rattle.cap_machine.proofs.Turns.{ends_in_turn, checks_in_turn, ends_more, checks_more}
 use Rattle.cap_effect.specs.declared.key.Key.{Key}
 use Rattle.cap_effect.specs.declared.key.Key.TheVariants as key
-use Rattle.cap_effect.specs.declared.effect.Effect.{Effect}
 use Rattle.cap_effect.specs.declared.line_asks.LineAsks.{LineAsks}
 use Rattle.cap_effect.specs.declared.known.Known.{Known}
 use Rattle.cap_effect.specs.Keys.{Cells, mode_cell, cells_of}

@@ -1,12 +1,12 @@
 -- The descriptors that the effect of a line has one by one stand in the line.
-use Rattle.std.proofs.Common.{◌≡◌, ℕ, suc, ◌+◌, ◌==◌, ◌&&◌, ◌||◌, Bool, true, false, not, cond, List, [], ◌∷◌, refl}
+use Rattle.std.proofs.Common.{◌≡◌, ℕ, suc, ◌+◌, ◌==◌, ◌&&◌, ◌||◌, Bool, true, false, not, cond, [], ◌∷◌, refl}
 use Rattle.std.proofs.Common.{sym}
-use Rattle.std.proofs.Common.{ap, ◌∙◌, arith, slice_index_or, length, ◌<◌}
+use Rattle.std.proofs.Common.{ap, ◌∙◌, arith, slice_index_or}
 use Rattle.std.specs.Prelude.{codes}
 use Rattle.std.specs.List.{list_any, All}
 use Rattle.std.specs.Str.{bytes_eq}
-use Rattle.std.proofs.lemmas.Bool.{ne_eqb, eq-eqb, or_left, or_right, and_right, and_from, or_parts}
-use Rattle.std.proofs.lemmas.List.Elements.{All-nil, All-cons, All-head, All-tail}
+use Rattle.std.proofs.lemmas.Bool.{ne_eqb, eq-eqb, or_left, or_right}
+use Rattle.std.proofs.lemmas.List.Elements.{All-nil, All-cons}
 use Rattle.cap_trace.specs.Seen.{fds_spelled}
 use Rattle.cap_trace.specs.Item.{Item}
 use Rattle.cap_trace.specs.Item as items
@@ -15,17 +15,15 @@ use Rattle.cap_trace.specs.Call as calls
 use Rattle.cap_trace.specs.declared.line.Answer.{Answer}
 use Rattle.cap_trace.specs.declared.line.Answer.TheVariants as answers
 use Rattle.cap_trace.specs.declared.calls.Kind.{Kind}
-use Rattle.cap_trace.specs.declared.calls.Kind.TheVariants.{Count, Zero, Fd, Same, FdPair, Child, ChildAndFd, Any}
+use Rattle.cap_trace.specs.declared.calls.Kind.TheVariants.{Count, Fd, Same, FdPair}
 use Rattle.cap_trace.specs.declared.calls.FdCall.{FdCall}
 use Rattle.cap_trace.specs.declared.calls.FdCall.TheVariants.{Accept, Closefrom, Dup}
 use Rattle.cap_trace.specs.declared.calls.PathCall.{PathCall}
 use Rattle.cap_trace.specs.declared.calls.PathCall.TheVariants.{Execve}
-use Rattle.cap_trace.specs.declared.calls.AtFlagsCall.{AtFlagsCall}
 use Rattle.cap_trace.specs.declared.calls.AtFlagsCall.TheVariants.{Openat}
-use Rattle.cap_trace.specs.declared.calls.FlagsCall.{FlagsCall}
 use Rattle.cap_trace.specs.declared.calls.FlagsCall.TheVariants.{Socket, Socketpair, Pipe2}
 use Rattle.cap_trace.specs.declared.calls.BareCall.{BareCall}
-use Rattle.cap_trace.specs.declared.calls.BareCall.TheVariants.{Pipe, Kqueue, ShmOpen, MqOpen, Fhopen, Fork, Vfork}
+use Rattle.cap_trace.specs.declared.calls.BareCall.TheVariants.{Pipe, Fork, Vfork}
 use Rattle.cap_trace.specs.declared.calls.BareCall.TheVariants.{Pdfork, CapEnter}
 use Rattle.cap_trace.specs.Entry.{kind_of, args_of_call}
 use Rattle.cap_machine.specs.declared.cell.Profile.{Profile}
@@ -38,11 +36,11 @@ use Rattle.cap_machine.specs.declared.rule.Effect.{Effect as LineEffect}
 use Rattle.cap_machine.specs.declared.rule.Effect.TheVariants as lines
 use Rattle.cap_machine.specs.Op.{same}
 use Rattle.cap_machine.specs.Touch.{Touch, kept, given, taken, touch, started, fd_touch, path_touch, bare_touch}
-use Rattle.cap_machine.specs.Touch.{call_touch, fork_touch, pdfork_touch}
+use Rattle.cap_machine.specs.Touch.{call_touch, pdfork_touch}
 use Rattle.cap_machine.specs.Effect.{effect_touch}
-use Rattle.cap_machine.specs.Named.{arg_names, args_name, answer_names, item_answer_names, names_fd, is_fork, fds_of}
+use Rattle.cap_machine.specs.Named.{arg_names, answer_names, is_fork, fds_of}
 use Rattle.cap_machine.proofs.NamedFds.{named_effects}
-use Rattle.cap_effect.specs.Names.{answers_fd, item_answers_fd, line_names_fd}
+use Rattle.cap_effect.specs.Names.{answers_fd, line_names_fd}
 
 by_cases : {X : Type 0} (b : Bool) → (b ≡ true → X) → (b ≡ false → X) → X
 by_cases true one other = one refl

@@ -1,5 +1,5 @@
 -- The cells after a line, by the rows of the processes that it touches.
-use Rattle.std.proofs.Common.{◌≡◌, ℕ, ◌==◌, Bool, true, false, ◌||◌, ◌&&◌, cond, refl, sym, ap, ◌∙◌}
+use Rattle.std.proofs.Common.{◌≡◌, ℕ, ◌==◌, Bool, true, false, ◌||◌, cond, refl, sym, ap, ◌∙◌}
 use Rattle.std.proofs.lemmas.Bool.{eqb-true, eq-eqb}
 use Rattle.cap_machine.specs.declared.cell.OnExec.TheVariants.{Set, Clear, Unsure}
 use Rattle.cap_machine.specs.declared.cell.Cell.{Cell}
@@ -7,7 +7,7 @@ use Rattle.cap_machine.specs.declared.cell.Cell.TheVariants.{Unknown, Closed, He
 use Rattle.cap_machine.specs.declared.rule.Effect.{Effect as LineEffect}
 use Rattle.cap_machine.specs.declared.rule.Effect.TheVariants as lines
 use Rattle.cap_machine.specs.Op.{applied, same}
-use Rattle.cap_machine.specs.Touch.{kept, given, taken, stays, turns, follows}
+use Rattle.cap_machine.specs.Touch.{kept, given, taken, stays, follows}
 use Rattle.cap_machine.specs.History.{touched}
 use Rattle.cap_effect.specs.declared.key.Key.{Key}
 use Rattle.cap_effect.specs.declared.key.Key.TheVariants as key

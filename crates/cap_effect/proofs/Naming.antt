@@ -1,15 +1,13 @@
 -- What is named by some lines is named by more.
 use Rattle.std.proofs.Common.{◌≡◌, ℕ, ◌==◌, Bool, true, false, ◌||◌, ◌&&◌, List, [], ◌∷◌, ◌++◌, Option, Some, None}
 use Rattle.std.proofs.Common.{refl}
-use Rattle.std.proofs.Common.{sym, ap, ◌∙◌, cond}
+use Rattle.std.proofs.Common.{◌∙◌, cond}
 use Rattle.std.specs.Prelude.{IfSome}
-use Rattle.std.specs.List.{list_any, All}
-use Rattle.std.proofs.lemmas.Bool.{and_from, eq-eqb, eqb-true, true_from_ne_false, or_left as or_first}
+use Rattle.std.specs.List.{list_any}
+use Rattle.std.proofs.lemmas.Bool.{and_from, eq-eqb, true_from_ne_false, or_left as or_first}
 use Rattle.std.proofs.lemmas.Bool.{or_right as or_second}
 use Rattle.std.proofs.lemmas.List.Folds.{list_any-append}
 use Rattle.cap_machine.specs.declared.step.Step.{Step}
-use Rattle.cap_machine.specs.declared.rule.Check.{Check}
-use Rattle.cap_machine.specs.declared.rule.Demand.{Demand}
 use Rattle.cap_machine.specs.declared.rule.Effect.{Effect as LineEffect}
 use Rattle.cap_machine.specs.declared.rule.Effect.TheVariants as lines
 use Rattle.cap_machine.specs.declared.cell.Cell.TheVariants.{Unknown}
@@ -30,14 +28,13 @@ use Rattle.cap_effect.specs.declared.effect.Row.{Row}
 use Rattle.cap_effect.specs.declared.effect.Effect.{Effect}
 use Rattle.cap_effect.specs.declared.ask.Ask.{Ask}
 use Rattle.cap_effect.specs.declared.line_asks.UpToThree.{UpToThree}
-use Rattle.cap_effect.specs.declared.precondition.Refusal.{Refusal}
 use Rattle.cap_effect.specs.declared.precondition.Precondition.{Precondition}
 use Rattle.cap_effect.specs.Values.{reads_within}
 use Rattle.cap_effect.specs.Sorted.{found}
 use Rattle.cap_effect.specs.Names.{line_names_fd, item_answers_fd, Names, names_in, AreAmong, has_key, has_cell}
 use Rattle.cap_effect.specs.Names.{IsListedWithin, others_within, RowWithin, IsRowWithin, EffectWithin, ChildWithin}
 use Rattle.cap_effect.specs.Names.{LineWithin, part_within, PartsWithin, PreWithin, DemandWithin}
-use Rattle.cap_effect.proofs.Bools.{and_left, and_right, or_false}
+use Rattle.cap_effect.proofs.Bools.{and_left, and_right}
 use Rattle.cap_effect.proofs.LineNamed.{named_one_by_one}
 
 module _ (a b : Names) (among : AreAmong a b) where

@@ -1,5 +1,4 @@
 use Rattle.std.proofs.Common.{◌≡◌, refl, ap, ◌∙◌}
-use Rattle.cap_machine.specs.declared.cell.Cell.{Cell}
 use Rattle.cap_effect.specs.declared.effect.Effect.{Effect}
 use Rattle.cap_effect.specs.declared.key.Key.TheVariants as key
 use Rattle.cap_effect.specs.Keys.{Cells, cells_of, mode_cell, cell_mode}

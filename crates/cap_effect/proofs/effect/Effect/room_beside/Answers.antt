@@ -1,6 +1,5 @@
-use Rattle.std.proofs.Common.{◌≡◌, ℕ, List, ap, ◌+◌, arith}
+use Rattle.std.proofs.Common.{ℕ, List, ◌+◌, arith}
 use Rattle.cap_effect.specs.declared.effect.Row.{Row}
-use Rattle.cap_effect.specs.Sizes.{rows_size}
 use Rattle.cap_effect.proofs.Counting.{sizes_more, sizes_part}
 use Rattle.cap_effect.proofs.effect.Effect.room_beside.Goals as goal
 
