@@ -1,6 +1,6 @@
 //! [`limits_stream`]: a trace is read, and then the limits that it needs are written, from a start text that is read
 //! first.
-ghost use Rattle.std.specs.Prelude.{◌≡◌, ◌^◌, ◌≤◌};
+ghost use Rattle.std.specs.Prelude.{◌^◌, ◌≤◌};
 ghost use Rattle.cap_session.specs.AnswerStreams.{AnswerStreams, AnswerStartStreams, WritesAnswer};
 ghost use Rattle.cap_session.specs.LimitStreams.{limits_say};
 
