@@ -24,6 +24,8 @@ mod scripts;
 #[cfg(test)]
 mod sessions;
 #[cfg(test)]
+mod shown;
+#[cfg(test)]
 mod starts;
 #[cfg(test)]
 mod texts;
