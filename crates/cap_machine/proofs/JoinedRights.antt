@@ -1,5 +1,5 @@
 -- Sets of rights, joined.
-use Rattle.std.proofs.Common.{◌≡◌, ℕ, ◌<◌, ◌==◌, Bool, true, false, refl, sym, ◌∙◌, arith, if◌then◌else◌, subst}
+use Rattle.std.proofs.Common.{◌≡◌, ℕ, ◌<◌, ◌==◌, Bool, true, false, refl, sym, ap, ◌∙◌, arith, if◌then◌else◌, subst}
 use Rattle.std.proofs.lemmas.Bool.{cases_eq, false≢true}
 use Rattle.std.specs.Option.{option_map_or}
 use Rattle.std.specs.Map.{lookup}
@@ -27,6 +27,11 @@ join_none r = same_from_bits _ _ (λ k. simp (bit_at_or, bit_at-zero) (omega ari
 
 pub none_join : (r : ℕ) → join 0 r ≡ r
 none_join r = join_comm 0 r ∙ join_none r
+
+-- where no rights are added, nothing changes
+pub with_none : (b : Bool) (r s : ℕ) → s ≡ 0 → r ≡ (if b then join r s else r)
+with_none true r s none = sym (ap (join r) none ∙ join_none r)
+with_none false r s none = refl
 
 -- what is left of one is added to the other: rights of descriptor g go over
 pub moved_over : (to from new old : ℕ → ℕ) (g r f : ℕ) → new f ≡ (if f == g then join (to f) r else to f)

@@ -30,6 +30,7 @@ pub mod Origins
 pub mod Passages
 pub mod Walking
 pub mod ModeMatters
+pub mod CallsOnFd
 pub mod CellChains
 pub mod ModeChains
 pub mod Explained

@@ -80,7 +80,8 @@ fn unchecked(class: Class, answer: &Answer) -> Demand
 }
 
 /// A call whose one argument is a descriptor.
-fn on_fd(call: FdCall, fd: Fd, answer: &Answer) -> Demand
+#[inline(always)]
+pub(crate) fn fd_demand_of(call: FdCall, fd: Fd, answer: &Answer) -> Demand
     ensures { result ≡ fd_demand call fd answer.now }
 {
     match call {
@@ -139,7 +140,7 @@ pub(crate) fn demand_of(call: &Call<'_>, answer: &Answer) -> Demand
     ensures { result ≡ call_demand (call_seen call.now) answer.now }
 {
     match call {
-        Call::OnFd(call, fd) => on_fd(*call, *fd, answer),
+        Call::OnFd(call, fd) => fd_demand_of(*call, *fd, answer),
         Call::Send(_, fd) => {
             let send = needs::send_needs_of();
             one(Class::Either, *fd, send, Some(send), answer)

@@ -1,7 +1,7 @@
 //! What each form of call does to the cells and the mode of its process and of a child, by what the line records. The
 //! tables stand in `docs/RULES.md`.
 
-ghost use Rattle.std.specs.Prelude.{◌≡◌, ℕ, ◌<◌, codes, if◌then◌else◌};
+ghost use Rattle.std.specs.Prelude.{◌≡◌, ℕ, ◌<◌, codes, IsTrue, if◌then◌else◌};
 ghost use Rattle.cap_trace.specs.Entry.{IsAnswer, kind_of, fcntl_kind};
 ghost use Rattle.cap_trace.specs.Seen.{call_seen};
 ghost use Rattle.cap_trace.specs.Call as calls;
@@ -156,7 +156,7 @@ fn changed(fd: Fd, op: Op, answer: &Answer) -> Effect<'static>
 }
 
 /// close(2).
-fn closed(fd: Fd, answer: &Answer) -> Effect<'static>
+pub(crate) fn closed(fd: Fd, answer: &Answer) -> Effect<'static>
     ensures cells { (me p f : ℕ) → effect_touch result me p f ≡ on_fd fd (closing answer.now) me p f }
     ensures modes { OnlyCells result }
 {
@@ -187,6 +187,24 @@ fn closed_from(profile: Profile, fd: Fd, answer: &Answer) -> Effect<'static>
     match (answer, profile) {
         (Answer::Fault(_), _) | (_, Profile::One) => Effect::Keep,
         (_, Profile::Two) => Effect::CloseFrom(fd),
+    }
+}
+
+/// Whether a call on one descriptor changes no descriptor, whatever it answers; `false` says nothing.
+#[inline(always)]
+pub(crate) fn keeps_all(call: FdCall) -> bool
+    ensures { IsTrue result → (profile : Profile) (fd : ℕ) (answer : Answer) (me p f : ℕ)
+        → fd_touch profile call fd answer me p f ≡ kept }
+{
+    match call {
+        FdCall::Close
+        | FdCall::Closefrom
+        | FdCall::Dup
+        | FdCall::Accept
+        | FdCall::Fexecve
+        | FdCall::CapIoctlsLimit
+        | FdCall::CapFcntlsLimit => false,
+        _ => true,
     }
 }
 

@@ -5,6 +5,8 @@ mod process;
 
 ghost use Rattle.std.specs.Prelude.{◌≡◌, ℕ, ◌+◌, ◌==◌, OnOk, List, [], ◌∷◌, None, if◌then◌else◌};
 ghost use Rattle.cap_rights.specs.Rights.{join};
+ghost use Rattle.cap_trace.specs.Item as items;
+ghost use Rattle.cap_trace.specs.Call as calls;
 ghost use Rattle.cap_machine.specs.declared.cell.OnExec.{OnExec};
 ghost use Rattle.cap_machine.specs.declared.step.Step.{Step};
 ghost use Rattle.cap_machine.specs.Steps.{step};
@@ -14,11 +16,13 @@ ghost use Rattle.cap_machine.specs.Wanted.{undone, unblocked, earlier, with_dema
 ghost use Rattle.cap_machine.specs.Wanted.{blocked_before};
 
 use crate::cell::{OnExec, Profile};
+use crate::demands::fd_demand_of;
+use crate::effects::{closed, keeps_all};
 use crate::live::fd_rights::FdRights;
 use crate::live::process::LiveProcess;
-use crate::rule::{Demand, Effect, rule_of};
+use crate::rule::{Demand, Effect, demand_of_line, effect_of_line};
 use cap_rights::{NoMemory, RightSet};
-use cap_trace::{Fd, Line, LineRef, Pid};
+use cap_trace::{Answer, Call, Fd, FdCall, Item, Line, LineRef, Pid};
 use std::alloc::Global;
 use std::collections::BTreeMap;
 
@@ -171,6 +175,49 @@ impl LiveRights {
         self.pass_own(at, me, demand, effect)
     }
 
+    /// Passes a line where it lies, by its rule.
+    #[inline(never)]
+    fn pass_by_rule(
+        &mut self,
+        at: usize,
+        profile: Profile,
+        line: &LineRef<'_>,
+    ) -> Result<(), NoMemory>
+        ensures rights { OnOk result ((later : List Step)
+            → AreLive self.old later → AreLive self.new (step profile line.now ∷ later)) }
+        ensures blocked { OnOk result ((later : List Step)
+            → AreBlocked self.old (at + 1) later → AreBlocked self.new at (step profile line.now ∷ later)) }
+    {
+        let demand = demand_of_line(line);
+        let effect = effect_of_line(profile, line);
+        self.pass_rule(at, line.pid, &demand, &effect)
+    }
+
+    /// Passes a line with a call on one descriptor, which mostly changes nothing.
+    #[inline(always)]
+    fn pass_on_fd(
+        &mut self,
+        at: usize,
+        profile: Profile,
+        line: &LineRef<'_>,
+        call: FdCall,
+        fd: Fd,
+        answer: &Answer,
+    ) -> Result<(), NoMemory>
+        requires { line.now.item ≡ items.Call (calls.OnFd call fd) answer.now }
+        ensures rights { OnOk result ((later : List Step)
+            → AreLive self.old later → AreLive self.new (step profile line.now ∷ later)) }
+        ensures blocked { OnOk result ((later : List Step)
+            → AreBlocked self.old (at + 1) later → AreBlocked self.new at (step profile line.now ∷ later)) }
+    {
+        let demand = fd_demand_of(call, fd, answer);
+        match call {
+            FdCall::Close => self.pass_rule(at, line.pid, &demand, &closed(fd, answer)),
+            _ if keeps_all(call) => self.pass_rule(at, line.pid, &demand, &Effect::Keep),
+            _ => self.pass_by_rule(at, profile, line),
+        }
+    }
+
     /// Passes a line where it lies.
     #[inline(always)]
     pub(crate) fn pass_seen(
@@ -184,8 +231,13 @@ impl LiveRights {
         ensures blocked { OnOk result ((later : List Step)
             → AreBlocked self.old (at + 1) later → AreBlocked self.new at (step profile line.now ∷ later)) }
     {
-        let rule = rule_of(profile, line);
-        self.pass_rule(at, line.pid, &rule.demand, &rule.effect)
+        match &line.item {
+            Item::Call {
+                call: Call::OnFd(call, fd),
+                answer,
+            } => self.pass_on_fd(at, profile, line, *call, *fd, answer),
+            _ => self.pass_by_rule(at, profile, line),
+        }
     }
 
     /// Passes the line before those that it has passed; `at` is its position.

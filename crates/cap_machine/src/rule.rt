@@ -128,23 +128,23 @@ pub fn rule_of<'a>(profile: Profile, line: &LineRef<'a>) -> Rule<'a>
     ensures cells { (p f : ℕ) → effect_touch result.effect line.now.pid p f ≡ touch (step profile line.now) p f }
     ensures modes { (p : ℕ) → effect_turn result.effect line.now.pid p ≡ turn (step profile line.now) p }
 {
+    Rule {
+        demand: demand_of_line(line),
+        effect: effect_of_line(profile, line),
+    }
+}
+
+/// What a line does in a profile.
+#[inline(always)]
+pub(crate) fn effect_of_line<'a>(profile: Profile, line: &LineRef<'a>) -> Effect<'a>
+    ensures cells { (p f : ℕ) → effect_touch result line.now.pid p f ≡ touch (step profile line.now) p f }
+    ensures modes { (p : ℕ) → effect_turn result line.now.pid p ≡ turn (step profile line.now) p }
+{
     match &line.item {
-        Item::Call { call, answer } => Rule {
-            demand: demand_of(call, answer),
-            effect: effect_of(profile, call, answer),
-        },
-        Item::Start(fds) => Rule {
-            demand: unjudged_demand(),
-            effect: Effect::Start(fds),
-        },
-        Item::Exit => Rule {
-            demand: unjudged_demand(),
-            effect: Effect::Exit,
-        },
-        Item::Foreign(fd) => Rule {
-            demand: unjudged_demand(),
-            effect: Effect::Give(*fd, Cell::Unknown),
-        },
+        Item::Call { call, answer } => effect_of(profile, call, answer),
+        Item::Start(fds) => Effect::Start(fds),
+        Item::Exit => Effect::Exit,
+        Item::Foreign(fd) => Effect::Give(*fd, Cell::Unknown),
     }
 }
 

@@ -100,9 +100,10 @@ impl FdRights {
         ensures taken { (x : OnExec) → flag_rights result x ≡ rights_of self.old fd x }
         ensures rest { (f : ℕ) (x : OnExec) → rights_of self.new f x ≡ (if f == fd then 0 else rights_of self.old f x) }
     {
-        match self.map.remove(&fd) {
-            Some(rights) => rights,
-            None => ByFlag::all(RightSet::none()),
+        let none = ByFlag::all(RightSet::none());
+        match self.map.get_mut(&fd) {
+            Some(own) => std::mem::replace(own, none),
+            None => none,
         }
     }
 

@@ -203,6 +203,9 @@ impl LiveProcess {
             → wanted_of self.new f x ≡ wanted_with check.now.fd (λ y. check.now.needs) (wanted_of self.old) f x) }
         ensures blocked { OnOk result (self.new.blocked ≡ self.old.blocked) }
     {
+        if check.needs == RightSet::none() {
+            return Ok(());
+        }
         self.add(check.fd, &ByFlag::all(check.needs))
     }
 
