@@ -95,7 +95,7 @@ impl FdRights {
         Ok(())
     }
 
-    /// Takes the rights of a descriptor away.
+    /// Takes the rights of a descriptor away. Its place stays, since its number mostly comes again.
     pub(crate) fn take(&mut self, fd: Fd) -> ByFlag
         ensures taken { (x : OnExec) → flag_rights result x ≡ rights_of self.old fd x }
         ensures rest { (f : ℕ) (x : OnExec) → rights_of self.new f x ≡ (if f == fd then 0 else rights_of self.old f x) }
