@@ -2,10 +2,10 @@
 use Rattle.std.proofs.Common.{◌≡◌, ℕ, suc, ◌+◌, ◌<◌, ◌≤◌, List, [], ◌∷◌, ◌++◌, length, map, take, get_or, refl, sym, ap, ◌∙◌}
 use Rattle.std.proofs.Common.{append_assoc, arith}
 use Rattle.std.specs.Prelude.{codes, decimal}
+use Rattle.std.specs.Fmt.{digits}
 use Rattle.std.proofs.lemmas.List.{append-nil, take_more, map-append, length-map, length-take-le}
 use Rattle.std.proofs.lemmas.List.Concat.{flat_map-append}
 use Rattle.cap_rights.specs.Text.{text}
-use Rattle.cap_trace.specs.Spelling.{canon}
 use Rattle.cap_machine.specs.Report.{line_of_words}
 use Rattle.cap_machine.specs.declared.makers.MakerLimit.{MakerLimit}
 use Rattle.cap_trace.specs.Entry.{Entry}
@@ -15,31 +15,20 @@ use Rattle.cap_machine.specs.declared.limit.Limit.{Limit}
 use Rattle.cap_session.specs.LimitScripts.{ScriptLine, insertion, comment, insertions, limit_line, maker_line, maker_lines}
 use Rattle.cap_session.specs.LimitScripts.{enter_line, words_of, script_text, place_words, unknown_lines, unknown_words}
 
-parts : (o p f r z : List ℕ) →
-    ((((((o ++ p) ++ codes " cap_rights_limit(") ++ f) ++ codes ",") ++ r) ++ codes ") RET ") ++ z
-    ≡ o ++ (p ++ (32 ∷ (codes "cap_rights_limit" ++ (40 ∷ ((f ++ (44 ∷ r)) ++ (41 ∷ (codes " RET " ++ z)))))))
-parts o p f r z =
-    append_assoc (((((o ++ p) ++ codes " cap_rights_limit(") ++ f) ++ codes ",") ++ r) (codes ") RET ") z
-    ∙ append_assoc ((((o ++ p) ++ codes " cap_rights_limit(") ++ f) ++ codes ",") r (codes ") RET " ++ z)
-    ∙ append_assoc (((o ++ p) ++ codes " cap_rights_limit(") ++ f) (codes ",") (r ++ (codes ") RET " ++ z))
-    ∙ append_assoc ((o ++ p) ++ codes " cap_rights_limit(") f (codes "," ++ (r ++ (codes ") RET " ++ z)))
-    ∙ append_assoc (o ++ p) (codes " cap_rights_limit(") (f ++ (codes "," ++ (r ++ (codes ") RET " ++ z))))
-    ∙ append_assoc o p (codes " cap_rights_limit(" ++ (f ++ (codes "," ++ (r ++ (codes ") RET " ++ z)))))
-    ∙ ap (λ (l : List ℕ). o ++ (p ++ (codes " cap_rights_limit(" ++ l)))
-    (sym (append_assoc f (44 ∷ r) (41 ∷ (codes " RET " ++ z))))
+parts : (o i a s p k f c r e z n : List ℕ)
+    → ((((((((o ++ i) ++ a) ++ s) ++ p) ++ k) ++ f) ++ c) ++ r) ++ (e ++ (z ++ n))
+    ≡ o ++ ((i ++ (a ++ (s ++ (p ++ (k ++ ((f ++ (c ++ r)) ++ (e ++ z))))))) ++ n)
+parts o i a s p k f c r e z n = simp append_assoc
 
-pub limit_put : (pid fd rights n m : ℕ) (o o1 o2 o3 o4 o5 o6 o7 : List ℕ) → n ≡ pid → m ≡ fd → o1 ≡ o ++ decimal n
-    → o2 ≡ o1 ++ codes " cap_rights_limit(" → o3 ≡ o2 ++ decimal m → o4 ≡ o3 ++ codes "," → o5 ≡ o4 ++ text rights
-    → o6 ≡ o5 ++ codes ") RET " → o7 ≡ o6 ++ decimal 0 → o7 ≡ o ++ canon (limit_line pid (fd, rights))
-limit_put pid fd rights n m o o1 o2 o3 o4 o5 o6 o7 is_n is_m e1 e2 e3 e4 e5 e6 e7 =
-    let s1 : o1 ≡ o ++ decimal pid = e1 ∙ ap (λ (k : ℕ). o ++ decimal k) is_n in
-    let s2 : o2 ≡ (o ++ decimal pid) ++ codes " cap_rights_limit(" =
-    e2 ∙ ap (λ (l : List ℕ). l ++ codes " cap_rights_limit(") s1 in
-    let s3 : o3 ≡ ((o ++ decimal pid) ++ codes " cap_rights_limit(") ++ decimal fd =
-    e3 ∙ ap (λ (k : ℕ). o2 ++ decimal k) is_m ∙ ap (λ (l : List ℕ). l ++ decimal fd) s2 in
-    e7 ∙ ap (λ (l : List ℕ). l ++ decimal 0) (e6 ∙ ap (λ (l : List ℕ). l ++ codes ") RET ")
-    (e5 ∙ ap (λ (l : List ℕ). l ++ text rights) (e4 ∙ ap (λ (l : List ℕ). l ++ codes ",") s3)))
-    ∙ parts o (decimal pid) (decimal fd) (text rights) (decimal 0)
+pub insertion_put : (at pid fd rights n m : ℕ) (o o1 o2 o3 o4 o5 o6 o7 o8 o9 : List ℕ) → n ≡ pid → m ≡ fd
+    → o1 ≡ o ++ codes "insert " → o2 ≡ o1 ++ decimal at → o3 ≡ o2 ++ codes " " → o4 ≡ o3 ++ decimal n
+    → o5 ≡ o4 ++ codes " cap_rights_limit(" → o6 ≡ o5 ++ decimal m → o7 ≡ o6 ++ codes "," → o8 ≡ o7 ++ text rights
+    → o9 ≡ o8 ++ codes ") RET 0\n"
+    → o9 ≡ o ++ line_of_words (words_of (insertion at (limit_line pid (fd, rights))))
+unfolding digits
+insertion_put at pid fd rights n m o o1 o2 o3 o4 o5 o6 o7 o8 o9 is_n is_m e1 e2 e3 e4 e5 e6 e7 e8 e9 =
+    rw (e9, e8, e7, e6, e5, e4, e3, e2, e1, is_n, is_m) (parts o (codes "insert ") (decimal at) (codes " ") (decimal pid)
+    (codes " cap_rights_limit(") (decimal fd) (codes ",") (text rights) (codes ") RET ") (decimal 0) (codes "\n"))
 
 -- the text of one limit more
 pub makers_more : (limits : List MakerLimit) (i : ℕ) (one : MakerLimit) (before after : List ℕ) → i < length limits
@@ -159,10 +148,14 @@ needed_put row n o o1 o2 o3 o4 o5 same e1 e2 e3 e4 e5 =
     two_put o (codes "# descriptor ") (decimal row.0) (codes " isn't known; later calls need ") (text row.1) (codes "\n")
     o1 o2 o3 o4 o5 e1 (number_put n row.0 o1 o2 same e2) e3 e4 e5
 
-pub enter_put : (pid n : ℕ) (o o1 o2 o3 : List ℕ) → n ≡ pid → o1 ≡ o ++ decimal n
-    → o2 ≡ o1 ++ codes " cap_enter() RET " → o3 ≡ o2 ++ decimal 0 → o3 ≡ o ++ canon (enter_line pid)
-enter_put pid n o o1 o2 o3 same e1 e2 e3 =
-    e3 ∙ ap (λ (l : List ℕ). l ++ decimal 0) (e2 ∙ ap (λ (l : List ℕ). l ++ codes " cap_enter() RET ")
-    (number_put n pid o o1 same e1))
-    ∙ append_assoc (o ++ decimal pid) (codes " cap_enter() RET ") (decimal 0)
-    ∙ append_assoc o (decimal pid) (codes " cap_enter() RET " ++ decimal 0)
+entry_parts : (o i a s p e z n : List ℕ)
+    → ((((o ++ i) ++ a) ++ s) ++ p) ++ (e ++ (z ++ n)) ≡ o ++ ((i ++ (a ++ (s ++ (p ++ (e ++ z))))) ++ n)
+entry_parts o i a s p e z n = simp append_assoc
+
+pub entry_put : (at pid n : ℕ) (o o1 o2 o3 o4 o5 : List ℕ) → n ≡ pid → o1 ≡ o ++ codes "insert "
+    → o2 ≡ o1 ++ decimal at → o3 ≡ o2 ++ codes " " → o4 ≡ o3 ++ decimal n → o5 ≡ o4 ++ codes " cap_enter() RET 0\n"
+    → o5 ≡ o ++ line_text (insertion at (enter_line pid))
+unfolding digits
+entry_put at pid n o o1 o2 o3 o4 o5 same e1 e2 e3 e4 e5 =
+    rw (e5, e4, e3, e2, e1, same) (entry_parts o (codes "insert ") (decimal at) (codes " ") (decimal pid)
+    (codes " cap_enter() RET ") (decimal 0) (codes "\n"))

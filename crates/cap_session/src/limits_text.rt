@@ -3,7 +3,6 @@ ghost use Rattle.std.specs.Prelude.{◌≡◌, ◌⊎◌, ◌↔◌, ◌++◌, �
 ghost use Rattle.std.specs.Prelude.{option_copied};
 ghost use Rattle.std.specs.List.{All};
 ghost use Rattle.cap_trace.specs.Entry.{Entry};
-ghost use Rattle.cap_trace.specs.Spelling.{canon};
 ghost use Rattle.cap_machine.specs.Limits.{row_of};
 ghost use Rattle.cap_machine.specs.Report.{line_of_words};
 ghost use Rattle.cap_machine.specs.declared.makers.MakerLimit.{MakerLimit};
@@ -22,21 +21,7 @@ use cap_rights::{RightSet, write_rights};
 use cap_trace::{Fd, Line, Pid};
 use std::alloc::Global;
 
-/// Appends the line by which a process limits a descriptor, which answers 0.
-fn put_limit(out: &mut Vec<u8>, pid: Pid, fd: Fd, rights: &RightSet) -> Result<(), NoMemory>
-    ensures { OnOk result (out.new.items ≡ out.old.items ++ canon (limit_line pid (fd, rights.now))) }
-{
-    put_number(out, u64::from(pid))?;
-    out.extend_from_slice(b" cap_rights_limit(")?;
-    put_number(out, u64::from(fd))?;
-    out.extend_from_slice(b",")?;
-    write_rights(rights, out)?;
-    out.extend_from_slice(b") RET ")?;
-    put_number(out, 0)?;
-    Ok(())
-}
-
-/// Appends the line of a script that puts a limit in at a position.
+/// Appends the line of a script that puts in at a position the line by which a process limits a descriptor.
 fn put_insertion(
     out: &mut Vec<u8>,
     at: usize,
@@ -50,8 +35,12 @@ fn put_insertion(
     out.extend_from_slice(b"insert ")?;
     put_number(out, at as u64)?;
     out.extend_from_slice(b" ")?;
-    put_limit(out, pid, fd, rights)?;
-    out.extend_from_slice(b"\n")?;
+    put_number(out, u64::from(pid))?;
+    out.extend_from_slice(b" cap_rights_limit(")?;
+    put_number(out, u64::from(fd))?;
+    out.extend_from_slice(b",")?;
+    write_rights(rights, out)?;
+    out.extend_from_slice(b") RET 0\n")?;
     Ok(())
 }
 
@@ -139,16 +128,6 @@ fn put_unknown(out: &mut Vec<u8>, limits: &[Limit]) -> Result<(), NoMemory>
     Ok(())
 }
 
-/// Appends the line by which a process enters capability mode.
-fn put_enter(out: &mut Vec<u8>, pid: Pid) -> Result<(), NoMemory>
-    ensures { OnOk result (out.new.items ≡ out.old.items ++ canon (enter_line pid)) }
-{
-    put_number(out, u64::from(pid))?;
-    out.extend_from_slice(b" cap_enter() RET ")?;
-    put_number(out, 0)?;
-    Ok(())
-}
-
 /// Appends the line of a script by which a process enters capability mode at a position.
 fn put_entry(out: &mut Vec<u8>, at: usize, pid: Pid) -> Result<(), NoMemory>
     ensures { OnOk result (out.new.items ≡ out.old.items ++ line_of_words (words_of (insertion at (enter_line pid)))) }
@@ -156,8 +135,8 @@ fn put_entry(out: &mut Vec<u8>, at: usize, pid: Pid) -> Result<(), NoMemory>
     out.extend_from_slice(b"insert ")?;
     put_number(out, at as u64)?;
     out.extend_from_slice(b" ")?;
-    put_enter(out, pid)?;
-    out.extend_from_slice(b"\n")?;
+    put_number(out, u64::from(pid))?;
+    out.extend_from_slice(b" cap_enter() RET 0\n")?;
     Ok(())
 }
 
