@@ -1,6 +1,6 @@
 -- Asks that hold in every state, in none, or in some.
 use Rattle.std.proofs.Common.{◌≡◌, ℕ, true, false, ◌&&◌, inl, inr, refl, ap, bit_and}
-use Rattle.std.proofs.Common.{List, [], ◌∷◌}
+use Rattle.std.proofs.Common.{Bool, List, [], ◌∷◌}
 use Rattle.std.specs.Prelude.{not}
 use Rattle.std.specs.Int.Bits.{and_self}
 use Rattle.std.proofs.lemmas.Bool.{eq-eqb}
@@ -17,9 +17,11 @@ use Rattle.cap_effect.specs.declared.key.Key.TheVariants as key
 use Rattle.cap_effect.specs.declared.test.Flags.{Flags}
 use Rattle.cap_effect.specs.declared.test.Test.{Test}
 use Rattle.cap_effect.specs.declared.ask.Ask.{Ask}
+use Rattle.cap_effect.specs.declared.ask.Pulled.{Pulled}
+use Rattle.cap_effect.specs.declared.ask.Pulled.TheVariants.{Always, Never, Where}
 use Rattle.cap_effect.specs.Keys.{mode_cell, cells_of}
 use Rattle.cap_effect.specs.Tests.{has_flag, any_flag, any_kind, is_full, passes, can_pass}
-use Rattle.cap_effect.specs.Asks.{any_holds, certain_at, possible_at, CanBe, IsOpen}
+use Rattle.cap_effect.specs.Asks.{any_holds, certain_at, possible_at, CanBe, IsOpen, PulledIsOpen, PulledCan}
 use Rattle.cap_effect.specs.Preconditions.{any_certain}
 use Rattle.std.specs.List.{All}
 use Rattle.std.proofs.lemmas.List.Elements.{All-nil, All-cons}
@@ -101,7 +103,7 @@ mode_passes t is = elim (or_one (passes t (mode_cell NoMode)) _ is) [
   ]
 ]
 
-fails_somewhere : (p : ℕ) (k : Key) (t : Test) → certain_at k t ≡ false
+pub fails_somewhere : (p : ℕ) (k : Key) (t : Test) → certain_at k t ≡ false
     → (s : State) × (passes t (cells_of s p k) ≡ false)
 fails_somewhere p key.Mode t is = let m = mode_fails t is in (everywhere Unknown m.0, m.1)
 fails_somewhere p (key.Fd f) t is = let c = full_fails t is in (everywhere c.0 NoMode, c.1)
@@ -116,6 +118,12 @@ is_open ask certain possible = record {
   holds = holds_somewhere ask.pid ask.key ask.test possible;
   fails = fails_somewhere ask.pid ask.key ask.test certain;
 }
+
+pub pulled_can : (answer : Bool) (pulled : Pulled) → PulledIsOpen pulled → PulledCan answer pulled
+pulled_can answer Always is = tt
+pulled_can answer Never is = tt
+pulled_can true (Where ask) is = is.holds
+pulled_can false (Where ask) is = is.fails
 
 -- ---- in every state
 full_passes : (t : Test) → is_full t.kinds ≡ true → (c : Cell) → passes t c ≡ true
@@ -134,7 +142,7 @@ modes_pass t all NoMode = and_left (passes t (mode_cell NoMode)) _ all
 modes_pass t all Inside = and_left (passes t (mode_cell Inside)) _ (and_right (passes t (mode_cell NoMode)) _ all)
 modes_pass t all Outside = and_right (passes t (mode_cell Inside)) _ (and_right (passes t (mode_cell NoMode)) _ all)
 
-certain_holds : (p : ℕ) (k : Key) (t : Test) → certain_at k t ≡ true → (s : State) → passes t (cells_of s p k) ≡ true
+pub certain_holds : (p : ℕ) (k : Key) (t : Test) → certain_at k t ≡ true → (s : State) → passes t (cells_of s p k) ≡ true
 certain_holds p key.Mode t is s = modes_pass t is (s.mode p)
 certain_holds p (key.Fd f) t is s = full_passes t is (s.cell p f)
 

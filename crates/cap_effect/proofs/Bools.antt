@@ -53,6 +53,11 @@ pub or_assoc : (x y z : Bool) → ((x || y) || z) ≡ (x || (y || z))
 or_assoc true y z = refl
 or_assoc false y z = refl
 
+pub or_last : (x y z : Bool) → ((x || y) || z) ≡ ((x || z) || y)
+or_last true y z = refl
+or_last false true z = sym (or_true z)
+or_last false false z = sym (or_false z)
+
 pub or_swapped : (a b c : Bool) → (b || (a || c)) ≡ (a || (b || c))
 or_swapped true b c = or_true b
 or_swapped false b c = refl

@@ -5,7 +5,7 @@ use Rattle.std.proofs.Common.{Bool, true, false, nat_le}
 use Rattle.std.proofs.lemmas.Bool.Decides.{nat_tests}
 use Rattle.std.proofs.lemmas.List.{take_more, take-append-drop}
 use Rattle.cap_effect.specs.declared.effect.Row.{Row}
-use Rattle.cap_effect.specs.Sizes.{rows_size}
+use Rattle.cap_effect.specs.RowSizes.{rows_size}
 
 sizes-append : (a b : List (ℕ × Row)) → rows_size (a ++ b) ≡ rows_size a + rows_size b
 sizes-append [] b = omega arith

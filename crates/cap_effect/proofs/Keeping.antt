@@ -37,7 +37,7 @@ large_second t u large = record {
   parts = ap (λ r. t ++ r) large.parts ∙ sym (append_assoc t large.front (large.part ++ large.back));
 }
 
-pub large_whole : (t : List Step) (known : Known) → Knows known t → IsSettled known.precondition
+pub large_whole : (t : List Step) (known : Known) → Knows known t → IsSettled known.precondition.value
     → limit (length t) < size known → IsTooLarge t
 large_whole t known knows settled large = record {
   front = [];

@@ -1,5 +1,5 @@
 -- What one line lists is named by it.
-use Rattle.std.proofs.Common.{◌≡◌, ℕ, ◌==◌, Bool, true, false, cond, List, [], ◌∷◌, Option, Some, None, refl, sym}
+use Rattle.std.proofs.Common.{◌≡◌, ℕ, ◌==◌, Bool, true, false, cond, List, [], ◌∷◌, Option, Some, refl, sym}
 use Rattle.std.proofs.Common.{subst}
 use Rattle.std.specs.Prelude.{IfSome}
 use Rattle.std.specs.List.{All}
@@ -12,7 +12,7 @@ use Rattle.cap_effect.specs.declared.key.Key.TheVariants as key
 use Rattle.cap_effect.specs.declared.value.Value.{Value}
 use Rattle.cap_effect.specs.Values.{source, reads_within}
 use Rattle.cap_effect.specs.Sorted.{found}
-use Rattle.cap_effect.specs.Names.{Names, has_cell, IsListedWithin, ListWithin, LineWithin}
+use Rattle.cap_effect.specs.Names.{Names, has_cell, IsListedWithin, LineWithin}
 
 -- one more entry, where this holds of it and of the others
 module _ {V : Type 0} (P : ℕ → V → Type 0) (k : ℕ) (v : V) (holds : P k v) where
@@ -24,26 +24,19 @@ module _ {V : Type 0} (P : ℕ → V → Type 0) (k : ℕ) (v : V) (holds : P k 
       → ((f : ℕ) → IfSome (found old f) (P f)) → (f : ℕ) → IfSome (found new f) (P f)
   each_put old new put others f = rw (put f) (each_one (found old f) f (f == k) refl (others f))
 
--- a descriptor that takes its cell from another
-pub change_within : (names : Names) (me : ℕ) (line : LineEffect) (f : ℕ) (op : Op) (g : ℕ) (v : Value)
-    (listed : List (ℕ × Value)) → line ≡ lines.Change f op g → source v ≡ Some (me, key.Fd g)
-    → listed ≡ (f, v) ∷ [] → LineWithin names me line → ListWithin names listed
-change_within names me line f op g v listed is from only within h =
-    rw only (one (f == h) refl)
+-- a descriptor that takes its cell from another, which had the value `before`
+pub change_within : (names : Names) (me : ℕ) (line : LineEffect) (f : ℕ) (op : Op) (g : ℕ) (before v : Value)
+    → line ≡ lines.Change f op g → source v ≡ source before
+    → (has_cell names me (key.Fd g) ≡ true → reads_within (has_cell names) before ≡ true) → LineWithin names me line
+    → IsListedWithin names f v
+change_within names me line f op g before v is from reads within = record {
+  key = All-head P f (g ∷ []) both;
+  source = rw from (reads (and_from (names.pids me) (names.fds g) within.own
+      (All-head P g [] (All-tail P f (g ∷ []) both))));
+}
   where
     P : ℕ → Type 0
     P n = names.fds n ≡ true
 
     both : All P (f ∷ g ∷ [])
     both = rw is at within.fds
-
-    reads : reads_within (has_cell names) v ≡ true
-    reads = rw from (and_from (names.pids me) (names.fds g) within.own
-        (All-head P g [] (All-tail P f (g ∷ []) both)))
-
-    one : (b : Bool) → (f == h) ≡ b → IfSome (cond b (Some v) None) (IsListedWithin names h)
-    one true same = record {
-      key = subst P (eqb-true f h same) (All-head P f (g ∷ []) both);
-      source = reads;
-    }
-    one false same = tt

@@ -32,7 +32,7 @@ use Rattle.cap_effect.specs.declared.precondition.Precondition.{Precondition}
 use Rattle.cap_effect.specs.Values.{reads_within}
 use Rattle.cap_effect.specs.Sorted.{found}
 use Rattle.cap_effect.specs.Names.{line_names_fd, item_answers_fd, Names, names_in, AreAmong, has_key, has_cell}
-use Rattle.cap_effect.specs.Names.{IsListedWithin, others_within, RowWithin, IsRowWithin, EffectWithin, ChildWithin}
+use Rattle.cap_effect.specs.Names.{IsListedWithin, others_within, mode_within, RowWithin, IsRowWithin, EffectWithin, ChildWithin}
 use Rattle.cap_effect.specs.Names.{LineWithin, part_within, PartsWithin, PreWithin, DemandWithin}
 use Rattle.cap_effect.proofs.Bools.{and_left, and_right}
 use Rattle.cap_effect.proofs.LineNamed.{named_one_by_one}
@@ -59,11 +59,15 @@ module _ (a b : Names) (among : AreAmong a b) where
   others_among (others.Of q passing) is = among.pids q is
   others_among _ is = refl
 
+  mode_among : (mode : Option Value) → mode_within a mode ≡ true → mode_within b mode ≡ true
+  mode_among None is = refl
+  mode_among (Some v) is = value_among v is
+
   row_among : (row : Row) → RowWithin a row → RowWithin b row
   row_among row is = record {
     cells = λ f. listed_among f (found row.cells f) (is.cells f);
     others = others_among row.base.others is.others;
-    mode = value_among row.mode is.mode;
+    mode = mode_among row.mode is.mode;
   }
 
   row_at_among : (p : ℕ) (row : Option Row) → IfSome row (IsRowWithin a p) → IfSome row (IsRowWithin b p)

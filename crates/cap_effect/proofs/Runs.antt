@@ -5,7 +5,7 @@ use Rattle.std.proofs.lemmas.List.{map-append, append-nil, take-map}
 use Rattle.std.proofs.lemmas.Slice.{between_to_end}
 use Rattle.std.specs.declared.rc.Rc.{Rc}
 use Rattle.std.specs.List.{AllZip, AppendsClones}
-use Rattle.cap_tree.specs.Run.{values}
+use Rattle.cap_list.specs.Run.{values}
 use Rattle.cap_effect.specs.View.{NodeView}
 
 -- a copy shares the item

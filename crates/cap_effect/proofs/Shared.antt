@@ -4,7 +4,7 @@ use Rattle.std.proofs.Common.{ap}
 use Rattle.std.specs.Prelude.{IfSome}
 use Rattle.std.specs.Option.{option_map_or}
 use Rattle.std.specs.List.{All}
-use Rattle.std.proofs.lemmas.Bool.{eqb-true}
+use Rattle.std.proofs.lemmas.Bool.{eqb-true, eq-eqb}
 use Rattle.std.proofs.lemmas.List.Elements.{All-head, All-tail}
 use Rattle.cap_machine.specs.declared.cell.Cell.{Cell}
 use Rattle.cap_machine.specs.declared.cell.Cell.TheVariants.{Closed}
@@ -18,11 +18,10 @@ use Rattle.cap_effect.specs.declared.base.Others.TheVariants as others
 use Rattle.cap_effect.specs.declared.effect.Row.{Row}
 use Rattle.cap_effect.specs.declared.effect.Effect.{Effect}
 use Rattle.cap_effect.specs.Keys.{Cells}
-use Rattle.cap_effect.specs.declared.base.Passing.TheVariants.{Same}
 use Rattle.cap_effect.specs.Values.{read, source, reads_within}
 use Rattle.cap_effect.specs.Sorted.{found}
 use Rattle.cap_effect.specs.Effects.{passed, is_from, others_cell, base_cell, row_cell, changed}
-use Rattle.cap_effect.specs.Names.{only, has_cell, has_key, others_within, IsListedWithin, ListWithin, RowWithin}
+use Rattle.cap_effect.specs.Names.{only, has_cell, has_key, others_within, mode_within, IsListedWithin, ListWithin, RowWithin}
 use Rattle.cap_effect.proofs.Bools.{and_left}
 
 -- what holds of each entry holds of what is found
@@ -62,12 +61,6 @@ list_only p entries all f =
     listed None is = is
     listed (Some v) is = record { key = refl; source = is }
 
--- a table that is handed on whole
-pub handed_whole : (first : Effect) (row own : Row) (p : ℕ) → row.cells ≡ [] → row.base.closed_from ≡ None
-    → row.base.others ≡ others.Of p Same → found first.rows p ≡ Some own → (cells : Cells) (f : ℕ)
-    → row_cell cells own (key.Fd f) ≡ row_cell (changed first cells) row (key.Fd f)
-handed_whole first row own p none open_ of_ is cells f = rw (none, open_, of_, is) refl
-
 module _ (first : Effect) (p : ℕ) (left : None ≡ found first.rows p) (cells : Cells) where
   -- the process keeps its cells
   same_cell : (q : ℕ) (k : Key) → (q == p) ≡ true → cells q k ≡ changed first cells q k
@@ -79,8 +72,15 @@ module _ (first : Effect) (p : ℕ) (left : None ≡ found first.rows p) (cells 
   same_value (value.Of x) is = ap (applied x.value.op)
       (same_cell x.value.pid x.value.key (and_left (x.value.pid == p) (has_key (only p) x.value.key) is))
 
+  same_mode : (mode : Option Value) → mode_within (only p) mode ≡ true
+      → option_map_or (read cells) mode (cells p key.Mode)
+      ≡ option_map_or (read (changed first cells)) mode (changed first cells p key.Mode)
+  same_mode None is = same_cell p key.Mode (eq-eqb p p refl)
+  same_mode (Some v) is = same_value v is
+
   same_others : (o : Others) (f : ℕ) → others_within (only p) o ≡ true
-      → others_cell cells o f ≡ others_cell (changed first cells) o f
+      → others_cell cells p o f ≡ others_cell (changed first cells) p o f
+  same_others others.Own f is = same_cell p (key.Fd f) (eq-eqb p p refl)
   same_others (others.Of q passing) f is = ap (passed passing) (same_cell q (key.Fd f) is)
   same_others others.Unknown f is = refl
   same_others others.Closed f is = refl
@@ -90,9 +90,9 @@ module _ (first : Effect) (p : ℕ) (left : None ≡ found first.rows p) (cells 
   same_listed None f d d' is same = same
   same_listed (Some v) f d d' is same = same_value v is.source
 
-  pub same_row : (row : Row) → RowWithin (only p) row → (k : Key) → row_cell cells row k
-      ≡ row_cell (changed first cells) row k
-  same_row row is key.Mode = same_value row.mode is.mode
-  same_row row is (key.Fd f) = same_listed (found row.cells f) f (base_cell cells row.base f)
-      (base_cell (changed first cells) row.base f) (is.cells f)
+  pub same_row : (row : Row) → RowWithin (only p) row → (k : Key) → row_cell cells p row k
+      ≡ row_cell (changed first cells) p row k
+  same_row row is key.Mode = same_mode row.mode is.mode
+  same_row row is (key.Fd f) = same_listed (found row.cells f) f (base_cell cells p row.base f)
+      (base_cell (changed first cells) p row.base f) (is.cells f)
       (ap (λ c. cond (is_from row.base.closed_from f) Closed c) (same_others row.base.others f is.others))

@@ -1,5 +1,5 @@
 -- What is asked of the cells before a segment.
-use Rattle.std.specs.Prelude.{◌≡◌, ℕ, ◌+◌, ◌*◌, ◌^◌, ◌<◌, ◌≤◌, ◌&&◌, ◌||◌, Bool, true, false, List, [], ◌∷◌, length}
+use Rattle.std.specs.Prelude.{◌≡◌, ℕ, ◌+◌, ◌*◌, ◌^◌, ◌≤◌, ◌&&◌, ◌||◌, Bool, true, false, List, [], ◌∷◌, length}
 use Rattle.std.specs.List.{list_any, All}
 use Rattle.cap_machine.specs.declared.cell.Mode.TheVariants.{Inside, Outside, Unsure}
 use Rattle.cap_machine.specs.State.{State}
@@ -62,6 +62,12 @@ PulledIsOpen Always = Unit {0}
 PulledIsOpen Never = Unit {0}
 PulledIsOpen (Where ask) = IsOpen ask
 
+-- in some state it holds, or doesn't, if it asks
+abbrev pub PulledCan : Bool → Pulled → Type 0
+PulledCan answer Always = Unit {0}
+PulledCan answer Never = Unit {0}
+PulledCan answer (Where ask) = CanBe answer ask
+
 -- the cell that it asks about, if it asks, is among these
 abbrev pub pulled_within : (ℕ → Key → Bool) → Pulled → Bool
 pulled_within names Always = true
@@ -108,22 +114,17 @@ AskWithin names ask = names ask.pid ask.key ≡ true
 abbrev pub AreWithin : (ℕ → Key → Bool) → List Ask → Type 0
 AreWithin names asks = All (AskWithin names) asks
 
+-- one of these holds, in every state
+abbrev pub AlwaysHold : List Ask → Type 0
+AlwaysHold asks = (s : State) → any_holds (cells_of s) asks ≡ true
+
+abbrev pub OneAlwaysHolds : List Ask → List Ask → Type 0
+OneAlwaysHolds lefts rights = (s : State) → (any_holds (cells_of s) lefts || any_holds (cells_of s) rights) ≡ true
+
 -- a list of asks that holds where one of two others does
 pub record IsUnionOf (lefts rights asks : List Ask) : Type 0 where
   pub rises : Rises asks
   pub holds : (cells : Cells) → any_holds cells asks ≡ (any_holds cells lefts || any_holds cells rights)
   pub few : length asks ≤ length lefts + length rights
   pub names : (names : ℕ → Key → Bool) → AreWithin names lefts → AreWithin names rights → AreWithin names asks
-  pub possible : ArePossible lefts → ArePossible rights → ArePossible asks
-
--- the first ask of two lists, which holds where those at its place do, and what is left of both
-pub record IsFirst (lefts rights : List Ask) (ask : Ask) (left right : List Ask) : Type 0 where
-  pub holds : (cells : Cells) → (holds cells ask || (any_holds cells left || any_holds cells right))
-      ≡ (any_holds cells lefts || any_holds cells rights)
-  pub first : (bound : ℕ) → RisesFrom bound lefts → RisesFrom bound rights → bound ≤ place ask
-  pub left_rises : RisesFrom (place ask + 1) left
-  pub right_rises : RisesFrom (place ask + 1) right
-  pub fewer : length left + length right < length lefts + length rights
-  pub names : (names : ℕ → Key → Bool) → AreWithin names lefts → AreWithin names rights → AreWithin names (ask ∷ left)
-      × AreWithin names right
-  pub possible : ArePossible lefts → ArePossible rights → ArePossible (ask ∷ left) × ArePossible right
+  pub can : (answer : Bool) → All (CanBe answer) lefts → All (CanBe answer) rights → All (CanBe answer) asks

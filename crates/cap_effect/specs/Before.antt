@@ -1,9 +1,9 @@
--- The state behind a start, effects and lines.
+-- The state behind a start and effects.
 use Rattle.cap_machine.specs.State.{State}
-use Rattle.cap_machine.specs.Table.{start_state, effect_after}
+use Rattle.cap_machine.specs.Table.{start_state}
 use Rattle.cap_effect.specs.declared.key.Key.TheVariants as key
 use Rattle.cap_effect.specs.declared.before.Before.{Before}
-use Rattle.cap_effect.specs.declared.before.Before.TheVariants.{At, After', Behind'}
+use Rattle.cap_effect.specs.declared.before.Before.TheVariants.{At, After'}
 use Rattle.cap_effect.specs.Keys.{Cells, cells_of, cell_mode}
 use Rattle.cap_effect.specs.Effects.{changed}
 
@@ -14,4 +14,3 @@ state_of cells = record { cell = λ p f. cells p (key.Fd f); mode = λ p. cell_m
 abbrev pub state_before : Before → State
 state_before (At start) = start_state start.now
 state_before (After' p before effect) = state_of (changed effect.now (cells_of (state_before before)))
-state_before (Behind' p before me line) = effect_after line.now me (state_before before)

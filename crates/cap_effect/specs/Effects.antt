@@ -1,5 +1,5 @@
 -- What becomes of each cell over a segment, whatever the cells before it: the transfer function of the segment.
-use Rattle.std.specs.Prelude.{◌≡◌, ℕ, Bool, false, Option, Some, None, nat_le, if◌then◌else◌, option_map}
+use Rattle.std.specs.Prelude.{◌≡◌, ℕ, Bool, false, Option, Some, None, nat_le, if◌then◌else◌, option_map, []}
 use Rattle.std.specs.Prelude.{option_and_then}
 use Rattle.std.specs.Option.{option_map_or, option_or}
 use Rattle.cap_machine.specs.declared.cell.Cell.{Cell}
@@ -29,23 +29,32 @@ abbrev pub is_from : Option ℕ → ℕ → Bool
 is_from None f = false
 is_from (Some n) f = nat_le n f
 
--- the cell of a descriptor that isn't listed
-abbrev pub others_cell : Cells → Others → ℕ → Cell
-others_cell cells others.Unknown f = Unknown
-others_cell cells others.Closed f = Closed
-others_cell cells (others.Of q passing) f = passed passing (cells q (key.Fd f))
+-- the cell of a descriptor of process p that isn't listed
+abbrev pub others_cell : Cells → ℕ → Others → ℕ → Cell
+others_cell cells p others.Own f = cells p (key.Fd f)
+others_cell cells p others.Unknown f = Unknown
+others_cell cells p others.Closed f = Closed
+others_cell cells p (others.Of q passing) f = passed passing (cells q (key.Fd f))
 
-abbrev pub base_cell : Cells → Base → ℕ → Cell
-base_cell cells base f = if is_from base.closed_from f then Closed else others_cell cells base.others f
+abbrev pub base_cell : Cells → ℕ → Base → ℕ → Cell
+base_cell cells p base f = if is_from base.closed_from f then Closed else others_cell cells p base.others f
 
--- the cell of a key of a process that has this row
-abbrev pub row_cell : Cells → Row → Key → Cell
-row_cell cells row key.Mode = read cells row.mode
-row_cell cells row (key.Fd f) = option_map_or (read cells) (found row.cells f) (base_cell cells row.base f)
+-- the cell of a key of process p, which has this row
+abbrev pub row_cell : Cells → ℕ → Row → Key → Cell
+row_cell cells p row key.Mode = option_map_or (read cells) row.mode (cells p key.Mode)
+row_cell cells p row (key.Fd f) = option_map_or (read cells) (found row.cells f) (base_cell cells p row.base f)
 
--- the cells after the segment; a process without a row keeps its own
+-- the row of a process that stays as it is
+abbrev pub own_row : Row
+own_row = record { base = record { others = others.Own; closed_from = None }; mode = None; cells = [] }
+
+-- a row that may be there: without one a process keeps its cells
+abbrev pub cell_in : Cells → Option Row → ℕ → Key → Cell
+cell_in cells row p k = option_map_or (λ row. row_cell cells p row k) row (cells p k)
+
+-- the cells after the segment
 abbrev pub changed : Effect → Cells → Cells
-changed effect cells p k = option_map_or (λ row. row_cell cells row k) (found effect.rows p) (cells p k)
+changed effect cells p k = cell_in cells (found effect.rows p) p k
 
 -- a cell where it is handed on, below the descriptor from which cells are closed
 abbrev pub handed_on : Passing → Option ℕ → ℕ → Cell → Option Cell
@@ -58,13 +67,9 @@ IsHanded first passing closed_from f listed handed new = (cells : Cells) → opt
     ≡ option_or (option_map (read (changed first cells)) listed)
     (option_and_then (handed_on passing closed_from f) (option_map (read cells) handed))
 
--- a row after two segments, of a process that the second one gives this row
-abbrev pub IsRowAfter : Effect → Row → Row → Type 0
-IsRowAfter first row new = (cells : Cells) (k : Key) → row_cell cells new k ≡ row_cell (changed first cells) row k
-
--- a row that may be there: without one a process keeps its cells
-abbrev pub cell_in : Cells → Option Row → ℕ → Key → Cell
-cell_in cells row p k = option_map_or (λ row. row_cell cells row k) row (cells p k)
+-- a row after two segments, of process p, which the second one gives this row
+abbrev pub IsRowAfter : Effect → ℕ → Row → Row → Type 0
+IsRowAfter first p row new = (cells : Cells) (k : Key) → row_cell cells p new k ≡ row_cell (changed first cells) p row k
 
 abbrev pub IsComposedAt : Effect → ℕ → Option Row → Option Row → Type 0
 IsComposedAt first p later new = (cells : Cells) (k : Key)

@@ -13,7 +13,7 @@ limit n = min 40000 (1024 + 4 * n)
 -- what is kept of steps; of more than 48 of them it is within the limit
 pub record IsKept (known : Known) (steps : List Step) : Type 0 where
   pub knows : Knows known steps
-  pub settled : IsSettled known.precondition
+  pub settled : IsSettled known.precondition.value
   pub small : 48 < length steps → size known ≤ limit (length steps)
 
 -- what is known of a part of the steps is above the limit
@@ -24,5 +24,5 @@ pub record IsTooLarge (steps : List Step) : Type 0 where
   pub parts : steps ≡ front ++ (part ++ back)
   pub known : Known
   pub knows : Knows known part
-  pub settled : IsSettled known.precondition
+  pub settled : IsSettled known.precondition.value
   pub large : limit (length part) < size known

@@ -1,22 +1,45 @@
--- What a summary says of the steps of a segment, whatever the state before them.
-use Rattle.std.specs.Prelude.{◌≡◌, ℕ, List}
+-- What an effect and a precondition say of the steps of a segment, whatever the state before them.
+use Rattle.std.specs.Prelude.{◌≡◌, ℕ, Bool, true, List}
 use Rattle.cap_machine.specs.declared.step.Step.{Step}
 use Rattle.cap_machine.specs.State.{State}
 use Rattle.cap_machine.specs.History.{ended}
 use Rattle.cap_machine.specs.Check.{check}
+use Rattle.cap_machine.specs.Walks.{LeavesCell, LeavesMode}
 use Rattle.cap_effect.specs.declared.key.Key.{Key}
+use Rattle.cap_effect.specs.declared.key.Key.TheVariants as key
+use Rattle.cap_effect.specs.declared.effect.Effect.{Effect}
+use Rattle.cap_effect.specs.declared.precondition.Precondition.{Precondition}
 use Rattle.cap_effect.specs.declared.known.Known.{Known}
 use Rattle.cap_effect.specs.Keys.{cells_of}
+use Rattle.cap_effect.specs.Before.{state_of}
 use Rattle.cap_effect.specs.Effects.{changed}
+use Rattle.cap_effect.specs.Leaving.{leaves}
 use Rattle.cap_effect.specs.LineAsks.{has_any}
 use Rattle.cap_effect.specs.Preconditions.{is_met, IsPossible}
 use Rattle.cap_effect.specs.Names.{names_in, EffectWithin, PreWithin}
 
+-- no step touches a cell, or turns a mode
+abbrev pub StepsLeave : List Step → ℕ → Key → Type 0
+StepsLeave steps p key.Mode = LeavesMode steps p
+StepsLeave steps p (key.Fd f) = LeavesCell steps p f
+
 -- In every state before the steps: each cell and each mode after them, and whether something is found in them. Nothing
--- is asked that holds in no state, and nothing is listed, read or asked that no line names.
-pub record Knows (known : Known) (steps : List Step) : Type 0 where
-  pub after : (s : State) (p : ℕ) (k : Key) → changed known.effect (cells_of s) p k ≡ cells_of (ended s steps) p k
-  pub finds : (s : State) → is_met (cells_of s) known.precondition ≡ has_any (check s steps)
-  pub possible : IsPossible known.precondition
-  pub effect_named : EffectWithin (names_in steps) known.effect
-  pub asks_named : PreWithin (names_in steps) known.precondition
+-- is asked that holds in no state, and nothing is listed, read or asked that no line names. What is said to be left no step
+-- touches.
+pub record Says (effect : Effect) (precondition : Precondition) (steps : List Step) : Type 0 where
+  pub after : (s : State) (p : ℕ) (k : Key) → changed effect (cells_of s) p k ≡ cells_of (ended s steps) p k
+  pub finds : (s : State) → is_met (cells_of s) precondition ≡ has_any (check s steps)
+  pub possible : IsPossible precondition
+  pub left : (p : ℕ) (k : Key) → leaves effect p k ≡ true → StepsLeave steps p k
+  pub effect_named : EffectWithin (names_in steps) effect
+  pub asks_named : PreWithin (names_in steps) precondition
+
+abbrev pub Knows : Known → List Step → Type 0
+Knows known steps = Says known.effect.value known.precondition.value steps
+
+-- the state after the steps, and whether something is found in them, from a state before them
+abbrev pub state_after : Known → State → State
+state_after known s = state_of (changed known.effect.value (cells_of s))
+
+abbrev pub finds : Known → State → Bool
+finds known s = is_met (cells_of s) known.precondition.value

@@ -97,11 +97,15 @@ abbrev pub others_within : Names → Others → Bool
 others_within names (others.Of q passing) = names.pids q
 others_within names _ = true
 
+-- the cell that a mode follows, if a line turns it
+abbrev pub mode_within : Names → Option Value → Bool
+mode_within names mode = option_map_or (reads_within (has_cell names)) mode true
+
 -- all that is said of a process
 pub record RowWithin (names : Names) (row : Row) : Type 0 where
   pub cells : ListWithin names row.cells
   pub others : others_within names row.base.others ≡ true
-  pub mode : reads_within (has_cell names) row.mode ≡ true
+  pub mode : mode_within names row.mode ≡ true
 
 -- a row of a process
 pub record IsRowWithin (names : Names) (p : ℕ) (r : Row) : Type 0 where

@@ -7,7 +7,10 @@ use Rattle.cap_effect.specs.declared.line_asks.UpToThree.{UpToThree}
 use Rattle.cap_effect.specs.declared.precondition.Refusal.{Refusal}
 use Rattle.cap_effect.specs.declared.precondition.Precondition.{Precondition}
 use Rattle.cap_effect.specs.Keys.{Cells, cells_of}
-use Rattle.cap_effect.specs.Asks.{any_holds, certain_at, CanBe, ArePossible, IsOpen, Rises}
+use Rattle.cap_effect.specs.declared.effect.Effect.{Effect}
+use Rattle.cap_effect.specs.Effects.{changed}
+use Rattle.cap_effect.specs.Names.{Names, has_cell, EffectWithin, PreWithin}
+use Rattle.cap_effect.specs.Asks.{any_holds, certain_at, CanBe, ArePossible, IsOpen, Rises, AreWithin}
 use Rattle.cap_effect.specs.LineAsks.{one_holds}
 
 -- a refusal is wrongful: none of its asks holds
@@ -62,8 +65,36 @@ pub record IsSettled (pre : Precondition) : Type 0 where
   pub fails : All (CanBe false) pre.asks.items
   pub alone : pre.certain ≡ true → (pre.asks.items ≡ []) × (pre.refusals.items ≡ [])
 
+-- ---- a first segment, and a later one whose asks are pulled back through the effect of the first
+
+-- one of these two lists holds before the first segment where the asks of the later one do after it
+pub record IsPulledBack (first : Effect) (later kept moved : List Ask) : Type 0 where
+  pub holds : (s : State) → (any_holds (cells_of s) kept || any_holds (cells_of s) moved)
+      ≡ any_holds (changed first (cells_of s)) later
+  pub can : (answer : Bool) → All (CanBe answer) later → All (CanBe answer) kept × All (CanBe answer) moved
+  pub names : (names : Names) → EffectWithin names first → AreWithin (has_cell names) later
+      → AreWithin (has_cell names) kept × AreWithin (has_cell names) moved
+
+-- asks in order that hold where those of the first segment do, or those of the later one after it
+pub record AreAskedByBoth (first : Effect) (own later both : List Ask) : Type 0 where
+  pub rises : Rises both
+  pub holds : (s : State) → any_holds (cells_of s) both
+      ≡ (any_holds (cells_of s) own || any_holds (changed first (cells_of s)) later)
+  pub can : (answer : Bool) → All (CanBe answer) own → All (CanBe answer) later → All (CanBe answer) both
+  pub names : (names : Names) → EffectWithin names first → AreWithin (has_cell names) own
+      → AreWithin (has_cell names) later → AreWithin (has_cell names) both
+
+-- something is found where it is in the first segment, or in the later one
+pub record IsAskedByBoth (first : Effect) (own later both : Precondition) : Type 0 where
+  pub met : (s : State) → is_met (cells_of s) both
+      ≡ (is_met (cells_of s) own || is_met (changed first (cells_of s)) later)
+  pub possible : IsPossible own → IsPossible later → IsPossible both
+  pub names : (names : Names) → EffectWithin names first → PreWithin names own → PreWithin names later
+      → PreWithin names both
+  pub settled : IsSettled both
+
 -- the same asks and refusals
-pub record IsCopyOf (pre copy : Precondition) : Type 0 where
-  pub certain : copy.certain ≡ pre.certain
-  pub asks : copy.asks.items ≡ pre.asks.items
-  pub refusals : copy.refusals.items ≡ pre.refusals.items
+pub record IsSamePrecondition (a b : Precondition) : Type 0 where
+  pub certain : a.certain ≡ b.certain
+  pub asks : a.asks.items ≡ b.asks.items
+  pub refusals : a.refusals.items ≡ b.refusals.items

@@ -1,9 +1,9 @@
--- The entries that a table shares with its clones.
-use Rattle.std.specs.Prelude.{List, [], Option, Some, None}
-use Rattle.std.specs.declared.rc.RcSlice.{RcSlice}
-use Rattle.std.specs.Rc.{rc_slice_items}
+-- The entries of a map that is shared with its clones.
+use Rattle.std.specs.Prelude.{ℕ, List, [], Option, Some, None}
+use Rattle.std.specs.declared.rc.Rc.{Rc}
+use Rattle.std.specs.declared.alloc.Global.{Global}
 
 -- none where nothing is shared
-abbrev pub shared_entries : {X Z : Type 0} → Option (RcSlice X Z) → List X
+abbrev pub shared_entries : {V : Type 0} → Option (Rc (List (ℕ × V)) Global) → List (ℕ × V)
 shared_entries None = []
-shared_entries (Some entries) = rc_slice_items entries
+shared_entries (Some map) = map.value

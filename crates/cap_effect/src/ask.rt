@@ -1,19 +1,23 @@
 //! What is asked of the cells before a segment.
 
-ghost use Rattle.std.specs.Prelude.{◌≡◌, ℕ, ◌<◌, ◌^◌, ◌||◌, Bool, true};
+ghost use Rattle.std.specs.Prelude.{◌≡◌, ℕ, ◌||◌, Bool, true};
 ghost use Rattle.std.specs.Ordering.{nat_cmp};
 ghost use Rattle.cap_machine.specs.State.{State};
 ghost use Rattle.cap_effect.specs.declared.key.Key.{Key};
 ghost use Rattle.cap_effect.specs.Keys.{Cells, cells_of};
 ghost use Rattle.cap_effect.specs.Tests.{passes};
-ghost use Rattle.cap_effect.specs.Values.{read, reads_within};
+ghost use Rattle.cap_effect.specs.Effects.{changed};
+ghost use Rattle.cap_effect.specs.Names.{Names, has_cell, EffectWithin};
+ghost use Rattle.cap_effect.specs.Seen.{seen_cell, seen_within};
 ghost use Rattle.cap_effect.specs.Asks.{holds, certain_at, possible_at, pulled_holds, pulled_within, PulledIsOpen};
-ghost use Rattle.cap_effect.specs.Asks.{place, place_in_process, IsAtPlace};
+ghost use Rattle.cap_effect.specs.Asks.{CanBe, PulledCan};
+ghost use Rattle.cap_effect.specs.Asks.{place, IsAtPlace};
 
+use crate::effect::Effect;
 use crate::key::{Key, cell_of_mode};
+use crate::seen::Seen;
 use crate::test::Test;
-use crate::value::Value;
-use cap_machine::Mode;
+use cap_machine::{Mode, Op};
 use cap_trace::Pid;
 use std::cmp::Ordering;
 
@@ -45,19 +49,15 @@ impl Ask {
         ensures places { result ≡ nat_cmp (place self.now) (place other.now) }
         ensures equal { result ≡ Ordering.Equal → IsAtPlace self.now other.now }
     {
-        let own = self.place_in_process();
-        let theirs = other.place_in_process();
+        let own = self.key.number();
+        let theirs = other.key.number();
         match self.pid.cmp(&other.pid) {
-            Ordering::Equal => own.cmp(&theirs),
+            Ordering::Equal => match own.cmp(&theirs) {
+                Ordering::Equal => self.test.lacking.order(&other.test.lacking),
+                order => order,
+            },
             order => order,
         }
-    }
-
-    fn place_in_process(&self) -> u64
-        ensures place { result ≡ place_in_process self.now }
-        ensures fits { result < 2 ^ 36 }
-    {
-        8 * self.key.number() + self.test.lacking.number()
     }
 
     /// This ask or another at the same place.
@@ -104,7 +104,6 @@ impl Ask {
     }
 
     /// This ask, or that it holds in every state or in none.
-
     pub fn settled(self) -> Pulled
         ensures holds { (s : State) → pulled_holds (cells_of s) result ≡ holds (cells_of s) self }
         ensures open { PulledIsOpen result }
@@ -120,28 +119,35 @@ impl Ask {
         }
     }
 
-    /// What it asks of the state before an earlier segment, where its cell has this value after that segment.
-    pub fn pulled_back(&self, value: &Value) -> Pulled
-        ensures holds { (s : State)
-            → pulled_holds (cells_of s) result ≡ passes self.now.test (read (cells_of s) value.now) }
+    /// What it asks of the state before an earlier segment that has this effect.
+    pub(crate) fn before(&self, first: &Effect) -> Pulled
+        ensures holds { (s : State) → pulled_holds (cells_of s) result ≡ holds (changed first.now (cells_of s)) self.now }
         ensures open { PulledIsOpen result }
-        ensures names { (names : ℕ → Key → Bool)
-            → reads_within names value.now ≡ true → pulled_within names result ≡ true }
+        ensures names { (names : Names) → EffectWithin names first.now → has_cell names self.now.pid self.now.key ≡ true
+            → pulled_within (has_cell names) result ≡ true }
     {
-        let ask = match value {
-            Value::Is(cell) => return Pulled::of(self.test.passes(*cell)),
-            Value::Same(pid, key) => Ask {
-                pid: *pid,
-                key: *key,
-                test: self.test,
-            },
-            Value::Of(derived) => Ask {
-                pid: derived.pid,
-                key: derived.key,
-                test: self.test.before(&derived.op),
-            },
+        let (pid, key, test) = match first.seen(self.pid, self.key) {
+            Seen::Is(cell) => return Pulled::of(self.test.passes(cell)),
+            Seen::Same(pid, key) => (pid, key, self.test),
+            Seen::Executed(pid, key) => (pid, key, self.test.before(&Op::exec())),
+            Seen::Made(op, pid, key) => (pid, key, self.test.before(op)),
         };
-        ask.settled()
+        Ask { pid, key, test }.settled()
+    }
+
+    /// The same, of an ask of which it depends on the state whether it holds. Where its cell is as it was, it stays as it
+    /// is.
+    pub(crate) fn open_before(&self, first: &Effect) -> Pulled
+        ensures holds { (s : State) → pulled_holds (cells_of s) result ≡ holds (changed first.now (cells_of s)) self.now }
+        ensures can { (answer : Bool) → CanBe answer self.now → PulledCan answer result }
+        ensures names { (names : Names) → EffectWithin names first.now → has_cell names self.now.pid self.now.key ≡ true
+            → pulled_within (has_cell names) result ≡ true }
+    {
+        if first.keeps(self.pid, self.key) {
+            Pulled::Where(*self)
+        } else {
+            self.before(first)
+        }
     }
 }
 

@@ -1,16 +1,17 @@
 //! The cells of a process that aren't listed.
 
-ghost use Rattle.std.specs.Prelude.{◌≡◌, ℕ, ◌||◌, true, IfOk};
+ghost use Rattle.std.specs.Prelude.{◌≡◌, ℕ, ◌||◌, true, false, None, IfOk};
 ghost use Rattle.cap_effect.specs.Keys.{Cells};
 ghost use Rattle.cap_effect.specs.Values.{read, source, reads_within};
 ghost use Rattle.cap_effect.specs.Names.{Names, has_cell, others_within};
 ghost use Rattle.cap_effect.specs.Effects.{passed, is_from, others_cell, base_cell};
+ghost use Rattle.cap_effect.specs.Leaving.{is_own};
 
 use crate::key::Key;
 use crate::value::Value;
 use cap_machine::{Cell, Op};
 use cap_trace::{Fd, Pid};
-use cap_tree::NoMemory;
+use cap_list::NoMemory;
 use std::alloc::Global;
 
 /// How a whole table of cells is handed on.
@@ -22,14 +23,17 @@ pub enum Passing {
     Exec,
 }
 
-/// The cells that aren't listed, below those that are closed.
+/// The cells of a process that aren't listed, below those that are closed.
 #[derive(Clone, Copy, Debug, PartialEq, Eq)]
 pub enum Others {
+    /// Each is as it was.
+    Own,
     /// Nothing is known of any.
     Unknown,
     /// Each is closed.
     Closed,
-    /// Each is that of the same descriptor of this process before the segment, handed on so.
+    /// Each is that of the same descriptor of this process before the segment, handed on so. It may be the same process,
+    /// whose cells came back by forks.
     Of(Pid, Passing),
 }
 
@@ -66,16 +70,30 @@ impl Passing {
 }
 
 impl Others {
-    /// The cells where they are handed on.
-    pub(crate) fn pass(&self, passing: Passing) -> Others
-        ensures cells { (cells : Cells) (f : ℕ)
-            → others_cell cells result f ≡ passed passing (others_cell cells self.now f) }
-        ensures names { (names : Names) → others_within names result ≡ others_within names self.now }
+    /// Those of a process, as another one has them.
+    pub(crate) fn of(&self, pid: Pid) -> Others
+        ensures cells { (cells : Cells) (p f : ℕ) → others_cell cells p result f ≡ others_cell cells pid self.now f }
+        ensures others { is_own result ≡ false }
+        ensures names { (names : Names) → names.pids pid ≡ true → others_within names self.now ≡ true
+            → others_within names result ≡ true }
     {
         match self {
-            Others::Unknown => Others::Unknown,
-            Others::Closed => Others::Closed,
-            Others::Of(pid, first) => Others::Of(*pid, first.then(passing)),
+            Others::Own => Others::Of(pid, Passing::Same),
+            others => *others,
+        }
+    }
+
+    /// Those of a process where they are handed on to one.
+    pub(crate) fn pass(&self, pid: Pid, passing: Passing) -> Others
+        ensures cells { (cells : Cells) (p f : ℕ)
+            → others_cell cells p result f ≡ passed passing (others_cell cells pid self.now f) }
+        ensures others { is_own result ≡ false }
+        ensures names { (names : Names) → names.pids pid ≡ true → others_within names self.now ≡ true
+            → others_within names result ≡ true }
+    {
+        match self.of(pid) {
+            Others::Of(source, first) => Others::Of(source, first.then(passing)),
+            others => others,
         }
     }
 }
@@ -94,8 +112,9 @@ pub(crate) fn lower_of(a: Option<Fd>, b: Option<Fd>) -> Option<Fd>
 impl Base {
     /// These cells, all of them listed nowhere and none closed.
     pub(crate) fn of(others: Others) -> Base
-        ensures cells { (cells : Cells) (f : ℕ) → base_cell cells result f ≡ others_cell cells others f }
+        ensures cells { (cells : Cells) (p f : ℕ) → base_cell cells p result f ≡ others_cell cells p others f }
         ensures others { result.others ≡ others }
+        ensures open { result.closed_from ≡ None }
     {
         Base {
             others,
@@ -113,16 +132,17 @@ impl Base {
         }
     }
 
-    /// The cell of a descriptor that isn't listed.
-    pub(crate) fn value(&self, alloc: Global, fd: Fd) -> Result<Value, NoMemory>
-        ensures reads { IfOk result (λ v. (cells : Cells) → read cells v ≡ base_cell cells self.now fd) }
-        ensures names { IfOk result (λ v. (names : Names) → others_within names self.now.others ≡ true
+    /// The cell of a descriptor of a process that isn't listed.
+    pub(crate) fn value(&self, alloc: Global, pid: Pid, fd: Fd) -> Result<Value, NoMemory>
+        ensures reads { IfOk result (λ v. (cells : Cells) → read cells v ≡ base_cell cells pid self.now fd) }
+        ensures names { IfOk result (λ v. (names : Names) → names.pids pid ≡ true → others_within names self.now.others ≡ true
             → names.fds fd ≡ true → reads_within (has_cell names) v ≡ true) }
     {
         if self.closes(fd) {
             return Ok(Value::Is(Cell::Closed));
         }
         match &self.others {
+            Others::Own => Ok(Value::Same(pid, Key::Fd(fd))),
             Others::Unknown => Ok(Value::Is(Cell::Unknown)),
             Others::Closed => Ok(Value::Is(Cell::Closed)),
             Others::Of(pid, passing) => passing.pass(alloc, &Value::Same(*pid, Key::Fd(fd))),

@@ -15,20 +15,16 @@ use crate::key::{Key, cell_of_mode, mode_of_cell};
 use crate::line_asks::UpToThree;
 use crate::precondition::{Precondition, Refusal};
 use crate::seen::Seen;
-use cap_machine::{
-    Cell, Checks, Demand, Effect as LineEffect, Mode, Start, Touched, Turned, Verdict,
-};
+use cap_machine::{Cell, Checks, Demand, Mode, Op, Start, Verdict};
 use cap_trace::{Fd, Pid};
 
-/// A start, or what an effect or a line of a process makes of one.
+/// A start, or what effects make of one.
 #[derive(Clone, Copy)]
 pub enum Before<'a> {
     /// A start.
     At(&'a Start),
     /// What an effect makes of the state before it.
     After(&'a Before<'a>, &'a Effect),
-    /// What the effect of a line of a process makes of it.
-    Behind(&'a Before<'a>, Pid, &'a LineEffect<'a>),
 }
 
 impl<'a> Before<'a> {
@@ -44,6 +40,8 @@ impl<'a> Before<'a> {
             Before::After(before, effect) => {
                 let cell = match effect.seen(pid, key) {
                     Seen::Is(cell) => cell,
+                    Seen::Same(source, at) => before.read(source, at),
+                    Seen::Executed(source, at) => Op::exec().on(before.read(source, at)),
                     Seen::Made(op, source, at) => op.on(before.read(source, at)),
                 };
                 match key {
@@ -51,18 +49,6 @@ impl<'a> Before<'a> {
                     Key::Fd(_) => cell,
                 }
             }
-            Before::Behind(before, me, line) => match key {
-                Key::Mode => match line.turn(*me, pid) {
-                    Turned::Stays => before.read(pid, key),
-                    Turned::Turns(mode) => cell_of_mode(mode),
-                    Turned::Follows => before.read(*me, key),
-                },
-                Key::Fd(fd) => match line.touch(*me, pid, fd) {
-                    Touched::Kept => before.read(pid, key),
-                    Touched::Given(cell) => cell,
-                    Touched::Taken(op, of) => op.on(before.read(*me, Key::Fd(of))),
-                },
-            },
         }
     }
 

@@ -1,106 +1,272 @@
 //! What is known of a segment of a trace.
 
-ghost use Rattle.std.specs.Prelude.{◌≡◌, nat_le, List, [], ◌∷◌, ◌++◌, IfOk};
+ghost use Rattle.std.specs.Prelude.{◌≡◌, nat_le, true, List, [], ◌∷◌, ◌++◌, IfOk, OnOk};
 ghost use Rattle.cap_machine.specs.declared.step.Step.{Step};
+ghost use Rattle.cap_machine.specs.Table.{start_state};
 ghost use Rattle.cap_effect.specs.Preconditions.{IsSettled};
-ghost use Rattle.cap_tree.specs.Run.{values};
-ghost use Rattle.cap_effect.specs.Knows.{Knows};
+ghost use Rattle.cap_list.specs.Run.{values};
+ghost use Rattle.cap_list.specs.Sides.{part_at};
+ghost use Rattle.cap_effect.specs.Likeness.{AreAlike, KeepsEffect};
+ghost use Rattle.cap_effect.specs.Joined.{IsJoined, IsJoinedEffect};
+ghost use Rattle.cap_effect.specs.Preconditions.{IsAskedByBoth};
+ghost use Rattle.cap_effect.specs.Knows.{Knows, Says, finds, state_after};
+ghost use Rattle.cap_effect.specs.Alike.{IsSameEffect};
+ghost use Rattle.cap_effect.specs.Preconditions.{IsSamePrecondition};
+ghost use Rattle.cap_effect.specs.Leaving.{leaves};
 ghost use Rattle.cap_effect.specs.Sizes.{size};
 
+use crate::before::Before;
 use crate::effect::Effect;
+use crate::key::Key;
 use crate::line_asks::LineAsks;
 use crate::precondition::Precondition;
-use cap_machine::{Step, rule_of};
-use cap_tree::NoMemory;
+use cap_machine::{Cell, Mode, Start, Step, rule_of};
+use cap_trace::{Fd, Pid};
+use cap_list::{Likeness, NoMemory, Side};
 use std::alloc::Global;
 use std::rc::Rc;
 
-/// What is known of a segment: what it does to each cell, and under which states before it something is found in it.
+/// What is known of a segment: what it does to each cell, and under which states before it something is found in it. Each
+/// of the two may be shared with what is known of other segments.
 #[derive(Drop)]
 pub struct Known {
     /// What becomes of each cell.
-    pub effect: Effect,
+    pub effect: Rc<Effect>,
     /// Where something is found.
-    pub precondition: Precondition,
+    pub precondition: Rc<Precondition>,
+}
+
+/// Adds one more step to an effect and to a precondition.
+fn put_step(
+    alloc: Global,
+    effect: &mut Effect,
+    precondition: &mut Precondition,
+    step: &Step,
+) -> Result<(), NoMemory>
+    ensures { (steps : List Step) → Says effect.old precondition.old steps
+        → OnOk result (Says effect.new precondition.new (steps ++ step.now ∷ [])) }
+{
+    let line = step.line.seen();
+    let rule = rule_of(step.profile, &line);
+    let pid = step.line.pid();
+    let asks = LineAsks::of_line(pid, &rule.demand);
+    precondition.put_line(effect, &asks)?;
+    effect.push(alloc, pid, &rule.effect)?;
+    Ok(())
 }
 
 impl Known {
-    /// What is known of no steps.
-    pub fn empty(alloc: Global) -> Known
-        ensures knows { Knows result [] }
-        ensures settled { IsSettled result.precondition }
+    /// An effect and a precondition, which can be shared from then on.
+    fn new(alloc: Global, effect: Effect, precondition: Precondition) -> Result<Known, NoMemory>
+        ensures effect { IfOk result (λ known. known.effect.value ≡ effect) }
+        ensures precondition { IfOk result (λ known. known.precondition.value ≡ precondition) }
     {
-        Known {
-            effect: Effect::empty(alloc),
-            precondition: Precondition::never(alloc),
-        }
-    }
-
-    /// What is known of these steps and one more.
-    pub fn push(self, alloc: Global, step: &Step) -> Result<Known, NoMemory>
-        ensures { (steps : List Step) → Knows self steps
-            → IfOk result (λ more. Knows more (steps ++ step.now ∷ [])) }
-    {
-        let line = step.line.seen();
-        let rule = rule_of(step.profile, &line);
-        let pid = step.line.pid();
-        let mut precondition = self.precondition;
-        let asks = LineAsks::of_line(pid, &rule.demand);
-        precondition.line_after(alloc, &self.effect, &asks)?;
-        let effect = self.effect.push(alloc, pid, &rule.effect)?;
         Ok(Known {
-            effect,
-            precondition,
+            effect: Rc::new(alloc, effect)?,
+            precondition: Rc::new(alloc, precondition)?,
         })
     }
 
     /// What is known of a run of steps, settled.
     pub fn of_run(alloc: Global, steps: &[Rc<Step>]) -> Result<Known, NoMemory>
         ensures says { IfOk result (λ run. Knows run (values steps.now)) }
-        ensures settled { IfOk result (λ run. IsSettled run.precondition) }
+        ensures settled { IfOk result (λ run. IsSettled run.precondition.value) }
     {
-        let mut run = Known::empty(alloc);
+        let mut effect = Effect::empty(alloc);
+        let mut precondition = Precondition::never(alloc);
         for step in steps {
-            run = run.push(alloc, step)?;
+            put_step(alloc, &mut effect, &mut precondition, step)?;
         }
-        run.settled(alloc)
+        let precondition = precondition.settled(alloc)?;
+        let known = Known::new(alloc, effect, precondition)?;
+        Ok(known)
     }
 
-    /// The same, settled: what is asked stands in order, and nothing is asked where something is certain.
-    pub fn settled(self, alloc: Global) -> Result<Known, NoMemory>
-        ensures same { (steps : List Step) → Knows self steps → IfOk result (λ new. Knows new steps) }
-        ensures settled { IfOk result (λ new. IsSettled new.precondition) }
+    /// The effect of these steps and then those of a later segment.
+    fn joined_effect(&self, alloc: Global, later: &Known) -> Result<Rc<Effect>, NoMemory>
+        ensures { IfOk result (λ both.
+            IsJoinedEffect self.now.effect.value later.now.effect.value both.value) }
     {
-        let precondition = self.precondition.settled(alloc)?;
-        Ok(Known {
-            effect: self.effect,
-            precondition,
-        })
+        let effect = self.effect.then(alloc, &later.effect)?;
+        Ok(Rc::new(alloc, effect)?)
+    }
+
+    /// What these steps and then those of a later segment ask.
+    fn joined_precondition(
+        &self,
+        alloc: Global,
+        later: &Known,
+    ) -> Result<Rc<Precondition>, NoMemory>
+        requires own { IsSettled self.now.precondition.value }
+        requires later { IsSettled later.now.precondition.value }
+        ensures { IfOk result (λ both. IsAskedByBoth self.now.effect.value self.now.precondition.value
+            later.now.precondition.value both.value) }
+    {
+        let precondition = self
+            .precondition
+            .join(alloc, &self.effect, &later.precondition)?;
+        Ok(Rc::new(alloc, precondition)?)
     }
 
     /// What is known of these steps and then those of a later segment, settled.
     pub fn join(&self, alloc: Global, later: &Known) -> Result<Known, NoMemory>
-        ensures both { (first second : List Step) → Knows self.now first → Knows later.now second
-            → IfOk result (λ both. Knows both (first ++ second)) }
-        ensures settled { IfOk result (λ both. IsSettled both.precondition) }
+        requires own { IsSettled self.now.precondition.value }
+        requires later { IsSettled later.now.precondition.value }
+        ensures { IfOk result (IsJoined self.now later.now) }
     {
-        let mut precondition = self.precondition.copy(alloc)?;
-        precondition.put_all_after(alloc, &self.effect, &later.precondition)?;
-        let precondition = precondition.settled(alloc)?;
-        let effect = self.effect.then(alloc, &later.effect)?;
+        let effect = self.joined_effect(alloc, later)?;
+        let precondition = self.joined_precondition(alloc, later)?;
         Ok(Known {
             effect,
             precondition,
         })
     }
 
+    /// How far this is the same as what was known of a part in its place, where so much is known of it already: as far as
+    /// that tells what may be kept of a whole.
+    fn likeness_to(&self, was: &Known, side: Side, likeness: Likeness) -> Likeness
+        requires { AreAlike likeness was.now self.now }
+        ensures alike { AreAlike result was.now self.now }
+        ensures effect { KeepsEffect side result }
+    {
+        let effect = likeness.effect || was.effect.is_same(&self.effect);
+        if matches!(side, Side::Left) && !effect {
+            return Likeness::none();
+        }
+        Likeness {
+            effect,
+            precondition: likeness.precondition || was.precondition.is_same(&self.precondition),
+        }
+    }
+
+    /// The same of the part of two that took the place of another.
+    fn likeness_at(
+        first: &Known,
+        second: &Known,
+        was: &Known,
+        side: Side,
+        likeness: Likeness,
+    ) -> Likeness
+        requires { AreAlike likeness was.now (part_at side first.now second.now) }
+        ensures alike { AreAlike result was.now (part_at side first.now second.now) }
+        ensures effect { KeepsEffect side result }
+    {
+        match side {
+            Side::Left => first.likeness_to(was, side, likeness),
+            Side::Right => second.likeness_to(was, side, likeness),
+        }
+    }
+
+    /// The effect of these steps and a later segment: that of an old whole where it is kept.
+    fn rejoined_effect(
+        &self,
+        alloc: Global,
+        later: &Known,
+        old: &Known,
+        kept: Likeness,
+    ) -> Result<Rc<Effect>, NoMemory>
+        requires { kept.effect ≡ true
+            → IsJoinedEffect self.now.effect.value later.now.effect.value old.now.effect.value }
+        ensures joined { IfOk result (λ both.
+            IsJoinedEffect self.now.effect.value later.now.effect.value both.value) }
+        ensures same { IfOk result (λ both. kept.effect ≡ true → IsSameEffect old.now.effect.value both.value) }
+    {
+        if kept.effect {
+            return Ok(old.effect.clone()?);
+        }
+        let effect = self.joined_effect(alloc, later)?;
+        Ok(effect)
+    }
+
+    /// What these steps and a later segment ask: what an old whole asks where that is kept.
+    fn rejoined_precondition(
+        &self,
+        alloc: Global,
+        later: &Known,
+        old: &Known,
+        kept: Likeness,
+    ) -> Result<Rc<Precondition>, NoMemory>
+        requires own { IsSettled self.now.precondition.value }
+        requires later { IsSettled later.now.precondition.value }
+        requires kept { kept.precondition ≡ true → IsAskedByBoth self.now.effect.value
+            self.now.precondition.value later.now.precondition.value old.now.precondition.value }
+        ensures joined { IfOk result (λ both. IsAskedByBoth self.now.effect.value self.now.precondition.value
+            later.now.precondition.value both.value) }
+        ensures same { IfOk result (λ both. kept.precondition ≡ true
+            → IsSamePrecondition old.now.precondition.value both.value) }
+    {
+        if kept.precondition {
+            return Ok(old.precondition.clone()?);
+        }
+        let precondition = self.joined_precondition(alloc, later)?;
+        Ok(precondition)
+    }
+
+    /// What is known of two segments, one of which took the place of `was` in an old whole, and how far it is the same as
+    /// what was known of that whole. What is the same is shared. `likeness` says how far `was` and the new part are alike.
+    pub(crate) fn rejoin(
+        alloc: Global,
+        first: &Known,
+        second: &Known,
+        old: &Known,
+        was: &Known,
+        side: Side,
+        likeness: Likeness,
+    ) -> Result<(Known, Likeness), NoMemory>
+        requires own { IsSettled first.now.precondition.value }
+        requires later { IsSettled second.now.precondition.value }
+        requires old { IsJoined (part_at side was.now first.now) (part_at side second.now was.now) old.now }
+        requires like { AreAlike likeness was.now (part_at side first.now second.now) }
+        ensures joined { IfOk result (λ new. IsJoined first.now second.now new.0) }
+        ensures alike { IfOk result (λ new. AreAlike new.1 old.now new.0) }
+    {
+        let kept = Known::likeness_at(first, second, was, side, likeness);
+        let effect = first.rejoined_effect(alloc, second, old, kept)?;
+        let precondition = first.rejoined_precondition(alloc, second, old, kept)?;
+        let known = Known {
+            effect,
+            precondition,
+        };
+        Ok((known, kept))
+    }
+
+    /// Whether something is found in the steps from a start.
+    pub fn finds(&self, start: &Start) -> bool
+        ensures { result ≡ finds self.now (start_state start.now) }
+    {
+        Before::At(&*start).meets(&self.precondition)
+    }
+
+    /// What is known of a descriptor of a process after the steps, from a start.
+    pub fn cell(&self, start: &Start, pid: Pid, fd: Fd) -> Cell
+        ensures { result ≡ (state_after self.now (start_state start.now)).cell pid fd }
+    {
+        let before = Before::At(&*start);
+        Before::After(&before, &self.effect).cell(pid, fd)
+    }
+
+    /// What is known of the mode of a process after the steps, from a start.
+    pub fn mode(&self, start: &Start, pid: Pid) -> Mode
+        ensures { result ≡ (state_after self.now (start_state start.now)).mode pid }
+    {
+        let before = Before::At(&*start);
+        Before::After(&before, &self.effect).mode(pid)
+    }
+
+    /// Whether it is known that no step touches a cell or turns a mode. No promises nothing.
+    pub fn leaves(&self, pid: Pid, key: Key) -> bool
+        ensures { result ≡ leaves self.now.effect.value pid key }
+    {
+        self.effect.leaves(pid, key)
+    }
+
     /// Whether there is room for it: so many rows, cells, asks and refusals together.
     pub fn fits(&self, room: usize) -> bool
         ensures { result ≡ nat_le (size self.now) room }
     {
-        match self.effect.room_beside(room) {
-            None => false,
-            Some(left) => self.precondition.fits(left),
+        match self.effect.size() {
+            Some(size) if size <= room => self.precondition.fits(room - size),
+            _ => false,
         }
     }
 }

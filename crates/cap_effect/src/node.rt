@@ -1,23 +1,29 @@
 //! The nodes of a summary. A contract sees a node as its steps, and what is known of them where that is kept.
 
-ghost use Rattle.std.specs.Prelude.{◌≡◌, ◌+◌, ◌^◌, ◌<◌, ◌≤◌, ◌++◌, ◌∷◌, [], length, IfOk, OnOk, IfSome, IfNone};
+ghost use Rattle.std.specs.Prelude.{◌≡◌, ◌+◌, ◌*◌, ◌^◌, ◌<◌, ◌≤◌, ◌++◌, ◌∷◌, [], length, IfOk, OnOk, IfSome, IfNone};
 ghost use Rattle.std.specs.Prelude.{true, false, is_some, map};
+ghost use Rattle.std.specs.Option.{option_copied};
 ghost use Rattle.cap_machine.specs.Check.{check};
 ghost use Rattle.cap_machine.specs.History.{ended};
 ghost use Rattle.cap_machine.specs.Table.{start_state};
 ghost use Rattle.cap_machine.specs.Laws.{later};
-ghost use Rattle.cap_tree.specs.Run.{values};
+ghost use Rattle.cap_list.specs.Run.{values};
 ghost use Rattle.cap_effect.specs.Before.{state_before};
 ghost use Rattle.cap_effect.specs.LineAsks.{has_any};
-ghost use Rattle.cap_effect.specs.Positions.{within};
+ghost use Rattle.cap_effect.specs.Positions.{within, AllOrMany};
+ghost use Rattle.cap_effect.specs.Rest.{rest_steps, AllSome};
+ghost use Rattle.cap_list.specs.Sides.{part_at};
 ghost use Rattle.cap_effect.specs.Kept.{limit, IsKept, IsTooLarge};
+ghost use Rattle.cap_effect.specs.Knows.{Knows};
+ghost use Rattle.cap_effect.specs.Preconditions.{IsSettled};
+ghost use Rattle.cap_effect.specs.View.{NodeView, NodesCompose, NodesAlike};
 
 use crate::before::Before;
 use crate::in_order::judge_in_order;
-use crate::judging::{Asked, judge_run};
+use crate::judging::{Asked, Report, judge_run};
 use crate::known::Known;
-use cap_machine::{Found, Machine, Step};
-use cap_tree::{Meter, NoMemory};
+use cap_machine::{Machine, Step};
+use cap_list::{Likeness, Meter, NoMemory, Side};
 use std::alloc::Global;
 use std::marker::Model;
 use std::rc::Rc;
@@ -29,8 +35,10 @@ const RUN_STEPS: usize = 48;
 #[derive(Drop)]
 pub(crate) struct Node {
     len: usize,
-    known: Option<Rc<Known>>,
-    content: Content,
+    /// How many parts it is read through one after the other: one where what is known is kept.
+    parts: usize,
+    pub(crate) known: Option<Known>,
+    pub(crate) content: Content,
 }
 
 #[cycle(node)]
@@ -88,11 +96,16 @@ impl Node {
         self.len
     }
 
+    /// How many parts it is read through one after the other.
+    pub(crate) fn parts(&self) -> usize {
+        self.parts
+    }
+
     /// What is known of the steps, where it is kept.
     pub(crate) fn known(&self) -> Option<&Known>
         ensures kept { IfSome result (λ known. IsKept known.now self.now.steps) }
         ensures large { IfNone result (IsTooLarge self.now.steps) }
-        ensures seen { is_some result ≡ is_some self.now.known }
+        ensures seen { option_copied result ≡ self.now.known }
     {
         match &self.known {
             Some(known) => Some(known),
@@ -108,7 +121,8 @@ impl Node {
     {
         let node = Node {
             len: run.len(),
-            known: Some(Rc::new(alloc, known)?),
+            parts: 1,
+            known: Some(known),
             content: Content::Run(run),
         };
         Ok(Rc::new(alloc, node)?)
@@ -118,7 +132,8 @@ impl Node {
     pub(crate) fn empty(alloc: Global) -> Result<Rc<Node>, NoMemory>
         ensures { IfOk result (λ n. n.value.steps ≡ []) }
     {
-        Node::of_known(alloc, Known::empty(alloc), Vec::new(alloc))
+        let known = Known::of_run(alloc, &[])?;
+        Node::of_known(alloc, known, Vec::new(alloc))
     }
 
     /// Adds the same steps, shared.
@@ -182,7 +197,8 @@ impl Node {
         right: &Rc<Node>,
     ) -> Result<Rc<Node>, NoMemory>
         requires { length left.now.value.steps + length right.now.value.steps ≤ 2 ^ 30 }
-        ensures { IfOk result (λ n. n.value.steps ≡ left.now.value.steps ++ right.now.value.steps) }
+        ensures steps { IfOk result (λ n. n.value.steps ≡ left.now.value.steps ++ right.now.value.steps) }
+        ensures composed { IfOk result (λ n. NodesCompose left.now.value right.now.value n.value) }
     {
         if left.len() == 0 {
             return Ok(right.clone()?);
@@ -190,54 +206,110 @@ impl Node {
         if right.len() == 0 {
             return Ok(left.clone()?);
         }
-        let known = Node::known_of_both(alloc, left, right)?;
+        let Some(first) = left.known() else {
+            return Node::of_parts(alloc, None, left, right);
+        };
+        let Some(second) = right.known() else {
+            return Node::of_parts(alloc, None, left, right);
+        };
+        let known = first.join(alloc, second)?;
         Node::over(alloc, known, left, right)
     }
 
-    /// What is known of the steps of two nodes, where it is within the limit.
-    fn known_of_both(
+    /// The same in the place of an old node, of whose two parts `was` stood where the part on that side stands now. What is
+    /// known is shared with the old node where it is the same: the answer says how far. `likeness` says how far `was` and
+    /// the new part are alike.
+    pub(crate) fn rejoin(
         alloc: Global,
-        left: &Node,
-        right: &Node,
-    ) -> Result<Option<Rc<Known>>, NoMemory>
-        requires { length left.now.steps + length right.now.steps ≤ 2 ^ 30 }
-        ensures kept { IfOk result (λ o. IfSome o (λ known. IsKept known.value (left.now.steps ++ right.now.steps))) }
-        ensures parts { IfOk result (λ o. IfSome o
-            (λ known. (is_some left.now.known ≡ true) × (is_some right.now.known ≡ true))) }
-        ensures large { IfOk result (λ o. IfNone o (IsTooLarge (left.now.steps ++ right.now.steps))) }
+        left: &Rc<Node>,
+        right: &Rc<Node>,
+        old: &Node,
+        was: &Node,
+        side: Side,
+        likeness: Likeness,
+    ) -> Result<(Rc<Node>, Likeness), NoMemory>
+        requires few { length left.now.value.steps + length right.now.value.steps ≤ 2 ^ 30 }
+        requires old { NodesCompose (part_at side was.now left.now.value) (part_at side right.now.value was.now)
+            old.now }
+        requires like { NodesAlike likeness was.now (part_at side left.now.value right.now.value) }
+        ensures steps { IfOk result
+            (λ new. new.0.value.steps ≡ left.now.value.steps ++ right.now.value.steps) }
+        ensures composed { IfOk result (λ new. NodesCompose left.now.value right.now.value new.0.value) }
+        ensures alike { IfOk result (λ new. NodesAlike new.1 old.now new.0.value) }
     {
-        let Some(first) = left.known() else {
-            return Ok(None);
+        let (Some(whole), Some(part)) = (old.known(), was.known()) else {
+            return Node::join_anew(alloc, left, right);
         };
-        let Some(second) = right.known() else {
-            return Ok(None);
+        let (Some(first), Some(second)) = (left.known(), right.known()) else {
+            return Node::join_anew(alloc, left, right);
         };
-        let known = first.join(alloc, second)?;
-        if !known.fits(limit_of(left.len() + right.len())) {
-            return Ok(None);
+        if left.len() == 0 || right.len() == 0 || was.len() == 0 {
+            return Node::join_anew(alloc, left, right);
         }
-        Ok(Some(Rc::new(alloc, known)?))
+        let (known, likeness) = Known::rejoin(alloc, first, second, whole, part, side, likeness)?;
+        let node = Node::over(alloc, known, left, right)?;
+        Ok((node, likeness))
     }
 
-    /// The node of two parts that have steps.
+    /// The steps of the one and then those of the other, with nothing known of what is like an old node.
+    fn join_anew(
+        alloc: Global,
+        left: &Rc<Node>,
+        right: &Rc<Node>,
+    ) -> Result<(Rc<Node>, Likeness), NoMemory>
+        requires { length left.now.value.steps + length right.now.value.steps ≤ 2 ^ 30 }
+        ensures steps { IfOk result
+            (λ new. new.0.value.steps ≡ left.now.value.steps ++ right.now.value.steps) }
+        ensures composed { IfOk result (λ new. NodesCompose left.now.value right.now.value new.0.value) }
+        ensures alike { IfOk result (λ new. (old : NodeView) → NodesAlike new.1 old new.0.value) }
+    {
+        let node = Node::join(alloc, left, right)?;
+        Ok((node, Likeness::none()))
+    }
+
+    /// The node of two parts that have steps, of which this is known; it is kept within the limit.
     fn over(
         alloc: Global,
-        known: Option<Rc<Known>>,
+        known: Known,
         left: &Rc<Node>,
         right: &Rc<Node>,
     ) -> Result<Rc<Node>, NoMemory>
         requires first { 0 < length left.now.value.steps }
         requires second { 0 < length right.now.value.steps }
         requires few { length left.now.value.steps + length right.now.value.steps ≤ 2 ^ 30 }
-        requires known { IfSome known
-            (λ known. IsKept known.value (left.now.value.steps ++ right.now.value.steps)) }
-        requires parts { IfSome known
-            (λ known. (is_some left.now.value.known ≡ true) × (is_some right.now.value.known ≡ true)) }
-        requires large { IfNone known (IsTooLarge (left.now.value.steps ++ right.now.value.steps)) }
-        ensures { IfOk result (λ n. n.value.steps ≡ left.now.value.steps ++ right.now.value.steps) }
+        requires knows { Knows known (left.now.value.steps ++ right.now.value.steps) }
+        requires settled { IsSettled known.precondition.value }
+        ensures steps { IfOk result (λ n. n.value.steps ≡ left.now.value.steps ++ right.now.value.steps) }
+        ensures known { IfOk result (λ n. IfSome n.value.known (λ kept. kept ≡ known)) }
     {
+        if !known.fits(limit_of(left.len() + right.len())) {
+            return Node::of_parts(alloc, None, left, right);
+        }
+        Node::of_parts(alloc, Some(known), left, right)
+    }
+
+    /// The node of two parts that have steps, of which so much is kept.
+    fn of_parts(
+        alloc: Global,
+        known: Option<Known>,
+        left: &Rc<Node>,
+        right: &Rc<Node>,
+    ) -> Result<Rc<Node>, NoMemory>
+        requires first { 0 < length left.now.value.steps }
+        requires second { 0 < length right.now.value.steps }
+        requires few { length left.now.value.steps + length right.now.value.steps ≤ 2 ^ 30 }
+        requires known { IfSome known (λ known. IsKept known (left.now.value.steps ++ right.now.value.steps)) }
+        requires large { IfNone known (IsTooLarge (left.now.value.steps ++ right.now.value.steps)) }
+        ensures steps { IfOk result (λ n. n.value.steps ≡ left.now.value.steps ++ right.now.value.steps) }
+        ensures known { IfOk result (λ n. n.value.known ≡ known) }
+    {
+        let parts = match &known {
+            Some(_) => 1,
+            None => left.parts.saturating_add(right.parts),
+        };
         let node = Node {
             len: left.len() + right.len(),
+            parts,
             known,
             content: Content::Both(left.clone()?, right.clone()?),
         };
@@ -246,72 +318,139 @@ impl Node {
 }
 
 impl Node {
-    /// Whether something is found in the steps, of which that is kept; yes where it isn't.
-    fn may_find(&self, before: &Before<'_>) -> bool
-        ensures { result ≡ false → has_any (check (state_before before.now) self.now.steps) ≡ false }
-    {
-        match &self.known {
-            Some(known) => before.meets(&known.precondition),
-            None => true,
-        }
-    }
-
-    /// Notes what is found in the steps, which begin in this state behind so many others, at the positions that are
-    /// asked for. It visits only parts that have such positions, and in which something is found.
+    /// Notes what is found in the steps and then in the rest, which begin in this state behind so many others, at the
+    /// positions that are asked for. It visits only parts that have such positions, and stops where more was found than is
+    /// looked up one by one. What isn't kept of is read through its parts.
+    #[cycle(resolving)]
     pub(crate) fn resolve(
         &self,
+        alloc: Global,
         before: &Before<'_>,
         at: usize,
+        rest: &Rest<'_>,
         asked: &Asked,
-        found: &mut Vec<Found>,
+        report: &mut Report,
     ) -> Result<(), NoMemory>
-        requires short { at + length self.now.steps ≤ 2 ^ 31 }
-        requires kept { is_some self.now.known ≡ true }
-        ensures { OnOk result (found.new.items ≡ found.old.items ++ within asked.now.from asked.now.to
-            (map (later at) (check (state_before before.now) self.now.steps))) }
+        requires short { at + (length self.now.steps + length (rest_steps rest.now)) ≤ 2 ^ 31 }
+        requires some { 0 < length self.now.steps }
+        requires each { AllSome rest.now }
+        requires room { report.old.judged + (length self.now.steps + length (rest_steps rest.now)) < 2 ^ 64 }
+        ensures found { OnOk result (AllOrMany asked.now.most report.new.found.items (report.old.found.items
+            ++ within asked.now.from asked.now.to
+            (map (later at) (check (state_before before.now) (self.now.steps ++ rest_steps rest.now))))) }
+        ensures few { OnOk result (report.new.judged ≤ report.old.judged
+            + 48 * length (check (state_before before.now) (self.now.steps ++ rest_steps rest.now))) }
+        ensures all { OnOk result (report.new.judged
+            ≤ report.old.judged + (length self.now.steps + length (rest_steps rest.now))) }
     {
         if asked.to <= at {
             return Ok(());
         }
-        if at + self.len < asked.from {
+        let Some(known) = self.known() else {
+            let Content::Both(a, b) = &self.content else {
+                unreachable!()
+            };
+            return a.resolve(alloc, before, at, &Rest::Then(&**b, &*rest), asked, report);
+        };
+        self.resolve_known(alloc, known, before, at, asked, report)?;
+        if report.found.len() > asked.most {
             return Ok(());
         }
-        if !self.may_find(before) {
-            return Ok(());
-        }
-        match &self.content {
-            Content::Run(run) => judge_run(run, before, at, asked, found),
-            Content::Both(a, b) => {
-                a.resolve(before, at, asked, found)?;
-                let Some(first) = a.known() else {
-                    unreachable!()
-                };
-                let after = Before::After(&*before, &first.effect);
-                b.resolve(&after, at + a.len(), asked, found)
+        match rest {
+            Rest::End => Ok(()),
+            Rest::Then(node, rest) => {
+                let after = Before::After(&*before, &known.effect);
+                node.resolve(alloc, &after, at + self.len, rest, asked, report)
             }
         }
     }
 
-    /// Notes what is found in the steps behind so many others, at the positions that are asked for, and moves the
-    /// machine on to what is known after them.
+    /// The same of steps of which this is kept, with no rest. Where few of many steps are asked for, it goes down to these
+    /// without a look at what all ask, which takes longer.
+    #[cycle(resolving)]
+    fn resolve_known(
+        &self,
+        alloc: Global,
+        known: &Known,
+        before: &Before<'_>,
+        at: usize,
+        asked: &Asked,
+        report: &mut Report,
+    ) -> Result<(), NoMemory>
+        requires known { Knows known.now self.now.steps }
+        requires short { at + length self.now.steps ≤ 2 ^ 31 }
+        requires some { 0 < length self.now.steps }
+        requires room { report.old.judged + length self.now.steps < 2 ^ 64 }
+        ensures found { OnOk result (AllOrMany asked.now.most report.new.found.items (report.old.found.items
+            ++ within asked.now.from asked.now.to (map (later at) (check (state_before before.now) self.now.steps)))) }
+        ensures few { OnOk result (report.new.judged
+            ≤ report.old.judged + 48 * length (check (state_before before.now) self.now.steps)) }
+        ensures all { OnOk result (report.new.judged ≤ report.old.judged + length self.now.steps) }
+    {
+        if at + self.len < asked.from {
+            return Ok(());
+        }
+        match &self.content {
+            Content::Run(run) => {
+                if !before.meets(&known.precondition) {
+                    return Ok(());
+                }
+                judge_run(alloc, run, before, at, asked, report)
+            }
+            Content::Both(a, b) => {
+                if !asked.are_few_of(self.len) && !before.meets(&known.precondition) {
+                    return Ok(());
+                }
+                a.resolve(
+                    alloc,
+                    before,
+                    at,
+                    &Rest::Then(&**b, &Rest::End),
+                    asked,
+                    report,
+                )
+            }
+        }
+    }
+
+    /// Notes what is found in the steps behind so many others, at the positions that are asked for, and moves the machine
+    /// on to what is known after them; where no position behind them is asked for, it may stop before.
     pub(crate) fn judge(
         &self,
         machine: &mut Machine,
         at: usize,
         asked: &Asked,
-        found: &mut Vec<Found>,
+        report: &mut Report,
     ) -> Result<(), NoMemory>
         requires short { at + length self.now.steps ≤ 2 ^ 31 }
-        ensures found { OnOk result (found.new.items ≡ found.old.items ++ within asked.now.from asked.now.to
+        requires room { report.old.judged + length self.now.steps < 2 ^ 64 }
+        ensures found { OnOk result (report.new.found.items ≡ report.old.found.items
+            ++ within asked.now.from asked.now.to
             (map (later at) (check (start_state machine.old) self.now.steps))) }
-        ensures moves { OnOk result (start_state machine.new ≡ ended (start_state machine.old) self.now.steps) }
+        ensures moves { OnOk result (at + length self.now.steps ≤ asked.now.to
+            → start_state machine.new ≡ ended (start_state machine.old) self.now.steps) }
+        ensures all { OnOk result (report.new.judged ≤ report.old.judged + length self.now.steps) }
     {
         match &self.content {
-            Content::Run(run) => judge_in_order(run, machine, at, asked, found),
+            Content::Run(run) => {
+                if asked.to <= at {
+                    return Ok(());
+                }
+                judge_in_order(run, machine, at, asked, report)
+            }
             Content::Both(a, b) => {
-                a.judge(machine, at, asked, found)?;
-                b.judge(machine, at + a.len(), asked, found)
+                a.judge(machine, at, asked, report)?;
+                b.judge(machine, at + a.len(), asked, report)
             }
         }
     }
+}
+
+/// The nodes that follow.
+#[derive(Clone, Copy)]
+pub(crate) enum Rest<'a> {
+    /// None.
+    End,
+    /// This one, and then these.
+    Then(&'a Node, &'a Rest<'a>),
 }

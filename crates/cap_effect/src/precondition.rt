@@ -1,24 +1,24 @@
 //! Under which states before a segment something is found in it.
 
-ghost use Rattle.std.specs.Prelude.{◌≡◌, ◌||◌, not, false, true, [], nat_le, IfOk, IfSome, OnOk};
+ghost use Rattle.std.specs.Prelude.{◌≡◌, ◌||◌, not, false, true, [], nat_le, IfOk, IfSome, IfNone, OnOk};
 ghost use Rattle.std.specs.List.{list_any};
 ghost use Rattle.cap_machine.specs.State.{State};
 ghost use Rattle.cap_effect.specs.Keys.{Cells, cells_of};
 ghost use Rattle.cap_effect.specs.Asks.{any_holds, pulled_holds, pulled_within, is_always, PulledIsOpen, IsOpen};
-ghost use Rattle.cap_effect.specs.Asks.{AreWithin};
+ghost use Rattle.cap_effect.specs.Asks.{Rises, IsUnionOf, OneAlwaysHolds};
 ghost use Rattle.cap_effect.specs.LineAsks.{part_holds, one_holds, asked_holds};
 ghost use Rattle.cap_effect.specs.Effects.{changed};
 ghost use Rattle.cap_effect.specs.Preconditions.{is_met, is_wrongful, three_hold, any_certain, IsMetOr, IsSettled};
-ghost use Rattle.cap_effect.specs.Preconditions.{ThreeAreOpen, IsPossible, IsCopyOf};
+ghost use Rattle.cap_effect.specs.Preconditions.{ThreeAreOpen, IsPossible, IsPulledBack, AreAskedByBoth, IsAskedByBoth, IsSamePrecondition};
 ghost use Rattle.cap_effect.specs.Sizes.{asks_size};
 ghost use Rattle.cap_effect.specs.Names.{Names, has_cell, part_within, PartsWithin, LineAsksWithin, RefusalsWithin};
 ghost use Rattle.cap_effect.specs.Names.{EffectWithin, PreWithin};
 
 use crate::ask::{Ask, Pulled};
-use crate::asks::in_order;
+use crate::asks::{in_order, unite};
 use crate::effect::Effect;
 use crate::line_asks::{LineAsks, UpToThree};
-use cap_tree::NoMemory;
+use cap_list::NoMemory;
 use std::alloc::Global;
 
 /// A refusal for lack of rights (errno 93). It is wrongful unless one of these asks holds.
@@ -66,51 +66,114 @@ impl Pulled {
 }
 
 /// What an ask that may be left out asks before an earlier segment.
-fn pulled_part(alloc: Global, first: &Effect, ask: &Option<Ask>) -> Result<Pulled, NoMemory>
-    ensures holds { IfOk result (λ pulled. (s : State) → pulled_holds (cells_of s) pulled
-        ≡ part_holds (changed first.now (cells_of s)) ask.now) }
-    ensures open { IfOk result PulledIsOpen }
-    ensures names { IfOk result (λ pulled. (names : Names) → EffectWithin names first.now
-        → part_within names ask.now ≡ true → pulled_within (has_cell names) pulled ≡ true) }
+fn pulled_part(first: &Effect, ask: &Option<Ask>) -> Pulled
+    ensures holds { (s : State) → pulled_holds (cells_of s) result
+        ≡ part_holds (changed first.now (cells_of s)) ask.now }
+    ensures open { PulledIsOpen result }
+    ensures names { (names : Names) → EffectWithin names first.now
+        → part_within names ask.now ≡ true → pulled_within (has_cell names) result ≡ true }
 {
     match ask {
-        None => Ok(Pulled::Never),
-        Some(ask) => {
-            let value = first.read(alloc, ask.pid, ask.key)?;
-            Ok(ask.pulled_back(&value))
-        }
+        None => Pulled::Never,
+        Some(ask) => ask.before(first),
     }
 }
 
 /// What up to three asks ask before an earlier segment: `None` where one of them holds in every state.
-fn pulled_three(
-    alloc: Global,
-    first: &Effect,
-    asks: &UpToThree,
-) -> Result<Option<UpToThree>, NoMemory>
-    ensures hold { IfOk result (λ pulled. (s : State)
-        → three_hold (cells_of s) pulled ≡ one_holds (changed first.now (cells_of s)) asks.now) }
-    ensures open { IfOk result ThreeAreOpen }
-    ensures names { IfOk result (λ pulled. (names : Names) → EffectWithin names first.now
-        → PartsWithin names asks.now → IfSome pulled (PartsWithin names)) }
+fn pulled_three(first: &Effect, asks: &UpToThree) -> Option<UpToThree>
+    ensures hold { (s : State)
+        → three_hold (cells_of s) result ≡ one_holds (changed first.now (cells_of s)) asks.now }
+    ensures open { ThreeAreOpen result }
+    ensures names { (names : Names) → EffectWithin names first.now
+        → PartsWithin names asks.now → IfSome result (PartsWithin names) }
 {
-    let mode = pulled_part(alloc, first, &asks.mode)?;
-    let one = pulled_part(alloc, first, &asks.first)?;
-    let other = pulled_part(alloc, first, &asks.second)?;
+    let mode = pulled_part(first, &asks.mode);
+    let one = pulled_part(first, &asks.first);
+    let other = pulled_part(first, &asks.second);
     if mode.is_always() {
-        return Ok(None);
+        return None;
     }
     if one.is_always() {
-        return Ok(None);
+        return None;
     }
     if other.is_always() {
-        return Ok(None);
+        return None;
     }
-    Ok(Some(UpToThree {
+    Some(UpToThree {
         mode: mode.ask(),
         first: one.ask(),
         second: other.ask(),
-    }))
+    })
+}
+
+/// What the asks of a later segment ask before a first one, in no order.
+#[derive(Drop)]
+struct PulledAsks {
+    /// Of the cells that they were about. These stand in order as a rule.
+    kept: Vec<Ask>,
+    /// Of other cells.
+    moved: Vec<Ask>,
+}
+
+impl PulledAsks {
+    /// All of them, in order; `None` where some at one place hold in every state.
+    fn in_order(self, alloc: Global) -> Result<Option<Vec<Ask>>, NoMemory>
+        ensures always { IfOk result (λ asks. IfNone asks (OneAlwaysHolds self.kept.items self.moved.items)) }
+        ensures asks { IfOk result (λ asks. IfSome asks
+            (λ asks. IsUnionOf self.kept.items self.moved.items asks.items)) }
+    {
+        let Some(kept) = in_order(alloc, self.kept)? else {
+            return Ok(None);
+        };
+        let Some(moved) = in_order(alloc, self.moved)? else {
+            return Ok(None);
+        };
+        unite(alloc, &kept, &moved)
+    }
+}
+
+/// What these asks ask before an earlier segment; `None` where one of them holds in every state.
+fn pulled_asks(alloc: Global, first: &Effect, asks: &[Ask]) -> Result<Option<PulledAsks>, NoMemory>
+    ensures always { IfOk result (λ pulled. IfNone pulled ((s : State)
+        → any_holds (changed first.now (cells_of s)) asks.now ≡ true)) }
+    ensures asks { IfOk result (λ pulled. IfSome pulled
+        (λ pulled. IsPulledBack first.now asks.now pulled.kept.items pulled.moved.items)) }
+{
+    let mut kept = Vec::with_capacity(alloc, asks.len())?;
+    let mut moved = Vec::new(alloc);
+    for ask in asks {
+        match ask.open_before(first) {
+            Pulled::Always => return Ok(None),
+            Pulled::Never => {}
+            Pulled::Where(before) if before.pid == ask.pid && before.key == ask.key => {
+                kept.push(before)?;
+            }
+            Pulled::Where(before) => moved.push(before)?,
+        }
+    }
+    Ok(Some(PulledAsks { kept, moved }))
+}
+
+/// The asks of a segment and those of a later one, which are pulled back through the effect of the first, in order; `None`
+/// where one of them holds in every state.
+fn asks_of_both(
+    alloc: Global,
+    own: &[Ask],
+    first: &Effect,
+    later: &[Ask],
+) -> Result<Option<Vec<Ask>>, NoMemory>
+    requires { Rises own.now }
+    ensures always { IfOk result (λ both. IfNone both ((s : State)
+        → (any_holds (cells_of s) own.now || any_holds (changed first.now (cells_of s)) later.now) ≡ true)) }
+    ensures asks { IfOk result (λ both. IfSome both (λ both. AreAskedByBoth first.now own.now later.now both.items)) }
+{
+    let Some(pulled) = pulled_asks(alloc, first, later)? else {
+        return Ok(None);
+    };
+    match pulled.in_order(alloc)? {
+        Some(pulled) => unite(alloc, own, &pulled),
+        None => Ok(None),
+    }
 }
 
 /// Whether one of these asks holds in every state.
@@ -135,19 +198,32 @@ impl Precondition {
         }
     }
 
-    /// A copy.
-    pub fn copy(&self, alloc: Global) -> Result<Precondition, NoMemory>
-        ensures { IfOk result (IsCopyOf self.now) }
+    /// Something is found in every state.
+    fn always(alloc: Global) -> Precondition
+        ensures met { (cells : Cells) → is_met cells result ≡ true }
+        ensures settled { IsSettled result }
+        ensures possible { IsPossible result }
+        ensures names { (names : Names) → PreWithin names result }
     {
-        let mut asks = Vec::with_capacity(alloc, self.asks.len())?;
-        asks.extend_from_slice(&self.asks)?;
-        let mut refusals = Vec::with_capacity(alloc, self.refusals.len())?;
-        refusals.extend_from_slice(&self.refusals)?;
-        Ok(Precondition {
-            certain: self.certain,
-            asks,
-            refusals,
-        })
+        Precondition {
+            certain: true,
+            asks: Vec::new(alloc),
+            refusals: Vec::new(alloc),
+        }
+    }
+
+    /// How many asks and refusals it has.
+    pub fn size(&self) -> usize
+        ensures { result ≡ asks_size self.now }
+    {
+        self.asks.len() + self.refusals.len()
+    }
+
+    /// Whether another one has the same asks and refusals.
+    pub fn is_same(&self, other: &Precondition) -> bool
+        ensures { result ≡ true → IsSamePrecondition self.now other.now }
+    {
+        self.certain == other.certain && self.asks == other.asks && self.refusals == other.refusals
     }
 
     /// Whether there is room for its asks and its refusals.
@@ -176,36 +252,26 @@ impl Precondition {
     }
 
     /// Something is also found where an ask holds after an earlier segment.
-    fn put_after(
-        &mut self,
-        alloc: Global,
-        first: &Effect,
-        ask: &Option<Ask>,
-    ) -> Result<(), NoMemory>
+    fn put_after(&mut self, first: &Effect, ask: &Option<Ask>) -> Result<(), NoMemory>
         ensures met { OnOk result (IsMetOr self.old self.new
             (λ cells. part_holds (changed first.now cells) ask.now)) }
         ensures possible { OnOk result (IsPossible self.old → IsPossible self.new) }
         ensures names { OnOk result ((names : Names) → EffectWithin names first.now
             → part_within names ask.now ≡ true → PreWithin names self.old → PreWithin names self.new) }
     {
-        let pulled = pulled_part(alloc, first, ask)?;
-        self.put(pulled)
+        self.put(pulled_part(first, ask))
     }
 
     /// Something is also found where a refusal is wrongful after an earlier segment.
-    fn refuse_after(
-        &mut self,
-        alloc: Global,
-        first: &Effect,
-        unless: &UpToThree,
-    ) -> Result<(), NoMemory>
+    fn refuse_after(&mut self, first: &Effect, unless: &UpToThree) -> Result<(), NoMemory>
         ensures met { OnOk result (IsMetOr self.old self.new
             (λ cells. not (one_holds (changed first.now cells) unless.now))) }
         ensures possible { OnOk result (IsPossible self.old → IsPossible self.new) }
         ensures names { OnOk result ((names : Names) → EffectWithin names first.now
             → PartsWithin names unless.now → PreWithin names self.old → PreWithin names self.new) }
+        ensures asks { self.new.asks ≡ self.old.asks }
     {
-        let Some(unless) = pulled_three(alloc, first, unless)? else {
+        let Some(unless) = pulled_three(first, unless) else {
             return Ok(());
         };
         if unless.is_nothing() {
@@ -217,12 +283,7 @@ impl Precondition {
     }
 
     /// Something is also found where it is in a line after an earlier segment.
-    pub fn line_after(
-        &mut self,
-        alloc: Global,
-        first: &Effect,
-        asks: &LineAsks,
-    ) -> Result<(), NoMemory>
+    pub fn put_line(&mut self, first: &Effect, asks: &LineAsks) -> Result<(), NoMemory>
         ensures met { OnOk result (IsMetOr self.old self.new
             (λ cells. asked_holds (changed first.now cells) asks.now)) }
         ensures possible { OnOk result (IsPossible self.old → IsPossible self.new) }
@@ -235,71 +296,59 @@ impl Precondition {
                 Ok(())
             }
             LineAsks::Where(asks) => {
-                self.put_after(alloc, first, &asks.mode)?;
-                self.put_after(alloc, first, &asks.first)?;
-                self.put_after(alloc, first, &asks.second)?;
+                self.put_after(first, &asks.mode)?;
+                self.put_after(first, &asks.first)?;
+                self.put_after(first, &asks.second)?;
                 Ok(())
             }
-            LineAsks::Unless(asks) => self.refuse_after(alloc, first, asks),
+            LineAsks::Unless(asks) => self.refuse_after(first, asks),
         }
-    }
-
-    /// Something is also found where one of these asks holds after an earlier segment.
-    fn put_asks_after(
-        &mut self,
-        alloc: Global,
-        first: &Effect,
-        asks: &[Ask],
-    ) -> Result<(), NoMemory>
-        ensures met { OnOk result (IsMetOr self.old self.new
-            (λ cells. any_holds (changed first.now cells) asks.now)) }
-        ensures possible { OnOk result (IsPossible self.old → IsPossible self.new) }
-        ensures names { OnOk result ((names : Names) → EffectWithin names first.now
-            → AreWithin (has_cell names) asks.now → PreWithin names self.old → PreWithin names self.new) }
-    {
-        for ask in asks {
-            self.put_after(alloc, first, &Some(*ask))?;
-        }
-        Ok(())
     }
 
     /// Something is also found where one of these refusals is wrongful after an earlier segment.
-    fn refuse_all_after(
-        &mut self,
-        alloc: Global,
-        first: &Effect,
-        refusals: &[Refusal],
-    ) -> Result<(), NoMemory>
+    fn refuse_all_after(&mut self, first: &Effect, refusals: &[Refusal]) -> Result<(), NoMemory>
         ensures met { OnOk result (IsMetOr self.old self.new
             (λ cells. list_any (is_wrongful (changed first.now cells)) refusals.now)) }
         ensures possible { OnOk result (IsPossible self.old → IsPossible self.new) }
         ensures names { OnOk result ((names : Names) → EffectWithin names first.now
             → RefusalsWithin names refusals.now → PreWithin names self.old → PreWithin names self.new) }
+        ensures asks { self.new.asks ≡ self.old.asks }
     {
         for refusal in refusals {
-            self.refuse_after(alloc, first, &refusal.unless)?;
+            self.refuse_after(first, &refusal.unless)?;
         }
         Ok(())
     }
 
-    /// Something is also found where it is in a later segment, after this one.
-    pub fn put_all_after(
-        &mut self,
+    /// What is asked by a segment that asks this and has this effect, or by a later one, settled.
+    pub fn join(
+        &self,
         alloc: Global,
         first: &Effect,
         later: &Precondition,
-    ) -> Result<(), NoMemory>
-        ensures met { OnOk result (IsMetOr self.old self.new (λ cells. is_met (changed first.now cells) later.now)) }
-        ensures possible { OnOk result (IsPossible self.old → IsPossible self.new) }
-        ensures names { OnOk result ((names : Names) → EffectWithin names first.now
-            → PreWithin names later.now → PreWithin names self.old → PreWithin names self.new) }
+    ) -> Result<Precondition, NoMemory>
+        requires own { IsSettled self.now }
+        requires later { IsSettled later.now }
+        ensures { IfOk result (IsAskedByBoth first.now self.now later.now) }
     {
-        self.put_asks_after(alloc, first, &later.asks)?;
-        self.refuse_all_after(alloc, first, &later.refusals)?;
-        if later.certain {
-            self.certain = true;
+        if self.certain || later.certain {
+            return Ok(Precondition::always(alloc));
         }
-        Ok(())
+        let Some(asks) = asks_of_both(alloc, &self.asks, first, &later.asks)? else {
+            return Ok(Precondition::always(alloc));
+        };
+        let mut refusals = Vec::with_capacity(alloc, self.refusals.len())?;
+        refusals.extend_from_slice(&self.refusals)?;
+        let mut both = Precondition {
+            certain: false,
+            asks,
+            refusals,
+        };
+        both.refuse_all_after(first, &later.refusals)?;
+        if both.certain {
+            return Ok(Precondition::always(alloc));
+        }
+        Ok(both)
     }
 
     /// The same, settled: its asks in order, and nothing asked where something is certain.
@@ -309,11 +358,14 @@ impl Precondition {
         ensures possible { IfOk result (λ pre. IsPossible self → IsPossible pre) }
         ensures names { IfOk result (λ pre. (names : Names) → PreWithin names self → PreWithin names pre) }
     {
-        let asks = in_order(alloc, &self.asks)?;
-        if self.certain || any_is_certain(&asks) {
-            let mut certain = Precondition::never(alloc);
-            certain.certain = true;
-            return Ok(certain);
+        if self.certain {
+            return Ok(Precondition::always(alloc));
+        }
+        let Some(asks) = in_order(alloc, self.asks)? else {
+            return Ok(Precondition::always(alloc));
+        };
+        if any_is_certain(&asks) {
+            return Ok(Precondition::always(alloc));
         }
         Ok(Precondition {
             certain: false,

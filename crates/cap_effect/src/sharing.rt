@@ -1,14 +1,11 @@
-//! What is shared with one of two segments, and not made anew.
+//! Which rows read no other process, and so are shared with a later segment.
 
-ghost use Rattle.std.specs.Prelude.{◌≡◌, ℕ, true, IfSome};
-ghost use Rattle.cap_effect.specs.declared.key.Key.TheVariants as key;
-ghost use Rattle.cap_effect.specs.Keys.{Cells};
+ghost use Rattle.std.specs.Prelude.{◌≡◌, true};
 ghost use Rattle.cap_effect.specs.Values.{reads_within};
-ghost use Rattle.cap_effect.specs.Effects.{row_cell, changed};
-ghost use Rattle.cap_effect.specs.Names.{Names, only, has_cell, others_within, ListWithin, RowWithin, EffectWithin};
+ghost use Rattle.cap_effect.specs.Names.{only, has_cell, others_within, ListWithin, RowWithin};
 
-use crate::base::{Others, Passing};
-use crate::effect::{Effect, Row};
+use crate::base::Others;
+use crate::effect::Row;
 use crate::value::Value;
 use cap_trace::Pid;
 
@@ -54,26 +51,12 @@ impl Row {
     pub(crate) fn reads_only(&self, pid: Pid) -> bool
         ensures { result ≡ true → RowWithin (only pid) self.now }
     {
-        self.base.others.reads_only(pid)
-            && self.mode.reads_only(pid)
+        let mode_reads_only = match &self.mode {
+            Some(value) => value.reads_only(pid),
+            None => true,
+        };
+        mode_reads_only
+            && self.base.others.reads_only(pid)
             && all_read_only(self.cells.entries(), pid)
-    }
-}
-
-impl Effect {
-    /// The row whose descriptors a row of a later segment hands on as they are, all of them.
-    pub(crate) fn handed_whole(&self, row: &Row) -> Option<&Row>
-        ensures cells { IfSome result (λ own. (cells : Cells) (f : ℕ)
-            → row_cell cells own.now (key.Fd f) ≡ row_cell (changed self.now cells) row.now (key.Fd f)) }
-        ensures names { IfSome result (λ own. (names : Names) → EffectWithin names self.now
-            → RowWithin names own.now) }
-    {
-        if row.cells.len() != 0 {
-            return None;
-        }
-        match (&row.base.others, &row.base.closed_from) {
-            (Others::Of(pid, Passing::Same), None) => self.rows.get(*pid),
-            _ => None,
-        }
     }
 }

@@ -1,20 +1,28 @@
 //! The summary of a segment of a trace.
 
-ghost use Rattle.std.specs.Prelude.{◌≡◌, ◌^◌, ◌≤◌, true, is_some, length, IfOk, IfSome, IfNone};
+ghost use Rattle.std.specs.Prelude.{◌≡◌, ◌+◌, ◌*◌, ◌^◌, ◌<◌, ◌≤◌, ◌++◌, [], true, is_some, length, IfOk, OnOk, IfSome, IfNone};
+ghost use Rattle.std.specs.Option.{option_copied};
 ghost use Rattle.cap_machine.specs.Check.{check};
 ghost use Rattle.cap_machine.specs.Table.{start_state};
 ghost use Rattle.cap_effect.specs.Kept.{IsKept, IsTooLarge};
-ghost use Rattle.cap_effect.specs.Positions.{within};
+ghost use Rattle.cap_effect.specs.View.{NodesCompose, NodesDoAlike, NodesAskAlike};
+ghost use Rattle.cap_effect.specs.Positions.{within, AllOrMany};
 ghost use Rattle.cap_effect.specs.Stands.{Stands, summed_up, kept_of};
 
 use crate::before::Before;
-use crate::judging::Asked;
+use crate::judging::{Asked, Report};
 use crate::known::Known;
-use crate::node::Node;
+use crate::node::{Node, Rest};
 use cap_machine::{Found, Machine, Start, Step};
-use cap_tree::{Meter, NoMemory, Segment};
+use cap_list::{Likeness, Meter, NoMemory, Segment, Side};
 use std::alloc::Global;
 use std::rc::Rc;
+
+/// To look a finding up takes about as long as to judge some hundred steps; so, of so many steps, one is looked up.
+const STEPS_A_FINDING: usize = 2_048;
+
+/// The most parts that are visited one after the other.
+const MOST_PARTS: usize = 4_096;
 
 /// What a segment of a trace does and asks, whatever the state before it, with its steps. A clone shares all of it.
 #[derive(Drop)]
@@ -28,7 +36,7 @@ impl Summary {
     pub fn known(&self) -> Option<&Known>
         ensures kept { IfSome result (λ known. IsKept known.now (summed_up self.now)) }
         ensures large { IfNone result (IsTooLarge (summed_up self.now)) }
-        ensures seen { is_some result ≡ is_some (kept_of self.now) }
+        ensures seen { option_copied result ≡ kept_of self.now }
         ensures few { length (summed_up self.now) ≤ 2 ^ 30 }
     {
         let _len = self.node.len();
@@ -47,9 +55,7 @@ pub fn resolve(alloc: Global, summary: &Summary, start: &Start) -> Result<Vec<Fo
     Ok(found)
 }
 
-/// The part of what [`resolve`] answers that stands at positions from one to another, both included. Where something is
-/// kept of all steps, it visits only the parts that have such positions and in which something is found; else it judges
-/// all steps in order.
+/// The part of what [`resolve`] answers that stands at positions from one to another, both included.
 ///
 /// `NoMemory` when out of memory; the summary is unchanged.
 pub fn resolve_range(
@@ -62,78 +68,114 @@ pub fn resolve_range(
     ensures { IfOk result
         (λ found. found.items ≡ within from to (check (start_state start.now) (summed_up summary.now))) }
 {
-    let asked = Asked { from, to };
-    match summary.known() {
-        Some(_) => looked_up(alloc, summary, start, &asked),
-        None => judged_in_order(alloc, summary, start, &asked),
+    let report = report_range(alloc, summary, start, from, to)?;
+    Ok(report.found)
+}
+
+/// The same, and how many steps were judged for it. Where what is known of all steps is kept, only runs of at most 48
+/// steps are judged that have a finding; where more than one in 2,048 steps has one, all are, in order. Where it isn't
+/// kept, the parts are visited one after the other if few positions are asked for.
+///
+/// `NoMemory` when out of memory; the summary is unchanged.
+pub fn report_range(
+    alloc: Global,
+    summary: &Summary,
+    start: &Start,
+    from: usize,
+    to: usize,
+) -> Result<Report, NoMemory>
+    ensures found { IfOk result (λ report. report.found.items
+        ≡ within from to (check (start_state start.now) (summed_up summary.now))) }
+    ensures few { is_some (kept_of summary.now) ≡ true → IfOk result
+        (λ report. report.judged ≤ 2096 * length (check (start_state start.now) (summed_up summary.now))) }
+    ensures all { IfOk result (λ report. report.judged ≤ 2 * length (summed_up summary.now)) }
+{
+    let most = summary.node.len() / STEPS_A_FINDING;
+    let asked = Asked { from, to, most };
+    let mut report = Report::empty(alloc);
+    if are_looked_up(summary, &asked) {
+        look_up(alloc, summary, start, &asked, &mut report)?;
+        if report.found.len() <= most {
+            return Ok(report);
+        }
     }
+    judge_in_order(alloc, summary, start, &asked, &mut report)?;
+    Ok(report)
 }
 
-/// What is found at positions by looking where something is found.
-fn looked_up(
+/// Whether findings are looked up one by one: where what is known of all steps isn't kept, only few, since each look-up
+/// reads back through what is known of each part; and not through very many parts, since each takes room on the stack.
+fn are_looked_up(summary: &Summary, asked: &Asked) -> bool
+    ensures { is_some (kept_of summary.now) ≡ true → result ≡ true }
+{
+    if summary.node.known().is_some() {
+        return true;
+    }
+    asked.to.saturating_sub(asked.from) <= asked.most && summary.node.parts() <= MOST_PARTS
+}
+
+/// Looks findings up where something is found; more than are looked up one by one may not be all.
+fn look_up(
     alloc: Global,
     summary: &Summary,
     start: &Start,
     asked: &Asked,
-) -> Result<Vec<Found>, NoMemory>
+    report: &mut Report,
+) -> Result<(), NoMemory>
     requires few { length (summed_up summary.now) ≤ 2 ^ 30 }
-    requires kept { is_some (kept_of summary.now) ≡ true }
-    ensures { IfOk result (λ found. found.items
-        ≡ within asked.now.from asked.now.to (check (start_state start.now) (summed_up summary.now))) }
+    requires nothing { report.old.found.items ≡ [] }
+    requires none_judged { report.old.judged ≡ 0 }
+    ensures found { OnOk result (AllOrMany asked.now.most report.new.found.items
+        (within asked.now.from asked.now.to (check (start_state start.now) (summed_up summary.now)))) }
+    ensures few { OnOk result (report.new.judged
+        ≤ 48 * length (check (start_state start.now) (summed_up summary.now))) }
+    ensures all { OnOk result (report.new.judged ≤ length (summed_up summary.now)) }
 {
-    let mut found = Vec::new(alloc);
+    if summary.node.len() == 0 {
+        return Ok(());
+    }
     let before = Before::At(&*start);
-    summary.node.resolve(&before, 0, asked, &mut found)?;
-    Ok(found)
+    summary
+        .node
+        .resolve(alloc, &before, 0, &Rest::End, asked, report)
 }
 
-/// What is found at positions by judging all steps in order.
-fn judged_in_order(
+/// Judges all steps in order, up to the last position that is asked for, and notes what is found instead of what was
+/// found so far.
+fn judge_in_order(
     alloc: Global,
     summary: &Summary,
     start: &Start,
     asked: &Asked,
-) -> Result<Vec<Found>, NoMemory>
-    requires { length (summed_up summary.now) ≤ 2 ^ 30 }
-    ensures { IfOk result (λ found. found.items
+    report: &mut Report,
+) -> Result<(), NoMemory>
+    requires few { length (summed_up summary.now) ≤ 2 ^ 30 }
+    requires room { report.old.judged ≤ 2 ^ 30 }
+    ensures found { OnOk result (report.new.found.items
         ≡ within asked.now.from asked.now.to (check (start_state start.now) (summed_up summary.now))) }
+    ensures all { OnOk result (report.new.judged ≤ report.old.judged + length (summed_up summary.now)) }
 {
+    report.found.clear();
     let Ok(mut machine) = Machine::from_start(alloc, start) else {
         return Err(NoMemory);
     };
-    let found = judged_by(alloc, summary, &mut machine, asked);
+    let judged = summary.node.judge(&mut machine, 0, asked, report);
     drop(machine);
-    found
-}
-
-/// What a machine finds at positions by judging all steps in order.
-fn judged_by(
-    alloc: Global,
-    summary: &Summary,
-    machine: &mut Machine,
-    asked: &Asked,
-) -> Result<Vec<Found>, NoMemory>
-    requires { length (summed_up summary.now) ≤ 2 ^ 30 }
-    ensures { IfOk result (λ found. found.items
-        ≡ within asked.now.from asked.now.to (check (start_state machine.old) (summed_up summary.now))) }
-{
-    let mut found = Vec::new(alloc);
-    summary.node.judge(machine, 0, asked, &mut found)?;
-    Ok(found)
+    judged
 }
 
 impl Segment for Summary {
     type Item = Step;
 
-    type Likeness = ();
-
     ghost stands = { Stands };
 
     ghost size = { λ z. length (summed_up z) };
 
-    ghost composes = { λ a b whole. Unit {0} };
+    ghost composes = { λ a b whole. NodesCompose a.node.value b.node.value whole.node.value };
 
-    ghost alike = { λ likeness old new. Unit {0} };
+    ghost same_effect = { λ old new. NodesDoAlike old.node.value new.node.value };
+
+    ghost same_precondition = { λ old new. NodesAskAlike old.node.value new.node.value };
 
     ghost use Rattle.cap_effect.specs.Sized.{stands_sized};
 
@@ -158,8 +200,6 @@ impl Segment for Summary {
         self.node.len()
     }
 
-    fn unlike() -> () {}
-
     fn join(
         alloc: Global,
         meter: &mut Meter,
@@ -169,5 +209,28 @@ impl Segment for Summary {
         let node = Node::join(alloc, &left.node, &right.node)?;
         meter.tick();
         Ok(Summary { node })
+    }
+
+    fn rejoin(
+        alloc: Global,
+        meter: &mut Meter,
+        left: &Summary,
+        right: &Summary,
+        old: &Summary,
+        was: &Summary,
+        side: Side,
+        likeness: Likeness,
+    ) -> Result<(Summary, Likeness), NoMemory> {
+        let (node, likeness) = Node::rejoin(
+            alloc,
+            &left.node,
+            &right.node,
+            &old.node,
+            &was.node,
+            side,
+            likeness,
+        )?;
+        meter.tick();
+        Ok((Summary { node }, likeness))
     }
 }

@@ -1,6 +1,7 @@
 //! Tests of one cell.
 
-ghost use Rattle.std.specs.Prelude.{◌≡◌, ℕ, ◌<◌, ◌||◌, true, false};
+ghost use Rattle.std.specs.Prelude.{◌≡◌, ℕ, ◌||◌, true, false};
+ghost use Rattle.std.specs.Ordering.{nat_cmp};
 ghost use Rattle.cap_machine.specs.declared.cell.OnExec.{OnExec};
 ghost use Rattle.cap_machine.specs.declared.cell.Cell.{Cell};
 ghost use Rattle.cap_machine.specs.Op.{applied, held};
@@ -10,6 +11,7 @@ ghost use Rattle.cap_effect.specs.Tests.{held_passes};
 
 use cap_machine::{Cell, HeldOp, OnExec, Op};
 use cap_rights::RightSet;
+use std::cmp::Ordering;
 
 /// Some close-on-exec flags.
 #[derive(Clone, Copy, Debug, PartialEq, Eq)]
@@ -74,24 +76,29 @@ impl Flags {
     fn any(&self) -> bool
         ensures { result ≡ any_flag self.now }
     {
-        self.set || self.clear || self.unsure
+        self.set | self.clear | self.unsure
     }
 
-    /// Where they stand in the order of sets of flags.
-    pub(crate) fn number(&self) -> u64
-        ensures number { result ≡ form_number self.now }
-        ensures fits { result < 8 }
+    /// The order of sets of flags.
+    pub(crate) fn order(&self, other: &Flags) -> Ordering
+        ensures { result ≡ nat_cmp (form_number self.now) (form_number other.now) }
     {
-        4 * self.set as u64 + 2 * self.clear as u64 + self.unsure as u64
+        self.number().cmp(&other.number())
+    }
+
+    fn number(&self) -> u8
+        ensures { result ≡ form_number self.now }
+    {
+        4 * self.set as u8 + 2 * self.clear as u8 + self.unsure as u8
     }
 
     fn join(&self, other: &Flags) -> Flags
         ensures { (flag : OnExec) → has_flag result flag ≡ (has_flag self.now flag || has_flag other.now flag) }
     {
         Flags {
-            set: self.set || other.set,
-            clear: self.clear || other.clear,
-            unsure: self.unsure || other.unsure,
+            set: self.set | other.set,
+            clear: self.clear | other.clear,
+            unsure: self.unsure | other.unsure,
         }
     }
 }
@@ -112,22 +119,22 @@ impl Kinds {
     fn any(&self) -> bool
         ensures { result ≡ any_kind self.now }
     {
-        self.unknown || self.closed || self.held.any()
+        self.unknown | self.closed | self.held.any()
     }
 
     /// Whether each kind is among them.
     pub(crate) fn is_full(&self) -> bool
         ensures { result ≡ is_full self.now }
     {
-        self.unknown && self.closed && self.held.set && self.held.clear && self.held.unsure
+        self.unknown & self.closed & self.held.set & self.held.clear & self.held.unsure
     }
 
     fn join(&self, other: &Kinds) -> Kinds
         ensures { (c : Cell) → has_kind result c ≡ (has_kind self.now c || has_kind other.now c) }
     {
         Kinds {
-            unknown: self.unknown || other.unknown,
-            closed: self.closed || other.closed,
+            unknown: self.unknown | other.unknown,
+            closed: self.closed | other.closed,
             held: self.held.join(&other.held),
         }
     }

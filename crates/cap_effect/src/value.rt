@@ -9,7 +9,7 @@ ghost use Rattle.cap_effect.specs.Values.{read, made_of, source, reads_within};
 use crate::key::Key;
 use cap_machine::{Cell, Op};
 use cap_trace::Pid;
-use cap_tree::NoMemory;
+use cap_list::NoMemory;
 use std::alloc::Global;
 use std::rc::Rc;
 
@@ -79,10 +79,16 @@ impl Value {
         ensures source { IfOk result (λ v. (names : ℕ → Key → Bool)
             → reads_within names first.now ≡ true → reads_within names v ≡ true) }
     {
-        match self {
-            Value::Is(cell) => Ok(Value::Is(*cell)),
-            Value::Same(..) => first.share(),
-            Value::Of(derived) => first.then(alloc, &derived.op),
+        match (self, first) {
+            (Value::Is(cell), _) => Ok(Value::Is(*cell)),
+            (Value::Same(..), _) => first.share(),
+            (Value::Of(derived), Value::Same(pid, key)) => {
+                if *pid == derived.pid && *key == derived.key {
+                    return self.share();
+                }
+                first.then(alloc, &derived.op)
+            }
+            (Value::Of(derived), _) => first.then(alloc, &derived.op),
         }
     }
 }

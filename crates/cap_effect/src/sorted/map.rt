@@ -1,13 +1,13 @@
-//! Tables that are changed in place.
-ghost use Rattle.std.specs.Prelude.{◌≡◌, ℕ, ◌==◌, [], Some, if◌then◌else◌, IfOk, OnOk, OnErr};
+//! Maps that are changed in place.
+ghost use Rattle.std.specs.Prelude.{◌≡◌, ℕ, ◌==◌, false, unwrap_or, [], Some, if◌then◌else◌, OnOk, OnErr};
 ghost use Rattle.std.specs.Option.{option_copied};
 ghost use Rattle.cap_effect.specs.Sorted.{found, Rises};
 
-use super::Table;
 use super::place::place_of;
-use cap_tree::NoMemory;
+use cap_list::NoMemory;
 use std::alloc::Global;
 use std::marker::Model;
+use std::mem::replace;
 
 /// Values by key, which are put in place. A contract sees the list of its entries, each a key and a value, whose keys
 /// strictly rise.
@@ -83,10 +83,15 @@ impl<V: Drop> Map<V> {
         }
     }
 
-    /// The table of the entries.
-    pub fn finish(self) -> Result<Table<V>, NoMemory>
-        ensures { IfOk result (λ t. t ≡ self) }
+    /// The value at a key, in whose place the other one stands; that one, where the key has none. Allocates nothing.
+    #[tactic(auto, using(crate::proofs::SortedSetting::puts))]
+    pub fn take_or(&mut self, key: u32, other: V) -> V
+        ensures value { result ≡ unwrap_or (found self.old key) other }
+        ensures others { (k : ℕ) → (k == key) ≡ false → found self.new k ≡ found self.old k }
     {
-        Table::from_sorted(self.entries)
+        match place_of(&self.entries, key) {
+            Ok(at) => replace(&mut self.entries[at], (key, other)).1,
+            Err(_) => other,
+        }
     }
 }

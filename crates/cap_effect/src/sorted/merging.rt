@@ -5,7 +5,7 @@ ghost use Rattle.std.specs.Option.{option_copied};
 ghost use Rattle.cap_effect.specs.Sorted.{found, Rises, RisesFrom};
 
 use super::Map;
-use cap_tree::NoMemory;
+use cap_list::NoMemory;
 use std::alloc::Global;
 
 /// What a merge makes of the values that two tables have at one key: a new value, or none, which leaves the key out.

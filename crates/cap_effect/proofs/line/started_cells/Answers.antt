@@ -29,10 +29,10 @@ returns-clause-cells c =
     c.loop-fd.invariant.cells in
     let all = rw (c.deref-fd-items.ensures.value, c.in-Ok.ensures) at started in
     let P : List (ℕ × Value) → Type 0 = IsStarted _ in
-    IfOk-weaker c.finish.result (λ listed. listed ≡ c.loop-fd.listed) P (λ listed is. subst P (sym is) all)
-    c.finish.ensures
+    IfOk-weaker c.of.result (λ listed. listed ≡ c.loop-fd.listed) P (λ listed is. subst P (sym is) all)
+    c.of.ensures
 
 pub returns-clause-names : goal.returns-clause-names
-returns-clause-names c = IfOk-weaker c.finish.result _ _ (λ listed is names all.
+returns-clause-names c = IfOk-weaker c.of.result _ _ (λ listed is names all.
     rw is (c.loop-fd.invariant.names names (rw (c.deref-fd-items.ensures.value, c.in-Ok.ensures) all)))
-    c.finish.ensures
+    c.of.ensures

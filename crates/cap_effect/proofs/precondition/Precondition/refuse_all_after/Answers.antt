@@ -1,4 +1,4 @@
-use Rattle.std.proofs.Common.{arith}
+use Rattle.std.proofs.Common.{◌∙◌, arith}
 use Rattle.std.proofs.lemmas.Grind.{common_steps}
 use Rattle.cap_effect.specs.declared.precondition.Refusal.{Refusal}
 use Rattle.cap_effect.specs.Names.{PartsWithin}
@@ -13,4 +13,5 @@ loop-refusal-preserved c = record {
       (read_all (λ (r : Refusal). PartsWithin names r.unless) c.args.refusals.now c.loop-refusal.refusal-index
       c.refusal-item.result c.loop-refusal-test.true c.refusal-item.is refusals)
       (c.loop-refusal.invariant.names names effect refusals old);
+  asks = c.refuse_after.ensures.asks ∙ c.loop-refusal.invariant.asks;
 }

@@ -1,4 +1,4 @@
-use Rattle.std.proofs.Common.{take}
+use Rattle.std.proofs.Common.{◌≡◌, take}
 use Rattle.std.specs.List.{list_any}
 use Rattle.cap_effect.specs.Effects.{changed}
 use Rattle.cap_effect.specs.Preconditions.{is_wrongful, IsMetOr, IsPossible}
@@ -12,4 +12,5 @@ invariant-loop-refusal l = record {
   possible : IsPossible l.initial.self → IsPossible l.self;
   names : (names : Names) → EffectWithin names l.first → RefusalsWithin names l.refusals
       → PreWithin names l.initial.self → PreWithin names l.self;
+  asks : l.self.asks ≡ l.initial.self.asks;
 }

@@ -1,0 +1,58 @@
+-- Which step of a trace is explained.
+use Rattle.std.proofs.Common.{◌≡◌, ℕ, ◌+◌, ◌<◌, ◌≤◌, if◌then◌else◌, Bool, List, [], ◌∷◌, ◌++◌, length, take, drop, get_or}
+use Rattle.std.proofs.Common.{Some, None, refl, sym, ap, ◌∙◌, arith, length-append, eq-eqb}
+use Rattle.std.specs.Prelude.{reverse}
+use Rattle.std.proofs.lemmas.List.{reverse-append, length-reverse, take-append-drop, length-take-le, take_more}
+use Rattle.std.proofs.lemmas.Bool.{ne_eqb}
+use Rattle.cap_machine.specs.declared.step.Step.{Step}
+use Rattle.cap_machine.specs.State.{State}
+use Rattle.cap_machine.specs.Explain.{explained, explained_at, explanation}
+
+-- a step that isn't at the position
+passed : (s : State) (step : Step) (history : List Step) (k : ℕ) → (k ≡ length history + 1 → ⊥)
+    → explained_at s (step ∷ history) k ≡ explained_at s history k
+passed s step history k ne =
+    ap (λ (b : Bool). if b then Some (explained s history step) else explained_at s history k)
+    (ne_eqb k (length history + 1) ne)
+
+outside : (s : State) (history : List Step) (k : ℕ) → ((n : ℕ) → n < length history → k ≡ n + 1 → ⊥)
+    → explained_at s history k ≡ None
+outside s [] k none = refl
+outside s (step ∷ history) k none =
+    passed s step history k (none (length history) (omega arith))
+    ∙ outside s history k (λ n lt. none n (omega arith))
+
+older : (s : State) (newer history : List Step) (k : ℕ) → k ≤ length history
+    → explained_at s (newer ++ history) k ≡ explained_at s history k
+older s [] history k le = refl
+older s (step ∷ newer) history k le =
+    passed s step (newer ++ history) k (λ e. absurd (omega (arith, length-append newer history)))
+    ∙ older s newer history k le
+
+pub explained_zero : (s : State) (t : List Step) (k : ℕ) → k ≡ 0 → explanation s t k ≡ None
+explained_zero s t k is = outside s (reverse t) k (λ n lt e. omega arith)
+
+pub explained_past : (s : State) (t : List Step) (k : ℕ) → length t < k → explanation s t k ≡ None
+explained_past s t k past = outside s (reverse t) k (λ n lt e. omega (arith, length-reverse t))
+
+newest : (s : State) (step : Step) (history : List Step) (k : ℕ) → k ≡ length history + 1
+    → explained_at s (step ∷ history) k ≡ Some (explained s history step)
+newest s step history k e =
+    ap (λ (b : Bool). if b then Some (explained s history step) else explained_at s history k)
+    (eq-eqb k (length history + 1) e)
+
+pub explained_there : (s : State) (t : List Step) (k n : ℕ) (step : Step) → k ≡ n + 1 → n < length t
+    → get_or t n step ≡ step → explanation s t k ≡ Some (explained s (reverse (take n t)) step)
+explained_there s t k n step at lt is =
+    let before : List Step = take n t in
+    let behind : List Step = drop (n + 1) t in
+    let upto : List Step = before ++ step ∷ [] in
+    let split : t ≡ upto ++ behind = sym (take-append-drop (n + 1) t)
+    ∙ ap (λ (r : List Step). r ++ behind) (take_more t n step lt ∙ ap (λ (x : Step). before ++ x ∷ []) is) in
+    let long : length (reverse before) ≡ n = length-reverse before ∙ length-take-le n t (omega arith) in
+    let turned : reverse upto ≡ step ∷ reverse before = reverse-append before (step ∷ []) in
+    ap (λ (r : List Step). explained_at s (reverse r) k) split
+    ∙ ap (λ (h : List Step). explained_at s h k) (reverse-append upto behind)
+    ∙ ap (λ (h : List Step). explained_at s (reverse behind ++ h) k) turned
+    ∙ older s (reverse behind) (step ∷ reverse before) k (omega (arith, at, long))
+    ∙ newest s step (reverse before) k (omega (arith, at, long))

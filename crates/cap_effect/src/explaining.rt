@@ -1,0 +1,148 @@
+//! What one step of a summary rests on.
+
+ghost use Rattle.std.specs.Prelude.{◌≡◌, map, option_map, true, if◌then◌else◌, Some, None, IfOk};
+ghost use Rattle.cap_machine.specs.declared.rule.Check.{Check};
+ghost use Rattle.cap_machine.specs.declared.origin.CellOrigin.{CellOrigin};
+ghost use Rattle.cap_machine.specs.declared.origin.ModeOrigin.{ModeOrigin};
+ghost use Rattle.cap_machine.specs.History.{cell_after, mode_after};
+ghost use Rattle.cap_machine.specs.Judge.{listed};
+ghost use Rattle.cap_machine.specs.Origin.{cell_chain, cell_chain_of, mode_chain, mode_chain_of};
+ghost use Rattle.cap_machine.specs.Explain.{mode_matters, mode_or_unsure, explained, explained_by, explanation};
+ghost use Rattle.cap_machine.specs.Table.{start_state};
+ghost use Rattle.cap_effect.specs.Stands.{summed_up};
+ghost use Rattle.cap_effect.specs.Behind.{IsPlace, state_at_start, history};
+
+use crate::node::Node;
+use crate::summary::Summary;
+use cap_machine::{
+    CellOrigin, CellWalk, Checks, Demand, Explanation, ModeOrigin, ModeWalk, Start, Step, rule_of,
+};
+use cap_trace::{Fd, Pid};
+use cap_list::NoMemory;
+use std::alloc::Global;
+
+/// The place behind so many steps of a node, which begin from a start.
+#[derive(Clone, Copy)]
+pub(crate) struct Behind<'a> {
+    start: &'a Start,
+    node: &'a Node,
+    count: usize,
+}
+
+impl Behind<'_> {
+    /// Where the cell of a descriptor of a process comes from.
+    fn cell_origin(&self, alloc: Global, pid: Pid, fd: Fd) -> Result<CellOrigin, NoMemory>
+        requires { IsPlace self.now }
+        ensures cell { IfOk result (λ origin.
+            origin.cell ≡ cell_after (state_at_start self.now) (history self.now) pid fd) }
+        ensures chain { IfOk result (λ origin.
+            cell_chain_of origin ≡ cell_chain (state_at_start self.now) (history self.now) pid fd) }
+    {
+        let mut walk = CellWalk::from(alloc, pid, fd);
+        self.node.walk_cell(&mut walk, 0, self.count)?;
+        match walk.finish(alloc, self.start) {
+            Ok(origin) => Ok(origin),
+            Err(_) => Err(NoMemory),
+        }
+    }
+
+    /// Where the mode of a process comes from.
+    fn mode_origin(&self, alloc: Global, pid: Pid) -> Result<ModeOrigin, NoMemory>
+        requires { IsPlace self.now }
+        ensures mode { IfOk result (λ origin.
+            origin.mode ≡ mode_after (state_at_start self.now) (history self.now) pid) }
+        ensures chain { IfOk result (λ origin.
+            mode_chain_of origin ≡ mode_chain (state_at_start self.now) (history self.now) pid) }
+    {
+        let mut walk = ModeWalk::from(alloc, pid);
+        self.node.walk_mode(&mut walk, 0, self.count)?;
+        Ok(walk.finish(self.start))
+    }
+
+    /// Where the cell of each descriptor that is checked comes from, in order.
+    fn origins(&self, alloc: Global, pid: Pid, checks: &Checks) -> Result<Vec<CellOrigin>, NoMemory>
+        requires { IsPlace self.now }
+        ensures cells { IfOk result (λ origins. map (λ (origin : CellOrigin). origin.cell) origins.items
+            ≡ map (λ (check : Check). cell_after (state_at_start self.now) (history self.now) pid check.fd)
+            (listed checks.now)) }
+        ensures chains { IfOk result (λ origins. map cell_chain_of origins.items
+            ≡ map (λ (check : Check). cell_chain (state_at_start self.now) (history self.now) pid check.fd)
+            (listed checks.now)) }
+    {
+        let mut origins = Vec::new(alloc);
+        match checks {
+            Checks::Nothing => {}
+            Checks::One(a) => {
+                origins.push(self.cell_origin(alloc, pid, a.fd)?)?;
+            }
+            Checks::Two(a, b) => {
+                origins.push(self.cell_origin(alloc, pid, a.fd)?)?;
+                origins.push(self.cell_origin(alloc, pid, b.fd)?)?;
+            }
+        }
+        Ok(origins)
+    }
+
+    /// Where the mode of a process comes from, where what is said of a line with this demand can depend on it.
+    fn mode_where(
+        &self,
+        alloc: Global,
+        pid: Pid,
+        demand: &Demand,
+    ) -> Result<Option<ModeOrigin>, NoMemory>
+        requires { IsPlace self.now }
+        ensures mode { mode_matters demand.now ≡ true → IfOk result
+            (λ origin. mode_or_unsure origin ≡ mode_after (state_at_start self.now) (history self.now) pid) }
+        ensures chain { IfOk result (λ origin. option_map mode_chain_of origin
+            ≡ (if mode_matters demand.now then Some (mode_chain (state_at_start self.now) (history self.now) pid)
+            else None)) }
+    {
+        if demand.mode_matters() {
+            Ok(Some(self.mode_origin(alloc, pid)?))
+        } else {
+            Ok(None)
+        }
+    }
+
+    /// What a step that stands here rests on.
+    fn explain(&self, alloc: Global, step: &Step) -> Result<Explanation, NoMemory>
+        requires { IsPlace self.now }
+        ensures { IfOk result
+            (λ e. explained_by e ≡ explained (state_at_start self.now) (history self.now) step.now) }
+    {
+        let pid = step.line.pid();
+        let demand = rule_of(step.profile, &step.line.seen()).demand;
+        let cells = self.origins(alloc, pid, &demand.checks)?;
+        let mode = self.mode_where(alloc, pid, &demand)?;
+        Ok(Explanation::of(&demand, cells, mode))
+    }
+}
+
+/// What the step at a position of a summary rests on; positions are from 1. `None` where it has no such step.
+///
+/// From the position it goes back to where the cell of each descriptor that the line checks was given, and to where the
+/// mode was where it matters. It leaves out each part of the summary of which it is known that no step touches the cell.
+/// It judges this step alone. Its memory is that of the chains.
+///
+/// `NoMemory` when out of memory; the summary is unchanged.
+pub fn explain(
+    alloc: Global,
+    summary: &Summary,
+    start: &Start,
+    position: usize,
+) -> Result<Option<Explanation>, NoMemory>
+    ensures { IfOk result (λ found. option_map explained_by found
+        ≡ explanation (start_state start.now) (summed_up summary.now) position) }
+{
+    if position == 0 || position > summary.node.len() {
+        return Ok(None);
+    }
+    let behind = Behind {
+        start,
+        node: &*summary.node,
+        count: position - 1,
+    };
+    let step = summary.node.step(position - 1);
+    let explanation = behind.explain(alloc, step)?;
+    Ok(Some(explanation))
+}

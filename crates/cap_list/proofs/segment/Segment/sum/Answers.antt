@@ -1,0 +1,48 @@
+use Rattle.std.proofs.Common.{◌≡◌, ℕ, ◌+◌, ◌<◌, ◌≤◌, ◌∷◌, [], ◌++◌, List, take, get_or, length, ap, sym, subst}
+use Rattle.std.proofs.Common.{◌∙◌, arith}
+use Rattle.std.proofs.lemmas.List.{map_more, take_all, length-map, length-take-le}
+use Rattle.std.specs.declared.rc.Rc.{Rc}
+use Rattle.cap_list.specs.Run.{values}
+use Rattle.cap_list.proofs.segment.Segment.sum.Goals as goal
+
+-- one more item
+more : {X Z : Type 0} (xs : List (Rc X Z)) (i : ℕ) (x : Rc X Z) → i < length xs → x ≡ get_or xs i x
+    → values (take (i + 1) xs) ≡ values (take i xs) ++ x.value ∷ []
+more {X} {Z} xs i x within at = map_more (λ (item : Rc X Z). item.value) xs i x within
+    ∙ ap (λ (y : Rc X Z). values (take i xs) ++ y.value ∷ []) (sym at)
+
+so_many : {X Z : Type 0} (xs : List (Rc X Z)) (i : ℕ) → i ≤ length xs → length (values (take i xs)) ≡ i
+so_many {X} {Z} xs i within = length-map (take i xs) (λ (item : Rc X Z). item.value) ∙ length-take-le i xs within
+
+pub loop-at-init : goal.loop-at-init
+loop-at-init g c =
+    let within : 0 < length c.args.items.now = omega arith in
+    record {
+      stands = subst (g.Self.Segment.stands c.in_ok-sum.sum)
+          (sym (more c.args.items.now 0 c.index-items-0.result within c.index-items-0.is)) c.in_ok-sum.ensures;
+      counted = omega arith;
+    }
+
+pub join-requires-clause-few : goal.join-requires-clause-few
+join-requires-clause-few g c =
+    let within : c.loop-at.at ≤ length c.args.items.now = omega arith in
+    let first = g.met.Self.Segment.sized c.loop-at.sum (values (take c.loop-at.at c.args.items.now)) c.loop-at.invariant.stands in
+    let second = g.met.Self.Segment.sized c.in_ok-next.next (c.index-items-at.result.value ∷ []) c.in_ok-next.ensures in
+    let many = so_many c.args.items.now c.loop-at.at within in
+    omega (arith, first, second, many)
+
+pub loop-at-preserved : goal.loop-at-preserved
+loop-at-preserved g c =
+    let within : c.loop-at.at < length c.args.items.now = omega arith in
+    record {
+      stands = subst (g.Self.Segment.stands c.in_ok-sum-2.sum)
+          (sym (more c.args.items.now c.loop-at.at c.index-items-at.result within c.index-items-at.is))
+          (c.in_ok-sum-2.ensures.joined (values (take c.loop-at.at c.args.items.now)) (c.index-items-at.result.value ∷ [])
+          c.loop-at.invariant.stands c.in_ok-next.ensures);
+      counted = omega (arith, c.in_ok-sum-2.ensures.counted);
+    }
+
+pub returns-clause-stands : goal.returns-clause-stands
+returns-clause-stands g c =
+    let all = take_all c.loop-at.at c.args.items.now (omega arith) in
+    subst (λ xs. g.Self.Segment.stands c.loop-at.sum (values xs)) all c.loop-at.invariant.stands

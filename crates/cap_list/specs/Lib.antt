@@ -1,0 +1,10 @@
+pub mod Alike
+pub mod Bits
+pub mod Edits
+pub mod Falls
+pub mod Heights
+pub mod Laws
+pub mod Root
+pub mod Run
+pub mod Shape
+pub mod Sides

@@ -1,0 +1,49 @@
+//! A count of the joins that were made, by which contracts bound what an edit costs.
+ghost use Rattle.std.specs.Prelude.{◌≡◌, ℕ, ◌+◌, ◌^◌, ◌<◌};
+
+use std::marker::Model;
+
+/// A count of joins, from 0 to `u64::MAX`. A contract sees the number.
+#[derive(Drop)]
+pub struct Meter {
+    count: u64,
+}
+
+impl Model for Meter {
+    ghost Value = { ℕ };
+
+    ghost view = { λ m. m.count };
+
+    ghost invariant = { λ m. m.count < 2 ^ 64 };
+}
+
+impl Meter {
+    /// A meter that has counted no join.
+    pub fn new() -> Meter
+        ensures { result ≡ 0 }
+    {
+        Meter { count: 0 }
+    }
+
+    /// The joins counted since `new`.
+    pub fn joins(&self) -> u64
+        ensures { result ≡ self.now }
+    {
+        self.count
+    }
+
+    /// How many joins can still be counted.
+    pub fn room(&self) -> u64
+        ensures { self.now + result + 1 ≡ 2 ^ 64 }
+    {
+        u64::MAX - self.count
+    }
+
+    /// Counts one join. There must be room for it.
+    pub fn tick(&mut self)
+        requires { self.old + 1 < 2 ^ 64 }
+        ensures { self.new ≡ self.old + 1 }
+    {
+        self.count += 1;
+    }
+}

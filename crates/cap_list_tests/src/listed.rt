@@ -1,0 +1,62 @@
+//! A segment that is its list of numbers, so that a summary can be compared with the items.
+ghost use Rattle.std.specs.Prelude.{◌≡◌, ◌++◌, length, IfOk};
+ghost use Rattle.std.proofs.Common.{ap};
+
+use cap_list::{Meter, NoMemory, Segment};
+use std::alloc::Global;
+use std::rc::Rc;
+
+#[cfg(test)]
+mod tests;
+
+/// The numbers as they are.
+#[derive(Drop)]
+pub struct Listed {
+    pub list: Vec<u32>,
+}
+
+impl Segment for Listed {
+    type Item = u32;
+
+    ghost stands = { λ s xs. s.list.items ≡ xs };
+
+    ghost size = { λ s. length s.list.items };
+
+    fn empty(alloc: Global) -> Result<Listed, NoMemory> {
+        Ok(Listed {
+            list: Vec::new(alloc),
+        })
+    }
+
+    fn one(alloc: Global, item: &Rc<u32>) -> Result<Listed, NoMemory> {
+        let mut list = Vec::new(alloc);
+        list.push(**item)?;
+        Ok(Listed { list })
+    }
+
+    fn len(&self) -> usize {
+        self.list.len()
+    }
+
+    fn join(
+        _alloc: Global,
+        meter: &mut Meter,
+        left: &Listed,
+        right: &Listed,
+    ) -> Result<Listed, NoMemory> {
+        let list = appended(&left.list, right.list.as_slice())?;
+        meter.tick();
+        Ok(Listed { list })
+    }
+
+    ghost sized = { λ s t e. ap length e };
+}
+
+/// The numbers of both.
+pub(crate) fn appended(front: &Vec<u32>, back: &[u32]) -> Result<Vec<u32>, NoMemory>
+    ensures { IfOk result (λ list. list.items ≡ front.now.items ++ back.now) }
+{
+    let mut list = front.clone()?;
+    list.extend_from_slice(back)?;
+    Ok(list)
+}
