@@ -9,9 +9,9 @@ ghost use Rattle.cap_effect.specs.Leaving.{is_own};
 
 use crate::key::Key;
 use crate::value::Value;
+use cap_list::NoMemory;
 use cap_machine::{Cell, Op};
 use cap_trace::{Fd, Pid};
-use cap_list::NoMemory;
 use std::alloc::Global;
 
 /// How a whole table of cells is handed on.

@@ -19,8 +19,8 @@ use crate::listed::Listed;
 use crate::reading::share_mode;
 use crate::sorted::{Combine, merge};
 use crate::value::Value;
-use cap_trace::{Fd, Pid};
 use cap_list::NoMemory;
+use cap_trace::{Fd, Pid};
 use std::alloc::Global;
 
 /// The cells that a base of a later segment hands on, as an earlier segment leaves them: those that are listed there,

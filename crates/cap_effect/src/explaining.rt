@@ -14,11 +14,11 @@ ghost use Rattle.cap_effect.specs.Behind.{IsPlace, state_at_start, history};
 
 use crate::node::Node;
 use crate::summary::Summary;
+use cap_list::NoMemory;
 use cap_machine::{
     CellOrigin, CellWalk, Checks, Demand, Explanation, ModeOrigin, ModeWalk, Start, Step, rule_of,
 };
 use cap_trace::{Fd, Pid};
-use cap_list::NoMemory;
 use std::alloc::Global;
 
 /// The place behind so many steps of a node, which begin from a start.

@@ -9,8 +9,8 @@ ghost use Rattle.cap_effect.specs.Positions.{within};
 ghost use Rattle.cap_list.specs.Run.{values};
 
 use crate::judging::{Asked, Report, note};
-use cap_machine::{Found, Machine, Step, Verdict};
 use cap_list::NoMemory;
+use cap_machine::{Found, Machine, Step, Verdict};
 use std::rc::Rc;
 
 /// Notes what is said of a step at a position, where that is asked for.

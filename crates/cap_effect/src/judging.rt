@@ -9,9 +9,9 @@ ghost use Rattle.cap_list.specs.Run.{values};
 
 use crate::before::Before;
 use crate::effect::Effect;
+use cap_list::NoMemory;
 use cap_machine::{Demand, Found, Step, Verdict, rule_of};
 use cap_trace::Pid;
-use cap_list::NoMemory;
 use std::alloc::Global;
 use std::rc::Rc;
 

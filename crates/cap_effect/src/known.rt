@@ -21,9 +21,9 @@ use crate::effect::Effect;
 use crate::key::Key;
 use crate::line_asks::LineAsks;
 use crate::precondition::Precondition;
+use cap_list::{Likeness, NoMemory, Side};
 use cap_machine::{Cell, Mode, Start, Step, rule_of};
 use cap_trace::{Fd, Pid};
-use cap_list::{Likeness, NoMemory, Side};
 use std::alloc::Global;
 use std::rc::Rc;
 

@@ -25,10 +25,10 @@ use crate::key::{Key, cell_of_mode};
 use crate::listed::Listed;
 use crate::sorted::Map;
 use crate::value::Value;
+use cap_list::NoMemory;
 use cap_machine::{Cell, Effect as LineEffect, Mode, OnExec};
 use cap_rights::RightSet;
 use cap_trace::{Fd, Pid, fds_of};
-use cap_list::NoMemory;
 use std::alloc::Global;
 
 /// The descriptors that a process starts with, as they are spelled.

@@ -18,8 +18,8 @@ use crate::key::Key;
 use crate::listed::Listed;
 use crate::sorted::Map;
 use crate::value::Value;
-use cap_trace::Pid;
 use cap_list::NoMemory;
+use cap_trace::Pid;
 use std::alloc::Global;
 
 /// A copy of a mode's cell, which shares what is derived. Allocates nothing.

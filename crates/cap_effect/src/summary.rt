@@ -14,8 +14,8 @@ use crate::before::Before;
 use crate::judging::{Asked, Report};
 use crate::known::Known;
 use crate::node::{Node, Rest};
-use cap_machine::{Found, Machine, Start, Step};
 use cap_list::{Likeness, Meter, NoMemory, Segment, Side};
+use cap_machine::{Found, Machine, Start, Step};
 use std::alloc::Global;
 use std::rc::Rc;
 

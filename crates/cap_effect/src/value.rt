@@ -7,9 +7,9 @@ ghost use Rattle.cap_effect.specs.Keys.{Cells};
 ghost use Rattle.cap_effect.specs.Values.{read, made_of, source, reads_within};
 
 use crate::key::Key;
+use cap_list::NoMemory;
 use cap_machine::{Cell, Op};
 use cap_trace::Pid;
-use cap_list::NoMemory;
 use std::alloc::Global;
 use std::rc::Rc;
 

@@ -7,9 +7,9 @@ ghost use Rattle.cap_effect.specs.Passes.{PassesCell, PassesMode};
 
 use crate::key::Key;
 use crate::node::{Content, Node};
+use cap_list::NoMemory;
 use cap_machine::{CellWalk, ModeWalk, Step};
 use cap_trace::{Fd, Pid};
-use cap_list::NoMemory;
 use std::rc::Rc;
 
 fn pass_cell(walk: &mut CellWalk, at: usize, step: &Step) -> Result<(), NoMemory>
