@@ -1,11 +1,13 @@
 -- How much rows list.
-use Rattle.std.proofs.Common.{◌≡◌, ℕ, ◌+◌, ◌<◌, ◌≤◌, List, [], ◌∷◌, ◌++◌, length, get_or, take, drop, ap, ◌∙◌}
+use Rattle.std.proofs.Common.{◌≡◌, ℕ, ◌+◌, ◌<◌, ◌≤◌, List, [], ◌∷◌, ◌++◌, length, get_or, take, ap, ◌∙◌, sym, subst}
 use Rattle.std.proofs.Common.{arith}
 use Rattle.std.proofs.Common.{Bool, true, false, nat_le}
 use Rattle.std.proofs.lemmas.Bool.Decides.{nat_tests}
-use Rattle.std.proofs.lemmas.List.{take_more, take-append-drop}
+use Rattle.std.specs.List.{All}
+use Rattle.std.proofs.lemmas.List.{take_more}
+use Rattle.std.proofs.lemmas.List.Elements.{All-push}
 use Rattle.cap_effect.specs.declared.effect.Row.{Row}
-use Rattle.cap_effect.specs.RowSizes.{rows_size}
+use Rattle.cap_effect.specs.RowSizes.{rows_size, CellsRise}
 
 sizes-append : (a b : List (ℕ × Row)) → rows_size (a ++ b) ≡ rows_size a + rows_size b
 sizes-append [] b = omega arith
@@ -18,11 +20,12 @@ sizes_more rows i e within at =
     rw (← at) at (ap rows_size (take_more rows i e within) ∙ sizes-append (take i rows) (get_or rows i e ∷ [])) in
     omega (arith, split)
 
-pub sizes_part : (rows : List (ℕ × Row)) (n : ℕ) → rows_size (take n rows) ≤ rows_size rows
-sizes_part rows n = omega (arith, ap rows_size (take-append-drop n rows), sizes-append (take n rows) (drop n rows))
+pub rises_more : (rows : List (ℕ × Row)) (i : ℕ) (e : ℕ × Row) → i < length rows → e ≡ get_or rows i e
+    → All CellsRise (take i rows) → CellsRise e → All CellsRise (take (i + 1) rows)
+rises_more rows i e within at all own =
+    let more : take (i + 1) rows ≡ take i rows ++ e ∷ [] =
+    take_more rows i e within ∙ ap (λ (x : ℕ × Row). take i rows ++ x ∷ []) (sym at) in
+    subst (All CellsRise) (sym more) (All-push CellsRise (take i rows) e all own)
 
 pub not_fitting : (n room : ℕ) (fits : Bool) → fits ≡ nat_le n room → fits ≡ false → room < n
 not_fitting n room fits is none = grind (arith, nat_tests, is, none)
-
-pub fitting : (n room : ℕ) (fits : Bool) → fits ≡ nat_le n room → fits ≡ true → n ≤ room
-fitting n room fits is some = grind (arith, nat_tests, is, some)

@@ -1,59 +1,122 @@
--- What is kept of steps, and what isn't.
-use Rattle.std.proofs.Common.{◌≡◌, List, [], ◌++◌, ◌<◌, length, true, false, sym, ap, ◌∙◌}
-use Rattle.std.proofs.lemmas.List.{append_assoc, append-nil}
-use Rattle.std.proofs.lemmas.List.Elements.{All-nil}
+-- What is known is kept where few processes and descriptors are named, unless many calls were refused.
+use Rattle.std.proofs.Common.{◌≡◌, ℕ, ◌+◌, ◌*◌, ◌<◌, ◌≤◌, min, List, [], ◌∷◌, ◌++◌, length, Bool, true, false, cond, eqb}
+use Rattle.std.proofs.Common.{Option, Some, None, refl, sym, ap, ◌∙◌, inl, inr, arith}
+use Rattle.std.specs.Prelude.{IfSome, is_some, nat_le}
+use Rattle.std.specs.List.{All}
+use Rattle.std.proofs.Math.Nat.{mul-le-mul_right}
+use Rattle.std.proofs.lemmas.Bool.{eqb-true, eq-eqb}
+use Rattle.std.proofs.lemmas.Bool.Decides.{nat_tests}
+use Rattle.std.proofs.lemmas.List.Elements.{All-head, All-tail}
 use Rattle.cap_machine.specs.declared.step.Step.{Step}
+use Rattle.cap_effect.specs.declared.effect.Row.{Row}
 use Rattle.cap_effect.specs.declared.known.Known.{Known}
-use Rattle.cap_effect.specs.declared.precondition.Precondition.{Precondition}
-use Rattle.cap_effect.specs.Asks.{CanBe}
+use Rattle.cap_effect.specs.Sorted.{found, Rises, RisesFrom, KeysRise}
 use Rattle.cap_effect.specs.Preconditions.{IsSettled}
-use Rattle.cap_effect.specs.Knows.{Knows}
+use Rattle.cap_effect.specs.Names.{Names, names_in, AreAmong, IsListedWithin, IsRowWithin, ListWithin, RowsWithin}
+use Rattle.cap_effect.specs.RowSizes.{rows_size, CellsRise, AllRise}
 use Rattle.cap_effect.specs.Sizes.{size}
-use Rattle.cap_effect.specs.Kept.{limit, IsTooLarge}
+use Rattle.cap_effect.specs.Knows.{Knows}
+use Rattle.cap_effect.specs.Kept.{limit}
+use Rattle.cap_effect.specs.Few.{is_one, these, room, refused, NamesMany, RefusesMany, NameOrRefuseMany}
+use Rattle.cap_effect.proofs.SortedFound.{found_below, rises_again}
+use Rattle.cap_effect.proofs.FewKeys.{few_keys}
+use Rattle.cap_effect.proofs.FewAsks.{few_asks}
+use Rattle.cap_effect.proofs.Naming.{effect_among, asks_among, first_among, second_among}
+use Rattle.cap_effect.proofs.Knowing.{refused_parts}
 
--- one of two parts is too large, or both together are
-pub large_first : (t u : List Step) → IsTooLarge t → IsTooLarge (t ++ u)
-large_first t u large = record {
-  front = large.front;
-  part = large.part;
-  back = large.back ++ u;
-  known = large.known;
-  knows = large.knows;
-  settled = large.settled;
-  large = large.large;
-  parts = ap (λ r. r ++ u) large.parts ∙ append_assoc large.front (large.part ++ large.back) u
-      ∙ ap (λ r. large.front ++ r) (append_assoc large.part large.back u);
+-- ---- rows among these processes, which list these descriptors
+
+-- what holds of the value that is there
+of_some : {V : Type 0} (o : Option V) (P : V → Type 0) (b : Bool) → ((v : V) → P v → b ≡ true) → IfSome o P
+    → is_some o ≡ true → b ≡ true
+of_some None P b so all is = absurd cc
+of_some (Some v) P b so all is = so v all
+
+rises : {V : Type 0} (entries : List (ℕ × V)) → KeysRise entries → Rises entries
+rises entries rise = rises_again 0 entries (λ i d lt. omega arith) rise
+
+module _ (pids fds : List ℕ) where
+  few_cells : (row : Row) → KeysRise row.cells → ListWithin (these pids fds) row.cells → length row.cells ≤ length fds
+  few_cells row rise within = few_keys row.cells fds (rises row.cells rise) (λ f is.
+      of_some (found row.cells f) (IsListedWithin (these pids fds) f) (is_one fds f) (λ v at. at.key) (within f) is)
+
+  first_within : (p : ℕ) (row : Row) (rest : List (ℕ × Row)) → RowsWithin (these pids fds) ((p, row) ∷ rest)
+      → IsRowWithin (these pids fds) p row
+  first_within p row rest within = rw (eq-eqb p p refl) at (within p)
+
+  rest_within : (p : ℕ) (row : Row) (rest : List (ℕ × Row)) → RisesFrom (p + 1) rest
+      → RowsWithin (these pids fds) ((p, row) ∷ rest) → RowsWithin (these pids fds) rest
+  rest_within p row rest rise within q = by (eqb p q) refl (within q)
+    where
+      by : (same : Bool) → eqb p q ≡ same
+          → IfSome (cond same (Some row) (found rest q)) (IsRowWithin (these pids fds) q)
+          → IfSome (found rest q) (IsRowWithin (these pids fds) q)
+      by true e is = let above : q < p + 1 = omega (arith, eqb-true p q e) in
+          rw (found_below (p + 1) rest q rise above) tt
+      by false e is = is
+
+  rows_listed : (b : ℕ) (rows : List (ℕ × Row)) → RisesFrom b rows → All CellsRise rows
+      → RowsWithin (these pids fds) rows → rows_size rows ≤ length rows * (length fds + 1)
+  rows_listed b [] rise cells within = omega arith
+  rows_listed b ((p, row) ∷ rest) rise cells within =
+      let own = few_cells row (All-head CellsRise (p, row) rest cells) (first_within p row rest within).row.cells in
+      let later = rows_listed (p + 1) rest rise.1 (All-tail CellsRise (p, row) rest cells)
+      (rest_within p row rest rise.1 within) in
+      omega (arith, own, later)
+
+  pub few_rows : (rows : List (ℕ × Row)) → AllRise rows → RowsWithin (these pids fds) rows
+      → rows_size rows ≤ room pids fds
+  few_rows rows rising within =
+      let few : length rows ≤ length pids = few_keys rows pids (rises rows rising.pids) (λ p is.
+      of_some (found rows p) (IsRowWithin (these pids fds) p) (is_one pids p) (λ row at. at.pid) (within p) is) in
+      let all : length rows * (length fds + 1) ≤ length pids * (length fds + 1) =
+      mul-le-mul_right (length fds + 1) few in
+      let each = rows_listed 0 rows (rises rows rising.pids) rising.cells within in
+      omega (arith, each, all)
+
+-- ---- what isn't kept
+
+-- more than the limit, with few refusals, is more than 1,024 cells and modes give
+many_cells : (n rows asks refusals refused room : ℕ) → limit n < rows + (asks + refusals) → rows ≤ room
+    → asks ≤ 8 * room → asks + refusals ≤ 3 * n → refusals ≤ refused → refused ≤ 30000 → 1024 < room
+many_cells n rows asks refusals refused room large few_rows few_asks few some = omega arith
+
+-- what is known of the steps is above the limit
+pub many_whole : (t : List Step) (known : Known) → Knows known t → IsSettled known.precondition.value
+    → AllRise known.effect.value.rows → limit (length t) < size known → NameOrRefuseMany t
+many_whole t known knows settled rising large = by (nat_le (refused t) 30000) refl
+  where
+    by : (few : Bool) → nat_le (refused t) 30000 ≡ few → NameOrRefuseMany t
+    by true e =
+        let few : refused t ≤ 30000 = grind (arith, nat_tests, e) in
+        inl (λ pids fds among.
+        let named = these pids fds in
+        let rows = few_rows pids fds known.effect.value.rows rising
+        (effect_among (names_in t) named among known.effect.value knows.effect_named) in
+        let asks = few_asks pids fds known.precondition.value.asks.items settled.rises
+        (asks_among (names_in t) named among known.precondition.value knows.asks_named).asks in
+        many_cells (length t) (rows_size known.effect.value.rows) (length known.precondition.value.asks.items)
+        (length known.precondition.value.refusals.items) (refused t) (room pids fds) large rows asks knows.few
+        knows.refusals few)
+    by false e = inr (grind (arith, nat_tests, e))
+
+-- one of two parts names or refuses many
+among_those : (a b d : Names) → AreAmong a b → AreAmong b d → AreAmong a d
+among_those a b d first then_ = record {
+  pids = λ p is. then_.pids p (first.pids p is);
+  fds = λ f is. then_.fds f (first.fds f is);
 }
 
-pub large_second : (t u : List Step) → IsTooLarge u → IsTooLarge (t ++ u)
-large_second t u large = record {
-  front = t ++ large.front;
-  part = large.part;
-  back = large.back;
-  known = large.known;
-  knows = large.knows;
-  settled = large.settled;
-  large = large.large;
-  parts = ap (λ r. t ++ r) large.parts ∙ sym (append_assoc t large.front (large.part ++ large.back));
-}
+pub many_first : (t u : List Step) → NameOrRefuseMany t → NameOrRefuseMany (t ++ u)
+many_first t u many = elim many [
+  | inl names ↦ inl (λ pids fds among.
+      names pids fds (among_those (names_in t) (names_in (t ++ u)) (these pids fds) (first_among t u) among))
+  | inr refuses ↦ inr (omega (arith, refuses, refused_parts t u))
+]
 
-pub large_whole : (t : List Step) (known : Known) → Knows known t → IsSettled known.precondition.value
-    → limit (length t) < size known → IsTooLarge t
-large_whole t known knows settled large = record {
-  front = [];
-  part = t;
-  back = [];
-  parts = sym (append-nil t);
-  known = known;
-  knows = knows;
-  settled = settled;
-  large = large;
-}
-
--- nothing is asked
-pub settled_none : (pre : Precondition) → pre.certain ≡ false → pre.asks.items ≡ [] → IsSettled pre
-settled_none pre certain asks = record {
-  rises = rw asks tt;
-  fails = rw asks (All-nil (CanBe false));
-  alone = λ (is : pre.certain ≡ true). absurd (let wrong : false ≡ true = sym certain ∙ is in cc);
-}
+pub many_second : (t u : List Step) → NameOrRefuseMany u → NameOrRefuseMany (t ++ u)
+many_second t u many = elim many [
+  | inl names ↦ inl (λ pids fds among.
+      names pids fds (among_those (names_in u) (names_in (t ++ u)) (these pids fds) (second_among t u) among))
+  | inr refuses ↦ inr (omega (arith, refuses, refused_parts t u))
+]

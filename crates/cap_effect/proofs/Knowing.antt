@@ -1,6 +1,6 @@
 -- What a summary says after one more step, or one more segment.
 use Rattle.std.proofs.Common.{◌≡◌, ℕ, List, [], ◌∷◌, ◌++◌, ◌+◌, ◌<◌, false, ◌||◌, length, map, refl, sym, ap, ◌∙◌}
-use Rattle.std.proofs.Common.{get_or, take}
+use Rattle.std.proofs.Common.{get_or, take, ◌≤◌, ◌*◌, if◌then◌else◌, arith, length-append}
 use Rattle.std.proofs.lemmas.List.{map-append, take_more}
 use Rattle.std.proofs.lemmas.List.Elements.{All-nil, All-cons, All-append}
 use Rattle.std.specs.declared.rc.Rc.{Rc}
@@ -9,6 +9,7 @@ use Rattle.std.proofs.Math.Path.{fun_ext}
 use Rattle.cap_machine.specs.declared.step.Step.{Step}
 use Rattle.cap_machine.specs.declared.rule.Effect.{Effect as LineEffect}
 use Rattle.cap_machine.specs.State.{State}
+use Rattle.cap_machine.specs.Rule.{demand}
 use Rattle.cap_machine.specs.Touch.{Turn, kept, stays, turns, follows, touch, turn}
 use Rattle.cap_machine.specs.Effect.{effect_touch, effect_turn}
 use Rattle.cap_machine.specs.History.{touched, turned, ended}
@@ -26,10 +27,12 @@ use Rattle.cap_effect.specs.Keys.{Cells, mode_cell, cells_of}
 use Rattle.cap_effect.specs.Effects.{changed}
 use Rattle.cap_effect.specs.Leaving.{LineLeaves, LeavesThenLine}
 use Rattle.cap_effect.specs.Lines.{turned_cell, line_after, IsThenLine}
-use Rattle.cap_effect.specs.LineAsks.{asked_holds, has_any}
+use Rattle.cap_effect.specs.LineAsks.{asked_holds, refusals_in, has_any}
 use Rattle.cap_effect.specs.Preconditions.{is_met, IsMetOr, IsPossible}
 use Rattle.cap_effect.specs.Names.{Names, names_in, AreAmong, EffectWithin, LineWithin, LineAsksWithin, PreWithin}
 use Rattle.cap_effect.specs.Joined.{IsJoined}
+use Rattle.cap_effect.specs.Sizes.{asks_size}
+use Rattle.cap_effect.specs.Few.{is_refusal, refused}
 use Rattle.cap_effect.specs.Knows.{Says, Knows, StepsLeave}
 use Rattle.cap_effect.proofs.LineAsking.{has_any-append}
 use Rattle.cap_effect.proofs.Naming.{effect_among, asks_among, first_among, second_among}
@@ -40,6 +43,11 @@ pub one_more : {X Z : Type 0} (run : List (Rc X Z)) (i : ℕ) (x : Rc X Z) → i
 one_more run i x within at = ap values (take_more run i x within)
     ∙ map-append (λ item. item.value) (take i run) (get_or run i x ∷ [])
     ∙ ap (λ y. values (take i run) ++ y.value ∷ []) (sym at)
+
+-- the calls of two parts that were refused for lack of a right
+pub refused_parts : (t u : List Step) → refused (t ++ u) ≡ refused t + refused u
+refused_parts [] u = omega arith
+refused_parts (step ∷ t) u = omega (arith, refused_parts t u)
 
 has_any-map : {X Y : Type 0} (f : X → Y) (xs : List X) → has_any (map f xs) ≡ has_any xs
 has_any-map f [] = refl
@@ -61,14 +69,17 @@ both_leave t u p (key.Fd f) first second = All-append (λ (step : Step). touch s
 pub says_none : (effect : Effect) (pre : Precondition)
     → ((cells : Cells) (p : ℕ) (k : Key) → changed effect cells p k ≡ cells p k)
     → ((s : State) → is_met (cells_of s) pre ≡ false) → IsPossible pre
-    → ((names : Names) → EffectWithin names effect) → ((names : Names) → PreWithin names pre) → Says effect pre []
-says_none effect pre same never possible effects asks = record {
+    → ((names : Names) → EffectWithin names effect) → ((names : Names) → PreWithin names pre) → asks_size pre ≡ 0
+    → Says effect pre []
+says_none effect pre same never possible effects asks nothing = record {
   after = λ s p k. same (cells_of s) p k;
   left = λ p k is. none_touch p k;
   finds = never;
   possible = possible;
   effect_named = effects (names_in []);
   asks_named = asks (names_in []);
+  few = omega (arith, nothing);
+  refusals = omega (arith, nothing);
 }
 
 pub knows_both : (a b both : Known) (t u : List Step) → Knows a t → Knows b u → IsJoined a b both
@@ -91,6 +102,8 @@ knows_both a b both t u first second joined = record {
   asks_named = joined.precondition.names (names_in (t ++ u)) effect
       (asks_among (names_in t) (names_in (t ++ u)) front a.precondition.value first.asks_named)
       (asks_among (names_in u) (names_in (t ++ u)) behind b.precondition.value second.asks_named);
+  few = omega (arith, joined.precondition.few, first.few, second.few, length-append t u);
+  refusals = omega (arith, joined.precondition.refusals, first.refusals, second.refusals, refused_parts t u);
 }
   where
     front : AreAmong (names_in t) (names_in (t ++ u))
@@ -114,14 +127,17 @@ knows_both a b both t u first second joined = record {
 pub says_same : (effect : Effect) (pre new : Precondition) (t : List Step) → Says effect pre t
     → ((s : State) → is_met (cells_of s) new ≡ is_met (cells_of s) pre)
     → (IsPossible pre → IsPossible new)
-    → ((names : Names) → PreWithin names pre → PreWithin names new) → Says effect new t
-says_same effect pre new t says met possible asks = record {
+    → ((names : Names) → PreWithin names pre → PreWithin names new)
+    → asks_size new ≤ asks_size pre → length new.refusals.items ≤ length pre.refusals.items → Says effect new t
+says_same effect pre new t says met possible asks few refusals = record {
   after = says.after;
   finds = λ s. met s ∙ says.finds s;
   left = says.left;
   possible = possible says.possible;
   effect_named = says.effect_named;
   asks_named = asks (names_in t) says.asks_named;
+  few = omega (arith, few, says.few);
+  refusals = omega (arith, refusals, says.refusals);
 }
 
 -- a mode is turned as its cell is
@@ -159,20 +175,25 @@ module _ (step : Step) (line : LineEffect) (me : ℕ) (cells : (p f : ℕ) → e
       → ((names : Names) → LineWithin names me line → EffectWithin names effect → EffectWithin names new)
       → ((names : Names) → EffectWithin names effect → LineAsksWithin names asks → PreWithin names pre
       → PreWithin names more) → LineWithin (names_in (t ++ step ∷ [])) me line
-      → LineAsksWithin (names_in (t ++ step ∷ [])) asks → Says new more (t ++ step ∷ [])
-  says_more effect new pre more asks t so_far does leaves met possible says effects pres line_named asks_named = record {
-    after = λ s. after_more effect new t s (so_far.after s) does;
-    finds = λ s. met s
-        ∙ ap (λ (cells : Cells). is_met (cells_of s) pre || asked_holds cells asks) (between s)
-        ∙ ap (λ r. r || asked_holds (cells_of (ended s t)) asks) (so_far.finds s)
-        ∙ ap (λ r. has_any (check s t) || r) (says (ended s t))
-        ∙ sym (found s);
-    possible = possible so_far.possible;
-    left = λ p k is. both_leave t (step ∷ []) p k (so_far.left p k (leaves p k is).0) (step_leaves p k (leaves p k is).1);
-    effect_named = effects (names_in (t ++ step ∷ [])) line_named named;
-    asks_named = pres (names_in (t ++ step ∷ [])) named asks_named (asks_among (names_in t) (names_in (t ++ step ∷
-        [])) front pre so_far.asks_named);
-  }
+      → LineAsksWithin (names_in (t ++ step ∷ [])) asks → asks_size more ≤ asks_size pre + 3
+      → length more.refusals.items ≤ length pre.refusals.items + refusals_in asks
+      → refusals_in asks ≤ (if is_refusal (demand step.line).reply then 1 else 0) → Says new more (t ++ step ∷ [])
+  says_more effect new pre more asks t so_far does leaves met possible says effects pres line_named asks_named few
+      refusals one = record {
+        after = λ s. after_more effect new t s (so_far.after s) does;
+        finds = λ s. met s
+            ∙ ap (λ (cells : Cells). is_met (cells_of s) pre || asked_holds cells asks) (between s)
+            ∙ ap (λ r. r || asked_holds (cells_of (ended s t)) asks) (so_far.finds s)
+            ∙ ap (λ r. has_any (check s t) || r) (says (ended s t))
+            ∙ sym (found s);
+        possible = possible so_far.possible;
+        left = λ p k is. both_leave t (step ∷ []) p k (so_far.left p k (leaves p k is).0) (step_leaves p k (leaves p k is).1);
+        effect_named = effects (names_in (t ++ step ∷ [])) line_named named;
+        asks_named = pres (names_in (t ++ step ∷ [])) named asks_named (asks_among (names_in t) (names_in (t ++ step ∷
+            [])) front pre so_far.asks_named);
+        few = omega (arith, few, so_far.few, length-append t (step ∷ []));
+        refusals = omega (arith, refusals, one, so_far.refusals, refused_parts t (step ∷ []));
+      }
     where
       front : AreAmong (names_in t) (names_in (t ++ step ∷ []))
       front = first_among t (step ∷ [])

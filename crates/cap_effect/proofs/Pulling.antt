@@ -1,6 +1,6 @@
 -- Asks of a later segment, pulled back through the effect of a first one.
-use Rattle.std.proofs.Common.{◌≡◌, List, [], ◌∷◌, ◌++◌, Bool, true, false, ◌||◌, ℕ, ◌+◌, ◌<◌, length, get_or, take}
-use Rattle.std.proofs.Common.{refl, sym, ap, ◌∙◌, subst}
+use Rattle.std.proofs.Common.{◌≡◌, List, [], ◌∷◌, ◌++◌, Bool, true, false, ◌||◌, ℕ, ◌+◌, ◌<◌, ◌≤◌, length, get_or, take}
+use Rattle.std.proofs.Common.{refl, sym, ap, ◌∙◌, subst, arith, length-append}
 use Rattle.std.specs.List.{list_any, All}
 use Rattle.std.proofs.lemmas.List.{take_more}
 use Rattle.std.proofs.lemmas.List.Folds.{list_any-append}
@@ -16,6 +16,9 @@ use Rattle.cap_effect.specs.Names.{Names, has_cell, EffectWithin, RefusalsWithin
 use Rattle.cap_effect.specs.Asks.{holds, any_holds, CanBe, AskWithin, IsUnionOf}
 use Rattle.cap_effect.specs.Preconditions.{is_met, is_wrongful, IsPulledBack, AreAskedByBoth, IsAskedByBoth, IsPossible}
 use Rattle.cap_effect.specs.Preconditions.{IsSettled, IsMetOr}
+use Rattle.cap_effect.specs.Sizes.{asks_size}
+use Rattle.std.specs.declared.vec.Vec.{Vec}
+use Rattle.std.specs.declared.alloc.Global.{Global}
 use Rattle.cap_effect.proofs.Bools.{or_false, or_true, or_assoc, or_last, or_crossed}
 use Rattle.cap_effect.proofs.Uniting.{all_left, all_right}
 
@@ -27,6 +30,9 @@ module _ (first : Effect) (asks : List Ask) (i : ℕ) (ask : Ask) (kept moved : 
   met_more : (cells : Cells) → any_holds cells (take (i + 1) asks) ≡ (any_holds cells (take i asks) || holds cells ask)
   met_more cells = ap (any_holds cells) one_more ∙ list_any-append (holds cells) (take i asks) (ask ∷ [])
       ∙ ap (λ r. any_holds cells (take i asks) || r) (or_false (holds cells ask))
+
+  counted : length (take (i + 1) asks) ≡ length (take i asks) + 1
+  counted = ap (λ (xs : List Ask). length xs) one_more ∙ length-append (take i asks) (ask ∷ [])
 
   front : (P : Ask → Type 0) → All P (take (i + 1) asks) → All P (take i asks) × P ask
   front P all =
@@ -43,6 +49,7 @@ module _ (first : Effect) (asks : List Ask) (i : ℕ) (ask : Ask) (kept moved : 
         ∙ sym (met_more (changed first (cells_of s)));
     can = λ answer all. so_far.can answer (front (CanBe answer) all).0;
     names = λ names effect all. so_far.names names effect (front (AskWithin (has_cell names)) all).0;
+    few = omega (arith, counted, so_far.few);
   }
 
   -- one more, which becomes this one
@@ -72,6 +79,7 @@ module _ (first : Effect) (asks : List Ask) (i : ℕ) (ask : Ask) (kept moved : 
           let two = front (AskWithin (has_cell names)) all in
           let old = so_far.names names effect two.0 in
           (All-push (AskWithin (has_cell names)) kept before old.0 (named names effect two.1), old.1);
+      few = omega (arith, counted, so_far.few, length-append kept (before ∷ []));
     }
 
     pub pulled_moved : IsPulledBack first (take (i + 1) asks) kept (moved ++ before ∷ [])
@@ -89,6 +97,7 @@ module _ (first : Effect) (asks : List Ask) (i : ℕ) (ask : Ask) (kept moved : 
           let two = front (AskWithin (has_cell names)) all in
           let old = so_far.names names effect two.0 in
           (old.0, All-push (AskWithin (has_cell names)) moved before old.1 (named names effect two.1));
+      few = omega (arith, counted, so_far.few, length-append moved (before ∷ []));
     }
 
 -- ---- the asks of both segments
@@ -105,19 +114,22 @@ asked_by_both first own later kept moved pulled both back order union = record {
   names = λ names effect a b.
       let two = back.names names effect b in
       union.names (has_cell names) a (order.names (has_cell names) two.0 two.1);
+  few = omega (arith, union.few, order.few, back.few);
 }
 
 -- ---- both segments
 -- something is found in every state
 pub always_asked : (first : Effect) (own later both : Precondition) → ((cells : Cells) → is_met cells both ≡ true)
-    → IsSettled both → IsPossible both → ((names : Names) → PreWithin names both)
+    → IsSettled both → IsPossible both → ((names : Names) → PreWithin names both) → asks_size both ≡ 0
     → ((s : State) → (is_met (cells_of s) own || is_met (changed first (cells_of s)) later) ≡ true)
     → IsAskedByBoth first own later both
-always_asked first own later both always settled possible within found = record {
+always_asked first own later both always settled possible within nothing found = record {
   met = λ s. always (cells_of s) ∙ sym (found s);
   possible = λ old more. possible;
   names = λ names effect a b. within names;
   settled = settled;
+  few = omega (arith, nothing);
+  refusals = omega (arith, nothing);
 }
 
 -- the asks of both, or the refusals of one of them
@@ -140,8 +152,9 @@ module _ (first : Effect) (own later before new : Precondition) (refusals : List
 
   pub asked_joined : IsSettled own → IsSettled later → new.certain ≡ false → new.asks ≡ before.asks → (IsPossible before → IsPossible new)
       → ((names : Names) → EffectWithin names first → RefusalsWithin names refusals → PreWithin names before
-      → PreWithin names new) → IsAskedByBoth first own later new
-  asked_joined settled more_settled new_open asks possible names = record {
+      → PreWithin names new) → length new.refusals.items ≤ length before.refusals.items + length refusals
+      → IsAskedByBoth first own later new
+  asked_joined settled more_settled new_open asks possible names few = record {
     met = met_joined;
     possible = λ old more.
         possible (record { asks = asked.can true old.asks more.asks; refusals = rw same old.refusals });
@@ -152,7 +165,17 @@ module _ (first : Effect) (own later before new : Precondition) (refusals : List
       fails = rw asks (asked.can false settled.fails more_settled.fails);
       alone = λ (is : new.certain ≡ true). absurd (let wrong : false ≡ true = sym new_open ∙ is in cc);
     };
+    few = omega (arith, refused, asked.few, ap (λ (asks : Vec Ask Global). length asks.items) asks);
+    refusals = refused;
   }
+    where
+      refused : length new.refusals.items ≤ length own.refusals.items + length later.refusals.items
+      refused = omega (
+        arith,
+        few,
+        ap (λ (rs : List Refusal). length rs) same,
+        ap (λ (rs : List Refusal). length rs) theirs,
+      )
 
 -- one of the asks holds in every state
 pub met_by_asks : (first : Effect) (own later : Precondition) (s : State)

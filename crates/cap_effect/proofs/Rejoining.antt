@@ -73,6 +73,8 @@ first_asks was first own new later old effect same asked = record {
   possible = λ mine other. asked.possible (possible_back own new same mine) other;
   names = λ names one mine other. asked.names names (effect.back names one) (named_back own new same names mine) other;
   settled = asked.settled;
+  few = rw (same.asks, same.refusals) at asked.few;
+  refusals = rw same.refusals at asked.refusals;
 }
 
 second_asks : (first : Effect) (own was later old : Precondition) → IsSamePrecondition was later
@@ -83,6 +85,8 @@ second_asks first own was later old same asked = record {
   possible = λ mine other. asked.possible mine (possible_back was later same other);
   names = λ names one mine other. asked.names names one mine (named_back was later same names other);
   settled = asked.settled;
+  few = rw (same.asks, same.refusals) at asked.few;
+  refusals = rw same.refusals at asked.refusals;
 }
 
 -- the effect of the old whole is that of the new one

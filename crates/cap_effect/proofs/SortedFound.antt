@@ -6,7 +6,7 @@ use Rattle.std.specs.Ordering.{nat_cmp, ordering_index}
 use Rattle.std.proofs.lemmas.Cmp.{ranked}
 use Rattle.std.proofs.lemmas.Bool.Decides.{nat_tests}
 use Rattle.cap_effect.specs.Place.{IsAt, IsGap}
-use Rattle.cap_effect.specs.Sorted.{found, RisesFrom, Rises}
+use Rattle.cap_effect.specs.Sorted.{found, RisesFrom, Rises, KeysRise}
 
 -- no key is below the bound
 pub rises_at : {V : Type 0} (b : ℕ) (l : List (ℕ × V)) → RisesFrom b l → (i : ℕ) (d : ℕ × V) → i < length l
@@ -26,7 +26,7 @@ found_below b ((k, v) ∷ rest) key rises below =
     grind (arith, nat_tests, later)
 
 -- each key is below those after it
-keys_rise : {V : Type 0} (b : ℕ) (l : List (ℕ × V)) → RisesFrom b l → (i j : ℕ) (d : ℕ × V) → i < j → j < length l
+pub keys_rise : {V : Type 0} (b : ℕ) (l : List (ℕ × V)) → RisesFrom b l → (i j : ℕ) (d : ℕ × V) → i < j → j < length l
     → (get_or l i d).0 < (get_or l j d).0
 keys_rise b [] rises i j d lt in_range = absurd (omega arith)
 keys_rise b ((k, v) ∷ rest) rises i zero d lt in_range = absurd (omega arith)
@@ -34,6 +34,17 @@ keys_rise b ((k, v) ∷ rest) rises zero (suc j) d lt in_range =
     omega (arith, rises_at (k + 1) rest rises.1 j d (omega arith))
 keys_rise b ((k, v) ∷ rest) rises (suc i) (suc j) d lt in_range =
     keys_rise (k + 1) rest rises.1 i j d (omega arith) (omega arith)
+
+-- and where it is, the keys rise
+pub rises_again : {V : Type 0} (b : ℕ) (l : List (ℕ × V)) → ((i : ℕ) (d : ℕ × V) → i < length l → b ≤ (get_or l i d).0)
+    → KeysRise l → RisesFrom b l
+rises_again b [] above keys = tt
+rises_again b ((k, v) ∷ rest) above keys = (
+  above 0 (k, v) (omega arith),
+  rises_again (k + 1) rest (λ i d lt. let next : k < (get_or rest i d).0 = keys 0 (suc i) d (omega arith) (omega arith) in
+      omega (arith, next))
+      (λ i j d lt in_range. keys (suc i) (suc j) d (omega arith) (omega arith)),
+)
 
 -- in the rest, an entry stands one place lower
 pub is_at_tail : {V : Type 0} (x : ℕ × V) (l : List (ℕ × V)) (key at : ℕ) → IsAt (x ∷ l) key (suc at) → IsAt l key at

@@ -5,7 +5,8 @@ use Rattle.cap_list.specs.Run.{values}
 use Rattle.cap_effect.specs.declared.known.Known.{Known}
 use Rattle.cap_effect.specs.declared.node.Content.{Content}
 use Rattle.cap_effect.specs.declared.node.Content.TheVariants.{Run, Both}
-use Rattle.cap_effect.specs.Kept.{IsKept, IsTooLarge}
+use Rattle.cap_effect.specs.Kept.{IsKept}
+use Rattle.cap_effect.specs.Few.{NameOrRefuseMany}
 use Rattle.cap_effect.specs.View.{NodeView}
 
 -- the steps, from the first
@@ -26,11 +27,11 @@ abbrev pub IsBoth : Content → Type 0
 IsBoth (Run run) = ⊥
 IsBoth (Both a b) = Unit {0}
 
--- what always holds of a node; one of which nothing is kept is read through its parts
+-- what always holds of a node; one of which nothing is kept is read through its parts, and names or refuses many
 pub record IsGood (size : ℕ) (kept : Option Known) (content : Content) : Type 0 where
   pub len : size ≡ length (content_steps content)
   pub parts : HasParts content
   pub few : size ≤ 2 ^ 30
   pub known : IfSome kept (λ known. IsKept known (content_steps content))
   pub wide : IfNone kept (IsBoth content)
-  pub large : IfNone kept (IsTooLarge (content_steps content))
+  pub many : IfNone kept (NameOrRefuseMany (content_steps content))

@@ -1,5 +1,5 @@
 -- What an effect and a precondition say of the steps of a segment, whatever the state before them.
-use Rattle.std.specs.Prelude.{◌≡◌, ℕ, Bool, true, List}
+use Rattle.std.specs.Prelude.{◌≡◌, ℕ, ◌*◌, ◌≤◌, Bool, true, List, length}
 use Rattle.cap_machine.specs.declared.step.Step.{Step}
 use Rattle.cap_machine.specs.State.{State}
 use Rattle.cap_machine.specs.History.{ended}
@@ -17,6 +17,8 @@ use Rattle.cap_effect.specs.Leaving.{leaves}
 use Rattle.cap_effect.specs.LineAsks.{has_any}
 use Rattle.cap_effect.specs.Preconditions.{is_met, IsPossible}
 use Rattle.cap_effect.specs.Names.{names_in, EffectWithin, PreWithin}
+use Rattle.cap_effect.specs.Sizes.{asks_size}
+use Rattle.cap_effect.specs.Few.{refused}
 
 -- no step touches a cell, or turns a mode
 abbrev pub StepsLeave : List Step → ℕ → Key → Type 0
@@ -25,7 +27,7 @@ StepsLeave steps p (key.Fd f) = LeavesCell steps p f
 
 -- In every state before the steps: each cell and each mode after them, and whether something is found in them. Nothing
 -- is asked that holds in no state, and nothing is listed, read or asked that no line names. What is said to be left no step
--- touches.
+-- touches. A step asks at most three things, and adds a refusal only if it was refused for lack of a right.
 pub record Says (effect : Effect) (precondition : Precondition) (steps : List Step) : Type 0 where
   pub after : (s : State) (p : ℕ) (k : Key) → changed effect (cells_of s) p k ≡ cells_of (ended s steps) p k
   pub finds : (s : State) → is_met (cells_of s) precondition ≡ has_any (check s steps)
@@ -33,6 +35,8 @@ pub record Says (effect : Effect) (precondition : Precondition) (steps : List St
   pub left : (p : ℕ) (k : Key) → leaves effect p k ≡ true → StepsLeave steps p k
   pub effect_named : EffectWithin (names_in steps) effect
   pub asks_named : PreWithin (names_in steps) precondition
+  pub few : asks_size precondition ≤ 3 * length steps
+  pub refusals : length precondition.refusals.items ≤ refused steps
 
 abbrev pub Knows : Known → List Step → Type 0
 Knows known steps = Says known.effect.value known.precondition.value steps

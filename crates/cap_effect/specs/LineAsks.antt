@@ -43,6 +43,11 @@ excuses_hold cells (Some (first, second)) = not (holds cells first || part_holds
 abbrev pub checked_cells : ℕ → Checks → State → List Cell
 checked_cells me checks s = map (λ (check : Check). s.cell me check.fd) (listed checks)
 
+-- how many refusals there are
+abbrev pub refusals_in : LineAsks → ℕ
+refusals_in (Unless asks) = 1
+refusals_in asks = 0
+
 -- it holds in a state exactly where something is said of the line there
 abbrev pub IsAskedBy : Demand → ℕ → LineAsks → Type 0
 IsAskedBy demand me asks = (s : State) → asked_holds (cells_of s) asks ≡ has_any (said_of demand me s)

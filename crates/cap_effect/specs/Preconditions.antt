@@ -1,5 +1,6 @@
 -- Under which cells before a segment something is found in it.
-use Rattle.std.specs.Prelude.{◌≡◌, ◌||◌, not, Bool, true, false, List, [], Option, Some, None, IfSome, is_some}
+use Rattle.std.specs.Prelude.{◌≡◌, ◌||◌, ◌+◌, ◌≤◌, not, Bool, true, false, List, [], length, Option, Some, None}
+use Rattle.std.specs.Prelude.{IfSome, is_some}
 use Rattle.std.specs.List.{list_any, All}
 use Rattle.cap_machine.specs.State.{State}
 use Rattle.cap_effect.specs.declared.ask.Ask.{Ask}
@@ -12,6 +13,7 @@ use Rattle.cap_effect.specs.Effects.{changed}
 use Rattle.cap_effect.specs.Names.{Names, has_cell, EffectWithin, PreWithin}
 use Rattle.cap_effect.specs.Asks.{any_holds, certain_at, CanBe, ArePossible, IsOpen, Rises, AreWithin}
 use Rattle.cap_effect.specs.LineAsks.{one_holds}
+use Rattle.cap_effect.specs.Sizes.{asks_size}
 
 -- a refusal is wrongful: none of its asks holds
 abbrev pub is_wrongful : Cells → Refusal → Bool
@@ -74,6 +76,7 @@ pub record IsPulledBack (first : Effect) (later kept moved : List Ask) : Type 0 
   pub can : (answer : Bool) → All (CanBe answer) later → All (CanBe answer) kept × All (CanBe answer) moved
   pub names : (names : Names) → EffectWithin names first → AreWithin (has_cell names) later
       → AreWithin (has_cell names) kept × AreWithin (has_cell names) moved
+  pub few : length kept + length moved ≤ length later
 
 -- asks in order that hold where those of the first segment do, or those of the later one after it
 pub record AreAskedByBoth (first : Effect) (own later both : List Ask) : Type 0 where
@@ -83,6 +86,7 @@ pub record AreAskedByBoth (first : Effect) (own later both : List Ask) : Type 0 
   pub can : (answer : Bool) → All (CanBe answer) own → All (CanBe answer) later → All (CanBe answer) both
   pub names : (names : Names) → EffectWithin names first → AreWithin (has_cell names) own
       → AreWithin (has_cell names) later → AreWithin (has_cell names) both
+  pub few : length both ≤ length own + length later
 
 -- something is found where it is in the first segment, or in the later one
 pub record IsAskedByBoth (first : Effect) (own later both : Precondition) : Type 0 where
@@ -92,6 +96,8 @@ pub record IsAskedByBoth (first : Effect) (own later both : Precondition) : Type
   pub names : (names : Names) → EffectWithin names first → PreWithin names own → PreWithin names later
       → PreWithin names both
   pub settled : IsSettled both
+  pub few : asks_size both ≤ asks_size own + asks_size later
+  pub refusals : length both.refusals.items ≤ length own.refusals.items + length later.refusals.items
 
 -- the same asks and refusals
 pub record IsSamePrecondition (a b : Precondition) : Type 0 where

@@ -1,5 +1,5 @@
 -- A table as the list of its entries, each a key and a value.
-use Rattle.std.specs.Prelude.{ℕ, ◌+◌, ◌≤◌, ◌==◌, List, [], ◌∷◌, Option, Some, None, if◌then◌else◌}
+use Rattle.std.specs.Prelude.{ℕ, ◌+◌, ◌<◌, ◌≤◌, ◌==◌, List, [], ◌∷◌, length, slice_index_or, Option, Some, None, if◌then◌else◌}
 
 -- the value of the first entry that has the key
 abbrev pub found : {V : Type 0} → List (ℕ × V) → ℕ → Option V
@@ -14,3 +14,8 @@ RisesFrom bound ((k, v) ∷ rest) = (bound ≤ k) × RisesFrom (k + 1) rest
 -- the keys strictly rise, so no key comes twice
 abbrev pub Rises : {V : Type 0} → List (ℕ × V) → Type 0
 Rises entries = RisesFrom 0 entries
+
+-- the same, by the places of the keys
+abbrev pub KeysRise : {V : Type 0} → List (ℕ × V) → Type 0
+KeysRise {V} entries = (i j : ℕ) (d : ℕ × V) → i < j → j < length entries
+    → (slice_index_or entries i d).0 < (slice_index_or entries j d).0

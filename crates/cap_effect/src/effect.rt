@@ -1,8 +1,7 @@
 //! What becomes of each cell over a segment.
 
-ghost use Rattle.std.specs.Prelude.{◌≡◌};
 ghost use Rattle.std.specs.Option.{ForSome};
-ghost use Rattle.cap_effect.specs.RowSizes.{rows_size};
+ghost use Rattle.cap_effect.specs.RowSizes.{IsSizeOf};
 
 use crate::base::Base;
 use crate::listed::Listed;
@@ -27,5 +26,5 @@ pub struct Effect {
     pub rows: Map<Row>,
     /// How many rows there are and cells that they list, where these are counted.
     pub(crate) size: Option<usize>,
-    ghost sized: { ForSome size (λ n. n ≡ rows_size rows) },
+    ghost sized: { ForSome size (IsSizeOf rows) },
 }

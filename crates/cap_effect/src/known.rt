@@ -1,6 +1,6 @@
 //! What is known of a segment of a trace.
 
-ghost use Rattle.std.specs.Prelude.{◌≡◌, nat_le, true, List, [], ◌∷◌, ◌++◌, IfOk, OnOk};
+ghost use Rattle.std.specs.Prelude.{◌≡◌, ◌<◌, nat_le, true, List, [], ◌∷◌, ◌++◌, IfOk, OnOk};
 ghost use Rattle.cap_machine.specs.declared.step.Step.{Step};
 ghost use Rattle.cap_machine.specs.Table.{start_state};
 ghost use Rattle.cap_effect.specs.Preconditions.{IsSettled};
@@ -14,6 +14,7 @@ ghost use Rattle.cap_effect.specs.Alike.{IsSameEffect};
 ghost use Rattle.cap_effect.specs.Preconditions.{IsSamePrecondition};
 ghost use Rattle.cap_effect.specs.Leaving.{leaves};
 ghost use Rattle.cap_effect.specs.Sizes.{size};
+ghost use Rattle.cap_effect.specs.RowSizes.{AllRise};
 
 use crate::before::Before;
 use crate::effect::Effect;
@@ -262,11 +263,11 @@ impl Known {
 
     /// Whether there is room for it: so many rows, cells, asks and refusals together.
     pub fn fits(&self, room: usize) -> bool
-        ensures { result ≡ nat_le (size self.now) room }
+        requires { room < usize.MAX }
+        ensures fits { result ≡ nat_le (size self.now) room }
+        ensures rising { AllRise self.now.effect.value.rows }
     {
-        match self.effect.size() {
-            Some(size) if size <= room => self.precondition.fits(room - size),
-            _ => false,
-        }
+        let size = self.effect.size();
+        size <= room && self.precondition.fits(room - size)
     }
 }

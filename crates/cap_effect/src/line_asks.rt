@@ -1,6 +1,6 @@
 //! What one line asks of the cells before it.
 
-ghost use Rattle.std.specs.Prelude.{◌≡◌, ℕ, ◌&&◌, ◌||◌, not, true, false, Some};
+ghost use Rattle.std.specs.Prelude.{◌≡◌, ℕ, ◌≤◌, ◌&&◌, ◌||◌, not, true, false, Some, if◌then◌else◌};
 ghost use Rattle.cap_rights.specs.Rights.{has_all};
 ghost use Rattle.cap_machine.specs.declared.cell.OnExec.{OnExec};
 ghost use Rattle.cap_machine.specs.declared.cell.OnExec.TheVariants.{Clear};
@@ -18,7 +18,8 @@ ghost use Rattle.cap_effect.specs.Preconditions.{has_part};
 ghost use Rattle.cap_effect.specs.Names.{Names, part_within, ChecksWithin, ExcusesWithin};
 ghost use Rattle.cap_effect.specs.Names.{LineAsksWithin, DemandWithin};
 ghost use Rattle.cap_effect.specs.LineAsks.{has_any, part_holds, one_holds, excuses_hold, checked_cells, asked_holds};
-ghost use Rattle.cap_effect.specs.LineAsks.{IsAskedBy};
+ghost use Rattle.cap_effect.specs.LineAsks.{IsAskedBy, refusals_in};
+ghost use Rattle.cap_effect.specs.Few.{is_refusal};
 
 use crate::ask::Ask;
 use crate::key::Key;
@@ -209,6 +210,7 @@ impl LineAsks {
     fn of_success(me: Pid, demand: &Demand) -> LineAsks
         requires { demand.now.reply ≡ Success }
         ensures holds { IsAskedBy demand.now me result }
+        ensures refusals { refusals_in result ≡ 0 }
         ensures names { (names : Names) → DemandWithin names me demand.now → LineAsksWithin names result }
     {
         let mode = mode_ask(me, demand.class);
@@ -224,6 +226,7 @@ impl LineAsks {
     fn of_refusal(me: Pid, demand: &Demand) -> LineAsks
         requires { demand.now.reply ≡ NotCapable }
         ensures holds { IsAskedBy demand.now me result }
+        ensures refusals { refusals_in result ≤ 1 }
         ensures names { (names : Names) → DemandWithin names me demand.now → LineAsksWithin names result }
     {
         let Some((first, second)) = excuse_asks(me, &demand.checks) else {
@@ -244,6 +247,7 @@ impl LineAsks {
     /// Nothing is ever found.
     fn nothing() -> LineAsks
         ensures holds { (cells : Cells) → asked_holds cells result ≡ false }
+        ensures refusals { refusals_in result ≡ 0 }
         ensures names { (names : Names) → LineAsksWithin names result }
     {
         LineAsks::Where(UpToThree {
@@ -256,6 +260,7 @@ impl LineAsks {
     /// What a line with this demand of process `me` asks.
     pub fn of_line(me: Pid, demand: &Demand) -> LineAsks
         ensures holds { IsAskedBy demand.now me result }
+        ensures refusals { refusals_in result ≤ (if is_refusal demand.now.reply then 1 else 0) }
         ensures names { (names : Names) → DemandWithin names me demand.now → LineAsksWithin names result }
     {
         match demand.reply {

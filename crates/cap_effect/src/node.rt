@@ -13,7 +13,8 @@ ghost use Rattle.cap_effect.specs.LineAsks.{has_any};
 ghost use Rattle.cap_effect.specs.Positions.{within, AllOrMany};
 ghost use Rattle.cap_effect.specs.Rest.{rest_steps, AllSome};
 ghost use Rattle.cap_list.specs.Sides.{part_at};
-ghost use Rattle.cap_effect.specs.Kept.{limit, IsKept, IsTooLarge};
+ghost use Rattle.cap_effect.specs.Kept.{limit, IsKept};
+ghost use Rattle.cap_effect.specs.Few.{NameOrRefuseMany};
 ghost use Rattle.cap_effect.specs.Knows.{Knows};
 ghost use Rattle.cap_effect.specs.Preconditions.{IsSettled};
 ghost use Rattle.cap_effect.specs.View.{NodeView, NodesCompose, NodesAlike};
@@ -104,7 +105,7 @@ impl Node {
     /// What is known of the steps, where it is kept.
     pub(crate) fn known(&self) -> Option<&Known>
         ensures kept { IfSome result (λ known. IsKept known.now self.now.steps) }
-        ensures large { IfNone result (IsTooLarge self.now.steps) }
+        ensures many { IfNone result (NameOrRefuseMany self.now.steps) }
         ensures seen { option_copied result ≡ self.now.known }
     {
         match &self.known {
@@ -299,7 +300,7 @@ impl Node {
         requires second { 0 < length right.now.value.steps }
         requires few { length left.now.value.steps + length right.now.value.steps ≤ 2 ^ 30 }
         requires known { IfSome known (λ known. IsKept known (left.now.value.steps ++ right.now.value.steps)) }
-        requires large { IfNone known (IsTooLarge (left.now.value.steps ++ right.now.value.steps)) }
+        requires many { IfNone known (NameOrRefuseMany (left.now.value.steps ++ right.now.value.steps)) }
         ensures steps { IfOk result (λ n. n.value.steps ≡ left.now.value.steps ++ right.now.value.steps) }
         ensures known { IfOk result (λ n. n.value.known ≡ known) }
     {

@@ -1,12 +1,12 @@
 //! Under which states before a segment something is found in it.
 
-ghost use Rattle.std.specs.Prelude.{◌≡◌, ◌||◌, not, false, true, [], nat_le, IfOk, IfSome, IfNone, OnOk};
+ghost use Rattle.std.specs.Prelude.{◌≡◌, ◌+◌, ◌≤◌, ◌||◌, not, false, true, [], length, nat_le, IfOk, IfSome, IfNone, OnOk};
 ghost use Rattle.std.specs.List.{list_any};
 ghost use Rattle.cap_machine.specs.State.{State};
 ghost use Rattle.cap_effect.specs.Keys.{Cells, cells_of};
 ghost use Rattle.cap_effect.specs.Asks.{any_holds, pulled_holds, pulled_within, is_always, PulledIsOpen, IsOpen};
 ghost use Rattle.cap_effect.specs.Asks.{Rises, IsUnionOf, OneAlwaysHolds};
-ghost use Rattle.cap_effect.specs.LineAsks.{part_holds, one_holds, asked_holds};
+ghost use Rattle.cap_effect.specs.LineAsks.{part_holds, one_holds, asked_holds, refusals_in};
 ghost use Rattle.cap_effect.specs.Effects.{changed};
 ghost use Rattle.cap_effect.specs.Preconditions.{is_met, is_wrongful, three_hold, any_certain, IsMetOr, IsSettled};
 ghost use Rattle.cap_effect.specs.Preconditions.{ThreeAreOpen, IsPossible, IsPulledBack, AreAskedByBoth, IsAskedByBoth, IsSamePrecondition};
@@ -204,6 +204,7 @@ impl Precondition {
         ensures settled { IsSettled result }
         ensures possible { IsPossible result }
         ensures names { (names : Names) → PreWithin names result }
+        ensures nothing { asks_size result ≡ 0 }
     {
         Precondition {
             certain: true,
@@ -242,6 +243,8 @@ impl Precondition {
         ensures possible { OnOk result (PulledIsOpen pulled → IsPossible self.old → IsPossible self.new) }
         ensures names { OnOk result ((names : Names) → pulled_within (has_cell names) pulled ≡ true
             → PreWithin names self.old → PreWithin names self.new) }
+        ensures few { OnOk result (asks_size self.new ≤ asks_size self.old + 1) }
+        ensures refusals { self.new.refusals ≡ self.old.refusals }
     {
         match pulled {
             Pulled::Always => self.certain = true,
@@ -258,6 +261,8 @@ impl Precondition {
         ensures possible { OnOk result (IsPossible self.old → IsPossible self.new) }
         ensures names { OnOk result ((names : Names) → EffectWithin names first.now
             → part_within names ask.now ≡ true → PreWithin names self.old → PreWithin names self.new) }
+        ensures few { OnOk result (asks_size self.new ≤ asks_size self.old + 1) }
+        ensures refusals { self.new.refusals ≡ self.old.refusals }
     {
         self.put(pulled_part(first, ask))
     }
@@ -270,6 +275,7 @@ impl Precondition {
         ensures names { OnOk result ((names : Names) → EffectWithin names first.now
             → PartsWithin names unless.now → PreWithin names self.old → PreWithin names self.new) }
         ensures asks { self.new.asks ≡ self.old.asks }
+        ensures few { OnOk result (length self.new.refusals.items ≤ length self.old.refusals.items + 1) }
     {
         let Some(unless) = pulled_three(first, unless) else {
             return Ok(());
@@ -289,6 +295,9 @@ impl Precondition {
         ensures possible { OnOk result (IsPossible self.old → IsPossible self.new) }
         ensures names { OnOk result ((names : Names) → EffectWithin names first.now
             → LineAsksWithin names asks.now → PreWithin names self.old → PreWithin names self.new) }
+        ensures few { OnOk result (asks_size self.new ≤ asks_size self.old + 3) }
+        ensures refusals { OnOk result (length self.new.refusals.items
+            ≤ length self.old.refusals.items + refusals_in asks.now) }
     {
         match asks {
             LineAsks::Always => {
@@ -313,6 +322,8 @@ impl Precondition {
         ensures names { OnOk result ((names : Names) → EffectWithin names first.now
             → RefusalsWithin names refusals.now → PreWithin names self.old → PreWithin names self.new) }
         ensures asks { self.new.asks ≡ self.old.asks }
+        ensures few { OnOk result (length self.new.refusals.items
+            ≤ length self.old.refusals.items + length refusals.now) }
     {
         for refusal in refusals {
             self.refuse_after(first, &refusal.unless)?;
@@ -357,6 +368,8 @@ impl Precondition {
         ensures settled { IfOk result IsSettled }
         ensures possible { IfOk result (λ pre. IsPossible self → IsPossible pre) }
         ensures names { IfOk result (λ pre. (names : Names) → PreWithin names self → PreWithin names pre) }
+        ensures few { IfOk result (λ pre. asks_size pre ≤ asks_size self) }
+        ensures refusals { IfOk result (λ pre. length pre.refusals.items ≤ length self.refusals.items) }
     {
         if self.certain {
             return Ok(Precondition::always(alloc));

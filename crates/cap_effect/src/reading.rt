@@ -1,6 +1,6 @@
 //! What a row and an effect say of a cell, and how much they list.
 
-ghost use Rattle.std.specs.Prelude.{◌≡◌, ◌^◌, ◌≤◌, ℕ, true, false, is_none, IfOk, IfSome, IfNone};
+ghost use Rattle.std.specs.Prelude.{◌≡◌, ℕ, true, false, is_none, IfOk};
 ghost use Rattle.std.specs.Option.{option_map_or};
 ghost use Rattle.cap_machine.specs.declared.cell.Cell.{Cell};
 ghost use Rattle.cap_effect.specs.declared.key.Key.{Key};
@@ -9,7 +9,8 @@ ghost use Rattle.cap_effect.specs.Values.{read, reads_within};
 ghost use Rattle.cap_effect.specs.Names.{Names, has_cell, mode_within, RowWithin, EffectWithin};
 ghost use Rattle.cap_effect.specs.Effects.{own_row, row_cell, changed};
 ghost use Rattle.cap_effect.specs.Leaving.{row_leaves, leaves};
-ghost use Rattle.cap_effect.specs.RowSizes.{rows_size};
+ghost use Rattle.cap_effect.specs.RowSizes.{IsSizeOf};
+ghost use Rattle.cap_effect.specs.Sorted.{Rises};
 
 use crate::base::{Base, Others};
 use crate::effect::{Effect, Row};
@@ -34,21 +35,17 @@ pub(crate) fn share_mode(mode: &Option<Value>) -> Result<Option<Value>, NoMemory
     }
 }
 
-/// How many rows there are, and cells that they list. None if these can't be counted.
-fn counted(rows: &[(u32, Row)]) -> Option<usize>
-    ensures some { IfSome result (λ size. size ≡ rows_size rows.now) }
-    ensures none { IfNone result (2 ^ 64 ≤ rows_size rows.now) }
+/// How many rows there are, and cells that they list, as far as they can be counted.
+fn counted(rows: &[(u32, Row)]) -> usize
+    requires { Rises rows.now }
+    ensures { IsSizeOf rows.now result }
 {
     let mut size = 0_usize;
     for entry in rows {
-        let cells = entry.1.cells.entries().len();
-        let room = usize::MAX - size;
-        if room <= cells {
-            return None;
-        }
-        size += cells + 1;
+        let cells = entry.1.cells.entries();
+        size = size.saturating_add(cells.len()).saturating_add(1);
     }
-    Some(size)
+    size
 }
 
 impl Row {
@@ -170,13 +167,12 @@ impl Effect {
         }
     }
 
-    /// How many rows there are, and cells that they list. None if these can't be counted.
-    pub fn size(&self) -> Option<usize>
-        ensures some { IfSome result (λ size. size ≡ rows_size self.now.rows) }
-        ensures none { IfNone result (2 ^ 64 ≤ rows_size self.now.rows) }
+    /// How many rows there are, and cells that they list, as far as they can be counted.
+    pub fn size(&self) -> usize
+        ensures { IsSizeOf self.now.rows result }
     {
         match self.size {
-            Some(size) => Some(size),
+            Some(size) => size,
             None => counted(self.rows.entries()),
         }
     }
@@ -185,7 +181,7 @@ impl Effect {
     pub(crate) fn of(rows: Map<Row>) -> Effect
         ensures { result.rows ≡ rows }
     {
-        let size = counted(rows.entries());
+        let size = Some(counted(rows.entries()));
         Effect { rows, size }
     }
 }

@@ -4,7 +4,8 @@ ghost use Rattle.std.specs.Prelude.{◌≡◌, ◌+◌, ◌*◌, ◌^◌, ◌<�
 ghost use Rattle.std.specs.Option.{option_copied};
 ghost use Rattle.cap_machine.specs.Check.{check};
 ghost use Rattle.cap_machine.specs.Table.{start_state};
-ghost use Rattle.cap_effect.specs.Kept.{IsKept, IsTooLarge};
+ghost use Rattle.cap_effect.specs.Kept.{IsKept};
+ghost use Rattle.cap_effect.specs.Few.{NameOrRefuseMany};
 ghost use Rattle.cap_effect.specs.View.{NodesCompose, NodesDoAlike, NodesAskAlike};
 ghost use Rattle.cap_effect.specs.Positions.{within, AllOrMany};
 ghost use Rattle.cap_effect.specs.Stands.{Stands, summed_up, kept_of};
@@ -31,11 +32,12 @@ pub struct Summary {
 }
 
 impl Summary {
-    /// What is known of the steps. Of more than 48 steps it is kept only within a limit, which grows with the steps;
-    /// none only where what is known of a part of them is above the limit of that part.
+    /// What is known of the steps. Of more than 48 steps it is kept only within a limit, which grows with the steps. It is
+    /// kept wherever the steps name so few processes and descriptors that these have at most 1,024 cells and modes, unless
+    /// more than 30,000 calls were refused for lack of a right.
     pub fn known(&self) -> Option<&Known>
         ensures kept { IfSome result (λ known. IsKept known.now (summed_up self.now)) }
-        ensures large { IfNone result (IsTooLarge (summed_up self.now)) }
+        ensures many { IfNone result (NameOrRefuseMany (summed_up self.now)) }
         ensures seen { option_copied result ≡ kept_of self.now }
         ensures few { length (summed_up self.now) ≤ 2 ^ 30 }
     {

@@ -19,3 +19,4 @@ returns c = λ steps so_far.
     c.in_ok-put_line.ensures.names (rw pid (line_in c.args.step.now steps c.rule_of-rule.result.effect
     (λ p f. rw seen at (rule.cells p f)))) (c.of_line-asks.ensures.names (names_in (steps ++ c.args.step.now ∷ []))
     (rw (pid, demand) (demand_in c.args.step.now steps)))
+    c.in_ok-put_line.ensures.few c.in_ok-put_line.ensures.refusals (rw demand at c.of_line-asks.ensures.refusals)

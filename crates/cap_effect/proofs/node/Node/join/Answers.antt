@@ -1,6 +1,6 @@
 use Rattle.std.proofs.Common.{◌≡◌, length, sym, ◌∙◌, arith}
 use Rattle.cap_effect.proofs.Runs.{none_before, none_behind, same_steps}
-use Rattle.cap_effect.proofs.Keeping.{large_first, large_second}
+use Rattle.cap_effect.proofs.Keeping.{many_first, many_second}
 use Rattle.cap_effect.proofs.Knowing.{knows_both}
 use Rattle.cap_effect.proofs.node.Node.join.Goals as goal
 
@@ -24,13 +24,13 @@ returns-then-len-eq0-2 c =
       composed = λ some more. absurd (omega (arith, none));
     }
 
-pub of_parts-requires-clause-large : goal.of_parts-requires-clause-large
-of_parts-requires-clause-large c = large_first c.args.left.now.value.steps c.args.right.now.value.steps
-    (rw c.deref-3.ensures at c.in_default.ensures.large)
+pub of_parts-requires-clause-many : goal.of_parts-requires-clause-many
+of_parts-requires-clause-many c = many_first c.args.left.now.value.steps c.args.right.now.value.steps
+    (rw c.deref-3.ensures at c.in_default.ensures.many)
 
-pub of_parts-requires-in_default-known-clause-large : goal.of_parts-requires-in_default-known-clause-large
-of_parts-requires-in_default-known-clause-large c = large_second c.args.left.now.value.steps
-    c.args.right.now.value.steps (rw c.deref-4.ensures at c.in_default-known.ensures.large)
+pub of_parts-requires-in_default-known-clause-many : goal.of_parts-requires-in_default-known-clause-many
+of_parts-requires-in_default-known-clause-many c = many_second c.args.left.now.value.steps
+    c.args.right.now.value.steps (rw c.deref-4.ensures at c.in_default-known.ensures.many)
 
 pub over-requires-clause-knows : goal.over-requires-clause-knows
 over-requires-clause-knows c = knows_both c.in-Some.first.now c.in-Some-known.second.now c.in_ok-known.known

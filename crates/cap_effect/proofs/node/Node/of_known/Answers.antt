@@ -15,7 +15,7 @@ invariant_of-node c =
       few = omega (arith, c.requires.few, c.len.ensures);
       known = c.requires.known;
       wide = tt;
-      large = tt;
+      many = tt;
     }
 
 pub returns : goal.returns

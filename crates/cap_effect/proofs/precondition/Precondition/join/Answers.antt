@@ -13,7 +13,7 @@ returns-then-self c =
     let all = c.always.ensures in
     let own = c.args.self.now in
     always_asked c.args.first.now own c.args.later.now c.always.result all.met all.settled all.possible all.names
-    (λ s. elim c.then-self.branch [
+    all.nothing (λ s. elim c.then-self.branch [
       | then-self-via-then-self w ↦ rw w.if-self.true refl
       | then-self-via-else-self+then-later w ↦ rw w.if-later.true (or_true (is_met (cells_of s) own))
     ])
@@ -23,7 +23,7 @@ returns-in_default c =
     let all = c.always-in_default.ensures in
     let one = rw (c.in_default.is, c.deref.ensures.value, c.deref-2.ensures.value) at c.in_ok-asks.ensures.always in
     always_asked c.args.first.now c.args.self.now c.args.later.now c.always-in_default.result all.met all.settled
-    all.possible all.names (λ s. met_by_asks c.args.first.now c.args.self.now c.args.later.now s (one s))
+    all.possible all.names all.nothing (λ s. met_by_asks c.args.first.now c.args.self.now c.args.later.now s (one s))
 
 pub returns-then-both : goal.returns-then-both
 returns-then-both c =
@@ -40,7 +40,7 @@ returns-then-both c =
       c.in_ok-refusals.ensures.items,
       c.deref-3.ensures.value,
     ) at c.in_ok-extend_from_slice.ensures.items in
-    always_asked first own later c.always-then-both.result all.met all.settled all.possible all.names (λ s. sym
+    always_asked first own later c.always-then-both.result all.met all.settled all.possible all.names all.nothing (λ s. sym
     (met_joined first own later before new c.deref-4.result.now c.if-self.false c.if-later.false refl asked same
     c.deref-4.ensures.value c.in_ok-refuse_all_after.ensures.met s) ∙ rw c.if-both.true refl)
 
@@ -60,4 +60,4 @@ returns c =
       c.deref-3.ensures.value,
     ) at c.in_ok-extend_from_slice.ensures.items in
     asked_joined first own later before new c.deref-4.result.now c.if-self.false c.if-later.false refl asked same
-    c.deref-4.ensures.value refused.met c.requires.own c.requires.later c.if-both.false refused.asks refused.possible refused.names
+    c.deref-4.ensures.value refused.met c.requires.own c.requires.later c.if-both.false refused.asks refused.possible refused.names refused.few

@@ -14,4 +14,5 @@ loop-refusal-preserved c = record {
       c.refusal-item.result c.loop-refusal-test.true c.refusal-item.is refusals)
       (c.loop-refusal.invariant.names names effect refusals old);
   asks = c.refuse_after.ensures.asks ∙ c.loop-refusal.invariant.asks;
+  few = omega (arith, c.in_ok-refuse_after.ensures.few, c.loop-refusal.invariant.few);
 }

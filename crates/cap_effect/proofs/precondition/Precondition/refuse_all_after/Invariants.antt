@@ -1,4 +1,4 @@
-use Rattle.std.proofs.Common.{◌≡◌, take}
+use Rattle.std.proofs.Common.{◌≡◌, ◌+◌, ◌≤◌, length, take}
 use Rattle.std.specs.List.{list_any}
 use Rattle.cap_effect.specs.Effects.{changed}
 use Rattle.cap_effect.specs.Preconditions.{is_wrongful, IsMetOr, IsPossible}
@@ -13,4 +13,5 @@ invariant-loop-refusal l = record {
   names : (names : Names) → EffectWithin names l.first → RefusalsWithin names l.refusals
       → PreWithin names l.initial.self → PreWithin names l.self;
   asks : l.self.asks ≡ l.initial.self.asks;
+  few : length l.self.refusals.items ≤ length l.initial.self.refusals.items + l.refusal-index;
 }
