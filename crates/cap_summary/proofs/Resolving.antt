@@ -1,11 +1,12 @@
 -- Findings of segments, one after the other.
 use Rattle.std.proofs.Common.{◌≡◌, ℕ, ◌+◌, ◌<◌, ◌≤◌, List, [], ◌∷◌, ◌++◌, Bool, true, false, ◌&&◌, cond, length, map}
-use Rattle.std.proofs.Common.{refl, sym, ap, ◌∙◌, inl, inr, add_assoc, append_assoc, arith}
+use Rattle.std.proofs.Common.{refl, sym, ap, ◌∙◌, add_assoc, append_assoc, arith, inl, inr, length-append}
 use Rattle.std.specs.List.{All}
-use Rattle.std.proofs.lemmas.List.{map-append, append-nil}
+use Rattle.std.proofs.lemmas.List.{map-append, append-nil, length-map}
 use Rattle.std.proofs.lemmas.List.Elements.{filter-append, All-head, All-tail}
-use Rattle.std.proofs.lemmas.Bool.{lt-leb, le-leb}
-use Rattle.std.specs.Prelude.{nat_le}
+use Rattle.std.proofs.lemmas.List.Filters.{length-filter_both}
+use Rattle.std.proofs.lemmas.Bool.{lt-leb, le-leb, cases_lt}
+use Rattle.std.specs.Prelude.{nat_le, not, ◌*◌, ◌/◌}
 use Rattle.cap_machine.specs.declared.step.Step.{Step}
 use Rattle.cap_machine.specs.declared.verdict.Found.{Found}
 use Rattle.cap_machine.specs.declared.verdict.Finding.{Finding}
@@ -15,9 +16,9 @@ use Rattle.cap_machine.specs.Check.{check, said, found_at}
 use Rattle.cap_machine.specs.Laws.{later}
 use Rattle.cap_machine.proofs.Turns.{checks_in_turn}
 use Rattle.cap_machine.proofs.Positions.{positions_within}
-use Rattle.cap_change.specs.Conditions.{has_any}
+use Rattle.cap_summary.specs.LineAsks.{has_any}
 use Rattle.cap_summary.specs.Positions.{is_at, within, AllOrMany}
-use Rattle.cap_change.proofs.Bools.{and_false}
+use Rattle.cap_summary.proofs.Bools.{and_with_false as and_false}
 
 later-later : (m n : ℕ) (xs : List Found) → map (later m) (map (later n) xs) ≡ map (later (m + n)) xs
 later-later m n [] = refl
@@ -52,18 +53,54 @@ found_parts s t u at n from to old first all len one two =
     (map (later (at + length t)) (check (ended s t) u))))
     ∙ ap (λ r. old ++ within from to r) (sym (later_parts s t u at))
 
--- all of them where there aren't many
+-- nothing that is found in the first part is too much for both
+among_parts : (s : State) (t u : List Step) (at from to : ℕ) (old : List Found)
+    → length (old ++ within from to (map (later at) (check s t)))
+    ≤ length (old ++ within from to (map (later at) (check s (t ++ u))))
+among_parts s t u at from to old =
+    let first : List Found = old ++ within from to (map (later at) (check s t)) in
+    let second : List Found = within from to (map (later (at + length t)) (check (ended s t) u)) in
+    let both : first ++ second ≡ old ++ within from to (map (later at) (check s (t ++ u))) =
+    found_parts s t u at (length t) from to old first (first ++ second) refl refl refl in
+    omega (arith, ap length both, length-append first second)
+
 pub not_many : (most : ℕ) (found all : List Found) → AllOrMany most found all → length found ≤ most → found ≡ all
 not_many most found all (inl is) few = is
-not_many most found all (inr many) few = absurd (omega arith)
+not_many most found all (inr are) few = absurd (omega (arith, are.many))
 
+-- what stopped in the first part
+pub stopped : (most : ℕ) (s : State) (t u : List Step) (at from to : ℕ) (old found : List Found)
+    → AllOrMany most found (old ++ within from to (map (later at) (check s t))) → most < length found
+    → AllOrMany most found (old ++ within from to (map (later at) (check s (t ++ u))))
+stopped most s t u at from to old found (inl is) many =
+    inr (record { many = many; among = omega (arith, ap length is, among_parts s t u at from to old) })
+stopped most s t u at from to old found (inr are) many =
+    inr (record { many = many; among = omega (arith, are.among, among_parts s t u at from to old) })
+
+-- all of the first part, and all or many of both
 pub parts_or_many : (most : ℕ) (s : State) (t u : List Step) (at n from to : ℕ) (old first all : List Found)
     → n ≡ length t → first ≡ old ++ within from to (map (later at) (check s t))
     → AllOrMany most all (first ++ within from to (map (later (at + n)) (check (ended s t) u)))
     → AllOrMany most all (old ++ within from to (map (later at) (check s (t ++ u))))
 parts_or_many most s t u at n from to old first all len one (inl two) =
     inl (found_parts s t u at n from to old first all len one two)
-parts_or_many most s t u at n from to old first all len one (inr many) = inr many
+parts_or_many most s t u at n from to old first all len one (inr are) =
+    let second : List Found = within from to (map (later (at + n)) (check (ended s t) u)) in
+    let both : first ++ second ≡ old ++ within from to (map (later at) (check s (t ++ u))) =
+    found_parts s t u at n from to old first (first ++ second) len one refl in
+    inr (record { many = are.many; among = omega (arith, are.among, ap length both) })
+
+-- how many are found in two parts, and that some are
+pub many_parts : (s : State) (t u : List Step)
+    → length (check s (t ++ u)) ≡ length (check s t) + length (check (ended s t) u)
+many_parts s t u =
+    let second : List Found = check (ended s t) u in
+    ap length (checks_in_turn s t u) ∙ length-append (check s t) (map (later (length t)) second)
+    ∙ ap (λ n. length (check s t) + n) (length-map second (later (length t)))
+
+pub some_found : (xs : List Found) → has_any xs ≡ true → 0 < length xs
+some_found [] is = absurd cc
+some_found (x ∷ xs) is = omega arith
 
 -- what was found in a step, and then in what follows it
 pub found_step : (s : State) (l : Step) (u : List Step) (at from to : ℕ) (old first all : List Found) →
@@ -73,6 +110,14 @@ pub found_step : (s : State) (l : Step) (u : List Step) (at from to : ℕ) (old 
 found_step s l u at from to old first all one two =
     found_parts s (l ∷ []) u at 1 from to old first all refl
     (one ∙ ap (λ r. old ++ within from to r) (sym (later-at at 1 (said l s)))) two
+
+-- what was found before a step, and then in the step
+pub found_more : (s : State) (t : List Step) (l : Step) (at n from to : ℕ) (old first all : List Found) → n ≡ length t
+    → first ≡ old ++ within from to (map (later at) (check s t))
+    → all ≡ first ++ within from to (map (found_at (at + n + 1)) (said l (ended s t)))
+    → all ≡ old ++ within from to (map (later at) (check s (t ++ l ∷ [])))
+found_more s t l at n from to old first all len one two = found_parts s t (l ∷ []) at n from to old first all len one
+    (two ∙ ap (λ r. first ++ within from to r) (sym (later-at (at + n) 1 (said l (ended s t)))))
 
 none_of : {X : Type 0} (xs : List X) → has_any xs ≡ false → xs ≡ []
 none_of [] e = refl
@@ -160,13 +205,7 @@ later-none (x ∷ xs) =
     ap (λ (k : ℕ). record { at = k; finding = x.finding } ∷ map (later 0) xs) zero
     ∙ ap (λ (r : List Found). x ∷ r) (later-none xs)
 
--- what is found from the first position on, with nothing to come
-pub found_all : (s : State) (t : List Step) (from to : ℕ) (all : List Found)
-    → all ≡ within from to (map (later 0) (check s (t ++ []))) → all ≡ within from to (check s t)
-found_all s t from to all is = is ∙ ap (within from to) (later-none (check s (t ++ [])))
-    ∙ ap (λ r. within from to (check s r)) (append-nil t)
-
--- the same where all steps are judged in order
+-- what is found from the first position on
 pub found_in_order : (s : State) (t : List Step) (from to : ℕ) (all : List Found)
     → all ≡ within from to (map (later 0) (check s t)) → all ≡ within from to (check s t)
 found_in_order s t from to all is = is ∙ ap (within from to) (later-none (check s t))
@@ -184,3 +223,33 @@ all_within to n (x ∷ xs) all long =
 
 pub found_whole : (s : State) (t : List Step) (to : ℕ) → length t ≤ to → within 1 to (check s t) ≡ check s t
 found_whole s t to long = all_within to (length t) (check s t) (positions_within s t) long
+
+-- what is found from the first position on, or many of it
+pub all_or_many : (most : ℕ) (s : State) (t : List Step) (from to : ℕ) (found : List Found)
+    → AllOrMany most found (within from to (map (later 0) (check s (t ++ []))))
+    → AllOrMany most found (within from to (check s t))
+all_or_many most s t from to found is =
+    rw (append-nil t, later-none (check s t)) at is
+
+-- where nothing is asked for behind a part, it doesn't matter in which state the next one begins
+pub same_behind : (s r : State) (t : List Step) (at from to : ℕ) → (at ≤ to → s ≡ r)
+    → within from to (map (later at) (check s t)) ≡ within from to (map (later at) (check r t))
+same_behind s r t at from to same = elim (cases_lt to at) [
+  | inl behind ↦ not_behind from to at (length t) (check s t) (positions_within s t) (omega arith)
+      ∙ sym (not_behind from to at (length t) (check r t) (positions_within r t) (omega arith))
+  | inr before ↦ ap (λ (state : State). within from to (map (later at) (check state t))) (same before)
+]
+
+-- how many steps are judged where many findings are looked up, and then all steps are judged
+among_all : (from to : ℕ) (all : List Found) → length (within from to all) ≤ length all
+among_all from to all =
+    let both = length-filter_both (is_at from to) (λ x. not (is_at from to x)) (λ x. refl) all in
+    omega (arith, both)
+
+pub judged_all : (most n judged both from to : ℕ) (found all : List Found) → most ≡ n / 2048 → most < length found
+    → AllOrMany most found (within from to all) → judged ≤ 48 * length all → both ≤ judged + n
+    → both ≤ 2096 * length all
+judged_all most n judged both from to found all is many (inl same) few then =
+    omega (arith, ap length same, among_all from to all)
+judged_all most n judged both from to found all is many (inr are) few then =
+    omega (arith, are.among, among_all from to all)

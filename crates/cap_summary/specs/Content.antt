@@ -1,31 +1,25 @@
 -- What a node of a summary is seen as, and what always holds of it.
-use Rattle.std.specs.Prelude.{◌≡◌, ℕ, ◌^◌, ◌<◌, ◌≤◌, List, ◌++◌, length, Option, option_map, IfSome, IfNone}
-use Rattle.std.specs.declared.rc.Rc.{Rc}
-use Rattle.std.specs.declared.alloc.Global.{Global}
+use Rattle.std.specs.Prelude.{◌≡◌, ℕ, ◌^◌, ◌<◌, ◌≤◌, List, ◌++◌, length, Option, IfSome, IfNone}
 use Rattle.cap_machine.specs.declared.step.Step.{Step}
 use Rattle.cap_tree.specs.Run.{values}
 use Rattle.cap_summary.specs.declared.known.Known.{Known}
-use Rattle.cap_summary.specs.Knows.{Knows}
-use Rattle.cap_change.specs.Sizes.{NamesMany}
-use Rattle.cap_summary.specs.View.{NodeView}
 use Rattle.cap_summary.specs.declared.node.Content.{Content}
 use Rattle.cap_summary.specs.declared.node.Content.TheVariants.{Run, Both}
+use Rattle.cap_summary.specs.Kept.{IsKept}
+use Rattle.cap_summary.specs.Few.{NameOrRefuseMany}
+use Rattle.cap_summary.specs.View.{NodeView}
 
 -- the steps, from the first
 abbrev pub content_steps : Content → List Step
 content_steps (Run run) = values run.items
 content_steps (Both a b) = a.value.steps ++ b.value.steps
 
--- what is known, where it is kept
-abbrev pub known_of : Option (Rc Known Global) → Option Known
-known_of kept = option_map (λ known. known.value) kept
+abbrev pub node_view : Option Known → Content → NodeView
+node_view kept content = record { steps = content_steps content; known = kept }
 
-abbrev pub node_view : Option (Rc Known Global) → Content → NodeView
-node_view kept content = record { steps = content_steps content; known = known_of kept }
-
--- a node of two parts has steps in both
+-- a run is short, and a node of two parts has steps in both
 abbrev pub HasParts : Content → Type 0
-HasParts (Run run) = Unit {0}
+HasParts (Run run) = length run.items ≤ 48
 HasParts (Both a b) = (0 < length a.value.steps) × (0 < length b.value.steps)
 
 -- two parts
@@ -33,12 +27,11 @@ abbrev pub IsBoth : Content → Type 0
 IsBoth (Run run) = ⊥
 IsBoth (Both a b) = Unit {0}
 
--- what always holds of a node; one of which nothing is known is read through its parts
-pub record IsGood (size : ℕ) (kept : Option (Rc Known Global)) (content : Content) : Type 0 where
+-- what always holds of a node; one of which nothing is kept is read through its parts, and names or refuses many
+pub record IsGood (size : ℕ) (kept : Option Known) (content : Content) : Type 0 where
   pub len : size ≡ length (content_steps content)
   pub parts : HasParts content
   pub few : size ≤ 2 ^ 30
-  pub known : IfSome kept (λ known. Knows known.value (content_steps content))
+  pub known : IfSome kept (λ known. IsKept known (content_steps content))
   pub wide : IfNone kept (IsBoth content)
-  pub long : IfNone kept (256 < size)
-  pub many : IfNone kept (NamesMany (content_steps content))
+  pub many : IfNone kept (NameOrRefuseMany (content_steps content))

@@ -1,75 +1,49 @@
--- What is known of a segment of a trace, under every state before it.
-use Rattle.std.specs.Prelude.{◌≡◌, ℕ, List, Bool, true, IfSome, ◌||◌}
+-- What an effect and a precondition say of the steps of a segment, whatever the state before them.
+use Rattle.std.specs.Prelude.{◌≡◌, ℕ, ◌*◌, ◌≤◌, Bool, true, List, length}
 use Rattle.cap_machine.specs.declared.step.Step.{Step}
 use Rattle.cap_machine.specs.State.{State}
 use Rattle.cap_machine.specs.History.{ended}
 use Rattle.cap_machine.specs.Check.{check}
 use Rattle.cap_machine.specs.Walks.{LeavesCell, LeavesMode}
+use Rattle.cap_summary.specs.declared.key.Key.{Key}
+use Rattle.cap_summary.specs.declared.key.Key.TheVariants as key
+use Rattle.cap_summary.specs.declared.effect.Effect.{Effect}
+use Rattle.cap_summary.specs.declared.precondition.Precondition.{Precondition}
 use Rattle.cap_summary.specs.declared.known.Known.{Known}
-use Rattle.cap_change.specs.declared.change.Change.{Change}
-use Rattle.cap_summary.specs.declared.known.Likeness.{Likeness}
-use Rattle.cap_summary.specs.declared.known.Likeness.TheVariants as likeness
-use Rattle.cap_change.specs.Changes.{changed, is_untouched, is_unturned, JoinsTo, ListSame}
-use Rattle.cap_change.specs.Names.{Names, names_in, ChangeWithin, ConditionsWithin}
-use Rattle.cap_change.specs.Reading.{ConditionsRead}
-use Rattle.cap_summary.specs.Listing.{IsSized}
-use Rattle.cap_change.specs.declared.conditions.Condition.{Condition}
-use Rattle.cap_change.specs.Conditions.{any_holds, has_any}
+use Rattle.cap_summary.specs.Keys.{cells_of}
+use Rattle.cap_summary.specs.Before.{state_of}
+use Rattle.cap_summary.specs.Effects.{changed}
+use Rattle.cap_summary.specs.Leaving.{leaves}
+use Rattle.cap_summary.specs.LineAsks.{has_any}
+use Rattle.cap_summary.specs.Preconditions.{is_met, IsPossible}
+use Rattle.cap_summary.specs.Names.{names_in, EffectWithin, PreWithin}
+use Rattle.cap_summary.specs.Sizes.{asks_size}
+use Rattle.cap_summary.specs.Few.{refused}
 
--- the state that the segment leaves
+-- no step touches a cell, or turns a mode
+abbrev pub StepsLeave : List Step → ℕ → Key → Type 0
+StepsLeave steps p key.Mode = LeavesMode steps p
+StepsLeave steps p (key.Fd f) = LeavesCell steps p f
+
+-- In every state before the steps: each cell and each mode after them, and whether something is found in them. Nothing
+-- is asked that holds in no state, and nothing is listed, read or asked that no line names. What is said to be left no step
+-- touches. A step asks at most three things, and adds a refusal only if it was refused for lack of a right.
+pub record Says (effect : Effect) (precondition : Precondition) (steps : List Step) : Type 0 where
+  pub after : (s : State) (p : ℕ) (k : Key) → changed effect (cells_of s) p k ≡ cells_of (ended s steps) p k
+  pub finds : (s : State) → is_met (cells_of s) precondition ≡ has_any (check s steps)
+  pub possible : IsPossible precondition
+  pub left : (p : ℕ) (k : Key) → leaves effect p k ≡ true → StepsLeave steps p k
+  pub effect_named : EffectWithin (names_in steps) effect
+  pub asks_named : PreWithin (names_in steps) precondition
+  pub few : asks_size precondition ≤ 3 * length steps
+  pub refusals : length precondition.refusals.items ≤ refused steps
+
+abbrev pub Knows : Known → List Step → Type 0
+Knows known steps = Says known.effect.value known.precondition.value steps
+
+-- the state after the steps, and whether something is found in them, from a state before them
 abbrev pub state_after : Known → State → State
-state_after known s = changed known.change s
+state_after known s = state_of (changed known.effect.value (cells_of s))
 
--- whether something is found in the segment: in any case, or where one of its conditions holds
 abbrev pub finds : Known → State → Bool
-finds known s = known.always || any_holds s known.conditions
-
--- no step touches a cell, or turns a mode, as far as is known
-abbrev pub leaves_cell : Known → ℕ → ℕ → Bool
-leaves_cell known p f = is_untouched known.change p f
-
-abbrev pub leaves_mode : Known → ℕ → Bool
-leaves_mode known p = is_unturned known.change p
-
--- under every state before the segment: the state after it, each cell and each mode; and whether something is found in
--- it. Nothing is listed or asked about that isn't named: a process only where a line names it, as its own or as the
--- child that a fork made; a descriptor only where it stands in an argument or the answer of a line, be it of another
--- process.
--- What is said to be untouched no step touches; of what isn't said to be nothing is promised.
--- The size is no more than the named processes and descriptors allow
-pub record Knows (known : Known) (t : List Step) : Type 0 where
-  pub ends : (s : State) → state_after known s ≡ ended s t
-  pub found : (s : State) → finds known s ≡ has_any (check s t)
-  pub listed : ChangeWithin (names_in t) known.change
-  pub asked : ConditionsWithin (names_in t) known.conditions
-  pub untouched : (p f : ℕ) → leaves_cell known p f ≡ true → LeavesCell t p f
-  pub unturned : (p : ℕ) → leaves_mode known p ≡ true → LeavesMode t p
-  pub sized : IsSized known
-
--- what a list of conditions says behind a change, as another list, which names only what they read there
-pub record IsMoved (change : Change) (conditions moved : List Condition) : Type 0 where
-  pub holds : (s : State) → any_holds s moved ≡ any_holds (changed change s) conditions
-  pub names : (names : Names) → ConditionsRead names change conditions → ConditionsWithin names moved
-
--- what is known of a segment and then another: something is found in the whole where it is found in the first, or in the
--- second behind the first's change. The whole asks only about what the first's conditions name and the second's read
--- behind that change. What it keeps of the second's conditions are these behind the first's change
-pub record Composes (a b whole : Known) : Type 0 where
-  pub changes : JoinsTo a.change b.change whole.change
-  pub found : (s : State) → finds whole s ≡ (finds a s || finds b (changed a.change s))
-  pub asked : (names : Names) → ConditionsWithin names a.conditions → ConditionsRead names a.change b.conditions
-      → ConditionsWithin names whole.conditions
-  pub moved : IfSome whole.moved (λ kept. IsMoved a.change b.conditions kept.value)
-  pub sized : IsSized whole
-
--- the same change, which names the same, and something is found under the same states
-pub record IsLike (a b : Known) : Type 0 where
-  pub change : ListSame a.change b.change
-  pub always : a.always ≡ b.always
-  pub conditions : a.conditions ≡ b.conditions
-
--- how far what is known of a segment, and then of another in its place, is alike
-abbrev pub AreAlike : Likeness → Known → Known → Type 0
-AreAlike likeness.Unknown old new = Unit {0}
-AreAlike likeness.Change old new = ListSame new.change old.change
-AreAlike likeness.All old new = IsLike new old
+finds known s = is_met (cells_of s) known.precondition.value

@@ -1,11 +1,16 @@
 -- What a summary stands for.
-use Rattle.std.specs.Prelude.{◌≡◌, List}
+use Rattle.std.specs.Prelude.{◌≡◌, List, Option}
 use Rattle.cap_machine.specs.declared.step.Step.{Step}
+use Rattle.cap_summary.specs.declared.known.Known.{Known}
 use Rattle.cap_summary.specs.declared.summary.Summary.{Summary}
 
 -- the steps that a summary sums up, from the first
 abbrev pub summed_up : Summary → List Step
 summed_up z = z.node.value.steps
+
+-- what is kept of them
+abbrev pub kept_of : Summary → Option Known
+kept_of z = z.node.value.known
 
 -- a summary stands for a list of steps where it sums up just these
 pub record Stands (z : Summary) (t : List Step) : Type 0 where

@@ -2,21 +2,32 @@
 use Rattle.std.specs.Prelude.{◌<◌, List, length, Option, IfSome}
 use Rattle.cap_machine.specs.declared.step.Step.{Step}
 use Rattle.cap_summary.specs.declared.known.Known.{Known}
-use Rattle.cap_summary.specs.declared.known.Likeness.{Likeness}
-use Rattle.cap_summary.specs.Knows.{Composes, AreAlike}
+use Rattle.cap_tree.specs.declared.likeness.Likeness.{Likeness}
+use Rattle.cap_summary.specs.Joined.{IsJoined}
+use Rattle.cap_summary.specs.Alike.{IsSameEffect}
+use Rattle.cap_summary.specs.Preconditions.{IsSamePrecondition}
+use Rattle.cap_summary.specs.Likeness.{AreAlike}
 
 pub record NodeView : Type 0 where
   pub steps : List Step
   pub known : Option Known
 
--- what is known of two segments, where it is kept, composes to what is known of both
-abbrev pub ComposeTo : Option Known → Option Known → Known → Type 0
-ComposeTo a b whole = IfSome a (λ first. IfSome b (λ second. Composes first second whole))
-
--- the same of two nodes that have steps, and of a third one, which is theirs in order
+-- of two nodes that have steps and a third one, which is theirs in order: what is known of the three, where it is kept
 abbrev pub NodesCompose : NodeView → NodeView → NodeView → Type 0
-NodesCompose a b whole = 0 < length a.steps → 0 < length b.steps → IfSome whole.known (ComposeTo a.known b.known)
+NodesCompose a b whole = 0 < length a.steps → 0 < length b.steps
+    → IfSome whole.known (λ both. IfSome a.known (λ first. IfSome b.known (λ later. IsJoined first later both)))
 
--- how far what is known of two nodes is alike, where it is kept of both
+-- something holds of what is known of two nodes, where it is kept of both
+abbrev pub IfKept : (Known → Known → Type 0) → NodeView → NodeView → Type 0
+IfKept R a b = IfSome a.known (λ old. IfSome b.known (λ new. R old new))
+
+-- .. the same effect, the same precondition
+abbrev pub NodesDoAlike : NodeView → NodeView → Type 0
+NodesDoAlike a b = IfKept (λ old new. IsSameEffect old.effect.value new.effect.value) a b
+
+abbrev pub NodesAskAlike : NodeView → NodeView → Type 0
+NodesAskAlike a b = IfKept (λ old new. IsSamePrecondition old.precondition.value new.precondition.value) a b
+
+-- how far what is known of two nodes is the same, where it is kept of both
 abbrev pub NodesAlike : Likeness → NodeView → NodeView → Type 0
-NodesAlike likeness a b = IfSome a.known (λ old. IfSome b.known (λ new. AreAlike likeness old new))
+NodesAlike likeness a b = IfKept (AreAlike likeness) a b

@@ -1,6 +1,6 @@
 //! Steps that are judged one after the other by one machine.
 
-ghost use Rattle.std.specs.Prelude.{◌≡◌, ◌+◌, ◌^◌, ◌≤◌, ◌++◌, ◌∷◌, [], length, map, IfOk, OnOk};
+ghost use Rattle.std.specs.Prelude.{◌≡◌, ◌+◌, ◌^◌, ◌<◌, ◌≤◌, ◌++◌, ◌∷◌, [], length, map, IfOk, OnOk};
 ghost use Rattle.cap_machine.specs.Check.{check, said, found_at};
 ghost use Rattle.cap_machine.specs.History.{ended};
 ghost use Rattle.cap_machine.specs.Laws.{later};
@@ -8,7 +8,7 @@ ghost use Rattle.cap_machine.specs.Table.{start_state};
 ghost use Rattle.cap_summary.specs.Positions.{within};
 ghost use Rattle.cap_tree.specs.Run.{values};
 
-use crate::judging::{Asked, note};
+use crate::judging::{Asked, Report, note};
 use cap_machine::{Found, Machine, Step, Verdict};
 use cap_tree::NoMemory;
 use std::rc::Rc;
@@ -42,7 +42,7 @@ fn judged(machine: &mut Machine, step: &Step) -> Result<Verdict, NoMemory>
 
 /// Notes what is found in a run of steps behind so many others, at the positions that are asked for, and moves the
 /// machine on to what is known after them.
-pub(crate) fn judge_in_order(
+fn judge_each(
     run: &[Rc<Step>],
     machine: &mut Machine,
     at: usize,
@@ -59,5 +59,24 @@ pub(crate) fn judge_in_order(
     }
     let verdict = judged(machine, &run[0])?;
     note_asked(&verdict, at + 1, asked, found)?;
-    judge_in_order(&run[1..], machine, at + 1, asked, found)
+    judge_each(&run[1..], machine, at + 1, asked, found)
+}
+
+/// The same, with each step of the run counted as judged.
+pub(crate) fn judge_in_order(
+    run: &[Rc<Step>],
+    machine: &mut Machine,
+    at: usize,
+    asked: &Asked,
+    report: &mut Report,
+) -> Result<(), NoMemory>
+    requires short { at + length run.now ≤ 2 ^ 31 }
+    requires room { report.old.judged + length run.now < 2 ^ 64 }
+    ensures found { OnOk result (report.new.found.items ≡ report.old.found.items ++ within asked.now.from asked.now.to
+        (map (later at) (check (start_state machine.old) (values run.now)))) }
+    ensures moves { OnOk result (start_state machine.new ≡ ended (start_state machine.old) (values run.now)) }
+    ensures counted { report.new.judged ≡ report.old.judged + length run.now }
+{
+    report.judged += run.len();
+    judge_each(run, machine, at, asked, &mut report.found)
 }

@@ -1,16 +1,18 @@
-//! Which findings are asked for, and those of a run of steps that begins in a state.
+//! Which findings are asked for, what a report has, and the findings of a run of steps that begins in a state.
 
-ghost use Rattle.std.specs.Prelude.{◌≡◌, ◌&&◌, nat_le, ◌+◌, ◌^◌, ◌≤◌, ◌++◌, length, OnOk, map};
+ghost use Rattle.std.specs.Prelude.{◌≡◌, ◌&&◌, nat_le, ◌+◌, ◌^◌, ◌<◌, ◌≤◌, ◌++◌, [], length, OnOk, map};
 ghost use Rattle.cap_machine.specs.Check.{check, said_of, found_at};
 ghost use Rattle.cap_machine.specs.Laws.{later};
-ghost use Rattle.cap_change.specs.Before.{state_before};
+ghost use Rattle.cap_summary.specs.Before.{state_before};
 ghost use Rattle.cap_summary.specs.Positions.{within};
 ghost use Rattle.cap_tree.specs.Run.{values};
 
-use cap_change::Before;
+use crate::before::Before;
+use crate::effect::Effect;
 use cap_machine::{Demand, Found, Step, Verdict, rule_of};
 use cap_trace::Pid;
 use cap_tree::NoMemory;
+use std::alloc::Global;
 use std::rc::Rc;
 
 /// Which findings are asked for.
@@ -22,6 +24,28 @@ pub(crate) struct Asked {
     pub(crate) to: usize,
     /// How many are looked up one by one.
     pub(crate) most: usize,
+}
+
+/// What is found in steps, and how many of them were judged for it.
+#[derive(Drop)]
+pub struct Report {
+    /// The findings, in order and with their positions.
+    pub found: Vec<Found>,
+    /// How many steps were judged.
+    pub judged: usize,
+}
+
+impl Report {
+    /// Nothing found, and no step judged.
+    pub(crate) fn empty(alloc: Global) -> Report
+        ensures found { result.found.items ≡ [] }
+        ensures judged { result.judged ≡ 0 }
+    {
+        Report {
+            found: Vec::new(alloc),
+            judged: 0,
+        }
+    }
 }
 
 impl Asked {
@@ -72,7 +96,8 @@ fn note_line(
 
 /// Notes what is found in a run of steps that begins in this state behind so many others, at the positions that are
 /// asked for.
-pub(crate) fn judge_run(
+fn judge_from(
+    alloc: Global,
     run: &[Rc<Step>],
     before: &Before<'_>,
     at: usize,
@@ -83,17 +108,35 @@ pub(crate) fn judge_run(
     ensures { OnOk result (found.new.items ≡ found.old.items
         ++ within asked.now.from asked.now.to (map (later at) (check (state_before before.now) (values run.now)))) }
 {
-    if run.len() == 0 {
-        return Ok(());
+    let mut effect = Effect::empty(alloc);
+    let mut position = at;
+    for step in run {
+        position += 1;
+        let line = step.line.seen();
+        let pid = step.line.pid();
+        let rule = rule_of(step.profile, &line);
+        let here = Before::After(&*before, &effect);
+        note_line(&here, pid, &rule.demand, position, asked, found)?;
+        effect.push(alloc, pid, &rule.effect)?;
     }
-    if asked.to <= at {
-        return Ok(());
-    }
-    let step: &Step = &run[0];
-    let line = step.line.seen();
-    let pid = line.pid;
-    let rule = rule_of(step.profile, &line);
-    note_line(before, pid, &rule.demand, at + 1, asked, found)?;
-    let after = Before::Behind(&*before, pid, &rule.effect);
-    judge_run(&run[1..], &after, at + 1, asked, found)
+    Ok(())
+}
+
+/// The same, with each step of the run counted as judged.
+pub(crate) fn judge_run(
+    alloc: Global,
+    run: &[Rc<Step>],
+    before: &Before<'_>,
+    at: usize,
+    asked: &Asked,
+    report: &mut Report,
+) -> Result<(), NoMemory>
+    requires short { at + length run.now ≤ 2 ^ 31 }
+    requires room { report.old.judged + length run.now < 2 ^ 64 }
+    ensures found { OnOk result (report.new.found.items ≡ report.old.found.items ++ within asked.now.from asked.now.to
+        (map (later at) (check (state_before before.now) (values run.now)))) }
+    ensures counted { report.new.judged ≡ report.old.judged + length run.now }
+{
+    report.judged += run.len();
+    judge_from(alloc, run, before, at, asked, &mut report.found)
 }

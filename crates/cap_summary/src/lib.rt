@@ -1,27 +1,44 @@
-//! What a segment of a trace does and says, whatever the state before it.
-//!
-//! A [`Summary`] stands for a list of steps, lines with the profile by which they are checked (`Step` of cap_machine). It
-//! is made of one step or joined from two summaries (`Segment` of cap_tree), so a `Tree` of summaries has one of the
-//! whole trace after each edit. [`resolve`] answers what is found in the steps from a start, and [`resolve_range`] the
-//! part of it at a range of positions.
-//!
-//! ```
-//! let mut meter = Meter::new();
-//! let trace: Tree<Summary> = Tree::from_list(alloc, &mut meter, steps)?;
-//! for found in resolve(alloc, trace.summary(), &Start::unknown(alloc))? {
-//!     println!(rt; "line {}: {:?}", found.at, found.finding)?;
-//! }
-//! ```
+//! What a segment of a trace does to what is known, and under which states before it something is found in it.
 #![tactic(auto)]
 
+mod alike;
+mod ask;
+mod asks;
+mod base;
+mod before;
+mod composed;
+mod effect;
 mod explaining;
 mod in_order;
 mod judging;
+mod key;
 mod known;
+mod line;
+mod line_asks;
+mod listed;
 mod node;
+mod precondition;
+mod reading;
+mod seen;
+mod sharing;
+mod sorted;
 mod summary;
+mod test;
+mod value;
 mod walking;
 
+pub use ask::{Ask, Pulled};
+pub use base::{Base, Others, Passing};
+pub use before::Before;
+pub use effect::{Effect, Row};
 pub use explaining::explain;
-pub use known::{Known, Likeness};
-pub use summary::{Summary, resolve, resolve_range};
+pub use judging::Report;
+pub use key::{Key, cell_of_mode, mode_of_cell};
+pub use known::Known;
+pub use line_asks::{LineAsks, UpToThree};
+pub use listed::Listed;
+pub use precondition::{Precondition, Refusal};
+pub use sorted::Map;
+pub use summary::{Summary, report_range, resolve, resolve_range};
+pub use test::{Flags, Kinds, Test};
+pub use value::{Derived, Value};

@@ -1,41 +1,47 @@
 //! The summary of a segment of a trace.
 
-ghost use Rattle.std.specs.Prelude.{◌≡◌, ◌^◌, ◌≤◌, ◌<◌, length, IfOk, IfSome, IfNone};
+ghost use Rattle.std.specs.Prelude.{◌≡◌, ◌+◌, ◌*◌, ◌^◌, ◌<◌, ◌≤◌, ◌++◌, [], true, is_some, length, IfOk, OnOk, IfSome, IfNone};
+ghost use Rattle.std.specs.Option.{option_copied};
 ghost use Rattle.cap_machine.specs.Check.{check};
 ghost use Rattle.cap_machine.specs.Table.{start_state};
-ghost use Rattle.cap_summary.specs.Knows.{Knows};
-ghost use Rattle.cap_change.specs.Sizes.{NamesMany};
-ghost use Rattle.cap_summary.specs.Positions.{within};
-ghost use Rattle.cap_summary.specs.Stands.{Stands, summed_up};
-ghost use Rattle.cap_summary.specs.View.{NodesCompose, NodesAlike};
+ghost use Rattle.cap_summary.specs.Kept.{IsKept};
+ghost use Rattle.cap_summary.specs.Few.{NameOrRefuseMany};
+ghost use Rattle.cap_summary.specs.View.{NodesCompose, NodesDoAlike, NodesAskAlike};
+ghost use Rattle.cap_summary.specs.Positions.{within, AllOrMany};
+ghost use Rattle.cap_summary.specs.Stands.{Stands, summed_up, kept_of};
 
-use crate::judging::Asked;
-use crate::known::{Known, Likeness};
+use crate::before::Before;
+use crate::judging::{Asked, Report};
+use crate::known::Known;
 use crate::node::{Node, Rest};
-use cap_change::Before;
 use cap_machine::{Found, Machine, Start, Step};
-use cap_tree::{Meter, NoMemory, Segment};
+use cap_tree::{Likeness, Meter, NoMemory, Segment, Side};
 use std::alloc::Global;
 use std::rc::Rc;
 
-/// To look a finding up takes about as long as to judge some hundred lines; so, of so many lines, one is looked up.
-const LINES_A_FINDING: usize = 2048;
+/// To look a finding up takes about as long as to judge some hundred steps; so, of so many steps, one is looked up.
+const STEPS_A_FINDING: usize = 2_048;
 
-/// What a segment of a trace does and says, whatever the state before it. A clone shares all of it.
+/// The most parts that are visited one after the other.
+const MOST_PARTS: usize = 4_096;
+
+/// What a segment of a trace does and asks, whatever the state before it, with its steps. A clone shares all of it.
 #[derive(Drop)]
 pub struct Summary {
     pub(crate) node: Rc<Node>,
 }
 
 impl Summary {
-    /// What is known of the steps. Of more than 256 steps nothing may be known, where the tables would be too large: only
-    /// where the lines name so many processes, and so many descriptors, that there are more than 5,700 processes and cells
-    /// of these.
+    /// What is known of the steps. Of more than 48 steps it is kept only within a limit, which grows with the steps. It is
+    /// kept wherever the steps name so few processes and descriptors that these have at most 1,024 cells and modes, unless
+    /// more than 30,000 calls were refused for lack of a right.
     pub fn known(&self) -> Option<&Known>
-        ensures knows { IfSome result (λ known. Knows known.now (summed_up self.now)) }
-        ensures short { IfNone result (256 < length (summed_up self.now)) }
-        ensures few { IfNone result (NamesMany (summed_up self.now)) }
+        ensures kept { IfSome result (λ known. IsKept known.now (summed_up self.now)) }
+        ensures many { IfNone result (NameOrRefuseMany (summed_up self.now)) }
+        ensures seen { option_copied result ≡ kept_of self.now }
+        ensures few { length (summed_up self.now) ≤ 2 ^ 30 }
     {
+        let _len = self.node.len();
         self.node.known()
     }
 }
@@ -51,11 +57,9 @@ pub fn resolve(alloc: Global, summary: &Summary, start: &Start) -> Result<Vec<Fo
     Ok(found)
 }
 
-/// The part of what [`resolve`] answers that stands at positions from one to another, both included. It visits only the
-/// parts of the summary that have such positions.
+/// The part of what [`resolve`] answers that stands at positions from one to another, both included.
 ///
 /// `NoMemory` when out of memory; the summary is unchanged.
-#[tactic(auto, using(crate::proofs::Resolving::found_all))]
 pub fn resolve_range(
     alloc: Global,
     summary: &Summary,
@@ -66,86 +70,104 @@ pub fn resolve_range(
     ensures { IfOk result
         (λ found. found.items ≡ within from to (check (start_state start.now) (summed_up summary.now))) }
 {
-    let most = summary.node.len() / LINES_A_FINDING;
+    let report = report_range(alloc, summary, start, from, to)?;
+    Ok(report.found)
+}
+
+/// The same, and how many steps were judged for it. Where what is known of all steps is kept, only runs of at most 48
+/// steps are judged that have a finding; where more than one in 2,048 steps has one, all are, in order. Where it isn't
+/// kept, the parts are visited one after the other if few positions are asked for.
+///
+/// `NoMemory` when out of memory; the summary is unchanged.
+pub fn report_range(
+    alloc: Global,
+    summary: &Summary,
+    start: &Start,
+    from: usize,
+    to: usize,
+) -> Result<Report, NoMemory>
+    ensures found { IfOk result (λ report. report.found.items
+        ≡ within from to (check (start_state start.now) (summed_up summary.now))) }
+    ensures few { is_some (kept_of summary.now) ≡ true → IfOk result
+        (λ report. report.judged ≤ 2096 * length (check (start_state start.now) (summed_up summary.now))) }
+    ensures all { IfOk result (λ report. report.judged ≤ 2 * length (summed_up summary.now)) }
+{
+    let most = summary.node.len() / STEPS_A_FINDING;
     let asked = Asked { from, to, most };
-    if let Some(found) = looked_up(alloc, summary, start, &asked)? {
-        return Ok(found);
+    let mut report = Report::empty(alloc);
+    if are_looked_up(summary, &asked) {
+        look_up(alloc, summary, start, &asked, &mut report)?;
+        if report.found.len() <= most {
+            return Ok(report);
+        }
     }
-    judged_in_order(alloc, summary, start, &asked)
+    judge_in_order(alloc, summary, start, &asked, &mut report)?;
+    Ok(report)
 }
 
-/// Whether findings are looked up one by one: not those of many positions where nothing is known of all steps, since each
-/// look-up would walk back through what is known of each part.
-fn are_looked_up(summary: &Summary, asked: &Asked) -> bool {
-    summary.node.known().is_some() || asked.to.saturating_sub(asked.from) <= asked.most
+/// Whether findings are looked up one by one: where what is known of all steps isn't kept, only few, since each look-up
+/// reads back through what is known of each part; and not through very many parts, since each takes room on the stack.
+fn are_looked_up(summary: &Summary, asked: &Asked) -> bool
+    ensures { is_some (kept_of summary.now) ≡ true → result ≡ true }
+{
+    if summary.node.known().is_some() {
+        return true;
+    }
+    asked.to.saturating_sub(asked.from) <= asked.most && summary.node.parts() <= MOST_PARTS
 }
 
-/// What is found at positions by looking where something is found; none where that is more than is looked up one by one.
-fn looked_up(
+/// Looks findings up where something is found; more than are looked up one by one may not be all.
+fn look_up(
     alloc: Global,
     summary: &Summary,
     start: &Start,
     asked: &Asked,
-) -> Result<Option<Vec<Found>>, NoMemory>
-    ensures { IfOk result (λ few. IfSome few (λ found. found.items
-        ≡ within asked.now.from asked.now.to (check (start_state start.now) (summed_up summary.now)))) }
+    report: &mut Report,
+) -> Result<(), NoMemory>
+    requires few { length (summed_up summary.now) ≤ 2 ^ 30 }
+    requires nothing { report.old.found.items ≡ [] }
+    requires none_judged { report.old.judged ≡ 0 }
+    ensures found { OnOk result (AllOrMany asked.now.most report.new.found.items
+        (within asked.now.from asked.now.to (check (start_state start.now) (summed_up summary.now)))) }
+    ensures few { OnOk result (report.new.judged
+        ≤ 48 * length (check (start_state start.now) (summed_up summary.now))) }
+    ensures all { OnOk result (report.new.judged ≤ length (summed_up summary.now)) }
 {
-    let mut found = Vec::new(alloc);
     if summary.node.len() == 0 {
-        return Ok(Some(found));
-    }
-    if !are_looked_up(summary, asked) {
-        return Ok(None);
+        return Ok(());
     }
     let before = Before::At(&*start);
     summary
         .node
-        .resolve(&before, 0, &Rest::End, asked, &mut found)?;
-    if found.len() > asked.most {
-        return Ok(None);
-    }
-    Ok(Some(found))
+        .resolve(alloc, &before, 0, &Rest::End, asked, report)
 }
 
-/// What is found at positions by judging all steps in order.
-fn judged_in_order(
+/// Judges all steps in order, up to the last position that is asked for, and notes what is found instead of what was
+/// found so far.
+fn judge_in_order(
     alloc: Global,
     summary: &Summary,
     start: &Start,
     asked: &Asked,
-) -> Result<Vec<Found>, NoMemory>
-    requires { length (summed_up summary.now) ≤ 2 ^ 30 }
-    ensures { IfOk result (λ found. found.items
+    report: &mut Report,
+) -> Result<(), NoMemory>
+    requires few { length (summed_up summary.now) ≤ 2 ^ 30 }
+    requires room { report.old.judged ≤ 2 ^ 30 }
+    ensures found { OnOk result (report.new.found.items
         ≡ within asked.now.from asked.now.to (check (start_state start.now) (summed_up summary.now))) }
+    ensures all { OnOk result (report.new.judged ≤ report.old.judged + length (summed_up summary.now)) }
 {
+    report.found.clear();
     let Ok(mut machine) = Machine::from_start(alloc, start) else {
         return Err(NoMemory);
     };
-    let found = judged_by(alloc, summary, &mut machine, asked);
+    let judged = summary.node.judge(&mut machine, 0, asked, report);
     drop(machine);
-    found
-}
-
-/// What a machine finds at positions by judging all steps in order.
-fn judged_by(
-    alloc: Global,
-    summary: &Summary,
-    machine: &mut Machine,
-    asked: &Asked,
-) -> Result<Vec<Found>, NoMemory>
-    requires { length (summed_up summary.now) ≤ 2 ^ 30 }
-    ensures { IfOk result (λ found. found.items
-        ≡ within asked.now.from asked.now.to (check (start_state machine.old) (summed_up summary.now))) }
-{
-    let mut found = Vec::new(alloc);
-    summary.node.judge(machine, 0, asked, &mut found)?;
-    Ok(found)
+    judged
 }
 
 impl Segment for Summary {
     type Item = Step;
-
-    type Likeness = Likeness;
 
     ghost stands = { Stands };
 
@@ -153,7 +175,9 @@ impl Segment for Summary {
 
     ghost composes = { λ a b whole. NodesCompose a.node.value b.node.value whole.node.value };
 
-    ghost alike = { λ likeness old new. NodesAlike likeness old.node.value new.node.value };
+    ghost same_effect = { λ old new. NodesDoAlike old.node.value new.node.value };
+
+    ghost same_precondition = { λ old new. NodesAskAlike old.node.value new.node.value };
 
     ghost use Rattle.cap_summary.specs.Sized.{stands_sized};
 
@@ -178,10 +202,6 @@ impl Segment for Summary {
         self.node.len()
     }
 
-    fn unlike() -> Likeness {
-        Likeness::Unknown
-    }
-
     fn join(
         alloc: Global,
         meter: &mut Meter,
@@ -193,43 +213,26 @@ impl Segment for Summary {
         Ok(Summary { node })
     }
 
-    fn with_left(
+    fn rejoin(
         alloc: Global,
         meter: &mut Meter,
-        old: &Summary,
-        was: &Summary,
         left: &Summary,
         right: &Summary,
-        likeness: Likeness,
-    ) -> Result<(Summary, Likeness), NoMemory> {
-        let new = old
-            .node
-            .with_left(alloc, &was.node, &left.node, &right.node, likeness)?;
-        if let Some((node, likeness)) = new {
-            meter.tick();
-            return Ok((Summary { node }, likeness));
-        }
-        let new = Summary::join(alloc, meter, left, right)?;
-        Ok((new, Likeness::Unknown))
-    }
-
-    fn with_right(
-        alloc: Global,
-        meter: &mut Meter,
         old: &Summary,
         was: &Summary,
-        left: &Summary,
-        right: &Summary,
+        side: Side,
         likeness: Likeness,
     ) -> Result<(Summary, Likeness), NoMemory> {
-        let new = old
-            .node
-            .with_right(alloc, &was.node, &left.node, &right.node, likeness)?;
-        if let Some((node, likeness)) = new {
-            meter.tick();
-            return Ok((Summary { node }, likeness));
-        }
-        let new = Summary::join(alloc, meter, left, right)?;
-        Ok((new, Likeness::Unknown))
+        let (node, likeness) = Node::rejoin(
+            alloc,
+            &left.node,
+            &right.node,
+            &old.node,
+            &was.node,
+            side,
+            likeness,
+        )?;
+        meter.tick();
+        Ok((Summary { node }, likeness))
     }
 }

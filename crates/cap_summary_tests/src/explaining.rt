@@ -3,7 +3,7 @@
 use crate::cuts::whole_of;
 use crate::parts::{ensure, joined_at, steps_of, with_start};
 use cap_machine::{CellEnd, CellOrigin, Explanation, ModeEnd, ModeOrigin, Profile, Start, Step};
-use cap_summary::{Summary, explain};
+use cap_summary::{Key, Summary, explain};
 use cap_tree::NoMemory;
 use std::alloc::Global;
 use std::rc::Rc;
@@ -259,13 +259,9 @@ fn says(whole: &Summary, row: &Said) -> bool {
     let Some(known) = whole.known() else {
         return false;
     };
-    let is_touched_so = row.2.iter().all(|(pid, fd, untouched)| known.is_untouched(*pid, *fd)
+    let is_touched_so = row.2.iter().all(|(pid, fd, untouched)| known.leaves(*pid, Key::Fd(*fd))
         == *untouched);
-    is_touched_so
-        && row
-            .3
-            .iter()
-            .all(|(pid, unturned)| known.is_unturned(*pid) == *unturned)
+    is_touched_so && row.3.iter().all(|(pid, unturned)| known.leaves(*pid, Key::Mode) == *unturned)
 }
 
 /// The same of these steps, cut at each place and joined.

@@ -1,5 +1,5 @@
 -- Runs of shared items: what an edit of a run is as a list of the items.
-use Rattle.std.proofs.Common.{◌≡◌, ℕ, suc, ◌+◌, ◌<◌, List, [], ◌∷◌, ◌++◌, length, take, drop, remove, slice_set}
+use Rattle.std.proofs.Common.{◌≡◌, ℕ, ◌+◌, ◌<◌, List, [], ◌∷◌, ◌++◌, length, take, drop, insert, remove, slice_set}
 use Rattle.std.proofs.Common.{slice_range, refl, sym, ap, ◌∙◌, add-one, arith}
 use Rattle.std.proofs.lemmas.List.{map-append, take-map, drop-map, length-map, set_split}
 use Rattle.std.proofs.lemmas.Slice.{between_to_end}
@@ -24,20 +24,24 @@ values-append_clones old new more (added, is, same) =
     ap values is
     ∙ (map-append (λ item. item.value) old added ∙ ap (λ zs. values old ++ zs) (values_from_clones more added same))
 
--- what stands before a place, and behind it
+-- what stands before a place, and from one on
 before : {X Z : Type 0} (run : List (Rc X Z)) (at : ℕ) → values (take at run) ≡ take at (values run)
 before run at = sym (take-map (λ item. item.value) at run)
 
 behind : {X Z : Type 0} (run : List (Rc X Z)) (at : ℕ)
-    → values (slice_range run (at + 1) (length run)) ≡ drop (suc at) (values run)
-behind run at = ap values (between_to_end run (at + 1) (length run) (omega arith))
-    ∙ (sym (drop-map (λ item. item.value) (at + 1) run) ∙ ap (λ n. drop n (values run)) (add-one at))
+    → values (slice_range run at (length run)) ≡ drop at (values run)
+behind run at = ap values (between_to_end run at (length run) (omega arith))
+    ∙ sym (drop-map (λ item. item.value) at run)
+
+pub insert-values : {X Z : Type 0} (run : List (Rc X Z)) (at : ℕ) (x : X)
+    → values (take at run) ++ x ∷ values (slice_range run at (length run)) ≡ insert (values run) at x
+insert-values run at x = rw (before run at, behind run at) refl
 
 pub remove-values : {X Z : Type 0} (run : List (Rc X Z)) (at : ℕ)
     → values (take at run) ++ values (slice_range run (at + 1) (length run)) ≡ remove (values run) at
-remove-values run at = rw (before run at, behind run at) refl
+remove-values run at = rw (before run at, behind run (at + 1), add-one) refl
 
 pub set-values : {X Z : Type 0} (run : List (Rc X Z)) (at : ℕ) (x : X) → at < length run
     → values (take at run) ++ x ∷ values (slice_range run (at + 1) (length run)) ≡ slice_set (values run) at x
-set-values run at x within = rw (before run at, behind run at)
+set-values run at x within = rw (before run at, behind run (at + 1), add-one)
     (sym (set_split (values run) at x (rw (length-map run (λ item. item.value)) within)))

@@ -20,6 +20,7 @@
 
 mod items;
 mod laws;
+mod likeness;
 mod meter;
 mod no_memory;
 mod node;
@@ -29,6 +30,7 @@ mod tree;
 
 pub use items::Items;
 pub use laws::bits_are_digits;
+pub use likeness::{Likeness, Side};
 pub use meter::Meter;
 pub use no_memory::NoMemory;
 pub use segment::Segment;

@@ -4,14 +4,17 @@
 //! than the items. A node's height is 0 for a leaf, else that of the higher part and one, and two parts are at most one
 //! apart. An edit makes anew the leaf that holds its place and the nodes above it, and shares all others.
 ghost use Rattle.std.specs.Prelude.{◌≡◌, ℕ, ◌+◌, ◌-◌, ◌*◌, ◌/◌, ◌^◌, ◌<◌, ◌≤◌, min, max, List, [], ◌∷◌, ◌++◌, length};
-ghost use Rattle.std.specs.Prelude.{vec_len, insert, remove, slice_get, slice_range, slice_set, Some, IfOk, OnOk};
-ghost use Rattle.std.specs.Prelude.{MatchOption, IfSome};
-ghost use Rattle.cap_tree.specs.Heights.{DifferByAtMost, SettlesAt, HaveLostOne, IsLeastHeight};
+ghost use Rattle.std.specs.Prelude.{vec_len, slice_range, true, IfOk, OnOk, MatchOption, IfSome};
+ghost use Rattle.cap_tree.specs.Alike.{AreAlike};
+ghost use Rattle.cap_tree.specs.Edits.{edited, IsAllowed};
+ghost use Rattle.cap_tree.specs.Heights.{DifferByAtMost, HaveChanged, IsLeastHeight};
 ghost use Rattle.cap_tree.specs.Run.{values};
+ghost use Rattle.cap_tree.specs.Sides.{beside, IsJoinAt};
 
+use crate::likeness::{Likeness, Side};
 use crate::meter::Meter;
 use crate::no_memory::NoMemory;
-use crate::run;
+use crate::run::{self, Edit};
 use crate::segment::Segment;
 use std::alloc::Global;
 use std::marker::Model;
@@ -103,21 +106,6 @@ impl<S: Segment> Node<S> {
         Ok(Rc::new(alloc, node)?)
     }
 
-    /// The leaf of one item. It takes no join.
-    pub(crate) fn single(
-        alloc: Global,
-        meter: &mut Meter,
-        item: Rc<S::Item>,
-    ) -> Result<Rc<Node<S>>, NoMemory>
-        requires room { meter.old + 1 < 2 ^ 64 }
-        ensures items { IfOk result (λ n. n.value.0 ≡ item.value ∷ []) }
-        ensures height { IfOk result (λ n. n.value.1 ≡ 0) }
-        ensures joins { meter.new ≡ meter.old }
-    {
-        let run = run::single(alloc, item)?;
-        Node::leaf(alloc, meter, run)
-    }
-
     /// The node over two parts, whose items in order are summed up.
     fn over(
         alloc: Global,
@@ -142,240 +130,90 @@ impl<S: Segment> Node<S> {
         Ok(Rc::new(alloc, node)?)
     }
 
-    /// The two in order, whose heights are at most one apart.
+    /// The part on the side and the other one, whose heights are at most one apart.
     fn branch(
         alloc: Global,
         meter: &mut Meter,
-        left: Rc<Node<S>>,
-        right: Rc<Node<S>>,
+        side: Side,
+        part: Rc<Node<S>>,
+        other: Rc<Node<S>>,
     ) -> Result<Rc<Node<S>>, NoMemory>
-        requires balanced { DifferByAtMost 1 left.value.1 right.value.1 }
-        requires few { length left.value.0 + length right.value.0 ≤ 2 ^ 30 }
+        requires balanced { DifferByAtMost 1 part.value.1 other.value.1 }
+        requires few { length part.value.0 + length other.value.0 ≤ 2 ^ 30 }
         requires room { meter.old + 1 < 2 ^ 64 }
-        ensures items { IfOk result (λ n. n.value.0 ≡ left.value.0 ++ right.value.0) }
-        ensures height { IfOk result (λ n. n.value.1 ≡ max left.value.1 right.value.1 + 1) }
+        ensures items { IfOk result (λ n. n.value.0 ≡ beside side part.value.0 other.value.0) }
+        ensures height { IfOk result (λ n. n.value.1 ≡ max part.value.1 other.value.1 + 1) }
         ensures counted { OnOk result (meter.new ≡ meter.old + 1) }
         ensures not_less { meter.old ≤ meter.new }
         ensures joins { meter.new ≤ meter.old + 1 }
     {
+        let (left, right) = side.order(part, other);
         let summary = S::join(alloc, meter, left.summary(), right.summary())?;
         Node::over(alloc, summary, left, right)
     }
 
-    /// The two in order, as `branch`, where this node has another one in place of the left, and how far both summaries
-    /// are alike; `likeness` says it of the left parts.
-    fn with_left(
-        &self,
-        was: &Node<S>,
+    /// The high part on the side and the low one, which an edit has set two levels apart: the inner part of the high one
+    /// goes to the low one, or where it is the higher part, its own two parts go to either side.
+    fn rotate(
         alloc: Global,
         meter: &mut Meter,
-        left: Rc<Node<S>>,
-        right: Rc<Node<S>>,
-        likeness: S::Likeness,
-    ) -> Result<(Rc<Node<S>>, S::Likeness), NoMemory>
-        requires old { S.composes was.now.2 right.value.2 self.now.2 }
-        requires like { S.alike likeness was.now.2 left.value.2 }
-        requires balanced { DifferByAtMost 1 left.value.1 right.value.1 }
-        requires few { length left.value.0 + length right.value.0 ≤ 2 ^ 30 }
-        requires room { meter.old + 1 < 2 ^ 64 }
-        ensures items { IfOk result (λ new. new.0.value.0 ≡ left.value.0 ++ right.value.0) }
-        ensures height { IfOk result (λ new. new.0.value.1 ≡ max left.value.1 right.value.1 + 1) }
-        ensures alike { IfOk result (λ new. S.alike new.1 self.now.2 new.0.value.2) }
-        ensures not_less { meter.old ≤ meter.new }
-        ensures joins { meter.new ≤ meter.old + 1 }
-    {
-        let (summary, likeness) = S::with_left(
-            alloc,
-            meter,
-            &self.summary,
-            was.summary(),
-            left.summary(),
-            right.summary(),
-            likeness,
-        )?;
-        let node = Node::over(alloc, summary, left, right)?;
-        Ok((node, likeness))
-    }
-
-    /// The same where this node has another one in place of the right.
-    fn with_right(
-        &self,
-        was: &Node<S>,
-        alloc: Global,
-        meter: &mut Meter,
-        left: Rc<Node<S>>,
-        right: Rc<Node<S>>,
-        likeness: S::Likeness,
-    ) -> Result<(Rc<Node<S>>, S::Likeness), NoMemory>
-        requires old { S.composes left.value.2 was.now.2 self.now.2 }
-        requires like { S.alike likeness was.now.2 right.value.2 }
-        requires balanced { DifferByAtMost 1 left.value.1 right.value.1 }
-        requires few { length left.value.0 + length right.value.0 ≤ 2 ^ 30 }
-        requires room { meter.old + 1 < 2 ^ 64 }
-        ensures items { IfOk result (λ new. new.0.value.0 ≡ left.value.0 ++ right.value.0) }
-        ensures height { IfOk result (λ new. new.0.value.1 ≡ max left.value.1 right.value.1 + 1) }
-        ensures alike { IfOk result (λ new. S.alike new.1 self.now.2 new.0.value.2) }
-        ensures not_less { meter.old ≤ meter.new }
-        ensures joins { meter.new ≤ meter.old + 1 }
-    {
-        let (summary, likeness) = S::with_right(
-            alloc,
-            meter,
-            &self.summary,
-            was.summary(),
-            left.summary(),
-            right.summary(),
-            likeness,
-        )?;
-        let node = Node::over(alloc, summary, left, right)?;
-        Ok((node, likeness))
-    }
-
-    /// The two in order, at heights that one edit may have set two apart.
-    fn balance(
-        alloc: Global,
-        meter: &mut Meter,
-        left: Rc<Node<S>>,
-        right: Rc<Node<S>>,
+        side: Side,
+        high: &Node<S>,
+        low: Rc<Node<S>>,
     ) -> Result<Rc<Node<S>>, NoMemory>
-        requires near { DifferByAtMost 2 left.value.1 right.value.1 }
-        requires few { length left.value.0 + length right.value.0 ≤ 2 ^ 30 }
+        requires two_higher { high.now.1 ≡ low.value.1 + 2 }
+        requires few { length high.now.0 + length low.value.0 ≤ 2 ^ 30 }
         requires room { meter.old + 3 < 2 ^ 64 }
-        ensures items { IfOk result (λ n. n.value.0 ≡ left.value.0 ++ right.value.0) }
-        ensures height { IfOk result (λ n. SettlesAt left.value.1 right.value.1 n.value.1) }
+        ensures items { IfOk result (λ n. n.value.0 ≡ beside side high.now.0 low.value.0) }
+        ensures height { IfOk result (λ n. (high.now.1 ≤ n.value.1) × (n.value.1 ≤ high.now.1 + 1)) }
         ensures not_less { meter.old ≤ meter.new }
         ensures joins { meter.new ≤ meter.old + 3 }
     {
-        if left.height() > right.height() + 1 {
-            Node::lean_left(alloc, meter, &left, right)
-        } else if right.height() > left.height() + 1 {
-            Node::lean_right(alloc, meter, left, &right)
-        } else {
-            Node::branch(alloc, meter, left, right)
-        }
-    }
-
-    fn lean_left(
-        alloc: Global,
-        meter: &mut Meter,
-        left: &Node<S>,
-        right: Rc<Node<S>>,
-    ) -> Result<Rc<Node<S>>, NoMemory>
-        requires two_higher { left.now.1 ≡ right.value.1 + 2 }
-        requires few { length left.now.0 + length right.value.0 ≤ 2 ^ 30 }
-        requires room { meter.old + 3 < 2 ^ 64 }
-        ensures items { IfOk result (λ n. n.value.0 ≡ left.now.0 ++ right.value.0) }
-        ensures height { IfOk result (λ n. SettlesAt left.now.1 right.value.1 n.value.1) }
-        ensures not_less { meter.old ≤ meter.new }
-        ensures joins { meter.new ≤ meter.old + 3 }
-    {
-        let Shape::Branch(outer, inner) = &left.shape else {
+        let Shape::Branch(left, right) = &high.shape else {
             unreachable!()
         };
+        let (outer, inner) = side.order(left, right);
         if outer.height() >= inner.height() {
-            let inner = inner.clone()?;
-            let outer = outer.clone()?;
-            let lower = Node::branch(alloc, meter, inner, right)?;
-            return Node::branch(alloc, meter, outer, lower);
+            let lower = Node::branch(alloc, meter, side, inner.clone()?, low)?;
+            return Node::branch(alloc, meter, side, outer.clone()?, lower);
         }
-        let outer = outer.clone()?;
-        Node::part_middle(alloc, meter, outer, inner, right)
-    }
-
-    fn lean_right(
-        alloc: Global,
-        meter: &mut Meter,
-        left: Rc<Node<S>>,
-        right: &Node<S>,
-    ) -> Result<Rc<Node<S>>, NoMemory>
-        requires two_higher { right.now.1 ≡ left.value.1 + 2 }
-        requires few { length left.value.0 + length right.now.0 ≤ 2 ^ 30 }
-        requires room { meter.old + 3 < 2 ^ 64 }
-        ensures items { IfOk result (λ n. n.value.0 ≡ left.value.0 ++ right.now.0) }
-        ensures height { IfOk result (λ n. SettlesAt left.value.1 right.now.1 n.value.1) }
-        ensures not_less { meter.old ≤ meter.new }
-        ensures joins { meter.new ≤ meter.old + 3 }
-    {
-        let Shape::Branch(inner, outer) = &right.shape else {
+        let Shape::Branch(left, right) = &inner.shape else {
             unreachable!()
         };
-        if outer.height() >= inner.height() {
-            let inner = inner.clone()?;
-            let outer = outer.clone()?;
-            let lower = Node::branch(alloc, meter, left, inner)?;
-            return Node::branch(alloc, meter, lower, outer);
-        }
-        let outer = outer.clone()?;
-        Node::part_middle(alloc, meter, left, inner, outer)
+        let (near, far) = side.order(left, right);
+        let front = Node::branch(alloc, meter, side, outer.clone()?, near.clone()?)?;
+        let back = Node::branch(alloc, meter, side, far.clone()?, low)?;
+        Node::branch(alloc, meter, side, front, back)
     }
 
-    /// The three in order, where the middle one is one level higher: its parts go to either side.
-    fn part_middle(
-        alloc: Global,
-        meter: &mut Meter,
-        left: Rc<Node<S>>,
-        middle: &Node<S>,
-        right: Rc<Node<S>>,
-    ) -> Result<Rc<Node<S>>, NoMemory>
-        requires level { left.value.1 ≡ right.value.1 }
-        requires one_higher { middle.now.1 ≡ right.value.1 + 1 }
-        requires few { length left.value.0 + length middle.now.0 + length right.value.0 ≤ 2 ^ 30 }
-        requires room { meter.old + 3 < 2 ^ 64 }
-        ensures items { IfOk result (λ n. n.value.0 ≡ (left.value.0 ++ middle.now.0) ++ right.value.0) }
-        ensures height { IfOk result (λ n. n.value.1 ≡ right.value.1 + 2) }
-        ensures counted { OnOk result (meter.new ≡ meter.old + 3) }
-        ensures not_less { meter.old ≤ meter.new }
-        ensures joins { meter.new ≤ meter.old + 3 }
+    /// Whether both are leaves whose items fit in one.
+    fn fit_in_a_leaf(&self, other: &Node<S>) -> bool
+        ensures leaf { result ≡ true → self.now.1 ≡ 0 }
+        ensures other_leaf { result ≡ true → other.now.1 ≡ 0 }
+        ensures fit { result ≡ true → length self.now.0 + length other.now.0 ≤ LEAF_ITEMS }
     {
-        let Shape::Branch(before, after) = &middle.shape else {
-            unreachable!()
-        };
-        let before = before.clone()?;
-        let after = after.clone()?;
-        let front = Node::branch(alloc, meter, left, before)?;
-        let back = Node::branch(alloc, meter, after, right)?;
-        Node::branch(alloc, meter, front, back)
-    }
-
-    /// Two leaves in order: one leaf where it can hold all items, and else a branch.
-    fn pair(
-        alloc: Global,
-        meter: &mut Meter,
-        left: Rc<Node<S>>,
-        right: Rc<Node<S>>,
-    ) -> Result<Rc<Node<S>>, NoMemory>
-        requires left_leaf { left.value.1 ≡ 0 }
-        requires right_leaf { right.value.1 ≡ 0 }
-        requires few { length left.value.0 + length right.value.0 ≤ 2 ^ 30 }
-        requires room { meter.old + 1 < 2 ^ 64 }
-        ensures items { IfOk result (λ n. n.value.0 ≡ left.value.0 ++ right.value.0) }
-        ensures height { IfOk result (λ n. n.value.1 ≤ 1) }
-        ensures not_less { meter.old ≤ meter.new }
-        ensures joins { meter.new ≤ meter.old + 1 }
-    {
-        if left.len() + right.len() > LEAF_ITEMS {
-            return Node::branch(alloc, meter, left, right);
-        }
-        Node::merge(alloc, meter, &left, &right)
+        self.height == 0 && other.height == 0 && self.len() + other.len() <= LEAF_ITEMS
     }
 
     /// The leaf of the items of two leaves. Their summaries serve, so one join is enough.
     fn merge(
         alloc: Global,
         meter: &mut Meter,
-        left: &Node<S>,
-        right: &Node<S>,
+        side: Side,
+        part: &Node<S>,
+        other: &Node<S>,
     ) -> Result<Rc<Node<S>>, NoMemory>
-        requires left_leaf { left.now.1 ≡ 0 }
-        requires right_leaf { right.now.1 ≡ 0 }
-        requires fits { length left.now.0 + length right.now.0 ≤ LEAF_ITEMS }
+        requires leaf { part.now.1 ≡ 0 }
+        requires other_leaf { other.now.1 ≡ 0 }
+        requires fit { length part.now.0 + length other.now.0 ≤ LEAF_ITEMS }
         requires room { meter.old + 1 < 2 ^ 64 }
-        ensures items { IfOk result (λ n. n.value.0 ≡ left.now.0 ++ right.now.0) }
+        ensures items { IfOk result (λ n. n.value.0 ≡ beside side part.now.0 other.now.0) }
         ensures height { IfOk result (λ n. n.value.1 ≡ 0) }
         ensures counted { OnOk result (meter.new ≡ meter.old + 1) }
         ensures not_less { meter.old ≤ meter.new }
         ensures joins { meter.new ≤ meter.old + 1 }
     {
+        let (left, right) = side.order(part, other);
         let (Shape::Leaf(front), Shape::Leaf(back)) = (&left.shape, &right.shape) else {
             unreachable!()
         };
@@ -389,176 +227,113 @@ impl<S: Segment> Node<S> {
         Ok(Rc::new(alloc, node)?)
     }
 
-    /// The two in order, as `balance`, where this node has another one in place of the left.
-    fn settle_left(
+    /// This node with the part on the side in place of an old one, balanced anew, and what of both nodes is known to be
+    /// the same; `likeness` says it of the parts. Two leaves become one as soon as one can hold all items.
+    fn settle(
         &self,
         was: &Node<S>,
         alloc: Global,
         meter: &mut Meter,
-        left: Rc<Node<S>>,
-        right: Rc<Node<S>>,
-        likeness: S::Likeness,
-    ) -> Result<(Rc<Node<S>>, S::Likeness), NoMemory>
-        requires old { S.composes was.now.2 right.value.2 self.now.2 }
-        requires like { S.alike likeness was.now.2 left.value.2 }
-        requires near { DifferByAtMost 2 left.value.1 right.value.1 }
-        requires few { length left.value.0 + length right.value.0 ≤ 2 ^ 30 }
+        side: Side,
+        part: Rc<Node<S>>,
+        other: Rc<Node<S>>,
+        likeness: Likeness,
+    ) -> Result<(Rc<Node<S>>, Likeness), NoMemory>
+        requires old { IsJoinAt S.composes side was.now.2 other.value.2 self.now.2 }
+        requires alike { AreAlike S.same_effect S.same_precondition likeness was.now.2 part.value.2 }
+        requires changed { HaveChanged part.value.1 other.value.1 self.now.1 }
+        requires few { length part.value.0 + length other.value.0 ≤ 2 ^ 30 }
         requires room { meter.old + 3 < 2 ^ 64 }
-        ensures items { IfOk result (λ new. new.0.value.0 ≡ left.value.0 ++ right.value.0) }
-        ensures height { IfOk result (λ new. SettlesAt left.value.1 right.value.1 new.0.value.1) }
-        ensures alike { IfOk result (λ new. S.alike new.1 self.now.2 new.0.value.2) }
+        ensures items { IfOk result (λ new. new.0.value.0 ≡ beside side part.value.0 other.value.0) }
+        ensures height { IfOk result (λ new. DifferByAtMost 1 new.0.value.1 self.now.1) }
+        ensures alike { IfOk result (λ new. AreAlike S.same_effect S.same_precondition new.1 self.now.2 new.0.value.2) }
         ensures not_less { meter.old ≤ meter.new }
         ensures joins { meter.new ≤ meter.old + 3 }
     {
-        if left.height() > right.height() + 1 || right.height() > left.height() + 1 {
-            let node = Node::balance(alloc, meter, left, right)?;
-            Ok((node, S::unlike()))
-        } else {
-            self.with_left(was, alloc, meter, left, right, likeness)
+        if part.height() > other.height() + 1 {
+            let node = Node::rotate(alloc, meter, side, &part, other)?;
+            return Ok((node, Likeness::none()));
         }
+        if other.height() > part.height() + 1 {
+            let node = Node::rotate(alloc, meter, side.opposite(), &other, part)?;
+            return Ok((node, Likeness::none()));
+        }
+        if self.height == 1 && part.fit_in_a_leaf(&other) {
+            let node = Node::merge(alloc, meter, side, &part, &other)?;
+            return Ok((node, Likeness::none()));
+        }
+        let (left, right) = side.order(part, other);
+        let (summary, likeness) = S::rejoin(
+            alloc,
+            meter,
+            left.summary(),
+            right.summary(),
+            &self.summary,
+            was.summary(),
+            side,
+            likeness,
+        )?;
+        let node = Node::over(alloc, summary, left, right)?;
+        Ok((node, likeness))
     }
 
-    /// The two in order, as `balance`, where this node has another one in place of the right.
-    fn settle_right(
-        &self,
-        was: &Node<S>,
-        alloc: Global,
-        meter: &mut Meter,
-        left: Rc<Node<S>>,
-        right: Rc<Node<S>>,
-        likeness: S::Likeness,
-    ) -> Result<(Rc<Node<S>>, S::Likeness), NoMemory>
-        requires old { S.composes left.value.2 was.now.2 self.now.2 }
-        requires like { S.alike likeness was.now.2 right.value.2 }
-        requires near { DifferByAtMost 2 left.value.1 right.value.1 }
-        requires few { length left.value.0 + length right.value.0 ≤ 2 ^ 30 }
-        requires room { meter.old + 3 < 2 ^ 64 }
-        ensures items { IfOk result (λ new. new.0.value.0 ≡ left.value.0 ++ right.value.0) }
-        ensures height { IfOk result (λ new. SettlesAt left.value.1 right.value.1 new.0.value.1) }
-        ensures alike { IfOk result (λ new. S.alike new.1 self.now.2 new.0.value.2) }
-        ensures not_less { meter.old ≤ meter.new }
-        ensures joins { meter.new ≤ meter.old + 3 }
-    {
-        if left.height() > right.height() + 1 || right.height() > left.height() + 1 {
-            let node = Node::balance(alloc, meter, left, right)?;
-            Ok((node, S::unlike()))
-        } else {
-            self.with_right(was, alloc, meter, left, right, likeness)
-        }
-    }
-
-    /// The two in order, where this node has another one in place of the left, which lost an item.
-    fn shrunk_left(
-        &self,
-        was: &Node<S>,
-        alloc: Global,
-        meter: &mut Meter,
-        left: Rc<Node<S>>,
-        right: Rc<Node<S>>,
-        likeness: S::Likeness,
-    ) -> Result<(Rc<Node<S>>, S::Likeness), NoMemory>
-        requires old { S.composes was.now.2 right.value.2 self.now.2 }
-        requires like { S.alike likeness was.now.2 left.value.2 }
-        requires lost { HaveLostOne left.value.1 right.value.1 self.now.1 }
-        requires few { length left.value.0 + length right.value.0 ≤ 2 ^ 30 }
-        requires room { meter.old + 3 < 2 ^ 64 }
-        ensures items { IfOk result (λ new. new.0.value.0 ≡ left.value.0 ++ right.value.0) }
-        ensures at_most_one_lower { IfOk result (λ new. self.now.1 ≤ new.0.value.1 + 1) }
-        ensures not_higher { IfOk result (λ new. new.0.value.1 ≤ self.now.1) }
-        ensures alike { IfOk result (λ new. S.alike new.1 self.now.2 new.0.value.2) }
-        ensures not_less { meter.old ≤ meter.new }
-        ensures joins { meter.new ≤ meter.old + 3 }
-    {
-        if self.height == 1 {
-            let node = Node::pair(alloc, meter, left, right)?;
-            Ok((node, S::unlike()))
-        } else {
-            self.settle_left(was, alloc, meter, left, right, likeness)
-        }
-    }
-
-    /// The two in order, where this node has another one in place of the right, which lost an item.
-    fn shrunk_right(
-        &self,
-        was: &Node<S>,
-        alloc: Global,
-        meter: &mut Meter,
-        left: Rc<Node<S>>,
-        right: Rc<Node<S>>,
-        likeness: S::Likeness,
-    ) -> Result<(Rc<Node<S>>, S::Likeness), NoMemory>
-        requires old { S.composes left.value.2 was.now.2 self.now.2 }
-        requires like { S.alike likeness was.now.2 right.value.2 }
-        requires lost { HaveLostOne left.value.1 right.value.1 self.now.1 }
-        requires few { length left.value.0 + length right.value.0 ≤ 2 ^ 30 }
-        requires room { meter.old + 3 < 2 ^ 64 }
-        ensures items { IfOk result (λ new. new.0.value.0 ≡ left.value.0 ++ right.value.0) }
-        ensures at_most_one_lower { IfOk result (λ new. self.now.1 ≤ new.0.value.1 + 1) }
-        ensures not_higher { IfOk result (λ new. new.0.value.1 ≤ self.now.1) }
-        ensures alike { IfOk result (λ new. S.alike new.1 self.now.2 new.0.value.2) }
-        ensures not_less { meter.old ≤ meter.new }
-        ensures joins { meter.new ≤ meter.old + 3 }
-    {
-        if self.height == 1 {
-            let node = Node::pair(alloc, meter, left, right)?;
-            Ok((node, S::unlike()))
-        } else {
-            self.settle_right(was, alloc, meter, left, right, likeness)
-        }
-    }
-
-    /// The node with the item at the place, and how far both summaries are alike. It is at most one level higher.
-    pub(crate) fn insert(
+    /// The node after an edit at a place, at most one level higher or lower, and what of both nodes is known to be the
+    /// same; none where no item is left.
+    pub(crate) fn edited(
         this: &Rc<Node<S>>,
         alloc: Global,
         meter: &mut Meter,
         at: usize,
-        item: Rc<S::Item>,
-    ) -> Result<(Rc<Node<S>>, S::Likeness), NoMemory>
-        requires in_range { at ≤ length this.now.value.0 }
-        requires few { length this.now.value.0 < 2 ^ 30 }
+        edit: Edit<S::Item>,
+    ) -> Result<Option<(Rc<Node<S>>, Likeness)>, NoMemory>
+        requires allowed { IsAllowed edit (length this.now.value.0) at }
         requires room { meter.old + 2 ^ 32 < 2 ^ 64 }
-        ensures items { IfOk result (λ new. new.0.value.0 ≡ insert this.now.value.0 at item.value) }
-        ensures not_lower { IfOk result (λ new. this.now.value.1 ≤ new.0.value.1) }
-        ensures at_most_one_higher { IfOk result (λ new. new.0.value.1 ≤ this.now.value.1 + 1) }
-        ensures alike { IfOk result (λ new. S.alike new.1 this.now.value.2 new.0.value.2) }
+        ensures items { IfOk result (λ o. MatchOption o (edited edit this.now.value.0 at ≡ [])
+            (λ new. new.0.value.0 ≡ edited edit this.now.value.0 at)) }
+        ensures height { IfOk result (λ o. MatchOption o (this.now.value.1 ≡ 0)
+            (λ new. DifferByAtMost 1 new.0.value.1 this.now.value.1)) }
+        ensures alike { IfOk result (λ o. IfSome o
+            (λ new. AreAlike S.same_effect S.same_precondition new.1 this.now.value.2 new.0.value.2)) }
         ensures not_less { meter.old ≤ meter.new }
         ensures joins { meter.new ≤ meter.old + min LEAF_ITEMS (length this.now.value.0) + 3 * this.now.value.1 }
     {
         let node: &Node<S> = this;
         match &node.shape {
-            Shape::Leaf(_) => {
-                let node = Node::insert_in_leaf(this, alloc, meter, at, item)?;
-                Ok((node, S::unlike()))
-            }
+            Shape::Leaf(_) => match Node::edit_leaf(this, alloc, meter, at, edit)? {
+                None => Ok(None),
+                Some(new) => Ok(Some((new, Likeness::none()))),
+            },
             Shape::Branch(left, right) => {
-                let middle = left.len();
-                if at <= middle {
-                    let (changed, likeness) = Node::insert(left, alloc, meter, at, item)?;
-                    let kept = right.clone()?;
-                    node.settle_left(left, alloc, meter, changed, kept, likeness)
-                } else {
-                    let (changed, likeness) = Node::insert(right, alloc, meter, at - middle, item)?;
-                    let kept = left.clone()?;
-                    node.settle_right(right, alloc, meter, kept, changed, likeness)
+                let (side, place) = Side::of_place(left.len(), at);
+                let (part, other) = side.order(left, right);
+                let changed = Node::edited(part, alloc, meter, place, edit)?;
+                let kept = other.clone()?;
+                match changed {
+                    None => Ok(Some((kept, Likeness::none()))),
+                    Some((changed, likeness)) => {
+                        let new = node.settle(part, alloc, meter, side, changed, kept, likeness)?;
+                        Ok(Some(new))
+                    }
                 }
             }
         }
     }
 
-    /// The leaf with the item at the place, or a branch over two. At either end the leaf's own summary serves.
-    fn insert_in_leaf(
+    /// The leaf after an edit at a place, or a branch over two leaves; none where no item is left. For a new item at either
+    /// end the leaf's own summary serves.
+    fn edit_leaf(
         this: &Rc<Node<S>>,
         alloc: Global,
         meter: &mut Meter,
         at: usize,
-        item: Rc<S::Item>,
-    ) -> Result<Rc<Node<S>>, NoMemory>
+        edit: Edit<S::Item>,
+    ) -> Result<Option<Rc<Node<S>>>, NoMemory>
         requires leaf { this.now.value.1 ≡ 0 }
-        requires in_range { at ≤ length this.now.value.0 }
+        requires allowed { IsAllowed edit (length this.now.value.0) at }
         requires room { meter.old + 2 ^ 32 < 2 ^ 64 }
-        ensures items { IfOk result (λ n. n.value.0 ≡ insert this.now.value.0 at item.value) }
-        ensures height { IfOk result (λ n. n.value.1 ≤ 1) }
+        ensures items { IfOk result (λ o. MatchOption o (edited edit this.now.value.0 at ≡ [])
+            (λ n. n.value.0 ≡ edited edit this.now.value.0 at)) }
+        ensures height { IfOk result (λ o. IfSome o (λ n. n.value.1 ≤ 1)) }
         ensures not_less { meter.old ≤ meter.new }
         ensures joins { meter.new ≤ meter.old + min LEAF_ITEMS (length this.now.value.0) }
     {
@@ -566,18 +341,46 @@ impl<S: Segment> Node<S> {
         let Shape::Leaf(run) = &node.shape else {
             unreachable!()
         };
-        if at == 0 {
-            let old = this.clone()?;
-            let new = Node::single(alloc, meter, item)?;
-            return Node::pair(alloc, meter, new, old);
+        let new = match edit {
+            Edit::Insert(item) if at == 0 => {
+                Node::insert_at_end(this, alloc, meter, Side::Left, item)?
+            }
+            Edit::Insert(item) if at == run.len() => {
+                Node::insert_at_end(this, alloc, meter, Side::Right, item)?
+            }
+            edit => {
+                let run = run::edited(alloc, run, at, edit)?;
+                if run.is_empty() {
+                    return Ok(None);
+                }
+                Node::leaves(alloc, meter, run)?
+            }
+        };
+        Ok(Some(new))
+    }
+
+    /// The leaf with an item more at the end on the side, or a branch over it and the leaf of the item.
+    fn insert_at_end(
+        this: &Rc<Node<S>>,
+        alloc: Global,
+        meter: &mut Meter,
+        side: Side,
+        item: Rc<S::Item>,
+    ) -> Result<Rc<Node<S>>, NoMemory>
+        requires leaf { this.now.value.1 ≡ 0 }
+        requires few { length this.now.value.0 ≤ LEAF_ITEMS }
+        requires room { meter.old + 1 < 2 ^ 64 }
+        ensures items { IfOk result (λ n. n.value.0 ≡ beside side (item.value ∷ []) this.now.value.0) }
+        ensures height { IfOk result (λ n. n.value.1 ≤ 1) }
+        ensures not_less { meter.old ≤ meter.new }
+        ensures joins { meter.new ≤ meter.old + 1 }
+    {
+        let old = this.clone()?;
+        let new = Node::leaf(alloc, meter, run::single(alloc, item)?)?;
+        if new.fit_in_a_leaf(&old) {
+            return Node::merge(alloc, meter, side, &new, &old);
         }
-        if at == run.len() {
-            let old = this.clone()?;
-            let new = Node::single(alloc, meter, item)?;
-            return Node::pair(alloc, meter, old, new);
-        }
-        let run = run::inserted(alloc, run, at, item)?;
-        Node::leaves(alloc, meter, run)
+        Node::branch(alloc, meter, side, new, old)
     }
 
     /// The leaf that holds a run, or a branch over its halves where the run has an item too many.
@@ -600,25 +403,7 @@ impl<S: Segment> Node<S> {
         let (front, back) = run.as_slice().split_at(run.len() / 2);
         let left = Node::leaf(alloc, meter, run::shared(alloc, front)?)?;
         let right = Node::leaf(alloc, meter, run::shared(alloc, back)?)?;
-        Node::branch(alloc, meter, left, right)
-    }
-
-    /// The item at the place.
-    pub(crate) fn get(&self, at: usize) -> &S::Item
-        requires { at < length self.now.0 }
-        ensures { slice_get self.now.0 at ≡ Some result.now }
-    {
-        match &self.shape {
-            Shape::Leaf(run) => &run[at],
-            Shape::Branch(left, right) => {
-                let middle = left.len();
-                if at < middle {
-                    left.get(at)
-                } else {
-                    right.get(at - middle)
-                }
-            }
-        }
+        Node::branch(alloc, meter, Side::Left, left, right)
     }
 
     /// The run of the leaf around the place, and where in it the place is.
@@ -637,104 +422,6 @@ impl<S: Segment> Node<S> {
                     left.leaf_at(at)
                 } else {
                     right.leaf_at(at - middle)
-                }
-            }
-        }
-    }
-
-    /// The node with the item in place of the one at the place, at the same height, and how far both summaries are
-    /// alike.
-    pub(crate) fn replace(
-        &self,
-        alloc: Global,
-        meter: &mut Meter,
-        at: usize,
-        item: Rc<S::Item>,
-    ) -> Result<(Rc<Node<S>>, S::Likeness), NoMemory>
-        requires in_range { at < length self.now.0 }
-        requires room { meter.old + 2 ^ 32 < 2 ^ 64 }
-        ensures items { IfOk result (λ new. new.0.value.0 ≡ slice_set self.now.0 at item.value) }
-        ensures height { IfOk result (λ new. new.0.value.1 ≡ self.now.1) }
-        ensures alike { IfOk result (λ new. S.alike new.1 self.now.2 new.0.value.2) }
-        ensures not_less { meter.old ≤ meter.new }
-        ensures joins { meter.new ≤ meter.old + min LEAF_ITEMS (length self.now.0) + self.now.1 }
-    {
-        match &self.shape {
-            Shape::Leaf(run) => {
-                let run = run::replaced(alloc, run, at, item)?;
-                let node = Node::leaf(alloc, meter, run)?;
-                Ok((node, S::unlike()))
-            }
-            Shape::Branch(left, right) => {
-                let middle = left.len();
-                if at < middle {
-                    let (changed, likeness) = left.replace(alloc, meter, at, item)?;
-                    let kept = right.clone()?;
-                    self.with_left(left, alloc, meter, changed, kept, likeness)
-                } else {
-                    let (changed, likeness) = right.replace(alloc, meter, at - middle, item)?;
-                    let kept = left.clone()?;
-                    self.with_right(right, alloc, meter, kept, changed, likeness)
-                }
-            }
-        }
-    }
-
-    /// The node without the item at the place, which is at most one level lower, and how far both summaries are alike;
-    /// none where that was its only one.
-    pub(crate) fn remove(
-        &self,
-        alloc: Global,
-        meter: &mut Meter,
-        at: usize,
-    ) -> Result<Option<(Rc<Node<S>>, S::Likeness)>, NoMemory>
-        requires in_range { at < length self.now.0 }
-        requires room { meter.old + 2 ^ 32 < 2 ^ 64 }
-        ensures items { IfOk result
-            (λ o. MatchOption o (remove self.now.0 at ≡ []) (λ new. new.0.value.0 ≡ remove self.now.0 at)) }
-        ensures height { IfOk result
-            (λ o. MatchOption o (self.now.1 ≡ 0)
-            (λ new. (self.now.1 ≤ new.0.value.1 + 1) × (new.0.value.1 ≤ self.now.1))) }
-        ensures alike { IfOk result
-            (λ o. IfSome o (λ new. S.alike new.1 self.now.2 new.0.value.2)) }
-        ensures not_less { meter.old ≤ meter.new }
-        ensures joins { meter.new ≤ meter.old + min LEAF_ITEMS (length self.now.0) + 3 * self.now.1 }
-    {
-        match &self.shape {
-            Shape::Leaf(run) => {
-                if run.len() == 1 {
-                    return Ok(None);
-                }
-                let run = run::removed(alloc, run, at)?;
-                let node = Node::leaf(alloc, meter, run)?;
-                Ok(Some((node, S::unlike())))
-            }
-            Shape::Branch(left, right) => {
-                let middle = left.len();
-                if at < middle {
-                    let rest = left.remove(alloc, meter, at)?;
-                    let kept = right.clone()?;
-                    match rest {
-                        None => Ok(Some((kept, S::unlike()))),
-                        Some((changed, likeness)) => {
-                            let new = self.shrunk_left(
-                                left, alloc, meter, changed, kept, likeness,
-                            )?;
-                            Ok(Some(new))
-                        }
-                    }
-                } else {
-                    let rest = right.remove(alloc, meter, at - middle)?;
-                    let kept = left.clone()?;
-                    match rest {
-                        None => Ok(Some((kept, S::unlike()))),
-                        Some((changed, likeness)) => {
-                            let new = self.shrunk_right(
-                                right, alloc, meter, kept, changed, likeness,
-                            )?;
-                            Ok(Some(new))
-                        }
-                    }
                 }
             }
         }
@@ -775,6 +462,6 @@ impl<S: Segment> Node<S> {
         let (front, back) = list.split_at(Node::<S>::cut(list.len()));
         let left = Node::build(alloc, meter, front)?;
         let right = Node::build(alloc, meter, back)?;
-        Node::branch(alloc, meter, left, right)
+        Node::branch(alloc, meter, Side::Left, left, right)
     }
 }

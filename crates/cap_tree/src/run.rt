@@ -1,11 +1,19 @@
-//! Runs of shared items, as a leaf holds them. Each is made with room for its items and no more.
-ghost use Rattle.std.specs.Prelude.{◌≡◌, ◌+◌, ◌^◌, ◌<◌, ◌≤◌, [], ◌∷◌, ◌++◌, length, insert, remove, slice_set, IfOk};
-ghost use Rattle.std.specs.Prelude.{OnOk};
+//! Runs of shared items, as a leaf holds them, and edits of them. Each is made with room for its items and no more.
+ghost use Rattle.std.specs.Prelude.{◌≡◌, ◌+◌, ◌^◌, ◌<◌, ◌≤◌, [], ◌∷◌, ◌++◌, length, IfOk, OnOk};
+ghost use Rattle.cap_tree.specs.Edits.{edited, IsAllowed};
 ghost use Rattle.cap_tree.specs.Run.{values};
 
 use crate::no_memory::NoMemory;
 use std::alloc::Global;
 use std::rc::Rc;
+
+/// What an edit does at a place: it puts a new item before the one that is there, or in its place, or takes that away.
+#[derive(Drop)]
+pub(crate) enum Edit<T: Drop> {
+    Insert(Rc<T>),
+    Replace(Rc<T>),
+    Remove,
+}
 
 /// Adds the items of a run, shared with it.
 fn share<T: Drop>(run: &mut Vec<Rc<T>>, more: &[Rc<T>]) -> Result<(), NoMemory>
@@ -65,44 +73,20 @@ fn joined_by<T: Drop>(
     Ok(run)
 }
 
-/// The run with the item at the place.
-pub(crate) fn inserted<T: Drop>(
+/// The run after an edit at a place.
+pub(crate) fn edited<T: Drop>(
     alloc: Global,
     run: &[Rc<T>],
     at: usize,
-    item: Rc<T>,
+    edit: Edit<T>,
 ) -> Result<Vec<Rc<T>>, NoMemory>
-    requires in_range { at ≤ length run.now }
+    requires allowed { IsAllowed edit (length run.now) at }
     requires few { length run.now ≤ 2 ^ 30 }
-    ensures { IfOk result (λ new. values new.items ≡ insert (values run.now) at item.value) }
+    ensures { IfOk result (λ new. values new.items ≡ edited edit (values run.now) at) }
 {
-    let (front, back) = run.split_at(at);
-    joined_by(alloc, front, item, back)
-}
-
-/// The run with the item in place of the one at the place.
-pub(crate) fn replaced<T: Drop>(
-    alloc: Global,
-    run: &[Rc<T>],
-    at: usize,
-    item: Rc<T>,
-) -> Result<Vec<Rc<T>>, NoMemory>
-    requires in_range { at < length run.now }
-    requires few { length run.now ≤ 2 ^ 30 }
-    ensures { IfOk result (λ new. values new.items ≡ slice_set (values run.now) at item.value) }
-{
-    joined_by(alloc, &run[..at], item, &run[at + 1..])
-}
-
-/// The run without the item at the place.
-pub(crate) fn removed<T: Drop>(
-    alloc: Global,
-    run: &[Rc<T>],
-    at: usize,
-) -> Result<Vec<Rc<T>>, NoMemory>
-    requires in_range { at < length run.now }
-    requires few { length run.now ≤ 2 ^ 30 }
-    ensures { IfOk result (λ new. values new.items ≡ remove (values run.now) at) }
-{
-    joined(alloc, &run[..at], &run[at + 1..])
+    match edit {
+        Edit::Insert(item) => joined_by(alloc, &run[..at], item, &run[at..]),
+        Edit::Replace(item) => joined_by(alloc, &run[..at], item, &run[at + 1..]),
+        Edit::Remove => joined(alloc, &run[..at], &run[at + 1..]),
+    }
 }

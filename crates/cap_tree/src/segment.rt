@@ -1,7 +1,10 @@
 //! What can sum up a list of items. The clauses of the trait are the laws that the tree rests on.
 ghost use Rattle.std.specs.Prelude.{◌≡◌, ℕ, ◌+◌, ◌^◌, ◌<◌, ◌≤◌, List, [], ◌∷◌, ◌++◌, length, IfOk, OnOk};
+ghost use Rattle.cap_tree.specs.Alike.{AreAlike};
 ghost use Rattle.cap_tree.specs.Run.{values};
+ghost use Rattle.cap_tree.specs.Sides.{IsJoinAt, part_at, other_at};
 
+use crate::likeness::{Likeness, Side};
 use crate::meter::Meter;
 use crate::no_memory::NoMemory;
 use std::alloc::Global;
@@ -9,12 +12,13 @@ use std::rc::Rc;
 
 /// A summary of a list of items. Two summaries join to that of the one list followed by the other.
 ///
-/// The clauses below are the laws that every segment keeps; the tree knows nothing else of it.
+/// The clauses below are the laws that every segment keeps; the tree knows nothing else of it. An `impl` gives `Item`,
+/// `empty`, `one`, `len` and `join`, with what `stands` and `size` mean and the law `sized`.
+///
+/// One that has [`Segment::rejoin`] as well may share with what was there before an edit. It says by `composes`,
+/// `same_effect` and `same_precondition` what it needs to know of that.
 pub trait Segment: Drop {
     type Item: Drop;
-
-    /// How far two summaries are known to be alike.
-    type Likeness: Drop;
 
     /// The value sums up the list.
     ghost stands: { Self → List Self.Item → Type 0 };
@@ -22,11 +26,14 @@ pub trait Segment: Drop {
     /// The length of the list that the value sums up.
     ghost size: { Self → ℕ };
 
-    /// The third value is a join of the first and the second.
-    ghost composes: { Self → Self → Self → Type 0 };
+    /// The third value is a join of the first and the second, as far as the type keeps track of it.
+    ghost composes: { Self → Self → Self → Type 0 } = { λ _ _ _. Unit {0} };
 
-    /// The second value is like the first one, as far as the likeness says.
-    ghost alike: { Self.Likeness → Self → Self → Type 0 };
+    /// The items of both values do the same.
+    ghost same_effect: { Self → Self → Type 0 } = { λ _ _. Unit {0} };
+
+    /// The items of both values ask the same of what came before them.
+    ghost same_precondition: { Self → Self → Type 0 } = { λ _ _. Unit {0} };
 
     /// The summary of no items.
     fn empty(alloc: Global) -> Result<Self, NoMemory>
@@ -39,10 +46,6 @@ pub trait Segment: Drop {
     /// How many items are summed up. Allocates nothing.
     fn len(&self) -> usize
         ensures { result ≡ size self.now };
-
-    /// Nothing is known of how far two summaries are alike.
-    fn unlike() -> Self::Likeness
-        ensures { (a b : Self) → alike result a b };
 
     /// The summary of the left items followed by the right ones.
     ///
@@ -80,60 +83,36 @@ pub trait Segment: Drop {
         Ok(sum)
     }
 
-    /// As [`Segment::join`] of the left and the right part, where `old` is a join of `was` and the right part. The new
-    /// summary may share with the old one what is equal. `likeness` says how far `was` and the left part are alike, and
-    /// the answer how far the old summary and the new one are.
-    fn with_left(
+    /// As [`Segment::join`] of both parts, where the one on the side stands in place of an old one: `old` is a join of `was`
+    /// and the other part, and `likeness` says what of `was` and the new part is known to be the same. The new summary may
+    /// share with the old one what is the same. The answer says too what of these two is known to be the same.
+    fn rejoin(
         alloc: Global,
         meter: &mut Meter,
-        old: &Self,
-        was: &Self,
         left: &Self,
         right: &Self,
-        likeness: Self::Likeness,
-    ) -> Result<(Self, Self::Likeness), NoMemory>
+        old: &Self,
+        was: &Self,
+        side: Side,
+        likeness: Likeness,
+    ) -> Result<(Self, Likeness), NoMemory>
         requires few { size left.now + size right.now ≤ 2 ^ 30 }
         requires room { meter.old + 1 < 2 ^ 64 }
-        requires old { composes was.now right.now old.now }
-        requires like { alike likeness was.now left.now }
+        requires old { IsJoinAt composes side was.now (other_at side left.now right.now) old.now }
+        requires alike { AreAlike same_effect same_precondition likeness was.now (part_at side left.now right.now) }
         ensures joined { IfOk result (λ new. (t u : List Self.Item) → stands left.now t → stands right.now u
             → stands new.0 (t ++ u)) }
         ensures composed { IfOk result (λ new. composes left.now right.now new.0) }
-        ensures alike { IfOk result (λ new. alike new.1 old.now new.0) }
+        ensures alike { IfOk result (λ new. AreAlike same_effect same_precondition new.1 old.now new.0) }
         ensures counted { OnOk result (meter.new ≡ meter.old + 1) }
         ensures not_less { meter.old ≤ meter.new }
         ensures at_most_one { meter.new ≤ meter.old + 1 }
     {
-        let _ = (old, was, likeness);
+        let _ = old;
+        let _ = was;
+        let _ = (side, likeness);
         let new = Self::join(alloc, meter, left, right)?;
-        Ok((new, Self::unlike()))
-    }
-
-    /// The same where `old` is a join of the left part and `was`, and `likeness` is of `was` and the right part.
-    fn with_right(
-        alloc: Global,
-        meter: &mut Meter,
-        old: &Self,
-        was: &Self,
-        left: &Self,
-        right: &Self,
-        likeness: Self::Likeness,
-    ) -> Result<(Self, Self::Likeness), NoMemory>
-        requires few { size left.now + size right.now ≤ 2 ^ 30 }
-        requires room { meter.old + 1 < 2 ^ 64 }
-        requires old { composes left.now was.now old.now }
-        requires like { alike likeness was.now right.now }
-        ensures joined { IfOk result (λ new. (t u : List Self.Item) → stands left.now t → stands right.now u
-            → stands new.0 (t ++ u)) }
-        ensures composed { IfOk result (λ new. composes left.now right.now new.0) }
-        ensures alike { IfOk result (λ new. alike new.1 old.now new.0) }
-        ensures counted { OnOk result (meter.new ≡ meter.old + 1) }
-        ensures not_less { meter.old ≤ meter.new }
-        ensures at_most_one { meter.new ≤ meter.old + 1 }
-    {
-        let _ = (old, was, likeness);
-        let new = Self::join(alloc, meter, left, right)?;
-        Ok((new, Self::unlike()))
+        Ok((new, Likeness::none()))
     }
 
     /// All lists that one value sums up have its length.

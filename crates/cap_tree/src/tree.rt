@@ -1,15 +1,17 @@
 //! A list of items with a summary of it: what this crate's callers use.
 //!
 //! A contract sees a tree as its list. The nodes, their heights and their leaves stand in `node` and `run`.
-ghost use Rattle.std.specs.Prelude.{◌≡◌, ◌+◌, ◌-◌, ◌^◌, ◌<◌, ◌≤◌, ◌==◌, [], length, map, insert, remove};
+ghost use Rattle.std.specs.Prelude.{◌≡◌, ℕ, ◌+◌, ◌-◌, ◌^◌, ◌<◌, ◌≤◌, ◌==◌, [], length, map, insert, remove};
 ghost use Rattle.std.specs.Prelude.{slice_get, slice_range, slice_set, vec_len, Some, IfOk, OnOk};
 ghost use Rattle.cap_tree.specs.Bits.{bound};
+ghost use Rattle.cap_tree.specs.Edits.{edited, IsAllowed};
 ghost use Rattle.cap_tree.specs.Run.{values};
 
 use crate::items::Items;
 use crate::meter::Meter;
 use crate::no_memory::NoMemory;
 use crate::node::Node;
+use crate::run::{self, Edit};
 use crate::segment::Segment;
 use std::alloc::{AllocError, Global};
 use std::marker::Model;
@@ -113,10 +115,8 @@ impl<S: Segment> Tree<S> {
         requires { at < length self.now }
         ensures { slice_get self.now at ≡ Some result.now }
     {
-        match &self.root {
-            Root::Empty(_) => unreachable!(),
-            Root::Full(node) => node.get(at),
-        }
+        let (run, offset) = self.leaf_at(at);
+        &run[offset]
     }
 
     /// The items of the leaf that holds a place below the length, and the offset of the place in it. Allocates nothing.
@@ -164,7 +164,6 @@ impl<S: Segment> Tree<S> {
     /// The tree with the item at the place, and those from there on one place later. The place is at most the length.
     ///
     /// Makes at most `12 * bits n + 12` joins, n the new length.
-    #[tactic(auto, using(crate::proofs::Digits::joins_le_bound))]
     pub fn insert(
         &self,
         alloc: Global,
@@ -179,24 +178,12 @@ impl<S: Segment> Tree<S> {
         ensures not_less { meter.old ≤ meter.new }
         ensures joins { meter.new ≤ meter.old + bound (length self.now + 1) }
     {
-        let root = match &self.root {
-            Root::Empty(_) => Node::single(alloc, meter, item)?,
-            Root::Full(node) => {
-                // Shows how high a node of so many items can be.
-                let _height = node.height();
-                let (root, _) = Node::insert(node, alloc, meter, at, item)?;
-                root
-            }
-        };
-        Ok(Tree {
-            root: Root::Full(root),
-        })
+        self.edited(alloc, meter, at, Edit::Insert(item))
     }
 
     /// The tree without the item at the place, and those after it one place earlier.
     ///
     /// Makes at most `12 * bits n + 12` joins, n the old length.
-    #[tactic(auto, using(crate::proofs::Digits::joins_le_bound))]
     pub fn remove(&self, alloc: Global, meter: &mut Meter, at: usize) -> Result<Tree<S>, NoMemory>
         requires in_range { at < length self.now }
         requires room { meter.old + 2 ^ 32 < 2 ^ 64 }
@@ -204,24 +191,12 @@ impl<S: Segment> Tree<S> {
         ensures not_less { meter.old ≤ meter.new }
         ensures joins { meter.new ≤ meter.old + bound (length self.now) }
     {
-        match &self.root {
-            Root::Empty(_) => unreachable!(),
-            Root::Full(node) => {
-                let _height = node.height();
-                match node.remove(alloc, meter, at)? {
-                    None => Tree::empty(alloc),
-                    Some((root, _)) => Ok(Tree {
-                        root: Root::Full(root),
-                    }),
-                }
-            }
-        }
+        self.edited(alloc, meter, at, Edit::Remove)
     }
 
     /// The tree with this item in place of the one that is there.
     ///
     /// Makes at most `12 * bits n + 12` joins, n the length.
-    #[tactic(auto, using(crate::proofs::Digits::joins_le_bound))]
     pub fn replace(
         &self,
         alloc: Global,
@@ -235,15 +210,36 @@ impl<S: Segment> Tree<S> {
         ensures not_less { meter.old ≤ meter.new }
         ensures joins { meter.new ≤ meter.old + bound (length self.now) }
     {
-        match &self.root {
-            Root::Empty(_) => unreachable!(),
-            Root::Full(node) => {
-                let _height = node.height();
-                let (root, _) = node.replace(alloc, meter, at, item)?;
-                Ok(Tree {
-                    root: Root::Full(root),
-                })
-            }
+        self.edited(alloc, meter, at, Edit::Replace(item))
+    }
+
+    /// The tree after an edit at a place.
+    fn edited(
+        &self,
+        alloc: Global,
+        meter: &mut Meter,
+        at: usize,
+        edit: Edit<S::Item>,
+    ) -> Result<Tree<S>, NoMemory>
+        requires allowed { IsAllowed edit (length self.now) at }
+        requires room { meter.old + 2 ^ 32 < 2 ^ 64 }
+        ensures list { IfOk result (λ t. t ≡ edited edit self.now at) }
+        ensures not_less { meter.old ≤ meter.new }
+        ensures joins { (n : ℕ) → length self.now ≤ n → meter.new ≤ meter.old + bound n }
+    {
+        let Root::Full(root) = &self.root else {
+            let Edit::Insert(item) = edit else {
+                unreachable!()
+            };
+            return Tree::from_list(alloc, meter, run::single(alloc, item)?);
+        };
+        // Shows how high a node of so many items can be.
+        let _height = root.height();
+        match Node::edited(root, alloc, meter, at, edit)? {
+            None => Tree::empty(alloc),
+            Some((root, _)) => Ok(Tree {
+                root: Root::Full(root),
+            }),
         }
     }
 }

@@ -18,15 +18,9 @@ pub struct Listed {
 impl Segment for Listed {
     type Item = u32;
 
-    type Likeness = ();
-
     ghost stands = { λ s xs. s.list.items ≡ xs };
 
     ghost size = { λ s. length s.list.items };
-
-    ghost composes = { λ a b whole. Unit {0} };
-
-    ghost alike = { λ likeness old new. Unit {0} };
 
     fn empty(alloc: Global) -> Result<Listed, NoMemory> {
         Ok(Listed {
@@ -43,8 +37,6 @@ impl Segment for Listed {
     fn len(&self) -> usize {
         self.list.len()
     }
-
-    fn unlike() {}
 
     fn join(
         _alloc: Global,

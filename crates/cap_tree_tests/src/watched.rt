@@ -1,10 +1,10 @@
 //! A segment whose items share three cells: two count the joins and the comparisons, the third refuses a summary when
 //! its turn comes.
-ghost use Rattle.std.specs.Prelude.{◌≡◌, ◌++◌, true, length};
+ghost use Rattle.std.specs.Prelude.{◌≡◌, ◌+◌, ◌^◌, ◌<◌, ◌++◌, true, length};
 ghost use Rattle.cap_tree_tests.specs.Numbers.{numbers, length-numbers};
 
 use crate::listed::appended;
-use cap_tree::{Meter, NoMemory, Segment};
+use cap_tree::{Likeness, Meter, NoMemory, Segment, Side};
 use std::alloc::Global;
 use std::cell::Cell;
 use std::rc::Rc;
@@ -41,30 +41,27 @@ pub struct Item {
     pub watch: Rc<Watch>,
 }
 
-/// The numbers of the items.
+/// The numbers of the items. Summaries may share the list.
 #[derive(Drop)]
 pub struct Watched {
-    pub list: Vec<u32>,
+    pub list: Rc<Vec<u32>>,
     watch: Option<Rc<Watch>>,
 }
 
 impl Segment for Watched {
     type Item = Item;
 
-    /// Whether both are known to have the same numbers.
-    type Likeness = bool;
+    ghost stands = { λ s xs. s.list.value.items ≡ numbers xs };
 
-    ghost stands = { λ s xs. s.list.items ≡ numbers xs };
+    ghost size = { λ s. length s.list.value.items };
 
-    ghost size = { λ s. length s.list.items };
+    ghost composes = { λ a b whole. whole.list.value.items ≡ a.list.value.items ++ b.list.value.items };
 
-    ghost composes = { λ a b whole. whole.list.items ≡ a.list.items ++ b.list.items };
-
-    ghost alike = { λ likeness old new. likeness ≡ true → old.list.items ≡ new.list.items };
+    ghost same_effect = { λ old new. old.list.value.items ≡ new.list.value.items };
 
     fn empty(alloc: Global) -> Result<Watched, NoMemory> {
         Ok(Watched {
-            list: Vec::new(alloc),
+            list: Rc::new(alloc, Vec::new(alloc))?,
             watch: None,
         })
     }
@@ -75,7 +72,7 @@ impl Segment for Watched {
         let mut list = Vec::new(alloc);
         list.push(item.number)?;
         Ok(Watched {
-            list,
+            list: Rc::new(alloc, list)?,
             watch: Some(watch),
         })
     }
@@ -84,68 +81,74 @@ impl Segment for Watched {
         self.list.len()
     }
 
-    fn unlike() -> bool {
-        false
-    }
-
     fn join(
-        _alloc: Global,
+        alloc: Global,
         meter: &mut Meter,
         left: &Watched,
         right: &Watched,
     ) -> Result<Watched, NoMemory> {
-        let watch = shared(left, right)?;
+        let watch = allowed(left, right)?;
         let list = appended(&left.list, right.list.as_slice())?;
+        let list = Rc::new(alloc, list)?;
+        Ok(Watched::counted(meter, list, watch))
+    }
+
+    /// Shares the list of the old whole where the part has the numbers of the old one.
+    fn rejoin(
+        alloc: Global,
+        meter: &mut Meter,
+        left: &Watched,
+        right: &Watched,
+        old: &Watched,
+        was: &Watched,
+        side: Side,
+        likeness: Likeness,
+    ) -> Result<(Watched, Likeness), NoMemory> {
+        let (part, _) = side.order(left, right);
+        if !likeness.effect && !part.is_like(was) {
+            let new = Watched::join(alloc, meter, left, right)?;
+            return Ok((new, Likeness::none()));
+        }
+        let watch = allowed(left, right)?;
+        let list = old.list.clone()?;
+        let new = Watched::counted(meter, list, watch);
+        let likeness = Likeness {
+            effect: true,
+            precondition: false,
+        };
+        Ok((new, likeness))
+    }
+
+    ghost sized = { λ s t e. length-numbers s.list.value.items t e };
+}
+
+impl Watched {
+    /// The summary with this list, whose join is counted.
+    fn counted(meter: &mut Meter, list: Rc<Vec<u32>>, watch: Option<Rc<Watch>>) -> Watched
+        requires { meter.old + 1 < 2 ^ 64 }
+        ensures list { result.list ≡ list }
+        ensures counted { meter.new ≡ meter.old + 1 }
+    {
         meter.tick();
         if let Some(watch) = &watch {
             watch.joins.set(watch.joins.get().wrapping_add(1));
         }
-        Ok(Watched { list, watch })
+        Watched { list, watch }
     }
 
-    fn with_left(
-        alloc: Global,
-        meter: &mut Meter,
-        _old: &Watched,
-        was: &Watched,
-        left: &Watched,
-        right: &Watched,
-        likeness: bool,
-    ) -> Result<(Watched, bool), NoMemory> {
-        let new = Watched::join(alloc, meter, left, right)?;
-        Ok((new, likeness || left.is_like(was)))
-    }
-
-    fn with_right(
-        alloc: Global,
-        meter: &mut Meter,
-        _old: &Watched,
-        was: &Watched,
-        left: &Watched,
-        right: &Watched,
-        likeness: bool,
-    ) -> Result<(Watched, bool), NoMemory> {
-        let new = Watched::join(alloc, meter, left, right)?;
-        Ok((new, likeness || right.is_like(was)))
-    }
-
-    ghost sized = { λ s t e. length-numbers s.list.items t e };
-}
-
-impl Watched {
     /// Whether another one has the same numbers. Counts the comparison.
     fn is_like(&self, other: &Watched) -> bool
-        ensures { result ≡ true → other.now.list.items ≡ self.now.list.items }
+        ensures { result ≡ true → other.now.list.value.items ≡ self.now.list.value.items }
     {
         if let Some(watch) = &self.watch {
             watch.compared.set(watch.compared.get().wrapping_add(1));
         }
-        self.list == other.list
+        self.list.as_slice() == other.list.as_slice()
     }
 }
 
 /// The watch of either, if it allows one more summary.
-fn shared(left: &Watched, right: &Watched) -> Result<Option<Rc<Watch>>, NoMemory> {
+fn allowed(left: &Watched, right: &Watched) -> Result<Option<Rc<Watch>>, NoMemory> {
     let found = match &left.watch {
         Some(watch) => Some(watch),
         None => right.watch.as_ref(),

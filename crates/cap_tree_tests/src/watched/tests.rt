@@ -218,7 +218,7 @@ fn all_are_refused(
     number: u32,
     answer: &mut Option<Tree<Watched>>,
 ) -> bool {
-    match tree.summary().list.clone() {
+    match (*tree.summary().list).clone() {
         Ok(before) => each_is_refused(alloc, watch, tree, &before, edit, number, answer),
         Err(_) => false,
     }
@@ -282,48 +282,58 @@ fn each_summary_refused(rt: HostRuntime) {
     assert!(rt; first_is_edited_with_watch(rt.alloc(), &PLACES));
 }
 
-/// Whether a number is put at a place of a tree.
-fn is_replaced(alloc: Global, tree: &Tree<Watched>, new: Rc<Item>, place: u32) -> bool {
+/// Whether the tree shares its list with the one where an item is put at a place; none if it can't be.
+fn shares_with_replaced(
+    alloc: Global,
+    tree: &Tree<Watched>,
+    new: Rc<Item>,
+    place: u32,
+) -> Option<bool> {
     let edit = Edit::Replace(place as usize);
     match edited(alloc, &mut Meter::new(), tree, edit, new) {
         Ok(new) => {
+            let shares = Rc::ptr_eq(&tree.summary().list, &new.summary().list);
             drop(new);
-            true
+            Some(shares)
         }
-        Err(_) => false,
+        Err(_) => None,
     }
 }
 
 /// The same of an item that is made of the number.
-fn is_put_in(
+fn shares_with_put(
     alloc: Global,
     watch: &Rc<Watch>,
     tree: &Tree<Watched>,
     place: u32,
     number: u32,
-) -> bool {
+) -> Option<bool> {
     match item(alloc, watch, number) {
-        Some(new) => is_replaced(alloc, tree, new, place),
-        None => false,
+        Some(new) => shares_with_replaced(alloc, tree, new, place),
+        None => None,
     }
 }
 
 /// The same of the first tree.
-fn is_put(alloc: Global, watch: &Rc<Watch>, place: u32, number: u32) -> bool {
+fn first_shares(alloc: Global, watch: &Rc<Watch>, place: u32, number: u32) -> Option<bool> {
     match first_tree(alloc, &mut Meter::new(), watch) {
         Some(tree) => {
-            let is_put = is_put_in(alloc, watch, &tree, place, number);
+            let shares = shares_with_put(alloc, watch, &tree, place, number);
             drop(tree);
-            is_put
+            shares
         }
-        None => false,
+        None => None,
     }
 }
 
-/// Whether so many summaries are compared where a number is put at a place of the first tree.
-fn compares(alloc: Global, place: u32, number: u32, compared: u64) -> bool {
+/// Whether so many summaries are compared where a number is put at a place of the first tree, and the list is shared or
+/// isn't.
+fn compares(alloc: Global, place: u32, number: u32, compared: u64, shared: bool) -> bool {
     match watch(alloc) {
-        Some(watch) => { is_put(alloc, &watch, place, number) && watch.compared.get() == compared }
+        Some(watch) => {
+            first_shares(alloc, &watch, place, number) == Some(shared)
+                && watch.compared.get() == compared
+        }
         None => false,
     }
 }
@@ -331,13 +341,15 @@ fn compares(alloc: Global, place: u32, number: u32, compared: u64) -> bool {
 /// Places in the four leaves.
 static LEAF_PLACES: [u32; 8] = [0, 47, 48, 95, 96, 143, 144, 191];
 
-/// A summary that is like the one before is compared once, and the nodes above are told so: the four leaves of the
-/// first tree stand below two nodes and the root. A number that is put where it stands is compared once, and another
-/// one twice.
+/// A summary that is like the one before is compared once, and the nodes above are told so, which share the list of the
+/// old one: the four leaves of the first tree stand below two nodes and the root. A number that is put where it stands is
+/// compared once, and another one twice.
 #[test]
 fn likeness_is_handed_on(rt: HostRuntime) {
     let alloc = rt.alloc();
     for place in &LEAF_PLACES {
-        assert!(rt; compares(alloc, *place, *place, 1) && compares(alloc, *place, 1000, 2));
+        assert!(rt;
+            compares(alloc, *place, *place, 1, true) && compares(alloc, *place, 1000, 2, false)
+        );
     }
 }

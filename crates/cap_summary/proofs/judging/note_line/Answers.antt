@@ -1,5 +1,5 @@
 use Rattle.cap_machine.specs.Check.{said_of}
-use Rattle.cap_change.specs.Before.{state_before}
+use Rattle.cap_summary.specs.Before.{state_before}
 use Rattle.cap_summary.proofs.Resolving.{not_asked}
 use Rattle.cap_summary.proofs.judging.note_line.Goals as goal
 

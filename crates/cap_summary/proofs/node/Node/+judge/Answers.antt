@@ -1,4 +1,4 @@
-use Rattle.std.proofs.Common.{◌≡◌, ℕ, ◌++◌, List, length, map, sym, ap, ◌∙◌}
+use Rattle.std.proofs.Common.{◌≡◌, ℕ, ◌+◌, ◌≤◌, ◌++◌, List, length, map, sym, ap, ◌∙◌, arith, length-append}
 use Rattle.std.proofs.lemmas.Result.{on_ok_weaker}
 use Rattle.cap_machine.specs.declared.step.Step.{Step}
 use Rattle.cap_machine.specs.State.{State}
@@ -8,29 +8,44 @@ use Rattle.cap_machine.specs.History.{ended}
 use Rattle.cap_machine.specs.Laws.{later}
 use Rattle.cap_machine.specs.Table.{start_state}
 use Rattle.cap_machine.proofs.Turns.{ends_in_turn}
+use Rattle.cap_tree.specs.Run.{values}
 use Rattle.cap_summary.specs.Content.{content_steps}
 use Rattle.cap_summary.specs.Positions.{within}
 use Rattle.cap_summary.proofs.Runs.{same_steps}
-use Rattle.cap_summary.proofs.Resolving.{found_parts}
+use Rattle.cap_summary.proofs.Resolving.{found_parts, found_behind, same_behind}
 use Rattle.cap_summary.proofs.node.Node.+judge.Goals as goal
+
+pub returns-then-asked-at-clause-found : goal.returns-then-asked-at-clause-found
+returns-then-asked-at-clause-found t c = found_behind (start_state c.args.machine.now) c.args.self.now.steps c.args.at
+    c.args.asked.now.from c.args.asked.now.to c.args.report.now.found.items (omega arith)
+
+pub returns-else-asked-at-clause-moves : goal.returns-else-asked-at-clause-moves
+returns-else-asked-at-clause-moves t c =
+    let run : values c.in-Run.run'.items ≡ c.args.self.now.steps =
+    sym (ap content_steps c.in-Run.is) ∙ same_steps c.self.view_is in
+    on_ok_weaker c.judge_in_order.result (λ last. λ ends. rw (c.deref.ensures.value, run) at last)
+    c.judge_in_order.ensures.moves
 
 pub returns-in_ok-judge-in-Both-clause-found : goal.returns-in_ok-judge-in-Both-clause-found
 returns-in_ok-judge-in-Both-clause-found t c =
     let s : State = start_state c.args.machine.now in
-    let old : List Found = c.args.found.now.items in
+    let between : State = start_state c.judge.new.machine in
+    let old : List Found = c.args.report.now.found.items in
+    let found : List Found = c.judge.new.report.found.items in
     let a : List Step = c.in-Both.a.value.steps in
     let b : List Step = c.in-Both.b.value.steps in
     let from : ℕ = c.args.asked.now.from in
     let to : ℕ = c.args.asked.now.to in
     let parts : a ++ b ≡ c.args.self.now.steps = sym (ap content_steps c.in-Both.is) ∙ same_steps c.self.view_is in
-    let first : c.judge.new.found.items ≡ old ++ within from to (map (later c.args.at) (check s a)) =
+    let first : found ≡ old ++ within from to (map (later c.args.at) (check s a)) =
     rw c.deref-in-Both.ensures at c.in_ok-judge-in-Both.ensures.found in
-    let moved : start_state c.judge.new.machine ≡ ended s a =
-    rw c.deref-in-Both.ensures at c.in_ok-judge-in-Both.ensures.moves in
     let len : c.len.result ≡ length a = rw c.deref-in-Both-3.ensures at c.len.ensures.count in
+    let moved : c.args.at + c.len.result ≤ to → between ≡ ended s a =
+    rw (c.deref-in-Both.ensures, ← len) at c.in_ok-judge-in-Both.ensures.moves in
     rw (← parts) (on_ok_weaker c.judge-in-Both.result (λ last.
-    found_parts s a b c.args.at c.len.result from to old c.judge.new.found.items
-    c.judge-in-Both.new.found.items len first (rw (moved, c.deref-in-Both-2.ensures) at last))
+    found_parts s a b c.args.at c.len.result from to old found c.judge-in-Both.new.report.found.items len first
+    (rw c.deref-in-Both-2.ensures at last ∙ ap (λ r. found ++ r) (same_behind between (ended s a) b
+    (c.args.at + c.len.result) from to moved)))
     c.judge-in-Both.ensures.found)
 
 pub returns-in_ok-judge-in-Both-clause-moves : goal.returns-in_ok-judge-in-Both-clause-moves
@@ -39,7 +54,10 @@ returns-in_ok-judge-in-Both-clause-moves t c =
     let a : List Step = c.in-Both.a.value.steps in
     let b : List Step = c.in-Both.b.value.steps in
     let parts : a ++ b ≡ c.args.self.now.steps = sym (ap content_steps c.in-Both.is) ∙ same_steps c.self.view_is in
-    let moved : start_state c.judge.new.machine ≡ ended s a =
-    rw c.deref-in-Both.ensures at c.in_ok-judge-in-Both.ensures.moves in
-    rw (← parts) (on_ok_weaker c.judge-in-Both.result (λ last.
-    rw (moved, c.deref-in-Both-2.ensures) at last ∙ sym (ends_in_turn s a b)) c.judge-in-Both.ensures.moves)
+    let len : c.len.result ≡ length a = rw c.deref-in-Both-3.ensures at c.len.ensures.count in
+    let moved = rw c.deref-in-Both.ensures at c.in_ok-judge-in-Both.ensures.moves in
+    rw (← parts) (on_ok_weaker c.judge-in-Both.result (λ last. λ ends.
+    let both : length (a ++ b) ≡ length a + length b = length-append a b in
+    let second = rw c.deref-in-Both-2.ensures at last in
+    second (omega (arith, both, len, ends)) ∙ ap (λ (state : State). ended state b) (moved (omega (arith, both, ends)))
+    ∙ sym (ends_in_turn s a b)) c.judge-in-Both.ensures.moves)

@@ -1,5 +1,7 @@
 use Rattle.std.proofs.Common.{◌≡◌, length, sym, ◌∙◌, arith}
 use Rattle.cap_summary.proofs.Runs.{none_before, none_behind, same_steps}
+use Rattle.cap_summary.proofs.Keeping.{many_first, many_second}
+use Rattle.cap_summary.proofs.Knowing.{knows_both}
 use Rattle.cap_summary.proofs.node.Node.join.Goals as goal
 
 pub returns-then-len-eq0 : goal.returns-then-len-eq0
@@ -21,3 +23,17 @@ returns-then-len-eq0-2 c =
           (same_steps c.in_ok-clone-2.ensures.cases) none;
       composed = λ some more. absurd (omega (arith, none));
     }
+
+pub of_parts-requires-clause-many : goal.of_parts-requires-clause-many
+of_parts-requires-clause-many c = many_first c.args.left.now.value.steps c.args.right.now.value.steps
+    (rw c.deref-3.ensures at c.in_default.ensures.many)
+
+pub of_parts-requires-in_default-known-clause-many : goal.of_parts-requires-in_default-known-clause-many
+of_parts-requires-in_default-known-clause-many c = many_second c.args.left.now.value.steps
+    c.args.right.now.value.steps (rw c.deref-4.ensures at c.in_default-known.ensures.many)
+
+pub over-requires-clause-knows : goal.over-requires-clause-knows
+over-requires-clause-knows c = knows_both c.in-Some.first.now c.in-Some-known.second.now c.in_ok-known.known
+    c.args.left.now.value.steps c.args.right.now.value.steps
+    (rw c.deref-3.ensures at c.in-Some.ensures.kept.knows) (rw c.deref-4.ensures at c.in-Some-known.ensures.kept.knows)
+    c.in_ok-known.ensures

@@ -11,13 +11,12 @@ invariant_of-node c =
     let many = length-map c.args.run.items (λ (step : Rc Step Global). step.value) in
     record {
       len = omega (arith, many, c.len.ensures);
-      parts = tt;
+      parts = c.requires.few;
       few = omega (arith, c.requires.few, c.len.ensures);
-      known = rw c.in_ok-new.ensures.ok c.requires.known;
+      known = c.requires.known;
       wide = tt;
-      long = tt;
       many = tt;
     }
 
-pub returns-clause-steps : goal.returns-clause-steps
-returns-clause-steps c = ap (λ (node : NodeView). node.steps) c.in_ok-new-2.ensures.ok
+pub returns : goal.returns
+returns c = ap (λ (node : NodeView). node.steps) c.in_ok-new.ensures.ok

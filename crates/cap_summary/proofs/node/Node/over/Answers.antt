@@ -1,41 +1,17 @@
-use Rattle.std.proofs.Common.{◌≡◌, ◌++◌, List, Option, Some, None, length, ap, sym, ◌∙◌, length-append}
-use Rattle.std.specs.Prelude.{IfNone}
-use Rattle.std.specs.declared.alloc.Global.{Global}
-use Rattle.std.specs.declared.rc.Rc.{Rc}
+use Rattle.std.proofs.Common.{◌≡◌, ◌+◌, ◌++◌, List, length, length-append, sym, ap, ◌∙◌}
 use Rattle.cap_machine.specs.declared.step.Step.{Step}
-use Rattle.cap_summary.specs.declared.known.Known.{Known}
-use Rattle.cap_summary.specs.declared.node.Content.{Content}
-use Rattle.cap_summary.specs.declared.node.Content.TheVariants.{Both}
-use Rattle.cap_summary.specs.Content.{IsBoth}
-use Rattle.cap_summary.specs.View.{NodeView}
+use Rattle.cap_summary.specs.Kept.{limit}
+use Rattle.cap_summary.proofs.Counting.{not_fitting}
+use Rattle.cap_summary.proofs.Keeping.{many_whole}
 use Rattle.cap_summary.proofs.node.Node.over.Goals as goal
 
-of_parts : (kept : Option (Rc Known Global)) (content : Content) → IsBoth content → IfNone kept (IsBoth content)
-of_parts (Some known) content both = tt
-of_parts None content both = both
-
-pub invariant_of-node : goal.invariant_of-node
-invariant_of-node c =
+pub of_parts-requires-clause-many : goal.of_parts-requires-clause-many
+of_parts-requires-clause-many c =
     let t : List Step = c.args.left.now.value.steps in
     let u : List Step = c.args.right.now.value.steps in
-    let left : c.in_ok-clone.field-0.value ≡ c.args.left.now.value = c.in_ok-clone.ensures.cases in
-    let right : c.in_ok-clone-2.field-0.value ≡ c.args.right.now.value = c.in_ok-clone-2.ensures.cases in
     let a : c.len.result ≡ length t = rw c.deref.ensures at c.len.ensures.count in
     let b : c.len-2.result ≡ length u = rw c.deref-2.ensures at c.len-2.ensures.count in
-    record {
-      len = rw (left, right, a, b) (sym (length-append t u));
-      parts = (rw left c.requires.first, rw right c.requires.second);
-      few = rw (a, b) c.requires.few;
-      known = rw (left, right) c.requires.known;
-      wide = of_parts c.args.known (Both c.in_ok-clone.field-0 c.in_ok-clone-2.field-0) tt;
-      long = rw (a, b) c.requires.long;
-      many = rw (left, right) c.requires.many;
-    }
-
-pub returns : goal.returns
-returns c = record {
-  steps = ap (λ (node : NodeView). node.steps) c.in_ok-new.ensures.ok
-      ∙ ap (λ (node : NodeView). node.steps ++ c.in_ok-clone-2.field-0.value.steps) c.in_ok-clone.ensures.cases
-      ∙ ap (λ (node : NodeView). c.args.left.now.value.steps ++ node.steps) c.in_ok-clone-2.ensures.cases;
-  known = ap (λ (node : NodeView). node.known) c.in_ok-new.ensures.ok;
-}
+    let count : c.len.result + c.len-2.result ≡ length (t ++ u) = rw (a, b) (sym (length-append t u)) in
+    let most : c.limit_of.result ≡ limit (length (t ++ u)) = c.limit_of.ensures ∙ ap limit count in
+    many_whole (t ++ u) c.args.known c.requires.knows c.requires.settled c.fits.ensures.rising
+    (rw (← most) (not_fitting _ c.limit_of.result c.fits.result c.fits.ensures.fits c.if-not-fits.true))

@@ -1,8 +1,0 @@
-use Rattle.std.proofs.Common.{ap, ◌∙◌}
-use Rattle.cap_effect.specs.declared.key.Key.TheVariants as key
-use Rattle.cap_effect.specs.Effects.{passed}
-use Rattle.cap_effect.proofs.base.Others.pass.Goals as goal
-
-pub returns-in-Of-clause-cells : goal.returns-in-Of-clause-cells
-returns-in-Of-clause-cells c = λ cells p f. c.then.ensures (cells c.in-Of.source (key.Fd f))
-    ∙ ap (passed c.args.passing) (c.in-Of.ensures.cells cells p f)

@@ -1,8 +1,0 @@
-use Rattle.std.proofs.Common.{◌≡◌, false, take}
-use Rattle.cap_effect.specs.Keys.{cells_of}
-use Rattle.cap_effect.specs.Asks.{any_holds}
-use Rattle.cap_effect.specs.Before.{state_before}
-use Rattle.cap_effect.proofs.before.Before.any_holds.Given as goal
-
-abbrev pub invariant-loop-ask : goal.invariant-loop-ask
-invariant-loop-ask l = any_holds (cells_of (state_before l.self)) (take l.ask-index l.asks) ≡ false

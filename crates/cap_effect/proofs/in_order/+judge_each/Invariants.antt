@@ -1,5 +1,0 @@
-use Rattle.std.proofs.Common.{length}
-use Rattle.cap_effect.proofs.in_order.+judge_each.Given as goal
-
-abbrev pub decreases-judge_each : goal.decreases-judge_each
-decreases-judge_each l = length l.run.now

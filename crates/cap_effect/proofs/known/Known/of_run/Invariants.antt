@@ -1,7 +1,0 @@
-use Rattle.std.proofs.Common.{take}
-use Rattle.cap_list.specs.Run.{values}
-use Rattle.cap_effect.specs.Knows.{Says}
-use Rattle.cap_effect.proofs.known.Known.of_run.Given as goal
-
-abbrev pub invariant-loop-step : goal.invariant-loop-step
-invariant-loop-step l = Says l.effect l.precondition (values (take l.step-index l.steps))

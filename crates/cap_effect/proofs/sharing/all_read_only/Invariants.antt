@@ -1,7 +1,0 @@
-use Rattle.std.proofs.Common.{take}
-use Rattle.std.specs.List.{All}
-use Rattle.cap_effect.proofs.Shared.{ReadsOnly}
-use Rattle.cap_effect.proofs.sharing.all_read_only.Given as goal
-
-abbrev pub invariant-loop-cell : goal.invariant-loop-cell
-invariant-loop-cell l = All (ReadsOnly l.pid) (take l.cell-index l.cells)

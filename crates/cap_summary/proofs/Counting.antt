@@ -1,0 +1,31 @@
+-- How much rows list.
+use Rattle.std.proofs.Common.{◌≡◌, ℕ, ◌+◌, ◌<◌, ◌≤◌, List, [], ◌∷◌, ◌++◌, length, get_or, take, ap, ◌∙◌, sym, subst}
+use Rattle.std.proofs.Common.{arith}
+use Rattle.std.proofs.Common.{Bool, true, false, nat_le}
+use Rattle.std.proofs.lemmas.Bool.Decides.{nat_tests}
+use Rattle.std.specs.List.{All}
+use Rattle.std.proofs.lemmas.List.{take_more}
+use Rattle.std.proofs.lemmas.List.Elements.{All-push}
+use Rattle.cap_summary.specs.declared.effect.Row.{Row}
+use Rattle.cap_summary.specs.RowSizes.{rows_size, CellsRise}
+
+sizes-append : (a b : List (ℕ × Row)) → rows_size (a ++ b) ≡ rows_size a + rows_size b
+sizes-append [] b = omega arith
+sizes-append ((p, row) ∷ a) b = omega (arith, sizes-append a b)
+
+pub sizes_more : (rows : List (ℕ × Row)) (i : ℕ) (e : ℕ × Row) → i < length rows → e ≡ get_or rows i e
+    → rows_size (take (i + 1) rows) ≡ rows_size (take i rows) + (length e.1.cells + 1)
+sizes_more rows i e within at =
+    let split : rows_size (take (i + 1) rows) ≡ rows_size (take i rows) + rows_size (e ∷ []) =
+    rw (← at) at (ap rows_size (take_more rows i e within) ∙ sizes-append (take i rows) (get_or rows i e ∷ [])) in
+    omega (arith, split)
+
+pub rises_more : (rows : List (ℕ × Row)) (i : ℕ) (e : ℕ × Row) → i < length rows → e ≡ get_or rows i e
+    → All CellsRise (take i rows) → CellsRise e → All CellsRise (take (i + 1) rows)
+rises_more rows i e within at all own =
+    let more : take (i + 1) rows ≡ take i rows ++ e ∷ [] =
+    take_more rows i e within ∙ ap (λ (x : ℕ × Row). take i rows ++ x ∷ []) (sym at) in
+    subst (All CellsRise) (sym more) (All-push CellsRise (take i rows) e all own)
+
+pub not_fitting : (n room : ℕ) (fits : Bool) → fits ≡ nat_le n room → fits ≡ false → room < n
+not_fitting n room fits is none = grind (arith, nat_tests, is, none)

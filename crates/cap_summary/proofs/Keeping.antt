@@ -1,0 +1,122 @@
+-- What is known is kept where few processes and descriptors are named, unless many calls were refused.
+use Rattle.std.proofs.Common.{◌≡◌, ℕ, ◌+◌, ◌*◌, ◌<◌, ◌≤◌, min, List, [], ◌∷◌, ◌++◌, length, Bool, true, false, cond, eqb}
+use Rattle.std.proofs.Common.{Option, Some, None, refl, sym, ap, ◌∙◌, inl, inr, arith}
+use Rattle.std.specs.Prelude.{IfSome, is_some, nat_le}
+use Rattle.std.specs.List.{All}
+use Rattle.std.proofs.Math.Nat.{mul-le-mul_right}
+use Rattle.std.proofs.lemmas.Bool.{eqb-true, eq-eqb}
+use Rattle.std.proofs.lemmas.Bool.Decides.{nat_tests}
+use Rattle.std.proofs.lemmas.List.Elements.{All-head, All-tail}
+use Rattle.cap_machine.specs.declared.step.Step.{Step}
+use Rattle.cap_summary.specs.declared.effect.Row.{Row}
+use Rattle.cap_summary.specs.declared.known.Known.{Known}
+use Rattle.cap_summary.specs.Sorted.{found, Rises, RisesFrom, KeysRise}
+use Rattle.cap_summary.specs.Preconditions.{IsSettled}
+use Rattle.cap_summary.specs.Names.{Names, names_in, AreAmong, IsListedWithin, IsRowWithin, ListWithin, RowsWithin}
+use Rattle.cap_summary.specs.RowSizes.{rows_size, CellsRise, AllRise}
+use Rattle.cap_summary.specs.Sizes.{size}
+use Rattle.cap_summary.specs.Knows.{Knows}
+use Rattle.cap_summary.specs.Kept.{limit}
+use Rattle.cap_summary.specs.Few.{is_one, these, room, refused, NamesMany, RefusesMany, NameOrRefuseMany}
+use Rattle.cap_summary.proofs.SortedFound.{found_below, rises_again}
+use Rattle.cap_summary.proofs.FewKeys.{few_keys}
+use Rattle.cap_summary.proofs.FewAsks.{few_asks}
+use Rattle.cap_summary.proofs.Naming.{effect_among, asks_among, first_among, second_among}
+use Rattle.cap_summary.proofs.Knowing.{refused_parts}
+
+-- ---- rows among these processes, which list these descriptors
+
+-- what holds of the value that is there
+of_some : {V : Type 0} (o : Option V) (P : V → Type 0) (b : Bool) → ((v : V) → P v → b ≡ true) → IfSome o P
+    → is_some o ≡ true → b ≡ true
+of_some None P b so all is = absurd cc
+of_some (Some v) P b so all is = so v all
+
+rises : {V : Type 0} (entries : List (ℕ × V)) → KeysRise entries → Rises entries
+rises entries rise = rises_again 0 entries (λ i d lt. omega arith) rise
+
+module _ (pids fds : List ℕ) where
+  few_cells : (row : Row) → KeysRise row.cells → ListWithin (these pids fds) row.cells → length row.cells ≤ length fds
+  few_cells row rise within = few_keys row.cells fds (rises row.cells rise) (λ f is.
+      of_some (found row.cells f) (IsListedWithin (these pids fds) f) (is_one fds f) (λ v at. at.key) (within f) is)
+
+  first_within : (p : ℕ) (row : Row) (rest : List (ℕ × Row)) → RowsWithin (these pids fds) ((p, row) ∷ rest)
+      → IsRowWithin (these pids fds) p row
+  first_within p row rest within = rw (eq-eqb p p refl) at (within p)
+
+  rest_within : (p : ℕ) (row : Row) (rest : List (ℕ × Row)) → RisesFrom (p + 1) rest
+      → RowsWithin (these pids fds) ((p, row) ∷ rest) → RowsWithin (these pids fds) rest
+  rest_within p row rest rise within q = by (eqb p q) refl (within q)
+    where
+      by : (same : Bool) → eqb p q ≡ same
+          → IfSome (cond same (Some row) (found rest q)) (IsRowWithin (these pids fds) q)
+          → IfSome (found rest q) (IsRowWithin (these pids fds) q)
+      by true e is = let above : q < p + 1 = omega (arith, eqb-true p q e) in
+          rw (found_below (p + 1) rest q rise above) tt
+      by false e is = is
+
+  rows_listed : (b : ℕ) (rows : List (ℕ × Row)) → RisesFrom b rows → All CellsRise rows
+      → RowsWithin (these pids fds) rows → rows_size rows ≤ length rows * (length fds + 1)
+  rows_listed b [] rise cells within = omega arith
+  rows_listed b ((p, row) ∷ rest) rise cells within =
+      let own = few_cells row (All-head CellsRise (p, row) rest cells) (first_within p row rest within).row.cells in
+      let later = rows_listed (p + 1) rest rise.1 (All-tail CellsRise (p, row) rest cells)
+      (rest_within p row rest rise.1 within) in
+      omega (arith, own, later)
+
+  pub few_rows : (rows : List (ℕ × Row)) → AllRise rows → RowsWithin (these pids fds) rows
+      → rows_size rows ≤ room pids fds
+  few_rows rows rising within =
+      let few : length rows ≤ length pids = few_keys rows pids (rises rows rising.pids) (λ p is.
+      of_some (found rows p) (IsRowWithin (these pids fds) p) (is_one pids p) (λ row at. at.pid) (within p) is) in
+      let all : length rows * (length fds + 1) ≤ length pids * (length fds + 1) =
+      mul-le-mul_right (length fds + 1) few in
+      let each = rows_listed 0 rows (rises rows rising.pids) rising.cells within in
+      omega (arith, each, all)
+
+-- ---- what isn't kept
+
+-- more than the limit, with few refusals, is more than 1,024 cells and modes give
+many_cells : (n rows asks refusals refused room : ℕ) → limit n < rows + (asks + refusals) → rows ≤ room
+    → asks ≤ 8 * room → asks + refusals ≤ 3 * n → refusals ≤ refused → refused ≤ 30000 → 1024 < room
+many_cells n rows asks refusals refused room large few_rows few_asks few some = omega arith
+
+-- what is known of the steps is above the limit
+pub many_whole : (t : List Step) (known : Known) → Knows known t → IsSettled known.precondition.value
+    → AllRise known.effect.value.rows → limit (length t) < size known → NameOrRefuseMany t
+many_whole t known knows settled rising large = by (nat_le (refused t) 30000) refl
+  where
+    by : (few : Bool) → nat_le (refused t) 30000 ≡ few → NameOrRefuseMany t
+    by true e =
+        let few : refused t ≤ 30000 = grind (arith, nat_tests, e) in
+        inl (λ pids fds among.
+        let named = these pids fds in
+        let rows = few_rows pids fds known.effect.value.rows rising
+        (effect_among (names_in t) named among known.effect.value knows.effect_named) in
+        let asks = few_asks pids fds known.precondition.value.asks.items settled.rises
+        (asks_among (names_in t) named among known.precondition.value knows.asks_named).asks in
+        many_cells (length t) (rows_size known.effect.value.rows) (length known.precondition.value.asks.items)
+        (length known.precondition.value.refusals.items) (refused t) (room pids fds) large rows asks knows.few
+        knows.refusals few)
+    by false e = inr (grind (arith, nat_tests, e))
+
+-- one of two parts names or refuses many
+among_those : (a b d : Names) → AreAmong a b → AreAmong b d → AreAmong a d
+among_those a b d first then_ = record {
+  pids = λ p is. then_.pids p (first.pids p is);
+  fds = λ f is. then_.fds f (first.fds f is);
+}
+
+pub many_first : (t u : List Step) → NameOrRefuseMany t → NameOrRefuseMany (t ++ u)
+many_first t u many = elim many [
+  | inl names ↦ inl (λ pids fds among.
+      names pids fds (among_those (names_in t) (names_in (t ++ u)) (these pids fds) (first_among t u) among))
+  | inr refuses ↦ inr (omega (arith, refuses, refused_parts t u))
+]
+
+pub many_second : (t u : List Step) → NameOrRefuseMany u → NameOrRefuseMany (t ++ u)
+many_second t u many = elim many [
+  | inl names ↦ inl (λ pids fds among.
+      names pids fds (among_those (names_in u) (names_in (t ++ u)) (these pids fds) (second_among t u) among))
+  | inr refuses ↦ inr (omega (arith, refuses, refused_parts t u))
+]

@@ -1,0 +1,42 @@
+-- What one line lists is named by it.
+use Rattle.std.proofs.Common.{◌≡◌, ℕ, ◌==◌, Bool, true, false, cond, List, [], ◌∷◌, Option, Some, refl, sym}
+use Rattle.std.proofs.Common.{subst}
+use Rattle.std.specs.Prelude.{IfSome}
+use Rattle.std.specs.List.{All}
+use Rattle.std.proofs.lemmas.Bool.{eqb-true, and_from}
+use Rattle.std.proofs.lemmas.List.Elements.{All-head, All-tail}
+use Rattle.cap_machine.specs.declared.cell.Op.{Op}
+use Rattle.cap_machine.specs.declared.rule.Effect.{Effect as LineEffect}
+use Rattle.cap_machine.specs.declared.rule.Effect.TheVariants as lines
+use Rattle.cap_summary.specs.declared.key.Key.TheVariants as key
+use Rattle.cap_summary.specs.declared.value.Value.{Value}
+use Rattle.cap_summary.specs.Values.{source, reads_within}
+use Rattle.cap_summary.specs.Sorted.{found}
+use Rattle.cap_summary.specs.Names.{Names, has_cell, IsListedWithin, LineWithin}
+
+-- one more entry, where this holds of it and of the others
+module _ {V : Type 0} (P : ℕ → V → Type 0) (k : ℕ) (v : V) (holds : P k v) where
+  each_one : (o : Option V) (f : ℕ) (b : Bool) → (f == k) ≡ b → IfSome o (P f) → IfSome (cond b (Some v) o) (P f)
+  each_one o f true is other = subst (λ (j : ℕ). P j v) (sym (eqb-true f k is)) holds
+  each_one o f false is other = other
+
+  pub each_put : (old new : List (ℕ × V)) → ((f : ℕ) → found new f ≡ cond (f == k) (Some v) (found old f))
+      → ((f : ℕ) → IfSome (found old f) (P f)) → (f : ℕ) → IfSome (found new f) (P f)
+  each_put old new put others f = rw (put f) (each_one (found old f) f (f == k) refl (others f))
+
+-- a descriptor that takes its cell from another, which had the value `before`
+pub change_within : (names : Names) (me : ℕ) (line : LineEffect) (f : ℕ) (op : Op) (g : ℕ) (before v : Value)
+    → line ≡ lines.Change f op g → source v ≡ source before
+    → (has_cell names me (key.Fd g) ≡ true → reads_within (has_cell names) before ≡ true) → LineWithin names me line
+    → IsListedWithin names f v
+change_within names me line f op g before v is from reads within = record {
+  key = All-head P f (g ∷ []) both;
+  source = rw from (reads (and_from (names.pids me) (names.fds g) within.own
+      (All-head P g [] (All-tail P f (g ∷ []) both))));
+}
+  where
+    P : ℕ → Type 0
+    P n = names.fds n ≡ true
+
+    both : All P (f ∷ g ∷ [])
+    both = rw is at within.fds

@@ -1,0 +1,294 @@
+-- The descriptors that the effect of a line has one by one stand in the line.
+use Rattle.std.proofs.Common.{◌≡◌, ℕ, suc, ◌+◌, ◌==◌, ◌&&◌, ◌||◌, Bool, true, false, not, cond, [], ◌∷◌, refl}
+use Rattle.std.proofs.Common.{sym}
+use Rattle.std.proofs.Common.{ap, ◌∙◌, arith, slice_index_or}
+use Rattle.std.specs.Prelude.{codes}
+use Rattle.std.specs.List.{list_any, All}
+use Rattle.std.specs.Str.{bytes_eq}
+use Rattle.std.proofs.lemmas.Bool.{ne_eqb, eq-eqb, or_left, or_right}
+use Rattle.std.proofs.lemmas.List.Elements.{All-nil, All-cons}
+use Rattle.cap_trace.specs.Seen.{fds_spelled}
+use Rattle.cap_trace.specs.Item.{Item}
+use Rattle.cap_trace.specs.Item as items
+use Rattle.cap_trace.specs.Call.{Call}
+use Rattle.cap_trace.specs.Call as calls
+use Rattle.cap_trace.specs.declared.line.Answer.{Answer}
+use Rattle.cap_trace.specs.declared.line.Answer.TheVariants as answers
+use Rattle.cap_trace.specs.declared.calls.Kind.{Kind}
+use Rattle.cap_trace.specs.declared.calls.Kind.TheVariants.{Count, Fd, Same, FdPair}
+use Rattle.cap_trace.specs.declared.calls.FdCall.{FdCall}
+use Rattle.cap_trace.specs.declared.calls.FdCall.TheVariants.{Accept, Closefrom, Dup}
+use Rattle.cap_trace.specs.declared.calls.PathCall.{PathCall}
+use Rattle.cap_trace.specs.declared.calls.PathCall.TheVariants.{Execve}
+use Rattle.cap_trace.specs.declared.calls.AtFlagsCall.TheVariants.{Openat}
+use Rattle.cap_trace.specs.declared.calls.FlagsCall.TheVariants.{Socket, Socketpair, Pipe2}
+use Rattle.cap_trace.specs.declared.calls.BareCall.{BareCall}
+use Rattle.cap_trace.specs.declared.calls.BareCall.TheVariants.{Pipe, Fork, Vfork}
+use Rattle.cap_trace.specs.declared.calls.BareCall.TheVariants.{Pdfork, CapEnter}
+use Rattle.cap_trace.specs.Entry.{kind_of, args_of_call}
+use Rattle.cap_machine.specs.declared.cell.Profile.{Profile}
+use Rattle.cap_machine.specs.declared.cell.Profile.TheVariants.{One, Two}
+use Rattle.cap_machine.specs.declared.cell.Cell.{Cell}
+use Rattle.cap_machine.specs.declared.cell.Cell.TheVariants.{Unknown}
+use Rattle.cap_machine.specs.declared.cell.Op.{Op}
+use Rattle.cap_machine.specs.declared.step.Step.{Step}
+use Rattle.cap_machine.specs.declared.rule.Effect.{Effect as LineEffect}
+use Rattle.cap_machine.specs.declared.rule.Effect.TheVariants as lines
+use Rattle.cap_machine.specs.Op.{same}
+use Rattle.cap_machine.specs.Touch.{Touch, kept, given, taken, touch, started, fd_touch, path_touch, bare_touch}
+use Rattle.cap_machine.specs.Touch.{call_touch, pdfork_touch}
+use Rattle.cap_machine.specs.Effect.{effect_touch}
+use Rattle.cap_machine.specs.Named.{arg_names, answer_names, is_fork, fds_of}
+use Rattle.cap_machine.proofs.NamedFds.{named_effects}
+use Rattle.cap_summary.specs.Names.{answers_fd, line_names_fd}
+
+by_cases : {X : Type 0} (b : Bool) → (b ≡ true → X) → (b ≡ false → X) → X
+by_cases true one other = one refl
+by_cases false one other = other refl
+
+-- ---- calls that answer no descriptor do the same whatever number they answer
+
+-- the numbers of an answer are descriptors
+abbrev is_told : Kind → Answer → Bool
+is_told Fd (answers.Made n) = true
+is_told (Same g) (answers.Made n) = true
+is_told FdPair (answers.Pair n m) = true
+is_told kind answer = false
+
+told_named : (f : ℕ) (kind : Kind) (answer : Answer) → is_told kind answer ≡ true → answer_names f answer ≡ true
+    → answers_fd f kind answer ≡ true
+told_named f Fd (answers.Made n) told named = named
+told_named f (Same g) (answers.Made n) told named = named
+told_named f FdPair (answers.Pair n m) told named = named
+told_named f kind answer told named = absurd cc
+
+-- another number
+abbrev other : ℕ → Answer → Answer
+other n (answers.Made m) = answers.Made n
+other n (answers.Pair m k) = answers.Pair n n
+other n (answers.Fault e) = answers.Fault e
+
+either_alike : (a b : Bool) (m : ℕ) (t u t' u' : Touch) → is_told (cond (a || b) Fd Count) (answers.Made m) ≡ false
+    → cond a t (cond b u kept) ≡ cond a t' (cond b u' kept)
+either_alike true b m t u t' u' none = absurd cc
+either_alike false true m t u t' u' none = absurd cc
+either_alike false false m t u t' u' none = refl
+
+module _ (n me p f : ℕ) where
+  fd_alike : (profile : Profile) (call : FdCall) (g : ℕ) (answer : Answer)
+      → is_told (kind_of (calls.OnFd call g)) answer ≡ false
+      → fd_touch profile call g (other n answer) me p f ≡ fd_touch profile call g answer me p f
+  fd_alike profile call g (answers.Fault e) none = refl
+  fd_alike profile Dup g (answers.Made m) none = absurd cc
+  fd_alike profile Accept g (answers.Made m) none = absurd cc
+  fd_alike One Closefrom g (answers.Made m) none = refl
+  fd_alike Two Closefrom g (answers.Made m) none = refl
+  fd_alike One Closefrom g (answers.Pair m k) none = refl
+  fd_alike Two Closefrom g (answers.Pair m k) none = refl
+  fd_alike profile _ g (answers.Made m) none = refl
+  fd_alike profile _ g (answers.Pair m k) none = refl
+
+  path_alike : (profile : Profile) (call : PathCall) (answer : Answer)
+      → path_touch profile call (other n answer) me p f ≡ path_touch profile call answer me p f
+  path_alike profile call (answers.Fault e) = refl
+  path_alike profile Execve (answers.Made m) = refl
+  path_alike profile Execve (answers.Pair m k) = refl
+  path_alike profile _ answer = refl
+
+  bare_alike : (call : BareCall) (answer : Answer) → is_fork (calls.Bare call) ≡ false
+      → is_told (kind_of (calls.Bare call)) answer ≡ false
+      → bare_touch call (other n answer) me p f ≡ bare_touch call answer me p f
+  bare_alike call (answers.Fault e) apart none = refl
+  bare_alike Pipe (answers.Made m) apart none = refl
+  bare_alike Pipe (answers.Pair m k) apart none = absurd cc
+  bare_alike CapEnter answer apart none = refl
+  bare_alike Fork answer apart none = absurd cc
+  bare_alike Vfork answer apart none = absurd cc
+  bare_alike Pdfork answer apart none = absurd cc
+  bare_alike _ (answers.Made m) apart none = absurd cc
+  bare_alike _ (answers.Pair m k) apart none = refl
+
+  call_alike : (profile : Profile) (call : Call) (answer : Answer) → is_fork call ≡ false
+      → is_told (kind_of call) answer ≡ false
+      → call_touch profile call (other n answer) me p f ≡ call_touch profile call answer me p f
+  call_alike profile call (answers.Fault e) apart none = refl
+  call_alike profile (calls.OnFd call g) answer apart none = fd_alike profile call g answer none
+  call_alike profile (calls.OnPath call path) answer apart none = path_alike profile call answer
+  call_alike profile (calls.Bare call) answer apart none = bare_alike call answer apart none
+  call_alike profile (calls.Fcntl g command) (answers.Made m) apart none =
+      either_alike (bytes_eq command (codes "F_DUPFD")) (bytes_eq command (codes "F_DUPFD_CLOEXEC")) m _ _ _ _ none
+  call_alike profile (calls.OnFlags Socketpair names) (answers.Made m) apart none = refl
+  call_alike profile (calls.OnFlags Pipe2 names) (answers.Made m) apart none = refl
+  call_alike profile (calls.OnFlags Socket names) (answers.Made m) apart none = absurd cc
+  call_alike profile (calls.OnFlags Socket names) (answers.Pair m k) apart none = refl
+  call_alike profile (calls.OnFlags _ names) (answers.Pair m k) apart none = absurd cc
+  call_alike profile (calls.AtFlags Openat dir path names) (answers.Made m) apart none = absurd cc
+  call_alike profile (calls.AtFlags Openat dir path names) (answers.Pair m k) apart none = refl
+  call_alike profile (calls.AtFlags _ dir path names) answer apart none = refl
+  call_alike profile (calls.Accept4 g names) (answers.Made m) apart none = absurd cc
+  call_alike profile (calls.Dup2 g h) (answers.Made m) apart none = absurd cc
+  call_alike profile (calls.FcntlDup command g h) (answers.Made m) apart none = absurd cc
+  call_alike profile (calls.Open path names) (answers.Made m) apart none = absurd cc
+  call_alike profile _ (answers.Made m) apart none = refl
+  call_alike profile _ (answers.Pair m k) apart none = refl
+
+unnamed : (f : ℕ) (answer : Answer) → answer_names f (other (suc f) answer) ≡ false
+unnamed f (answers.Made m) = ne_eqb f (suc f) (λ e. omega arith)
+unnamed f (answers.Pair m k) = rw (ne_eqb f (suc f) (λ e. omega arith)) refl
+unnamed f (answers.Fault e) = refl
+
+abbrev Does : LineEffect → Step → Type 0
+Does line step = (p f : ℕ) → effect_touch line step.line.pid p f ≡ touch step p f
+
+abbrev Named : Step → ℕ → Type 0
+Named step f = line_names_fd f step.line ≡ true
+
+right_of : (a b : Bool) → (a || b) ≡ true → a ≡ false → b ≡ true
+right_of true b is none = absurd cc
+right_of false b is none = is
+
+left_of : (a b : Bool) → (a || b) ≡ true → b ≡ false → a ≡ true
+left_of true b is none = refl
+left_of false b is none = absurd cc
+
+abbrev step_of : Profile → ℕ → Item → Step
+step_of profile me item = record { profile = profile; line = record { pid = me; item = item } }
+
+module _ (profile : Profile) (me : ℕ) (call : Call) (answer : Answer) (line : LineEffect) where
+  abbrev of_answer : Answer → Step
+  of_answer answer = step_of profile me (items.Call call answer)
+
+  plain_named : is_fork call ≡ false → Does line (of_answer answer) → All (Named (of_answer answer)) (fds_of line)
+  plain_named apart does k d lt =
+      let g : ℕ = slice_index_or (fds_of line) k d in
+      let args : Bool = list_any (arg_names g) (args_of_call call) in
+      by_cases (is_told (kind_of call) answer)
+      (λ told. by_cases args (λ is. or_left args (answers_fd g (kind_of call) answer) is)
+      (λ none. or_right args (answers_fd g (kind_of call) answer) (told_named g (kind_of call) answer told
+      (right_of args (answer_names g answer) (named_effects (of_answer answer) line does k d lt) none))))
+      (λ untold. or_left args (answers_fd g (kind_of call) answer)
+      (left_of args (answer_names g (other (suc g) answer)) (named_effects (of_answer (other (suc g) answer)) line
+      (λ p f. does p f ∙ sym (call_alike (suc g) me p f profile call answer apart untold)) k d lt) (unnamed g answer)))
+
+-- ---- a fork has no descriptor one by one but the one that pdfork(2) answers
+
+never_given : (b : Bool) (op : Op) (q g : ℕ) (c : Cell) → given c ≡ cond b (taken op q g) kept → ⊥
+never_given true op q g c is = cc
+never_given false op q g c is = cc
+
+module _ (me : ℕ) (touches : ℕ → ℕ → Touch) (told b : ℕ → Bool)
+    (free : (p f : ℕ) → told f ≡ false → touches p f ≡ cond (b p) (taken same me f) kept)
+    (bound : (p f : ℕ) (op : Op) (q g : ℕ) → told f ≡ true → touches p f ≡ taken op q g → ⊥)
+    (fresh : (g : ℕ) → (n : ℕ) × (told n ≡ false) × ((n == g) ≡ false)) where
+  abbrev Told : ℕ → Type 0
+  Told f = told f ≡ true
+
+  itself : (f : ℕ) → (f == f) ≡ true
+  itself f = eq-eqb f f refl
+
+  given_told : (p f : ℕ) (c : Cell) → touches p f ≡ given c → Told f
+  given_told p f c is = by_cases (told f) (λ here. here)
+      (λ untold. absurd (never_given (b p) same me f c (sym is ∙ free p f untold)))
+
+  taken_never : (f g n : ℕ) (op : Op) → touches me f ≡ taken op me g → told f ≡ false → touches me n ≡ kept
+      → told n ≡ false → ⊥
+  taken_never f g n op is untold none free_n = by (b me) refl
+    where
+      by : (mine : Bool) → b me ≡ mine → ⊥
+      by true e = let at : touches me n ≡ taken same me n = free me n free_n ∙ ap (λ r. cond r (taken same me n)
+          kept) e in
+          let wrong : kept ≡ taken same me n = sym none ∙ at in cc
+      by false e = let at : touches me f ≡ kept = free me f untold ∙ ap (λ r. cond r (taken same me f) kept) e in
+          let wrong : kept ≡ taken op me g = sym at ∙ is in cc
+
+  forked_told : (line : LineEffect) → ((p f : ℕ) → effect_touch line me p f ≡ touches p f) → All Told (fds_of line)
+  forked_told (lines.Give g c) does =
+      All-cons Told g [] (given_told me g c (sym (does me g) ∙ rw (itself me, itself g) refl)) (All-nil Told)
+  forked_told (lines.GiveTwo g h c) does =
+      All-cons Told g (h ∷ []) (given_told me g c (sym (does me g) ∙ rw (itself me, itself g) refl))
+      (All-cons Told h [] (given_told me h c (sym (does me h) ∙ rw (
+        itself me,
+        itself h,
+        or_right (h == g) true
+            refl,
+      ) refl))
+      (All-nil Told))
+  forked_told (lines.Change g op h) does =
+      let here : touches me g ≡ taken op me h = sym (does me g) ∙ rw (itself me, itself g) refl in
+      by_cases (told g) (λ is_told. absurd (bound me g op me h is_told here))
+      (λ untold. let n = fresh g in
+      absurd (taken_never g h n.0 op here untold (sym (does me n.0) ∙ rw (itself me, n.2) refl) n.1))
+  forked_told (lines.ForkAs child g) does =
+      All-cons Told g [] (given_told child g Unknown (sym (does child g)
+      ∙ rw (itself child, itself g, or_right (child == me) true refl) refl)) (All-nil Told)
+  forked_told (lines.Start fs) does = λ k d lt.
+      let f : ℕ = slice_index_or (fds_spelled fs.now) k d in
+      given_told me f (started (fds_spelled fs.now) f) (sym (does me f) ∙ rw (itself me) refl)
+  forked_told _ does = All-nil Told
+
+module _ (profile : Profile) (me : ℕ) (line : LineEffect) where
+  -- fork(2), and each that failed
+  no_fds : (call : BareCall) (answer : Answer) (b : ℕ → Bool)
+      → ((p f : ℕ) → bare_touch call answer me p f ≡ cond (b p) (taken same me f) kept)
+      → Does line (step_of profile me (items.Call (calls.Bare call) answer))
+      → All (Named (step_of profile me (items.Call (calls.Bare call) answer))) (fds_of line)
+  no_fds call answer b is does k d lt =
+      let none = forked_told me (λ p f. bare_touch call answer me p f) (λ f. false) b (λ p f untold. is p f)
+      (λ p f op q g here e. absurd cc) (λ g. (suc g, refl, ne_eqb (suc g) g (λ e. omega arith))) line does k d lt in
+      absurd cc
+
+  fork_named : (call : BareCall) (answer : Answer) → is_fork (calls.Bare call) ≡ true
+      → Does line (step_of profile me (items.Call (calls.Bare call) answer))
+      → All (Named (step_of profile me (items.Call (calls.Bare call) answer))) (fds_of line)
+  fork_named Fork (answers.Made c) is does = no_fds Fork (answers.Made c) (λ p. not (c == 0) && p == c) (λ p f.
+      refl) does
+  fork_named Vfork (answers.Made c) is does = no_fds Vfork (answers.Made c) (λ p. not (c == 0) && p == c) (λ p f.
+      refl) does
+  fork_named Pdfork (answers.Pair c e) is does =
+      forked_told me (λ p f. pdfork_touch (answers.Pair c e) me p f) (λ f. f == e) (λ p. not (c == 0) && p == c)
+      (λ p f untold. rw untold (free (c == 0) (p == c) (p == me) f)) (λ p f op q g here. rw here (bound (c == 0) (p
+      == c) (p == me) f op q g))
+      (λ g. (suc (g + e), ne_eqb (suc (g + e)) e (λ h. omega arith), ne_eqb (suc (g + e)) g (λ h. omega arith)))
+      line does
+    where
+      free : (none child mine : Bool) (f : ℕ)
+          → cond none kept (cond ((mine || child) && false) (given Unknown) (cond child (taken same me f) kept))
+          ≡ cond (not none && child) (taken same me f) kept
+      free true child mine f = refl
+      free false true true f = refl
+      free false true false f = refl
+      free false false true f = refl
+      free false false false f = refl
+
+      bound : (none child mine : Bool) (f : ℕ) (op : Op) (q g : ℕ)
+          → cond none kept (cond ((mine || child) && true) (given Unknown) (cond child (taken same me f) kept))
+          ≡ taken op q g → ⊥
+      bound true child mine f op q g is = cc
+      bound false true true f op q g is = cc
+      bound false true false f op q g is = cc
+      bound false false true f op q g is = cc
+      bound false false false f op q g is = cc
+  fork_named Fork (answers.Pair c e) is does = no_fds Fork (answers.Pair c e) (λ p. false) (λ p f. refl) does
+  fork_named Vfork (answers.Pair c e) is does = no_fds Vfork (answers.Pair c e) (λ p. false) (λ p f. refl) does
+  fork_named Pdfork (answers.Made c) is does = no_fds Pdfork (answers.Made c) (λ p. false) (λ p f. refl) does
+  fork_named Fork (answers.Fault c) is does = no_fds Fork (answers.Fault c) (λ p. false) (λ p f. refl) does
+  fork_named Vfork (answers.Fault c) is does = no_fds Vfork (answers.Fault c) (λ p. false) (λ p f. refl) does
+  fork_named Pdfork (answers.Fault c) is does = no_fds Pdfork (answers.Fault c) (λ p. false) (λ p f. refl) does
+  fork_named _ answer is does = absurd cc
+
+  call_named : (call : Call) (answer : Answer) → Does line (step_of profile me (items.Call call answer))
+      → All (Named (step_of profile me (items.Call call answer))) (fds_of line)
+  call_named (calls.Bare call) answer does = by_cases (is_fork (calls.Bare call))
+      (λ is. fork_named call answer is does) (λ apart. plain_named profile me (calls.Bare call) answer line apart does)
+  call_named call answer does = plain_named profile me call answer line refl does
+
+  item_named : (item : Item) → Does line (step_of profile me item) → All (Named (step_of profile me item)) (fds_of line)
+  item_named (items.Call call answer) does = call_named call answer does
+  item_named (items.Start fs) does = named_effects (step_of profile me (items.Start fs)) line does
+  item_named items.Exit does = named_effects (step_of profile me items.Exit) line does
+  item_named (items.Foreign g) does = named_effects (step_of profile me (items.Foreign g)) line does
+
+pub named_one_by_one : (step : Step) (line : LineEffect)
+    → ((p f : ℕ) → effect_touch line step.line.pid p f ≡ touch step p f)
+    → All (λ f. line_names_fd f step.line ≡ true) (fds_of line)
+named_one_by_one step line does = item_named step.profile step.line.pid line step.line.item does

@@ -1,0 +1,168 @@
+-- What is named by some lines is named by more.
+use Rattle.std.proofs.Common.{◌≡◌, ℕ, ◌==◌, Bool, true, false, ◌||◌, ◌&&◌, List, [], ◌∷◌, ◌++◌, Option, Some, None}
+use Rattle.std.proofs.Common.{refl}
+use Rattle.std.proofs.Common.{◌∙◌, cond}
+use Rattle.std.specs.Prelude.{IfSome}
+use Rattle.std.specs.List.{list_any}
+use Rattle.std.proofs.lemmas.Bool.{and_from, eq-eqb, true_from_ne_false, or_left as or_first}
+use Rattle.std.proofs.lemmas.Bool.{or_right as or_second}
+use Rattle.std.proofs.lemmas.List.Folds.{list_any-append}
+use Rattle.cap_machine.specs.declared.step.Step.{Step}
+use Rattle.cap_machine.specs.declared.rule.Effect.{Effect as LineEffect}
+use Rattle.cap_machine.specs.declared.rule.Effect.TheVariants as lines
+use Rattle.cap_machine.specs.declared.cell.Cell.TheVariants.{Unknown}
+use Rattle.cap_machine.specs.Op.{same}
+use Rattle.cap_machine.specs.Touch.{Touch, kept, given, taken, touch}
+use Rattle.cap_machine.specs.Effect.{effect_touch}
+use Rattle.cap_machine.specs.Named.{names_pid, args_name}
+use Rattle.cap_machine.specs.Rule.{demand}
+use Rattle.cap_machine.proofs.Naming.{own_processes}
+use Rattle.cap_machine.proofs.NamedFds.{named_checks}
+use Rattle.cap_summary.specs.declared.key.Key.{Key}
+use Rattle.cap_summary.specs.declared.key.Key.TheVariants as key
+use Rattle.cap_summary.specs.declared.value.Value.{Value}
+use Rattle.cap_summary.specs.declared.value.Value.TheVariants as value
+use Rattle.cap_summary.specs.declared.base.Others.{Others}
+use Rattle.cap_summary.specs.declared.base.Others.TheVariants as others
+use Rattle.cap_summary.specs.declared.effect.Row.{Row}
+use Rattle.cap_summary.specs.declared.effect.Effect.{Effect}
+use Rattle.cap_summary.specs.declared.ask.Ask.{Ask}
+use Rattle.cap_summary.specs.declared.line_asks.UpToThree.{UpToThree}
+use Rattle.cap_summary.specs.declared.precondition.Precondition.{Precondition}
+use Rattle.cap_summary.specs.Values.{reads_within}
+use Rattle.cap_summary.specs.Sorted.{found}
+use Rattle.cap_summary.specs.Names.{line_names_fd, item_answers_fd, Names, names_in, AreAmong, has_key, has_cell}
+use Rattle.cap_summary.specs.Names.{IsListedWithin, others_within, mode_within, RowWithin, IsRowWithin, EffectWithin, ChildWithin}
+use Rattle.cap_summary.specs.Names.{LineWithin, part_within, PartsWithin, PreWithin, DemandWithin}
+use Rattle.cap_summary.proofs.Bools.{and_left, and_right}
+use Rattle.cap_summary.proofs.LineNamed.{named_one_by_one}
+
+module _ (a b : Names) (among : AreAmong a b) where
+  key_among : (k : Key) → has_key a k ≡ true → has_key b k ≡ true
+  key_among key.Mode is = refl
+  key_among (key.Fd f) is = among.fds f is
+
+  cell_among : (p : ℕ) (k : Key) → has_cell a p k ≡ true → has_cell b p k ≡ true
+  cell_among p k is = and_from (b.pids p) (has_key b k) (among.pids p (and_left (a.pids p) (has_key a k) is))
+      (key_among k (and_right (a.pids p) (has_key a k) is))
+
+  value_among : (v : Value) → reads_within (has_cell a) v ≡ true → reads_within (has_cell b) v ≡ true
+  value_among (value.Is c) is = refl
+  value_among (value.Same p k) is = cell_among p k is
+  value_among (value.Of x) is = cell_among x.value.pid x.value.key is
+
+  listed_among : (f : ℕ) (v : Option Value) → IfSome v (IsListedWithin a f) → IfSome v (IsListedWithin b f)
+  listed_among f None is = is
+  listed_among f (Some v) is = record { key = among.fds f is.key; source = value_among v is.source }
+
+  others_among : (o : Others) → others_within a o ≡ true → others_within b o ≡ true
+  others_among (others.Of q passing) is = among.pids q is
+  others_among _ is = refl
+
+  mode_among : (mode : Option Value) → mode_within a mode ≡ true → mode_within b mode ≡ true
+  mode_among None is = refl
+  mode_among (Some v) is = value_among v is
+
+  row_among : (row : Row) → RowWithin a row → RowWithin b row
+  row_among row is = record {
+    cells = λ f. listed_among f (found row.cells f) (is.cells f);
+    others = others_among row.base.others is.others;
+    mode = mode_among row.mode is.mode;
+  }
+
+  row_at_among : (p : ℕ) (row : Option Row) → IfSome row (IsRowWithin a p) → IfSome row (IsRowWithin b p)
+  row_at_among p None is = is
+  row_at_among p (Some row) is = record { pid = among.pids p is.pid; row = row_among row is.row }
+
+  pub effect_among : (effect : Effect) → EffectWithin a effect → EffectWithin b effect
+  effect_among effect is p = row_at_among p (found effect.rows p) (is p)
+
+  part_among : (ask : Option Ask) → part_within a ask ≡ true → part_within b ask ≡ true
+  part_among None is = refl
+  part_among (Some ask) is = cell_among ask.pid ask.key is
+
+  parts_among : (asks : UpToThree) → PartsWithin a asks → PartsWithin b asks
+  parts_among asks is = record {
+    mode = part_among asks.mode is.mode;
+    first = part_among asks.first is.first;
+    second = part_among asks.second is.second;
+  }
+
+  pub asks_among : (pre : Precondition) → PreWithin a pre → PreWithin b pre
+  asks_among pre is = record {
+    asks = λ k d lt. cell_among _ _ (is.asks k d lt);
+    refusals = λ k d lt. parts_among _ (is.refusals k d lt);
+  }
+
+-- ---- the lines of two parts
+pub first_among : (t u : List Step) → AreAmong (names_in t) (names_in (t ++ u))
+first_among t u = record {
+  pids = λ p is.
+      let named : Step → Bool = λ step. names_pid p step.line in
+      list_any-append named t u ∙ or_first (list_any named t) (list_any named u) is;
+  fds = λ f is.
+      let named : Step → Bool = λ step. line_names_fd f step.line in
+      list_any-append named t u ∙ or_first (list_any named t) (list_any named u) is;
+}
+
+pub second_among : (t u : List Step) → AreAmong (names_in u) (names_in (t ++ u))
+second_among t u = record {
+  pids = λ p is.
+      let named : Step → Bool = λ step. names_pid p step.line in
+      list_any-append named t u ∙ or_second (list_any named t) (list_any named u) is;
+  fds = λ f is.
+      let named : Step → Bool = λ step. line_names_fd f step.line in
+      list_any-append named t u ∙ or_second (list_any named t) (list_any named u) is;
+}
+
+-- ---- a line, and what it asks
+not_kept : (b : Bool) (t : Touch) → (t ≡ kept → ⊥) → b ≡ true → cond b t kept ≡ kept → ⊥
+not_kept true t never is same = never same
+not_kept false t never is same = absurd cc
+
+not_either : (a b : Bool) (t u : Touch) → (t ≡ kept → ⊥) → (u ≡ kept → ⊥) → b ≡ true
+    → cond a t (cond b u kept) ≡ kept → ⊥
+not_either true b t u never other is same = never same
+not_either false b t u never other is same = not_kept b u other is same
+
+module _ (step : Step) (t : List Step) where
+  abbrev named : Names
+  named = names_in (t ++ step ∷ [])
+
+  pid_in : (p : ℕ) → names_pid p step.line ≡ true → named.pids p ≡ true
+  pid_in p is = (second_among t (step ∷ [])).pids p (or_first (names_pid p step.line) false is)
+
+  fd_in : (f : ℕ) → line_names_fd f step.line ≡ true → named.fds f ≡ true
+  fd_in f is = (second_among t (step ∷ [])).fds f (or_first (line_names_fd f step.line) false is)
+
+  own_in : named.pids step.line.pid ≡ true
+  own_in = pid_in step.line.pid (or_first (step.line.pid == step.line.pid) _ (eq-eqb step.line.pid step.line.pid refl))
+
+  -- a process that is touched is named
+  touched_in : (p : ℕ) → (touch step p 0 ≡ kept → ⊥) → named.pids p ≡ true
+  touched_in p touches =
+      pid_in p (true_from_ne_false (names_pid p step.line) (λ other. touches (own_processes step p 0 other)))
+
+  child_in : (line : LineEffect) → ((p f : ℕ) → effect_touch line step.line.pid p f ≡ touch step p f)
+      → ChildWithin named line
+  child_in (lines.Fork child) does = touched_in child (λ is.
+      not_kept (child == child) (taken same step.line.pid 0) (λ e. cc) (eq-eqb child child refl) (does child 0 ∙ is))
+  child_in (lines.ForkAs child g) does = touched_in child (λ is.
+      not_either ((child == step.line.pid || child == child) && 0 == g) (child == child) (given Unknown)
+      (taken same step.line.pid 0) (λ e. cc) (λ e. cc) (eq-eqb child child refl) (does child 0 ∙ is))
+  child_in _ does = tt
+
+  pub line_in : (line : LineEffect) → ((p f : ℕ) → effect_touch line step.line.pid p f ≡ touch step p f)
+      → LineWithin named step.line.pid line
+  line_in line does = record {
+    own = own_in;
+    child = child_in line does;
+    fds = λ k d lt. fd_in _ (named_one_by_one step line does k d lt);
+  }
+
+  pub demand_in : DemandWithin named step.line.pid (demand step.line)
+  demand_in = record {
+    own = own_in;
+    checks = λ k d lt. fd_in _ (or_first (args_name _ step.line) (item_answers_fd _ step.line.item)
+        (named_checks step.line k d lt));
+  }

@@ -1,0 +1,193 @@
+-- Asks of a later segment, pulled back through the effect of a first one.
+use Rattle.std.proofs.Common.{◌≡◌, List, [], ◌∷◌, ◌++◌, Bool, true, false, ◌||◌, ℕ, ◌+◌, ◌<◌, ◌≤◌, length, get_or, take}
+use Rattle.std.proofs.Common.{refl, sym, ap, ◌∙◌, subst, arith, length-append}
+use Rattle.std.specs.List.{list_any, All}
+use Rattle.std.proofs.lemmas.List.{take_more}
+use Rattle.std.proofs.lemmas.List.Folds.{list_any-append}
+use Rattle.std.proofs.lemmas.List.Elements.{All-push, All-head}
+use Rattle.cap_machine.specs.State.{State}
+use Rattle.cap_summary.specs.declared.ask.Ask.{Ask}
+use Rattle.cap_summary.specs.declared.effect.Effect.{Effect}
+use Rattle.cap_summary.specs.declared.precondition.Precondition.{Precondition}
+use Rattle.cap_summary.specs.Keys.{Cells, cells_of}
+use Rattle.cap_summary.specs.Effects.{changed}
+use Rattle.cap_summary.specs.declared.precondition.Refusal.{Refusal}
+use Rattle.cap_summary.specs.Names.{Names, has_cell, EffectWithin, RefusalsWithin, PreWithin}
+use Rattle.cap_summary.specs.Asks.{holds, any_holds, CanBe, AskWithin, IsUnionOf}
+use Rattle.cap_summary.specs.Preconditions.{is_met, is_wrongful, IsPulledBack, AreAskedByBoth, IsAskedByBoth, IsPossible}
+use Rattle.cap_summary.specs.Preconditions.{IsSettled, IsMetOr}
+use Rattle.cap_summary.specs.Sizes.{asks_size}
+use Rattle.std.specs.declared.vec.Vec.{Vec}
+use Rattle.std.specs.declared.alloc.Global.{Global}
+use Rattle.cap_summary.proofs.Bools.{or_false, or_true, or_assoc, or_last, or_crossed}
+use Rattle.cap_summary.proofs.Uniting.{all_left, all_right}
+
+module _ (first : Effect) (asks : List Ask) (i : ℕ) (ask : Ask) (kept moved : List Ask) (within : i < length asks)
+    (is : ask ≡ get_or asks i ask) (so_far : IsPulledBack first (take i asks) kept moved) where
+  one_more : take (i + 1) asks ≡ take i asks ++ ask ∷ []
+  one_more = take_more asks i ask within ∙ ap (λ (x : Ask). take i asks ++ x ∷ []) (sym is)
+
+  met_more : (cells : Cells) → any_holds cells (take (i + 1) asks) ≡ (any_holds cells (take i asks) || holds cells ask)
+  met_more cells = ap (any_holds cells) one_more ∙ list_any-append (holds cells) (take i asks) (ask ∷ [])
+      ∙ ap (λ r. any_holds cells (take i asks) || r) (or_false (holds cells ask))
+
+  counted : length (take (i + 1) asks) ≡ length (take i asks) + 1
+  counted = ap (λ (xs : List Ask). length xs) one_more ∙ length-append (take i asks) (ask ∷ [])
+
+  front : (P : Ask → Type 0) → All P (take (i + 1) asks) → All P (take i asks) × P ask
+  front P all =
+      let whole : All P (take i asks ++ ask ∷ []) = subst (All P) one_more all in
+      (all_left P (take i asks) (ask ∷ []) whole, All-head P ask [] (all_right P (take i asks) (ask ∷ []) whole))
+
+  -- one more, which holds in no state
+  pub pulled_never : ((s : State) → holds (changed first (cells_of s)) ask ≡ false)
+      → IsPulledBack first (take (i + 1) asks) kept moved
+  pulled_never never = record {
+    holds = λ s. so_far.holds s
+        ∙ sym (or_false (any_holds (changed first (cells_of s)) (take i asks)))
+        ∙ ap (λ r. any_holds (changed first (cells_of s)) (take i asks) || r) (sym (never s))
+        ∙ sym (met_more (changed first (cells_of s)));
+    can = λ answer all. so_far.can answer (front (CanBe answer) all).0;
+    names = λ names effect all. so_far.names names effect (front (AskWithin (has_cell names)) all).0;
+    few = omega (arith, counted, so_far.few);
+  }
+
+  -- one more, which becomes this one
+  module _ (before : Ask) (can : (answer : Bool) → CanBe answer ask → CanBe answer before)
+      (same : (s : State) → holds (cells_of s) before ≡ holds (changed first (cells_of s)) ask)
+      (named : (names : Names) → EffectWithin names first → AskWithin (has_cell names) ask
+      → AskWithin (has_cell names) before) where
+    met_before : (s : State) → ((any_holds (cells_of s) kept || any_holds (cells_of s) moved)
+        || (holds (cells_of s) before || false)) ≡ any_holds (changed first (cells_of s)) (take (i + 1) asks)
+    met_before s =
+        ap (λ r. (any_holds (cells_of s) kept || any_holds (cells_of s) moved) || r)
+        (or_false (holds (cells_of s) before) ∙ same s)
+        ∙ ap (λ r. r || holds (changed first (cells_of s)) ask) (so_far.holds s)
+        ∙ sym (met_more (changed first (cells_of s)))
+
+    pub pulled_kept : IsPulledBack first (take (i + 1) asks) (kept ++ before ∷ []) moved
+    pulled_kept = record {
+      holds = λ s.
+          ap (λ r. r || any_holds (cells_of s) moved) (list_any-append (holds (cells_of s)) kept (before ∷ []))
+          ∙ or_last (any_holds (cells_of s) kept) (holds (cells_of s) before || false) (any_holds (cells_of s) moved)
+          ∙ met_before s;
+      can = λ answer all.
+          let two = front (CanBe answer) all in
+          let old = so_far.can answer two.0 in
+          (All-push (CanBe answer) kept before old.0 (can answer two.1), old.1);
+      names = λ names effect all.
+          let two = front (AskWithin (has_cell names)) all in
+          let old = so_far.names names effect two.0 in
+          (All-push (AskWithin (has_cell names)) kept before old.0 (named names effect two.1), old.1);
+      few = omega (arith, counted, so_far.few, length-append kept (before ∷ []));
+    }
+
+    pub pulled_moved : IsPulledBack first (take (i + 1) asks) kept (moved ++ before ∷ [])
+    pulled_moved = record {
+      holds = λ s.
+          ap (λ r. any_holds (cells_of s) kept || r) (list_any-append (holds (cells_of s)) moved (before ∷ []))
+          ∙ sym (or_assoc (any_holds (cells_of s) kept) (any_holds (cells_of s) moved)
+          (holds (cells_of s) before || false))
+          ∙ met_before s;
+      can = λ answer all.
+          let two = front (CanBe answer) all in
+          let old = so_far.can answer two.0 in
+          (old.0, All-push (CanBe answer) moved before old.1 (can answer two.1));
+      names = λ names effect all.
+          let two = front (AskWithin (has_cell names)) all in
+          let old = so_far.names names effect two.0 in
+          (old.0, All-push (AskWithin (has_cell names)) moved before old.1 (named names effect two.1));
+      few = omega (arith, counted, so_far.few, length-append moved (before ∷ []));
+    }
+
+-- ---- the asks of both segments
+pub asked_by_both : (first : Effect) (own later kept moved pulled both : List Ask)
+    → IsPulledBack first later kept moved → IsUnionOf kept moved pulled → IsUnionOf own pulled both
+    → AreAskedByBoth first own later both
+asked_by_both first own later kept moved pulled both back order union = record {
+  rises = union.rises;
+  holds = λ s. union.holds (cells_of s)
+      ∙ ap (λ r. any_holds (cells_of s) own || r) (order.holds (cells_of s) ∙ back.holds s);
+  can = λ answer a b.
+      let two = back.can answer b in
+      union.can answer a (order.can answer two.0 two.1);
+  names = λ names effect a b.
+      let two = back.names names effect b in
+      union.names (has_cell names) a (order.names (has_cell names) two.0 two.1);
+  few = omega (arith, union.few, order.few, back.few);
+}
+
+-- ---- both segments
+-- something is found in every state
+pub always_asked : (first : Effect) (own later both : Precondition) → ((cells : Cells) → is_met cells both ≡ true)
+    → IsSettled both → IsPossible both → ((names : Names) → PreWithin names both) → asks_size both ≡ 0
+    → ((s : State) → (is_met (cells_of s) own || is_met (changed first (cells_of s)) later) ≡ true)
+    → IsAskedByBoth first own later both
+always_asked first own later both always settled possible within nothing found = record {
+  met = λ s. always (cells_of s) ∙ sym (found s);
+  possible = λ old more. possible;
+  names = λ names effect a b. within names;
+  settled = settled;
+  few = omega (arith, nothing);
+  refusals = omega (arith, nothing);
+}
+
+-- the asks of both, or the refusals of one of them
+met_apart : (x y r q : Bool) → (((x || y) || r) || q) ≡ ((x || r) || (y || q))
+met_apart x y r q = or_assoc (x || y) r q ∙ or_crossed x y r q
+
+-- the first segment's refusals beside the asks of both, and then the refusals of the later one
+module _ (first : Effect) (own later before new : Precondition) (refusals : List Refusal)
+    (own_open : own.certain ≡ false) (later_open : later.certain ≡ false) (before_open : before.certain ≡ false)
+    (asked : AreAskedByBoth first own.asks.items later.asks.items before.asks.items)
+    (same : before.refusals.items ≡ own.refusals.items) (theirs : refusals ≡ later.refusals.items)
+    (met : IsMetOr before new (λ cells. list_any (is_wrongful (changed first cells)) refusals)) where
+  pub met_joined : (s : State) → is_met (cells_of s) new
+      ≡ (is_met (cells_of s) own || is_met (changed first (cells_of s)) later)
+  met_joined s = met s
+      ∙ rw (asked.holds s, own_open, later_open, before_open, same, theirs) (met_apart
+      (any_holds (cells_of s) own.asks.items) (any_holds (changed first (cells_of s)) later.asks.items)
+      (list_any (is_wrongful (cells_of s)) own.refusals.items)
+      (list_any (is_wrongful (changed first (cells_of s))) later.refusals.items))
+
+  pub asked_joined : IsSettled own → IsSettled later → new.certain ≡ false → new.asks ≡ before.asks → (IsPossible before → IsPossible new)
+      → ((names : Names) → EffectWithin names first → RefusalsWithin names refusals → PreWithin names before
+      → PreWithin names new) → length new.refusals.items ≤ length before.refusals.items + length refusals
+      → IsAskedByBoth first own later new
+  asked_joined settled more_settled new_open asks possible names few = record {
+    met = met_joined;
+    possible = λ old more.
+        possible (record { asks = asked.can true old.asks more.asks; refusals = rw same old.refusals });
+    names = λ within effect a b. names within effect (rw theirs b.refusals)
+        (record { asks = asked.names within effect a.asks b.asks; refusals = rw same a.refusals });
+    settled = record {
+      rises = rw asks asked.rises;
+      fails = rw asks (asked.can false settled.fails more_settled.fails);
+      alone = λ (is : new.certain ≡ true). absurd (let wrong : false ≡ true = sym new_open ∙ is in cc);
+    };
+    few = omega (arith, refused, asked.few, ap (λ (asks : Vec Ask Global). length asks.items) asks);
+    refusals = refused;
+  }
+    where
+      refused : length new.refusals.items ≤ length own.refusals.items + length later.refusals.items
+      refused = omega (
+        arith,
+        few,
+        ap (λ (rs : List Refusal). length rs) same,
+        ap (λ (rs : List Refusal). length rs) theirs,
+      )
+
+-- one of the asks holds in every state
+pub met_by_asks : (first : Effect) (own later : Precondition) (s : State)
+    → (any_holds (cells_of s) own.asks.items || any_holds (changed first (cells_of s)) later.asks.items) ≡ true
+    → (is_met (cells_of s) own || is_met (changed first (cells_of s)) later) ≡ true
+met_by_asks first own later s one = cases own.certain later.certain (any_holds (cells_of s) own.asks.items)
+    (any_holds (changed first (cells_of s)) later.asks.items) (list_any (is_wrongful (cells_of s)) own.refusals.items)
+    (list_any (is_wrongful (changed first (cells_of s))) later.refusals.items) one
+  where
+    cases : (c d x y r q : Bool) → (x || y) ≡ true → ((c || (x || r)) || (d || (y || q))) ≡ true
+    cases true d x y r q is = refl
+    cases false d true y r q is = refl
+    cases false true false y r q is = or_true r
+    cases false false false true r q is = or_true r
+    cases false false false false r q is = absurd cc

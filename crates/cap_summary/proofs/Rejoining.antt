@@ -1,0 +1,112 @@
+-- What is known of an old whole, of a whole that has another part in place of one.
+use Rattle.std.proofs.Common.{◌≡◌, ◌||◌, true, false, refl, sym, ap, ◌∙◌}
+use Rattle.std.proofs.Math.Path.{fun_ext}
+use Rattle.cap_summary.specs.declared.effect.Effect.{Effect}
+use Rattle.cap_summary.specs.declared.precondition.Precondition.{Precondition}
+use Rattle.cap_summary.specs.declared.known.Known.{Known}
+use Rattle.cap_tree.specs.declared.likeness.Likeness.{Likeness}
+use Rattle.cap_tree.specs.declared.likeness.Side.{Side}
+use Rattle.cap_tree.specs.declared.likeness.Side.TheVariants.{Left, Right}
+use Rattle.cap_summary.specs.Keys.{Cells, cells_of}
+use Rattle.cap_summary.specs.Effects.{changed}
+use Rattle.cap_summary.specs.Preconditions.{is_met, IsPossible}
+use Rattle.cap_summary.specs.Names.{Names, PreWithin}
+use Rattle.cap_summary.specs.Alike.{IsSameEffect}
+use Rattle.cap_summary.specs.Preconditions.{IsSamePrecondition}
+use Rattle.cap_summary.specs.Joined.{IsJoinedEffect, IsJoined}
+use Rattle.cap_summary.specs.Preconditions.{IsAskedByBoth}
+use Rattle.cap_tree.specs.Sides.{part_at}
+use Rattle.cap_summary.specs.Likeness.{AreAlike, KeepsEffect}
+
+same_cells : (a b : Effect) → IsSameEffect a b → (cells : Cells) → changed a cells ≡ changed b cells
+same_cells a b same cells = fun_ext (λ p. fun_ext (λ k. same.cells cells p k))
+
+pub same_effect : (a b : Effect) → b ≡ a → IsSameEffect a b
+same_effect a b is = rw is (record {
+  cells = λ cells p k. refl;
+  names = λ names within. within;
+  back = λ names within. within;
+  leaves = λ p k. refl;
+  size = refl;
+})
+
+pub same_precondition : (a b : Precondition) → b ≡ a → IsSamePrecondition a b
+same_precondition a b is = rw is (record { certain = refl; asks = refl; refusals = refl })
+
+pub keeps_none : (side : Side) (likeness : Likeness) → likeness.precondition ≡ false → KeepsEffect side likeness
+keeps_none Left likeness none = λ is. absurd (let wrong : false ≡ true = sym none ∙ is in cc)
+keeps_none Right likeness none = tt
+
+-- the same effect in the first place, and in the second
+first_effect : (was first later old : Effect) → IsSameEffect was first → IsJoinedEffect was later old
+    → IsJoinedEffect first later old
+first_effect was first later old same joined = record {
+  cells = λ cells p k. joined.cells cells p k ∙ ap (λ (c : Cells). changed later c p k) (same_cells was first same cells);
+  leaves = λ p k is. (sym (same.leaves p k) ∙ (joined.leaves p k is).0, (joined.leaves p k is).1);
+  names = λ names one other. joined.names names (same.back names one) other;
+}
+
+second_effect : (first was later old : Effect) → IsSameEffect was later → IsJoinedEffect first was old
+    → IsJoinedEffect first later old
+second_effect first was later old same joined = record {
+  cells = λ cells p k. joined.cells cells p k ∙ same.cells (changed first cells) p k;
+  leaves = λ p k is. ((joined.leaves p k is).0, sym (same.leaves p k) ∙ (joined.leaves p k is).1);
+  names = λ names one other. joined.names names one (same.back names other);
+}
+
+same_met : (a b : Precondition) → IsSamePrecondition a b → (cells : Cells) → is_met cells a ≡ is_met cells b
+same_met a b same cells = rw (same.certain, same.asks, same.refusals) refl
+
+possible_back : (a b : Precondition) → IsSamePrecondition a b → IsPossible b → IsPossible a
+possible_back a b same is = record { asks = rw same.asks is.asks; refusals = rw same.refusals is.refusals }
+
+named_back : (a b : Precondition) → IsSamePrecondition a b → (names : Names) → PreWithin names b → PreWithin names a
+named_back a b same names is = record { asks = rw same.asks is.asks; refusals = rw same.refusals is.refusals }
+
+-- the same asks in the first place, with the same effect, and in the second
+first_asks : (was first : Effect) (own new later old : Precondition) → IsSameEffect was first
+    → IsSamePrecondition own new → IsAskedByBoth was own later old → IsAskedByBoth first new later old
+first_asks was first own new later old effect same asked = record {
+  met = λ s. asked.met s
+      ∙ ap (λ r. r || is_met (changed was (cells_of s)) later) (same_met own new same (cells_of s))
+      ∙ ap (λ (c : Cells). is_met (cells_of s) new || is_met c later) (same_cells was first effect (cells_of s));
+  possible = λ mine other. asked.possible (possible_back own new same mine) other;
+  names = λ names one mine other. asked.names names (effect.back names one) (named_back own new same names mine) other;
+  settled = asked.settled;
+  few = rw (same.asks, same.refusals) at asked.few;
+  refusals = rw same.refusals at asked.refusals;
+}
+
+second_asks : (first : Effect) (own was later old : Precondition) → IsSamePrecondition was later
+    → IsAskedByBoth first own was old → IsAskedByBoth first own later old
+second_asks first own was later old same asked = record {
+  met = λ s. asked.met s
+      ∙ ap (λ r. is_met (cells_of s) own || r) (same_met was later same (changed first (cells_of s)));
+  possible = λ mine other. asked.possible mine (possible_back was later same other);
+  names = λ names one mine other. asked.names names one mine (named_back was later same names other);
+  settled = asked.settled;
+  few = rw (same.asks, same.refusals) at asked.few;
+  refusals = rw same.refusals at asked.refusals;
+}
+
+-- the effect of the old whole is that of the new one
+pub rejoined_effect : (side : Side) (first second was old : Known) (kept : Likeness)
+    → IsJoined (part_at side was first) (part_at side second was) old
+    → AreAlike kept was (part_at side first second) → kept.effect ≡ true
+    → IsJoinedEffect first.effect.value second.effect.value old.effect.value
+rejoined_effect Left first second was old kept joined alike is = first_effect was.effect.value first.effect.value
+    second.effect.value old.effect.value (alike.effect is) joined.effect
+rejoined_effect Right first second was old kept joined alike is = second_effect first.effect.value was.effect.value
+    second.effect.value old.effect.value (alike.effect is) joined.effect
+
+-- and what it asks is
+pub rejoined_asks : (side : Side) (first second was old : Known) (kept : Likeness)
+    → IsJoined (part_at side was first) (part_at side second was) old
+    → AreAlike kept was (part_at side first second) → KeepsEffect side kept → kept.precondition ≡ true
+    → IsAskedByBoth first.effect.value first.precondition.value second.precondition.value old.precondition.value
+rejoined_asks Left first second was old kept joined alike effect is = first_asks was.effect.value first.effect.value
+    was.precondition.value first.precondition.value second.precondition.value old.precondition.value
+    (alike.effect (effect is)) (alike.precondition is) joined.precondition
+rejoined_asks Right first second was old kept joined alike effect is = second_asks first.effect.value
+    first.precondition.value was.precondition.value second.precondition.value old.precondition.value
+    (alike.precondition is) joined.precondition

@@ -1,0 +1,108 @@
+-- The cells of a process after two segments.
+use Rattle.std.proofs.Common.{◌≡◌, ℕ, ◌&&◌, ◌||◌, not, Bool, true, false, Option, Some, None, option_map, refl, ◌∙◌}
+use Rattle.std.proofs.Common.{List, [], sym}
+use Rattle.std.specs.Prelude.{unwrap_or, option_and_then, is_none}
+use Rattle.std.proofs.lemmas.Bool.{and_from}
+use Rattle.std.specs.Option.{option_map_or, option_or}
+use Rattle.cap_machine.specs.declared.cell.Cell.{Cell}
+use Rattle.cap_machine.specs.declared.cell.Cell.TheVariants.{Closed}
+use Rattle.cap_summary.specs.declared.value.Value.{Value}
+use Rattle.cap_summary.specs.declared.base.Passing.{Passing}
+use Rattle.cap_summary.specs.declared.base.Passing.TheVariants.{Same}
+use Rattle.cap_summary.specs.declared.base.Base.{Base}
+use Rattle.cap_summary.specs.declared.key.Key.{Key}
+use Rattle.cap_summary.specs.declared.key.Key.TheVariants as key
+use Rattle.cap_summary.specs.declared.effect.Row.{Row}
+use Rattle.cap_summary.specs.declared.effect.Effect.{Effect}
+use Rattle.cap_summary.specs.Keys.{Cells}
+use Rattle.cap_summary.specs.Values.{read}
+use Rattle.cap_summary.specs.Sorted.{found}
+use Rattle.cap_summary.specs.Effects.{passed, is_from, base_cell, handed_on, row_cell, changed, IsRowAfter}
+use Rattle.cap_summary.specs.Leaving.{is_own, base_leaves, row_leaves, leaves}
+use Rattle.cap_summary.specs.Composing.{IsHandedSo}
+use Rattle.cap_summary.proofs.Bools.{and_left, and_right, or_false}
+
+pub map_or_is : {X : Type 0} (g : X → Cell) (o : Option X) (d : Cell) → option_map_or g o d ≡ unwrap_or (option_map g o) d
+map_or_is g None d = refl
+map_or_is g (Some x) d = refl
+
+module _ (cells after : Cells) (p : ℕ) (passing : Passing) (base : Base) (rest : Cell) (f : ℕ) where
+  -- what is listed, or handed on, or neither
+  cases : (listed handed : Option Value) (b : Bool) → is_from base.closed_from f ≡ b
+      → (is_from base.closed_from f ≡ true → rest ≡ Closed)
+      → (is_from base.closed_from f ≡ false
+      → option_map_or (λ v. passed passing (read cells v)) handed rest ≡ base_cell after p base f)
+      → unwrap_or (option_or (option_map (read after) listed)
+      (option_and_then (handed_on passing base.closed_from f) (option_map (read cells) handed))) rest
+      ≡ option_map_or (read after) listed (base_cell after p base f)
+  cases (Some v) handed b is closed below = refl
+  cases None None true is closed below = closed is ∙ rw is refl
+  cases None (Some v) true is closed below = rw is (closed is)
+  cases None None false is closed below = below is
+  cases None (Some v) false is closed below = let here = rw is at (below is) in rw is here
+
+-- a descriptor's cell after two segments, where `new` lists what the second lists and what it is handed on
+pub composed_cell : (first : Effect) (p : ℕ) (base base' : Base) (passing : Passing)
+    (listed handed new : List (ℕ × Value)) (cells : Cells) (f : ℕ)
+    → IsHandedSo first passing base.closed_from f (found listed f) (found handed f) (found new f)
+    → (is_from base.closed_from f ≡ true → base_cell cells p base' f ≡ Closed)
+    → (is_from base.closed_from f ≡ false → option_map_or (λ v. passed passing (read cells v)) (found handed f)
+    (base_cell cells p base' f) ≡ base_cell (changed first cells) p base f)
+    → option_map_or (read cells) (found new f) (base_cell cells p base' f)
+    ≡ option_map_or (read (changed first cells)) (found listed f) (base_cell (changed first cells) p base f)
+composed_cell first p base base' passing listed handed new cells f is_handed closed below =
+    map_or_is (read cells) (found new f) (base_cell cells p base' f)
+    ∙ rw (is_handed.cells cells) (cases cells (changed first cells) p passing base (base_cell cells p base' f) f
+    (found listed f) (found handed f) (is_from base.closed_from f) refl closed below)
+
+-- what is handed on whole, where the second lists nothing
+pub handed_whole : (first : Effect) (passing : Passing) (closed_from : Option ℕ) (listed handed : List (ℕ × Value))
+    → listed ≡ [] → passing ≡ Same → closed_from ≡ None → (f : ℕ)
+    → IsHandedSo first passing closed_from f (found listed f) (found handed f) (found handed f)
+handed_whole first passing closed_from listed handed none same below f = rw (none, same, below) (record {
+  cells = λ cells. cell cells (found handed f);
+  unlisted = sym (or_false (is_none (found handed f)));
+  names = λ names within no own. own;
+})
+  where
+    cell : (cells : Cells) (o : Option Value) → option_map (read cells) o
+        ≡ option_or None (option_and_then (handed_on Same None f) (option_map (read cells) o))
+    cell cells None = refl
+    cell cells (Some v) = refl
+
+-- a row, by its mode and its descriptors
+pub composed_row : (first : Effect) (p : ℕ) (row new : Row)
+    → ((cells : Cells) → row_cell cells p new key.Mode ≡ row_cell (changed first cells) p row key.Mode)
+    → ((cells : Cells) (f : ℕ) → row_cell cells p new (key.Fd f) ≡ row_cell (changed first cells) p row (key.Fd f))
+    → IsRowAfter first p row new
+composed_row first p row new mode cell cells key.Mode = mode cells
+composed_row first p row new mode cell cells (key.Fd f) = cell cells f
+
+pub not_left : (b : Bool) → not b ≡ true → b ≡ false
+not_left true is = absurd cc
+not_left false is = refl
+
+-- a descriptor that isn't listed after both is listed in the second one nowhere, and is closed there or not handed on
+unlisted_in_both : (listed handed new closed : Bool) → new ≡ (listed && (handed || closed)) → new ≡ true
+    → closed ≡ false → (listed ≡ true) × (handed ≡ true)
+unlisted_in_both true true new closed is none below = (refl, refl)
+unlisted_in_both true false new closed is none below = absurd cc
+unlisted_in_both false handed new closed is none below = absurd cc
+
+pub composed_leaves : (first : Effect) (p : ℕ) (row new : Row) (passing : Passing) (handed : List (ℕ × Value))
+    → (is_none new.mode ≡ true → (leaves first p key.Mode ≡ true) × (is_none row.mode ≡ true))
+    → ((f : ℕ) → base_leaves new.base f ≡ true → (base_leaves row.base f ≡ true)
+    × (is_none (found handed f) ≡ true → leaves first p (key.Fd f) ≡ true))
+    → ((f : ℕ) → IsHandedSo first passing row.base.closed_from f (found row.cells f) (found handed f) (found new.cells f))
+    → (k : Key) → row_leaves new k ≡ true → (leaves first p k ≡ true) × (row_leaves row k ≡ true)
+composed_leaves first p row new passing handed mode base each key.Mode left = mode left
+composed_leaves first p row new passing handed mode base each (key.Fd f) left =
+    let none : is_none (found new.cells f) ≡ true = and_left (is_none (found new.cells f)) (base_leaves new.base f) left in
+    let own : base_leaves new.base f ≡ true = and_right (is_none (found new.cells f)) (base_leaves new.base f) left in
+    let here : base_leaves row.base f ≡ true = (base f own).0 in
+    let below : is_from row.base.closed_from f ≡ false = not_left (is_from row.base.closed_from f)
+    (and_right (is_own row.base.others) (not (is_from row.base.closed_from f)) here) in
+    let both : (is_none (found row.cells f) ≡ true) × (is_none (found handed f) ≡ true) = unlisted_in_both
+    (is_none (found row.cells f)) (is_none (found handed f)) (is_none (found new.cells f))
+    (is_from row.base.closed_from f) (each f).unlisted none below in
+    ((base f own).1 both.1, and_from (is_none (found row.cells f)) (base_leaves row.base f) both.0 here)

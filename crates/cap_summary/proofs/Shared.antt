@@ -1,0 +1,98 @@
+-- A row that reads its own process alone, behind a segment that leaves that process.
+use Rattle.std.proofs.Common.{◌≡◌, ℕ, ◌==◌, Bool, true, false, List, [], ◌∷◌, cond, Option, Some, None, refl}
+use Rattle.std.proofs.Common.{ap}
+use Rattle.std.specs.Prelude.{IfSome}
+use Rattle.std.specs.Option.{option_map_or}
+use Rattle.std.specs.List.{All}
+use Rattle.std.proofs.lemmas.Bool.{eqb-true, eq-eqb}
+use Rattle.std.proofs.lemmas.List.Elements.{All-head, All-tail}
+use Rattle.cap_machine.specs.declared.cell.Cell.{Cell}
+use Rattle.cap_machine.specs.declared.cell.Cell.TheVariants.{Closed}
+use Rattle.cap_machine.specs.Op.{applied}
+use Rattle.cap_summary.specs.declared.key.Key.{Key}
+use Rattle.cap_summary.specs.declared.key.Key.TheVariants as key
+use Rattle.cap_summary.specs.declared.value.Value.{Value}
+use Rattle.cap_summary.specs.declared.value.Value.TheVariants as value
+use Rattle.cap_summary.specs.declared.base.Others.{Others}
+use Rattle.cap_summary.specs.declared.base.Others.TheVariants as others
+use Rattle.cap_summary.specs.declared.effect.Row.{Row}
+use Rattle.cap_summary.specs.declared.effect.Effect.{Effect}
+use Rattle.cap_summary.specs.Keys.{Cells}
+use Rattle.cap_summary.specs.Values.{read, source, reads_within}
+use Rattle.cap_summary.specs.Sorted.{found}
+use Rattle.cap_summary.specs.Effects.{passed, is_from, others_cell, base_cell, row_cell, changed}
+use Rattle.cap_summary.specs.Names.{only, has_cell, has_key, others_within, mode_within, IsListedWithin, ListWithin, RowWithin}
+use Rattle.cap_summary.proofs.Bools.{and_left}
+
+-- what holds of each entry holds of what is found
+pub found_each : {V : Type 0} (P : V → Type 0) (entries : List (ℕ × V)) → All (λ (e : ℕ × V). P e.1) entries
+    → (f : ℕ) → IfSome (found entries f) P
+found_each P [] all f = tt
+found_each {V} P ((k, v) ∷ rest) all f =
+    either (k == f) (found rest f) (All-head (λ (e : ℕ × V). P e.1) (k, v) rest all)
+    (found_each P rest (All-tail (λ (e : ℕ × V). P e.1) (k, v) rest all) f)
+  where
+    either : (b : Bool) (o : Option V) → P v → IfSome o P → IfSome (cond b (Some v) o) P
+    either true o here later = here
+    either false o here later = later
+
+-- a value that reads one process alone
+pub reads_none : (p : ℕ) (v : Value) → source v ≡ None → reads_within (has_cell (only p)) v ≡ true
+reads_none p v none = rw none refl
+
+pub reads_one : (p q : ℕ) (k : Key) (v : Value) → source v ≡ Some (q, k) → (q == p) ≡ true
+    → reads_within (has_cell (only p)) v ≡ true
+reads_one p q k v from same = rw (from, same) (keys k)
+  where
+    keys : (k : Key) → has_key (only p) k ≡ true
+    keys key.Mode = refl
+    keys (key.Fd f) = refl
+
+-- each value of a list does
+abbrev pub ReadsOnly : ℕ → ℕ × Value → Type 0
+ReadsOnly p e = reads_within (has_cell (only p)) e.1 ≡ true
+
+pub list_only : (p : ℕ) (entries : List (ℕ × Value)) → All (ReadsOnly p) entries → ListWithin (only p) entries
+list_only p entries all f =
+    listed (found entries f) (found_each (λ v. reads_within (has_cell (only p)) v ≡ true) entries all f)
+  where
+    listed : (o : Option Value) → IfSome o (λ v. reads_within (has_cell (only p)) v ≡ true)
+        → IfSome o (IsListedWithin (only p) f)
+    listed None is = is
+    listed (Some v) is = record { key = refl; source = is }
+
+module _ (first : Effect) (p : ℕ) (left : None ≡ found first.rows p) (cells : Cells) where
+  -- the process keeps its cells
+  same_cell : (q : ℕ) (k : Key) → (q == p) ≡ true → cells q k ≡ changed first cells q k
+  same_cell q k is = rw (eqb-true q p is, ← left) refl
+
+  same_value : (v : Value) → reads_within (has_cell (only p)) v ≡ true → read cells v ≡ read (changed first cells) v
+  same_value (value.Is c) is = refl
+  same_value (value.Same q k) is = same_cell q k (and_left (q == p) (has_key (only p) k) is)
+  same_value (value.Of x) is = ap (applied x.value.op)
+      (same_cell x.value.pid x.value.key (and_left (x.value.pid == p) (has_key (only p) x.value.key) is))
+
+  same_mode : (mode : Option Value) → mode_within (only p) mode ≡ true
+      → option_map_or (read cells) mode (cells p key.Mode)
+      ≡ option_map_or (read (changed first cells)) mode (changed first cells p key.Mode)
+  same_mode None is = same_cell p key.Mode (eq-eqb p p refl)
+  same_mode (Some v) is = same_value v is
+
+  same_others : (o : Others) (f : ℕ) → others_within (only p) o ≡ true
+      → others_cell cells p o f ≡ others_cell (changed first cells) p o f
+  same_others others.Own f is = same_cell p (key.Fd f) (eq-eqb p p refl)
+  same_others (others.Of q passing) f is = ap (passed passing) (same_cell q (key.Fd f) is)
+  same_others others.Unknown f is = refl
+  same_others others.Closed f is = refl
+
+  same_listed : (listed : Option Value) (f : ℕ) (d d' : Cell) → IfSome listed (IsListedWithin (only p) f) → d ≡ d'
+      → option_map_or (read cells) listed d ≡ option_map_or (read (changed first cells)) listed d'
+  same_listed None f d d' is same = same
+  same_listed (Some v) f d d' is same = same_value v is.source
+
+  pub same_row : (row : Row) → RowWithin (only p) row → (k : Key) → row_cell cells p row k
+      ≡ row_cell (changed first cells) p row k
+  same_row row is key.Mode = same_mode row.mode is.mode
+  same_row row is (key.Fd f) = same_listed (found row.cells f) f (base_cell cells p row.base f)
+      (base_cell (changed first cells) p row.base f) (is.cells f)
+      (ap (λ c. cond (is_from row.base.closed_from f) Closed c) (same_others row.base.others f is.others))

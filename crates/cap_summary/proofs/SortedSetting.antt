@@ -1,0 +1,62 @@
+-- A value that is put at a key of a list whose keys rise.
+use Rattle.std.proofs.Common.{◌≡◌, ℕ, zero, suc, ◌+◌, ◌<◌, ◌≤◌, eqb, List, [], ◌∷◌, set, Some, if◌then◌else◌, arith}
+use Rattle.std.specs.List.{insert}
+use Rattle.std.proofs.lemmas.Bool.Decides.{nat_tests}
+use Rattle.cap_summary.specs.Place.{IsAt, IsGap}
+use Rattle.cap_summary.specs.Sorted.{found, RisesFrom}
+use Rattle.cap_summary.proofs.SortedFound.{rises_at, is_at_tail}
+
+gap_tail : {V : Type 0} (x : ℕ × V) (l : List (ℕ × V)) (key at : ℕ) → IsGap (x ∷ l) key (suc at) → IsGap l key at
+gap_tail x l key at gap = record {
+  in_range = omega (arith, gap.in_range);
+  smaller = λ i d before. gap.smaller (suc i) d (omega arith);
+  greater = λ i d after lt. gap.greater (suc i) d (omega arith) (omega arith);
+}
+
+-- a greater first key than the bound lets the keys rise from there
+rises_above : {V : Type 0} (b key : ℕ) (l : List (ℕ × V)) → RisesFrom b l → IsGap l key 0 → RisesFrom (key + 1) l
+rises_above b key [] rises gap = tt
+rises_above b key ((j, u) ∷ rest) rises gap =
+    let first : key < j = gap.greater 0 (j, u) (omega arith) (omega arith) in
+    (omega arith, rises.1)
+
+-- a new entry in the gap keeps the order
+pub RisesFrom-insert : {V : Type 0} (b : ℕ) (l : List (ℕ × V)) (key at : ℕ) (v : V) → RisesFrom b l
+    → IsGap l key at → b ≤ key → RisesFrom b (insert l at (key, v))
+RisesFrom-insert b l key zero v rises gap le = (le, rises_above b key l rises gap)
+RisesFrom-insert b [] key (suc at) v rises gap le = absurd (omega (arith, gap.in_range))
+RisesFrom-insert b ((j, u) ∷ rest) key (suc at) v rises gap le =
+    let first : j < key = gap.smaller 0 (j, u) (omega arith) in
+    (rises.0, RisesFrom-insert (j + 1) rest key at v rises.1 (gap_tail (j, u) rest key at gap) (omega arith))
+
+-- it is found, and so are the others as before
+pub found-insert : {V : Type 0} (l : List (ℕ × V)) (key at : ℕ) (v : V) → IsGap l key at → (q : ℕ)
+    → found (insert l at (key, v)) q ≡ (if eqb q key then Some v else found l q)
+found-insert l key zero v gap q = grind (arith, nat_tests)
+found-insert [] key (suc at) v gap q = absurd (omega (arith, gap.in_range))
+found-insert ((j, u) ∷ rest) key (suc at) v gap q =
+    let first : j < key = gap.smaller 0 (j, u) (omega arith) in
+    let later = found-insert rest key at v (gap_tail (j, u) rest key at gap) q in
+    grind (arith, nat_tests, first, later)
+
+-- another value at the place of a key keeps the order
+pub RisesFrom-set : {V : Type 0} (b : ℕ) (l : List (ℕ × V)) (key at : ℕ) (v : V) → RisesFrom b l
+    → IsAt l key at → RisesFrom b (set l at (key, v))
+RisesFrom-set b [] key at v rises is_at = tt
+RisesFrom-set b ((j, u) ∷ rest) key zero v rises is_at = rw (← is_at.has_key (j, u)) rises
+RisesFrom-set b ((j, u) ∷ rest) key (suc at) v rises is_at =
+    (rises.0, RisesFrom-set (j + 1) rest key at v rises.1 (is_at_tail (j, u) rest key at is_at))
+
+-- it is found, and so are the others as before
+pub found-set : {V : Type 0} (b : ℕ) (l : List (ℕ × V)) (key at : ℕ) (v : V) → RisesFrom b l → IsAt l key at → (q : ℕ)
+    → found (set l at (key, v)) q ≡ (if eqb q key then Some v else found l q)
+found-set b [] key at v rises is_at q = absurd (omega (arith, is_at.in_range))
+found-set b ((j, u) ∷ rest) key zero v rises is_at q = grind (arith, nat_tests, is_at.has_key (j, u))
+found-set b ((j, u) ∷ rest) key (suc at) v rises is_at q =
+    let above = rises_at (j + 1) rest rises.1 at (key, v) (omega (arith, is_at.in_range)) in
+    let same = is_at.has_key (key, v) in
+    let later = found-set (j + 1) rest key at v rises.1 (is_at_tail (j, u) rest key at is_at) q in
+    grind (arith, nat_tests, above, same, later)
+
+-- what a value that is put at a key changes
+pub ruleset puts = (found-insert, found-set)

@@ -1,0 +1,8 @@
+use Rattle.std.proofs.Common.{◌≡◌, false, take}
+use Rattle.cap_summary.specs.Keys.{cells_of}
+use Rattle.cap_summary.specs.Asks.{any_holds}
+use Rattle.cap_summary.specs.Before.{state_before}
+use Rattle.cap_summary.proofs.before.Before.any_holds.Given as goal
+
+abbrev pub invariant-loop-ask : goal.invariant-loop-ask
+invariant-loop-ask l = any_holds (cells_of (state_before l.self)) (take l.ask-index l.asks) ≡ false

@@ -1,0 +1,24 @@
+use Rattle.std.proofs.Common.{◌≡◌, ℕ, true, [], ◌∷◌, refl}
+use Rattle.std.specs.List.{All}
+use Rattle.std.proofs.lemmas.Result.{on_ok_weaker}
+use Rattle.std.proofs.lemmas.List.Elements.{All-head, All-tail}
+use Rattle.cap_summary.proofs.LineListed.{change_within}
+use Rattle.cap_summary.proofs.effect.Effect.push.Goals as goal
+
+pub returns-in_ok-set-in-GiveTwo-clause-names : goal.returns-in_ok-set-in-GiveTwo-clause-names
+returns-in_ok-set-in-GiveTwo-clause-names c = on_ok_weaker c.set-in-GiveTwo-2.result (λ second names line effect.
+    let fds : All (λ f. names.fds f ≡ true) (c.in-GiveTwo.fd ∷ c.in-GiveTwo.other ∷ []) =
+    rw c.in-GiveTwo.is at line.fds in
+    let P : ℕ → Type 0 = λ f. names.fds f ≡ true in
+    let first = c.in_ok-set-in-GiveTwo.ensures.names names line.own
+    (record { key = All-head P c.in-GiveTwo.fd (c.in-GiveTwo.other ∷ []) fds; source = refl }) effect in
+    second names line.own (record {
+      key = All-head P c.in-GiveTwo.other [] (All-tail P c.in-GiveTwo.fd (c.in-GiveTwo.other ∷ []) fds);
+      source = refl;
+    }) first) c.set-in-GiveTwo-2.ensures.names
+
+pub returns-in_ok-then-in-Change-clause-names : goal.returns-in_ok-then-in-Change-clause-names
+returns-in_ok-then-in-Change-clause-names c = on_ok_weaker c.set-in-Change.result (λ set names line effect.
+    set names line.own (change_within names c.args.me c.args.line.now c.in-Change.fd c.in-Change.op c.in-Change.from
+    c.in_ok-before-in-Change.before c.in_ok-then-in-Change.field-0 c.in-Change.is c.in_ok-then-in-Change.ensures.source
+    (c.in_ok-before-in-Change.ensures.names names effect) line) effect) c.set-in-Change.ensures.names

@@ -1,5 +1,0 @@
-use Rattle.std.proofs.Common.{length}
-use Rattle.cap_summary.proofs.in_order.+judge_in_order.Given as goal
-
-abbrev pub decreases-judge_in_order : goal.decreases-judge_in_order
-decreases-judge_in_order l = length l.run.now

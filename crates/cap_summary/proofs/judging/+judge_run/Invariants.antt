@@ -1,5 +1,0 @@
-use Rattle.std.proofs.Common.{length}
-use Rattle.cap_summary.proofs.judging.+judge_run.Given as goal
-
-abbrev pub decreases-judge_run : goal.decreases-judge_run
-decreases-judge_run l = length l.run.now

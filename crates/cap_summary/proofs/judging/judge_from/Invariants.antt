@@ -1,0 +1,12 @@
+use Rattle.std.proofs.Common.{◌≡◌, ◌+◌, take}
+use Rattle.cap_tree.specs.Run.{values}
+use Rattle.cap_summary.specs.Before.{state_before}
+use Rattle.cap_summary.proofs.Judged.{IsJudged}
+use Rattle.cap_summary.proofs.judging.judge_from.Given as goal
+
+abbrev pub invariant-loop-step : goal.invariant-loop-step
+invariant-loop-step l = record {
+  position : l.position ≡ l.at + l.step-index;
+  judged : IsJudged (state_before l.before) (values (take l.step-index l.run)) l.at l.asked.from l.asked.to
+      l.fn.found.items l.found.items l.effect;
+}

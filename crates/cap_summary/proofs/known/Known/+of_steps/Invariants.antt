@@ -1,5 +1,0 @@
-use Rattle.std.proofs.Common.{length}
-use Rattle.cap_summary.proofs.known.Known.+of_steps.Given as goal
-
-abbrev pub decreases-of_steps : goal.decreases-of_steps
-decreases-of_steps l = length l.steps.now

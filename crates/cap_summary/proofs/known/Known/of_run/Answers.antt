@@ -1,0 +1,32 @@
+use Rattle.std.proofs.Common.{refl, arith}
+use Rattle.std.proofs.lemmas.List.{take_all}
+use Rattle.cap_tree.specs.Run.{values}
+use Rattle.cap_summary.specs.Knows.{Says}
+use Rattle.cap_summary.proofs.Knowing.{one_more, says_none, says_same}
+use Rattle.cap_summary.proofs.known.Known.of_run.Goals as goal
+
+pub loop-step-init : goal.loop-step-init
+loop-step-init c = says_none c.empty-effect.result c.never-precondition.result c.empty-effect.ensures.cells
+    c.never-precondition.ensures.met c.never-precondition.ensures.possible c.empty-effect.ensures.names
+    c.never-precondition.ensures.names
+    (rw (c.never-precondition.ensures.nothing.1, c.never-precondition.ensures.nothing.2) refl)
+
+pub loop-step-preserved : goal.loop-step-preserved
+loop-step-preserved c =
+    rw (
+      one_more c.args.steps.now c.loop-step.step-index c.step-item.result c.loop-step-test.true c.step-item.is,
+      ← c.deref.ensures,
+    )
+    (c.in_ok-put_step.ensures _ c.loop-step.invariant)
+
+pub returns-clause-says : goal.returns-clause-says
+returns-clause-says c =
+    let so_far : Says c.loop-step.effect c.loop-step.precondition (values c.args.steps.now) =
+    rw (take_all c.loop-step.step-index c.args.steps.now (omega arith)) at c.loop-step.invariant in
+    rw (c.in_ok-known.ensures.effect, c.in_ok-known.ensures.precondition) (says_same c.loop-step.effect
+    c.loop-step.precondition c.in_ok-precondition.precondition (values c.args.steps.now) so_far
+    c.in_ok-precondition.ensures.met c.in_ok-precondition.ensures.possible c.in_ok-precondition.ensures.names
+    c.in_ok-precondition.ensures.few c.in_ok-precondition.ensures.refusals)
+
+pub returns-clause-settled : goal.returns-clause-settled
+returns-clause-settled c = rw c.in_ok-known.ensures.precondition c.in_ok-precondition.ensures.settled

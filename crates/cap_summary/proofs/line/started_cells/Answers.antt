@@ -1,0 +1,38 @@
+use Rattle.std.proofs.Common.{◌≡◌, ℕ, List, get_or, refl, sym, subst}
+use Rattle.std.proofs.lemmas.Result.{IfOk-weaker}
+use Rattle.cap_rights.specs.Rights.{all as all_rights}
+use Rattle.cap_machine.specs.declared.cell.OnExec.TheVariants.{Unsure}
+use Rattle.cap_machine.specs.declared.cell.Cell.TheVariants.{Held}
+use Rattle.cap_summary.specs.declared.value.Value.{Value}
+use Rattle.cap_summary.specs.declared.value.Value.TheVariants as value
+use Rattle.cap_summary.specs.Lines.{IsStarted}
+use Rattle.cap_summary.specs.Names.{IsListedWithin}
+use Rattle.cap_summary.proofs.LineCells.{started_more, started_all}
+use Rattle.cap_summary.proofs.LineListed.{each_put}
+use Rattle.cap_summary.proofs.line.started_cells.Goals as goal
+
+pub loop-fd-preserved : goal.loop-fd-preserved
+loop-fd-preserved c = record {
+  cells = started_more c.deref-fd-items.result.now c.loop-fd.fd-index c.loop-fd.listed c.set.new.self
+      c.loop-fd-test.true (λ k. rw c.all.ensures.everything at (c.in_ok-set.ensures.ok k)) c.loop-fd.invariant.cells;
+  names = λ names all.
+      let fd : ℕ = get_or c.deref-fd-items.result.now c.loop-fd.fd-index 0 in
+      each_put (IsListedWithin names) fd (value.Is (Held all_rights Unsure))
+      (record { key = all c.loop-fd.fd-index 0 c.loop-fd-test.true; source = refl }) c.loop-fd.listed
+      c.set.new.self (λ k. rw c.all.ensures.everything at (c.in_ok-set.ensures.ok k))
+      (c.loop-fd.invariant.names names all);
+}
+
+pub returns-clause-cells : goal.returns-clause-cells
+returns-clause-cells c =
+    let started = started_all c.deref-fd-items.result.now c.loop-fd.fd-index c.loop-fd.listed c.loop-fd-test.false
+    c.loop-fd.invariant.cells in
+    let all = rw (c.deref-fd-items.ensures.value, c.in-Ok.ensures) at started in
+    let P : List (ℕ × Value) → Type 0 = IsStarted _ in
+    IfOk-weaker c.of.result (λ listed. listed ≡ c.loop-fd.listed) P (λ listed is. subst P (sym is) all)
+    c.of.ensures
+
+pub returns-clause-names : goal.returns-clause-names
+returns-clause-names c = IfOk-weaker c.of.result _ _ (λ listed is names all.
+    rw is (c.loop-fd.invariant.names names (rw (c.deref-fd-items.ensures.value, c.in-Ok.ensures) all)))
+    c.of.ensures

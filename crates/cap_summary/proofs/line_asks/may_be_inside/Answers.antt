@@ -1,0 +1,10 @@
+use Rattle.std.specs.Prelude.{not}
+use Rattle.cap_machine.specs.Judge.{is_outside}
+use Rattle.cap_machine.specs.declared.cell.Mode.{Mode}
+use Rattle.cap_summary.proofs.LineAsking.{of_mode}
+use Rattle.cap_summary.proofs.line_asks.may_be_inside.Goals as goal
+
+pub returns-clause-holds : goal.returns-clause-holds
+returns-clause-holds c = λ s. of_mode (λ (m : Mode). not (is_outside m)) c.of_kinds.result
+    c.of_kinds.ensures.unknown c.of_kinds.ensures.closed
+    c.of_kinds.ensures.clear (s.mode c.args.me)

@@ -1,0 +1,10 @@
+use Rattle.std.proofs.Common.{◌≡◌, min, take}
+use Rattle.std.specs.List.{All}
+use Rattle.cap_summary.specs.RowSizes.{rows_size, CellsRise}
+use Rattle.cap_summary.proofs.reading.counted.Given as goal
+
+abbrev pub invariant-loop-entry : goal.invariant-loop-entry
+invariant-loop-entry l = record {
+  count : l.size ≡ min (rows_size (take l.entry-index l.rows)) 18446744073709551615;
+  cells : All CellsRise (take l.entry-index l.rows);
+}

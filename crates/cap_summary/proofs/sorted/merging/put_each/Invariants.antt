@@ -1,0 +1,11 @@
+use Rattle.std.proofs.Common.{ℕ, ◌+◌, ◌≤◌, length}
+use Rattle.cap_summary.proofs.SortedMerging.{IsMergedTo}
+use Rattle.cap_summary.proofs.sorted.merging.put_each.Given as goal
+
+abbrev pub invariant-loop-key : goal.invariant-loop-key
+invariant-loop-key g l =
+    ((bound : ℕ) × IsMergedTo (g.M.Combine.gives l.step) l.left l.lefts l.right l.rights l.merged.items bound)
+    × (length l.merged.items + length l.lefts + length l.rights ≤ length l.left + length l.right)
+
+abbrev pub decreases-loop-key : goal.decreases-loop-key
+decreases-loop-key g l = length l.lefts + length l.rights

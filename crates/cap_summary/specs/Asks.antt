@@ -1,0 +1,130 @@
+-- What is asked of the cells before a segment.
+use Rattle.std.specs.Prelude.{◌≡◌, ℕ, ◌+◌, ◌*◌, ◌^◌, ◌≤◌, ◌&&◌, ◌||◌, Bool, true, false, List, [], ◌∷◌, length}
+use Rattle.std.specs.List.{list_any, All}
+use Rattle.cap_machine.specs.declared.cell.Mode.TheVariants.{Inside, Outside, Unsure}
+use Rattle.cap_machine.specs.State.{State}
+use Rattle.cap_summary.specs.declared.key.Key.{Key}
+use Rattle.cap_summary.specs.declared.key.Key.TheVariants as key
+use Rattle.cap_summary.specs.declared.test.Flags.{Flags}
+use Rattle.cap_summary.specs.declared.test.Test.{Test}
+use Rattle.cap_summary.specs.declared.ask.Ask.{Ask}
+use Rattle.cap_summary.specs.declared.ask.Pulled.{Pulled}
+use Rattle.cap_summary.specs.declared.ask.Pulled.TheVariants.{Always, Never, Where}
+use Rattle.cap_summary.specs.Keys.{Cells, mode_cell, cells_of}
+use Rattle.cap_summary.specs.Tests.{is_full, passes, can_pass}
+
+-- an ask holds of the cells before the segment
+abbrev pub holds : Cells → Ask → Bool
+holds cells ask = passes ask.test (cells ask.pid ask.key)
+
+-- one of them does
+abbrev pub any_holds : Cells → List Ask → Bool
+any_holds cells asks = list_any (holds cells) asks
+
+-- each cell that can stand at a key passes: for a descriptor that is each kind, for a mode one of three cells
+abbrev pub certain_at : Key → Test → Bool
+certain_at key.Mode test =
+    passes test (mode_cell Unsure) && (passes test (mode_cell Inside) && passes test (mode_cell Outside))
+certain_at (key.Fd f) test = is_full test.kinds
+
+-- some cell that can stand at a key passes
+abbrev pub possible_at : Key → Test → Bool
+possible_at key.Mode test =
+    passes test (mode_cell Unsure) || (passes test (mode_cell Inside) || passes test (mode_cell Outside))
+possible_at (key.Fd f) test = can_pass test
+
+-- in some state an ask holds, or doesn't
+abbrev pub CanBe : Bool → Ask → Type 0
+CanBe answer ask = (s : State) × (holds (cells_of s) ask ≡ answer)
+
+-- each of these holds in some state
+abbrev pub ArePossible : List Ask → Type 0
+ArePossible asks = All (CanBe true) asks
+
+-- whether an ask holds depends on the state
+pub record IsOpen (ask : Ask) : Type 0 where
+  pub holds : CanBe true ask
+  pub fails : CanBe false ask
+
+-- an ask that was pulled back holds
+abbrev pub pulled_holds : Cells → Pulled → Bool
+pulled_holds cells Always = true
+pulled_holds cells Never = false
+pulled_holds cells (Where ask) = holds cells ask
+
+abbrev pub is_always : Pulled → Bool
+is_always Always = true
+is_always Never = false
+is_always (Where ask) = false
+
+abbrev pub PulledIsOpen : Pulled → Type 0
+PulledIsOpen Always = Unit {0}
+PulledIsOpen Never = Unit {0}
+PulledIsOpen (Where ask) = IsOpen ask
+
+-- in some state it holds, or doesn't, if it asks
+abbrev pub PulledCan : Bool → Pulled → Type 0
+PulledCan answer Always = Unit {0}
+PulledCan answer Never = Unit {0}
+PulledCan answer (Where ask) = CanBe answer ask
+
+-- the cell that it asks about, if it asks, is among these
+abbrev pub pulled_within : (ℕ → Key → Bool) → Pulled → Bool
+pulled_within names Always = true
+pulled_within names Never = true
+pulled_within names (Where ask) = names ask.pid ask.key
+
+-- ---- order: by process, then by key, then by the flags at which rights are asked about
+abbrev pub key_number : Key → ℕ
+key_number key.Mode = 0
+key_number (key.Fd f) = f + 1
+
+abbrev pub digit : Bool → ℕ
+digit true = 1
+digit false = 0
+
+abbrev pub form_number : Flags → ℕ
+form_number flags = 4 * digit flags.set + (2 * digit flags.clear + digit flags.unsure)
+
+abbrev pub place_in_process : Ask → ℕ
+place_in_process ask = 8 * key_number ask.key + form_number ask.test.lacking
+
+abbrev pub place : Ask → ℕ
+place ask = ask.pid * 2 ^ 36 + place_in_process ask
+
+-- two asks stand at one place
+pub record IsAtPlace (ask other : Ask) : Type 0 where
+  pub pid : ask.pid ≡ other.pid
+  pub key : ask.key ≡ other.key
+  pub lacking : ask.test.lacking ≡ other.test.lacking
+
+-- the places strictly rise, and none is below the bound
+abbrev pub RisesFrom : ℕ → List Ask → Type 0
+RisesFrom bound [] = Unit {0}
+RisesFrom bound (ask ∷ asks) = (bound ≤ place ask) × RisesFrom (place ask + 1) asks
+
+-- the places strictly rise, so no two asks stand at one place
+abbrev pub Rises : List Ask → Type 0
+Rises asks = RisesFrom 0 asks
+
+-- the cell that an ask is about is among these
+abbrev pub AskWithin : (ℕ → Key → Bool) → Ask → Type 0
+AskWithin names ask = names ask.pid ask.key ≡ true
+
+abbrev pub AreWithin : (ℕ → Key → Bool) → List Ask → Type 0
+AreWithin names asks = All (AskWithin names) asks
+
+-- one of these holds, in every state
+abbrev pub AlwaysHold : List Ask → Type 0
+AlwaysHold asks = (s : State) → any_holds (cells_of s) asks ≡ true
+
+abbrev pub OneAlwaysHolds : List Ask → List Ask → Type 0
+OneAlwaysHolds lefts rights = (s : State) → (any_holds (cells_of s) lefts || any_holds (cells_of s) rights) ≡ true
+
+-- a list of asks that holds where one of two others does
+pub record IsUnionOf (lefts rights asks : List Ask) : Type 0 where
+  pub rises : Rises asks
+  pub holds : (cells : Cells) → any_holds cells asks ≡ (any_holds cells lefts || any_holds cells rights)
+  pub few : length asks ≤ length lefts + length rights
+  pub names : (names : ℕ → Key → Bool) → AreWithin names lefts → AreWithin names rights → AreWithin names asks
+  pub can : (answer : Bool) → All (CanBe answer) lefts → All (CanBe answer) rights → All (CanBe answer) asks

@@ -1,0 +1,81 @@
+-- What becomes of each cell over a segment, whatever the cells before it: the transfer function of the segment.
+use Rattle.std.specs.Prelude.{◌≡◌, ℕ, Bool, false, Option, Some, None, nat_le, if◌then◌else◌, option_map, []}
+use Rattle.std.specs.Prelude.{option_and_then}
+use Rattle.std.specs.Option.{option_map_or, option_or}
+use Rattle.cap_machine.specs.declared.cell.Cell.{Cell}
+use Rattle.cap_machine.specs.declared.cell.Cell.TheVariants.{Unknown, Closed}
+use Rattle.cap_machine.specs.Op.{applied, exec}
+use Rattle.cap_summary.specs.declared.key.Key.{Key}
+use Rattle.cap_summary.specs.declared.key.Key.TheVariants as key
+use Rattle.cap_summary.specs.declared.value.Value.{Value}
+use Rattle.cap_summary.specs.declared.base.Passing.{Passing}
+use Rattle.cap_summary.specs.declared.base.Passing.TheVariants as passing
+use Rattle.cap_summary.specs.declared.base.Others.{Others}
+use Rattle.cap_summary.specs.declared.base.Others.TheVariants as others
+use Rattle.cap_summary.specs.declared.base.Base.{Base}
+use Rattle.cap_summary.specs.declared.effect.Row.{Row}
+use Rattle.cap_summary.specs.declared.effect.Effect.{Effect}
+use Rattle.cap_summary.specs.Keys.{Cells}
+use Rattle.cap_summary.specs.Values.{read}
+use Rattle.cap_summary.specs.Sorted.{found}
+
+-- how a whole table of cells is handed on: as it is (fork(2)), or by an exec (execve(2))
+abbrev pub passed : Passing → Cell → Cell
+passed passing.Same c = c
+passed passing.Exec c = applied exec c
+
+-- a descriptor at or above the one from which cells are closed, where there is one
+abbrev pub is_from : Option ℕ → ℕ → Bool
+is_from None f = false
+is_from (Some n) f = nat_le n f
+
+-- the cell of a descriptor of process p that isn't listed
+abbrev pub others_cell : Cells → ℕ → Others → ℕ → Cell
+others_cell cells p others.Own f = cells p (key.Fd f)
+others_cell cells p others.Unknown f = Unknown
+others_cell cells p others.Closed f = Closed
+others_cell cells p (others.Of q passing) f = passed passing (cells q (key.Fd f))
+
+abbrev pub base_cell : Cells → ℕ → Base → ℕ → Cell
+base_cell cells p base f = if is_from base.closed_from f then Closed else others_cell cells p base.others f
+
+-- the cell of a key of process p, which has this row
+abbrev pub row_cell : Cells → ℕ → Row → Key → Cell
+row_cell cells p row key.Mode = option_map_or (read cells) row.mode (cells p key.Mode)
+row_cell cells p row (key.Fd f) = option_map_or (read cells) (found row.cells f) (base_cell cells p row.base f)
+
+-- the row of a process that stays as it is
+abbrev pub own_row : Row
+own_row = record { base = record { others = others.Own; closed_from = None }; mode = None; cells = [] }
+
+-- a row that may be there: without one a process keeps its cells
+abbrev pub cell_in : Cells → Option Row → ℕ → Key → Cell
+cell_in cells row p k = option_map_or (λ row. row_cell cells p row k) row (cells p k)
+
+-- the cells after the segment
+abbrev pub changed : Effect → Cells → Cells
+changed effect cells p k = cell_in cells (found effect.rows p) p k
+
+-- a cell where it is handed on, below the descriptor from which cells are closed
+abbrev pub handed_on : Passing → Option ℕ → ℕ → Cell → Option Cell
+handed_on passing closed_from f c = if is_from closed_from f then None else Some (passed passing c)
+
+-- what is listed for a descriptor after two segments: what the second one lists, by the cells before the first, or else
+-- what the first one lists, handed on
+abbrev pub IsHanded : Effect → Passing → Option ℕ → ℕ → Option Value → Option Value → Option Value → Type 0
+IsHanded first passing closed_from f listed handed new = (cells : Cells) → option_map (read cells) new
+    ≡ option_or (option_map (read (changed first cells)) listed)
+    (option_and_then (handed_on passing closed_from f) (option_map (read cells) handed))
+
+-- a row after two segments, of process p, which the second one gives this row
+abbrev pub IsRowAfter : Effect → ℕ → Row → Row → Type 0
+IsRowAfter first p row new = (cells : Cells) (k : Key) → row_cell cells p new k ≡ row_cell (changed first cells) p row k
+
+abbrev pub IsComposedAt : Effect → ℕ → Option Row → Option Row → Type 0
+IsComposedAt first p later new = (cells : Cells) (k : Key)
+    → cell_in cells new p k ≡ cell_in (changed first cells) later p k
+
+-- the cells after two segments
+abbrev pub IsComposed : Effect → Effect → Effect → Type 0
+IsComposed first later both = (cells : Cells) (p : ℕ) (k : Key)
+    → changed both cells p k ≡ changed later (changed first cells) p k

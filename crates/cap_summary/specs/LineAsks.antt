@@ -1,0 +1,53 @@
+-- What one line asks of the cells before it.
+use Rattle.std.specs.Prelude.{◌≡◌, ℕ, ◌||◌, not, Bool, true, false, List, [], ◌∷◌, map, Option, Some, None}
+use Rattle.std.specs.Option.{option_map_or}
+use Rattle.cap_machine.specs.State.{State}
+use Rattle.cap_machine.specs.declared.cell.Cell.{Cell}
+use Rattle.cap_machine.specs.declared.rule.Check.{Check}
+use Rattle.cap_machine.specs.declared.rule.Checks.{Checks}
+use Rattle.cap_machine.specs.declared.rule.Demand.{Demand}
+use Rattle.cap_machine.specs.Judge.{listed}
+use Rattle.cap_machine.specs.Check.{said_of}
+use Rattle.cap_summary.specs.declared.ask.Ask.{Ask}
+use Rattle.cap_summary.specs.declared.line_asks.UpToThree.{UpToThree}
+use Rattle.cap_summary.specs.declared.line_asks.LineAsks.{LineAsks}
+use Rattle.cap_summary.specs.declared.line_asks.LineAsks.TheVariants.{Always, Where, Unless}
+use Rattle.cap_summary.specs.Keys.{Cells, cells_of}
+use Rattle.cap_summary.specs.Asks.{holds}
+
+-- an ask that may be left out holds
+abbrev pub part_holds : Cells → Option Ask → Bool
+part_holds cells ask = option_map_or (holds cells) ask false
+
+-- one of these holds
+abbrev pub one_holds : Cells → UpToThree → Bool
+one_holds cells asks = part_holds cells asks.mode || (part_holds cells asks.first || part_holds cells asks.second)
+
+-- what is asked holds
+abbrev pub asked_holds : Cells → LineAsks → Bool
+asked_holds cells Always = true
+asked_holds cells (Where asks) = one_holds cells asks
+asked_holds cells (Unless asks) = not (one_holds cells asks)
+
+-- there is something
+abbrev pub has_any : {X : Type 0} → List X → Bool
+has_any [] = false
+has_any (x ∷ xs) = true
+
+-- what a refusal asks of its checks, if it is judged: a right may be lacked
+abbrev pub excuses_hold : Cells → Option (Ask × Option Ask) → Bool
+excuses_hold cells None = false
+excuses_hold cells (Some (first, second)) = not (holds cells first || part_holds cells second)
+
+-- the cells of the checks of a process's line
+abbrev pub checked_cells : ℕ → Checks → State → List Cell
+checked_cells me checks s = map (λ (check : Check). s.cell me check.fd) (listed checks)
+
+-- how many refusals there are
+abbrev pub refusals_in : LineAsks → ℕ
+refusals_in (Unless asks) = 1
+refusals_in asks = 0
+
+-- it holds in a state exactly where something is said of the line there
+abbrev pub IsAskedBy : Demand → ℕ → LineAsks → Type 0
+IsAskedBy demand me asks = (s : State) → asked_holds (cells_of s) asks ≡ has_any (said_of demand me s)

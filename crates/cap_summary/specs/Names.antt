@@ -1,0 +1,168 @@
+-- Which processes and which descriptors an effect and a precondition name.
+use Rattle.std.specs.Prelude.{◌≡◌, ℕ, ◌==◌, ◌&&◌, ◌||◌, Bool, true, false, List, Option, IfSome}
+use Rattle.std.specs.Option.{option_map_or}
+use Rattle.std.specs.List.{list_any, All}
+use Rattle.cap_trace.specs.Item.{Item}
+use Rattle.cap_trace.specs.Item as items
+use Rattle.cap_trace.specs.declared.line.Answer.{Answer}
+use Rattle.cap_trace.specs.declared.line.Answer.TheVariants as answers
+use Rattle.cap_trace.specs.declared.calls.Kind.{Kind}
+use Rattle.cap_trace.specs.declared.calls.Kind.TheVariants.{Fd, Same, FdPair, ChildAndFd}
+use Rattle.cap_trace.specs.Entry.{Entry, kind_of}
+use Rattle.cap_machine.specs.declared.step.Step.{Step}
+use Rattle.cap_machine.specs.declared.rule.Check.{Check}
+use Rattle.cap_machine.specs.declared.rule.Checks.{Checks}
+use Rattle.cap_machine.specs.declared.rule.Demand.{Demand}
+use Rattle.cap_machine.specs.declared.rule.Effect.{Effect as LineEffect}
+use Rattle.cap_machine.specs.declared.rule.Effect.TheVariants as line
+use Rattle.cap_machine.specs.Judge.{listed}
+use Rattle.cap_machine.specs.Named.{args_name, names_pid, fds_of}
+use Rattle.cap_summary.specs.declared.key.Key.{Key}
+use Rattle.cap_summary.specs.declared.key.Key.TheVariants as key
+use Rattle.cap_summary.specs.declared.value.Value.{Value}
+use Rattle.cap_summary.specs.declared.base.Others.{Others}
+use Rattle.cap_summary.specs.declared.base.Others.TheVariants as others
+use Rattle.cap_summary.specs.declared.effect.Row.{Row}
+use Rattle.cap_summary.specs.declared.effect.Effect.{Effect}
+use Rattle.cap_summary.specs.declared.ask.Ask.{Ask}
+use Rattle.cap_summary.specs.declared.line_asks.UpToThree.{UpToThree}
+use Rattle.cap_summary.specs.declared.line_asks.LineAsks.{LineAsks}
+use Rattle.cap_summary.specs.declared.line_asks.LineAsks.TheVariants.{Always, Where, Unless}
+use Rattle.cap_summary.specs.declared.precondition.Refusal.{Refusal}
+use Rattle.cap_summary.specs.declared.precondition.Precondition.{Precondition}
+use Rattle.cap_summary.specs.Values.{reads_within}
+use Rattle.cap_summary.specs.Asks.{AreWithin}
+use Rattle.cap_summary.specs.Sorted.{found}
+
+-- ---- what the lines of a trace name
+
+-- a descriptor of an answer, by the kind of answer that the call has: the count that read(2) answers is none
+abbrev pub answers_fd : ℕ → Kind → Answer → Bool
+answers_fd f Fd (answers.Made n) = f == n
+answers_fd f (Same g) (answers.Made n) = f == n
+answers_fd f FdPair (answers.Pair n m) = f == n || f == m
+answers_fd f ChildAndFd (answers.Pair n m) = f == m
+answers_fd f kind answer = false
+
+abbrev pub item_answers_fd : ℕ → Item → Bool
+item_answers_fd f (items.Call call answer) = answers_fd f (kind_of call) answer
+item_answers_fd f _ = false
+
+-- a descriptor stands in an argument of the line, or in its answer
+abbrev pub line_names_fd : ℕ → Entry → Bool
+line_names_fd f line = args_name f line || item_answers_fd f line.item
+
+-- some processes and some descriptors
+pub record Names : Type 0 where
+  pub pids : ℕ → Bool
+  pub fds : ℕ → Bool
+
+-- those that the lines of steps name: each line's process and the child that it made, and the descriptors of its
+-- arguments and its answer
+abbrev pub names_in : List Step → Names
+names_in t = record {
+  pids = λ p. list_any (λ (step : Step). names_pid p step.line) t;
+  fds = λ f. list_any (λ (step : Step). line_names_fd f step.line) t;
+}
+
+-- all of some names are among others
+pub record AreAmong (some names : Names) : Type 0 where
+  pub pids : (p : ℕ) → some.pids p ≡ true → names.pids p ≡ true
+  pub fds : (f : ℕ) → some.fds f ≡ true → names.fds f ≡ true
+
+-- one process, with all its descriptors
+abbrev pub only : ℕ → Names
+only p = record { pids = λ q. q == p; fds = λ f. true }
+
+-- each process has a mode, which needs no naming
+abbrev pub has_key : Names → Key → Bool
+has_key names key.Mode = true
+has_key names (key.Fd f) = names.fds f
+
+abbrev pub has_cell : Names → ℕ → Key → Bool
+has_cell names p k = names.pids p && has_key names k
+
+-- ---- effects
+
+-- a value that is listed for a descriptor
+pub record IsListedWithin (names : Names) (f : ℕ) (v : Value) : Type 0 where
+  pub key : names.fds f ≡ true
+  pub source : reads_within (has_cell names) v ≡ true
+
+abbrev pub ListWithin : Names → List (ℕ × Value) → Type 0
+ListWithin names cells = (f : ℕ) → IfSome (found cells f) (IsListedWithin names f)
+
+-- the process whose cells are handed on
+abbrev pub others_within : Names → Others → Bool
+others_within names (others.Of q passing) = names.pids q
+others_within names _ = true
+
+-- the cell that a mode follows, if a line turns it
+abbrev pub mode_within : Names → Option Value → Bool
+mode_within names mode = option_map_or (reads_within (has_cell names)) mode true
+
+-- all that is said of a process
+pub record RowWithin (names : Names) (row : Row) : Type 0 where
+  pub cells : ListWithin names row.cells
+  pub others : others_within names row.base.others ≡ true
+  pub mode : mode_within names row.mode ≡ true
+
+-- a row of a process
+pub record IsRowWithin (names : Names) (p : ℕ) (r : Row) : Type 0 where
+  pub pid : names.pids p ≡ true
+  pub row : RowWithin names r
+
+abbrev pub RowsWithin : Names → List (ℕ × Row) → Type 0
+RowsWithin names rows = (p : ℕ) → IfSome (found rows p) (IsRowWithin names p)
+
+abbrev pub EffectWithin : Names → Effect → Type 0
+EffectWithin names effect = RowsWithin names effect.rows
+
+-- the child that a line makes
+abbrev pub ChildWithin : Names → LineEffect → Type 0
+ChildWithin names (line.Fork child) = names.pids child ≡ true
+ChildWithin names (line.ForkAs child f) = names.pids child ≡ true
+ChildWithin names effect = Unit {0}
+
+-- the process of a line, its child, and the descriptors that it has one by one
+pub record LineWithin (names : Names) (me : ℕ) (effect : LineEffect) : Type 0 where
+  pub own : names.pids me ≡ true
+  pub child : ChildWithin names effect
+  pub fds : All (λ f. names.fds f ≡ true) (fds_of effect)
+
+-- ---- preconditions
+
+-- an ask that may be left out
+abbrev pub part_within : Names → Option Ask → Bool
+part_within names part = option_map_or (λ (ask : Ask). has_cell names ask.pid ask.key) part true
+
+pub record PartsWithin (names : Names) (asks : UpToThree) : Type 0 where
+  pub mode : part_within names asks.mode ≡ true
+  pub first : part_within names asks.first ≡ true
+  pub second : part_within names asks.second ≡ true
+
+abbrev pub LineAsksWithin : Names → LineAsks → Type 0
+LineAsksWithin names Always = Unit {0}
+LineAsksWithin names (Where asks) = PartsWithin names asks
+LineAsksWithin names (Unless asks) = PartsWithin names asks
+
+abbrev pub RefusalsWithin : Names → List Refusal → Type 0
+RefusalsWithin names refusals = All (λ (refusal : Refusal). PartsWithin names refusal.unless) refusals
+
+-- what a refusal asks, if it is judged
+abbrev pub ExcusesWithin : Names → Option (Ask × Option Ask) → Type 0
+ExcusesWithin names asks = IfSome asks (λ (two : Ask × Option Ask). (has_cell names two.0.pid two.0.key ≡ true)
+    × (part_within names two.1 ≡ true))
+
+pub record PreWithin (names : Names) (pre : Precondition) : Type 0 where
+  pub asks : AreWithin (has_cell names) pre.asks.items
+  pub refusals : RefusalsWithin names pre.refusals.items
+
+-- the descriptors of the checks of a line
+abbrev pub ChecksWithin : Names → Checks → Type 0
+ChecksWithin names checks = All (λ (check : Check). names.fds check.fd ≡ true) (listed checks)
+
+-- the process of a line, and those descriptors
+pub record DemandWithin (names : Names) (me : ℕ) (demand : Demand) : Type 0 where
+  pub own : names.pids me ≡ true
+  pub checks : ChecksWithin names demand.checks

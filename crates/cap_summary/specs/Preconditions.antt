@@ -1,0 +1,106 @@
+-- Under which cells before a segment something is found in it.
+use Rattle.std.specs.Prelude.{◌≡◌, ◌||◌, ◌+◌, ◌≤◌, not, Bool, true, false, List, [], length, Option, Some, None}
+use Rattle.std.specs.Prelude.{IfSome, is_some}
+use Rattle.std.specs.List.{list_any, All}
+use Rattle.cap_machine.specs.State.{State}
+use Rattle.cap_summary.specs.declared.ask.Ask.{Ask}
+use Rattle.cap_summary.specs.declared.line_asks.UpToThree.{UpToThree}
+use Rattle.cap_summary.specs.declared.precondition.Refusal.{Refusal}
+use Rattle.cap_summary.specs.declared.precondition.Precondition.{Precondition}
+use Rattle.cap_summary.specs.Keys.{Cells, cells_of}
+use Rattle.cap_summary.specs.declared.effect.Effect.{Effect}
+use Rattle.cap_summary.specs.Effects.{changed}
+use Rattle.cap_summary.specs.Names.{Names, has_cell, EffectWithin, PreWithin}
+use Rattle.cap_summary.specs.Asks.{any_holds, certain_at, CanBe, ArePossible, IsOpen, Rises, AreWithin}
+use Rattle.cap_summary.specs.LineAsks.{one_holds}
+use Rattle.cap_summary.specs.Sizes.{asks_size}
+
+-- a refusal is wrongful: none of its asks holds
+abbrev pub is_wrongful : Cells → Refusal → Bool
+is_wrongful cells refusal = not (one_holds cells refusal.unless)
+
+-- something is found
+abbrev pub is_met : Cells → Precondition → Bool
+is_met cells pre =
+    pre.certain || (any_holds cells pre.asks.items || list_any (is_wrongful cells) pre.refusals.items)
+
+-- with one more reason, by the state before the segment
+abbrev pub IsMetOr : Precondition → Precondition → (Cells → Bool) → Type 0
+IsMetOr old new more = (s : State) → is_met (cells_of s) new ≡ (is_met (cells_of s) old || more (cells_of s))
+
+-- one of up to three asks holds, where they were pulled back; without them one holds in any case
+abbrev pub three_hold : Cells → Option UpToThree → Bool
+three_hold cells None = true
+three_hold cells (Some asks) = one_holds cells asks
+
+-- there is one of up to three asks
+abbrev pub has_part : UpToThree → Bool
+has_part asks = is_some asks.mode || (is_some asks.first || is_some asks.second)
+
+-- whether each of up to three asks holds depends on the state
+pub record PartsAreOpen (asks : UpToThree) : Type 0 where
+  pub mode : IfSome asks.mode IsOpen
+  pub first : IfSome asks.first IsOpen
+  pub second : IfSome asks.second IsOpen
+
+-- the same, where they were pulled back
+abbrev pub ThreeAreOpen : Option UpToThree → Type 0
+ThreeAreOpen asks = IfSome asks PartsAreOpen
+
+-- whether each ask of a refusal holds depends on the state, and in some state one does
+pub record RefusalIsOpen (refusal : Refusal) : Type 0 where
+  pub parts : PartsAreOpen refusal.unless
+  pub right : (s : State) × (is_wrongful (cells_of s) refusal ≡ false)
+
+-- each ask holds in some state, and each refusal is right in some
+pub record IsPossible (pre : Precondition) : Type 0 where
+  pub asks : ArePossible pre.asks.items
+  pub refusals : All RefusalIsOpen pre.refusals.items
+
+-- one of the asks holds in every state
+abbrev pub any_certain : List Ask → Bool
+any_certain asks = list_any (λ (ask : Ask). certain_at ask.key ask.test) asks
+
+-- the asks stand in order, none of them holds in every state, and where something is certain nothing else is asked
+pub record IsSettled (pre : Precondition) : Type 0 where
+  pub rises : Rises pre.asks.items
+  pub fails : All (CanBe false) pre.asks.items
+  pub alone : pre.certain ≡ true → (pre.asks.items ≡ []) × (pre.refusals.items ≡ [])
+
+-- ---- a first segment, and a later one whose asks are pulled back through the effect of the first
+
+-- one of these two lists holds before the first segment where the asks of the later one do after it
+pub record IsPulledBack (first : Effect) (later kept moved : List Ask) : Type 0 where
+  pub holds : (s : State) → (any_holds (cells_of s) kept || any_holds (cells_of s) moved)
+      ≡ any_holds (changed first (cells_of s)) later
+  pub can : (answer : Bool) → All (CanBe answer) later → All (CanBe answer) kept × All (CanBe answer) moved
+  pub names : (names : Names) → EffectWithin names first → AreWithin (has_cell names) later
+      → AreWithin (has_cell names) kept × AreWithin (has_cell names) moved
+  pub few : length kept + length moved ≤ length later
+
+-- asks in order that hold where those of the first segment do, or those of the later one after it
+pub record AreAskedByBoth (first : Effect) (own later both : List Ask) : Type 0 where
+  pub rises : Rises both
+  pub holds : (s : State) → any_holds (cells_of s) both
+      ≡ (any_holds (cells_of s) own || any_holds (changed first (cells_of s)) later)
+  pub can : (answer : Bool) → All (CanBe answer) own → All (CanBe answer) later → All (CanBe answer) both
+  pub names : (names : Names) → EffectWithin names first → AreWithin (has_cell names) own
+      → AreWithin (has_cell names) later → AreWithin (has_cell names) both
+  pub few : length both ≤ length own + length later
+
+-- something is found where it is in the first segment, or in the later one
+pub record IsAskedByBoth (first : Effect) (own later both : Precondition) : Type 0 where
+  pub met : (s : State) → is_met (cells_of s) both
+      ≡ (is_met (cells_of s) own || is_met (changed first (cells_of s)) later)
+  pub possible : IsPossible own → IsPossible later → IsPossible both
+  pub names : (names : Names) → EffectWithin names first → PreWithin names own → PreWithin names later
+      → PreWithin names both
+  pub settled : IsSettled both
+  pub few : asks_size both ≤ asks_size own + asks_size later
+  pub refusals : length both.refusals.items ≤ length own.refusals.items + length later.refusals.items
+
+-- the same asks and refusals
+pub record IsSamePrecondition (a b : Precondition) : Type 0 where
+  pub certain : a.certain ≡ b.certain
+  pub asks : a.asks.items ≡ b.asks.items
+  pub refusals : a.refusals.items ≡ b.refusals.items

@@ -1,0 +1,31 @@
+-- What a cell is after a segment, read under the cells before it.
+use Rattle.std.specs.Prelude.{ℕ, Bool, true, Option, Some, None}
+use Rattle.std.specs.Option.{option_map_or}
+use Rattle.cap_machine.specs.declared.cell.Cell.{Cell}
+use Rattle.cap_machine.specs.Op.{applied}
+use Rattle.cap_summary.specs.declared.key.Key.{Key}
+use Rattle.cap_summary.specs.declared.value.Value.{Value}
+use Rattle.cap_summary.specs.declared.value.Value.TheVariants as value
+use Rattle.cap_summary.specs.Keys.{Cells}
+
+-- the cell that a value stands for: a constant, a cell before the segment, or what an op makes of one
+abbrev pub read : Cells → Value → Cell
+read cells (value.Is c) = c
+read cells (value.Same p k) = cells p k
+read cells (value.Of x) = applied x.value.op (cells x.value.pid x.value.key)
+
+-- what a value makes of the cell that it reads
+abbrev pub made_of : Value → Cell → Cell
+made_of (value.Is c) before = c
+made_of (value.Same p k) before = before
+made_of (value.Of x) before = applied x.value.op before
+
+-- the cell that a value reads, if it reads one
+abbrev pub source : Value → Option (ℕ × Key)
+source (value.Is c) = None
+source (value.Same p k) = Some (p, k)
+source (value.Of x) = Some (x.value.pid, x.value.key)
+
+-- the cell that a value reads is among these
+abbrev pub reads_within : (ℕ → Key → Bool) → Value → Bool
+reads_within names v = option_map_or (λ (of : ℕ × Key). names of.0 of.1) (source v) true

@@ -1,0 +1,151 @@
+//! The cells of a process that aren't listed.
+
+ghost use Rattle.std.specs.Prelude.{◌≡◌, ℕ, ◌||◌, true, false, None, IfOk};
+ghost use Rattle.cap_summary.specs.Keys.{Cells};
+ghost use Rattle.cap_summary.specs.Values.{read, source, reads_within};
+ghost use Rattle.cap_summary.specs.Names.{Names, has_cell, others_within};
+ghost use Rattle.cap_summary.specs.Effects.{passed, is_from, others_cell, base_cell};
+ghost use Rattle.cap_summary.specs.Leaving.{is_own};
+
+use crate::key::Key;
+use crate::value::Value;
+use cap_machine::{Cell, Op};
+use cap_trace::{Fd, Pid};
+use cap_tree::NoMemory;
+use std::alloc::Global;
+
+/// How a whole table of cells is handed on.
+#[derive(Clone, Copy, Debug, PartialEq, Eq)]
+pub enum Passing {
+    /// As it is (fork(2)).
+    Same,
+    /// By an exec of profile 2 (execve(2)).
+    Exec,
+}
+
+/// The cells of a process that aren't listed, below those that are closed.
+#[derive(Clone, Copy, Debug, PartialEq, Eq)]
+pub enum Others {
+    /// Each is as it was.
+    Own,
+    /// Nothing is known of any.
+    Unknown,
+    /// Each is closed.
+    Closed,
+    /// Each is that of the same descriptor of this process before the segment, handed on so. It may be the same process,
+    /// whose cells came back by forks.
+    Of(Pid, Passing),
+}
+
+/// The cells of a process that aren't listed.
+#[derive(Clone, Copy, Debug, PartialEq, Eq)]
+pub struct Base {
+    /// Those below `closed_from`.
+    pub others: Others,
+    /// From here up each is closed (closefrom(2)).
+    pub closed_from: Option<Fd>,
+}
+
+impl Passing {
+    /// A value where it is handed on.
+    pub(crate) fn pass(self, alloc: Global, value: &Value) -> Result<Value, NoMemory>
+        ensures reads { IfOk result (λ v. (cells : Cells) → read cells v ≡ passed self (read cells value.now)) }
+        ensures source { IfOk result (λ v. source v ≡ source value.now) }
+    {
+        match self {
+            Passing::Same => value.share(),
+            Passing::Exec => value.then(alloc, &Op::exec()),
+        }
+    }
+
+    /// One after another.
+    fn then(self, later: Passing) -> Passing
+        ensures { (c : Cell) → passed result c ≡ passed later (passed self c) }
+    {
+        match self {
+            Passing::Same => later,
+            Passing::Exec => Passing::Exec,
+        }
+    }
+}
+
+impl Others {
+    /// Those of a process, as another one has them.
+    pub(crate) fn of(&self, pid: Pid) -> Others
+        ensures cells { (cells : Cells) (p f : ℕ) → others_cell cells p result f ≡ others_cell cells pid self.now f }
+        ensures others { is_own result ≡ false }
+        ensures names { (names : Names) → names.pids pid ≡ true → others_within names self.now ≡ true
+            → others_within names result ≡ true }
+    {
+        match self {
+            Others::Own => Others::Of(pid, Passing::Same),
+            others => *others,
+        }
+    }
+
+    /// Those of a process where they are handed on to one.
+    pub(crate) fn pass(&self, pid: Pid, passing: Passing) -> Others
+        ensures cells { (cells : Cells) (p f : ℕ)
+            → others_cell cells p result f ≡ passed passing (others_cell cells pid self.now f) }
+        ensures others { is_own result ≡ false }
+        ensures names { (names : Names) → names.pids pid ≡ true → others_within names self.now ≡ true
+            → others_within names result ≡ true }
+    {
+        match self.of(pid) {
+            Others::Of(source, first) => Others::Of(source, first.then(passing)),
+            others => others,
+        }
+    }
+}
+
+/// The lower of two descriptors from which cells are closed.
+pub(crate) fn lower_of(a: Option<Fd>, b: Option<Fd>) -> Option<Fd>
+    ensures { (f : ℕ) → is_from result f ≡ (is_from a f || is_from b f) }
+{
+    match (a, b) {
+        (None, b) => b,
+        (a, None) => a,
+        (Some(n), Some(m)) => Some(n.min(m)),
+    }
+}
+
+impl Base {
+    /// These cells, all of them listed nowhere and none closed.
+    pub(crate) fn of(others: Others) -> Base
+        ensures cells { (cells : Cells) (p f : ℕ) → base_cell cells p result f ≡ others_cell cells p others f }
+        ensures others { result.others ≡ others }
+        ensures open { result.closed_from ≡ None }
+    {
+        Base {
+            others,
+            closed_from: None,
+        }
+    }
+
+    /// Whether a descriptor is at or above the one from which cells are closed.
+    pub(crate) fn closes(&self, fd: Fd) -> bool
+        ensures { result ≡ is_from self.now.closed_from fd }
+    {
+        match &self.closed_from {
+            None => false,
+            Some(n) => *n <= fd,
+        }
+    }
+
+    /// The cell of a descriptor of a process that isn't listed.
+    pub(crate) fn value(&self, alloc: Global, pid: Pid, fd: Fd) -> Result<Value, NoMemory>
+        ensures reads { IfOk result (λ v. (cells : Cells) → read cells v ≡ base_cell cells pid self.now fd) }
+        ensures names { IfOk result (λ v. (names : Names) → names.pids pid ≡ true → others_within names self.now.others ≡ true
+            → names.fds fd ≡ true → reads_within (has_cell names) v ≡ true) }
+    {
+        if self.closes(fd) {
+            return Ok(Value::Is(Cell::Closed));
+        }
+        match &self.others {
+            Others::Own => Ok(Value::Same(pid, Key::Fd(fd))),
+            Others::Unknown => Ok(Value::Is(Cell::Unknown)),
+            Others::Closed => Ok(Value::Is(Cell::Closed)),
+            Others::Of(pid, passing) => passing.pass(alloc, &Value::Same(*pid, Key::Fd(fd))),
+        }
+    }
+}

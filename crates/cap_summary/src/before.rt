@@ -1,0 +1,134 @@
+//! The state behind a start and effects, and what holds there.
+
+ghost use Rattle.std.specs.Prelude.{◌≡◌};
+ghost use Rattle.std.specs.List.{list_any};
+ghost use Rattle.cap_machine.specs.Check.{said_of};
+ghost use Rattle.cap_summary.specs.Keys.{cells_of, mode_cell};
+ghost use Rattle.cap_summary.specs.Before.{state_before};
+ghost use Rattle.cap_summary.specs.Asks.{holds, any_holds};
+ghost use Rattle.cap_summary.specs.LineAsks.{part_holds, one_holds};
+ghost use Rattle.cap_summary.specs.Preconditions.{is_wrongful, is_met};
+
+use crate::ask::Ask;
+use crate::effect::Effect;
+use crate::key::{Key, cell_of_mode, mode_of_cell};
+use crate::line_asks::UpToThree;
+use crate::precondition::{Precondition, Refusal};
+use crate::seen::Seen;
+use cap_machine::{Cell, Checks, Demand, Mode, Op, Start, Verdict};
+use cap_trace::{Fd, Pid};
+
+/// A start, or what effects make of one.
+#[derive(Clone, Copy)]
+pub enum Before<'a> {
+    /// A start.
+    At(&'a Start),
+    /// What an effect makes of the state before it.
+    After(&'a Before<'a>, &'a Effect),
+}
+
+impl<'a> Before<'a> {
+    /// What is known of a cell: of a descriptor, or of a mode as a cell.
+    fn read(&self, pid: Pid, key: Key) -> Cell
+        ensures { result ≡ cells_of (state_before self.now) pid key }
+    {
+        match self {
+            Before::At(start) => match key {
+                Key::Mode => cell_of_mode(start.mode(pid)),
+                Key::Fd(fd) => start.cell(pid, fd),
+            },
+            Before::After(before, effect) => {
+                let cell = match effect.seen(pid, key) {
+                    Seen::Is(cell) => cell,
+                    Seen::Same(source, at) => before.read(source, at),
+                    Seen::Executed(source, at) => Op::exec().on(before.read(source, at)),
+                    Seen::Made(op, source, at) => op.on(before.read(source, at)),
+                };
+                match key {
+                    Key::Mode => cell_of_mode(mode_of_cell(cell)),
+                    Key::Fd(_) => cell,
+                }
+            }
+        }
+    }
+
+    /// What is known of a descriptor of a process.
+    pub fn cell(&self, pid: Pid, fd: Fd) -> Cell
+        ensures { result ≡ (state_before self.now).cell pid fd }
+    {
+        self.read(pid, Key::Fd(fd))
+    }
+
+    /// What is known of the mode of a process.
+    pub fn mode(&self, pid: Pid) -> Mode
+        ensures { result ≡ (state_before self.now).mode pid }
+    {
+        mode_of_cell(self.read(pid, Key::Mode))
+    }
+
+    fn holds(&self, ask: &Ask) -> bool
+        ensures { result ≡ holds (cells_of (state_before self.now)) ask.now }
+    {
+        ask.test.passes(self.read(ask.pid, ask.key))
+    }
+
+    fn part_holds(&self, ask: &Option<Ask>) -> bool
+        ensures { result ≡ part_holds (cells_of (state_before self.now)) ask.now }
+    {
+        match ask {
+            None => false,
+            Some(ask) => self.holds(ask),
+        }
+    }
+
+    fn one_holds(&self, asks: &UpToThree) -> bool
+        ensures { result ≡ one_holds (cells_of (state_before self.now)) asks.now }
+    {
+        self.part_holds(&asks.mode) || self.part_holds(&asks.first) || self.part_holds(&asks.second)
+    }
+
+    fn any_holds(&self, asks: &[Ask]) -> bool
+        ensures { result ≡ any_holds (cells_of (state_before self.now)) asks.now }
+    {
+        for ask in asks {
+            if self.holds(ask) {
+                return true;
+            }
+        }
+        false
+    }
+
+    fn any_is_wrongful(&self, refusals: &[Refusal]) -> bool
+        ensures { result ≡ list_any (is_wrongful (cells_of (state_before self.now))) refusals.now }
+    {
+        for refusal in refusals {
+            if !self.one_holds(&refusal.unless) {
+                return true;
+            }
+        }
+        false
+    }
+
+    /// Whether something is found in a segment that begins here.
+    pub fn meets(&self, precondition: &Precondition) -> bool
+        ensures { result ≡ is_met (cells_of (state_before self.now)) precondition.now }
+    {
+        precondition.certain
+            || self.any_holds(&precondition.asks)
+            || self.any_is_wrongful(&precondition.refusals)
+    }
+
+    /// What is said of a line of a process with this demand.
+    pub fn said(&self, pid: Pid, demand: &Demand) -> Verdict
+        ensures { result ≡ said_of demand.now pid (state_before self.now) }
+    {
+        let mode = self.mode(pid);
+        match &demand.checks {
+            Checks::Nothing => demand.judge(mode, &[]),
+            Checks::One(a) => demand.judge(mode, &[self.cell(pid, a.fd)]),
+            Checks::Two(a, b) => {
+                demand.judge(mode, &[self.cell(pid, a.fd), self.cell(pid, b.fd)])
+            }
+        }
+    }
+}

@@ -1,0 +1,260 @@
+//! The effect of two segments, one after the other.
+
+ghost use Rattle.std.specs.Prelude.{◌≡◌, ℕ, false, true, ◌||◌, is_none, IfOk};
+ghost use Rattle.std.specs.Option.{option_map_or};
+ghost use Rattle.cap_machine.specs.declared.cell.Cell.TheVariants.{Closed};
+ghost use Rattle.cap_summary.specs.declared.key.Key.{Key};
+ghost use Rattle.cap_summary.specs.Keys.{Cells};
+ghost use Rattle.cap_summary.specs.Values.{read};
+ghost use Rattle.cap_summary.specs.Sorted.{found};
+ghost use Rattle.cap_summary.specs.declared.key.Key.TheVariants as key;
+ghost use Rattle.cap_summary.specs.Effects.{passed, is_from, base_cell, changed, IsRowAfter, IsComposed};
+ghost use Rattle.cap_summary.specs.Composing.{IsHandedSo};
+ghost use Rattle.cap_summary.specs.Leaving.{base_leaves, row_leaves, leaves, LeavesBoth};
+ghost use Rattle.cap_summary.specs.Names.{Names, others_within, mode_within, ListWithin, RowWithin, EffectWithin};
+
+use crate::base::{Base, Others, Passing, lower_of};
+use crate::effect::{Effect, Row};
+use crate::listed::Listed;
+use crate::reading::share_mode;
+use crate::sorted::{Combine, merge};
+use crate::value::Value;
+use cap_trace::{Fd, Pid};
+use cap_tree::NoMemory;
+use std::alloc::Global;
+
+/// The cells that a base of a later segment hands on, as an earlier segment leaves them: those that are listed there,
+/// how they are handed on, and all others.
+#[derive(Drop)]
+struct Handed {
+    base: Base,
+    passing: Passing,
+    cells: Listed,
+}
+
+impl Row {
+    /// The cells of this row where they are handed on.
+    fn handed(
+        &self,
+        others: Others,
+        passing: Passing,
+        closed_from: Option<Fd>,
+    ) -> Result<Handed, NoMemory>
+        ensures base { IfOk result (λ handed. handed.base.others ≡ others) }
+        ensures closed { IfOk result (λ handed. (f : ℕ) → is_from handed.base.closed_from f
+            ≡ (is_from self.now.base.closed_from f || is_from closed_from f)) }
+        ensures passing { IfOk result (λ handed. handed.passing ≡ passing) }
+        ensures cells { IfOk result (λ handed. handed.cells ≡ self.now.cells) }
+    {
+        Ok(Handed {
+            base: Base {
+                others,
+                closed_from: lower_of(self.base.closed_from, closed_from),
+            },
+            passing,
+            cells: self.cells.clone()?,
+        })
+    }
+}
+
+impl Effect {
+    /// The cells that a base of a process of a later segment hands on.
+    fn handed(&self, pid: Pid, base: &Base) -> Result<Handed, NoMemory>
+        ensures open { IfOk result (λ handed. (cells : Cells) (f : ℕ) → is_from base.now.closed_from f ≡ false
+            → option_map_or (λ v. passed handed.passing (read cells v)) (found handed.cells f)
+            (base_cell cells pid handed.base f) ≡ base_cell (changed self.now cells) pid base.now f) }
+        ensures closed { IfOk result (λ handed. (cells : Cells) (f : ℕ) → is_from base.now.closed_from f ≡ true
+            → base_cell cells pid handed.base f ≡ Closed) }
+        ensures leaves { IfOk result (λ handed. (f : ℕ) → base_leaves handed.base f ≡ true
+            → (base_leaves base.now f ≡ true)
+            × (is_none (found handed.cells f) ≡ true → leaves self.now pid (key.Fd f) ≡ true)) }
+        ensures others_named { IfOk result (λ handed. (names : Names) → EffectWithin names self.now
+            → others_within names base.now.others ≡ true → others_within names handed.base.others ≡ true) }
+        ensures cells_named { IfOk result (λ handed. (names : Names) → EffectWithin names self.now
+            → ListWithin names handed.cells) }
+    {
+        let first = match &base.others {
+            Others::Own => self.rows.get(pid),
+            Others::Of(source, _) => self.rows.get(*source),
+            _ => None,
+        };
+        match (first, &base.others) {
+            (Some(first), Others::Of(source, passing)) => {
+                let others = first.base.others.pass(*source, *passing);
+                first.handed(others, *passing, base.closed_from)
+            }
+            (Some(first), _) => { first.handed(first.base.others, Passing::Same, base.closed_from) }
+            (None, _) => Ok(Handed {
+                base: *base,
+                passing: Passing::Same,
+                cells: Listed::empty(),
+            }),
+        }
+    }
+}
+
+/// Lists the cells of a process after two segments: those of the second, by the cells before the first, and those of
+/// the first that the second hands on.
+#[derive(Clone, Copy)]
+struct Handing<'a> {
+    first: &'a Effect,
+    passing: Passing,
+    base: Base,
+}
+
+impl Combine for Handing<'_> {
+    type Left = Value;
+
+    type Right = Value;
+
+    type Out = Value;
+
+    ghost use Rattle.std.specs.Prelude.{refl};
+
+    ghost gives = { λ s f left right out. IsHandedSo s.first.now s.passing s.base.closed_from f left right out };
+
+    fn left(&self, alloc: Global, _fd: u32, left: &Value) -> Result<Option<Value>, NoMemory> {
+        Ok(Some(self.first.value_after(alloc, left)?))
+    }
+
+    fn right(&self, alloc: Global, fd: u32, right: &Value) -> Result<Option<Value>, NoMemory> {
+        if self.base.closes(fd) {
+            return Ok(None);
+        }
+        Ok(Some(self.passing.pass(alloc, right)?))
+    }
+
+    fn both(
+        &self,
+        alloc: Global,
+        fd: u32,
+        left: &Value,
+        _right: &Value,
+    ) -> Result<Option<Value>, NoMemory> {
+        self.left(alloc, fd, left)
+    }
+
+    ghost neither = { λ s f. record {
+      cells = λ cells. refl;
+      unlisted = refl;
+      names = λ names within left right. tt;
+    } };
+}
+
+/// Gives each process its row after two segments.
+#[derive(Clone, Copy)]
+struct Composing<'a> {
+    first: &'a Effect,
+}
+
+impl Combine for Composing<'_> {
+    type Left = Row;
+
+    type Right = Row;
+
+    type Out = Row;
+
+    ghost use Rattle.std.specs.Prelude.{◌≡◌, refl};
+    ghost use Rattle.std.proofs.Common.{ap};
+    ghost use Rattle.cap_summary.specs.Sorted.{found};
+    ghost use Rattle.cap_summary.specs.Effects.{cell_in};
+    ghost use Rattle.cap_summary.specs.Composing.{IsComposedSo};
+
+    ghost gives = { λ s p left right out. left ≡ found s.first.now.rows p → IsComposedSo s.first.now p left right out };
+
+    fn left(&self, _alloc: Global, _pid: u32, left: &Row) -> Result<Option<Row>, NoMemory> {
+        Ok(Some(left.share()?))
+    }
+
+    fn right(&self, alloc: Global, pid: u32, right: &Row) -> Result<Option<Row>, NoMemory> {
+        if right.reads_only(pid) {
+            return Ok(Some(right.share()?));
+        }
+        Ok(Some(self.first.row_after(alloc, pid, right)?))
+    }
+
+    fn both(
+        &self,
+        alloc: Global,
+        pid: u32,
+        _left: &Row,
+        right: &Row,
+    ) -> Result<Option<Row>, NoMemory> {
+        Ok(Some(self.first.row_after(alloc, pid, right)?))
+    }
+
+    ghost neither = { λ s p is. record {
+      cells = λ cells k. ap (λ row. cell_in cells row p k) is;
+      leaves = λ k left. (refl, refl);
+      names = λ names within left right. tt;
+    } };
+}
+
+impl Effect {
+    /// The mode of a process of a later segment, by the cells before this one.
+    fn mode_after(
+        &self,
+        alloc: Global,
+        pid: Pid,
+        mode: &Option<Value>,
+    ) -> Result<Option<Value>, NoMemory>
+        ensures reads { IfOk result (λ new. (cells : Cells) → option_map_or (read cells) new (cells pid key.Mode)
+            ≡ option_map_or (read (changed self.now cells)) mode.now (changed self.now cells pid key.Mode)) }
+        ensures leaves { IfOk result (λ new. is_none new ≡ true
+            → (leaves self.now pid key.Mode ≡ true) × (is_none mode.now ≡ true)) }
+        ensures names { IfOk result (λ new. (names : Names) → EffectWithin names self.now
+            → mode_within names mode.now ≡ true → mode_within names new ≡ true) }
+    {
+        match (mode, self.rows.get(pid)) {
+            (Some(value), _) => Ok(Some(self.value_after(alloc, value)?)),
+            (None, Some(first)) => share_mode(&first.mode),
+            (None, None) => Ok(None),
+        }
+    }
+
+    /// What a row of a later segment lists, by the cells before this one, and what it hands on of those that are listed.
+    fn listed_after(&self, alloc: Global, row: &Row, handed: Handed) -> Result<Listed, NoMemory>
+        ensures { IfOk result (λ new. (f : ℕ) → IsHandedSo self.now handed.passing row.now.base.closed_from f
+            (found row.now.cells f) (found handed.cells f) (found new f)) }
+    {
+        if let (Passing::Same, None) = (&handed.passing, &row.base.closed_from) {
+            if row.cells.entries().is_empty() {
+                return Ok(handed.cells);
+            }
+        }
+        let handing = Handing {
+            first: self,
+            passing: handed.passing,
+            base: row.base,
+        };
+        let cells = merge(alloc, &handing, row.cells.entries(), handed.cells.entries())?;
+        Listed::of(alloc, cells)
+    }
+
+    /// A row of a process of a later segment, by the cells before this one.
+    pub(crate) fn row_after(&self, alloc: Global, pid: Pid, row: &Row) -> Result<Row, NoMemory>
+        ensures cells { IfOk result (λ new. IsRowAfter self.now pid row.now new) }
+        ensures leaves { IfOk result (λ new. (k : Key) → row_leaves new k ≡ true
+            → (leaves self.now pid k ≡ true) × (row_leaves row.now k ≡ true)) }
+        ensures names { IfOk result (λ new. (names : Names) → EffectWithin names self.now
+            → RowWithin names row.now → RowWithin names new) }
+    {
+        let mode = self.mode_after(alloc, pid, &row.mode)?;
+        let handed = self.handed(pid, &row.base)?;
+        let base = handed.base;
+        let cells = self.listed_after(alloc, row, handed)?;
+        Ok(Row { base, mode, cells })
+    }
+
+    /// The effect of this segment and then a later one.
+    pub fn then(&self, alloc: Global, later: &Effect) -> Result<Effect, NoMemory>
+        ensures cells { IfOk result (λ both. IsComposed self.now later.now both) }
+        ensures leaves { IfOk result (λ both. LeavesBoth self.now later.now both) }
+        ensures names { IfOk result (λ both. (names : Names) → EffectWithin names self.now
+            → EffectWithin names later.now → EffectWithin names both) }
+    {
+        let step = Composing { first: self };
+        let rows = merge(alloc, &step, self.rows.entries(), later.rows.entries())?;
+        Ok(Effect::of(rows))
+    }
+}

@@ -1,0 +1,203 @@
+//! The effect of one line.
+
+ghost use Rattle.std.specs.Prelude.{◌≡◌, ℕ, true, false, is_none, IfOk, OnOk};
+ghost use Rattle.std.specs.Option.{option_map_or};
+ghost use Rattle.std.specs.List.{All};
+ghost use Rattle.cap_trace.specs.Seen.{fds_spelled};
+ghost use Rattle.cap_machine.specs.Touch.{stays};
+ghost use Rattle.cap_machine.specs.Effect.{effect_turn};
+ghost use Rattle.cap_machine.specs.Wanted.{is_child};
+ghost use Rattle.cap_summary.specs.declared.key.Key.{Key};
+ghost use Rattle.cap_summary.specs.declared.key.Key.TheVariants as key;
+ghost use Rattle.cap_summary.specs.Keys.{Cells};
+ghost use Rattle.cap_summary.specs.Values.{read, reads_within};
+ghost use Rattle.cap_summary.specs.Names.{Names, has_cell, others_within, mode_within, IsListedWithin, ListWithin};
+ghost use Rattle.cap_summary.specs.Names.{RowWithin, RowsWithin, EffectWithin, LineWithin};
+ghost use Rattle.cap_summary.specs.Effects.{base_cell, changed};
+ghost use Rattle.cap_summary.specs.Sorted.{found};
+ghost use Rattle.cap_summary.specs.Leaving.{base_leaves, leaves, LeavesThenLine};
+ghost use Rattle.cap_summary.specs.Lines.{turned_cell, unlisted, leaves_unlisted, IsThenLine, IsPut, LeavesPut};
+ghost use Rattle.cap_summary.specs.Lines.{IsRowOf, LeavesOwn, IsListOf, IsStarted, sets_cells, lists, is_cell, with_cell};
+
+use crate::base::{Base, Others, Passing};
+use crate::effect::{Effect, Row};
+use crate::key::{Key, cell_of_mode};
+use crate::listed::Listed;
+use crate::sorted::Map;
+use crate::value::Value;
+use cap_machine::{Cell, Effect as LineEffect, Mode, OnExec};
+use cap_rights::RightSet;
+use cap_trace::{Fd, Pid, fds_of};
+use cap_tree::NoMemory;
+use std::alloc::Global;
+
+/// The descriptors that a process starts with, as they are spelled.
+fn started_cells(alloc: Global, spelled: &[u8]) -> Result<Listed, NoMemory>
+    ensures cells { IfOk result (λ listed. IsStarted (fds_spelled spelled.now) listed) }
+    ensures names { IfOk result (λ listed. (names : Names) → All (λ f. names.fds f ≡ true) (fds_spelled spelled.now)
+        → ListWithin names listed) }
+{
+    let Ok(fds) = fds_of(alloc, spelled) else {
+        return Err(NoMemory);
+    };
+    let mut listed = Map::new(alloc);
+    for fd in &fds {
+        listed.set(*fd, Value::Is(Cell::Held(RightSet::all(), OnExec::Unsure)))?;
+    }
+    Listed::of(alloc, listed)
+}
+
+/// The cells that a line of process `me` doesn't list one by one.
+fn base_of(me: Pid, line: &LineEffect<'_>) -> Base
+    ensures cells { (cells : Cells) (f : ℕ) → base_cell cells me result f ≡ unlisted line.now me cells f }
+    ensures leaves { (f : ℕ) → base_leaves result f ≡ leaves_unlisted line.now f }
+    ensures names { (names : Names) → names.pids me ≡ true → others_within names result.others ≡ true }
+{
+    match line {
+        LineEffect::Start(_) => Base::of(Others::Closed),
+        LineEffect::Exit | LineEffect::Forget => Base::of(Others::Unknown),
+        LineEffect::Exec => Base::of(Others::Of(me, Passing::Exec)),
+        LineEffect::CloseFrom(fd) => Base {
+            others: Others::Own,
+            closed_from: Some(*fd),
+        },
+        _ => Base::of(Others::Own),
+    }
+}
+
+/// The mode that a line turns that of its process `me` to.
+fn mode_of(line: &LineEffect<'_>) -> Option<Value>
+    ensures reads { (cells : Cells) (me : ℕ) → option_map_or (read cells) result (cells me key.Mode)
+        ≡ turned_cell (effect_turn line.now me me) cells me }
+    ensures leaves { (me : ℕ) → is_child line.now me ≡ false → is_none result ≡ true
+        → effect_turn line.now me me ≡ stays }
+    ensures names { (names : Names) → mode_within names result ≡ true }
+{
+    let mode = match line {
+        LineEffect::Start(_) => Mode::Outside,
+        LineEffect::Exit => Mode::Unsure,
+        LineEffect::Enter => Mode::Inside,
+        _ => return None,
+    };
+    Some(Value::Is(cell_of_mode(mode)))
+}
+
+/// The cells that a line of process `me`, which sets none to a value of its own, lists one by one.
+fn listed_by(alloc: Global, me: Pid, line: &LineEffect<'_>) -> Result<Listed, NoMemory>
+    requires { sets_cells line.now ≡ false }
+    ensures cells { IfOk result (λ listed. IsListOf line.now me listed) }
+    ensures leaves { IfOk result (λ listed. (f : ℕ) → is_none (found listed f) ≡ true → lists line.now f ≡ false) }
+    ensures names { IfOk result (λ listed. (names : Names) → LineWithin names me line.now → ListWithin names listed) }
+{
+    match line {
+        LineEffect::Start(fds) => started_cells(alloc, fds),
+        LineEffect::ForkAs(_, fd) => {
+            let mut listed = Listed::empty();
+            listed.set(alloc, *fd, Value::Is(Cell::Unknown))?;
+            Ok(listed)
+        }
+        _ => Ok(Listed::empty()),
+    }
+}
+
+impl Row {
+    /// What a line of process `me`, which sets no cell to a value of its own, makes of the process.
+    fn of_line(alloc: Global, me: Pid, line: &LineEffect<'_>) -> Result<Row, NoMemory>
+        requires { sets_cells line.now ≡ false }
+        ensures cells { IfOk result (λ row. IsRowOf line.now me row) }
+        ensures leaves { IfOk result (λ row. LeavesOwn line.now me row) }
+        ensures names { IfOk result (λ row. (names : Names) → LineWithin names me line.now → RowWithin names row) }
+    {
+        Ok(Row {
+            base: base_of(me, line),
+            mode: mode_of(line),
+            cells: listed_by(alloc, me, line)?,
+        })
+    }
+}
+
+/// Puts the row that a line of process `me` makes of it, and of a child that the line makes what a fork makes of that
+/// row.
+fn put_rows(rows: &mut Map<Row>, me: Pid, line: &LineEffect<'_>, row: Row) -> Result<(), NoMemory>
+    ensures cells { OnOk result (IsPut line.now me row rows.old rows.new) }
+    ensures leaves { OnOk result (LeavesPut line.now me row rows.old rows.new) }
+    ensures names { OnOk result ((names : Names) → LineWithin names me line.now → RowWithin names row
+        → RowsWithin names rows.old → RowsWithin names rows.new) }
+{
+    match line {
+        LineEffect::Keep => Ok(()),
+        LineEffect::Fork(child) => rows.set(*child, row.forked(me)?),
+        LineEffect::ForkAs(child, _) => {
+            let forked = row.forked(me)?;
+            rows.set(me, row)?;
+            rows.set(*child, forked)
+        }
+        _ => rows.set(me, row),
+    }
+}
+
+impl Effect {
+    /// Nothing is touched.
+    pub fn empty(alloc: Global) -> Effect
+        ensures cells { (cells : Cells) (p : ℕ) (k : Key) → changed result cells p k ≡ cells p k }
+        ensures leaves { (p : ℕ) (k : Key) → leaves result p k ≡ true }
+        ensures names { (names : Names) → EffectWithin names result }
+    {
+        Effect {
+            rows: Map::new(alloc),
+            size: Some(0),
+        }
+    }
+
+    /// Sets the cell of a descriptor of a process, in place.
+    fn set(&mut self, alloc: Global, pid: Pid, fd: Fd, value: Value) -> Result<(), NoMemory>
+        ensures cells { OnOk result ((cells : Cells) (p : ℕ) (k : Key) → changed self.new cells p k
+            ≡ with_cell pid fd (read cells value) (changed self.old cells) p k) }
+        ensures leaves { OnOk result ((p : ℕ) (k : Key) → leaves self.new p k ≡ true
+            → (leaves self.old p k ≡ true) × (is_cell pid fd p k ≡ false)) }
+        ensures names { OnOk result ((names : Names) → names.pids pid ≡ true → IsListedWithin names fd value
+            → EffectWithin names self.old → EffectWithin names self.new) }
+    {
+        self.size = None;
+        let mut row = self.rows.take_or(pid, Row::own());
+        row.cells.set(alloc, fd, value)?;
+        self.rows.set(pid, row)
+    }
+
+    /// The effect of this segment and then a line of process `me`, which sets no cell to a value of its own. The rows of
+    /// that process and of a child that it makes are made anew.
+    fn push_row(&mut self, alloc: Global, me: Pid, line: &LineEffect<'_>) -> Result<(), NoMemory>
+        requires { sets_cells line.now ≡ false }
+        ensures cells { OnOk result (IsThenLine self.old line.now me self.new) }
+        ensures leaves { OnOk result (LeavesThenLine self.old line.now me self.new) }
+        ensures names { OnOk result ((names : Names) → LineWithin names me line.now
+            → EffectWithin names self.old → EffectWithin names self.new) }
+    {
+        let own = Row::of_line(alloc, me, line)?;
+        let row = self.row_after(alloc, me, &own)?;
+        self.size = None;
+        put_rows(&mut self.rows, me, line, row)
+    }
+
+    /// The effect of this segment and then a line of process `me`, in place. After an `Err` it is only to be dropped.
+    pub fn push(&mut self, alloc: Global, me: Pid, line: &LineEffect<'_>) -> Result<(), NoMemory>
+        ensures cells { OnOk result (IsThenLine self.old line.now me self.new) }
+        ensures leaves { OnOk result (LeavesThenLine self.old line.now me self.new) }
+        ensures names { OnOk result ((names : Names) → LineWithin names me line.now
+            → EffectWithin names self.old → EffectWithin names self.new) }
+    {
+        match line {
+            LineEffect::Keep => Ok(()),
+            LineEffect::Give(fd, cell) => self.set(alloc, me, *fd, Value::Is(*cell)),
+            LineEffect::GiveTwo(fd, other, cell) => {
+                self.set(alloc, me, *fd, Value::Is(*cell))?;
+                self.set(alloc, me, *other, Value::Is(*cell))
+            }
+            LineEffect::Change(fd, op, from) => {
+                let before = self.read(alloc, me, Key::Fd(*from))?;
+                self.set(alloc, me, *fd, before.then(alloc, op)?)
+            }
+            _ => self.push_row(alloc, me, line),
+        }
+    }
+}

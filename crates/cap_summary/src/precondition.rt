@@ -1,0 +1,389 @@
+//! Under which states before a segment something is found in it.
+
+ghost use Rattle.std.specs.Prelude.{◌≡◌, ◌+◌, ◌≤◌, ◌||◌, not, false, true, [], length, nat_le, IfOk, IfSome, IfNone, OnOk};
+ghost use Rattle.std.specs.List.{list_any};
+ghost use Rattle.cap_machine.specs.State.{State};
+ghost use Rattle.cap_summary.specs.Keys.{Cells, cells_of};
+ghost use Rattle.cap_summary.specs.Asks.{any_holds, pulled_holds, pulled_within, is_always, PulledIsOpen, IsOpen};
+ghost use Rattle.cap_summary.specs.Asks.{Rises, IsUnionOf, OneAlwaysHolds};
+ghost use Rattle.cap_summary.specs.LineAsks.{part_holds, one_holds, asked_holds, refusals_in};
+ghost use Rattle.cap_summary.specs.Effects.{changed};
+ghost use Rattle.cap_summary.specs.Preconditions.{is_met, is_wrongful, three_hold, any_certain, IsMetOr, IsSettled};
+ghost use Rattle.cap_summary.specs.Preconditions.{ThreeAreOpen, IsPossible, IsPulledBack, AreAskedByBoth, IsAskedByBoth, IsSamePrecondition};
+ghost use Rattle.cap_summary.specs.Sizes.{asks_size};
+ghost use Rattle.cap_summary.specs.Names.{Names, has_cell, part_within, PartsWithin, LineAsksWithin, RefusalsWithin};
+ghost use Rattle.cap_summary.specs.Names.{EffectWithin, PreWithin};
+
+use crate::ask::{Ask, Pulled};
+use crate::asks::{in_order, unite};
+use crate::effect::Effect;
+use crate::line_asks::{LineAsks, UpToThree};
+use cap_tree::NoMemory;
+use std::alloc::Global;
+
+/// A refusal for lack of rights (errno 93). It is wrongful unless one of these asks holds.
+#[derive(Clone, Copy, Debug, PartialEq, Eq)]
+pub struct Refusal {
+    pub unless: UpToThree,
+}
+
+/// Under which states before a segment something is found in it: in every one, or where an ask holds or a refusal is
+/// wrongful.
+#[derive(Drop)]
+pub struct Precondition {
+    /// Something is found whatever the state.
+    pub certain: bool,
+    /// What is asked.
+    pub asks: Vec<Ask>,
+    /// The refusals.
+    pub refusals: Vec<Refusal>,
+}
+
+impl Pulled {
+    fn is_always(&self) -> bool
+        ensures always { result ≡ true → (cells : Cells) → pulled_holds cells self.now ≡ true }
+        ensures other { result ≡ false → is_always self.now ≡ false }
+    {
+        match self {
+            Pulled::Always => true,
+            _ => false,
+        }
+    }
+
+    /// The ask that is left, if one is.
+    fn ask(&self) -> Option<Ask>
+        requires { is_always self.now ≡ false }
+        ensures holds { (cells : Cells) → part_holds cells result ≡ pulled_holds cells self.now }
+        ensures open { PulledIsOpen self.now → IfSome result IsOpen }
+        ensures names { (names : Names) → pulled_within (has_cell names) self.now ≡ true
+            → part_within names result ≡ true }
+    {
+        match self {
+            Pulled::Where(ask) => Some(*ask),
+            _ => None,
+        }
+    }
+}
+
+/// What an ask that may be left out asks before an earlier segment.
+fn pulled_part(first: &Effect, ask: &Option<Ask>) -> Pulled
+    ensures holds { (s : State) → pulled_holds (cells_of s) result
+        ≡ part_holds (changed first.now (cells_of s)) ask.now }
+    ensures open { PulledIsOpen result }
+    ensures names { (names : Names) → EffectWithin names first.now
+        → part_within names ask.now ≡ true → pulled_within (has_cell names) result ≡ true }
+{
+    match ask {
+        None => Pulled::Never,
+        Some(ask) => ask.before(first),
+    }
+}
+
+/// What up to three asks ask before an earlier segment: `None` where one of them holds in every state.
+fn pulled_three(first: &Effect, asks: &UpToThree) -> Option<UpToThree>
+    ensures hold { (s : State)
+        → three_hold (cells_of s) result ≡ one_holds (changed first.now (cells_of s)) asks.now }
+    ensures open { ThreeAreOpen result }
+    ensures names { (names : Names) → EffectWithin names first.now
+        → PartsWithin names asks.now → IfSome result (PartsWithin names) }
+{
+    let mode = pulled_part(first, &asks.mode);
+    let one = pulled_part(first, &asks.first);
+    let other = pulled_part(first, &asks.second);
+    if mode.is_always() {
+        return None;
+    }
+    if one.is_always() {
+        return None;
+    }
+    if other.is_always() {
+        return None;
+    }
+    Some(UpToThree {
+        mode: mode.ask(),
+        first: one.ask(),
+        second: other.ask(),
+    })
+}
+
+/// What the asks of a later segment ask before a first one, in no order.
+#[derive(Drop)]
+struct PulledAsks {
+    /// Of the cells that they were about. These stand in order as a rule.
+    kept: Vec<Ask>,
+    /// Of other cells.
+    moved: Vec<Ask>,
+}
+
+impl PulledAsks {
+    /// All of them, in order; `None` where some at one place hold in every state.
+    fn in_order(self, alloc: Global) -> Result<Option<Vec<Ask>>, NoMemory>
+        ensures always { IfOk result (λ asks. IfNone asks (OneAlwaysHolds self.kept.items self.moved.items)) }
+        ensures asks { IfOk result (λ asks. IfSome asks
+            (λ asks. IsUnionOf self.kept.items self.moved.items asks.items)) }
+    {
+        let Some(kept) = in_order(alloc, self.kept)? else {
+            return Ok(None);
+        };
+        let Some(moved) = in_order(alloc, self.moved)? else {
+            return Ok(None);
+        };
+        unite(alloc, &kept, &moved)
+    }
+}
+
+/// What these asks ask before an earlier segment; `None` where one of them holds in every state.
+fn pulled_asks(alloc: Global, first: &Effect, asks: &[Ask]) -> Result<Option<PulledAsks>, NoMemory>
+    ensures always { IfOk result (λ pulled. IfNone pulled ((s : State)
+        → any_holds (changed first.now (cells_of s)) asks.now ≡ true)) }
+    ensures asks { IfOk result (λ pulled. IfSome pulled
+        (λ pulled. IsPulledBack first.now asks.now pulled.kept.items pulled.moved.items)) }
+{
+    let mut kept = Vec::with_capacity(alloc, asks.len())?;
+    let mut moved = Vec::new(alloc);
+    for ask in asks {
+        match ask.open_before(first) {
+            Pulled::Always => return Ok(None),
+            Pulled::Never => {}
+            Pulled::Where(before) if before.pid == ask.pid && before.key == ask.key => {
+                kept.push(before)?;
+            }
+            Pulled::Where(before) => moved.push(before)?,
+        }
+    }
+    Ok(Some(PulledAsks { kept, moved }))
+}
+
+/// The asks of a segment and those of a later one, which are pulled back through the effect of the first, in order; `None`
+/// where one of them holds in every state.
+fn asks_of_both(
+    alloc: Global,
+    own: &[Ask],
+    first: &Effect,
+    later: &[Ask],
+) -> Result<Option<Vec<Ask>>, NoMemory>
+    requires { Rises own.now }
+    ensures always { IfOk result (λ both. IfNone both ((s : State)
+        → (any_holds (cells_of s) own.now || any_holds (changed first.now (cells_of s)) later.now) ≡ true)) }
+    ensures asks { IfOk result (λ both. IfSome both (λ both. AreAskedByBoth first.now own.now later.now both.items)) }
+{
+    let Some(pulled) = pulled_asks(alloc, first, later)? else {
+        return Ok(None);
+    };
+    match pulled.in_order(alloc)? {
+        Some(pulled) => unite(alloc, own, &pulled),
+        None => Ok(None),
+    }
+}
+
+/// Whether one of these asks holds in every state.
+fn any_is_certain(asks: &[Ask]) -> bool
+    ensures { result ≡ any_certain asks.now }
+{
+    asks.iter().any(|ask| ask.is_certain())
+}
+
+impl Precondition {
+    /// Nothing is found in any state.
+    pub fn never(alloc: Global) -> Precondition
+        ensures met { (s : State) → is_met (cells_of s) result ≡ false }
+        ensures possible { IsPossible result }
+        ensures names { (names : Names) → PreWithin names result }
+        ensures nothing { (result.certain ≡ false) × (result.asks.items ≡ []) × (result.refusals.items ≡ []) }
+    {
+        Precondition {
+            certain: false,
+            asks: Vec::new(alloc),
+            refusals: Vec::new(alloc),
+        }
+    }
+
+    /// Something is found in every state.
+    fn always(alloc: Global) -> Precondition
+        ensures met { (cells : Cells) → is_met cells result ≡ true }
+        ensures settled { IsSettled result }
+        ensures possible { IsPossible result }
+        ensures names { (names : Names) → PreWithin names result }
+        ensures nothing { asks_size result ≡ 0 }
+    {
+        Precondition {
+            certain: true,
+            asks: Vec::new(alloc),
+            refusals: Vec::new(alloc),
+        }
+    }
+
+    /// How many asks and refusals it has.
+    pub fn size(&self) -> usize
+        ensures { result ≡ asks_size self.now }
+    {
+        self.asks.len() + self.refusals.len()
+    }
+
+    /// Whether another one has the same asks and refusals.
+    pub fn is_same(&self, other: &Precondition) -> bool
+        ensures { result ≡ true → IsSamePrecondition self.now other.now }
+    {
+        self.certain == other.certain && self.asks == other.asks && self.refusals == other.refusals
+    }
+
+    /// Whether there is room for its asks and its refusals.
+    pub(crate) fn fits(&self, room: usize) -> bool
+        ensures { result ≡ nat_le (asks_size self.now) room }
+    {
+        match room.checked_sub(self.asks.len()) {
+            None => false,
+            Some(left) => self.refusals.len() <= left,
+        }
+    }
+
+    /// Something is also found where an ask that was pulled back holds.
+    fn put(&mut self, pulled: Pulled) -> Result<(), NoMemory>
+        ensures met { OnOk result (IsMetOr self.old self.new (λ cells. pulled_holds cells pulled)) }
+        ensures possible { OnOk result (PulledIsOpen pulled → IsPossible self.old → IsPossible self.new) }
+        ensures names { OnOk result ((names : Names) → pulled_within (has_cell names) pulled ≡ true
+            → PreWithin names self.old → PreWithin names self.new) }
+        ensures few { OnOk result (asks_size self.new ≤ asks_size self.old + 1) }
+        ensures refusals { self.new.refusals ≡ self.old.refusals }
+    {
+        match pulled {
+            Pulled::Always => self.certain = true,
+            Pulled::Never => {}
+            Pulled::Where(ask) => self.asks.push(ask)?,
+        }
+        Ok(())
+    }
+
+    /// Something is also found where an ask holds after an earlier segment.
+    fn put_after(&mut self, first: &Effect, ask: &Option<Ask>) -> Result<(), NoMemory>
+        ensures met { OnOk result (IsMetOr self.old self.new
+            (λ cells. part_holds (changed first.now cells) ask.now)) }
+        ensures possible { OnOk result (IsPossible self.old → IsPossible self.new) }
+        ensures names { OnOk result ((names : Names) → EffectWithin names first.now
+            → part_within names ask.now ≡ true → PreWithin names self.old → PreWithin names self.new) }
+        ensures few { OnOk result (asks_size self.new ≤ asks_size self.old + 1) }
+        ensures refusals { self.new.refusals ≡ self.old.refusals }
+    {
+        self.put(pulled_part(first, ask))
+    }
+
+    /// Something is also found where a refusal is wrongful after an earlier segment.
+    fn refuse_after(&mut self, first: &Effect, unless: &UpToThree) -> Result<(), NoMemory>
+        ensures met { OnOk result (IsMetOr self.old self.new
+            (λ cells. not (one_holds (changed first.now cells) unless.now))) }
+        ensures possible { OnOk result (IsPossible self.old → IsPossible self.new) }
+        ensures names { OnOk result ((names : Names) → EffectWithin names first.now
+            → PartsWithin names unless.now → PreWithin names self.old → PreWithin names self.new) }
+        ensures asks { self.new.asks ≡ self.old.asks }
+        ensures few { OnOk result (length self.new.refusals.items ≤ length self.old.refusals.items + 1) }
+    {
+        let Some(unless) = pulled_three(first, unless) else {
+            return Ok(());
+        };
+        if unless.is_nothing() {
+            self.certain = true;
+        } else {
+            self.refusals.push(Refusal { unless })?;
+        }
+        Ok(())
+    }
+
+    /// Something is also found where it is in a line after an earlier segment.
+    pub fn put_line(&mut self, first: &Effect, asks: &LineAsks) -> Result<(), NoMemory>
+        ensures met { OnOk result (IsMetOr self.old self.new
+            (λ cells. asked_holds (changed first.now cells) asks.now)) }
+        ensures possible { OnOk result (IsPossible self.old → IsPossible self.new) }
+        ensures names { OnOk result ((names : Names) → EffectWithin names first.now
+            → LineAsksWithin names asks.now → PreWithin names self.old → PreWithin names self.new) }
+        ensures few { OnOk result (asks_size self.new ≤ asks_size self.old + 3) }
+        ensures refusals { OnOk result (length self.new.refusals.items
+            ≤ length self.old.refusals.items + refusals_in asks.now) }
+    {
+        match asks {
+            LineAsks::Always => {
+                self.certain = true;
+                Ok(())
+            }
+            LineAsks::Where(asks) => {
+                self.put_after(first, &asks.mode)?;
+                self.put_after(first, &asks.first)?;
+                self.put_after(first, &asks.second)?;
+                Ok(())
+            }
+            LineAsks::Unless(asks) => self.refuse_after(first, asks),
+        }
+    }
+
+    /// Something is also found where one of these refusals is wrongful after an earlier segment.
+    fn refuse_all_after(&mut self, first: &Effect, refusals: &[Refusal]) -> Result<(), NoMemory>
+        ensures met { OnOk result (IsMetOr self.old self.new
+            (λ cells. list_any (is_wrongful (changed first.now cells)) refusals.now)) }
+        ensures possible { OnOk result (IsPossible self.old → IsPossible self.new) }
+        ensures names { OnOk result ((names : Names) → EffectWithin names first.now
+            → RefusalsWithin names refusals.now → PreWithin names self.old → PreWithin names self.new) }
+        ensures asks { self.new.asks ≡ self.old.asks }
+        ensures few { OnOk result (length self.new.refusals.items
+            ≤ length self.old.refusals.items + length refusals.now) }
+    {
+        for refusal in refusals {
+            self.refuse_after(first, &refusal.unless)?;
+        }
+        Ok(())
+    }
+
+    /// What is asked by a segment that asks this and has this effect, or by a later one, settled.
+    pub fn join(
+        &self,
+        alloc: Global,
+        first: &Effect,
+        later: &Precondition,
+    ) -> Result<Precondition, NoMemory>
+        requires own { IsSettled self.now }
+        requires later { IsSettled later.now }
+        ensures { IfOk result (IsAskedByBoth first.now self.now later.now) }
+    {
+        if self.certain || later.certain {
+            return Ok(Precondition::always(alloc));
+        }
+        let Some(asks) = asks_of_both(alloc, &self.asks, first, &later.asks)? else {
+            return Ok(Precondition::always(alloc));
+        };
+        let mut refusals = Vec::with_capacity(alloc, self.refusals.len())?;
+        refusals.extend_from_slice(&self.refusals)?;
+        let mut both = Precondition {
+            certain: false,
+            asks,
+            refusals,
+        };
+        both.refuse_all_after(first, &later.refusals)?;
+        if both.certain {
+            return Ok(Precondition::always(alloc));
+        }
+        Ok(both)
+    }
+
+    /// The same, settled: its asks in order, and nothing asked where something is certain.
+    pub fn settled(self, alloc: Global) -> Result<Precondition, NoMemory>
+        ensures met { IfOk result (λ pre. (s : State) → is_met (cells_of s) pre ≡ is_met (cells_of s) self) }
+        ensures settled { IfOk result IsSettled }
+        ensures possible { IfOk result (λ pre. IsPossible self → IsPossible pre) }
+        ensures names { IfOk result (λ pre. (names : Names) → PreWithin names self → PreWithin names pre) }
+        ensures few { IfOk result (λ pre. asks_size pre ≤ asks_size self) }
+        ensures refusals { IfOk result (λ pre. length pre.refusals.items ≤ length self.refusals.items) }
+    {
+        if self.certain {
+            return Ok(Precondition::always(alloc));
+        }
+        let Some(asks) = in_order(alloc, self.asks)? else {
+            return Ok(Precondition::always(alloc));
+        };
+        if any_is_certain(&asks) {
+            return Ok(Precondition::always(alloc));
+        }
+        Ok(Precondition {
+            certain: false,
+            asks,
+            refusals: self.refusals,
+        })
+    }
+}

@@ -1,0 +1,97 @@
+//! Maps that are changed in place.
+ghost use Rattle.std.specs.Prelude.{◌≡◌, ℕ, ◌==◌, false, unwrap_or, [], Some, if◌then◌else◌, OnOk, OnErr};
+ghost use Rattle.std.specs.Option.{option_copied};
+ghost use Rattle.cap_summary.specs.Sorted.{found, Rises};
+
+use super::place::place_of;
+use cap_tree::NoMemory;
+use std::alloc::Global;
+use std::marker::Model;
+use std::mem::replace;
+
+/// Values by key, which are put in place. A contract sees the list of its entries, each a key and a value, whose keys
+/// strictly rise.
+#[derive(Drop)]
+pub struct Map<V> {
+    entries: Vec<(u32, V)>,
+}
+
+impl<V> Model for Map<V> {
+    ghost use Rattle.std.specs.Prelude.{List, ℕ};
+    ghost use Rattle.cap_summary.specs.Sorted.{Rises};
+
+    ghost Value = { List (ℕ × V) };
+
+    ghost view = { λ m. m.entries.items };
+
+    ghost invariant = { λ m. Rises m.entries.items };
+}
+
+impl<V> Map<V> {
+    /// The entries in the order of their keys. Allocates nothing.
+    pub fn entries(&self) -> &[(u32, V)]
+        ensures all { result.now ≡ self.now }
+        ensures rising { Rises self.now }
+    {
+        &self.entries
+    }
+
+    /// The value at a key, if there is one. Halves the map at each step, and allocates nothing.
+    pub fn get(&self, key: u32) -> Option<&V>
+        ensures { option_copied result ≡ found self.now key }
+    {
+        match place_of(&self.entries, key) {
+            Ok(at) => Some(&self.entries[at].1),
+            Err(_) => None,
+        }
+    }
+}
+
+impl<V: Drop> Map<V> {
+    /// A map without entries. Allocates nothing.
+    pub fn new(alloc: Global) -> Map<V>
+        ensures { result ≡ [] }
+    {
+        Map {
+            entries: Vec::new(alloc),
+        }
+    }
+
+    /// The map of these entries, whose keys must strictly rise. It has no spare room.
+    pub(super) fn from_sorted(entries: Vec<(u32, V)>) -> Map<V>
+        requires { Rises entries.items }
+        ensures { result ≡ entries.items }
+    {
+        let mut exact = entries;
+        exact.shrink_to_fit();
+        Map { entries: exact }
+    }
+
+    /// Puts a value at a key, in place of the one that was there. It moves the entries above the key, so it is quick
+    /// where the keys come in rising order. If it fails the map stays as it was.
+    #[tactic(auto, using(crate::proofs::SortedSetting::puts))]
+    pub fn set(&mut self, key: u32, value: V) -> Result<(), NoMemory>
+        ensures ok { OnOk result ((k : ℕ) → found self.new k ≡ (if k == key then Some value else found self.old k)) }
+        ensures err { OnErr result (self.new ≡ self.old) }
+    {
+        match place_of(&self.entries, key) {
+            Ok(at) => {
+                self.entries[at] = (key, value);
+                Ok(())
+            }
+            Err(at) => Ok(self.entries.insert(at, (key, value))?),
+        }
+    }
+
+    /// The value at a key, in whose place the other one stands; that one, where the key has none. Allocates nothing.
+    #[tactic(auto, using(crate::proofs::SortedSetting::puts))]
+    pub fn take_or(&mut self, key: u32, other: V) -> V
+        ensures value { result ≡ unwrap_or (found self.old key) other }
+        ensures others { (k : ℕ) → (k == key) ≡ false → found self.new k ≡ found self.old k }
+    {
+        match place_of(&self.entries, key) {
+            Ok(at) => replace(&mut self.entries[at], (key, other)).1,
+            Err(_) => other,
+        }
+    }
+}

@@ -1,0 +1,150 @@
+//! Maps that are made of two.
+ghost use Rattle.std.specs.Prelude.{◌≡◌, ℕ, ◌+◌, ◌<◌, ◌≤◌, ◌||◌, true, Option, Some, None, [], length, is_some};
+ghost use Rattle.std.specs.Prelude.{if◌then◌else◌, IfOk, OnOk, IfNone, IfSome};
+ghost use Rattle.std.specs.Option.{option_copied};
+ghost use Rattle.cap_summary.specs.Sorted.{found, Rises, RisesFrom};
+
+use super::Map;
+use cap_tree::NoMemory;
+use std::alloc::Global;
+
+/// What a merge makes of the values that two tables have at one key: a new value, or none, which leaves the key out.
+pub trait Combine {
+    type Left;
+
+    type Right;
+
+    type Out: Drop;
+
+    /// What may stand at a key of the merged map, by what the two tables have there.
+    ghost gives: { Self → ℕ → Option Self.Left → Option Self.Right → Option Self.Out → Type 0 };
+
+    /// What stands at a key that only the left table has.
+    fn left(
+        &self,
+        alloc: Global,
+        key: u32,
+        left: &Self::Left,
+    ) -> Result<Option<Self::Out>, NoMemory>
+        ensures { IfOk result (λ out. gives self.now key (Some left.now) None out) };
+
+    /// What stands at a key that only the right table has.
+    fn right(
+        &self,
+        alloc: Global,
+        key: u32,
+        right: &Self::Right,
+    ) -> Result<Option<Self::Out>, NoMemory>
+        ensures { IfOk result (λ out. gives self.now key None (Some right.now) out) };
+
+    /// What stands at a key that both tables have.
+    fn both(
+        &self,
+        alloc: Global,
+        key: u32,
+        left: &Self::Left,
+        right: &Self::Right,
+    ) -> Result<Option<Self::Out>, NoMemory>
+        ensures { IfOk result (λ out. gives self.now key (Some left.now) (Some right.now) out) };
+
+    /// A key that neither table has may be left out.
+    ghost neither: { (s : Self) (k : ℕ) → gives s k None None None };
+}
+
+/// Puts at each key what `step` makes of the values that two lists of entries have there. It goes once over both.
+fn put_each<M: Combine>(
+    alloc: Global,
+    step: &M,
+    left: &[(u32, M::Left)],
+    right: &[(u32, M::Right)],
+    merged: &mut Vec<(u32, M::Out)>,
+) -> Result<(), NoMemory>
+    requires left { Rises left.now }
+    requires right { Rises right.now }
+    requires empty { merged.old.items ≡ [] }
+    ensures rising { OnOk result (Rises merged.new.items) }
+    ensures each { OnOk result
+        ((k : ℕ) → M.gives step.now k (found left.now k) (found right.now k) (found merged.new.items k)) }
+    ensures few { OnOk result (length merged.new.items ≤ length left.now + length right.now) }
+{
+    let mut lefts = left;
+    let mut rights = right;
+    while let Some(key) = first_key(lefts, rights) {
+        let (a, after_a) = split_key(lefts, key);
+        let (b, after_b) = split_key(rights, key);
+        if let Some(value) = combined(alloc, step, key, a, b)? {
+            merged.push((key, value))?;
+        }
+        lefts = after_a;
+        rights = after_b;
+    }
+    Ok(())
+}
+
+/// The map that has at each key what `step` makes of the values that two lists of entries have there, whose keys must
+/// strictly rise. It goes once over both, which stay as they are, and fails only where an allocation is refused.
+pub fn merge<M: Combine>(
+    alloc: Global,
+    step: &M,
+    left: &[(u32, M::Left)],
+    right: &[(u32, M::Right)],
+) -> Result<Map<M::Out>, NoMemory>
+    requires left { Rises left.now }
+    requires right { Rises right.now }
+    ensures each { IfOk result
+        (λ merged. (k : ℕ) → M.gives step.now k (found left.now k) (found right.now k) (found merged k)) }
+    ensures few { IfOk result (λ merged. length merged ≤ length left.now + length right.now) }
+{
+    let mut merged = Vec::with_capacity(alloc, left.len().saturating_add(right.len()))?;
+    put_each(alloc, step, left, right, &mut merged)?;
+    Ok(Map::from_sorted(merged))
+}
+
+/// The least key of both.
+fn first_key<L, R>(lefts: &[(u32, L)], rights: &[(u32, R)]) -> Option<u32>
+    requires left { Rises lefts.now }
+    requires right { Rises rights.now }
+    ensures left { IfSome result (λ key. RisesFrom key lefts.now) }
+    ensures right { IfSome result (λ key. RisesFrom key rights.now) }
+    ensures one { IfSome result (λ key. (is_some (found lefts.now key) || is_some (found rights.now key)) ≡ true) }
+    ensures end { IfNone result ((lefts.now ≡ []) × (rights.now ≡ [])) }
+{
+    match (lefts.first(), rights.first()) {
+        (Some(a), Some(b)) => Some(a.0.min(b.0)),
+        (Some(a), None) => Some(a.0),
+        (None, Some(b)) => Some(b.0),
+        (None, None) => None,
+    }
+}
+
+/// The value at a key that no entry is below, and the entries above it.
+fn split_key<V>(entries: &[(u32, V)], key: u32) -> (Option<&V>, &[(u32, V)])
+    requires { RisesFrom key entries.now }
+    ensures value { option_copied result.0 ≡ found entries.now key }
+    ensures rising { RisesFrom (key + 1) result.1.now }
+    ensures above { (k : ℕ) → key < k → found result.1.now k ≡ found entries.now k }
+    ensures fewer { length result.1.now + (if is_some (found entries.now key) then 1 else 0) ≡ length entries.now }
+{
+    match entries.split_first() {
+        Some((first, above)) if first.0 == key => (Some(&first.1), above),
+        _ => (None, entries),
+    }
+}
+
+/// What `step` makes of one key.
+fn combined<M: Combine>(
+    alloc: Global,
+    step: &M,
+    key: u32,
+    left: Option<&M::Left>,
+    right: Option<&M::Right>,
+) -> Result<Option<M::Out>, NoMemory>
+    ensures { IfOk result (λ out. M.gives step.now key (option_copied left.entry) (option_copied right.entry) out) }
+{
+    match (left, right) {
+        (Some(left), Some(right)) => step.both(alloc, key, left, right),
+        (Some(left), None) => step.left(alloc, key, left),
+        (None, Some(right)) => step.right(alloc, key, right),
+        (None, None) => Ok(None),
+    }
+}

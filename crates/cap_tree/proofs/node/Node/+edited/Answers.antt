@@ -1,0 +1,34 @@
+use Rattle.std.proofs.Common.{ap}
+use Rattle.cap_tree.proofs.Edited.{edited-beside, beside-nothing, few-beside}
+use Rattle.cap_tree.proofs.node.Node.+edited.Goals as goal
+
+pub returns-in-None-changed-clause-items : goal.returns-in-None-changed-clause-items
+returns-in-None-changed-clause-items g t c =
+    let all = rw c.deref-node.ensures at (ap (λ d. d.0) (rw c.in-Branch.is at c.node.view_is)) in
+    let long = rw c.deref.ensures at c.len.ensures.count in
+    let gone = rw c.in-None-changed.is at c.in_ok-changed-in-Branch.ensures.items in
+    let new = edited-beside (λ n. n.now.value.0) c.of_place-side.result.0 _ _ _ _ c.args.edit _ _ _
+    c.order.ensures.part c.order.ensures.other long c.of_place-side.ensures in
+    rw (c.in_ok-kept-in-Branch.ensures.cases, ← all, ← new, gone) (beside-nothing _ _)
+
+pub returns-in_ok-new-in-Some-changed-clause-items :
+    goal.returns-in_ok-new-in-Some-changed-clause-items
+returns-in_ok-new-in-Some-changed-clause-items g t c =
+    let all = rw c.deref-node.ensures at (ap (λ d. d.0) (rw c.in-Branch.is at c.node.view_is)) in
+    let long = rw c.deref.ensures at c.len.ensures.count in
+    let part = rw c.in-Some-changed.is at c.in_ok-changed-in-Branch.ensures.items in
+    let new = edited-beside (λ n. n.now.value.0) c.of_place-side.result.0 _ _ _ _ c.args.edit _ _ _
+    c.order.ensures.part c.order.ensures.other long c.of_place-side.ensures in
+    rw (part, c.in_ok-kept-in-Branch.ensures.cases, new, all) at c.in_ok-new-in-Some-changed.ensures.items
+
+pub settle-requires-clause-few : goal.settle-requires-clause-few
+settle-requires-clause-few g t c =
+    let all = rw c.deref-node.ensures at (ap (λ d. d.0) (rw c.in-Branch.is at c.node.view_is)) in
+    let few = rw (c.in-Branch.is, all) at c.node.invariant.few in
+    let long = rw c.deref.ensures at c.len.ensures.count in
+    let part = rw c.in-Some-changed.is at c.in_ok-changed-in-Branch.ensures.items in
+    let new = edited-beside (λ n. n.now.value.0) c.of_place-side.result.0 _ _ _ _ c.args.edit _ _ _
+    c.order.ensures.part c.order.ensures.other long c.of_place-side.ensures in
+    rw (part, c.in_ok-kept-in-Branch.ensures.cases)
+    (few-beside c.of_place-side.result.0 _ _ c.args.this.now.value.0 c.args.edit c.args.at (rw all at new) few
+    c.requires.allowed)
