@@ -13,6 +13,7 @@ ghost use Rattle.capcheck.specs.Faults.{fault_code};
 ghost use Rattle.capcheck.specs.Plans.{seen};
 ghost use Rattle.cap_session.specs.LimitStreams.{limits_say};
 ghost use Rattle.capcheck.specs.Runs.{AnswersText, AsksText, CarriesOut, EditsText, Finishes, explanation_says};
+ghost use Rattle.capcheck.specs.Runs.{AskIsNoFault, EditIsNoFault, ExplanationIsNoFault, LimitsAreNoFault, NeverFail};
 ghost use Rattle.capcheck.specs.Runs.{known_start};
 ghost use Rattle.capcheck.specs.Texts.{Gives, MayFail};
 
@@ -22,7 +23,7 @@ use crate::plan::{Plan, Subject, plan_of};
 use crate::texts::{SystemTexts, Texts};
 use cap_machine::Question;
 use cap_session::{
-    Counted, ExplainOutcome, Failed, Outcome, Sink, check_stream_from_as, denials_stream,
+    Counted, ExplainOutcome, Failed, Outcome, Sink, Source, check_stream_from_as, denials_stream,
     edit_stream_as, explain_stream_from_as, limits_stream,
 };
 use std::alloc::Global;
@@ -86,8 +87,8 @@ pub fn answer<T: Texts, W: Sink, R: Print + Eprint + AllocGlobal>(
     words: &[&str],
 ) -> u8
     requires { 1 ≤ (W.state output.old).room }
-    ensures { Finishes (map (λ w. w.now) words.entry.now) (T.known texts.now) (W.state output.old)
-        (W.state output.new) result }
+    ensures { Finishes T.Reader.state (map (λ w. w.now) words.entry.now) (T.known texts.now)
+        (W.state output.old) (W.state output.new) result }
 {
     carry_out(rt, texts, notes, output, plan_of(rt.alloc(), words))
 }
@@ -101,7 +102,8 @@ fn carry_out<T: Texts, W: Sink, R: Print + Eprint + AllocGlobal>(
     plan: Plan<'_>,
 ) -> u8
     requires { 1 ≤ (W.state output.old).room }
-    ensures { CarriesOut (T.known texts.now) (W.state output.old) (W.state output.new) plan.entry result }
+    ensures { CarriesOut T.Reader.state (T.known texts.now) (W.state output.old) (W.state output.new)
+        plan.entry result }
 {
     match plan {
         Plan::Ask { question, subject } => {
@@ -140,6 +142,15 @@ fn carry_out<T: Texts, W: Sink, R: Print + Eprint + AllocGlobal>(
 #[tactic(auto, unfolding(cap_session::specs::Texts::with_lines, cap_session::specs::Lines::whole_lines, cap_session::specs::Lines::last_piece, cap_machine::specs::Table::start_state))]
 pub fn empty_start_is_usual()
     ensures { start_said [] ≡ Ok usual }
+{}
+
+/// Where a reader's type never counts a failure, as that of texts in memory, no run ends with a read fault, unless one of
+/// its texts may be one that can't be opened.
+pub fn no_fault_of_readers_that_never_fail<R: Source>()
+    ensures asked { NeverFail R.state → AskIsNoFault R.state }
+    ensures edited { NeverFail R.state → EditIsNoFault R.state }
+    ensures explained { NeverFail R.state → ExplanationIsNoFault R.state }
+    ensures limited { NeverFail R.state → LimitsAreNoFault R.state }
 {}
 
 /// Opens the start. Where none is named that is a text without any bytes, which is the usual start.
@@ -183,8 +194,9 @@ pub fn ask<T: Texts, W: Sink>(
     subject: &Subject<'_>,
 ) -> Outcome
     requires { 1 ≤ (W.state output.old).room }
-    ensures { AsksText question subject.now.profile (known_start (T.known texts.now) subject.now.start)
-        (T.known texts.now (seen subject.now.trace)) (W.state output.old) (W.state output.new) result }
+    ensures { AsksText T.Reader.state question subject.now.profile
+        (known_start (T.known texts.now) subject.now.start) (T.known texts.now (seen subject.now.trace))
+        (W.state output.old) (W.state output.new) result }
 {
     let Ok(opened) = open_both(texts, subject) else {
         return Outcome::ReadFault;
@@ -210,7 +222,7 @@ pub fn edit<T: Texts, W: Sink>(
     script: Option<&str>,
 ) -> Outcome
     requires { 1 ≤ (W.state replies.old).room }
-    ensures { EditsText subject.now.profile (T.known texts.now (seen subject.now.trace))
+    ensures { EditsText T.Reader.state subject.now.profile (T.known texts.now (seen subject.now.trace))
         (T.known texts.now (seen script.entry)) (W.state replies.old) (W.state replies.new) result }
 {
     let Ok(mut trace) = texts.open(subject.trace) else {
@@ -233,7 +245,7 @@ pub fn explain<T: Texts, W: Sink>(
     position: usize,
 ) -> ExplainOutcome
     requires { 1 ≤ (W.state output.old).room }
-    ensures { AnswersText (explanation_says subject.now.profile position)
+    ensures { AnswersText T.Reader.state (explanation_says subject.now.profile position)
         (known_start (T.known texts.now) subject.now.start) (T.known texts.now (seen subject.now.trace))
         (W.state output.old) (W.state output.new) result }
 {
@@ -257,7 +269,7 @@ pub fn limits<T: Texts, W: Sink>(
     at: Option<usize>,
 ) -> ExplainOutcome
     requires { 1 ≤ (W.state output.old).room }
-    ensures { AnswersText (limits_say subject.now.profile at)
+    ensures { AnswersText T.Reader.state (limits_say subject.now.profile at)
         (known_start (T.known texts.now) subject.now.start) (T.known texts.now (seen subject.now.trace))
         (W.state output.old) (W.state output.new) result }
 {
