@@ -17,11 +17,9 @@ use Rattle.cap_summary.specs.declared.key.Key.TheVariants as key
 use Rattle.cap_summary.specs.declared.test.Flags.{Flags}
 use Rattle.cap_summary.specs.declared.test.Test.{Test}
 use Rattle.cap_summary.specs.declared.ask.Ask.{Ask}
-use Rattle.cap_summary.specs.declared.ask.Pulled.{Pulled}
-use Rattle.cap_summary.specs.declared.ask.Pulled.TheVariants.{Always, Never, Where}
 use Rattle.cap_summary.specs.Keys.{mode_cell, cells_of}
 use Rattle.cap_summary.specs.Tests.{has_flag, any_flag, any_kind, is_full, passes, can_pass}
-use Rattle.cap_summary.specs.Asks.{any_holds, certain_at, possible_at, CanBe, IsOpen, PulledIsOpen, PulledCan}
+use Rattle.cap_summary.specs.Asks.{any_holds, certain_at, possible_at, CanBe, IsOpen}
 use Rattle.cap_summary.specs.Preconditions.{any_certain}
 use Rattle.std.specs.List.{All}
 use Rattle.std.proofs.lemmas.List.Elements.{All-nil, All-cons}
@@ -119,11 +117,9 @@ is_open ask certain possible = record {
   fails = fails_somewhere ask.pid ask.key ask.test certain;
 }
 
-pub pulled_can : (answer : Bool) (pulled : Pulled) → PulledIsOpen pulled → PulledCan answer pulled
-pulled_can answer Always is = tt
-pulled_can answer Never is = tt
-pulled_can true (Where ask) is = is.holds
-pulled_can false (Where ask) is = is.fails
+pub open_can : (answer : Bool) (ask : Ask) → IsOpen ask → CanBe answer ask
+open_can true ask is = is.holds
+open_can false ask is = is.fails
 
 -- ---- in every state
 full_passes : (t : Test) → is_full t.kinds ≡ true → (c : Cell) → passes t c ≡ true

@@ -1,5 +1,5 @@
 -- Asks of a later segment, pulled back through the effect of a first one.
-use Rattle.std.proofs.Common.{◌≡◌, List, [], ◌∷◌, ◌++◌, Bool, true, false, ◌||◌, ℕ, ◌+◌, ◌<◌, ◌≤◌, length, get_or, take}
+use Rattle.std.proofs.Common.{◌≡◌, List, [], ◌∷◌, ◌++◌, Bool, true, false, ◌||◌, ℕ, ◌+◌, ◌<◌, ◌≤◌, length, get_or, take, drop}
 use Rattle.std.proofs.Common.{refl, sym, ap, ◌∙◌, subst, arith, length-append}
 use Rattle.std.specs.List.{list_any, All}
 use Rattle.std.proofs.lemmas.List.{take_more}
@@ -10,18 +10,104 @@ use Rattle.cap_summary.specs.declared.ask.Ask.{Ask}
 use Rattle.cap_summary.specs.declared.effect.Effect.{Effect}
 use Rattle.cap_summary.specs.declared.precondition.Precondition.{Precondition}
 use Rattle.cap_summary.specs.Keys.{Cells, cells_of}
-use Rattle.cap_summary.specs.Effects.{changed}
+use Rattle.cap_summary.specs.Effects.{is_from, others_cell, base_cell, row_cell, cell_in, changed}
 use Rattle.cap_summary.specs.declared.precondition.Refusal.{Refusal}
 use Rattle.cap_summary.specs.Names.{Names, has_cell, EffectWithin, RefusalsWithin, PreWithin}
-use Rattle.cap_summary.specs.Asks.{holds, any_holds, CanBe, AskWithin, IsUnionOf}
+use Rattle.cap_summary.specs.Asks.{place, holds, any_holds, CanBe, AskWithin, RisesFrom, Rises, IsUnionOf}
 use Rattle.cap_summary.specs.Preconditions.{is_met, is_wrongful, IsPulledBack, AreAskedByBoth, IsAskedByBoth, IsPossible}
 use Rattle.cap_summary.specs.Preconditions.{IsSettled, IsMetOr}
 use Rattle.cap_summary.specs.Sizes.{asks_size}
 use Rattle.std.specs.declared.vec.Vec.{Vec}
 use Rattle.std.specs.declared.alloc.Global.{Global}
 use Rattle.cap_summary.proofs.Bools.{or_false, or_true, or_assoc, or_last, or_crossed}
-use Rattle.cap_summary.proofs.Uniting.{all_left, all_right}
+use Rattle.cap_summary.proofs.Bools.{and_left, and_right}
+use Rattle.cap_summary.proofs.Uniting.{all_left, all_right, AllBelow, below_more, below-push, rises-push, drop_here}
+use Rattle.std.specs.Prelude.{Option, Some, None, is_none, not, if◌then◌else◌}
+use Rattle.std.specs.Option.{option_map_or}
+use Rattle.cap_machine.specs.declared.cell.Cell.{Cell}
+use Rattle.cap_machine.specs.declared.cell.Cell.TheVariants.{Closed}
+use Rattle.cap_summary.specs.declared.key.Key.{Key}
+use Rattle.cap_summary.specs.declared.key.Key.TheVariants as key
+use Rattle.cap_summary.specs.declared.value.Value.{Value}
+use Rattle.cap_summary.specs.declared.base.Others.{Others}
+use Rattle.cap_summary.specs.declared.base.Others.TheVariants as others
+use Rattle.cap_summary.specs.declared.effect.Row.{Row}
+use Rattle.cap_summary.specs.Sorted.{found}
+use Rattle.cap_summary.specs.Values.{read}
+use Rattle.cap_summary.specs.Leaving.{is_own, base_leaves, row_leaves, leaves_in}
 
+-- ---- a cell that the first segment leaves
+others_left : (cells : Cells) (p f : ℕ) (o : Others) → is_own o ≡ true → others_cell cells p o f ≡ cells p (key.Fd f)
+others_left cells p f others.Own is = refl
+others_left cells p f others.Unknown is = absurd cc
+others_left cells p f others.Closed is = absurd cc
+others_left cells p f (others.Of q passing) is = absurd cc
+
+not_read : (cells : Cells) (v : Option Value) (c : Cell) → is_none v ≡ true → option_map_or (read cells) v c ≡ c
+not_read cells None c is = refl
+not_read cells (Some v) c is = absurd cc
+
+closed_not : (b : Bool) (c d : Cell) → not b ≡ true → c ≡ d → (if b then Closed else c) ≡ d
+closed_not true c d is same = absurd cc
+closed_not false c d is same = same
+
+row_left : (cells : Cells) (p : ℕ) (row : Row) (k : Key) → row_leaves row k ≡ true → row_cell cells p row k ≡ cells p k
+row_left cells p row key.Mode is = not_read cells row.mode (cells p key.Mode) is
+row_left cells p row (key.Fd f) is =
+    let unlisted = and_left (is_none (found row.cells f)) (base_leaves row.base f) is in
+    let base = and_right (is_none (found row.cells f)) (base_leaves row.base f) is in
+    not_read cells (found row.cells f) (base_cell cells p row.base f) unlisted
+    ∙ closed_not (is_from row.base.closed_from f) (others_cell cells p row.base.others f) (cells p (key.Fd f))
+    (and_right (is_own row.base.others) (not (is_from row.base.closed_from f)) base)
+    (others_left cells p f row.base.others (and_left (is_own row.base.others) (not (is_from row.base.closed_from f)) base))
+
+pub cell_left : (cells : Cells) (p : ℕ) (row : Option Row) (k : Key) → leaves_in row k ≡ true
+    → cell_in cells row p k ≡ cells p k
+cell_left cells p None k is = refl
+cell_left cells p (Some row) k is = row_left cells p row k is
+
+-- ---- asks at the places that they had, before those that are left
+pub record AreKept (left kept : List Ask) : Type 0 where
+  pub bound : ℕ
+  pub left_rises : RisesFrom bound left
+  pub rises : Rises kept
+  pub below : AllBelow bound kept
+
+pub kept_none : (left kept : List Ask) → Rises left → kept ≡ [] → AreKept left kept
+kept_none left kept rises is = record { bound = 0; left_rises = rises; rises = rw is tt; below = rw is tt }
+
+module _ (asks kept : List Ask) (i : ℕ) (ask : Ask) (within : i < length asks) (is : ask ≡ get_or asks i ask)
+    (so_far : AreKept (drop i asks) kept) where
+  front : RisesFrom so_far.bound (ask ∷ drop (i + 1) asks)
+  front = subst (RisesFrom so_far.bound) (drop_here asks i ask within is) so_far.left_rises
+
+  pub kept_same : AreKept (drop (i + 1) asks) kept
+  kept_same = record {
+    bound = place ask + 1;
+    left_rises = front.1;
+    rises = so_far.rises;
+    below = below_more so_far.bound (place ask + 1) kept (omega (arith, front.0)) so_far.below;
+  }
+
+  pub kept_more : (before : Ask) → place before ≡ place ask → AreKept (drop (i + 1) asks) (kept ++ before ∷ [])
+  kept_more before same = record {
+    bound = place ask + 1;
+    left_rises = front.1;
+    rises = rises-push 0 kept before so_far.rises
+        (below_more so_far.bound (place before) kept (omega (arith, same, front.0)) so_far.below) (omega arith);
+    below = below-push (place ask + 1) kept before
+        (below_more so_far.bound (place ask + 1) kept (omega (arith, front.0)) so_far.below) (omega (arith, same));
+  }
+
+pub pulled_none : (first : Effect) (kept moved : List Ask) → kept ≡ [] → moved ≡ [] → IsPulledBack first [] kept moved
+pulled_none first kept moved near far = record {
+  holds = λ s. rw (near, far) refl;
+  can = λ answer all. (rw near all, rw far all);
+  names = λ names effect all. (rw near all, rw far all);
+  few = rw (near, far) (omega arith);
+}
+
+-- ---- one more
 module _ (first : Effect) (asks : List Ask) (i : ℕ) (ask : Ask) (kept moved : List Ask) (within : i < length asks)
     (is : ask ≡ get_or asks i ask) (so_far : IsPulledBack first (take i asks) kept moved) where
   one_more : take (i + 1) asks ≡ take i asks ++ ask ∷ []
@@ -34,8 +120,8 @@ module _ (first : Effect) (asks : List Ask) (i : ℕ) (ask : Ask) (kept moved : 
   counted : length (take (i + 1) asks) ≡ length (take i asks) + 1
   counted = ap (λ (xs : List Ask). length xs) one_more ∙ length-append (take i asks) (ask ∷ [])
 
-  front : (P : Ask → Type 0) → All P (take (i + 1) asks) → All P (take i asks) × P ask
-  front P all =
+  parts : (P : Ask → Type 0) → All P (take (i + 1) asks) → All P (take i asks) × P ask
+  parts P all =
       let whole : All P (take i asks ++ ask ∷ []) = subst (All P) one_more all in
       (all_left P (take i asks) (ask ∷ []) whole, All-head P ask [] (all_right P (take i asks) (ask ∷ []) whole))
 
@@ -47,8 +133,8 @@ module _ (first : Effect) (asks : List Ask) (i : ℕ) (ask : Ask) (kept moved : 
         ∙ sym (or_false (any_holds (changed first (cells_of s)) (take i asks)))
         ∙ ap (λ r. any_holds (changed first (cells_of s)) (take i asks) || r) (sym (never s))
         ∙ sym (met_more (changed first (cells_of s)));
-    can = λ answer all. so_far.can answer (front (CanBe answer) all).0;
-    names = λ names effect all. so_far.names names effect (front (AskWithin (has_cell names)) all).0;
+    can = λ answer all. so_far.can answer (parts (CanBe answer) all).0;
+    names = λ names effect all. so_far.names names effect (parts (AskWithin (has_cell names)) all).0;
     few = omega (arith, counted, so_far.few);
   }
 
@@ -72,11 +158,11 @@ module _ (first : Effect) (asks : List Ask) (i : ℕ) (ask : Ask) (kept moved : 
           ∙ or_last (any_holds (cells_of s) kept) (holds (cells_of s) before || false) (any_holds (cells_of s) moved)
           ∙ met_before s;
       can = λ answer all.
-          let two = front (CanBe answer) all in
+          let two = parts (CanBe answer) all in
           let old = so_far.can answer two.0 in
           (All-push (CanBe answer) kept before old.0 (can answer two.1), old.1);
       names = λ names effect all.
-          let two = front (AskWithin (has_cell names)) all in
+          let two = parts (AskWithin (has_cell names)) all in
           let old = so_far.names names effect two.0 in
           (All-push (AskWithin (has_cell names)) kept before old.0 (named names effect two.1), old.1);
       few = omega (arith, counted, so_far.few, length-append kept (before ∷ []));
@@ -90,31 +176,32 @@ module _ (first : Effect) (asks : List Ask) (i : ℕ) (ask : Ask) (kept moved : 
           (holds (cells_of s) before || false))
           ∙ met_before s;
       can = λ answer all.
-          let two = front (CanBe answer) all in
+          let two = parts (CanBe answer) all in
           let old = so_far.can answer two.0 in
           (old.0, All-push (CanBe answer) moved before old.1 (can answer two.1));
       names = λ names effect all.
-          let two = front (AskWithin (has_cell names)) all in
+          let two = parts (AskWithin (has_cell names)) all in
           let old = so_far.names names effect two.0 in
           (old.0, All-push (AskWithin (has_cell names)) moved before old.1 (named names effect two.1));
       few = omega (arith, counted, so_far.few, length-append moved (before ∷ []));
     }
 
 -- ---- the asks of both segments
-pub asked_by_both : (first : Effect) (own later kept moved pulled both : List Ask)
-    → IsPulledBack first later kept moved → IsUnionOf kept moved pulled → IsUnionOf own pulled both
+pub asked_by_both : (first : Effect) (own later kept moved united both : List Ask)
+    → IsPulledBack first later kept moved → IsUnionOf own kept united → IsUnionOf united moved both
     → AreAskedByBoth first own later both
-asked_by_both first own later kept moved pulled both back order union = record {
+asked_by_both first own later kept moved united both back near union = record {
   rises = union.rises;
-  holds = λ s. union.holds (cells_of s)
-      ∙ ap (λ r. any_holds (cells_of s) own || r) (order.holds (cells_of s) ∙ back.holds s);
+  holds = λ s. union.holds (cells_of s) ∙ ap (λ r. r || any_holds (cells_of s) moved) (near.holds (cells_of s))
+      ∙ or_assoc (any_holds (cells_of s) own) (any_holds (cells_of s) kept) (any_holds (cells_of s) moved)
+      ∙ ap (λ r. any_holds (cells_of s) own || r) (back.holds s);
   can = λ answer a b.
       let two = back.can answer b in
-      union.can answer a (order.can answer two.0 two.1);
+      union.can answer (near.can answer a two.0) two.1;
   names = λ names effect a b.
       let two = back.names names effect b in
-      union.names (has_cell names) a (order.names (has_cell names) two.0 two.1);
-  few = omega (arith, union.few, order.few, back.few);
+      union.names (has_cell names) (near.names (has_cell names) a two.0) two.1;
+  few = omega (arith, union.few, near.few, back.few);
 }
 
 -- ---- both segments

@@ -62,12 +62,6 @@ PulledIsOpen Always = Unit {0}
 PulledIsOpen Never = Unit {0}
 PulledIsOpen (Where ask) = IsOpen ask
 
--- in some state it holds, or doesn't, if it asks
-abbrev pub PulledCan : Bool → Pulled → Type 0
-PulledCan answer Always = Unit {0}
-PulledCan answer Never = Unit {0}
-PulledCan answer (Where ask) = CanBe answer ask
-
 -- the cell that it asks about, if it asks, is among these
 abbrev pub pulled_within : (ℕ → Key → Bool) → Pulled → Bool
 pulled_within names Always = true

@@ -10,7 +10,6 @@ ghost use Rattle.cap_summary.specs.Effects.{changed};
 ghost use Rattle.cap_summary.specs.Names.{Names, has_cell, EffectWithin};
 ghost use Rattle.cap_summary.specs.Seen.{seen_cell, seen_within};
 ghost use Rattle.cap_summary.specs.Asks.{holds, certain_at, possible_at, pulled_holds, pulled_within, PulledIsOpen};
-ghost use Rattle.cap_summary.specs.Asks.{CanBe, PulledCan};
 ghost use Rattle.cap_summary.specs.Asks.{place, IsAtPlace};
 
 use crate::effect::Effect;
@@ -133,21 +132,6 @@ impl Ask {
             Seen::Made(op, pid, key) => (pid, key, self.test.before(op)),
         };
         Ask { pid, key, test }.settled()
-    }
-
-    /// The same, of an ask of which it depends on the state whether it holds. Where its cell is as it was, it stays as it
-    /// is.
-    pub(crate) fn open_before(&self, first: &Effect) -> Pulled
-        ensures holds { (s : State) → pulled_holds (cells_of s) result ≡ holds (changed first.now (cells_of s)) self.now }
-        ensures can { (answer : Bool) → CanBe answer self.now → PulledCan answer result }
-        ensures names { (names : Names) → EffectWithin names first.now → has_cell names self.now.pid self.now.key ≡ true
-            → pulled_within (has_cell names) result ≡ true }
-    {
-        if first.keeps(self.pid, self.key) {
-            Pulled::Where(*self)
-        } else {
-            self.before(first)
-        }
     }
 }
 

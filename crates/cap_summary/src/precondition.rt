@@ -5,7 +5,7 @@ ghost use Rattle.std.specs.List.{list_any};
 ghost use Rattle.cap_machine.specs.State.{State};
 ghost use Rattle.cap_summary.specs.Keys.{Cells, cells_of};
 ghost use Rattle.cap_summary.specs.Asks.{any_holds, pulled_holds, pulled_within, is_always, PulledIsOpen, IsOpen};
-ghost use Rattle.cap_summary.specs.Asks.{Rises, IsUnionOf, OneAlwaysHolds};
+ghost use Rattle.cap_summary.specs.Asks.{Rises};
 ghost use Rattle.cap_summary.specs.LineAsks.{part_holds, one_holds, asked_holds, refusals_in};
 ghost use Rattle.cap_summary.specs.Effects.{changed};
 ghost use Rattle.cap_summary.specs.Preconditions.{is_met, is_wrongful, three_hold, any_certain, IsMetOr, IsSettled};
@@ -18,8 +18,10 @@ use crate::ask::{Ask, Pulled};
 use crate::asks::{in_order, unite};
 use crate::effect::Effect;
 use crate::line_asks::{LineAsks, UpToThree};
+use crate::reading::leaves_in;
 use cap_tree::NoMemory;
 use std::alloc::Global;
+use std::cmp::Ordering;
 
 /// A refusal for lack of rights (errno 93). It is wrongful unless one of these asks holds.
 #[derive(Clone, Copy, Debug, PartialEq, Eq)]
@@ -106,49 +108,44 @@ fn pulled_three(first: &Effect, asks: &UpToThree) -> Option<UpToThree>
     })
 }
 
-/// What the asks of a later segment ask before a first one, in no order.
+/// What the asks of a later segment ask before a first one.
 #[derive(Drop)]
 struct PulledAsks {
-    /// Of the cells that they were about. These stand in order as a rule.
+    /// At the places that they had, in order.
     kept: Vec<Ask>,
-    /// Of other cells.
+    /// At other places, in no order.
     moved: Vec<Ask>,
-}
-
-impl PulledAsks {
-    /// All of them, in order; `None` where some at one place hold in every state.
-    fn in_order(self, alloc: Global) -> Result<Option<Vec<Ask>>, NoMemory>
-        ensures always { IfOk result (λ asks. IfNone asks (OneAlwaysHolds self.kept.items self.moved.items)) }
-        ensures asks { IfOk result (λ asks. IfSome asks
-            (λ asks. IsUnionOf self.kept.items self.moved.items asks.items)) }
-    {
-        let Some(kept) = in_order(alloc, self.kept)? else {
-            return Ok(None);
-        };
-        let Some(moved) = in_order(alloc, self.moved)? else {
-            return Ok(None);
-        };
-        unite(alloc, &kept, &moved)
-    }
 }
 
 /// What these asks ask before an earlier segment; `None` where one of them holds in every state.
 fn pulled_asks(alloc: Global, first: &Effect, asks: &[Ask]) -> Result<Option<PulledAsks>, NoMemory>
+    requires { Rises asks.now }
     ensures always { IfOk result (λ pulled. IfNone pulled ((s : State)
         → any_holds (changed first.now (cells_of s)) asks.now ≡ true)) }
     ensures asks { IfOk result (λ pulled. IfSome pulled
         (λ pulled. IsPulledBack first.now asks.now pulled.kept.items pulled.moved.items)) }
+    ensures rises { IfOk result (λ pulled. IfSome pulled (λ pulled. Rises pulled.kept.items)) }
 {
     let mut kept = Vec::with_capacity(alloc, asks.len())?;
     let mut moved = Vec::new(alloc);
+    let mut pid = 0;
+    let mut row = first.rows.get(pid);
     for ask in asks {
-        match ask.open_before(first) {
+        if ask.pid != pid {
+            pid = ask.pid;
+            row = first.rows.get(pid);
+        }
+        if leaves_in(row, ask.key) {
+            kept.push(*ask)?;
+            continue;
+        }
+        match ask.before(first) {
             Pulled::Always => return Ok(None),
             Pulled::Never => {}
-            Pulled::Where(before) if before.pid == ask.pid && before.key == ask.key => {
-                kept.push(before)?;
-            }
-            Pulled::Where(before) => moved.push(before)?,
+            Pulled::Where(before) => match before.order(ask) {
+                Ordering::Equal => kept.push(before)?,
+                _ => moved.push(before)?,
+            },
         }
     }
     Ok(Some(PulledAsks { kept, moved }))
@@ -162,7 +159,8 @@ fn asks_of_both(
     first: &Effect,
     later: &[Ask],
 ) -> Result<Option<Vec<Ask>>, NoMemory>
-    requires { Rises own.now }
+    requires own { Rises own.now }
+    requires later { Rises later.now }
     ensures always { IfOk result (λ both. IfNone both ((s : State)
         → (any_holds (cells_of s) own.now || any_holds (changed first.now (cells_of s)) later.now) ≡ true)) }
     ensures asks { IfOk result (λ both. IfSome both (λ both. AreAskedByBoth first.now own.now later.now both.items)) }
@@ -170,8 +168,14 @@ fn asks_of_both(
     let Some(pulled) = pulled_asks(alloc, first, later)? else {
         return Ok(None);
     };
-    match pulled.in_order(alloc)? {
-        Some(pulled) => unite(alloc, own, &pulled),
+    let Some(both) = unite(alloc, own, &pulled.kept)? else {
+        return Ok(None);
+    };
+    if pulled.moved.is_empty() {
+        return Ok(Some(both));
+    }
+    match in_order(alloc, pulled.moved)? {
+        Some(moved) => unite(alloc, &both, &moved),
         None => Ok(None),
     }
 }

@@ -1,14 +1,14 @@
 //! What a row and an effect say of a cell, and how much they list.
 
 ghost use Rattle.std.specs.Prelude.{◌≡◌, ℕ, true, false, is_none, IfOk};
-ghost use Rattle.std.specs.Option.{option_map_or};
+ghost use Rattle.std.specs.Option.{option_copied, option_map_or};
 ghost use Rattle.cap_machine.specs.declared.cell.Cell.{Cell};
 ghost use Rattle.cap_summary.specs.declared.key.Key.{Key};
 ghost use Rattle.cap_summary.specs.Keys.{Cells};
 ghost use Rattle.cap_summary.specs.Values.{read, reads_within};
 ghost use Rattle.cap_summary.specs.Names.{Names, has_cell, mode_within, RowWithin, EffectWithin};
 ghost use Rattle.cap_summary.specs.Effects.{own_row, row_cell, changed};
-ghost use Rattle.cap_summary.specs.Leaving.{row_leaves, leaves};
+ghost use Rattle.cap_summary.specs.Leaving.{row_leaves, leaves_in, leaves};
 ghost use Rattle.cap_summary.specs.RowSizes.{IsSizeOf};
 ghost use Rattle.cap_summary.specs.Sorted.{Rises};
 
@@ -132,6 +132,16 @@ impl Row {
     }
 }
 
+/// Whether it is known that no line touches a cell of a process with this row, if it has one.
+pub(crate) fn leaves_in(row: Option<&Row>, key: Key) -> bool
+    ensures { result ≡ leaves_in (option_copied row.entry) key }
+{
+    match row {
+        Some(row) => row.leaves(key),
+        None => true,
+    }
+}
+
 impl Effect {
     /// What becomes of a cell.
     pub fn read(&self, alloc: Global, pid: Pid, key: Key) -> Result<Value, NoMemory>
@@ -149,10 +159,7 @@ impl Effect {
     pub fn leaves(&self, pid: Pid, key: Key) -> bool
         ensures { result ≡ leaves self.now pid key }
     {
-        match self.rows.get(pid) {
-            Some(row) => row.leaves(key),
-            None => true,
-        }
+        leaves_in(self.rows.get(pid), key)
     }
 
     /// A value of a later segment, by the cells before this one.

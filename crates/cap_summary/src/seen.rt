@@ -93,14 +93,4 @@ impl Effect {
             None => Seen::Same(pid, key),
         }
     }
-
-    /// Whether a cell is as it was before the segment, as far as is known. No promises nothing.
-    pub(crate) fn keeps(&self, pid: Pid, key: Key) -> bool
-        ensures { result ≡ true → (cells : Cells) → changed self.now cells pid key ≡ cells pid key }
-    {
-        match self.seen(pid, key) {
-            Seen::Same(source, at) => source == pid && at == key,
-            _ => false,
-        }
-    }
 }

@@ -1,3 +1,6 @@
+use Rattle.std.proofs.Common.{◌≡◌, [], sym, ◌∙◌, arith}
+use Rattle.std.proofs.lemmas.Bool.{eqb-true}
+use Rattle.std.proofs.lemmas.List.{nil_from_length}
 use Rattle.std.proofs.lemmas.Option.{IfSome_then}
 use Rattle.std.proofs.lemmas.Result.{IfOk-weaker}
 use Rattle.cap_summary.specs.Keys.{cells_of}
@@ -5,6 +8,7 @@ use Rattle.cap_summary.specs.Asks.{any_holds, IsUnionOf}
 use Rattle.cap_summary.specs.Preconditions.{IsPulledBack}
 use Rattle.cap_summary.proofs.Bools.{or_true}
 use Rattle.cap_summary.proofs.Pulling.{asked_by_both}
+use Rattle.cap_summary.proofs.Uniting.{united_none, united_with}
 use Rattle.cap_summary.proofs.precondition.asks_of_both.Goals as goal
 
 pub returns-in_default-clause-always : goal.returns-in_default-clause-always
@@ -12,14 +16,30 @@ returns-in_default-clause-always c = λ s.
     let always = rw c.in_default.is at c.in_ok-pulled.ensures.always in
     rw (always s) (or_true (any_holds (cells_of s) c.args.own.now))
 
-pub returns-in-Some-2-clause-asks : goal.returns-in-Some-2-clause-asks
-returns-in-Some-2-clause-asks c =
+pub returns-then-is_empty-clause-asks : goal.returns-then-is_empty-clause-asks
+returns-then-is_empty-clause-asks c =
     let kept = c.in-Some.pulled.kept.items in
     let moved = c.in-Some.pulled.moved.items in
-    let pulled = c.in-Some-2.pulled.items in
+    let both = c.in-Some-2.both.items in
     let back : IsPulledBack c.args.first.now c.args.later.now kept moved =
     rw c.in-Some.is at c.in_ok-pulled.ensures.asks in
-    let order : IsUnionOf kept moved pulled = rw c.in-Some-2.is at c.in_ok-pulled-2.ensures.asks in
-    IfOk-weaker c.unite.result _ _ (λ both united. IfSome_then both united (λ asks is. asked_by_both
-    c.args.first.now c.args.own.now c.args.later.now kept moved pulled asks.items back order
-    (rw c.deref.ensures.value at is))) c.unite.ensures.asks
+    let near : IsUnionOf c.args.own.now kept both =
+    rw (c.in-Some-2.is, c.deref.ensures.value) at c.in_ok-both.ensures.asks in
+    let none : moved ≡ [] = nil_from_length moved (omega (arith, eqb-true _ _ (sym c.is_empty.ensures ∙ c.if-is_empty.true))) in
+    asked_by_both c.args.first.now c.args.own.now c.args.later.now kept moved both both back near
+    (united_none both moved near.rises none)
+
+pub returns-in-Some-3-clause-asks : goal.returns-in-Some-3-clause-asks
+returns-in-Some-3-clause-asks c =
+    let kept = c.in-Some.pulled.kept.items in
+    let moved = c.in-Some.pulled.moved.items in
+    let united = c.in-Some-2.both.items in
+    let back : IsPulledBack c.args.first.now c.args.later.now kept moved =
+    rw c.in-Some.is at c.in_ok-pulled.ensures.asks in
+    let near : IsUnionOf c.args.own.now kept united =
+    rw (c.in-Some-2.is, c.deref.ensures.value) at c.in_ok-both.ensures.asks in
+    let order : IsUnionOf moved [] c.in-Some-3.moved.items = rw c.in-Some-3.is at c.in_ok-moved.ensures.asks in
+    IfOk-weaker c.unite-in-Some-3.result _ _ (λ both union. IfSome_then both union (λ asks is. asked_by_both
+    c.args.first.now c.args.own.now c.args.later.now kept moved united asks.items back near
+    (united_with united moved c.in-Some-3.moved.items asks.items order
+    (rw (c.deref-in-Some-3.ensures.value, c.deref-in-Some-3-2.ensures.value) at is)))) c.unite-in-Some-3.ensures.asks

@@ -1,23 +1,60 @@
-use Rattle.std.proofs.Common.{◌≡◌, true, ap, sym, ◌∙◌, subst}
+use Rattle.std.proofs.Common.{◌≡◌, true, refl, ap, sym, ◌∙◌, subst}
+use Rattle.std.specs.Option.{option_copied}
+use Rattle.std.specs.declared.cmp.Ordering.TheVariants.{Equal}
+use Rattle.std.proofs.lemmas.Cmp.{ranked}
 use Rattle.std.proofs.lemmas.List.Folds.{list_any_at}
-use Rattle.cap_machine.specs.State.{State}
 use Rattle.cap_summary.specs.declared.ask.Ask.{Ask}
 use Rattle.cap_summary.specs.Keys.{cells_of}
 use Rattle.cap_summary.specs.Asks.{holds}
 use Rattle.cap_summary.specs.Effects.{changed}
-use Rattle.cap_summary.proofs.Pulling.{pulled_never, pulled_kept, pulled_moved}
+use Rattle.cap_summary.specs.Leaving.{leaves_in}
+use Rattle.cap_summary.specs.Sorted.{found}
+use Rattle.cap_summary.specs.Tests.{passes}
+use Rattle.cap_summary.proofs.Asking.{open_can}
+use Rattle.cap_summary.proofs.Pulling.{pulled_none, pulled_never, pulled_kept, pulled_moved, cell_left, kept_none, kept_same, kept_more}
 use Rattle.cap_summary.proofs.precondition.pulled_asks.Goals as goal
-use Rattle.cap_summary.proofs.precondition.pulled_asks.Goals.{in-Never, in-Where+in_ok-push-in-Where}
-use Rattle.cap_summary.proofs.precondition.pulled_asks.Goals.{in-Where-2+in_ok-push-in-Where-2}
+use Rattle.cap_summary.proofs.precondition.pulled_asks.Goals.{then-ask-pid, else-ask-pid, in-Never}
+use Rattle.cap_summary.proofs.precondition.pulled_asks.Goals.{in-Where+in-Equal+in_ok-push-in-Equal}
+use Rattle.cap_summary.proofs.precondition.pulled_asks.Goals.{in-Where+in_default+in_ok-push-in_default}
+
+pub loop-ask-init : goal.loop-ask-init
+loop-ask-init c = record {
+  back = pulled_none _ _ _ c.in_ok-kept.ensures.items c.new-moved.ensures.items;
+  kept = kept_none _ _ c.requires c.in_ok-kept.ensures.items;
+  row = c.get-row.ensures;
+}
 
 pub returns-in-Always-clause-always : goal.returns-in-Always-clause-always
 returns-in-Always-clause-always c = λ s.
     let ask = c.ask-item.result in
     let cells = changed c.args.first.now (cells_of s) in
-    let here : holds cells ask ≡ true =
-    sym (c.in-Always.ensures.holds s) in
+    let here : holds cells ask ≡ true = sym (c.in-Always.ensures.holds s) in
     list_any_at (holds cells) c.args.asks.now c.loop-ask.ask-index ask c.loop-ask-test.true
     (subst (λ (x : Ask). holds cells x ≡ true) c.ask-item.is here)
+
+pub loop-ask-preserved-then-leaves_in : goal.loop-ask-preserved-then-leaves_in
+loop-ask-preserved-then-leaves_in c =
+    let first = c.args.first.now in
+    let ask = c.ask-item.result in
+    let so_far = c.loop-ask.invariant in
+    let row : option_copied c.if-ask-pid.row ≡ found first.rows c.if-ask-pid.pid = elim c.if-ask-pid.branch [
+      | then-ask-pid w ↦ rw (w.row-is, w.pid-is) w.get-row-then-ask-pid.ensures
+      | else-ask-pid w ↦ rw (w.row-is, w.pid-is) so_far.row
+    ] in
+    let own : ask.pid ≡ c.if-ask-pid.pid = elim c.if-ask-pid.branch [
+      | then-ask-pid w ↦ sym w.pid-is
+      | else-ask-pid w ↦ w.if-ask-pid.false ∙ sym w.pid-is
+    ] in
+    let left : leaves_in (found first.rows ask.pid) ask.key ≡ true =
+    rw (own, ← row) (sym c.leaves_in.ensures ∙ c.if-leaves_in.true) in record {
+      back = rw c.in_ok-push.ensures.items (pulled_kept first c.args.asks.now c.loop-ask.ask-index ask
+          c.loop-ask.kept.items c.loop-ask.moved.items c.loop-ask-test.true c.ask-item.is so_far.back ask
+          (λ answer can. can) (λ s. ap (passes ask.test) (sym (cell_left (cells_of s) ask.pid (found first.rows ask.pid)
+          ask.key left))) (λ names effect within. within));
+      kept = rw c.in_ok-push.ensures.items
+          (kept_more _ _ _ ask c.loop-ask-test.true c.ask-item.is so_far.kept ask refl);
+      row = row;
+    }
 
 pub loop-ask-preserved : goal.loop-ask-preserved
 loop-ask-preserved c =
@@ -29,16 +66,31 @@ loop-ask-preserved c =
     let moved = c.loop-ask.moved.items in
     let within = c.loop-ask-test.true in
     let so_far = c.loop-ask.invariant in
-    elim c.match-open_before.branch [
-      | in-Never w ↦ rw (w.kept-is, w.moved-is)
-          (pulled_never first asks i ask kept moved within c.ask-item.is so_far
-          (λ s. sym (w.in-Never.ensures.holds s)))
-      | in-Where+in_ok-push-in-Where w ↦ rw (w.kept-is, w.moved-is, w.in_ok-push-in-Where.ensures.items)
-          (pulled_kept first asks i ask kept moved within c.ask-item.is so_far w.in-Where.before
-          w.in-Where.ensures.can w.in-Where.ensures.holds
-          w.in-Where.ensures.names)
-      | in-Where-2+in_ok-push-in-Where-2 w ↦ rw (w.kept-is, w.moved-is, w.in_ok-push-in-Where-2.ensures.items)
-          (pulled_moved first asks i ask kept moved within c.ask-item.is so_far w.in-Where.before
-          w.in-Where.ensures.can w.in-Where.ensures.holds
-          w.in-Where.ensures.names)
+    let row : option_copied c.if-ask-pid.row ≡ found first.rows c.if-ask-pid.pid = elim c.if-ask-pid.branch [
+      | then-ask-pid w ↦ rw (w.row-is, w.pid-is) w.get-row-then-ask-pid.ensures
+      | else-ask-pid w ↦ rw (w.row-is, w.pid-is) so_far.row
+    ] in
+    elim c.match-before.branch [
+      | in-Never w ↦ record {
+        back = rw (w.kept-is, w.moved-is) (pulled_never first asks i ask kept moved within c.ask-item.is so_far.back
+            (λ s. sym (w.in-Never.ensures.holds s)));
+        kept = rw w.kept-is (kept_same asks kept i ask within c.ask-item.is so_far.kept);
+        row = row;
+      }
+      | in-Where+in-Equal+in_ok-push-in-Equal w ↦ record {
+        back = rw (w.kept-is, w.moved-is, w.in_ok-push-in-Equal.ensures.items) (pulled_kept first asks i ask kept moved
+            within c.ask-item.is so_far.back w.in-Where.before (λ answer can. open_can answer w.in-Where.before w.in-Where.ensures.«open»)
+            w.in-Where.ensures.holds w.in-Where.ensures.names);
+        kept = rw (w.kept-is, w.in_ok-push-in-Equal.ensures.items)
+            (kept_more asks kept i ask within c.ask-item.is so_far.kept w.in-Where.before
+            (ranked _ _ Equal w.in-Equal.ensures.places));
+        row = row;
+      }
+      | in-Where+in_default+in_ok-push-in_default w ↦ record {
+        back = rw (w.kept-is, w.moved-is, w.in_ok-push-in_default.ensures.items) (pulled_moved first asks i ask kept moved
+            within c.ask-item.is so_far.back w.in-Where.before (λ answer can. open_can answer w.in-Where.before w.in-Where.ensures.«open»)
+            w.in-Where.ensures.holds w.in-Where.ensures.names);
+        kept = rw w.kept-is (kept_same asks kept i ask within c.ask-item.is so_far.kept);
+        row = row;
+      }
     ]
