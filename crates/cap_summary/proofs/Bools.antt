@@ -49,6 +49,10 @@ pub and_with_false : (a : Bool) → (a && false) ≡ false
 and_with_false true = refl
 and_with_false false = refl
 
+pub and_with_true : (a : Bool) → (a && true) ≡ a
+and_with_true true = refl
+and_with_true false = refl
+
 pub or_assoc : (x y z : Bool) → ((x || y) || z) ≡ (x || (y || z))
 or_assoc true y z = refl
 or_assoc false y z = refl

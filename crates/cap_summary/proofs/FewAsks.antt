@@ -1,15 +1,15 @@
 -- How much is listed and asked at most where only these processes and descriptors are named.
-use Rattle.std.proofs.Common.{◌≡◌, ℕ, ◌+◌, ◌*◌, ◌^◌, ◌≤◌, List, [], ◌∷◌, length, map}
-use Rattle.std.proofs.Common.{Bool, true, false, refl, sym, ap, ◌∙◌, arith}
+use Rattle.std.proofs.Common.{◌≡◌, ℕ, ◌+◌, ◌*◌, ◌^◌, ◌<◌, ◌≤◌, List, [], ◌∷◌, length, map}
+use Rattle.std.proofs.Common.{true, refl, sym, ap, ◌∙◌, arith}
 use Rattle.std.proofs.Math.Nat.{mul_assoc}
 use Rattle.std.specs.List.{All}
+use Rattle.std.proofs.lemmas.Bool.Decides.{nat_tests}
 use Rattle.std.proofs.lemmas.List.{length-map}
 use Rattle.std.proofs.lemmas.List.Elements.{All-head, All-tail}
 use Rattle.cap_summary.specs.declared.key.Key.{Key}
 use Rattle.cap_summary.specs.declared.key.Key.TheVariants as key
-use Rattle.cap_summary.specs.declared.test.Flags.{Flags}
 use Rattle.cap_summary.specs.declared.ask.Ask.{Ask}
-use Rattle.cap_summary.specs.Asks.{digit, form_number, key_number, place, place_in_process, RisesFrom, Rises, AskWithin}
+use Rattle.cap_summary.specs.Asks.{held_number, key_number, place, place_in_process, RisesFrom, Rises, AskWithin}
 use Rattle.cap_summary.specs.Asks.{AreWithin}
 use Rattle.cap_summary.specs.Names.{has_cell, has_key}
 use Rattle.cap_summary.specs.Few.{is_one, these, room}
@@ -46,18 +46,8 @@ count_places pids fds =
     all ∙ sym turned ∙ ap (λ n. length pids * n * 8) fewer in
     omega (arith, cells)
 
-form_among : (flags : Flags) → is_one forms (form_number flags) ≡ true
-form_among flags = cases flags.set flags.clear flags.unsure
-  where
-    cases : (a b c : Bool) → is_one forms (4 * digit a + (2 * digit b + digit c)) ≡ true
-    cases false false false = refl
-    cases false false true = refl
-    cases false true false = refl
-    cases false true true = refl
-    cases true false false = refl
-    cases true false true = refl
-    cases true true false = refl
-    cases true true true = refl
+form_among : (form : ℕ) → form < 8 → is_one forms form ≡ true
+form_among form small = grind (arith, nat_tests)
 
 key_among : (pids fds : List ℕ) (k : Key) → has_key (these pids fds) k ≡ true → is_one (keys fds) (key_number k) ≡ true
 key_among pids fds key.Mode is = refl
@@ -70,8 +60,8 @@ place_among pids fds ask within =
     let own : is_one pids ask.pid ≡ true = and_left (is_one pids ask.pid) (has_key (these pids fds) ask.key) within in
     let its : is_one (keys fds) (key_number ask.key) ≡ true =
     key_among pids fds ask.key (and_right (is_one pids ask.pid) (has_key (these pids fds) ask.key) within) in
-    let in_key = among_mapped (λ form. 8 * key_number ask.key + form) forms (form_number ask.test.lacking)
-    (form_among ask.test.lacking) in
+    let in_key = among_mapped (λ form. 8 * key_number ask.key + form) forms (held_number ask.lacking)
+    (form_among (held_number ask.lacking) (omega arith)) in
     let in_process = among_all places_of_key (keys fds) (key_number ask.key) (place_in_process ask) its in_key in
     among_all (places_of fds) pids ask.pid (place ask) own
     (among_mapped (λ n. ask.pid * 2 ^ 36 + n) (all_of places_of_key (keys fds)) (place_in_process ask) in_process)

@@ -1,7 +1,6 @@
 pub mod Bools
 pub mod TestPassing
 pub mod Asking
-pub mod Places
 pub mod Uniting
 pub mod SortedFound
 pub mod SortedMerging

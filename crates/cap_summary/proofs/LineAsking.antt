@@ -1,31 +1,23 @@
 -- What one line asks, and where something is said of it.
-use Rattle.std.proofs.Common.{◌≡◌, ℕ, List, [], ◌∷◌, ◌++◌, Bool, true, false, ◌&&◌, ◌||◌, cond, Some}
+use Rattle.std.proofs.Common.{◌≡◌, List, [], ◌∷◌, ◌++◌, Bool, true, false, ◌&&◌, ◌||◌, cond}
 use Rattle.std.proofs.Common.{refl, sym, ap, ◌∙◌}
 use Rattle.std.specs.Prelude.{not}
-use Rattle.cap_machine.specs.declared.cell.OnExec.TheVariants.{Clear}
 use Rattle.cap_machine.specs.declared.cell.Cell.{Cell}
 use Rattle.cap_machine.specs.declared.rule.Word.{Word}
 use Rattle.cap_machine.specs.declared.rule.Check.{Check}
-use Rattle.cap_machine.specs.Judge.{fault, faults, is_excused}
-use Rattle.cap_machine.specs.declared.cell.Cell.TheVariants.{Unknown, Closed, Held}
+use Rattle.cap_machine.specs.Judge.{fault, faults}
 use Rattle.cap_machine.specs.declared.cell.Mode.{Mode}
 use Rattle.cap_machine.specs.declared.cell.Mode.TheVariants.{Inside, Outside, Unsure}
-use Rattle.cap_summary.specs.declared.test.Test.{Test}
+use Rattle.cap_machine.specs.Judge.{is_outside}
+use Rattle.cap_summary.specs.declared.kinds.TheConstants.Kinds.{UNHELD}
 use Rattle.cap_summary.specs.Keys.{mode_cell}
-use Rattle.cap_summary.specs.Tests.{passes}
+use Rattle.cap_summary.specs.Tests.{has_kind}
 use Rattle.cap_summary.specs.LineAsks.{has_any}
 use Rattle.cap_summary.proofs.Bools.{or_false, or_true, and_left, and_right}
 
 pub has_any-append : {X : Type 0} (xs ys : List X) → has_any (xs ++ ys) ≡ (has_any xs || has_any ys)
 has_any-append [] ys = refl
 has_any-append (x ∷ xs) ys = refl
-
--- a test of the cell of each mode
-pub of_mode : (says : Mode → Bool) (t : Test) → passes t Unknown ≡ says Unsure → passes t Closed ≡ says Inside
-    → ((r : ℕ) → passes t (Held r Clear) ≡ says Outside) → (m : Mode) → passes t (mode_cell m) ≡ says m
-of_mode says t unsure inside outside Unsure = unsure
-of_mode says t unsure inside outside Inside = inside
-of_mode says t unsure inside outside Outside = outside 0
 
 -- ---- a call that succeeded
 pub one_missing : (word : Word) (a : Check) (cell : Cell) (asked : Bool) → asked ≡ has_any (fault word a cell)
@@ -41,24 +33,20 @@ two_missing word a b cell other asked more is also =
     ∙ or_false (has_any (fault word b other)))))
 
 -- ---- a refusal
-not_lacking : (b : Bool) → not (not b || false) ≡ (b && true)
+pub may_be_inside : (m : Mode) → has_kind UNHELD (mode_cell m) ≡ not (is_outside m)
+may_be_inside Unsure = refl
+may_be_inside Inside = refl
+may_be_inside Outside = refl
+
+-- where no right may be lacked there is an excuse
+pub not_lacking : (b : Bool) → not (b || false) ≡ (not b && true)
 not_lacking true = refl
 not_lacking false = refl
 
-neither_lacking : (a b : Bool) → not (not a || not b) ≡ (a && (b && true))
-neither_lacking true true = refl
-neither_lacking true false = refl
-neither_lacking false b = refl
-
-pub one_excused : (a : Check) (x : ℕ) (cell : Cell) (asked : Bool) → a.excuse ≡ Some x
-    → asked ≡ not (is_excused (Some x) cell) → not (asked || false) ≡ (is_excused a.excuse cell && true)
-one_excused a x cell asked is lacks = rw (is, lacks) (not_lacking (is_excused (Some x) cell))
-
-pub two_excused : (a b : Check) (x y : ℕ) (cell other : Cell) (asked more : Bool) → a.excuse ≡ Some x
-    → b.excuse ≡ Some y → asked ≡ not (is_excused (Some x) cell) → more ≡ not (is_excused (Some y) other)
-    → not (asked || more) ≡ (is_excused a.excuse cell && (is_excused b.excuse other && true))
-two_excused a b x y cell other asked more is also lacks lacks' =
-    rw (is, also, lacks, lacks') (neither_lacking (is_excused (Some x) cell) (is_excused (Some y) other))
+pub neither_lacking : (a b : Bool) → not (a || b) ≡ (not a && (not b && true))
+neither_lacking true b = refl
+neither_lacking false true = refl
+neither_lacking false false = refl
 
 -- a refusal is found where each check has its excuse, and at a directory outside capability mode
 pub refusal_found : {X : Type 0} (x : X) (checks excused at outside lacked inside : Bool)

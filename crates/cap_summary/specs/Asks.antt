@@ -1,12 +1,11 @@
 -- What is asked of the cells before a segment.
-use Rattle.std.specs.Prelude.{◌≡◌, ℕ, ◌+◌, ◌*◌, ◌^◌, ◌≤◌, ◌&&◌, ◌||◌, Bool, true, false, List, [], ◌∷◌, length}
+use Rattle.std.specs.Prelude.{◌≡◌, ℕ, ◌+◌, ◌*◌, ◌^◌, ◌%◌, ◌≤◌, ◌&&◌, ◌||◌, Bool, true, false, List, [], ◌∷◌, length}
 use Rattle.std.specs.List.{list_any, All}
 use Rattle.cap_machine.specs.declared.cell.Mode.TheVariants.{Inside, Outside, Unsure}
 use Rattle.cap_machine.specs.State.{State}
 use Rattle.cap_summary.specs.declared.key.Key.{Key}
 use Rattle.cap_summary.specs.declared.key.Key.TheVariants as key
-use Rattle.cap_summary.specs.declared.test.Flags.{Flags}
-use Rattle.cap_summary.specs.declared.test.Test.{Test}
+use Rattle.cap_summary.specs.declared.kinds.Kinds.{Kinds}
 use Rattle.cap_summary.specs.declared.ask.Ask.{Ask}
 use Rattle.cap_summary.specs.declared.ask.Pulled.{Pulled}
 use Rattle.cap_summary.specs.declared.ask.Pulled.TheVariants.{Always, Never, Where}
@@ -15,23 +14,21 @@ use Rattle.cap_summary.specs.Tests.{is_full, passes, can_pass}
 
 -- an ask holds of the cells before the segment
 abbrev pub holds : Cells → Ask → Bool
-holds cells ask = passes ask.test (cells ask.pid ask.key)
+holds cells ask = passes ask (cells ask.pid ask.key)
 
 -- one of them does
 abbrev pub any_holds : Cells → List Ask → Bool
 any_holds cells asks = list_any (holds cells) asks
 
 -- each cell that can stand at a key passes: for a descriptor that is each kind, for a mode one of three cells
-abbrev pub certain_at : Key → Test → Bool
-certain_at key.Mode test =
-    passes test (mode_cell Unsure) && (passes test (mode_cell Inside) && passes test (mode_cell Outside))
-certain_at (key.Fd f) test = is_full test.kinds
+abbrev pub certain_at : Key → Ask → Bool
+certain_at key.Mode ask = passes ask (mode_cell Unsure) && (passes ask (mode_cell Inside) && passes ask (mode_cell Outside))
+certain_at (key.Fd f) ask = is_full ask.kinds
 
 -- some cell that can stand at a key passes
-abbrev pub possible_at : Key → Test → Bool
-possible_at key.Mode test =
-    passes test (mode_cell Unsure) || (passes test (mode_cell Inside) || passes test (mode_cell Outside))
-possible_at (key.Fd f) test = can_pass test
+abbrev pub possible_at : Key → Ask → Bool
+possible_at key.Mode ask = passes ask (mode_cell Unsure) || (passes ask (mode_cell Inside) || passes ask (mode_cell Outside))
+possible_at (key.Fd f) ask = can_pass ask
 
 -- in some state an ask holds, or doesn't
 abbrev pub CanBe : Bool → Ask → Type 0
@@ -68,20 +65,17 @@ pulled_within names Always = true
 pulled_within names Never = true
 pulled_within names (Where ask) = names ask.pid ask.key
 
--- ---- order: by process, then by key, then by the flags at which rights are asked about
+-- ---- order: by process, then by key, then by the kinds of held cells at which rights are asked about
 abbrev pub key_number : Key → ℕ
 key_number key.Mode = 0
 key_number (key.Fd f) = f + 1
 
-abbrev pub digit : Bool → ℕ
-digit true = 1
-digit false = 0
-
-abbrev pub form_number : Flags → ℕ
-form_number flags = 4 * digit flags.set + (2 * digit flags.clear + digit flags.unsure)
+-- the kinds of held cells among these, as a number
+abbrev pub held_number : Kinds → ℕ
+held_number kinds = kinds.bits % 8
 
 abbrev pub place_in_process : Ask → ℕ
-place_in_process ask = 8 * key_number ask.key + form_number ask.test.lacking
+place_in_process ask = 8 * key_number ask.key + held_number ask.lacking
 
 abbrev pub place : Ask → ℕ
 place ask = ask.pid * 2 ^ 36 + place_in_process ask
@@ -90,7 +84,7 @@ place ask = ask.pid * 2 ^ 36 + place_in_process ask
 pub record IsAtPlace (ask other : Ask) : Type 0 where
   pub pid : ask.pid ≡ other.pid
   pub key : ask.key ≡ other.key
-  pub lacking : ask.test.lacking ≡ other.test.lacking
+  pub lacking : held_number ask.lacking ≡ held_number other.lacking
 
 -- the places strictly rise, and none is below the bound
 abbrev pub RisesFrom : ℕ → List Ask → Type 0

@@ -59,7 +59,7 @@ pub record IsPossible (pre : Precondition) : Type 0 where
 
 -- one of the asks holds in every state
 abbrev pub any_certain : List Ask → Bool
-any_certain asks = list_any (λ (ask : Ask). certain_at ask.key ask.test) asks
+any_certain asks = list_any (λ (ask : Ask). certain_at ask.key ask) asks
 
 -- the asks stand in order, none of them holds in every state, and where something is certain nothing else is asked
 pub record IsSettled (pre : Precondition) : Type 0 where

@@ -1,34 +1,42 @@
 //! What is asked of the cells before a segment.
 
-ghost use Rattle.std.specs.Prelude.{◌≡◌, ℕ, ◌||◌, Bool, true};
+ghost use Rattle.std.specs.Prelude.{◌≡◌, ℕ, ◌^◌, ◌<◌, ◌||◌, Bool, true};
 ghost use Rattle.std.specs.Ordering.{nat_cmp};
 ghost use Rattle.cap_machine.specs.State.{State};
 ghost use Rattle.cap_summary.specs.declared.key.Key.{Key};
 ghost use Rattle.cap_summary.specs.Keys.{Cells, cells_of};
-ghost use Rattle.cap_summary.specs.Tests.{passes};
+ghost use Rattle.cap_machine.specs.declared.cell.Cell.{Cell};
+ghost use Rattle.cap_machine.specs.Op.{applied};
+ghost use Rattle.cap_summary.specs.Tests.{has_kind, lacks, passes, holding};
 ghost use Rattle.cap_summary.specs.Effects.{changed};
 ghost use Rattle.cap_summary.specs.Names.{Names, has_cell, EffectWithin};
 ghost use Rattle.cap_summary.specs.Seen.{seen_cell, seen_within};
 ghost use Rattle.cap_summary.specs.Asks.{holds, certain_at, possible_at, pulled_holds, pulled_within, PulledIsOpen};
-ghost use Rattle.cap_summary.specs.Asks.{place, IsAtPlace};
+ghost use Rattle.cap_summary.specs.Asks.{place, place_in_process, IsAtPlace};
 
 use crate::effect::Effect;
 use crate::key::{Key, cell_of_mode};
+use crate::kinds::Kinds;
 use crate::seen::Seen;
-use crate::test::Test;
-use cap_machine::{Mode, Op};
+use cap_machine::{Cell, Mode, OnExec, Op};
+use cap_rights::RightSet;
 use cap_trace::Pid;
 use std::cmp::Ordering;
 
-/// A test of one cell before a segment.
+/// A test of one cell before a segment. The cell passes if it is of one of some kinds, or if it is held, of one of some
+/// other kinds, and lacks some of the rights.
 #[derive(Clone, Copy, Debug, PartialEq, Eq)]
 pub struct Ask {
     /// The process.
     pub pid: Pid,
     /// The key of the cell.
     pub key: Key,
-    /// The test.
-    pub test: Test,
+    /// The kinds that pass.
+    pub kinds: Kinds,
+    /// The kinds of held cells that pass where they lack some of the rights.
+    pub lacking: Kinds,
+    /// The rights.
+    pub rights: RightSet,
 }
 
 /// What becomes of an ask where it is pulled back to an earlier state.
@@ -42,21 +50,52 @@ pub enum Pulled {
     Where(Ask),
 }
 
+/// Whether a cell is held, and lacks some of these rights.
+fn lacks(rights: &RightSet, cell: &Cell) -> bool
+    ensures { result ≡ lacks rights.now cell.now }
+{
+    match cell {
+        Cell::Held(held, _) => !held.has_all(rights),
+        _ => false,
+    }
+}
+
 impl Ask {
-    /// The order of asks: by process, key, and the flags at which they ask about rights.
+    /// Whether a cell passes.
+    pub fn passes(&self, cell: Cell) -> bool
+        ensures { result ≡ passes self.now cell }
+    {
+        self.kinds.has(&cell) || self.lacking.has(&cell) && lacks(&self.rights, &cell)
+    }
+
+    /// The order of asks: by process, key, and the kinds of held cells at which they ask about rights.
     pub(crate) fn order(&self, other: &Ask) -> Ordering
         ensures places { result ≡ nat_cmp (place self.now) (place other.now) }
         ensures equal { result ≡ Ordering.Equal → IsAtPlace self.now other.now }
     {
-        let own = self.key.number();
-        let theirs = other.key.number();
         match self.pid.cmp(&other.pid) {
-            Ordering::Equal => match own.cmp(&theirs) {
-                Ordering::Equal => self.test.lacking.order(&other.test.lacking),
-                order => order,
-            },
-            order => order,
+            Ordering::Equal => self.place_in_process().cmp(&other.place_in_process()),
+            order => {
+                self.fits();
+                other.fits();
+                order
+            }
         }
+    }
+
+    /// Where it stands among the asks of its process.
+    fn place_in_process(&self) -> u64
+        ensures place { result ≡ place_in_process self.now }
+        ensures fits { result < 2 ^ 36 }
+    {
+        8 * self.key.number() + self.lacking.held() as u64
+    }
+
+    /// Does nothing: its contract says that the process decides between two asks first.
+    fn fits(&self)
+        ensures { place_in_process self.now < 2 ^ 36 }
+    {
+        self.place_in_process();
     }
 
     /// This ask or another at the same place.
@@ -68,37 +107,64 @@ impl Ask {
             → names result.pid result.key ≡ true }
     {
         Ask {
-            pid: self.pid,
-            key: self.key,
-            test: self.test.or(&other.test),
+            kinds: self.kinds.join(&other.kinds),
+            rights: self.rights.join(&other.rights),
+            ..*self
         }
     }
 
     /// Whether it holds in every state.
     pub(crate) fn is_certain(&self) -> bool
-        ensures { result ≡ certain_at self.now.key self.now.test }
+        ensures { result ≡ certain_at self.now.key self.now }
     {
         match &self.key {
             Key::Mode => {
-                self.test.passes(cell_of_mode(Mode::Unsure))
-                    && self.test.passes(cell_of_mode(Mode::Inside))
-                    && self.test.passes(cell_of_mode(Mode::Outside))
+                self.passes(cell_of_mode(Mode::Unsure))
+                    && self.passes(cell_of_mode(Mode::Inside))
+                    && self.passes(cell_of_mode(Mode::Outside))
             }
-            Key::Fd(_) => self.test.kinds.is_full(),
+            Key::Fd(_) => self.kinds.is_full(),
         }
     }
 
     /// Whether it holds in some state.
     fn is_possible(&self) -> bool
-        ensures { result ≡ possible_at self.now.key self.now.test }
+        ensures { result ≡ possible_at self.now.key self.now }
     {
         match &self.key {
             Key::Mode => {
-                self.test.passes(cell_of_mode(Mode::Unsure))
-                    || self.test.passes(cell_of_mode(Mode::Inside))
-                    || self.test.passes(cell_of_mode(Mode::Outside))
+                self.passes(cell_of_mode(Mode::Unsure))
+                    || self.passes(cell_of_mode(Mode::Inside))
+                    || self.passes(cell_of_mode(Mode::Outside))
             }
-            Key::Fd(_) => self.test.can_pass(),
+            Key::Fd(_) => {
+                self.kinds.any()
+                    || self.lacking.held() != 0 && !RightSet::none().has_all(&self.rights)
+            }
+        }
+    }
+
+    /// The kinds of which a cell passes after an op, if it holds these rights before it where it is held.
+    fn kinds_before(&self, op: &Op, rights: RightSet) -> Kinds
+        ensures { (c : Cell) → has_kind result c ≡ passes self.now (applied op.now (holding rights c)) }
+    {
+        Kinds::of(
+            self.passes(op.on(Cell::Held(rights, OnExec::Set))),
+            self.passes(op.on(Cell::Held(rights, OnExec::Clear))),
+            self.passes(op.on(Cell::Held(rights, OnExec::Unsure))),
+            self.passes(op.unknown),
+            self.passes(op.closed),
+        )
+    }
+
+    /// The same ask before an op: a cell passes it exactly where this one is passed after the op.
+    fn before_op(&self, op: &Op) -> Ask
+        ensures passes { (c : Cell) → passes result c ≡ passes self.now (applied op.now c) }
+    {
+        Ask {
+            kinds: self.kinds_before(op, self.rights),
+            lacking: self.kinds_before(op, RightSet::none()),
+            ..*self
         }
     }
 
@@ -125,13 +191,13 @@ impl Ask {
         ensures names { (names : Names) → EffectWithin names first.now → has_cell names self.now.pid self.now.key ≡ true
             → pulled_within (has_cell names) result ≡ true }
     {
-        let (pid, key, test) = match first.seen(self.pid, self.key) {
-            Seen::Is(cell) => return Pulled::of(self.test.passes(cell)),
-            Seen::Same(pid, key) => (pid, key, self.test),
-            Seen::Executed(pid, key) => (pid, key, self.test.before(&Op::exec())),
-            Seen::Made(op, pid, key) => (pid, key, self.test.before(op)),
+        let (pid, key, ask) = match first.seen(self.pid, self.key) {
+            Seen::Is(cell) => return Pulled::of(self.passes(cell)),
+            Seen::Same(pid, key) => (pid, key, *self),
+            Seen::Executed(pid, key) => (pid, key, self.before_op(&Op::exec())),
+            Seen::Made(op, pid, key) => (pid, key, self.before_op(op)),
         };
-        Ask { pid, key, test }.settled()
+        Ask { pid, key, ..ask }.settled()
     }
 }
 

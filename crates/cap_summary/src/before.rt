@@ -69,7 +69,7 @@ impl<'a> Before<'a> {
     fn holds(&self, ask: &Ask) -> bool
         ensures { result ≡ holds (cells_of (state_before self.now)) ask.now }
     {
-        ask.test.passes(self.read(ask.pid, ask.key))
+        ask.passes(self.read(ask.pid, ask.key))
     }
 
     fn part_holds(&self, ask: &Option<Ask>) -> bool

@@ -1,19 +1,16 @@
 //! What one line asks of the cells before it.
 
-ghost use Rattle.std.specs.Prelude.{◌≡◌, ℕ, ◌≤◌, ◌&&◌, ◌||◌, not, true, false, Some, if◌then◌else◌};
-ghost use Rattle.cap_rights.specs.Rights.{has_all};
-ghost use Rattle.cap_machine.specs.declared.cell.OnExec.{OnExec};
-ghost use Rattle.cap_machine.specs.declared.cell.OnExec.TheVariants.{Clear};
-ghost use Rattle.cap_machine.specs.declared.cell.Cell.TheVariants.{Unknown, Closed, Held};
+ghost use Rattle.std.specs.Prelude.{◌≡◌, ℕ, ◌≤◌, ◌&&◌, ◌||◌, not, true, false, IfSome, if◌then◌else◌};
+ghost use Rattle.std.specs.Option.{option_map_or};
 ghost use Rattle.cap_machine.specs.declared.rule.Word.{Word};
 ghost use Rattle.cap_machine.specs.declared.rule.Reply.TheVariants.{Success, NotCapable};
 ghost use Rattle.cap_machine.specs.State.{State};
 ghost use Rattle.cap_machine.specs.Judge.{is_inside, is_outside, fault, is_excused, forbidden, faults, listed};
 ghost use Rattle.cap_machine.specs.Judge.{has_check, all_excused};
 ghost use Rattle.cap_summary.specs.declared.key.Key.TheVariants as key;
-ghost use Rattle.cap_summary.specs.Keys.{Cells, cells_of};
+ghost use Rattle.cap_summary.specs.Keys.{Cells, cells_of, mode_cell};
 ghost use Rattle.cap_summary.specs.Asks.{holds};
-ghost use Rattle.cap_summary.specs.Tests.{passes};
+ghost use Rattle.cap_summary.specs.Tests.{has_kind, lacks};
 ghost use Rattle.cap_summary.specs.Preconditions.{has_part};
 ghost use Rattle.cap_summary.specs.Names.{Names, part_within, ChecksWithin, ExcusesWithin};
 ghost use Rattle.cap_summary.specs.Names.{LineAsksWithin, DemandWithin};
@@ -23,7 +20,7 @@ ghost use Rattle.cap_summary.specs.Few.{is_refusal};
 
 use crate::ask::Ask;
 use crate::key::Key;
-use crate::test::{Flags, Kinds, Test};
+use crate::kinds::Kinds;
 use cap_machine::{Check, Checks, Class, Demand, Reply};
 use cap_rights::RightSet;
 use cap_trace::{Fd, Pid};
@@ -42,10 +39,7 @@ impl UpToThree {
         ensures nothing { result ≡ true → (cells : Cells) → one_holds cells self.now ≡ false }
         ensures some { result ≡ false → has_part self.now ≡ true }
     {
-        match (&self.mode, &self.first, &self.second) {
-            (None, None, None) => true,
-            _ => false,
-        }
+        self.mode.is_none() && self.first.is_none() && self.second.is_none()
     }
 }
 
@@ -60,77 +54,32 @@ pub enum LineAsks {
     Unless(UpToThree),
 }
 
-/// A test of the kinds of cells alone: unknown, closed, held and open across an exec.
-fn of_kinds(unknown: bool, closed: bool, clear: bool) -> Test
-    ensures unknown { passes result Unknown ≡ unknown }
-    ensures closed { passes result Closed ≡ closed }
-    ensures clear { (rights : ℕ) → passes result (Held rights Clear) ≡ clear }
+/// The cell of the mode of a process is of one of these kinds.
+fn of_mode(me: Pid, kinds: Kinds) -> Ask
+    ensures holds { (s : State) → holds (cells_of s) result ≡ has_kind kinds (mode_cell (s.mode me)) }
+    ensures cell { (result.pid ≡ me) × (result.key ≡ key.Mode) }
 {
-    Test {
-        kinds: Kinds {
-            unknown,
-            closed,
-            held: Flags {
-                set: false,
-                clear,
-                unsure: false,
-            },
-        },
-        lacking: Flags::all(false),
+    Ask {
+        pid: me,
+        key: Key::Mode,
+        kinds,
+        lacking: Kinds::NONE,
         rights: RightSet::none(),
     }
 }
 
-/// A test that a closed cell passes, and one that lacks some of the rights; an unknown one as told.
-fn of_rights(unknown: bool, rights: &RightSet) -> Test
-    ensures unknown { passes result Unknown ≡ unknown }
-    ensures closed { passes result Closed ≡ true }
-    ensures held { (held : ℕ) (flag : OnExec) → passes result (Held held flag) ≡ not (has_all held rights.now) }
+/// A descriptor is of one of these kinds, or lacks some of the rights.
+fn lacking(me: Pid, fd: Fd, kinds: Kinds, rights: &RightSet) -> Ask
+    ensures holds { (cells : Cells) → holds cells result
+        ≡ (has_kind kinds (cells me (key.Fd fd)) || lacks rights.now (cells me (key.Fd fd))) }
+    ensures cell { (result.pid ≡ me) × (result.key ≡ key.Fd fd) }
 {
-    Test {
-        kinds: Kinds {
-            unknown,
-            closed: true,
-            held: Flags::all(false),
-        },
-        lacking: Flags::all(true),
+    Ask {
+        pid: me,
+        key: Key::Fd(fd),
+        kinds,
+        lacking: Kinds::HELD,
         rights: *rights,
-    }
-}
-
-/// The process is in capability mode.
-fn inside(me: Pid) -> Ask
-    ensures holds { (s : State) → holds (cells_of s) result ≡ is_inside (s.mode me) }
-    ensures cell { (result.pid ≡ me) × (result.key ≡ key.Mode) }
-{
-    Ask {
-        pid: me,
-        key: Key::Mode,
-        test: of_kinds(false, true, false),
-    }
-}
-
-/// The process is outside capability mode.
-fn outside(me: Pid) -> Ask
-    ensures holds { (s : State) → holds (cells_of s) result ≡ is_outside (s.mode me) }
-    ensures cell { (result.pid ≡ me) × (result.key ≡ key.Mode) }
-{
-    Ask {
-        pid: me,
-        key: Key::Mode,
-        test: of_kinds(false, false, true),
-    }
-}
-
-/// The process may be in capability mode.
-fn may_be_inside(me: Pid) -> Ask
-    ensures holds { (s : State) → holds (cells_of s) result ≡ not (is_outside (s.mode me)) }
-    ensures cell { (result.pid ≡ me) × (result.key ≡ key.Mode) }
-{
-    Ask {
-        pid: me,
-        key: Key::Mode,
-        test: of_kinds(true, true, false),
     }
 }
 
@@ -140,34 +89,18 @@ fn missing(me: Pid, check: &Check) -> Ask
         → holds cells result ≡ has_any (fault word check.now (cells me (key.Fd check.now.fd))) }
     ensures cell { (result.pid ≡ me) × (result.key ≡ key.Fd check.now.fd) }
 {
-    Ask {
-        pid: me,
-        key: Key::Fd(check.fd),
-        test: of_rights(false, &check.needs),
-    }
+    lacking(me, check.fd, Kinds::CLOSED, &check.needs)
 }
 
-/// The cell may lack the rights with which a refusal is wrongful.
-fn may_lack(me: Pid, fd: Fd, excuse: &RightSet) -> Ask
-    ensures holds { (cells : Cells)
-        → holds cells result ≡ not (is_excused (Some excuse.now) (cells me (key.Fd fd))) }
-    ensures cell { (result.pid ≡ me) × (result.key ≡ key.Fd fd) }
+/// The cell may lack the rights with which a refusal is wrongful, if any make it so.
+fn may_lack(me: Pid, check: &Check) -> Option<Ask>
+    ensures holds { (cells : Cells) → is_excused check.now.excuse (cells me (key.Fd check.now.fd))
+        ≡ option_map_or (λ ask. not (holds cells ask)) result false }
+    ensures cell { IfSome result (λ ask. (ask.pid ≡ me) × (ask.key ≡ key.Fd check.now.fd)) }
 {
-    Ask {
-        pid: me,
-        key: Key::Fd(fd),
-        test: of_rights(true, excuse),
-    }
-}
-
-/// What a call that succeeded asks of the mode.
-fn mode_ask(me: Pid, class: Class) -> Option<Ask>
-    ensures holds { (s : State) → part_holds (cells_of s) result ≡ has_any (forbidden class (s.mode me)) }
-    ensures names { (names : Names) → names.pids me ≡ true → part_within names result ≡ true }
-{
-    match class {
-        Class::Forbidden => Some(inside(me)),
-        _ => None,
+    match &check.excuse {
+        None => None,
+        Some(excuse) => Some(lacking(me, check.fd, Kinds::UNHELD, excuse)),
     }
 }
 
@@ -194,14 +127,8 @@ fn excuse_asks(me: Pid, checks: &Checks) -> Option<(Ask, Option<Ask>)>
 {
     match checks {
         Checks::Nothing => None,
-        Checks::One(a) => match &a.excuse {
-            None => None,
-            Some(x) => Some((may_lack(me, a.fd, x), None)),
-        },
-        Checks::Two(a, b) => match (&a.excuse, &b.excuse) {
-            (Some(x), Some(y)) => Some((may_lack(me, a.fd, x), Some(may_lack(me, b.fd, y)))),
-            _ => None,
-        },
+        Checks::One(a) => Some((may_lack(me, a)?, None)),
+        Checks::Two(a, b) => Some((may_lack(me, a)?, Some(may_lack(me, b)?))),
     }
 }
 
@@ -213,7 +140,10 @@ impl LineAsks {
         ensures refusals { refusals_in result ≡ 0 }
         ensures names { (names : Names) → DemandWithin names me demand.now → LineAsksWithin names result }
     {
-        let mode = mode_ask(me, demand.class);
+        let mode = match demand.class {
+            Class::Forbidden => Some(of_mode(me, Kinds::CLOSED)),
+            _ => None,
+        };
         let (first, second) = check_asks(me, &demand.checks);
         LineAsks::Where(UpToThree {
             mode,
@@ -233,7 +163,7 @@ impl LineAsks {
             return LineAsks::nothing();
         };
         let mode = if demand.at {
-            Some(may_be_inside(me))
+            Some(of_mode(me, Kinds::UNHELD))
         } else {
             None
         };
@@ -269,7 +199,7 @@ impl LineAsks {
             Reply::NotPermitted => match demand.class {
                 Class::Allowed => LineAsks::Always,
                 _ => LineAsks::Where(UpToThree {
-                    mode: Some(outside(me)),
+                    mode: Some(of_mode(me, Kinds::CLEAR)),
                     first: None,
                     second: None,
                 }),

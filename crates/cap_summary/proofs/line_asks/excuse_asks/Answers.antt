@@ -1,18 +1,34 @@
+use Rattle.std.proofs.Common.{refl, arith}
+use Rattle.std.proofs.lemmas.Grind.{common_steps}
 use Rattle.cap_summary.specs.Keys.{cells_of}
-use Rattle.cap_summary.proofs.LineAsking.{one_excused, two_excused}
+use Rattle.cap_summary.proofs.LineAsking.{not_lacking, neither_lacking}
 use Rattle.cap_summary.proofs.line_asks.excuse_asks.Goals as goal
 
-pub returns-in-Some-clause-hold : goal.returns-in-Some-clause-hold
-returns-in-Some-clause-hold c = λ s.
-    let a = c.in-One.a in
-    rw c.in-One.is (one_excused a c.in-Some.x (s.cell c.args.me a.fd) _ c.in-Some.is (c.may_lack.ensures.holds
-    (cells_of s)))
+pub returns-in_err-may_lack-in-One-clause-hold : goal.returns-in_err-may_lack-in-One-clause-hold
+returns-in_err-may_lack-in-One-clause-hold c = λ s.
+    rw (c.from_residual.ensures, c.in-One.is, c.in_err-may_lack-in-One.ensures.holds (cells_of s)) refl
 
-pub returns-in-Some-Some-clause-hold : goal.returns-in-Some-Some-clause-hold
-returns-in-Some-Some-clause-hold c = λ s.
-    let a = c.in-Two.a in
-    let b = c.in-Two.b in
-    rw c.in-Two.is (two_excused a b c.in-Some-Some.x c.in-Some-Some.y (s.cell c.args.me a.fd)
-    (s.cell c.args.me b.fd) _ _ c.in-Some-Some.is-0 c.in-Some-Some.is-1 (c.may_lack-in-Some-Some.ensures.holds
-    (cells_of s))
-    (c.may_lack-in-Some-Some-2.ensures.holds (cells_of s)))
+pub returns-in_err-may_lack-in-Two-clause-hold : goal.returns-in_err-may_lack-in-Two-clause-hold
+returns-in_err-may_lack-in-Two-clause-hold c = λ s.
+    rw (c.from_residual-in_err-may_lack-in-Two.ensures, c.in-Two.is, c.in_err-may_lack-in-Two.ensures.holds (cells_of s)) refl
+
+pub returns-in_err-may_lack-in-Two-2-clause-hold : goal.returns-in_err-may_lack-in-Two-2-clause-hold
+returns-in_err-may_lack-in-Two-2-clause-hold c = λ s. grind (
+  arith,
+  common_steps,
+  c.in-Two.is,
+  c.in_err-may_lack-in-Two-2.ensures.holds (cells_of s),
+)
+
+pub returns-in_ok-may_lack-in-One-clause-hold : goal.returns-in_ok-may_lack-in-One-clause-hold
+returns-in_ok-may_lack-in-One-clause-hold c = λ s.
+    rw (c.in-One.is, c.in_ok-may_lack-in-One.ensures.holds (cells_of s)) (not_lacking _)
+
+pub returns-in_ok-may_lack-in-Two-2-clause-hold : goal.returns-in_ok-may_lack-in-Two-2-clause-hold
+returns-in_ok-may_lack-in-Two-2-clause-hold c = λ s.
+    rw (
+      c.in-Two.is,
+      c.in_ok-may_lack-in-Two.ensures.holds (cells_of s),
+      c.in_ok-may_lack-in-Two-2.ensures.holds (cells_of s),
+    )
+    (neither_lacking _ _)

@@ -49,7 +49,7 @@ loop-ask-preserved-then-leaves_in c =
     rw (own, ← row) (sym c.leaves_in.ensures ∙ c.if-leaves_in.true) in record {
       back = rw c.in_ok-push.ensures.items (pulled_kept first c.args.asks.now c.loop-ask.ask-index ask
           c.loop-ask.kept.items c.loop-ask.moved.items c.loop-ask-test.true c.ask-item.is so_far.back ask
-          (λ answer can. can) (λ s. ap (passes ask.test) (sym (cell_left (cells_of s) ask.pid (found first.rows ask.pid)
+          (λ answer can. can) (λ s. ap (passes ask) (sym (cell_left (cells_of s) ask.pid (found first.rows ask.pid)
           ask.key left))) (λ names effect within. within));
       kept = rw c.in_ok-push.ensures.items
           (kept_more _ _ _ ask c.loop-ask-test.true c.ask-item.is so_far.kept ask refl);

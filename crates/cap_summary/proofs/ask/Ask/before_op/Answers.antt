@@ -1,0 +1,13 @@
+use Rattle.std.proofs.Common.{refl}
+use Rattle.cap_summary.specs.declared.ask.Ask.{Ask}
+use Rattle.cap_summary.proofs.TestPassing.{passes_before}
+use Rattle.cap_summary.proofs.ask.Ask.before_op.Goals as goal
+
+pub returns : goal.returns
+returns c =
+    let a = c.args.self.now in
+    let before : Ask = record a { kinds = c.kinds_before.result; lacking = c.kinds_before-2.result } in
+    record {
+      passes = passes_before a before c.args.op.now refl c.kinds_before.ensures
+          (rw c.none.ensures.nothing at c.kinds_before-2.ensures);
+    }

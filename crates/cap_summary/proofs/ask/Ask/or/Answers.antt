@@ -1,0 +1,11 @@
+use Rattle.std.proofs.Common.{refl}
+use Rattle.cap_summary.specs.declared.ask.Ask.{Ask}
+use Rattle.cap_summary.proofs.TestPassing.{passes_either}
+use Rattle.cap_summary.proofs.ask.Ask.or.Goals as goal
+
+pub returns-clause-holds : goal.returns-clause-holds
+returns-clause-holds c = λ cells.
+    let a = c.args.self.now in
+    let both : Ask = record a { kinds = c.join.result; rights = c.join-2.result } in
+    rw (← c.requires.pid, ← c.requires.key) (passes_either a c.args.other.now both c.join.ensures c.join-2.ensures.either
+    refl c.requires.lacking (cells a.pid a.key))
