@@ -49,9 +49,13 @@ pub and_with_false : (a : Bool) → (a && false) ≡ false
 and_with_false true = refl
 and_with_false false = refl
 
-pub and_with_true : (a : Bool) → (a && true) ≡ a
-and_with_true true = refl
-and_with_true false = refl
+pub both_of : (all a b : Bool) → (a ≡ true → b ≡ true → all ≡ true) → (all ≡ true → a ≡ true)
+    → (all ≡ true → b ≡ true) → all ≡ (a && b)
+both_of all true true both one other = both refl refl
+both_of true false b both one other = sym (one refl)
+both_of false false b both one other = refl
+both_of true true false both one other = sym (other refl)
+both_of false true false both one other = refl
 
 pub or_assoc : (x y z : Bool) → ((x || y) || z) ≡ (x || (y || z))
 or_assoc true y z = refl

@@ -1,6 +1,6 @@
+use Rattle.cap_rights.proofs.Members.{join_holds}
 use Rattle.cap_summary.specs.Tests.{kind_of}
-use Rattle.cap_summary.proofs.TestPassing.{has_join}
 use Rattle.cap_summary.proofs.kinds.Kinds.join.Goals as goal
 
 pub returns : goal.returns
-returns c = λ cell. has_join c.args.self.now.bits c.args.other.now.bits (kind_of cell)
+returns c = λ cell. join_holds c.args.self.now.bits c.args.other.now.bits (kind_of cell)
