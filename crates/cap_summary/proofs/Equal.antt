@@ -5,6 +5,20 @@ use Rattle.std.specs.Cmp.Lexicographic.{pointwise}
 use Rattle.std.specs.Option.{option_eq}
 use Rattle.std.proofs.Math.Bool.{beq}
 use Rattle.std.proofs.lemmas.Grind.{common_steps}
+use Rattle.cap_machine.specs.declared.cell.Cell.{Cell}
+use Rattle.cap_machine.specs.declared.cell.HeldOp.{HeldOp}
+use Rattle.cap_machine.specs.declared.cell.Op.{Op}
+use Rattle.cap_machine.specs.contracts.cell.CellPartialEq.TheImpl as cells
+use Rattle.cap_machine.specs.contracts.cell.HeldOpPartialEq.TheImpl as helds
+use Rattle.cap_machine.specs.contracts.cell.OpPartialEq.TheImpl as ops
+use Rattle.cap_summary.specs.declared.value.Value.{Value}
+use Rattle.cap_summary.specs.declared.value.Value.TheVariants as value
+use Rattle.cap_summary.specs.declared.base.Base.{Base}
+use Rattle.cap_summary.specs.declared.effect.Row.{Row}
+use Rattle.cap_summary.specs.contracts.value.ValuePartialEq.TheImpl as values
+use Rattle.cap_summary.specs.contracts.base.BasePartialEq.TheImpl as bases
+use Rattle.cap_summary.specs.contracts.listed.ListedPartialEq.TheImpl as listed
+use Rattle.cap_summary.specs.contracts.effect.RowPartialEq.TheImpl as rows
 use Rattle.cap_summary.specs.declared.ask.Ask.{Ask}
 use Rattle.cap_summary.specs.declared.key.Key.{Key}
 use Rattle.cap_summary.specs.declared.kinds.Kinds.{Kinds}
@@ -75,3 +89,78 @@ beq_true true true is = refl
 beq_true true false is = absurd cc
 beq_true false true is = absurd cc
 beq_true false false is = refl
+
+-- ---- effects
+same_cell : (a b : Cell) → cells.eq-value.it a b ≡ true → a ≡ b
+same_cell a b is = search rules
+
+same_held : (a b : HeldOp) → helds.eq-value.it a b ≡ true → a ≡ b
+same_held a b is = search rules
+
+abbrev op_of : Cell → Cell → HeldOp → HeldOp → HeldOp → Op
+op_of unknown closed set clear unsure =
+    record { unknown = unknown; closed = closed; set = set; clear = clear; unsure = unsure }
+
+same_op : (a b : Op) → ops.eq-value.it a b ≡ true → a ≡ b
+same_op a b is =
+    let unknown_is = cells.eq-value.it a.unknown b.unknown in
+    let closed_is = cells.eq-value.it a.closed b.closed in
+    let set_is = helds.eq-value.it a.set b.set in
+    let clear_is = helds.eq-value.it a.clear b.clear in
+    let unsure_is = helds.eq-value.it a.unsure b.unsure in
+    let from_closed = and_right unknown_is (closed_is && (set_is && (clear_is && unsure_is))) is in
+    let from_set = and_right closed_is (set_is && (clear_is && unsure_is)) from_closed in
+    let from_clear = and_right set_is (clear_is && unsure_is) from_set in
+    ap (λ r. op_of r a.closed a.set a.clear a.unsure) (same_cell a.unknown b.unknown (and_left unknown_is _ is))
+    ∙ ap (λ r. op_of b.unknown r a.set a.clear a.unsure) (same_cell a.closed b.closed (and_left closed_is _ from_closed))
+    ∙ ap (λ r. op_of b.unknown b.closed r a.clear a.unsure) (same_held a.set b.set (and_left set_is _ from_set))
+    ∙ ap (λ r. op_of b.unknown b.closed b.set r a.unsure) (same_held a.clear b.clear (and_left clear_is _ from_clear))
+    ∙ ap (op_of b.unknown b.closed b.set b.clear) (same_held a.unsure b.unsure (and_right clear_is _ from_clear))
+
+pub same_value : (a b : Value) → values.eq-value.it a b ≡ true → a ≡ b
+same_value (value.Is c) (value.Is d) is = ap value.Is (same_cell c d is)
+same_value (value.Same p k) (value.Same q l) is =
+    let pid : p ≡ q = eqb-true p q (and_left (eqb p q) _ is) in
+    let key : k ≡ l = same_key k l (and_right (eqb p q) _ is) in
+    cc
+same_value (value.Of p k a) (value.Of q l b) is =
+    let more = and_right (eqb p q) _ is in
+    let pid : p ≡ q = eqb-true p q (and_left (eqb p q) _ is) in
+    let key : k ≡ l = same_key k l (and_left (keys.eq-value.it k l) _ more) in
+    let op : a ≡ b = same_op a b (and_right (keys.eq-value.it k l) _ more) in
+    cc
+same_value a b is = absurd cc
+
+same_base : (a b : Base) → bases.eq-value.it a b ≡ true → a ≡ b
+same_base a b is = search rules
+
+abbrev row_of : Base → Option Value → List (ℕ × Value) → Row
+row_of base mode cells = record { base = base; mode = mode; cells = cells }
+
+same_mode : (a b : Option Value) → option_eq values.eq-value.it a b ≡ true → a ≡ b
+same_mode None None is = refl
+same_mode None (Some y) is = absurd cc
+same_mode (Some x) None is = absurd cc
+same_mode (Some x) (Some y) is = ap Some (same_value x y is)
+
+module _ {V : Type 0} (E : V → V → Bool) (same : (a b : V) → E a b ≡ true → a ≡ b) where
+  same_entry : (a b : ℕ × V) → (eqb a.0 b.0 && E a.1 b.1) ≡ true → a ≡ b
+  same_entry (k, v) (l, w) is =
+      let key : k ≡ l = eqb-true k l (and_left (eqb k l) (E v w) is) in
+      let value : v ≡ w = same v w (and_right (eqb k l) (E v w) is) in
+      cc
+
+  same_entries : (a b : List (ℕ × V)) → pointwise (λ x y. eqb x.0 y.0 && E x.1 y.1) a b ≡ true → a ≡ b
+  same_entries = same_list (λ x y. eqb x.0 y.0 && E x.1 y.1) same_entry
+
+same_row : (a b : Row) → rows.eq-value.it a b ≡ true → a ≡ b
+same_row a b is =
+    let base_is = bases.eq-value.it a.base b.base in
+    let mode_is = option_eq values.eq-value.it a.mode b.mode in
+    let more = and_right base_is (mode_is && listed.eq-value.it a.cells b.cells) is in
+    ap (λ x. row_of x a.mode a.cells) (same_base a.base b.base (and_left base_is _ is))
+    ∙ ap (λ m. row_of b.base m a.cells) (same_mode a.mode b.mode (and_left mode_is _ more))
+    ∙ ap (row_of b.base b.mode) (same_entries values.eq-value.it same_value a.cells b.cells (and_right mode_is _ more))
+
+pub same_rows : (a b : List (ℕ × Row)) → pointwise (λ x y. eqb x.0 y.0 && rows.eq-value.it x.1 y.1) a b ≡ true → a ≡ b
+same_rows = same_entries rows.eq-value.it same_row

@@ -1,6 +1,6 @@
 -- What is known is kept where few processes and descriptors are named, unless many calls were refused.
-use Rattle.std.proofs.Common.{◌≡◌, ℕ, ◌+◌, ◌*◌, ◌<◌, ◌≤◌, min, List, [], ◌∷◌, ◌++◌, length, Bool, true, false, cond, eqb}
-use Rattle.std.proofs.Common.{Option, Some, None, refl, sym, ap, ◌∙◌, inl, inr, arith}
+use Rattle.std.proofs.Common.{◌≡◌, ℕ, ◌+◌, ◌*◌, ◌<◌, ◌≤◌, List, [], ◌∷◌, ◌++◌, length, Bool, true, false, cond, eqb}
+use Rattle.std.proofs.Common.{Option, Some, None, refl, inl, inr, arith}
 use Rattle.std.specs.Prelude.{IfSome, is_some, nat_le}
 use Rattle.std.specs.List.{All}
 use Rattle.std.proofs.Math.Nat.{mul-le-mul_right}
@@ -17,7 +17,7 @@ use Rattle.cap_summary.specs.RowSizes.{rows_size, CellsRise, AllRise}
 use Rattle.cap_summary.specs.Sizes.{size}
 use Rattle.cap_summary.specs.Knows.{Knows}
 use Rattle.cap_summary.specs.Kept.{limit}
-use Rattle.cap_summary.specs.Few.{is_one, these, room, refused, NamesMany, RefusesMany, NameOrRefuseMany}
+use Rattle.cap_summary.specs.Few.{is_one, these, room, refused, NameOrRefuseMany}
 use Rattle.cap_summary.proofs.SortedFound.{found_below, rises_again}
 use Rattle.cap_summary.proofs.FewKeys.{few_keys}
 use Rattle.cap_summary.proofs.FewAsks.{few_asks}

@@ -1,6 +1,6 @@
 -- What a summary says after one more step, or one more segment.
 use Rattle.std.proofs.Common.{◌≡◌, ℕ, List, [], ◌∷◌, ◌++◌, ◌+◌, ◌<◌, false, ◌||◌, length, map, refl, sym, ap, ◌∙◌}
-use Rattle.std.proofs.Common.{get_or, take, ◌≤◌, ◌*◌, if◌then◌else◌, arith, length-append}
+use Rattle.std.proofs.Common.{get_or, take, ◌≤◌, if◌then◌else◌, arith, length-append}
 use Rattle.std.proofs.lemmas.List.{map-append, take_more}
 use Rattle.std.proofs.lemmas.List.Elements.{All-nil, All-cons, All-append}
 use Rattle.std.specs.declared.rc.Rc.{Rc}

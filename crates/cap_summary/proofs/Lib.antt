@@ -20,10 +20,9 @@ pub mod Equal
 pub mod Runs
 pub mod Knowing
 pub mod Counting
-pub mod Sameness
 pub mod Keeping
 pub mod Rejoining
-pub mod Shared
+pub mod OwnCells
 pub mod Ends
 pub mod Resolving
 pub mod Walks

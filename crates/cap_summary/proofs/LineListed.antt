@@ -10,7 +10,7 @@ use Rattle.cap_machine.specs.declared.rule.Effect.{Effect as LineEffect}
 use Rattle.cap_machine.specs.declared.rule.Effect.TheVariants as lines
 use Rattle.cap_summary.specs.declared.key.Key.TheVariants as key
 use Rattle.cap_summary.specs.declared.value.Value.{Value}
-use Rattle.cap_summary.specs.Values.{source, reads_within}
+use Rattle.cap_summary.specs.Values.{reads_within}
 use Rattle.cap_summary.specs.Sorted.{found}
 use Rattle.cap_summary.specs.Names.{Names, has_cell, IsListedWithin, LineWithin}
 
@@ -24,15 +24,15 @@ module _ {V : Type 0} (P : ℕ → V → Type 0) (k : ℕ) (v : V) (holds : P k 
       → ((f : ℕ) → IfSome (found old f) (P f)) → (f : ℕ) → IfSome (found new f) (P f)
   each_put old new put others f = rw (put f) (each_one (found old f) f (f == k) refl (others f))
 
--- a descriptor that takes its cell from another, which had the value `before`
-pub change_within : (names : Names) (me : ℕ) (line : LineEffect) (f : ℕ) (op : Op) (g : ℕ) (before v : Value)
-    → line ≡ lines.Change f op g → source v ≡ source before
-    → (has_cell names me (key.Fd g) ≡ true → reads_within (has_cell names) before ≡ true) → LineWithin names me line
+-- a descriptor that takes its cell from another
+pub change_within : (names : Names) (me : ℕ) (line : LineEffect) (f : ℕ) (op : Op) (g : ℕ) (v : Value)
+    → line ≡ lines.Change f op g
+    → (has_cell names me (key.Fd g) ≡ true → reads_within (has_cell names) v ≡ true) → LineWithin names me line
     → IsListedWithin names f v
-change_within names me line f op g before v is from reads within = record {
+change_within names me line f op g v is reads within = record {
   key = All-head P f (g ∷ []) both;
-  source = rw from (reads (and_from (names.pids me) (names.fds g) within.own
-      (All-head P g [] (All-tail P f (g ∷ []) both))));
+  source = reads (and_from (names.pids me) (names.fds g) within.own
+      (All-head P g [] (All-tail P f (g ∷ []) both)));
 }
   where
     P : ℕ → Type 0

@@ -1,7 +1,8 @@
 -- The cells after a line, by the rows of the processes that it touches.
-use Rattle.std.proofs.Common.{◌≡◌, ℕ, ◌==◌, Bool, true, false, ◌||◌, not, cond, refl, sym, ap, ◌∙◌, inl, inr, subst}
-use Rattle.std.proofs.Common.{List, [], Option, Some, None, Bor}
-use Rattle.std.specs.Prelude.{is_none, nat_le, unwrap_or}
+use Rattle.std.proofs.Common.{◌≡◌, ℕ, ◌==◌, Bool, true, false, ◌||◌, cond, refl, sym, ap, ◌∙◌, inl, inr, subst}
+use Rattle.std.proofs.Common.{List, Some, None, Bor}
+use Rattle.std.specs.Prelude.{is_none, nat_le}
+use Rattle.std.specs.Option.{option_map_or}
 use Rattle.std.proofs.lemmas.Bool.{eqb-true, eq-eqb}
 use Rattle.cap_machine.specs.declared.cell.OnExec.TheVariants.{Set, Clear, Unsure}
 use Rattle.cap_machine.specs.declared.cell.Cell.{Cell}
@@ -25,8 +26,8 @@ use Rattle.cap_summary.specs.Effects.{row_cell, changed, IsRowAfter}
 use Rattle.cap_summary.specs.Sorted.{found}
 use Rattle.cap_summary.specs.Leaving.{base_leaves, row_leaves, leaves, LineLeaves, LeavesThenLine}
 use Rattle.cap_summary.specs.Lines.{turned_cell, line_after, IsThenLine, is_touched, IsPut, LeavesPut, IsRowOf, LeavesOwn}
-use Rattle.cap_summary.specs.Lines.{IsListOf, IsListedWith, sets_cells, lists, unlisted, leaves_unlisted}
-use Rattle.cap_summary.proofs.RowsComposed.{map_or_is, not_left}
+use Rattle.cap_summary.specs.Lines.{IsListOf, sets_cells, lists, unlisted, leaves_unlisted}
+use Rattle.cap_summary.proofs.RowsComposed.{not_left}
 use Rattle.cap_summary.proofs.Bools.{or_false, or_right, and_left, and_right, and_with_false}
 
 -- ---- a process that isn't touched keeps its cells
@@ -100,13 +101,13 @@ touched_so line me p cells k is = ap (λ q. line_after line me cells q k) (eqb-t
 
 -- a line that lists a descriptor of the child that it makes
 pub fork_list : (line : LineEffect) (child g me : ℕ) (listed : List (ℕ × Value)) → line ≡ lines.ForkAs child g
-    → IsListedWith g (value.Is Unknown) [] listed → IsListOf line me listed
-fork_list line child g me listed is with cells f = rw is (map_or_is (read cells) (found listed f) (cells me (key.Fd f))
-    ∙ ap (λ (o : Option Cell). unwrap_or o (cells me (key.Fd f))) (with.cells cells f)
+    → ((f : ℕ) → found listed f ≡ cond (f == g) (Some (value.Is Unknown)) None) → IsListOf line me listed
+fork_list line child g me listed is with cells f =
+    rw is (ap (λ o. option_map_or (read cells) o (cells me (key.Fd f))) (with f)
     ∙ either (f == g) ∙ rw (own_too me cells child)
     (sym (as_cell me cells child me f (f == g) (me == child) (own_too me cells child))))
   where
-    either : (b : Bool) → unwrap_or (cond b (Some Unknown) None) (cells me (key.Fd f))
+    either : (b : Bool) → option_map_or (read cells) (cond b (Some (value.Is Unknown)) None) (cells me (key.Fd f))
         ≡ cond b Unknown (cells me (key.Fd f))
     either true = refl
     either false = refl

@@ -1,12 +1,11 @@
 -- A cell that is set in place.
-use Rattle.std.proofs.Common.{◌≡◌, ℕ, ◌==◌, ◌&&◌, ◌||◌, not, Bool, true, false, cond, List, Option, Some, None, option_map}
+use Rattle.std.proofs.Common.{◌≡◌, ℕ, ◌==◌, ◌&&◌, ◌||◌, Bool, true, false, cond, List, Option, Some, None}
 use Rattle.std.proofs.Common.{refl, sym, ap, ◌∙◌, subst}
 use Rattle.std.specs.Prelude.{IfSome, is_none, unwrap_or}
 use Rattle.std.specs.Option.{option_map_or}
 use Rattle.std.proofs.lemmas.Bool.{eqb-true, eq-eqb}
 use Rattle.cap_machine.specs.declared.cell.Cell.{Cell}
 use Rattle.cap_machine.specs.declared.cell.Op.{Op}
-use Rattle.cap_machine.specs.declared.rule.Effect.{Effect as LineEffect}
 use Rattle.cap_machine.specs.declared.rule.Effect.TheVariants as lines
 use Rattle.cap_machine.specs.Op.{applied}
 use Rattle.cap_machine.specs.Touch.{Touch, kept, given, taken}
@@ -22,9 +21,9 @@ use Rattle.cap_summary.specs.Sorted.{found}
 use Rattle.cap_summary.specs.Effects.{own_row, base_cell, row_cell, cell_in, changed}
 use Rattle.cap_summary.specs.Leaving.{row_leaves, leaves_in, leaves, base_leaves, LineLeaves}
 use Rattle.cap_summary.specs.Names.{Names, IsListedWithin, RowWithin, IsRowWithin, EffectWithin}
-use Rattle.cap_summary.specs.Lines.{IsListedWith, is_cell, with_cell, line_after}
+use Rattle.cap_summary.specs.Lines.{is_cell, with_cell, line_after}
 use Rattle.cap_summary.proofs.Bools.{and_with_false}
-use Rattle.cap_summary.proofs.RowsComposed.{map_or_is}
+use Rattle.cap_summary.proofs.LineListed.{each_put}
 
 -- a process without a row has one that leaves it
 own_cell : (cells : Cells) (p : ℕ) (row : Option Row) (k : Key)
@@ -46,24 +45,22 @@ own_within names p None is = record { cells = λ f. tt; others = refl; mode = re
 module _ (first new : Effect) (q fd : ℕ) (value : Value) (mid : List (ℕ × Row)) (row : Row) (listed : List (ℕ × Value))
     (taken_is : row ≡ unwrap_or (found first.rows q) own_row)
     (others : (p : ℕ) → (p == q) ≡ false → found mid p ≡ found first.rows p)
-    (with : IsListedWith fd value row.cells listed)
+    (with : (g : ℕ) → found listed g ≡ cond (g == fd) (Some value) (found row.cells g))
     (put : (p : ℕ) → found new.rows p
     ≡ cond (p == q) (Some (record { base = row.base; mode = row.mode; cells = listed })) (found mid p)) where
   abbrev now : Row
   now = record { base = row.base; mode = row.mode; cells = listed }
 
   with_if : (cells : Cells) (b : Bool) (was : Option Value) (d : Cell)
-      → unwrap_or (cond b (Some (read cells value)) (option_map (read cells) was)) d
-      ≡ cond b (read cells value) (option_map_or (read cells) was d)
+      → option_map_or (read cells) (cond b (Some value) was) d ≡ cond b (read cells value) (option_map_or (read cells) was d)
   with_if cells true was d = refl
-  with_if cells false was d = sym (map_or_is (read cells) was d)
+  with_if cells false was d = refl
 
   -- the row has that cell, and the others as before
   row_with : (cells : Cells) (k : Key) → row_cell cells q now k
       ≡ cond (is_cell q fd q k) (read cells value) (row_cell cells q row k)
   row_with cells key.Mode = refl
-  row_with cells (key.Fd f) = map_or_is (read cells) (found listed f) (base_cell cells q row.base f)
-      ∙ ap (λ (o : Option Cell). unwrap_or o (base_cell cells q row.base f)) (with.cells cells f)
+  row_with cells (key.Fd f) = ap (λ o. option_map_or (read cells) o (base_cell cells q row.base f)) (with f)
       ∙ with_if cells (f == fd) (found row.cells f) (base_cell cells q row.base f)
       ∙ ap (λ b. cond (b && f == fd) (read cells value) (row_cell cells q row (key.Fd f))) (sym (eq-eqb q q refl))
 
@@ -85,13 +82,12 @@ module _ (first new : Effect) (q fd : ℕ) (value : Value) (mid : List (ℕ × R
 
   row_left : (k : Key) → row_leaves now k ≡ true → (row_leaves row k ≡ true) × (is_cell q fd q k ≡ false)
   row_left key.Mode left = (left, refl)
-  row_left (key.Fd f) left = sides (f == fd) (is_none (found row.cells f)) (base_leaves row.base f)
-      (rw (← with.listed f) left)
+  row_left (key.Fd f) left = sides (f == fd) (found row.cells f) (base_leaves row.base f) (rw (with f) at left)
     where
-      sides : (b none base : Bool) → ((not b && none) && base) ≡ true
-          → ((none && base) ≡ true) × ((q == q && b) ≡ false)
-      sides true none base left = absurd cc
-      sides false none base left = (left, and_with_false (q == q))
+      sides : (b : Bool) (was : Option Value) (base : Bool) → (is_none (cond b (Some value) was) && base) ≡ true
+          → ((is_none was && base) ≡ true) × ((q == q && b) ≡ false)
+      sides true was base left = absurd cc
+      sides false was base left = (left, and_with_false (q == q))
 
   pub set_leaves : (p : ℕ) (k : Key) → leaves new p k ≡ true → (leaves first p k ≡ true) × (is_cell q fd p k ≡ false)
   set_leaves p k left = by (p == q) refl (rw (put p) at left)
@@ -114,7 +110,7 @@ module _ (first new : Effect) (q fd : ℕ) (value : Value) (mid : List (ℕ × R
       by : (b : Bool) → (p == q) ≡ b → IfSome (cond b (Some now) (found mid p)) (IsRowWithin names p)
       by true is = rw (eqb-true p q is) (record {
         pid = pid;
-        row = record { cells = with.names names here old.cells; others = old.others; mode = old.mode };
+        row = record { cells = each_put (IsListedWithin names) fd value here row.cells listed with old.cells; others = old.others; mode = old.mode };
       })
       by false is = rw (others p is) (within p)
 

@@ -49,7 +49,7 @@ module _ (a b : Names) (among : AreAmong a b) where
   value_among : (v : Value) → reads_within (has_cell a) v ≡ true → reads_within (has_cell b) v ≡ true
   value_among (value.Is c) is = refl
   value_among (value.Same p k) is = cell_among p k is
-  value_among (value.Of x) is = cell_among x.value.pid x.value.key is
+  value_among (value.Of p k op) is = cell_among p k is
 
   listed_among : (f : ℕ) (v : Option Value) → IfSome v (IsListedWithin a f) → IfSome v (IsListedWithin b f)
   listed_among f None is = is

@@ -1,6 +1,6 @@
 -- What is known of an old whole, of a whole that has another part in place of one.
-use Rattle.std.proofs.Common.{◌≡◌, ◌||◌, true, false, refl, sym, ap, ◌∙◌}
-use Rattle.std.proofs.Math.Path.{fun_ext}
+use Rattle.std.proofs.Common.{◌≡◌, ℕ, ◌||◌, true, false, refl, sym, ap, ◌∙◌}
+use Rattle.cap_summary.specs.declared.key.Key.{Key}
 use Rattle.cap_summary.specs.declared.effect.Effect.{Effect}
 use Rattle.cap_summary.specs.declared.precondition.Precondition.{Precondition}
 use Rattle.cap_summary.specs.declared.known.Known.{Known}
@@ -8,9 +8,11 @@ use Rattle.cap_tree.specs.declared.likeness.Likeness.{Likeness}
 use Rattle.cap_tree.specs.declared.likeness.Side.{Side}
 use Rattle.cap_tree.specs.declared.likeness.Side.TheVariants.{Left, Right}
 use Rattle.cap_summary.specs.Keys.{Cells, cells_of}
-use Rattle.cap_summary.specs.Effects.{changed}
+use Rattle.cap_summary.specs.Sorted.{found}
+use Rattle.cap_summary.specs.Effects.{cell_in, changed}
+use Rattle.cap_summary.specs.Leaving.{leaves_in, leaves}
 use Rattle.cap_summary.specs.Preconditions.{is_met, IsPossible}
-use Rattle.cap_summary.specs.Names.{Names, PreWithin}
+use Rattle.cap_summary.specs.Names.{Names, EffectWithin, PreWithin}
 use Rattle.cap_summary.specs.Alike.{IsSameEffect}
 use Rattle.cap_summary.specs.Preconditions.{IsSamePrecondition}
 use Rattle.cap_summary.specs.Joined.{IsJoinedEffect, IsJoined}
@@ -19,16 +21,16 @@ use Rattle.cap_tree.specs.Sides.{part_at}
 use Rattle.cap_summary.specs.Likeness.{AreAlike, KeepsEffect}
 
 same_cells : (a b : Effect) → IsSameEffect a b → (cells : Cells) → changed a cells ≡ changed b cells
-same_cells a b same cells = fun_ext (λ p. fun_ext (λ k. same.cells cells p k))
+same_cells a b same cells = ap (λ rows. λ p k. cell_in cells (found rows p) p k) same
 
 pub same_effect : (a b : Effect) → b ≡ a → IsSameEffect a b
-same_effect a b is = rw is (record {
-  cells = λ cells p k. refl;
-  names = λ names within. within;
-  back = λ names within. within;
-  leaves = λ p k. refl;
-  size = refl;
-})
+same_effect a b is = rw is refl
+
+same_leaves : (a b : Effect) → IsSameEffect a b → (p : ℕ) (k : Key) → leaves a p k ≡ leaves b p k
+same_leaves a b same p k = ap (λ rows. leaves_in (found rows p) k) same
+
+named_too : (a b : Effect) → IsSameEffect a b → (names : Names) → EffectWithin names b → EffectWithin names a
+named_too a b same names within = rw same within
 
 pub same_precondition : (a b : Precondition) → b ≡ a → IsSamePrecondition a b
 same_precondition a b is = rw is (record { certain = refl; asks = refl; refusals = refl })
@@ -42,16 +44,17 @@ first_effect : (was first later old : Effect) → IsSameEffect was first → IsJ
     → IsJoinedEffect first later old
 first_effect was first later old same joined = record {
   cells = λ cells p k. joined.cells cells p k ∙ ap (λ (c : Cells). changed later c p k) (same_cells was first same cells);
-  leaves = λ p k is. (sym (same.leaves p k) ∙ (joined.leaves p k is).0, (joined.leaves p k is).1);
-  names = λ names one other. joined.names names (same.back names one) other;
+  leaves = λ p k is. (sym (same_leaves was first same p k) ∙ (joined.leaves p k is).0, (joined.leaves p k is).1);
+  names = λ names one other. joined.names names (named_too was first same names one) other;
 }
 
 second_effect : (first was later old : Effect) → IsSameEffect was later → IsJoinedEffect first was old
     → IsJoinedEffect first later old
 second_effect first was later old same joined = record {
-  cells = λ cells p k. joined.cells cells p k ∙ same.cells (changed first cells) p k;
-  leaves = λ p k is. ((joined.leaves p k is).0, sym (same.leaves p k) ∙ (joined.leaves p k is).1);
-  names = λ names one other. joined.names names one (same.back names other);
+  cells = λ cells p k. joined.cells cells p k
+      ∙ ap (λ (after : Cells). after p k) (same_cells was later same (changed first cells));
+  leaves = λ p k is. ((joined.leaves p k is).0, sym (same_leaves was later same p k) ∙ (joined.leaves p k is).1);
+  names = λ names one other. joined.names names one (named_too was later same names other);
 }
 
 same_met : (a b : Precondition) → IsSamePrecondition a b → (cells : Cells) → is_met cells a ≡ is_met cells b
@@ -71,7 +74,7 @@ first_asks was first own new later old effect same asked = record {
       ∙ ap (λ r. r || is_met (changed was (cells_of s)) later) (same_met own new same (cells_of s))
       ∙ ap (λ (c : Cells). is_met (cells_of s) new || is_met c later) (same_cells was first effect (cells_of s));
   possible = λ mine other. asked.possible (possible_back own new same mine) other;
-  names = λ names one mine other. asked.names names (effect.back names one) (named_back own new same names mine) other;
+  names = λ names one mine other. asked.names names (named_too was first effect names one) (named_back own new same names mine) other;
   settled = asked.settled;
   few = rw (same.asks, same.refusals) at asked.few;
   refusals = rw same.refusals at asked.refusals;

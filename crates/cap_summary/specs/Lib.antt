@@ -1,6 +1,5 @@
 pub mod Keys
 pub mod Values
-pub mod Copies
 pub mod Tests
 pub mod Asks
 pub mod Place

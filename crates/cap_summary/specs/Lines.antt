@@ -1,6 +1,5 @@
 -- What one line does to each cell and to each mode, by key; me is the process of the line.
-use Rattle.std.specs.Prelude.{◌≡◌, ℕ, ◌==◌, ◌&&◌, ◌||◌, not, ◌⊎◌, Bool, true, false, List, Some, nat_le, if◌then◌else◌}
-use Rattle.std.specs.Prelude.{is_none, option_map}
+use Rattle.std.specs.Prelude.{◌≡◌, ℕ, ◌==◌, ◌&&◌, ◌||◌, not, ◌⊎◌, Bool, true, false, List, nat_le, if◌then◌else◌}
 use Rattle.std.specs.Option.{option_map_or}
 use Rattle.cap_machine.specs.declared.cell.Cell.{Cell}
 use Rattle.cap_machine.specs.declared.cell.Cell.TheVariants.{Unknown, Closed}
@@ -19,7 +18,6 @@ use Rattle.cap_summary.specs.declared.effect.Effect.{Effect}
 use Rattle.cap_summary.specs.Keys.{Cells, mode_cell}
 use Rattle.cap_summary.specs.Effects.{row_cell, cell_in, changed}
 use Rattle.cap_summary.specs.Leaving.{row_leaves, leaves_in, LineLeaves}
-use Rattle.cap_summary.specs.Names.{Names, IsListedWithin, ListWithin}
 use Rattle.cap_summary.specs.Values.{read}
 use Rattle.cap_summary.specs.Sorted.{found}
 
@@ -61,13 +59,6 @@ is_cell q f p (key.Fd g) = p == q && g == f
 -- the cells where that one is c
 abbrev pub with_cell : ℕ → ℕ → Cell → Cells → Cells
 with_cell q f c cells p k = if is_cell q f p k then c else cells p k
-
--- what is listed after a value is put at a descriptor
-pub record IsListedWith (f : ℕ) (value : Value) (old new : List (ℕ × Value)) : Type 0 where
-  pub cells : (cells : Cells) (g : ℕ) → option_map (read cells) (found new g)
-      ≡ (if g == f then Some (read cells value) else option_map (read cells) (found old g))
-  pub listed : (g : ℕ) → is_none (found new g) ≡ (not (g == f) && is_none (found old g))
-  pub names : (names : Names) → IsListedWithin names f value → ListWithin names old → ListWithin names new
 
 -- each process that a line of process me touches has the cells that this row gives me, and each other one those that it
 -- had

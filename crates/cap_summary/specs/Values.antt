@@ -12,19 +12,13 @@ use Rattle.cap_summary.specs.Keys.{Cells}
 abbrev pub read : Cells → Value → Cell
 read cells (value.Is c) = c
 read cells (value.Same p k) = cells p k
-read cells (value.Of x) = applied x.value.op (cells x.value.pid x.value.key)
-
--- what a value makes of the cell that it reads
-abbrev pub made_of : Value → Cell → Cell
-made_of (value.Is c) before = c
-made_of (value.Same p k) before = before
-made_of (value.Of x) before = applied x.value.op before
+read cells (value.Of p k op) = applied op (cells p k)
 
 -- the cell that a value reads, if it reads one
 abbrev pub source : Value → Option (ℕ × Key)
 source (value.Is c) = None
 source (value.Same p k) = Some (p, k)
-source (value.Of x) = Some (x.value.pid, x.value.key)
+source (value.Of p k op) = Some (p, k)
 
 -- the cell that a value reads is among these
 abbrev pub reads_within : (ℕ → Key → Bool) → Value → Bool

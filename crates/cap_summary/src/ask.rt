@@ -195,7 +195,7 @@ impl Ask {
             Seen::Is(cell) => return Pulled::of(self.passes(cell)),
             Seen::Same(pid, key) => (pid, key, *self),
             Seen::Executed(pid, key) => (pid, key, self.before_op(&Op::exec())),
-            Seen::Made(op, pid, key) => (pid, key, self.before_op(op)),
+            Seen::Made(op, pid, key) => (pid, key, self.before_op(op.get())),
         };
         Ask { pid, key, ..ask }.settled()
     }

@@ -1,15 +1,16 @@
 //! The cells of a process that aren't listed.
 
 ghost use Rattle.std.specs.Prelude.{◌≡◌, ℕ, ◌||◌, true, false, None, IfOk};
+ghost use Rattle.cap_machine.specs.declared.cell.Cell.{Cell};
 ghost use Rattle.cap_summary.specs.Keys.{Cells};
-ghost use Rattle.cap_summary.specs.Values.{read, source, reads_within};
+ghost use Rattle.cap_summary.specs.Values.{read, reads_within};
 ghost use Rattle.cap_summary.specs.Names.{Names, has_cell, others_within};
 ghost use Rattle.cap_summary.specs.Effects.{passed, is_from, others_cell, base_cell};
 ghost use Rattle.cap_summary.specs.Leaving.{is_own};
 
-use crate::key::Key;
+use crate::shared::SharedOp;
 use crate::value::Value;
-use cap_machine::{Cell, Op};
+use cap_machine::Op;
 use cap_trace::{Fd, Pid};
 use cap_tree::NoMemory;
 use std::alloc::Global;
@@ -50,11 +51,12 @@ impl Passing {
     /// A value where it is handed on.
     pub(crate) fn pass(self, alloc: Global, value: &Value) -> Result<Value, NoMemory>
         ensures reads { IfOk result (λ v. (cells : Cells) → read cells v ≡ passed self (read cells value.now)) }
-        ensures source { IfOk result (λ v. source v ≡ source value.now) }
+        ensures names { IfOk result (λ v. (names : Names) → reads_within (has_cell names) value.now ≡ true
+            → reads_within (has_cell names) v ≡ true) }
     {
         match self {
-            Passing::Same => value.share(),
-            Passing::Exec => value.then(alloc, &Op::exec()),
+            Passing::Same => Ok(value.clone()?),
+            Passing::Exec => value.seen().then(alloc, &SharedOp::new(alloc, Op::exec())?),
         }
     }
 
@@ -129,23 +131,6 @@ impl Base {
         match &self.closed_from {
             None => false,
             Some(n) => *n <= fd,
-        }
-    }
-
-    /// The cell of a descriptor of a process that isn't listed.
-    pub(crate) fn value(&self, alloc: Global, pid: Pid, fd: Fd) -> Result<Value, NoMemory>
-        ensures reads { IfOk result (λ v. (cells : Cells) → read cells v ≡ base_cell cells pid self.now fd) }
-        ensures names { IfOk result (λ v. (names : Names) → names.pids pid ≡ true → others_within names self.now.others ≡ true
-            → names.fds fd ≡ true → reads_within (has_cell names) v ≡ true) }
-    {
-        if self.closes(fd) {
-            return Ok(Value::Is(Cell::Closed));
-        }
-        match &self.others {
-            Others::Own => Ok(Value::Same(pid, Key::Fd(fd))),
-            Others::Unknown => Ok(Value::Is(Cell::Unknown)),
-            Others::Closed => Ok(Value::Is(Cell::Closed)),
-            Others::Of(pid, passing) => passing.pass(alloc, &Value::Same(*pid, Key::Fd(fd))),
         }
     }
 }

@@ -42,7 +42,7 @@ impl<'a> Before<'a> {
                     Seen::Is(cell) => cell,
                     Seen::Same(source, at) => before.read(source, at),
                     Seen::Executed(source, at) => Op::exec().on(before.read(source, at)),
-                    Seen::Made(op, source, at) => op.on(before.read(source, at)),
+                    Seen::Made(op, source, at) => op.get().on(before.read(source, at)),
                 };
                 match key {
                     Key::Mode => cell_of_mode(mode_of_cell(cell)),

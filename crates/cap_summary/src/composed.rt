@@ -16,7 +16,6 @@ ghost use Rattle.cap_summary.specs.Names.{Names, others_within, mode_within, Lis
 use crate::base::{Base, Others, Passing, lower_of};
 use crate::effect::{Effect, Row};
 use crate::listed::Listed;
-use crate::reading::share_mode;
 use crate::sorted::{Combine, merge};
 use crate::value::Value;
 use cap_trace::{Fd, Pid};
@@ -163,12 +162,12 @@ impl Combine for Composing<'_> {
     ghost gives = { λ s p left right out. left ≡ found s.first.now.rows p → IsComposedSo s.first.now p left right out };
 
     fn left(&self, _alloc: Global, _pid: u32, left: &Row) -> Result<Option<Row>, NoMemory> {
-        Ok(Some(left.share()?))
+        Ok(Some(left.clone()?))
     }
 
     fn right(&self, alloc: Global, pid: u32, right: &Row) -> Result<Option<Row>, NoMemory> {
         if right.reads_only(pid) {
-            return Ok(Some(right.share()?));
+            return Ok(Some(right.clone()?));
         }
         Ok(Some(self.first.row_after(alloc, pid, right)?))
     }
@@ -207,7 +206,7 @@ impl Effect {
     {
         match (mode, self.rows.get(pid)) {
             (Some(value), _) => Ok(Some(self.value_after(alloc, value)?)),
-            (None, Some(first)) => share_mode(&first.mode),
+            (None, Some(first)) => Ok(first.mode.clone()?),
             (None, None) => Ok(None),
         }
     }

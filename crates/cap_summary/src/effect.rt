@@ -9,7 +9,7 @@ use crate::sorted::Map;
 use crate::value::Value;
 
 /// What becomes of the cells of a process.
-#[derive(Drop)]
+#[derive(PartialEq, Drop)]
 pub struct Row {
     /// The cells of the descriptors that aren't listed.
     pub base: Base,

@@ -1,7 +1,6 @@
 //! What a segment of a trace does to what is known, and under which states before it something is found in it.
 #![tactic(auto)]
 
-mod alike;
 mod ask;
 mod asks;
 mod base;
@@ -21,6 +20,7 @@ mod node;
 mod precondition;
 mod reading;
 mod seen;
+mod shared;
 mod sharing;
 mod sorted;
 mod summary;
@@ -39,6 +39,7 @@ pub use known::Known;
 pub use line_asks::{LineAsks, UpToThree};
 pub use listed::Listed;
 pub use precondition::{Precondition, Refusal};
+pub use shared::SharedOp;
 pub use sorted::Map;
 pub use summary::{Summary, report_range, resolve, resolve_range};
-pub use value::{Derived, Value};
+pub use value::Value;

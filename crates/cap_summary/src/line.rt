@@ -23,6 +23,7 @@ use crate::base::{Base, Others, Passing};
 use crate::effect::{Effect, Row};
 use crate::key::{Key, cell_of_mode};
 use crate::listed::Listed;
+use crate::shared::SharedOp;
 use crate::sorted::Map;
 use crate::value::Value;
 use cap_machine::{Cell, Effect as LineEffect, Mode, OnExec};
@@ -194,8 +195,9 @@ impl Effect {
                 self.set(alloc, me, *other, Value::Is(*cell))
             }
             LineEffect::Change(fd, op, from) => {
-                let before = self.read(alloc, me, Key::Fd(*from))?;
-                self.set(alloc, me, *fd, before.then(alloc, op)?)
+                let op = SharedOp::new(alloc, *op)?;
+                let value = self.seen(me, Key::Fd(*from)).then(alloc, &op)?;
+                self.set(alloc, me, *fd, value)
             }
             _ => self.push_row(alloc, me, line),
         }

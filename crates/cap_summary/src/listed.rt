@@ -1,11 +1,10 @@
 //! The cells that a row lists.
 
-ghost use Rattle.std.specs.Prelude.{◌≡◌, ℕ, true, [], IfOk, OnOk};
+ghost use Rattle.std.specs.Prelude.{◌≡◌, ℕ, ◌==◌, [], Some, if◌then◌else◌, IfOk, OnOk};
 ghost use Rattle.std.specs.Option.{option_copied};
-ghost use Rattle.cap_summary.specs.Lines.{IsListedWith};
 ghost use Rattle.cap_summary.specs.Sorted.{found, Rises};
 
-use crate::sorted::{Combine, Map, merge};
+use crate::sorted::Map;
 use crate::value::Value;
 use cap_tree::NoMemory;
 use std::alloc::{AllocError, Global};
@@ -45,60 +44,31 @@ impl Clone for Listed {
     }
 }
 
-/// Copies each value.
-struct Copying;
+impl PartialEq for Listed {
+    ghost use Rattle.std.specs.Prelude.{◌&&◌, ◌==◌};
+    ghost use Rattle.std.specs.Cmp.Lexicographic.{pointwise, lists_per};
+    ghost use Rattle.std.specs.Cmp.{and_per, on_per, partial_equiv_from_equiv, nat_eq_equiv};
+    ghost use Rattle.cap_summary.specs.contracts.value.ValuePartialEq.TheImpl as values;
+    ghost use Rattle.cap_summary.specs.contracts.value.ValuePartialEq.TheImpl.Laws.{laws-law};
 
-impl Combine for Copying {
-    type Left = Value;
+    ghost eq = { pointwise (λ x y. x.0 == y.0 && values.eq-value.it x.1 y.1) };
 
-    type Right = Value;
+    ghost laws = { lists_per (and_per (on_per (λ x. x.0) (partial_equiv_from_equiv nat_eq_equiv))
+        (on_per (λ x. x.1) laws-law)) };
 
-    type Out = Value;
-
-    ghost use Rattle.std.specs.Prelude.{refl};
-    ghost use Rattle.cap_summary.specs.Copies.{IsCopied};
-
-    ghost gives = { λ s f left right out. IsCopied left out };
-
-    fn left(&self, _alloc: Global, _fd: u32, left: &Value) -> Result<Option<Value>, NoMemory> {
-        Ok(Some(left.share()?))
+    fn eq(&self, other: &Listed) -> bool {
+        self.entries() == other.entries()
     }
-
-    fn right(&self, _alloc: Global, _fd: u32, _right: &Value) -> Result<Option<Value>, NoMemory> {
-        Ok(None)
-    }
-
-    fn both(
-        &self,
-        alloc: Global,
-        fd: u32,
-        left: &Value,
-        _right: &Value,
-    ) -> Result<Option<Value>, NoMemory> {
-        self.left(alloc, fd, left)
-    }
-
-    ghost neither = { λ s f. record { reads = λ cells. refl; source = refl } };
 }
 
 /// The same entries with a value at a descriptor: these, or a copy where they are shared.
-#[tactic(auto, using(crate::proofs::Listing::listed_with))]
-fn put(
-    alloc: Global,
-    cells: Rc<Map<Value>>,
-    fd: u32,
-    value: Value,
-) -> Result<Rc<Map<Value>>, NoMemory>
-    ensures { IfOk result (λ new. IsListedWith fd value cells.value new.value) }
+fn put(cells: Rc<Map<Value>>, fd: u32, value: Value) -> Result<Rc<Map<Value>>, NoMemory>
+    ensures { IfOk result (λ new. (g : ℕ) → found new.value g
+        ≡ (if g == fd then Some value else found cells.value g)) }
 {
     let mut cells = cells;
-    if let Some(own) = Rc::get_mut(&mut cells) {
-        own.set(fd, value)?;
-        return Ok(cells);
-    }
-    let mut copy = merge(alloc, &Copying, cells.entries(), &[])?;
-    copy.set(fd, value)?;
-    Ok(Rc::new(alloc, copy)?)
+    Rc::make_mut(&mut cells)?.set(fd, value)?;
+    Ok(cells)
 }
 
 impl Listed {
@@ -144,13 +114,13 @@ impl Listed {
 
     /// Puts a value at a descriptor, in place where the entries aren't shared.
     pub fn set(&mut self, alloc: Global, fd: u32, value: Value) -> Result<(), NoMemory>
-        ensures { OnOk result (IsListedWith fd value self.old self.new) }
+        ensures { OnOk result ((g : ℕ) → found self.new g ≡ (if g == fd then Some value else found self.old g)) }
     {
         let cells = match self.cells.take() {
             Some(cells) => cells,
             None => Rc::new(alloc, Map::new(alloc))?,
         };
-        self.cells = Some(put(alloc, cells, fd, value)?);
+        self.cells = Some(put(cells, fd, value)?);
         Ok(())
     }
 }

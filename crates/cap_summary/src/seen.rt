@@ -1,6 +1,8 @@
-//! What is seen of a cell after a segment. Nothing of this allocates.
+//! What is seen of a cell after a segment.
 
-ghost use Rattle.std.specs.Prelude.{◌≡◌, true};
+ghost use Rattle.std.specs.Prelude.{◌≡◌, ℕ, Bool, true, IfOk};
+ghost use Rattle.cap_machine.specs.Op.{applied};
+ghost use Rattle.cap_summary.specs.declared.key.Key.{Key};
 ghost use Rattle.cap_summary.specs.Keys.{Cells};
 ghost use Rattle.cap_summary.specs.Values.{read, reads_within};
 ghost use Rattle.cap_summary.specs.Effects.{base_cell, row_cell, changed};
@@ -10,11 +12,14 @@ ghost use Rattle.cap_summary.specs.Names.{Names, has_cell, others_within, RowWit
 use crate::base::{Base, Others, Passing};
 use crate::effect::{Effect, Row};
 use crate::key::Key;
+use crate::shared::SharedOp;
 use crate::value::Value;
 use cap_machine::{Cell, Op};
 use cap_trace::{Fd, Pid};
+use cap_tree::NoMemory;
+use std::alloc::Global;
 
-/// A cell after a segment.
+/// A cell after a segment, not yet copied. To look at one allocates nothing.
 #[derive(Clone, Copy)]
 pub(crate) enum Seen<'a> {
     /// This cell, whatever the state before.
@@ -24,19 +29,36 @@ pub(crate) enum Seen<'a> {
     /// What an exec makes of one.
     Executed(Pid, Key),
     /// What an op makes of one.
-    Made(&'a Op, Pid, Key),
+    Made(&'a SharedOp, Pid, Key),
+}
+
+impl Seen<'_> {
+    /// What an op makes of it. Where it is a cell before the segment, the value shares the op.
+    pub(crate) fn then(&self, alloc: Global, op: &SharedOp) -> Result<Value, NoMemory>
+        ensures reads { IfOk result (λ v. (cells : Cells) → read cells v ≡ applied op.now (seen_cell cells self.now)) }
+        ensures names { IfOk result (λ v. (names : ℕ → Key → Bool) → seen_within names self.now ≡ true
+            → reads_within names v ≡ true) }
+    {
+        let (pid, key, both) = match self {
+            Seen::Is(cell) => return Ok(Value::Is(op.get().on(*cell))),
+            Seen::Same(pid, key) => return Ok(Value::Of(*pid, *key, op.share()?)),
+            Seen::Executed(pid, key) => (*pid, *key, Op::exec().then(op.get())),
+            Seen::Made(first, pid, key) => (*pid, *key, first.get().then(op.get())),
+        };
+        Ok(Value::Of(pid, key, SharedOp::new(alloc, both)?))
+    }
 }
 
 impl Value {
     /// The cell that it stands for.
-    fn seen(&self) -> Seen<'_>
+    pub(crate) fn seen(&self) -> Seen<'_>
         ensures cells { (cells : Cells) → seen_cell cells result ≡ read cells self.now }
         ensures names { (names : Names) → seen_within (has_cell names) result ≡ reads_within (has_cell names) self.now }
     {
         match self {
             Value::Is(cell) => Seen::Is(*cell),
             Value::Same(pid, key) => Seen::Same(*pid, *key),
-            Value::Of(derived) => Seen::Made(&derived.op, derived.pid, derived.key),
+            Value::Of(pid, key, op) => Seen::Made(op, *pid, *key),
         }
     }
 }
@@ -91,6 +113,25 @@ impl Effect {
         match self.rows.get(pid) {
             Some(row) => row.seen(pid, key),
             None => Seen::Same(pid, key),
+        }
+    }
+
+    /// A value of a later segment, by the cells before this one.
+    pub(crate) fn value_after(&self, alloc: Global, value: &Value) -> Result<Value, NoMemory>
+        ensures reads { IfOk result (λ v. (cells : Cells) → read cells v ≡ read (changed self.now cells) value.now) }
+        ensures names { IfOk result (λ v. (names : Names) → EffectWithin names self.now
+            → reads_within (has_cell names) value.now ≡ true → reads_within (has_cell names) v ≡ true) }
+    {
+        let seen = match value {
+            Value::Is(cell) => return Ok(Value::Is(*cell)),
+            Value::Same(pid, key) => self.seen(*pid, *key),
+            Value::Of(pid, key, op) => return self.seen(*pid, *key).then(alloc, op),
+        };
+        match seen {
+            Seen::Is(cell) => Ok(Value::Is(cell)),
+            Seen::Same(pid, key) => Ok(Value::Same(pid, key)),
+            Seen::Executed(pid, key) => Ok(Value::Of(pid, key, SharedOp::new(alloc, Op::exec())?)),
+            Seen::Made(op, pid, key) => Ok(Value::Of(pid, key, op.share()?)),
         }
     }
 }

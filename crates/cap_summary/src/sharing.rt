@@ -11,7 +11,7 @@ use cap_trace::Pid;
 
 impl Value {
     /// Whether it reads no other process than this one.
-    #[tactic(auto, using(crate::proofs::Shared::reads_none, crate::proofs::Shared::reads_one))]
+    #[tactic(auto, using(crate::proofs::OwnCells::reads_none, crate::proofs::OwnCells::reads_one))]
     fn reads_only(&self, pid: Pid) -> bool
         ensures { result ≡ true → reads_within (has_cell (only pid)) self.now ≡ true }
     {

@@ -5,7 +5,7 @@ ghost use Rattle.cap_summary.specs.Sorted.{found, Rises};
 
 use super::place::place_of;
 use cap_tree::NoMemory;
-use std::alloc::Global;
+use std::alloc::{AllocError, Global};
 use std::marker::Model;
 use std::mem::replace;
 
@@ -25,6 +25,19 @@ impl<V> Model for Map<V> {
     ghost view = { λ m. m.entries.items };
 
     ghost invariant = { λ m. Rises m.entries.items };
+}
+
+/// A clone has the same keys, and at each a clone of the value.
+impl<V: Clone> Clone for Map<V> {
+    ghost use Rattle.std.specs.List.{AllZip};
+
+    ghost is_clone = { λ map copy. AllZip (λ x y. (y.0 ≡ x.0) × V.is_clone x.1 y.1) map copy };
+
+    fn clone(&self) -> Result<Map<V>, AllocError> {
+        Ok(Map {
+            entries: self.entries.clone()?,
+        })
+    }
 }
 
 impl<V> Map<V> {

@@ -1,4 +1,4 @@
-use Rattle.std.proofs.Common.{◌∙◌, sym, refl, ap}
+use Rattle.std.proofs.Common.{◌∙◌, sym, refl}
 use Rattle.cap_summary.proofs.LineRows.{own_unlisted}
 use Rattle.cap_summary.proofs.line.base_of.Goals as goal
 

@@ -1,14 +1,11 @@
-use Rattle.std.proofs.Common.{◌≡◌, ℕ, rules, List}
-use Rattle.cap_summary.specs.declared.value.Value.{Value}
-use Rattle.cap_summary.specs.Sorted.{found}
-use Rattle.cap_summary.specs.Copies.{IsCopied}
-use Rattle.cap_summary.proofs.Listing.{listed_with}
+use Rattle.std.proofs.Common.{◌≡◌, refl, inl, inr}
+use Rattle.cap_summary.proofs.Listing.{same_entries}
 use Rattle.cap_summary.proofs.listed.put.Goals as goal
 
 pub returns : goal.returns
 returns c =
-    let same : c.entries.result.now ≡ c.args.cells.value = search rules in
-    let copied : (g : ℕ) → IsCopied (found c.args.cells.value g) (found c.in_ok-copy.copy g) =
-    rw same at c.in_ok-copy.ensures.each in
-    rw c.in_ok-new.ensures.ok (listed_with c.args.fd c.args.value c.args.cells.value c.in_ok-copy.copy c.set-2.new.self
-    copied c.in_ok-set-2.ensures.ok)
+    let own : c.in_ok-make_mut.field-0.now ≡ c.args.cells.value = elim c.in_ok-make_mut.ensures.value [
+      | inl same ↦ same
+      | inr copied ↦ same_entries c.args.cells.value c.in_ok-make_mut.field-0.now copied
+    ] in
+    rw (c.make_mut.follows.holds c.set.new.self (rw c.in_ok-make_mut.was refl), ← own) c.in_ok-set.ensures.ok

@@ -16,7 +16,7 @@ returns-in-Mode-key t c =
       | in-Is w ↦ rw (w.cell-is, w.in-Is.is) refl
       | in-Same w ↦ rw (w.cell-is, w.read-cell.ensures, w.in-Same.is) refl
       | in-Executed w ↦ rw (w.cell-is, w.on-cell.ensures, w.exec.ensures, w.read.ensures, w.in-Executed.is) refl
-      | in-Made w ↦ rw (w.cell-is, w.on-cell-in-Made.ensures, w.read-in-Made.ensures, w.in-Made.is) refl
+      | in-Made w ↦ rw (w.cell-is, w.on-cell-in-Made.ensures, w.get.ensures, w.read-in-Made.ensures, w.in-Made.is) refl
     ] in
     let seen : c.match-seen.cell ≡ changed effect cells c.args.pid c.args.key = cell ∙ c.seen.ensures.cells cells in
     let here : c.match-seen.cell ≡ changed effect cells c.args.pid key.Mode = rw c.in-Mode-key.is at seen in
@@ -31,7 +31,7 @@ returns-in-Fd-key t c =
       | in-Is w ↦ rw (w.cell-is, w.in-Is.is) refl
       | in-Same w ↦ rw (w.cell-is, w.read-cell.ensures, w.in-Same.is) refl
       | in-Executed w ↦ rw (w.cell-is, w.on-cell.ensures, w.exec.ensures, w.read.ensures, w.in-Executed.is) refl
-      | in-Made w ↦ rw (w.cell-is, w.on-cell-in-Made.ensures, w.read-in-Made.ensures, w.in-Made.is) refl
+      | in-Made w ↦ rw (w.cell-is, w.on-cell-in-Made.ensures, w.get.ensures, w.read-in-Made.ensures, w.in-Made.is) refl
     ] in
     let seen : c.match-seen.cell ≡ changed effect cells c.args.pid c.args.key = cell ∙ c.seen.ensures.cells cells in
     let here : c.match-seen.cell ≡ changed effect cells c.args.pid (key.Fd c.in-Fd-key.field-0) =

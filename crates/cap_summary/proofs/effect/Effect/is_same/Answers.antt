@@ -1,6 +1,7 @@
-use Rattle.cap_summary.proofs.Sameness.{effect_alike}
+use Rattle.std.proofs.Common.{sym, ◌∙◌}
+use Rattle.cap_summary.proofs.Equal.{same_rows}
 use Rattle.cap_summary.proofs.effect.Effect.is_same.Goals as goal
 
 pub returns : goal.returns
-returns c = λ same. effect_alike c.args.self.now c.args.other.now
-    (rw (c.entries.ensures.all, c.entries-2.ensures.all) at (c.all_alike.ensures same))
+returns c = λ same. same_rows c.args.self.now.rows c.args.other.now.rows
+    (rw (c.entries.ensures.all, c.entries-2.ensures.all) at (sym c.eq.ensures ∙ same))

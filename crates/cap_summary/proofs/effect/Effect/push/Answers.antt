@@ -2,6 +2,7 @@ use Rattle.std.proofs.Common.{◌≡◌, ℕ, true, [], ◌∷◌, refl}
 use Rattle.std.specs.List.{All}
 use Rattle.std.proofs.lemmas.Result.{on_ok_weaker}
 use Rattle.std.proofs.lemmas.List.Elements.{All-head, All-tail}
+use Rattle.cap_summary.specs.Names.{has_cell}
 use Rattle.cap_summary.proofs.LineListed.{change_within}
 use Rattle.cap_summary.proofs.effect.Effect.push.Goals as goal
 
@@ -17,8 +18,8 @@ returns-in_ok-set-in-GiveTwo-clause-names c = on_ok_weaker c.set-in-GiveTwo-2.re
       source = refl;
     }) first) c.set-in-GiveTwo-2.ensures.names
 
-pub returns-in_ok-then-in-Change-clause-names : goal.returns-in_ok-then-in-Change-clause-names
-returns-in_ok-then-in-Change-clause-names c = on_ok_weaker c.set-in-Change.result (λ set names line effect.
+pub returns-in_ok-value-in-Change-clause-names : goal.returns-in_ok-value-in-Change-clause-names
+returns-in_ok-value-in-Change-clause-names c = on_ok_weaker c.set-in-Change.result (λ set names line effect.
     set names line.own (change_within names c.args.me c.args.line.now c.in-Change.fd c.in-Change.op c.in-Change.from
-    c.in_ok-before-in-Change.before c.in_ok-then-in-Change.field-0 c.in-Change.is c.in_ok-then-in-Change.ensures.source
-    (c.in_ok-before-in-Change.ensures.names names effect) line) effect) c.set-in-Change.ensures.names
+    c.in_ok-value-in-Change.value c.in-Change.is (λ named. c.in_ok-value-in-Change.ensures.names (has_cell names)
+    (c.seen.ensures.names names effect named)) line) effect) c.set-in-Change.ensures.names

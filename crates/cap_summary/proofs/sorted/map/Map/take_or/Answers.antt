@@ -1,4 +1,4 @@
-use Rattle.std.proofs.Common.{ap, ◌∙◌, sym, arith, rules}
+use Rattle.std.proofs.Common.{ap, ◌∙◌, sym}
 use Rattle.std.specs.Prelude.{unwrap_or}
 use Rattle.cap_summary.proofs.SortedFound.{found_at}
 use Rattle.cap_summary.proofs.SortedSetting.{RisesFrom-set}

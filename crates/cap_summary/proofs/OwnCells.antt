@@ -69,8 +69,7 @@ module _ (first : Effect) (p : ℕ) (left : None ≡ found first.rows p) (cells 
   same_value : (v : Value) → reads_within (has_cell (only p)) v ≡ true → read cells v ≡ read (changed first cells) v
   same_value (value.Is c) is = refl
   same_value (value.Same q k) is = same_cell q k (and_left (q == p) (has_key (only p) k) is)
-  same_value (value.Of x) is = ap (applied x.value.op)
-      (same_cell x.value.pid x.value.key (and_left (x.value.pid == p) (has_key (only p) x.value.key) is))
+  same_value (value.Of q k op) is = ap (applied op) (same_cell q k (and_left (q == p) (has_key (only p) k) is))
 
   same_mode : (mode : Option Value) → mode_within (only p) mode ≡ true
       → option_map_or (read cells) mode (cells p key.Mode)
