@@ -1,8 +1,6 @@
 -- How much rows list.
 use Rattle.std.proofs.Common.{◌≡◌, ℕ, ◌+◌, ◌<◌, List, [], ◌∷◌, ◌++◌, length, get_or, take, ap, ◌∙◌, sym, subst}
 use Rattle.std.proofs.Common.{arith}
-use Rattle.std.proofs.Common.{Bool, false, nat_le}
-use Rattle.std.proofs.lemmas.Bool.Decides.{nat_tests}
 use Rattle.std.specs.List.{All}
 use Rattle.std.proofs.lemmas.List.{take_more}
 use Rattle.std.proofs.lemmas.List.Elements.{All-push}
@@ -26,6 +24,3 @@ rises_more rows i e within at all own =
     let more : take (i + 1) rows ≡ take i rows ++ e ∷ [] =
     take_more rows i e within ∙ ap (λ (x : ℕ × Row). take i rows ++ x ∷ []) (sym at) in
     subst (All CellsRise) (sym more) (All-push CellsRise (take i rows) e all own)
-
-pub not_fitting : (n room : ℕ) (fits : Bool) → fits ≡ nat_le n room → fits ≡ false → room < n
-not_fitting n room fits is none = grind (arith, nat_tests, is, none)

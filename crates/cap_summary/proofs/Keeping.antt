@@ -1,7 +1,7 @@
 -- What is known is kept where few processes and descriptors are named, unless many calls were refused.
-use Rattle.std.proofs.Common.{◌≡◌, ℕ, ◌+◌, ◌*◌, ◌<◌, ◌≤◌, List, [], ◌∷◌, ◌++◌, length, Bool, true, false, cond, eqb}
+use Rattle.std.proofs.Common.{◌≡◌, ℕ, ◌+◌, ◌*◌, ◌<◌, ◌≤◌, ◌⊎◌, List, [], ◌∷◌, ◌++◌, length, Bool, true, false, cond, eqb}
 use Rattle.std.proofs.Common.{Option, Some, None, refl, inl, inr, arith}
-use Rattle.std.specs.Prelude.{IfSome, is_some, nat_le}
+use Rattle.std.specs.Prelude.{IfSome, IfNone, is_some, nat_le}
 use Rattle.std.specs.List.{All}
 use Rattle.std.proofs.Math.Nat.{mul-le-mul_right}
 use Rattle.std.proofs.lemmas.Bool.{eqb-true, eq-eqb}
@@ -14,9 +14,8 @@ use Rattle.cap_summary.specs.Sorted.{found, Rises, RisesFrom, KeysRise}
 use Rattle.cap_summary.specs.Preconditions.{IsSettled}
 use Rattle.cap_summary.specs.Names.{Names, names_in, AreAmong, IsListedWithin, IsRowWithin, ListWithin, RowsWithin}
 use Rattle.cap_summary.specs.RowSizes.{rows_size, CellsRise, AllRise}
-use Rattle.cap_summary.specs.Sizes.{size}
 use Rattle.cap_summary.specs.Knows.{Knows}
-use Rattle.cap_summary.specs.Kept.{limit}
+use Rattle.cap_summary.specs.Kept.{limit, IsKept, IsWithin, IsLarge, ListsMany}
 use Rattle.cap_summary.specs.Few.{is_one, these, room, refused, NameOrRefuseMany}
 use Rattle.cap_summary.proofs.SortedFound.{found_below, rises_again}
 use Rattle.cap_summary.proofs.FewKeys.{few_keys}
@@ -76,29 +75,54 @@ module _ (pids fds : List ℕ) where
 
 -- ---- what isn't kept
 
--- more than the limit, with few refusals, is more than 1,024 cells and modes give
-many_cells : (n rows asks refusals refused room : ℕ) → limit n < rows + (asks + refusals) → rows ≤ room
-    → asks ≤ 8 * room → asks + refusals ≤ 3 * n → refusals ≤ refused → refused ≤ 30000 → 1024 < room
-many_cells n rows asks refusals refused room large few_rows few_asks few some = omega arith
+-- more than is kept, with few refusals, is more than 1,024 cells and modes give
+many_cells : (n rows asks refusals refused room : ℕ) → (limit n < rows) ⊎ (40000 < rows + (asks + refusals))
+    → rows ≤ room → asks ≤ 8 * room → refusals ≤ refused → refused ≤ 30000 → 1024 < room
+many_cells n rows asks refusals refused room (inl large) few_rows few_asks some few = omega arith
+many_cells n rows asks refusals refused room (inr large) few_rows few_asks some few = omega arith
 
 -- what is known of the steps is above the limit
-pub many_whole : (t : List Step) (known : Known) → Knows known t → IsSettled known.precondition.value
-    → AllRise known.effect.value.rows → limit (length t) < size known → NameOrRefuseMany t
-many_whole t known knows settled rising large = by (nat_le (refused t) 30000) refl
+many_whole : (t : List Step) (known : Known) → Knows known t → IsSettled known.precondition.value
+    → IsLarge known (length t) → NameOrRefuseMany t
+many_whole t known knows settled is = by (nat_le (refused t) 30000) refl
   where
     by : (few : Bool) → nat_le (refused t) 30000 ≡ few → NameOrRefuseMany t
     by true e =
         let few : refused t ≤ 30000 = grind (arith, nat_tests, e) in
         inl (λ pids fds among.
         let named = these pids fds in
-        let rows = few_rows pids fds known.effect.value.rows rising
+        let rows = few_rows pids fds known.effect.value.rows is.rising
         (effect_among (names_in t) named among known.effect.value knows.effect_named) in
         let asks = few_asks pids fds known.precondition.value.asks.items settled.rises
         (asks_among (names_in t) named among known.precondition.value knows.asks_named).asks in
         many_cells (length t) (rows_size known.effect.value.rows) (length known.precondition.value.asks.items)
-        (length known.precondition.value.refusals.items) (refused t) (room pids fds) large rows asks knows.few
-        knows.refusals few)
+        (length known.precondition.value.refusals.items) (refused t) (room pids fds) is.large rows asks knows.refusals few)
     by false e = inr (grind (arith, nat_tests, e))
+
+-- what a node keeps of what is known, and why where it keeps nothing
+pub node_keeps : (known kept : Option Known) (t : List Step) → IfSome known (λ known. Knows known t)
+    → IfSome known (λ known. IsSettled known.precondition.value)
+    → IfSome kept (λ kept. (known ≡ Some kept) × IsWithin kept (length t)) → IfSome kept (λ kept. IsKept kept t)
+node_keeps known None t knows settled is = tt
+node_keeps known (Some kept) t knows settled is = record {
+  knows = rw is.0 at knows;
+  settled = rw is.0 at settled;
+  within = is.1;
+}
+
+pub node_names : (known kept : Option Known) (t : List Step) → IfSome known (λ known. Knows known t)
+    → IfSome known (λ known. IsSettled known.precondition.value) → IfNone known (NameOrRefuseMany t)
+    → IfNone kept (IfSome known (λ known. IsLarge known (length t))) → IfNone kept (NameOrRefuseMany t)
+node_names known (Some kept) t knows settled many is = tt
+node_names None None t knows settled many is = many
+node_names (Some known) None t knows settled many is = many_whole t known knows settled is
+
+-- more than 1,024 rows and cells are listed
+many_listed : (t : List Step) (known : Known) → Knows known t → ListsMany known → NameOrRefuseMany t
+many_listed t known knows lists = inl (λ pids fds among.
+    let rows = few_rows pids fds known.effect.value.rows lists.rising
+    (effect_among (names_in t) (these pids fds) among known.effect.value knows.effect_named) in
+    omega (arith, rows, lists.many))
 
 -- one of two parts names or refuses many
 among_those : (a b d : Names) → AreAmong a b → AreAmong b d → AreAmong a d
@@ -120,3 +144,8 @@ many_second t u many = elim many [
       names pids fds (among_those (names_in u) (names_in (t ++ u)) (these pids fds) (second_among t u) among))
   | inr refuses ↦ inr (omega (arith, refuses, refused_parts t u))
 ]
+
+pub many_both : (t u : List Step) (first second : Known) → Knows first t → Knows second u
+    → ListsMany first ⊎ ListsMany second → NameOrRefuseMany (t ++ u)
+many_both t u first second one other (inl lists) = many_first t u (many_listed t first one lists)
+many_both t u first second one other (inr lists) = many_second t u (many_listed u second other lists)

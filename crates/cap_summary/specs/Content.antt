@@ -22,16 +22,10 @@ abbrev pub HasParts : Content → Type 0
 HasParts (Run run) = length run.items ≤ 48
 HasParts (Both a b) = (0 < length a.value.steps) × (0 < length b.value.steps)
 
--- two parts
-abbrev pub IsBoth : Content → Type 0
-IsBoth (Run run) = ⊥
-IsBoth (Both a b) = Unit {0}
-
--- what always holds of a node; one of which nothing is kept is read through its parts, and names or refuses many
+-- what always holds of a node; one of which nothing is kept names or refuses many
 pub record IsGood (size : ℕ) (kept : Option Known) (content : Content) : Type 0 where
   pub len : size ≡ length (content_steps content)
   pub parts : HasParts content
   pub few : size ≤ 2 ^ 30
   pub known : IfSome kept (λ known. IsKept known (content_steps content))
-  pub wide : IfNone kept (IsBoth content)
   pub many : IfNone kept (NameOrRefuseMany (content_steps content))

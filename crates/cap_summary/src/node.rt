@@ -1,7 +1,7 @@
 //! The nodes of a summary. A contract sees a node as its steps, and what is known of them where that is kept.
 
 ghost use Rattle.std.specs.Prelude.{◌≡◌, ◌+◌, ◌*◌, ◌^◌, ◌<◌, ◌≤◌, ◌++◌, ◌∷◌, [], length, IfOk, OnOk, IfSome, IfNone};
-ghost use Rattle.std.specs.Prelude.{true, false, is_some, map};
+ghost use Rattle.std.specs.Prelude.{◌⊎◌, true, false, Some, map};
 ghost use Rattle.std.specs.Option.{option_copied};
 ghost use Rattle.cap_machine.specs.Check.{check};
 ghost use Rattle.cap_machine.specs.History.{ended};
@@ -13,7 +13,8 @@ ghost use Rattle.cap_summary.specs.LineAsks.{has_any};
 ghost use Rattle.cap_summary.specs.Positions.{within, AllOrMany};
 ghost use Rattle.cap_summary.specs.Rest.{rest_steps, AllSome};
 ghost use Rattle.cap_tree.specs.Sides.{part_at};
-ghost use Rattle.cap_summary.specs.Kept.{limit, IsKept};
+ghost use Rattle.cap_summary.specs.Content.{content_steps, HasParts};
+ghost use Rattle.cap_summary.specs.Kept.{limit, IsKept, IsWithin, IsLarge, ListsMany};
 ghost use Rattle.cap_summary.specs.Few.{NameOrRefuseMany};
 ghost use Rattle.cap_summary.specs.Knows.{Knows};
 ghost use Rattle.cap_summary.specs.Preconditions.{IsSettled};
@@ -68,12 +69,60 @@ impl Model for Node {
     ghost size_decreases = { λ a h. deep_le_length a.content h.parts };
 }
 
-/// The most that is kept of so many steps.
+/// How many parts a run counts for of which nothing is kept, since what is known of it is made anew.
+const RUN_PARTS: usize = 64;
+
+/// The most rows and cells that are kept.
+const MOST_CELLS: usize = 8_192;
+
+/// The most rows and cells that are kept of so many steps.
 fn limit_of(steps: usize) -> usize
     requires { steps ≤ 2 ^ 30 }
     ensures { result ≡ limit steps }
 {
-    (1_024 + 4 * steps).min(40_000)
+    (1_024 + steps).min(MOST_CELLS)
+}
+
+/// What is known of so many steps, where it is within the limit.
+fn kept(known: Option<Known>, steps: usize) -> Option<Known>
+    requires { steps ≤ 2 ^ 30 }
+    ensures within { IfSome result (λ kept. (known ≡ Some kept) × IsWithin kept steps) }
+    ensures large { IfNone result (IfSome known (λ known. IsLarge known steps)) }
+{
+    let known = known?;
+    if known.effect.size() <= limit_of(steps) && known.fits(40_000) {
+        return Some(known);
+    }
+    None
+}
+
+/// Whether two segments list so much that it isn't tried to keep what is known of both. Then one of them lists more than
+/// 1,024 rows and cells.
+fn are_large(first: &Known, second: &Known) -> bool
+    ensures { result ≡ true → ListsMany first.now ⊎ ListsMany second.now }
+{
+    first.effect.size().saturating_add(second.effect.size()) > MOST_CELLS
+}
+
+impl Content {
+    /// How many steps it has.
+    fn len(&self) -> usize
+        requires { length (content_steps self.now) ≤ 2 ^ 30 }
+        ensures { result ≡ length (content_steps self.now) }
+    {
+        match self {
+            Content::Run(run) => run.len(),
+            Content::Both(a, b) => a.len() + b.len(),
+        }
+    }
+
+    /// How many parts it is read through where nothing is kept of it.
+    fn parts(&self) -> usize {
+        match self {
+            Content::Run(_) => RUN_PARTS,
+            Content::Both(a, b) => a.parts.saturating_add(b.parts),
+        }
+    }
 }
 
 /// Counts the joins that a run of so many steps stands for: one fewer.
@@ -114,17 +163,27 @@ impl Node {
         }
     }
 
-    /// The node of a run of steps of which this is known.
-    fn of_known(alloc: Global, known: Known, run: Vec<Rc<Step>>) -> Result<Rc<Node>, NoMemory>
-        requires few { length run.items ≤ 48 }
-        requires known { IsKept known (values run.items) }
-        ensures { IfOk result (λ n. n.value.steps ≡ values run.items) }
+    /// The node of contents of which this is known. It is kept within the limit.
+    fn of(alloc: Global, known: Option<Known>, content: Content) -> Result<Rc<Node>, NoMemory>
+        requires parts { HasParts content }
+        requires few { length (content_steps content) ≤ 2 ^ 30 }
+        requires knows { IfSome known (λ known. Knows known (content_steps content)) }
+        requires settled { IfSome known (λ known. IsSettled known.precondition.value) }
+        requires many { IfNone known (NameOrRefuseMany (content_steps content)) }
+        ensures steps { IfOk result (λ n. n.value.steps ≡ content_steps content) }
+        ensures known { IfOk result (λ n. IfSome n.value.known (λ kept. known ≡ Some kept)) }
     {
+        let len = content.len();
+        let known = kept(known, len);
+        let parts = match &known {
+            Some(_) => 1,
+            None => content.parts(),
+        };
         let node = Node {
-            len: run.len(),
-            parts: 1,
-            known: Some(known),
-            content: Content::Run(run),
+            len,
+            parts,
+            known,
+            content,
         };
         Ok(Rc::new(alloc, node)?)
     }
@@ -133,8 +192,7 @@ impl Node {
     pub(crate) fn empty(alloc: Global) -> Result<Rc<Node>, NoMemory>
         ensures { IfOk result (λ n. n.value.steps ≡ []) }
     {
-        let known = Known::of_run(alloc, &[])?;
-        Node::of_known(alloc, known, Vec::new(alloc))
+        Node::of_run(alloc, &[])
     }
 
     /// Adds the same steps, shared.
@@ -153,7 +211,7 @@ impl Node {
         let mut run = Vec::with_capacity(alloc, steps.len())?;
         Node::share(&mut run, steps)?;
         let known = Known::of_run(alloc, steps)?;
-        Node::of_known(alloc, known, run)
+        Node::of(alloc, Some(known), Content::Run(run))
     }
 
     /// One step.
@@ -207,14 +265,11 @@ impl Node {
         if right.len() == 0 {
             return Ok(left.clone()?);
         }
-        let Some(first) = left.known() else {
-            return Node::of_parts(alloc, None, left, right);
-        };
-        let Some(second) = right.known() else {
+        let Some((first, second)) = Node::known_of_both(left, right) else {
             return Node::of_parts(alloc, None, left, right);
         };
         let known = first.join(alloc, second)?;
-        Node::over(alloc, known, left, right)
+        Node::of_parts(alloc, Some(known), left, right)
     }
 
     /// The same in the place of an old node, of whose two parts `was` stood where the part on that side stands now. What is
@@ -238,17 +293,18 @@ impl Node {
         ensures composed { IfOk result (λ new. NodesCompose left.now.value right.now.value new.0.value) }
         ensures alike { IfOk result (λ new. NodesAlike new.1 old.now new.0.value) }
     {
-        let (Some(whole), Some(part)) = (old.known(), was.known()) else {
-            return Node::join_anew(alloc, left, right);
-        };
-        let (Some(first), Some(second)) = (left.known(), right.known()) else {
+        let (Some(whole), Some(part), Some((first, second))) = (
+            old.known(),
+            was.known(),
+            Node::known_of_both(left, right),
+        ) else {
             return Node::join_anew(alloc, left, right);
         };
         if left.len() == 0 || right.len() == 0 || was.len() == 0 {
             return Node::join_anew(alloc, left, right);
         }
         let (known, likeness) = Known::rejoin(alloc, first, second, whole, part, side, likeness)?;
-        let node = Node::over(alloc, known, left, right)?;
+        let node = Node::of_parts(alloc, Some(known), left, right)?;
         Ok((node, likeness))
     }
 
@@ -268,28 +324,27 @@ impl Node {
         Ok((node, Likeness::none()))
     }
 
-    /// The node of two parts that have steps, of which this is known; it is kept within the limit.
-    fn over(
-        alloc: Global,
-        known: Known,
-        left: &Rc<Node>,
-        right: &Rc<Node>,
-    ) -> Result<Rc<Node>, NoMemory>
-        requires first { 0 < length left.now.value.steps }
-        requires second { 0 < length right.now.value.steps }
-        requires few { length left.now.value.steps + length right.now.value.steps ≤ 2 ^ 30 }
-        requires knows { Knows known (left.now.value.steps ++ right.now.value.steps) }
-        requires settled { IsSettled known.precondition.value }
-        ensures steps { IfOk result (λ n. n.value.steps ≡ left.now.value.steps ++ right.now.value.steps) }
-        ensures known { IfOk result (λ n. IfSome n.value.known (λ kept. kept ≡ known)) }
+    /// What is known of two parts, where it may be kept of both together.
+    fn known_of_both<'a>(left: &'a Node, right: &'a Node) -> Option<(&'a Known, &'a Known)>
+        ensures first { IfSome result (λ both. IsKept both.0.now left.now.steps) }
+        ensures second { IfSome result (λ both. IsKept both.1.now right.now.steps) }
+        ensures seen { IfSome result (λ both.
+            (left.now.known ≡ Some both.0.now) × (right.now.known ≡ Some both.1.now)) }
+        ensures many { IfNone result (NameOrRefuseMany (left.now.steps ++ right.now.steps)) }
     {
-        if !known.fits(limit_of(left.len() + right.len())) {
-            return Node::of_parts(alloc, None, left, right);
+        let Some(first) = left.known() else {
+            return None;
+        };
+        let Some(second) = right.known() else {
+            return None;
+        };
+        if are_large(first, second) {
+            return None;
         }
-        Node::of_parts(alloc, Some(known), left, right)
+        Some((first, second))
     }
 
-    /// The node of two parts that have steps, of which so much is kept.
+    /// The node of two parts that have steps, of which this is known.
     fn of_parts(
         alloc: Global,
         known: Option<Known>,
@@ -299,22 +354,14 @@ impl Node {
         requires first { 0 < length left.now.value.steps }
         requires second { 0 < length right.now.value.steps }
         requires few { length left.now.value.steps + length right.now.value.steps ≤ 2 ^ 30 }
-        requires known { IfSome known (λ known. IsKept known (left.now.value.steps ++ right.now.value.steps)) }
+        requires knows { IfSome known (λ known. Knows known (left.now.value.steps ++ right.now.value.steps)) }
+        requires settled { IfSome known (λ known. IsSettled known.precondition.value) }
         requires many { IfNone known (NameOrRefuseMany (left.now.value.steps ++ right.now.value.steps)) }
         ensures steps { IfOk result (λ n. n.value.steps ≡ left.now.value.steps ++ right.now.value.steps) }
-        ensures known { IfOk result (λ n. n.value.known ≡ known) }
+        ensures known { IfOk result (λ n. IfSome n.value.known (λ kept. known ≡ Some kept)) }
     {
-        let parts = match &known {
-            Some(_) => 1,
-            None => left.parts.saturating_add(right.parts),
-        };
-        let node = Node {
-            len: left.len() + right.len(),
-            parts,
-            known,
-            content: Content::Both(left.clone()?, right.clone()?),
-        };
-        Ok(Rc::new(alloc, node)?)
+        let content = Content::Both(left.clone()?, right.clone()?);
+        Node::of(alloc, known, content)
     }
 }
 
@@ -347,12 +394,43 @@ impl Node {
         if asked.to <= at {
             return Ok(());
         }
-        let Some(known) = self.known() else {
-            let Content::Both(a, b) = &self.content else {
-                unreachable!()
-            };
-            return a.resolve(alloc, before, at, &Rest::Then(&**b, &*rest), asked, report);
-        };
+        match (&self.known, &self.content) {
+            (Some(known), _) => self.resolve_rest(alloc, known, before, at, rest, asked, report),
+            (None, Content::Run(run)) => {
+                let known = Known::of_run(alloc, run)?;
+                self.resolve_rest(alloc, &known, before, at, rest, asked, report)
+            }
+            (None, Content::Both(a, b)) => {
+                a.resolve(alloc, before, at, &Rest::Then(&**b, &*rest), asked, report)
+            }
+        }
+    }
+
+    /// The same of steps of which this is known.
+    #[cycle(resolving)]
+    fn resolve_rest(
+        &self,
+        alloc: Global,
+        known: &Known,
+        before: &Before<'_>,
+        at: usize,
+        rest: &Rest<'_>,
+        asked: &Asked,
+        report: &mut Report,
+    ) -> Result<(), NoMemory>
+        requires known { Knows known.now self.now.steps }
+        requires short { at + (length self.now.steps + length (rest_steps rest.now)) ≤ 2 ^ 31 }
+        requires some { 0 < length self.now.steps }
+        requires each { AllSome rest.now }
+        requires room { report.old.judged + (length self.now.steps + length (rest_steps rest.now)) < 2 ^ 64 }
+        ensures found { OnOk result (AllOrMany asked.now.most report.new.found.items (report.old.found.items
+            ++ within asked.now.from asked.now.to
+            (map (later at) (check (state_before before.now) (self.now.steps ++ rest_steps rest.now))))) }
+        ensures few { OnOk result (report.new.judged ≤ report.old.judged
+            + 48 * length (check (state_before before.now) (self.now.steps ++ rest_steps rest.now))) }
+        ensures all { OnOk result (report.new.judged
+            ≤ report.old.judged + (length self.now.steps + length (rest_steps rest.now))) }
+    {
         self.resolve_known(alloc, known, before, at, asked, report)?;
         if report.found.len() > asked.most {
             return Ok(());
@@ -366,7 +444,7 @@ impl Node {
         }
     }
 
-    /// The same of steps of which this is kept, with no rest. Where few of many steps are asked for, it goes down to these
+    /// The same with no rest. Where few of many steps are asked for, it goes down to these
     /// without a look at what all ask, which takes longer.
     #[cycle(resolving)]
     fn resolve_known(

@@ -32,9 +32,9 @@ pub struct Summary {
 }
 
 impl Summary {
-    /// What is known of the steps. Of more than 48 steps it is kept only within a limit, which grows with the steps. It is
-    /// kept wherever the steps name so few processes and descriptors that these have at most 1,024 cells and modes, unless
-    /// more than 30,000 calls were refused for lack of a right.
+    /// What is known of the steps. It is kept only within a limit, which grows with the steps. It is kept wherever the
+    /// steps name so few processes and descriptors that these have at most 1,024 cells and modes, unless more than 30,000
+    /// calls were refused for lack of a right.
     pub fn known(&self) -> Option<&Known>
         ensures kept { IfSome result (λ known. IsKept known.now (summed_up self.now)) }
         ensures many { IfNone result (NameOrRefuseMany (summed_up self.now)) }

@@ -20,21 +20,21 @@ resolve-returns-then-asked-at-clause-found t c =
     inl (found_behind (state_before c.args.before.now) (c.args.self.now.steps ++ rest_steps c.args.rest.now)
     c.args.at c.args.asked.now.from c.args.asked.now.to c.args.report.now.found.items (omega arith))
 
-pub resolve-returns-then-len-asked-clause-found : goal.resolve-returns-then-len-asked-clause-found
-resolve-returns-then-len-asked-clause-found t c = stopped c.args.asked.now.most (state_before c.args.before.now)
+pub resolve_rest-returns-then-len-asked-clause-found : goal.resolve_rest-returns-then-len-asked-clause-found
+resolve_rest-returns-then-len-asked-clause-found t c = stopped c.args.asked.now.most (state_before c.args.before.now)
     c.args.self.now.steps (rest_steps c.args.rest.now) c.args.at c.args.asked.now.from c.args.asked.now.to
     c.args.report.now.found.items c.resolve_known.new.report.found.items c.in_ok-resolve_known.ensures.found
     (omega arith)
 
-pub resolve-returns-then-len-asked-clause-few : goal.resolve-returns-then-len-asked-clause-few
-resolve-returns-then-len-asked-clause-few t c = omega (
+pub resolve_rest-returns-then-len-asked-clause-few : goal.resolve_rest-returns-then-len-asked-clause-few
+resolve_rest-returns-then-len-asked-clause-few t c = omega (
   arith,
   c.in_ok-resolve_known.ensures.few,
   many_parts (state_before c.args.before.now) c.args.self.now.steps (rest_steps c.args.rest.now),
 )
 
-pub resolve-returns-in-Then-clause-found : goal.resolve-returns-in-Then-clause-found
-resolve-returns-in-Then-clause-found t c =
+pub resolve_rest-returns-in-Then-clause-found : goal.resolve_rest-returns-in-Then-clause-found
+resolve_rest-returns-in-Then-clause-found t c =
     let s : State = state_before c.args.before.now in
     let old : List Found = c.args.report.now.found.items in
     let first : List Found = c.resolve_known.new.report.found.items in
@@ -45,26 +45,26 @@ resolve-returns-in-Then-clause-found t c =
     let most : ℕ = c.args.asked.now.most in
     let len : c.self.inside.len ≡ length steps = c.self.invariant.len
     ∙ ap (λ (r : List Step). length r) (same_steps c.self.view_is) in
-    let ends = known_ends c.in-Some.known.now steps c.in-Some.ensures.kept.knows s in
+    let ends = known_ends c.args.known.now steps c.requires.known s in
     let all : first ≡ old ++ within from to (map (later c.args.at) (check s steps)) =
     not_many most first (old ++ within from to (map (later c.args.at) (check s steps)))
     c.in_ok-resolve_known.ensures.found (omega arith) in
     let rest : rest_steps c.args.rest.now ≡ u = ap rest_steps c.in-Then.is in
-    rw rest (on_ok_weaker c.resolve-in-Then.result (λ last. parts_or_many most s steps u c.args.at c.self.inside.len
-    from to old first c.resolve-in-Then.new.report.found.items len all
-    (rw (c.deref-in-Then.ensures, ends) at last)) c.resolve-in-Then.ensures.found)
+    rw rest (on_ok_weaker c.resolve.result (λ last. parts_or_many most s steps u c.args.at c.self.inside.len
+    from to old first c.resolve.new.report.found.items len all
+    (rw (c.deref.ensures, ends) at last)) c.resolve.ensures.found)
 
-pub resolve-returns-in-Then-clause-few : goal.resolve-returns-in-Then-clause-few
-resolve-returns-in-Then-clause-few t c =
+pub resolve_rest-returns-in-Then-clause-few : goal.resolve_rest-returns-in-Then-clause-few
+resolve_rest-returns-in-Then-clause-few t c =
     let s : State = state_before c.args.before.now in
     let steps : List Step = c.args.self.now.steps in
     let u : List Step = c.in-Then.node.now.steps ++ rest_steps c.in-Then.rest.now in
-    let ends = known_ends c.in-Some.known.now steps c.in-Some.ensures.kept.knows s in
+    let ends = known_ends c.args.known.now steps c.requires.known s in
     let rest : rest_steps c.args.rest.now ≡ u = ap rest_steps c.in-Then.is in
     let parts = many_parts s steps u in
-    rw rest (on_ok_weaker c.resolve-in-Then.result (λ last.
-    let second = rw (c.deref-in-Then.ensures, ends) at last in
-    omega (arith, c.in_ok-resolve_known.ensures.few, second, parts)) c.resolve-in-Then.ensures.few)
+    rw rest (on_ok_weaker c.resolve.result (λ last.
+    let second = rw (c.deref.ensures, ends) at last in
+    omega (arith, c.in_ok-resolve_known.ensures.few, second, parts)) c.resolve.ensures.few)
 
 pub resolve_known-returns-then-at-self-clause-found : goal.resolve_known-returns-then-at-self-clause-found
 resolve_known-returns-then-at-self-clause-found t c =

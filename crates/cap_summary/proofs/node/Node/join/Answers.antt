@@ -1,6 +1,5 @@
 use Rattle.std.proofs.Common.{◌≡◌, length, sym, ◌∙◌, arith}
 use Rattle.cap_summary.proofs.Runs.{none_before, none_behind, same_steps}
-use Rattle.cap_summary.proofs.Keeping.{many_first, many_second}
 use Rattle.cap_summary.proofs.Knowing.{knows_both}
 use Rattle.cap_summary.proofs.node.Node.join.Goals as goal
 
@@ -24,16 +23,8 @@ returns-then-len-eq0-2 c =
       composed = λ some more. absurd (omega (arith, none));
     }
 
-pub of_parts-requires-clause-many : goal.of_parts-requires-clause-many
-of_parts-requires-clause-many c = many_first c.args.left.now.value.steps c.args.right.now.value.steps
-    (rw c.deref-3.ensures at c.in_default.ensures.many)
-
-pub of_parts-requires-in_default-known-clause-many : goal.of_parts-requires-in_default-known-clause-many
-of_parts-requires-in_default-known-clause-many c = many_second c.args.left.now.value.steps
-    c.args.right.now.value.steps (rw c.deref-4.ensures at c.in_default-known.ensures.many)
-
-pub over-requires-clause-knows : goal.over-requires-clause-knows
-over-requires-clause-knows c = knows_both c.in-Some.first.now c.in-Some-known.second.now c.in_ok-known.known
+pub of_parts-requires-2-clause-knows : goal.of_parts-requires-2-clause-knows
+of_parts-requires-2-clause-knows c = knows_both c.in-Some.first.now c.in-Some.second.now c.in_ok-known.known
     c.args.left.now.value.steps c.args.right.now.value.steps
-    (rw c.deref-3.ensures at c.in-Some.ensures.kept.knows) (rw c.deref-4.ensures at c.in-Some-known.ensures.kept.knows)
+    (rw c.deref-3.ensures at c.in-Some.ensures.first.knows) (rw c.deref-4.ensures at c.in-Some.ensures.second.knows)
     c.in_ok-known.ensures
