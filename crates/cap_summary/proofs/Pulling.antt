@@ -10,19 +10,19 @@ use Rattle.cap_summary.specs.declared.ask.Ask.{Ask}
 use Rattle.cap_summary.specs.declared.effect.Effect.{Effect}
 use Rattle.cap_summary.specs.declared.precondition.Precondition.{Precondition}
 use Rattle.cap_summary.specs.Keys.{Cells, cells_of}
-use Rattle.cap_summary.specs.Effects.{is_from, others_cell, base_cell, row_cell, cell_in, changed}
+use Rattle.cap_summary.specs.Effects.{is_from, others_cell, base_cell, row_cell, changed}
 use Rattle.cap_summary.specs.declared.precondition.Refusal.{Refusal}
-use Rattle.cap_summary.specs.Names.{Names, has_cell, EffectWithin, RefusalsWithin, PreWithin}
+use Rattle.cap_summary.specs.Names.{Names, has_cell, IsRowWithin, RowWithin, EffectWithin, RefusalsWithin, PreWithin}
 use Rattle.cap_summary.specs.Asks.{place, holds, any_holds, CanBe, AskWithin, RisesFrom, Rises, IsUnionOf}
 use Rattle.cap_summary.specs.Preconditions.{is_met, is_wrongful, IsPulledBack, AreAskedByBoth, IsAskedByBoth, IsPossible}
-use Rattle.cap_summary.specs.Preconditions.{IsSettled, IsMetOr}
+use Rattle.cap_summary.specs.Preconditions.{IsSettled, IsMetOr, IsSamePrecondition}
 use Rattle.cap_summary.specs.Sizes.{asks_size}
 use Rattle.std.specs.declared.vec.Vec.{Vec}
 use Rattle.std.specs.declared.alloc.Global.{Global}
 use Rattle.cap_summary.proofs.Bools.{or_false, or_true, or_assoc, or_last, or_crossed}
 use Rattle.cap_summary.proofs.Bools.{and_left, and_right}
 use Rattle.cap_summary.proofs.Uniting.{all_left, all_right, AllBelow, below_more, below-push, rises-push, drop_here}
-use Rattle.std.specs.Prelude.{Option, Some, None, is_none, not, if◌then◌else◌}
+use Rattle.std.specs.Prelude.{Option, Some, None, is_none, IfSome, not, if◌then◌else◌}
 use Rattle.std.specs.Option.{option_map_or}
 use Rattle.cap_machine.specs.declared.cell.Cell.{Cell}
 use Rattle.cap_machine.specs.declared.cell.Cell.TheVariants.{Closed}
@@ -34,7 +34,7 @@ use Rattle.cap_summary.specs.declared.base.Others.TheVariants as others
 use Rattle.cap_summary.specs.declared.effect.Row.{Row}
 use Rattle.cap_summary.specs.Sorted.{found}
 use Rattle.cap_summary.specs.Values.{read}
-use Rattle.cap_summary.specs.Leaving.{is_own, base_leaves, row_leaves, leaves_in}
+use Rattle.cap_summary.specs.Leaving.{is_own, base_leaves, row_leaves}
 
 -- ---- a cell that the first segment leaves
 others_left : (cells : Cells) (p f : ℕ) (o : Others) → is_own o ≡ true → others_cell cells p o f ≡ cells p (key.Fd f)
@@ -51,7 +51,7 @@ closed_not : (b : Bool) (c d : Cell) → not b ≡ true → c ≡ d → (if b th
 closed_not true c d is same = absurd cc
 closed_not false c d is same = same
 
-row_left : (cells : Cells) (p : ℕ) (row : Row) (k : Key) → row_leaves row k ≡ true → row_cell cells p row k ≡ cells p k
+pub row_left : (cells : Cells) (p : ℕ) (row : Row) (k : Key) → row_leaves row k ≡ true → row_cell cells p row k ≡ cells p k
 row_left cells p row key.Mode is = not_read cells row.mode (cells p key.Mode) is
 row_left cells p row (key.Fd f) is =
     let unlisted = and_left (is_none (found row.cells f)) (base_leaves row.base f) is in
@@ -61,10 +61,20 @@ row_left cells p row (key.Fd f) is =
     (and_right (is_own row.base.others) (not (is_from row.base.closed_from f)) base)
     (others_left cells p f row.base.others (and_left (is_own row.base.others) (not (is_from row.base.closed_from f)) base))
 
-pub cell_left : (cells : Cells) (p : ℕ) (row : Option Row) (k : Key) → leaves_in row k ≡ true
-    → cell_in cells row p k ≡ cells p k
-cell_left cells p None k is = refl
-cell_left cells p (Some row) k is = row_left cells p row k is
+-- a process p, whose row was looked up as that of q
+module _ (first : Effect) (p q : ℕ) (row : Option Row) (is : row ≡ found first.rows q) (own : p ≡ q) where
+  pub untouched : row ≡ None → (cells : Cells) (k : Key) → changed first cells p k ≡ cells p k
+  untouched none cells k = rw (own, ← is, none) refl
+
+  module _ (r : Row) (some : row ≡ Some r) where
+    pub touched : (cells : Cells) (k : Key) → changed first cells p k ≡ row_cell cells p r k
+    touched cells k = rw (own, ← is, some) refl
+
+    pub row_within : (names : Names) → EffectWithin names first → RowWithin names r
+    row_within names within =
+        let here : IfSome (found first.rows q) (IsRowWithin names q) = within q in
+        let its : IsRowWithin names q r = rw (← is, some) at here in
+        its.row
 
 -- ---- asks at the places that they had, before those that are left
 pub record AreKept (left kept : List Ask) : Type 0 where
@@ -263,6 +273,28 @@ module _ (first : Effect) (own later before new : Precondition) (refusals : List
         ap (λ (rs : List Refusal). length rs) same,
         ap (λ (rs : List Refusal). length rs) theirs,
       )
+
+-- the same asks and refusals
+pub asked_same : (first : Effect) (own later both new : Precondition) → IsSamePrecondition both new
+    → IsAskedByBoth first own later both → IsAskedByBoth first own later new
+asked_same first own later both new same asked = record {
+  met = λ s. rw (← same.certain, ← same.asks, ← same.refusals) (asked.met s);
+  possible = λ old more.
+      let all = asked.possible old more in
+      record { asks = rw (← same.asks) all.asks; refusals = rw (← same.refusals) all.refusals };
+  names = λ within effect a b.
+      let all = asked.names within effect a b in
+      record { asks = rw (← same.asks) all.asks; refusals = rw (← same.refusals) all.refusals };
+  settled = record {
+    rises = rw (← same.asks) asked.settled.rises;
+    fails = rw (← same.asks) asked.settled.fails;
+    alone = λ is.
+        let none = asked.settled.alone (same.certain ∙ is) in
+        (sym same.asks ∙ none.0, sym same.refusals ∙ none.1);
+  };
+  few = rw (← same.asks, ← same.refusals) asked.few;
+  refusals = rw (← same.refusals) asked.refusals;
+}
 
 -- one of the asks holds in every state
 pub met_by_asks : (first : Effect) (own later : Precondition) (s : State)

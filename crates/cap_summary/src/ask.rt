@@ -8,13 +8,13 @@ ghost use Rattle.cap_summary.specs.Keys.{Cells, cells_of};
 ghost use Rattle.cap_machine.specs.declared.cell.Cell.{Cell};
 ghost use Rattle.cap_machine.specs.Op.{applied};
 ghost use Rattle.cap_summary.specs.Tests.{has_kind, lacks, passes, holding};
-ghost use Rattle.cap_summary.specs.Effects.{changed};
-ghost use Rattle.cap_summary.specs.Names.{Names, has_cell, EffectWithin};
+ghost use Rattle.cap_summary.specs.Effects.{row_cell, changed};
+ghost use Rattle.cap_summary.specs.Names.{Names, has_cell, RowWithin, EffectWithin};
 ghost use Rattle.cap_summary.specs.Seen.{seen_cell, seen_within};
 ghost use Rattle.cap_summary.specs.Asks.{holds, certain_at, possible_at, pulled_holds, pulled_within, PulledIsOpen};
 ghost use Rattle.cap_summary.specs.Asks.{place, place_in_process, IsAtPlace};
 
-use crate::effect::Effect;
+use crate::effect::{Effect, Row};
 use crate::key::{Key, cell_of_mode};
 use crate::kinds::Kinds;
 use crate::seen::Seen;
@@ -184,6 +184,23 @@ impl Ask {
         }
     }
 
+    /// What it asks of the state before an earlier segment that has this row for its process.
+    pub(crate) fn through(&self, row: &Row) -> Pulled
+        ensures holds { (s : State) → pulled_holds (cells_of s) result
+            ≡ passes self.now (row_cell (cells_of s) self.now.pid row.now self.now.key) }
+        ensures open { PulledIsOpen result }
+        ensures names { (names : Names) → RowWithin names row.now → has_cell names self.now.pid self.now.key ≡ true
+            → pulled_within (has_cell names) result ≡ true }
+    {
+        let (pid, key, ask) = match row.seen(self.pid, self.key) {
+            Seen::Is(cell) => return Pulled::of(self.passes(cell)),
+            Seen::Same(pid, key) => (pid, key, *self),
+            Seen::Executed(pid, key) => (pid, key, self.before_op(&Op::exec())),
+            Seen::Made(op, pid, key) => (pid, key, self.before_op(op.get())),
+        };
+        Ask { pid, key, ..ask }.settled()
+    }
+
     /// What it asks of the state before an earlier segment that has this effect.
     pub(crate) fn before(&self, first: &Effect) -> Pulled
         ensures holds { (s : State) → pulled_holds (cells_of s) result ≡ holds (changed first.now (cells_of s)) self.now }
@@ -191,13 +208,10 @@ impl Ask {
         ensures names { (names : Names) → EffectWithin names first.now → has_cell names self.now.pid self.now.key ≡ true
             → pulled_within (has_cell names) result ≡ true }
     {
-        let (pid, key, ask) = match first.seen(self.pid, self.key) {
-            Seen::Is(cell) => return Pulled::of(self.passes(cell)),
-            Seen::Same(pid, key) => (pid, key, *self),
-            Seen::Executed(pid, key) => (pid, key, self.before_op(&Op::exec())),
-            Seen::Made(op, pid, key) => (pid, key, self.before_op(op.get())),
-        };
-        Ask { pid, key, ..ask }.settled()
+        match first.rows.get(self.pid) {
+            Some(row) => self.through(row),
+            None => self.settled(),
+        }
     }
 }
 

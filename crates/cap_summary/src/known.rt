@@ -74,7 +74,7 @@ impl Known {
         ensures settled { IfOk result (λ run. IsSettled run.precondition.value) }
     {
         let mut effect = Effect::empty(alloc);
-        let mut precondition = Precondition::never(alloc);
+        let mut precondition = Precondition::never(alloc, steps.len())?;
         for step in steps {
             put_step(alloc, &mut effect, &mut precondition, step)?;
         }

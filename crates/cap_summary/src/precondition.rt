@@ -18,7 +18,6 @@ use crate::ask::{Ask, Pulled};
 use crate::asks::{in_order, unite};
 use crate::effect::Effect;
 use crate::line_asks::{LineAsks, UpToThree};
-use crate::reading::leaves_in;
 use cap_tree::NoMemory;
 use std::alloc::Global;
 use std::cmp::Ordering;
@@ -135,11 +134,15 @@ fn pulled_asks(alloc: Global, first: &Effect, asks: &[Ask]) -> Result<Option<Pul
             pid = ask.pid;
             row = first.rows.get(pid);
         }
-        if leaves_in(row, ask.key) {
+        let Some(row) = row else {
+            kept.push(*ask)?;
+            continue;
+        };
+        if row.leaves(ask.key) {
             kept.push(*ask)?;
             continue;
         }
-        match ask.before(first) {
+        match ask.through(row) {
             Pulled::Always => return Ok(None),
             Pulled::Never => {}
             Pulled::Where(before) => match before.order(ask) {
@@ -188,18 +191,18 @@ fn any_is_certain(asks: &[Ask]) -> bool
 }
 
 impl Precondition {
-    /// Nothing is found in any state.
-    pub fn never(alloc: Global) -> Precondition
-        ensures met { (s : State) → is_met (cells_of s) result ≡ false }
-        ensures possible { IsPossible result }
-        ensures names { (names : Names) → PreWithin names result }
-        ensures nothing { (result.certain ≡ false) × (result.asks.items ≡ []) × (result.refusals.items ≡ []) }
+    /// Nothing is found in any state. It has room for so many asks.
+    pub fn never(alloc: Global, room: usize) -> Result<Precondition, NoMemory>
+        ensures met { IfOk result (λ pre. (s : State) → is_met (cells_of s) pre ≡ false) }
+        ensures possible { IfOk result IsPossible }
+        ensures names { IfOk result (λ pre. (names : Names) → PreWithin names pre) }
+        ensures nothing { IfOk result (λ pre. (pre.certain ≡ false) × (pre.asks.items ≡ []) × (pre.refusals.items ≡ [])) }
     {
-        Precondition {
+        Ok(Precondition {
             certain: false,
-            asks: Vec::new(alloc),
+            asks: Vec::with_capacity(alloc, room)?,
             refusals: Vec::new(alloc),
-        }
+        })
     }
 
     /// Something is found in every state.
@@ -363,6 +366,7 @@ impl Precondition {
         if both.certain {
             return Ok(Precondition::always(alloc));
         }
+        both.refusals.shrink_to_fit();
         Ok(both)
     }
 
@@ -384,10 +388,12 @@ impl Precondition {
         if any_is_certain(&asks) {
             return Ok(Precondition::always(alloc));
         }
+        let mut refusals = self.refusals;
+        refusals.shrink_to_fit();
         Ok(Precondition {
             certain: false,
             asks,
-            refusals: self.refusals,
+            refusals,
         })
     }
 }

@@ -1,12 +1,11 @@
 //! What a row and an effect say of a cell, and how much they list.
 
 ghost use Rattle.std.specs.Prelude.{◌≡◌, ℕ, true, false, IfOk};
-ghost use Rattle.std.specs.Option.{option_copied};
 ghost use Rattle.cap_summary.specs.declared.key.Key.{Key};
 ghost use Rattle.cap_summary.specs.Keys.{Cells};
 ghost use Rattle.cap_summary.specs.Names.{Names, RowWithin};
 ghost use Rattle.cap_summary.specs.Effects.{own_row, row_cell};
-ghost use Rattle.cap_summary.specs.Leaving.{row_leaves, leaves_in, leaves};
+ghost use Rattle.cap_summary.specs.Leaving.{row_leaves, leaves};
 ghost use Rattle.cap_summary.specs.Alike.{IsSameEffect};
 ghost use Rattle.cap_summary.specs.RowSizes.{IsSizeOf};
 ghost use Rattle.cap_summary.specs.Sorted.{Rises};
@@ -99,22 +98,15 @@ impl Row {
     }
 }
 
-/// Whether it is known that no line touches a cell of a process with this row, if it has one.
-pub(crate) fn leaves_in(row: Option<&Row>, key: Key) -> bool
-    ensures { result ≡ leaves_in (option_copied row.entry) key }
-{
-    match row {
-        Some(row) => row.leaves(key),
-        None => true,
-    }
-}
-
 impl Effect {
     /// Whether it is known that no line of the segment touches a cell or turns a mode.
     pub fn leaves(&self, pid: Pid, key: Key) -> bool
         ensures { result ≡ leaves self.now pid key }
     {
-        leaves_in(self.rows.get(pid), key)
+        match self.rows.get(pid) {
+            Some(row) => row.leaves(key),
+            None => true,
+        }
     }
 
     /// Whether both have the same rows. No is a safe answer.

@@ -85,7 +85,7 @@ impl Base {
 
 impl Row {
     /// The cell of a key of the process.
-    fn seen(&self, pid: Pid, key: Key) -> Seen<'_>
+    pub(crate) fn seen(&self, pid: Pid, key: Key) -> Seen<'_>
         ensures cells { (cells : Cells) → seen_cell cells result ≡ row_cell cells pid self.now key }
         ensures names { (names : Names) → has_cell names pid key ≡ true → RowWithin names self.now
             → seen_within (has_cell names) result ≡ true }

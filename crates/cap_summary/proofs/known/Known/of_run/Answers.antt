@@ -6,10 +6,10 @@ use Rattle.cap_summary.proofs.Knowing.{one_more, says_none, says_same}
 use Rattle.cap_summary.proofs.known.Known.of_run.Goals as goal
 
 pub loop-step-init : goal.loop-step-init
-loop-step-init c = says_none c.empty-effect.result c.never-precondition.result c.empty-effect.ensures.cells
-    c.never-precondition.ensures.met c.never-precondition.ensures.possible c.empty-effect.ensures.names
-    c.never-precondition.ensures.names
-    (rw (c.never-precondition.ensures.nothing.1, c.never-precondition.ensures.nothing.2) refl)
+loop-step-init c = says_none c.empty-effect.result c.in_ok-precondition.precondition c.empty-effect.ensures.cells
+    c.in_ok-precondition.ensures.met c.in_ok-precondition.ensures.possible c.empty-effect.ensures.names
+    c.in_ok-precondition.ensures.names
+    (rw (c.in_ok-precondition.ensures.nothing.1, c.in_ok-precondition.ensures.nothing.2) refl)
 
 pub loop-step-preserved : goal.loop-step-preserved
 loop-step-preserved c =
@@ -24,9 +24,9 @@ returns-clause-says c =
     let so_far : Says c.loop-step.effect c.loop-step.precondition (values c.args.steps.now) =
     rw (take_all c.loop-step.step-index c.args.steps.now (omega arith)) at c.loop-step.invariant in
     rw (c.in_ok-known.ensures.effect, c.in_ok-known.ensures.precondition) (says_same c.loop-step.effect
-    c.loop-step.precondition c.in_ok-precondition.precondition (values c.args.steps.now) so_far
-    c.in_ok-precondition.ensures.met c.in_ok-precondition.ensures.possible c.in_ok-precondition.ensures.names
-    c.in_ok-precondition.ensures.few c.in_ok-precondition.ensures.refusals)
+    c.loop-step.precondition c.in_ok-precondition-2.precondition (values c.args.steps.now) so_far
+    c.in_ok-precondition-2.ensures.met c.in_ok-precondition-2.ensures.possible c.in_ok-precondition-2.ensures.names
+    c.in_ok-precondition-2.ensures.few c.in_ok-precondition-2.ensures.refusals)
 
 pub returns-clause-settled : goal.returns-clause-settled
-returns-clause-settled c = rw c.in_ok-known.ensures.precondition c.in_ok-precondition.ensures.settled
+returns-clause-settled c = rw c.in_ok-known.ensures.precondition c.in_ok-precondition-2.ensures.settled
