@@ -7,6 +7,7 @@ use Rattle.std.specs.Option.{option_eq}
 use Rattle.std.proofs.Math.Bool.{beq}
 use Rattle.std.proofs.lemmas.Grind.{common_steps}
 use Rattle.cap_machine.specs.declared.cell.Cell.{Cell}
+use Rattle.cap_machine.specs.declared.cell.Cell.TheVariants.{Held}
 use Rattle.cap_machine.specs.declared.cell.HeldOp.{HeldOp}
 use Rattle.cap_machine.specs.declared.cell.Op.{Op}
 use Rattle.cap_machine.specs.contracts.cell.CellPartialEq.TheImpl as cells
@@ -119,7 +120,11 @@ same_op a b is =
     ∙ ap (op_of b.unknown b.closed b.set b.clear) (same_held a.unsure b.unsure (and_right clear_is _ from_clear))
 
 pub same_value : (a b : Value) → values.eq-value.it a b ≡ true → a ≡ b
-same_value (value.Is c) (value.Is d) is = ap value.Is (same_cell c d is)
+same_value value.Unknown value.Unknown is = refl
+same_value value.Closed value.Closed is = refl
+same_value (value.Held r f) (value.Held s g) is =
+    let held : Held r f ≡ Held s g = same_cell (Held r f) (Held s g) is in
+    cc
 same_value (value.Same p k) (value.Same q l) is =
     let pid : p ≡ q = eqb-true p q (and_left (eqb p q) _ is) in
     let key : k ≡ l = same_key k l (and_right (eqb p q) _ is) in

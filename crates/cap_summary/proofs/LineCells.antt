@@ -21,19 +21,19 @@ use Rattle.cap_summary.specs.Sorted.{found}
 use Rattle.cap_summary.specs.Lines.{IsStarted, IsListOf}
 use Rattle.cap_summary.proofs.Bools.{or_false, or_true}
 
-one_more : (cells : Cells) (whole : Cell) (b any : Bool) (o : Option Value)
-    → option_map_or (read cells) o Closed ≡ cond any whole Closed
-    → option_map_or (read cells) (cond b (Some (value.Is whole)) o) Closed ≡ cond (any || b) whole Closed
-one_more cells whole true any o is = rw (or_true any) refl
-one_more cells whole false any o is = rw (or_false any) is
+one_more : (cells : Cells) (v : Value) (b any : Bool) (o : Option Value)
+    → option_map_or (read cells) o Closed ≡ cond any (read cells v) Closed
+    → option_map_or (read cells) (cond b (Some v) o) Closed ≡ cond (any || b) (read cells v) Closed
+one_more cells v true any o is = rw (or_true any) refl
+one_more cells v false any o is = rw (or_false any) is
 
 -- one more descriptor that a process starts with
 pub started_more : (fds : List ℕ) (i : ℕ) (listed more : List (ℕ × Value)) → i < length fds
-    → ((k : ℕ) → found more k ≡ cond (eqb k (get_or fds i 0)) (Some (value.Is (Held all Unsure))) (found listed k))
+    → ((k : ℕ) → found more k ≡ cond (eqb k (get_or fds i 0)) (Some (value.Held all Unsure)) (found listed k))
     → IsStarted (take i fds) listed → IsStarted (take (i + 1) fds) more
 started_more fds i listed more within set started cells f =
     rw (set f, list_any_more (λ g. eqb f g) fds i 0 within)
-    (one_more cells (Held all Unsure) (eqb f (get_or fds i 0)) (list_any (λ g. eqb f g) (take i fds)) (found listed f)
+    (one_more cells (value.Held all Unsure) (eqb f (get_or fds i 0)) (list_any (λ g. eqb f g) (take i fds)) (found listed f)
     (started cells f))
 
 -- all of them

@@ -101,13 +101,13 @@ touched_so line me p cells k is = ap (λ q. line_after line me cells q k) (eqb-t
 
 -- a line that lists a descriptor of the child that it makes
 pub fork_list : (line : LineEffect) (child g me : ℕ) (listed : List (ℕ × Value)) → line ≡ lines.ForkAs child g
-    → ((f : ℕ) → found listed f ≡ cond (f == g) (Some (value.Is Unknown)) None) → IsListOf line me listed
+    → ((f : ℕ) → found listed f ≡ cond (f == g) (Some value.Unknown) None) → IsListOf line me listed
 fork_list line child g me listed is with cells f =
     rw is (ap (λ o. option_map_or (read cells) o (cells me (key.Fd f))) (with f)
     ∙ either (f == g) ∙ rw (own_too me cells child)
     (sym (as_cell me cells child me f (f == g) (me == child) (own_too me cells child))))
   where
-    either : (b : Bool) → option_map_or (read cells) (cond b (Some (value.Is Unknown)) None) (cells me (key.Fd f))
+    either : (b : Bool) → option_map_or (read cells) (cond b (Some value.Unknown) None) (cells me (key.Fd f))
         ≡ cond b Unknown (cells me (key.Fd f))
     either true = refl
     either false = refl

@@ -47,7 +47,9 @@ module _ (a b : Names) (among : AreAmong a b) where
       (key_among k (and_right (a.pids p) (has_key a k) is))
 
   value_among : (v : Value) → reads_within (has_cell a) v ≡ true → reads_within (has_cell b) v ≡ true
-  value_among (value.Is c) is = refl
+  value_among value.Unknown is = refl
+  value_among value.Closed is = refl
+  value_among (value.Held rights flag) is = refl
   value_among (value.Same p k) is = cell_among p k is
   value_among (value.Of p k op) is = cell_among p k is
 

@@ -67,7 +67,9 @@ module _ (first : Effect) (p : ℕ) (left : None ≡ found first.rows p) (cells 
   same_cell q k is = rw (eqb-true q p is, ← left) refl
 
   same_value : (v : Value) → reads_within (has_cell (only p)) v ≡ true → read cells v ≡ read (changed first cells) v
-  same_value (value.Is c) is = refl
+  same_value value.Unknown is = refl
+  same_value value.Closed is = refl
+  same_value (value.Held rights flag) is = refl
   same_value (value.Same q k) is = same_cell q k (and_left (q == p) (has_key (only p) k) is)
   same_value (value.Of q k op) is = ap (applied op) (same_cell q k (and_left (q == p) (has_key (only p) k) is))
 

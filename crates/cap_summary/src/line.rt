@@ -26,7 +26,7 @@ use crate::listed::Listed;
 use crate::shared::SharedOp;
 use crate::sorted::Map;
 use crate::value::Value;
-use cap_machine::{Cell, Effect as LineEffect, Mode, OnExec};
+use cap_machine::{Effect as LineEffect, Mode, OnExec};
 use cap_rights::RightSet;
 use cap_trace::{Fd, Pid, fds_of};
 use cap_tree::NoMemory;
@@ -43,7 +43,7 @@ fn started_cells(alloc: Global, spelled: &[u8]) -> Result<Listed, NoMemory>
     };
     let mut listed = Map::new(alloc);
     for fd in &fds {
-        listed.set(*fd, Value::Is(Cell::Held(RightSet::all(), OnExec::Unsure)))?;
+        listed.set(*fd, Value::Held(RightSet::all(), OnExec::Unsure))?;
     }
     Listed::of(alloc, listed)
 }
@@ -80,7 +80,7 @@ fn mode_of(line: &LineEffect<'_>) -> Option<Value>
         LineEffect::Enter => Mode::Inside,
         _ => return None,
     };
-    Some(Value::Is(cell_of_mode(mode)))
+    Some(Value::of(cell_of_mode(mode)))
 }
 
 /// The cells that a line of process `me`, which sets none to a value of its own, lists one by one.
@@ -94,7 +94,7 @@ fn listed_by(alloc: Global, me: Pid, line: &LineEffect<'_>) -> Result<Listed, No
         LineEffect::Start(fds) => started_cells(alloc, fds),
         LineEffect::ForkAs(_, fd) => {
             let mut listed = Listed::empty();
-            listed.set(alloc, *fd, Value::Is(Cell::Unknown))?;
+            listed.set(alloc, *fd, Value::Unknown)?;
             Ok(listed)
         }
         _ => Ok(Listed::empty()),
@@ -189,10 +189,10 @@ impl Effect {
     {
         match line {
             LineEffect::Keep => Ok(()),
-            LineEffect::Give(fd, cell) => self.set(alloc, me, *fd, Value::Is(*cell)),
+            LineEffect::Give(fd, cell) => self.set(alloc, me, *fd, Value::of(*cell)),
             LineEffect::GiveTwo(fd, other, cell) => {
-                self.set(alloc, me, *fd, Value::Is(*cell))?;
-                self.set(alloc, me, *other, Value::Is(*cell))
+                self.set(alloc, me, *fd, Value::of(*cell))?;
+                self.set(alloc, me, *other, Value::of(*cell))
             }
             LineEffect::Change(fd, op, from) => {
                 let op = SharedOp::new(alloc, *op)?;

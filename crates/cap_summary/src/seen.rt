@@ -40,7 +40,7 @@ impl Seen<'_> {
             → reads_within names v ≡ true) }
     {
         let (pid, key, both) = match self {
-            Seen::Is(cell) => return Ok(Value::Is(op.get().on(*cell))),
+            Seen::Is(cell) => return Ok(Value::of(op.get().on(*cell))),
             Seen::Same(pid, key) => return Ok(Value::Of(*pid, *key, op.share()?)),
             Seen::Executed(pid, key) => (*pid, *key, Op::exec().then(op.get())),
             Seen::Made(first, pid, key) => (*pid, *key, first.get().then(op.get())),
@@ -56,7 +56,9 @@ impl Value {
         ensures names { (names : Names) → seen_within (has_cell names) result ≡ reads_within (has_cell names) self.now }
     {
         match self {
-            Value::Is(cell) => Seen::Is(*cell),
+            Value::Unknown => Seen::Is(Cell::Unknown),
+            Value::Closed => Seen::Is(Cell::Closed),
+            Value::Held(rights, flag) => Seen::Is(Cell::Held(*rights, *flag)),
             Value::Same(pid, key) => Seen::Same(*pid, *key),
             Value::Of(pid, key, op) => Seen::Made(op, *pid, *key),
         }
@@ -123,12 +125,14 @@ impl Effect {
             → reads_within (has_cell names) value.now ≡ true → reads_within (has_cell names) v ≡ true) }
     {
         let seen = match value {
-            Value::Is(cell) => return Ok(Value::Is(*cell)),
+            Value::Unknown => return Ok(Value::Unknown),
+            Value::Closed => return Ok(Value::Closed),
+            Value::Held(rights, flag) => return Ok(Value::Held(*rights, *flag)),
             Value::Same(pid, key) => self.seen(*pid, *key),
             Value::Of(pid, key, op) => return self.seen(*pid, *key).then(alloc, op),
         };
         match seen {
-            Seen::Is(cell) => Ok(Value::Is(cell)),
+            Seen::Is(cell) => Ok(Value::of(cell)),
             Seen::Same(pid, key) => Ok(Value::Same(pid, key)),
             Seen::Executed(pid, key) => Ok(Value::Of(pid, key, SharedOp::new(alloc, Op::exec())?)),
             Seen::Made(op, pid, key) => Ok(Value::Of(pid, key, op.share()?)),

@@ -1,19 +1,25 @@
 //! What a cell is after a segment, by the cells before it.
 
-ghost use Rattle.std.specs.Prelude.{◌≡◌};
-ghost use Rattle.cap_summary.specs.Values.{source};
+ghost use Rattle.std.specs.Prelude.{◌≡◌, None};
+ghost use Rattle.cap_summary.specs.Keys.{Cells};
+ghost use Rattle.cap_summary.specs.Values.{read, source};
 
 use crate::key::Key;
 use crate::shared::SharedOp;
-use cap_machine::{Cell, Op};
+use cap_machine::{Cell, OnExec};
+use cap_rights::RightSet;
 use cap_trace::Pid;
 use std::alloc::AllocError;
 
 /// A cell after a segment.
 #[derive(PartialEq, Drop)]
 pub enum Value {
-    /// It is this cell, whatever the state before.
-    Is(Cell),
+    /// Nothing is known of it, whatever the state before.
+    Unknown,
+    /// It is closed.
+    Closed,
+    /// It is held with these rights, and an exec does this with it.
+    Held(RightSet, OnExec),
     /// It is a cell before the segment.
     Same(Pid, Key),
     /// It is what an op makes of a cell before the segment.
@@ -26,7 +32,9 @@ impl Clone for Value {
 
     fn clone(&self) -> Result<Value, AllocError> {
         match self {
-            Value::Is(cell) => Ok(Value::Is(*cell)),
+            Value::Unknown => Ok(Value::Unknown),
+            Value::Closed => Ok(Value::Closed),
+            Value::Held(rights, flag) => Ok(Value::Held(*rights, *flag)),
             Value::Same(pid, key) => Ok(Value::Same(*pid, *key)),
             Value::Of(pid, key, op) => Ok(Value::Of(*pid, *key, op.share()?)),
         }
@@ -34,12 +42,24 @@ impl Clone for Value {
 }
 
 impl Value {
+    /// This cell, whatever the state before.
+    pub fn of(cell: Cell) -> Value
+        ensures reads { (cells : Cells) → read cells result ≡ cell }
+        ensures source { source result ≡ None }
+    {
+        match cell {
+            Cell::Unknown => Value::Unknown,
+            Cell::Closed => Value::Closed,
+            Cell::Held(rights, flag) => Value::Held(rights, flag),
+        }
+    }
+
     /// The cell that it reads, if it reads one.
     pub fn source(&self) -> Option<(Pid, Key)>
         ensures { result ≡ source self.now }
     {
         match self {
-            Value::Is(_) => None,
+            Value::Unknown | Value::Closed | Value::Held(..) => None,
             Value::Same(pid, key) => Some((*pid, *key)),
             Value::Of(pid, key, _) => Some((*pid, *key)),
         }

@@ -17,7 +17,7 @@ loop-fd-preserved c = record {
       c.loop-fd-test.true (λ k. rw c.all.ensures.everything at (c.in_ok-set.ensures.ok k)) c.loop-fd.invariant.cells;
   names = λ names all.
       let fd : ℕ = get_or c.deref-fd-items.result.now c.loop-fd.fd-index 0 in
-      each_put (IsListedWithin names) fd (value.Is (Held all_rights Unsure))
+      each_put (IsListedWithin names) fd (value.Held all_rights Unsure)
       (record { key = all c.loop-fd.fd-index 0 c.loop-fd-test.true; source = refl }) c.loop-fd.listed
       c.set.new.self (λ k. rw c.all.ensures.everything at (c.in_ok-set.ensures.ok k))
       (c.loop-fd.invariant.names names all);

@@ -12,10 +12,13 @@ returns-in_ok-set-in-GiveTwo-clause-names c = on_ok_weaker c.set-in-GiveTwo-2.re
     rw c.in-GiveTwo.is at line.fds in
     let P : ℕ → Type 0 = λ f. names.fds f ≡ true in
     let first = c.in_ok-set-in-GiveTwo.ensures.names names line.own
-    (record { key = All-head P c.in-GiveTwo.fd (c.in-GiveTwo.other ∷ []) fds; source = refl }) effect in
+    (record {
+      key = All-head P c.in-GiveTwo.fd (c.in-GiveTwo.other ∷ []) fds;
+      source = rw c.of-in-GiveTwo.ensures.source refl;
+    }) effect in
     second names line.own (record {
       key = All-head P c.in-GiveTwo.other [] (All-tail P c.in-GiveTwo.fd (c.in-GiveTwo.other ∷ []) fds);
-      source = refl;
+      source = rw c.of-in-GiveTwo-2.ensures.source refl;
     }) first) c.set-in-GiveTwo-2.ensures.names
 
 pub returns-in_ok-value-in-Change-clause-names : goal.returns-in_ok-value-in-Change-clause-names
