@@ -80,8 +80,8 @@ impl<V: Drop> Map<V> {
         Map { entries: exact }
     }
 
-    /// Puts a value at a key, in place of the one that was there. It moves the entries above the key, so it is quick
-    /// where the keys come in rising order. If it fails the map stays as it was.
+    /// Puts a value at a key, in place of the one that was there. A new entry moves those above it, and takes room for
+    /// itself alone, since most maps stay as they are for long. If it fails the map stays as it was.
     #[tactic(auto, using(crate::proofs::SortedSetting::puts))]
     pub fn set(&mut self, key: u32, value: V) -> Result<(), NoMemory>
         ensures ok { OnOk result ((k : ℕ) → found self.new k ≡ (if k == key then Some value else found self.old k)) }
@@ -92,7 +92,10 @@ impl<V: Drop> Map<V> {
                 self.entries[at] = (key, value);
                 Ok(())
             }
-            Err(at) => Ok(self.entries.insert(at, (key, value))?),
+            Err(at) => {
+                self.entries.reserve_exact(1)?;
+                Ok(self.entries.insert(at, (key, value))?)
+            }
         }
     }
 
