@@ -7,8 +7,7 @@ use Rattle.std.proofs.lemmas.List.{take_all}
 use Rattle.std.proofs.lemmas.List.Folds.{list_any_more}
 use Rattle.cap_rights.specs.Rights.{all}
 use Rattle.cap_machine.specs.declared.cell.OnExec.TheVariants.{Unsure}
-use Rattle.cap_machine.specs.declared.cell.Cell.{Cell}
-use Rattle.cap_machine.specs.declared.cell.Cell.TheVariants.{Closed, Held}
+use Rattle.cap_machine.specs.declared.cell.Cell.TheVariants.{Closed}
 use Rattle.cap_machine.specs.declared.rule.Effect.{Effect as LineEffect}
 use Rattle.cap_machine.specs.declared.rule.Effect.TheVariants as lines
 use Rattle.cap_trace.specs.Seen.{fds_spelled}

@@ -2,7 +2,6 @@ use Rattle.std.proofs.Common.{◌≡◌, ℕ, List, get_or, refl, sym, subst}
 use Rattle.std.proofs.lemmas.Result.{IfOk-weaker}
 use Rattle.cap_rights.specs.Rights.{all as all_rights}
 use Rattle.cap_machine.specs.declared.cell.OnExec.TheVariants.{Unsure}
-use Rattle.cap_machine.specs.declared.cell.Cell.TheVariants.{Held}
 use Rattle.cap_summary.specs.declared.value.Value.{Value}
 use Rattle.cap_summary.specs.declared.value.Value.TheVariants as value
 use Rattle.cap_summary.specs.Lines.{IsStarted}
