@@ -110,8 +110,9 @@ impl Behind<'_> {
         ensures { IfOk result
             (λ e. explained_by e ≡ explained (state_at_start self.now) (history self.now) step.now) }
     {
-        let pid = step.line.pid();
-        let demand = rule_of(step.profile, &step.line.seen()).demand;
+        let line = step.line.seen();
+        let pid = line.pid;
+        let demand = rule_of(step.profile, &line).demand;
         let cells = self.origins(alloc, pid, &demand.checks)?;
         let mode = self.mode_where(alloc, pid, &demand)?;
         Ok(Explanation::of(&demand, cells, mode))

@@ -113,11 +113,10 @@ fn judge_from(
     for step in run {
         position += 1;
         let line = step.line.seen();
-        let pid = step.line.pid();
         let rule = rule_of(step.profile, &line);
         let here = Before::After(&*before, &effect);
-        note_line(&here, pid, &rule.demand, position, asked, found)?;
-        effect.push(alloc, pid, &rule.effect)?;
+        note_line(&here, line.pid, &rule.demand, position, asked, found)?;
+        effect.push(alloc, line.pid, &rule.effect)?;
     }
     Ok(())
 }

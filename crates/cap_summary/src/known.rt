@@ -49,10 +49,9 @@ fn put_step(
 {
     let line = step.line.seen();
     let rule = rule_of(step.profile, &line);
-    let pid = step.line.pid();
-    let asks = LineAsks::of_line(pid, &rule.demand);
+    let asks = LineAsks::of_line(line.pid, &rule.demand);
     precondition.put_line(effect, &asks)?;
-    effect.push(alloc, pid, &rule.effect)?;
+    effect.push(alloc, line.pid, &rule.effect)?;
     Ok(())
 }
 
