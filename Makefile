@@ -24,7 +24,7 @@ PREFIX ?= /usr/local
 SOURCES = $(shell find crates -path '*/out' -prune -o -type f -name '*.rt' -print -o -type f -name '*.antt' -print) crates.txt HANDLES
 
 # What runs the built program, each with the program as its argument.
-SCRIPTS = tests/edits examples/check tests/needs tests/rows tests/talks tests/memory tests/allocations tests/bounds tests/faults tests/compare tests/recorder tests/annotate tests/whatif tests/install
+SCRIPTS = tests/edits tests/documents examples/check tests/needs tests/rows tests/talks tests/memory tests/allocations tests/bounds tests/faults tests/compare tests/recorder tests/annotate tests/whatif tests/install
 
 .PHONY: all run test wrong examples refusals bench install clean
 all: capcheck
