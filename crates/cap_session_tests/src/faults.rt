@@ -216,7 +216,7 @@ const EDITED_IN_ONE: Run<'static> = Run {
     ..EDITED
 };
 
-static SWEEPS: [Sweep; 13] = [
+static SWEEPS: [Sweep; 14] = [
     Sweep {
         run: CHECKED,
         is_of_trace: true,
@@ -241,6 +241,20 @@ static SWEEPS: [Sweep; 13] = [
         other_reads: 3,
         replies: &[],
         pieces: (64, 16),
+    },
+    // A start that leaves the mode open, in profile 1.
+    Sweep {
+        run: Run {
+            call: Call::CheckFrom,
+            trace: (b"100 write(0) RET 1\n", 1, 0),
+            other: (b"100 unsure unknown 0=CAP_READ\n", 1, 0),
+            written: "1 100 write missing 0 CAP_WRITE\nfindings 1\n",
+            ..CHECKED_FROM
+        },
+        is_of_trace: false,
+        other_reads: 0,
+        replies: &[],
+        pieces: (64, 1),
     },
     // The same of the denials.
     Sweep {
