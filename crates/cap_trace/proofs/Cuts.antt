@@ -150,7 +150,7 @@ outside_again stop a b h = rw (place_after Outside stop a b h, take_at a (stop �
 
 -- ---- parts at commas
 
-pieces_after : (q : Quoting) (a b : List ℕ) → closes q 44 a ≡ true
+pub pieces_after : (q : Quoting) (a b : List ℕ) → closes q 44 a ≡ true
     → pieces_from q (a ++ (44 ∷ b)) ≡ a ∷ pieces_from Outside b
 unfolding pieces_from
 pieces_after Outside [] b h = refl

@@ -18,10 +18,12 @@ use Rattle.cap_trace.specs.Call.{Call}
 use Rattle.cap_trace.specs.declared.line.Answer.{Answer}
 use Rattle.cap_trace.specs.Names.{Head, name_of, head_named}
 use Rattle.cap_trace.specs.Fields.{are_items, is_plain, is_between, item_step, quoted}
-use Rattle.cap_trace.specs.Entry.{head_of, a_dir, some_rights, a_command, free_text}
+use Rattle.cap_trace.specs.Entry.{head_of, an_fd, a_dir, some_rights, a_command, free_text}
 use Rattle.cap_trace.specs.Entry.{Arg, IsPid, head_of_call, args_of_call, kind_of, a_path}
 use Rattle.cap_trace.specs.Spelling.{Spells, SpellsArg, SpellsArgs, IsHead}
-use Rattle.cap_trace.specs.Quotes.{cut_at_byte}
+use Rattle.cap_trace.specs.Quotes.{cut_at_byte, pieces_from}
+use Rattle.cap_trace.specs.Seen.{TakesFd}
+use Rattle.cap_trace.specs.declared.quotes.Quoting.TheVariants.{Outside}
 use Rattle.cap_trace.specs.declared.fault.FirstFault.{FirstFault}
 use Rattle.cap_trace.specs.declared.line.Dir.{Dir}
 use Rattle.std.specs.Result.{result_ok}
@@ -29,9 +31,9 @@ use Rattle.cap_trace.specs.Reading.{Gives, ◌>>=◌, dir_at, rights_at, command
 use Rattle.cap_trace.specs.Reading.{arg_at, answer_at, line_of}
 use Rattle.cap_trace.specs.Forms.{Slot, dir, rights, command, free}
 use Rattle.cap_trace.specs.Quick.{Before, Between, SpellsAfter, Starts}
-use Rattle.cap_trace.proofs.Cuts.{cut_takes}
+use Rattle.cap_trace.proofs.Cuts.{cut_takes, pieces_after}
 use Rattle.cap_trace.proofs.Heads.{head_takes, some_is}
-use Rattle.cap_trace.proofs.Spelled.{arg_takes}
+use Rattle.cap_trace.proofs.Spelled.{arg_takes, is_closed, arg_part, fd_again}
 use Rattle.cap_trace.proofs.Answered.{answer_takes}
 use Rattle.cap_trace.specs.Runs.{Runs}
 use Rattle.cap_trace.specs.declared.runs.Run.TheVariants.{Path}
@@ -75,6 +77,17 @@ pub free_before : (stop : ℕ) (text t rest a : List ℕ) → Some (t, rest) ≡
 unfolding arg_at
 free_before stop text t rest a at e = read_before free stop text t rest (free_text a) at
     (ap (λ (r : Result (List ℕ) FirstFault). r >>= λ x. Ok (free_text x)) e)
+
+-- a descriptor before a comma is what the first part spells
+pub fd_first : (text rest : List ℕ) (f : ℕ) → Before text (an_fd f) 44 rest
+    → TakesFd (pieces_from Outside text) (Ok f) (pieces_from Outside rest)
+unfolding is_closed
+fd_first text rest f b = (
+  b.spelling,
+  ap (pieces_from Outside) b.parts
+      ∙ pieces_after Outside b.spelling rest (arg_part b.spelling (an_fd f) refl b.arg).comma,
+  fd_again b.spelling f b.arg,
+)
 
 -- ---- a path without escapes
 

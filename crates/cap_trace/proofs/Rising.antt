@@ -1,13 +1,12 @@
 -- Descriptors that rise, as a loop tests them.
-use Rattle.std.proofs.Common.{◌≡◌, ℕ, ◌+◌, Bool, true, false, cond, ltb, List, [], ◌∷◌, ◌++◌, append_assoc}
+use Rattle.std.proofs.Common.{◌≡◌, ℕ, ◌+◌, Bool, true, false, cond, ltb, List, [], ◌∷◌, ◌++◌}
 use Rattle.std.proofs.Common.{Option, Some, None, Result, Ok, Err, refl, sym, ap, ◌∙◌}
-use Rattle.std.specs.Prelude.{◌||◌}
 use Rattle.std.specs.List.{list_any}
 use Rattle.std.proofs.lemmas.List.{append-nil}
 use Rattle.cap_trace.specs.declared.fault.FirstFault.{FirstFault}
 use Rattle.cap_trace.specs.declared.fault.FirstFault.TheVariants as faults
 use Rattle.cap_trace.specs.Reading.{◌>>=◌, fd_at, fds_from}
-use Rattle.cap_trace.specs.Seen.{fds_in}
+use Rattle.cap_trace.specs.Seen.{fds_in, TakesFd}
 
 -- what went wrong, if anything did
 abbrev pub failure : {A : Type 0} → Result A FirstFault → Option FirstFault
@@ -41,47 +40,42 @@ rising_listed low (t ∷ ts) h =
     ap (λ (r : Result ℕ FirstFault). elim r as (λ _. List ℕ) [ Ok f ↦ f ∷ fds_in ts | Err e ↦ fds_in ts ]) a.1 in
     rw (a.1, b.0, rising_listed (a.0 + 1) ts b.1) (ap Ok (sym all))
 
--- ---- the same, as a loop takes them into memory
+-- ---- the descriptors that parts spell, by what the first of them does
 
-listed_is : (t : List ℕ) (ts : List (List ℕ))
-    → fds_in (t ∷ ts) ≡ (elim (fd_at t) as (λ _. List ℕ) [ Ok f ↦ f ∷ fds_in ts | Err e ↦ fds_in ts ])
+abbrev pub with_first : Result ℕ FirstFault → List ℕ → List ℕ
+with_first first fs = elim first as (λ _. List ℕ) [ Ok f ↦ f ∷ fs | Err e ↦ fs ]
+
+first_is : (parts others : List (List ℕ)) (first : Result ℕ FirstFault) → TakesFd parts first others
+    → fds_in parts ≡ with_first first (fds_in others)
 unfolding fds_in
-listed_is t ts = refl
+first_is parts others (Ok f) h = ap fds_in h.1 ∙ ap (λ (r : Result ℕ FirstFault). with_first r (fds_in others)) h.2
+first_is parts others (Err e) h = ap fds_in h.1 ∙ ap (λ (r : Result ℕ FirstFault). with_first r (fds_in others)) h.2
 
-pub listed_more : (front : List ℕ) (t : List ℕ) (ts : List (List ℕ)) (f : ℕ) (total : List ℕ) → fd_at t ≡ Ok f
-    → front ++ fds_in (t ∷ ts) ≡ total → (front ++ f ∷ []) ++ fds_in ts ≡ total
-listed_more front t ts f total e h =
-    append_assoc front (f ∷ []) (fds_in ts) ∙ sym (ap (λ (x : List ℕ). front ++ x) (listed_is t ts
-    ∙ ap (λ (r : Result ℕ FirstFault). elim r as (λ _. List ℕ) [ Ok f ↦ f ∷ fds_in ts | Err e ↦ fds_in ts ]) e)) ∙ h
+-- with those in front of the parts
+pub listed_on : (front : List ℕ) (parts others : List (List ℕ)) (first found : Result ℕ FirstFault) (total : List ℕ)
+    → TakesFd parts first others → first ≡ found → front ++ fds_in parts ≡ total
+    → front ++ with_first found (fds_in others) ≡ total
+listed_on front parts others first found total h e listed =
+    ap (λ (r : Result ℕ FirstFault). front ++ with_first r (fds_in others)) (sym e)
+    ∙ ap (λ (fs : List ℕ). front ++ fs) (sym (first_is parts others first h)) ∙ listed
 
-pub listed_less : (front : List ℕ) (t : List ℕ) (ts : List (List ℕ)) (d : FirstFault) (total : List ℕ) → fd_at t ≡ Err d
-    → front ++ fds_in (t ∷ ts) ≡ total → front ++ fds_in ts ≡ total
-listed_less front t ts d total e h =
-    sym (ap (λ (x : List ℕ). front ++ x) (listed_is t ts
-    ∙ ap (λ (r : Result ℕ FirstFault). elim r as (λ _. List ℕ) [ Ok f ↦ f ∷ fds_in ts | Err e ↦ fds_in ts ]) e)) ∙ h
-
-pub listed_end : (front : List ℕ) (ts : List (List ℕ)) (total : List ℕ) → ts ≡ [] → front ++ fds_in ts ≡ total
+pub listed_end : (front : List ℕ) (parts : List (List ℕ)) (total : List ℕ) → parts ≡ [] → front ++ fds_in parts ≡ total
     → front ≡ total
 unfolding fds_in
-listed_end front ts total e h = sym (append-nil front) ∙ sym (ap (λ (x : List (List ℕ)). front ++ fds_in x) e) ∙ h
+listed_end front parts total e h = sym (append-nil front) ∙ sym (ap (λ (x : List (List ℕ)). front ++ fds_in x) e) ∙ h
 
--- ---- the same, as a loop seeks one of them
+-- the same, as a loop seeks one of them
+pub any_on : (test : ℕ → Bool) (parts others : List (List ℕ)) (first found : Result ℕ FirstFault) (any : Bool)
+    → TakesFd parts first others → first ≡ found → list_any test (fds_in parts) ≡ any
+    → list_any test (with_first found (fds_in others)) ≡ any
+any_on test parts others first found any h e among =
+    ap (λ (r : Result ℕ FirstFault). list_any test (with_first r (fds_in others))) (sym e)
+    ∙ ap (λ (fs : List ℕ). list_any test fs) (sym (first_is parts others first h)) ∙ among
 
-pub any_more : (test : ℕ → Bool) (t : List ℕ) (ts : List (List ℕ)) (f : ℕ) (any : Bool) → fd_at t ≡ Ok f
-    → list_any test (fds_in (t ∷ ts)) ≡ any → (test f || list_any test (fds_in ts)) ≡ any
-any_more test t ts f any e h =
-    sym (ap (λ (x : List ℕ). list_any test x) (listed_is t ts
-    ∙ ap (λ (r : Result ℕ FirstFault). elim r as (λ _. List ℕ) [ Ok f ↦ f ∷ fds_in ts | Err e ↦ fds_in ts ]) e)) ∙ h
-
-pub any_less : (test : ℕ → Bool) (t : List ℕ) (ts : List (List ℕ)) (d : FirstFault) (any : Bool) → fd_at t ≡ Err d
-    → list_any test (fds_in (t ∷ ts)) ≡ any → list_any test (fds_in ts) ≡ any
-any_less test t ts d any e h =
-    sym (ap (λ (x : List ℕ). list_any test x) (listed_is t ts
-    ∙ ap (λ (r : Result ℕ FirstFault). elim r as (λ _. List ℕ) [ Ok f ↦ f ∷ fds_in ts | Err e ↦ fds_in ts ]) e)) ∙ h
-
-pub any_end : (test : ℕ → Bool) (ts : List (List ℕ)) (any : Bool) → ts ≡ [] → list_any test (fds_in ts) ≡ any → false ≡ any
+pub any_end : (test : ℕ → Bool) (parts : List (List ℕ)) (any : Bool) → parts ≡ [] → list_any test (fds_in parts) ≡ any
+    → false ≡ any
 unfolding fds_in
-any_end test ts any e h = sym (ap (λ (x : List (List ℕ)). list_any test (fds_in x)) e) ∙ h
+any_end test parts any e h = sym (ap (λ (x : List (List ℕ)). list_any test (fds_in x)) e) ∙ h
 
 abbrev done : {A : Type 0} → A → Result A FirstFault
 done x = Ok x

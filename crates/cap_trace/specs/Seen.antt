@@ -1,5 +1,5 @@
 -- What a line says in the code, whose texts still lie in its bytes, seen as the entry of Entry.
-use Rattle.std.specs.Prelude.{ℕ, Bool, true, false, List, [], ◌∷◌, Ok, Err}
+use Rattle.std.specs.Prelude.{◌≡◌, ℕ, Bool, true, false, List, [], ◌∷◌, Result, Ok, Err}
 use Rattle.cap_trace.specs.Call.{Call}
 use Rattle.cap_trace.specs.Call as calls
 use Rattle.cap_trace.specs.Item.{Item}
@@ -15,17 +15,22 @@ use Rattle.cap_trace.specs.declared.seen.Said.TheVariants as seen_said
 use Rattle.cap_trace.specs.Entry.{Arg, an_fd, a_dir, some_flags, some_rights, a_path, a_command, a_word}
 use Rattle.cap_trace.specs.Entry.{free_text, dest, set_fd, dup_to}
 use Rattle.cap_trace.specs.declared.args.ArgSeen.{ArgSeen}
+use Rattle.cap_trace.specs.declared.fault.FirstFault.{FirstFault}
 use Rattle.cap_trace.specs.declared.args.ArgSeen.TheVariants as seen_args
 use Rattle.cap_trace.specs.declared.few.Few.{Few}
 use Rattle.cap_trace.specs.Few.{few_items}
 use Rattle.cap_trace.specs.Forms.{Said, a_call, a_marker}
 use Rattle.cap_trace.specs.Quotes.{pieces}
-use Rattle.cap_trace.specs.Reading.{fd_at}
+use Rattle.cap_trace.specs.Reading.{Gives, fd_at}
 
 -- the descriptors that the parts spell
 unfoldable pub fds_in : List (List ℕ) → List ℕ
 fds_in [] = []
 fds_in (t ∷ ts) = elim (fd_at t) [ Ok f ↦ f ∷ fds_in ts | Err e ↦ fds_in ts ]
+
+-- what the first part spells, and the parts behind it
+abbrev pub TakesFd : List (List ℕ) → Result ℕ FirstFault → List (List ℕ) → Type 0
+TakesFd parts fd others = (t : List ℕ) × (parts ≡ t ∷ others) × Gives (λ f. f) fd (fd_at t)
 
 abbrev pub arg_seen : ArgSeen → Arg
 arg_seen (seen_args.Fd f) = an_fd f

@@ -54,8 +54,8 @@ fn rising(args: &[u8]) -> Result<(), FirstFault>
 {
     let mut parts = Parts::of(args);
     let mut low = 0;
-    while let Some(part) = parts.next() {
-        let fd = fd_of(part)?;
+    while let Some(next) = parts.next_fd() {
+        let fd = next?;
         if fd < low {
             return Err(FirstFault::Argument);
         }

@@ -9,6 +9,8 @@ use crate::calls::{
 };
 use crate::names::Head;
 use crate::parse::read;
+use crate::quotes::cut;
+use crate::scan_fields::pid_of;
 use crate::seen::fcntl_kind;
 use cap_rights::{NoMemory, RightSet};
 use std::alloc::Global;
@@ -239,11 +241,15 @@ impl Line {
         }
     }
 
-    /// The process of the line.
+    /// The process of the line. Only the front of its text is read.
     pub fn pid(&self) -> Pid
         ensures { result ≡ self.now.pid }
     {
-        self.seen().pid
+        let Some((pid, _)) = cut(b' ', &self.text) else {
+            unreachable!()
+        };
+        let Ok(pid) = pid_of(pid) else { unreachable!() };
+        pid
     }
 
     /// The name of the line's call; of a marker its word with the `@`.

@@ -62,7 +62,7 @@ fn number_before(stop: u8, text: &[u8]) -> Option<(u32, &[u8])>
 
 /// A descriptor before this byte, and what follows the byte.
 #[inline(always)]
-fn fd_before(stop: u8, text: &[u8]) -> Option<(Fd, &[u8])>
+pub(crate) fn fd_before(stop: u8, text: &[u8]) -> Option<(Fd, &[u8])>
     ensures { IfSome result (λ p. Before text.now (an_fd p.0) stop p.1.now) }
 {
     let (fd, rest) = number_before(stop, text)?;

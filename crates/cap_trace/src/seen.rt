@@ -8,7 +8,6 @@ ghost use Rattle.cap_trace.specs.Seen.{fds_spelled};
 use crate::calls::Kind;
 use crate::line::{Call, Fd, Item};
 use crate::parts::Parts;
-use crate::scan_fields::fd_of;
 use cap_rights::NoMemory;
 use std::alloc::Global;
 
@@ -40,8 +39,8 @@ pub fn fds_of(alloc: Global, spelled: &[u8]) -> Result<Vec<Fd>, NoMemory>
 {
     let mut parts = Parts::of(spelled);
     let mut fds = Vec::new(alloc);
-    while let Some(part) = parts.next() {
-        if let Ok(fd) = fd_of(part) {
+    while let Some(next) = parts.next_fd() {
+        if let Ok(fd) = next {
             fds.push(fd)?;
         }
     }
@@ -53,8 +52,8 @@ pub fn has_fd(spelled: &[u8], fd: Fd) -> bool
     ensures { result ≡ list_any (λ g. fd == g) (fds_spelled spelled.now) }
 {
     let mut parts = Parts::of(spelled);
-    while let Some(part) = parts.next() {
-        if let Ok(found) = fd_of(part) {
+    while let Some(next) = parts.next_fd() {
+        if let Ok(found) = next {
             if fd == found {
                 return true;
             }

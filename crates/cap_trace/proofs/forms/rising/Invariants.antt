@@ -4,8 +4,8 @@ use Rattle.cap_trace.specs.Reading.{fds_from}
 use Rattle.cap_trace.proofs.Rising.{failure}
 use Rattle.cap_trace.proofs.forms.rising.Given as goal
 
-abbrev pub invariant-loop-part : goal.invariant-loop-part
-invariant-loop-part l = failure (fds_from l.low l.parts) ≡ failure (fds_from 0 (pieces l.fn.args))
+abbrev pub invariant-loop-next : goal.invariant-loop-next
+invariant-loop-next l = failure (fds_from l.low l.parts) ≡ failure (fds_from 0 (pieces l.fn.args))
 
-abbrev pub decreases-loop-part : goal.decreases-loop-part
-decreases-loop-part l = length l.parts
+abbrev pub decreases-loop-next : goal.decreases-loop-next
+decreases-loop-next l = length l.parts

@@ -1,47 +1,29 @@
-use Rattle.std.proofs.Common.{◌≡◌, ◌∷◌, ℕ, Bool, ap, sym, ◌∙◌}
+use Rattle.std.proofs.Common.{ℕ, Bool, Ok, Err, ap, sym, ◌∙◌}
 use Rattle.std.specs.Prelude.{◌==◌, ◌||◌}
 use Rattle.std.proofs.lemmas.Bool.{eq-eqb, ne_eqb}
 use Rattle.std.specs.List.{list_any}
-use Rattle.cap_trace.specs.Quotes.{pieces}
 use Rattle.cap_trace.specs.Seen.{fds_in}
-use Rattle.cap_trace.proofs.Rising.{any_more, any_less, any_end}
+use Rattle.cap_trace.proofs.Rising.{any_on, any_end}
 use Rattle.cap_trace.proofs.seen.has_fd.Goals as goal
-
-found_first : (c : goal.Then-fd-found) → ((c.args.fd == c.in-Ok.found)
-    || list_any (λ (g : ℕ). c.args.fd == g) (fds_in c.next.new.self)) ≡ list_any (λ (g : ℕ). c.args.fd == g)
-    (fds_in (pieces c.args.spelled.now))
-found_first c =
-    let h : list_any (λ (g : ℕ). c.args.fd == g) (fds_in (c.in-Some.part.now ∷ c.next.new.self))
-    ≡ list_any (λ (g : ℕ). c.args.fd == g) (fds_in (pieces c.args.spelled.now)) =
-    rw (← c.in-Some.ensures) c.loop-part.invariant in
-    any_more (λ (g : ℕ). c.args.fd == g) c.in-Some.part.now c.next.new.self c.in-Ok.found _ c.in-Ok.ensures.value h
-
-passed_first : (c : goal.Else-fd-found) → ((c.args.fd == c.in-Ok.found)
-    || list_any (λ (g : ℕ). c.args.fd == g) (fds_in c.next.new.self)) ≡ list_any (λ (g : ℕ). c.args.fd == g)
-    (fds_in (pieces c.args.spelled.now))
-passed_first c =
-    let h : list_any (λ (g : ℕ). c.args.fd == g) (fds_in (c.in-Some.part.now ∷ c.next.new.self))
-    ≡ list_any (λ (g : ℕ). c.args.fd == g) (fds_in (pieces c.args.spelled.now)) =
-    rw (← c.in-Some.ensures) c.loop-part.invariant in
-    any_more (λ (g : ℕ). c.args.fd == g) c.in-Some.part.now c.next.new.self c.in-Ok.found _ c.in-Ok.ensures.value h
 
 pub returns-then-fd-found : goal.returns-then-fd-found
 returns-then-fd-found c =
-    sym (ap (λ (b : Bool). b || list_any (λ (g : ℕ). c.args.fd == g) (fds_in c.next.new.self))
-    (eq-eqb c.args.fd c.in-Ok.found c.if-fd-found.true)) ∙ found_first c
+    sym (ap (λ (b : Bool). b || list_any (λ (g : ℕ). c.args.fd == g) (fds_in c.next_fd.new.self))
+    (eq-eqb c.args.fd c.in-Ok.found c.if-fd-found.true))
+    ∙ any_on (λ (g : ℕ). c.args.fd == g) c.loop-next.parts c.next_fd.new.self c.in-Some.next (Ok c.in-Ok.found) _
+    c.in-Some.ensures.value c.in-Ok.is c.loop-next.invariant
 
-pub loop-part-preserved-else-fd-found : goal.loop-part-preserved-else-fd-found
-loop-part-preserved-else-fd-found c =
-    sym (ap (λ (b : Bool). b || list_any (λ (g : ℕ). c.args.fd == g) (fds_in c.next.new.self))
-    (ne_eqb c.args.fd c.in-Ok.found c.if-fd-found.false)) ∙ passed_first c
+pub loop-next-preserved-else-fd-found : goal.loop-next-preserved-else-fd-found
+loop-next-preserved-else-fd-found c =
+    sym (ap (λ (b : Bool). b || list_any (λ (g : ℕ). c.args.fd == g) (fds_in c.next_fd.new.self))
+    (ne_eqb c.args.fd c.in-Ok.found c.if-fd-found.false))
+    ∙ any_on (λ (g : ℕ). c.args.fd == g) c.loop-next.parts c.next_fd.new.self c.in-Some.next (Ok c.in-Ok.found) _
+    c.in-Some.ensures.value c.in-Ok.is c.loop-next.invariant
 
-pub loop-part-preserved : goal.loop-part-preserved
-loop-part-preserved c =
-    let h : list_any (λ (g : ℕ). c.args.fd == g) (fds_in (c.in-Some.part.now ∷ c.next.new.self))
-    ≡ list_any (λ (g : ℕ). c.args.fd == g) (fds_in (pieces c.args.spelled.now)) =
-    rw (← c.in-Some.ensures) c.loop-part.invariant in
-    any_less (λ (g : ℕ). c.args.fd == g) c.in-Some.part.now c.next.new.self c.in_default-fd_of.field-0 _
-    c.in_default-fd_of.ensures.value h
+pub loop-next-preserved : goal.loop-next-preserved
+loop-next-preserved c =
+    any_on (λ (g : ℕ). c.args.fd == g) c.loop-next.parts c.next_fd.new.self c.in-Some.next
+    (Err c.in_default-next.field-0) _ c.in-Some.ensures.value c.in_default-next.is c.loop-next.invariant
 
 pub returns : goal.returns
-returns c = any_end (λ (g : ℕ). c.args.fd == g) c.loop-part.parts _ c.in_default.ensures.0 c.loop-part.invariant
+returns c = any_end (λ (g : ℕ). c.args.fd == g) c.loop-next.parts _ c.in_default.ensures.value.0 c.loop-next.invariant

@@ -5,8 +5,8 @@ use Rattle.cap_trace.specs.Quotes.{pieces}
 use Rattle.cap_trace.specs.Seen.{fds_in}
 use Rattle.cap_trace.proofs.seen.has_fd.Given as goal
 
-abbrev pub invariant-loop-part : goal.invariant-loop-part
-invariant-loop-part l = list_any (λ g. l.fn.fd == g) (fds_in l.parts) ≡ list_any (λ g. l.fn.fd == g) (fds_in (pieces l.fn.spelled))
+abbrev pub invariant-loop-next : goal.invariant-loop-next
+invariant-loop-next l = list_any (λ g. l.fn.fd == g) (fds_in l.parts) ≡ list_any (λ g. l.fn.fd == g) (fds_in (pieces l.fn.spelled))
 
-abbrev pub decreases-loop-part : goal.decreases-loop-part
-decreases-loop-part l = length l.parts
+abbrev pub decreases-loop-next : goal.decreases-loop-next
+decreases-loop-next l = length l.parts
