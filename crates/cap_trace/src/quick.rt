@@ -19,6 +19,7 @@ use crate::equal::same_by_ends;
 use crate::limits::{LARGEST_FD, LARGEST_PID, LONGEST_LINE};
 use crate::line::{Answer, Call, Dir, Fd, Pid};
 use crate::names::{Head, head_of};
+use crate::number::digit_of;
 use crate::quotes::cut;
 use crate::runs::Run;
 use crate::scan_fields::{command_of, dir_of, free_of, rights_of};
@@ -49,13 +50,13 @@ fn number_before(stop: u8, text: &[u8]) -> Option<(u32, &[u8])>
     let mut number: u32 = 0;
     for i in 0..MOST_BYTES {
         let byte = text[i];
-        if !byte.is_ascii_digit() {
+        let Some(digit) = digit_of(byte) else {
             if byte != stop || i == 0 || (text[0] == b'0' && i != 1) {
                 return None;
             }
             return Some((number, &text[i + 1..]));
-        }
-        number = number * 10 + u32::from(byte - b'0');
+        };
+        number = number * 10 + digit;
     }
     None
 }
@@ -159,10 +160,7 @@ fn short_number_of(text: &[u8]) -> Option<u32>
             }
             return Some(number);
         }
-        if !text[i].is_ascii_digit() {
-            return None;
-        }
-        number = number * 10 + u32::from(text[i] - b'0');
+        number = number * 10 + digit_of(text[i])?;
     }
     None
 }

@@ -1,21 +1,19 @@
-use Rattle.std.proofs.Common.{◌≡◌, arith, true, get_or}
-use Rattle.std.specs.Char.{is_ascii_digit}
+use Rattle.std.proofs.Common.{arith}
 use Rattle.cap_trace.proofs.Numbers.{few_digits, digits_more}
 use Rattle.cap_trace.proofs.Numerals.{number_ends}
 use Rattle.cap_trace.proofs.quick.number_before.Goals as goal
 
-pub returns-then-not-is_ascii_digit : goal.returns-then-not-is_ascii_digit
-returns-then-not-is_ascii_digit c = number_ends c.args.stop c.args.text.now c.loop-i.i c.loop-i.number
+pub returns-in_default : goal.returns-in_default
+returns-in_default c = number_ends c.args.stop c.args.text.now c.loop-i.i c.loop-i.number
     (omega (arith, c.if-text-lt-MOST_BYTES.false, c.loop-i-test.true)) c.if-byte-stop.false c.if-i-eq0.false
     c.if-i-ne1.either c.loop-i.invariant.digits c.loop-i.invariant.value (omega (arith, c.loop-i.auto.number-fits))
 
 pub loop-i-preserved : goal.loop-i-preserved
 loop-i-preserved c =
-    let digit : is_ascii_digit (get_or c.args.text.now c.loop-i.i 0) ≡ true = cc in
     let more = digits_more c.args.text.now c.loop-i.i c.loop-i.number
-    (omega (arith, c.if-text-lt-MOST_BYTES.false, c.loop-i-test.true)) digit
+    (omega (arith, c.if-text-lt-MOST_BYTES.false, c.loop-i-test.true)) c.in-Some.ensures.0
     (c.loop-i.invariant.digits, c.loop-i.invariant.value) in
-    record { digits = more.0; value = rw c.from.ensures more.1 }
+    record { digits = more.0; value = rw c.in-Some.ensures.1 more.1 }
 
 pub overflow_mul-number : goal.overflow_mul-number
 overflow_mul-number c =
@@ -27,4 +25,4 @@ pub overflow_add-number : goal.overflow_add-number
 overflow_add-number c =
     let below = few_digits c.args.text.now c.loop-i.i c.loop-i.number 7 (omega (arith, c.loop-i-test.true))
     c.loop-i.invariant.digits c.loop-i.invariant.value in
-    omega (arith, c.from.ensures, c.if-not-is_ascii_digit.ensures.bound)
+    omega (arith, c.in-Some.ensures.2)

@@ -1,5 +1,4 @@
-use Rattle.std.proofs.Common.{◌≡◌, arith, true, get_or}
-use Rattle.std.specs.Char.{is_ascii_digit}
+use Rattle.std.proofs.Common.{arith}
 use Rattle.cap_trace.proofs.Numbers.{few_digits, digits_more}
 use Rattle.cap_trace.proofs.Numerals.{number_whole}
 use Rattle.cap_trace.proofs.quick.short_number_of.Goals as goal
@@ -11,10 +10,9 @@ returns-then-i-text c = number_whole c.args.text.now c.loop-i.i c.loop-i.number 
 
 pub loop-i-preserved : goal.loop-i-preserved
 loop-i-preserved c =
-    let digit : is_ascii_digit (get_or c.args.text.now c.loop-i.i 0) ≡ true = cc in
-    let more = digits_more c.args.text.now c.loop-i.i c.loop-i.number c.if-i-text.false digit
+    let more = digits_more c.args.text.now c.loop-i.i c.loop-i.number c.if-i-text.false c.in_ok-number.ensures.0
     (c.loop-i.invariant.digits, c.loop-i.invariant.value) in
-    record { digits = more.0; value = rw c.from.ensures more.1; within = omega (arith, c.if-i-text.false) }
+    record { digits = more.0; value = rw c.in_ok-number.ensures.1 more.1; within = omega (arith, c.if-i-text.false) }
 
 pub overflow_mul-number : goal.overflow_mul-number
 overflow_mul-number c =
@@ -26,4 +24,4 @@ pub overflow_add-number : goal.overflow_add-number
 overflow_add-number c =
     let below = few_digits c.args.text.now c.loop-i.i c.loop-i.number 7 (omega (arith, c.loop-i-test.true))
     c.loop-i.invariant.digits c.loop-i.invariant.value in
-    omega (arith, c.from.ensures, c.if-not-is_ascii_digit.ensures.bound)
+    omega (arith, c.in_ok-number.ensures.2)
