@@ -15,8 +15,8 @@ use Rattle.cap_trace.specs.declared.seen.Said.TheVariants as seen_said
 use Rattle.cap_trace.specs.Entry.{Arg, an_fd, a_dir, some_flags, some_rights, a_path, a_command, a_word}
 use Rattle.cap_trace.specs.Entry.{free_text, dest, set_fd, dup_to}
 use Rattle.cap_trace.specs.declared.args.ArgSeen.{ArgSeen}
-use Rattle.cap_trace.specs.declared.fault.FirstFault.{FirstFault}
 use Rattle.cap_trace.specs.declared.args.ArgSeen.TheVariants as seen_args
+use Rattle.cap_trace.specs.declared.fault.FirstFault.{FirstFault}
 use Rattle.cap_trace.specs.declared.few.Few.{Few}
 use Rattle.cap_trace.specs.Few.{few_items}
 use Rattle.cap_trace.specs.Forms.{Said, a_call, a_marker}
