@@ -19,7 +19,7 @@ ghost use Rattle.cap_summary.specs.RowSizes.{AllRise};
 use crate::before::Before;
 use crate::effect::Effect;
 use crate::key::Key;
-use crate::line_asks::LineAsks;
+use crate::line_asks::{LineAsks, process_of};
 use crate::precondition::Precondition;
 use cap_machine::{Cell, Mode, Start, Step, rule_of};
 use cap_trace::{Fd, Pid};
@@ -48,10 +48,11 @@ fn put_step(
         → OnOk result (Says effect.new precondition.new (steps ++ step.now ∷ [])) }
 {
     let line = step.line.seen();
+    let pid = process_of(&line);
     let rule = rule_of(step.profile, &line);
-    let asks = LineAsks::of_line(line.pid, &rule.demand);
+    let asks = LineAsks::of_line(pid, &rule.demand);
     precondition.put_line(effect, &asks)?;
-    effect.push(alloc, line.pid, &rule.effect)?;
+    effect.push(alloc, pid, &rule.effect)?;
     Ok(())
 }
 
