@@ -10,6 +10,9 @@ use Rattle.std.proofs.lemmas.List.Elements.{All-head, All-tail}
 use Rattle.cap_machine.specs.declared.step.Step.{Step}
 use Rattle.cap_summary.specs.declared.effect.Row.{Row}
 use Rattle.cap_summary.specs.declared.known.Known.{Known}
+use Rattle.cap_summary.specs.declared.node.Content.{Content}
+use Rattle.cap_summary.specs.declared.node.Content.TheVariants.{Run, Both}
+use Rattle.cap_summary.specs.Content.{KeepsParts}
 use Rattle.cap_summary.specs.Sorted.{found, Rises, RisesFrom, KeysRise}
 use Rattle.cap_summary.specs.Preconditions.{IsSettled}
 use Rattle.cap_summary.specs.Names.{Names, names_in, AreAmong, IsListedWithin, IsRowWithin, ListWithin, RowsWithin}
@@ -109,6 +112,12 @@ node_keeps known (Some kept) t knows settled is = record {
   settled = rw is.0 at settled;
   within = is.1;
 }
+
+pub keeps_parts : (known kept : Option Known) (content : Content) (n : ℕ) → KeepsParts known content
+    → IfSome kept (λ kept. (known ≡ Some kept) × IsWithin kept n) → KeepsParts kept content
+keeps_parts known None (Run run) n keeps is = tt
+keeps_parts known None (Both a b) n keeps is = tt
+keeps_parts known (Some kept) content n keeps is = rw is.0 at keeps
 
 pub node_names : (known kept : Option Known) (t : List Step) → IfSome known (λ known. Knows known t)
     → IfSome known (λ known. IsSettled known.precondition.value) → IfNone known (NameOrRefuseMany t)

@@ -1,8 +1,9 @@
 -- Findings of segments, one after the other.
-use Rattle.std.proofs.Common.{◌≡◌, ℕ, ◌+◌, ◌<◌, ◌≤◌, List, [], ◌∷◌, ◌++◌, Bool, true, false, ◌&&◌, cond, length, map}
+use Rattle.std.proofs.Common.{◌≡◌, ℕ, ◌+◌, ◌<◌, ◌≤◌, List, [], ◌∷◌, ◌++◌, Bool, true, false, ◌&&◌, cond, length, map, take, drop, get_or, ◌-◌}
 use Rattle.std.proofs.Common.{refl, sym, ap, ◌∙◌, add_assoc, append_assoc, arith, inl, inr, length-append}
 use Rattle.std.specs.List.{All}
-use Rattle.std.proofs.lemmas.List.{map-append, append-nil, length-map}
+use Rattle.std.proofs.lemmas.List.{map-append, append-nil, length-map, length-take, length-take-le, take_all, take_more}
+use Rattle.std.proofs.lemmas.List.{take-append-drop}
 use Rattle.std.proofs.lemmas.List.Elements.{filter-append, All-head, All-tail}
 use Rattle.std.proofs.lemmas.List.Filters.{length-filter_both}
 use Rattle.std.proofs.lemmas.Bool.{lt-leb, le-leb, cases_lt}
@@ -14,7 +15,7 @@ use Rattle.cap_machine.specs.State.{State}
 use Rattle.cap_machine.specs.History.{ended}
 use Rattle.cap_machine.specs.Check.{check, said, found_at}
 use Rattle.cap_machine.specs.Laws.{later}
-use Rattle.cap_machine.proofs.Turns.{checks_in_turn}
+use Rattle.cap_machine.proofs.Turns.{checks_in_turn, checks_more}
 use Rattle.cap_machine.proofs.Positions.{positions_within}
 use Rattle.cap_summary.specs.LineAsks.{has_any}
 use Rattle.cap_summary.specs.Positions.{is_at, within, AllOrMany}
@@ -119,17 +120,6 @@ pub found_more : (s : State) (t : List Step) (l : Step) (at n from to : ℕ) (ol
 found_more s t l at n from to old first all len one two = found_parts s t (l ∷ []) at n from to old first all len one
     (two ∙ ap (λ r. first ++ within from to r) (sym (later-at (at + n) 1 (said l (ended s t)))))
 
-none_of : {X : Type 0} (xs : List X) → has_any xs ≡ false → xs ≡ []
-none_of [] e = refl
-none_of (x ∷ xs) e = absurd cc
-
--- nothing is found in a segment of which that is known
-pub found_none : (s : State) (t : List Step) (at from to : ℕ) (old : List Found) (finds : Bool)
-    → finds ≡ has_any (check s t) → finds ≡ false →
-    old ≡ old ++ within from to (map (later at) (check s t))
-found_none s t at from to old finds is quiet = sym (append-nil old)
-    ∙ ap (λ (r : List Found). old ++ within from to (map (later at) r)) (sym (none_of (check s t) (sym is ∙ quiet)))
-
 -- findings stand at positions from 1
 abbrev IsBelow : ℕ → Found → Type 0
 IsBelow n found = (1 ≤ found.at) × (found.at ≤ n)
@@ -226,10 +216,57 @@ found_whole s t to long = all_within to (length t) (check s t) (positions_within
 
 -- what is found from the first position on, or many of it
 pub all_or_many : (most : ℕ) (s : State) (t : List Step) (from to : ℕ) (found : List Found)
-    → AllOrMany most found (within from to (map (later 0) (check s (t ++ []))))
+    → AllOrMany most found (within from to (map (later 0) (check s t)))
     → AllOrMany most found (within from to (check s t))
-all_or_many most s t from to found is =
-    rw (append-nil t, later-none (check s t)) at is
+all_or_many most s t from to found is = rw (later-none (check s t)) at is
+
+-- the first steps are enough, up to the last position that is asked for
+pub found_in_first : (s : State) (t : List Step) (n at from to : ℕ) → (n < length t → to ≤ at + n)
+    → within from to (map (later at) (check s (take n t))) ≡ within from to (map (later at) (check s t))
+found_in_first s t n at from to behind = elim (cases_lt n (length t)) [
+  | inl short ↦
+      let a : List Step = take n t in
+      let b : List Step = drop n t in
+      let first : List Found = within from to (map (later at) (check s a)) in
+      let none : within from to (map (later (at + n)) (check (ended s a) b)) ≡ [] = not_behind from to (at + n) (length b)
+      (check (ended s a) b) (positions_within (ended s a) b) (behind short) in
+      found_parts s a b at n from to [] first first (sym (length-take-le n t (omega arith))) refl
+      (sym (append-nil first) ∙ ap (λ (r : List Found). first ++ r) (sym none))
+      ∙ ap (λ (r : List Step). within from to (map (later at) (check s r))) (take-append-drop n t)
+  | inr long ↦ ap (λ (r : List Step). within from to (map (later at) (check s r))) (take_all n t long)
+]
+
+pub found_upto_last : (s : State) (t : List Step) (n from to : ℕ) (found : List Found) → (n < length t → to ≤ n)
+    → found ≡ within from to (check s (take n t)) → found ≡ within from to (check s t)
+found_upto_last s t n from to found behind is =
+    is ∙ rw (later-none (check s (take n t)), later-none (check s t))
+    at (found_in_first s t n 0 from to (λ short. omega (arith, behind short)))
+
+-- nothing stands before the first position that is asked for
+pub none_before_first : (s : State) (t : List Step) (from to : ℕ) → [] ≡ within from to (check s (take (from - 1) t))
+none_before_first s t from to = elim (cases_lt (from - 1) from) [
+  | inl before ↦ found_in_order s (take (from - 1) t) from to []
+      (found_before s (take (from - 1) t) 0 from to [] (omega (arith, length-take (from - 1) t)))
+  | inr none ↦
+      let zero : from - 1 ≡ 0 = omega arith in
+      ap (λ (n : ℕ). within from to (check s (take n t))) (sym zero)
+]
+
+-- what was found before a step of a trace, and then in the step
+pub found_next : (s : State) (t : List Step) (n from to : ℕ) (step : Step) (old new : List Found) → n < length t
+    → get_or t n step ≡ step → old ≡ within from to (check s (take n t))
+    → new ≡ old ++ within from to (map (found_at (n + 1)) (said step (ended s (take n t))))
+    → new ≡ within from to (check s (take (n + 1) t))
+found_next s t n from to step old new short is one two =
+    let a : List Step = take n t in
+    let here : ℕ → List Found = λ at. map (found_at at) (said step (ended s a)) in
+    let more : take (n + 1) t ≡ a ++ step ∷ [] =
+    take_more t n step short ∙ ap (λ (x : Step). a ++ x ∷ []) is in
+    two ∙ ap (λ (r : List Found). r ++ within from to (here (n + 1))) one
+    ∙ ap (λ (k : ℕ). within from to (check s a) ++ within from to (here (k + 1)))
+    (sym (length-take-le n t (omega arith)))
+    ∙ sym (ap (λ (r : List Step). within from to (check s r)) more ∙ ap (within from to) (checks_more s a step)
+    ∙ filter-append (is_at from to) (check s a) (here (length a + 1)))
 
 -- where nothing is asked for behind a part, it doesn't matter in which state the next one begins
 pub same_behind : (s r : State) (t : List Step) (at from to : ℕ) → (at ≤ to → s ≡ r)

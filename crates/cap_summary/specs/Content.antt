@@ -1,5 +1,5 @@
 -- What a node of a summary is seen as, and what always holds of it.
-use Rattle.std.specs.Prelude.{◌≡◌, ℕ, ◌^◌, ◌<◌, ◌≤◌, List, ◌++◌, length, Option, IfSome, IfNone}
+use Rattle.std.specs.Prelude.{◌≡◌, ℕ, ◌^◌, ◌<◌, ◌≤◌, List, ◌++◌, length, true, Option, is_some, IfSome, IfNone}
 use Rattle.cap_machine.specs.declared.step.Step.{Step}
 use Rattle.cap_tree.specs.Run.{values}
 use Rattle.cap_summary.specs.declared.known.Known.{Known}
@@ -22,10 +22,19 @@ abbrev pub HasParts : Content → Type 0
 HasParts (Run run) = length run.items ≤ 48
 HasParts (Both a b) = (0 < length a.value.steps) × (0 < length b.value.steps)
 
+-- what is known is kept of both parts of a node of which it is kept
+abbrev pub AreKept : NodeView → NodeView → Type 0
+AreKept a b = (is_some a.known ≡ true) × (is_some b.known ≡ true)
+
+abbrev pub KeepsParts : Option Known → Content → Type 0
+KeepsParts kept (Run run) = Unit {0}
+KeepsParts kept (Both a b) = IfSome kept (λ known. AreKept a.value b.value)
+
 -- what always holds of a node; one of which nothing is kept names or refuses many
 pub record IsGood (size : ℕ) (kept : Option Known) (content : Content) : Type 0 where
   pub len : size ≡ length (content_steps content)
   pub parts : HasParts content
+  pub below : KeepsParts kept content
   pub few : size ≤ 2 ^ 30
   pub known : IfSome kept (λ known. IsKept known (content_steps content))
   pub many : IfNone kept (NameOrRefuseMany (content_steps content))

@@ -27,7 +27,6 @@ pub mod Sized
 pub mod Seen
 pub mod Before
 pub mod Positions
-pub mod Rest
 pub mod Passes
 pub mod Behind
 pub mod Few

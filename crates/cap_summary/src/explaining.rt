@@ -1,6 +1,6 @@
 //! What one step of a summary rests on.
 
-ghost use Rattle.std.specs.Prelude.{◌≡◌, map, option_map, true, if◌then◌else◌, Some, None, IfOk};
+ghost use Rattle.std.specs.Prelude.{◌≡◌, ◌+◌, ◌<◌, ◌≤◌, [], length, map, option_map, true, if◌then◌else◌, Some, None, IfOk, OnOk};
 ghost use Rattle.cap_machine.specs.declared.rule.Check.{Check};
 ghost use Rattle.cap_machine.specs.declared.origin.CellOrigin.{CellOrigin};
 ghost use Rattle.cap_machine.specs.declared.origin.ModeOrigin.{ModeOrigin};
@@ -10,12 +10,17 @@ ghost use Rattle.cap_machine.specs.Origin.{cell_chain, cell_chain_of, mode_chain
 ghost use Rattle.cap_machine.specs.Explain.{mode_matters, mode_or_unsure, explained, explained_by, explanation};
 ghost use Rattle.cap_machine.specs.Table.{start_state};
 ghost use Rattle.cap_summary.specs.Stands.{summed_up};
+ghost use Rattle.cap_machine.specs.Check.{check};
+ghost use Rattle.cap_summary.specs.Positions.{within};
 ghost use Rattle.cap_summary.specs.Behind.{IsPlace, state_at_start, history};
 
+use crate::in_order::note_asked;
+use crate::judging::{Asked, Report};
 use crate::node::Node;
 use crate::summary::Summary;
 use cap_machine::{
-    CellOrigin, CellWalk, Checks, Demand, Explanation, ModeOrigin, ModeWalk, Start, Step, rule_of,
+    CellOrigin, CellWalk, Checks, Demand, Explanation, Found, ModeOrigin, ModeWalk, Start, Step,
+    rule_of,
 };
 use cap_trace::{Fd, Pid};
 use cap_tree::NoMemory;
@@ -117,6 +122,32 @@ impl Behind<'_> {
         let mode = self.mode_where(alloc, pid, &demand)?;
         Ok(Explanation::of(&demand, cells, mode))
     }
+}
+
+/// Judges each step that is asked for alone, and notes what is found in it.
+pub(crate) fn judge_alone(
+    alloc: Global,
+    node: &Node,
+    start: &Start,
+    asked: &Asked,
+    report: &mut Report,
+) -> Result<(), NoMemory>
+    requires nothing { report.old.found.items ≡ [] }
+    requires none_judged { report.old.judged ≡ 0 }
+    ensures found { OnOk result (report.new.found.items
+        ≡ within asked.now.from asked.now.to (check (start_state start.now) node.now.steps)) }
+    ensures all { OnOk result (report.new.judged ≤ length node.now.steps) }
+{
+    let last = asked.to.min(node.len());
+    let mut count = asked.from.saturating_sub(1);
+    while count < last {
+        let behind = Behind { start, node, count };
+        let explanation = behind.explain(alloc, node.step(count))?;
+        count += 1;
+        note_asked(&explanation.verdict, count, asked, &mut report.found)?;
+        report.judged += 1;
+    }
+    Ok(())
 }
 
 /// What the step at a position of a summary rests on; positions are from 1. `None` where it has no such step.

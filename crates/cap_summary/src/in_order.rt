@@ -14,7 +14,7 @@ use cap_tree::NoMemory;
 use std::rc::Rc;
 
 /// Notes what is said of a step at a position, where that is asked for.
-fn note_asked(
+pub(crate) fn note_asked(
     verdict: &Verdict,
     at: usize,
     asked: &Asked,

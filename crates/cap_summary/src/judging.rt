@@ -56,9 +56,9 @@ impl Asked {
         self.from <= at && at <= self.to
     }
 
-    /// Whether there are few of them, beside a number of steps.
-    pub(crate) fn are_few_of(&self, steps: usize) -> bool {
-        self.to.saturating_sub(self.from) < steps / 16
+    /// Whether they are at most so many.
+    pub(crate) fn are_at_most(&self, count: usize) -> bool {
+        self.to.saturating_sub(self.from) < count
     }
 }
 
@@ -95,33 +95,7 @@ fn note_line(
 }
 
 /// Notes what is found in a run of steps that begins in this state behind so many others, at the positions that are
-/// asked for.
-fn judge_from(
-    alloc: Global,
-    run: &[Rc<Step>],
-    before: &Before<'_>,
-    at: usize,
-    asked: &Asked,
-    found: &mut Vec<Found>,
-) -> Result<(), NoMemory>
-    requires short { at + length run.now ≤ 2 ^ 31 }
-    ensures { OnOk result (found.new.items ≡ found.old.items
-        ++ within asked.now.from asked.now.to (map (later at) (check (state_before before.now) (values run.now)))) }
-{
-    let mut effect = Effect::empty(alloc);
-    let mut position = at;
-    for step in run {
-        position += 1;
-        let line = step.line.seen();
-        let rule = rule_of(step.profile, &line);
-        let here = Before::After(&*before, &effect);
-        note_line(&here, line.pid, &rule.demand, position, asked, found)?;
-        effect.push(alloc, line.pid, &rule.effect)?;
-    }
-    Ok(())
-}
-
-/// The same, with each step of the run counted as judged.
+/// asked for. Each step of the run counts as judged, and none is read behind the last of these positions.
 pub(crate) fn judge_run(
     alloc: Global,
     run: &[Rc<Step>],
@@ -137,5 +111,23 @@ pub(crate) fn judge_run(
     ensures counted { report.new.judged ≡ report.old.judged + length run.now }
 {
     report.judged += run.len();
-    judge_from(alloc, run, before, at, asked, &mut report.found)
+    let mut effect = Effect::empty(alloc);
+    let mut position = at;
+    let read = &run[..run.len().min(asked.to.saturating_sub(at))];
+    for step in read {
+        position += 1;
+        let line = step.line.seen();
+        let rule = rule_of(step.profile, &line);
+        let here = Before::After(&*before, &effect);
+        note_line(
+            &here,
+            line.pid,
+            &rule.demand,
+            position,
+            asked,
+            &mut report.found,
+        )?;
+        effect.push(alloc, line.pid, &rule.effect)?;
+    }
+    Ok(())
 }

@@ -1,7 +1,7 @@
 //! The nodes of a summary. A contract sees a node as its steps, and what is known of them where that is kept.
 
 ghost use Rattle.std.specs.Prelude.{◌≡◌, ◌+◌, ◌*◌, ◌^◌, ◌<◌, ◌≤◌, ◌++◌, ◌∷◌, [], length, IfOk, OnOk, IfSome, IfNone};
-ghost use Rattle.std.specs.Prelude.{◌⊎◌, true, false, Some, map};
+ghost use Rattle.std.specs.Prelude.{◌⊎◌, true, false, is_some, Some, map};
 ghost use Rattle.std.specs.Option.{option_copied};
 ghost use Rattle.cap_machine.specs.Check.{check};
 ghost use Rattle.cap_machine.specs.History.{ended};
@@ -11,9 +11,8 @@ ghost use Rattle.cap_tree.specs.Run.{values};
 ghost use Rattle.cap_summary.specs.Before.{state_before};
 ghost use Rattle.cap_summary.specs.LineAsks.{has_any};
 ghost use Rattle.cap_summary.specs.Positions.{within, AllOrMany};
-ghost use Rattle.cap_summary.specs.Rest.{rest_steps, AllSome};
 ghost use Rattle.cap_tree.specs.Sides.{part_at};
-ghost use Rattle.cap_summary.specs.Content.{content_steps, HasParts};
+ghost use Rattle.cap_summary.specs.Content.{content_steps, HasParts, AreKept, KeepsParts};
 ghost use Rattle.cap_summary.specs.Kept.{limit, IsKept, IsWithin, IsLarge, ListsMany};
 ghost use Rattle.cap_summary.specs.Few.{NameOrRefuseMany};
 ghost use Rattle.cap_summary.specs.Knows.{Knows};
@@ -37,8 +36,6 @@ const RUN_STEPS: usize = 48;
 #[derive(Drop)]
 pub(crate) struct Node {
     len: usize,
-    /// How many parts it is read through one after the other: one where what is known is kept.
-    parts: usize,
     pub(crate) known: Option<Known>,
     pub(crate) content: Content,
 }
@@ -69,8 +66,8 @@ impl Model for Node {
     ghost size_decreases = { λ a h. deep_le_length a.content h.parts };
 }
 
-/// How many parts a run counts for of which nothing is kept, since what is known of it is made anew.
-const RUN_PARTS: usize = 64;
+/// To go down to a position takes about as long as to look at so many asks.
+const ASKS_A_POSITION: usize = 16;
 
 /// The most rows and cells that are kept.
 const MOST_CELLS: usize = 8_192;
@@ -115,14 +112,6 @@ impl Content {
             Content::Both(a, b) => a.len() + b.len(),
         }
     }
-
-    /// How many parts it is read through where nothing is kept of it.
-    fn parts(&self) -> usize {
-        match self {
-            Content::Run(_) => RUN_PARTS,
-            Content::Both(a, b) => a.parts.saturating_add(b.parts),
-        }
-    }
 }
 
 /// Counts the joins that a run of so many steps stands for: one fewer.
@@ -146,11 +135,6 @@ impl Node {
         self.len
     }
 
-    /// How many parts it is read through one after the other.
-    pub(crate) fn parts(&self) -> usize {
-        self.parts
-    }
-
     /// What is known of the steps, where it is kept.
     pub(crate) fn known(&self) -> Option<&Known>
         ensures kept { IfSome result (λ known. IsKept known.now self.now.steps) }
@@ -163,9 +147,17 @@ impl Node {
         }
     }
 
+    /// Whether what is known of the steps is kept.
+    pub(crate) fn is_kept(&self) -> bool
+        ensures { result ≡ is_some self.now.known }
+    {
+        self.known.is_some()
+    }
+
     /// The node of contents of which this is known. It is kept within the limit.
     fn of(alloc: Global, known: Option<Known>, content: Content) -> Result<Rc<Node>, NoMemory>
         requires parts { HasParts content }
+        requires kept { KeepsParts known content }
         requires few { length (content_steps content) ≤ 2 ^ 30 }
         requires knows { IfSome known (λ known. Knows known (content_steps content)) }
         requires settled { IfSome known (λ known. IsSettled known.precondition.value) }
@@ -175,13 +167,8 @@ impl Node {
     {
         let len = content.len();
         let known = kept(known, len);
-        let parts = match &known {
-            Some(_) => 1,
-            None => content.parts(),
-        };
         let node = Node {
             len,
-            parts,
             known,
             content,
         };
@@ -353,6 +340,7 @@ impl Node {
     ) -> Result<Rc<Node>, NoMemory>
         requires first { 0 < length left.now.value.steps }
         requires second { 0 < length right.now.value.steps }
+        requires kept { IfSome known (λ known. AreKept left.now.value right.now.value) }
         requires few { length left.now.value.steps + length right.now.value.steps ≤ 2 ^ 30 }
         requires knows { IfSome known (λ known. Knows known (left.now.value.steps ++ right.now.value.steps)) }
         requires settled { IfSome known (λ known. IsSettled known.precondition.value) }
@@ -366,99 +354,19 @@ impl Node {
 }
 
 impl Node {
-    /// Notes what is found in the steps and then in the rest, which begin in this state behind so many others, at the
-    /// positions that are asked for. It visits only parts that have such positions, and stops where more was found than is
-    /// looked up one by one. What isn't kept of is read through its parts.
-    #[cycle(resolving)]
+    /// Notes what is found in the steps, which begin in this state behind so many others, at the positions that are asked
+    /// for. It visits only parts that have such positions, and stops where more was found than is looked up one by one.
+    /// Where few positions are asked for beside what all steps ask, it goes down to these without a look at all asks.
     pub(crate) fn resolve(
         &self,
         alloc: Global,
         before: &Before<'_>,
         at: usize,
-        rest: &Rest<'_>,
         asked: &Asked,
         report: &mut Report,
     ) -> Result<(), NoMemory>
-        requires short { at + (length self.now.steps + length (rest_steps rest.now)) ≤ 2 ^ 31 }
-        requires some { 0 < length self.now.steps }
-        requires each { AllSome rest.now }
-        requires room { report.old.judged + (length self.now.steps + length (rest_steps rest.now)) < 2 ^ 64 }
-        ensures found { OnOk result (AllOrMany asked.now.most report.new.found.items (report.old.found.items
-            ++ within asked.now.from asked.now.to
-            (map (later at) (check (state_before before.now) (self.now.steps ++ rest_steps rest.now))))) }
-        ensures few { OnOk result (report.new.judged ≤ report.old.judged
-            + 48 * length (check (state_before before.now) (self.now.steps ++ rest_steps rest.now))) }
-        ensures all { OnOk result (report.new.judged
-            ≤ report.old.judged + (length self.now.steps + length (rest_steps rest.now))) }
-    {
-        if asked.to <= at {
-            return Ok(());
-        }
-        match (&self.known, &self.content) {
-            (Some(known), _) => self.resolve_rest(alloc, known, before, at, rest, asked, report),
-            (None, Content::Run(run)) => {
-                let known = Known::of_run(alloc, run)?;
-                self.resolve_rest(alloc, &known, before, at, rest, asked, report)
-            }
-            (None, Content::Both(a, b)) => {
-                a.resolve(alloc, before, at, &Rest::Then(&**b, &*rest), asked, report)
-            }
-        }
-    }
-
-    /// The same of steps of which this is known.
-    #[cycle(resolving)]
-    fn resolve_rest(
-        &self,
-        alloc: Global,
-        known: &Known,
-        before: &Before<'_>,
-        at: usize,
-        rest: &Rest<'_>,
-        asked: &Asked,
-        report: &mut Report,
-    ) -> Result<(), NoMemory>
-        requires known { Knows known.now self.now.steps }
-        requires short { at + (length self.now.steps + length (rest_steps rest.now)) ≤ 2 ^ 31 }
-        requires some { 0 < length self.now.steps }
-        requires each { AllSome rest.now }
-        requires room { report.old.judged + (length self.now.steps + length (rest_steps rest.now)) < 2 ^ 64 }
-        ensures found { OnOk result (AllOrMany asked.now.most report.new.found.items (report.old.found.items
-            ++ within asked.now.from asked.now.to
-            (map (later at) (check (state_before before.now) (self.now.steps ++ rest_steps rest.now))))) }
-        ensures few { OnOk result (report.new.judged ≤ report.old.judged
-            + 48 * length (check (state_before before.now) (self.now.steps ++ rest_steps rest.now))) }
-        ensures all { OnOk result (report.new.judged
-            ≤ report.old.judged + (length self.now.steps + length (rest_steps rest.now))) }
-    {
-        self.resolve_known(alloc, known, before, at, asked, report)?;
-        if report.found.len() > asked.most {
-            return Ok(());
-        }
-        match rest {
-            Rest::End => Ok(()),
-            Rest::Then(node, rest) => {
-                let after = Before::After(&*before, &known.effect);
-                node.resolve(alloc, &after, at + self.len, rest, asked, report)
-            }
-        }
-    }
-
-    /// The same with no rest. Where few of many steps are asked for, it goes down to these
-    /// without a look at what all ask, which takes longer.
-    #[cycle(resolving)]
-    fn resolve_known(
-        &self,
-        alloc: Global,
-        known: &Known,
-        before: &Before<'_>,
-        at: usize,
-        asked: &Asked,
-        report: &mut Report,
-    ) -> Result<(), NoMemory>
-        requires known { Knows known.now self.now.steps }
+        requires kept { is_some self.now.known ≡ true }
         requires short { at + length self.now.steps ≤ 2 ^ 31 }
-        requires some { 0 < length self.now.steps }
         requires room { report.old.judged + length self.now.steps < 2 ^ 64 }
         ensures found { OnOk result (AllOrMany asked.now.most report.new.found.items (report.old.found.items
             ++ within asked.now.from asked.now.to (map (later at) (check (state_before before.now) self.now.steps)))) }
@@ -466,9 +374,10 @@ impl Node {
             ≤ report.old.judged + 48 * length (check (state_before before.now) self.now.steps)) }
         ensures all { OnOk result (report.new.judged ≤ report.old.judged + length self.now.steps) }
     {
-        if at + self.len < asked.from {
+        if asked.to <= at || at + self.len < asked.from {
             return Ok(());
         }
+        let known = self.known().unwrap();
         match &self.content {
             Content::Run(run) => {
                 if !before.meets(&known.precondition) {
@@ -477,17 +386,19 @@ impl Node {
                 judge_run(alloc, run, before, at, asked, report)
             }
             Content::Both(a, b) => {
-                if !asked.are_few_of(self.len) && !before.meets(&known.precondition) {
+                let asks = known.precondition.asks.len();
+                if !asked.are_at_most(asks / ASKS_A_POSITION)
+                    && !before.meets(&known.precondition)
+                {
                     return Ok(());
                 }
-                a.resolve(
-                    alloc,
-                    before,
-                    at,
-                    &Rest::Then(&**b, &Rest::End),
-                    asked,
-                    report,
-                )
+                a.resolve(alloc, before, at, asked, report)?;
+                if report.found.len() > asked.most {
+                    return Ok(());
+                }
+                let first = a.known().unwrap();
+                let between = Before::After(&*before, &first.effect);
+                b.resolve(alloc, &between, at + a.len(), asked, report)
             }
         }
     }
@@ -523,13 +434,4 @@ impl Node {
             }
         }
     }
-}
-
-/// The nodes that follow.
-#[derive(Clone, Copy)]
-pub(crate) enum Rest<'a> {
-    /// None.
-    End,
-    /// This one, and then these.
-    Then(&'a Node, &'a Rest<'a>),
 }

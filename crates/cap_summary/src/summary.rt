@@ -7,13 +7,14 @@ ghost use Rattle.cap_machine.specs.Table.{start_state};
 ghost use Rattle.cap_summary.specs.Kept.{IsKept};
 ghost use Rattle.cap_summary.specs.Few.{NameOrRefuseMany};
 ghost use Rattle.cap_summary.specs.View.{NodesCompose, NodesDoAlike, NodesAskAlike};
-ghost use Rattle.cap_summary.specs.Positions.{within, AllOrMany};
+ghost use Rattle.cap_summary.specs.Positions.{within};
 ghost use Rattle.cap_summary.specs.Stands.{Stands, summed_up, kept_of};
 
 use crate::before::Before;
+use crate::explaining::judge_alone;
 use crate::judging::{Asked, Report};
 use crate::known::Known;
-use crate::node::{Node, Rest};
+use crate::node::Node;
 use cap_machine::{Found, Machine, Start, Step};
 use cap_tree::{Likeness, Meter, NoMemory, Segment, Side};
 use std::alloc::Global;
@@ -22,8 +23,8 @@ use std::rc::Rc;
 /// To look a finding up takes about as long as to judge some hundred steps; so, of so many steps, one is looked up.
 const STEPS_A_FINDING: usize = 2_048;
 
-/// The most parts that are visited one after the other.
-const MOST_PARTS: usize = 4_096;
+/// How many positions are judged alone where nothing is kept of the whole.
+const MOST_ALONE: usize = 16;
 
 /// What a segment of a trace does and asks, whatever the state before it, with its steps. A clone shares all of it.
 #[derive(Drop)]
@@ -76,7 +77,9 @@ pub fn resolve_range(
 
 /// The same, and how many steps were judged for it. Where what is known of all steps is kept, only runs of at most 48
 /// steps are judged that have a finding; where more than one in 2,048 steps has one, all are, in order. Where it isn't
-/// kept, the parts are visited one after the other if few positions are asked for.
+/// kept, all are too; but of at most 16 positions each is judged alone, as [`explain`] does.
+///
+/// [`explain`]: crate::explaining::explain
 ///
 /// `NoMemory` when out of memory; the summary is unchanged.
 pub fn report_range(
@@ -95,51 +98,20 @@ pub fn report_range(
     let most = summary.node.len() / STEPS_A_FINDING;
     let asked = Asked { from, to, most };
     let mut report = Report::empty(alloc);
-    if are_looked_up(summary, &asked) {
-        look_up(alloc, summary, start, &asked, &mut report)?;
+    if summary.node.is_kept() {
+        let before = Before::At(&*start);
+        summary
+            .node
+            .resolve(alloc, &before, 0, &asked, &mut report)?;
         if report.found.len() <= most {
             return Ok(report);
         }
+    } else if asked.are_at_most(MOST_ALONE) {
+        judge_alone(alloc, &*summary.node, start, &asked, &mut report)?;
+        return Ok(report);
     }
     judge_in_order(alloc, summary, start, &asked, &mut report)?;
     Ok(report)
-}
-
-/// Whether findings are looked up one by one: where what is known of all steps isn't kept, only few, since each look-up
-/// reads back through what is known of each part; and not through very many parts, since each takes room on the stack.
-fn are_looked_up(summary: &Summary, asked: &Asked) -> bool
-    ensures { is_some (kept_of summary.now) ≡ true → result ≡ true }
-{
-    if summary.node.known().is_some() {
-        return true;
-    }
-    asked.to.saturating_sub(asked.from) <= asked.most && summary.node.parts() <= MOST_PARTS
-}
-
-/// Looks findings up where something is found; more than are looked up one by one may not be all.
-fn look_up(
-    alloc: Global,
-    summary: &Summary,
-    start: &Start,
-    asked: &Asked,
-    report: &mut Report,
-) -> Result<(), NoMemory>
-    requires few { length (summed_up summary.now) ≤ 2 ^ 30 }
-    requires nothing { report.old.found.items ≡ [] }
-    requires none_judged { report.old.judged ≡ 0 }
-    ensures found { OnOk result (AllOrMany asked.now.most report.new.found.items
-        (within asked.now.from asked.now.to (check (start_state start.now) (summed_up summary.now)))) }
-    ensures few { OnOk result (report.new.judged
-        ≤ 48 * length (check (start_state start.now) (summed_up summary.now))) }
-    ensures all { OnOk result (report.new.judged ≤ length (summed_up summary.now)) }
-{
-    if summary.node.len() == 0 {
-        return Ok(());
-    }
-    let before = Before::At(&*start);
-    summary
-        .node
-        .resolve(alloc, &before, 0, &Rest::End, asked, report)
 }
 
 /// Judges all steps in order, up to the last position that is asked for, and notes what is found instead of what was

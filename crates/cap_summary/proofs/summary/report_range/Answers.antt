@@ -1,24 +1,41 @@
 use Rattle.std.proofs.Common.{◌≡◌, ◌/◌, ℕ, List, length, ap, arith, sym, ◌∙◌, true, false}
 use Rattle.cap_machine.specs.declared.verdict.Found.{Found}
 use Rattle.cap_machine.specs.Check.{check}
+use Rattle.cap_machine.specs.State.{State}
 use Rattle.cap_machine.specs.Table.{start_state}
-use Rattle.cap_summary.specs.Stands.{summed_up}
-use Rattle.cap_summary.proofs.Resolving.{judged_all}
+use Rattle.cap_summary.specs.Positions.{within}
+use Rattle.cap_summary.specs.Stands.{summed_up, kept_of}
+use Rattle.std.specs.Prelude.{is_some}
+use Rattle.cap_summary.proofs.Resolving.{all_or_many, judged_all, not_many}
 use Rattle.cap_summary.proofs.summary.report_range.Goals as goal
-use Rattle.cap_summary.proofs.summary.report_range.Goals.{then-are_looked_up+in_ok-look_up+else-len-most}
-use Rattle.cap_summary.proofs.summary.report_range.Goals.{else-are_looked_up}
+use Rattle.cap_summary.proofs.summary.report_range.Goals.{then-is_kept+in_ok-resolve+else-len-most}
+use Rattle.cap_summary.proofs.summary.report_range.Goals.{else-is_kept+else-are_at_most}
+
+pub returns-then-len-most-clause-found : goal.returns-then-len-most-clause-found
+returns-then-len-most-clause-found c =
+    let all : List Found = check (start_state c.args.start.now) (summed_up c.args.summary.now) in
+    let found : List Found = c.resolve.new.report.found.items in
+    not_many (c.len-most.result / 2048) found (within c.args.from c.args.to all)
+    (all_or_many (c.len-most.result / 2048) (start_state c.args.start.now) (summed_up c.args.summary.now) c.args.from
+    c.args.to found (rw (c.empty-report.ensures.found, c.deref-then-is_kept.ensures) at c.in_ok-resolve.ensures.found))
+    (omega arith)
 
 pub returns-clause-few : goal.returns-clause-few
 returns-clause-few c = λ kept.
-    let all : List Found = check (start_state c.args.start.now) (summed_up c.args.summary.now) in
+    let s : State = start_state c.args.start.now in
+    let all : List Found = check s (summed_up c.args.summary.now) in
     let n : ℕ = length (summed_up c.args.summary.now) in
     let len : c.len-most.result ≡ n = rw c.deref.ensures at c.len-most.ensures.count in
-    elim c.if-are_looked_up.branch [
-      | then-are_looked_up+in_ok-look_up+else-len-most w ↦
-          judged_all (c.len-most.result / 2048) n w.look_up.new.report.judged c.judge_in_order.new.report.judged
-          c.args.from c.args.to w.look_up.new.report.found.items all (ap (λ m. m / 2048) len) (omega arith)
-          w.in_ok-look_up.ensures.found w.in_ok-look_up.ensures.few
-          (rw w.report-is at c.in_ok-judge_in_order.ensures.all)
-      | else-are_looked_up w ↦
-          absurd (let wrong : true ≡ false = sym (c.are_looked_up.ensures kept) ∙ w.if-are_looked_up.false in cc)
+    let is : c.is_kept.result ≡ is_some (kept_of c.args.summary.now) = rw c.deref-2.ensures at c.is_kept.ensures in
+    elim c.if-is_kept.branch [
+      | then-is_kept+in_ok-resolve+else-len-most w ↦
+          let found : List Found = w.resolve.new.report.found.items in
+          let few = rw w.deref-then-is_kept.ensures at w.in_ok-resolve.ensures.few in
+          judged_all (c.len-most.result / 2048) n w.resolve.new.report.judged c.judge_in_order.new.report.judged
+          c.args.from c.args.to found all (ap (λ m. m / 2048) len) (omega arith)
+          (all_or_many (c.len-most.result / 2048) s (summed_up c.args.summary.now) c.args.from c.args.to found
+          (rw (c.empty-report.ensures.found, w.deref-then-is_kept.ensures) at w.in_ok-resolve.ensures.found))
+          (omega (arith, few, c.empty-report.ensures.judged)) (rw w.report-is at c.in_ok-judge_in_order.ensures.all)
+      | else-is_kept+else-are_at_most w ↦
+          absurd (let wrong : true ≡ false = sym kept ∙ sym is ∙ w.if-is_kept.false in cc)
     ]

@@ -12,7 +12,7 @@ pub returns : goal.returns
 returns c =
     let s : State = state_at_start c.args.self.now in
     let h : List Step = history c.args.self.now in
-    let pid : ℕ = c.pid-pid.result in
+    let pid : ℕ = c.line.inside.pid in
     let rests : RestsOn s h c.rule_of.result.demand pid c.in_ok-cells.cells.items c.in_ok-mode.mode = record {
       cells = c.in_ok-cells.ensures.cells;
       chains = c.in_ok-cells.ensures.chains;
@@ -21,5 +21,6 @@ returns c =
     } in
     c.of.ensures.explained s h pid rests
     ∙ ap (λ (d : Demand). explained_of s h d pid) c.rule_of.ensures.demand
-    ∙ ap (λ (e : Entry). explained_of s h (demand e) pid) c.seen.ensures
-    ∙ ap (λ (p : ℕ). explained_of s h (demand c.args.step.now.line) p) c.pid-pid.ensures
+    ∙ ap (λ (e : Entry). explained_of s h (demand e) pid) c.seen-line.ensures
+    ∙ ap (λ (p : ℕ). explained_of s h (demand c.args.step.now.line) p)
+    (ap (λ (e : Entry). e.pid) (c.line.view_is ∙ c.seen-line.ensures))

@@ -1,7 +1,7 @@
-use Rattle.std.proofs.Common.{List, arith}
+use Rattle.std.proofs.Common.{List, length, arith}
 use Rattle.cap_machine.specs.declared.step.Step.{Step}
 use Rattle.cap_summary.specs.Content.{content_steps}
-use Rattle.cap_summary.proofs.Keeping.{node_keeps, node_names}
+use Rattle.cap_summary.proofs.Keeping.{node_keeps, node_names, keeps_parts}
 use Rattle.cap_summary.proofs.node.Node.of.Goals as goal
 
 pub invariant_of-node : goal.invariant_of-node
@@ -12,6 +12,7 @@ invariant_of-node c =
     record {
       len = c.len-len.ensures;
       parts = c.requires.parts;
+      below = keeps_parts c.args.known c.kept-known.result c.args.content (length t) c.requires.kept within;
       few = omega (arith, c.requires.few, c.len-len.ensures);
       known = node_keeps c.args.known c.kept-known.result t c.requires.knows c.requires.settled within;
       many = node_names c.args.known c.kept-known.result t c.requires.knows c.requires.settled c.requires.many large;

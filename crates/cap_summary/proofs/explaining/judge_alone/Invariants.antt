@@ -1,0 +1,16 @@
+use Rattle.std.proofs.Common.{◌≡◌, ◌-◌, ◌≤◌, length, take}
+use Rattle.cap_machine.specs.Check.{check}
+use Rattle.cap_machine.specs.Table.{start_state}
+use Rattle.cap_summary.specs.Positions.{within}
+use Rattle.cap_summary.proofs.explaining.judge_alone.Given as goal
+
+abbrev pub invariant-loop-count : goal.invariant-loop-count
+invariant-loop-count l = record {
+  found : l.report.found.items
+      ≡ within l.asked.from l.asked.to (check (start_state l.start) (take l.count l.node.steps));
+  counted : l.report.judged ≤ l.count;
+  all : l.report.judged ≤ length l.node.steps;
+}
+
+abbrev pub decreases-loop-count : goal.decreases-loop-count
+decreases-loop-count l = l.last - l.count

@@ -1,0 +1,77 @@
+use Rattle.std.proofs.Common.{◌≡◌, ◌+◌, ◌++◌, ℕ, List, length, map, take, sym, ap, ◌∙◌, arith}
+use Rattle.std.proofs.lemmas.List.{length-map, length-take-le, take_all}
+use Rattle.std.specs.declared.rc.Rc.{Rc}
+use Rattle.std.specs.declared.alloc.Global.{Global}
+use Rattle.cap_machine.specs.declared.step.Step.{Step}
+use Rattle.cap_machine.specs.declared.verdict.Found.{Found}
+use Rattle.cap_machine.specs.State.{State}
+use Rattle.cap_machine.specs.Check.{check, said, found_at}
+use Rattle.cap_machine.specs.Laws.{later}
+use Rattle.cap_trace.specs.Entry.{Entry}
+use Rattle.cap_tree.specs.Run.{values}
+use Rattle.cap_summary.specs.Keys.{cells_of}
+use Rattle.cap_summary.specs.Effects.{changed}
+use Rattle.cap_summary.specs.Before.{state_before, state_of}
+use Rattle.cap_summary.specs.Positions.{within}
+use Rattle.cap_summary.proofs.Knowing.{one_more, after_more}
+use Rattle.cap_summary.proofs.Runs.{values-take}
+use Rattle.cap_summary.proofs.Resolving.{found_in_first}
+use Rattle.cap_summary.proofs.Judged.{none_judged, more_judged}
+use Rattle.cap_summary.proofs.judging.judge_run.Goals as goal
+
+pub loop-step-init : goal.loop-step-init
+loop-step-init c = record {
+  counted = omega arith;
+  position = omega arith;
+  judged = none_judged (state_before c.args.before.now) c.args.at c.args.asked.now.from c.args.asked.now.to
+      c.args.report.now.found.items c.empty-effect.result c.empty-effect.ensures.cells;
+}
+
+pub loop-step-preserved : goal.loop-step-preserved
+loop-step-preserved c =
+    let s : State = state_before c.args.before.now in
+    let step : Step = c.step-item.result.value in
+    let n : ℕ = c.loop-step.step-index in
+    let read : List (Rc Step Global) = take c.min.result c.args.run.now in
+    let run : List (Rc Step Global) = take n read in
+    let from : ℕ = c.args.asked.now.from in
+    let to : ℕ = c.args.asked.now.to in
+    let first : List Found = c.loop-step.report.found.items in
+    let all : List Found = c.note_line.new.found.items in
+    let rule = c.rule_of-rule.ensures in
+    let here : c.deref.result.now ≡ step = c.deref.ensures in
+    let pid : c.line.inside.pid ≡ step.line.pid =
+    ap (λ (e : Entry). e.pid) (rw (c.seen-line.ensures, here) at c.line.view_is) in
+    let position : c.loop-step.position + 1 ≡ c.args.at + n + 1 = omega (arith, c.loop-step.invariant.position) in
+    let said_here : all ≡ first ++ within from to (map (found_at (c.args.at + n + 1))
+    (said step (state_of (changed c.loop-step.effect (cells_of s))))) =
+    rw (position, pid, rule.demand, c.seen-line.ensures, here)
+    at c.in_ok-note_line.ensures in
+    let len : n ≡ length (values run) =
+    sym (length-map run (λ (item : Rc Step Global). item.value)
+    ∙ length-take-le n read (omega (arith, c.loop-step-test.true))) in
+    record {
+      counted = omega (arith, c.loop-step.invariant.counted);
+      position = omega (arith, c.loop-step.invariant.position);
+      judged = rw (one_more read n c.step-item.result c.loop-step-test.true c.step-item.is)
+          (more_judged s (values run) c.args.at n from to c.args.report.now.found.items first all c.loop-step.effect
+          c.push.new.self step c.loop-step.invariant.judged len said_here
+          (after_more step c.rule_of-rule.result.effect c.line.inside.pid
+          (λ p f. rw pid (rw (c.seen-line.ensures, c.deref-in-loop-step.ensures, here) at (rule.cells p f)))
+          (λ p. rw pid (rw (c.seen-line.ensures, here) at (rule.modes p)))
+          c.loop-step.effect c.push.new.self (values run) s c.loop-step.invariant.judged.after
+          c.in_ok-push.ensures.cells));
+    }
+
+pub returns-clause-found : goal.returns-clause-found
+returns-clause-found c =
+    let s : State = state_before c.args.before.now in
+    let run : List (Rc Step Global) = c.args.run.now in
+    let last : ℕ = c.min.result in
+    let from : ℕ = c.args.asked.now.from in
+    let to : ℕ = c.args.asked.now.to in
+    let found : List Step → List Found = λ t. within from to (map (later c.args.at) (check s t)) in
+    let long : length (values run) ≡ length run = length-map run (λ (item : Rc Step Global). item.value) in
+    rw (take_all c.loop-step.step-index (take last run) (omega arith)) at c.loop-step.invariant.judged.findings
+    ∙ ap (λ (r : List Found). c.args.report.now.found.items ++ r) (ap found (sym (values-take last run))
+    ∙ found_in_first s (values run) last c.args.at from to (λ short. omega (arith, long, short, c.min.ensures)))

@@ -1,0 +1,13 @@
+use Rattle.std.proofs.Common.{◌≡◌, ◌+◌, length, take}
+use Rattle.cap_tree.specs.Run.{values}
+use Rattle.cap_summary.specs.Before.{state_before}
+use Rattle.cap_summary.proofs.Judged.{IsJudged}
+use Rattle.cap_summary.proofs.judging.judge_run.Given as goal
+
+abbrev pub invariant-loop-step : goal.invariant-loop-step
+invariant-loop-step l = record {
+  counted : l.report.judged ≡ l.fn.report.judged + length l.run;
+  position : l.position ≡ l.at + l.step-index;
+  judged : IsJudged (state_before l.before) (values (take l.step-index l.read)) l.at l.asked.from l.asked.to
+      l.fn.report.found.items l.report.found.items l.effect;
+}

@@ -1,0 +1,106 @@
+use Rattle.std.proofs.Common.{◌≡◌, ◌≤◌, ◌++◌, ℕ, List, length, map, sym, ap, ◌∙◌, arith, inl, true}
+use Rattle.std.proofs.lemmas.Result.{on_ok_weaker}
+use Rattle.cap_machine.specs.declared.step.Step.{Step}
+use Rattle.cap_machine.specs.State.{State}
+use Rattle.cap_machine.specs.declared.verdict.Found.{Found}
+use Rattle.cap_machine.specs.Check.{check}
+use Rattle.cap_machine.specs.Laws.{later}
+use Rattle.cap_summary.specs.Before.{state_before}
+use Rattle.cap_summary.specs.LineAsks.{has_any}
+use Rattle.cap_summary.specs.Positions.{within}
+use Rattle.cap_summary.specs.Content.{content_steps}
+use Rattle.cap_summary.specs.Kept.{IsKept}
+use Rattle.cap_summary.proofs.Ends.{known_ends}
+use Rattle.cap_summary.proofs.Runs.{same_steps}
+use Rattle.cap_summary.proofs.Resolving.{found_before, found_behind, not_many, stopped, parts_or_many}
+use Rattle.cap_summary.proofs.Resolving.{many_parts, some_found}
+use Rattle.cap_summary.proofs.node.Node.+resolve.Goals as goal
+use Rattle.cap_summary.proofs.node.Node.+resolve.Goals.{then-asked-at-via-then-asked-at}
+use Rattle.cap_summary.proofs.node.Node.+resolve.Goals.{then-asked-at-via-else-asked-at+then-at-self}
+
+pub returns-then-asked-at-clause-found : goal.returns-then-asked-at-clause-found
+returns-then-asked-at-clause-found t c =
+    let s : State = state_before c.args.before.now in
+    let steps : List Step = c.args.self.now.steps in
+    let from : ℕ = c.args.asked.now.from in
+    let to : ℕ = c.args.asked.now.to in
+    let old : List Found = c.args.report.now.found.items in
+    let len : c.self.inside.len ≡ length steps = c.self.invariant.len
+    ∙ ap (λ (r : List Step). length r) (same_steps c.self.view_is) in
+    elim c.then-asked-at.branch [
+      | then-asked-at-via-then-asked-at w ↦ inl (found_behind s steps c.args.at from to old (omega arith))
+      | then-asked-at-via-else-asked-at+then-at-self w ↦
+          inl (found_before s steps c.args.at from to old (omega (arith, w.if-at-self.true, len)))
+    ]
+
+pub returns-else-not-meets-clause-few : goal.returns-else-not-meets-clause-few
+returns-else-not-meets-clause-few t c =
+    let s : State = state_before c.args.before.now in
+    let kept : IsKept c.unwrap-known.result.now c.args.self.now.steps =
+    rw c.unwrap-known.ensures at c.known.ensures.kept in
+    let finds : has_any (check s c.args.self.now.steps) ≡ true =
+    sym (kept.knows.finds s) ∙ sym (rw c.deref.ensures at c.meets.ensures) ∙ c.if-not-meets.false in
+    let some = some_found (check s c.args.self.now.steps) finds in
+    let short : length c.in-Run.run'.items ≤ 48 = rw c.in-Run.is at c.self.invariant.parts in
+    on_ok_weaker c.judge_run.result (λ last. omega (
+      arith,
+      some,
+      short,
+      c.judge_run.ensures.counted,
+      ap (λ r. length r) c.deref-in-Run.ensures.value,
+    )) c.judge_run.ensures.found
+
+pub returns-then-len-asked-clause-found : goal.returns-then-len-asked-clause-found
+returns-then-len-asked-clause-found t c =
+    let a : List Step = c.in-Both.a.value.steps in
+    let b : List Step = c.in-Both.b.value.steps in
+    let parts : a ++ b ≡ c.args.self.now.steps = sym (ap content_steps c.in-Both.is) ∙ same_steps c.self.view_is in
+    rw (← parts) (stopped c.args.asked.now.most (state_before c.args.before.now) a b c.args.at c.args.asked.now.from
+    c.args.asked.now.to c.args.report.now.found.items c.resolve.new.report.found.items
+    (rw c.deref-in-Both-2.ensures at c.in_ok-resolve-in-Both.ensures.found) (omega arith))
+
+pub returns-then-len-asked-clause-few : goal.returns-then-len-asked-clause-few
+returns-then-len-asked-clause-few t c =
+    let s : State = state_before c.args.before.now in
+    let a : List Step = c.in-Both.a.value.steps in
+    let b : List Step = c.in-Both.b.value.steps in
+    let parts : a ++ b ≡ c.args.self.now.steps = sym (ap content_steps c.in-Both.is) ∙ same_steps c.self.view_is in
+    let first = rw c.deref-in-Both-2.ensures at c.in_ok-resolve-in-Both.ensures.few in
+    rw (← parts) (omega (arith, first, many_parts s a b))
+
+pub returns-else-len-asked-clause-found : goal.returns-else-len-asked-clause-found
+returns-else-len-asked-clause-found t c =
+    let s : State = state_before c.args.before.now in
+    let most : ℕ = c.args.asked.now.most in
+    let from : ℕ = c.args.asked.now.from in
+    let to : ℕ = c.args.asked.now.to in
+    let at : ℕ = c.args.at in
+    let old : List Found = c.args.report.now.found.items in
+    let first : List Found = c.resolve.new.report.found.items in
+    let a : List Step = c.in-Both.a.value.steps in
+    let b : List Step = c.in-Both.b.value.steps in
+    let parts : a ++ b ≡ c.args.self.now.steps = sym (ap content_steps c.in-Both.is) ∙ same_steps c.self.view_is in
+    let len : c.len-in-Both.result ≡ length a = rw c.deref-in-Both-6.ensures at c.len-in-Both.ensures.count in
+    let kept : IsKept c.unwrap-first.result.now a =
+    rw (c.unwrap-first.ensures, c.deref-in-Both-3.ensures) at c.known-in-Both.ensures.kept in
+    let ends = known_ends c.unwrap-first.result.now a kept.knows s in
+    let all : first ≡ old ++ within from to (map (later at) (check s a)) =
+    not_many most first (old ++ within from to (map (later at) (check s a)))
+    (rw c.deref-in-Both-2.ensures at c.in_ok-resolve-in-Both.ensures.found) (omega arith) in
+    rw (← parts) (on_ok_weaker c.resolve-in-Both.result (λ last. parts_or_many most s a b at c.len-in-Both.result from to
+    old first c.resolve-in-Both.new.report.found.items len all
+    (rw (c.deref-in-Both-4.ensures, ends, c.deref-in-Both-5.ensures) at last)) c.resolve-in-Both.ensures.found)
+
+pub returns-else-len-asked-clause-few : goal.returns-else-len-asked-clause-few
+returns-else-len-asked-clause-few t c =
+    let s : State = state_before c.args.before.now in
+    let a : List Step = c.in-Both.a.value.steps in
+    let b : List Step = c.in-Both.b.value.steps in
+    let parts : a ++ b ≡ c.args.self.now.steps = sym (ap content_steps c.in-Both.is) ∙ same_steps c.self.view_is in
+    let kept : IsKept c.unwrap-first.result.now a =
+    rw (c.unwrap-first.ensures, c.deref-in-Both-3.ensures) at c.known-in-Both.ensures.kept in
+    let ends = known_ends c.unwrap-first.result.now a kept.knows s in
+    let first = rw c.deref-in-Both-2.ensures at c.in_ok-resolve-in-Both.ensures.few in
+    rw (← parts) (on_ok_weaker c.resolve-in-Both.result (λ last.
+    let second = rw (c.deref-in-Both-4.ensures, ends, c.deref-in-Both-5.ensures) at last in
+    omega (arith, first, second, many_parts s a b)) c.resolve-in-Both.ensures.few)
