@@ -1,8 +1,11 @@
 -- Asks that hold in every state, in none, or in some.
-use Rattle.std.proofs.Common.{◌≡◌, ℕ, true, false, ◌&&◌, ◌||◌, inl, inr, refl}
-use Rattle.std.proofs.Common.{Bool, List, [], ◌∷◌}
+use Rattle.std.proofs.Common.{◌≡◌, ℕ, ◌<◌, true, false, ◌&&◌, ◌||◌, inl, inr, refl, sym, ap, ◌∙◌, arith, get_or}
+use Rattle.std.proofs.Common.{Bool, List, [], ◌∷◌, if◌then◌else◌}
 use Rattle.std.specs.Prelude.{not}
+use Rattle.std.specs.List.{list_all, All}
+use Rattle.std.proofs.lemmas.List.Sums.{AllPass-from_list_all}
 use Rattle.cap_rights.specs.Rights.{none, has_all}
+use Rattle.cap_machine.specs.declared.cell.OnExec.{OnExec}
 use Rattle.cap_machine.specs.declared.cell.OnExec.TheVariants.{Set, Clear, Unsure}
 use Rattle.cap_machine.specs.declared.cell.Cell.{Cell}
 use Rattle.cap_machine.specs.declared.cell.Cell.TheVariants.{Unknown, Closed, Held}
@@ -13,38 +16,85 @@ use Rattle.cap_summary.specs.declared.key.Key.{Key}
 use Rattle.cap_summary.specs.declared.key.Key.TheVariants as key
 use Rattle.cap_summary.specs.declared.kinds.Kinds.{Kinds}
 use Rattle.cap_summary.specs.declared.ask.Ask.{Ask}
-use Rattle.cap_summary.specs.Keys.{mode_cell, cells_of}
-use Rattle.cap_summary.specs.Tests.{has, kind_of, any_held, any_kind, is_full, passes, can_pass}
-use Rattle.cap_summary.specs.Asks.{any_holds, certain_at, possible_at, CanBe, IsOpen}
+use Rattle.cap_summary.specs.Keys.{Cells, mode_cell, cell_mode, cells_of}
+use Rattle.cap_summary.specs.Tests.{has, has_kind, held_kind, lacks, any_held, any_kind, holding, passes, can_pass, each_kind}
+use Rattle.cap_summary.specs.Asks.{any_holds, standing, is_sure, certain_at, possible_at, CanBe, IsOpen, PulledIsOpen, PulledCan}
 use Rattle.cap_summary.specs.Preconditions.{any_certain}
-use Rattle.std.specs.List.{All}
 use Rattle.std.proofs.lemmas.List.Elements.{All-nil, All-cons}
-use Rattle.cap_summary.proofs.TestPassing.{own_rights}
-use Rattle.cap_summary.proofs.Bools.{or_true, and_left, and_right, and_false, and_with_false, or_one, or_left, or_right}
+use Rattle.std.proofs.lemmas.Bool.{or_parts, and_cases}
+use Rattle.cap_summary.specs.declared.ask.Pulled.{Pulled}
+use Rattle.cap_summary.specs.declared.ask.Pulled.TheVariants.{Always, Never, Where}
+use Rattle.cap_summary.proofs.TestPassing.{own_rights, none_lacks}
+use Rattle.cap_summary.proofs.Bools.{not_true, or_false, or_true, and_left, and_right, and_with_false, or_one, or_left, or_right}
 
 -- the state in which each cell and each mode is as given
 abbrev everywhere : Cell → Mode → State
 everywhere c m = record { cell = λ p f. c; mode = λ p. m }
 
--- ---- descriptors
--- a kind that isn't among those that pass has a cell that doesn't: one that lacks none of the rights
-full_fails : (a : Ask) → is_full a.kinds ≡ false → (c : Cell) × (passes a c ≡ false)
-full_fails a is = elim (and_false (has a.kinds 0) _ is) [
-  | inl h ↦ (Held a.rights Set, fails 0 h)
-  | inr more ↦ elim (and_false (has a.kinds 1) _ more) [
-    | inl h ↦ (Held a.rights Clear, fails 1 h)
-    | inr more ↦ elim (and_false (has a.kinds 2) _ more) [
-      | inl h ↦ (Held a.rights Unsure, fails 2 h)
-      | inr more ↦ elim (and_false (has a.kinds 3) _ more) [
-        | inl h ↦ (Unknown, rw h (and_with_false (has a.lacking 3)))
-        | inr h ↦ (Closed, rw h (and_with_false (has a.lacking 4)))
-      ]
-    ]
-  ]
-]
+-- a state of chosen cells, with these rights where they are held
+abbrev pub chosen : ℕ → Cells → State
+chosen r cells = record { cell = λ p f. holding r (cells p (key.Fd f)); mode = λ p. cell_mode (cells p key.Mode) }
+
+pub stands : (r : ℕ) (cells : Cells) (p : ℕ) (k : Key) → cells_of (chosen r cells) p k ≡ standing r k (cells p k)
+stands r cells p key.Mode = refl
+stands r cells p (key.Fd f) = refl
+
+-- ---- cells that lack none of the rights
+-- at a descriptor they pass by their kind
+pub sure_by_kind : (a : Ask) (c : Cell) → has_kind a.kinds c ≡ passes a (holding a.rights c)
+sure_by_kind a Unknown = sym (rw (and_with_false (has a.lacking 3)) (or_false (has a.kinds 3)))
+sure_by_kind a Closed = sym (rw (and_with_false (has a.lacking 4)) (or_false (has a.kinds 4)))
+sure_by_kind a (Held r flag) = sym (rw (own_rights a.rights, and_with_false (has a.lacking (held_kind flag)))
+    (or_false (has a.kinds (held_kind flag))))
+
+-- what passes so passes in any state
+pub sure_passes : (a : Ask) (s : State) (p : ℕ) (k : Key) → is_sure a k (cells_of s p k) ≡ true
+    → passes a (cells_of s p k) ≡ true
+sure_passes a s p key.Mode is = by (s.mode p) is
   where
-    fails : (k : ℕ) → has a.kinds k ≡ false → (has a.kinds k || (has a.lacking k && not (has_all a.rights a.rights))) ≡ false
-    fails k h = rw (h, own_rights a.rights) (and_with_false (has a.lacking k))
+    by : (m : Mode) → passes a (mode_cell (cell_mode (mode_cell m))) ≡ true → passes a (mode_cell m) ≡ true
+    by NoMode is = is
+    by Inside is = is
+    by Outside is = is
+sure_passes a s p (key.Fd f) is = rw (sure_by_kind a (s.cell p f) ∙ is) refl
+
+-- what fails so fails with more rights
+pub fails_with : (a : Ask) (r : ℕ) (k : Key) (c : Cell) → has_all r a.rights ≡ true → is_sure a k c ≡ false
+    → passes a (standing r k c) ≡ false
+fails_with a r key.Mode c all is = is
+fails_with a r (key.Fd f) Unknown all is = is
+fails_with a r (key.Fd f) Closed all is = is
+fails_with a r (key.Fd f) (Held h flag) all is =
+    rw (or_left (has a.kinds (held_kind flag)) _ is, all) (and_with_false (has a.lacking (held_kind flag)))
+
+-- the first of some cells that fails a test
+abbrev pub failing : (Cell → Bool) → List Cell → Cell
+failing p [] = Unknown
+failing p (c ∷ cells) = if p c then failing p cells else c
+
+pub failing_fails : (p : Cell → Bool) (cells : List Cell) → list_all p cells ≡ false → p (failing p cells) ≡ false
+failing_fails p [] is = absurd cc
+failing_fails p (c ∷ cells) is = by (p c) refl (failing_fails p cells) is
+  where
+    by : (b : Bool) → p c ≡ b → (list_all p cells ≡ false → p (failing p cells) ≡ false) → (b && list_all p cells) ≡ false
+        → p (if b then failing p cells else c) ≡ false
+    by true e rest is = rest is
+    by false e rest is = e
+
+-- a test of the kind passes each cell where it passes one of each kind
+pub each_passes : (p : Cell → Bool) → ((r : ℕ) (flag : OnExec) → p (Held r flag) ≡ p (Held none flag))
+    → list_all p each_kind ≡ true → (c : Cell) → p c ≡ true
+each_passes p alike all c = by c
+  where
+    at : (k : ℕ) → k < 5 → p (get_or each_kind k Closed) ≡ true
+    at k below = AllPass-from_list_all p each_kind all k Closed below
+
+    by : (c : Cell) → p c ≡ true
+    by (Held r Set) = alike r Set ∙ at 0 (omega arith)
+    by (Held r Clear) = alike r Clear ∙ at 1 (omega arith)
+    by (Held r Unsure) = alike r Unsure ∙ at 2 (omega arith)
+    by Unknown = at 3 (omega arith)
+    by Closed = at 4 (omega arith)
 
 -- a test that some cell can pass has one that does: of a kind that passes, or one that holds no rights
 possible_passes : (a : Ask) → can_pass a ≡ true → (c : Cell) × (passes a c ≡ true)
@@ -69,16 +119,7 @@ possible_passes a is = elim (or_one (any_kind a.kinds) _ is) [
     ]
 
 -- ---- in some state
--- a mode whose cell a test passes, or doesn'a
-mode_fails : (a : Ask) → certain_at key.Mode a ≡ false → (m : Mode) × (passes a (mode_cell m) ≡ false)
-mode_fails a is = elim (and_false (passes a (mode_cell NoMode)) _ is) [
-  | inl h ↦ (NoMode, h)
-  | inr more ↦ elim (and_false (passes a (mode_cell Inside)) _ more) [
-    | inl h ↦ (Inside, h)
-    | inr h ↦ (Outside, h)
-  ]
-]
-
+-- a mode whose cell a test passes
 mode_passes : (a : Ask) → possible_at key.Mode a ≡ true → (m : Mode) × (passes a (mode_cell m) ≡ true)
 mode_passes a is = elim (or_one (passes a (mode_cell NoMode)) _ is) [
   | inl h ↦ (NoMode, h)
@@ -90,8 +131,11 @@ mode_passes a is = elim (or_one (passes a (mode_cell NoMode)) _ is) [
 
 pub fails_somewhere : (p : ℕ) (k : Key) (a : Ask) → certain_at k a ≡ false
     → (s : State) × (passes a (cells_of s p k) ≡ false)
-fails_somewhere p key.Mode a is = let m = mode_fails a is in (everywhere Unknown m.0, m.1)
-fails_somewhere p (key.Fd f) a is = let c = full_fails a is in (everywhere c.0 NoMode, c.1)
+fails_somewhere p k a is =
+    let cells : Cells = λ q j. failing (is_sure a k) each_kind in (
+      chosen a.rights cells,
+      ap (passes a) (stands a.rights cells p k) ∙ failing_fails (is_sure a k) each_kind is,
+    )
 
 holds_somewhere : (p : ℕ) (k : Key) (a : Ask) → possible_at k a ≡ true
     → (s : State) × (passes a (cells_of s p k) ≡ true)
@@ -108,28 +152,59 @@ pub open_can : (answer : Bool) (ask : Ask) → IsOpen ask → CanBe answer ask
 open_can true ask is = is.holds
 open_can false ask is = is.fails
 
--- ---- in every state
-full_passes : (a : Ask) → is_full a.kinds ≡ true → (c : Cell) → passes a c ≡ true
-full_passes a full c = rw (kind c) refl
+-- so can what it becomes of an earlier segment
+pub pulled_can : (answer : Bool) (pulled : Pulled) → PulledIsOpen pulled → PulledCan answer pulled
+pulled_can answer Always is = tt
+pulled_can answer Never is = tt
+pulled_can answer (Where ask) is = open_can answer ask is
+
+-- ---- in no state
+no_kind : (kinds : Kinds) → any_kind kinds ≡ false → (c : Cell) → has_kind kinds c ≡ false
+no_kind kinds none_ c = by (or_parts _ _ none_).0 (or_parts _ _ none_).1 c
   where
-    unheld : is_full a.kinds ≡ true → (has a.kinds 3 && has a.kinds 4) ≡ true
-    unheld full = and_right (has a.kinds 2) _ (and_right (has a.kinds 1) _ (and_right (has a.kinds 0) _ full))
+    by : any_held kinds ≡ false → (has kinds 3 || has kinds 4) ≡ false → (c : Cell) → has_kind kinds c ≡ false
+    by held unheld (Held r Set) = (or_parts _ _ held).0
+    by held unheld (Held r Clear) = (or_parts _ _ (or_parts _ _ held).1).0
+    by held unheld (Held r Unsure) = (or_parts _ _ (or_parts _ _ held).1).1
+    by held unheld Unknown = (or_parts _ _ unheld).0
+    by held unheld Closed = (or_parts _ _ unheld).1
 
-    kind : (c : Cell) → has a.kinds (kind_of c) ≡ true
-    kind (Held r Set) = and_left (has a.kinds 0) _ full
-    kind (Held r Clear) = and_left (has a.kinds 1) _ (and_right (has a.kinds 0) _ full)
-    kind (Held r Unsure) = and_left (has a.kinds 2) _ (and_right (has a.kinds 1) _ (and_right (has a.kinds 0) _ full))
-    kind Unknown = and_left (has a.kinds 3) _ (unheld full)
-    kind Closed = and_right (has a.kinds 3) _ (unheld full)
+-- a cell that lacks some rights is one that can pass where a test looks at them
+none_lacked : (a : Ask) → (any_held a.lacking && not (has_all none a.rights)) ≡ false → (c : Cell)
+    → (has_kind a.lacking c && lacks a.rights c) ≡ false
+none_lacked a none_ Unknown = and_with_false (has a.lacking 3)
+none_lacked a none_ Closed = and_with_false (has a.lacking 4)
+none_lacked a none_ (Held r flag) = elim (and_cases _ _ none_) [
+  | inl unheld ↦ rw (held flag unheld) refl
+  | inr all ↦
+      rw (not_true (not (has_all r a.rights)) (not (has_all none a.rights)) all (none_lacks r a.rights))
+      (and_with_false (has a.lacking (held_kind flag)))
+]
+  where
+    held : (flag : OnExec) → any_held a.lacking ≡ false → has a.lacking (held_kind flag) ≡ false
+    held Set is = (or_parts _ _ is).0
+    held Clear is = (or_parts _ _ (or_parts _ _ is).1).0
+    held Unsure is = (or_parts _ _ (or_parts _ _ is).1).1
 
-modes_pass : (a : Ask) → certain_at key.Mode a ≡ true → (m : Mode) → passes a (mode_cell m) ≡ true
-modes_pass a all NoMode = and_left (passes a (mode_cell NoMode)) _ all
-modes_pass a all Inside = and_left (passes a (mode_cell Inside)) _ (and_right (passes a (mode_cell NoMode)) _ all)
-modes_pass a all Outside = and_right (passes a (mode_cell Inside)) _ (and_right (passes a (mode_cell NoMode)) _ all)
+pub never_passes : (p : ℕ) (k : Key) (a : Ask) → possible_at k a ≡ false → (s : State) → passes a (cells_of s p k) ≡ false
+never_passes p key.Mode a is s = by (s.mode p)
+  where
+    by : (m : Mode) → passes a (mode_cell m) ≡ false
+    by NoMode = (or_parts _ _ is).0
+    by Inside = (or_parts _ _ (or_parts _ _ is).1).0
+    by Outside = (or_parts _ _ (or_parts _ _ is).1).1
+never_passes p (key.Fd f) a is s =
+    rw (no_kind a.kinds (or_parts _ _ is).0 (s.cell p f)) (none_lacked a (or_parts _ _ is).1 (s.cell p f))
+
+-- ---- in every state
+-- a test looks at the kind alone where no rights are lacked
+pub alike_sure : (a : Ask) (k : Key) (r : ℕ) (flag : OnExec) → is_sure a k (Held r flag) ≡ is_sure a k (Held none flag)
+alike_sure a key.Mode r flag = refl
+alike_sure a (key.Fd f) r flag = refl
 
 pub certain_holds : (p : ℕ) (k : Key) (a : Ask) → certain_at k a ≡ true → (s : State) → passes a (cells_of s p k) ≡ true
-certain_holds p key.Mode a is s = modes_pass a is (s.mode p)
-certain_holds p (key.Fd f) a is s = full_passes a is (s.cell p f)
+certain_holds p k a is s =
+    sure_passes a s p k (each_passes (is_sure a k) (alike_sure a k) is (cells_of s p k))
 
 -- where one ask is certain one holds, and else each fails in some state
 pub certain_any : (asks : List Ask) → any_certain asks ≡ true → (s : State) → any_holds (cells_of s) asks ≡ true

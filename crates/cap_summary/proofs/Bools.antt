@@ -78,3 +78,7 @@ pub or_right : (a b : Bool) → (a || b) ≡ false → b ≡ false
 or_right true true is = is
 or_right true false is = refl
 or_right false b is = is
+
+pub or_swap : (a b : Bool) → (a || b) ≡ (b || a)
+or_swap true b = sym (or_true b)
+or_swap false b = sym (or_false b)

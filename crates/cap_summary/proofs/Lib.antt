@@ -1,6 +1,7 @@
 pub mod Bools
 pub mod TestPassing
 pub mod Asking
+pub mod Together
 pub mod Uniting
 pub mod SortedFound
 pub mod SortedMerging

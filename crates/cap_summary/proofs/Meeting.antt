@@ -76,10 +76,10 @@ one_somewhere asks open_ is = elim (or_one (is_some asks.mode) _ is) [
 ]
 
 pub refusal_open : (asks : UpToThree) (refusal : Refusal) → refusal.unless ≡ asks → PartsAreOpen asks
-    → has_part asks ≡ true → RefusalIsOpen refusal
-refusal_open asks refusal is open_ some =
+    → has_part asks ≡ true → (s : State) × (one_holds (cells_of s) asks ≡ false) → RefusalIsOpen refusal
+refusal_open asks refusal is open_ some none =
     let at = one_somewhere asks open_ some in
-    record { parts = rw is open_; right = (at.0, rw is (ap not at.1)) }
+    record { parts = rw is open_; right = (at.0, rw is (ap not at.1)); wrongful = (none.0, rw is (ap not none.1)) }
 
 -- with nothing, one more ask, one more refusal
 pub possible_none : (pre : Precondition) → pre.asks.items ≡ [] → pre.refusals.items ≡ [] → IsPossible pre

@@ -11,18 +11,7 @@ use Rattle.cap_summary.specs.declared.effect.Effect.{Effect}
 use Rattle.cap_summary.specs.declared.precondition.Precondition.{Precondition}
 use Rattle.cap_summary.specs.Keys.{Cells, cells_of}
 use Rattle.cap_summary.specs.Effects.{is_from, others_cell, base_cell, row_cell, changed}
-use Rattle.cap_summary.specs.declared.precondition.Refusal.{Refusal}
-use Rattle.cap_summary.specs.Names.{Names, has_cell, IsRowWithin, RowWithin, EffectWithin, RefusalsWithin, PreWithin}
-use Rattle.cap_summary.specs.Asks.{place, holds, any_holds, CanBe, AskWithin, RisesFrom, Rises, IsUnionOf}
-use Rattle.cap_summary.specs.Preconditions.{is_met, is_wrongful, IsPulledBack, AreAskedByBoth, IsAskedByBoth, IsPossible}
-use Rattle.cap_summary.specs.Preconditions.{IsSettled, IsMetOr, IsSamePrecondition}
-use Rattle.cap_summary.specs.Sizes.{asks_size}
-use Rattle.std.specs.declared.vec.Vec.{Vec}
-use Rattle.std.specs.declared.alloc.Global.{Global}
-use Rattle.cap_summary.proofs.Bools.{or_false, or_true, or_assoc, or_last, or_crossed}
-use Rattle.cap_summary.proofs.Bools.{and_left, and_right}
-use Rattle.cap_summary.proofs.Uniting.{all_left, all_right, AllBelow, below_more, below-push, rises-push, drop_here}
-use Rattle.std.specs.Prelude.{Option, Some, None, is_none, IfSome, not, if◌then◌else◌}
+use Rattle.std.specs.Prelude.{Option, Some, None, is_none, not, if◌then◌else◌}
 use Rattle.std.specs.Option.{option_map_or}
 use Rattle.cap_machine.specs.declared.cell.Cell.{Cell}
 use Rattle.cap_machine.specs.declared.cell.Cell.TheVariants.{Closed}
@@ -35,6 +24,17 @@ use Rattle.cap_summary.specs.declared.effect.Row.{Row}
 use Rattle.cap_summary.specs.Sorted.{found}
 use Rattle.cap_summary.specs.Values.{read}
 use Rattle.cap_summary.specs.Leaving.{is_own, base_leaves, row_leaves}
+use Rattle.cap_summary.proofs.Bools.{and_left, and_right}
+use Rattle.cap_summary.specs.declared.precondition.Refusal.{Refusal}
+use Rattle.cap_summary.specs.Names.{Names, has_cell, EffectWithin, RefusalsWithin, PreWithin}
+use Rattle.cap_summary.specs.Asks.{place, holds, any_holds, CanBe, AskWithin, RisesFrom, Rises, IsUnionOf, Within, Can}
+use Rattle.cap_summary.specs.Preconditions.{is_met, is_wrongful, IsPulledBack, AreAskedByBoth, IsAskedByBoth, IsPossible}
+use Rattle.cap_summary.specs.Preconditions.{IsSettled, IsMetOr, IsSamePrecondition}
+use Rattle.cap_summary.specs.Sizes.{asks_size}
+use Rattle.std.specs.declared.vec.Vec.{Vec}
+use Rattle.std.specs.declared.alloc.Global.{Global}
+use Rattle.cap_summary.proofs.Bools.{or_false, or_true, or_assoc, or_last, or_crossed, or_swap}
+use Rattle.cap_summary.proofs.Uniting.{all_left, all_right, AllBelow, below_more, below-push, rises-push, drop_here}
 
 -- ---- a cell that the first segment leaves
 others_left : (cells : Cells) (p f : ℕ) (o : Others) → is_own o ≡ true → others_cell cells p o f ≡ cells p (key.Fd f)
@@ -60,21 +60,6 @@ row_left cells p row (key.Fd f) is =
     ∙ closed_not (is_from row.base.closed_from f) (others_cell cells p row.base.others f) (cells p (key.Fd f))
     (and_right (is_own row.base.others) (not (is_from row.base.closed_from f)) base)
     (others_left cells p f row.base.others (and_left (is_own row.base.others) (not (is_from row.base.closed_from f)) base))
-
--- a process p, whose row was looked up as that of q
-module _ (first : Effect) (p q : ℕ) (row : Option Row) (is : row ≡ found first.rows q) (own : p ≡ q) where
-  pub untouched : row ≡ None → (cells : Cells) (k : Key) → changed first cells p k ≡ cells p k
-  untouched none cells k = rw (own, ← is, none) refl
-
-  module _ (r : Row) (some : row ≡ Some r) where
-    pub touched : (cells : Cells) (k : Key) → changed first cells p k ≡ row_cell cells p r k
-    touched cells k = rw (own, ← is, some) refl
-
-    pub row_within : (names : Names) → EffectWithin names first → RowWithin names r
-    row_within names within =
-        let here : IfSome (found first.rows q) (IsRowWithin names q) = within q in
-        let its : IsRowWithin names q r = rw (← is, some) at here in
-        its.row
 
 -- ---- asks at the places that they had, before those that are left
 pub record AreKept (left kept : List Ask) : Type 0 where
@@ -178,23 +163,15 @@ module _ (first : Effect) (asks : List Ask) (i : ℕ) (ask : Ask) (kept moved : 
       few = omega (arith, counted, so_far.few, length-append kept (before ∷ []));
     }
 
-    pub pulled_moved : IsPulledBack first (take (i + 1) asks) kept (moved ++ before ∷ [])
-    pulled_moved = record {
-      holds = λ s.
-          ap (λ r. any_holds (cells_of s) kept || r) (list_any-append (holds (cells_of s)) moved (before ∷ []))
-          ∙ sym (or_assoc (any_holds (cells_of s) kept) (any_holds (cells_of s) moved)
-          (holds (cells_of s) before || false))
-          ∙ met_before s;
-      can = λ answer all.
-          let two = parts (CanBe answer) all in
-          let old = so_far.can answer two.0 in
-          (old.0, All-push (CanBe answer) moved before old.1 (can answer two.1));
-      names = λ names effect all.
-          let two = parts (AskWithin (has_cell names)) all in
-          let old = so_far.names names effect two.0 in
-          (old.0, All-push (AskWithin (has_cell names)) moved before old.1 (named names effect two.1));
-      few = omega (arith, counted, so_far.few, length-append moved (before ∷ []));
-    }
+-- the two lists change places
+pub swapped : (first : Effect) (later kept moved : List Ask) → IsPulledBack first later kept moved
+    → IsPulledBack first later moved kept
+swapped first later kept moved back = record {
+  holds = λ s. or_swap (any_holds (cells_of s) moved) (any_holds (cells_of s) kept) ∙ back.holds s;
+  can = λ answer all. let two = back.can answer all in (two.1, two.0);
+  names = λ names effect all. let two = back.names names effect all in (two.1, two.0);
+  few = omega (arith, back.few);
+}
 
 -- ---- the asks of both segments
 pub asked_by_both : (first : Effect) (own later kept moved united both : List Ask)
@@ -207,10 +184,10 @@ asked_by_both first own later kept moved united both back near union = record {
       ∙ ap (λ r. any_holds (cells_of s) own || r) (back.holds s);
   can = λ answer a b.
       let two = back.can answer b in
-      union.can answer (near.can answer a two.0) two.1;
+      union.each (Can answer) (near.each (Can answer) a two.0) two.1;
   names = λ names effect a b.
       let two = back.names names effect b in
-      union.names (has_cell names) (near.names (has_cell names) a two.0) two.1;
+      union.each (Within (has_cell names)) (near.each (Within (has_cell names)) a two.0) two.1;
   few = omega (arith, union.few, near.few, back.few);
 }
 

@@ -1,7 +1,9 @@
 -- What is asked of the cells before a segment.
-use Rattle.std.specs.Prelude.{◌≡◌, ℕ, ◌+◌, ◌*◌, ◌^◌, ◌%◌, ◌≤◌, ◌&&◌, ◌||◌, Bool, true, false, List, [], ◌∷◌, length}
-use Rattle.std.specs.List.{list_any, All}
+use Rattle.std.specs.Prelude.{◌≡◌, ℕ, ◌+◌, ◌*◌, ◌^◌, ◌%◌, ◌≤◌, ◌||◌, Bool, true, false, List, [], ◌∷◌, length}
+use Rattle.std.specs.Prelude.{Option, Some, None}
+use Rattle.std.specs.List.{list_any, list_all, All}
 use Rattle.cap_machine.specs.declared.cell.Mode.TheVariants.{Inside, Outside, Unsure}
+use Rattle.cap_machine.specs.declared.cell.Cell.{Cell}
 use Rattle.cap_machine.specs.State.{State}
 use Rattle.cap_summary.specs.declared.key.Key.{Key}
 use Rattle.cap_summary.specs.declared.key.Key.TheVariants as key
@@ -9,8 +11,8 @@ use Rattle.cap_summary.specs.declared.kinds.Kinds.{Kinds}
 use Rattle.cap_summary.specs.declared.ask.Ask.{Ask}
 use Rattle.cap_summary.specs.declared.ask.Pulled.{Pulled}
 use Rattle.cap_summary.specs.declared.ask.Pulled.TheVariants.{Always, Never, Where}
-use Rattle.cap_summary.specs.Keys.{Cells, mode_cell, cells_of}
-use Rattle.cap_summary.specs.Tests.{is_full, passes, can_pass}
+use Rattle.cap_summary.specs.Keys.{Cells, mode_cell, cell_mode, cells_of}
+use Rattle.cap_summary.specs.Tests.{passes, can_pass, holding, each_kind}
 
 -- an ask holds of the cells before the segment
 abbrev pub holds : Cells → Ask → Bool
@@ -20,10 +22,18 @@ holds cells ask = passes ask (cells ask.pid ask.key)
 abbrev pub any_holds : Cells → List Ask → Bool
 any_holds cells asks = list_any (holds cells) asks
 
--- each cell that can stand at a key passes: for a descriptor that is each kind, for a mode one of three cells
+-- the cell that stands at a key for another cell: that of a mode, or the cell with these rights if it is held
+abbrev pub standing : ℕ → Key → Cell → Cell
+standing rights key.Mode cell = mode_cell (cell_mode cell)
+standing rights (key.Fd f) cell = holding rights cell
+
+-- it passes there, also where it lacks none of the rights
+abbrev pub is_sure : Ask → Key → Cell → Bool
+is_sure ask key cell = passes ask (standing ask.rights key cell)
+
+-- each cell that can stand at a key passes
 abbrev pub certain_at : Key → Ask → Bool
-certain_at key.Mode ask = passes ask (mode_cell Unsure) && (passes ask (mode_cell Inside) && passes ask (mode_cell Outside))
-certain_at (key.Fd f) ask = is_full ask.kinds
+certain_at key ask = list_all (is_sure ask key) each_kind
 
 -- some cell that can stand at a key passes
 abbrev pub possible_at : Key → Ask → Bool
@@ -58,6 +68,17 @@ abbrev pub PulledIsOpen : Pulled → Type 0
 PulledIsOpen Always = Unit {0}
 PulledIsOpen Never = Unit {0}
 PulledIsOpen (Where ask) = IsOpen ask
+
+-- what an ask becomes, if it doesn't stay as it is
+abbrev pub or_same : Ask → Option Pulled → Pulled
+or_same ask None = Where ask
+or_same ask (Some pulled) = pulled
+
+-- in some state it holds, or doesn't, if it asks
+abbrev pub PulledCan : Bool → Pulled → Type 0
+PulledCan answer Always = Unit {0}
+PulledCan answer Never = Unit {0}
+PulledCan answer (Where ask) = CanBe answer ask
 
 -- the cell that it asks about, if it asks, is among these
 abbrev pub pulled_within : (ℕ → Key → Bool) → Pulled → Bool
@@ -102,6 +123,15 @@ AskWithin names ask = names ask.pid ask.key ≡ true
 abbrev pub AreWithin : (ℕ → Key → Bool) → List Ask → Type 0
 AreWithin names asks = All (AskWithin names) asks
 
+-- what may be said of an ask: that its cell is among these, or that in some state it holds, or doesn't
+pub data Saying : Type 0 where
+  Within : (ℕ → Key → Bool) → Saying
+  Can : Bool → Saying
+
+abbrev pub IsSaid : Saying → Ask → Type 0
+IsSaid (Within names) ask = AskWithin names ask
+IsSaid (Can answer) ask = CanBe answer ask
+
 -- one of these holds, in every state
 abbrev pub AlwaysHold : List Ask → Type 0
 AlwaysHold asks = (s : State) → any_holds (cells_of s) asks ≡ true
@@ -114,5 +144,4 @@ pub record IsUnionOf (lefts rights asks : List Ask) : Type 0 where
   pub rises : Rises asks
   pub holds : (cells : Cells) → any_holds cells asks ≡ (any_holds cells lefts || any_holds cells rights)
   pub few : length asks ≤ length lefts + length rights
-  pub names : (names : ℕ → Key → Bool) → AreWithin names lefts → AreWithin names rights → AreWithin names asks
-  pub can : (answer : Bool) → All (CanBe answer) lefts → All (CanBe answer) rights → All (CanBe answer) asks
+  pub each : (said : Saying) → All (IsSaid said) lefts → All (IsSaid said) rights → All (IsSaid said) asks

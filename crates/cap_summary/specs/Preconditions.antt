@@ -1,9 +1,13 @@
 -- Under which cells before a segment something is found in it.
-use Rattle.std.specs.Prelude.{◌≡◌, ◌||◌, ◌+◌, ◌≤◌, not, Bool, true, false, List, [], length, Option, Some, None}
+use Rattle.std.specs.Prelude.{◌≡◌, ℕ, ◌&&◌, ◌||◌, ◌+◌, ◌≤◌, ◌==◌, not, Bool, true, false, List, [], length, Option, Some, None}
 use Rattle.std.specs.Prelude.{IfSome, is_some}
-use Rattle.std.specs.List.{list_any, All}
+use Rattle.std.specs.List.{list_any, list_all, All}
+use Rattle.std.specs.Option.{option_map_or}
+use Rattle.cap_machine.specs.declared.cell.Cell.{Cell}
 use Rattle.cap_machine.specs.State.{State}
+use Rattle.cap_summary.specs.declared.key.Key.{Key}
 use Rattle.cap_summary.specs.declared.ask.Ask.{Ask}
+use Rattle.cap_summary.specs.Tests.{each_kind}
 use Rattle.cap_summary.specs.declared.line_asks.UpToThree.{UpToThree}
 use Rattle.cap_summary.specs.declared.precondition.Refusal.{Refusal}
 use Rattle.cap_summary.specs.declared.precondition.Precondition.{Precondition}
@@ -11,7 +15,8 @@ use Rattle.cap_summary.specs.Keys.{Cells, cells_of}
 use Rattle.cap_summary.specs.declared.effect.Effect.{Effect}
 use Rattle.cap_summary.specs.Effects.{changed}
 use Rattle.cap_summary.specs.Names.{Names, has_cell, EffectWithin, PreWithin}
-use Rattle.cap_summary.specs.Asks.{any_holds, certain_at, CanBe, ArePossible, IsOpen, Rises, AreWithin}
+use Rattle.cap_summary.specs.Asks.{any_holds, is_sure, key_number, certain_at, CanBe, ArePossible, IsOpen, Rises}
+use Rattle.cap_summary.specs.Asks.{AreWithin}
 use Rattle.cap_summary.specs.LineAsks.{one_holds}
 use Rattle.cap_summary.specs.Sizes.{asks_size}
 
@@ -37,6 +42,23 @@ three_hold cells (Some asks) = one_holds cells asks
 abbrev pub has_part : UpToThree → Bool
 has_part asks = is_some asks.mode || (is_some asks.first || is_some asks.second)
 
+-- an ask is about a cell
+abbrev pub is_about : Ask → ℕ → Key → Bool
+is_about ask p k = (ask.pid == p) && (key_number ask.key == key_number k)
+
+-- an ask that may be left out is about a cell, and passes it, also where it lacks none of the rights
+abbrev pub part_sure : Option Ask → ℕ → Key → Cell → Bool
+part_sure part p k cell = option_map_or (λ ask. is_about ask p k && is_sure ask ask.key cell) part false
+
+-- one of up to three asks does
+abbrev pub one_sure : UpToThree → ℕ → Key → Cell → Bool
+one_sure asks p k cell = part_sure asks.mode p k cell
+    || (part_sure asks.first p k cell || part_sure asks.second p k cell)
+
+-- whatever the cell of an ask is, one of up to three passes it
+abbrev pub are_sure_at : UpToThree → Option Ask → Bool
+are_sure_at asks part = option_map_or (λ ask. list_all (one_sure asks ask.pid ask.key) each_kind) part false
+
 -- whether each of up to three asks holds depends on the state
 pub record PartsAreOpen (asks : UpToThree) : Type 0 where
   pub mode : IfSome asks.mode IsOpen
@@ -47,12 +69,13 @@ pub record PartsAreOpen (asks : UpToThree) : Type 0 where
 abbrev pub ThreeAreOpen : Option UpToThree → Type 0
 ThreeAreOpen asks = IfSome asks PartsAreOpen
 
--- whether each ask of a refusal holds depends on the state, and in some state one does
+-- whether a refusal is wrongful depends on the state, and so does whether each of its asks holds
 pub record RefusalIsOpen (refusal : Refusal) : Type 0 where
   pub parts : PartsAreOpen refusal.unless
   pub right : (s : State) × (is_wrongful (cells_of s) refusal ≡ false)
+  pub wrongful : (s : State) × (is_wrongful (cells_of s) refusal ≡ true)
 
--- each ask holds in some state, and each refusal is right in some
+-- each ask holds in some state, and each refusal is right in some state and wrongful in some
 pub record IsPossible (pre : Precondition) : Type 0 where
   pub asks : ArePossible pre.asks.items
   pub refusals : All RefusalIsOpen pre.refusals.items

@@ -1,5 +1,6 @@
 -- Tests of one cell: which kinds of cell pass, and of held cells those that lack rights.
-use Rattle.std.specs.Prelude.{ℕ, ◌==◌, ◌&&◌, ◌||◌, not, Bool, false}
+use Rattle.std.specs.Prelude.{ℕ, ◌==◌, ◌&&◌, ◌||◌, not, Bool, false, List, [], ◌∷◌}
+use Rattle.std.specs.List.{list_all}
 use Rattle.std.specs.Int.{bit_at}
 use Rattle.cap_rights.specs.Rights.{none, has_all}
 use Rattle.cap_machine.specs.declared.cell.OnExec.{OnExec}
@@ -53,9 +54,13 @@ any_held kinds = has kinds 0 || (has kinds 1 || has kinds 2)
 abbrev pub any_kind : Kinds → Bool
 any_kind kinds = any_held kinds || (has kinds 3 || has kinds 4)
 
+-- a cell of each kind
+abbrev pub each_kind : List Cell
+each_kind = Held none Set ∷ Held none Clear ∷ Held none Unsure ∷ Unknown ∷ Closed ∷ []
+
 -- each kind of cell is among these
 abbrev pub is_full : Kinds → Bool
-is_full kinds = has kinds 0 && (has kinds 1 && (has kinds 2 && (has kinds 3 && has kinds 4)))
+is_full kinds = list_all (has_kind kinds) each_kind
 
 -- some cell passes: one of a kind, or one that holds no rights, where it can lack some
 abbrev pub can_pass : Ask → Bool

@@ -1,6 +1,7 @@
 //! What is asked of the cells before a segment.
 
-ghost use Rattle.std.specs.Prelude.{◌≡◌, ℕ, ◌^◌, ◌<◌, ◌||◌, Bool, true};
+ghost use Rattle.std.specs.Prelude.{◌≡◌, ℕ, ◌^◌, ◌<◌, ◌||◌, Bool, true, IfSome};
+ghost use Rattle.std.specs.Option.{option_copied};
 ghost use Rattle.std.specs.Ordering.{nat_cmp};
 ghost use Rattle.cap_machine.specs.State.{State};
 ghost use Rattle.cap_summary.specs.declared.key.Key.{Key};
@@ -8,11 +9,11 @@ ghost use Rattle.cap_summary.specs.Keys.{Cells, cells_of};
 ghost use Rattle.cap_machine.specs.declared.cell.Cell.{Cell};
 ghost use Rattle.cap_machine.specs.Op.{applied};
 ghost use Rattle.cap_summary.specs.Tests.{has_kind, lacks, passes, holding};
-ghost use Rattle.cap_summary.specs.Effects.{row_cell, changed};
-ghost use Rattle.cap_summary.specs.Names.{Names, has_cell, RowWithin, EffectWithin};
+ghost use Rattle.cap_summary.specs.Effects.{row_cell, cell_in, changed};
+ghost use Rattle.cap_summary.specs.Names.{Names, has_cell, RowWithin, IsRowWithin, EffectWithin};
 ghost use Rattle.cap_summary.specs.Seen.{seen_cell, seen_within};
-ghost use Rattle.cap_summary.specs.Asks.{holds, certain_at, possible_at, pulled_holds, pulled_within, PulledIsOpen};
-ghost use Rattle.cap_summary.specs.Asks.{place, place_in_process, IsAtPlace};
+ghost use Rattle.cap_summary.specs.Asks.{holds, is_sure, certain_at, possible_at, pulled_holds, pulled_within, PulledIsOpen};
+ghost use Rattle.cap_summary.specs.Asks.{place, place_in_process, IsAtPlace, CanBe, PulledCan, or_same};
 
 use crate::effect::{Effect, Row};
 use crate::key::{Key, cell_of_mode};
@@ -113,18 +114,26 @@ impl Ask {
         }
     }
 
+    /// The kinds of which each cell that can stand at its key passes.
+    pub(crate) fn sure_kinds(&self) -> Kinds
+        ensures { (c : Cell) → has_kind result c ≡ is_sure self.now self.now.key c }
+    {
+        match &self.key {
+            Key::Mode => {
+                let outside = self.passes(cell_of_mode(Mode::Outside));
+                let unsure = self.passes(cell_of_mode(Mode::Unsure));
+                let inside = self.passes(cell_of_mode(Mode::Inside));
+                Kinds::of(outside, outside, outside, unsure, inside)
+            }
+            Key::Fd(_) => self.kinds,
+        }
+    }
+
     /// Whether it holds in every state.
     pub(crate) fn is_certain(&self) -> bool
         ensures { result ≡ certain_at self.now.key self.now }
     {
-        match &self.key {
-            Key::Mode => {
-                self.passes(cell_of_mode(Mode::Unsure))
-                    && self.passes(cell_of_mode(Mode::Inside))
-                    && self.passes(cell_of_mode(Mode::Outside))
-            }
-            Key::Fd(_) => self.kinds.is_full(),
-        }
+        self.sure_kinds().is_full()
     }
 
     /// Whether it holds in some state.
@@ -185,7 +194,7 @@ impl Ask {
     }
 
     /// What it asks of the state before an earlier segment that has this row for its process.
-    pub(crate) fn through(&self, row: &Row) -> Pulled
+    fn through(&self, row: &Row) -> Pulled
         ensures holds { (s : State) → pulled_holds (cells_of s) result
             ≡ passes self.now (row_cell (cells_of s) self.now.pid row.now self.now.key) }
         ensures open { PulledIsOpen result }
@@ -212,6 +221,25 @@ impl Ask {
             Some(row) => self.through(row),
             None => self.settled(),
         }
+    }
+
+    /// The same by the row of its process, if there is one; `None` where it stays as it is, since its cell is left.
+    #[inline(always)]
+    pub(crate) fn pulled(&self, row: Option<&Row>) -> Option<Pulled>
+        ensures holds { (s : State) → pulled_holds (cells_of s) (or_same self.now result)
+            ≡ passes self.now (cell_in (cells_of s) (option_copied row.entry) self.now.pid self.now.key) }
+        ensures can { (answer : Bool) → CanBe answer self.now → PulledCan answer (or_same self.now result) }
+        ensures names { (names : Names) → IfSome (option_copied row.entry) (IsRowWithin names self.now.pid)
+            → has_cell names self.now.pid self.now.key ≡ true
+            → pulled_within (has_cell names) (or_same self.now result) ≡ true }
+    {
+        let Some(row) = row else {
+            return None;
+        };
+        if row.leaves(self.key) {
+            return None;
+        }
+        Some(self.through(row))
     }
 }
 

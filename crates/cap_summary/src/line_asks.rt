@@ -2,6 +2,7 @@
 
 ghost use Rattle.std.specs.Prelude.{◌≡◌, ℕ, ◌≤◌, ◌&&◌, ◌||◌, not, true, false, IfSome, if◌then◌else◌};
 ghost use Rattle.std.specs.Option.{option_map_or};
+ghost use Rattle.cap_machine.specs.declared.cell.Cell.{Cell};
 ghost use Rattle.cap_machine.specs.declared.rule.Word.{Word};
 ghost use Rattle.cap_machine.specs.declared.rule.Reply.TheVariants.{Success, NotCapable};
 ghost use Rattle.cap_machine.specs.State.{State};
@@ -11,7 +12,7 @@ ghost use Rattle.cap_summary.specs.declared.key.Key.TheVariants as key;
 ghost use Rattle.cap_summary.specs.Keys.{Cells, cells_of, mode_cell};
 ghost use Rattle.cap_summary.specs.Asks.{holds};
 ghost use Rattle.cap_summary.specs.Tests.{has_kind, lacks};
-ghost use Rattle.cap_summary.specs.Preconditions.{has_part};
+ghost use Rattle.cap_summary.specs.Preconditions.{has_part, part_sure, are_sure_at};
 ghost use Rattle.cap_summary.specs.Names.{Names, part_within, ChecksWithin, ExcusesWithin};
 ghost use Rattle.cap_summary.specs.Names.{LineAsksWithin, DemandWithin};
 ghost use Rattle.cap_summary.specs.LineAsks.{has_any, part_holds, one_holds, excuses_hold, checked_cells, asked_holds};
@@ -33,7 +34,48 @@ pub struct UpToThree {
     pub second: Option<Ask>,
 }
 
+/// The kinds of which each cell passes an ask, if it is about this one.
+fn sure_kinds_at(part: &Option<Ask>, pid: Pid, key: Key) -> Kinds
+    ensures { (c : Cell) → has_kind result c ≡ part_sure part.now pid key c }
+{
+    match part {
+        None => Kinds::NONE,
+        Some(ask) => {
+            if ask.pid == pid && ask.key.number() == key.number() {
+                ask.sure_kinds()
+            } else {
+                Kinds::NONE
+            }
+        }
+    }
+}
+
 impl UpToThree {
+    /// Whether one of these holds whatever the cell of this ask is.
+    fn are_sure_at(&self, part: &Option<Ask>) -> bool
+        ensures { result ≡ are_sure_at self.now part.now }
+    {
+        match part {
+            None => false,
+            Some(ask) => {
+                let mode = sure_kinds_at(&self.mode, ask.pid, ask.key);
+                let first = sure_kinds_at(&self.first, ask.pid, ask.key);
+                let second = sure_kinds_at(&self.second, ask.pid, ask.key);
+                mode.join(&first.join(&second)).is_full()
+            }
+        }
+    }
+
+    /// Whether one of these holds in every state.
+    pub(crate) fn is_certain(&self) -> bool
+        ensures always { result ≡ true → (s : State) → one_holds (cells_of s) self.now ≡ true }
+        ensures other { result ≡ false → (s : State) × (one_holds (cells_of s) self.now ≡ false) }
+    {
+        self.are_sure_at(&self.mode)
+            || self.are_sure_at(&self.first)
+            || self.are_sure_at(&self.second)
+    }
+
     /// Whether there are none.
     pub(crate) fn is_nothing(&self) -> bool
         ensures nothing { result ≡ true → (cells : Cells) → one_holds cells self.now ≡ false }

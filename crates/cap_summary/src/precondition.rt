@@ -2,6 +2,7 @@
 
 ghost use Rattle.std.specs.Prelude.{◌≡◌, ◌+◌, ◌≤◌, ◌||◌, not, false, true, [], length, nat_le, IfOk, IfSome, IfNone, OnOk};
 ghost use Rattle.std.specs.List.{list_any};
+ghost use Rattle.std.specs.Option.{option_copied};
 ghost use Rattle.cap_machine.specs.State.{State};
 ghost use Rattle.cap_summary.specs.Keys.{Cells, cells_of};
 ghost use Rattle.cap_summary.specs.Asks.{any_holds, pulled_holds, pulled_within, is_always, PulledIsOpen, IsOpen};
@@ -11,13 +12,15 @@ ghost use Rattle.cap_summary.specs.Effects.{changed};
 ghost use Rattle.cap_summary.specs.Preconditions.{is_met, is_wrongful, three_hold, any_certain, IsMetOr, IsSettled};
 ghost use Rattle.cap_summary.specs.Preconditions.{ThreeAreOpen, IsPossible, IsPulledBack, AreAskedByBoth, IsAskedByBoth, IsSamePrecondition};
 ghost use Rattle.cap_summary.specs.Sizes.{asks_size};
+ghost use Rattle.cap_summary.specs.Sorted.{found};
 ghost use Rattle.cap_summary.specs.Names.{Names, has_cell, part_within, PartsWithin, LineAsksWithin, RefusalsWithin};
 ghost use Rattle.cap_summary.specs.Names.{EffectWithin, PreWithin};
 
 use crate::ask::{Ask, Pulled};
 use crate::asks::{in_order, unite};
-use crate::effect::Effect;
+use crate::effect::{Effect, Row};
 use crate::line_asks::{LineAsks, UpToThree};
+use cap_trace::Pid;
 use cap_tree::NoMemory;
 use std::alloc::Global;
 use std::cmp::Ordering;
@@ -116,6 +119,19 @@ struct PulledAsks {
     moved: Vec<Ask>,
 }
 
+/// The row of a process, if it has one, where that of the last process that was looked up is at hand.
+#[inline(always)]
+fn row_of<'a>(first: &'a Effect, pid: Pid, last: Pid, row: Option<&'a Row>) -> Option<&'a Row>
+    requires { option_copied row ≡ found first.now.rows last }
+    ensures { option_copied result ≡ found first.now.rows pid }
+{
+    if pid == last {
+        row
+    } else {
+        first.rows.get(pid)
+    }
+}
+
 /// What these asks ask before an earlier segment; `None` where one of them holds in every state.
 fn pulled_asks(alloc: Global, first: &Effect, asks: &[Ask]) -> Result<Option<PulledAsks>, NoMemory>
     requires { Rises asks.now }
@@ -130,19 +146,13 @@ fn pulled_asks(alloc: Global, first: &Effect, asks: &[Ask]) -> Result<Option<Pul
     let mut pid = 0;
     let mut row = first.rows.get(pid);
     for ask in asks {
-        if ask.pid != pid {
-            pid = ask.pid;
-            row = first.rows.get(pid);
-        }
-        let Some(row) = row else {
+        row = row_of(first, ask.pid, pid, row);
+        pid = ask.pid;
+        let Some(pulled) = ask.pulled(row) else {
             kept.push(*ask)?;
             continue;
         };
-        if row.leaves(ask.key) {
-            kept.push(*ask)?;
-            continue;
-        }
-        match ask.through(row) {
+        match pulled {
             Pulled::Always => return Ok(None),
             Pulled::Never => {}
             Pulled::Where(before) => match before.order(ask) {
@@ -287,6 +297,9 @@ impl Precondition {
         let Some(unless) = pulled_three(first, unless) else {
             return Ok(());
         };
+        if unless.is_certain() {
+            return Ok(());
+        }
         if unless.is_nothing() {
             self.certain = true;
         } else {
@@ -339,7 +352,7 @@ impl Precondition {
     }
 
     /// What is asked by a segment that asks this and has this effect, or by a later one, settled.
-    pub fn join(
+    pub(crate) fn join(
         &self,
         alloc: Global,
         first: &Effect,

@@ -1,10 +1,18 @@
-use Rattle.std.proofs.Common.{refl}
+use Rattle.std.proofs.Common.{refl, sym}
 use Rattle.cap_summary.specs.Keys.{cells_of}
 use Rattle.cap_summary.specs.declared.precondition.Precondition.{Precondition}
 use Rattle.cap_summary.specs.declared.precondition.Refusal.{Refusal}
-use Rattle.cap_summary.specs.Preconditions.{PartsAreOpen}
+use Rattle.std.proofs.lemmas.List.Elements.{All-push}
+use Rattle.cap_summary.specs.Names.{PartsWithin}
+use Rattle.cap_summary.specs.Preconditions.{is_met, PartsAreOpen}
+use Rattle.cap_summary.proofs.Bools.{or_false}
 use Rattle.cap_summary.proofs.Meeting.{refused_more, refusal_open, possible_refused}
 use Rattle.cap_summary.proofs.precondition.Precondition.refuse_after.Goals as goal
+
+pub returns-then-is_certain-clause-met : goal.returns-then-is_certain-clause-met
+returns-then-is_certain-clause-met c = λ s.
+    let pulled = rw c.in-Some.is at (c.pulled_three.ensures.hold s) in
+    rw (← pulled, c.is_certain.ensures.always c.if-is_certain.true s) (sym (or_false (is_met (cells_of s) c.args.self.now)))
 
 pub returns-in_ok-push-clause-met : goal.returns-in_ok-push-clause-met
 returns-in_ok-push-clause-met c = λ s.
@@ -18,4 +26,13 @@ returns-in_ok-push-clause-possible c = λ old.
     let refusal : Refusal = record { unless = c.in-Some.unless } in
     let parts : PartsAreOpen c.in-Some.unless = rw c.in-Some.is at c.pulled_three.ensures.«open» in
     possible_refused c.args.self.now new refusal c.in_ok-push.ensures.items refl
-    (refusal_open c.in-Some.unless refusal refl parts (c.is_nothing.ensures.some c.if-is_nothing.false)) old
+    (refusal_open c.in-Some.unless refusal refl parts (c.is_nothing.ensures.some c.if-is_nothing.false)
+    (c.is_certain.ensures.other c.if-is_certain.false)) old
+
+pub returns-in_ok-push-clause-names : goal.returns-in_ok-push-clause-names
+returns-in_ok-push-clause-names c = λ names effect asks old.
+    let refusal : Refusal = record { unless = c.in-Some.unless } in record {
+      asks = old.asks;
+      refusals = rw c.in_ok-push.ensures.items (All-push (λ (r : Refusal). PartsWithin names r.unless)
+          c.args.self.now.refusals.items refusal old.refusals (c.in-Some.ensures.names names effect asks));
+    }

@@ -1,7 +1,7 @@
 use Rattle.std.proofs.Common.{◌≡◌, true, false, [], sym, ◌∙◌}
 use Rattle.std.proofs.lemmas.List.Elements.{All-nil}
 use Rattle.cap_summary.specs.Keys.{cells_of}
-use Rattle.cap_summary.specs.Asks.{AskWithin, CanBe, IsUnionOf}
+use Rattle.cap_summary.specs.Asks.{AskWithin, CanBe, IsUnionOf, Within, Can}
 use Rattle.cap_summary.specs.Names.{has_cell}
 use Rattle.cap_summary.specs.Preconditions.{any_certain}
 use Rattle.cap_summary.proofs.Asking.{certain_any, certain_none}
@@ -42,7 +42,7 @@ pub returns-clause-possible : goal.returns-clause-possible
 returns-clause-possible c = λ old.
     let united : IsUnionOf c.args.self.asks.items [] c.in-Some.asks.items =
     rw c.in-Some.is at c.in_ok-asks.ensures.asks in record {
-      asks = united.can true old.asks (All-nil (CanBe true));
+      asks = united.each (Can true) old.asks (All-nil (CanBe true));
       refusals = rw c.shrink_to_fit.ensures.items old.refusals;
     }
 
@@ -50,6 +50,6 @@ pub returns-clause-names : goal.returns-clause-names
 returns-clause-names c = λ names old.
     let united : IsUnionOf c.args.self.asks.items [] c.in-Some.asks.items =
     rw c.in-Some.is at c.in_ok-asks.ensures.asks in record {
-      asks = united.names (has_cell names) old.asks (All-nil (AskWithin (has_cell names)));
+      asks = united.each (Within (has_cell names)) old.asks (All-nil (AskWithin (has_cell names)));
       refusals = rw c.shrink_to_fit.ensures.items old.refusals;
     }
