@@ -159,32 +159,27 @@ pulled_can answer Never is = tt
 pulled_can answer (Where ask) is = open_can answer ask is
 
 -- ---- in no state
-no_kind : (kinds : Kinds) → any_kind kinds ≡ false → (c : Cell) → has_kind kinds c ≡ false
-no_kind kinds none_ c = by (or_parts _ _ none_).0 (or_parts _ _ none_).1 c
-  where
-    by : any_held kinds ≡ false → (has kinds 3 || has kinds 4) ≡ false → (c : Cell) → has_kind kinds c ≡ false
-    by held unheld (Held r Set) = (or_parts _ _ held).0
-    by held unheld (Held r Clear) = (or_parts _ _ (or_parts _ _ held).1).0
-    by held unheld (Held r Unsure) = (or_parts _ _ (or_parts _ _ held).1).1
-    by held unheld Unknown = (or_parts _ _ unheld).0
-    by held unheld Closed = (or_parts _ _ unheld).1
+unheld : (kinds : Kinds) (flag : OnExec) → any_held kinds ≡ false → has kinds (held_kind flag) ≡ false
+unheld kinds Set is = (or_parts _ _ is).0
+unheld kinds Clear is = (or_parts _ _ (or_parts _ _ is).1).0
+unheld kinds Unsure is = (or_parts _ _ (or_parts _ _ is).1).1
+
+no_kind : (kinds : Kinds) (c : Cell) → any_kind kinds ≡ false → has_kind kinds c ≡ false
+no_kind kinds (Held r flag) is = unheld kinds flag (or_parts _ _ is).0
+no_kind kinds Unknown is = (or_parts _ _ (or_parts _ _ is).1).0
+no_kind kinds Closed is = (or_parts _ _ (or_parts _ _ is).1).1
 
 -- a cell that lacks some rights is one that can pass where a test looks at them
-none_lacked : (a : Ask) → (any_held a.lacking && not (has_all none a.rights)) ≡ false → (c : Cell)
+none_lacked : (a : Ask) (c : Cell) → (any_held a.lacking && not (has_all none a.rights)) ≡ false
     → (has_kind a.lacking c && lacks a.rights c) ≡ false
-none_lacked a none_ Unknown = and_with_false (has a.lacking 3)
-none_lacked a none_ Closed = and_with_false (has a.lacking 4)
-none_lacked a none_ (Held r flag) = elim (and_cases _ _ none_) [
-  | inl unheld ↦ rw (held flag unheld) refl
+none_lacked a Unknown is = and_with_false (has a.lacking 3)
+none_lacked a Closed is = and_with_false (has a.lacking 4)
+none_lacked a (Held r flag) is = elim (and_cases _ _ is) [
+  | inl none_held ↦ rw (unheld a.lacking flag none_held) refl
   | inr all ↦
       rw (not_true (not (has_all r a.rights)) (not (has_all none a.rights)) all (none_lacks r a.rights))
       (and_with_false (has a.lacking (held_kind flag)))
 ]
-  where
-    held : (flag : OnExec) → any_held a.lacking ≡ false → has a.lacking (held_kind flag) ≡ false
-    held Set is = (or_parts _ _ is).0
-    held Clear is = (or_parts _ _ (or_parts _ _ is).1).0
-    held Unsure is = (or_parts _ _ (or_parts _ _ is).1).1
 
 pub never_passes : (p : ℕ) (k : Key) (a : Ask) → possible_at k a ≡ false → (s : State) → passes a (cells_of s p k) ≡ false
 never_passes p key.Mode a is s = by (s.mode p)
@@ -194,7 +189,7 @@ never_passes p key.Mode a is s = by (s.mode p)
     by Inside = (or_parts _ _ (or_parts _ _ is).1).0
     by Outside = (or_parts _ _ (or_parts _ _ is).1).1
 never_passes p (key.Fd f) a is s =
-    rw (no_kind a.kinds (or_parts _ _ is).0 (s.cell p f)) (none_lacked a (or_parts _ _ is).1 (s.cell p f))
+    rw (no_kind a.kinds (s.cell p f) (or_parts _ _ is).0) (none_lacked a (s.cell p f) (or_parts _ _ is).1)
 
 -- ---- in every state
 -- a test looks at the kind alone where no rights are lacked

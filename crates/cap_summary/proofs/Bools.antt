@@ -37,10 +37,6 @@ and_right true b is = is
 and_right false true is = refl
 and_right false false is = is
 
-pub and_false : (a b : Bool) → (a && b) ≡ false → (a ≡ false) ⊎ (b ≡ false)
-and_false true b is = inr is
-and_false false b is = inl refl
-
 pub or_one : (a b : Bool) → (a || b) ≡ true → (a ≡ true) ⊎ (b ≡ true)
 or_one true b is = inl refl
 or_one false b is = inr is

@@ -3,7 +3,7 @@ use Rattle.std.proofs.Common.{◌≡◌, List, [], ◌∷◌, ◌++◌, Bool, tr
 use Rattle.std.proofs.Common.{Option, Some, None, ℕ, ◌<◌, length, get_or, subst}
 use Rattle.std.specs.Prelude.{not, IfSome, is_some}
 use Rattle.std.specs.List.{list_any, All}
-use Rattle.std.proofs.lemmas.List.Elements.{All-nil, All-push}
+use Rattle.std.proofs.lemmas.List.Elements.{All-push}
 use Rattle.cap_machine.specs.State.{State}
 use Rattle.std.proofs.lemmas.List.Folds.{list_any-append}
 use Rattle.cap_summary.specs.declared.ask.Ask.{Ask}
@@ -81,11 +81,7 @@ refusal_open asks refusal is open_ some none =
     let at = one_somewhere asks open_ some in
     record { parts = rw is open_; right = (at.0, rw is (ap not at.1)); wrongful = (none.0, rw is (ap not none.1)) }
 
--- with nothing, one more ask, one more refusal
-pub possible_none : (pre : Precondition) → pre.asks.items ≡ [] → pre.refusals.items ≡ [] → IsPossible pre
-possible_none pre asks refusals =
-    record { asks = rw asks (All-nil (CanBe true)); refusals = rw refusals (All-nil RefusalIsOpen) }
-
+-- with one more ask, one more refusal
 pub possible_asked : (old new : Precondition) (ask : Ask) → new.asks.items ≡ old.asks.items ++ ask ∷ []
     → new.refusals.items ≡ old.refusals.items → CanBe true ask → IsPossible old → IsPossible new
 possible_asked old new ask asks refusals can possible = record {

@@ -27,14 +27,14 @@ use Rattle.cap_summary.specs.Leaving.{is_own, base_leaves, row_leaves}
 use Rattle.cap_summary.proofs.Bools.{and_left, and_right}
 use Rattle.cap_summary.specs.declared.precondition.Refusal.{Refusal}
 use Rattle.cap_summary.specs.Names.{Names, has_cell, EffectWithin, RefusalsWithin, PreWithin}
-use Rattle.cap_summary.specs.Asks.{place, holds, any_holds, CanBe, AskWithin, RisesFrom, Rises, IsUnionOf, Within, Can}
+use Rattle.cap_summary.specs.Asks.{place, holds, any_holds, CanBe, AskWithin, Rises, IsUnionOf, Within, Can}
 use Rattle.cap_summary.specs.Preconditions.{is_met, is_wrongful, IsPulledBack, AreAskedByBoth, IsAskedByBoth, IsPossible}
 use Rattle.cap_summary.specs.Preconditions.{IsSettled, IsMetOr, IsSamePrecondition}
 use Rattle.cap_summary.specs.Sizes.{asks_size}
 use Rattle.std.specs.declared.vec.Vec.{Vec}
 use Rattle.std.specs.declared.alloc.Global.{Global}
 use Rattle.cap_summary.proofs.Bools.{or_false, or_true, or_assoc, or_last, or_crossed, or_swap}
-use Rattle.cap_summary.proofs.Uniting.{all_left, all_right, AllBelow, below_more, below-push, rises-push, drop_here}
+use Rattle.cap_summary.proofs.Uniting.{all_left, all_right, rises_put, rises_without, drop_here}
 
 -- ---- a cell that the first segment leaves
 others_left : (cells : Cells) (p f : ℕ) (o : Others) → is_own o ≡ true → others_cell cells p o f ≡ cells p (key.Fd f)
@@ -61,38 +61,17 @@ row_left cells p row (key.Fd f) is =
     (and_right (is_own row.base.others) (not (is_from row.base.closed_from f)) base)
     (others_left cells p f row.base.others (and_left (is_own row.base.others) (not (is_from row.base.closed_from f)) base))
 
--- ---- asks at the places that they had, before those that are left
-pub record AreKept (left kept : List Ask) : Type 0 where
-  pub bound : ℕ
-  pub left_rises : RisesFrom bound left
-  pub rises : Rises kept
-  pub below : AllBelow bound kept
-
-pub kept_none : (left kept : List Ask) → Rises left → kept ≡ [] → AreKept left kept
-kept_none left kept rises is = record { bound = 0; left_rises = rises; rises = rw is tt; below = rw is tt }
-
+-- ---- asks at the places that they had, before those that are left: one more, which is left out, or becomes this one
 module _ (asks kept : List Ask) (i : ℕ) (ask : Ask) (within : i < length asks) (is : ask ≡ get_or asks i ask)
-    (so_far : AreKept (drop i asks) kept) where
-  front : RisesFrom so_far.bound (ask ∷ drop (i + 1) asks)
-  front = subst (RisesFrom so_far.bound) (drop_here asks i ask within is) so_far.left_rises
+    (so_far : Rises (kept ++ drop i asks)) where
+  whole : Rises (kept ++ ask ∷ drop (i + 1) asks)
+  whole = subst (λ (l : List Ask). Rises (kept ++ l)) (drop_here asks i ask within is) so_far
 
-  pub kept_same : AreKept (drop (i + 1) asks) kept
-  kept_same = record {
-    bound = place ask + 1;
-    left_rises = front.1;
-    rises = so_far.rises;
-    below = below_more so_far.bound (place ask + 1) kept (omega (arith, front.0)) so_far.below;
-  }
+  pub kept_same : Rises (kept ++ drop (i + 1) asks)
+  kept_same = rises_without 0 kept (drop (i + 1) asks) ask whole
 
-  pub kept_more : (before : Ask) → place before ≡ place ask → AreKept (drop (i + 1) asks) (kept ++ before ∷ [])
-  kept_more before same = record {
-    bound = place ask + 1;
-    left_rises = front.1;
-    rises = rises-push 0 kept before so_far.rises
-        (below_more so_far.bound (place before) kept (omega (arith, same, front.0)) so_far.below) (omega arith);
-    below = below-push (place ask + 1) kept before
-        (below_more so_far.bound (place ask + 1) kept (omega (arith, front.0)) so_far.below) (omega (arith, same));
-  }
+  pub kept_more : (before : Ask) → place before ≡ place ask → Rises ((kept ++ before ∷ []) ++ drop (i + 1) asks)
+  kept_more before same = rises_put 0 kept (drop (i + 1) asks) ask before same whole
 
 pub pulled_none : (first : Effect) (kept moved : List Ask) → kept ≡ [] → moved ≡ [] → IsPulledBack first [] kept moved
 pulled_none first kept moved near far = record {

@@ -11,7 +11,6 @@ ghost use Rattle.cap_machine.specs.Op.{applied};
 ghost use Rattle.cap_summary.specs.Tests.{has_kind, lacks, passes, holding};
 ghost use Rattle.cap_summary.specs.Effects.{row_cell, cell_in, changed};
 ghost use Rattle.cap_summary.specs.Names.{Names, has_cell, RowWithin, IsRowWithin, EffectWithin};
-ghost use Rattle.cap_summary.specs.Seen.{seen_cell, seen_within};
 ghost use Rattle.cap_summary.specs.Asks.{holds, is_sure, certain_at, possible_at, pulled_holds, pulled_within, PulledIsOpen};
 ghost use Rattle.cap_summary.specs.Asks.{place, place_in_process, IsAtPlace, CanBe, PulledCan, or_same};
 

@@ -1,12 +1,12 @@
 //! What one line asks of the cells before it.
 
-ghost use Rattle.std.specs.Prelude.{◌≡◌, ℕ, ◌≤◌, ◌&&◌, ◌||◌, not, true, false, IfSome, if◌then◌else◌};
+ghost use Rattle.std.specs.Prelude.{◌≡◌, ◌≤◌, ◌&&◌, ◌||◌, not, true, false, IfSome, if◌then◌else◌};
 ghost use Rattle.std.specs.Option.{option_map_or};
 ghost use Rattle.cap_machine.specs.declared.cell.Cell.{Cell};
 ghost use Rattle.cap_machine.specs.declared.rule.Word.{Word};
 ghost use Rattle.cap_machine.specs.declared.rule.Reply.TheVariants.{Success, NotCapable};
 ghost use Rattle.cap_machine.specs.State.{State};
-ghost use Rattle.cap_machine.specs.Judge.{is_inside, is_outside, fault, is_excused, forbidden, faults, listed};
+ghost use Rattle.cap_machine.specs.Judge.{fault, is_excused, faults, listed};
 ghost use Rattle.cap_machine.specs.Judge.{has_check, all_excused};
 ghost use Rattle.cap_summary.specs.declared.key.Key.TheVariants as key;
 ghost use Rattle.cap_summary.specs.Keys.{Cells, cells_of, mode_cell};

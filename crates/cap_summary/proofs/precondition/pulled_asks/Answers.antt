@@ -1,3 +1,5 @@
+use Rattle.std.proofs.lemmas.List.{drop_all, append-nil}
+use Rattle.std.proofs.Common.{arith}
 use Rattle.std.proofs.Common.{◌≡◌, true, refl, sym, ap, ◌∙◌, subst}
 use Rattle.std.specs.Prelude.{IfSome}
 use Rattle.std.specs.declared.cmp.Ordering.TheVariants.{Equal}
@@ -10,7 +12,7 @@ use Rattle.cap_summary.specs.Asks.{holds, pulled_holds, pulled_within, AskWithin
 use Rattle.cap_summary.specs.Effects.{cell_in, changed}
 use Rattle.cap_summary.specs.Names.{Names, has_cell, IsRowWithin, EffectWithin}
 use Rattle.cap_summary.specs.Tests.{passes}
-use Rattle.cap_summary.proofs.Pulling.{pulled_none, pulled_never, pulled_kept, swapped, kept_none, kept_same, kept_more}
+use Rattle.cap_summary.proofs.Pulling.{pulled_none, pulled_never, pulled_kept, swapped, kept_same, kept_more}
 use Rattle.cap_summary.proofs.precondition.pulled_asks.Goals as goal
 use Rattle.cap_summary.proofs.precondition.pulled_asks.Goals.{in-Never}
 use Rattle.cap_summary.proofs.precondition.pulled_asks.Goals.{in-Where+in-Equal+in_ok-push-in-Equal}
@@ -19,7 +21,7 @@ use Rattle.cap_summary.proofs.precondition.pulled_asks.Goals.{in-Where+in_defaul
 pub loop-ask-init : goal.loop-ask-init
 loop-ask-init c = record {
   back = pulled_none _ _ _ c.in_ok-kept.ensures.items c.new-moved.ensures.items;
-  kept = kept_none _ _ c.requires c.in_ok-kept.ensures.items;
+  kept = rw c.in_ok-kept.ensures.items c.requires;
   row = c.get-row.ensures;
 }
 
@@ -90,3 +92,8 @@ loop-ask-preserved c =
         row = row;
       }
     ]
+
+pub returns-clause-rises : goal.returns-clause-rises
+returns-clause-rises c =
+    rw (drop_all c.loop-ask.ask-index c.args.asks.now (omega arith), append-nil c.loop-ask.kept.items) at
+    c.loop-ask.invariant.kept

@@ -1,13 +1,13 @@
-use Rattle.std.proofs.Common.{◌≡◌, take, drop}
+use Rattle.std.proofs.Common.{◌≡◌, ◌++◌, take, drop}
 use Rattle.std.specs.Option.{option_copied}
 use Rattle.cap_summary.specs.Sorted.{found}
+use Rattle.cap_summary.specs.Asks.{Rises}
 use Rattle.cap_summary.specs.Preconditions.{IsPulledBack}
-use Rattle.cap_summary.proofs.Pulling.{AreKept}
 use Rattle.cap_summary.proofs.precondition.pulled_asks.Given as goal
 
 abbrev pub invariant-loop-ask : goal.invariant-loop-ask
 invariant-loop-ask l = record {
   back : IsPulledBack l.first (take l.ask-index l.asks) l.kept.items l.moved.items;
-  kept : AreKept (drop l.ask-index l.asks) l.kept.items;
+  kept : Rises (l.kept.items ++ drop l.ask-index l.asks);
   row : option_copied l.row ≡ found l.first.rows l.pid;
 }
