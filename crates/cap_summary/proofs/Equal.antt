@@ -159,7 +159,7 @@ module _ {V : Type 0} (E : V → V → Bool) (same : (a b : V) → E a b ≡ tru
   same_entries : (a b : List (ℕ × V)) → pointwise (λ x y. eqb x.0 y.0 && E x.1 y.1) a b ≡ true → a ≡ b
   same_entries = same_list (λ x y. eqb x.0 y.0 && E x.1 y.1) same_entry
 
-same_row : (a b : Row) → rows.eq-value.it a b ≡ true → a ≡ b
+pub same_row : (a b : Row) → rows.eq-value.it a b ≡ true → a ≡ b
 same_row a b is =
     let base_is = bases.eq-value.it a.base b.base in
     let mode_is = option_eq values.eq-value.it a.mode b.mode in

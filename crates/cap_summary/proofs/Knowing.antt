@@ -85,7 +85,7 @@ says_none effect pre same never possible effects asks nothing = record {
 pub knows_both : (a b both : Known) (t u : List Step) → Knows a t → Knows b u → IsJoined a b both
     → Knows both (t ++ u)
 knows_both a b both t u first second joined = record {
-  after = λ s p k. joined.effect.cells (cells_of s) p k
+  after = λ s p k. (joined.effect.rows p).cells (cells_of s) k
       ∙ ap (λ (cells : Cells). changed b.effect.value cells p k) (between s)
       ∙ second.after (ended s t) p k
       ∙ ap (λ (state : State). cells_of state p k) (sym (ends_in_turn s t u));
@@ -95,10 +95,10 @@ knows_both a b both t u first second joined = record {
       ∙ ap (λ r. has_any (check s t) || r) (second.finds (ended s t))
       ∙ sym (found s);
   possible = joined.precondition.possible first.possible second.possible;
-  left = λ p k is. both_leave t u p k (first.left p k (joined.effect.leaves p k is).0)
-      (second.left p k (joined.effect.leaves p k is).1);
-  effect_named = joined.effect.names (names_in (t ++ u)) effect (effect_among (names_in u) (names_in (t ++ u)) behind
-      b.effect.value second.effect_named);
+  left = λ p k is. both_leave t u p k (first.left p k ((joined.effect.rows p).leaves k is).0)
+      (second.left p k ((joined.effect.rows p).leaves k is).1);
+  effect_named = λ p. (joined.effect.rows p).names (names_in (t ++ u)) (names_in (t ++ u)) (λ q is. effect q) (effect p)
+      (second_effect p) (second_effect p);
   asks_named = joined.precondition.names (names_in (t ++ u)) effect
       (asks_among (names_in t) (names_in (t ++ u)) front a.precondition.value first.asks_named)
       (asks_among (names_in u) (names_in (t ++ u)) behind b.precondition.value second.asks_named);
@@ -114,6 +114,9 @@ knows_both a b both t u first second joined = record {
 
     effect : EffectWithin (names_in (t ++ u)) a.effect.value
     effect = effect_among (names_in t) (names_in (t ++ u)) front a.effect.value first.effect_named
+
+    second_effect : EffectWithin (names_in (t ++ u)) b.effect.value
+    second_effect = effect_among (names_in u) (names_in (t ++ u)) behind b.effect.value second.effect_named
 
     between : (s : State) → changed a.effect.value (cells_of s) ≡ cells_of (ended s t)
     between s = cells_after a.effect.value a.precondition.value t first s

@@ -1,6 +1,6 @@
 -- A row that reads its own process alone, behind a segment that leaves that process.
 use Rattle.std.proofs.Common.{◌≡◌, ℕ, ◌==◌, Bool, true, false, List, [], ◌∷◌, cond, Option, Some, None, refl}
-use Rattle.std.proofs.Common.{ap}
+use Rattle.std.proofs.Common.{ap, ◌∙◌}
 use Rattle.std.specs.Prelude.{IfSome}
 use Rattle.std.specs.Option.{option_map_or}
 use Rattle.std.specs.List.{All}
@@ -20,8 +20,9 @@ use Rattle.cap_summary.specs.declared.effect.Effect.{Effect}
 use Rattle.cap_summary.specs.Keys.{Cells}
 use Rattle.cap_summary.specs.Values.{read, source, reads_within}
 use Rattle.cap_summary.specs.Sorted.{found}
-use Rattle.cap_summary.specs.Effects.{passed, is_from, others_cell, base_cell, row_cell, changed}
+use Rattle.cap_summary.specs.Effects.{passed, is_from, others_cell, base_cell, row_cell, cell_in, changed}
 use Rattle.cap_summary.specs.Names.{only, has_cell, has_key, others_within, mode_within, IsListedWithin, ListWithin, RowWithin}
+use Rattle.cap_summary.specs.Composing.{IsComposedSo}
 use Rattle.cap_summary.proofs.Bools.{and_left}
 
 -- what holds of each entry holds of what is found
@@ -61,39 +62,60 @@ list_only p entries all f =
     listed None is = is
     listed (Some v) is = record { key = refl; source = is }
 
-module _ (first : Effect) (p : ℕ) (left : None ≡ found first.rows p) (cells : Cells) where
-  -- the process keeps its cells
-  same_cell : (q : ℕ) (k : Key) → (q == p) ≡ true → cells q k ≡ changed first cells q k
-  same_cell q k is = rw (eqb-true q p is, ← left) refl
+module _ (before after : Cells) (p : ℕ) (same : (k : Key) → before p k ≡ after p k) where
+  same_cell : (q : ℕ) (k : Key) → (q == p) ≡ true → before q k ≡ after q k
+  same_cell q k is = rw (eqb-true q p is) (same k)
 
-  same_value : (v : Value) → reads_within (has_cell (only p)) v ≡ true → read cells v ≡ read (changed first cells) v
+  same_value : (v : Value) → reads_within (has_cell (only p)) v ≡ true → read before v ≡ read after v
   same_value value.Unknown is = refl
   same_value value.Closed is = refl
   same_value (value.Held rights flag) is = refl
   same_value (value.Same q k) is = same_cell q k (and_left (q == p) (has_key (only p) k) is)
   same_value (value.Of q k op) is = ap (applied op) (same_cell q k (and_left (q == p) (has_key (only p) k) is))
 
+  same_listed : (listed : Option Value) (f : ℕ) (d d' : Cell) → IfSome listed (IsListedWithin (only p) f) → d ≡ d'
+      → option_map_or (read before) listed d ≡ option_map_or (read after) listed d'
+  same_listed None f d d' is same = same
+  same_listed (Some v) f d d' is same = same_value v is.source
+
   same_mode : (mode : Option Value) → mode_within (only p) mode ≡ true
-      → option_map_or (read cells) mode (cells p key.Mode)
-      ≡ option_map_or (read (changed first cells)) mode (changed first cells p key.Mode)
-  same_mode None is = same_cell p key.Mode (eq-eqb p p refl)
+      → option_map_or (read before) mode (before p key.Mode) ≡ option_map_or (read after) mode (after p key.Mode)
+  same_mode None is = same key.Mode
   same_mode (Some v) is = same_value v is
 
   same_others : (o : Others) (f : ℕ) → others_within (only p) o ≡ true
-      → others_cell cells p o f ≡ others_cell (changed first cells) p o f
-  same_others others.Own f is = same_cell p (key.Fd f) (eq-eqb p p refl)
+      → others_cell before p o f ≡ others_cell after p o f
+  same_others others.Own f is = same (key.Fd f)
   same_others (others.Of q passing) f is = ap (passed passing) (same_cell q (key.Fd f) is)
   same_others others.Unknown f is = refl
   same_others others.Closed f is = refl
 
-  same_listed : (listed : Option Value) (f : ℕ) (d d' : Cell) → IfSome listed (IsListedWithin (only p) f) → d ≡ d'
-      → option_map_or (read cells) listed d ≡ option_map_or (read (changed first cells)) listed d'
-  same_listed None f d d' is same = same
-  same_listed (Some v) f d d' is same = same_value v is.source
-
-  pub same_row : (row : Row) → RowWithin (only p) row → (k : Key) → row_cell cells p row k
-      ≡ row_cell (changed first cells) p row k
-  same_row row is key.Mode = same_mode row.mode is.mode
-  same_row row is (key.Fd f) = same_listed (found row.cells f) f (base_cell cells p row.base f)
-      (base_cell (changed first cells) p row.base f) (is.cells f)
+  pub own_row : (row : Row) → RowWithin (only p) row → (k : Key) → row_cell before p row k ≡ row_cell after p row k
+  own_row row is key.Mode = same_mode row.mode is.mode
+  own_row row is (key.Fd f) = same_listed (found row.cells f) f (base_cell before p row.base f)
+      (base_cell after p row.base f) (is.cells f)
       (ap (λ c. cond (is_from row.base.closed_from f) Closed c) (same_others row.base.others f is.others))
+
+-- .. where the first segment leaves the process
+pub same_row : (first : Effect) (p : ℕ) → None ≡ found first.rows p → (cells : Cells) (row : Row)
+    → RowWithin (only p) row → (k : Key) → row_cell cells p row k ≡ row_cell (changed first cells) p row k
+same_row first p left cells = own_row cells (changed first cells) p (λ k. ap (λ row. cell_in cells row p k) left)
+
+-- .. where another first segment gives the process the same row
+pub first_replaced : (was first : Effect) (p : ℕ) (left : Option Row) (right : Row) (new : Option Row)
+    → left ≡ found first.rows p → found was.rows p ≡ left → RowWithin (only p) right
+    → IsComposedSo was p (found was.rows p) (Some right) new → IsComposedSo first p left (Some right) new
+first_replaced was first p left right new is had own old = record {
+  cells = λ cells k. old.cells cells k
+      ∙ own_row (changed was cells) (changed first cells) p (λ j. ap (λ row. cell_in cells row p j) (had ∙ is)) right own k;
+  leaves = rw had at old.leaves;
+  names = λ names of read first_named here named. old.names names (only p)
+      (λ q same. rw (eqb-true q p same, had) first_named) (rw had first_named)
+      (record { pid = eq-eqb p p refl; row = own }) named;
+}
+
+-- .. and where the second segment was replaced, and gives it the same row
+pub second_replaced : (was first : Effect) (p : ℕ) (left later new : Option Row) → left ≡ found first.rows p
+    → found was.rows p ≡ later → IsComposedSo first p (found first.rows p) (found was.rows p) new
+    → IsComposedSo first p left later new
+second_replaced was first p left later new is had old = rw (is, ← had) old

@@ -1,6 +1,5 @@
 -- What is known of an old whole, of a whole that has another part in place of one.
 use Rattle.std.proofs.Common.{◌≡◌, ℕ, ◌||◌, true, false, refl, sym, ap, ◌∙◌}
-use Rattle.cap_summary.specs.declared.key.Key.{Key}
 use Rattle.cap_summary.specs.declared.effect.Effect.{Effect}
 use Rattle.cap_summary.specs.declared.precondition.Precondition.{Precondition}
 use Rattle.cap_summary.specs.declared.known.Known.{Known}
@@ -10,13 +9,13 @@ use Rattle.cap_tree.specs.declared.likeness.Side.TheVariants.{Left, Right}
 use Rattle.cap_summary.specs.Keys.{Cells, cells_of}
 use Rattle.cap_summary.specs.Sorted.{found}
 use Rattle.cap_summary.specs.Effects.{cell_in, changed}
-use Rattle.cap_summary.specs.Leaving.{leaves_in, leaves}
 use Rattle.cap_summary.specs.Preconditions.{is_met, IsPossible}
 use Rattle.cap_summary.specs.Names.{Names, EffectWithin, PreWithin}
 use Rattle.cap_summary.specs.Alike.{IsSameEffect}
 use Rattle.cap_summary.specs.Preconditions.{IsSamePrecondition}
-use Rattle.cap_summary.specs.Joined.{IsJoinedEffect, IsJoined}
+use Rattle.cap_summary.specs.Joined.{IsJoined}
 use Rattle.cap_summary.specs.Preconditions.{IsAskedByBoth}
+use Rattle.cap_summary.specs.Composing.{IsComposedSo, IsJoinedEffect}
 use Rattle.cap_tree.specs.Sides.{part_at}
 use Rattle.cap_summary.specs.Likeness.{AreAlike, KeepsEffect}
 
@@ -25,9 +24,6 @@ same_cells a b same cells = ap (λ rows. λ p k. cell_in cells (found rows p) p 
 
 pub same_effect : (a b : Effect) → b ≡ a → IsSameEffect a b
 same_effect a b is = rw is refl
-
-same_leaves : (a b : Effect) → IsSameEffect a b → (p : ℕ) (k : Key) → leaves a p k ≡ leaves b p k
-same_leaves a b same p k = ap (λ rows. leaves_in (found rows p) k) same
 
 named_too : (a b : Effect) → IsSameEffect a b → (names : Names) → EffectWithin names b → EffectWithin names a
 named_too a b same names within = rw same within
@@ -43,19 +39,17 @@ keeps_none Right likeness none = tt
 first_effect : (was first later old : Effect) → IsSameEffect was first → IsJoinedEffect was later old
     → IsJoinedEffect first later old
 first_effect was first later old same joined = record {
-  cells = λ cells p k. joined.cells cells p k ∙ ap (λ (c : Cells). changed later c p k) (same_cells was first same cells);
-  leaves = λ p k is. (sym (same_leaves was first same p k) ∙ (joined.leaves p k is).0, (joined.leaves p k is).1);
-  names = λ names one other. joined.names names (named_too was first same names one) other;
+  rows = λ p. record {
+    cells = λ cells k. (joined.rows p).cells cells k
+        ∙ ap (λ (c : Cells). changed later c p k) (same_cells was first same cells);
+    leaves = rw same at (joined.rows p).leaves;
+    names = λ names of read. rw same at ((joined.rows p).names names of (rw same read));
+  };
 }
 
 second_effect : (first was later old : Effect) → IsSameEffect was later → IsJoinedEffect first was old
     → IsJoinedEffect first later old
-second_effect first was later old same joined = record {
-  cells = λ cells p k. joined.cells cells p k
-      ∙ ap (λ (after : Cells). after p k) (same_cells was later same (changed first cells));
-  leaves = λ p k is. ((joined.leaves p k is).0, sym (same_leaves was later same p k) ∙ (joined.leaves p k is).1);
-  names = λ names one other. joined.names names one (named_too was later same names other);
-}
+second_effect first was later old same joined = record { rows = λ p. rw same at (joined.rows p) }
 
 same_met : (a b : Precondition) → IsSamePrecondition a b → (cells : Cells) → is_met cells a ≡ is_met cells b
 same_met a b same cells = rw (same.certain, same.asks, same.refusals) refl
@@ -113,3 +107,12 @@ rejoined_asks Left first second was old kept joined alike effect is = first_asks
 rejoined_asks Right first second was old kept joined alike effect is = second_asks first.effect.value
     first.precondition.value was.precondition.value second.precondition.value old.precondition.value
     (alike.precondition is) joined.precondition
+
+-- how the old whole's rows were made
+pub old_effect : (side : Side) (first second was old : Known)
+    → IsJoined (part_at side was first) (part_at side second was) old → (p : ℕ)
+    → IsComposedSo (part_at side was.effect.value first.effect.value) p
+    (found (part_at side was.effect.value first.effect.value).rows p)
+    (part_at side (found second.effect.value.rows p) (found was.effect.value.rows p)) (found old.effect.value.rows p)
+old_effect Left first second was old joined = joined.effect.rows
+old_effect Right first second was old joined = joined.effect.rows

@@ -62,7 +62,7 @@ pub handed_whole : (first : Effect) (passing : Passing) (closed_from : Option �
 handed_whole first passing closed_from listed handed none same below f = rw (none, same, below) (record {
   cells = λ cells. cell cells (found handed f);
   unlisted = sym (or_false (is_none (found handed f)));
-  names = λ names within no own. own;
+  names = λ names of read none named own. own;
 })
   where
     cell : (cells : Cells) (o : Option Value) → option_map (read cells) o

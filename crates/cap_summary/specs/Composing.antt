@@ -1,24 +1,43 @@
--- What stands at one key of the effect of two segments.
+-- What stands at one key of the effect of two segments. What it names is named by the second segment, or by the rows of
+-- the first that the second one reads.
 use Rattle.std.specs.Prelude.{◌≡◌, ℕ, ◌||◌, ◌&&◌, Option, IfSome, is_none}
+use Rattle.cap_tree.specs.Sides.{part_at}
 use Rattle.cap_summary.specs.declared.value.Value.{Value}
 use Rattle.cap_summary.specs.declared.base.Passing.{Passing}
 use Rattle.cap_summary.specs.declared.effect.Row.{Row}
 use Rattle.cap_summary.specs.declared.effect.Effect.{Effect}
+use Rattle.cap_summary.specs.declared.composed.Replaced.{Replaced}
+use Rattle.cap_summary.specs.Sorted.{found}
 use Rattle.cap_summary.specs.Effects.{is_from, IsHanded, IsComposedAt}
 use Rattle.cap_summary.specs.Leaving.{LeavesInBoth}
-use Rattle.cap_summary.specs.Names.{Names, IsListedWithin, IsRowWithin, EffectWithin}
+use Rattle.cap_summary.specs.Names.{Names, IsListedWithin, IsRowWithin, ReadWithin}
 
 -- what is listed for a descriptor: its cell, where something is listed, and what it names
 pub record IsHandedSo (first : Effect) (passing : Passing) (closed_from : Option ℕ) (f : ℕ)
     (listed handed new : Option Value) : Type 0 where
   pub cells : IsHanded first passing closed_from f listed handed new
   pub unlisted : is_none new ≡ (is_none listed && (is_none handed || is_from closed_from f))
-  pub names : (names : Names) → EffectWithin names first → IfSome listed (IsListedWithin names f)
-      → IfSome handed (IsListedWithin names f) → IfSome new (IsListedWithin names f)
+  pub names : (names of : Names) → ReadWithin names of first → IfSome listed (IsListedWithin of f)
+      → IfSome listed (IsListedWithin names f) → IfSome handed (IsListedWithin names f)
+      → IfSome new (IsListedWithin names f)
 
 -- the row of a process: its cells, what it leaves, and what it names
 pub record IsComposedSo (first : Effect) (p : ℕ) (was later new : Option Row) : Type 0 where
   pub cells : IsComposedAt first p later new
   pub leaves : LeavesInBoth was later new
-  pub names : (names : Names) → EffectWithin names first → IfSome was (IsRowWithin names p)
-      → IfSome later (IsRowWithin names p) → IfSome new (IsRowWithin names p)
+  pub names : (names of : Names) → ReadWithin names of first → IfSome was (IsRowWithin names p)
+      → IfSome later (IsRowWithin of p) → IfSome later (IsRowWithin names p) → IfSome new (IsRowWithin names p)
+
+-- the effect of a segment and then a later one
+pub record IsJoinedEffect (first later both : Effect) : Type 0 where
+  pub rows : (p : ℕ) → IsComposedSo first p (found first.rows p) (found later.rows p) (found both.rows p)
+
+-- the row of a process in an old whole, of which one part was replaced; the later segment gives the process this row
+abbrev pub IsOldAt : Replaced → Effect → ℕ → Option Row → Type 0
+IsOldAt old first p later =
+    IsComposedSo (part_at old.side old.was.now first) p (found (part_at old.side old.was.now first).rows p)
+    (part_at old.side later (found old.was.now.rows p)) (found old.whole.now.rows p)
+
+-- two segments have these effects, one of them in the place of the part that was replaced
+abbrev pub IsReplaced : Effect → Effect → Option Replaced → Type 0
+IsReplaced first later old = IfSome old (λ old. (p : ℕ) → IsOldAt old first p (found later.rows p))

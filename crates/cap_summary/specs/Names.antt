@@ -118,6 +118,10 @@ RowsWithin names rows = (p : ℕ) → IfSome (found rows p) (IsRowWithin names p
 abbrev pub EffectWithin : Names → Effect → Type 0
 EffectWithin names effect = RowsWithin names effect.rows
 
+-- the rows of some processes: those that a later segment reads
+abbrev pub ReadWithin : Names → Names → Effect → Type 0
+ReadWithin names of effect = (q : ℕ) → of.pids q ≡ true → IfSome (found effect.rows q) (IsRowWithin names q)
+
 -- the child that a line makes
 abbrev pub ChildWithin : Names → LineEffect → Type 0
 ChildWithin names (line.Fork child) = names.pids child ≡ true

@@ -1,7 +1,7 @@
 //! The effect of two segments, one after the other.
 
-ghost use Rattle.std.specs.Prelude.{◌≡◌, ℕ, false, true, ◌||◌, is_none, IfOk};
-ghost use Rattle.std.specs.Option.{option_map_or};
+ghost use Rattle.std.specs.Prelude.{◌≡◌, ℕ, false, true, ◌||◌, is_none, Some, IfSome, IfOk};
+ghost use Rattle.std.specs.Option.{option_map_or, option_copied};
 ghost use Rattle.cap_machine.specs.declared.cell.Cell.TheVariants.{Closed};
 ghost use Rattle.cap_summary.specs.declared.key.Key.{Key};
 ghost use Rattle.cap_summary.specs.Keys.{Cells};
@@ -9,9 +9,10 @@ ghost use Rattle.cap_summary.specs.Values.{read};
 ghost use Rattle.cap_summary.specs.Sorted.{found};
 ghost use Rattle.cap_summary.specs.declared.key.Key.TheVariants as key;
 ghost use Rattle.cap_summary.specs.Effects.{passed, is_from, base_cell, changed, IsRowAfter, IsComposed};
-ghost use Rattle.cap_summary.specs.Composing.{IsHandedSo};
+ghost use Rattle.cap_summary.specs.Composing.{IsHandedSo, IsComposedSo, IsJoinedEffect, IsOldAt, IsReplaced};
 ghost use Rattle.cap_summary.specs.Leaving.{base_leaves, row_leaves, leaves, LeavesBoth};
-ghost use Rattle.cap_summary.specs.Names.{Names, others_within, mode_within, ListWithin, RowWithin, EffectWithin};
+ghost use Rattle.cap_summary.specs.Names.{Names, others_within, mode_within, ListWithin, RowWithin, IsRowWithin, EffectWithin};
+ghost use Rattle.cap_summary.specs.Names.{ReadWithin};
 
 use crate::base::{Base, Others, Passing, lower_of};
 use crate::effect::{Effect, Row};
@@ -19,7 +20,7 @@ use crate::listed::Listed;
 use crate::sorted::{Combine, merge};
 use crate::value::Value;
 use cap_trace::{Fd, Pid};
-use cap_tree::NoMemory;
+use cap_tree::{NoMemory, Side};
 use std::alloc::Global;
 
 /// The cells that a base of a later segment hands on, as an earlier segment leaves them: those that are listed there,
@@ -67,10 +68,11 @@ impl Effect {
         ensures leaves { IfOk result (λ handed. (f : ℕ) → base_leaves handed.base f ≡ true
             → (base_leaves base.now f ≡ true)
             × (is_none (found handed.cells f) ≡ true → leaves self.now pid (key.Fd f) ≡ true)) }
-        ensures others_named { IfOk result (λ handed. (names : Names) → EffectWithin names self.now
+        ensures others_named { IfOk result (λ handed. (names of : Names) → ReadWithin names of self.now
+            → of.pids pid ≡ true → others_within of base.now.others ≡ true
             → others_within names base.now.others ≡ true → others_within names handed.base.others ≡ true) }
-        ensures cells_named { IfOk result (λ handed. (names : Names) → EffectWithin names self.now
-            → ListWithin names handed.cells) }
+        ensures cells_named { IfOk result (λ handed. (names of : Names) → ReadWithin names of self.now
+            → of.pids pid ≡ true → others_within of base.now.others ≡ true → ListWithin names handed.cells) }
     {
         let first = match &base.others {
             Others::Own => self.rows.get(pid),
@@ -136,14 +138,70 @@ impl Combine for Handing<'_> {
     ghost neither = { λ s f. record {
       cells = λ cells. refl;
       unlisted = refl;
-      names = λ names within left right. tt;
+      names = λ names of within read left right. tt;
     } };
 }
 
-/// Gives each process its row after two segments.
+/// The effect of a whole in which one part was replaced.
+#[derive(Clone, Copy)]
+pub(crate) struct Replaced<'a> {
+    pub(crate) whole: &'a Effect,
+    /// The effect of the part that stood on this side.
+    pub(crate) was: &'a Effect,
+    pub(crate) side: Side,
+}
+
+impl Replaced<'_> {
+    /// Whether the part that was replaced gave a process this row.
+    fn gave(&self, pid: Pid, row: Option<&Row>) -> bool
+        ensures { result ≡ true → found self.now.was.now.rows pid ≡ option_copied row.entry }
+    {
+        match (self.was.rows.get(pid), row) {
+            (Some(was), Some(row)) => was == row,
+            (None, None) => true,
+            _ => false,
+        }
+    }
+
+    /// The row that the whole gave a process, where it stands: the new part gives the row that the old one gave, and if
+    /// that part is the first, then the second reads no other row of it.
+    fn row(&self, pid: Pid, left: Option<&Row>, right: &Row) -> Option<&Row>
+        ensures { IfSome result (λ row. (first : Effect) → option_copied left.entry ≡ found first.rows pid
+            → IsOldAt self.now first pid (Some right.now) → IsComposedSo first pid (option_copied left.entry)
+            (Some right.now) (Some row.now)) }
+    {
+        let stands = match self.side {
+            Side::Left => self.gave(pid, left) && right.reads_only(pid),
+            Side::Right => self.gave(pid, Some(right)),
+        };
+        if !stands {
+            return None;
+        }
+        self.whole.rows.get(pid)
+    }
+}
+
+/// Gives each process its row after two segments: that of an old whole, where it stands.
 #[derive(Clone, Copy)]
 struct Composing<'a> {
     first: &'a Effect,
+    old: Option<Replaced<'a>>,
+}
+
+impl Composing<'_> {
+    /// The row of a process to which the second segment gives this one.
+    fn row(&self, alloc: Global, pid: Pid, left: Option<&Row>, right: &Row) -> Result<Row, NoMemory>
+        ensures { IfOk result (λ row. option_copied left.entry ≡ found self.now.first.now.rows pid
+            → IfSome self.now.old (λ old. IsOldAt old self.now.first.now pid (Some right.now))
+            → IsComposedSo self.now.first.now pid (option_copied left.entry) (Some right.now) (Some row)) }
+    {
+        if let Some(old) = &self.old {
+            if let Some(row) = old.row(pid, left, right) {
+                return Ok(row.clone()?);
+            }
+        }
+        self.first.row_after(alloc, pid, right)
+    }
 }
 
 impl Combine for Composing<'_> {
@@ -153,13 +211,14 @@ impl Combine for Composing<'_> {
 
     type Out = Row;
 
-    ghost use Rattle.std.specs.Prelude.{◌≡◌, refl};
+    ghost use Rattle.std.specs.Prelude.{◌≡◌, IfSome, refl};
     ghost use Rattle.std.proofs.Common.{ap};
     ghost use Rattle.cap_summary.specs.Sorted.{found};
     ghost use Rattle.cap_summary.specs.Effects.{cell_in};
-    ghost use Rattle.cap_summary.specs.Composing.{IsComposedSo};
+    ghost use Rattle.cap_summary.specs.Composing.{IsComposedSo, IsOldAt};
 
-    ghost gives = { λ s p left right out. left ≡ found s.first.now.rows p → IsComposedSo s.first.now p left right out };
+    ghost gives = { λ s p left right out. left ≡ found s.first.now.rows p
+        → IfSome s.old (λ old. IsOldAt old s.first.now p right) → IsComposedSo s.first.now p left right out };
 
     fn left(&self, _alloc: Global, _pid: u32, left: &Row) -> Result<Option<Row>, NoMemory> {
         Ok(Some(left.clone()?))
@@ -169,23 +228,23 @@ impl Combine for Composing<'_> {
         if right.reads_only(pid) {
             return Ok(Some(right.clone()?));
         }
-        Ok(Some(self.first.row_after(alloc, pid, right)?))
+        Ok(Some(self.row(alloc, pid, None, right)?))
     }
 
     fn both(
         &self,
         alloc: Global,
         pid: u32,
-        _left: &Row,
+        left: &Row,
         right: &Row,
     ) -> Result<Option<Row>, NoMemory> {
-        Ok(Some(self.first.row_after(alloc, pid, right)?))
+        Ok(Some(self.row(alloc, pid, Some(left), right)?))
     }
 
-    ghost neither = { λ s p is. record {
+    ghost neither = { λ s p is old. record {
       cells = λ cells k. ap (λ row. cell_in cells row p k) is;
       leaves = λ k left. (refl, refl);
-      names = λ names within left right. tt;
+      names = λ names of within left read right. tt;
     } };
 }
 
@@ -201,8 +260,8 @@ impl Effect {
             ≡ option_map_or (read (changed self.now cells)) mode.now (changed self.now cells pid key.Mode)) }
         ensures leaves { IfOk result (λ new. is_none new ≡ true
             → (leaves self.now pid key.Mode ≡ true) × (is_none mode.now ≡ true)) }
-        ensures names { IfOk result (λ new. (names : Names) → EffectWithin names self.now
-            → mode_within names mode.now ≡ true → mode_within names new ≡ true) }
+        ensures names { IfOk result (λ new. (names of : Names) → ReadWithin names of self.now → of.pids pid ≡ true
+            → mode_within of mode.now ≡ true → mode_within names mode.now ≡ true → mode_within names new ≡ true) }
     {
         match (mode, self.rows.get(pid)) {
             (Some(value), _) => Ok(Some(self.value_after(alloc, value)?)),
@@ -235,8 +294,8 @@ impl Effect {
         ensures cells { IfOk result (λ new. IsRowAfter self.now pid row.now new) }
         ensures leaves { IfOk result (λ new. (k : Key) → row_leaves new k ≡ true
             → (leaves self.now pid k ≡ true) × (row_leaves row.now k ≡ true)) }
-        ensures names { IfOk result (λ new. (names : Names) → EffectWithin names self.now
-            → RowWithin names row.now → RowWithin names new) }
+        ensures names { IfOk result (λ new. (names of : Names) → ReadWithin names of self.now
+            → IsRowWithin of pid row.now → RowWithin names row.now → RowWithin names new) }
     {
         let mode = self.mode_after(alloc, pid, &row.mode)?;
         let handed = self.handed(pid, &row.base)?;
@@ -252,7 +311,20 @@ impl Effect {
         ensures names { IfOk result (λ both. (names : Names) → EffectWithin names self.now
             → EffectWithin names later.now → EffectWithin names both) }
     {
-        let step = Composing { first: self };
+        self.joined(alloc, later, None)
+    }
+
+    /// The same, which shares rows with that of an old whole in which one of the two parts was replaced.
+    pub(crate) fn joined(
+        &self,
+        alloc: Global,
+        later: &Effect,
+        old: Option<Replaced<'_>>,
+    ) -> Result<Effect, NoMemory>
+        requires { IsReplaced self.now later.now old }
+        ensures { IfOk result (IsJoinedEffect self.now later.now) }
+    {
+        let step = Composing { first: self, old };
         let rows = merge(alloc, &step, self.rows.entries(), later.rows.entries())?;
         Ok(Effect::of(rows))
     }

@@ -7,7 +7,8 @@ ghost use Rattle.cap_summary.specs.Preconditions.{IsSettled};
 ghost use Rattle.cap_tree.specs.Run.{values};
 ghost use Rattle.cap_tree.specs.Sides.{part_at};
 ghost use Rattle.cap_summary.specs.Likeness.{AreAlike, KeepsEffect};
-ghost use Rattle.cap_summary.specs.Joined.{IsJoined, IsJoinedEffect};
+ghost use Rattle.cap_summary.specs.Joined.{IsJoined};
+ghost use Rattle.cap_summary.specs.Composing.{IsJoinedEffect, IsReplaced};
 ghost use Rattle.cap_summary.specs.Preconditions.{IsAskedByBoth};
 ghost use Rattle.cap_summary.specs.Knows.{Knows, Says, finds, state_after};
 ghost use Rattle.cap_summary.specs.Alike.{IsSameEffect};
@@ -17,6 +18,7 @@ ghost use Rattle.cap_summary.specs.Sizes.{size};
 ghost use Rattle.cap_summary.specs.RowSizes.{AllRise};
 
 use crate::before::Before;
+use crate::composed::Replaced;
 use crate::effect::Effect;
 use crate::key::Key;
 use crate::line_asks::{LineAsks, process_of};
@@ -83,12 +85,18 @@ impl Known {
         Ok(known)
     }
 
-    /// The effect of these steps and then those of a later segment.
-    fn joined_effect(&self, alloc: Global, later: &Known) -> Result<Rc<Effect>, NoMemory>
+    /// The effect of these steps and then those of a later segment, which shares rows with an old whole.
+    fn joined_effect(
+        &self,
+        alloc: Global,
+        later: &Known,
+        old: Option<Replaced<'_>>,
+    ) -> Result<Rc<Effect>, NoMemory>
+        requires { IsReplaced self.now.effect.value later.now.effect.value old }
         ensures { IfOk result (λ both.
             IsJoinedEffect self.now.effect.value later.now.effect.value both.value) }
     {
-        let effect = self.effect.then(alloc, &later.effect)?;
+        let effect = self.effect.joined(alloc, &later.effect, old)?;
         Ok(Rc::new(alloc, effect)?)
     }
 
@@ -115,7 +123,7 @@ impl Known {
         requires later { IsSettled later.now.precondition.value }
         ensures { IfOk result (IsJoined self.now later.now) }
     {
-        let effect = self.joined_effect(alloc, later)?;
+        let effect = self.joined_effect(alloc, later, None)?;
         let precondition = self.joined_precondition(alloc, later)?;
         Ok(Known {
             effect,
@@ -158,15 +166,19 @@ impl Known {
         }
     }
 
-    /// The effect of these steps and a later segment: that of an old whole where it is kept.
+    /// The effect of these steps and a later segment: that of an old whole where it is kept, or else one that shares rows
+    /// with it.
     fn rejoined_effect(
         &self,
         alloc: Global,
         later: &Known,
         old: &Known,
+        was: &Known,
+        side: Side,
         kept: Likeness,
     ) -> Result<Rc<Effect>, NoMemory>
-        requires { kept.effect ≡ true
+        requires old { IsJoined (part_at side was.now self.now) (part_at side later.now was.now) old.now }
+        requires kept { kept.effect ≡ true
             → IsJoinedEffect self.now.effect.value later.now.effect.value old.now.effect.value }
         ensures joined { IfOk result (λ both.
             IsJoinedEffect self.now.effect.value later.now.effect.value both.value) }
@@ -175,7 +187,12 @@ impl Known {
         if kept.effect {
             return Ok(old.effect.clone()?);
         }
-        let effect = self.joined_effect(alloc, later)?;
+        let replaced = Replaced {
+            whole: &old.effect,
+            was: &was.effect,
+            side,
+        };
+        let effect = self.joined_effect(alloc, later, Some(replaced))?;
         Ok(effect)
     }
 
@@ -222,7 +239,7 @@ impl Known {
         ensures alike { IfOk result (λ new. AreAlike new.1 old.now new.0) }
     {
         let kept = Known::likeness_at(first, second, was, side, likeness);
-        let effect = first.rejoined_effect(alloc, second, old, kept)?;
+        let effect = first.rejoined_effect(alloc, second, old, was, side, kept)?;
         let precondition = first.rejoined_precondition(alloc, second, old, kept)?;
         let known = Known {
             effect,

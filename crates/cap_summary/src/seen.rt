@@ -1,13 +1,14 @@
 //! What is seen of a cell after a segment.
 
-ghost use Rattle.std.specs.Prelude.{◌≡◌, ℕ, Bool, true, IfOk};
+ghost use Rattle.std.specs.Prelude.{◌≡◌, ℕ, Bool, true, IfSome, IfOk};
 ghost use Rattle.cap_machine.specs.Op.{applied};
 ghost use Rattle.cap_summary.specs.declared.key.Key.{Key};
 ghost use Rattle.cap_summary.specs.Keys.{Cells};
 ghost use Rattle.cap_summary.specs.Values.{read, reads_within};
 ghost use Rattle.cap_summary.specs.Effects.{base_cell, row_cell, changed};
+ghost use Rattle.cap_summary.specs.Sorted.{found};
 ghost use Rattle.cap_summary.specs.Seen.{seen_cell, seen_within};
-ghost use Rattle.cap_summary.specs.Names.{Names, has_cell, others_within, RowWithin, EffectWithin};
+ghost use Rattle.cap_summary.specs.Names.{Names, has_cell, others_within, RowWithin, IsRowWithin, ReadWithin};
 
 use crate::base::{Base, Others, Passing};
 use crate::effect::{Effect, Row};
@@ -109,8 +110,8 @@ impl Effect {
     /// What becomes of a cell.
     pub(crate) fn seen(&self, pid: Pid, key: Key) -> Seen<'_>
         ensures cells { (cells : Cells) → seen_cell cells result ≡ changed self.now cells pid key }
-        ensures names { (names : Names) → EffectWithin names self.now → has_cell names pid key ≡ true
-            → seen_within (has_cell names) result ≡ true }
+        ensures names { (names : Names) → IfSome (found self.now.rows pid) (IsRowWithin names pid)
+            → has_cell names pid key ≡ true → seen_within (has_cell names) result ≡ true }
     {
         match self.rows.get(pid) {
             Some(row) => row.seen(pid, key),
@@ -121,8 +122,9 @@ impl Effect {
     /// A value of a later segment, by the cells before this one.
     pub(crate) fn value_after(&self, alloc: Global, value: &Value) -> Result<Value, NoMemory>
         ensures reads { IfOk result (λ v. (cells : Cells) → read cells v ≡ read (changed self.now cells) value.now) }
-        ensures names { IfOk result (λ v. (names : Names) → EffectWithin names self.now
-            → reads_within (has_cell names) value.now ≡ true → reads_within (has_cell names) v ≡ true) }
+        ensures names { IfOk result (λ v. (names of : Names) → ReadWithin names of self.now
+            → reads_within (has_cell of) value.now ≡ true → reads_within (has_cell names) value.now ≡ true
+            → reads_within (has_cell names) v ≡ true) }
     {
         let seen = match value {
             Value::Unknown => return Ok(Value::Unknown),

@@ -27,9 +27,10 @@ returns-clause-leaves c =
     c.in_ok-handed.handed.cells c.in_ok-mode.ensures.leaves handed.leaves c.in_ok-cells.ensures
 
 pub returns-clause-names : goal.returns-clause-names
-returns-clause-names c = λ names effect row.
+returns-clause-names c = λ names of read here row.
     let handed = c.in_ok-handed.ensures in record {
-      cells = λ f. (c.in_ok-cells.ensures f).names names effect (row.cells f) (handed.cells_named names effect f);
-      others = handed.others_named names effect row.others;
-      mode = c.in_ok-mode.ensures.names names effect row.mode;
+      cells = λ f. (c.in_ok-cells.ensures f).names names of read (here.row.cells f) (row.cells f)
+          (handed.cells_named names of read here.pid here.row.others f);
+      others = handed.others_named names of read here.pid here.row.others row.others;
+      mode = c.in_ok-mode.ensures.names names of read here.pid here.row.mode row.mode;
     }
