@@ -21,7 +21,7 @@ use crate::before::Before;
 use crate::composed::Replaced;
 use crate::effect::Effect;
 use crate::key::Key;
-use crate::line_asks::{LineAsks, process_of};
+use crate::line_asks::LineAsks;
 use crate::precondition::Precondition;
 use cap_machine::{Cell, Mode, Start, Step, rule_of};
 use cap_trace::{Fd, Pid};
@@ -50,8 +50,8 @@ fn put_step(
         → OnOk result (Says effect.new precondition.new (steps ++ step.now ∷ [])) }
 {
     let line = step.line.seen();
-    let pid = process_of(&line);
     let rule = rule_of(step.profile, &line);
+    let pid = step.line.pid();
     let asks = LineAsks::of_line(pid, &rule.demand);
     precondition.put_line(effect, &asks)?;
     effect.push(alloc, pid, &rule.effect)?;

@@ -24,7 +24,7 @@ use crate::key::Key;
 use crate::kinds::Kinds;
 use cap_machine::{Check, Checks, Class, Demand, Reply};
 use cap_rights::RightSet;
-use cap_trace::{Fd, LineRef, Pid};
+use cap_trace::{Fd, Pid};
 
 /// At most three asks: of a mode, and of the cells of two checks.
 #[derive(Clone, Copy, Debug, PartialEq, Eq)]
@@ -172,13 +172,6 @@ fn excuse_asks(me: Pid, checks: &Checks) -> Option<(Ask, Option<Ask>)>
         Checks::One(a) => Some((may_lack(me, a)?, None)),
         Checks::Two(a, b) => Some((may_lack(me, a)?, Some(may_lack(me, b)?))),
     }
-}
-
-/// The process of a line.
-pub(crate) fn process_of(line: &LineRef<'_>) -> Pid
-    ensures { result ≡ line.now.pid }
-{
-    line.pid
 }
 
 impl LineAsks {

@@ -8,9 +8,9 @@ pub returns : goal.returns
 returns c = λ steps so_far.
     let rule = c.rule_of-rule.ensures in
     let seen = c.seen-line.ensures in
-    let pid = rw seen at c.process_of-pid.ensures in
+    let pid = c.pid-pid.ensures in
     let demand = rw seen at rule.demand in
-    says_more c.args.step.now c.rule_of-rule.result.effect c.process_of-pid.result
+    says_more c.args.step.now c.rule_of-rule.result.effect c.pid-pid.result
     (λ p f. rw pid (rw seen at (rule.cells p f)))
     (λ p. rw pid (rw seen at (rule.modes p))) c.args.effect.now c.push.new.self c.args.precondition.now
     c.put_line.new.self c.of_line-asks.result steps so_far
