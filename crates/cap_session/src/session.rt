@@ -1,7 +1,7 @@
 //! [`Session`]: a trace that is edited line by line, and reported when asked.
 //!
-//! The lines stand in a tree with summaries of its parts. An edit makes a few of them anew, and a report goes only into
-//! those in which something is found.
+//! The lines stand in a tree with summaries of its parts. An edit makes a few of them anew. Where findings are few, a
+//! report goes only into those in which something is found.
 ghost use Rattle.std.specs.Prelude.{◌≡◌, ◌+◌, ◌≤◌, ◌<◌, ◌↔◌, ◌⊎◌, [], length, Ok, Err, IsOk, IfOk};
 ghost use Rattle.std.specs.Prelude.{OnOk, OnErr, IsOkUnless, IsTrue, ◌*◌, vec_len, insert, remove, slice_set};
 ghost use Rattle.cap_machine.specs.Report.{report};
