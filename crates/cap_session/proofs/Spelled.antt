@@ -149,40 +149,20 @@ with_limit most high n t e =
     let both = numbered_some most n (is_odd t) (digits_at t) (e ∙ is_numbered most t) in
     is_numbered high t ∙ rw (both.0, both.1) refl
 
-pub number_good : (low high n : ℕ) (t : List ℕ) → Some n ≡ position_spelled t → low ≤ n → n ≤ high
-    → Some n ≡ number_spelled low high t
-unfolding number_spelled
-number_good low high n t e above below =
-    let is : nat_le n high ≡ true = grind arith in
-    let from : nat_le low n ≡ true = grind arith in
-    rw (with_limit 9999999999999999999 high n t e, is, from) refl
+abbrev pub at_most : ℕ → Option ℕ → Option ℕ
+at_most high None = None
+at_most high (Some n) = cond (nat_le n high) (Some n) None
 
-pub number_high : (low high n : ℕ) (t : List ℕ) → Some n ≡ position_spelled t → high < n
-    → None ≡ number_spelled low high t
+-- a number between limits is one of up to 19 digits that is between them
+pub number_is : (low high : ℕ) (t : List ℕ) → high ≤ 9999999999999999999
+    → number_spelled low high t ≡ at_least low (at_most high (position_spelled t))
 unfolding number_spelled
-number_high low high n t e above =
-    let is : nat_le n high ≡ false = grind arith in
-    rw (with_limit 9999999999999999999 high n t e, is) refl
-
-below_low : (low n : ℕ) (b : Bool) → n < low → at_least low (cond b (Some n) None) ≡ None
-below_low low n true below =
-    let is : nat_le low n ≡ false = grind arith in
-    rw is refl
-below_low low n false below = refl
-
-pub number_low : (low high n : ℕ) (t : List ℕ) → Some n ≡ position_spelled t → n < low
-    → None ≡ number_spelled low high t
-unfolding number_spelled
-number_low low high n t e below =
-    rw (with_limit 9999999999999999999 high n t e) (sym (below_low low n (nat_le n high) below))
-
-pub number_none : (low high : ℕ) (t : List ℕ) → high ≤ 9999999999999999999 → None ≡ position_spelled t
-    → None ≡ number_spelled low high t
-unfolding number_spelled
-number_none low high t le e =
-    let none : num_at high t ≡ None = is_numbered high t
-    ∙ numbered_none 9999999999999999999 high (is_odd t) (digits_at t) le (e ∙ is_numbered 9999999999999999999 t) in
-    rw none refl
+number_is low high t le = ap (at_least low) (go (position_spelled t) refl)
+  where
+    go : (r : Option ℕ) → r ≡ position_spelled t → num_at high t ≡ at_most high r
+    go None e = is_numbered high t
+        ∙ numbered_none 9999999999999999999 high (is_odd t) (digits_at t) le (e ∙ is_numbered 9999999999999999999 t)
+    go (Some n) e = with_limit 9999999999999999999 high n t e
 
 -- ---- the fields before the listed descriptors
 

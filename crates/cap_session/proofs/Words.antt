@@ -1,5 +1,5 @@
 -- How a line is cut at its first space.
-use Rattle.std.proofs.Common.{◌≡◌, ℕ, zero, suc, ◌+◌, ◌<◌, List, [], ◌∷◌, length, take, drop, get_or, refl, ap, add-one}
+use Rattle.std.proofs.Common.{◌≡◌, ℕ, zero, suc, ◌+◌, ◌<◌, List, [], ◌∷◌, length, take, drop, get_or, refl, sym, ap, add-one}
 use Rattle.std.proofs.Common.{arith, true, false}
 use Rattle.std.specs.Prelude.{◌==◌, Some, None}
 use Rattle.std.proofs.lemmas.Bool.{false_from_ne_true}
@@ -26,12 +26,17 @@ no_split_from (b ∷ line) before =
     let rest = no_split_from line (λ j h. before (suc j) (omega arith)) in
     (rw none (ap (λ l. b ∷ l) rest.0), rw none rest.1)
 
-pub word_at : (line : List ℕ) (k : ℕ) → IsFirstByte (is_byte 32) line (Some k)
-    → (first_word line ≡ take k line) × (after_word line ≡ Some (drop (k + 1) line))
-word_at line k found =
-    let both = split_from line k found.0.high (λ j h. found.0.before j (omega arith) h) found.1 in
-    (both.0, rw add-one both.1)
+pub word_before : (line : List ℕ) (k : ℕ) → IsFirstByte (is_byte 32) line (Some k) → take k line ≡ first_word line
+word_before line k found =
+    sym (split_from line k found.0.high (λ j h. found.0.before j (omega arith) h) found.1).0
 
-pub one_word : (line : List ℕ) → IsFirstByte (is_byte 32) line None
-    → (first_word line ≡ line) × (after_word line ≡ None)
-one_word line found = no_split_from line (λ j h. found j (omega arith) h)
+pub rest_behind : (line : List ℕ) (k : ℕ) → IsFirstByte (is_byte 32) line (Some k)
+    → Some (drop (k + 1) line) ≡ after_word line
+rest_behind line k found =
+    rw add-one (sym (split_from line k found.0.high (λ j h. found.0.before j (omega arith) h) found.1).1)
+
+pub word_alone : (line : List ℕ) → IsFirstByte (is_byte 32) line None → first_word line ≡ line
+word_alone line found = (no_split_from line (λ j h. found j (omega arith) h)).0
+
+pub no_rest : (line : List ℕ) → IsFirstByte (is_byte 32) line None → after_word line ≡ None
+no_rest line found = (no_split_from line (λ j h. found j (omega arith) h)).1

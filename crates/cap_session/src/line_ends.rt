@@ -92,7 +92,8 @@ impl<'a> LineEnds<'a> {
         let bit = marks.trailing_zeros() as usize;
         let line = &self.rest[..from + bit];
         self.rest = &self.rest[from + bit + 1..];
-        self.seen = seen - bit - 1;
+        let left = seen - bit;
+        self.seen = left - 1;
         self.marks = marks >> bit >> 1;
         line
     }

@@ -61,6 +61,7 @@ impl<'a> Words<'a> {
     }
 
     /// The next word.
+    #[tactic(auto, using(std::proofs::lemmas::List::take_rest, crate::proofs::Spelled::first_word, crate::proofs::Spelled::last_word))]
     fn next(&mut self) -> Option<&'a [u8]>
         ensures { MatchOption result ((self.old ≡ []) × (self.new ≡ [])) (λ word. self.old ≡ word.now ∷ self.new) }
     {
@@ -79,14 +80,16 @@ impl<'a> Words<'a> {
 }
 
 /// The number that a word spells, from `low` to `high`.
+#[tactic(auto, using(crate::proofs::Spelled::number_is))]
 fn number_from(low: u32, high: u32, word: &[u8]) -> Option<u32>
     ensures value { result ≡ number_spelled low high word.now }
     ensures bound { IfSome result (λ n. n ≤ high) }
 {
-    match number_of(word) {
-        Some(number) if low as usize <= number && number <= high as usize => Some(number as u32),
-        _ => None,
+    let number = number_of(word)?;
+    if number < low as usize || number > high as usize {
+        return None;
     }
+    Some(number as u32)
 }
 
 /// A descriptor that is open and holds these rights. Whether an exec closes it isn't known.
@@ -203,9 +206,12 @@ pub fn head_of<'a>(low: Pid, line: &'a [u8]) -> Result<Head<'a>, Refused>
     ensures bound { IfOk result (λ head. head.pid ≤ 99999) }
 {
     let mut words = Words::of(line);
-    let pid = pid_at(low, words.next())?;
-    let mode = mode_at(words.next())?;
-    let rest = rest_at(words.next())?;
+    let pid_word = words.next();
+    let pid = pid_at(low, pid_word)?;
+    let mode_word = words.next();
+    let mode = mode_at(mode_word)?;
+    let rest_word = words.next();
+    let rest = rest_at(rest_word)?;
     Ok(Head {
         pid,
         mode,
@@ -221,7 +227,7 @@ pub fn check_cells(low: Fd, mut words: Words<'_>) -> Result<(), Refused>
 {
     let mut least = low;
     while let Some(word) = words.next() {
-        let (fd, _) = listed_of(least, word)?;
+        let (fd, _cell) = listed_of(least, word)?;
         least = fd + 1;
     }
     Ok(())

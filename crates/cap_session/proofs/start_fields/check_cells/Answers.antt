@@ -16,9 +16,9 @@ returns-in_err-fd-clause-bad c =
 pub loop-word-preserved : goal.loop-word-preserved
 loop-word-preserved c =
     let here = c.loop-word in (
-      here.invariant.0 ++ (c.in_ok-fd.fd, c.in_ok-fd.field-0-1) ∷ [],
+      here.invariant.0 ++ (c.in_ok-fd.fd, c.in_ok-fd._cell) ∷ [],
       cells_more here.least c.in-Some.word.now here.words c.next.new.self here.invariant.0
-          (c.in_ok-fd.fd, c.in_ok-fd.field-0-1) _ c.in-Some.ensures
+          (c.in_ok-fd.fd, c.in_ok-fd._cell) _ c.in-Some.ensures
           (sym c.listed_of.ensures.value ∙ c.in_ok-fd.was) here.invariant.1,
     )
 

@@ -27,15 +27,15 @@ slice_bounds-self-start c =
     let high = bit.high in
     search rules
 
-pub overflow_sub-self : goal.overflow_sub-self
-overflow_sub-self c =
+pub overflow_sub-left : goal.overflow_sub-left
+overflow_sub-left c =
     let text = c.self.inside.rest.now in
     let bit = first_in _ text c.args.from c.args.seen c.args.marks c.self.view_is c.requires.from c.requires.before
     c.requires.marks c.requires.some c.ranges.marks.fits in
     omega (arith, bit.low)
 
-pub overflow_sub-self-2 : goal.overflow_sub-self-2
-overflow_sub-self-2 c =
+pub overflow_sub-self : goal.overflow_sub-self
+overflow_sub-self c =
     let text = c.self.inside.rest.now in
     let bit = first_in _ text c.args.from c.args.seen c.args.marks c.self.view_is c.requires.from c.requires.before
     c.requires.marks c.requires.some c.ranges.marks.fits in
