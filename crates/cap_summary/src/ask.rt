@@ -216,7 +216,7 @@ impl Ask {
         ensures names { (names : Names) → EffectWithin names first.now → has_cell names self.now.pid self.now.key ≡ true
             → pulled_within (has_cell names) result ≡ true }
     {
-        match first.rows.get(self.pid) {
+        match first.row(self.pid) {
             Some(row) => self.through(row),
             None => self.settled(),
         }

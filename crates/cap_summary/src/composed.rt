@@ -17,6 +17,7 @@ ghost use Rattle.cap_summary.specs.Names.{ReadWithin};
 use crate::base::{Base, Others, Passing, lower_of};
 use crate::effect::{Effect, Row};
 use crate::listed::Listed;
+use crate::shared::SharedRow;
 use crate::sorted::{Combine, merge};
 use crate::value::Value;
 use cap_trace::{Fd, Pid};
@@ -75,8 +76,8 @@ impl Effect {
             → of.pids pid ≡ true → others_within of base.now.others ≡ true → ListWithin names handed.cells) }
     {
         let first = match &base.others {
-            Others::Own => self.rows.get(pid),
-            Others::Of(source, _) => self.rows.get(*source),
+            Others::Own => self.row(pid),
+            Others::Of(source, _) => self.row(*source),
             _ => None,
         };
         match (first, &base.others) {
@@ -156,7 +157,7 @@ impl Replaced<'_> {
     fn gave(&self, pid: Pid, row: Option<&Row>) -> bool
         ensures { result ≡ true → found self.now.was.now.rows pid ≡ option_copied row.entry }
     {
-        match (self.was.rows.get(pid), row) {
+        match (self.was.row(pid), row) {
             (Some(was), Some(row)) => was == row,
             (None, None) => true,
             _ => false,
@@ -165,7 +166,7 @@ impl Replaced<'_> {
 
     /// The row that the whole gave a process, where it stands: the new part gives the row that the old one gave, and if
     /// that part is the first, then the second reads no other row of it.
-    fn row(&self, pid: Pid, left: Option<&Row>, right: &Row) -> Option<&Row>
+    fn row(&self, pid: Pid, left: Option<&Row>, right: &Row) -> Option<&SharedRow>
         ensures { IfSome result (λ row. (first : Effect) → option_copied left.entry ≡ found first.rows pid
             → IsOldAt self.now first pid (Some right.now) → IsComposedSo first pid (option_copied left.entry)
             (Some right.now) (Some row.now)) }
@@ -190,7 +191,13 @@ struct Composing<'a> {
 
 impl Composing<'_> {
     /// The row of a process to which the second segment gives this one.
-    fn row(&self, alloc: Global, pid: Pid, left: Option<&Row>, right: &Row) -> Result<Row, NoMemory>
+    fn row(
+        &self,
+        alloc: Global,
+        pid: Pid,
+        left: Option<&Row>,
+        right: &Row,
+    ) -> Result<SharedRow, NoMemory>
         ensures { IfOk result (λ row. option_copied left.entry ≡ found self.now.first.now.rows pid
             → IfSome self.now.old (λ old. IsOldAt old self.now.first.now pid (Some right.now))
             → IsComposedSo self.now.first.now pid (option_copied left.entry) (Some right.now) (Some row)) }
@@ -200,16 +207,17 @@ impl Composing<'_> {
                 return Ok(row.clone()?);
             }
         }
-        self.first.row_after(alloc, pid, right)
+        let row = self.first.row_after(alloc, pid, right)?;
+        Ok(SharedRow::new(alloc, row)?)
     }
 }
 
 impl Combine for Composing<'_> {
-    type Left = Row;
+    type Left = SharedRow;
 
-    type Right = Row;
+    type Right = SharedRow;
 
-    type Out = Row;
+    type Out = SharedRow;
 
     ghost use Rattle.std.specs.Prelude.{◌≡◌, IfSome, refl};
     ghost use Rattle.std.proofs.Common.{ap};
@@ -220,25 +228,35 @@ impl Combine for Composing<'_> {
     ghost gives = { λ s p left right out. left ≡ found s.first.now.rows p
         → IfSome s.old (λ old. IsOldAt old s.first.now p right) → IsComposedSo s.first.now p left right out };
 
-    fn left(&self, _alloc: Global, _pid: u32, left: &Row) -> Result<Option<Row>, NoMemory> {
+    fn left(
+        &self,
+        _alloc: Global,
+        _pid: u32,
+        left: &SharedRow,
+    ) -> Result<Option<SharedRow>, NoMemory> {
         Ok(Some(left.clone()?))
     }
 
-    fn right(&self, alloc: Global, pid: u32, right: &Row) -> Result<Option<Row>, NoMemory> {
-        if right.reads_only(pid) {
+    fn right(
+        &self,
+        alloc: Global,
+        pid: u32,
+        right: &SharedRow,
+    ) -> Result<Option<SharedRow>, NoMemory> {
+        if right.get().reads_only(pid) {
             return Ok(Some(right.clone()?));
         }
-        Ok(Some(self.row(alloc, pid, None, right)?))
+        Ok(Some(self.row(alloc, pid, None, right.get())?))
     }
 
     fn both(
         &self,
         alloc: Global,
         pid: u32,
-        left: &Row,
-        right: &Row,
-    ) -> Result<Option<Row>, NoMemory> {
-        Ok(Some(self.row(alloc, pid, Some(left), right)?))
+        left: &SharedRow,
+        right: &SharedRow,
+    ) -> Result<Option<SharedRow>, NoMemory> {
+        Ok(Some(self.row(alloc, pid, Some(left.get()), right.get())?))
     }
 
     ghost neither = { λ s p is old. record {
@@ -263,7 +281,7 @@ impl Effect {
         ensures names { IfOk result (λ new. (names of : Names) → ReadWithin names of self.now → of.pids pid ≡ true
             → mode_within of mode.now ≡ true → mode_within names mode.now ≡ true → mode_within names new ≡ true) }
     {
-        match (mode, self.rows.get(pid)) {
+        match (mode, self.row(pid)) {
             (Some(value), _) => Ok(Some(self.value_after(alloc, value)?)),
             (None, Some(first)) => Ok(first.mode.clone()?),
             (None, None) => Ok(None),

@@ -5,6 +5,7 @@ ghost use Rattle.cap_summary.specs.RowSizes.{IsSizeOf};
 
 use crate::base::Base;
 use crate::listed::Listed;
+use crate::shared::SharedRow;
 use crate::sorted::Map;
 use crate::value::Value;
 
@@ -23,7 +24,7 @@ pub struct Row {
 #[derive(Drop)]
 pub struct Effect {
     /// A row for each process that is touched, by pid. A process without a row stays as it is.
-    pub rows: Map<Row>,
+    pub rows: Map<SharedRow>,
     /// How many rows there are and cells that they list, where these are counted.
     pub(crate) size: Option<usize>,
     ghost sized: { ForSome size (IsSizeOf rows) },

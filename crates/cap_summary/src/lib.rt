@@ -39,7 +39,7 @@ pub use known::Known;
 pub use line_asks::{LineAsks, UpToThree};
 pub use listed::Listed;
 pub use precondition::{Precondition, Refusal};
-pub use shared::SharedOp;
+pub use shared::{SharedOp, SharedRow};
 pub use sorted::Map;
 pub use summary::{Summary, report_range, resolve, resolve_range};
 pub use value::Value;

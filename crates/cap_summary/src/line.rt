@@ -1,6 +1,6 @@
 //! The effect of one line.
 
-ghost use Rattle.std.specs.Prelude.{◌≡◌, ℕ, true, false, is_none, IfOk, OnOk};
+ghost use Rattle.std.specs.Prelude.{◌≡◌, ◌==◌, ℕ, true, false, is_none, Some, unwrap_or, if◌then◌else◌, IfOk, OnOk};
 ghost use Rattle.std.specs.Option.{option_map_or};
 ghost use Rattle.std.specs.List.{All};
 ghost use Rattle.cap_trace.specs.Seen.{fds_spelled};
@@ -13,7 +13,7 @@ ghost use Rattle.cap_summary.specs.Keys.{Cells};
 ghost use Rattle.cap_summary.specs.Values.{read, reads_within};
 ghost use Rattle.cap_summary.specs.Names.{Names, has_cell, others_within, mode_within, IsListedWithin, ListWithin};
 ghost use Rattle.cap_summary.specs.Names.{RowWithin, RowsWithin, EffectWithin, LineWithin};
-ghost use Rattle.cap_summary.specs.Effects.{base_cell, changed};
+ghost use Rattle.cap_summary.specs.Effects.{own_row, base_cell, changed};
 ghost use Rattle.cap_summary.specs.Sorted.{found};
 ghost use Rattle.cap_summary.specs.Leaving.{base_leaves, leaves, LeavesThenLine};
 ghost use Rattle.cap_summary.specs.Lines.{turned_cell, unlisted, leaves_unlisted, IsThenLine, IsPut, LeavesPut};
@@ -23,7 +23,7 @@ use crate::base::{Base, Others, Passing};
 use crate::effect::{Effect, Row};
 use crate::key::{Key, cell_of_mode};
 use crate::listed::Listed;
-use crate::shared::SharedOp;
+use crate::shared::{SharedOp, SharedRow};
 use crate::sorted::Map;
 use crate::value::Value;
 use cap_machine::{Effect as LineEffect, Mode, OnExec};
@@ -117,9 +117,32 @@ impl Row {
     }
 }
 
+/// The row of a process, in whose place another one stands from then on; one that leaves it as it is, where it has none.
+fn take_row(alloc: Global, rows: &mut Map<SharedRow>, pid: Pid) -> Result<Row, NoMemory>
+    ensures row { IfOk result (λ row. row ≡ unwrap_or (found rows.old pid) own_row) }
+    ensures others { OnOk result ((p : ℕ) → (p == pid) ≡ false → found rows.new p ≡ found rows.old p) }
+{
+    let own = SharedRow::new(alloc, Row::own())?;
+    Ok(rows.take_or(pid, own).owned()?)
+}
+
+/// Gives a process this row.
+fn put_row(alloc: Global, rows: &mut Map<SharedRow>, pid: Pid, row: Row) -> Result<(), NoMemory>
+    ensures { OnOk result ((p : ℕ) → found rows.new p ≡ (if p == pid then Some row else found rows.old p)) }
+{
+    let shared = SharedRow::new(alloc, row)?;
+    rows.set(pid, shared)
+}
+
 /// Puts the row that a line of process `me` makes of it, and of a child that the line makes what a fork makes of that
 /// row.
-fn put_rows(rows: &mut Map<Row>, me: Pid, line: &LineEffect<'_>, row: Row) -> Result<(), NoMemory>
+fn put_rows(
+    alloc: Global,
+    rows: &mut Map<SharedRow>,
+    me: Pid,
+    line: &LineEffect<'_>,
+    row: Row,
+) -> Result<(), NoMemory>
     ensures cells { OnOk result (IsPut line.now me row rows.old rows.new) }
     ensures leaves { OnOk result (LeavesPut line.now me row rows.old rows.new) }
     ensures names { OnOk result ((names : Names) → LineWithin names me line.now → RowWithin names row
@@ -127,13 +150,13 @@ fn put_rows(rows: &mut Map<Row>, me: Pid, line: &LineEffect<'_>, row: Row) -> Re
 {
     match line {
         LineEffect::Keep => Ok(()),
-        LineEffect::Fork(child) => rows.set(*child, row.forked(me)?),
+        LineEffect::Fork(child) => put_row(alloc, rows, *child, row.forked(me)?),
         LineEffect::ForkAs(child, _) => {
             let forked = row.forked(me)?;
-            rows.set(me, row)?;
-            rows.set(*child, forked)
+            put_row(alloc, rows, me, row)?;
+            put_row(alloc, rows, *child, forked)
         }
-        _ => rows.set(me, row),
+        _ => put_row(alloc, rows, me, row),
     }
 }
 
@@ -160,9 +183,9 @@ impl Effect {
             → EffectWithin names self.old → EffectWithin names self.new) }
     {
         self.size = None;
-        let mut row = self.rows.take_or(pid, Row::own());
+        let mut row = take_row(alloc, &mut self.rows, pid)?;
         row.cells.set(alloc, fd, value)?;
-        self.rows.set(pid, row)
+        put_row(alloc, &mut self.rows, pid, row)
     }
 
     /// The effect of this segment and then a line of process `me`, which sets no cell to a value of its own. The rows of
@@ -177,7 +200,7 @@ impl Effect {
         let own = Row::of_line(alloc, me, line)?;
         let row = self.row_after(alloc, me, &own)?;
         self.size = None;
-        put_rows(&mut self.rows, me, line, row)
+        put_rows(alloc, &mut self.rows, me, line, row)
     }
 
     /// The effect of this segment and then a line of process `me`, in place. After an `Err` it is only to be dropped.

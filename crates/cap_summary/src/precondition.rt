@@ -125,11 +125,7 @@ fn row_of<'a>(first: &'a Effect, pid: Pid, last: Pid, row: Option<&'a Row>) -> O
     requires { option_copied row ≡ found first.now.rows last }
     ensures { option_copied result ≡ found first.now.rows pid }
 {
-    if pid == last {
-        row
-    } else {
-        first.rows.get(pid)
-    }
+    if pid == last { row } else { first.row(pid) }
 }
 
 /// What these asks ask before an earlier segment; `None` where one of them holds in every state.
@@ -144,7 +140,7 @@ fn pulled_asks(alloc: Global, first: &Effect, asks: &[Ask]) -> Result<Option<Pul
     let mut kept = Vec::with_capacity(alloc, asks.len())?;
     let mut moved = Vec::new(alloc);
     let mut pid = 0;
-    let mut row = first.rows.get(pid);
+    let mut row = first.row(pid);
     for ask in asks {
         row = row_of(first, ask.pid, pid, row);
         pid = ask.pid;

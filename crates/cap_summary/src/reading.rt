@@ -8,12 +8,14 @@ ghost use Rattle.cap_summary.specs.Effects.{own_row, row_cell};
 ghost use Rattle.cap_summary.specs.Leaving.{row_leaves, leaves};
 ghost use Rattle.cap_summary.specs.Alike.{IsSameEffect};
 ghost use Rattle.cap_summary.specs.RowSizes.{IsSizeOf};
-ghost use Rattle.cap_summary.specs.Sorted.{Rises};
+ghost use Rattle.std.specs.Option.{option_copied};
+ghost use Rattle.cap_summary.specs.Sorted.{found, Rises};
 
 use crate::base::{Base, Others};
 use crate::effect::{Effect, Row};
 use crate::key::Key;
 use crate::listed::Listed;
+use crate::shared::SharedRow;
 use crate::sorted::Map;
 use crate::value::Value;
 use cap_trace::Pid;
@@ -21,13 +23,13 @@ use cap_tree::NoMemory;
 use std::alloc::AllocError;
 
 /// How many rows there are, and cells that they list, as far as they can be counted.
-fn counted(rows: &[(u32, Row)]) -> usize
+fn counted(rows: &[(u32, SharedRow)]) -> usize
     requires { Rises rows.now }
     ensures { IsSizeOf rows.now result }
 {
     let mut size = 0_usize;
     for entry in rows {
-        let cells = entry.1.cells.entries();
+        let cells = entry.1.get().cells.entries();
         size = size.saturating_add(cells.len()).saturating_add(1);
     }
     size
@@ -99,11 +101,21 @@ impl Row {
 }
 
 impl Effect {
+    /// The row of a process, if it has one.
+    pub(crate) fn row(&self, pid: Pid) -> Option<&Row>
+        ensures { option_copied result ≡ found self.now.rows pid }
+    {
+        match self.rows.get(pid) {
+            Some(row) => Some(row.get()),
+            None => None,
+        }
+    }
+
     /// Whether it is known that no line of the segment touches a cell or turns a mode.
     pub fn leaves(&self, pid: Pid, key: Key) -> bool
         ensures { result ≡ leaves self.now pid key }
     {
-        match self.rows.get(pid) {
+        match self.row(pid) {
             Some(row) => row.leaves(key),
             None => true,
         }
@@ -127,7 +139,7 @@ impl Effect {
     }
 
     /// The effect of these rows, with its size.
-    pub(crate) fn of(rows: Map<Row>) -> Effect
+    pub(crate) fn of(rows: Map<SharedRow>) -> Effect
         ensures { result.rows ≡ rows }
     {
         let size = Some(counted(rows.entries()));

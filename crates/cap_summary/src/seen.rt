@@ -113,7 +113,7 @@ impl Effect {
         ensures names { (names : Names) → IfSome (found self.now.rows pid) (IsRowWithin names pid)
             → has_cell names pid key ≡ true → seen_within (has_cell names) result ≡ true }
     {
-        match self.rows.get(pid) {
+        match self.row(pid) {
             Some(row) => row.seen(pid, key),
             None => Seen::Same(pid, key),
         }

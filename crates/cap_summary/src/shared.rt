@@ -1,7 +1,8 @@
-//! Ops that values share.
+//! Ops that values share, and rows that effects share.
 
 ghost use Rattle.std.specs.Prelude.{◌≡◌, IfOk};
 
+use crate::effect::Row;
 use cap_machine::Op;
 use std::alloc::{AllocError, Global};
 use std::marker::Model;
@@ -59,5 +60,69 @@ impl SharedOp {
         ensures { result.now ≡ self.now }
     {
         &self.op
+    }
+}
+
+/// A row that several effects own. A contract sees the row.
+#[derive(Drop)]
+pub struct SharedRow {
+    row: Rc<Row>,
+}
+
+impl Model for SharedRow {
+    ghost use Rattle.cap_summary.specs.declared.effect.Row.{Row as Held};
+
+    ghost Value = { Held };
+
+    ghost view = { λ shared. shared.row.value };
+}
+
+impl PartialEq for SharedRow {
+    ghost use Rattle.cap_summary.specs.contracts.effect.RowPartialEq.TheImpl as rows;
+    ghost use Rattle.cap_summary.specs.contracts.effect.RowPartialEq.TheImpl.Laws.{laws-law};
+
+    ghost eq = { rows.eq-value.it };
+
+    ghost laws = { laws-law };
+
+    fn eq(&self, other: &SharedRow) -> bool {
+        *self.row == *other.row
+    }
+}
+
+/// A clone is the same row. It takes constant time and allocates nothing. It fails only if there are so many that they can't be
+/// counted.
+impl Clone for SharedRow {
+    ghost is_clone = { λ shared copy. copy ≡ shared };
+
+    fn clone(&self) -> Result<SharedRow, AllocError> {
+        Ok(SharedRow {
+            row: self.row.clone()?,
+        })
+    }
+}
+
+impl SharedRow {
+    /// A row, to be shared.
+    pub fn new(alloc: Global, row: Row) -> Result<SharedRow, AllocError>
+        ensures { IfOk result (λ shared. shared ≡ row) }
+    {
+        Ok(SharedRow {
+            row: Rc::new(alloc, row)?,
+        })
+    }
+
+    /// The row.
+    pub fn get(&self) -> &Row
+        ensures { result.now ≡ self.now }
+    {
+        &self.row
+    }
+
+    /// The row, or a clone of it where it has other owners.
+    pub(crate) fn owned(self) -> Result<Row, AllocError>
+        ensures { IfOk result (λ row. row ≡ self) }
+    {
+        Rc::unwrap_or_clone(self.row)
     }
 }

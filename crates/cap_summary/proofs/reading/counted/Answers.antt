@@ -1,7 +1,9 @@
-use Rattle.std.proofs.Common.{◌≡◌, ℕ, List, length, min, ap, arith}
+use Rattle.std.proofs.Common.{◌≡◌, ℕ, List, length, min, ap, subst, ◌∙◌, arith}
 use Rattle.std.specs.List.{All}
 use Rattle.std.proofs.lemmas.List.{take_all}
 use Rattle.cap_summary.specs.declared.value.Value.{Value}
+use Rattle.cap_summary.specs.declared.effect.Row.{Row}
+use Rattle.cap_summary.specs.Sorted.{RisesFrom}
 use Rattle.cap_summary.specs.RowSizes.{rows_size, CellsRise}
 use Rattle.cap_summary.proofs.SortedFound.{keys_rise}
 use Rattle.cap_summary.proofs.Counting.{sizes_more, rises_more}
@@ -13,18 +15,21 @@ loop-entry-preserved c =
     let i = c.loop-entry.entry-index in
     let e = c.entry-item.result in
     let more = sizes_more rows i e c.loop-entry-test.true c.entry-item.is in
-    let cells = ap (λ (cells : List (ℕ × Value)). length cells) c.entries-cells.ensures.all in
+    let cells : c.entries-cells.result.now ≡ e.1.cells =
+    c.entries-cells.ensures.all ∙ ap (λ (row : Row). row.cells) c.get.ensures in
+    let listed = ap (λ (cells : List (ℕ × Value)). length cells) cells in
+    let rises = subst (λ (row : Row). RisesFrom 0 row.cells) c.get.ensures c.entries-cells.ensures.rising in
     record {
       count = omega (
         arith,
         more,
-        cells,
+        listed,
         c.loop-entry.invariant.count,
         c.saturating_add.ensures,
         c.saturating_add-size.ensures,
       );
       cells = rises_more rows i e c.loop-entry-test.true c.entry-item.is c.loop-entry.invariant.cells
-          (keys_rise 0 e.1.cells c.entries-cells.ensures.rising);
+          (keys_rise 0 e.1.cells rises);
     }
 
 pub returns : goal.returns
