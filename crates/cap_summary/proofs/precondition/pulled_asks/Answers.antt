@@ -22,7 +22,7 @@ pub loop-ask-init : goal.loop-ask-init
 loop-ask-init c = record {
   back = pulled_none _ _ _ c.in_ok-kept.ensures.items c.new-moved.ensures.items;
   kept = rw c.in_ok-kept.ensures.items c.requires;
-  row = c.get-row.ensures;
+  row = c.row-row.ensures;
 }
 
 pub returns-in-Always-clause-always : goal.returns-in-Always-clause-always
