@@ -4,6 +4,7 @@ use Rattle.std.proofs.Common.{Bool, List, [], ◌∷◌, if◌then◌else◌}
 use Rattle.std.specs.Prelude.{not}
 use Rattle.std.specs.List.{list_all, All}
 use Rattle.std.proofs.lemmas.List.Sums.{AllPass-from_list_all}
+use Rattle.std.proofs.Math.Bool.{or-false, or-true, and-false}
 use Rattle.cap_rights.specs.Rights.{none, has_all}
 use Rattle.cap_machine.specs.declared.cell.OnExec.{OnExec}
 use Rattle.cap_machine.specs.declared.cell.OnExec.TheVariants.{Set, Clear, Unsure}
@@ -21,11 +22,11 @@ use Rattle.cap_summary.specs.Tests.{has, has_kind, held_kind, lacks, any_held, a
 use Rattle.cap_summary.specs.Asks.{any_holds, standing, is_sure, certain_at, possible_at, CanBe, IsOpen, PulledIsOpen, PulledCan}
 use Rattle.cap_summary.specs.Preconditions.{any_certain}
 use Rattle.std.proofs.lemmas.List.Elements.{All-nil, All-cons}
-use Rattle.std.proofs.lemmas.Bool.{or_parts, and_cases}
+use Rattle.std.proofs.lemmas.Bool.{or_parts, and_cases, or_cases}
 use Rattle.cap_summary.specs.declared.ask.Pulled.{Pulled}
 use Rattle.cap_summary.specs.declared.ask.Pulled.TheVariants.{Always, Never, Where}
 use Rattle.cap_summary.proofs.TestPassing.{own_rights, none_lacks}
-use Rattle.cap_summary.proofs.Bools.{not_true, or_false, or_true, and_left, and_right, and_with_false, or_one, or_left, or_right}
+use Rattle.cap_summary.proofs.Bools.{not_true, and_left, and_right, or_left, or_right}
 
 -- the state in which each cell and each mode is as given
 abbrev everywhere : Cell → Mode → State
@@ -42,10 +43,10 @@ stands r cells p (key.Fd f) = refl
 -- ---- cells that lack none of the rights
 -- at a descriptor they pass by their kind
 pub sure_by_kind : (a : Ask) (c : Cell) → has_kind a.kinds c ≡ passes a (holding a.rights c)
-sure_by_kind a Unknown = sym (rw (and_with_false (has a.lacking 3)) (or_false (has a.kinds 3)))
-sure_by_kind a Closed = sym (rw (and_with_false (has a.lacking 4)) (or_false (has a.kinds 4)))
-sure_by_kind a (Held r flag) = sym (rw (own_rights a.rights, and_with_false (has a.lacking (held_kind flag)))
-    (or_false (has a.kinds (held_kind flag))))
+sure_by_kind a Unknown = sym (rw (and-false (has a.lacking 3)) (or-false (has a.kinds 3)))
+sure_by_kind a Closed = sym (rw (and-false (has a.lacking 4)) (or-false (has a.kinds 4)))
+sure_by_kind a (Held r flag) = sym (rw (own_rights a.rights, and-false (has a.lacking (held_kind flag)))
+    (or-false (has a.kinds (held_kind flag))))
 
 -- what passes so passes in any state
 pub sure_passes : (a : Ask) (s : State) (p : ℕ) (k : Key) → is_sure a k (cells_of s p k) ≡ true
@@ -65,7 +66,7 @@ fails_with a r key.Mode c all is = is
 fails_with a r (key.Fd f) Unknown all is = is
 fails_with a r (key.Fd f) Closed all is = is
 fails_with a r (key.Fd f) (Held h flag) all is =
-    rw (or_left (has a.kinds (held_kind flag)) _ is, all) (and_with_false (has a.lacking (held_kind flag)))
+    rw (or_left (has a.kinds (held_kind flag)) _ is, all) (and-false (has a.lacking (held_kind flag)))
 
 -- the first of some cells that fails a test
 abbrev pub failing : (Cell → Bool) → List Cell → Cell
@@ -98,21 +99,21 @@ each_passes p alike all c = by c
 
 -- a test that some cell can pass has one that does: of a kind that passes, or one that holds no rights
 possible_passes : (a : Ask) → can_pass a ≡ true → (c : Cell) × (passes a c ≡ true)
-possible_passes a is = elim (or_one (any_kind a.kinds) _ is) [
-  | inl any ↦ elim (or_one (any_held a.kinds) _ any) [
+possible_passes a is = elim (or_cases (any_kind a.kinds) _ is) [
+  | inl any ↦ elim (or_cases (any_held a.kinds) _ any) [
     | inl held ↦ of_held a.kinds held (λ c h. rw h refl)
-    | inr more ↦ elim (or_one (has a.kinds 3) _ more) [ inl h ↦ (Unknown, rw h refl) | inr h ↦ (Closed, rw h refl) ]
+    | inr more ↦ elim (or_cases (has a.kinds 3) _ more) [ inl h ↦ (Unknown, rw h refl) | inr h ↦ (Closed, rw h refl) ]
   ]
   | inr lacking ↦ of_held a.lacking (and_left (any_held a.lacking) _ lacking)
-      (λ k h. rw (h, and_right (any_held a.lacking) _ lacking) (or_true (has a.kinds k)))
+      (λ k h. rw (h, and_right (any_held a.lacking) _ lacking) (or-true (has a.kinds k)))
 ]
   where
     of_held : (kinds : Kinds) → any_held kinds ≡ true
         → ((k : ℕ) → has kinds k ≡ true → (has a.kinds k || (has a.lacking k && not (has_all none a.rights))) ≡ true)
         → (c : Cell) × (passes a c ≡ true)
-    of_held kinds any passed = elim (or_one (has kinds 0) _ any) [
+    of_held kinds any passed = elim (or_cases (has kinds 0) _ any) [
       | inl h ↦ (Held none Set, passed 0 h)
-      | inr more ↦ elim (or_one (has kinds 1) (has kinds 2) more) [
+      | inr more ↦ elim (or_cases (has kinds 1) (has kinds 2) more) [
         | inl h ↦ (Held none Clear, passed 1 h)
         | inr h ↦ (Held none Unsure, passed 2 h)
       ]
@@ -121,9 +122,9 @@ possible_passes a is = elim (or_one (any_kind a.kinds) _ is) [
 -- ---- in some state
 -- a mode whose cell a test passes
 mode_passes : (a : Ask) → possible_at key.Mode a ≡ true → (m : Mode) × (passes a (mode_cell m) ≡ true)
-mode_passes a is = elim (or_one (passes a (mode_cell NoMode)) _ is) [
+mode_passes a is = elim (or_cases (passes a (mode_cell NoMode)) _ is) [
   | inl h ↦ (NoMode, h)
-  | inr more ↦ elim (or_one (passes a (mode_cell Inside)) _ more) [
+  | inr more ↦ elim (or_cases (passes a (mode_cell Inside)) _ more) [
     | inl h ↦ (Inside, h)
     | inr h ↦ (Outside, h)
   ]
@@ -172,13 +173,13 @@ no_kind kinds Closed is = (or_parts _ _ (or_parts _ _ is).1).1
 -- a cell that lacks some rights is one that can pass where a test looks at them
 none_lacked : (a : Ask) (c : Cell) → (any_held a.lacking && not (has_all none a.rights)) ≡ false
     → (has_kind a.lacking c && lacks a.rights c) ≡ false
-none_lacked a Unknown is = and_with_false (has a.lacking 3)
-none_lacked a Closed is = and_with_false (has a.lacking 4)
+none_lacked a Unknown is = and-false (has a.lacking 3)
+none_lacked a Closed is = and-false (has a.lacking 4)
 none_lacked a (Held r flag) is = elim (and_cases _ _ is) [
   | inl none_held ↦ rw (unheld a.lacking flag none_held) refl
   | inr all ↦
       rw (not_true (not (has_all r a.rights)) (not (has_all none a.rights)) all (none_lacks r a.rights))
-      (and_with_false (has a.lacking (held_kind flag)))
+      (and-false (has a.lacking (held_kind flag)))
 ]
 
 pub never_passes : (p : ℕ) (k : Key) (a : Ask) → possible_at k a ≡ false → (s : State) → passes a (cells_of s p k) ≡ false
@@ -204,9 +205,9 @@ certain_holds p k a is s =
 -- where one ask is certain one holds, and else each fails in some state
 pub certain_any : (asks : List Ask) → any_certain asks ≡ true → (s : State) → any_holds (cells_of s) asks ≡ true
 certain_any [] is s = is
-certain_any (a ∷ asks) is s = elim (or_one (certain_at a.key a) (any_certain asks) is) [
+certain_any (a ∷ asks) is s = elim (or_cases (certain_at a.key a) (any_certain asks) is) [
   | inl h ↦ rw (certain_holds a.pid a.key a h s) refl
-  | inr h ↦ rw (certain_any asks h s) (or_true (passes a (cells_of s a.pid a.key)))
+  | inr h ↦ rw (certain_any asks h s) (or-true (passes a (cells_of s a.pid a.key)))
 ]
 
 pub certain_none : (asks : List Ask) → any_certain asks ≡ false → All (CanBe false) asks

@@ -3,6 +3,7 @@ use Rattle.std.proofs.Common.{◌≡◌, ℕ, ◌+◌, ◌*◌, ◌≤◌, eqb, 
 use Rattle.std.proofs.Common.{Bool, true, false, cond, refl, sym, ap, ◌∙◌, ◌||◌, arith, subst, length-append}
 use Rattle.std.specs.Prelude.{is_some, nat_le}
 use Rattle.std.proofs.Math.Nat.{add-mul, one-mul}
+use Rattle.std.proofs.Math.Bool.{or-true}
 use Rattle.std.proofs.lemmas.Bool.{eqb-true, eq-eqb}
 use Rattle.std.proofs.lemmas.List.Folds.{list_any-append}
 use Rattle.std.proofs.lemmas.Bool.Decides.{nat_tests}
@@ -69,11 +70,7 @@ in_first : (a b : List ℕ) (n : ℕ) → is_one a n ≡ true → is_one (a ++ b
 in_first a b n is = list_any-append (λ m. eqb m n) a b ∙ ap (λ r. r || is_one b n) is
 
 pub in_second : (a b : List ℕ) (n : ℕ) → is_one b n ≡ true → is_one (a ++ b) n ≡ true
-in_second a b n is = list_any-append (λ m. eqb m n) a b ∙ ap (λ r. is_one a n || r) is ∙ or_yes (is_one a n)
-  where
-    or_yes : (r : Bool) → (r || true) ≡ true
-    or_yes true = refl
-    or_yes false = refl
+in_second a b n is = list_any-append (λ m. eqb m n) a b ∙ ap (λ r. is_one a n || r) is ∙ or-true (is_one a n)
 
 -- those that each of some numbers gives
 abbrev pub all_of : (ℕ → List ℕ) → List ℕ → List ℕ

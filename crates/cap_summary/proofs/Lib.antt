@@ -31,4 +31,3 @@ pub mod Explained
 pub mod FewKeys
 pub mod FewAsks
 pub mod Judged
-pub mod Replacing

@@ -2,6 +2,7 @@
 use Rattle.std.proofs.Common.{◌≡◌, List, [], ◌∷◌, ◌++◌, Bool, true, false, ◌&&◌, ◌||◌, cond}
 use Rattle.std.proofs.Common.{refl, sym, ap, ◌∙◌}
 use Rattle.std.specs.Prelude.{not}
+use Rattle.std.proofs.Math.Bool.{or-false, or-true}
 use Rattle.cap_machine.specs.declared.cell.Cell.{Cell}
 use Rattle.cap_machine.specs.declared.rule.Word.{Word}
 use Rattle.cap_machine.specs.declared.rule.Check.{Check}
@@ -13,7 +14,7 @@ use Rattle.cap_summary.specs.declared.kinds.TheConstants.Kinds.{UNHELD}
 use Rattle.cap_summary.specs.Keys.{mode_cell}
 use Rattle.cap_summary.specs.Tests.{has_kind}
 use Rattle.cap_summary.specs.LineAsks.{has_any}
-use Rattle.cap_summary.proofs.Bools.{or_false, or_true, and_left, and_right}
+use Rattle.cap_summary.proofs.Bools.{and_left, and_right}
 
 pub has_any-append : {X : Type 0} (xs ys : List X) → has_any (xs ++ ys) ≡ (has_any xs || has_any ys)
 has_any-append [] ys = refl
@@ -30,7 +31,7 @@ pub two_missing : (word : Word) (a b : Check) (cell other : Cell) (asked more : 
 two_missing word a b cell other asked more is also =
     rw (is, also) (sym (has_any-append (fault word a cell) (fault word b other ++ [])
     ∙ ap (λ r. has_any (fault word a cell) || r) (has_any-append (fault word b other) []
-    ∙ or_false (has_any (fault word b other)))))
+    ∙ or-false (has_any (fault word b other)))))
 
 -- ---- a refusal
 pub may_be_inside : (m : Mode) → has_kind UNHELD (mode_cell m) ≡ not (is_outside m)
@@ -52,7 +53,7 @@ neither_lacking false false = refl
 pub refusal_found : {X : Type 0} (x : X) (checks excused at outside lacked inside : Bool)
     → not lacked ≡ (checks && excused) → inside ≡ (at && not outside)
     → not (inside || lacked) ≡ has_any (cond (checks && (excused && (not at || outside))) (x ∷ []) [])
-refusal_found x checks excused at outside true inside is mode = rw (or_true inside) (none checks excused is)
+refusal_found x checks excused at outside true inside is mode = rw (or-true inside) (none checks excused is)
   where
     none : (checks excused : Bool) → false ≡ (checks && excused)
         → false ≡ has_any (cond (checks && (excused && (not at || outside))) (x ∷ []) [])

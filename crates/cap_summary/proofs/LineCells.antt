@@ -5,6 +5,7 @@ use Rattle.std.specs.Option.{option_map_or}
 use Rattle.std.specs.List.{list_any}
 use Rattle.std.proofs.lemmas.List.{take_all}
 use Rattle.std.proofs.lemmas.List.Folds.{list_any_more}
+use Rattle.std.proofs.Math.Bool.{or-false, or-true}
 use Rattle.cap_rights.specs.Rights.{all}
 use Rattle.cap_machine.specs.declared.cell.OnExec.TheVariants.{Unsure}
 use Rattle.cap_machine.specs.declared.cell.Cell.TheVariants.{Closed}
@@ -18,13 +19,12 @@ use Rattle.cap_summary.specs.Keys.{Cells}
 use Rattle.cap_summary.specs.Values.{read}
 use Rattle.cap_summary.specs.Sorted.{found}
 use Rattle.cap_summary.specs.Lines.{IsStarted, IsListOf}
-use Rattle.cap_summary.proofs.Bools.{or_false, or_true}
 
 one_more : (cells : Cells) (v : Value) (b any : Bool) (o : Option Value)
     → option_map_or (read cells) o Closed ≡ cond any (read cells v) Closed
     → option_map_or (read cells) (cond b (Some v) o) Closed ≡ cond (any || b) (read cells v) Closed
-one_more cells v true any o is = rw (or_true any) refl
-one_more cells v false any o is = rw (or_false any) is
+one_more cells v true any o is = rw (or-true any) refl
+one_more cells v false any o is = rw (or-false any) is
 
 -- one more descriptor that a process starts with
 pub started_more : (fds : List ℕ) (i : ℕ) (listed more : List (ℕ × Value)) → i < length fds

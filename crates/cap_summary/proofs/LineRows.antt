@@ -1,9 +1,9 @@
 -- The cells after a line, by the rows of the processes that it touches.
 use Rattle.std.proofs.Common.{◌≡◌, ℕ, ◌==◌, Bool, true, false, ◌||◌, cond, refl, sym, ap, ◌∙◌, inl, inr, subst}
 use Rattle.std.proofs.Common.{List, Some, None, Bor}
-use Rattle.std.specs.Prelude.{is_none, nat_le}
 use Rattle.std.specs.Option.{option_map_or}
 use Rattle.std.proofs.lemmas.Bool.{eqb-true, eq-eqb}
+use Rattle.std.proofs.Math.Bool.{or-false}
 use Rattle.cap_machine.specs.declared.cell.OnExec.TheVariants.{Set, Clear, Unsure}
 use Rattle.cap_machine.specs.declared.cell.Cell.{Cell}
 use Rattle.cap_machine.specs.declared.cell.Cell.TheVariants.{Unknown, Closed, Held}
@@ -11,8 +11,6 @@ use Rattle.cap_machine.specs.declared.rule.Effect.{Effect as LineEffect}
 use Rattle.cap_machine.specs.declared.rule.Effect.TheVariants as lines
 use Rattle.cap_machine.specs.Op.{applied, same}
 use Rattle.cap_machine.specs.Touch.{kept, given, taken, stays, follows}
-use Rattle.cap_machine.specs.Effect.{effect_touch, effect_turn}
-use Rattle.cap_machine.specs.Wanted.{is_child}
 use Rattle.cap_machine.specs.History.{touched}
 use Rattle.cap_summary.specs.declared.key.Key.{Key}
 use Rattle.cap_summary.specs.declared.key.Key.TheVariants as key
@@ -24,11 +22,10 @@ use Rattle.cap_summary.specs.Keys.{Cells}
 use Rattle.cap_summary.specs.Values.{read}
 use Rattle.cap_summary.specs.Effects.{row_cell, changed, IsRowAfter}
 use Rattle.cap_summary.specs.Sorted.{found}
-use Rattle.cap_summary.specs.Leaving.{base_leaves, row_leaves, leaves, LineLeaves, LeavesThenLine}
+use Rattle.cap_summary.specs.Leaving.{row_leaves, leaves, LineLeaves, LeavesThenLine}
 use Rattle.cap_summary.specs.Lines.{turned_cell, line_after, IsThenLine, is_touched, IsPut, LeavesPut, IsRowOf, LeavesOwn}
-use Rattle.cap_summary.specs.Lines.{IsListOf, sets_cells, lists, unlisted, leaves_unlisted}
-use Rattle.cap_summary.proofs.RowsComposed.{not_left}
-use Rattle.cap_summary.proofs.Bools.{or_false, or_right, and_left, and_right, and_with_false}
+use Rattle.cap_summary.specs.Lines.{IsListOf, unlisted, leaves_unlisted}
+use Rattle.cap_summary.proofs.Bools.{or_right}
 
 -- ---- a process that isn't touched keeps its cells
 untouched_left : (line : LineEffect) (me p : ℕ) → is_touched line me p ≡ false → (k : Key) → LineLeaves line me p k
@@ -73,7 +70,7 @@ module _ (me : ℕ) (cells : Cells) where
   as_mode : (child p : ℕ) (b : Bool) → (p == child) ≡ b → (p == me || b) ≡ true
       → turned_cell (cond b (follows me) stays) cells p ≡ cells me key.Mode
   as_mode child p true is touched = refl
-  as_mode child p false is touched = ap (λ q. cells q key.Mode) (eqb-true p me (sym (or_false (p == me)) ∙ touched))
+  as_mode child p false is touched = ap (λ q. cells q key.Mode) (eqb-true p me (sym (or-false (p == me)) ∙ touched))
 
   as_cell : (child p f : ℕ) (given_here b : Bool) → (p == me || b) ≡ true
       → touched (cond given_here (given Unknown) (cond b (taken same me f) kept)) (λ q g. cells q (key.Fd g)) p f
@@ -81,7 +78,7 @@ module _ (me : ℕ) (cells : Cells) where
   as_cell child p f true b is = refl
   as_cell child p f false true is = same_is (cells me (key.Fd f))
   as_cell child p f false false is =
-      ap (λ q. cells q (key.Fd f)) (eqb-true p me (sym (or_false (p == me)) ∙ is))
+      ap (λ q. cells q (key.Fd f)) (eqb-true p me (sym (or-false (p == me)) ∙ is))
 
   own_too : (child : ℕ) → (me == me || me == child) ≡ true
   own_too child = rw (eq-eqb me me refl) refl
@@ -145,24 +142,3 @@ module _ (first new : Effect) (line : LineEffect) (me : ℕ) (own row : Row) whe
         subst (λ (q : ℕ). (leaves first q k ≡ true) × LineLeaves line me q k) (sym here.0)
         (both.0, own_left here.1 k both.1)
   ]
-
--- ---- what the row that a line makes of its process leaves
-pub row_left : (line : LineEffect) (me : ℕ) (row : Row) → sets_cells line ≡ false
-    → ((f : ℕ) → base_leaves row.base f ≡ leaves_unlisted line f)
-    → (is_child line me ≡ false → is_none row.mode ≡ true → effect_turn line me me ≡ stays)
-    → ((f : ℕ) → is_none (found row.cells f) ≡ true → lists line f ≡ false) → LeavesOwn line me row
-row_left line me row whole base mode listed alone key.Mode left = mode alone left
-row_left line me row whole base mode listed alone (key.Fd f) left = each line whole alone
-    (sym (base f) ∙ and_right (is_none (found row.cells f)) (base_leaves row.base f) left)
-    (listed f (and_left (is_none (found row.cells f)) (base_leaves row.base f) left))
-  where
-    each : (line : LineEffect) → sets_cells line ≡ false → is_child line me ≡ false → leaves_unlisted line f ≡ true
-        → lists line f ≡ false → effect_touch line me me f ≡ kept
-    each (lines.CloseFrom n) whole alone unlisted none =
-        rw (not_left (nat_le n f) unlisted, and_with_false (me == me)) refl
-    each (lines.Fork child) whole alone unlisted none = rw alone refl
-    each (lines.ForkAs child g) whole alone unlisted none =
-        rw (none, and_with_false (me == me || me == child), alone) refl
-    each lines.Keep whole alone unlisted none = refl
-    each lines.Enter whole alone unlisted none = refl
-    each _ whole alone unlisted none = absurd cc

@@ -4,6 +4,8 @@ use Rattle.std.proofs.Common.{Option, Some, None, ℕ, ◌<◌, length, get_or, 
 use Rattle.std.specs.Prelude.{not, IfSome, is_some}
 use Rattle.std.specs.List.{list_any, All}
 use Rattle.std.proofs.lemmas.List.Elements.{All-push}
+use Rattle.std.proofs.Math.Bool.{or-false, or-true, or_assoc}
+use Rattle.std.proofs.lemmas.Bool.{or_cases}
 use Rattle.cap_machine.specs.State.{State}
 use Rattle.std.proofs.lemmas.List.Folds.{list_any-append}
 use Rattle.cap_summary.specs.declared.ask.Ask.{Ask}
@@ -15,7 +17,6 @@ use Rattle.cap_summary.specs.Asks.{any_holds, CanBe, IsOpen}
 use Rattle.cap_summary.specs.LineAsks.{part_holds, one_holds}
 use Rattle.cap_summary.specs.Preconditions.{is_wrongful, is_met, has_part, PartsAreOpen, RefusalIsOpen, IsPossible}
 use Rattle.cap_summary.specs.Preconditions.{IsMetOr}
-use Rattle.cap_summary.proofs.Bools.{or_false, or_true, or_assoc, or_one}
 
 grouped : (certain asks refusals more : Bool) → (certain || (asks || (refusals || more)))
     ≡ ((certain || (asks || refusals)) || more)
@@ -29,7 +30,7 @@ pub refused_more : (cells : Cells) (pre : Precondition) (refusals : List Refusal
     → (pre.certain || (any_holds cells pre.asks.items || list_any (is_wrongful cells) refusals))
     ≡ (is_met cells pre || is_wrongful cells r)
 refused_more cells pre refusals r is =
-    rw (is, list_any-append (is_wrongful cells) pre.refusals.items (r ∷ []), or_false (is_wrongful cells r))
+    rw (is, list_any-append (is_wrongful cells) pre.refusals.items (r ∷ []), or-false (is_wrongful cells r))
     (grouped pre.certain (any_holds cells pre.asks.items) (list_any (is_wrongful cells) pre.refusals.items)
     (is_wrongful cells r))
 
@@ -47,8 +48,8 @@ pub met_by_ask : (cells : Cells) (pre : Precondition) (ordered : List Ask) → a
     → any_holds cells ordered ≡ (any_holds cells pre.asks.items || false) → true ≡ is_met cells pre
 met_by_ask cells pre ordered held same =
     let own : any_holds cells pre.asks.items ≡ true =
-    sym (or_false (any_holds cells pre.asks.items)) ∙ sym same ∙ held in
-    rw own (sym (or_true pre.certain))
+    sym (or-false (any_holds cells pre.asks.items)) ∙ sym same ∙ held in
+    rw own (sym (or-true pre.certain))
 
 -- ---- what holds in some state
 -- an ask that is there, of which it depends on the state, holds in some
@@ -60,17 +61,17 @@ part_somewhere (Some ask) open_ is = open_.holds
 -- so does one of up to three, where there is one
 one_somewhere : (asks : UpToThree) → PartsAreOpen asks → has_part asks ≡ true
     → (s : State) × (one_holds (cells_of s) asks ≡ true)
-one_somewhere asks open_ is = elim (or_one (is_some asks.mode) _ is) [
+one_somewhere asks open_ is = elim (or_cases (is_some asks.mode) _ is) [
   | inl h ↦ let at = part_somewhere asks.mode open_.mode h in (at.0, rw at.1 refl)
-  | inr more ↦ elim (or_one (is_some asks.first) (is_some asks.second) more) [
+  | inr more ↦ elim (or_cases (is_some asks.first) (is_some asks.second) more) [
     | inl h ↦
         let at = part_somewhere asks.first open_.first h in
-        (at.0, rw at.1 (or_true (part_holds (cells_of at.0) asks.mode)))
+        (at.0, rw at.1 (or-true (part_holds (cells_of at.0) asks.mode)))
     | inr h ↦
         let at = part_somewhere asks.second open_.second h in (
           at.0,
-          rw (at.1, or_true (part_holds (cells_of at.0) asks.first))
-              (or_true (part_holds (cells_of at.0) asks.mode)),
+          rw (at.1, or-true (part_holds (cells_of at.0) asks.first))
+              (or-true (part_holds (cells_of at.0) asks.mode)),
         )
   ]
 ]

@@ -97,25 +97,24 @@ module _ (a b : Names) (among : AreAmong a b) where
   }
 
 -- ---- the lines of two parts
-pub first_among : (t u : List Step) → AreAmong (names_in t) (names_in (t ++ u))
-first_among t u = record {
-  pids = λ p is.
-      let named : Step → Bool = λ step. names_pid p step.line in
-      list_any-append named t u ∙ or_first (list_any named t) (list_any named u) is;
-  fds = λ f is.
-      let named : Step → Bool = λ step. line_names_fd f step.line in
-      list_any-append named t u ∙ or_first (list_any named t) (list_any named u) is;
-}
+module _ (t u : List Step) where
+  in_first : (named : Step → Bool) → list_any named t ≡ true → list_any named (t ++ u) ≡ true
+  in_first named is = list_any-append named t u ∙ or_first (list_any named t) (list_any named u) is
 
-pub second_among : (t u : List Step) → AreAmong (names_in u) (names_in (t ++ u))
-second_among t u = record {
-  pids = λ p is.
-      let named : Step → Bool = λ step. names_pid p step.line in
-      list_any-append named t u ∙ or_second (list_any named t) (list_any named u) is;
-  fds = λ f is.
-      let named : Step → Bool = λ step. line_names_fd f step.line in
-      list_any-append named t u ∙ or_second (list_any named t) (list_any named u) is;
-}
+  in_second : (named : Step → Bool) → list_any named u ≡ true → list_any named (t ++ u) ≡ true
+  in_second named is = list_any-append named t u ∙ or_second (list_any named t) (list_any named u) is
+
+  pub first_among : AreAmong (names_in t) (names_in (t ++ u))
+  first_among = record {
+    pids = λ p. in_first (λ step. names_pid p step.line);
+    fds = λ f. in_first (λ step. line_names_fd f step.line);
+  }
+
+  pub second_among : AreAmong (names_in u) (names_in (t ++ u))
+  second_among = record {
+    pids = λ p. in_second (λ step. names_pid p step.line);
+    fds = λ f. in_second (λ step. line_names_fd f step.line);
+  }
 
 -- ---- a line, and what it asks
 not_kept : (b : Bool) (t : Touch) → (t ≡ kept → ⊥) → b ≡ true → cond b t kept ≡ kept → ⊥

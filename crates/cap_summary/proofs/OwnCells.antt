@@ -96,11 +96,6 @@ module _ (before after : Cells) (p : ℕ) (same : (k : Key) → before p k ≡ a
       (base_cell after p row.base f) (is.cells f)
       (ap (λ c. cond (is_from row.base.closed_from f) Closed c) (same_others row.base.others f is.others))
 
--- .. where the first segment leaves the process
-pub same_row : (first : Effect) (p : ℕ) → None ≡ found first.rows p → (cells : Cells) (row : Row)
-    → RowWithin (only p) row → (k : Key) → row_cell cells p row k ≡ row_cell (changed first cells) p row k
-same_row first p left cells = own_row cells (changed first cells) p (λ k. ap (λ row. cell_in cells row p k) left)
-
 -- .. where another first segment gives the process the same row
 pub first_replaced : (was first : Effect) (p : ℕ) (left : Option Row) (right : Row) (new : Option Row)
     → left ≡ found first.rows p → found was.rows p ≡ left → RowWithin (only p) right

@@ -5,6 +5,7 @@ use Rattle.std.specs.List.{list_any, All}
 use Rattle.std.proofs.lemmas.List.{take_more}
 use Rattle.std.proofs.lemmas.List.Folds.{list_any-append}
 use Rattle.std.proofs.lemmas.List.Elements.{All-push, All-head}
+use Rattle.std.proofs.Math.Bool.{or-false, or-true, or_assoc, or_comm}
 use Rattle.cap_machine.specs.State.{State}
 use Rattle.cap_summary.specs.declared.ask.Ask.{Ask}
 use Rattle.cap_summary.specs.declared.effect.Effect.{Effect}
@@ -29,11 +30,11 @@ use Rattle.cap_summary.specs.declared.precondition.Refusal.{Refusal}
 use Rattle.cap_summary.specs.Names.{Names, has_cell, EffectWithin, RefusalsWithin, PreWithin}
 use Rattle.cap_summary.specs.Asks.{place, holds, any_holds, CanBe, AskWithin, Rises, IsUnionOf, Within, Can}
 use Rattle.cap_summary.specs.Preconditions.{is_met, is_wrongful, IsPulledBack, AreAskedByBoth, IsAskedByBoth, IsPossible}
-use Rattle.cap_summary.specs.Preconditions.{IsSettled, IsMetOr, IsSamePrecondition}
+use Rattle.cap_summary.specs.Preconditions.{IsSettled, IsMetOr}
 use Rattle.cap_summary.specs.Sizes.{asks_size}
 use Rattle.std.specs.declared.vec.Vec.{Vec}
 use Rattle.std.specs.declared.alloc.Global.{Global}
-use Rattle.cap_summary.proofs.Bools.{or_false, or_true, or_assoc, or_last, or_crossed, or_swap}
+use Rattle.cap_summary.proofs.Bools.{or_last, or_crossed}
 use Rattle.cap_summary.proofs.Uniting.{all_left, all_right, rises_put, rises_without, drop_here}
 
 -- ---- a cell that the first segment leaves
@@ -89,7 +90,7 @@ module _ (first : Effect) (asks : List Ask) (i : ℕ) (ask : Ask) (kept moved : 
 
   met_more : (cells : Cells) → any_holds cells (take (i + 1) asks) ≡ (any_holds cells (take i asks) || holds cells ask)
   met_more cells = ap (any_holds cells) one_more ∙ list_any-append (holds cells) (take i asks) (ask ∷ [])
-      ∙ ap (λ r. any_holds cells (take i asks) || r) (or_false (holds cells ask))
+      ∙ ap (λ r. any_holds cells (take i asks) || r) (or-false (holds cells ask))
 
   counted : length (take (i + 1) asks) ≡ length (take i asks) + 1
   counted = ap (λ (xs : List Ask). length xs) one_more ∙ length-append (take i asks) (ask ∷ [])
@@ -104,7 +105,7 @@ module _ (first : Effect) (asks : List Ask) (i : ℕ) (ask : Ask) (kept moved : 
       → IsPulledBack first (take (i + 1) asks) kept moved
   pulled_never never = record {
     holds = λ s. so_far.holds s
-        ∙ sym (or_false (any_holds (changed first (cells_of s)) (take i asks)))
+        ∙ sym (or-false (any_holds (changed first (cells_of s)) (take i asks)))
         ∙ ap (λ r. any_holds (changed first (cells_of s)) (take i asks) || r) (sym (never s))
         ∙ sym (met_more (changed first (cells_of s)));
     can = λ answer all. so_far.can answer (parts (CanBe answer) all).0;
@@ -121,7 +122,7 @@ module _ (first : Effect) (asks : List Ask) (i : ℕ) (ask : Ask) (kept moved : 
         || (holds (cells_of s) before || false)) ≡ any_holds (changed first (cells_of s)) (take (i + 1) asks)
     met_before s =
         ap (λ r. (any_holds (cells_of s) kept || any_holds (cells_of s) moved) || r)
-        (or_false (holds (cells_of s) before) ∙ same s)
+        (or-false (holds (cells_of s) before) ∙ same s)
         ∙ ap (λ r. r || holds (changed first (cells_of s)) ask) (so_far.holds s)
         ∙ sym (met_more (changed first (cells_of s)))
 
@@ -146,7 +147,7 @@ module _ (first : Effect) (asks : List Ask) (i : ℕ) (ask : Ask) (kept moved : 
 pub swapped : (first : Effect) (later kept moved : List Ask) → IsPulledBack first later kept moved
     → IsPulledBack first later moved kept
 swapped first later kept moved back = record {
-  holds = λ s. or_swap (any_holds (cells_of s) moved) (any_holds (cells_of s) kept) ∙ back.holds s;
+  holds = λ s. or_comm (any_holds (cells_of s) moved) (any_holds (cells_of s) kept) ∙ back.holds s;
   can = λ answer all. let two = back.can answer all in (two.1, two.0);
   names = λ names effect all. let two = back.names names effect all in (two.1, two.0);
   few = omega (arith, back.few);
@@ -230,28 +231,6 @@ module _ (first : Effect) (own later before new : Precondition) (refusals : List
         ap (λ (rs : List Refusal). length rs) theirs,
       )
 
--- the same asks and refusals
-pub asked_same : (first : Effect) (own later both new : Precondition) → IsSamePrecondition both new
-    → IsAskedByBoth first own later both → IsAskedByBoth first own later new
-asked_same first own later both new same asked = record {
-  met = λ s. rw (← same.certain, ← same.asks, ← same.refusals) (asked.met s);
-  possible = λ old more.
-      let all = asked.possible old more in
-      record { asks = rw (← same.asks) all.asks; refusals = rw (← same.refusals) all.refusals };
-  names = λ within effect a b.
-      let all = asked.names within effect a b in
-      record { asks = rw (← same.asks) all.asks; refusals = rw (← same.refusals) all.refusals };
-  settled = record {
-    rises = rw (← same.asks) asked.settled.rises;
-    fails = rw (← same.asks) asked.settled.fails;
-    alone = λ is.
-        let none = asked.settled.alone (same.certain ∙ is) in
-        (sym same.asks ∙ none.0, sym same.refusals ∙ none.1);
-  };
-  few = rw (← same.asks, ← same.refusals) asked.few;
-  refusals = rw (← same.refusals) asked.refusals;
-}
-
 -- one of the asks holds in every state
 pub met_by_asks : (first : Effect) (own later : Precondition) (s : State)
     → (any_holds (cells_of s) own.asks.items || any_holds (changed first (cells_of s)) later.asks.items) ≡ true
@@ -263,6 +242,6 @@ met_by_asks first own later s one = cases own.certain later.certain (any_holds (
     cases : (c d x y r q : Bool) → (x || y) ≡ true → ((c || (x || r)) || (d || (y || q))) ≡ true
     cases true d x y r q is = refl
     cases false d true y r q is = refl
-    cases false true false y r q is = or_true r
-    cases false false false true r q is = or_true r
+    cases false true false y r q is = or-true r
+    cases false false false true r q is = or-true r
     cases false false false false r q is = absurd cc

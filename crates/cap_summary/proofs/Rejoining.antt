@@ -11,32 +11,25 @@ use Rattle.cap_summary.specs.Sorted.{found}
 use Rattle.cap_summary.specs.Effects.{cell_in, changed}
 use Rattle.cap_summary.specs.Preconditions.{is_met, IsPossible}
 use Rattle.cap_summary.specs.Names.{Names, EffectWithin, PreWithin}
-use Rattle.cap_summary.specs.Alike.{IsSameEffect}
 use Rattle.cap_summary.specs.Preconditions.{IsSamePrecondition}
 use Rattle.cap_summary.specs.Joined.{IsJoined}
 use Rattle.cap_summary.specs.Preconditions.{IsAskedByBoth}
 use Rattle.cap_summary.specs.Composing.{IsComposedSo, IsJoinedEffect}
 use Rattle.cap_tree.specs.Sides.{part_at}
-use Rattle.cap_summary.specs.Likeness.{AreAlike, KeepsEffect}
+use Rattle.cap_summary.specs.Joined.{AreAlike, KeepsEffect}
 
-same_cells : (a b : Effect) → IsSameEffect a b → (cells : Cells) → changed a cells ≡ changed b cells
+same_cells : (a b : Effect) → a.rows ≡ b.rows → (cells : Cells) → changed a cells ≡ changed b cells
 same_cells a b same cells = ap (λ rows. λ p k. cell_in cells (found rows p) p k) same
 
-pub same_effect : (a b : Effect) → b ≡ a → IsSameEffect a b
-same_effect a b is = rw is refl
-
-named_too : (a b : Effect) → IsSameEffect a b → (names : Names) → EffectWithin names b → EffectWithin names a
+named_too : (a b : Effect) → a.rows ≡ b.rows → (names : Names) → EffectWithin names b → EffectWithin names a
 named_too a b same names within = rw same within
-
-pub same_precondition : (a b : Precondition) → b ≡ a → IsSamePrecondition a b
-same_precondition a b is = rw is (record { certain = refl; asks = refl; refusals = refl })
 
 pub keeps_none : (side : Side) (likeness : Likeness) → likeness.precondition ≡ false → KeepsEffect side likeness
 keeps_none Left likeness none = λ is. absurd (let wrong : false ≡ true = sym none ∙ is in cc)
 keeps_none Right likeness none = tt
 
 -- the same effect in the first place, and in the second
-first_effect : (was first later old : Effect) → IsSameEffect was first → IsJoinedEffect was later old
+first_effect : (was first later old : Effect) → was.rows ≡ first.rows → IsJoinedEffect was later old
     → IsJoinedEffect first later old
 first_effect was first later old same joined = record {
   rows = λ p. record {
@@ -47,7 +40,7 @@ first_effect was first later old same joined = record {
   };
 }
 
-second_effect : (first was later old : Effect) → IsSameEffect was later → IsJoinedEffect first was old
+second_effect : (first was later old : Effect) → was.rows ≡ later.rows → IsJoinedEffect first was old
     → IsJoinedEffect first later old
 second_effect first was later old same joined = record { rows = λ p. rw same at (joined.rows p) }
 
@@ -61,7 +54,7 @@ named_back : (a b : Precondition) → IsSamePrecondition a b → (names : Names)
 named_back a b same names is = record { asks = rw same.asks is.asks; refusals = rw same.refusals is.refusals }
 
 -- the same asks in the first place, with the same effect, and in the second
-first_asks : (was first : Effect) (own new later old : Precondition) → IsSameEffect was first
+first_asks : (was first : Effect) (own new later old : Precondition) → was.rows ≡ first.rows
     → IsSamePrecondition own new → IsAskedByBoth was own later old → IsAskedByBoth first new later old
 first_asks was first own new later old effect same asked = record {
   met = λ s. asked.met s

@@ -1,13 +1,14 @@
 -- Findings of segments, one after the other.
 use Rattle.std.proofs.Common.{◌≡◌, ℕ, ◌+◌, ◌<◌, ◌≤◌, List, [], ◌∷◌, ◌++◌, Bool, true, false, ◌&&◌, cond, length, map, take, drop, get_or, ◌-◌}
 use Rattle.std.proofs.Common.{refl, sym, ap, ◌∙◌, add_assoc, append_assoc, arith, inl, inr, length-append}
-use Rattle.std.specs.List.{All}
+use Rattle.std.specs.List.{All, filter}
 use Rattle.std.proofs.lemmas.List.{map-append, append-nil, length-map, length-take, length-take-le, take_all, take_more}
 use Rattle.std.proofs.lemmas.List.{take-append-drop}
-use Rattle.std.proofs.lemmas.List.Elements.{filter-append, All-head, All-tail}
+use Rattle.std.proofs.lemmas.List.Elements.{filter-append, All-head, All-tail, All-map}
 use Rattle.std.proofs.lemmas.List.Filters.{length-filter_both}
 use Rattle.std.proofs.lemmas.Bool.{lt-leb, le-leb, cases_lt}
 use Rattle.std.specs.Prelude.{nat_le, not, ◌*◌, ◌/◌}
+use Rattle.std.proofs.Math.Bool.{and-false}
 use Rattle.cap_machine.specs.declared.step.Step.{Step}
 use Rattle.cap_machine.specs.declared.verdict.Found.{Found}
 use Rattle.cap_machine.specs.declared.verdict.Finding.{Finding}
@@ -19,7 +20,6 @@ use Rattle.cap_machine.proofs.Turns.{checks_in_turn, checks_more}
 use Rattle.cap_machine.proofs.Positions.{positions_within}
 use Rattle.cap_summary.specs.LineAsks.{has_any}
 use Rattle.cap_summary.specs.Positions.{is_at, within, AllOrMany}
-use Rattle.cap_summary.proofs.Bools.{and_with_false as and_false}
 
 later-later : (m n : ℕ) (xs : List Found) → map (later m) (map (later n) xs) ≡ map (later (m + n)) xs
 later-later m n [] = refl
@@ -124,28 +124,29 @@ found_more s t l at n from to old first all len one two = found_parts s t (l ∷
 abbrev IsBelow : ℕ → Found → Type 0
 IsBelow n found = (1 ≤ found.at) × (found.at ≤ n)
 
+-- findings that all stand in a range, or of which none does
+alike : (p : Found → Bool) (b : Bool) (xs : List Found) → All (λ x. p x ≡ b) xs → filter p xs ≡ cond b xs []
+alike p true [] all = refl
+alike p false [] all = refl
+alike p true (x ∷ xs) all = rw (All-head (λ y. p y ≡ true) x xs all)
+    (ap (λ r. x ∷ r) (alike p true xs (All-tail (λ y. p y ≡ true) x xs all)))
+alike p false (x ∷ xs) all = rw (All-head (λ y. p y ≡ false) x xs all)
+    (alike p false xs (All-tail (λ y. p y ≡ false) x xs all))
+
 -- nothing of a segment stands at positions before it or behind it
 not_before : (from to at n : ℕ) (xs : List Found) → All (IsBelow n) xs → at + n < from
     → within from to (map (later at) xs) ≡ []
-not_before from to at n [] all before = refl
-not_before from to at n (x ∷ xs) all before =
-    let is : IsBelow n x = All-head (IsBelow n) x xs all in
-    let out : nat_le from (at + x.at) ≡ false = lt-leb from (at + x.at) (omega (arith, is.1)) in
-    ap (λ b. cond (b && nat_le (at + x.at) to) (later at x ∷ within from to (map (later at) xs))
-    (within from to (map (later at) xs))) out
-    ∙ not_before from to at n xs (All-tail (IsBelow n) x xs all) before
+not_before from to at n xs all before = alike (is_at from to) false (map (later at) xs)
+    (All-map (λ x. is_at from to x ≡ false) (later at) xs
+    (λ k d lt. let is : IsBelow n (get_or xs k d) = all k d lt in
+    rw (lt-leb from (at + (get_or xs k d).at) (omega (arith, is.1))) refl))
 
 not_behind : (from to at n : ℕ) (xs : List Found) → All (IsBelow n) xs
     → to ≤ at → within from to (map (later at) xs) ≡ []
-not_behind from to at n [] all behind = refl
-not_behind from to at n (x ∷ xs) all behind =
-    let is : IsBelow n x = All-head (IsBelow n) x xs all in
-    let out : nat_le (at + x.at) to ≡ false = lt-leb (at + x.at) to (omega (arith, is.0)) in
-    ap (λ b. cond (nat_le from (at + x.at) && b) (later at x ∷ within from to (map (later at) xs))
-    (within from to (map (later at) xs))) out
-    ∙ ap (λ b. cond b (later at x ∷ within from to (map (later at) xs)) (within from to (map (later at) xs)))
-    (and_false (nat_le from (at + x.at)))
-    ∙ not_behind from to at n xs (All-tail (IsBelow n) x xs all) behind
+not_behind from to at n xs all behind = alike (is_at from to) false (map (later at) xs)
+    (All-map (λ x. is_at from to x ≡ false) (later at) xs
+    (λ k d lt. let is : IsBelow n (get_or xs k d) = all k d lt in
+    rw (lt-leb (at + (get_or xs k d).at) to (omega (arith, is.0))) (and-false (nat_le from (at + (get_or xs k d).at)))))
 
 pub found_before : (s : State) (t : List Step) (at from to : ℕ) (old : List Found) → at + length t < from
     → old ≡ old ++ within from to (map (later at) (check s t))
@@ -160,22 +161,8 @@ found_behind s t at from to old behind = sym (append-nil old) ∙ ap (λ (r : Li
 -- what is said of one step, where its position is asked for and where not
 said_at : (from to at : ℕ) (xs : List Finding) (asked : Bool) → asked ≡ (nat_le from at && nat_le at to)
     → within from to (map (found_at at) xs) ≡ cond asked (map (found_at at) xs) []
-said_at from to at xs asked is = all xs ∙ ap (λ b. cond b (map (found_at at) xs) []) (sym is)
-  where
-    all : (xs : List Finding)
-        → within from to (map (found_at at) xs) ≡ cond (nat_le from at && nat_le at to) (map (found_at at) xs) []
-    all [] = none (nat_le from at && nat_le at to)
-      where
-        none : (b : Bool) → (let no : List Found = [] in no ≡ cond b no no)
-        none true = refl
-        none false = refl
-    all (x ∷ xs) = ap (λ r. cond (nat_le from at && nat_le at to) (found_at at x ∷ r) r) (all xs)
-        ∙ one (nat_le from at && nat_le at to)
-      where
-        one : (b : Bool) → cond b (found_at at x ∷ cond b (map (found_at at) xs) []) (cond b (map (found_at at) xs) [])
-            ≡ cond b (found_at at x ∷ map (found_at at) xs) []
-        one true = refl
-        one false = refl
+said_at from to at xs asked is = alike (is_at from to) asked (map (found_at at) xs)
+    (All-map (λ x. is_at from to x ≡ asked) (found_at at) xs (λ k d lt. sym is))
 
 pub not_asked : (from to at : ℕ) (xs : List Finding) (old : List Found) (asked : Bool)
     → asked ≡ (nat_le from at && nat_le at to) → asked ≡ false → old ≡ old ++ within from to (map (found_at at) xs)
@@ -201,18 +188,10 @@ pub found_in_order : (s : State) (t : List Step) (from to : ℕ) (all : List Fou
 found_in_order s t from to all is = is ∙ ap (within from to) (later-none (check s t))
 
 -- a range of positions that has them all
-all_within : (to n : ℕ) (xs : List Found) → All (IsBelow n) xs → n ≤ to → within 1 to xs ≡ xs
-all_within to n [] all long = refl
-all_within to n (x ∷ xs) all long =
-    let is : IsBelow n x = All-head (IsBelow n) x xs all in
-    let lower : nat_le 1 x.at ≡ true = le-leb 1 x.at is.0 in
-    let upper : nat_le x.at to ≡ true = le-leb x.at to (omega (arith, is.1)) in
-    ap (λ b. cond (b && nat_le x.at to) (x ∷ within 1 to xs) (within 1 to xs)) lower
-    ∙ ap (λ b. cond b (x ∷ within 1 to xs) (within 1 to xs)) upper
-    ∙ ap (λ (r : List Found). x ∷ r) (all_within to n xs (All-tail (IsBelow n) x xs all) long)
-
 pub found_whole : (s : State) (t : List Step) (to : ℕ) → length t ≤ to → within 1 to (check s t) ≡ check s t
-found_whole s t to long = all_within to (length t) (check s t) (positions_within s t) long
+found_whole s t to long = alike (is_at 1 to) true (check s t)
+    (λ k d lt. let is : IsBelow (length t) (get_or (check s t) k d) = positions_within s t k d lt in
+    rw (le-leb 1 _ is.0, le-leb (get_or (check s t) k d).at to (omega (arith, is.1))) refl)
 
 -- what is found from the first position on, or many of it
 pub all_or_many : (most : ℕ) (s : State) (t : List Step) (from to : ℕ) (found : List Found)

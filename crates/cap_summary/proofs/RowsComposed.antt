@@ -1,14 +1,13 @@
 -- The cells of a process after two segments.
 use Rattle.std.proofs.Common.{◌≡◌, ℕ, ◌&&◌, ◌||◌, not, Bool, true, false, Option, Some, None, option_map, refl, ◌∙◌}
-use Rattle.std.proofs.Common.{List, [], sym}
+use Rattle.std.proofs.Common.{List}
 use Rattle.std.specs.Prelude.{unwrap_or, option_and_then, is_none}
-use Rattle.std.proofs.lemmas.Bool.{and_from}
+use Rattle.std.proofs.lemmas.Bool.{and_from, not-true}
 use Rattle.std.specs.Option.{option_map_or, option_or}
 use Rattle.cap_machine.specs.declared.cell.Cell.{Cell}
 use Rattle.cap_machine.specs.declared.cell.Cell.TheVariants.{Closed}
 use Rattle.cap_summary.specs.declared.value.Value.{Value}
 use Rattle.cap_summary.specs.declared.base.Passing.{Passing}
-use Rattle.cap_summary.specs.declared.base.Passing.TheVariants.{Same}
 use Rattle.cap_summary.specs.declared.base.Base.{Base}
 use Rattle.cap_summary.specs.declared.key.Key.{Key}
 use Rattle.cap_summary.specs.declared.key.Key.TheVariants as key
@@ -20,7 +19,7 @@ use Rattle.cap_summary.specs.Sorted.{found}
 use Rattle.cap_summary.specs.Effects.{passed, is_from, base_cell, handed_on, row_cell, changed, IsRowAfter}
 use Rattle.cap_summary.specs.Leaving.{is_own, base_leaves, row_leaves, leaves}
 use Rattle.cap_summary.specs.Composing.{IsHandedSo}
-use Rattle.cap_summary.proofs.Bools.{and_left, and_right, or_false}
+use Rattle.cap_summary.proofs.Bools.{and_left, and_right}
 
 pub map_or_is : {X : Type 0} (g : X → Cell) (o : Option X) (d : Cell) → option_map_or g o d ≡ unwrap_or (option_map g o) d
 map_or_is g None d = refl
@@ -55,21 +54,6 @@ composed_cell first p base base' passing listed handed new cells f is_handed clo
     ∙ rw (is_handed.cells cells) (cases cells (changed first cells) p passing base (base_cell cells p base' f) f
     (found listed f) (found handed f) (is_from base.closed_from f) refl closed below)
 
--- what is handed on whole, where the second lists nothing
-pub handed_whole : (first : Effect) (passing : Passing) (closed_from : Option ℕ) (listed handed : List (ℕ × Value))
-    → listed ≡ [] → passing ≡ Same → closed_from ≡ None → (f : ℕ)
-    → IsHandedSo first passing closed_from f (found listed f) (found handed f) (found handed f)
-handed_whole first passing closed_from listed handed none same below f = rw (none, same, below) (record {
-  cells = λ cells. cell cells (found handed f);
-  unlisted = sym (or_false (is_none (found handed f)));
-  names = λ names of read none named own. own;
-})
-  where
-    cell : (cells : Cells) (o : Option Value) → option_map (read cells) o
-        ≡ option_or None (option_and_then (handed_on Same None f) (option_map (read cells) o))
-    cell cells None = refl
-    cell cells (Some v) = refl
-
 -- a row, by its mode and its descriptors
 pub composed_row : (first : Effect) (p : ℕ) (row new : Row)
     → ((cells : Cells) → row_cell cells p new key.Mode ≡ row_cell (changed first cells) p row key.Mode)
@@ -77,10 +61,6 @@ pub composed_row : (first : Effect) (p : ℕ) (row new : Row)
     → IsRowAfter first p row new
 composed_row first p row new mode cell cells key.Mode = mode cells
 composed_row first p row new mode cell cells (key.Fd f) = cell cells f
-
-pub not_left : (b : Bool) → not b ≡ true → b ≡ false
-not_left true is = absurd cc
-not_left false is = refl
 
 -- a descriptor that isn't listed after both is listed in the second one nowhere, and is closed there or not handed on
 unlisted_in_both : (listed handed new closed : Bool) → new ≡ (listed && (handed || closed)) → new ≡ true
@@ -100,7 +80,7 @@ composed_leaves first p row new passing handed mode base each (key.Fd f) left =
     let none : is_none (found new.cells f) ≡ true = and_left (is_none (found new.cells f)) (base_leaves new.base f) left in
     let own : base_leaves new.base f ≡ true = and_right (is_none (found new.cells f)) (base_leaves new.base f) left in
     let here : base_leaves row.base f ≡ true = (base f own).0 in
-    let below : is_from row.base.closed_from f ≡ false = not_left (is_from row.base.closed_from f)
+    let below : is_from row.base.closed_from f ≡ false = not-true (is_from row.base.closed_from f)
     (and_right (is_own row.base.others) (not (is_from row.base.closed_from f)) here) in
     let both : (is_none (found row.cells f) ≡ true) × (is_none (found handed f) ≡ true) = unlisted_in_both
     (is_none (found row.cells f)) (is_none (found handed f)) (is_none (found new.cells f))

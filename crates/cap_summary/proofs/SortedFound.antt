@@ -1,11 +1,12 @@
 -- What a look-up finds in a list whose keys rise.
 use Rattle.std.proofs.Common.{◌≡◌, ℕ, zero, suc, ◌+◌, ◌<◌, ◌≤◌, ◌≢◌, List, [], ◌∷◌, length, get_or, None, Some, Result, Ok}
-use Rattle.std.proofs.Common.{Err, IfOk, IfErr, option_map, slice_get, refl, sym, ap, arith}
+use Rattle.std.proofs.Common.{Err, IfOk, IfErr, option_map, slice_get, refl, sym, ap, ◌∙◌, arith}
 use Rattle.std.specs.List.Sorted.{IsSearchInRange, IsBinarySearchResult, IsNonDecreasingBy}
 use Rattle.std.specs.Ordering.{nat_cmp, ordering_index}
 use Rattle.std.proofs.lemmas.Cmp.{ranked}
+use Rattle.std.proofs.lemmas.Option.{slice_get-get_or}
 use Rattle.std.proofs.lemmas.Bool.Decides.{nat_tests}
-use Rattle.cap_summary.specs.Place.{IsAt, IsGap}
+use Rattle.cap_summary.specs.Sorted.{IsAt, IsGap}
 use Rattle.cap_summary.specs.Sorted.{found, RisesFrom, Rises, KeysRise}
 
 -- no key is below the bound
@@ -64,13 +65,8 @@ found_is_at b ((k, v) ∷ rest) key (suc at) rises is_at =
 -- the value at the place of a key
 pub found_at : {V : Type 0} (b : ℕ) (l : List (ℕ × V)) (key at : ℕ) (d : ℕ × V) → RisesFrom b l → IsAt l key at
     → found l key ≡ Some (get_or l at d).1
-found_at b [] key at d rises is_at = absurd (omega (arith, is_at.in_range))
-found_at b ((k, v) ∷ rest) key zero d rises is_at = grind (arith, nat_tests, is_at.has_key (k, v))
-found_at b ((k, v) ∷ rest) key (suc at) d rises is_at =
-    let above = rises_at (k + 1) rest rises.1 at (k, v) (omega (arith, is_at.in_range)) in
-    let same = is_at.has_key (k, v) in
-    let later = found_at (k + 1) rest key at d rises.1 (is_at_tail (k, v) rest key at is_at) in
-    grind (arith, nat_tests, above, same, later)
+found_at b l key at d rises is_at = found_is_at b l key at rises is_at
+    ∙ ap (option_map (λ entry. entry.1)) (slice_get-get_or l at d is_at.in_range)
 
 -- a key that stands at no place isn't found
 found_absent : {V : Type 0} (l : List (ℕ × V)) (key : ℕ) → ((i : ℕ) (d : ℕ × V) → i < length l → (get_or l i d).0 ≢ key)

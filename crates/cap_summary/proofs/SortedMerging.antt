@@ -6,8 +6,8 @@ use mathlib.Core.Bool.{false≢true}
 use Rattle.std.specs.Option.{is_some}
 use Rattle.std.proofs.lemmas.Bool.{cases_lt, ne_eqb}
 use Rattle.std.proofs.lemmas.Bool.Decides.{nat_tests, eqb_tells}
+use Rattle.std.proofs.Math.Bool.{or-true}
 use Rattle.cap_summary.specs.Sorted.{found, RisesFrom, Rises}
-use Rattle.cap_summary.proofs.Bools.{or_true}
 use Rattle.cap_summary.proofs.SortedFound.{found_below}
 
 -- each key is below the bound
@@ -203,7 +203,7 @@ first_found l r x is = rw (found_first l x is) refl
 
 pub second_found : {V W : Type 0} (l : List (ℕ × V)) (r : List (ℕ × W)) (y : ℕ × W) → Some y ≡ slice_get r 0
     → (is_some (found l y.0) || is_some (found r y.0)) ≡ true
-second_found l r y is = rw (found_first r y is) (or_true (is_some (found l y.0)))
+second_found l r y is = rw (found_first r y is) (or-true (is_some (found l y.0)))
 
 pub least_found : {V W : Type 0} (l : List (ℕ × V)) (r : List (ℕ × W)) (x : ℕ × V) (y : ℕ × W) (key : ℕ)
     → Some x ≡ slice_get l 0 → Some y ≡ slice_get r 0 → key ≡ min x.0 y.0

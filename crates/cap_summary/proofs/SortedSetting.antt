@@ -2,7 +2,7 @@
 use Rattle.std.proofs.Common.{◌≡◌, ℕ, zero, suc, ◌+◌, ◌<◌, ◌≤◌, eqb, List, [], ◌∷◌, set, Some, if◌then◌else◌, arith}
 use Rattle.std.specs.List.{insert}
 use Rattle.std.proofs.lemmas.Bool.Decides.{nat_tests}
-use Rattle.cap_summary.specs.Place.{IsAt, IsGap}
+use Rattle.cap_summary.specs.Sorted.{IsAt, IsGap}
 use Rattle.cap_summary.specs.Sorted.{found, RisesFrom}
 use Rattle.cap_summary.proofs.SortedFound.{rises_at, is_at_tail}
 

@@ -3,6 +3,7 @@ use Rattle.std.proofs.Common.{◌≡◌, ℕ, true, false, ◌&&◌, Option, Som
 use Rattle.std.proofs.Common.{arith}
 use Rattle.std.specs.Prelude.{◌==◌}
 use Rattle.std.proofs.lemmas.Bool.{eqb-true, eq-eqb, or_cases, or_parts}
+use Rattle.std.proofs.Math.Bool.{or-true}
 use Rattle.cap_rights.specs.Rights.{none, join, has_all}
 use Rattle.cap_machine.specs.declared.cell.OnExec.{OnExec}
 use Rattle.cap_machine.specs.declared.cell.Cell.{Cell}
@@ -17,7 +18,7 @@ use Rattle.cap_summary.specs.Tests.{passes, each_kind}
 use Rattle.cap_summary.specs.Asks.{is_sure, key_number}
 use Rattle.cap_summary.specs.LineAsks.{part_holds, one_holds}
 use Rattle.cap_summary.specs.Preconditions.{is_about, part_sure, one_sure, are_sure_at}
-use Rattle.cap_summary.proofs.Bools.{or_true, and_left, and_right}
+use Rattle.cap_summary.proofs.Bools.{and_left, and_right}
 use Rattle.cap_summary.proofs.TestPassing.{own_rights, has_both}
 use Rattle.cap_summary.proofs.Asking.{chosen, stands, sure_passes, fails_with, failing, failing_fails, each_passes, alike_sure}
 
@@ -60,10 +61,10 @@ module _ (asks : UpToThree) where
       elim (or_cases _ _ (each_passes (one_sure asks p k) (one_alike p k) is (cells p k))) [
         | inl h ↦ rw (part_passes asks.mode s p k h) refl
         | inr more ↦ elim (or_cases _ _ more) [
-          | inl h ↦ rw (part_passes asks.first s p k h) (or_true (part_holds cells asks.mode))
+          | inl h ↦ rw (part_passes asks.first s p k h) (or-true (part_holds cells asks.mode))
           | inr h ↦
-              rw (part_passes asks.second s p k h, or_true (part_holds cells asks.first))
-              (or_true (part_holds cells asks.mode))
+              rw (part_passes asks.second s p k h, or-true (part_holds cells asks.first))
+              (or-true (part_holds cells asks.mode))
         ]
       ]
 

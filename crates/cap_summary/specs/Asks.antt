@@ -44,10 +44,6 @@ possible_at (key.Fd f) ask = can_pass ask
 abbrev pub CanBe : Bool → Ask → Type 0
 CanBe answer ask = (s : State) × (holds (cells_of s) ask ≡ answer)
 
--- each of these holds in some state
-abbrev pub ArePossible : List Ask → Type 0
-ArePossible asks = All (CanBe true) asks
-
 -- whether an ask holds depends on the state
 pub record IsOpen (ask : Ask) : Type 0 where
   pub holds : CanBe true ask
@@ -58,11 +54,6 @@ abbrev pub pulled_holds : Cells → Pulled → Bool
 pulled_holds cells Always = true
 pulled_holds cells Never = false
 pulled_holds cells (Where ask) = holds cells ask
-
-abbrev pub is_always : Pulled → Bool
-is_always Always = true
-is_always Never = false
-is_always (Where ask) = false
 
 abbrev pub PulledIsOpen : Pulled → Type 0
 PulledIsOpen Always = Unit {0}

@@ -1,6 +1,6 @@
 -- What stands at one key of the effect of two segments. What it names is named by the second segment, or by the rows of
 -- the first that the second one reads.
-use Rattle.std.specs.Prelude.{◌≡◌, ℕ, ◌||◌, ◌&&◌, Option, IfSome, is_none}
+use Rattle.std.specs.Prelude.{◌≡◌, ℕ, ◌||◌, ◌&&◌, true, Option, IfSome, is_none, option_map, option_and_then}
 use Rattle.cap_tree.specs.Sides.{part_at}
 use Rattle.cap_summary.specs.declared.value.Value.{Value}
 use Rattle.cap_summary.specs.declared.base.Passing.{Passing}
@@ -8,14 +8,21 @@ use Rattle.cap_summary.specs.declared.effect.Row.{Row}
 use Rattle.cap_summary.specs.declared.effect.Effect.{Effect}
 use Rattle.cap_summary.specs.declared.composed.Replaced.{Replaced}
 use Rattle.cap_summary.specs.Sorted.{found}
-use Rattle.cap_summary.specs.Effects.{is_from, IsHanded, IsComposedAt}
-use Rattle.cap_summary.specs.Leaving.{LeavesInBoth}
+use Rattle.cap_summary.specs.Effects.{is_from, handed_on, cell_in, changed}
+use Rattle.cap_summary.specs.Leaving.{leaves_in}
+use Rattle.cap_summary.specs.Keys.{Cells}
+use Rattle.cap_summary.specs.Values.{read}
+use Rattle.cap_summary.specs.declared.key.Key.{Key}
+use Rattle.std.specs.Option.{option_or}
 use Rattle.cap_summary.specs.Names.{Names, IsListedWithin, IsRowWithin, ReadWithin}
 
--- what is listed for a descriptor: its cell, where something is listed, and what it names
+-- what is listed for a descriptor: what the second segment lists, by the cells before the first, or else what the first
+-- one lists, handed on; and what that names
 pub record IsHandedSo (first : Effect) (passing : Passing) (closed_from : Option ℕ) (f : ℕ)
     (listed handed new : Option Value) : Type 0 where
-  pub cells : IsHanded first passing closed_from f listed handed new
+  pub cells : (cells : Cells) → option_map (read cells) new
+      ≡ option_or (option_map (read (changed first cells)) listed)
+      (option_and_then (handed_on passing closed_from f) (option_map (read cells) handed))
   pub unlisted : is_none new ≡ (is_none listed && (is_none handed || is_from closed_from f))
   pub names : (names of : Names) → ReadWithin names of first → IfSome listed (IsListedWithin of f)
       → IfSome listed (IsListedWithin names f) → IfSome handed (IsListedWithin names f)
@@ -23,8 +30,8 @@ pub record IsHandedSo (first : Effect) (passing : Passing) (closed_from : Option
 
 -- the row of a process: its cells, what it leaves, and what it names
 pub record IsComposedSo (first : Effect) (p : ℕ) (was later new : Option Row) : Type 0 where
-  pub cells : IsComposedAt first p later new
-  pub leaves : LeavesInBoth was later new
+  pub cells : (cells : Cells) (k : Key) → cell_in cells new p k ≡ cell_in (changed first cells) later p k
+  pub leaves : (k : Key) → leaves_in new k ≡ true → (leaves_in was k ≡ true) × (leaves_in later k ≡ true)
   pub names : (names of : Names) → ReadWithin names of first → IfSome was (IsRowWithin names p)
       → IfSome later (IsRowWithin of p) → IfSome later (IsRowWithin names p) → IfSome new (IsRowWithin names p)
 

@@ -1,13 +1,11 @@
 -- What becomes of each cell over a segment, whatever the cells before it: the transfer function of the segment.
-use Rattle.std.specs.Prelude.{◌≡◌, ℕ, Bool, false, Option, Some, None, nat_le, if◌then◌else◌, option_map, []}
-use Rattle.std.specs.Prelude.{option_and_then}
-use Rattle.std.specs.Option.{option_map_or, option_or}
+use Rattle.std.specs.Prelude.{◌≡◌, ℕ, Bool, false, Option, Some, None, nat_le, if◌then◌else◌, []}
+use Rattle.std.specs.Option.{option_map_or}
 use Rattle.cap_machine.specs.declared.cell.Cell.{Cell}
 use Rattle.cap_machine.specs.declared.cell.Cell.TheVariants.{Unknown, Closed}
 use Rattle.cap_machine.specs.Op.{applied, exec}
 use Rattle.cap_summary.specs.declared.key.Key.{Key}
 use Rattle.cap_summary.specs.declared.key.Key.TheVariants as key
-use Rattle.cap_summary.specs.declared.value.Value.{Value}
 use Rattle.cap_summary.specs.declared.base.Passing.{Passing}
 use Rattle.cap_summary.specs.declared.base.Passing.TheVariants as passing
 use Rattle.cap_summary.specs.declared.base.Others.{Others}
@@ -60,20 +58,9 @@ changed effect cells p k = cell_in cells (found effect.rows p) p k
 abbrev pub handed_on : Passing → Option ℕ → ℕ → Cell → Option Cell
 handed_on passing closed_from f c = if is_from closed_from f then None else Some (passed passing c)
 
--- what is listed for a descriptor after two segments: what the second one lists, by the cells before the first, or else
--- what the first one lists, handed on
-abbrev pub IsHanded : Effect → Passing → Option ℕ → ℕ → Option Value → Option Value → Option Value → Type 0
-IsHanded first passing closed_from f listed handed new = (cells : Cells) → option_map (read cells) new
-    ≡ option_or (option_map (read (changed first cells)) listed)
-    (option_and_then (handed_on passing closed_from f) (option_map (read cells) handed))
-
 -- a row after two segments, of process p, which the second one gives this row
 abbrev pub IsRowAfter : Effect → ℕ → Row → Row → Type 0
 IsRowAfter first p row new = (cells : Cells) (k : Key) → row_cell cells p new k ≡ row_cell (changed first cells) p row k
-
-abbrev pub IsComposedAt : Effect → ℕ → Option Row → Option Row → Type 0
-IsComposedAt first p later new = (cells : Cells) (k : Key)
-    → cell_in cells new p k ≡ cell_in (changed first cells) later p k
 
 -- the cells after two segments
 abbrev pub IsComposed : Effect → Effect → Effect → Type 0

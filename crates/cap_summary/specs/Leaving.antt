@@ -44,11 +44,7 @@ abbrev pub LeavesThenLine : Effect → LineEffect → ℕ → Effect → Type 0
 LeavesThenLine first line me new = (p : ℕ) (k : Key) → leaves new p k ≡ true
     → (leaves first p k ≡ true) × LineLeaves line me p k
 
--- what a row after two segments leaves, both leave
-abbrev pub LeavesInBoth : Option Row → Option Row → Option Row → Type 0
-LeavesInBoth first later new = (k : Key) → leaves_in new k ≡ true
-    → (leaves_in first k ≡ true) × (leaves_in later k ≡ true)
-
 -- what two segments leave, each of them leaves
 abbrev pub LeavesBoth : Effect → Effect → Effect → Type 0
-LeavesBoth first later both = (p : ℕ) → LeavesInBoth (found first.rows p) (found later.rows p) (found both.rows p)
+LeavesBoth first later both = (p : ℕ) (k : Key) → leaves both p k ≡ true
+    → (leaves first p k ≡ true) × (leaves later p k ≡ true)

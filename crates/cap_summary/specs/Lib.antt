@@ -2,8 +2,6 @@ pub mod Keys
 pub mod Values
 pub mod Tests
 pub mod Asks
-pub mod Place
-pub mod Shared
 pub mod Sorted
 pub mod Effects
 pub mod Leaving
@@ -15,15 +13,12 @@ pub mod Preconditions
 pub mod Knows
 pub mod RowSizes
 pub mod Joined
-pub mod Alike
-pub mod Likeness
 pub mod Sizes
 pub mod Kept
 pub mod View
 pub mod Content
 pub mod Falls
 pub mod Stands
-pub mod Sized
 pub mod Seen
 pub mod Before
 pub mod Positions

@@ -153,11 +153,6 @@ LineAsksWithin names (Unless asks) = PartsWithin names asks
 abbrev pub RefusalsWithin : Names → List Refusal → Type 0
 RefusalsWithin names refusals = All (λ (refusal : Refusal). PartsWithin names refusal.unless) refusals
 
--- what a refusal asks, if it is judged
-abbrev pub ExcusesWithin : Names → Option (Ask × Option Ask) → Type 0
-ExcusesWithin names asks = IfSome asks (λ (two : Ask × Option Ask). (has_cell names two.0.pid two.0.key ≡ true)
-    × (part_within names two.1 ≡ true))
-
 pub record PreWithin (names : Names) (pre : Precondition) : Type 0 where
   pub asks : AreWithin (has_cell names) pre.asks.items
   pub refusals : RefusalsWithin names pre.refusals.items

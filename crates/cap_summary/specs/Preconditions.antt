@@ -1,5 +1,5 @@
 -- Under which cells before a segment something is found in it.
-use Rattle.std.specs.Prelude.{◌≡◌, ℕ, ◌&&◌, ◌||◌, ◌+◌, ◌≤◌, ◌==◌, not, Bool, true, false, List, [], length, Option, Some, None}
+use Rattle.std.specs.Prelude.{◌≡◌, ℕ, ◌&&◌, ◌||◌, ◌+◌, ◌≤◌, ◌==◌, not, Bool, true, false, List, [], length, Option}
 use Rattle.std.specs.Prelude.{IfSome, is_some}
 use Rattle.std.specs.List.{list_any, list_all, All}
 use Rattle.std.specs.Option.{option_map_or}
@@ -15,7 +15,7 @@ use Rattle.cap_summary.specs.Keys.{Cells, cells_of}
 use Rattle.cap_summary.specs.declared.effect.Effect.{Effect}
 use Rattle.cap_summary.specs.Effects.{changed}
 use Rattle.cap_summary.specs.Names.{Names, has_cell, EffectWithin, PreWithin}
-use Rattle.cap_summary.specs.Asks.{any_holds, is_sure, key_number, certain_at, CanBe, ArePossible, IsOpen, Rises}
+use Rattle.cap_summary.specs.Asks.{any_holds, is_sure, key_number, certain_at, CanBe, IsOpen, Rises}
 use Rattle.cap_summary.specs.Asks.{AreWithin}
 use Rattle.cap_summary.specs.LineAsks.{one_holds}
 use Rattle.cap_summary.specs.Sizes.{asks_size}
@@ -32,11 +32,6 @@ is_met cells pre =
 -- with one more reason, by the state before the segment
 abbrev pub IsMetOr : Precondition → Precondition → (Cells → Bool) → Type 0
 IsMetOr old new more = (s : State) → is_met (cells_of s) new ≡ (is_met (cells_of s) old || more (cells_of s))
-
--- one of up to three asks holds, where they were pulled back; without them one holds in any case
-abbrev pub three_hold : Cells → Option UpToThree → Bool
-three_hold cells None = true
-three_hold cells (Some asks) = one_holds cells asks
 
 -- there is one of up to three asks
 abbrev pub has_part : UpToThree → Bool
@@ -65,10 +60,6 @@ pub record PartsAreOpen (asks : UpToThree) : Type 0 where
   pub first : IfSome asks.first IsOpen
   pub second : IfSome asks.second IsOpen
 
--- the same, where they were pulled back
-abbrev pub ThreeAreOpen : Option UpToThree → Type 0
-ThreeAreOpen asks = IfSome asks PartsAreOpen
-
 -- whether a refusal is wrongful depends on the state, and so does whether each of its asks holds
 pub record RefusalIsOpen (refusal : Refusal) : Type 0 where
   pub parts : PartsAreOpen refusal.unless
@@ -77,7 +68,7 @@ pub record RefusalIsOpen (refusal : Refusal) : Type 0 where
 
 -- each ask holds in some state, and each refusal is right in some state and wrongful in some
 pub record IsPossible (pre : Precondition) : Type 0 where
-  pub asks : ArePossible pre.asks.items
+  pub asks : All (CanBe true) pre.asks.items
   pub refusals : All RefusalIsOpen pre.refusals.items
 
 -- one of the asks holds in every state

@@ -1,5 +1,7 @@
 -- A table as the list of its entries, each a key and a value.
-use Rattle.std.specs.Prelude.{ℕ, ◌+◌, ◌<◌, ◌≤◌, ◌==◌, List, [], ◌∷◌, length, slice_index_or, Option, Some, None, if◌then◌else◌}
+use Rattle.std.specs.Prelude.{◌≡◌, ℕ, ◌+◌, ◌<◌, ◌≤◌, ◌==◌, List, [], ◌∷◌, length, slice_index_or, Option, Some, None, if◌then◌else◌}
+use Rattle.std.specs.declared.rc.Rc.{Rc}
+use Rattle.std.specs.declared.alloc.Global.{Global}
 
 -- the value of the first entry that has the key
 abbrev pub found : {V : Type 0} → List (ℕ × V) → ℕ → Option V
@@ -19,3 +21,23 @@ Rises entries = RisesFrom 0 entries
 abbrev pub KeysRise : {V : Type 0} → List (ℕ × V) → Type 0
 KeysRise {V} entries = (i j : ℕ) (d : ℕ × V) → i < j → j < length entries
     → (slice_index_or entries i d).0 < (slice_index_or entries j d).0
+
+-- the entries of a map that is shared with its clones: none where nothing is shared
+abbrev pub shared_entries : {V : Type 0} → Option (Rc (List (ℕ × V)) Global) → List (ℕ × V)
+shared_entries None = []
+shared_entries (Some map) = map.value
+
+-- the key of the entry at a place, or that of the entry given where there is none
+abbrev pub key_at : {V : Type 0} → List (ℕ × V) → ℕ → ℕ × V → ℕ
+key_at entries at default = let entry = slice_index_or entries at default in entry.0
+
+-- the entry at this place has the key
+pub record IsAt {V : Type 0} (entries : List (ℕ × V)) (key at : ℕ) : Type 0 where
+  pub in_range : at < length entries
+  pub has_key : (d : ℕ × V) → key_at entries at d ≡ key
+
+-- the key would go to this place: smaller keys before it, and greater ones from it on
+pub record IsGap {V : Type 0} (entries : List (ℕ × V)) (key at : ℕ) : Type 0 where
+  pub in_range : at ≤ length entries
+  pub smaller : (i : ℕ) (d : ℕ × V) → i < at → key_at entries i d < key
+  pub greater : (i : ℕ) (d : ℕ × V) → at ≤ i → i < length entries → key < key_at entries i d

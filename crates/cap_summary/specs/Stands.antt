@@ -1,5 +1,6 @@
 -- What a summary stands for.
-use Rattle.std.specs.Prelude.{◌≡◌, List, Option}
+use Rattle.std.specs.Prelude.{◌≡◌, List, length, Option}
+use Rattle.std.proofs.Common.{ap}
 use Rattle.cap_machine.specs.declared.step.Step.{Step}
 use Rattle.cap_summary.specs.declared.known.Known.{Known}
 use Rattle.cap_summary.specs.declared.summary.Summary.{Summary}
@@ -15,3 +16,7 @@ kept_of z = z.node.value.known
 -- a summary stands for a list of steps where it sums up just these
 pub record Stands (z : Summary) (t : List Step) : Type 0 where
   pub steps : summed_up z ≡ t
+
+-- all lists that one summary stands for have its length
+pub stands_sized : (z : Summary) (t : List Step) → Stands z t → length (summed_up z) ≡ length t
+stands_sized z t is = ap (λ (r : List Step). length r) is.steps

@@ -1,12 +1,11 @@
 -- A node of a summary as a contract sees it: its steps, and what is known of them where that is kept.
-use Rattle.std.specs.Prelude.{◌<◌, List, length, Option, IfSome}
+use Rattle.std.specs.Prelude.{◌≡◌, ◌<◌, List, length, Option, IfSome}
 use Rattle.cap_machine.specs.declared.step.Step.{Step}
 use Rattle.cap_summary.specs.declared.known.Known.{Known}
 use Rattle.cap_tree.specs.declared.likeness.Likeness.{Likeness}
 use Rattle.cap_summary.specs.Joined.{IsJoined}
-use Rattle.cap_summary.specs.Alike.{IsSameEffect}
 use Rattle.cap_summary.specs.Preconditions.{IsSamePrecondition}
-use Rattle.cap_summary.specs.Likeness.{AreAlike}
+use Rattle.cap_summary.specs.Joined.{AreAlike}
 
 pub record NodeView : Type 0 where
   pub steps : List Step
@@ -23,7 +22,7 @@ IfKept R a b = IfSome a.known (λ old. IfSome b.known (λ new. R old new))
 
 -- .. the same effect, the same precondition
 abbrev pub NodesDoAlike : NodeView → NodeView → Type 0
-NodesDoAlike a b = IfKept (λ old new. IsSameEffect old.effect.value new.effect.value) a b
+NodesDoAlike a b = IfKept (λ old new. old.effect.value.rows ≡ new.effect.value.rows) a b
 
 abbrev pub NodesAskAlike : NodeView → NodeView → Type 0
 NodesAskAlike a b = IfKept (λ old new. IsSamePrecondition old.precondition.value new.precondition.value) a b

@@ -3,7 +3,7 @@
 ghost use Rattle.std.specs.Prelude.{◌≡◌};
 ghost use Rattle.std.specs.List.{list_any};
 ghost use Rattle.cap_machine.specs.Check.{said_of};
-ghost use Rattle.cap_summary.specs.Keys.{cells_of, mode_cell};
+ghost use Rattle.cap_summary.specs.Keys.{cells_of};
 ghost use Rattle.cap_summary.specs.Before.{state_before};
 ghost use Rattle.cap_summary.specs.Asks.{holds, any_holds};
 ghost use Rattle.cap_summary.specs.LineAsks.{part_holds, one_holds};

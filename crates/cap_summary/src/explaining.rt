@@ -44,11 +44,8 @@ impl Behind<'_> {
             cell_chain_of origin ≡ cell_chain (state_at_start self.now) (history self.now) pid fd) }
     {
         let mut walk = CellWalk::from(alloc, pid, fd);
-        self.node.walk_cell(&mut walk, 0, self.count)?;
-        match walk.finish(alloc, self.start) {
-            Ok(origin) => Ok(origin),
-            Err(_) => Err(NoMemory),
-        }
+        self.node.walk(&mut walk, 0, self.count)?;
+        walk.finish(alloc, self.start).map_err(|_| NoMemory)
     }
 
     /// Where the mode of a process comes from.
@@ -60,7 +57,7 @@ impl Behind<'_> {
             mode_chain_of origin ≡ mode_chain (state_at_start self.now) (history self.now) pid) }
     {
         let mut walk = ModeWalk::from(alloc, pid);
-        self.node.walk_mode(&mut walk, 0, self.count)?;
+        self.node.walk(&mut walk, 0, self.count)?;
         Ok(walk.finish(self.start))
     }
 

@@ -34,10 +34,7 @@ fn judged(machine: &mut Machine, step: &Step) -> Result<Verdict, NoMemory>
     ensures says { IfOk result (λ verdict. verdict ≡ said step.now (start_state machine.old)) }
     ensures moves { OnOk result (start_state machine.new ≡ ended (start_state machine.old) (step.now ∷ [])) }
 {
-    match machine.step(step.profile, &step.line) {
-        Ok(verdict) => Ok(verdict),
-        Err(_) => Err(NoMemory),
-    }
+    machine.step(step.profile, &step.line).map_err(|_| NoMemory)
 }
 
 /// Notes what is found in a run of steps behind so many others, at the positions that are asked for, and moves the

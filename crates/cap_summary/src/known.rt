@@ -6,12 +6,11 @@ ghost use Rattle.cap_machine.specs.Table.{start_state};
 ghost use Rattle.cap_summary.specs.Preconditions.{IsSettled};
 ghost use Rattle.cap_tree.specs.Run.{values};
 ghost use Rattle.cap_tree.specs.Sides.{part_at};
-ghost use Rattle.cap_summary.specs.Likeness.{AreAlike, KeepsEffect};
+ghost use Rattle.cap_summary.specs.Joined.{AreAlike, KeepsEffect};
 ghost use Rattle.cap_summary.specs.Joined.{IsJoined};
 ghost use Rattle.cap_summary.specs.Composing.{IsJoinedEffect, IsReplaced};
 ghost use Rattle.cap_summary.specs.Preconditions.{IsAskedByBoth};
 ghost use Rattle.cap_summary.specs.Knows.{Knows, Says, finds, state_after};
-ghost use Rattle.cap_summary.specs.Alike.{IsSameEffect};
 ghost use Rattle.cap_summary.specs.Preconditions.{IsSamePrecondition};
 ghost use Rattle.cap_summary.specs.Leaving.{leaves};
 ghost use Rattle.cap_summary.specs.Sizes.{size};
@@ -59,17 +58,6 @@ fn put_step(
 }
 
 impl Known {
-    /// An effect and a precondition, which can be shared from then on.
-    fn new(alloc: Global, effect: Effect, precondition: Precondition) -> Result<Known, NoMemory>
-        ensures effect { IfOk result (λ known. known.effect.value ≡ effect) }
-        ensures precondition { IfOk result (λ known. known.precondition.value ≡ precondition) }
-    {
-        Ok(Known {
-            effect: Rc::new(alloc, effect)?,
-            precondition: Rc::new(alloc, precondition)?,
-        })
-    }
-
     /// What is known of a run of steps, settled.
     pub fn of_run(alloc: Global, steps: &[Rc<Step>]) -> Result<Known, NoMemory>
         ensures says { IfOk result (λ run. Knows run (values steps.now)) }
@@ -80,9 +68,13 @@ impl Known {
         for step in steps {
             put_step(alloc, &mut effect, &mut precondition, step)?;
         }
-        let precondition = precondition.settled(alloc)?;
-        let known = Known::new(alloc, effect, precondition)?;
-        Ok(known)
+        let settled = precondition.settled(alloc)?;
+        let effect = Rc::new(alloc, effect)?;
+        let precondition = Rc::new(alloc, settled)?;
+        Ok(Known {
+            effect,
+            precondition,
+        })
     }
 
     /// The effect of these steps and then those of a later segment, which shares rows with an old whole.
@@ -182,7 +174,7 @@ impl Known {
             → IsJoinedEffect self.now.effect.value later.now.effect.value old.now.effect.value }
         ensures joined { IfOk result (λ both.
             IsJoinedEffect self.now.effect.value later.now.effect.value both.value) }
-        ensures same { IfOk result (λ both. kept.effect ≡ true → IsSameEffect old.now.effect.value both.value) }
+        ensures same { IfOk result (λ both. kept.effect ≡ true → old.now.effect.value.rows ≡ both.value.rows) }
     {
         if kept.effect {
             return Ok(old.effect.clone()?);
@@ -285,6 +277,6 @@ impl Known {
         ensures rising { AllRise self.now.effect.value.rows }
     {
         let size = self.effect.size();
-        size <= room && self.precondition.fits(room - size)
+        size <= room && self.precondition.size() <= room - size
     }
 }

@@ -13,7 +13,7 @@ ghost use Rattle.cap_summary.specs.Keys.{Cells, cells_of, mode_cell};
 ghost use Rattle.cap_summary.specs.Asks.{holds};
 ghost use Rattle.cap_summary.specs.Tests.{has_kind, lacks};
 ghost use Rattle.cap_summary.specs.Preconditions.{has_part, part_sure, are_sure_at};
-ghost use Rattle.cap_summary.specs.Names.{Names, part_within, ChecksWithin, ExcusesWithin};
+ghost use Rattle.cap_summary.specs.Names.{Names, has_cell, part_within, ChecksWithin};
 ghost use Rattle.cap_summary.specs.Names.{LineAsksWithin, DemandWithin};
 ghost use Rattle.cap_summary.specs.LineAsks.{has_any, part_holds, one_holds, excuses_hold, checked_cells, asked_holds};
 ghost use Rattle.cap_summary.specs.LineAsks.{IsAskedBy, refusals_in};
@@ -165,7 +165,7 @@ fn excuse_asks(me: Pid, checks: &Checks) -> Option<(Ask, Option<Ask>)>
     ensures hold { (s : State) → excuses_hold (cells_of s) result
         ≡ (has_check checks.now && all_excused (listed checks.now) (checked_cells me checks.now s)) }
     ensures names { (names : Names) → names.pids me ≡ true → ChecksWithin names checks.now
-        → ExcusesWithin names result }
+        → IfSome result (λ two. (has_cell names two.0.pid two.0.key ≡ true) × (part_within names two.1 ≡ true)) }
 {
     match checks {
         Checks::Nothing => None,

@@ -23,7 +23,7 @@ pub struct Listed {
 impl Model for Listed {
     ghost use Rattle.std.specs.Prelude.{List, ℕ};
     ghost use Rattle.cap_summary.specs.declared.value.Value.{Value as Cell};
-    ghost use Rattle.cap_summary.specs.Shared.{shared_entries};
+    ghost use Rattle.cap_summary.specs.Sorted.{shared_entries};
 
     ghost Value = { List (ℕ × Cell) };
 

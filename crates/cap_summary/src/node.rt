@@ -1,7 +1,7 @@
 //! The nodes of a summary. A contract sees a node as its steps, and what is known of them where that is kept.
 
 ghost use Rattle.std.specs.Prelude.{◌≡◌, ◌+◌, ◌*◌, ◌^◌, ◌<◌, ◌≤◌, ◌++◌, ◌∷◌, [], length, IfOk, OnOk, IfSome, IfNone};
-ghost use Rattle.std.specs.Prelude.{◌⊎◌, true, false, is_some, Some, map};
+ghost use Rattle.std.specs.Prelude.{◌⊎◌, true, is_some, Some, map};
 ghost use Rattle.std.specs.Option.{option_copied};
 ghost use Rattle.cap_machine.specs.Check.{check};
 ghost use Rattle.cap_machine.specs.History.{ended};
@@ -9,11 +9,10 @@ ghost use Rattle.cap_machine.specs.Table.{start_state};
 ghost use Rattle.cap_machine.specs.Laws.{later};
 ghost use Rattle.cap_tree.specs.Run.{values};
 ghost use Rattle.cap_summary.specs.Before.{state_before};
-ghost use Rattle.cap_summary.specs.LineAsks.{has_any};
 ghost use Rattle.cap_summary.specs.Positions.{within, AllOrMany};
 ghost use Rattle.cap_tree.specs.Sides.{part_at};
 ghost use Rattle.cap_summary.specs.Content.{content_steps, HasParts, AreKept, KeepsParts};
-ghost use Rattle.cap_summary.specs.Kept.{limit, IsKept, IsWithin, IsLarge, ListsMany};
+ghost use Rattle.cap_summary.specs.Kept.{IsKept, IsWithin, IsLarge, ListsMany};
 ghost use Rattle.cap_summary.specs.Few.{NameOrRefuseMany};
 ghost use Rattle.cap_summary.specs.Knows.{Knows};
 ghost use Rattle.cap_summary.specs.Preconditions.{IsSettled};
@@ -72,14 +71,6 @@ const ASKS_A_POSITION: usize = 16;
 /// The most rows and cells that are kept.
 const MOST_CELLS: usize = 8_192;
 
-/// The most rows and cells that are kept of so many steps.
-fn limit_of(steps: usize) -> usize
-    requires { steps ≤ 2 ^ 30 }
-    ensures { result ≡ limit steps }
-{
-    (1_024 + steps).min(MOST_CELLS)
-}
-
 /// What is known of so many steps, where it is within the limit.
 fn kept(known: Option<Known>, steps: usize) -> Option<Known>
     requires { steps ≤ 2 ^ 30 }
@@ -87,7 +78,7 @@ fn kept(known: Option<Known>, steps: usize) -> Option<Known>
     ensures large { IfNone result (IfSome known (λ known. IsLarge known steps)) }
 {
     let known = known?;
-    if known.effect.size() <= limit_of(steps) && known.fits(40_000) {
+    if known.effect.size() <= (1_024 + steps).min(MOST_CELLS) && known.fits(40_000) {
         return Some(known);
     }
     None
@@ -141,10 +132,7 @@ impl Node {
         ensures many { IfNone result (NameOrRefuseMany self.now.steps) }
         ensures seen { option_copied result ≡ self.now.known }
     {
-        match &self.known {
-            Some(known) => Some(known),
-            None => None,
-        }
+        self.known.as_ref()
     }
 
     /// Whether what is known of the steps is kept.

@@ -1,16 +1,16 @@
 //! Under which states before a segment something is found in it.
 
-ghost use Rattle.std.specs.Prelude.{◌≡◌, ◌+◌, ◌≤◌, ◌||◌, not, false, true, [], length, nat_le, IfOk, IfSome, IfNone, OnOk};
+ghost use Rattle.std.specs.Prelude.{◌≡◌, ◌+◌, ◌≤◌, ◌||◌, not, false, true, [], length, IfOk, IfSome, IfNone, OnOk};
 ghost use Rattle.std.specs.List.{list_any};
-ghost use Rattle.std.specs.Option.{option_copied};
+ghost use Rattle.std.specs.Option.{option_copied, option_map_or};
 ghost use Rattle.cap_machine.specs.State.{State};
 ghost use Rattle.cap_summary.specs.Keys.{Cells, cells_of};
-ghost use Rattle.cap_summary.specs.Asks.{any_holds, pulled_holds, pulled_within, is_always, PulledIsOpen, IsOpen};
+ghost use Rattle.cap_summary.specs.Asks.{any_holds, pulled_holds, pulled_within, PulledIsOpen, IsOpen};
 ghost use Rattle.cap_summary.specs.Asks.{Rises};
 ghost use Rattle.cap_summary.specs.LineAsks.{part_holds, one_holds, asked_holds, refusals_in};
 ghost use Rattle.cap_summary.specs.Effects.{changed};
-ghost use Rattle.cap_summary.specs.Preconditions.{is_met, is_wrongful, three_hold, any_certain, IsMetOr, IsSettled};
-ghost use Rattle.cap_summary.specs.Preconditions.{ThreeAreOpen, IsPossible, IsPulledBack, AreAskedByBoth, IsAskedByBoth, IsSamePrecondition};
+ghost use Rattle.cap_summary.specs.Preconditions.{is_met, is_wrongful, any_certain, IsMetOr, IsSettled};
+ghost use Rattle.cap_summary.specs.Preconditions.{PartsAreOpen, IsPossible, IsPulledBack, AreAskedByBoth, IsAskedByBoth, IsSamePrecondition};
 ghost use Rattle.cap_summary.specs.Sizes.{asks_size};
 ghost use Rattle.cap_summary.specs.Sorted.{found};
 ghost use Rattle.cap_summary.specs.Names.{Names, has_cell, part_within, PartsWithin, LineAsksWithin, RefusalsWithin};
@@ -43,70 +43,36 @@ pub struct Precondition {
     pub refusals: Vec<Refusal>,
 }
 
-impl Pulled {
-    fn is_always(&self) -> bool
-        ensures always { result ≡ true → (cells : Cells) → pulled_holds cells self.now ≡ true }
-        ensures other { result ≡ false → is_always self.now ≡ false }
-    {
-        match self {
-            Pulled::Always => true,
-            _ => false,
-        }
-    }
-
-    /// The ask that is left, if one is.
-    fn ask(&self) -> Option<Ask>
-        requires { is_always self.now ≡ false }
-        ensures holds { (cells : Cells) → part_holds cells result ≡ pulled_holds cells self.now }
-        ensures open { PulledIsOpen self.now → IfSome result IsOpen }
-        ensures names { (names : Names) → pulled_within (has_cell names) self.now ≡ true
-            → part_within names result ≡ true }
-    {
-        match self {
-            Pulled::Where(ask) => Some(*ask),
-            _ => None,
-        }
-    }
-}
-
-/// What an ask that may be left out asks before an earlier segment.
-fn pulled_part(first: &Effect, ask: &Option<Ask>) -> Pulled
-    ensures holds { (s : State) → pulled_holds (cells_of s) result
+/// What an ask that may be left out asks before an earlier segment: `None` where it holds in every state.
+fn pulled_part(first: &Effect, ask: &Option<Ask>) -> Option<Option<Ask>>
+    ensures holds { (s : State) → option_map_or (part_holds (cells_of s)) result true
         ≡ part_holds (changed first.now (cells_of s)) ask.now }
-    ensures open { PulledIsOpen result }
-    ensures names { (names : Names) → EffectWithin names first.now
-        → part_within names ask.now ≡ true → pulled_within (has_cell names) result ≡ true }
+    ensures open { IfSome result (λ part. IfSome part IsOpen) }
+    ensures names { (names : Names) → EffectWithin names first.now → part_within names ask.now ≡ true
+        → IfSome result (λ part. part_within names part ≡ true) }
 {
-    match ask {
-        None => Pulled::Never,
-        Some(ask) => ask.before(first),
+    let Some(ask) = ask else {
+        return Some(None);
+    };
+    match ask.before(first) {
+        Pulled::Always => None,
+        Pulled::Never => Some(None),
+        Pulled::Where(before) => Some(Some(before)),
     }
 }
 
 /// What up to three asks ask before an earlier segment: `None` where one of them holds in every state.
 fn pulled_three(first: &Effect, asks: &UpToThree) -> Option<UpToThree>
     ensures hold { (s : State)
-        → three_hold (cells_of s) result ≡ one_holds (changed first.now (cells_of s)) asks.now }
-    ensures open { ThreeAreOpen result }
+        → option_map_or (one_holds (cells_of s)) result true ≡ one_holds (changed first.now (cells_of s)) asks.now }
+    ensures open { IfSome result PartsAreOpen }
     ensures names { (names : Names) → EffectWithin names first.now
         → PartsWithin names asks.now → IfSome result (PartsWithin names) }
 {
-    let mode = pulled_part(first, &asks.mode);
-    let one = pulled_part(first, &asks.first);
-    let other = pulled_part(first, &asks.second);
-    if mode.is_always() {
-        return None;
-    }
-    if one.is_always() {
-        return None;
-    }
-    if other.is_always() {
-        return None;
-    }
     Some(UpToThree {
-        mode: mode.ask(),
-        first: one.ask(),
-        second: other.ask(),
+        mode: pulled_part(first, &asks.mode)?,
+        first: pulled_part(first, &asks.first)?,
+        second: pulled_part(first, &asks.second)?,
     })
 }
 
@@ -240,16 +206,6 @@ impl Precondition {
         self.certain == other.certain && self.asks == other.asks && self.refusals == other.refusals
     }
 
-    /// Whether there is room for its asks and its refusals.
-    pub(crate) fn fits(&self, room: usize) -> bool
-        ensures { result ≡ nat_le (asks_size self.now) room }
-    {
-        match room.checked_sub(self.asks.len()) {
-            None => false,
-            Some(left) => self.refusals.len() <= left,
-        }
-    }
-
     /// Something is also found where an ask that was pulled back holds.
     fn put(&mut self, pulled: Pulled) -> Result<(), NoMemory>
         ensures met { OnOk result (IsMetOr self.old self.new (λ cells. pulled_holds cells pulled)) }
@@ -277,7 +233,10 @@ impl Precondition {
         ensures few { OnOk result (asks_size self.new ≤ asks_size self.old + 1) }
         ensures refusals { self.new.refusals ≡ self.old.refusals }
     {
-        self.put(pulled_part(first, ask))
+        match ask {
+            None => Ok(()),
+            Some(ask) => self.put(ask.before(first)),
+        }
     }
 
     /// Something is also found where a refusal is wrongful after an earlier segment.
@@ -364,7 +323,8 @@ impl Precondition {
         let Some(asks) = asks_of_both(alloc, &self.asks, first, &later.asks)? else {
             return Ok(Precondition::always(alloc));
         };
-        let mut refusals = Vec::with_capacity(alloc, self.refusals.len())?;
+        let room = self.refusals.len().saturating_add(later.refusals.len());
+        let mut refusals = Vec::with_capacity(alloc, room)?;
         refusals.extend_from_slice(&self.refusals)?;
         let mut both = Precondition {
             certain: false,
@@ -375,7 +335,6 @@ impl Precondition {
         if both.certain {
             return Ok(Precondition::always(alloc));
         }
-        both.refusals.shrink_to_fit();
         Ok(both)
     }
 

@@ -6,7 +6,6 @@ ghost use Rattle.cap_summary.specs.Keys.{Cells};
 ghost use Rattle.cap_summary.specs.Names.{Names, RowWithin};
 ghost use Rattle.cap_summary.specs.Effects.{own_row, row_cell};
 ghost use Rattle.cap_summary.specs.Leaving.{row_leaves, leaves};
-ghost use Rattle.cap_summary.specs.Alike.{IsSameEffect};
 ghost use Rattle.cap_summary.specs.RowSizes.{IsSizeOf};
 ghost use Rattle.std.specs.Option.{option_copied};
 ghost use Rattle.cap_summary.specs.Sorted.{found, Rises};
@@ -123,7 +122,7 @@ impl Effect {
 
     /// Whether both have the same rows. No is a safe answer.
     pub fn is_same(&self, other: &Effect) -> bool
-        ensures { result ≡ true → IsSameEffect self.now other.now }
+        ensures { result ≡ true → self.now.rows ≡ other.now.rows }
     {
         self.rows.entries() == other.rows.entries()
     }

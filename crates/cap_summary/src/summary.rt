@@ -1,6 +1,6 @@
 //! The summary of a segment of a trace.
 
-ghost use Rattle.std.specs.Prelude.{◌≡◌, ◌+◌, ◌*◌, ◌^◌, ◌<◌, ◌≤◌, ◌++◌, [], true, is_some, length, IfOk, OnOk, IfSome, IfNone};
+ghost use Rattle.std.specs.Prelude.{◌≡◌, ◌+◌, ◌*◌, ◌^◌, ◌<◌, ◌≤◌, true, is_some, length, IfOk, OnOk, IfSome, IfNone};
 ghost use Rattle.std.specs.Option.{option_copied};
 ghost use Rattle.cap_machine.specs.Check.{check};
 ghost use Rattle.cap_machine.specs.Table.{start_state};
@@ -151,7 +151,7 @@ impl Segment for Summary {
 
     ghost same_precondition = { λ old new. NodesAskAlike old.node.value new.node.value };
 
-    ghost use Rattle.cap_summary.specs.Sized.{stands_sized};
+    ghost use Rattle.cap_summary.specs.Stands.{stands_sized};
 
     ghost sized = { stands_sized };
 

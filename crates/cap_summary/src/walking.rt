@@ -1,64 +1,84 @@
 //! Walks back through the steps of a node.
 
-ghost use Rattle.std.specs.Prelude.{◌≡◌, ◌+◌, ◌^◌, ◌<◌, ◌≤◌, ◌∷◌, [], length, take, slice_index_or, true, OnOk};
-ghost use Rattle.cap_machine.specs.Walks.{LeavesCell, LeavesMode};
+ghost use Rattle.std.specs.Prelude.{◌≡◌, ◌+◌, ◌^◌, ◌<◌, ◌≤◌, ◌∷◌, [], ℕ, List, length, take, slice_index_or, true, OnOk};
+ghost use Rattle.cap_machine.specs.declared.step.Step.{Step};
+ghost use Rattle.cap_machine.specs.State.{State};
 ghost use Rattle.cap_tree.specs.Run.{values};
-ghost use Rattle.cap_summary.specs.Passes.{PassesCell, PassesMode};
+ghost use Rattle.cap_summary.specs.Knows.{Knows};
+ghost use Rattle.cap_summary.specs.Passes.{Origin, Passes, cell_seen, mode_seen};
 
 use crate::key::Key;
+use crate::known::Known;
 use crate::node::{Content, Node};
 use cap_machine::{CellWalk, ModeWalk, Step};
-use cap_trace::{Fd, Pid};
 use cap_tree::NoMemory;
 use std::rc::Rc;
 
-fn pass_cell(walk: &mut CellWalk, at: usize, step: &Step) -> Result<(), NoMemory>
-    requires { at < 2 ^ 31 }
-    ensures { OnOk result (PassesCell walk.old walk.new at (step.now ∷ [])) }
-{
-    match walk.pass(at + 1, step.profile, &step.line) {
-        Ok(()) => Ok(()),
-        Err(_) => Err(NoMemory),
+/// A walk back from a cell, or from a mode.
+pub(crate) trait Walk {
+    /// What it finds where a history comes before the steps that it has passed.
+    ghost sees: { Self → State → List Step → Origin };
+
+    /// Whether a step gave what it looks for: then no older one matters.
+    fn is_over(&self) -> bool
+        ensures { result ≡ true → (at : ℕ) (t : List Step) → Passes sees self.now self.now at t };
+
+    /// Whether it is known that no step of a segment touches what it looks for. No is a safe answer.
+    fn is_left(&self, known: &Known) -> bool
+        ensures { result ≡ true → (t : List Step) → Knows known.now t → (at count : ℕ)
+            → Passes sees self.now self.now at (take count t) };
+
+    /// Passes the step behind so many others.
+    fn pass_step(&mut self, at: usize, step: &Step) -> Result<(), NoMemory>
+        requires { at < 2 ^ 31 }
+        ensures { OnOk result (Passes sees self.old self.new at (step.now ∷ [])) };
+}
+
+impl Walk for CellWalk {
+    ghost sees = { cell_seen };
+
+    fn is_over(&self) -> bool {
+        self.has_ended()
+    }
+
+    fn is_left(&self, known: &Known) -> bool {
+        known.leaves(self.pid(), Key::Fd(self.fd()))
+    }
+
+    fn pass_step(&mut self, at: usize, step: &Step) -> Result<(), NoMemory> {
+        self.pass(at + 1, step.profile, &step.line)
+            .map_err(|_| NoMemory)
     }
 }
 
-fn pass_mode(walk: &mut ModeWalk, at: usize, step: &Step) -> Result<(), NoMemory>
-    requires { at < 2 ^ 31 }
-    ensures { OnOk result (PassesMode walk.old walk.new at (step.now ∷ [])) }
-{
-    match walk.pass(at + 1, step.profile, &step.line) {
-        Ok(()) => Ok(()),
-        Err(_) => Err(NoMemory),
+impl Walk for ModeWalk {
+    ghost sees = { mode_seen };
+
+    fn is_over(&self) -> bool {
+        self.has_ended()
+    }
+
+    fn is_left(&self, known: &Known) -> bool {
+        known.leaves(self.pid(), Key::Mode)
+    }
+
+    fn pass_step(&mut self, at: usize, step: &Step) -> Result<(), NoMemory> {
+        self.pass(at + 1, step.profile, &step.line)
+            .map_err(|_| NoMemory)
     }
 }
 
-/// Walks back from a cell through a run of steps behind so many others, up to the step that gave the cell.
-fn walk_cell(walk: &mut CellWalk, at: usize, run: &[Rc<Step>]) -> Result<(), NoMemory>
+/// Walks back through a run of steps behind so many others, up to the step that gave what the walk looks for.
+fn walk_run<W: Walk>(walk: &mut W, at: usize, run: &[Rc<Step>]) -> Result<(), NoMemory>
     requires short { at + length run.now ≤ 2 ^ 31 }
-    ensures { OnOk result (PassesCell walk.old walk.new at (values run.now)) }
+    ensures { OnOk result (Passes W.sees walk.old walk.new at (values run.now)) }
 {
     let mut rest = run;
     while let Some((step, before)) = rest.split_last() {
-        if walk.has_ended() {
+        if walk.is_over() {
             break;
         }
-        pass_cell(walk, at + before.len(), step)?;
-        rest = before;
-    }
-    Ok(())
-}
-
-/// The same from a mode.
-fn walk_mode(walk: &mut ModeWalk, at: usize, run: &[Rc<Step>]) -> Result<(), NoMemory>
-    requires short { at + length run.now ≤ 2 ^ 31 }
-    ensures { OnOk result (PassesMode walk.old walk.new at (values run.now)) }
-{
-    let mut rest = run;
-    while let Some((step, before)) = rest.split_last() {
-        if walk.has_ended() {
-            break;
-        }
-        pass_mode(walk, at + before.len(), step)?;
+        walk.pass_step(at + before.len(), step)?;
         rest = before;
     }
     Ok(())
@@ -82,77 +102,40 @@ impl Node {
         }
     }
 
-    /// Whether it is known that no step touches a cell. No is a safe answer.
-    fn leaves_cell(&self, pid: Pid, fd: Fd) -> bool
-        ensures { result ≡ true → LeavesCell self.now.steps pid fd }
+    /// Whether it is known that no step touches what a walk looks for. No is a safe answer.
+    fn is_left<W: Walk>(&self, walk: &W) -> bool
+        ensures { result ≡ true → (at count : ℕ) → Passes W.sees walk.now walk.now at (take count self.now.steps) }
     {
         match &self.known {
-            Some(known) => known.leaves(pid, Key::Fd(fd)),
+            Some(known) => walk.is_left(known),
             None => false,
         }
     }
 
-    /// The same of a mode.
-    fn leaves_mode(&self, pid: Pid) -> bool
-        ensures { result ≡ true → LeavesMode self.now.steps pid }
-    {
-        match &self.known {
-            Some(known) => known.leaves(pid, Key::Mode),
-            None => false,
-        }
-    }
-
-    /// Walks back from a cell through the first steps, so many, which stand behind others: the right part first, and up to
-    /// the step that gave the cell. A part of which it is known that no step touches the cell is left out.
-    pub(crate) fn walk_cell(
+    /// Walks back through the first steps, so many, which stand behind others: the right part first, and up to the step
+    /// that gave what the walk looks for. A part of which it is known that no step touches that is left out.
+    pub(crate) fn walk<W: Walk>(
         &self,
-        walk: &mut CellWalk,
+        walk: &mut W,
         at: usize,
         count: usize,
     ) -> Result<(), NoMemory>
         requires within { count ≤ length self.now.steps }
         requires short { at + length self.now.steps ≤ 2 ^ 31 }
-        ensures { OnOk result (PassesCell walk.old walk.new at (take count self.now.steps)) }
+        ensures { OnOk result (Passes W.sees walk.old walk.new at (take count self.now.steps)) }
     {
-        if walk.has_ended() || self.leaves_cell(walk.pid(), walk.fd()) {
+        if walk.is_over() || self.is_left(walk) {
             return Ok(());
         }
         match &self.content {
-            Content::Run(run) => walk_cell(walk, at, &run[..count]),
+            Content::Run(run) => walk_run(walk, at, &run[..count]),
             Content::Both(a, b) => {
                 let left = a.len();
                 if count <= left {
-                    return a.walk_cell(walk, at, count);
+                    return a.walk(walk, at, count);
                 }
-                b.walk_cell(walk, at + left, count - left)?;
-                a.walk_cell(walk, at, left)
-            }
-        }
-    }
-
-    /// The same from a mode.
-    pub(crate) fn walk_mode(
-        &self,
-        walk: &mut ModeWalk,
-        at: usize,
-        count: usize,
-    ) -> Result<(), NoMemory>
-        requires within { count ≤ length self.now.steps }
-        requires short { at + length self.now.steps ≤ 2 ^ 31 }
-        ensures { OnOk result (PassesMode walk.old walk.new at (take count self.now.steps)) }
-    {
-        if walk.has_ended() || self.leaves_mode(walk.pid()) {
-            return Ok(());
-        }
-        match &self.content {
-            Content::Run(run) => walk_mode(walk, at, &run[..count]),
-            Content::Both(a, b) => {
-                let left = a.len();
-                if count <= left {
-                    return a.walk_mode(walk, at, count);
-                }
-                b.walk_mode(walk, at + left, count - left)?;
-                a.walk_mode(walk, at, left)
+                b.walk(walk, at + left, count - left)?;
+                a.walk(walk, at, left)
             }
         }
     }

@@ -1,9 +1,10 @@
 //! Maps that are changed in place.
-ghost use Rattle.std.specs.Prelude.{◌≡◌, ℕ, ◌==◌, false, unwrap_or, [], Some, if◌then◌else◌, OnOk, OnErr};
+ghost use Rattle.std.specs.Prelude.{◌≡◌, ℕ, ◌==◌, false, unwrap_or, [], Some, None, if◌then◌else◌, OnOk, OnErr};
+ghost use Rattle.std.specs.Prelude.{slice_get, option_map, IfOk, IfErr};
 ghost use Rattle.std.specs.Option.{option_copied};
+ghost use Rattle.cap_summary.specs.Sorted.{IsAt, IsGap};
 ghost use Rattle.cap_summary.specs.Sorted.{found, Rises};
 
-use super::place::place_of;
 use cap_tree::NoMemory;
 use std::alloc::{AllocError, Global};
 use std::marker::Model;
@@ -38,6 +39,18 @@ impl<V: Clone> Clone for Map<V> {
             entries: self.entries.clone()?,
         })
     }
+}
+
+/// The index of the entry that has the key, or else where it would go. Halves the entries at each step.
+fn place_of<V>(entries: &[(u32, V)], key: u32) -> Result<usize, usize>
+    requires { Rises entries.now }
+    ensures at { IfOk result (IsAt entries.now key) }
+    ensures gap { IfErr result (IsGap entries.now key) }
+    ensures value { IfOk result
+        (λ at. found entries.now key ≡ option_map (λ entry. entry.1) (slice_get entries.now at)) }
+    ensures absent { IfErr result (λ _. found entries.now key ≡ None) }
+{
+    entries.binary_search_by_key(&key, |entry| entry.0)
 }
 
 impl<V> Map<V> {

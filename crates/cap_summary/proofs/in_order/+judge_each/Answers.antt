@@ -14,8 +14,8 @@ use Rattle.cap_summary.proofs.Runs.{head_tail}
 use Rattle.cap_summary.proofs.Resolving.{found_step}
 use Rattle.cap_summary.proofs.in_order.+judge_each.Goals as goal
 
-pub returns-clause-found : goal.returns-clause-found
-returns-clause-found t c =
+pub returns : goal.returns
+returns t c =
     let s : State = start_state c.args.machine.now in
     let old : List Found = c.args.found.now.items in
     let step : Step = c.index-run-0.result.value in
@@ -27,19 +27,10 @@ returns-clause-found t c =
     let first : c.note_asked.new.found.items
     ≡ old ++ within c.args.asked.now.from c.args.asked.now.to (map (found_at (c.args.at + 1)) (said step s)) =
     rw (c.in_ok-verdict.ensures.says, at_step) at c.in_ok-note_asked.ensures in
-    rw run (on_ok_weaker c.judge_each.result (λ last.
-    found_step s step (values rest) c.args.at c.args.asked.now.from c.args.asked.now.to old
-    c.note_asked.new.found.items c.judge_each.new.found.items first
-    (rw moved at last)) c.judge_each.ensures.found)
-
-pub returns-clause-moves : goal.returns-clause-moves
-returns-clause-moves t c =
-    let s : State = start_state c.args.machine.now in
-    let step : Step = c.index-run-0.result.value in
-    let rest : List (Rc Step _) = slice_range c.args.run.now 1 (length c.args.run.now) in
-    let run : values c.args.run.now ≡ step ∷ values rest =
-    head_tail c.args.run.now c.index-run-0.result (omega arith) c.index-run-0.is in
-    let at_step : c.deref.result.now ≡ step = c.deref.ensures in
-    let moved : start_state c.judged.new.machine ≡ ended s (step ∷ []) = rw at_step at c.in_ok-verdict.ensures.moves in
-    rw run (on_ok_weaker c.judge_each.result (λ last.
-    rw moved at last ∙ sym (ends_in_turn s (step ∷ []) (values rest))) c.judge_each.ensures.moves)
+    record {
+      found = rw run (on_ok_weaker c.judge_each.result (λ last. found_step s step (values rest) c.args.at
+          c.args.asked.now.from c.args.asked.now.to old c.note_asked.new.found.items c.judge_each.new.found.items first
+          (rw moved at last)) c.judge_each.ensures.found);
+      moves = rw run (on_ok_weaker c.judge_each.result (λ last.
+          rw moved at last ∙ sym (ends_in_turn s (step ∷ []) (values rest))) c.judge_each.ensures.moves);
+    }

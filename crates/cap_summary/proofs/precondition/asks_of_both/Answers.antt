@@ -3,10 +3,10 @@ use Rattle.std.proofs.lemmas.Bool.{eqb-true}
 use Rattle.std.proofs.lemmas.List.{nil_from_length}
 use Rattle.std.proofs.lemmas.Option.{IfSome_then}
 use Rattle.std.proofs.lemmas.Result.{IfOk-weaker}
+use Rattle.std.proofs.Math.Bool.{or-true}
 use Rattle.cap_summary.specs.Keys.{cells_of}
 use Rattle.cap_summary.specs.Asks.{any_holds, IsUnionOf}
 use Rattle.cap_summary.specs.Preconditions.{IsPulledBack}
-use Rattle.cap_summary.proofs.Bools.{or_true}
 use Rattle.cap_summary.proofs.Pulling.{asked_by_both}
 use Rattle.cap_summary.proofs.Uniting.{united_none, united_with}
 use Rattle.cap_summary.proofs.precondition.asks_of_both.Goals as goal
@@ -14,7 +14,7 @@ use Rattle.cap_summary.proofs.precondition.asks_of_both.Goals as goal
 pub returns-in_default-clause-always : goal.returns-in_default-clause-always
 returns-in_default-clause-always c = λ s.
     let always = rw c.in_default.is at c.in_ok-pulled.ensures.always in
-    rw (always s) (or_true (any_holds (cells_of s) c.args.own.now))
+    rw (always s) (or-true (any_holds (cells_of s) c.args.own.now))
 
 pub returns-then-is_empty-clause-asks : goal.returns-then-is_empty-clause-asks
 returns-then-is_empty-clause-asks c =

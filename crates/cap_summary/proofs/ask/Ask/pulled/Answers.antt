@@ -1,4 +1,4 @@
-use Rattle.std.proofs.Common.{ap, sym, ◌∙◌, rules}
+use Rattle.std.proofs.Common.{ap, sym, ◌∙◌}
 use Rattle.cap_summary.specs.Keys.{cells_of}
 use Rattle.cap_summary.specs.Tests.{passes}
 use Rattle.cap_summary.proofs.Asking.{pulled_can}

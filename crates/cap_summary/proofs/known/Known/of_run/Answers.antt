@@ -19,14 +19,14 @@ loop-step-preserved c =
     )
     (c.in_ok-put_step.ensures _ c.loop-step.invariant)
 
-pub returns-clause-says : goal.returns-clause-says
-returns-clause-says c =
+pub returns : goal.returns
+returns c =
     let so_far : Says c.loop-step.effect c.loop-step.precondition (values c.args.steps.now) =
     rw (take_all c.loop-step.step-index c.args.steps.now (omega arith)) at c.loop-step.invariant in
-    rw (c.in_ok-known.ensures.effect, c.in_ok-known.ensures.precondition) (says_same c.loop-step.effect
-    c.loop-step.precondition c.in_ok-precondition-2.precondition (values c.args.steps.now) so_far
-    c.in_ok-precondition-2.ensures.met c.in_ok-precondition-2.ensures.possible c.in_ok-precondition-2.ensures.names
-    c.in_ok-precondition-2.ensures.few c.in_ok-precondition-2.ensures.refusals)
-
-pub returns-clause-settled : goal.returns-clause-settled
-returns-clause-settled c = rw c.in_ok-known.ensures.precondition c.in_ok-precondition-2.ensures.settled
+    let settled = c.in_ok-settled in
+    rw (c.in_ok-effect.ensures.ok, c.in_ok-precondition-2.ensures.ok) (record {
+      says = says_same c.loop-step.effect c.loop-step.precondition settled.settled (values c.args.steps.now) so_far
+          settled.ensures.met settled.ensures.possible settled.ensures.names settled.ensures.few
+          settled.ensures.refusals;
+      settled = settled.ensures.settled;
+    })

@@ -26,8 +26,8 @@ returns-else-asked-at-clause-moves t c =
     on_ok_weaker c.judge_in_order.result (λ last. λ ends. rw (c.deref.ensures.value, run) at last)
     c.judge_in_order.ensures.moves
 
-pub returns-in_ok-judge-in-Both-clause-found : goal.returns-in_ok-judge-in-Both-clause-found
-returns-in_ok-judge-in-Both-clause-found t c =
+pub returns-in_ok-judge-in-Both : goal.returns-in_ok-judge-in-Both
+returns-in_ok-judge-in-Both t c =
     let s : State = start_state c.args.machine.now in
     let between : State = start_state c.judge.new.machine in
     let old : List Found = c.args.report.now.found.items in
@@ -37,27 +37,23 @@ returns-in_ok-judge-in-Both-clause-found t c =
     let from : ℕ = c.args.asked.now.from in
     let to : ℕ = c.args.asked.now.to in
     let parts : a ++ b ≡ c.args.self.now.steps = sym (ap content_steps c.in-Both.is) ∙ same_steps c.self.view_is in
+    let both : length (a ++ b) ≡ length a + length b = length-append a b in
     let first : found ≡ old ++ within from to (map (later c.args.at) (check s a)) =
     rw c.deref-in-Both.ensures at c.in_ok-judge-in-Both.ensures.found in
     let len : c.len.result ≡ length a = rw c.deref-in-Both-3.ensures at c.len.ensures.count in
-    let moved : c.args.at + c.len.result ≤ to → between ≡ ended s a =
-    rw (c.deref-in-Both.ensures, ← len) at c.in_ok-judge-in-Both.ensures.moves in
-    rw (← parts) (on_ok_weaker c.judge-in-Both.result (λ last.
-    found_parts s a b c.args.at c.len.result from to old found c.judge-in-Both.new.report.found.items len first
-    (rw c.deref-in-Both-2.ensures at last ∙ ap (λ r. found ++ r) (same_behind between (ended s a) b
-    (c.args.at + c.len.result) from to moved)))
-    c.judge-in-Both.ensures.found)
-
-pub returns-in_ok-judge-in-Both-clause-moves : goal.returns-in_ok-judge-in-Both-clause-moves
-returns-in_ok-judge-in-Both-clause-moves t c =
-    let s : State = start_state c.args.machine.now in
-    let a : List Step = c.in-Both.a.value.steps in
-    let b : List Step = c.in-Both.b.value.steps in
-    let parts : a ++ b ≡ c.args.self.now.steps = sym (ap content_steps c.in-Both.is) ∙ same_steps c.self.view_is in
-    let len : c.len.result ≡ length a = rw c.deref-in-Both-3.ensures at c.len.ensures.count in
-    let moved = rw c.deref-in-Both.ensures at c.in_ok-judge-in-Both.ensures.moves in
-    rw (← parts) (on_ok_weaker c.judge-in-Both.result (λ last. λ ends.
-    let both : length (a ++ b) ≡ length a + length b = length-append a b in
-    let second = rw c.deref-in-Both-2.ensures at last in
-    second (omega (arith, both, len, ends)) ∙ ap (λ (state : State). ended state b) (moved (omega (arith, both, ends)))
-    ∙ sym (ends_in_turn s a b)) c.judge-in-Both.ensures.moves)
+    let moved : c.args.at + length a ≤ to → between ≡ ended s a =
+    rw c.deref-in-Both.ensures at c.in_ok-judge-in-Both.ensures.moves in
+    let judged = rw c.deref-in-Both.ensures at c.in_ok-judge-in-Both.ensures.all in
+    rw (← parts) (record {
+      found = on_ok_weaker c.judge-in-Both.result (λ last.
+          found_parts s a b c.args.at c.len.result from to old found c.judge-in-Both.new.report.found.items len first
+          (rw c.deref-in-Both-2.ensures at last ∙ ap (λ r. found ++ r) (same_behind between (ended s a) b
+          (c.args.at + c.len.result) from to (λ before. moved (omega (arith, len, before))))))
+          c.judge-in-Both.ensures.found;
+      moves = on_ok_weaker c.judge-in-Both.result (λ last. λ ends.
+          (rw c.deref-in-Both-2.ensures at last) (omega (arith, both, len, ends))
+          ∙ ap (λ (state : State). ended state b) (moved (omega (arith, both, ends)))
+          ∙ sym (ends_in_turn s a b)) c.judge-in-Both.ensures.moves;
+      all = on_ok_weaker c.judge-in-Both.result (λ last. let second = rw c.deref-in-Both-2.ensures at last in
+          omega (arith, both, judged, second)) c.judge-in-Both.ensures.all;
+    })

@@ -1,4 +1,4 @@
-use Rattle.std.proofs.Common.{◌≡◌, ◌≤◌, ◌++◌, ℕ, List, length, map, sym, ap, ◌∙◌, arith, inl, true}
+use Rattle.std.proofs.Common.{◌≡◌, ◌≤◌, ◌++◌, ℕ, List, length, map, sym, ap, ◌∙◌, arith, inl, true, length-append}
 use Rattle.std.proofs.lemmas.Result.{on_ok_weaker}
 use Rattle.cap_machine.specs.declared.step.Step.{Step}
 use Rattle.cap_machine.specs.State.{State}
@@ -50,33 +50,29 @@ returns-else-not-meets-clause-few t c =
       ap (λ r. length r) c.deref-in-Run.ensures.value,
     )) c.judge_run.ensures.found
 
-pub returns-then-len-asked-clause-found : goal.returns-then-len-asked-clause-found
-returns-then-len-asked-clause-found t c =
-    let a : List Step = c.in-Both.a.value.steps in
-    let b : List Step = c.in-Both.b.value.steps in
-    let parts : a ++ b ≡ c.args.self.now.steps = sym (ap content_steps c.in-Both.is) ∙ same_steps c.self.view_is in
-    rw (← parts) (stopped c.args.asked.now.most (state_before c.args.before.now) a b c.args.at c.args.asked.now.from
-    c.args.asked.now.to c.args.report.now.found.items c.resolve.new.report.found.items
-    (rw c.deref-in-Both-2.ensures at c.in_ok-resolve-in-Both.ensures.found) (omega arith))
-
-pub returns-then-len-asked-clause-few : goal.returns-then-len-asked-clause-few
-returns-then-len-asked-clause-few t c =
+pub returns-then-len-asked : goal.returns-then-len-asked
+returns-then-len-asked t c =
     let s : State = state_before c.args.before.now in
     let a : List Step = c.in-Both.a.value.steps in
     let b : List Step = c.in-Both.b.value.steps in
     let parts : a ++ b ≡ c.args.self.now.steps = sym (ap content_steps c.in-Both.is) ∙ same_steps c.self.view_is in
-    let first = rw c.deref-in-Both-2.ensures at c.in_ok-resolve-in-Both.ensures.few in
-    rw (← parts) (omega (arith, first, many_parts s a b))
+    let first = rw c.deref-in-Both-2.ensures at c.in_ok-resolve-in-Both.ensures in
+    rw (← parts) (record {
+      found = stopped c.args.asked.now.most s a b c.args.at c.args.asked.now.from c.args.asked.now.to
+          c.args.report.now.found.items c.resolve.new.report.found.items first.found (omega arith);
+      few = omega (arith, first.few, many_parts s a b);
+      all = omega (arith, first.all, length-append a b);
+    })
 
-pub returns-else-len-asked-clause-found : goal.returns-else-len-asked-clause-found
-returns-else-len-asked-clause-found t c =
+pub returns-else-len-asked : goal.returns-else-len-asked
+returns-else-len-asked t c =
     let s : State = state_before c.args.before.now in
     let most : ℕ = c.args.asked.now.most in
     let from : ℕ = c.args.asked.now.from in
     let to : ℕ = c.args.asked.now.to in
     let at : ℕ = c.args.at in
     let old : List Found = c.args.report.now.found.items in
-    let first : List Found = c.resolve.new.report.found.items in
+    let found : List Found = c.resolve.new.report.found.items in
     let a : List Step = c.in-Both.a.value.steps in
     let b : List Step = c.in-Both.b.value.steps in
     let parts : a ++ b ≡ c.args.self.now.steps = sym (ap content_steps c.in-Both.is) ∙ same_steps c.self.view_is in
@@ -84,23 +80,13 @@ returns-else-len-asked-clause-found t c =
     let kept : IsKept c.unwrap-first.result.now a =
     rw (c.unwrap-first.ensures, c.deref-in-Both-3.ensures) at c.known-in-Both.ensures.kept in
     let ends = known_ends c.unwrap-first.result.now a kept.knows s in
-    let all : first ≡ old ++ within from to (map (later at) (check s a)) =
-    not_many most first (old ++ within from to (map (later at) (check s a)))
-    (rw c.deref-in-Both-2.ensures at c.in_ok-resolve-in-Both.ensures.found) (omega arith) in
-    rw (← parts) (on_ok_weaker c.resolve-in-Both.result (λ last. parts_or_many most s a b at c.len-in-Both.result from to
-    old first c.resolve-in-Both.new.report.found.items len all
-    (rw (c.deref-in-Both-4.ensures, ends, c.deref-in-Both-5.ensures) at last)) c.resolve-in-Both.ensures.found)
-
-pub returns-else-len-asked-clause-few : goal.returns-else-len-asked-clause-few
-returns-else-len-asked-clause-few t c =
-    let s : State = state_before c.args.before.now in
-    let a : List Step = c.in-Both.a.value.steps in
-    let b : List Step = c.in-Both.b.value.steps in
-    let parts : a ++ b ≡ c.args.self.now.steps = sym (ap content_steps c.in-Both.is) ∙ same_steps c.self.view_is in
-    let kept : IsKept c.unwrap-first.result.now a =
-    rw (c.unwrap-first.ensures, c.deref-in-Both-3.ensures) at c.known-in-Both.ensures.kept in
-    let ends = known_ends c.unwrap-first.result.now a kept.knows s in
-    let first = rw c.deref-in-Both-2.ensures at c.in_ok-resolve-in-Both.ensures.few in
-    rw (← parts) (on_ok_weaker c.resolve-in-Both.result (λ last.
-    let second = rw (c.deref-in-Both-4.ensures, ends, c.deref-in-Both-5.ensures) at last in
-    omega (arith, first, second, many_parts s a b)) c.resolve-in-Both.ensures.few)
+    let first = rw c.deref-in-Both-2.ensures at c.in_ok-resolve-in-Both.ensures in
+    let all : found ≡ old ++ within from to (map (later at) (check s a)) =
+    not_many most found (old ++ within from to (map (later at) (check s a))) first.found (omega arith) in
+    let more = rw (c.deref-in-Both-4.ensures, ends, c.deref-in-Both-5.ensures) at c.resolve-in-Both.ensures in
+    rw (← parts) (record {
+      found = on_ok_weaker c.resolve-in-Both.result (λ last. parts_or_many most s a b at c.len-in-Both.result from to
+          old found c.resolve-in-Both.new.report.found.items len all last) more.found;
+      few = on_ok_weaker c.resolve-in-Both.result (λ last. omega (arith, first.few, last, many_parts s a b)) more.few;
+      all = on_ok_weaker c.resolve-in-Both.result (λ last. omega (arith, first.all, last, length-append a b)) more.all;
+    })

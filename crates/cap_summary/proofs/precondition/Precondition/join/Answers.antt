@@ -1,9 +1,9 @@
 use Rattle.std.proofs.Common.{◌≡◌, false, refl, sym, ◌∙◌}
+use Rattle.std.proofs.Math.Bool.{or-true}
 use Rattle.cap_summary.specs.declared.precondition.Precondition.{Precondition}
 use Rattle.cap_summary.specs.Keys.{cells_of}
-use Rattle.cap_summary.specs.Preconditions.{is_met, AreAskedByBoth, IsSamePrecondition}
-use Rattle.cap_summary.proofs.Bools.{or_true}
-use Rattle.cap_summary.proofs.Pulling.{always_asked, met_by_asks, met_joined, asked_joined, asked_same}
+use Rattle.cap_summary.specs.Preconditions.{is_met, AreAskedByBoth}
+use Rattle.cap_summary.proofs.Pulling.{always_asked, met_by_asks, met_joined, asked_joined}
 use Rattle.cap_summary.proofs.precondition.Precondition.join.Goals as goal
 use Rattle.cap_summary.proofs.precondition.Precondition.join.Goals.{then-self-via-then-self}
 use Rattle.cap_summary.proofs.precondition.Precondition.join.Goals.{then-self-via-else-self+then-later}
@@ -15,7 +15,7 @@ returns-then-self c =
     always_asked c.args.first.now own c.args.later.now c.always.result all.met all.settled all.possible all.names
     all.nothing (λ s. elim c.then-self.branch [
       | then-self-via-then-self w ↦ rw w.if-self.true refl
-      | then-self-via-else-self+then-later w ↦ rw w.if-later.true (or_true (is_met (cells_of s) own))
+      | then-self-via-else-self+then-later w ↦ rw w.if-later.true (or-true (is_met (cells_of s) own))
     ])
 
 pub returns-in_default : goal.returns-in_default
@@ -49,9 +49,6 @@ returns c =
     let first = c.args.first.now in
     let own = c.args.self.now in
     let later = c.args.later.now in
-    let new : Precondition = record c.refuse_all_after.new.self { refusals = c.shrink_to_fit.new.self } in
-    let same_new : IsSamePrecondition c.refuse_all_after.new.self new =
-    record { certain = refl; asks = refl; refusals = sym c.shrink_to_fit.ensures.items } in
     let refused = c.in_ok-refuse_all_after.ensures in
     let before : Precondition =
     record { certain = false; asks = c.in-Some.asks; refusals = c.extend_from_slice.new.self } in
@@ -61,6 +58,6 @@ returns c =
       c.in_ok-refusals.ensures.items,
       c.deref-3.ensures.value,
     ) at c.in_ok-extend_from_slice.ensures.items in
-    asked_same first own later c.refuse_all_after.new.self new same_new
-    (asked_joined first own later before c.refuse_all_after.new.self c.deref-4.result.now c.if-self.false c.if-later.false refl asked same
-    c.deref-4.ensures.value refused.met c.requires.own c.requires.later c.if-both.false refused.asks refused.possible refused.names refused.few)
+    asked_joined first own later before c.refuse_all_after.new.self c.deref-4.result.now c.if-self.false c.if-later.false
+    refl asked same c.deref-4.ensures.value refused.met c.requires.own c.requires.later c.if-both.false refused.asks
+    refused.possible refused.names refused.few

@@ -1,18 +1,18 @@
 use Rattle.std.proofs.Common.{refl, sym}
+use Rattle.std.proofs.Math.Bool.{or-false}
 use Rattle.cap_summary.specs.Keys.{cells_of}
 use Rattle.cap_summary.specs.declared.precondition.Precondition.{Precondition}
 use Rattle.cap_summary.specs.declared.precondition.Refusal.{Refusal}
 use Rattle.std.proofs.lemmas.List.Elements.{All-push}
 use Rattle.cap_summary.specs.Names.{PartsWithin}
 use Rattle.cap_summary.specs.Preconditions.{is_met, PartsAreOpen}
-use Rattle.cap_summary.proofs.Bools.{or_false}
 use Rattle.cap_summary.proofs.Meeting.{refused_more, refusal_open, possible_refused}
 use Rattle.cap_summary.proofs.precondition.Precondition.refuse_after.Goals as goal
 
 pub returns-then-is_certain-clause-met : goal.returns-then-is_certain-clause-met
 returns-then-is_certain-clause-met c = λ s.
     let pulled = rw c.in-Some.is at (c.pulled_three.ensures.hold s) in
-    rw (← pulled, c.is_certain.ensures.always c.if-is_certain.true s) (sym (or_false (is_met (cells_of s) c.args.self.now)))
+    rw (← pulled, c.is_certain.ensures.always c.if-is_certain.true s) (sym (or-false (is_met (cells_of s) c.args.self.now)))
 
 pub returns-in_ok-push-clause-met : goal.returns-in_ok-push-clause-met
 returns-in_ok-push-clause-met c = λ s.

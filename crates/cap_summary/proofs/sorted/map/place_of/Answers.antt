@@ -1,7 +1,7 @@
 use Rattle.std.proofs.Common.{rules}
 use Rattle.std.proofs.lemmas.List.Sorted.{answers_always}
 use Rattle.cap_summary.proofs.SortedFound.{searched}
-use Rattle.cap_summary.proofs.sorted.place.place_of.Goals as goal
+use Rattle.cap_summary.proofs.sorted.map.place_of.Goals as goal
 
 -- the closure gives an entry's key
 pub returns : goal.returns
