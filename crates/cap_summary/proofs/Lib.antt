@@ -31,3 +31,4 @@ pub mod Explained
 pub mod FewKeys
 pub mod FewAsks
 pub mod Judged
+pub mod Counted

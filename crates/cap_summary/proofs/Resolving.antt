@@ -159,7 +159,7 @@ found_behind s t at from to old behind = sym (append-nil old) ∙ ap (λ (r : Li
     (sym (not_behind from to at (length t) (check s t) (positions_within s t) behind))
 
 -- what is said of one step, where its position is asked for and where not
-said_at : (from to at : ℕ) (xs : List Finding) (asked : Bool) → asked ≡ (nat_le from at && nat_le at to)
+pub said_at : (from to at : ℕ) (xs : List Finding) (asked : Bool) → asked ≡ (nat_le from at && nat_le at to)
     → within from to (map (found_at at) xs) ≡ cond asked (map (found_at at) xs) []
 said_at from to at xs asked is = alike (is_at from to) asked (map (found_at at) xs)
     (All-map (λ x. is_at from to x ≡ asked) (found_at at) xs (λ k d lt. sym is))

@@ -11,7 +11,7 @@ ghost use Rattle.cap_machine.specs.Explain.{mode_matters, mode_or_unsure, explai
 ghost use Rattle.cap_machine.specs.Table.{start_state};
 ghost use Rattle.cap_summary.specs.Stands.{summed_up};
 ghost use Rattle.cap_machine.specs.Check.{check};
-ghost use Rattle.cap_summary.specs.Positions.{within};
+ghost use Rattle.cap_summary.specs.Positions.{within, positions};
 ghost use Rattle.cap_summary.specs.Behind.{IsPlace, state_at_start, history};
 
 use crate::in_order::note_asked;
@@ -134,6 +134,7 @@ pub(crate) fn judge_alone(
     ensures found { OnOk result (report.new.found.items
         ≡ within asked.now.from asked.now.to (check (start_state start.now) node.now.steps)) }
     ensures all { OnOk result (report.new.judged ≤ length node.now.steps) }
+    ensures each { OnOk result (positions report.new.found.items ≤ report.new.judged) }
 {
     let last = asked.to.min(node.len());
     let mut count = asked.from.saturating_sub(1);

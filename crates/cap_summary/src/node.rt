@@ -9,7 +9,7 @@ ghost use Rattle.cap_machine.specs.Table.{start_state};
 ghost use Rattle.cap_machine.specs.Laws.{later};
 ghost use Rattle.cap_tree.specs.Run.{values};
 ghost use Rattle.cap_summary.specs.Before.{state_before};
-ghost use Rattle.cap_summary.specs.Positions.{within, AllOrMany};
+ghost use Rattle.cap_summary.specs.Positions.{within, AllOrMany, WereJudged};
 ghost use Rattle.cap_tree.specs.Sides.{part_at};
 ghost use Rattle.cap_summary.specs.Content.{content_steps, HasParts, AreKept, KeepsParts};
 ghost use Rattle.cap_summary.specs.Kept.{IsKept, IsWithin, IsLarge, ListsMany};
@@ -361,6 +361,7 @@ impl Node {
         ensures few { OnOk result (report.new.judged
             ≤ report.old.judged + 48 * length (check (state_before before.now) self.now.steps)) }
         ensures all { OnOk result (report.new.judged ≤ report.old.judged + length self.now.steps) }
+        ensures each { OnOk result (WereJudged report.old report.new) }
     {
         if asked.to <= at || at + self.len < asked.from {
             return Ok(());
@@ -408,6 +409,7 @@ impl Node {
         ensures moves { OnOk result (at + length self.now.steps ≤ asked.now.to
             → start_state machine.new ≡ ended (start_state machine.old) self.now.steps) }
         ensures all { OnOk result (report.new.judged ≤ report.old.judged + length self.now.steps) }
+        ensures each { OnOk result (WereJudged report.old report.new) }
     {
         match &self.content {
             Content::Run(run) => {

@@ -7,7 +7,7 @@ ghost use Rattle.cap_machine.specs.Table.{start_state};
 ghost use Rattle.cap_summary.specs.Kept.{IsKept};
 ghost use Rattle.cap_summary.specs.Few.{NameOrRefuseMany};
 ghost use Rattle.cap_summary.specs.View.{NodesCompose, NodesDoAlike, NodesAskAlike};
-ghost use Rattle.cap_summary.specs.Positions.{within};
+ghost use Rattle.cap_summary.specs.Positions.{within, positions};
 ghost use Rattle.cap_summary.specs.Stands.{Stands, summed_up, kept_of};
 
 use crate::before::Before;
@@ -94,6 +94,7 @@ pub fn report_range(
     ensures few { is_some (kept_of summary.now) ≡ true → IfOk result
         (λ report. report.judged ≤ 2096 * length (check (start_state start.now) (summed_up summary.now))) }
     ensures all { IfOk result (λ report. report.judged ≤ 2 * length (summed_up summary.now)) }
+    ensures each { IfOk result (λ report. positions report.found.items ≤ report.judged) }
 {
     let most = summary.node.len() / STEPS_A_FINDING;
     let asked = Asked { from, to, most };
@@ -128,6 +129,7 @@ fn judge_in_order(
     ensures found { OnOk result (report.new.found.items
         ≡ within asked.now.from asked.now.to (check (start_state start.now) (summed_up summary.now))) }
     ensures all { OnOk result (report.new.judged ≤ report.old.judged + length (summed_up summary.now)) }
+    ensures each { OnOk result (positions report.new.found.items ≤ report.new.judged) }
 {
     report.found.clear();
     let Ok(mut machine) = Machine::from_start(alloc, start) else {

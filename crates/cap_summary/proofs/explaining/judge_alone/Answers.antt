@@ -1,12 +1,15 @@
-use Rattle.std.proofs.Common.{◌∙◌, ℕ, List, take, sym, ap, arith}
+use Rattle.std.proofs.Common.{◌≡◌, ◌∙◌, ℕ, ◌+◌, ◌≤◌, List, take, sym, ap, arith}
 use Rattle.cap_machine.specs.declared.step.Step.{Step}
 use Rattle.cap_machine.specs.State.{State}
+use Rattle.cap_machine.specs.declared.verdict.Found.{Found}
 use Rattle.cap_machine.specs.Check.{check}
 use Rattle.cap_machine.specs.Explain.{Explained}
-use Rattle.cap_summary.specs.Positions.{within}
+use Rattle.cap_summary.specs.Positions.{within, positions}
 use Rattle.cap_machine.specs.Table.{start_state}
 use Rattle.cap_summary.proofs.Resolving.{none_before_first, found_next, found_upto_last}
+use Rattle.cap_summary.proofs.Counted.{one_more}
 use Rattle.cap_summary.proofs.explaining.judge_alone.Goals as goal
+use Rattle.cap_summary.proofs.explaining.judge_alone.Goals.{In_ok-note_asked}
 
 pub loop-count-init : goal.loop-count-init
 loop-count-init c =
@@ -19,18 +22,43 @@ loop-count-init c =
           ∙ ap (λ (n : ℕ). within from to (check s (take n t))) (sym c.saturating_sub-count.ensures);
       counted = omega (arith, c.requires.none_judged);
       all = omega (arith, c.requires.none_judged);
+      each = rw c.requires.nothing (omega arith);
     }
+
+-- what is found up to one more step, and at how many positions
+found_more : (c : In_ok-note_asked) → (c.note_asked.new.found.items ≡ within c.args.asked.now.from c.args.asked.now.to
+    (check (start_state c.args.start.now) (take (c.loop-count.count + 1) c.args.node.now.steps)))
+    × (positions c.note_asked.new.found.items ≤ c.loop-count.report.judged + 1)
+found_more c =
+    let from : ℕ = c.args.asked.now.from in
+    let to : ℕ = c.args.asked.now.to in
+    let old : List Found = c.loop-count.report.found.items in
+    let new : List Found = c.note_asked.new.found.items in
+    let said = ap (λ (e : Explained). e.findings) c.in_ok-explanation.ensures in
+    let here : positions new ≤ positions old + 1 = one_more from to (c.loop-count.count + 1) old new
+    c.in_ok-explanation.explanation.verdict c.in_ok-note_asked.ensures in (
+      found_next (start_state c.args.start.now) c.args.node.now.steps c.loop-count.count from to c.step.result.now old new
+          (omega (arith, c.loop-count-test.true)) c.step.ensures c.loop-count.invariant.found
+          (rw said at c.in_ok-note_asked.ensures),
+      omega (arith, c.loop-count.invariant.each, here),
+    )
 
 pub loop-count-preserved : goal.loop-count-preserved
 loop-count-preserved c =
-    let said = ap (λ (e : Explained). e.findings) c.in_ok-explanation.ensures in
-    record {
-      found = found_next (start_state c.args.start.now) c.args.node.now.steps c.loop-count.count c.args.asked.now.from
-          c.args.asked.now.to c.step.result.now c.loop-count.report.found.items c.note_asked.new.found.items
-          (omega (arith, c.loop-count-test.true)) c.step.ensures c.loop-count.invariant.found
-          (rw said at c.in_ok-note_asked.ensures);
+    let more = found_more (goal.at.loop-count-preserved c).In_ok-note_asked in record {
+      found = more.0;
       counted = omega (arith, c.loop-count.invariant.counted);
       all = omega (arith, c.loop-count.invariant.counted, c.loop-count-test.true);
+      each = more.1;
+    }
+
+pub loop-count-preserved-in_ok-note_asked : goal.loop-count-preserved-in_ok-note_asked
+loop-count-preserved-in_ok-note_asked c =
+    let more = found_more (goal.at.loop-count-preserved-in_ok-note_asked c).In_ok-note_asked in record {
+      found = more.0;
+      counted = omega (arith, c.loop-count.invariant.counted);
+      all = omega (arith, c.loop-count.invariant.counted, c.loop-count-test.true);
+      each = more.1;
     }
 
 pub returns-clause-found : goal.returns-clause-found

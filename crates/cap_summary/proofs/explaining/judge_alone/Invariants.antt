@@ -1,7 +1,7 @@
 use Rattle.std.proofs.Common.{◌≡◌, ◌-◌, ◌≤◌, length, take}
 use Rattle.cap_machine.specs.Check.{check}
 use Rattle.cap_machine.specs.Table.{start_state}
-use Rattle.cap_summary.specs.Positions.{within}
+use Rattle.cap_summary.specs.Positions.{within, positions}
 use Rattle.cap_summary.proofs.explaining.judge_alone.Given as goal
 
 abbrev pub invariant-loop-count : goal.invariant-loop-count
@@ -10,6 +10,7 @@ invariant-loop-count l = record {
       ≡ within l.asked.from l.asked.to (check (start_state l.start) (take l.count l.node.steps));
   counted : l.report.judged ≤ l.count;
   all : l.report.judged ≤ length l.node.steps;
+  each : positions l.report.found.items ≤ l.report.judged;
 }
 
 abbrev pub decreases-loop-count : goal.decreases-loop-count

@@ -13,6 +13,7 @@ use Rattle.cap_summary.specs.Content.{content_steps}
 use Rattle.cap_summary.specs.Positions.{within}
 use Rattle.cap_summary.proofs.Runs.{same_steps}
 use Rattle.cap_summary.proofs.Resolving.{found_parts, found_behind, same_behind}
+use Rattle.cap_summary.proofs.Counted.{run_judged}
 use Rattle.cap_summary.proofs.node.Node.+judge.Goals as goal
 
 pub returns-then-asked-at-clause-found : goal.returns-then-asked-at-clause-found
@@ -25,6 +26,11 @@ returns-else-asked-at-clause-moves t c =
     sym (ap content_steps c.in-Run.is) ∙ same_steps c.self.view_is in
     on_ok_weaker c.judge_in_order.result (λ last. λ ends. rw (c.deref.ensures.value, run) at last)
     c.judge_in_order.ensures.moves
+
+pub returns-else-asked-at-clause-each : goal.returns-else-asked-at-clause-each
+returns-else-asked-at-clause-each t c = on_ok_weaker c.judge_in_order.result (λ last. run_judged c.args.report.now
+    c.judge_in_order.new.report (start_state c.args.machine.now) c.deref.result.now c.args.at c.args.asked.now.from
+    c.args.asked.now.to last c.judge_in_order.ensures.counted) c.judge_in_order.ensures.found
 
 pub returns-in_ok-judge-in-Both : goal.returns-in_ok-judge-in-Both
 returns-in_ok-judge-in-Both t c =
@@ -56,4 +62,6 @@ returns-in_ok-judge-in-Both t c =
           ∙ sym (ends_in_turn s a b)) c.judge-in-Both.ensures.moves;
       all = on_ok_weaker c.judge-in-Both.result (λ last. let second = rw c.deref-in-Both-2.ensures at last in
           omega (arith, both, judged, second)) c.judge-in-Both.ensures.all;
+      each = on_ok_weaker c.judge-in-Both.result (λ last. omega (arith, c.in_ok-judge-in-Both.ensures.each, last))
+          c.judge-in-Both.ensures.each;
     })

@@ -14,6 +14,7 @@ use Rattle.cap_summary.proofs.Ends.{known_ends}
 use Rattle.cap_summary.proofs.Runs.{same_steps}
 use Rattle.cap_summary.proofs.Resolving.{found_before, found_behind, not_many, stopped, parts_or_many}
 use Rattle.cap_summary.proofs.Resolving.{many_parts, some_found}
+use Rattle.cap_summary.proofs.Counted.{run_judged}
 use Rattle.cap_summary.proofs.node.Node.+resolve.Goals as goal
 use Rattle.cap_summary.proofs.node.Node.+resolve.Goals.{then-asked-at-via-then-asked-at}
 use Rattle.cap_summary.proofs.node.Node.+resolve.Goals.{then-asked-at-via-else-asked-at+then-at-self}
@@ -50,6 +51,11 @@ returns-else-not-meets-clause-few t c =
       ap (λ r. length r) c.deref-in-Run.ensures.value,
     )) c.judge_run.ensures.found
 
+pub returns-else-not-meets-clause-each : goal.returns-else-not-meets-clause-each
+returns-else-not-meets-clause-each t c = on_ok_weaker c.judge_run.result (λ last. run_judged c.args.report.now
+    c.judge_run.new.report (state_before c.args.before.now) c.deref-in-Run.result.now c.args.at c.args.asked.now.from
+    c.args.asked.now.to last c.judge_run.ensures.counted) c.judge_run.ensures.found
+
 pub returns-then-len-asked : goal.returns-then-len-asked
 returns-then-len-asked t c =
     let s : State = state_before c.args.before.now in
@@ -62,6 +68,7 @@ returns-then-len-asked t c =
           c.args.report.now.found.items c.resolve.new.report.found.items first.found (omega arith);
       few = omega (arith, first.few, many_parts s a b);
       all = omega (arith, first.all, length-append a b);
+      each = first.each;
     })
 
 pub returns-else-len-asked : goal.returns-else-len-asked
@@ -89,4 +96,5 @@ returns-else-len-asked t c =
           old found c.resolve-in-Both.new.report.found.items len all last) more.found;
       few = on_ok_weaker c.resolve-in-Both.result (λ last. omega (arith, first.few, last, many_parts s a b)) more.few;
       all = on_ok_weaker c.resolve-in-Both.result (λ last. omega (arith, first.all, last, length-append a b)) more.all;
+      each = on_ok_weaker c.resolve-in-Both.result (λ last. omega (arith, first.each, last)) more.each;
     })
