@@ -19,12 +19,10 @@ use Rattle.cap_summary.specs.declared.kinds.Kinds.{Kinds}
 use Rattle.cap_summary.specs.declared.ask.Ask.{Ask}
 use Rattle.cap_summary.specs.Keys.{Cells, mode_cell, cell_mode, cells_of}
 use Rattle.cap_summary.specs.Tests.{has, has_kind, held_kind, lacks, any_held, any_kind, holding, passes, can_pass, each_kind}
-use Rattle.cap_summary.specs.Asks.{any_holds, standing, is_sure, certain_at, possible_at, CanBe, IsOpen, PulledIsOpen, PulledCan}
+use Rattle.cap_summary.specs.Asks.{any_holds, standing, is_sure, certain_at, possible_at, CanBe, IsOpen}
 use Rattle.cap_summary.specs.Preconditions.{any_certain}
 use Rattle.std.proofs.lemmas.List.Elements.{All-nil, All-cons}
 use Rattle.std.proofs.lemmas.Bool.{or_parts, and_cases, or_cases}
-use Rattle.cap_summary.specs.declared.ask.Pulled.{Pulled}
-use Rattle.cap_summary.specs.declared.ask.Pulled.TheVariants.{Always, Never, Where}
 use Rattle.cap_summary.proofs.TestPassing.{own_rights, none_lacks}
 use Rattle.cap_summary.proofs.Bools.{not_true, and_left, and_right, or_left, or_right}
 
@@ -148,16 +146,6 @@ is_open ask certain possible = record {
   holds = holds_somewhere ask.pid ask.key ask possible;
   fails = fails_somewhere ask.pid ask.key ask certain;
 }
-
-pub open_can : (answer : Bool) (ask : Ask) → IsOpen ask → CanBe answer ask
-open_can true ask is = is.holds
-open_can false ask is = is.fails
-
--- so can what it becomes of an earlier segment
-pub pulled_can : (answer : Bool) (pulled : Pulled) → PulledIsOpen pulled → PulledCan answer pulled
-pulled_can answer Always is = tt
-pulled_can answer Never is = tt
-pulled_can answer (Where ask) is = open_can answer ask is
 
 -- ---- in no state
 unheld : (kinds : Kinds) (flag : OnExec) → any_held kinds ≡ false → has kinds (held_kind flag) ≡ false

@@ -158,3 +158,6 @@ pub many_both : (t u : List Step) (first second : Known) → Knows first t → K
     → ListsMany first ⊎ ListsMany second → NameOrRefuseMany (t ++ u)
 many_both t u first second one other (inl lists) = many_first t u (many_listed t first one lists)
 many_both t u first second one other (inr lists) = many_second t u (many_listed u second other lists)
+
+-- why nothing is kept of two parts
+pub ruleset many = (many_first, many_second, many_both)

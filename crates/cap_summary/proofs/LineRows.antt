@@ -1,6 +1,6 @@
 -- The cells after a line, by the rows of the processes that it touches.
 use Rattle.std.proofs.Common.{◌≡◌, ℕ, ◌==◌, Bool, true, false, ◌||◌, cond, refl, sym, ap, ◌∙◌, inl, inr, subst}
-use Rattle.std.proofs.Common.{List, Some, None, Bor}
+use Rattle.std.proofs.Common.{List, Some, None}
 use Rattle.std.specs.Option.{option_map_or}
 use Rattle.std.proofs.lemmas.Bool.{eqb-true, eq-eqb}
 use Rattle.std.proofs.Math.Bool.{or-false}
@@ -24,7 +24,7 @@ use Rattle.cap_summary.specs.Effects.{row_cell, changed, IsRowAfter}
 use Rattle.cap_summary.specs.Sorted.{found}
 use Rattle.cap_summary.specs.Leaving.{row_leaves, leaves, LineLeaves, LeavesThenLine}
 use Rattle.cap_summary.specs.Lines.{turned_cell, line_after, IsThenLine, is_touched, IsPut, LeavesPut, IsRowOf, LeavesOwn}
-use Rattle.cap_summary.specs.Lines.{IsListOf, unlisted, leaves_unlisted}
+use Rattle.cap_summary.specs.Lines.{IsListOf}
 use Rattle.cap_summary.proofs.Bools.{or_right}
 
 -- ---- a process that isn't touched keeps its cells
@@ -108,18 +108,6 @@ fork_list line child g me listed is with cells f =
         ≡ cond b Unknown (cells me (key.Fd f))
     either true = refl
     either false = refl
-
--- a line that is none of those that touch all cells of their process, or those from one on
-pub own_unlisted : (line : LineEffect) → ((fds : Bor (List ℕ)) → line ≡ lines.Start fds → ⊥) → (line ≡ lines.Exit → ⊥)
-    → (line ≡ lines.Forget → ⊥) → (line ≡ lines.Exec → ⊥) → ((n : ℕ) → line ≡ lines.CloseFrom n → ⊥)
-    → ((me : ℕ) (cells : Cells) (f : ℕ) → unlisted line me cells f ≡ cells me (key.Fd f))
-    × ((f : ℕ) → leaves_unlisted line f ≡ true)
-own_unlisted (lines.Start fds) start exit forget exec close = absurd (start fds refl)
-own_unlisted lines.Exit start exit forget exec close = absurd (exit refl)
-own_unlisted lines.Forget start exit forget exec close = absurd (forget refl)
-own_unlisted lines.Exec start exit forget exec close = absurd (exec refl)
-own_unlisted (lines.CloseFrom n) start exit forget exec close = absurd (close n refl)
-own_unlisted _ start exit forget exec close = (λ me cells f. refl, λ f. refl)
 
 module _ (first new : Effect) (line : LineEffect) (me : ℕ) (own row : Row) where
   pub then_line : IsRowOf line me own → IsRowAfter first me own row → IsPut line me row first.rows new.rows

@@ -1,5 +1,5 @@
 -- Copies of what is listed.
-use Rattle.std.proofs.Common.{◌≡◌, ℕ, ◌+◌, List, [], ◌∷◌, refl}
+use Rattle.std.proofs.Common.{◌≡◌, ℕ, ◌+◌, List, [], ◌∷◌}
 use Rattle.std.specs.List.{AllZip}
 use Rattle.cap_summary.specs.Sorted.{RisesFrom}
 
@@ -16,14 +16,3 @@ module _ {V : Type 0} (Copied : V → V → Type 0) where
   rises_too bound ((k, v) ∷ old) ((l, w) ∷ copy) all rises =
       let same : l ≡ k = all.0.0 in
       rw same (rises.0, rises_too (k + 1) old copy all.1 rises.1)
-
--- each entry is the same
-pub same_entries : {V : Type 0} (old copy : List (ℕ × V)) → AllZip (IsEntry (λ v w. w ≡ v)) old copy → copy ≡ old
-same_entries [] [] all = refl
-same_entries [] (y ∷ copy) all = absurd all
-same_entries (x ∷ old) [] all = absurd all
-same_entries ((k, v) ∷ old) ((l, w) ∷ copy) all =
-    let key : l ≡ k = all.0.0 in
-    let value : w ≡ v = all.0.1 in
-    let rest : copy ≡ old = same_entries old copy all.1 in
-    cc

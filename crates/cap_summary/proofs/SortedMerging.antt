@@ -1,12 +1,11 @@
 -- A table that is made of two, key by key.
 use Rattle.std.proofs.Common.{◌≡◌, ℕ, ◌+◌, ◌<◌, ◌≤◌, eqb, Bool, true, false, ◌||◌, List, [], ◌∷◌, ◌++◌, Option, Some}
-use Rattle.std.proofs.Common.{None, if◌then◌else◌, inl, inr, min, slice_get, refl, sym, ap, ◌∙◌, arith}
+use Rattle.std.proofs.Common.{None, if◌then◌else◌, inl, inr, refl, sym, ap, ◌∙◌, arith}
 use Rattle.std.specs.Option.{option_or, is_some}
 use mathlib.Core.Bool.{false≢true}
 use Rattle.std.specs.Option.{is_some}
 use Rattle.std.proofs.lemmas.Bool.{cases_lt, ne_eqb}
-use Rattle.std.proofs.lemmas.Bool.Decides.{nat_tests, eqb_tells}
-use Rattle.std.proofs.Math.Bool.{or-true}
+use Rattle.std.proofs.lemmas.Bool.Decides.{nat_tests}
 use Rattle.cap_summary.specs.Sorted.{found, RisesFrom, Rises}
 use Rattle.cap_summary.proofs.SortedFound.{found_below}
 
@@ -173,42 +172,3 @@ one_fewer true true n n' m m' one left right = omega arith
 one_fewer true false n n' m m' one left right = omega arith
 one_fewer false true n n' m m' one left right = omega arith
 one_fewer false false n n' m m' one left right = absurd (false≢true one)
-
--- ---- the least key of two lists
-
--- the first entry is found
-found_first : {V : Type 0} (l : List (ℕ × V)) (x : ℕ × V) → Some x ≡ slice_get l 0 → is_some (found l x.0) ≡ true
-found_first [] x is = absurd cc
-found_first ((k, v) ∷ rest) x is = let same : k ≡ x.0 = cc in grind (arith, nat_tests, same)
-
--- the keys rise from one that the first isn't below
-pub rises_from_first : {V : Type 0} (key : ℕ) (l : List (ℕ × V)) (x : ℕ × V) → Rises l → Some x ≡ slice_get l 0
-    → key ≤ x.0 → RisesFrom key l
-rises_from_first key [] x rises is le = tt
-rises_from_first key ((k, v) ∷ rest) x rises is le = let same : k ≡ x.0 = cc in (omega (arith, same, le), rises.1)
-
--- no entries, where there is no first one
-pub no_entries : {V : Type 0} (l : List (ℕ × V)) → None ≡ slice_get l 0 → l ≡ []
-no_entries [] none = refl
-no_entries (x ∷ rest) none = absurd cc
-
-pub rises_from_none : {V : Type 0} (key : ℕ) (l : List (ℕ × V)) → None ≡ slice_get l 0 → RisesFrom key l
-rises_from_none key [] none = tt
-rises_from_none key (x ∷ rest) none = absurd cc
-
--- a key that is the first one of two lists is found in one of them
-pub first_found : {V W : Type 0} (l : List (ℕ × V)) (r : List (ℕ × W)) (x : ℕ × V) → Some x ≡ slice_get l 0
-    → (is_some (found l x.0) || is_some (found r x.0)) ≡ true
-first_found l r x is = rw (found_first l x is) refl
-
-pub second_found : {V W : Type 0} (l : List (ℕ × V)) (r : List (ℕ × W)) (y : ℕ × W) → Some y ≡ slice_get r 0
-    → (is_some (found l y.0) || is_some (found r y.0)) ≡ true
-second_found l r y is = rw (found_first r y is) (or-true (is_some (found l y.0)))
-
-pub least_found : {V W : Type 0} (l : List (ℕ × V)) (r : List (ℕ × W)) (x : ℕ × V) (y : ℕ × W) (key : ℕ)
-    → Some x ≡ slice_get l 0 → Some y ≡ slice_get r 0 → key ≡ min x.0 y.0
-    → (is_some (found l key) || is_some (found r key)) ≡ true
-least_found l r x y key first second least = elim (eqb_tells key x.0) [
-  | inl h ↦ rw h.1 (first_found l r x first)
-  | inr h ↦ let same : key ≡ y.0 = omega (arith, least, h.1) in rw same (second_found l r y second)
-]

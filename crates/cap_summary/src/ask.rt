@@ -224,6 +224,7 @@ impl Ask {
 
     /// The same by the row of its process, if there is one; `None` where it stays as it is, since its cell is left.
     #[inline(always)]
+    #[tactic(auto, using(crate::proofs::Pulling::row_left))]
     pub(crate) fn pulled(&self, row: Option<&Row>) -> Option<Pulled>
         ensures holds { (s : State) → pulled_holds (cells_of s) (or_same self.now result)
             ≡ passes self.now (cell_in (cells_of s) (option_copied row.entry) self.now.pid self.now.key) }

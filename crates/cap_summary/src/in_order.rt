@@ -14,6 +14,7 @@ use cap_tree::NoMemory;
 use std::rc::Rc;
 
 /// Notes what is said of a step at a position, where that is asked for.
+#[tactic(auto, using(crate::proofs::Resolving::not_asked, crate::proofs::Resolving::asked_for))]
 pub(crate) fn note_asked(
     verdict: &Verdict,
     at: usize,

@@ -76,6 +76,7 @@ pub(crate) fn note(found: &mut Vec<Found>, at: usize, verdict: &Verdict) -> Resu
 }
 
 /// Notes what is said of a line at a position, where that is asked for.
+#[tactic(auto, using(crate::proofs::Resolving::not_asked))]
 fn note_line(
     before: &Before<'_>,
     pid: Pid,

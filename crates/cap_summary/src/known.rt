@@ -125,6 +125,7 @@ impl Known {
 
     /// How far this is the same as what was known of a part in its place, where so much is known of it already: as far as
     /// that tells what may be kept of a whole.
+    #[tactic(auto, using(crate::proofs::Rejoining::keeps_none))]
     fn likeness_to(&self, was: &Known, side: Side, likeness: Likeness) -> Likeness
         requires { AreAlike likeness was.now self.now }
         ensures alike { AreAlike result was.now self.now }
@@ -160,6 +161,7 @@ impl Known {
 
     /// The effect of these steps and a later segment: that of an old whole where it is kept, or else one that shares rows
     /// with it.
+    #[tactic(auto, using(crate::proofs::Rejoining::old_effect))]
     fn rejoined_effect(
         &self,
         alloc: Global,

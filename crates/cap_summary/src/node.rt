@@ -300,6 +300,7 @@ impl Node {
     }
 
     /// What is known of two parts, where it may be kept of both together.
+    #[tactic(auto, using(crate::proofs::Keeping::many))]
     fn known_of_both<'a>(left: &'a Node, right: &'a Node) -> Option<(&'a Known, &'a Known)>
         ensures first { IfSome result (λ both. IsKept both.0.now left.now.steps) }
         ensures second { IfSome result (λ both. IsKept both.1.now right.now.steps) }

@@ -117,6 +117,7 @@ pub fn report_range(
 
 /// Judges all steps in order, up to the last position that is asked for, and notes what is found instead of what was
 /// found so far.
+#[tactic(auto, using(crate::proofs::Resolving::found_in_order))]
 fn judge_in_order(
     alloc: Global,
     summary: &Summary,

@@ -1,6 +1,5 @@
 use Rattle.cap_summary.specs.LineAsks.{part_holds}
 use Rattle.cap_summary.specs.Effects.{changed}
-use Rattle.cap_summary.specs.Names.{PartsWithin}
 use Rattle.cap_summary.proofs.Meeting.{met_three}
 use Rattle.cap_summary.proofs.precondition.Precondition.put_line.Goals as goal
 
@@ -13,10 +12,3 @@ returns-in_ok-put_after-in-Where-3-clause-met c = λ s.
     (λ cells. part_holds (changed first cells) asks.first) (λ cells. part_holds (changed first cells) asks.second)
     c.in_ok-put_after-in-Where.ensures.met c.in_ok-put_after-in-Where-2.ensures.met
     c.in_ok-put_after-in-Where-3.ensures.met s)
-
-pub returns-in_ok-put_after-in-Where-3-clause-names : goal.returns-in_ok-put_after-in-Where-3-clause-names
-returns-in_ok-put_after-in-Where-3-clause-names c = λ names effect asks old.
-    let three : PartsWithin names c.in-Where.asks = rw c.in-Where.is at asks in
-    c.in_ok-put_after-in-Where-3.ensures.names names effect three.second
-    (c.in_ok-put_after-in-Where-2.ensures.names names effect three.first
-    (c.in_ok-put_after-in-Where.ensures.names names effect three.mode old))
