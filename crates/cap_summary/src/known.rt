@@ -216,6 +216,7 @@ impl Known {
 
     /// What is known of two segments, one of which took the place of `was` in an old whole, and how far it is the same as
     /// what was known of that whole. What is the same is shared. `likeness` says how far `was` and the new part are alike.
+    #[tactic(auto, using(crate::proofs::Rejoining::rejoined_effect, crate::proofs::Rejoining::rejoined_asks))]
     pub(crate) fn rejoin(
         alloc: Global,
         first: &Known,

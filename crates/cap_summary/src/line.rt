@@ -84,6 +84,7 @@ fn mode_of(line: &LineEffect<'_>) -> Option<Value>
 }
 
 /// The cells that a line of process `me`, which sets none to a value of its own, lists one by one.
+#[tactic(auto, using(crate::proofs::LineRows::fork_list, crate::proofs::LineCells::started_list))]
 fn listed_by(alloc: Global, me: Pid, line: &LineEffect<'_>) -> Result<Listed, NoMemory>
     requires { sets_cells line.now ≡ false }
     ensures cells { IfOk result (λ listed. IsListOf line.now me listed) }
@@ -174,6 +175,7 @@ impl Effect {
     }
 
     /// Sets the cell of a descriptor of a process, in place.
+    #[tactic(auto, using(crate::proofs::LineSets::set_cells, crate::proofs::LineSets::set_names))]
     fn set(&mut self, alloc: Global, pid: Pid, fd: Fd, value: Value) -> Result<(), NoMemory>
         ensures cells { OnOk result ((cells : Cells) (p : ℕ) (k : Key) → changed self.new cells p k
             ≡ with_cell pid fd (read cells value) (changed self.old cells) p k) }

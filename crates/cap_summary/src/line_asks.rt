@@ -67,6 +67,7 @@ impl UpToThree {
     }
 
     /// Whether one of these holds in every state.
+    #[tactic(auto, using(crate::proofs::Together::one_certain, crate::proofs::Together::none_holds))]
     pub(crate) fn is_certain(&self) -> bool
         ensures always { result ≡ true → (s : State) → one_holds (cells_of s) self.now ≡ true }
         ensures other { result ≡ false → (s : State) × (one_holds (cells_of s) self.now ≡ false) }

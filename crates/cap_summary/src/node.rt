@@ -225,6 +225,7 @@ impl Node {
     }
 
     /// The steps of the one and then those of the other.
+    #[tactic(auto, using(crate::proofs::Runs::none_before, crate::proofs::Runs::none_behind))]
     pub(crate) fn join(
         alloc: Global,
         left: &Rc<Node>,
