@@ -1,29 +1,15 @@
 -- Asks that hold in every state, in none, or in some.
-use Rattle.std.proofs.Common.{◌≡◌, ℕ, ◌<◌, true, false, ◌&&◌, ◌||◌, inl, inr, refl, sym, ap, ◌∙◌, arith, get_or}
-use Rattle.std.proofs.Common.{Bool, List, [], ◌∷◌, if◌then◌else◌}
-use Rattle.std.specs.Prelude.{not}
-use Rattle.std.specs.List.{list_all, All}
-use Rattle.std.proofs.lemmas.List.Sums.{AllPass-from_list_all}
-use Rattle.std.proofs.Math.Bool.{or-false, or-true, and-false}
-use Rattle.cap_rights.specs.Rights.{none, has_all}
-use Rattle.cap_machine.specs.declared.cell.OnExec.{OnExec}
-use Rattle.cap_machine.specs.declared.cell.OnExec.TheVariants.{Set, Clear, Unsure}
-use Rattle.cap_machine.specs.declared.cell.Cell.{Cell}
-use Rattle.cap_machine.specs.declared.cell.Cell.TheVariants.{Unknown, Closed, Held}
-use Rattle.cap_machine.specs.declared.cell.Mode.{Mode}
-use Rattle.cap_machine.specs.declared.cell.Mode.TheVariants.{Inside, Outside, Unsure as NoMode}
-use Rattle.cap_machine.specs.State.{State}
-use Rattle.cap_summary.specs.declared.key.Key.{Key}
-use Rattle.cap_summary.specs.declared.key.Key.TheVariants as key
-use Rattle.cap_summary.specs.declared.kinds.Kinds.{Kinds}
-use Rattle.cap_summary.specs.declared.ask.Ask.{Ask}
-use Rattle.cap_summary.specs.Keys.{Cells, mode_cell, cell_mode, cells_of}
-use Rattle.cap_summary.specs.Tests.{has, has_kind, held_kind, lacks, any_held, any_kind, holding, passes, can_pass, each_kind}
+use Rattle.std.proofs.{lemmas.Bool.and_cases, lemmas.List.Sums.AllPass-from_list_all}
+use Rattle.cap_summary.specs.{◌≡◌, ℕ, ◌<◌, true, false, ◌&&◌, ◌||◌, refl, get_or, Bool, List, [], ◌∷◌, if◌then◌else◌}
+use Rattle.cap_summary.specs.{not, list_all, All, none, has_all, OnExec, Set, Clear, Unsure, Cell, Unknown, Closed}
+use Rattle.cap_summary.specs.{Held, Mode, Inside, Outside, State, Preconditions.any_certain, declared.ask.Ask.Ask}
+use Rattle.cap_summary.specs.{declared.key.Key.Key, declared.kinds.Kinds.Kinds}
 use Rattle.cap_summary.specs.Asks.{any_holds, standing, is_sure, certain_at, possible_at, CanBe, IsOpen}
-use Rattle.cap_summary.specs.Preconditions.{any_certain}
-use Rattle.std.proofs.lemmas.List.Elements.{All-nil, All-cons}
-use Rattle.std.proofs.lemmas.Bool.{or_parts, and_cases, or_cases}
-use Rattle.cap_summary.proofs.TestPassing.{own_rights, none_lacks}
+use Rattle.cap_summary.specs.Keys.{Cells, mode_cell, cell_mode, cells_of}
+use Rattle.cap_summary.specs.Tests.{has, has_kind, held_kind, lacks, any_held, any_kind, holding, passes, can_pass}
+use Rattle.cap_summary.specs.Tests.{each_kind}
+use Rattle.cap_summary.proofs.{inl, inr, sym, ap, ◌∙◌, arith, or-false, or-true, and-false, All-nil, All-cons, or_parts}
+use Rattle.cap_summary.proofs.{or_cases, TestPassing.own_rights, TestPassing.none_lacks}
 use Rattle.cap_summary.proofs.Bools.{not_true, and_left, and_right, or_left, or_right}
 
 -- the state in which each cell and each mode is as given
@@ -32,11 +18,11 @@ everywhere c m = record { cell = λ p f. c; mode = λ p. m }
 
 -- a state of chosen cells, with these rights where they are held
 abbrev pub chosen : ℕ → Cells → State
-chosen r cells = record { cell = λ p f. holding r (cells p (key.Fd f)); mode = λ p. cell_mode (cells p key.Mode) }
+chosen r cells = record { cell = λ p f. holding r (cells p (Key.Fd f)); mode = λ p. cell_mode (cells p Key.Mode) }
 
 pub stands : (r : ℕ) (cells : Cells) (p : ℕ) (k : Key) → cells_of (chosen r cells) p k ≡ standing r k (cells p k)
-stands r cells p key.Mode = refl
-stands r cells p (key.Fd f) = refl
+stands r cells p Key.Mode = refl
+stands r cells p (Key.Fd f) = refl
 
 -- ---- cells that lack none of the rights
 -- at a descriptor they pass by their kind
@@ -49,21 +35,21 @@ sure_by_kind a (Held r flag) = sym (rw (own_rights a.rights, and-false (has a.la
 -- what passes so passes in any state
 pub sure_passes : (a : Ask) (s : State) (p : ℕ) (k : Key) → is_sure a k (cells_of s p k) ≡ true
     → passes a (cells_of s p k) ≡ true
-sure_passes a s p key.Mode is = by (s.mode p) is
+sure_passes a s p Key.Mode is = by (s.mode p) is
   where
     by : (m : Mode) → passes a (mode_cell (cell_mode (mode_cell m))) ≡ true → passes a (mode_cell m) ≡ true
-    by NoMode is = is
+    by Mode.Unsure is = is
     by Inside is = is
     by Outside is = is
-sure_passes a s p (key.Fd f) is = rw (sure_by_kind a (s.cell p f) ∙ is) refl
+sure_passes a s p (Key.Fd f) is = rw (sure_by_kind a (s.cell p f) ∙ is) refl
 
 -- what fails so fails with more rights
 pub fails_with : (a : Ask) (r : ℕ) (k : Key) (c : Cell) → has_all r a.rights ≡ true → is_sure a k c ≡ false
     → passes a (standing r k c) ≡ false
-fails_with a r key.Mode c all is = is
-fails_with a r (key.Fd f) Unknown all is = is
-fails_with a r (key.Fd f) Closed all is = is
-fails_with a r (key.Fd f) (Held h flag) all is =
+fails_with a r Key.Mode c all is = is
+fails_with a r (Key.Fd f) Unknown all is = is
+fails_with a r (Key.Fd f) Closed all is = is
+fails_with a r (Key.Fd f) (Held h flag) all is =
     rw (or_left (has a.kinds (held_kind flag)) _ is, all) (and-false (has a.lacking (held_kind flag)))
 
 -- the first of some cells that fails a test
@@ -119,9 +105,9 @@ possible_passes a is = elim (or_cases (any_kind a.kinds) _ is) [
 
 -- ---- in some state
 -- a mode whose cell a test passes
-mode_passes : (a : Ask) → possible_at key.Mode a ≡ true → (m : Mode) × (passes a (mode_cell m) ≡ true)
-mode_passes a is = elim (or_cases (passes a (mode_cell NoMode)) _ is) [
-  | inl h ↦ (NoMode, h)
+mode_passes : (a : Ask) → possible_at Key.Mode a ≡ true → (m : Mode) × (passes a (mode_cell m) ≡ true)
+mode_passes a is = elim (or_cases (passes a (mode_cell Mode.Unsure)) _ is) [
+  | inl h ↦ (Mode.Unsure, h)
   | inr more ↦ elim (or_cases (passes a (mode_cell Inside)) _ more) [
     | inl h ↦ (Inside, h)
     | inr h ↦ (Outside, h)
@@ -138,8 +124,8 @@ fails_somewhere p k a is =
 
 holds_somewhere : (p : ℕ) (k : Key) (a : Ask) → possible_at k a ≡ true
     → (s : State) × (passes a (cells_of s p k) ≡ true)
-holds_somewhere p key.Mode a is = let m = mode_passes a is in (everywhere Unknown m.0, m.1)
-holds_somewhere p (key.Fd f) a is = let c = possible_passes a is in (everywhere c.0 NoMode, c.1)
+holds_somewhere p Key.Mode a is = let m = mode_passes a is in (everywhere Unknown m.0, m.1)
+holds_somewhere p (Key.Fd f) a is = let c = possible_passes a is in (everywhere c.0 Mode.Unsure, c.1)
 
 pub is_open : (ask : Ask) → certain_at ask.key ask ≡ false → possible_at ask.key ask ≡ true → IsOpen ask
 is_open ask certain possible = record {
@@ -171,20 +157,20 @@ none_lacked a (Held r flag) is = elim (and_cases _ _ is) [
 ]
 
 pub never_passes : (p : ℕ) (k : Key) (a : Ask) → possible_at k a ≡ false → (s : State) → passes a (cells_of s p k) ≡ false
-never_passes p key.Mode a is s = by (s.mode p)
+never_passes p Key.Mode a is s = by (s.mode p)
   where
     by : (m : Mode) → passes a (mode_cell m) ≡ false
-    by NoMode = (or_parts _ _ is).0
+    by Mode.Unsure = (or_parts _ _ is).0
     by Inside = (or_parts _ _ (or_parts _ _ is).1).0
     by Outside = (or_parts _ _ (or_parts _ _ is).1).1
-never_passes p (key.Fd f) a is s =
+never_passes p (Key.Fd f) a is s =
     rw (no_kind a.kinds (s.cell p f) (or_parts _ _ is).0) (none_lacked a (s.cell p f) (or_parts _ _ is).1)
 
 -- ---- in every state
 -- a test looks at the kind alone where no rights are lacked
 pub alike_sure : (a : Ask) (k : Key) (r : ℕ) (flag : OnExec) → is_sure a k (Held r flag) ≡ is_sure a k (Held none flag)
-alike_sure a key.Mode r flag = refl
-alike_sure a (key.Fd f) r flag = refl
+alike_sure a Key.Mode r flag = refl
+alike_sure a (Key.Fd f) r flag = refl
 
 pub certain_holds : (p : ℕ) (k : Key) (a : Ask) → certain_at k a ≡ true → (s : State) → passes a (cells_of s p k) ≡ true
 certain_holds p k a is s =

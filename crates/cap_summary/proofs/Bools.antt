@@ -1,8 +1,7 @@
 -- Laws of Booleans.
-use Rattle.std.proofs.Common.{◌≡◌, Bool, true, false, ◌&&◌, ◌||◌, refl, sym, ap, ◌∙◌}
-use Rattle.std.specs.Prelude.{not}
-use Rattle.std.proofs.Math.Bool.{or-true, or_assoc, or_comm}
-use Rattle.std.proofs.lemmas.Bool.{and_parts, or_parts}
+use Rattle.std.proofs.{lemmas.Bool.and_parts}
+use Rattle.cap_summary.specs.{◌≡◌, Bool, true, false, ◌&&◌, ◌||◌, refl, not}
+use Rattle.cap_summary.proofs.{sym, ap, ◌∙◌, or-true, or_assoc, or_comm, or_parts}
 
 pub not_and : (x y : Bool) → not (x && y) ≡ (not x || not y)
 not_and true y = refl

@@ -1,18 +1,9 @@
 -- How many steps are judged at least for what is found.
-use Rattle.std.proofs.Common.{◌≡◌, ℕ, ◌+◌, ◌≤◌, ◌==◌, ◌&&◌, nat_le, Bool, true, false, cond, List, [], ◌∷◌, ◌++◌, length, map, refl, arith, subst, eq-eqb}
-use Rattle.std.proofs.lemmas.List.{length-map}
-use Rattle.std.specs.declared.rc.Rc.{Rc}
-use Rattle.cap_machine.specs.declared.step.Step.{Step}
-use Rattle.cap_machine.specs.declared.verdict.Found.{Found}
-use Rattle.cap_machine.specs.declared.verdict.Finding.{Finding}
-use Rattle.cap_machine.specs.State.{State}
-use Rattle.cap_machine.specs.History.{ended}
-use Rattle.cap_machine.specs.Check.{check, said, found_at}
-use Rattle.cap_machine.specs.Laws.{later}
-use Rattle.cap_tree.specs.Run.{values}
-use Rattle.cap_summary.specs.declared.judging.Report.{Report}
+use Rattle.cap_summary.specs.{◌≡◌, ℕ, ◌+◌, ◌≤◌, ◌==◌, ◌&&◌, nat_le, Bool, true, false, cond, List, [], ◌∷◌, ◌++◌}
+use Rattle.cap_summary.specs.{length, map, refl, Rc, Step, Found, Finding, State, ended, check, said, found_at, later}
+use Rattle.cap_summary.specs.{values, declared.judging.Report.Report}
 use Rattle.cap_summary.specs.Positions.{within, starts, positions, WereJudged}
-use Rattle.cap_summary.proofs.Resolving.{said_at, found_step}
+use Rattle.cap_summary.proofs.{arith, subst, eq-eqb, length-map, Resolving.said_at, Resolving.found_step}
 
 starts-append : (x : Found) (xs ys : List Found) → starts x (xs ++ ys) ≤ starts x xs
 starts-append x [] [] = omega arith

@@ -1,11 +1,7 @@
 -- How much rows list.
-use Rattle.std.proofs.Common.{◌≡◌, ℕ, ◌+◌, ◌<◌, List, [], ◌∷◌, ◌++◌, length, get_or, take, ap, ◌∙◌, sym, subst}
-use Rattle.std.proofs.Common.{arith}
-use Rattle.std.specs.List.{All}
-use Rattle.std.proofs.lemmas.List.{take_more}
-use Rattle.std.proofs.lemmas.List.Elements.{All-push}
-use Rattle.cap_summary.specs.declared.effect.Row.{Row}
-use Rattle.cap_summary.specs.RowSizes.{rows_size, CellsRise}
+use Rattle.cap_summary.specs.{◌≡◌, ℕ, ◌+◌, ◌<◌, List, [], ◌∷◌, ◌++◌, length, get_or, take, All, RowSizes.rows_size}
+use Rattle.cap_summary.specs.{RowSizes.CellsRise, declared.effect.Row.Row}
+use Rattle.cap_summary.proofs.{ap, ◌∙◌, sym, subst, arith, take_more, All-push}
 
 sizes-append : (a b : List (ℕ × Row)) → rows_size (a ++ b) ≡ rows_size a + rows_size b
 sizes-append [] b = omega arith

@@ -1,37 +1,24 @@
 -- Asks and refusals that `==` finds equal are the same.
-use Rattle.std.proofs.Common.{◌≡◌, Bool, true, false, ◌&&◌, refl, ap, ◌∙◌, rules, arith, Option, Some, None}
-use Rattle.std.proofs.Common.{ℕ, List, [], ◌∷◌, eqb}
-use Rattle.std.proofs.lemmas.Bool.{eqb-true}
-use Rattle.std.specs.Cmp.Lexicographic.{pointwise}
-use Rattle.std.specs.Option.{option_eq}
-use Rattle.std.proofs.Math.Bool.{beq}
-use Rattle.std.proofs.lemmas.Grind.{common_steps}
-use Rattle.cap_machine.specs.declared.cell.Cell.{Cell}
-use Rattle.cap_machine.specs.declared.cell.Cell.TheVariants.{Held}
-use Rattle.cap_machine.specs.declared.cell.HeldOp.{HeldOp}
-use Rattle.cap_machine.specs.declared.cell.Op.{Op}
+use Rattle.std.specs.{Option.option_eq}
+use Rattle.std.proofs.{Math.Bool.beq}
+use Rattle.cap_summary.specs.{◌≡◌, Bool, true, false, ◌&&◌, refl, Option, Some, None, ℕ, List, [], ◌∷◌, eqb, pointwise}
+use Rattle.cap_summary.specs.{Cell, Held, HeldOp, Op, declared.ask.Ask.Ask, declared.base.Base.Base}
+use Rattle.cap_summary.specs.{declared.effect.Row.Row, declared.key.Key.Key, declared.kinds.Kinds.Kinds}
+use Rattle.cap_summary.specs.{declared.line_asks.UpToThree.UpToThree, declared.precondition.Refusal.Refusal}
+use Rattle.cap_summary.specs.{declared.value.Value.Value}
+use Rattle.cap_summary.proofs.{ap, ◌∙◌, rules, arith, eqb-true, common_steps, Bools.and_left, Bools.and_right}
 use Rattle.cap_machine.specs.contracts.cell.CellPartialEq.TheImpl as cells
 use Rattle.cap_machine.specs.contracts.cell.HeldOpPartialEq.TheImpl as helds
 use Rattle.cap_machine.specs.contracts.cell.OpPartialEq.TheImpl as ops
-use Rattle.cap_summary.specs.declared.value.Value.{Value}
-use Rattle.cap_summary.specs.declared.value.Value.TheVariants as value
-use Rattle.cap_summary.specs.declared.base.Base.{Base}
-use Rattle.cap_summary.specs.declared.effect.Row.{Row}
 use Rattle.cap_summary.specs.contracts.value.ValuePartialEq.TheImpl as values
 use Rattle.cap_summary.specs.contracts.base.BasePartialEq.TheImpl as bases
 use Rattle.cap_summary.specs.contracts.listed.ListedPartialEq.TheImpl as listed
 use Rattle.cap_summary.specs.contracts.effect.RowPartialEq.TheImpl as rows
-use Rattle.cap_summary.specs.declared.ask.Ask.{Ask}
-use Rattle.cap_summary.specs.declared.key.Key.{Key}
-use Rattle.cap_summary.specs.declared.kinds.Kinds.{Kinds}
-use Rattle.cap_summary.specs.declared.line_asks.UpToThree.{UpToThree}
-use Rattle.cap_summary.specs.declared.precondition.Refusal.{Refusal}
 use Rattle.cap_summary.specs.contracts.key.KeyPartialEq.TheImpl as keys
 use Rattle.cap_summary.specs.contracts.kinds.KindsPartialEq.TheImpl as kinds
 use Rattle.cap_summary.specs.contracts.ask.AskPartialEq.TheImpl as asks
 use Rattle.cap_summary.specs.contracts.line_asks.UpToThreePartialEq.TheImpl as threes
 use Rattle.cap_summary.specs.contracts.precondition.RefusalPartialEq.TheImpl as refusals
-use Rattle.cap_summary.proofs.Bools.{and_left, and_right}
 
 same_key : (a b : Key) → keys.eq-value.it a b ≡ true → a ≡ b
 same_key a b is = search rules
@@ -120,16 +107,16 @@ same_op a b is =
     ∙ ap (op_of b.unknown b.closed b.set b.clear) (same_held a.unsure b.unsure (and_right clear_is _ from_clear))
 
 pub same_value : (a b : Value) → values.eq-value.it a b ≡ true → a ≡ b
-same_value value.Unknown value.Unknown is = refl
-same_value value.Closed value.Closed is = refl
-same_value (value.Held r f) (value.Held s g) is =
+same_value Value.Unknown Value.Unknown is = refl
+same_value Value.Closed Value.Closed is = refl
+same_value (Value.Held r f) (Value.Held s g) is =
     let held : Held r f ≡ Held s g = same_cell (Held r f) (Held s g) is in
     cc
-same_value (value.Same p k) (value.Same q l) is =
+same_value (Value.Same p k) (Value.Same q l) is =
     let pid : p ≡ q = eqb-true p q (and_left (eqb p q) _ is) in
     let key : k ≡ l = same_key k l (and_right (eqb p q) _ is) in
     cc
-same_value (value.Of p k a) (value.Of q l b) is =
+same_value (Value.Of p k a) (Value.Of q l b) is =
     let more = and_right (eqb p q) _ is in
     let pid : p ≡ q = eqb-true p q (and_left (eqb p q) _ is) in
     let key : k ≡ l = same_key k l (and_left (keys.eq-value.it k l) _ more) in

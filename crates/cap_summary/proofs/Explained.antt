@@ -1,12 +1,9 @@
 -- Which step of a trace is explained.
-use Rattle.std.proofs.Common.{◌≡◌, ℕ, ◌+◌, ◌<◌, ◌≤◌, if◌then◌else◌, Bool, List, [], ◌∷◌, ◌++◌, length, take, drop, get_or}
-use Rattle.std.proofs.Common.{Some, None, refl, sym, ap, ◌∙◌, arith, length-append, eq-eqb}
-use Rattle.std.specs.Prelude.{reverse}
-use Rattle.std.proofs.lemmas.List.{reverse-append, length-reverse, take-append-drop, length-take-le, take_more}
-use Rattle.std.proofs.lemmas.Bool.{ne_eqb}
-use Rattle.cap_machine.specs.declared.step.Step.{Step}
-use Rattle.cap_machine.specs.State.{State}
-use Rattle.cap_machine.specs.Explain.{explained, explained_at, explanation}
+use Rattle.cap_machine.specs.{Explain.explained_at}
+use Rattle.cap_summary.specs.{◌≡◌, ℕ, ◌+◌, ◌<◌, ◌≤◌, if◌then◌else◌, Bool, List, [], ◌∷◌, ◌++◌, length, take, drop}
+use Rattle.cap_summary.specs.{get_or, Some, None, refl, reverse, Step, State, explained, explanation}
+use Rattle.cap_summary.proofs.{sym, ap, ◌∙◌, arith, length-append, eq-eqb, reverse-append, length-reverse}
+use Rattle.cap_summary.proofs.{take-append-drop, length-take-le, take_more, ne_eqb}
 
 -- a step that isn't at the position
 passed : (s : State) (step : Step) (history : List Step) (k : ℕ) → (k ≡ length history + 1 → ⊥)

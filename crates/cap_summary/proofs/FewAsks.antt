@@ -1,20 +1,14 @@
 -- How much is listed and asked at most where only these processes and descriptors are named.
-use Rattle.std.proofs.Common.{◌≡◌, ℕ, ◌+◌, ◌*◌, ◌^◌, ◌<◌, ◌≤◌, List, [], ◌∷◌, length, map}
-use Rattle.std.proofs.Common.{true, refl, sym, ap, ◌∙◌, arith}
-use Rattle.std.proofs.Math.Nat.{mul_assoc}
-use Rattle.std.specs.List.{All}
-use Rattle.std.proofs.lemmas.Bool.Decides.{nat_tests}
-use Rattle.std.proofs.lemmas.List.{length-map}
-use Rattle.std.proofs.lemmas.List.Elements.{All-head, All-tail}
-use Rattle.cap_summary.specs.declared.key.Key.{Key}
-use Rattle.cap_summary.specs.declared.key.Key.TheVariants as key
-use Rattle.cap_summary.specs.declared.ask.Ask.{Ask}
+use Rattle.std.proofs.{Math.Nat.mul_assoc}
+use Rattle.cap_summary.specs.{◌≡◌, ℕ, ◌+◌, ◌*◌, ◌^◌, ◌<◌, ◌≤◌, List, [], ◌∷◌, length, map, true, refl, All}
+use Rattle.cap_summary.specs.{Names.has_cell, Names.has_key, declared.ask.Ask.Ask, declared.key.Key.Key}
 use Rattle.cap_summary.specs.Asks.{held_number, key_number, place, place_in_process, RisesFrom, Rises, AskWithin}
 use Rattle.cap_summary.specs.Asks.{AreWithin}
-use Rattle.cap_summary.specs.Names.{has_cell, has_key}
 use Rattle.cap_summary.specs.Few.{is_one, these, room}
-use Rattle.cap_summary.proofs.Bools.{and_left, and_right}
-use Rattle.cap_summary.proofs.FewKeys.{all_of, among_all, among_mapped, count_all, count_each, count_from, count_taken, in_second}
+use Rattle.cap_summary.proofs.{sym, ap, ◌∙◌, arith, nat_tests, length-map, All-head, All-tail, Bools.and_left}
+use Rattle.cap_summary.proofs.{Bools.and_right}
+use Rattle.cap_summary.proofs.FewKeys.{all_of, among_all, among_mapped, count_all, count_each, count_from, count_taken}
+use Rattle.cap_summary.proofs.FewKeys.{in_second}
 
 -- ---- the places at which may be asked
 
@@ -50,8 +44,8 @@ form_among : (form : ℕ) → form < 8 → is_one forms form ≡ true
 form_among form small = grind (arith, nat_tests)
 
 key_among : (pids fds : List ℕ) (k : Key) → has_key (these pids fds) k ≡ true → is_one (keys fds) (key_number k) ≡ true
-key_among pids fds key.Mode is = refl
-key_among pids fds (key.Fd f) is = in_second (0 ∷ []) (map (λ n. n + 1) fds) (f + 1) (among_mapped (λ n. n + 1) fds f is)
+key_among pids fds Key.Mode is = refl
+key_among pids fds (Key.Fd f) is = in_second (0 ∷ []) (map (λ n. n + 1) fds) (f + 1) (among_mapped (λ n. n + 1) fds f is)
 
 pub place_among : (pids fds : List ℕ) (ask : Ask) → AskWithin (has_cell (these pids fds)) ask
     → is_one (places pids fds) (place ask) ≡ true

@@ -1,14 +1,9 @@
 -- How long a list is whose numbers strictly rise and are all among some numbers.
-use Rattle.std.proofs.Common.{◌≡◌, ℕ, ◌+◌, ◌*◌, ◌≤◌, eqb, List, [], ◌∷◌, ◌++◌, length, map, Some}
-use Rattle.std.proofs.Common.{Bool, true, false, cond, refl, sym, ap, ◌∙◌, ◌||◌, arith, subst, length-append}
-use Rattle.std.specs.Prelude.{is_some, nat_le}
-use Rattle.std.proofs.Math.Nat.{add-mul, one-mul}
-use Rattle.std.proofs.Math.Bool.{or-true}
-use Rattle.std.proofs.lemmas.Bool.{eqb-true, eq-eqb}
-use Rattle.std.proofs.lemmas.List.Folds.{list_any-append}
-use Rattle.std.proofs.lemmas.Bool.Decides.{nat_tests}
-use Rattle.cap_summary.specs.Sorted.{found, RisesFrom}
-use Rattle.cap_summary.specs.Few.{is_one}
+use Rattle.std.proofs.{Math.Nat.add-mul, Math.Nat.one-mul}
+use Rattle.cap_summary.specs.{◌≡◌, ℕ, ◌+◌, ◌*◌, ◌≤◌, eqb, List, [], ◌∷◌, ◌++◌, length, map, Some, Bool, true, false}
+use Rattle.cap_summary.specs.{cond, refl, ◌||◌, is_some, nat_le, Few.is_one, Sorted.found, Sorted.RisesFrom}
+use Rattle.cap_summary.proofs.{sym, ap, ◌∙◌, arith, subst, length-append, or-true, eqb-true, eq-eqb, list_any-append}
+use Rattle.cap_summary.proofs.{nat_tests}
 
 -- how many of some numbers are not below a bound
 abbrev pub count_from : ℕ → List ℕ → ℕ

@@ -1,20 +1,8 @@
 -- What was judged of a run so far.
-use Rattle.std.proofs.Common.{◌≡◌, ℕ, ◌+◌, List, [], ◌∷◌, ◌++◌, length, map, sym, ap, ◌∙◌}
-use Rattle.std.proofs.lemmas.List.{append-nil}
-use Rattle.cap_machine.specs.declared.step.Step.{Step}
-use Rattle.cap_machine.specs.declared.verdict.Found.{Found}
-use Rattle.cap_machine.specs.State.{State}
-use Rattle.cap_machine.specs.History.{ended}
-use Rattle.cap_machine.specs.Check.{check, said, found_at}
-use Rattle.cap_machine.specs.Laws.{later}
-use Rattle.cap_summary.specs.declared.key.Key.{Key}
-use Rattle.cap_summary.specs.declared.effect.Effect.{Effect}
-use Rattle.cap_summary.specs.Keys.{Cells, cells_of}
-use Rattle.cap_summary.specs.Effects.{changed}
-use Rattle.cap_summary.specs.Before.{state_of}
-use Rattle.cap_summary.specs.Positions.{within}
-use Rattle.cap_summary.proofs.Ends.{ends_so}
-use Rattle.cap_summary.proofs.Resolving.{found_more}
+use Rattle.cap_summary.specs.{◌≡◌, ℕ, ◌+◌, List, [], ◌∷◌, ◌++◌, length, map, Step, Found, State, ended, check, said}
+use Rattle.cap_summary.specs.{found_at, later, Before.state_of, Effects.changed, Keys.Cells, Keys.cells_of}
+use Rattle.cap_summary.specs.{Positions.within, declared.effect.Effect.Effect, declared.key.Key.Key}
+use Rattle.cap_summary.proofs.{sym, ap, ◌∙◌, append-nil, Ends.ends_so, Resolving.found_more}
 
 -- the findings, and the effect of the steps that were judged
 pub record IsJudged (s : State) (t : List Step) (at from to : ℕ) (old found : List Found) (effect : Effect) : Type 0 where

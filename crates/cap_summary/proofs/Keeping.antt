@@ -1,30 +1,19 @@
 -- What is known is kept where few processes and descriptors are named, unless many calls were refused.
-use Rattle.std.proofs.Common.{◌≡◌, ℕ, ◌+◌, ◌*◌, ◌<◌, ◌≤◌, ◌⊎◌, List, [], ◌∷◌, ◌++◌, length, Bool, true, false, cond, eqb}
-use Rattle.std.proofs.Common.{Option, Some, None, refl, inl, inr, arith}
-use Rattle.std.specs.Prelude.{IfSome, IfNone, is_some, nat_le}
-use Rattle.std.specs.List.{All}
-use Rattle.std.proofs.Math.Nat.{mul-le-mul_right}
-use Rattle.std.proofs.lemmas.Bool.{eqb-true, eq-eqb}
-use Rattle.std.proofs.lemmas.Bool.Decides.{nat_tests}
-use Rattle.std.proofs.lemmas.List.Elements.{All-head, All-tail}
-use Rattle.cap_machine.specs.declared.step.Step.{Step}
-use Rattle.cap_summary.specs.declared.effect.Row.{Row}
-use Rattle.cap_summary.specs.declared.known.Known.{Known}
-use Rattle.cap_summary.specs.declared.node.Content.{Content}
-use Rattle.cap_summary.specs.declared.node.Content.TheVariants.{Run, Both}
-use Rattle.cap_summary.specs.Content.{KeepsParts}
-use Rattle.cap_summary.specs.Sorted.{found, Rises, RisesFrom, KeysRise}
-use Rattle.cap_summary.specs.Preconditions.{IsSettled}
+use Rattle.std.proofs.{Math.Nat.mul-le-mul_right}
+use Rattle.cap_summary.specs.{◌≡◌, ℕ, ◌+◌, ◌*◌, ◌<◌, ◌≤◌, ◌⊎◌, List, [], ◌∷◌, ◌++◌, length, Bool, true, false, cond}
+use Rattle.cap_summary.specs.{eqb, Option, Some, None, refl, IfSome, IfNone, is_some, nat_le, All, Step}
+use Rattle.cap_summary.specs.{Content.KeepsParts, Knows.Knows, Preconditions.IsSettled, declared.effect.Row.Row}
+use Rattle.cap_summary.specs.{declared.known.Known.Known, declared.node.Content.Content}
+use Rattle.cap_summary.specs.{declared.node.Content.TheVariants.Run, declared.node.Content.TheVariants.Both}
+use Rattle.cap_summary.specs.Few.{is_one, these, room, refused, NameOrRefuseMany}
+use Rattle.cap_summary.specs.Kept.{limit, IsKept, IsWithin, IsLarge, ListsMany}
 use Rattle.cap_summary.specs.Names.{Names, names_in, AreAmong, IsListedWithin, IsRowWithin, ListWithin, RowsWithin}
 use Rattle.cap_summary.specs.RowSizes.{rows_size, CellsRise, AllRise}
-use Rattle.cap_summary.specs.Knows.{Knows}
-use Rattle.cap_summary.specs.Kept.{limit, IsKept, IsWithin, IsLarge, ListsMany}
-use Rattle.cap_summary.specs.Few.{is_one, these, room, refused, NameOrRefuseMany}
-use Rattle.cap_summary.proofs.SortedFound.{found_below, rises_again}
-use Rattle.cap_summary.proofs.FewKeys.{few_keys}
-use Rattle.cap_summary.proofs.FewAsks.{few_asks}
+use Rattle.cap_summary.specs.Sorted.{found, Rises, RisesFrom, KeysRise}
+use Rattle.cap_summary.proofs.{inl, inr, arith, eqb-true, eq-eqb, nat_tests, All-head, All-tail, FewAsks.few_asks}
+use Rattle.cap_summary.proofs.{FewKeys.few_keys, Knowing.refused_parts, SortedFound.found_below}
+use Rattle.cap_summary.proofs.{SortedFound.rises_again}
 use Rattle.cap_summary.proofs.Naming.{effect_among, asks_among, first_among, second_among}
-use Rattle.cap_summary.proofs.Knowing.{refused_parts}
 
 -- ---- rows among these processes, which list these descriptors
 

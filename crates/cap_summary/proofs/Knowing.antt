@@ -1,40 +1,20 @@
 -- What a summary says after one more step, or one more segment.
-use Rattle.std.proofs.Common.{◌≡◌, ℕ, List, [], ◌∷◌, ◌++◌, ◌+◌, ◌<◌, false, ◌||◌, length, map, refl, sym, ap, ◌∙◌}
-use Rattle.std.proofs.Common.{get_or, take, ◌≤◌, if◌then◌else◌, arith, length-append}
-use Rattle.std.proofs.lemmas.List.{map-append, take_more}
-use Rattle.std.proofs.lemmas.List.Elements.{All-nil, All-cons, All-append}
-use Rattle.std.specs.declared.rc.Rc.{Rc}
-use Rattle.cap_tree.specs.Run.{values}
-use Rattle.std.proofs.Math.Path.{fun_ext}
-use Rattle.cap_machine.specs.declared.step.Step.{Step}
-use Rattle.cap_machine.specs.declared.rule.Effect.{Effect as LineEffect}
-use Rattle.cap_machine.specs.State.{State}
-use Rattle.cap_machine.specs.Rule.{demand}
-use Rattle.cap_machine.specs.Touch.{Turn, kept, stays, turns, follows, touch, turn}
-use Rattle.cap_machine.specs.Effect.{effect_touch, effect_turn}
-use Rattle.cap_machine.specs.History.{touched, turned, ended}
-use Rattle.cap_machine.specs.Check.{check, said, found_at}
-use Rattle.cap_machine.specs.Laws.{later}
-use Rattle.cap_machine.specs.Table.{step_after}
-use Rattle.cap_machine.proofs.Turns.{ends_in_turn, checks_in_turn, ends_more, checks_more}
-use Rattle.cap_summary.specs.declared.key.Key.{Key}
-use Rattle.cap_summary.specs.declared.key.Key.TheVariants as key
-use Rattle.cap_summary.specs.declared.line_asks.LineAsks.{LineAsks}
-use Rattle.cap_summary.specs.declared.effect.Effect.{Effect}
-use Rattle.cap_summary.specs.declared.precondition.Precondition.{Precondition}
-use Rattle.cap_summary.specs.declared.known.Known.{Known}
-use Rattle.cap_summary.specs.Keys.{Cells, mode_cell, cells_of}
-use Rattle.cap_summary.specs.Effects.{changed}
-use Rattle.cap_summary.specs.Leaving.{LineLeaves, LeavesThenLine}
-use Rattle.cap_summary.specs.Lines.{turned_cell, line_after, IsThenLine}
-use Rattle.cap_summary.specs.LineAsks.{asked_holds, refusals_in, has_any}
-use Rattle.cap_summary.specs.Preconditions.{is_met, IsMetOr, IsPossible}
-use Rattle.cap_summary.specs.Names.{Names, names_in, AreAmong, EffectWithin, LineWithin, LineAsksWithin, PreWithin}
-use Rattle.cap_summary.specs.Joined.{IsJoined}
-use Rattle.cap_summary.specs.Sizes.{asks_size}
-use Rattle.cap_summary.specs.Few.{is_refusal, refused}
+use Rattle.cap_machine.specs.{History.turned, Table.step_after}
+use Rattle.cap_machine.proofs.{Turns.ends_more}
+use Rattle.cap_summary.specs.{◌≡◌, ℕ, List, [], ◌∷◌, ◌++◌, ◌+◌, ◌<◌, false, ◌||◌, length, map, refl, get_or, take, ◌≤◌}
+use Rattle.cap_summary.specs.{if◌then◌else◌, Rc, values, Step, LineEffect, State, demand, Turn, kept, stays, turns}
+use Rattle.cap_summary.specs.{follows, touch, turn, effect_touch, effect_turn, touched, ended, check, said, found_at}
+use Rattle.cap_summary.specs.{later, Composing.IsJoined, Effects.changed, Few.is_refusal, Few.refused, Keys.Cells}
+use Rattle.cap_summary.specs.{Keys.mode_cell, Keys.cells_of, Leaving.LineLeaves, Leaving.LeavesThenLine}
+use Rattle.cap_summary.specs.{declared.effect.Effect.Effect, declared.key.Key.Key, declared.known.Known.Known}
+use Rattle.cap_summary.specs.{declared.line_asks.LineAsks.LineAsks, declared.precondition.Precondition.Precondition}
 use Rattle.cap_summary.specs.Knows.{Says, Knows, StepsLeave}
-use Rattle.cap_summary.proofs.LineAsking.{has_any-append}
+use Rattle.cap_summary.specs.LineAsks.{asked_holds, refusals_in, has_any}
+use Rattle.cap_summary.specs.Lines.{turned_cell, line_after, IsThenLine}
+use Rattle.cap_summary.specs.Names.{Names, names_in, AreAmong, EffectWithin, LineWithin, LineAsksWithin, PreWithin}
+use Rattle.cap_summary.specs.Preconditions.{is_met, IsMetOr, IsPossible, asks_size}
+use Rattle.cap_summary.proofs.{sym, ap, ◌∙◌, arith, length-append, map-append, take_more, All-nil, All-cons, All-append}
+use Rattle.cap_summary.proofs.{fun_ext, ends_in_turn, checks_in_turn, checks_more, LineAsking.has_any-append}
 use Rattle.cap_summary.proofs.Naming.{effect_among, asks_among, first_among, second_among}
 
 -- one more item of a run
@@ -59,12 +39,12 @@ cells_after : (effect : Effect) (pre : Precondition) (t : List Step) → Says ef
 cells_after effect pre t says s = fun_ext (λ p. fun_ext (λ k. says.after s p k))
 
 none_touch : (p : ℕ) (k : Key) → StepsLeave [] p k
-none_touch p key.Mode = All-nil (λ (step : Step). turn step p ≡ stays)
-none_touch p (key.Fd f) = All-nil (λ (step : Step). touch step p f ≡ kept)
+none_touch p Key.Mode = All-nil (λ (step : Step). turn step p ≡ stays)
+none_touch p (Key.Fd f) = All-nil (λ (step : Step). touch step p f ≡ kept)
 
 both_leave : (t u : List Step) (p : ℕ) (k : Key) → StepsLeave t p k → StepsLeave u p k → StepsLeave (t ++ u) p k
-both_leave t u p key.Mode first second = All-append (λ (step : Step). turn step p ≡ stays) t u first second
-both_leave t u p (key.Fd f) first second = All-append (λ (step : Step). touch step p f ≡ kept) t u first second
+both_leave t u p Key.Mode first second = All-append (λ (step : Step). turn step p ≡ stays) t u first second
+both_leave t u p (Key.Fd f) first second = All-append (λ (step : Step). touch step p f ≡ kept) t u first second
 
 pub says_none : (effect : Effect) (pre : Precondition)
     → ((cells : Cells) (p : ℕ) (k : Key) → changed effect cells p k ≡ cells p k)
@@ -152,14 +132,14 @@ turned_is (follows q) s p = refl
 module _ (step : Step) (line : LineEffect) (me : ℕ) (cells : (p f : ℕ) → effect_touch line me p f ≡ touch step p f)
     (modes : (p : ℕ) → effect_turn line me p ≡ turn step p) where
   line_is : (s : State) (p : ℕ) (k : Key) → line_after line me (cells_of s) p k ≡ cells_of (step_after step s) p k
-  line_is s p key.Mode = turned_is (effect_turn line me p) s p ∙ ap (λ t. mode_cell (turned t s.mode p)) (modes p)
-  line_is s p (key.Fd f) = ap (λ t. touched t s.cell p f) (cells p f)
+  line_is s p Key.Mode = turned_is (effect_turn line me p) s p ∙ ap (λ t. mode_cell (turned t s.mode p)) (modes p)
+  line_is s p (Key.Fd f) = ap (λ t. touched t s.cell p f) (cells p f)
 
   -- a step of which the line leaves a cell or a mode
   step_leaves : (p : ℕ) (k : Key) → LineLeaves line me p k → StepsLeave (step ∷ []) p k
-  step_leaves p key.Mode is = All-cons (λ (step : Step). turn step p ≡ stays) step [] (sym (modes p) ∙ is)
+  step_leaves p Key.Mode is = All-cons (λ (step : Step). turn step p ≡ stays) step [] (sym (modes p) ∙ is)
       (All-nil (λ (step : Step). turn step p ≡ stays))
-  step_leaves p (key.Fd f) is = All-cons (λ (step : Step). touch step p f ≡ kept) step [] (sym (cells p f) ∙ is)
+  step_leaves p (Key.Fd f) is = All-cons (λ (step : Step). touch step p f ≡ kept) step [] (sym (cells p f) ∙ is)
       (All-nil (λ (step : Step). touch step p f ≡ kept))
 
   pub after_more : (effect new : Effect) (t : List Step) (s : State)

@@ -1,3 +1,4 @@
+pub mod Common
 pub mod Bools
 pub mod TestPassing
 pub mod Asking
@@ -32,3 +33,4 @@ pub mod FewKeys
 pub mod FewAsks
 pub mod Judged
 pub mod Counted
+pub use Common.*

@@ -1,20 +1,8 @@
 -- What one line asks, and where something is said of it.
-use Rattle.std.proofs.Common.{◌≡◌, List, [], ◌∷◌, ◌++◌, Bool, true, false, ◌&&◌, ◌||◌, cond}
-use Rattle.std.proofs.Common.{refl, sym, ap, ◌∙◌}
-use Rattle.std.specs.Prelude.{not}
-use Rattle.std.proofs.Math.Bool.{or-false, or-true}
-use Rattle.cap_machine.specs.declared.cell.Cell.{Cell}
-use Rattle.cap_machine.specs.declared.rule.Word.{Word}
-use Rattle.cap_machine.specs.declared.rule.Check.{Check}
-use Rattle.cap_machine.specs.Judge.{fault, faults}
-use Rattle.cap_machine.specs.declared.cell.Mode.{Mode}
-use Rattle.cap_machine.specs.declared.cell.Mode.TheVariants.{Inside, Outside, Unsure}
-use Rattle.cap_machine.specs.Judge.{is_outside}
-use Rattle.cap_summary.specs.declared.kinds.TheConstants.Kinds.{UNHELD}
-use Rattle.cap_summary.specs.Keys.{mode_cell}
-use Rattle.cap_summary.specs.Tests.{has_kind}
-use Rattle.cap_summary.specs.LineAsks.{has_any}
-use Rattle.cap_summary.proofs.Bools.{and_left, and_right}
+use Rattle.cap_summary.specs.{◌≡◌, List, [], ◌∷◌, ◌++◌, Bool, true, false, ◌&&◌, ◌||◌, cond, refl, not, Cell, Word}
+use Rattle.cap_summary.specs.{Check, fault, faults, Mode, Inside, Outside, is_outside, Keys.mode_cell, LineAsks.has_any}
+use Rattle.cap_summary.specs.{Tests.has_kind, declared.kinds.TheConstants.Kinds.UNHELD}
+use Rattle.cap_summary.proofs.{sym, ap, ◌∙◌, or-false, or-true, Bools.and_left, Bools.and_right}
 
 pub has_any-append : {X : Type 0} (xs ys : List X) → has_any (xs ++ ys) ≡ (has_any xs || has_any ys)
 has_any-append [] ys = refl
@@ -35,7 +23,7 @@ two_missing word a b cell other asked more is also =
 
 -- ---- a refusal
 pub may_be_inside : (m : Mode) → has_kind UNHELD (mode_cell m) ≡ not (is_outside m)
-may_be_inside Unsure = refl
+may_be_inside Mode.Unsure = refl
 may_be_inside Inside = refl
 may_be_inside Outside = refl
 

@@ -1,18 +1,8 @@
 -- What one line lists is named by it.
-use Rattle.std.proofs.Common.{◌≡◌, ℕ, ◌==◌, Bool, true, false, cond, List, [], ◌∷◌, Option, Some, refl, sym}
-use Rattle.std.proofs.Common.{subst}
-use Rattle.std.specs.Prelude.{IfSome}
-use Rattle.std.specs.List.{All}
-use Rattle.std.proofs.lemmas.Bool.{eqb-true, and_from}
-use Rattle.std.proofs.lemmas.List.Elements.{All-head, All-tail}
-use Rattle.cap_machine.specs.declared.cell.Op.{Op}
-use Rattle.cap_machine.specs.declared.rule.Effect.{Effect as LineEffect}
-use Rattle.cap_machine.specs.declared.rule.Effect.TheVariants as lines
-use Rattle.cap_summary.specs.declared.key.Key.TheVariants as key
-use Rattle.cap_summary.specs.declared.value.Value.{Value}
-use Rattle.cap_summary.specs.Values.{reads_within}
-use Rattle.cap_summary.specs.Sorted.{found}
-use Rattle.cap_summary.specs.Names.{Names, has_cell, IsListedWithin, LineWithin}
+use Rattle.cap_summary.specs.{◌≡◌, ℕ, ◌==◌, Bool, true, false, cond, List, [], ◌∷◌, Option, Some, refl, IfSome, All, Op}
+use Rattle.cap_summary.specs.{LineEffect, Names.Names, Names.has_cell, Names.IsListedWithin, Names.LineWithin}
+use Rattle.cap_summary.specs.{Sorted.found, Values.reads_within, declared.key.Key.Key, declared.value.Value.Value}
+use Rattle.cap_summary.proofs.{sym, subst, eqb-true, and_from, All-head, All-tail}
 
 -- one more entry, where this holds of it and of the others
 module _ {V : Type 0} (P : ℕ → V → Type 0) (k : ℕ) (v : V) (holds : P k v) where
@@ -26,8 +16,8 @@ module _ {V : Type 0} (P : ℕ → V → Type 0) (k : ℕ) (v : V) (holds : P k 
 
 -- a descriptor that takes its cell from another
 pub change_within : (names : Names) (me : ℕ) (line : LineEffect) (f : ℕ) (op : Op) (g : ℕ) (v : Value)
-    → line ≡ lines.Change f op g
-    → (has_cell names me (key.Fd g) ≡ true → reads_within (has_cell names) v ≡ true) → LineWithin names me line
+    → line ≡ LineEffect.Change f op g
+    → (has_cell names me (Key.Fd g) ≡ true → reads_within (has_cell names) v ≡ true) → LineWithin names me line
     → IsListedWithin names f v
 change_within names me line f op g v is reads within = record {
   key = All-head P f (g ∷ []) both;

@@ -1,46 +1,20 @@
 -- The descriptors that the effect of a line has one by one stand in the line.
-use Rattle.std.proofs.Common.{◌≡◌, ℕ, suc, ◌+◌, ◌==◌, ◌&&◌, ◌||◌, Bool, true, false, not, cond, [], ◌∷◌, refl}
-use Rattle.std.proofs.Common.{sym}
-use Rattle.std.proofs.Common.{ap, ◌∙◌, arith, slice_index_or}
-use Rattle.std.specs.Prelude.{codes}
-use Rattle.std.specs.List.{list_any, All}
-use Rattle.std.specs.Str.{bytes_eq}
-use Rattle.std.proofs.lemmas.Bool.{ne_eqb, eq-eqb, or_left, or_right}
-use Rattle.std.proofs.lemmas.List.Elements.{All-nil, All-cons}
-use Rattle.cap_trace.specs.Seen.{fds_spelled}
-use Rattle.cap_trace.specs.Item.{Item}
-use Rattle.cap_trace.specs.Item as items
-use Rattle.cap_trace.specs.Call.{Call}
-use Rattle.cap_trace.specs.Call as calls
-use Rattle.cap_trace.specs.declared.line.Answer.{Answer}
-use Rattle.cap_trace.specs.declared.line.Answer.TheVariants as answers
-use Rattle.cap_trace.specs.declared.calls.Kind.{Kind}
-use Rattle.cap_trace.specs.declared.calls.Kind.TheVariants.{Count, Fd, Same, FdPair}
-use Rattle.cap_trace.specs.declared.calls.FdCall.{FdCall}
+use Rattle.std.specs.Prelude.{codes, bytes_eq}
+use Rattle.cap_trace.specs.{Call.Call, Entry.args_of_call, declared.calls.AtFlagsCall.TheVariants.Openat}
+use Rattle.cap_trace.specs.{declared.calls.BareCall.BareCall, declared.calls.FdCall.FdCall}
+use Rattle.cap_trace.specs.{declared.calls.PathCall.PathCall, declared.calls.PathCall.TheVariants.Execve}
+use Rattle.cap_trace.specs.declared.calls.BareCall.TheVariants.{Pipe, Fork, Vfork, Pdfork, CapEnter}
 use Rattle.cap_trace.specs.declared.calls.FdCall.TheVariants.{Accept, Closefrom, Dup}
-use Rattle.cap_trace.specs.declared.calls.PathCall.{PathCall}
-use Rattle.cap_trace.specs.declared.calls.PathCall.TheVariants.{Execve}
-use Rattle.cap_trace.specs.declared.calls.AtFlagsCall.TheVariants.{Openat}
 use Rattle.cap_trace.specs.declared.calls.FlagsCall.TheVariants.{Socket, Socketpair, Pipe2}
-use Rattle.cap_trace.specs.declared.calls.BareCall.{BareCall}
-use Rattle.cap_trace.specs.declared.calls.BareCall.TheVariants.{Pipe, Fork, Vfork}
-use Rattle.cap_trace.specs.declared.calls.BareCall.TheVariants.{Pdfork, CapEnter}
-use Rattle.cap_trace.specs.Entry.{kind_of, args_of_call}
-use Rattle.cap_machine.specs.declared.cell.Profile.{Profile}
-use Rattle.cap_machine.specs.declared.cell.Profile.TheVariants.{One, Two}
-use Rattle.cap_machine.specs.declared.cell.Cell.{Cell}
-use Rattle.cap_machine.specs.declared.cell.Cell.TheVariants.{Unknown}
-use Rattle.cap_machine.specs.declared.cell.Op.{Op}
-use Rattle.cap_machine.specs.declared.step.Step.{Step}
-use Rattle.cap_machine.specs.declared.rule.Effect.{Effect as LineEffect}
-use Rattle.cap_machine.specs.declared.rule.Effect.TheVariants as lines
-use Rattle.cap_machine.specs.Op.{same}
-use Rattle.cap_machine.specs.Touch.{Touch, kept, given, taken, touch, started, fd_touch, path_touch, bare_touch}
-use Rattle.cap_machine.specs.Touch.{call_touch, pdfork_touch}
-use Rattle.cap_machine.specs.Effect.{effect_touch}
-use Rattle.cap_machine.specs.Named.{arg_names, answer_names, is_fork, fds_of}
-use Rattle.cap_machine.proofs.NamedFds.{named_effects}
-use Rattle.cap_summary.specs.Names.{answers_fd, line_names_fd}
+use Rattle.cap_machine.specs.{Named.arg_names, Named.answer_names, Named.is_fork, declared.cell.Profile.Profile}
+use Rattle.cap_machine.specs.{declared.cell.Profile.TheVariants.One, declared.cell.Profile.TheVariants.Two}
+use Rattle.cap_machine.specs.Touch.{fd_touch, path_touch, bare_touch, call_touch, pdfork_touch}
+use Rattle.cap_machine.proofs.{NamedFds.named_effects}
+use Rattle.cap_summary.specs.{◌≡◌, ℕ, suc, ◌+◌, ◌==◌, ◌&&◌, ◌||◌, Bool, true, false, not, cond, [], ◌∷◌, refl}
+use Rattle.cap_summary.specs.{slice_index_or, list_any, All, fds_spelled, Item, Answer, Kind, Count, Fd, Same, FdPair}
+use Rattle.cap_summary.specs.{kind_of, Cell, Unknown, Op, Step, LineEffect, same, Touch, kept, given, taken, touch}
+use Rattle.cap_summary.specs.{started, effect_touch, fds_of, Names.answers_fd, Names.line_names_fd}
+use Rattle.cap_summary.proofs.{sym, ap, ◌∙◌, arith, ne_eqb, eq-eqb, or_left, or_right, All-nil, All-cons}
 
 by_cases : {X : Type 0} (b : Bool) → (b ≡ true → X) → (b ≡ false → X) → X
 by_cases true one other = one refl
@@ -50,25 +24,25 @@ by_cases false one other = other refl
 
 -- the numbers of an answer are descriptors
 abbrev is_told : Kind → Answer → Bool
-is_told Fd (answers.Made n) = true
-is_told (Same g) (answers.Made n) = true
-is_told FdPair (answers.Pair n m) = true
+is_told Fd (Answer.Made n) = true
+is_told (Same g) (Answer.Made n) = true
+is_told FdPair (Answer.Pair n m) = true
 is_told kind answer = false
 
 told_named : (f : ℕ) (kind : Kind) (answer : Answer) → is_told kind answer ≡ true → answer_names f answer ≡ true
     → answers_fd f kind answer ≡ true
-told_named f Fd (answers.Made n) told named = named
-told_named f (Same g) (answers.Made n) told named = named
-told_named f FdPair (answers.Pair n m) told named = named
+told_named f Fd (Answer.Made n) told named = named
+told_named f (Same g) (Answer.Made n) told named = named
+told_named f FdPair (Answer.Pair n m) told named = named
 told_named f kind answer told named = absurd cc
 
 -- another number
 abbrev other : ℕ → Answer → Answer
-other n (answers.Made m) = answers.Made n
-other n (answers.Pair m k) = answers.Pair n n
-other n (answers.Fault e) = answers.Fault e
+other n (Answer.Made m) = Answer.Made n
+other n (Answer.Pair m k) = Answer.Pair n n
+other n (Answer.Fault e) = Answer.Fault e
 
-either_alike : (a b : Bool) (m : ℕ) (t u t' u' : Touch) → is_told (cond (a || b) Fd Count) (answers.Made m) ≡ false
+either_alike : (a b : Bool) (m : ℕ) (t u t' u' : Touch) → is_told (cond (a || b) Fd Count) (Answer.Made m) ≡ false
     → cond a t (cond b u kept) ≡ cond a t' (cond b u' kept)
 either_alike true b m t u t' u' none = absurd cc
 either_alike false true m t u t' u' none = absurd cc
@@ -76,66 +50,66 @@ either_alike false false m t u t' u' none = refl
 
 module _ (n me p f : ℕ) where
   fd_alike : (profile : Profile) (call : FdCall) (g : ℕ) (answer : Answer)
-      → is_told (kind_of (calls.OnFd call g)) answer ≡ false
+      → is_told (kind_of (Call.OnFd call g)) answer ≡ false
       → fd_touch profile call g (other n answer) me p f ≡ fd_touch profile call g answer me p f
-  fd_alike profile call g (answers.Fault e) none = refl
-  fd_alike profile Dup g (answers.Made m) none = absurd cc
-  fd_alike profile Accept g (answers.Made m) none = absurd cc
-  fd_alike One Closefrom g (answers.Made m) none = refl
-  fd_alike Two Closefrom g (answers.Made m) none = refl
-  fd_alike One Closefrom g (answers.Pair m k) none = refl
-  fd_alike Two Closefrom g (answers.Pair m k) none = refl
-  fd_alike profile _ g (answers.Made m) none = refl
-  fd_alike profile _ g (answers.Pair m k) none = refl
+  fd_alike profile call g (Answer.Fault e) none = refl
+  fd_alike profile Dup g (Answer.Made m) none = absurd cc
+  fd_alike profile Accept g (Answer.Made m) none = absurd cc
+  fd_alike One Closefrom g (Answer.Made m) none = refl
+  fd_alike Two Closefrom g (Answer.Made m) none = refl
+  fd_alike One Closefrom g (Answer.Pair m k) none = refl
+  fd_alike Two Closefrom g (Answer.Pair m k) none = refl
+  fd_alike profile _ g (Answer.Made m) none = refl
+  fd_alike profile _ g (Answer.Pair m k) none = refl
 
   path_alike : (profile : Profile) (call : PathCall) (answer : Answer)
       → path_touch profile call (other n answer) me p f ≡ path_touch profile call answer me p f
-  path_alike profile call (answers.Fault e) = refl
-  path_alike profile Execve (answers.Made m) = refl
-  path_alike profile Execve (answers.Pair m k) = refl
+  path_alike profile call (Answer.Fault e) = refl
+  path_alike profile Execve (Answer.Made m) = refl
+  path_alike profile Execve (Answer.Pair m k) = refl
   path_alike profile _ answer = refl
 
-  bare_alike : (call : BareCall) (answer : Answer) → is_fork (calls.Bare call) ≡ false
-      → is_told (kind_of (calls.Bare call)) answer ≡ false
+  bare_alike : (call : BareCall) (answer : Answer) → is_fork (Call.Bare call) ≡ false
+      → is_told (kind_of (Call.Bare call)) answer ≡ false
       → bare_touch call (other n answer) me p f ≡ bare_touch call answer me p f
-  bare_alike call (answers.Fault e) apart none = refl
-  bare_alike Pipe (answers.Made m) apart none = refl
-  bare_alike Pipe (answers.Pair m k) apart none = absurd cc
+  bare_alike call (Answer.Fault e) apart none = refl
+  bare_alike Pipe (Answer.Made m) apart none = refl
+  bare_alike Pipe (Answer.Pair m k) apart none = absurd cc
   bare_alike CapEnter answer apart none = refl
   bare_alike Fork answer apart none = absurd cc
   bare_alike Vfork answer apart none = absurd cc
   bare_alike Pdfork answer apart none = absurd cc
-  bare_alike _ (answers.Made m) apart none = absurd cc
-  bare_alike _ (answers.Pair m k) apart none = refl
+  bare_alike _ (Answer.Made m) apart none = absurd cc
+  bare_alike _ (Answer.Pair m k) apart none = refl
 
   call_alike : (profile : Profile) (call : Call) (answer : Answer) → is_fork call ≡ false
       → is_told (kind_of call) answer ≡ false
       → call_touch profile call (other n answer) me p f ≡ call_touch profile call answer me p f
-  call_alike profile call (answers.Fault e) apart none = refl
-  call_alike profile (calls.OnFd call g) answer apart none = fd_alike profile call g answer none
-  call_alike profile (calls.OnPath call path) answer apart none = path_alike profile call answer
-  call_alike profile (calls.Bare call) answer apart none = bare_alike call answer apart none
-  call_alike profile (calls.Fcntl g command) (answers.Made m) apart none =
+  call_alike profile call (Answer.Fault e) apart none = refl
+  call_alike profile (Call.OnFd call g) answer apart none = fd_alike profile call g answer none
+  call_alike profile (Call.OnPath call path) answer apart none = path_alike profile call answer
+  call_alike profile (Call.Bare call) answer apart none = bare_alike call answer apart none
+  call_alike profile (Call.Fcntl g command) (Answer.Made m) apart none =
       either_alike (bytes_eq command (codes "F_DUPFD")) (bytes_eq command (codes "F_DUPFD_CLOEXEC")) m _ _ _ _ none
-  call_alike profile (calls.OnFlags Socketpair names) (answers.Made m) apart none = refl
-  call_alike profile (calls.OnFlags Pipe2 names) (answers.Made m) apart none = refl
-  call_alike profile (calls.OnFlags Socket names) (answers.Made m) apart none = absurd cc
-  call_alike profile (calls.OnFlags Socket names) (answers.Pair m k) apart none = refl
-  call_alike profile (calls.OnFlags _ names) (answers.Pair m k) apart none = absurd cc
-  call_alike profile (calls.AtFlags Openat dir path names) (answers.Made m) apart none = absurd cc
-  call_alike profile (calls.AtFlags Openat dir path names) (answers.Pair m k) apart none = refl
-  call_alike profile (calls.AtFlags _ dir path names) answer apart none = refl
-  call_alike profile (calls.Accept4 g names) (answers.Made m) apart none = absurd cc
-  call_alike profile (calls.Dup2 g h) (answers.Made m) apart none = absurd cc
-  call_alike profile (calls.FcntlDup command g h) (answers.Made m) apart none = absurd cc
-  call_alike profile (calls.Open path names) (answers.Made m) apart none = absurd cc
-  call_alike profile _ (answers.Made m) apart none = refl
-  call_alike profile _ (answers.Pair m k) apart none = refl
+  call_alike profile (Call.OnFlags Socketpair names) (Answer.Made m) apart none = refl
+  call_alike profile (Call.OnFlags Pipe2 names) (Answer.Made m) apart none = refl
+  call_alike profile (Call.OnFlags Socket names) (Answer.Made m) apart none = absurd cc
+  call_alike profile (Call.OnFlags Socket names) (Answer.Pair m k) apart none = refl
+  call_alike profile (Call.OnFlags _ names) (Answer.Pair m k) apart none = absurd cc
+  call_alike profile (Call.AtFlags Openat dir path names) (Answer.Made m) apart none = absurd cc
+  call_alike profile (Call.AtFlags Openat dir path names) (Answer.Pair m k) apart none = refl
+  call_alike profile (Call.AtFlags _ dir path names) answer apart none = refl
+  call_alike profile (Call.Accept4 g names) (Answer.Made m) apart none = absurd cc
+  call_alike profile (Call.Dup2 g h) (Answer.Made m) apart none = absurd cc
+  call_alike profile (Call.FcntlDup command g h) (Answer.Made m) apart none = absurd cc
+  call_alike profile (Call.Open path names) (Answer.Made m) apart none = absurd cc
+  call_alike profile _ (Answer.Made m) apart none = refl
+  call_alike profile _ (Answer.Pair m k) apart none = refl
 
 unnamed : (f : ℕ) (answer : Answer) → answer_names f (other (suc f) answer) ≡ false
-unnamed f (answers.Made m) = ne_eqb f (suc f) (λ e. omega arith)
-unnamed f (answers.Pair m k) = rw (ne_eqb f (suc f) (λ e. omega arith)) refl
-unnamed f (answers.Fault e) = refl
+unnamed f (Answer.Made m) = ne_eqb f (suc f) (λ e. omega arith)
+unnamed f (Answer.Pair m k) = rw (ne_eqb f (suc f) (λ e. omega arith)) refl
+unnamed f (Answer.Fault e) = refl
 
 abbrev Does : LineEffect → Step → Type 0
 Does line step = (p f : ℕ) → effect_touch line step.line.pid p f ≡ touch step p f
@@ -156,7 +130,7 @@ step_of profile me item = record { profile = profile; line = record { pid = me; 
 
 module _ (profile : Profile) (me : ℕ) (call : Call) (answer : Answer) (line : LineEffect) where
   abbrev of_answer : Answer → Step
-  of_answer answer = step_of profile me (items.Call call answer)
+  of_answer answer = step_of profile me (Item.Call call answer)
 
   plain_named : is_fork call ≡ false → Does line (of_answer answer) → All (Named (of_answer answer)) (fds_of line)
   plain_named apart does k d lt =
@@ -202,9 +176,9 @@ module _ (me : ℕ) (touches : ℕ → ℕ → Touch) (told b : ℕ → Bool)
           let wrong : kept ≡ taken op me g = sym at ∙ is in cc
 
   forked_told : (line : LineEffect) → ((p f : ℕ) → effect_touch line me p f ≡ touches p f) → All Told (fds_of line)
-  forked_told (lines.Give g c) does =
+  forked_told (LineEffect.Give g c) does =
       All-cons Told g [] (given_told me g c (sym (does me g) ∙ rw (itself me, itself g) refl)) (All-nil Told)
-  forked_told (lines.GiveTwo g h c) does =
+  forked_told (LineEffect.GiveTwo g h c) does =
       All-cons Told g (h ∷ []) (given_told me g c (sym (does me g) ∙ rw (itself me, itself g) refl))
       (All-cons Told h [] (given_told me h c (sym (does me h) ∙ rw (
         itself me,
@@ -213,15 +187,15 @@ module _ (me : ℕ) (touches : ℕ → ℕ → Touch) (told b : ℕ → Bool)
             refl,
       ) refl))
       (All-nil Told))
-  forked_told (lines.Change g op h) does =
+  forked_told (LineEffect.Change g op h) does =
       let here : touches me g ≡ taken op me h = sym (does me g) ∙ rw (itself me, itself g) refl in
       by_cases (told g) (λ is_told. absurd (bound me g op me h is_told here))
       (λ untold. let n = fresh g in
       absurd (taken_never g h n.0 op here untold (sym (does me n.0) ∙ rw (itself me, n.2) refl) n.1))
-  forked_told (lines.ForkAs child g) does =
+  forked_told (LineEffect.ForkAs child g) does =
       All-cons Told g [] (given_told child g Unknown (sym (does child g)
       ∙ rw (itself child, itself g, or_right (child == me) true refl) refl)) (All-nil Told)
-  forked_told (lines.Start fs) does = λ k d lt.
+  forked_told (LineEffect.Start fs) does = λ k d lt.
       let f : ℕ = slice_index_or (fds_spelled fs.now) k d in
       given_told me f (started (fds_spelled fs.now) f) (sym (does me f) ∙ rw (itself me) refl)
   forked_told _ does = All-nil Told
@@ -230,22 +204,22 @@ module _ (profile : Profile) (me : ℕ) (line : LineEffect) where
   -- fork(2), and each that failed
   no_fds : (call : BareCall) (answer : Answer) (b : ℕ → Bool)
       → ((p f : ℕ) → bare_touch call answer me p f ≡ cond (b p) (taken same me f) kept)
-      → Does line (step_of profile me (items.Call (calls.Bare call) answer))
-      → All (Named (step_of profile me (items.Call (calls.Bare call) answer))) (fds_of line)
+      → Does line (step_of profile me (Item.Call (Call.Bare call) answer))
+      → All (Named (step_of profile me (Item.Call (Call.Bare call) answer))) (fds_of line)
   no_fds call answer b is does k d lt =
       let none = forked_told me (λ p f. bare_touch call answer me p f) (λ f. false) b (λ p f untold. is p f)
       (λ p f op q g here e. absurd cc) (λ g. (suc g, refl, ne_eqb (suc g) g (λ e. omega arith))) line does k d lt in
       absurd cc
 
-  fork_named : (call : BareCall) (answer : Answer) → is_fork (calls.Bare call) ≡ true
-      → Does line (step_of profile me (items.Call (calls.Bare call) answer))
-      → All (Named (step_of profile me (items.Call (calls.Bare call) answer))) (fds_of line)
-  fork_named Fork (answers.Made c) is does = no_fds Fork (answers.Made c) (λ p. not (c == 0) && p == c) (λ p f.
+  fork_named : (call : BareCall) (answer : Answer) → is_fork (Call.Bare call) ≡ true
+      → Does line (step_of profile me (Item.Call (Call.Bare call) answer))
+      → All (Named (step_of profile me (Item.Call (Call.Bare call) answer))) (fds_of line)
+  fork_named Fork (Answer.Made c) is does = no_fds Fork (Answer.Made c) (λ p. not (c == 0) && p == c) (λ p f.
       refl) does
-  fork_named Vfork (answers.Made c) is does = no_fds Vfork (answers.Made c) (λ p. not (c == 0) && p == c) (λ p f.
+  fork_named Vfork (Answer.Made c) is does = no_fds Vfork (Answer.Made c) (λ p. not (c == 0) && p == c) (λ p f.
       refl) does
-  fork_named Pdfork (answers.Pair c e) is does =
-      forked_told me (λ p f. pdfork_touch (answers.Pair c e) me p f) (λ f. f == e) (λ p. not (c == 0) && p == c)
+  fork_named Pdfork (Answer.Pair c e) is does =
+      forked_told me (λ p f. pdfork_touch (Answer.Pair c e) me p f) (λ f. f == e) (λ p. not (c == 0) && p == c)
       (λ p f untold. rw untold (free (c == 0) (p == c) (p == me) f)) (λ p f op q g here. rw here (bound (c == 0) (p
       == c) (p == me) f op q g))
       (λ g. (suc (g + e), ne_eqb (suc (g + e)) e (λ h. omega arith), ne_eqb (suc (g + e)) g (λ h. omega arith)))
@@ -268,25 +242,25 @@ module _ (profile : Profile) (me : ℕ) (line : LineEffect) where
       bound false true false f op q g is = cc
       bound false false true f op q g is = cc
       bound false false false f op q g is = cc
-  fork_named Fork (answers.Pair c e) is does = no_fds Fork (answers.Pair c e) (λ p. false) (λ p f. refl) does
-  fork_named Vfork (answers.Pair c e) is does = no_fds Vfork (answers.Pair c e) (λ p. false) (λ p f. refl) does
-  fork_named Pdfork (answers.Made c) is does = no_fds Pdfork (answers.Made c) (λ p. false) (λ p f. refl) does
-  fork_named Fork (answers.Fault c) is does = no_fds Fork (answers.Fault c) (λ p. false) (λ p f. refl) does
-  fork_named Vfork (answers.Fault c) is does = no_fds Vfork (answers.Fault c) (λ p. false) (λ p f. refl) does
-  fork_named Pdfork (answers.Fault c) is does = no_fds Pdfork (answers.Fault c) (λ p. false) (λ p f. refl) does
+  fork_named Fork (Answer.Pair c e) is does = no_fds Fork (Answer.Pair c e) (λ p. false) (λ p f. refl) does
+  fork_named Vfork (Answer.Pair c e) is does = no_fds Vfork (Answer.Pair c e) (λ p. false) (λ p f. refl) does
+  fork_named Pdfork (Answer.Made c) is does = no_fds Pdfork (Answer.Made c) (λ p. false) (λ p f. refl) does
+  fork_named Fork (Answer.Fault c) is does = no_fds Fork (Answer.Fault c) (λ p. false) (λ p f. refl) does
+  fork_named Vfork (Answer.Fault c) is does = no_fds Vfork (Answer.Fault c) (λ p. false) (λ p f. refl) does
+  fork_named Pdfork (Answer.Fault c) is does = no_fds Pdfork (Answer.Fault c) (λ p. false) (λ p f. refl) does
   fork_named _ answer is does = absurd cc
 
-  call_named : (call : Call) (answer : Answer) → Does line (step_of profile me (items.Call call answer))
-      → All (Named (step_of profile me (items.Call call answer))) (fds_of line)
-  call_named (calls.Bare call) answer does = by_cases (is_fork (calls.Bare call))
-      (λ is. fork_named call answer is does) (λ apart. plain_named profile me (calls.Bare call) answer line apart does)
+  call_named : (call : Call) (answer : Answer) → Does line (step_of profile me (Item.Call call answer))
+      → All (Named (step_of profile me (Item.Call call answer))) (fds_of line)
+  call_named (Call.Bare call) answer does = by_cases (is_fork (Call.Bare call))
+      (λ is. fork_named call answer is does) (λ apart. plain_named profile me (Call.Bare call) answer line apart does)
   call_named call answer does = plain_named profile me call answer line refl does
 
   item_named : (item : Item) → Does line (step_of profile me item) → All (Named (step_of profile me item)) (fds_of line)
-  item_named (items.Call call answer) does = call_named call answer does
-  item_named (items.Start fs) does = named_effects (step_of profile me (items.Start fs)) line does
-  item_named items.Exit does = named_effects (step_of profile me items.Exit) line does
-  item_named (items.Foreign g) does = named_effects (step_of profile me (items.Foreign g)) line does
+  item_named (Item.Call call answer) does = call_named call answer does
+  item_named (Item.Start fs) does = named_effects (step_of profile me (Item.Start fs)) line does
+  item_named Item.Exit does = named_effects (step_of profile me Item.Exit) line does
+  item_named (Item.Foreign g) does = named_effects (step_of profile me (Item.Foreign g)) line does
 
 pub named_one_by_one : (step : Step) (line : LineEffect)
     → ((p f : ℕ) → effect_touch line step.line.pid p f ≡ touch step p f)

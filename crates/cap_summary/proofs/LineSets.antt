@@ -1,29 +1,18 @@
 -- A cell that is set in place.
-use Rattle.std.proofs.Common.{◌≡◌, ℕ, ◌==◌, ◌&&◌, Bool, true, false, cond, List, Option, Some, None}
-use Rattle.std.proofs.Common.{refl, sym, ap, ◌∙◌}
-use Rattle.std.specs.Prelude.{IfSome, unwrap_or}
-use Rattle.std.specs.Option.{option_map_or}
-use Rattle.std.proofs.lemmas.Bool.{eqb-true, eq-eqb}
-use Rattle.cap_machine.specs.declared.cell.Cell.{Cell}
-use Rattle.cap_summary.specs.declared.key.Key.{Key}
-use Rattle.cap_summary.specs.declared.key.Key.TheVariants as key
-use Rattle.cap_summary.specs.declared.value.Value.{Value}
-use Rattle.cap_summary.specs.declared.effect.Row.{Row}
-use Rattle.cap_summary.specs.declared.effect.Effect.{Effect}
-use Rattle.cap_summary.specs.Keys.{Cells}
-use Rattle.cap_summary.specs.Values.{read}
-use Rattle.cap_summary.specs.Sorted.{found}
+use Rattle.cap_summary.specs.{◌≡◌, ℕ, ◌==◌, ◌&&◌, Bool, true, false, cond, List, Option, Some, None, refl, IfSome}
+use Rattle.cap_summary.specs.{unwrap_or, option_map_or, Cell, Keys.Cells, Lines.is_cell, Lines.with_cell, Sorted.found}
+use Rattle.cap_summary.specs.{Values.read, declared.effect.Effect.Effect, declared.effect.Row.Row, declared.key.Key.Key}
+use Rattle.cap_summary.specs.{declared.value.Value.Value}
 use Rattle.cap_summary.specs.Effects.{own_row, base_cell, row_cell, cell_in, changed}
 use Rattle.cap_summary.specs.Names.{Names, IsListedWithin, RowWithin, IsRowWithin, EffectWithin}
-use Rattle.cap_summary.specs.Lines.{is_cell, with_cell}
-use Rattle.cap_summary.proofs.LineListed.{each_put}
+use Rattle.cap_summary.proofs.{sym, ap, ◌∙◌, eqb-true, eq-eqb, LineListed.each_put}
 
 -- a process without a row has one that leaves it
 own_cell : (cells : Cells) (p : ℕ) (row : Option Row) (k : Key)
     → row_cell cells p (unwrap_or row own_row) k ≡ cell_in cells row p k
 own_cell cells p (Some row) k = refl
-own_cell cells p None key.Mode = refl
-own_cell cells p None (key.Fd f) = refl
+own_cell cells p None Key.Mode = refl
+own_cell cells p None (Key.Fd f) = refl
 
 own_within : (names : Names) (p : ℕ) (row : Option Row) → IfSome row (IsRowWithin names p)
     → RowWithin names (unwrap_or row own_row)
@@ -47,14 +36,14 @@ module _ (first new : Effect) (q fd : ℕ) (value : Value) (mid : List (ℕ × R
   -- the row has that cell, and the others as before
   row_with : (cells : Cells) (k : Key) → row_cell cells q now k
       ≡ cond (is_cell q fd q k) (read cells value) (row_cell cells q row k)
-  row_with cells key.Mode = refl
-  row_with cells (key.Fd f) = ap (λ o. option_map_or (read cells) o (base_cell cells q row.base f)) (with f)
+  row_with cells Key.Mode = refl
+  row_with cells (Key.Fd f) = ap (λ o. option_map_or (read cells) o (base_cell cells q row.base f)) (with f)
       ∙ with_if cells (f == fd) (found row.cells f) (base_cell cells q row.base f)
-      ∙ ap (λ b. cond (b && f == fd) (read cells value) (row_cell cells q row (key.Fd f))) (sym (eq-eqb q q refl))
+      ∙ ap (λ b. cond (b && f == fd) (read cells value) (row_cell cells q row (Key.Fd f))) (sym (eq-eqb q q refl))
 
   other_cell : (p : ℕ) (k : Key) → (p == q) ≡ false → is_cell q fd p k ≡ false
-  other_cell p key.Mode is = refl
-  other_cell p (key.Fd f) is = rw is refl
+  other_cell p Key.Mode is = refl
+  other_cell p (Key.Fd f) is = rw is refl
 
   pub set_cells : (cells : Cells) (p : ℕ) (k : Key)
       → changed new cells p k ≡ with_cell q fd (read cells value) (changed first cells) p k

@@ -1,7 +1,5 @@
 -- Copies of what is listed.
-use Rattle.std.proofs.Common.{◌≡◌, ℕ, ◌+◌, List, [], ◌∷◌}
-use Rattle.std.specs.List.{AllZip}
-use Rattle.cap_summary.specs.Sorted.{RisesFrom}
+use Rattle.cap_summary.specs.{◌≡◌, ℕ, ◌+◌, List, [], ◌∷◌, AllZip, Sorted.RisesFrom}
 
 -- each entry has the same key
 module _ {V : Type 0} (Copied : V → V → Type 0) where

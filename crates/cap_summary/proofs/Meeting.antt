@@ -1,22 +1,13 @@
 -- Where something is found.
-use Rattle.std.proofs.Common.{◌≡◌, List, [], ◌∷◌, ◌++◌, Bool, true, false, ◌||◌, refl, ap, ◌∙◌, sym, inl, inr}
-use Rattle.std.proofs.Common.{Option, Some, None, ℕ, ◌<◌, length, get_or, subst}
-use Rattle.std.specs.Prelude.{not, IfSome, is_some}
-use Rattle.std.specs.List.{list_any, All}
-use Rattle.std.proofs.lemmas.List.Elements.{All-push}
-use Rattle.std.proofs.Math.Bool.{or-false, or-true, or_assoc}
-use Rattle.std.proofs.lemmas.Bool.{or_cases}
-use Rattle.cap_machine.specs.State.{State}
-use Rattle.std.proofs.lemmas.List.Folds.{list_any-append}
-use Rattle.cap_summary.specs.declared.ask.Ask.{Ask}
-use Rattle.cap_summary.specs.declared.precondition.Refusal.{Refusal}
-use Rattle.cap_summary.specs.declared.precondition.Precondition.{Precondition}
-use Rattle.cap_summary.specs.Keys.{Cells, cells_of}
-use Rattle.cap_summary.specs.declared.line_asks.UpToThree.{UpToThree}
-use Rattle.cap_summary.specs.Asks.{any_holds, CanBe, IsOpen}
-use Rattle.cap_summary.specs.LineAsks.{part_holds, one_holds}
+use Rattle.cap_summary.specs.{◌≡◌, List, [], ◌∷◌, ◌++◌, Bool, true, false, ◌||◌, refl, Option, Some, None, ℕ, ◌<◌}
+use Rattle.cap_summary.specs.{length, get_or, not, IfSome, is_some, list_any, All, State, Asks.any_holds, Asks.CanBe}
+use Rattle.cap_summary.specs.{Asks.IsOpen, Keys.Cells, Keys.cells_of, LineAsks.part_holds, LineAsks.one_holds}
+use Rattle.cap_summary.specs.{declared.ask.Ask.Ask, declared.line_asks.UpToThree.UpToThree}
+use Rattle.cap_summary.specs.{declared.precondition.Precondition.Precondition, declared.precondition.Refusal.Refusal}
 use Rattle.cap_summary.specs.Preconditions.{is_wrongful, is_met, has_part, PartsAreOpen, RefusalIsOpen, IsPossible}
 use Rattle.cap_summary.specs.Preconditions.{IsMetOr}
+use Rattle.cap_summary.proofs.{ap, ◌∙◌, sym, inl, inr, subst, All-push, or-false, or-true, or_assoc, or_cases}
+use Rattle.cap_summary.proofs.{list_any-append}
 
 grouped : (certain asks refusals more : Bool) → (certain || (asks || (refusals || more)))
     ≡ ((certain || (asks || refusals)) || more)

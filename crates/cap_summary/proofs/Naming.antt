@@ -1,64 +1,40 @@
 -- What is named by some lines is named by more.
-use Rattle.std.proofs.Common.{◌≡◌, ℕ, ◌==◌, Bool, true, false, ◌||◌, ◌&&◌, List, [], ◌∷◌, ◌++◌, Option, Some, None}
-use Rattle.std.proofs.Common.{refl}
-use Rattle.std.proofs.Common.{◌∙◌, cond}
-use Rattle.std.specs.Prelude.{IfSome}
-use Rattle.std.specs.List.{list_any}
-use Rattle.std.proofs.lemmas.Bool.{and_from, eq-eqb, true_from_ne_false, or_left as or_first}
-use Rattle.std.proofs.lemmas.Bool.{or_right as or_second}
-use Rattle.std.proofs.lemmas.List.Folds.{list_any-append}
-use Rattle.cap_machine.specs.declared.step.Step.{Step}
-use Rattle.cap_machine.specs.declared.rule.Effect.{Effect as LineEffect}
-use Rattle.cap_machine.specs.declared.rule.Effect.TheVariants as lines
-use Rattle.cap_machine.specs.declared.cell.Cell.TheVariants.{Unknown}
-use Rattle.cap_machine.specs.Op.{same}
-use Rattle.cap_machine.specs.Touch.{Touch, kept, given, taken, touch}
-use Rattle.cap_machine.specs.Effect.{effect_touch}
-use Rattle.cap_machine.specs.Named.{names_pid, args_name}
-use Rattle.cap_machine.specs.Rule.{demand}
-use Rattle.cap_machine.proofs.Naming.{own_processes}
-use Rattle.cap_machine.proofs.NamedFds.{named_checks}
-use Rattle.cap_summary.specs.declared.key.Key.{Key}
-use Rattle.cap_summary.specs.declared.key.Key.TheVariants as key
-use Rattle.cap_summary.specs.declared.value.Value.{Value}
-use Rattle.cap_summary.specs.declared.value.Value.TheVariants as value
-use Rattle.cap_summary.specs.declared.base.Others.{Others}
-use Rattle.cap_summary.specs.declared.base.Others.TheVariants as others
-use Rattle.cap_summary.specs.declared.effect.Row.{Row}
-use Rattle.cap_summary.specs.declared.effect.Effect.{Effect}
-use Rattle.cap_summary.specs.declared.ask.Ask.{Ask}
-use Rattle.cap_summary.specs.declared.line_asks.UpToThree.{UpToThree}
-use Rattle.cap_summary.specs.declared.precondition.Precondition.{Precondition}
-use Rattle.cap_summary.specs.Values.{reads_within}
-use Rattle.cap_summary.specs.Sorted.{found}
+use Rattle.std.proofs.{lemmas.Bool.true_from_ne_false}
+use Rattle.cap_machine.proofs.{NamedFds.named_checks, Naming.own_processes}
+use Rattle.cap_summary.specs.{◌≡◌, ℕ, ◌==◌, Bool, true, false, ◌||◌, ◌&&◌, List, [], ◌∷◌, ◌++◌, Option, Some, None}
+use Rattle.cap_summary.specs.{refl, cond, IfSome, list_any, Step, LineEffect, Unknown, same, Touch, kept, given, taken}
+use Rattle.cap_summary.specs.{touch, effect_touch, names_pid, args_name, demand, Sorted.found, Values.reads_within}
+use Rattle.cap_summary.specs.{declared.ask.Ask.Ask, declared.base.Others.Others, declared.effect.Effect.Effect}
+use Rattle.cap_summary.specs.{declared.effect.Row.Row, declared.key.Key.Key, declared.line_asks.UpToThree.UpToThree}
+use Rattle.cap_summary.specs.{declared.precondition.Precondition.Precondition, declared.value.Value.Value}
 use Rattle.cap_summary.specs.Names.{line_names_fd, item_answers_fd, Names, names_in, AreAmong, has_key, has_cell}
-use Rattle.cap_summary.specs.Names.{IsListedWithin, others_within, mode_within, RowWithin, IsRowWithin, EffectWithin, ChildWithin}
-use Rattle.cap_summary.specs.Names.{LineWithin, part_within, PartsWithin, PreWithin, DemandWithin}
-use Rattle.cap_summary.proofs.Bools.{and_left, and_right}
-use Rattle.cap_summary.proofs.LineNamed.{named_one_by_one}
+use Rattle.cap_summary.specs.Names.{IsListedWithin, others_within, mode_within, RowWithin, IsRowWithin, EffectWithin}
+use Rattle.cap_summary.specs.Names.{ChildWithin, LineWithin, part_within, PartsWithin, PreWithin, DemandWithin}
+use Rattle.cap_summary.proofs.{◌∙◌, and_from, eq-eqb, or_left as or_first, or_right as or_second, list_any-append}
+use Rattle.cap_summary.proofs.{Bools.and_left, Bools.and_right, LineNamed.named_one_by_one}
 
 module _ (a b : Names) (among : AreAmong a b) where
   key_among : (k : Key) → has_key a k ≡ true → has_key b k ≡ true
-  key_among key.Mode is = refl
-  key_among (key.Fd f) is = among.fds f is
+  key_among Key.Mode is = refl
+  key_among (Key.Fd f) is = among.fds f is
 
   cell_among : (p : ℕ) (k : Key) → has_cell a p k ≡ true → has_cell b p k ≡ true
   cell_among p k is = and_from (b.pids p) (has_key b k) (among.pids p (and_left (a.pids p) (has_key a k) is))
       (key_among k (and_right (a.pids p) (has_key a k) is))
 
   value_among : (v : Value) → reads_within (has_cell a) v ≡ true → reads_within (has_cell b) v ≡ true
-  value_among value.Unknown is = refl
-  value_among value.Closed is = refl
-  value_among (value.Held rights flag) is = refl
-  value_among (value.Same p k) is = cell_among p k is
-  value_among (value.Of p k op) is = cell_among p k is
+  value_among Value.Unknown is = refl
+  value_among Value.Closed is = refl
+  value_among (Value.Held rights flag) is = refl
+  value_among (Value.Same p k) is = cell_among p k is
+  value_among (Value.Of p k op) is = cell_among p k is
 
   listed_among : (f : ℕ) (v : Option Value) → IfSome v (IsListedWithin a f) → IfSome v (IsListedWithin b f)
   listed_among f None is = is
   listed_among f (Some v) is = record { key = among.fds f is.key; source = value_among v is.source }
 
   others_among : (o : Others) → others_within a o ≡ true → others_within b o ≡ true
-  others_among (others.Of q passing) is = among.pids q is
+  others_among (Others.Of q passing) is = among.pids q is
   others_among _ is = refl
 
   mode_among : (mode : Option Value) → mode_within a mode ≡ true → mode_within b mode ≡ true
@@ -146,9 +122,9 @@ module _ (step : Step) (t : List Step) where
 
   child_in : (line : LineEffect) → ((p f : ℕ) → effect_touch line step.line.pid p f ≡ touch step p f)
       → ChildWithin named line
-  child_in (lines.Fork child) does = touched_in child (λ is.
+  child_in (LineEffect.Fork child) does = touched_in child (λ is.
       not_kept (child == child) (taken same step.line.pid 0) (λ e. cc) (eq-eqb child child refl) (does child 0 ∙ is))
-  child_in (lines.ForkAs child g) does = touched_in child (λ is.
+  child_in (LineEffect.ForkAs child g) does = touched_in child (λ is.
       not_either ((child == step.line.pid || child == child) && 0 == g) (child == child) (given Unknown)
       (taken same step.line.pid 0) (λ e. cc) (λ e. cc) (eq-eqb child child refl) (does child 0 ∙ is))
   child_in _ does = tt

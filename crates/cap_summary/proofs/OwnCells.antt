@@ -1,29 +1,13 @@
 -- A row that reads its own process alone, behind a segment that leaves that process.
-use Rattle.std.proofs.Common.{◌≡◌, ℕ, ◌==◌, Bool, true, false, List, [], ◌∷◌, cond, Option, Some, None, refl}
-use Rattle.std.proofs.Common.{ap, ◌∙◌}
-use Rattle.std.specs.Prelude.{IfSome}
-use Rattle.std.specs.Option.{option_map_or}
-use Rattle.std.specs.List.{All}
-use Rattle.std.proofs.lemmas.Bool.{eqb-true, eq-eqb}
-use Rattle.std.proofs.lemmas.List.Elements.{All-head, All-tail}
-use Rattle.cap_machine.specs.declared.cell.Cell.{Cell}
-use Rattle.cap_machine.specs.declared.cell.Cell.TheVariants.{Closed}
-use Rattle.cap_machine.specs.Op.{applied}
-use Rattle.cap_summary.specs.declared.key.Key.{Key}
-use Rattle.cap_summary.specs.declared.key.Key.TheVariants as key
-use Rattle.cap_summary.specs.declared.value.Value.{Value}
-use Rattle.cap_summary.specs.declared.value.Value.TheVariants as value
-use Rattle.cap_summary.specs.declared.base.Others.{Others}
-use Rattle.cap_summary.specs.declared.base.Others.TheVariants as others
-use Rattle.cap_summary.specs.declared.effect.Row.{Row}
-use Rattle.cap_summary.specs.declared.effect.Effect.{Effect}
-use Rattle.cap_summary.specs.Keys.{Cells}
-use Rattle.cap_summary.specs.Values.{read, source, reads_within}
-use Rattle.cap_summary.specs.Sorted.{found}
+use Rattle.cap_summary.specs.{◌≡◌, ℕ, ◌==◌, Bool, true, false, List, [], ◌∷◌, cond, Option, Some, None, refl, IfSome}
+use Rattle.cap_summary.specs.{option_map_or, All, Cell, Closed, applied, Composing.IsComposedSo, Keys.Cells}
+use Rattle.cap_summary.specs.{Sorted.found, declared.base.Others.Others, declared.effect.Effect.Effect}
+use Rattle.cap_summary.specs.{declared.effect.Row.Row, declared.key.Key.Key, declared.value.Value.Value}
 use Rattle.cap_summary.specs.Effects.{passed, is_from, others_cell, base_cell, row_cell, cell_in, changed}
-use Rattle.cap_summary.specs.Names.{only, has_cell, has_key, others_within, mode_within, IsListedWithin, ListWithin, RowWithin}
-use Rattle.cap_summary.specs.Composing.{IsComposedSo}
-use Rattle.cap_summary.proofs.Bools.{and_left}
+use Rattle.cap_summary.specs.Names.{only, has_cell, has_key, others_within, mode_within, IsListedWithin, ListWithin}
+use Rattle.cap_summary.specs.Names.{RowWithin}
+use Rattle.cap_summary.specs.Values.{read, source, reads_within}
+use Rattle.cap_summary.proofs.{ap, ◌∙◌, eqb-true, eq-eqb, All-head, All-tail, Bools.and_left}
 
 -- what holds of each entry holds of what is found
 pub found_each : {V : Type 0} (P : V → Type 0) (entries : List (ℕ × V)) → All (λ (e : ℕ × V). P e.1) entries
@@ -46,8 +30,8 @@ pub reads_one : (p q : ℕ) (k : Key) (v : Value) → source v ≡ Some (q, k) �
 reads_one p q k v from same = rw (from, same) (keys k)
   where
     keys : (k : Key) → has_key (only p) k ≡ true
-    keys key.Mode = refl
-    keys (key.Fd f) = refl
+    keys Key.Mode = refl
+    keys (Key.Fd f) = refl
 
 -- each value of a list does
 abbrev pub ReadsOnly : ℕ → ℕ × Value → Type 0
@@ -67,11 +51,11 @@ module _ (before after : Cells) (p : ℕ) (same : (k : Key) → before p k ≡ a
   same_cell q k is = rw (eqb-true q p is) (same k)
 
   same_value : (v : Value) → reads_within (has_cell (only p)) v ≡ true → read before v ≡ read after v
-  same_value value.Unknown is = refl
-  same_value value.Closed is = refl
-  same_value (value.Held rights flag) is = refl
-  same_value (value.Same q k) is = same_cell q k (and_left (q == p) (has_key (only p) k) is)
-  same_value (value.Of q k op) is = ap (applied op) (same_cell q k (and_left (q == p) (has_key (only p) k) is))
+  same_value Value.Unknown is = refl
+  same_value Value.Closed is = refl
+  same_value (Value.Held rights flag) is = refl
+  same_value (Value.Same q k) is = same_cell q k (and_left (q == p) (has_key (only p) k) is)
+  same_value (Value.Of q k op) is = ap (applied op) (same_cell q k (and_left (q == p) (has_key (only p) k) is))
 
   same_listed : (listed : Option Value) (f : ℕ) (d d' : Cell) → IfSome listed (IsListedWithin (only p) f) → d ≡ d'
       → option_map_or (read before) listed d ≡ option_map_or (read after) listed d'
@@ -79,20 +63,20 @@ module _ (before after : Cells) (p : ℕ) (same : (k : Key) → before p k ≡ a
   same_listed (Some v) f d d' is same = same_value v is.source
 
   same_mode : (mode : Option Value) → mode_within (only p) mode ≡ true
-      → option_map_or (read before) mode (before p key.Mode) ≡ option_map_or (read after) mode (after p key.Mode)
-  same_mode None is = same key.Mode
+      → option_map_or (read before) mode (before p Key.Mode) ≡ option_map_or (read after) mode (after p Key.Mode)
+  same_mode None is = same Key.Mode
   same_mode (Some v) is = same_value v is
 
   same_others : (o : Others) (f : ℕ) → others_within (only p) o ≡ true
       → others_cell before p o f ≡ others_cell after p o f
-  same_others others.Own f is = same (key.Fd f)
-  same_others (others.Of q passing) f is = ap (passed passing) (same_cell q (key.Fd f) is)
-  same_others others.Unknown f is = refl
-  same_others others.Closed f is = refl
+  same_others Others.Own f is = same (Key.Fd f)
+  same_others (Others.Of q passing) f is = ap (passed passing) (same_cell q (Key.Fd f) is)
+  same_others Others.Unknown f is = refl
+  same_others Others.Closed f is = refl
 
   pub own_row : (row : Row) → RowWithin (only p) row → (k : Key) → row_cell before p row k ≡ row_cell after p row k
-  own_row row is key.Mode = same_mode row.mode is.mode
-  own_row row is (key.Fd f) = same_listed (found row.cells f) f (base_cell before p row.base f)
+  own_row row is Key.Mode = same_mode row.mode is.mode
+  own_row row is (Key.Fd f) = same_listed (found row.cells f) f (base_cell before p row.base f)
       (base_cell after p row.base f) (is.cells f)
       (ap (λ c. cond (is_from row.base.closed_from f) Closed c) (same_others row.base.others f is.others))
 

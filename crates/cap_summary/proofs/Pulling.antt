@@ -1,48 +1,28 @@
 -- Asks of a later segment, pulled back through the effect of a first one.
-use Rattle.std.proofs.Common.{◌≡◌, List, [], ◌∷◌, ◌++◌, Bool, true, false, ◌||◌, ℕ, ◌+◌, ◌<◌, ◌≤◌, length, get_or, take, drop}
-use Rattle.std.proofs.Common.{refl, sym, ap, ◌∙◌, subst, arith, length-append}
-use Rattle.std.specs.List.{list_any, All}
-use Rattle.std.proofs.lemmas.List.{take_more}
-use Rattle.std.proofs.lemmas.List.Folds.{list_any-append}
-use Rattle.std.proofs.lemmas.List.Elements.{All-push, All-head}
-use Rattle.std.proofs.Math.Bool.{or-false, or-true, or_assoc, or_comm}
-use Rattle.cap_machine.specs.State.{State}
-use Rattle.cap_summary.specs.declared.ask.Ask.{Ask}
-use Rattle.cap_summary.specs.declared.effect.Effect.{Effect}
-use Rattle.cap_summary.specs.declared.precondition.Precondition.{Precondition}
-use Rattle.cap_summary.specs.Keys.{Cells, cells_of}
-use Rattle.cap_summary.specs.Effects.{is_from, others_cell, base_cell, row_cell, changed}
-use Rattle.std.specs.Prelude.{Option, Some, None, is_none, not, if◌then◌else◌}
-use Rattle.std.specs.Option.{option_map_or}
-use Rattle.cap_machine.specs.declared.cell.Cell.{Cell}
-use Rattle.cap_machine.specs.declared.cell.Cell.TheVariants.{Closed}
-use Rattle.cap_summary.specs.declared.key.Key.{Key}
-use Rattle.cap_summary.specs.declared.key.Key.TheVariants as key
-use Rattle.cap_summary.specs.declared.value.Value.{Value}
-use Rattle.cap_summary.specs.declared.base.Others.{Others}
-use Rattle.cap_summary.specs.declared.base.Others.TheVariants as others
-use Rattle.cap_summary.specs.declared.effect.Row.{Row}
-use Rattle.cap_summary.specs.Sorted.{found}
-use Rattle.cap_summary.specs.Values.{read}
-use Rattle.cap_summary.specs.Leaving.{is_own, base_leaves, row_leaves}
-use Rattle.cap_summary.proofs.Bools.{and_left, and_right}
-use Rattle.cap_summary.specs.declared.precondition.Refusal.{Refusal}
-use Rattle.cap_summary.specs.Names.{Names, has_cell, EffectWithin, RefusalsWithin, PreWithin}
+use Rattle.std.specs.{declared.vec.Vec.Vec}
+use Rattle.cap_summary.specs.{◌≡◌, List, [], ◌∷◌, ◌++◌, Bool, true, false, ◌||◌, ℕ, ◌+◌, ◌<◌, ◌≤◌, length, get_or, take}
+use Rattle.cap_summary.specs.{drop, refl, list_any, All, State, Option, Some, None, is_none, not, if◌then◌else◌}
+use Rattle.cap_summary.specs.{option_map_or, Cell, Closed, Global, Keys.Cells, Keys.cells_of, Leaving.is_own}
+use Rattle.cap_summary.specs.{Leaving.base_leaves, Leaving.row_leaves, Sorted.found, Values.read, declared.ask.Ask.Ask}
+use Rattle.cap_summary.specs.{declared.base.Others.Others, declared.effect.Effect.Effect, declared.effect.Row.Row}
+use Rattle.cap_summary.specs.{declared.key.Key.Key, declared.precondition.Precondition.Precondition}
+use Rattle.cap_summary.specs.{declared.precondition.Refusal.Refusal, declared.value.Value.Value}
 use Rattle.cap_summary.specs.Asks.{place, holds, any_holds, CanBe, AskWithin, Rises, IsUnionOf, Within, Can}
-use Rattle.cap_summary.specs.Preconditions.{is_met, is_wrongful, IsPulledBack, AreAskedByBoth, IsAskedByBoth, IsPossible}
-use Rattle.cap_summary.specs.Preconditions.{IsSettled, IsMetOr}
-use Rattle.cap_summary.specs.Sizes.{asks_size}
-use Rattle.std.specs.declared.vec.Vec.{Vec}
-use Rattle.std.specs.declared.alloc.Global.{Global}
-use Rattle.cap_summary.proofs.Bools.{or_last, or_crossed}
+use Rattle.cap_summary.specs.Effects.{is_from, others_cell, base_cell, row_cell, changed}
+use Rattle.cap_summary.specs.Names.{Names, has_cell, EffectWithin, RefusalsWithin, PreWithin}
+use Rattle.cap_summary.specs.Preconditions.{is_met, is_wrongful, IsPulledBack, AreAskedByBoth, IsAskedByBoth}
+use Rattle.cap_summary.specs.Preconditions.{IsPossible, IsSettled, IsMetOr, asks_size}
+use Rattle.cap_summary.proofs.{sym, ap, ◌∙◌, subst, arith, length-append, take_more, list_any-append, All-push}
+use Rattle.cap_summary.proofs.{All-head, or-false, or-true, or_assoc, or_comm}
+use Rattle.cap_summary.proofs.Bools.{and_left, and_right, or_last, or_crossed}
 use Rattle.cap_summary.proofs.Uniting.{all_left, all_right, rises_put, rises_without, drop_here}
 
 -- ---- a cell that the first segment leaves
-others_left : (cells : Cells) (p f : ℕ) (o : Others) → is_own o ≡ true → others_cell cells p o f ≡ cells p (key.Fd f)
-others_left cells p f others.Own is = refl
-others_left cells p f others.Unknown is = absurd cc
-others_left cells p f others.Closed is = absurd cc
-others_left cells p f (others.Of q passing) is = absurd cc
+others_left : (cells : Cells) (p f : ℕ) (o : Others) → is_own o ≡ true → others_cell cells p o f ≡ cells p (Key.Fd f)
+others_left cells p f Others.Own is = refl
+others_left cells p f Others.Unknown is = absurd cc
+others_left cells p f Others.Closed is = absurd cc
+others_left cells p f (Others.Of q passing) is = absurd cc
 
 not_read : (cells : Cells) (v : Option Value) (c : Cell) → is_none v ≡ true → option_map_or (read cells) v c ≡ c
 not_read cells None c is = refl
@@ -53,12 +33,12 @@ closed_not true c d is same = absurd cc
 closed_not false c d is same = same
 
 pub row_left : (cells : Cells) (p : ℕ) (row : Row) (k : Key) → row_leaves row k ≡ true → row_cell cells p row k ≡ cells p k
-row_left cells p row key.Mode is = not_read cells row.mode (cells p key.Mode) is
-row_left cells p row (key.Fd f) is =
+row_left cells p row Key.Mode is = not_read cells row.mode (cells p Key.Mode) is
+row_left cells p row (Key.Fd f) is =
     let unlisted = and_left (is_none (found row.cells f)) (base_leaves row.base f) is in
     let base = and_right (is_none (found row.cells f)) (base_leaves row.base f) is in
     not_read cells (found row.cells f) (base_cell cells p row.base f) unlisted
-    ∙ closed_not (is_from row.base.closed_from f) (others_cell cells p row.base.others f) (cells p (key.Fd f))
+    ∙ closed_not (is_from row.base.closed_from f) (others_cell cells p row.base.others f) (cells p (Key.Fd f))
     (and_right (is_own row.base.others) (not (is_from row.base.closed_from f)) base)
     (others_left cells p f row.base.others (and_left (is_own row.base.others) (not (is_from row.base.closed_from f)) base))
 

@@ -1,22 +1,11 @@
 -- What is known of an old whole, of a whole that has another part in place of one.
-use Rattle.std.proofs.Common.{◌≡◌, ℕ, ◌||◌, true, false, refl, sym, ap, ◌∙◌}
-use Rattle.cap_summary.specs.declared.effect.Effect.{Effect}
-use Rattle.cap_summary.specs.declared.precondition.Precondition.{Precondition}
-use Rattle.cap_summary.specs.declared.known.Known.{Known}
-use Rattle.cap_tree.specs.declared.likeness.Likeness.{Likeness}
-use Rattle.cap_tree.specs.declared.likeness.Side.{Side}
-use Rattle.cap_tree.specs.declared.likeness.Side.TheVariants.{Left, Right}
-use Rattle.cap_summary.specs.Keys.{Cells, cells_of}
-use Rattle.cap_summary.specs.Sorted.{found}
-use Rattle.cap_summary.specs.Effects.{cell_in, changed}
-use Rattle.cap_summary.specs.Preconditions.{is_met, IsPossible}
+use Rattle.cap_summary.specs.{◌≡◌, ℕ, ◌||◌, true, false, refl, Likeness, Side, Left, Right, part_at, Effects.cell_in}
+use Rattle.cap_summary.specs.{Effects.changed, Keys.Cells, Keys.cells_of, Sorted.found, declared.effect.Effect.Effect}
+use Rattle.cap_summary.specs.{declared.known.Known.Known, declared.precondition.Precondition.Precondition}
+use Rattle.cap_summary.specs.Composing.{IsJoined, IsComposedSo, IsJoinedEffect, AreAlike, KeepsEffect}
 use Rattle.cap_summary.specs.Names.{Names, EffectWithin, PreWithin}
-use Rattle.cap_summary.specs.Preconditions.{IsSamePrecondition}
-use Rattle.cap_summary.specs.Joined.{IsJoined}
-use Rattle.cap_summary.specs.Preconditions.{IsAskedByBoth}
-use Rattle.cap_summary.specs.Composing.{IsComposedSo, IsJoinedEffect}
-use Rattle.cap_tree.specs.Sides.{part_at}
-use Rattle.cap_summary.specs.Joined.{AreAlike, KeepsEffect}
+use Rattle.cap_summary.specs.Preconditions.{is_met, IsPossible, IsSamePrecondition, IsAskedByBoth}
+use Rattle.cap_summary.proofs.{sym, ap, ◌∙◌}
 
 same_cells : (a b : Effect) → a.rows ≡ b.rows → (cells : Cells) → changed a cells ≡ changed b cells
 same_cells a b same cells = ap (λ rows. λ p k. cell_in cells (found rows p) p k) same

@@ -1,25 +1,15 @@
 -- Findings of segments, one after the other.
-use Rattle.std.proofs.Common.{◌≡◌, ℕ, ◌+◌, ◌<◌, ◌≤◌, List, [], ◌∷◌, ◌++◌, Bool, true, false, ◌&&◌, cond, length, map, take, drop, get_or, ◌-◌}
-use Rattle.std.proofs.Common.{refl, sym, ap, ◌∙◌, add_assoc, append_assoc, arith, inl, inr, length-append}
-use Rattle.std.specs.List.{All, filter}
-use Rattle.std.proofs.lemmas.List.{map-append, append-nil, length-map, length-take, length-take-le, take_all, take_more}
-use Rattle.std.proofs.lemmas.List.{take-append-drop}
-use Rattle.std.proofs.lemmas.List.Elements.{filter-append, All-head, All-tail, All-map}
-use Rattle.std.proofs.lemmas.List.Filters.{length-filter_both}
-use Rattle.std.proofs.lemmas.Bool.{lt-leb, le-leb, cases_lt}
-use Rattle.std.specs.Prelude.{nat_le, not, ◌*◌, ◌/◌}
-use Rattle.std.proofs.Math.Bool.{and-false}
-use Rattle.cap_machine.specs.declared.step.Step.{Step}
-use Rattle.cap_machine.specs.declared.verdict.Found.{Found}
-use Rattle.cap_machine.specs.declared.verdict.Finding.{Finding}
-use Rattle.cap_machine.specs.State.{State}
-use Rattle.cap_machine.specs.History.{ended}
-use Rattle.cap_machine.specs.Check.{check, said, found_at}
-use Rattle.cap_machine.specs.Laws.{later}
-use Rattle.cap_machine.proofs.Turns.{checks_in_turn, checks_more}
-use Rattle.cap_machine.proofs.Positions.{positions_within}
-use Rattle.cap_summary.specs.LineAsks.{has_any}
+use Rattle.std.proofs.Common.{add_assoc, length-take, le-leb}
+use Rattle.std.proofs.{lemmas.Bool.lt-leb, lemmas.List.Elements.filter-append, lemmas.List.Elements.All-map}
+use Rattle.std.proofs.{lemmas.List.Filters.length-filter_both}
+use Rattle.cap_machine.proofs.{Positions.positions_within}
+use Rattle.cap_summary.specs.{◌≡◌, ℕ, ◌+◌, ◌<◌, ◌≤◌, List, [], ◌∷◌, ◌++◌, Bool, true, false, ◌&&◌, cond, length, map}
+use Rattle.cap_summary.specs.{take, drop, get_or, ◌-◌, refl, All, filter, nat_le, not, ◌*◌, ◌/◌, Step, Found, Finding}
+use Rattle.cap_summary.specs.{State, ended, check, said, found_at, later, LineAsks.has_any}
 use Rattle.cap_summary.specs.Positions.{is_at, within, AllOrMany}
+use Rattle.cap_summary.proofs.{sym, ap, ◌∙◌, append_assoc, arith, inl, inr, length-append, map-append, append-nil}
+use Rattle.cap_summary.proofs.{length-map, length-take-le, take_all, take_more, take-append-drop, All-head, All-tail}
+use Rattle.cap_summary.proofs.{cases_lt, and-false, checks_in_turn, checks_more}
 
 later-later : (m n : ℕ) (xs : List Found) → map (later m) (map (later n) xs) ≡ map (later (m + n)) xs
 later-later m n [] = refl

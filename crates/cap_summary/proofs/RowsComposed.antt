@@ -1,25 +1,12 @@
 -- The cells of a process after two segments.
-use Rattle.std.proofs.Common.{◌≡◌, ℕ, ◌&&◌, ◌||◌, not, Bool, true, false, Option, Some, None, option_map, refl, ◌∙◌}
-use Rattle.std.proofs.Common.{List}
-use Rattle.std.specs.Prelude.{unwrap_or, option_and_then, is_none}
-use Rattle.std.proofs.lemmas.Bool.{and_from, not-true}
-use Rattle.std.specs.Option.{option_map_or, option_or}
-use Rattle.cap_machine.specs.declared.cell.Cell.{Cell}
-use Rattle.cap_machine.specs.declared.cell.Cell.TheVariants.{Closed}
-use Rattle.cap_summary.specs.declared.value.Value.{Value}
-use Rattle.cap_summary.specs.declared.base.Passing.{Passing}
-use Rattle.cap_summary.specs.declared.base.Base.{Base}
-use Rattle.cap_summary.specs.declared.key.Key.{Key}
-use Rattle.cap_summary.specs.declared.key.Key.TheVariants as key
-use Rattle.cap_summary.specs.declared.effect.Row.{Row}
-use Rattle.cap_summary.specs.declared.effect.Effect.{Effect}
-use Rattle.cap_summary.specs.Keys.{Cells}
-use Rattle.cap_summary.specs.Values.{read}
-use Rattle.cap_summary.specs.Sorted.{found}
+use Rattle.cap_summary.specs.{◌≡◌, ℕ, ◌&&◌, ◌||◌, not, Bool, true, false, Option, Some, None, option_map, refl, List}
+use Rattle.cap_summary.specs.{unwrap_or, option_and_then, is_none, option_map_or, option_or, Cell, Closed}
+use Rattle.cap_summary.specs.{Composing.IsHandedSo, Keys.Cells, Sorted.found, Values.read, declared.base.Base.Base}
+use Rattle.cap_summary.specs.{declared.base.Passing.Passing, declared.effect.Effect.Effect, declared.effect.Row.Row}
+use Rattle.cap_summary.specs.{declared.key.Key.Key, declared.value.Value.Value}
 use Rattle.cap_summary.specs.Effects.{passed, is_from, base_cell, handed_on, row_cell, changed, IsRowAfter}
 use Rattle.cap_summary.specs.Leaving.{is_own, base_leaves, row_leaves, leaves}
-use Rattle.cap_summary.specs.Composing.{IsHandedSo}
-use Rattle.cap_summary.proofs.Bools.{and_left, and_right}
+use Rattle.cap_summary.proofs.{◌∙◌, and_from, not-true, Bools.and_left, Bools.and_right}
 
 pub map_or_is : {X : Type 0} (g : X → Cell) (o : Option X) (d : Cell) → option_map_or g o d ≡ unwrap_or (option_map g o) d
 map_or_is g None d = refl
@@ -56,11 +43,11 @@ composed_cell first p base base' passing listed handed new cells f is_handed clo
 
 -- a row, by its mode and its descriptors
 pub composed_row : (first : Effect) (p : ℕ) (row new : Row)
-    → ((cells : Cells) → row_cell cells p new key.Mode ≡ row_cell (changed first cells) p row key.Mode)
-    → ((cells : Cells) (f : ℕ) → row_cell cells p new (key.Fd f) ≡ row_cell (changed first cells) p row (key.Fd f))
+    → ((cells : Cells) → row_cell cells p new Key.Mode ≡ row_cell (changed first cells) p row Key.Mode)
+    → ((cells : Cells) (f : ℕ) → row_cell cells p new (Key.Fd f) ≡ row_cell (changed first cells) p row (Key.Fd f))
     → IsRowAfter first p row new
-composed_row first p row new mode cell cells key.Mode = mode cells
-composed_row first p row new mode cell cells (key.Fd f) = cell cells f
+composed_row first p row new mode cell cells Key.Mode = mode cells
+composed_row first p row new mode cell cells (Key.Fd f) = cell cells f
 
 -- a descriptor that isn't listed after both is listed in the second one nowhere, and is closed there or not handed on
 unlisted_in_both : (listed handed new closed : Bool) → new ≡ (listed && (handed || closed)) → new ≡ true
@@ -70,13 +57,13 @@ unlisted_in_both true false new closed is none below = absurd cc
 unlisted_in_both false handed new closed is none below = absurd cc
 
 pub composed_leaves : (first : Effect) (p : ℕ) (row new : Row) (passing : Passing) (handed : List (ℕ × Value))
-    → (is_none new.mode ≡ true → (leaves first p key.Mode ≡ true) × (is_none row.mode ≡ true))
+    → (is_none new.mode ≡ true → (leaves first p Key.Mode ≡ true) × (is_none row.mode ≡ true))
     → ((f : ℕ) → base_leaves new.base f ≡ true → (base_leaves row.base f ≡ true)
-    × (is_none (found handed f) ≡ true → leaves first p (key.Fd f) ≡ true))
+    × (is_none (found handed f) ≡ true → leaves first p (Key.Fd f) ≡ true))
     → ((f : ℕ) → IsHandedSo first passing row.base.closed_from f (found row.cells f) (found handed f) (found new.cells f))
     → (k : Key) → row_leaves new k ≡ true → (leaves first p k ≡ true) × (row_leaves row k ≡ true)
-composed_leaves first p row new passing handed mode base each key.Mode left = mode left
-composed_leaves first p row new passing handed mode base each (key.Fd f) left =
+composed_leaves first p row new passing handed mode base each Key.Mode left = mode left
+composed_leaves first p row new passing handed mode base each (Key.Fd f) left =
     let none : is_none (found new.cells f) ≡ true = and_left (is_none (found new.cells f)) (base_leaves new.base f) left in
     let own : base_leaves new.base f ≡ true = and_right (is_none (found new.cells f)) (base_leaves new.base f) left in
     let here : base_leaves row.base f ≡ true = (base f own).0 in

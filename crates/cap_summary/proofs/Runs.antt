@@ -1,11 +1,8 @@
 -- Runs of shared steps.
-use Rattle.std.proofs.Common.{◌≡◌, ℕ, List, [], ◌∷◌, ◌++◌, ◌<◌, length, get_or, slice_range, take, sym, ap}
-use Rattle.std.proofs.Common.{◌∙◌, arith}
-use Rattle.std.proofs.lemmas.List.{append-nil, take-map}
-use Rattle.std.proofs.lemmas.Slice.{between_to_end}
-use Rattle.std.specs.declared.rc.Rc.{Rc}
-use Rattle.cap_tree.specs.Run.{values}
-use Rattle.cap_summary.specs.View.{NodeView}
+use Rattle.std.proofs.{lemmas.List.take-map, lemmas.Slice.between_to_end}
+use Rattle.cap_summary.specs.{◌≡◌, ℕ, List, [], ◌∷◌, ◌++◌, ◌<◌, length, get_or, slice_range, take, Rc, values}
+use Rattle.cap_summary.specs.{View.NodeView}
+use Rattle.cap_summary.proofs.{sym, ap, ◌∙◌, arith, append-nil}
 
 -- a list without items, before and behind another
 pub none_before : {X : Type 0} (a b n : List X) → n ≡ b → length a ≡ 0 → n ≡ a ++ b

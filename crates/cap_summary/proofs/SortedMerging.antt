@@ -1,13 +1,9 @@
 -- A table that is made of two, key by key.
-use Rattle.std.proofs.Common.{◌≡◌, ℕ, ◌+◌, ◌<◌, ◌≤◌, eqb, Bool, true, false, ◌||◌, List, [], ◌∷◌, ◌++◌, Option, Some}
-use Rattle.std.proofs.Common.{None, if◌then◌else◌, inl, inr, refl, sym, ap, ◌∙◌, arith}
-use Rattle.std.specs.Option.{option_or, is_some}
 use mathlib.Core.Bool.{false≢true}
-use Rattle.std.specs.Option.{is_some}
-use Rattle.std.proofs.lemmas.Bool.{cases_lt, ne_eqb}
-use Rattle.std.proofs.lemmas.Bool.Decides.{nat_tests}
+use Rattle.cap_summary.specs.{◌≡◌, ℕ, ◌+◌, ◌<◌, ◌≤◌, eqb, Bool, true, false, ◌||◌, List, [], ◌∷◌, ◌++◌, Option, Some}
+use Rattle.cap_summary.specs.{None, if◌then◌else◌, refl, option_or, is_some}
 use Rattle.cap_summary.specs.Sorted.{found, RisesFrom, Rises}
-use Rattle.cap_summary.proofs.SortedFound.{found_below}
+use Rattle.cap_summary.proofs.{inl, inr, sym, ap, ◌∙◌, arith, cases_lt, ne_eqb, nat_tests, SortedFound.found_below}
 
 -- each key is below the bound
 abbrev pub AllBelow : {V : Type 0} → ℕ → List (ℕ × V) → Type 0

@@ -1,10 +1,8 @@
 -- A value that is put at a key of a list whose keys rise.
-use Rattle.std.proofs.Common.{◌≡◌, ℕ, zero, suc, ◌+◌, ◌<◌, ◌≤◌, eqb, List, [], ◌∷◌, set, Some, if◌then◌else◌, arith}
-use Rattle.std.specs.List.{insert}
-use Rattle.std.proofs.lemmas.Bool.Decides.{nat_tests}
-use Rattle.cap_summary.specs.Sorted.{IsAt, IsGap}
-use Rattle.cap_summary.specs.Sorted.{found, RisesFrom}
-use Rattle.cap_summary.proofs.SortedFound.{rises_at, is_at_tail}
+use Rattle.std.specs.Prelude.{set, insert}
+use Rattle.cap_summary.specs.{◌≡◌, ℕ, zero, suc, ◌+◌, ◌<◌, ◌≤◌, eqb, List, [], ◌∷◌, Some, if◌then◌else◌}
+use Rattle.cap_summary.specs.Sorted.{IsAt, IsGap, found, RisesFrom}
+use Rattle.cap_summary.proofs.{arith, nat_tests, SortedFound.rises_at, SortedFound.is_at_tail}
 
 gap_tail : {V : Type 0} (x : ℕ × V) (l : List (ℕ × V)) (key at : ℕ) → IsGap (x ∷ l) key (suc at) → IsGap l key at
 gap_tail x l key at gap = record {

@@ -1,32 +1,19 @@
 -- Up to three asks, of which one holds in every state, or none holds in some.
-use Rattle.std.proofs.Common.{◌≡◌, ℕ, true, false, ◌&&◌, Option, Some, None, inl, inr, refl, sym, ap, ◌∙◌}
-use Rattle.std.proofs.Common.{arith}
-use Rattle.std.specs.Prelude.{◌==◌}
-use Rattle.std.proofs.lemmas.Bool.{eqb-true, eq-eqb, or_cases, or_parts}
-use Rattle.std.proofs.Math.Bool.{or-true}
-use Rattle.cap_rights.specs.Rights.{none, join, has_all}
-use Rattle.cap_machine.specs.declared.cell.OnExec.{OnExec}
-use Rattle.cap_machine.specs.declared.cell.Cell.{Cell}
-use Rattle.cap_machine.specs.declared.cell.Cell.TheVariants.{Held}
-use Rattle.cap_machine.specs.State.{State}
-use Rattle.cap_summary.specs.declared.key.Key.{Key}
-use Rattle.cap_summary.specs.declared.key.Key.TheVariants as key
-use Rattle.cap_summary.specs.declared.ask.Ask.{Ask}
-use Rattle.cap_summary.specs.declared.line_asks.UpToThree.{UpToThree}
-use Rattle.cap_summary.specs.Keys.{Cells, cells_of}
-use Rattle.cap_summary.specs.Tests.{passes, each_kind}
-use Rattle.cap_summary.specs.Asks.{is_sure, key_number}
-use Rattle.cap_summary.specs.LineAsks.{part_holds, one_holds}
+use Rattle.cap_summary.specs.{◌≡◌, ℕ, true, false, ◌&&◌, Option, Some, None, refl, ◌==◌, none, join, has_all, OnExec}
+use Rattle.cap_summary.specs.{Cell, Held, State, Asks.is_sure, Asks.key_number, Keys.Cells, Keys.cells_of}
+use Rattle.cap_summary.specs.{LineAsks.part_holds, LineAsks.one_holds, Tests.passes, Tests.each_kind}
+use Rattle.cap_summary.specs.{declared.ask.Ask.Ask, declared.key.Key.Key, declared.line_asks.UpToThree.UpToThree}
 use Rattle.cap_summary.specs.Preconditions.{is_about, part_sure, one_sure, are_sure_at}
-use Rattle.cap_summary.proofs.Bools.{and_left, and_right}
-use Rattle.cap_summary.proofs.TestPassing.{own_rights, has_both}
-use Rattle.cap_summary.proofs.Asking.{chosen, stands, sure_passes, fails_with, failing, failing_fails, each_passes, alike_sure}
+use Rattle.cap_summary.proofs.{inl, inr, sym, ap, ◌∙◌, arith, eqb-true, eq-eqb, or_cases, or_parts, or-true}
+use Rattle.cap_summary.proofs.{Bools.and_left, Bools.and_right, TestPassing.own_rights, TestPassing.has_both}
+use Rattle.cap_summary.proofs.Asking.{chosen, stands, sure_passes, fails_with, failing, failing_fails, each_passes}
+use Rattle.cap_summary.proofs.Asking.{alike_sure}
 
 same_key : (j k : Key) → key_number j ≡ key_number k → j ≡ k
-same_key key.Mode key.Mode is = refl
-same_key key.Mode (key.Fd g) is = absurd (omega (arith, is))
-same_key (key.Fd f) key.Mode is = absurd (omega (arith, is))
-same_key (key.Fd f) (key.Fd g) is = ap key.Fd (omega (arith, is))
+same_key Key.Mode Key.Mode is = refl
+same_key Key.Mode (Key.Fd g) is = absurd (omega (arith, is))
+same_key (Key.Fd f) Key.Mode is = absurd (omega (arith, is))
+same_key (Key.Fd f) (Key.Fd g) is = ap Key.Fd (omega (arith, is))
 
 -- an ask that surely passes the cell that stands in a state holds there
 part_passes : (part : Option Ask) (s : State) (p : ℕ) (k : Key) → part_sure part p k (cells_of s p k) ≡ true

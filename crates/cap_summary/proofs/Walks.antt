@@ -1,18 +1,12 @@
 -- Walks back through the parts of a node.
-use Rattle.std.proofs.Common.{◌≡◌, ℕ, ◌+◌, ◌-◌, ◌<◌, List, ◌++◌, length, take, refl, sym, ap, ◌∙◌, arith}
-use Rattle.std.proofs.Common.{append_assoc, length-append}
-use Rattle.std.specs.Prelude.{reverse}
-use Rattle.std.proofs.Math.Seq.{take-append-add}
-use Rattle.std.proofs.lemmas.List.{reverse-append, length-reverse, take_all}
-use Rattle.std.proofs.lemmas.List.Elements.{All-take}
-use Rattle.cap_machine.specs.declared.step.Step.{Step}
-use Rattle.cap_machine.specs.declared.walks.CellWalk.{CellWalk}
-use Rattle.cap_machine.specs.declared.walks.ModeWalk.{ModeWalk}
-use Rattle.cap_machine.specs.State.{State}
-use Rattle.cap_machine.specs.Touch.{kept, stays, touch, turn}
-use Rattle.cap_machine.specs.Walks.{cell_pid, cell_fd, LeavesCell, mode_pid, LeavesMode}
-use Rattle.cap_machine.proofs.Walking.{cells_may_be_left_out, modes_may_be_left_out}
-use Rattle.cap_summary.specs.Passes.{Origin, Passes, cell_seen, mode_seen}
+use Rattle.std.proofs.{Math.Seq.take-append-add, lemmas.List.Elements.All-take}
+use Rattle.cap_machine.specs.Walks.{cell_pid, cell_fd, mode_pid}
+use Rattle.cap_machine.proofs.{Walking.cells_may_be_left_out, Walking.modes_may_be_left_out}
+use Rattle.cap_summary.specs.{◌≡◌, ℕ, ◌+◌, ◌-◌, ◌<◌, List, ◌++◌, length, take, refl, reverse, Step, CellWalk, ModeWalk}
+use Rattle.cap_summary.specs.{State, kept, stays, touch, turn, LeavesCell, LeavesMode}
+use Rattle.cap_summary.specs.Behind.{Origin, Passes, cell_seen, mode_seen}
+use Rattle.cap_summary.proofs.{sym, ap, ◌∙◌, arith, append_assoc, length-append, reverse-append, length-reverse}
+use Rattle.cap_summary.proofs.{take_all}
 
 module _ {W : Type 0} (see : W → State → List Step → Origin) where
   -- the right part, and then the left one

@@ -1,18 +1,10 @@
 -- What is asked of the cells before a segment.
-use Rattle.std.specs.Prelude.{◌≡◌, ℕ, ◌+◌, ◌*◌, ◌^◌, ◌%◌, ◌≤◌, ◌||◌, Bool, true, false, List, [], ◌∷◌, length}
-use Rattle.std.specs.Prelude.{Option, Some, None}
-use Rattle.std.specs.List.{list_any, list_all, All}
-use Rattle.cap_machine.specs.declared.cell.Mode.TheVariants.{Inside, Outside, Unsure}
-use Rattle.cap_machine.specs.declared.cell.Cell.{Cell}
-use Rattle.cap_machine.specs.State.{State}
-use Rattle.cap_summary.specs.declared.key.Key.{Key}
-use Rattle.cap_summary.specs.declared.key.Key.TheVariants as key
-use Rattle.cap_summary.specs.declared.kinds.Kinds.{Kinds}
-use Rattle.cap_summary.specs.declared.ask.Ask.{Ask}
-use Rattle.cap_summary.specs.declared.ask.Pulled.{Pulled}
-use Rattle.cap_summary.specs.declared.ask.Pulled.TheVariants.{Always, Never, Where}
-use Rattle.cap_summary.specs.Keys.{Cells, mode_cell, cell_mode, cells_of}
+use Rattle.cap_summary.specs.{◌≡◌, ℕ, ◌+◌, ◌*◌, ◌^◌, ◌%◌, ◌≤◌, ◌||◌, Bool, true, false, List, [], ◌∷◌, length, Option}
+use Rattle.cap_summary.specs.{Some, None, list_any, list_all, All, Inside, Outside, Cell, State, Mode, Keys.Cells}
+use Rattle.cap_summary.specs.{Keys.mode_cell, Keys.cell_mode, Keys.cells_of, declared.ask.Ask.Ask}
+use Rattle.cap_summary.specs.{declared.ask.Pulled.Pulled, declared.key.Key.Key, declared.kinds.Kinds.Kinds}
 use Rattle.cap_summary.specs.Tests.{passes, can_pass, holding, each_kind}
+use Rattle.cap_summary.specs.declared.ask.Pulled.TheVariants.{Always, Never, Where}
 
 -- an ask holds of the cells before the segment
 abbrev pub holds : Cells → Ask → Bool
@@ -24,8 +16,8 @@ any_holds cells asks = list_any (holds cells) asks
 
 -- the cell that stands at a key for another cell: that of a mode, or the cell with these rights if it is held
 abbrev pub standing : ℕ → Key → Cell → Cell
-standing rights key.Mode cell = mode_cell (cell_mode cell)
-standing rights (key.Fd f) cell = holding rights cell
+standing rights Key.Mode cell = mode_cell (cell_mode cell)
+standing rights (Key.Fd f) cell = holding rights cell
 
 -- it passes there, also where it lacks none of the rights
 abbrev pub is_sure : Ask → Key → Cell → Bool
@@ -37,8 +29,8 @@ certain_at key ask = list_all (is_sure ask key) each_kind
 
 -- some cell that can stand at a key passes
 abbrev pub possible_at : Key → Ask → Bool
-possible_at key.Mode ask = passes ask (mode_cell Unsure) || (passes ask (mode_cell Inside) || passes ask (mode_cell Outside))
-possible_at (key.Fd f) ask = can_pass ask
+possible_at Key.Mode ask = passes ask (mode_cell Mode.Unsure) || (passes ask (mode_cell Inside) || passes ask (mode_cell Outside))
+possible_at (Key.Fd f) ask = can_pass ask
 
 -- in some state an ask holds, or doesn't
 abbrev pub CanBe : Bool → Ask → Type 0
@@ -79,8 +71,8 @@ pulled_within names (Where ask) = names ask.pid ask.key
 
 -- ---- order: by process, then by key, then by the kinds of held cells at which rights are asked about
 abbrev pub key_number : Key → ℕ
-key_number key.Mode = 0
-key_number (key.Fd f) = f + 1
+key_number Key.Mode = 0
+key_number (Key.Fd f) = f + 1
 
 -- the kinds of held cells among these, as a number
 abbrev pub held_number : Kinds → ℕ

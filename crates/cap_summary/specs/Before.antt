@@ -1,15 +1,11 @@
 -- The state behind a start and effects.
-use Rattle.cap_machine.specs.State.{State}
-use Rattle.cap_machine.specs.Table.{start_state}
-use Rattle.cap_summary.specs.declared.key.Key.TheVariants as key
-use Rattle.cap_summary.specs.declared.before.Before.{Before}
-use Rattle.cap_summary.specs.declared.before.Before.TheVariants.{At, After'}
-use Rattle.cap_summary.specs.Keys.{Cells, cells_of, cell_mode}
-use Rattle.cap_summary.specs.Effects.{changed}
+use Rattle.cap_summary.specs.{State, start_state, Effects.changed, Keys.Cells, Keys.cells_of, Keys.cell_mode}
+use Rattle.cap_summary.specs.{declared.before.Before.Before, declared.before.Before.TheVariants.At}
+use Rattle.cap_summary.specs.{declared.before.Before.TheVariants.After', declared.key.Key.Key}
 
 -- a state, by its cells
 abbrev pub state_of : Cells → State
-state_of cells = record { cell = λ p f. cells p (key.Fd f); mode = λ p. cell_mode (cells p key.Mode) }
+state_of cells = record { cell = λ p f. cells p (Key.Fd f); mode = λ p. cell_mode (cells p Key.Mode) }
 
 abbrev pub state_before : Before → State
 state_before (At start) = start_state start.now

@@ -1,19 +1,12 @@
--- What stands at one key of the effect of two segments. What it names is named by the second segment, or by the rows of
--- the first that the second one reads.
-use Rattle.std.specs.Prelude.{◌≡◌, ℕ, ◌||◌, ◌&&◌, true, Option, IfSome, is_none, option_map, option_and_then}
-use Rattle.cap_tree.specs.Sides.{part_at}
-use Rattle.cap_summary.specs.declared.value.Value.{Value}
-use Rattle.cap_summary.specs.declared.base.Passing.{Passing}
-use Rattle.cap_summary.specs.declared.effect.Row.{Row}
-use Rattle.cap_summary.specs.declared.effect.Effect.{Effect}
-use Rattle.cap_summary.specs.declared.composed.Replaced.{Replaced}
-use Rattle.cap_summary.specs.Sorted.{found}
+-- What is known of two segments together. What their effect names is named by the second segment, or by the rows of the
+-- first that the second one reads.
+use Rattle.cap_summary.specs.{◌≡◌, ℕ, ◌||◌, ◌&&◌, true, Option, IfSome, is_none, option_map, option_and_then, part_at}
+use Rattle.cap_summary.specs.{option_or, Likeness, Side, Left, Right, Keys.Cells, Leaving.leaves_in}
+use Rattle.cap_summary.specs.{Preconditions.IsAskedByBoth, Preconditions.IsSamePrecondition, Sorted.found, Values.read}
+use Rattle.cap_summary.specs.{declared.base.Passing.Passing, declared.composed.Replaced.Replaced}
+use Rattle.cap_summary.specs.{declared.effect.Effect.Effect, declared.effect.Row.Row, declared.key.Key.Key}
+use Rattle.cap_summary.specs.{declared.known.Known.Known, declared.value.Value.Value}
 use Rattle.cap_summary.specs.Effects.{is_from, handed_on, cell_in, changed}
-use Rattle.cap_summary.specs.Leaving.{leaves_in}
-use Rattle.cap_summary.specs.Keys.{Cells}
-use Rattle.cap_summary.specs.Values.{read}
-use Rattle.cap_summary.specs.declared.key.Key.{Key}
-use Rattle.std.specs.Option.{option_or}
 use Rattle.cap_summary.specs.Names.{Names, IsListedWithin, IsRowWithin, ReadWithin}
 
 -- what is listed for a descriptor: what the second segment lists, by the cells before the first, or else what the first
@@ -48,3 +41,20 @@ IsOldAt old first p later =
 -- two segments have these effects, one of them in the place of the part that was replaced
 abbrev pub IsReplaced : Effect → Effect → Option Replaced → Type 0
 IsReplaced first later old = IfSome old (λ old. (p : ℕ) → IsOldAt old first p (found later.rows p))
+
+-- what is known of a segment, of a later one, and of both
+pub record IsJoined (first later both : Known) : Type 0 where
+  pub effect : IsJoinedEffect first.effect.value later.effect.value both.effect.value
+  pub precondition : IsAskedByBoth first.effect.value first.precondition.value later.precondition.value
+      both.precondition.value
+
+-- what the likeness says is so
+pub record AreAlike (likeness : Likeness) (old new : Known) : Type 0 where
+  pub effect : likeness.effect ≡ true → old.effect.value.rows ≡ new.effect.value.rows
+  pub precondition : likeness.precondition ≡ true
+      → IsSamePrecondition old.precondition.value new.precondition.value
+
+-- a new first part asks for the old whole's precondition only with the effect that it had
+abbrev pub KeepsEffect : Side → Likeness → Type 0
+KeepsEffect Left likeness = likeness.precondition ≡ true → likeness.effect ≡ true
+KeepsEffect Right likeness = Unit {0}

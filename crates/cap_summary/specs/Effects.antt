@@ -1,26 +1,13 @@
 -- What becomes of each cell over a segment, whatever the cells before it: the transfer function of the segment.
-use Rattle.std.specs.Prelude.{◌≡◌, ℕ, Bool, false, Option, Some, None, nat_le, if◌then◌else◌, []}
-use Rattle.std.specs.Option.{option_map_or}
-use Rattle.cap_machine.specs.declared.cell.Cell.{Cell}
-use Rattle.cap_machine.specs.declared.cell.Cell.TheVariants.{Unknown, Closed}
-use Rattle.cap_machine.specs.Op.{applied, exec}
-use Rattle.cap_summary.specs.declared.key.Key.{Key}
-use Rattle.cap_summary.specs.declared.key.Key.TheVariants as key
-use Rattle.cap_summary.specs.declared.base.Passing.{Passing}
-use Rattle.cap_summary.specs.declared.base.Passing.TheVariants as passing
-use Rattle.cap_summary.specs.declared.base.Others.{Others}
-use Rattle.cap_summary.specs.declared.base.Others.TheVariants as others
-use Rattle.cap_summary.specs.declared.base.Base.{Base}
-use Rattle.cap_summary.specs.declared.effect.Row.{Row}
-use Rattle.cap_summary.specs.declared.effect.Effect.{Effect}
-use Rattle.cap_summary.specs.Keys.{Cells}
-use Rattle.cap_summary.specs.Values.{read}
-use Rattle.cap_summary.specs.Sorted.{found}
+use Rattle.cap_summary.specs.{◌≡◌, ℕ, Bool, false, Option, Some, None, nat_le, if◌then◌else◌, [], option_map_or, Cell}
+use Rattle.cap_summary.specs.{Unknown, Closed, applied, exec, Keys.Cells, Sorted.found, Values.read}
+use Rattle.cap_summary.specs.{declared.base.Base.Base, declared.base.Others.Others, declared.base.Passing.Passing}
+use Rattle.cap_summary.specs.{declared.effect.Effect.Effect, declared.effect.Row.Row, declared.key.Key.Key}
 
 -- how a whole table of cells is handed on: as it is (fork(2)), or by an exec (execve(2))
 abbrev pub passed : Passing → Cell → Cell
-passed passing.Same c = c
-passed passing.Exec c = applied exec c
+passed Passing.Same c = c
+passed Passing.Exec c = applied exec c
 
 -- a descriptor at or above the one from which cells are closed, where there is one
 abbrev pub is_from : Option ℕ → ℕ → Bool
@@ -29,22 +16,22 @@ is_from (Some n) f = nat_le n f
 
 -- the cell of a descriptor of process p that isn't listed
 abbrev pub others_cell : Cells → ℕ → Others → ℕ → Cell
-others_cell cells p others.Own f = cells p (key.Fd f)
-others_cell cells p others.Unknown f = Unknown
-others_cell cells p others.Closed f = Closed
-others_cell cells p (others.Of q passing) f = passed passing (cells q (key.Fd f))
+others_cell cells p Others.Own f = cells p (Key.Fd f)
+others_cell cells p Others.Unknown f = Unknown
+others_cell cells p Others.Closed f = Closed
+others_cell cells p (Others.Of q passing) f = passed passing (cells q (Key.Fd f))
 
 abbrev pub base_cell : Cells → ℕ → Base → ℕ → Cell
 base_cell cells p base f = if is_from base.closed_from f then Closed else others_cell cells p base.others f
 
 -- the cell of a key of process p, which has this row
 abbrev pub row_cell : Cells → ℕ → Row → Key → Cell
-row_cell cells p row key.Mode = option_map_or (read cells) row.mode (cells p key.Mode)
-row_cell cells p row (key.Fd f) = option_map_or (read cells) (found row.cells f) (base_cell cells p row.base f)
+row_cell cells p row Key.Mode = option_map_or (read cells) row.mode (cells p Key.Mode)
+row_cell cells p row (Key.Fd f) = option_map_or (read cells) (found row.cells f) (base_cell cells p row.base f)
 
 -- the row of a process that stays as it is
 abbrev pub own_row : Row
-own_row = record { base = record { others = others.Own; closed_from = None }; mode = None; cells = [] }
+own_row = record { base = record { others = Others.Own; closed_from = None }; mode = None; cells = [] }
 
 -- a row that may be there: without one a process keeps its cells
 abbrev pub cell_in : Cells → Option Row → ℕ → Key → Cell

@@ -1,12 +1,8 @@
 -- Of which steps so much may be known that it isn't kept: of those that name many processes and descriptors, or have many
 -- calls that were refused for lack of a right.
-use Rattle.std.specs.Prelude.{ℕ, ◌+◌, ◌*◌, ◌<◌, ◌⊎◌, ◌==◌, if◌then◌else◌, Bool, true, false, List, [], ◌∷◌, length}
-use Rattle.std.specs.List.{list_any}
-use Rattle.cap_machine.specs.declared.step.Step.{Step}
-use Rattle.cap_machine.specs.declared.rule.Reply.{Reply}
-use Rattle.cap_machine.specs.declared.rule.Reply.TheVariants.{NotCapable}
-use Rattle.cap_machine.specs.Rule.{demand}
-use Rattle.cap_summary.specs.Names.{Names, names_in, AreAmong}
+use Rattle.cap_machine.specs.{declared.rule.Reply.Reply}
+use Rattle.cap_summary.specs.{ℕ, ◌+◌, ◌*◌, ◌<◌, ◌⊎◌, ◌==◌, if◌then◌else◌, Bool, true, false, List, [], ◌∷◌, length}
+use Rattle.cap_summary.specs.{list_any, Step, NotCapable, demand, Names.Names, Names.names_in, Names.AreAmong}
 
 -- a number is one of these
 abbrev pub is_one : List ℕ → ℕ → Bool

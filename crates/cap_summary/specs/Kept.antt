@@ -1,11 +1,6 @@
 -- What is kept of steps.
-use Rattle.std.specs.Prelude.{ℕ, ◌+◌, ◌<◌, ◌≤◌, ◌⊎◌, min, List, length}
-use Rattle.cap_machine.specs.declared.step.Step.{Step}
-use Rattle.cap_summary.specs.declared.known.Known.{Known}
-use Rattle.cap_summary.specs.Preconditions.{IsSettled}
-use Rattle.cap_summary.specs.Knows.{Knows}
-use Rattle.cap_summary.specs.Sizes.{size, rows_size}
-use Rattle.cap_summary.specs.RowSizes.{AllRise}
+use Rattle.cap_summary.specs.{ℕ, ◌+◌, ◌<◌, ◌≤◌, ◌⊎◌, min, List, length, Step, Knows.Knows, Preconditions.IsSettled}
+use Rattle.cap_summary.specs.{Preconditions.size, RowSizes.rows_size, RowSizes.AllRise, declared.known.Known.Known}
 
 -- the most rows and cells that are kept of so many steps
 abbrev pub limit : ℕ → ℕ

@@ -1,25 +1,17 @@
 -- What is known of every process, by key: a key is a descriptor, or the mode. A mode is kept as a cell too, so that one
 -- mechanism serves both.
-use Rattle.std.specs.Prelude.{ℕ}
-use Rattle.cap_rights.specs.Rights.{none}
-use Rattle.cap_machine.specs.declared.cell.OnExec.TheVariants.{Clear}
-use Rattle.cap_machine.specs.declared.cell.Cell.{Cell}
-use Rattle.cap_machine.specs.declared.cell.Cell.TheVariants.{Unknown, Closed, Held}
-use Rattle.cap_machine.specs.declared.cell.Mode.{Mode}
-use Rattle.cap_machine.specs.declared.cell.Mode.TheVariants.{Inside, Outside, Unsure}
-use Rattle.cap_machine.specs.State.{State}
-use Rattle.cap_summary.specs.declared.key.Key.{Key}
-use Rattle.cap_summary.specs.declared.key.Key.TheVariants as key
+use Rattle.cap_summary.specs.{ℕ, none, Clear, Cell, Unknown, Closed, Held, Mode, Inside, Outside, State}
+use Rattle.cap_summary.specs.{declared.key.Key.Key}
 
 -- the cell for each mode
 abbrev pub mode_cell : Mode → Cell
-mode_cell Unsure = Unknown
+mode_cell Mode.Unsure = Unknown
 mode_cell Inside = Closed
 mode_cell Outside = Held none Clear
 
 -- the mode that a cell is kept for
 abbrev pub cell_mode : Cell → Mode
-cell_mode Unknown = Unsure
+cell_mode Unknown = Mode.Unsure
 cell_mode Closed = Inside
 cell_mode (Held rights flag) = Outside
 
@@ -29,5 +21,5 @@ Cells = ℕ → Key → Cell
 
 -- a state, by key
 abbrev pub cells_of : State → Cells
-cells_of s p key.Mode = mode_cell (s.mode p)
-cells_of s p (key.Fd f) = s.cell p f
+cells_of s p Key.Mode = mode_cell (s.mode p)
+cells_of s p (Key.Fd f) = s.cell p f

@@ -1,29 +1,15 @@
 -- What an effect and a precondition say of the steps of a segment, whatever the state before them.
-use Rattle.std.specs.Prelude.{◌≡◌, ℕ, ◌*◌, ◌≤◌, Bool, true, List, length}
-use Rattle.cap_machine.specs.declared.step.Step.{Step}
-use Rattle.cap_machine.specs.State.{State}
-use Rattle.cap_machine.specs.History.{ended}
-use Rattle.cap_machine.specs.Check.{check}
-use Rattle.cap_machine.specs.Walks.{LeavesCell, LeavesMode}
-use Rattle.cap_summary.specs.declared.key.Key.{Key}
-use Rattle.cap_summary.specs.declared.key.Key.TheVariants as key
-use Rattle.cap_summary.specs.declared.effect.Effect.{Effect}
-use Rattle.cap_summary.specs.declared.precondition.Precondition.{Precondition}
-use Rattle.cap_summary.specs.declared.known.Known.{Known}
-use Rattle.cap_summary.specs.Keys.{cells_of}
-use Rattle.cap_summary.specs.Before.{state_of}
-use Rattle.cap_summary.specs.Effects.{changed}
-use Rattle.cap_summary.specs.Leaving.{leaves}
-use Rattle.cap_summary.specs.LineAsks.{has_any}
-use Rattle.cap_summary.specs.Preconditions.{is_met, IsPossible}
+use Rattle.cap_summary.specs.{◌≡◌, ℕ, ◌*◌, ◌≤◌, Bool, true, List, length, Step, State, ended, check, LeavesCell}
+use Rattle.cap_summary.specs.{LeavesMode, Before.state_of, Effects.changed, Few.refused, Keys.cells_of, Leaving.leaves}
+use Rattle.cap_summary.specs.{LineAsks.has_any, declared.effect.Effect.Effect, declared.key.Key.Key}
+use Rattle.cap_summary.specs.{declared.known.Known.Known, declared.precondition.Precondition.Precondition}
 use Rattle.cap_summary.specs.Names.{names_in, EffectWithin, PreWithin}
-use Rattle.cap_summary.specs.Sizes.{asks_size}
-use Rattle.cap_summary.specs.Few.{refused}
+use Rattle.cap_summary.specs.Preconditions.{is_met, IsPossible, asks_size}
 
 -- no step touches a cell, or turns a mode
 abbrev pub StepsLeave : List Step → ℕ → Key → Type 0
-StepsLeave steps p key.Mode = LeavesMode steps p
-StepsLeave steps p (key.Fd f) = LeavesCell steps p f
+StepsLeave steps p Key.Mode = LeavesMode steps p
+StepsLeave steps p (Key.Fd f) = LeavesCell steps p f
 
 -- In every state before the steps: each cell and each mode after them, and whether something is found in them. Nothing
 -- is asked that holds in no state, and nothing is listed, read or asked that no line names. What is said to be left no step

@@ -1,22 +1,12 @@
 -- Which cells and modes no line of a segment touches, as far as is known: those that have no row, or a row of their own
 -- process that neither lists nor closes them. A cell that came back by a fork is touched.
-use Rattle.std.specs.Prelude.{◌≡◌, ℕ, ◌&&◌, not, Bool, true, false, Option, is_none}
-use Rattle.std.specs.Option.{option_map_or}
-use Rattle.cap_machine.specs.declared.rule.Effect.{Effect as LineEffect}
-use Rattle.cap_machine.specs.Touch.{kept, stays}
-use Rattle.cap_machine.specs.Effect.{effect_touch, effect_turn}
-use Rattle.cap_summary.specs.declared.key.Key.{Key}
-use Rattle.cap_summary.specs.declared.key.Key.TheVariants as key
-use Rattle.cap_summary.specs.declared.base.Others.{Others}
-use Rattle.cap_summary.specs.declared.base.Others.TheVariants as others
-use Rattle.cap_summary.specs.declared.base.Base.{Base}
-use Rattle.cap_summary.specs.declared.effect.Row.{Row}
-use Rattle.cap_summary.specs.declared.effect.Effect.{Effect}
-use Rattle.cap_summary.specs.Effects.{is_from}
-use Rattle.cap_summary.specs.Sorted.{found}
+use Rattle.cap_summary.specs.{◌≡◌, ℕ, ◌&&◌, not, Bool, true, false, Option, is_none, option_map_or, LineEffect, kept}
+use Rattle.cap_summary.specs.{stays, effect_touch, effect_turn, Effects.is_from, Sorted.found, declared.base.Base.Base}
+use Rattle.cap_summary.specs.{declared.base.Others.Others, declared.effect.Effect.Effect, declared.effect.Row.Row}
+use Rattle.cap_summary.specs.{declared.key.Key.Key}
 
 abbrev pub is_own : Others → Bool
-is_own others.Own = true
+is_own Others.Own = true
 is_own _ = false
 
 -- a descriptor that isn't listed
@@ -24,8 +14,8 @@ abbrev pub base_leaves : Base → ℕ → Bool
 base_leaves base f = is_own base.others && not (is_from base.closed_from f)
 
 abbrev pub row_leaves : Row → Key → Bool
-row_leaves row key.Mode = is_none row.mode
-row_leaves row (key.Fd f) = is_none (found row.cells f) && base_leaves row.base f
+row_leaves row Key.Mode = is_none row.mode
+row_leaves row (Key.Fd f) = is_none (found row.cells f) && base_leaves row.base f
 
 -- a row that may be there
 abbrev pub leaves_in : Option Row → Key → Bool
@@ -36,8 +26,8 @@ leaves effect p k = leaves_in (found effect.rows p) k
 
 -- a line doesn't touch a cell, or turn a mode; me is its process
 abbrev pub LineLeaves : LineEffect → ℕ → ℕ → Key → Type 0
-LineLeaves line me p key.Mode = effect_turn line me p ≡ stays
-LineLeaves line me p (key.Fd f) = effect_touch line me p f ≡ kept
+LineLeaves line me p Key.Mode = effect_turn line me p ≡ stays
+LineLeaves line me p (Key.Fd f) = effect_touch line me p f ≡ kept
 
 -- what is left after a line was left before it, and the line leaves it
 abbrev pub LeavesThenLine : Effect → LineEffect → ℕ → Effect → Type 0

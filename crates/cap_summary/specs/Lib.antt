@@ -1,3 +1,4 @@
+pub mod Prelude
 pub mod Keys
 pub mod Values
 pub mod Tests
@@ -12,16 +13,13 @@ pub mod Composing
 pub mod Preconditions
 pub mod Knows
 pub mod RowSizes
-pub mod Joined
-pub mod Sizes
 pub mod Kept
 pub mod View
 pub mod Content
 pub mod Falls
 pub mod Stands
-pub mod Seen
 pub mod Before
 pub mod Positions
-pub mod Passes
 pub mod Behind
 pub mod Few
+pub use Prelude.*

@@ -1,19 +1,9 @@
 -- What one line asks of the cells before it.
-use Rattle.std.specs.Prelude.{◌≡◌, ℕ, ◌||◌, not, Bool, true, false, List, [], ◌∷◌, map, Option, Some, None}
-use Rattle.std.specs.Option.{option_map_or}
-use Rattle.cap_machine.specs.State.{State}
-use Rattle.cap_machine.specs.declared.cell.Cell.{Cell}
-use Rattle.cap_machine.specs.declared.rule.Check.{Check}
-use Rattle.cap_machine.specs.declared.rule.Checks.{Checks}
-use Rattle.cap_machine.specs.declared.rule.Demand.{Demand}
-use Rattle.cap_machine.specs.Judge.{listed}
-use Rattle.cap_machine.specs.Check.{said_of}
-use Rattle.cap_summary.specs.declared.ask.Ask.{Ask}
-use Rattle.cap_summary.specs.declared.line_asks.UpToThree.{UpToThree}
-use Rattle.cap_summary.specs.declared.line_asks.LineAsks.{LineAsks}
+use Rattle.cap_summary.specs.{◌≡◌, ℕ, ◌||◌, not, Bool, true, false, List, [], ◌∷◌, map, Option, Some, None}
+use Rattle.cap_summary.specs.{option_map_or, State, Cell, Check, Checks, Demand, listed, said_of, Asks.holds}
+use Rattle.cap_summary.specs.{Keys.Cells, Keys.cells_of, declared.ask.Ask.Ask, declared.line_asks.LineAsks.LineAsks}
+use Rattle.cap_summary.specs.{declared.line_asks.UpToThree.UpToThree}
 use Rattle.cap_summary.specs.declared.line_asks.LineAsks.TheVariants.{Always, Where, Unless}
-use Rattle.cap_summary.specs.Keys.{Cells, cells_of}
-use Rattle.cap_summary.specs.Asks.{holds}
 
 -- an ask that may be left out holds
 abbrev pub part_holds : Cells → Option Ask → Bool

@@ -1,51 +1,26 @@
 -- Which processes and which descriptors an effect and a precondition name.
-use Rattle.std.specs.Prelude.{◌≡◌, ℕ, ◌==◌, ◌&&◌, ◌||◌, Bool, true, false, List, Option, IfSome}
-use Rattle.std.specs.Option.{option_map_or}
-use Rattle.std.specs.List.{list_any, All}
-use Rattle.cap_trace.specs.Item.{Item}
-use Rattle.cap_trace.specs.Item as items
-use Rattle.cap_trace.specs.declared.line.Answer.{Answer}
-use Rattle.cap_trace.specs.declared.line.Answer.TheVariants as answers
-use Rattle.cap_trace.specs.declared.calls.Kind.{Kind}
-use Rattle.cap_trace.specs.declared.calls.Kind.TheVariants.{Fd, Same, FdPair, ChildAndFd}
-use Rattle.cap_trace.specs.Entry.{Entry, kind_of}
-use Rattle.cap_machine.specs.declared.step.Step.{Step}
-use Rattle.cap_machine.specs.declared.rule.Check.{Check}
-use Rattle.cap_machine.specs.declared.rule.Checks.{Checks}
-use Rattle.cap_machine.specs.declared.rule.Demand.{Demand}
-use Rattle.cap_machine.specs.declared.rule.Effect.{Effect as LineEffect}
-use Rattle.cap_machine.specs.declared.rule.Effect.TheVariants as line
-use Rattle.cap_machine.specs.Judge.{listed}
-use Rattle.cap_machine.specs.Named.{args_name, names_pid, fds_of}
-use Rattle.cap_summary.specs.declared.key.Key.{Key}
-use Rattle.cap_summary.specs.declared.key.Key.TheVariants as key
-use Rattle.cap_summary.specs.declared.value.Value.{Value}
-use Rattle.cap_summary.specs.declared.base.Others.{Others}
-use Rattle.cap_summary.specs.declared.base.Others.TheVariants as others
-use Rattle.cap_summary.specs.declared.effect.Row.{Row}
-use Rattle.cap_summary.specs.declared.effect.Effect.{Effect}
-use Rattle.cap_summary.specs.declared.ask.Ask.{Ask}
-use Rattle.cap_summary.specs.declared.line_asks.UpToThree.{UpToThree}
-use Rattle.cap_summary.specs.declared.line_asks.LineAsks.{LineAsks}
+use Rattle.cap_summary.specs.{◌≡◌, ℕ, ◌==◌, ◌&&◌, ◌||◌, Bool, true, false, List, Option, IfSome, option_map_or}
+use Rattle.cap_summary.specs.{list_any, All, Item, Answer, Kind, Fd, Same, FdPair, ChildAndFd, Entry, kind_of, Step}
+use Rattle.cap_summary.specs.{Check, Checks, Demand, LineEffect, listed, args_name, names_pid, fds_of, Asks.AreWithin}
+use Rattle.cap_summary.specs.{Sorted.found, Values.reads_within, declared.ask.Ask.Ask, declared.base.Others.Others}
+use Rattle.cap_summary.specs.{declared.effect.Effect.Effect, declared.effect.Row.Row, declared.key.Key.Key}
+use Rattle.cap_summary.specs.{declared.line_asks.LineAsks.LineAsks, declared.line_asks.UpToThree.UpToThree}
+use Rattle.cap_summary.specs.{declared.precondition.Precondition.Precondition, declared.precondition.Refusal.Refusal}
+use Rattle.cap_summary.specs.{declared.value.Value.Value}
 use Rattle.cap_summary.specs.declared.line_asks.LineAsks.TheVariants.{Always, Where, Unless}
-use Rattle.cap_summary.specs.declared.precondition.Refusal.{Refusal}
-use Rattle.cap_summary.specs.declared.precondition.Precondition.{Precondition}
-use Rattle.cap_summary.specs.Values.{reads_within}
-use Rattle.cap_summary.specs.Asks.{AreWithin}
-use Rattle.cap_summary.specs.Sorted.{found}
 
 -- ---- what the lines of a trace name
 
 -- a descriptor of an answer, by the kind of answer that the call has: the count that read(2) answers is none
 abbrev pub answers_fd : ℕ → Kind → Answer → Bool
-answers_fd f Fd (answers.Made n) = f == n
-answers_fd f (Same g) (answers.Made n) = f == n
-answers_fd f FdPair (answers.Pair n m) = f == n || f == m
-answers_fd f ChildAndFd (answers.Pair n m) = f == m
+answers_fd f Fd (Answer.Made n) = f == n
+answers_fd f (Same g) (Answer.Made n) = f == n
+answers_fd f FdPair (Answer.Pair n m) = f == n || f == m
+answers_fd f ChildAndFd (Answer.Pair n m) = f == m
 answers_fd f kind answer = false
 
 abbrev pub item_answers_fd : ℕ → Item → Bool
-item_answers_fd f (items.Call call answer) = answers_fd f (kind_of call) answer
+item_answers_fd f (Item.Call call answer) = answers_fd f (kind_of call) answer
 item_answers_fd f _ = false
 
 -- a descriptor stands in an argument of the line, or in its answer
@@ -76,8 +51,8 @@ only p = record { pids = λ q. q == p; fds = λ f. true }
 
 -- each process has a mode, which needs no naming
 abbrev pub has_key : Names → Key → Bool
-has_key names key.Mode = true
-has_key names (key.Fd f) = names.fds f
+has_key names Key.Mode = true
+has_key names (Key.Fd f) = names.fds f
 
 abbrev pub has_cell : Names → ℕ → Key → Bool
 has_cell names p k = names.pids p && has_key names k
@@ -94,7 +69,7 @@ ListWithin names cells = (f : ℕ) → IfSome (found cells f) (IsListedWithin na
 
 -- the process whose cells are handed on
 abbrev pub others_within : Names → Others → Bool
-others_within names (others.Of q passing) = names.pids q
+others_within names (Others.Of q passing) = names.pids q
 others_within names _ = true
 
 -- the cell that a mode follows, if a line turns it
@@ -124,8 +99,8 @@ ReadWithin names of effect = (q : ℕ) → of.pids q ≡ true → IfSome (found 
 
 -- the child that a line makes
 abbrev pub ChildWithin : Names → LineEffect → Type 0
-ChildWithin names (line.Fork child) = names.pids child ≡ true
-ChildWithin names (line.ForkAs child f) = names.pids child ≡ true
+ChildWithin names (LineEffect.Fork child) = names.pids child ≡ true
+ChildWithin names (LineEffect.ForkAs child f) = names.pids child ≡ true
 ChildWithin names effect = Unit {0}
 
 -- the process of a line, its child, and the descriptors that it has one by one

@@ -1,8 +1,6 @@
 -- The findings at a range of positions.
-use Rattle.std.specs.Prelude.{◌≡◌, ℕ, ◌+◌, ◌<◌, ◌≤◌, ◌==◌, ◌&&◌, ◌⊎◌, Bool, List, [], ◌∷◌, length, nat_le, if◌then◌else◌}
-use Rattle.std.specs.List.{filter}
-use Rattle.cap_machine.specs.declared.verdict.Found.{Found}
-use Rattle.cap_summary.specs.declared.judging.Report.{Report}
+use Rattle.cap_summary.specs.{◌≡◌, ℕ, ◌+◌, ◌<◌, ◌≤◌, ◌==◌, ◌&&◌, ◌⊎◌, Bool, List, [], ◌∷◌, length, nat_le}
+use Rattle.cap_summary.specs.{if◌then◌else◌, filter, Found, declared.judging.Report.Report}
 
 -- a finding stands at a position from one to another, both included
 abbrev pub is_at : ℕ → ℕ → Found → Bool

@@ -1,24 +1,19 @@
 -- Under which cells before a segment something is found in it.
-use Rattle.std.specs.Prelude.{◌≡◌, ℕ, ◌&&◌, ◌||◌, ◌+◌, ◌≤◌, ◌==◌, not, Bool, true, false, List, [], length, Option}
-use Rattle.std.specs.Prelude.{IfSome, is_some}
-use Rattle.std.specs.List.{list_any, list_all, All}
-use Rattle.std.specs.Option.{option_map_or}
-use Rattle.cap_machine.specs.declared.cell.Cell.{Cell}
-use Rattle.cap_machine.specs.State.{State}
-use Rattle.cap_summary.specs.declared.key.Key.{Key}
-use Rattle.cap_summary.specs.declared.ask.Ask.{Ask}
-use Rattle.cap_summary.specs.Tests.{each_kind}
-use Rattle.cap_summary.specs.declared.line_asks.UpToThree.{UpToThree}
-use Rattle.cap_summary.specs.declared.precondition.Refusal.{Refusal}
-use Rattle.cap_summary.specs.declared.precondition.Precondition.{Precondition}
-use Rattle.cap_summary.specs.Keys.{Cells, cells_of}
-use Rattle.cap_summary.specs.declared.effect.Effect.{Effect}
-use Rattle.cap_summary.specs.Effects.{changed}
+use Rattle.cap_summary.specs.{◌≡◌, ℕ, ◌&&◌, ◌||◌, ◌+◌, ◌≤◌, ◌==◌, not, Bool, true, false, List, [], length, Option}
+use Rattle.cap_summary.specs.{IfSome, is_some, list_any, list_all, All, option_map_or, Cell, State, Effects.changed}
+use Rattle.cap_summary.specs.{Keys.Cells, Keys.cells_of, LineAsks.one_holds, RowSizes.rows_size, Tests.each_kind}
+use Rattle.cap_summary.specs.{declared.ask.Ask.Ask, declared.effect.Effect.Effect, declared.key.Key.Key}
+use Rattle.cap_summary.specs.{declared.known.Known.Known, declared.line_asks.UpToThree.UpToThree}
+use Rattle.cap_summary.specs.{declared.precondition.Precondition.Precondition, declared.precondition.Refusal.Refusal}
+use Rattle.cap_summary.specs.Asks.{any_holds, is_sure, key_number, certain_at, CanBe, IsOpen, Rises, AreWithin}
 use Rattle.cap_summary.specs.Names.{Names, has_cell, EffectWithin, PreWithin}
-use Rattle.cap_summary.specs.Asks.{any_holds, is_sure, key_number, certain_at, CanBe, IsOpen, Rises}
-use Rattle.cap_summary.specs.Asks.{AreWithin}
-use Rattle.cap_summary.specs.LineAsks.{one_holds}
-use Rattle.cap_summary.specs.Sizes.{asks_size}
+
+-- how many asks and refusals there are
+abbrev pub asks_size : Precondition → ℕ
+asks_size pre = length pre.asks.items + length pre.refusals.items
+
+abbrev pub size : Known → ℕ
+size known = rows_size known.effect.value.rows + asks_size known.precondition.value
 
 -- a refusal is wrongful: none of its asks holds
 abbrev pub is_wrongful : Cells → Refusal → Bool

@@ -1,8 +1,5 @@
 -- How much rows list.
-use Rattle.std.specs.Prelude.{◌≡◌, ℕ, ◌+◌, List, [], ◌∷◌, length, min}
-use Rattle.std.specs.List.{All}
-use Rattle.cap_summary.specs.declared.effect.Row.{Row}
-use Rattle.cap_summary.specs.Sorted.{KeysRise}
+use Rattle.cap_summary.specs.{◌≡◌, ℕ, ◌+◌, List, [], ◌∷◌, length, min, All, Sorted.KeysRise, declared.effect.Row.Row}
 
 -- rows, and the cells that they list
 abbrev pub rows_size : List (ℕ × Row) → ℕ

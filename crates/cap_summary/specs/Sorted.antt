@@ -1,7 +1,6 @@
 -- A table as the list of its entries, each a key and a value.
-use Rattle.std.specs.Prelude.{◌≡◌, ℕ, ◌+◌, ◌<◌, ◌≤◌, ◌==◌, List, [], ◌∷◌, length, slice_index_or, Option, Some, None, if◌then◌else◌}
-use Rattle.std.specs.declared.rc.Rc.{Rc}
-use Rattle.std.specs.declared.alloc.Global.{Global}
+use Rattle.cap_summary.specs.{◌≡◌, ℕ, ◌+◌, ◌<◌, ◌≤◌, ◌==◌, List, [], ◌∷◌, length, slice_index_or, Option, Some, None}
+use Rattle.cap_summary.specs.{if◌then◌else◌, Rc, Global}
 
 -- the value of the first entry that has the key
 abbrev pub found : {V : Type 0} → List (ℕ × V) → ℕ → Option V

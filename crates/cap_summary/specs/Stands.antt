@@ -1,9 +1,7 @@
 -- What a summary stands for.
-use Rattle.std.specs.Prelude.{◌≡◌, List, length, Option}
+use Rattle.cap_summary.specs.{◌≡◌, List, length, Option, Step, declared.known.Known.Known}
+use Rattle.cap_summary.specs.{declared.summary.Summary.Summary}
 use Rattle.std.proofs.Common.{ap}
-use Rattle.cap_machine.specs.declared.step.Step.{Step}
-use Rattle.cap_summary.specs.declared.known.Known.{Known}
-use Rattle.cap_summary.specs.declared.summary.Summary.{Summary}
 
 -- the steps that a summary sums up, from the first
 abbrev pub summed_up : Summary → List Step

@@ -1,30 +1,40 @@
 -- What a cell is after a segment, read under the cells before it.
-use Rattle.std.specs.Prelude.{ℕ, Bool, true, Option, Some, None}
-use Rattle.std.specs.Option.{option_map_or}
-use Rattle.cap_machine.specs.declared.cell.Cell.{Cell}
-use Rattle.cap_machine.specs.declared.cell.Cell.TheVariants.{Unknown, Closed, Held}
-use Rattle.cap_machine.specs.Op.{applied}
-use Rattle.cap_summary.specs.declared.key.Key.{Key}
-use Rattle.cap_summary.specs.declared.value.Value.{Value}
-use Rattle.cap_summary.specs.declared.value.Value.TheVariants as value
-use Rattle.cap_summary.specs.Keys.{Cells}
+use Rattle.cap_summary.specs.{ℕ, Bool, true, Option, Some, None, option_map_or, Cell, Unknown, Closed, Held, applied}
+use Rattle.cap_summary.specs.{exec, Keys.Cells, declared.key.Key.Key, declared.seen.Seen.Seen}
+use Rattle.cap_summary.specs.{declared.value.Value.Value}
+use Rattle.cap_summary.specs.declared.seen.Seen.TheVariants.{Is, Same, Executed, Made}
 
 -- the cell that a value stands for: a constant, a cell before the segment, or what an op makes of one
 abbrev pub read : Cells → Value → Cell
-read cells value.Unknown = Unknown
-read cells value.Closed = Closed
-read cells (value.Held rights flag) = Held rights flag
-read cells (value.Same p k) = cells p k
-read cells (value.Of p k op) = applied op (cells p k)
+read cells Value.Unknown = Unknown
+read cells Value.Closed = Closed
+read cells (Value.Held rights flag) = Held rights flag
+read cells (Value.Same p k) = cells p k
+read cells (Value.Of p k op) = applied op (cells p k)
 
 -- the cell that a value reads, if it reads one
 abbrev pub source : Value → Option (ℕ × Key)
-source value.Unknown = None
-source value.Closed = None
-source (value.Held rights flag) = None
-source (value.Same p k) = Some (p, k)
-source (value.Of p k op) = Some (p, k)
+source Value.Unknown = None
+source Value.Closed = None
+source (Value.Held rights flag) = None
+source (Value.Same p k) = Some (p, k)
+source (Value.Of p k op) = Some (p, k)
 
 -- the cell that a value reads is among these
 abbrev pub reads_within : (ℕ → Key → Bool) → Value → Bool
 reads_within names v = option_map_or (λ (of : ℕ × Key). names of.0 of.1) (source v) true
+
+-- ---- what is seen of a cell after a segment
+
+abbrev pub seen_cell : Cells → Seen → Cell
+seen_cell cells (Is c) = c
+seen_cell cells (Same p k) = cells p k
+seen_cell cells (Executed p k) = applied exec (cells p k)
+seen_cell cells (Made op p k) = applied op.now (cells p k)
+
+-- the cell that is read, if one is, is among these
+abbrev pub seen_within : (ℕ → Key → Bool) → Seen → Bool
+seen_within names (Is c) = true
+seen_within names (Same p k) = names p k
+seen_within names (Executed p k) = names p k
+seen_within names (Made op p k) = names p k

@@ -1,11 +1,6 @@
 -- A node of a summary as a contract sees it: its steps, and what is known of them where that is kept.
-use Rattle.std.specs.Prelude.{◌≡◌, ◌<◌, List, length, Option, IfSome}
-use Rattle.cap_machine.specs.declared.step.Step.{Step}
-use Rattle.cap_summary.specs.declared.known.Known.{Known}
-use Rattle.cap_tree.specs.declared.likeness.Likeness.{Likeness}
-use Rattle.cap_summary.specs.Joined.{IsJoined}
-use Rattle.cap_summary.specs.Preconditions.{IsSamePrecondition}
-use Rattle.cap_summary.specs.Joined.{AreAlike}
+use Rattle.cap_summary.specs.{◌≡◌, ◌<◌, List, length, Option, IfSome, Step, Likeness, Composing.IsJoined}
+use Rattle.cap_summary.specs.{Composing.AreAlike, Preconditions.IsSamePrecondition, declared.known.Known.Known}
 
 pub record NodeView : Type 0 where
   pub steps : List Step

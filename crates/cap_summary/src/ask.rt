@@ -1,23 +1,15 @@
 //! What is asked of the cells before a segment.
 
-ghost use Rattle.std.specs.Prelude.{◌≡◌, ℕ, ◌^◌, ◌<◌, ◌||◌, Bool, true, IfSome};
-ghost use Rattle.std.specs.Option.{option_copied};
-ghost use Rattle.std.specs.Ordering.{nat_cmp};
-ghost use Rattle.cap_machine.specs.State.{State};
-ghost use Rattle.cap_summary.specs.declared.key.Key.{Key};
-ghost use Rattle.cap_summary.specs.Keys.{Cells, cells_of};
-ghost use Rattle.cap_machine.specs.declared.cell.Cell.{Cell};
-ghost use Rattle.cap_machine.specs.Op.{applied};
-ghost use Rattle.cap_summary.specs.Tests.{has_kind, lacks, passes, holding};
+ghost use Rattle.cap_summary.specs.{◌≡◌, ℕ, ◌^◌, ◌<◌, ◌||◌, Bool, true, IfSome, option_copied, nat_cmp, State, Cell};
+ghost use Rattle.cap_summary.specs.{applied, Keys.Cells, Keys.cells_of, declared.key.Key.Key};
+ghost use Rattle.cap_summary.specs.Asks.{holds, is_sure, certain_at, possible_at, pulled_holds, pulled_within};
+ghost use Rattle.cap_summary.specs.Asks.{PulledIsOpen, place, place_in_process, IsAtPlace, CanBe, PulledCan, or_same};
 ghost use Rattle.cap_summary.specs.Effects.{row_cell, cell_in, changed};
 ghost use Rattle.cap_summary.specs.Names.{Names, has_cell, RowWithin, IsRowWithin, EffectWithin};
-ghost use Rattle.cap_summary.specs.Asks.{holds, is_sure, certain_at, possible_at, pulled_holds, pulled_within, PulledIsOpen};
-ghost use Rattle.cap_summary.specs.Asks.{place, place_in_process, IsAtPlace, CanBe, PulledCan, or_same};
+ghost use Rattle.cap_summary.specs.Tests.{has_kind, lacks, passes, holding};
 
-use crate::effect::{Effect, Row};
-use crate::key::{Key, cell_of_mode};
-use crate::kinds::Kinds;
 use crate::seen::Seen;
+use crate::{Effect, Key, Kinds, Row, cell_of_mode};
 use cap_machine::{Cell, Mode, OnExec, Op};
 use cap_rights::RightSet;
 use cap_trace::Pid;

@@ -1,15 +1,10 @@
 //! The cells of a process that aren't listed.
 
-ghost use Rattle.std.specs.Prelude.{◌≡◌, ℕ, ◌||◌, true, false, None, IfOk};
-ghost use Rattle.cap_machine.specs.declared.cell.Cell.{Cell};
-ghost use Rattle.cap_summary.specs.Keys.{Cells};
-ghost use Rattle.cap_summary.specs.Values.{read, reads_within};
-ghost use Rattle.cap_summary.specs.Names.{Names, has_cell, others_within};
+ghost use Rattle.cap_summary.specs.{◌≡◌, ℕ, ◌||◌, true, false, None, IfOk, Cell, Keys.Cells, Leaving.is_own};
+ghost use Rattle.cap_summary.specs.{Names.Names, Names.has_cell, Names.others_within, Values.read, Values.reads_within};
 ghost use Rattle.cap_summary.specs.Effects.{passed, is_from, others_cell, base_cell};
-ghost use Rattle.cap_summary.specs.Leaving.{is_own};
 
-use crate::shared::SharedOp;
-use crate::value::Value;
+use crate::{SharedOp, Value};
 use cap_machine::Op;
 use cap_trace::{Fd, Pid};
 use cap_tree::NoMemory;

@@ -1,20 +1,11 @@
 //! The state behind a start and effects, and what holds there.
 
-ghost use Rattle.std.specs.Prelude.{◌≡◌};
-ghost use Rattle.std.specs.List.{list_any};
-ghost use Rattle.cap_machine.specs.Check.{said_of};
-ghost use Rattle.cap_summary.specs.Keys.{cells_of};
-ghost use Rattle.cap_summary.specs.Before.{state_before};
-ghost use Rattle.cap_summary.specs.Asks.{holds, any_holds};
-ghost use Rattle.cap_summary.specs.LineAsks.{part_holds, one_holds};
-ghost use Rattle.cap_summary.specs.Preconditions.{is_wrongful, is_met};
+ghost use Rattle.cap_summary.specs.{◌≡◌, list_any, said_of, Asks.holds, Asks.any_holds, Before.state_before};
+ghost use Rattle.cap_summary.specs.{Keys.cells_of, LineAsks.part_holds, LineAsks.one_holds, Preconditions.is_wrongful};
+ghost use Rattle.cap_summary.specs.{Preconditions.is_met};
 
-use crate::ask::Ask;
-use crate::effect::Effect;
-use crate::key::{Key, cell_of_mode, mode_of_cell};
-use crate::line_asks::UpToThree;
-use crate::precondition::{Precondition, Refusal};
 use crate::seen::Seen;
+use crate::{Ask, Effect, Key, Precondition, Refusal, UpToThree, cell_of_mode, mode_of_cell};
 use cap_machine::{Cell, Checks, Demand, Mode, Op, Start, Verdict};
 use cap_trace::{Fd, Pid};
 

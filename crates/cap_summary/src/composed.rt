@@ -1,25 +1,16 @@
 //! The effect of two segments, one after the other.
 
-ghost use Rattle.std.specs.Prelude.{◌≡◌, ℕ, false, true, ◌||◌, is_none, Some, IfSome, IfOk};
-ghost use Rattle.std.specs.Option.{option_map_or, option_copied};
-ghost use Rattle.cap_machine.specs.declared.cell.Cell.TheVariants.{Closed};
-ghost use Rattle.cap_summary.specs.declared.key.Key.{Key};
-ghost use Rattle.cap_summary.specs.Keys.{Cells};
-ghost use Rattle.cap_summary.specs.Values.{read};
-ghost use Rattle.cap_summary.specs.Sorted.{found};
-ghost use Rattle.cap_summary.specs.declared.key.Key.TheVariants as key;
-ghost use Rattle.cap_summary.specs.Effects.{passed, is_from, base_cell, changed, IsRowAfter, IsComposed};
+ghost use Rattle.cap_summary.specs.{◌≡◌, ℕ, false, true, ◌||◌, is_none, Some, IfSome, IfOk, option_map_or};
+ghost use Rattle.cap_summary.specs.{option_copied, Closed, Keys.Cells, Sorted.found, Values.read, declared.key.Key.Key};
 ghost use Rattle.cap_summary.specs.Composing.{IsHandedSo, IsComposedSo, IsJoinedEffect, IsOldAt, IsReplaced};
+ghost use Rattle.cap_summary.specs.Effects.{passed, is_from, base_cell, changed, IsRowAfter, IsComposed};
 ghost use Rattle.cap_summary.specs.Leaving.{base_leaves, row_leaves, leaves, LeavesBoth};
-ghost use Rattle.cap_summary.specs.Names.{Names, others_within, mode_within, ListWithin, RowWithin, IsRowWithin, EffectWithin};
-ghost use Rattle.cap_summary.specs.Names.{ReadWithin};
+ghost use Rattle.cap_summary.specs.Names.{Names, others_within, mode_within, ListWithin, RowWithin, IsRowWithin};
+ghost use Rattle.cap_summary.specs.Names.{EffectWithin, ReadWithin};
 
-use crate::base::{Base, Others, Passing, lower_of};
-use crate::effect::{Effect, Row};
-use crate::listed::Listed;
-use crate::shared::SharedRow;
+use crate::base::lower_of;
 use crate::sorted::{Combine, merge};
-use crate::value::Value;
+use crate::{Base, Effect, Listed, Others, Passing, Row, SharedRow, Value};
 use cap_trace::{Fd, Pid};
 use cap_tree::{NoMemory, Side};
 use std::alloc::Global;
@@ -68,7 +59,7 @@ impl Effect {
             → base_cell cells pid handed.base f ≡ Closed) }
         ensures leaves { IfOk result (λ handed. (f : ℕ) → base_leaves handed.base f ≡ true
             → (base_leaves base.now f ≡ true)
-            × (is_none (found handed.cells f) ≡ true → leaves self.now pid (key.Fd f) ≡ true)) }
+            × (is_none (found handed.cells f) ≡ true → leaves self.now pid (Key.Fd f) ≡ true)) }
         ensures others_named { IfOk result (λ handed. (names of : Names) → ReadWithin names of self.now
             → of.pids pid ≡ true → others_within of base.now.others ≡ true
             → others_within names base.now.others ≡ true → others_within names handed.base.others ≡ true) }
@@ -111,7 +102,7 @@ impl Combine for Handing<'_> {
 
     type Out = Value;
 
-    ghost use Rattle.std.specs.Prelude.{refl};
+    ghost use Rattle.cap_summary.specs.{refl};
 
     ghost gives = { λ s f left right out. IsHandedSo s.first.now s.passing s.base.closed_from f left right out };
 
@@ -219,11 +210,9 @@ impl Combine for Composing<'_> {
 
     type Out = SharedRow;
 
-    ghost use Rattle.std.specs.Prelude.{◌≡◌, IfSome, refl};
+    ghost use Rattle.cap_summary.specs.{◌≡◌, IfSome, refl, Composing.IsComposedSo, Composing.IsOldAt, Effects.cell_in};
+    ghost use Rattle.cap_summary.specs.{Sorted.found};
     ghost use Rattle.std.proofs.Common.{ap};
-    ghost use Rattle.cap_summary.specs.Sorted.{found};
-    ghost use Rattle.cap_summary.specs.Effects.{cell_in};
-    ghost use Rattle.cap_summary.specs.Composing.{IsComposedSo, IsOldAt};
 
     ghost gives = { λ s p left right out. left ≡ found s.first.now.rows p
         → IfSome s.old (λ old. IsOldAt old s.first.now p right) → IsComposedSo s.first.now p left right out };
@@ -274,10 +263,10 @@ impl Effect {
         pid: Pid,
         mode: &Option<Value>,
     ) -> Result<Option<Value>, NoMemory>
-        ensures reads { IfOk result (λ new. (cells : Cells) → option_map_or (read cells) new (cells pid key.Mode)
-            ≡ option_map_or (read (changed self.now cells)) mode.now (changed self.now cells pid key.Mode)) }
+        ensures reads { IfOk result (λ new. (cells : Cells) → option_map_or (read cells) new (cells pid Key.Mode)
+            ≡ option_map_or (read (changed self.now cells)) mode.now (changed self.now cells pid Key.Mode)) }
         ensures leaves { IfOk result (λ new. is_none new ≡ true
-            → (leaves self.now pid key.Mode ≡ true) × (is_none mode.now ≡ true)) }
+            → (leaves self.now pid Key.Mode ≡ true) × (is_none mode.now ≡ true)) }
         ensures names { IfOk result (λ new. (names of : Names) → ReadWithin names of self.now → of.pids pid ≡ true
             → mode_within of mode.now ≡ true → mode_within names mode.now ≡ true → mode_within names new ≡ true) }
     {

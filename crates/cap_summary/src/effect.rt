@@ -1,13 +1,9 @@
 //! What becomes of each cell over a segment.
 
-ghost use Rattle.std.specs.Option.{ForSome};
-ghost use Rattle.cap_summary.specs.RowSizes.{IsSizeOf};
+ghost use Rattle.std.specs.{Option.ForSome};
+ghost use Rattle.cap_summary.specs.{RowSizes.IsSizeOf};
 
-use crate::base::Base;
-use crate::listed::Listed;
-use crate::shared::SharedRow;
-use crate::sorted::Map;
-use crate::value::Value;
+use crate::{Base, Listed, Map, SharedRow, Value};
 
 /// What becomes of the cells of a process.
 #[derive(PartialEq, Drop)]

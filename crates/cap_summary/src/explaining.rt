@@ -1,23 +1,18 @@
 //! What one step of a summary rests on.
 
-ghost use Rattle.std.specs.Prelude.{◌≡◌, ◌+◌, ◌<◌, ◌≤◌, [], length, map, option_map, true, if◌then◌else◌, Some, None, IfOk, OnOk};
-ghost use Rattle.cap_machine.specs.declared.rule.Check.{Check};
-ghost use Rattle.cap_machine.specs.declared.origin.CellOrigin.{CellOrigin};
-ghost use Rattle.cap_machine.specs.declared.origin.ModeOrigin.{ModeOrigin};
-ghost use Rattle.cap_machine.specs.History.{cell_after, mode_after};
-ghost use Rattle.cap_machine.specs.Judge.{listed};
+ghost use Rattle.cap_machine.specs.{History.cell_after, History.mode_after, declared.origin.CellOrigin.CellOrigin};
+ghost use Rattle.cap_machine.specs.{declared.origin.ModeOrigin.ModeOrigin};
+ghost use Rattle.cap_machine.specs.Explain.{mode_matters, mode_or_unsure, explained_by};
 ghost use Rattle.cap_machine.specs.Origin.{cell_chain, cell_chain_of, mode_chain, mode_chain_of};
-ghost use Rattle.cap_machine.specs.Explain.{mode_matters, mode_or_unsure, explained, explained_by, explanation};
-ghost use Rattle.cap_machine.specs.Table.{start_state};
-ghost use Rattle.cap_summary.specs.Stands.{summed_up};
-ghost use Rattle.cap_machine.specs.Check.{check};
-ghost use Rattle.cap_summary.specs.Positions.{within, positions};
+ghost use Rattle.cap_summary.specs.{◌≡◌, ◌+◌, ◌<◌, ◌≤◌, [], length, map, option_map, true, if◌then◌else◌, Some, None};
+ghost use Rattle.cap_summary.specs.{IfOk, OnOk, Check, listed, explained, explanation, start_state, check};
+ghost use Rattle.cap_summary.specs.{Positions.within, Positions.positions, Stands.summed_up};
 ghost use Rattle.cap_summary.specs.Behind.{IsPlace, state_at_start, history};
 
 use crate::in_order::note_asked;
-use crate::judging::{Asked, Report};
+use crate::judging::Asked;
 use crate::node::Node;
-use crate::summary::Summary;
+use crate::{Report, Summary};
 use cap_machine::{
     CellOrigin, CellWalk, Checks, Demand, Explanation, Found, ModeOrigin, ModeWalk, Start, Step,
     rule_of,

@@ -1,14 +1,10 @@
 //! Steps that are judged one after the other by one machine.
 
-ghost use Rattle.std.specs.Prelude.{◌≡◌, ◌+◌, ◌^◌, ◌<◌, ◌≤◌, ◌++◌, ◌∷◌, [], length, map, IfOk, OnOk};
-ghost use Rattle.cap_machine.specs.Check.{check, said, found_at};
-ghost use Rattle.cap_machine.specs.History.{ended};
-ghost use Rattle.cap_machine.specs.Laws.{later};
-ghost use Rattle.cap_machine.specs.Table.{start_state};
-ghost use Rattle.cap_summary.specs.Positions.{within};
-ghost use Rattle.cap_tree.specs.Run.{values};
+ghost use Rattle.cap_summary.specs.{◌≡◌, ◌+◌, ◌^◌, ◌<◌, ◌≤◌, ◌++◌, ◌∷◌, [], length, map, IfOk, OnOk, check, said};
+ghost use Rattle.cap_summary.specs.{found_at, ended, later, start_state, values, Positions.within};
 
-use crate::judging::{Asked, Report, note};
+use crate::Report;
+use crate::judging::{Asked, note};
 use cap_machine::{Found, Machine, Step, Verdict};
 use cap_tree::NoMemory;
 use std::rc::Rc;

@@ -1,14 +1,9 @@
 //! Which findings are asked for, what a report has, and the findings of a run of steps that begins in a state.
 
-ghost use Rattle.std.specs.Prelude.{◌≡◌, ◌&&◌, nat_le, ◌+◌, ◌^◌, ◌<◌, ◌≤◌, ◌++◌, [], length, OnOk, map};
-ghost use Rattle.cap_machine.specs.Check.{check, said_of, found_at};
-ghost use Rattle.cap_machine.specs.Laws.{later};
-ghost use Rattle.cap_summary.specs.Before.{state_before};
-ghost use Rattle.cap_summary.specs.Positions.{within};
-ghost use Rattle.cap_tree.specs.Run.{values};
+ghost use Rattle.cap_summary.specs.{◌≡◌, ◌&&◌, nat_le, ◌+◌, ◌^◌, ◌<◌, ◌≤◌, ◌++◌, [], length, OnOk, map, check, said_of};
+ghost use Rattle.cap_summary.specs.{found_at, later, values, Before.state_before, Positions.within};
 
-use crate::before::Before;
-use crate::effect::Effect;
+use crate::{Before, Effect};
 use cap_machine::{Demand, Found, Step, Verdict, rule_of};
 use cap_trace::Pid;
 use cap_tree::NoMemory;

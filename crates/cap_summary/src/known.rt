@@ -1,27 +1,13 @@
 //! What is known of a segment of a trace.
 
-ghost use Rattle.std.specs.Prelude.{◌≡◌, ◌<◌, nat_le, true, List, [], ◌∷◌, ◌++◌, IfOk, OnOk};
-ghost use Rattle.cap_machine.specs.declared.step.Step.{Step};
-ghost use Rattle.cap_machine.specs.Table.{start_state};
-ghost use Rattle.cap_summary.specs.Preconditions.{IsSettled};
-ghost use Rattle.cap_tree.specs.Run.{values};
-ghost use Rattle.cap_tree.specs.Sides.{part_at};
-ghost use Rattle.cap_summary.specs.Joined.{AreAlike, KeepsEffect};
-ghost use Rattle.cap_summary.specs.Joined.{IsJoined};
-ghost use Rattle.cap_summary.specs.Composing.{IsJoinedEffect, IsReplaced};
-ghost use Rattle.cap_summary.specs.Preconditions.{IsAskedByBoth};
+ghost use Rattle.cap_summary.specs.{◌≡◌, ◌<◌, nat_le, true, List, [], ◌∷◌, ◌++◌, IfOk, OnOk, Step, start_state, values};
+ghost use Rattle.cap_summary.specs.{part_at, Leaving.leaves, RowSizes.AllRise};
+ghost use Rattle.cap_summary.specs.Composing.{AreAlike, KeepsEffect, IsJoined, IsJoinedEffect, IsReplaced};
 ghost use Rattle.cap_summary.specs.Knows.{Knows, Says, finds, state_after};
-ghost use Rattle.cap_summary.specs.Preconditions.{IsSamePrecondition};
-ghost use Rattle.cap_summary.specs.Leaving.{leaves};
-ghost use Rattle.cap_summary.specs.Sizes.{size};
-ghost use Rattle.cap_summary.specs.RowSizes.{AllRise};
+ghost use Rattle.cap_summary.specs.Preconditions.{IsSettled, IsAskedByBoth, IsSamePrecondition, size};
 
-use crate::before::Before;
 use crate::composed::Replaced;
-use crate::effect::Effect;
-use crate::key::Key;
-use crate::line_asks::LineAsks;
-use crate::precondition::Precondition;
+use crate::{Before, Effect, Key, LineAsks, Precondition};
 use cap_machine::{Cell, Mode, Start, Step, rule_of};
 use cap_trace::{Fd, Pid};
 use cap_tree::{Likeness, NoMemory, Side};

@@ -1,31 +1,19 @@
 //! The effect of one line.
 
-ghost use Rattle.std.specs.Prelude.{◌≡◌, ◌==◌, ℕ, true, false, is_none, Some, unwrap_or, if◌then◌else◌, IfOk, OnOk};
-ghost use Rattle.std.specs.Option.{option_map_or};
-ghost use Rattle.std.specs.List.{All};
-ghost use Rattle.cap_trace.specs.Seen.{fds_spelled};
-ghost use Rattle.cap_machine.specs.Touch.{stays};
-ghost use Rattle.cap_machine.specs.Effect.{effect_turn};
-ghost use Rattle.cap_machine.specs.Wanted.{is_child};
-ghost use Rattle.cap_summary.specs.declared.key.Key.{Key};
-ghost use Rattle.cap_summary.specs.declared.key.Key.TheVariants as key;
-ghost use Rattle.cap_summary.specs.Keys.{Cells};
-ghost use Rattle.cap_summary.specs.Values.{read};
-ghost use Rattle.cap_summary.specs.Names.{Names, others_within, mode_within, IsListedWithin, ListWithin};
-ghost use Rattle.cap_summary.specs.Names.{RowWithin, RowsWithin, EffectWithin, LineWithin};
+ghost use Rattle.cap_summary.specs.{◌≡◌, ◌==◌, ℕ, true, false, is_none, Some, unwrap_or, if◌then◌else◌, IfOk, OnOk};
+ghost use Rattle.cap_summary.specs.{option_map_or, All, fds_spelled, stays, effect_turn, is_child, Keys.Cells};
+ghost use Rattle.cap_summary.specs.{Sorted.found, Values.read, declared.key.Key.Key};
 ghost use Rattle.cap_summary.specs.Effects.{own_row, base_cell, changed};
-ghost use Rattle.cap_summary.specs.Sorted.{found};
 ghost use Rattle.cap_summary.specs.Leaving.{base_leaves, leaves, LeavesThenLine};
 ghost use Rattle.cap_summary.specs.Lines.{turned_cell, unlisted, leaves_unlisted, IsThenLine, IsPut, LeavesPut};
-ghost use Rattle.cap_summary.specs.Lines.{IsRowOf, LeavesOwn, IsListOf, IsStarted, sets_cells, lists, is_cell, with_cell};
+ghost use Rattle.cap_summary.specs.Lines.{IsRowOf, LeavesOwn, IsListOf, IsStarted, sets_cells, lists, is_cell};
+ghost use Rattle.cap_summary.specs.Lines.{with_cell};
+ghost use Rattle.cap_summary.specs.Names.{Names, others_within, mode_within, IsListedWithin, ListWithin, RowWithin};
+ghost use Rattle.cap_summary.specs.Names.{RowsWithin, EffectWithin, LineWithin};
 
-use crate::base::{Base, Others, Passing};
-use crate::effect::{Effect, Row};
-use crate::key::{Key, cell_of_mode};
-use crate::listed::Listed;
-use crate::shared::{SharedOp, SharedRow};
-use crate::sorted::Map;
-use crate::value::Value;
+use crate::{
+    Base, Effect, Key, Listed, Map, Others, Passing, Row, SharedOp, SharedRow, Value, cell_of_mode,
+};
 use cap_machine::{Effect as LineEffect, Mode, OnExec};
 use cap_rights::RightSet;
 use cap_trace::{Fd, Pid, fds_of};
@@ -68,7 +56,7 @@ fn base_of(me: Pid, line: &LineEffect<'_>) -> Base
 
 /// The mode that a line turns that of its process `me` to.
 fn mode_of(line: &LineEffect<'_>) -> Option<Value>
-    ensures reads { (cells : Cells) (me : ℕ) → option_map_or (read cells) result (cells me key.Mode)
+    ensures reads { (cells : Cells) (me : ℕ) → option_map_or (read cells) result (cells me Key.Mode)
         ≡ turned_cell (effect_turn line.now me me) cells me }
     ensures leaves { (me : ℕ) → is_child line.now me ≡ false → is_none result ≡ true
         → effect_turn line.now me me ≡ stays }

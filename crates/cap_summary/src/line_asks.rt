@@ -1,27 +1,16 @@
 //! What one line asks of the cells before it.
 
-ghost use Rattle.std.specs.Prelude.{◌≡◌, ◌≤◌, ◌&&◌, ◌||◌, not, true, false, IfSome, if◌then◌else◌};
-ghost use Rattle.std.specs.Option.{option_map_or};
-ghost use Rattle.cap_machine.specs.declared.cell.Cell.{Cell};
-ghost use Rattle.cap_machine.specs.declared.rule.Word.{Word};
-ghost use Rattle.cap_machine.specs.declared.rule.Reply.TheVariants.{Success, NotCapable};
-ghost use Rattle.cap_machine.specs.State.{State};
-ghost use Rattle.cap_machine.specs.Judge.{fault, is_excused, faults, listed};
-ghost use Rattle.cap_machine.specs.Judge.{has_check, all_excused};
-ghost use Rattle.cap_summary.specs.declared.key.Key.TheVariants as key;
+ghost use Rattle.cap_machine.specs.{Judge.is_excused};
+ghost use Rattle.cap_summary.specs.{◌≡◌, ◌≤◌, ◌&&◌, ◌||◌, not, true, false, IfSome, if◌then◌else◌, option_map_or, Cell};
+ghost use Rattle.cap_summary.specs.{Word, Success, NotCapable, State, fault, faults, listed, has_check, all_excused};
+ghost use Rattle.cap_summary.specs.{Asks.holds, Few.is_refusal, Tests.has_kind, Tests.lacks, declared.key.Key.Key};
 ghost use Rattle.cap_summary.specs.Keys.{Cells, cells_of, mode_cell};
-ghost use Rattle.cap_summary.specs.Asks.{holds};
-ghost use Rattle.cap_summary.specs.Tests.{has_kind, lacks};
-ghost use Rattle.cap_summary.specs.Preconditions.{has_part, part_sure, are_sure_at};
-ghost use Rattle.cap_summary.specs.Names.{Names, has_cell, part_within, ChecksWithin};
-ghost use Rattle.cap_summary.specs.Names.{LineAsksWithin, DemandWithin};
 ghost use Rattle.cap_summary.specs.LineAsks.{has_any, part_holds, one_holds, excuses_hold, checked_cells, asked_holds};
 ghost use Rattle.cap_summary.specs.LineAsks.{IsAskedBy, refusals_in};
-ghost use Rattle.cap_summary.specs.Few.{is_refusal};
+ghost use Rattle.cap_summary.specs.Names.{Names, has_cell, part_within, ChecksWithin, LineAsksWithin, DemandWithin};
+ghost use Rattle.cap_summary.specs.Preconditions.{has_part, part_sure, are_sure_at};
 
-use crate::ask::Ask;
-use crate::key::Key;
-use crate::kinds::Kinds;
+use crate::{Ask, Key, Kinds};
 use cap_machine::{Check, Checks, Class, Demand, Reply};
 use cap_rights::RightSet;
 use cap_trace::{Fd, Pid};
@@ -100,7 +89,7 @@ pub enum LineAsks {
 /// The cell of the mode of a process is of one of these kinds.
 fn of_mode(me: Pid, kinds: Kinds) -> Ask
     ensures holds { (s : State) → holds (cells_of s) result ≡ has_kind kinds (mode_cell (s.mode me)) }
-    ensures cell { (result.pid ≡ me) × (result.key ≡ key.Mode) }
+    ensures cell { (result.pid ≡ me) × (result.key ≡ Key.Mode) }
 {
     Ask {
         pid: me,
@@ -114,8 +103,8 @@ fn of_mode(me: Pid, kinds: Kinds) -> Ask
 /// A descriptor is of one of these kinds, or lacks some of the rights.
 fn lacking(me: Pid, fd: Fd, kinds: Kinds, rights: &RightSet) -> Ask
     ensures holds { (cells : Cells) → holds cells result
-        ≡ (has_kind kinds (cells me (key.Fd fd)) || lacks rights.now (cells me (key.Fd fd))) }
-    ensures cell { (result.pid ≡ me) × (result.key ≡ key.Fd fd) }
+        ≡ (has_kind kinds (cells me (Key.Fd fd)) || lacks rights.now (cells me (Key.Fd fd))) }
+    ensures cell { (result.pid ≡ me) × (result.key ≡ Key.Fd fd) }
 {
     Ask {
         pid: me,
@@ -129,17 +118,17 @@ fn lacking(me: Pid, fd: Fd, kinds: Kinds, rights: &RightSet) -> Ask
 /// A call that succeeded lacked the rights that a check needs.
 fn missing(me: Pid, check: &Check) -> Ask
     ensures holds { (word : Word) (cells : Cells)
-        → holds cells result ≡ has_any (fault word check.now (cells me (key.Fd check.now.fd))) }
-    ensures cell { (result.pid ≡ me) × (result.key ≡ key.Fd check.now.fd) }
+        → holds cells result ≡ has_any (fault word check.now (cells me (Key.Fd check.now.fd))) }
+    ensures cell { (result.pid ≡ me) × (result.key ≡ Key.Fd check.now.fd) }
 {
     lacking(me, check.fd, Kinds::CLOSED, &check.needs)
 }
 
 /// The cell may lack the rights with which a refusal is wrongful, if any make it so.
 fn may_lack(me: Pid, check: &Check) -> Option<Ask>
-    ensures holds { (cells : Cells) → is_excused check.now.excuse (cells me (key.Fd check.now.fd))
+    ensures holds { (cells : Cells) → is_excused check.now.excuse (cells me (Key.Fd check.now.fd))
         ≡ option_map_or (λ ask. not (holds cells ask)) result false }
-    ensures cell { IfSome result (λ ask. (ask.pid ≡ me) × (ask.key ≡ key.Fd check.now.fd)) }
+    ensures cell { IfSome result (λ ask. (ask.pid ≡ me) × (ask.key ≡ Key.Fd check.now.fd)) }
 {
     match &check.excuse {
         None => None,

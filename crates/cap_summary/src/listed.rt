@@ -1,11 +1,9 @@
 //! The cells that a row lists.
 
-ghost use Rattle.std.specs.Prelude.{◌≡◌, ℕ, ◌==◌, [], Some, if◌then◌else◌, IfOk, OnOk};
-ghost use Rattle.std.specs.Option.{option_copied};
-ghost use Rattle.cap_summary.specs.Sorted.{found, Rises};
+ghost use Rattle.cap_summary.specs.{◌≡◌, ℕ, ◌==◌, [], Some, if◌then◌else◌, IfOk, OnOk, option_copied, Sorted.found};
+ghost use Rattle.cap_summary.specs.{Sorted.Rises};
 
-use crate::sorted::Map;
-use crate::value::Value;
+use crate::{Map, Value};
 use cap_tree::NoMemory;
 use std::alloc::{AllocError, Global};
 use std::marker::Model;
@@ -21,9 +19,7 @@ pub struct Listed {
 }
 
 impl Model for Listed {
-    ghost use Rattle.std.specs.Prelude.{List, ℕ};
-    ghost use Rattle.cap_summary.specs.declared.value.Value.{Value as Cell};
-    ghost use Rattle.cap_summary.specs.Sorted.{shared_entries};
+    ghost use Rattle.cap_summary.specs.{List, ℕ, Sorted.shared_entries, declared.value.Value.Value as Cell};
 
     ghost Value = { List (ℕ × Cell) };
 
@@ -45,11 +41,10 @@ impl Clone for Listed {
 }
 
 impl PartialEq for Listed {
-    ghost use Rattle.std.specs.Prelude.{◌&&◌, ◌==◌};
-    ghost use Rattle.std.specs.Cmp.Lexicographic.{pointwise, lists_per};
+    ghost use Rattle.std.specs.{Cmp.Lexicographic.lists_per};
     ghost use Rattle.std.specs.Cmp.{and_per, on_per, partial_equiv_from_equiv, nat_eq_equiv};
+    ghost use Rattle.cap_summary.specs.{◌&&◌, ◌==◌, pointwise, contracts.value.ValuePartialEq.TheImpl.Laws.laws-law};
     ghost use Rattle.cap_summary.specs.contracts.value.ValuePartialEq.TheImpl as values;
-    ghost use Rattle.cap_summary.specs.contracts.value.ValuePartialEq.TheImpl.Laws.{laws-law};
 
     ghost eq = { pointwise (λ x y. x.0 == y.0 && values.eq-value.it x.1 y.1) };
 

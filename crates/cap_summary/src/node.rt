@@ -1,27 +1,16 @@
 //! The nodes of a summary. A contract sees a node as its steps, and what is known of them where that is kept.
 
-ghost use Rattle.std.specs.Prelude.{◌≡◌, ◌+◌, ◌*◌, ◌^◌, ◌<◌, ◌≤◌, ◌++◌, ◌∷◌, [], length, IfOk, OnOk, IfSome, IfNone};
-ghost use Rattle.std.specs.Prelude.{◌⊎◌, true, is_some, Some, map};
-ghost use Rattle.std.specs.Option.{option_copied};
-ghost use Rattle.cap_machine.specs.Check.{check};
-ghost use Rattle.cap_machine.specs.History.{ended};
-ghost use Rattle.cap_machine.specs.Table.{start_state};
-ghost use Rattle.cap_machine.specs.Laws.{later};
-ghost use Rattle.cap_tree.specs.Run.{values};
-ghost use Rattle.cap_summary.specs.Before.{state_before};
-ghost use Rattle.cap_summary.specs.Positions.{within, AllOrMany, WereJudged};
-ghost use Rattle.cap_tree.specs.Sides.{part_at};
+ghost use Rattle.cap_summary.specs.{◌≡◌, ◌+◌, ◌*◌, ◌^◌, ◌<◌, ◌≤◌, ◌++◌, ◌∷◌, [], length, IfOk, OnOk, IfSome, IfNone};
+ghost use Rattle.cap_summary.specs.{◌⊎◌, true, is_some, Some, map, option_copied, check, ended, start_state, later};
+ghost use Rattle.cap_summary.specs.{values, part_at, Before.state_before, Few.NameOrRefuseMany, Kept.IsKept};
+ghost use Rattle.cap_summary.specs.{Kept.IsWithin, Kept.IsLarge, Kept.ListsMany, Knows.Knows, Preconditions.IsSettled};
 ghost use Rattle.cap_summary.specs.Content.{content_steps, HasParts, AreKept, KeepsParts};
-ghost use Rattle.cap_summary.specs.Kept.{IsKept, IsWithin, IsLarge, ListsMany};
-ghost use Rattle.cap_summary.specs.Few.{NameOrRefuseMany};
-ghost use Rattle.cap_summary.specs.Knows.{Knows};
-ghost use Rattle.cap_summary.specs.Preconditions.{IsSettled};
+ghost use Rattle.cap_summary.specs.Positions.{within, AllOrMany, WereJudged};
 ghost use Rattle.cap_summary.specs.View.{NodeView, NodesCompose, NodesAlike};
 
-use crate::before::Before;
 use crate::in_order::judge_in_order;
-use crate::judging::{Asked, Report, judge_run};
-use crate::known::Known;
+use crate::judging::{Asked, judge_run};
+use crate::{Before, Known, Report};
 use cap_machine::{Machine, Step};
 use cap_tree::{Likeness, Meter, NoMemory, Side};
 use std::alloc::Global;
@@ -47,12 +36,11 @@ pub(crate) enum Content {
 }
 
 impl Model for Node {
-    ghost use Rattle.std.specs.Prelude.{length};
-    ghost use Rattle.cap_summary.specs.View.{NodeView};
+    ghost use Rattle.cap_summary.specs.{length, View.NodeView};
 
     ghost Value = { NodeView };
 
-    ghost use Rattle.cap_summary.specs.Content.{node_view, IsGood};
+    ghost use Rattle.cap_summary.specs.{Content.node_view, Content.IsGood};
 
     ghost view = { λ a. node_view a.known a.content };
 
@@ -60,7 +48,7 @@ impl Model for Node {
 
     ghost size = { λ n. length n.steps };
 
-    ghost use Rattle.cap_summary.specs.Falls.{deep_le_length};
+    ghost use Rattle.cap_summary.specs.{Falls.deep_le_length};
 
     ghost size_decreases = { λ a h. deep_le_length a.content h.parts };
 }

@@ -1,25 +1,18 @@
 //! Under which states before a segment something is found in it.
 
-ghost use Rattle.std.specs.Prelude.{◌≡◌, ◌+◌, ◌≤◌, ◌||◌, not, false, true, [], length, IfOk, IfSome, IfNone, OnOk};
-ghost use Rattle.std.specs.List.{list_any};
-ghost use Rattle.std.specs.Option.{option_copied, option_map_or};
-ghost use Rattle.cap_machine.specs.State.{State};
-ghost use Rattle.cap_summary.specs.Keys.{Cells, cells_of};
-ghost use Rattle.cap_summary.specs.Asks.{any_holds, pulled_holds, pulled_within, PulledIsOpen, IsOpen};
-ghost use Rattle.cap_summary.specs.Asks.{Rises};
+ghost use Rattle.cap_summary.specs.{◌≡◌, ◌+◌, ◌≤◌, ◌||◌, not, false, true, [], length, IfOk, IfSome, IfNone, OnOk};
+ghost use Rattle.cap_summary.specs.{list_any, option_copied, option_map_or, State, Effects.changed, Keys.Cells};
+ghost use Rattle.cap_summary.specs.{Keys.cells_of, Sorted.found};
+ghost use Rattle.cap_summary.specs.Asks.{any_holds, pulled_holds, pulled_within, PulledIsOpen, IsOpen, Rises};
 ghost use Rattle.cap_summary.specs.LineAsks.{part_holds, one_holds, asked_holds, refusals_in};
-ghost use Rattle.cap_summary.specs.Effects.{changed};
-ghost use Rattle.cap_summary.specs.Preconditions.{is_met, is_wrongful, any_certain, IsMetOr, IsSettled};
-ghost use Rattle.cap_summary.specs.Preconditions.{PartsAreOpen, IsPossible, IsPulledBack, AreAskedByBoth, IsAskedByBoth, IsSamePrecondition};
-ghost use Rattle.cap_summary.specs.Sizes.{asks_size};
-ghost use Rattle.cap_summary.specs.Sorted.{found};
 ghost use Rattle.cap_summary.specs.Names.{Names, has_cell, part_within, PartsWithin, LineAsksWithin, RefusalsWithin};
 ghost use Rattle.cap_summary.specs.Names.{EffectWithin, PreWithin};
+ghost use Rattle.cap_summary.specs.Preconditions.{is_met, is_wrongful, any_certain, IsMetOr, IsSettled, PartsAreOpen};
+ghost use Rattle.cap_summary.specs.Preconditions.{IsPossible, IsPulledBack, AreAskedByBoth, IsAskedByBoth};
+ghost use Rattle.cap_summary.specs.Preconditions.{IsSamePrecondition, asks_size};
 
-use crate::ask::{Ask, Pulled};
 use crate::asks::{in_order, unite};
-use crate::effect::{Effect, Row};
-use crate::line_asks::{LineAsks, UpToThree};
+use crate::{Ask, Effect, LineAsks, Pulled, Row, UpToThree};
 use cap_trace::Pid;
 use cap_tree::NoMemory;
 use std::alloc::Global;

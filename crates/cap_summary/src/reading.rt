@@ -1,22 +1,10 @@
 //! What a row and an effect say of a cell, and how much they list.
 
-ghost use Rattle.std.specs.Prelude.{◌≡◌, ℕ, true, false, IfOk};
-ghost use Rattle.cap_summary.specs.declared.key.Key.{Key};
-ghost use Rattle.cap_summary.specs.Keys.{Cells};
-ghost use Rattle.cap_summary.specs.Names.{Names, RowWithin};
-ghost use Rattle.cap_summary.specs.Effects.{own_row, row_cell};
-ghost use Rattle.cap_summary.specs.Leaving.{row_leaves, leaves};
-ghost use Rattle.cap_summary.specs.RowSizes.{IsSizeOf};
-ghost use Rattle.std.specs.Option.{option_copied};
-ghost use Rattle.cap_summary.specs.Sorted.{found, Rises};
+ghost use Rattle.cap_summary.specs.{◌≡◌, ℕ, true, false, IfOk, option_copied, Effects.own_row, Effects.row_cell};
+ghost use Rattle.cap_summary.specs.{Keys.Cells, Leaving.row_leaves, Leaving.leaves, Names.Names, Names.RowWithin};
+ghost use Rattle.cap_summary.specs.{RowSizes.IsSizeOf, Sorted.found, Sorted.Rises, declared.key.Key.Key};
 
-use crate::base::{Base, Others};
-use crate::effect::{Effect, Row};
-use crate::key::Key;
-use crate::listed::Listed;
-use crate::shared::SharedRow;
-use crate::sorted::Map;
-use crate::value::Value;
+use crate::{Base, Effect, Key, Listed, Map, Others, Row, SharedRow, Value};
 use cap_trace::Pid;
 use cap_tree::NoMemory;
 use std::alloc::AllocError;

@@ -1,20 +1,11 @@
 //! What is seen of a cell after a segment.
 
-ghost use Rattle.std.specs.Prelude.{◌≡◌, ℕ, Bool, true, IfSome, IfOk};
-ghost use Rattle.cap_machine.specs.Op.{applied};
-ghost use Rattle.cap_summary.specs.declared.key.Key.{Key};
-ghost use Rattle.cap_summary.specs.Keys.{Cells};
-ghost use Rattle.cap_summary.specs.Values.{read, reads_within};
-ghost use Rattle.cap_summary.specs.Effects.{base_cell, row_cell, changed};
-ghost use Rattle.cap_summary.specs.Sorted.{found};
-ghost use Rattle.cap_summary.specs.Seen.{seen_cell, seen_within};
+ghost use Rattle.cap_summary.specs.{◌≡◌, ℕ, Bool, true, IfSome, IfOk, applied, Effects.base_cell, Effects.row_cell};
+ghost use Rattle.cap_summary.specs.{Effects.changed, Keys.Cells, Sorted.found, declared.key.Key.Key};
 ghost use Rattle.cap_summary.specs.Names.{Names, has_cell, others_within, RowWithin, IsRowWithin, ReadWithin};
+ghost use Rattle.cap_summary.specs.Values.{read, reads_within, seen_cell, seen_within};
 
-use crate::base::{Base, Others, Passing};
-use crate::effect::{Effect, Row};
-use crate::key::Key;
-use crate::shared::SharedOp;
-use crate::value::Value;
+use crate::{Base, Effect, Key, Others, Passing, Row, SharedOp, Value};
 use cap_machine::{Cell, Op};
 use cap_trace::{Fd, Pid};
 use cap_tree::NoMemory;

@@ -1,8 +1,8 @@
 //! Ops that values share, and rows that effects share.
 
-ghost use Rattle.std.specs.Prelude.{◌≡◌, IfOk};
+ghost use Rattle.cap_summary.specs.{◌≡◌, IfOk};
 
-use crate::effect::Row;
+use crate::Row;
 use cap_machine::Op;
 use std::alloc::{AllocError, Global};
 use std::marker::Model;
@@ -15,7 +15,7 @@ pub struct SharedOp {
 }
 
 impl Model for SharedOp {
-    ghost use Rattle.cap_machine.specs.declared.cell.Op.{Op as Held};
+    ghost use Rattle.cap_summary.specs.{Op as Held};
 
     ghost Value = { Held };
 
@@ -23,8 +23,8 @@ impl Model for SharedOp {
 }
 
 impl PartialEq for SharedOp {
+    ghost use Rattle.cap_machine.specs.{contracts.cell.OpPartialEq.TheImpl.Laws.laws-law};
     ghost use Rattle.cap_machine.specs.contracts.cell.OpPartialEq.TheImpl as ops;
-    ghost use Rattle.cap_machine.specs.contracts.cell.OpPartialEq.TheImpl.Laws.{laws-law};
 
     ghost eq = { ops.eq-value.it };
 
@@ -70,7 +70,7 @@ pub struct SharedRow {
 }
 
 impl Model for SharedRow {
-    ghost use Rattle.cap_summary.specs.declared.effect.Row.{Row as Held};
+    ghost use Rattle.cap_summary.specs.{declared.effect.Row.Row as Held};
 
     ghost Value = { Held };
 
@@ -78,8 +78,8 @@ impl Model for SharedRow {
 }
 
 impl PartialEq for SharedRow {
+    ghost use Rattle.cap_summary.specs.{contracts.effect.RowPartialEq.TheImpl.Laws.laws-law};
     ghost use Rattle.cap_summary.specs.contracts.effect.RowPartialEq.TheImpl as rows;
-    ghost use Rattle.cap_summary.specs.contracts.effect.RowPartialEq.TheImpl.Laws.{laws-law};
 
     ghost eq = { rows.eq-value.it };
 

@@ -1,12 +1,9 @@
 //! Which rows read no other process, and so are shared with a later segment.
 
-ghost use Rattle.std.specs.Prelude.{◌≡◌, true};
-ghost use Rattle.cap_summary.specs.Values.{reads_within};
+ghost use Rattle.cap_summary.specs.{◌≡◌, true, Values.reads_within};
 ghost use Rattle.cap_summary.specs.Names.{only, has_cell, others_within, ListWithin, RowWithin};
 
-use crate::base::Others;
-use crate::effect::Row;
-use crate::value::Value;
+use crate::{Others, Row, Value};
 use cap_trace::Pid;
 
 impl Value {

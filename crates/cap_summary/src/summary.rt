@@ -1,20 +1,15 @@
 //! The summary of a segment of a trace.
 
-ghost use Rattle.std.specs.Prelude.{◌≡◌, ◌+◌, ◌*◌, ◌^◌, ◌<◌, ◌≤◌, true, is_some, length, IfOk, OnOk, IfSome, IfNone};
-ghost use Rattle.std.specs.Option.{option_copied};
-ghost use Rattle.cap_machine.specs.Check.{check};
-ghost use Rattle.cap_machine.specs.Table.{start_state};
-ghost use Rattle.cap_summary.specs.Kept.{IsKept};
-ghost use Rattle.cap_summary.specs.Few.{NameOrRefuseMany};
-ghost use Rattle.cap_summary.specs.View.{NodesCompose, NodesDoAlike, NodesAskAlike};
-ghost use Rattle.cap_summary.specs.Positions.{within, positions};
+ghost use Rattle.cap_summary.specs.{◌≡◌, ◌+◌, ◌*◌, ◌^◌, ◌<◌, ◌≤◌, true, is_some, length, IfOk, OnOk, IfSome, IfNone};
+ghost use Rattle.cap_summary.specs.{option_copied, check, start_state, Few.NameOrRefuseMany, Kept.IsKept};
+ghost use Rattle.cap_summary.specs.{Positions.within, Positions.positions};
 ghost use Rattle.cap_summary.specs.Stands.{Stands, summed_up, kept_of};
+ghost use Rattle.cap_summary.specs.View.{NodesCompose, NodesDoAlike, NodesAskAlike};
 
-use crate::before::Before;
 use crate::explaining::judge_alone;
-use crate::judging::{Asked, Report};
-use crate::known::Known;
+use crate::judging::Asked;
 use crate::node::Node;
+use crate::{Before, Known, Report};
 use cap_machine::{Found, Machine, Start, Step};
 use cap_tree::{Likeness, Meter, NoMemory, Segment, Side};
 use std::alloc::Global;
@@ -154,7 +149,7 @@ impl Segment for Summary {
 
     ghost same_precondition = { λ old new. NodesAskAlike old.node.value new.node.value };
 
-    ghost use Rattle.cap_summary.specs.Stands.{stands_sized};
+    ghost use Rattle.cap_summary.specs.{Stands.stands_sized};
 
     ghost sized = { stands_sized };
 

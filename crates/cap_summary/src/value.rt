@@ -1,11 +1,8 @@
 //! What a cell is after a segment, by the cells before it.
 
-ghost use Rattle.std.specs.Prelude.{◌≡◌, None};
-ghost use Rattle.cap_summary.specs.Keys.{Cells};
-ghost use Rattle.cap_summary.specs.Values.{read, source};
+ghost use Rattle.cap_summary.specs.{◌≡◌, None, Keys.Cells, Values.read, Values.source};
 
-use crate::key::Key;
-use crate::shared::SharedOp;
+use crate::{Key, SharedOp};
 use cap_machine::{Cell, OnExec};
 use cap_rights::RightSet;
 use cap_trace::Pid;

@@ -1,15 +1,11 @@
 //! Walks back through the steps of a node.
 
-ghost use Rattle.std.specs.Prelude.{◌≡◌, ◌+◌, ◌^◌, ◌<◌, ◌≤◌, ◌∷◌, [], ℕ, List, length, take, slice_index_or, true, OnOk};
-ghost use Rattle.cap_machine.specs.declared.step.Step.{Step};
-ghost use Rattle.cap_machine.specs.State.{State};
-ghost use Rattle.cap_tree.specs.Run.{values};
-ghost use Rattle.cap_summary.specs.Knows.{Knows};
-ghost use Rattle.cap_summary.specs.Passes.{Origin, Passes, cell_seen, mode_seen};
+ghost use Rattle.cap_summary.specs.{◌≡◌, ◌+◌, ◌^◌, ◌<◌, ◌≤◌, ◌∷◌, [], ℕ, List, length, take, slice_index_or, true};
+ghost use Rattle.cap_summary.specs.{OnOk, Step, State, values, Knows.Knows};
+ghost use Rattle.cap_summary.specs.Behind.{Origin, Passes, cell_seen, mode_seen};
 
-use crate::key::Key;
-use crate::known::Known;
 use crate::node::{Content, Node};
+use crate::{Key, Known};
 use cap_machine::{CellWalk, ModeWalk, Step};
 use cap_tree::NoMemory;
 use std::rc::Rc;

@@ -1,9 +1,8 @@
 //! Maps that are changed in place.
-ghost use Rattle.std.specs.Prelude.{◌≡◌, ℕ, ◌==◌, false, unwrap_or, [], Some, None, if◌then◌else◌, OnOk, OnErr};
-ghost use Rattle.std.specs.Prelude.{slice_get, option_map, IfOk, IfErr};
-ghost use Rattle.std.specs.Option.{option_copied};
-ghost use Rattle.cap_summary.specs.Sorted.{IsAt, IsGap};
-ghost use Rattle.cap_summary.specs.Sorted.{found, Rises};
+ghost use Rattle.std.specs.Prelude.{OnErr};
+ghost use Rattle.cap_summary.specs.{◌≡◌, ℕ, ◌==◌, false, unwrap_or, [], Some, None, if◌then◌else◌, OnOk, slice_get};
+ghost use Rattle.cap_summary.specs.{option_map, IfOk, IfErr, option_copied};
+ghost use Rattle.cap_summary.specs.Sorted.{IsAt, IsGap, found, Rises};
 
 use cap_tree::NoMemory;
 use std::alloc::{AllocError, Global};
@@ -18,8 +17,7 @@ pub struct Map<V> {
 }
 
 impl<V> Model for Map<V> {
-    ghost use Rattle.std.specs.Prelude.{List, ℕ};
-    ghost use Rattle.cap_summary.specs.Sorted.{Rises};
+    ghost use Rattle.cap_summary.specs.{List, ℕ, Sorted.Rises};
 
     ghost Value = { List (ℕ × V) };
 
@@ -30,7 +28,7 @@ impl<V> Model for Map<V> {
 
 /// A clone has the same keys, and at each a clone of the value.
 impl<V: Clone> Clone for Map<V> {
-    ghost use Rattle.std.specs.List.{AllZip};
+    ghost use Rattle.cap_summary.specs.{AllZip};
 
     ghost is_clone = { λ map copy. AllZip (λ x y. (y.0 ≡ x.0) × V.is_clone x.1 y.1) map copy };
 

@@ -1,7 +1,6 @@
 //! Maps that are made of two.
-ghost use Rattle.std.specs.Prelude.{◌≡◌, ℕ, ◌+◌, ◌<◌, ◌≤◌, ◌||◌, true, Option, Some, None, [], length, is_some};
-ghost use Rattle.std.specs.Prelude.{if◌then◌else◌, IfOk, OnOk, IfNone, IfSome};
-ghost use Rattle.std.specs.Option.{option_copied};
+ghost use Rattle.cap_summary.specs.{◌≡◌, ℕ, ◌+◌, ◌<◌, ◌≤◌, ◌||◌, true, Option, Some, None, [], length, is_some};
+ghost use Rattle.cap_summary.specs.{if◌then◌else◌, IfOk, OnOk, IfNone, IfSome, option_copied};
 ghost use Rattle.cap_summary.specs.Sorted.{found, Rises, RisesFrom};
 
 use super::Map;

@@ -1,21 +1,15 @@
-use Rattle.std.proofs.Common.{◌≡◌, ℕ, ◌-◌, List, Some, length, sym, ap, ◌∙◌, arith}
-use Rattle.cap_machine.specs.declared.step.Step.{Step}
-use Rattle.cap_machine.specs.State.{State}
-use Rattle.cap_machine.specs.Explain.{Explained}
-use Rattle.cap_machine.specs.Table.{start_state}
-use Rattle.cap_summary.specs.Stands.{summed_up}
+use Rattle.cap_summary.specs.{◌≡◌, ℕ, ◌-◌, List, Some, length, Step, State, Explained, start_state, Stands.summed_up}
+use Rattle.cap_summary.proofs.{sym, ap, ◌∙◌, arith}
 use Rattle.cap_summary.proofs.Explained.{explained_zero, explained_past, explained_there}
 use Rattle.cap_summary.proofs.explaining.explain.Goals as goal
-use Rattle.cap_summary.proofs.explaining.explain.Goals.{then-position-eq0-via-then-position-eq0}
-use Rattle.cap_summary.proofs.explaining.explain.Goals.{then-position-eq0-via-else-position-eq0+then-position-len}
 
 pub returns-then-position-eq0 : goal.returns-then-position-eq0
 returns-then-position-eq0 c =
     let s : State = start_state c.args.start.now in
     let t : List Step = summed_up c.args.summary.now in
     elim c.then-position-eq0.branch [
-      | then-position-eq0-via-then-position-eq0 w ↦ sym (explained_zero s t c.args.position w.if-position-eq0.true)
-      | then-position-eq0-via-else-position-eq0+then-position-len w ↦
+      | goal.then-position-eq0-via-then-position-eq0 w ↦ sym (explained_zero s t c.args.position w.if-position-eq0.true)
+      | goal.then-position-eq0-via-else-position-eq0+then-position-len w ↦
           let long : w.len.result ≡ length t = rw w.deref.ensures at w.len.ensures.count in
           sym (explained_past s t c.args.position (omega (arith, long, w.if-position-len.true)))
     ]

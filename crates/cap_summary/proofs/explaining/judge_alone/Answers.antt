@@ -1,15 +1,9 @@
-use Rattle.std.proofs.Common.{◌≡◌, ◌∙◌, ℕ, ◌+◌, ◌≤◌, List, take, sym, ap, arith}
-use Rattle.cap_machine.specs.declared.step.Step.{Step}
-use Rattle.cap_machine.specs.State.{State}
-use Rattle.cap_machine.specs.declared.verdict.Found.{Found}
-use Rattle.cap_machine.specs.Check.{check}
-use Rattle.cap_machine.specs.Explain.{Explained}
-use Rattle.cap_summary.specs.Positions.{within, positions}
-use Rattle.cap_machine.specs.Table.{start_state}
+use Rattle.cap_summary.specs.{◌≡◌, ℕ, ◌+◌, ◌≤◌, List, take, Step, State, Found, check, Explained, start_state}
+use Rattle.cap_summary.specs.{Positions.within, Positions.positions}
+use Rattle.cap_summary.proofs.{◌∙◌, sym, ap, arith, Counted.one_more}
 use Rattle.cap_summary.proofs.Resolving.{none_before_first, found_next, found_upto_last}
-use Rattle.cap_summary.proofs.Counted.{one_more}
-use Rattle.cap_summary.proofs.explaining.judge_alone.Goals as goal
 use Rattle.cap_summary.proofs.explaining.judge_alone.Goals.{In_ok-note_asked}
+use Rattle.cap_summary.proofs.explaining.judge_alone.Goals as goal
 
 pub loop-count-init : goal.loop-count-init
 loop-count-init c =

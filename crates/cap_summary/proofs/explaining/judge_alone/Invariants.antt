@@ -1,7 +1,4 @@
-use Rattle.std.proofs.Common.{◌≡◌, ◌-◌, ◌≤◌, length, take}
-use Rattle.cap_machine.specs.Check.{check}
-use Rattle.cap_machine.specs.Table.{start_state}
-use Rattle.cap_summary.specs.Positions.{within, positions}
+use Rattle.cap_summary.specs.{◌≡◌, ◌-◌, ◌≤◌, length, take, check, start_state, Positions.within, Positions.positions}
 use Rattle.cap_summary.proofs.explaining.judge_alone.Given as goal
 
 abbrev pub invariant-loop-count : goal.invariant-loop-count

@@ -1,17 +1,6 @@
-use Rattle.std.proofs.Common.{◌≡◌, ◌+◌, ◌++◌, ◌∷◌, [], List, length, map, sym, ◌∙◌, slice_range, arith}
-use Rattle.std.proofs.lemmas.Result.{on_ok_weaker}
-use Rattle.std.specs.declared.rc.Rc.{Rc}
-use Rattle.cap_machine.specs.declared.step.Step.{Step}
-use Rattle.cap_machine.specs.State.{State}
-use Rattle.cap_machine.specs.declared.verdict.Found.{Found}
-use Rattle.cap_machine.specs.History.{ended}
-use Rattle.cap_machine.specs.Check.{said, found_at}
-use Rattle.cap_machine.specs.Table.{start_state}
-use Rattle.cap_machine.proofs.Turns.{ends_in_turn}
-use Rattle.cap_tree.specs.Run.{values}
-use Rattle.cap_summary.specs.Positions.{within}
-use Rattle.cap_summary.proofs.Runs.{head_tail}
-use Rattle.cap_summary.proofs.Resolving.{found_step}
+use Rattle.cap_summary.specs.{◌≡◌, ◌+◌, ◌++◌, ◌∷◌, [], List, length, map, slice_range, Rc, Step, State, Found, ended}
+use Rattle.cap_summary.specs.{said, found_at, start_state, values, Positions.within}
+use Rattle.cap_summary.proofs.{sym, ◌∙◌, arith, on_ok_weaker, ends_in_turn, Resolving.found_step, Runs.head_tail}
 use Rattle.cap_summary.proofs.in_order.+judge_each.Goals as goal
 
 pub returns : goal.returns

@@ -1,22 +1,9 @@
-use Rattle.std.proofs.Common.{◌≡◌, ◌+◌, ◌++◌, ℕ, List, length, map, take, sym, ap, ◌∙◌, arith}
-use Rattle.std.proofs.lemmas.List.{length-map, length-take-le, take_all}
-use Rattle.std.specs.declared.rc.Rc.{Rc}
-use Rattle.std.specs.declared.alloc.Global.{Global}
-use Rattle.cap_machine.specs.declared.step.Step.{Step}
-use Rattle.cap_machine.specs.declared.verdict.Found.{Found}
-use Rattle.cap_machine.specs.State.{State}
-use Rattle.cap_machine.specs.Check.{check, said, found_at}
-use Rattle.cap_machine.specs.Laws.{later}
-use Rattle.cap_trace.specs.Entry.{Entry}
-use Rattle.cap_tree.specs.Run.{values}
-use Rattle.cap_summary.specs.Keys.{cells_of}
-use Rattle.cap_summary.specs.Effects.{changed}
-use Rattle.cap_summary.specs.Before.{state_before, state_of}
-use Rattle.cap_summary.specs.Positions.{within}
-use Rattle.cap_summary.proofs.Knowing.{one_more, after_more}
-use Rattle.cap_summary.proofs.Runs.{values-take}
-use Rattle.cap_summary.proofs.Resolving.{found_in_first}
-use Rattle.cap_summary.proofs.Judged.{none_judged, more_judged}
+use Rattle.cap_summary.specs.{◌≡◌, ◌+◌, ◌++◌, ℕ, List, length, map, take, Rc, Global, Step, Found, State, check, said}
+use Rattle.cap_summary.specs.{found_at, later, Entry, values, Before.state_before, Before.state_of, Effects.changed}
+use Rattle.cap_summary.specs.{Keys.cells_of, Positions.within}
+use Rattle.cap_summary.proofs.{sym, ap, ◌∙◌, arith, length-map, length-take-le, take_all, Judged.none_judged}
+use Rattle.cap_summary.proofs.{Judged.more_judged, Knowing.one_more, Knowing.after_more, Resolving.found_in_first}
+use Rattle.cap_summary.proofs.{Runs.values-take}
 use Rattle.cap_summary.proofs.judging.judge_run.Goals as goal
 
 pub loop-step-init : goal.loop-step-init

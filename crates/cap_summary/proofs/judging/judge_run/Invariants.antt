@@ -1,7 +1,5 @@
-use Rattle.std.proofs.Common.{◌≡◌, ◌+◌, length, take}
-use Rattle.cap_tree.specs.Run.{values}
-use Rattle.cap_summary.specs.Before.{state_before}
-use Rattle.cap_summary.proofs.Judged.{IsJudged}
+use Rattle.cap_summary.specs.{◌≡◌, ◌+◌, length, take, values, Before.state_before}
+use Rattle.cap_summary.proofs.{Judged.IsJudged}
 use Rattle.cap_summary.proofs.judging.judge_run.Given as goal
 
 abbrev pub invariant-loop-step : goal.invariant-loop-step

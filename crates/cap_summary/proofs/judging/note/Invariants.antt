@@ -1,5 +1,4 @@
-use Rattle.std.proofs.Common.{◌≡◌, ◌++◌, take, map}
-use Rattle.cap_machine.specs.Check.{found_at}
+use Rattle.cap_summary.specs.{◌≡◌, ◌++◌, take, map, found_at}
 use Rattle.cap_summary.proofs.judging.note.Given as goal
 
 abbrev pub invariant-loop-finding : goal.invariant-loop-finding

@@ -1,7 +1,5 @@
-use Rattle.std.proofs.Common.{[], ◌∷◌, ◌++◌}
-use Rattle.cap_summary.specs.Names.{names_in}
-use Rattle.cap_summary.proofs.Naming.{line_in, demand_in}
-use Rattle.cap_summary.proofs.Knowing.{says_more}
+use Rattle.cap_summary.specs.{[], ◌∷◌, ◌++◌, Names.names_in}
+use Rattle.cap_summary.proofs.{Knowing.says_more, Naming.line_in, Naming.demand_in}
 use Rattle.cap_summary.proofs.known.put_step.Goals as goal
 
 pub returns : goal.returns

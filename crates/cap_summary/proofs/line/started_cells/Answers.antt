@@ -1,13 +1,7 @@
-use Rattle.std.proofs.Common.{◌≡◌, ℕ, List, get_or, refl, sym, subst}
-use Rattle.std.proofs.lemmas.Result.{IfOk-weaker}
-use Rattle.cap_rights.specs.Rights.{all as all_rights}
-use Rattle.cap_machine.specs.declared.cell.OnExec.TheVariants.{Unsure}
-use Rattle.cap_summary.specs.declared.value.Value.{Value}
-use Rattle.cap_summary.specs.declared.value.Value.TheVariants as value
-use Rattle.cap_summary.specs.Lines.{IsStarted}
-use Rattle.cap_summary.specs.Names.{IsListedWithin}
-use Rattle.cap_summary.proofs.LineCells.{started_more, started_all}
-use Rattle.cap_summary.proofs.LineListed.{each_put}
+use Rattle.cap_summary.specs.{◌≡◌, ℕ, List, get_or, refl, all as all_rights, Unsure, Lines.IsStarted}
+use Rattle.cap_summary.specs.{Names.IsListedWithin, declared.value.Value.Value}
+use Rattle.cap_summary.proofs.{sym, subst, IfOk-weaker, LineCells.started_more, LineCells.started_all}
+use Rattle.cap_summary.proofs.{LineListed.each_put}
 use Rattle.cap_summary.proofs.line.started_cells.Goals as goal
 
 pub loop-fd-preserved : goal.loop-fd-preserved
@@ -16,7 +10,7 @@ loop-fd-preserved c = record {
       c.loop-fd-test.true (λ k. rw c.all.ensures.everything at (c.in_ok-set.ensures.ok k)) c.loop-fd.invariant.cells;
   names = λ names all.
       let fd : ℕ = get_or c.deref-fd-items.result.now c.loop-fd.fd-index 0 in
-      each_put (IsListedWithin names) fd (value.Held all_rights Unsure)
+      each_put (IsListedWithin names) fd (Value.Held all_rights Unsure)
       (record { key = all c.loop-fd.fd-index 0 c.loop-fd-test.true; source = refl }) c.loop-fd.listed
       c.set.new.self (λ k. rw c.all.ensures.everything at (c.in_ok-set.ensures.ok k))
       (c.loop-fd.invariant.names names all);

@@ -1,7 +1,4 @@
-use Rattle.std.proofs.Common.{◌≡◌, true, take}
-use Rattle.std.specs.List.{All}
-use Rattle.cap_summary.specs.Lines.{IsStarted}
-use Rattle.cap_summary.specs.Names.{Names, ListWithin}
+use Rattle.cap_summary.specs.{◌≡◌, true, take, All, Lines.IsStarted, Names.Names, Names.ListWithin}
 use Rattle.cap_summary.proofs.line.started_cells.Given as goal
 
 abbrev pub invariant-loop-fd : goal.invariant-loop-fd

@@ -1,5 +1,5 @@
-use Rattle.cap_summary.specs.Keys.{cells_of}
-use Rattle.cap_summary.proofs.LineAsking.{one_missing, two_missing}
+use Rattle.cap_summary.specs.{Keys.cells_of}
+use Rattle.cap_summary.proofs.{LineAsking.one_missing, LineAsking.two_missing}
 use Rattle.cap_summary.proofs.line_asks.check_asks.Goals as goal
 
 pub returns-in-One-clause-hold : goal.returns-in-One-clause-hold

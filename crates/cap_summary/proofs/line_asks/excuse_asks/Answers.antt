@@ -1,7 +1,5 @@
-use Rattle.std.proofs.Common.{refl, arith}
-use Rattle.std.proofs.lemmas.Grind.{common_steps}
-use Rattle.cap_summary.specs.Keys.{cells_of}
-use Rattle.cap_summary.proofs.LineAsking.{not_lacking, neither_lacking}
+use Rattle.cap_summary.specs.{refl, Keys.cells_of}
+use Rattle.cap_summary.proofs.{arith, common_steps, LineAsking.not_lacking, LineAsking.neither_lacking}
 use Rattle.cap_summary.proofs.line_asks.excuse_asks.Goals as goal
 
 pub returns-in_err-may_lack-in-One-clause-hold : goal.returns-in_err-may_lack-in-One-clause-hold

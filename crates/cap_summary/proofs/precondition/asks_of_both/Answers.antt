@@ -1,14 +1,7 @@
-use Rattle.std.proofs.Common.{◌≡◌, [], sym, ◌∙◌, arith}
-use Rattle.std.proofs.lemmas.Bool.{eqb-true}
-use Rattle.std.proofs.lemmas.List.{nil_from_length}
-use Rattle.std.proofs.lemmas.Option.{IfSome_then}
-use Rattle.std.proofs.lemmas.Result.{IfOk-weaker}
-use Rattle.std.proofs.Math.Bool.{or-true}
-use Rattle.cap_summary.specs.Keys.{cells_of}
-use Rattle.cap_summary.specs.Asks.{any_holds, IsUnionOf}
-use Rattle.cap_summary.specs.Preconditions.{IsPulledBack}
-use Rattle.cap_summary.proofs.Pulling.{asked_by_both}
-use Rattle.cap_summary.proofs.Uniting.{united_none, united_with}
+use Rattle.std.proofs.{lemmas.List.nil_from_length}
+use Rattle.cap_summary.specs.{◌≡◌, [], Asks.any_holds, Asks.IsUnionOf, Keys.cells_of, Preconditions.IsPulledBack}
+use Rattle.cap_summary.proofs.{sym, ◌∙◌, arith, eqb-true, IfSome_then, IfOk-weaker, or-true, Pulling.asked_by_both}
+use Rattle.cap_summary.proofs.{Uniting.united_none, Uniting.united_with}
 use Rattle.cap_summary.proofs.precondition.asks_of_both.Goals as goal
 
 pub returns-in_default-clause-always : goal.returns-in_default-clause-always

@@ -1,22 +1,11 @@
-use Rattle.std.proofs.lemmas.List.{drop_all, append-nil}
-use Rattle.std.proofs.Common.{arith}
-use Rattle.std.proofs.Common.{◌≡◌, true, refl, sym, ap, ◌∙◌, subst}
-use Rattle.std.specs.Prelude.{IfSome}
-use Rattle.std.specs.declared.cmp.Ordering.TheVariants.{Equal}
-use Rattle.std.proofs.lemmas.Cmp.{ranked}
-use Rattle.std.proofs.lemmas.List.Folds.{list_any_at}
-use Rattle.cap_machine.specs.State.{State}
-use Rattle.cap_summary.specs.declared.ask.Ask.{Ask}
-use Rattle.cap_summary.specs.Keys.{cells_of}
+use Rattle.std.proofs.{lemmas.List.Folds.list_any_at}
+use Rattle.cap_summary.specs.{◌≡◌, true, refl, IfSome, Equal, State, Effects.cell_in, Effects.changed, Keys.cells_of}
+use Rattle.cap_summary.specs.{Tests.passes, declared.ask.Ask.Ask}
 use Rattle.cap_summary.specs.Asks.{holds, pulled_holds, pulled_within, AskWithin}
-use Rattle.cap_summary.specs.Effects.{cell_in, changed}
 use Rattle.cap_summary.specs.Names.{Names, has_cell, IsRowWithin, EffectWithin}
-use Rattle.cap_summary.specs.Tests.{passes}
+use Rattle.cap_summary.proofs.{drop_all, append-nil, arith, sym, ap, ◌∙◌, subst, ranked}
 use Rattle.cap_summary.proofs.Pulling.{pulled_none, pulled_never, pulled_kept, swapped, kept_same, kept_more}
 use Rattle.cap_summary.proofs.precondition.pulled_asks.Goals as goal
-use Rattle.cap_summary.proofs.precondition.pulled_asks.Goals.{in-Never}
-use Rattle.cap_summary.proofs.precondition.pulled_asks.Goals.{in-Where+in-Equal+in_ok-push-in-Equal}
-use Rattle.cap_summary.proofs.precondition.pulled_asks.Goals.{in-Where+in_default-order+in_ok-push-in_default-order}
 
 pub loop-ask-init : goal.loop-ask-init
 loop-ask-init c = record {
@@ -69,13 +58,13 @@ loop-ask-preserved c =
     → pulled_within (has_cell names) pulled ≡ true = λ names effect.
     c.in-Some.ensures.names names (subst (λ r. IfSome r (IsRowWithin names ask.pid)) (sym row) (effect ask.pid)) in
     elim c.match-pulled-2.branch [
-      | in-Never w ↦ record {
+      | goal.in-Never w ↦ record {
         back = rw (w.kept-is, w.moved-is) (pulled_never first asks i ask kept moved within is so_far.back
             (λ s. sym (rw w.in-Never.is at (met s))));
         kept = rw w.kept-is (kept_same asks kept i ask within is so_far.kept);
         row = row;
       }
-      | in-Where+in-Equal+in_ok-push-in-Equal w ↦ record {
+      | goal.in-Where+in-Equal+in_ok-push-in-Equal w ↦ record {
         back = rw (w.kept-is, w.moved-is, w.in_ok-push-in-Equal.ensures.items) (pulled_kept first asks i ask kept moved
             within is so_far.back w.in-Where.before (rw w.in-Where.is at c.in-Some.ensures.can)
             (rw w.in-Where.is at met) (rw w.in-Where.is at named));
@@ -84,7 +73,7 @@ loop-ask-preserved c =
             (ranked _ _ Equal w.in-Equal.ensures.places));
         row = row;
       }
-      | in-Where+in_default-order+in_ok-push-in_default-order w ↦ record {
+      | goal.in-Where+in_default-order+in_ok-push-in_default-order w ↦ record {
         back = rw (w.kept-is, w.moved-is, w.in_ok-push-in_default-order.ensures.items) (swapped first _ _ kept (pulled_kept
             first asks i ask moved kept within is (swapped first _ kept moved so_far.back) w.in-Where.before
             (rw w.in-Where.is at c.in-Some.ensures.can) (rw w.in-Where.is at met) (rw w.in-Where.is at named)));

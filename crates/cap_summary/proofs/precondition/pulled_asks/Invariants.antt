@@ -1,8 +1,5 @@
-use Rattle.std.proofs.Common.{◌≡◌, ◌++◌, take, drop}
-use Rattle.std.specs.Option.{option_copied}
-use Rattle.cap_summary.specs.Sorted.{found}
-use Rattle.cap_summary.specs.Asks.{Rises}
-use Rattle.cap_summary.specs.Preconditions.{IsPulledBack}
+use Rattle.cap_summary.specs.{◌≡◌, ◌++◌, take, drop, option_copied, Asks.Rises, Preconditions.IsPulledBack}
+use Rattle.cap_summary.specs.{Sorted.found}
 use Rattle.cap_summary.proofs.precondition.pulled_asks.Given as goal
 
 abbrev pub invariant-loop-ask : goal.invariant-loop-ask

@@ -1,9 +1,5 @@
-use Rattle.std.proofs.Common.{arith}
-use Rattle.std.proofs.lemmas.Grind.{common_steps}
-use Rattle.std.proofs.Math.Bool.{or-true}
-use Rattle.cap_summary.specs.Keys.{cells_of}
-use Rattle.cap_summary.specs.Effects.{changed}
-use Rattle.cap_summary.specs.LineAsks.{part_holds}
+use Rattle.cap_summary.specs.{Effects.changed, Keys.cells_of, LineAsks.part_holds}
+use Rattle.cap_summary.proofs.{arith, common_steps, or-true}
 use Rattle.cap_summary.proofs.precondition.pulled_three.Goals as goal
 
 pub returns-in_err-pulled_part-3-clause-hold : goal.returns-in_err-pulled_part-3-clause-hold

@@ -1,12 +1,7 @@
-use Rattle.std.proofs.Common.{◌≡◌, ℕ, List, length, min, ap, subst, ◌∙◌, arith}
-use Rattle.std.specs.List.{All}
-use Rattle.std.proofs.lemmas.List.{take_all}
-use Rattle.cap_summary.specs.declared.value.Value.{Value}
-use Rattle.cap_summary.specs.declared.effect.Row.{Row}
-use Rattle.cap_summary.specs.Sorted.{RisesFrom}
-use Rattle.cap_summary.specs.RowSizes.{rows_size, CellsRise}
-use Rattle.cap_summary.proofs.SortedFound.{keys_rise}
-use Rattle.cap_summary.proofs.Counting.{sizes_more, rises_more}
+use Rattle.cap_summary.specs.{◌≡◌, ℕ, List, length, min, All, RowSizes.rows_size, RowSizes.CellsRise, Sorted.RisesFrom}
+use Rattle.cap_summary.specs.{declared.effect.Row.Row, declared.value.Value.Value}
+use Rattle.cap_summary.proofs.{ap, subst, ◌∙◌, arith, take_all, Counting.sizes_more, Counting.rises_more}
+use Rattle.cap_summary.proofs.{SortedFound.keys_rise}
 use Rattle.cap_summary.proofs.reading.counted.Goals as goal
 
 pub loop-entry-preserved : goal.loop-entry-preserved

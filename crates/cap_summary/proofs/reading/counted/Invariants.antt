@@ -1,6 +1,4 @@
-use Rattle.std.proofs.Common.{◌≡◌, min, take}
-use Rattle.std.specs.List.{All}
-use Rattle.cap_summary.specs.RowSizes.{rows_size, CellsRise}
+use Rattle.cap_summary.specs.{◌≡◌, min, take, All, RowSizes.rows_size, RowSizes.CellsRise}
 use Rattle.cap_summary.proofs.reading.counted.Given as goal
 
 abbrev pub invariant-loop-entry : goal.invariant-loop-entry

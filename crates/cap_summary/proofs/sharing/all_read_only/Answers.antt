@@ -1,7 +1,5 @@
-use Rattle.std.proofs.Common.{subst}
-use Rattle.std.proofs.lemmas.List.{take_all}
-use Rattle.std.proofs.lemmas.List.Elements.{All-more}
-use Rattle.cap_summary.proofs.OwnCells.{ReadsOnly, list_only}
+use Rattle.std.proofs.{lemmas.List.Elements.All-more}
+use Rattle.cap_summary.proofs.{subst, take_all, OwnCells.ReadsOnly, OwnCells.list_only}
 use Rattle.cap_summary.proofs.sharing.all_read_only.Goals as goal
 
 pub loop-cell-preserved : goal.loop-cell-preserved

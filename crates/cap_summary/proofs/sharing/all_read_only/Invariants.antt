@@ -1,6 +1,5 @@
-use Rattle.std.proofs.Common.{take}
-use Rattle.std.specs.List.{All}
-use Rattle.cap_summary.proofs.OwnCells.{ReadsOnly}
+use Rattle.cap_summary.specs.{take, All}
+use Rattle.cap_summary.proofs.{OwnCells.ReadsOnly}
 use Rattle.cap_summary.proofs.sharing.all_read_only.Given as goal
 
 abbrev pub invariant-loop-cell : goal.invariant-loop-cell

@@ -1,15 +1,7 @@
-use Rattle.std.proofs.Common.{◌≡◌, ◌/◌, ℕ, List, length, ap, arith, sym, ◌∙◌, true, false}
-use Rattle.cap_machine.specs.declared.verdict.Found.{Found}
-use Rattle.cap_machine.specs.Check.{check}
-use Rattle.cap_machine.specs.State.{State}
-use Rattle.cap_machine.specs.Table.{start_state}
-use Rattle.cap_summary.specs.Positions.{within}
-use Rattle.cap_summary.specs.Stands.{summed_up, kept_of}
-use Rattle.std.specs.Prelude.{is_some}
-use Rattle.cap_summary.proofs.Resolving.{all_or_many, judged_all, not_many}
+use Rattle.cap_summary.specs.{◌≡◌, ◌/◌, ℕ, List, length, true, false, Found, check, State, start_state, is_some}
+use Rattle.cap_summary.specs.{Positions.within, Stands.summed_up, Stands.kept_of}
+use Rattle.cap_summary.proofs.{ap, arith, sym, ◌∙◌, Resolving.all_or_many, Resolving.judged_all, Resolving.not_many}
 use Rattle.cap_summary.proofs.summary.report_range.Goals as goal
-use Rattle.cap_summary.proofs.summary.report_range.Goals.{then-is_kept+in_ok-resolve+else-len-most}
-use Rattle.cap_summary.proofs.summary.report_range.Goals.{else-is_kept+else-are_at_most}
 
 pub returns-then-len-most-clause-found : goal.returns-then-len-most-clause-found
 returns-then-len-most-clause-found c =
@@ -28,7 +20,7 @@ returns-clause-few c = λ kept.
     let len : c.len-most.result ≡ n = rw c.deref.ensures at c.len-most.ensures.count in
     let is : c.is_kept.result ≡ is_some (kept_of c.args.summary.now) = rw c.deref-2.ensures at c.is_kept.ensures in
     elim c.if-is_kept.branch [
-      | then-is_kept+in_ok-resolve+else-len-most w ↦
+      | goal.then-is_kept+in_ok-resolve+else-len-most w ↦
           let found : List Found = w.resolve.new.report.found.items in
           let few = rw w.deref-then-is_kept.ensures at w.in_ok-resolve.ensures.few in
           judged_all (c.len-most.result / 2048) n w.resolve.new.report.judged c.judge_in_order.new.report.judged
@@ -36,6 +28,6 @@ returns-clause-few c = λ kept.
           (all_or_many (c.len-most.result / 2048) s (summed_up c.args.summary.now) c.args.from c.args.to found
           (rw (c.empty-report.ensures.found, w.deref-then-is_kept.ensures) at w.in_ok-resolve.ensures.found))
           (omega (arith, few, c.empty-report.ensures.judged)) (rw w.report-is at c.in_ok-judge_in_order.ensures.all)
-      | else-is_kept+else-are_at_most w ↦
+      | goal.else-is_kept+else-are_at_most w ↦
           absurd (let wrong : true ≡ false = sym kept ∙ sym is ∙ w.if-is_kept.false in cc)
     ]

@@ -1,6 +1,5 @@
-use Rattle.std.proofs.Common.{length, ◌≤◌}
-use Rattle.cap_tree.specs.Run.{values}
-use Rattle.cap_summary.proofs.Walks.{Sees}
+use Rattle.cap_summary.specs.{length, ◌≤◌, values}
+use Rattle.cap_summary.proofs.{Walks.Sees}
 use Rattle.cap_summary.proofs.walking.walk_run.Given as goal
 
 abbrev pub invariant-loop-step : goal.invariant-loop-step

@@ -1,6 +1,5 @@
-use Rattle.std.proofs.Common.{refl}
-use Rattle.cap_summary.specs.declared.ask.Ask.{Ask}
-use Rattle.cap_summary.proofs.TestPassing.{passes_before}
+use Rattle.cap_summary.specs.{refl, declared.ask.Ask.Ask}
+use Rattle.cap_summary.proofs.{TestPassing.passes_before}
 use Rattle.cap_summary.proofs.ask.Ask.before_op.Goals as goal
 
 pub returns : goal.returns

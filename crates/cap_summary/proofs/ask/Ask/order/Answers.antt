@@ -1,10 +1,6 @@
-use Rattle.std.proofs.Common.{◌≡◌, ℕ, ◌+◌, ◌*◌, ◌^◌, ◌<◌, refl, arith}
-use Rattle.std.specs.Ordering.{nat_cmp}
-use Rattle.std.specs.declared.cmp.Ordering.{Ordering}
-use Rattle.std.specs.declared.cmp.Ordering.TheVariants.{Less, Equal, Greater}
-use Rattle.std.proofs.lemmas.Bool.Decides.{nat_tests}
-use Rattle.std.proofs.lemmas.Cmp.{ranked}
-use Rattle.cap_summary.specs.Asks.{place_in_process}
+use Rattle.cap_summary.specs.{◌≡◌, ℕ, ◌+◌, ◌*◌, ◌^◌, ◌<◌, refl, nat_cmp, Ordering, Less, Equal, Greater}
+use Rattle.cap_summary.specs.{Asks.place_in_process}
+use Rattle.cap_summary.proofs.{arith, nat_tests, ranked}
 use Rattle.cap_summary.proofs.ask.Ask.order.Goals as goal
 
 -- where the higher parts of two numbers differ, they decide

@@ -1,5 +1,4 @@
-use Rattle.std.proofs.Common.{sym, ◌∙◌}
-use Rattle.cap_summary.proofs.Asking.{is_open, certain_holds, never_passes}
+use Rattle.cap_summary.proofs.{sym, ◌∙◌, Asking.is_open, Asking.certain_holds, Asking.never_passes}
 use Rattle.cap_summary.proofs.ask.Ask.settled.Goals as goal
 
 pub returns-then-is_certain-clause-holds : goal.returns-then-is_certain-clause-holds

@@ -1,7 +1,4 @@
-use Rattle.std.proofs.Common.{◌≡◌, false, take}
-use Rattle.cap_summary.specs.Keys.{cells_of}
-use Rattle.cap_summary.specs.Asks.{any_holds}
-use Rattle.cap_summary.specs.Before.{state_before}
+use Rattle.cap_summary.specs.{◌≡◌, false, take, Asks.any_holds, Before.state_before, Keys.cells_of}
 use Rattle.cap_summary.proofs.before.Before.any_holds.Given as goal
 
 abbrev pub invariant-loop-ask : goal.invariant-loop-ask

@@ -1,8 +1,4 @@
-use Rattle.std.proofs.Common.{◌≡◌, false, take}
-use Rattle.std.specs.List.{list_any}
-use Rattle.cap_summary.specs.Keys.{cells_of}
-use Rattle.cap_summary.specs.Before.{state_before}
-use Rattle.cap_summary.specs.Preconditions.{is_wrongful}
+use Rattle.cap_summary.specs.{◌≡◌, false, take, list_any, Before.state_before, Keys.cells_of, Preconditions.is_wrongful}
 use Rattle.cap_summary.proofs.before.Before.any_is_wrongful.Given as goal
 
 abbrev pub invariant-loop-refusal : goal.invariant-loop-refusal

@@ -1,5 +1,5 @@
-use Rattle.std.proofs.Common.{Some, sym, ap, ◌∙◌}
-use Rattle.cap_summary.proofs.Equal.{same_row}
+use Rattle.cap_summary.specs.{Some}
+use Rattle.cap_summary.proofs.{sym, ap, ◌∙◌, Equal.same_row}
 use Rattle.cap_summary.proofs.composed.Replaced.gave.Goals as goal
 
 pub returns-in-Some-Some : goal.returns-in-Some-Some

@@ -1,13 +1,6 @@
-use Rattle.std.proofs.Common.{◌≡◌, true, false, Option, Some, None, Bor, sym, subst, ◌∙◌}
-use Rattle.std.specs.Prelude.{IfSome}
-use Rattle.std.specs.Option.{option_copied}
-use Rattle.std.proofs.lemmas.Option.{IfSome_then}
-use Rattle.cap_summary.specs.declared.effect.Row.{Row}
-use Rattle.cap_summary.specs.declared.effect.Effect.{Effect}
-use Rattle.cap_summary.specs.Sorted.{found}
-use Rattle.cap_summary.specs.Composing.{IsComposedSo, IsOldAt}
-use Rattle.cap_summary.proofs.OwnCells.{first_replaced, second_replaced}
-use Rattle.cap_summary.proofs.composed.Replaced.row.Goals.{in-Left+then-gave, in-Left+else-gave, in-Right}
+use Rattle.cap_summary.specs.{◌≡◌, true, false, Option, Some, None, IfSome, option_copied, Composing.IsComposedSo}
+use Rattle.cap_summary.specs.{Composing.IsOldAt, Sorted.found, declared.effect.Effect.Effect, declared.effect.Row.Row}
+use Rattle.cap_summary.proofs.{Bor, sym, subst, ◌∙◌, IfSome_then, OwnCells.first_replaced, OwnCells.second_replaced}
 use Rattle.cap_summary.proofs.composed.Replaced.row.Goals as goal
 
 copied : (o : Option (Bor Row)) (x : Option Row) → option_copied o ≡ x → IfSome o (λ row. x ≡ Some row.now)
@@ -23,12 +16,12 @@ returns c =
     let whole : Option Row = found old.whole.now.rows p in
     let stands : (first : Effect) → left ≡ found first.rows p → IsOldAt old first p right
     → IsComposedSo first p left right whole = λ first here joined. elim c.match-self.branch [
-      | in-Left+then-gave w ↦ first_replaced old.was.now first p left c.args.right.now whole here
+      | goal.in-Left+then-gave w ↦ first_replaced old.was.now first p left c.args.right.now whole here
           (w.gave.ensures w.if-gave.true) (w.reads_only.ensures (sym w.stands-is ∙ c.if-not-stands.false))
           (rw w.in-Left.is at joined)
-      | in-Left+else-gave w ↦ absurd (let wrong : false ≡ true = sym w.if-gave.false ∙ sym w.stands-is
+      | goal.in-Left+else-gave w ↦ absurd (let wrong : false ≡ true = sym w.if-gave.false ∙ sym w.stands-is
           ∙ c.if-not-stands.false in cc)
-      | in-Right w ↦ second_replaced old.was.now first p left right whole here
+      | goal.in-Right w ↦ second_replaced old.was.now first p left right whole here
           (w.gave-stands.ensures (sym w.stands-is ∙ c.if-not-stands.false)) (rw w.in-Right.is at joined)
     ] in
     IfSome_then c.get.result (copied c.get.result whole c.get.ensures)

@@ -1,5 +1,4 @@
-use Rattle.std.proofs.Common.{sym, ◌∙◌}
-use Rattle.cap_summary.proofs.Equal.{same_rows}
+use Rattle.cap_summary.proofs.{sym, ◌∙◌, Equal.same_rows}
 use Rattle.cap_summary.proofs.effect.Effect.is_same.Goals as goal
 
 pub returns : goal.returns

@@ -1,9 +1,5 @@
-use Rattle.std.proofs.Common.{◌≡◌, ℕ, true, [], ◌∷◌, refl}
-use Rattle.std.specs.List.{All}
-use Rattle.std.proofs.lemmas.Result.{on_ok_weaker}
-use Rattle.std.proofs.lemmas.List.Elements.{All-head, All-tail}
-use Rattle.cap_summary.specs.Names.{has_cell}
-use Rattle.cap_summary.proofs.LineListed.{change_within}
+use Rattle.cap_summary.specs.{◌≡◌, ℕ, true, [], ◌∷◌, refl, All, Names.has_cell}
+use Rattle.cap_summary.proofs.{on_ok_weaker, All-head, All-tail, LineListed.change_within}
 use Rattle.cap_summary.proofs.effect.Effect.push.Goals as goal
 
 pub returns-in_ok-set-in-GiveTwo-clause-names : goal.returns-in_ok-set-in-GiveTwo-clause-names

@@ -1,7 +1,5 @@
-use Rattle.std.proofs.Common.{None}
-use Rattle.std.proofs.lemmas.Result.{on_ok_weaker}
-use Rattle.cap_summary.specs.declared.effect.Effect.{Effect}
-use Rattle.cap_summary.proofs.LineRows.{then_line, then_leaves}
+use Rattle.cap_summary.specs.{None, declared.effect.Effect.Effect}
+use Rattle.cap_summary.proofs.{on_ok_weaker, LineRows.then_line, LineRows.then_leaves}
 use Rattle.cap_summary.proofs.effect.Effect.push_row.Goals as goal
 
 pub returns-clause-cells : goal.returns-clause-cells

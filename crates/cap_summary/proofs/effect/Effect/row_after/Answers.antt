@@ -1,4 +1,4 @@
-use Rattle.cap_summary.specs.declared.effect.Row.{Row}
+use Rattle.cap_summary.specs.{declared.effect.Row.Row}
 use Rattle.cap_summary.proofs.RowsComposed.{composed_cell, composed_row, composed_leaves}
 use Rattle.cap_summary.proofs.effect.Effect.row_after.Goals as goal
 

@@ -1,5 +1,5 @@
-use Rattle.cap_rights.proofs.Members.{join_holds}
-use Rattle.cap_summary.specs.Tests.{kind_of}
+use Rattle.cap_summary.specs.{Tests.kind_of}
+use Rattle.cap_summary.proofs.{join_holds}
 use Rattle.cap_summary.proofs.kinds.Kinds.join.Goals as goal
 
 pub returns : goal.returns

@@ -1,8 +1,5 @@
-use Rattle.std.proofs.Common.{refl, arith}
-use Rattle.std.proofs.lemmas.List.{take_all}
-use Rattle.cap_tree.specs.Run.{values}
-use Rattle.cap_summary.specs.Knows.{Says}
-use Rattle.cap_summary.proofs.Knowing.{one_more, says_none, says_same}
+use Rattle.cap_summary.specs.{refl, values, Knows.Says}
+use Rattle.cap_summary.proofs.{arith, take_all, Knowing.one_more, Knowing.says_none, Knowing.says_same}
 use Rattle.cap_summary.proofs.known.Known.of_run.Goals as goal
 
 pub loop-step-init : goal.loop-step-init

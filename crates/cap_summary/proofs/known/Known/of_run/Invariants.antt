@@ -1,6 +1,4 @@
-use Rattle.std.proofs.Common.{take}
-use Rattle.cap_tree.specs.Run.{values}
-use Rattle.cap_summary.specs.Knows.{Says}
+use Rattle.cap_summary.specs.{take, values, Knows.Says}
 use Rattle.cap_summary.proofs.known.Known.of_run.Given as goal
 
 abbrev pub invariant-loop-step : goal.invariant-loop-step

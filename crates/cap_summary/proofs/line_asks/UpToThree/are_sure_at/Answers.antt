@@ -1,9 +1,5 @@
-use Rattle.std.proofs.Common.{◌≡◌, Bool, ap, ◌∙◌, refl}
-use Rattle.std.proofs.Math.Path.{fun_ext}
-use Rattle.std.specs.List.{list_all}
-use Rattle.cap_machine.specs.declared.cell.Cell.{Cell}
-use Rattle.cap_summary.specs.Tests.{has_kind, each_kind}
-use Rattle.cap_summary.specs.Preconditions.{one_sure}
+use Rattle.cap_summary.specs.{◌≡◌, Bool, refl, list_all, Cell, Preconditions.one_sure, Tests.has_kind, Tests.each_kind}
+use Rattle.cap_summary.proofs.{ap, ◌∙◌, fun_ext}
 use Rattle.cap_summary.proofs.line_asks.UpToThree.are_sure_at.Goals as goal
 
 pub returns-in-Some : goal.returns-in-Some

@@ -1,19 +1,7 @@
-use Rattle.std.proofs.Common.{◌≡◌, ℕ, ◌+◌, ◌≤◌, ◌++◌, List, length, map, sym, ap, ◌∙◌, arith, length-append}
-use Rattle.std.proofs.lemmas.Result.{on_ok_weaker}
-use Rattle.cap_machine.specs.declared.step.Step.{Step}
-use Rattle.cap_machine.specs.State.{State}
-use Rattle.cap_machine.specs.declared.verdict.Found.{Found}
-use Rattle.cap_machine.specs.Check.{check}
-use Rattle.cap_machine.specs.History.{ended}
-use Rattle.cap_machine.specs.Laws.{later}
-use Rattle.cap_machine.specs.Table.{start_state}
-use Rattle.cap_machine.proofs.Turns.{ends_in_turn}
-use Rattle.cap_tree.specs.Run.{values}
-use Rattle.cap_summary.specs.Content.{content_steps}
-use Rattle.cap_summary.specs.Positions.{within}
-use Rattle.cap_summary.proofs.Runs.{same_steps}
-use Rattle.cap_summary.proofs.Resolving.{found_parts, found_behind, same_behind}
-use Rattle.cap_summary.proofs.Counted.{run_judged}
+use Rattle.cap_summary.specs.{◌≡◌, ℕ, ◌+◌, ◌≤◌, ◌++◌, List, length, map, Step, State, Found, check, ended, later}
+use Rattle.cap_summary.specs.{start_state, values, Content.content_steps, Positions.within}
+use Rattle.cap_summary.proofs.{sym, ap, ◌∙◌, arith, length-append, on_ok_weaker, ends_in_turn, Counted.run_judged}
+use Rattle.cap_summary.proofs.{Resolving.found_parts, Resolving.found_behind, Resolving.same_behind, Runs.same_steps}
 use Rattle.cap_summary.proofs.node.Node.+judge.Goals as goal
 
 pub returns-then-asked-at-clause-found : goal.returns-then-asked-at-clause-found

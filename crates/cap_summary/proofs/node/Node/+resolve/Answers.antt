@@ -1,23 +1,11 @@
-use Rattle.std.proofs.Common.{◌≡◌, ◌≤◌, ◌++◌, ℕ, List, length, map, sym, ap, ◌∙◌, arith, inl, true, length-append}
-use Rattle.std.proofs.lemmas.Result.{on_ok_weaker}
-use Rattle.cap_machine.specs.declared.step.Step.{Step}
-use Rattle.cap_machine.specs.State.{State}
-use Rattle.cap_machine.specs.declared.verdict.Found.{Found}
-use Rattle.cap_machine.specs.Check.{check}
-use Rattle.cap_machine.specs.Laws.{later}
-use Rattle.cap_summary.specs.Before.{state_before}
-use Rattle.cap_summary.specs.LineAsks.{has_any}
-use Rattle.cap_summary.specs.Positions.{within}
-use Rattle.cap_summary.specs.Content.{content_steps}
-use Rattle.cap_summary.specs.Kept.{IsKept}
-use Rattle.cap_summary.proofs.Ends.{known_ends}
-use Rattle.cap_summary.proofs.Runs.{same_steps}
-use Rattle.cap_summary.proofs.Resolving.{found_before, found_behind, not_many, stopped, parts_or_many}
-use Rattle.cap_summary.proofs.Resolving.{many_parts, some_found}
-use Rattle.cap_summary.proofs.Counted.{run_judged}
+use Rattle.cap_summary.specs.{◌≡◌, ◌≤◌, ◌++◌, ℕ, List, length, map, true, Step, State, Found, check, later}
+use Rattle.cap_summary.specs.{Before.state_before, Content.content_steps, Kept.IsKept, LineAsks.has_any}
+use Rattle.cap_summary.specs.{Positions.within}
+use Rattle.cap_summary.proofs.{sym, ap, ◌∙◌, arith, inl, length-append, on_ok_weaker, Counted.run_judged}
+use Rattle.cap_summary.proofs.{Ends.known_ends, Runs.same_steps}
+use Rattle.cap_summary.proofs.Resolving.{found_before, found_behind, not_many, stopped, parts_or_many, many_parts}
+use Rattle.cap_summary.proofs.Resolving.{some_found}
 use Rattle.cap_summary.proofs.node.Node.+resolve.Goals as goal
-use Rattle.cap_summary.proofs.node.Node.+resolve.Goals.{then-asked-at-via-then-asked-at}
-use Rattle.cap_summary.proofs.node.Node.+resolve.Goals.{then-asked-at-via-else-asked-at+then-at-self}
 
 pub returns-then-asked-at-clause-found : goal.returns-then-asked-at-clause-found
 returns-then-asked-at-clause-found t c =
@@ -29,8 +17,8 @@ returns-then-asked-at-clause-found t c =
     let len : c.self.inside.len ≡ length steps = c.self.invariant.len
     ∙ ap (λ (r : List Step). length r) (same_steps c.self.view_is) in
     elim c.then-asked-at.branch [
-      | then-asked-at-via-then-asked-at w ↦ inl (found_behind s steps c.args.at from to old (omega arith))
-      | then-asked-at-via-else-asked-at+then-at-self w ↦
+      | goal.then-asked-at-via-then-asked-at w ↦ inl (found_behind s steps c.args.at from to old (omega arith))
+      | goal.then-asked-at-via-else-asked-at+then-at-self w ↦
           inl (found_before s steps c.args.at from to old (omega (arith, w.if-at-self.true, len)))
     ]
 

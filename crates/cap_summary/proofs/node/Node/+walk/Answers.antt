@@ -1,10 +1,5 @@
-use Rattle.std.proofs.Common.{◌≡◌, ℕ, ◌+◌, ◌-◌, ◌++◌, List, length, take, sym, ap, ◌∙◌, arith}
-use Rattle.std.proofs.lemmas.Result.{on_ok_weaker}
-use Rattle.cap_machine.specs.declared.step.Step.{Step}
-use Rattle.cap_tree.specs.Run.{values}
-use Rattle.cap_summary.specs.Content.{content_steps}
-use Rattle.cap_summary.proofs.Runs.{values-take, same_steps}
-use Rattle.cap_summary.proofs.Walks.{walked_parts}
+use Rattle.cap_summary.specs.{◌≡◌, ℕ, ◌+◌, ◌-◌, ◌++◌, List, length, take, Step, values, Content.content_steps}
+use Rattle.cap_summary.proofs.{sym, ap, ◌∙◌, arith, on_ok_weaker, Runs.values-take, Runs.same_steps, Walks.walked_parts}
 use Rattle.cap_summary.proofs.node.Node.+walk.Goals as goal
 
 pub returns-in-Run : goal.returns-in-Run

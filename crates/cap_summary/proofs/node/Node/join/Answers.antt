@@ -1,4 +1,4 @@
-use Rattle.cap_summary.proofs.Knowing.{knows_both}
+use Rattle.cap_summary.proofs.{Knowing.knows_both}
 use Rattle.cap_summary.proofs.node.Node.join.Goals as goal
 
 pub of_parts-requires-2-clause-knows : goal.of_parts-requires-2-clause-knows

@@ -1,7 +1,5 @@
-use Rattle.std.proofs.Common.{List, length, arith}
-use Rattle.cap_machine.specs.declared.step.Step.{Step}
-use Rattle.cap_summary.specs.Content.{content_steps}
-use Rattle.cap_summary.proofs.Keeping.{node_keeps, node_names, keeps_parts}
+use Rattle.cap_summary.specs.{List, length, Step, Content.content_steps}
+use Rattle.cap_summary.proofs.{arith, Keeping.node_keeps, Keeping.node_names, Keeping.keeps_parts}
 use Rattle.cap_summary.proofs.node.Node.of.Goals as goal
 
 pub invariant_of-node : goal.invariant_of-node

@@ -1,4 +1,4 @@
-use Rattle.cap_summary.proofs.Knowing.{knows_both}
+use Rattle.cap_summary.proofs.{Knowing.knows_both}
 use Rattle.cap_summary.proofs.node.Node.rejoin.Goals as goal
 
 pub of_parts-requires-clause-knows : goal.of_parts-requires-clause-knows

@@ -1,12 +1,8 @@
-use Rattle.std.proofs.Common.{◌≡◌, false, refl, sym, ◌∙◌}
-use Rattle.std.proofs.Math.Bool.{or-true}
-use Rattle.cap_summary.specs.declared.precondition.Precondition.{Precondition}
-use Rattle.cap_summary.specs.Keys.{cells_of}
-use Rattle.cap_summary.specs.Preconditions.{is_met, AreAskedByBoth}
+use Rattle.cap_summary.specs.{◌≡◌, false, refl, Keys.cells_of, Preconditions.is_met, Preconditions.AreAskedByBoth}
+use Rattle.cap_summary.specs.{declared.precondition.Precondition.Precondition}
+use Rattle.cap_summary.proofs.{sym, ◌∙◌, or-true}
 use Rattle.cap_summary.proofs.Pulling.{always_asked, met_by_asks, met_joined, asked_joined}
 use Rattle.cap_summary.proofs.precondition.Precondition.join.Goals as goal
-use Rattle.cap_summary.proofs.precondition.Precondition.join.Goals.{then-self-via-then-self}
-use Rattle.cap_summary.proofs.precondition.Precondition.join.Goals.{then-self-via-else-self+then-later}
 
 pub returns-then-self : goal.returns-then-self
 returns-then-self c =
@@ -14,8 +10,8 @@ returns-then-self c =
     let own = c.args.self.now in
     always_asked c.args.first.now own c.args.later.now c.always.result all.met all.settled all.possible all.names
     all.nothing (λ s. elim c.then-self.branch [
-      | then-self-via-then-self w ↦ rw w.if-self.true refl
-      | then-self-via-else-self+then-later w ↦ rw w.if-later.true (or-true (is_met (cells_of s) own))
+      | goal.then-self-via-then-self w ↦ rw w.if-self.true refl
+      | goal.then-self-via-else-self+then-later w ↦ rw w.if-later.true (or-true (is_met (cells_of s) own))
     ])
 
 pub returns-in_default : goal.returns-in_default

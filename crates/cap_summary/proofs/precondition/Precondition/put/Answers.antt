@@ -1,7 +1,5 @@
-use Rattle.std.proofs.Common.{refl}
-use Rattle.cap_summary.specs.declared.precondition.Precondition.{Precondition}
-use Rattle.cap_summary.specs.Asks.{IsOpen}
-use Rattle.cap_summary.proofs.Meeting.{possible_asked}
+use Rattle.cap_summary.specs.{refl, Asks.IsOpen, declared.precondition.Precondition.Precondition}
+use Rattle.cap_summary.proofs.{Meeting.possible_asked}
 use Rattle.cap_summary.proofs.precondition.Precondition.put.Goals as goal
 
 pub returns-in_ok-push-in-Where-clause-possible : goal.returns-in_ok-push-in-Where-clause-possible

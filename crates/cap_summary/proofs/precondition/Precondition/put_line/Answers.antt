@@ -1,6 +1,5 @@
-use Rattle.cap_summary.specs.LineAsks.{part_holds}
-use Rattle.cap_summary.specs.Effects.{changed}
-use Rattle.cap_summary.proofs.Meeting.{met_three}
+use Rattle.cap_summary.specs.{Effects.changed, LineAsks.part_holds}
+use Rattle.cap_summary.proofs.{Meeting.met_three}
 use Rattle.cap_summary.proofs.precondition.Precondition.put_line.Goals as goal
 
 pub returns-in_ok-put_after-in-Where-3-clause-met : goal.returns-in_ok-put_after-in-Where-3-clause-met

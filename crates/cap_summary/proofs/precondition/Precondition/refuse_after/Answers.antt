@@ -1,11 +1,6 @@
-use Rattle.std.proofs.Common.{refl, sym}
-use Rattle.std.proofs.Math.Bool.{or-false}
-use Rattle.cap_summary.specs.Keys.{cells_of}
-use Rattle.cap_summary.specs.declared.precondition.Precondition.{Precondition}
-use Rattle.cap_summary.specs.declared.precondition.Refusal.{Refusal}
-use Rattle.std.proofs.lemmas.List.Elements.{All-push}
-use Rattle.cap_summary.specs.Names.{PartsWithin}
-use Rattle.cap_summary.specs.Preconditions.{is_met, PartsAreOpen}
+use Rattle.cap_summary.specs.{refl, Keys.cells_of, Names.PartsWithin, Preconditions.is_met, Preconditions.PartsAreOpen}
+use Rattle.cap_summary.specs.{declared.precondition.Precondition.Precondition, declared.precondition.Refusal.Refusal}
+use Rattle.cap_summary.proofs.{sym, or-false, All-push}
 use Rattle.cap_summary.proofs.Meeting.{refused_more, refusal_open, possible_refused}
 use Rattle.cap_summary.proofs.precondition.Precondition.refuse_after.Goals as goal
 

@@ -1,13 +1,6 @@
-use Rattle.std.proofs.Common.{◌≡◌, ◌||◌, ◌+◌, take, sym, ap, ◌∙◌, arith}
-use Rattle.std.specs.List.{list_any}
-use Rattle.std.proofs.lemmas.List.Folds.{list_any_more}
-use Rattle.std.proofs.Math.Bool.{or_assoc}
-use Rattle.cap_summary.specs.declared.precondition.Refusal.{Refusal}
-use Rattle.cap_summary.specs.Keys.{cells_of}
-use Rattle.cap_summary.specs.Effects.{changed}
-use Rattle.cap_summary.specs.Names.{PartsWithin}
-use Rattle.cap_summary.specs.Preconditions.{is_met, is_wrongful}
-use Rattle.cap_summary.proofs.Meeting.{read_all}
+use Rattle.cap_summary.specs.{◌≡◌, ◌||◌, ◌+◌, take, list_any, Effects.changed, Keys.cells_of, Names.PartsWithin}
+use Rattle.cap_summary.specs.{Preconditions.is_met, Preconditions.is_wrongful, declared.precondition.Refusal.Refusal}
+use Rattle.cap_summary.proofs.{sym, ap, ◌∙◌, arith, list_any_more, or_assoc, Meeting.read_all}
 use Rattle.cap_summary.proofs.precondition.Precondition.refuse_all_after.Goals as goal
 
 pub loop-refusal-preserved : goal.loop-refusal-preserved

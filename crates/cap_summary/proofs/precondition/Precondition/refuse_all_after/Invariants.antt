@@ -1,8 +1,6 @@
-use Rattle.std.proofs.Common.{◌≡◌, ◌+◌, ◌≤◌, length, take}
-use Rattle.std.specs.List.{list_any}
-use Rattle.cap_summary.specs.Effects.{changed}
-use Rattle.cap_summary.specs.Preconditions.{is_wrongful, IsMetOr, IsPossible}
+use Rattle.cap_summary.specs.{◌≡◌, ◌+◌, ◌≤◌, length, take, list_any, Effects.changed}
 use Rattle.cap_summary.specs.Names.{Names, EffectWithin, PreWithin, RefusalsWithin}
+use Rattle.cap_summary.specs.Preconditions.{is_wrongful, IsMetOr, IsPossible}
 use Rattle.cap_summary.proofs.precondition.Precondition.refuse_all_after.Given as goal
 
 abbrev pub invariant-loop-refusal : goal.invariant-loop-refusal

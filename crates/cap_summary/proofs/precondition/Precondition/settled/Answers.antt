@@ -1,11 +1,6 @@
-use Rattle.std.proofs.Common.{◌≡◌, true, false, [], sym, ◌∙◌}
-use Rattle.std.proofs.lemmas.List.Elements.{All-nil}
-use Rattle.cap_summary.specs.Keys.{cells_of}
+use Rattle.cap_summary.specs.{◌≡◌, true, false, [], Keys.cells_of, Names.has_cell, Preconditions.any_certain}
 use Rattle.cap_summary.specs.Asks.{AskWithin, CanBe, IsUnionOf, Within, Can}
-use Rattle.cap_summary.specs.Names.{has_cell}
-use Rattle.cap_summary.specs.Preconditions.{any_certain}
-use Rattle.cap_summary.proofs.Asking.{certain_any, certain_none}
-use Rattle.cap_summary.proofs.Meeting.{met_by_ask}
+use Rattle.cap_summary.proofs.{sym, ◌∙◌, All-nil, Asking.certain_any, Asking.certain_none, Meeting.met_by_ask}
 use Rattle.cap_summary.proofs.precondition.Precondition.settled.Goals as goal
 
 pub returns-then-self-clause-names : goal.returns-then-self-clause-names

@@ -1,6 +1,5 @@
-use Rattle.std.proofs.Common.{rules}
-use Rattle.std.proofs.lemmas.List.Sorted.{answers_always}
-use Rattle.cap_summary.proofs.SortedFound.{searched}
+use Rattle.std.proofs.{lemmas.List.Sorted.answers_always}
+use Rattle.cap_summary.proofs.{rules, SortedFound.searched}
 use Rattle.cap_summary.proofs.sorted.map.place_of.Goals as goal
 
 -- the closure gives an entry's key

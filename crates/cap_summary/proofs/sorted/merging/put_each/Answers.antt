@@ -1,9 +1,9 @@
-use Rattle.std.proofs.Common.{◌+◌, ◌≤◌, length, arith}
-use Rattle.cap_summary.specs.Sorted.{found}
+use Rattle.cap_summary.specs.{◌+◌, ◌≤◌, length, Sorted.found}
+use Rattle.cap_summary.proofs.{arith}
 use Rattle.cap_summary.proofs.SortedMerging.{IsMergedTo, Rises-from, bound_le, merged_all, raised, left_out, put_last}
 use Rattle.cap_summary.proofs.SortedMerging.{one_fewer}
-use Rattle.cap_summary.proofs.sorted.merging.put_each.Goals as goal
 use Rattle.cap_summary.proofs.sorted.merging.put_each.Goals.{In-Some, In_ok-value}
+use Rattle.cap_summary.proofs.sorted.merging.put_each.Goals as goal
 
 pub first_key-requires-clause-left : goal.first_key-requires-clause-left
 first_key-requires-clause-left g c =

@@ -1,5 +1,5 @@
-use Rattle.std.proofs.Common.{ℕ, ◌+◌, ◌≤◌, length}
-use Rattle.cap_summary.proofs.SortedMerging.{IsMergedTo}
+use Rattle.cap_summary.specs.{ℕ, ◌+◌, ◌≤◌, length}
+use Rattle.cap_summary.proofs.{SortedMerging.IsMergedTo}
 use Rattle.cap_summary.proofs.sorted.merging.put_each.Given as goal
 
 abbrev pub invariant-loop-key : goal.invariant-loop-key

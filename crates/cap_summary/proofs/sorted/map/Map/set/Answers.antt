@@ -1,5 +1,4 @@
-use Rattle.std.proofs.Common.{rules}
-use Rattle.cap_summary.proofs.SortedSetting.{RisesFrom-insert, RisesFrom-set}
+use Rattle.cap_summary.proofs.{rules, SortedSetting.RisesFrom-insert, SortedSetting.RisesFrom-set}
 use Rattle.cap_summary.proofs.sorted.map.Map.set.Goals as goal
 
 -- the entry that has the key is written over

@@ -1,7 +1,5 @@
-use Rattle.std.proofs.Common.{ap, ◌∙◌, sym}
-use Rattle.std.specs.Prelude.{unwrap_or}
-use Rattle.cap_summary.proofs.SortedFound.{found_at}
-use Rattle.cap_summary.proofs.SortedSetting.{RisesFrom-set}
+use Rattle.cap_summary.specs.{unwrap_or}
+use Rattle.cap_summary.proofs.{ap, ◌∙◌, sym, SortedFound.found_at, SortedSetting.RisesFrom-set}
 use Rattle.cap_summary.proofs.sorted.map.Map.take_or.Goals as goal
 
 -- the entry that has the key is written over
