@@ -1,33 +1,23 @@
 -- What a table knows, as a list, stands for the same state.
-use Rattle.std.proofs.Common.{◌≡◌, ℕ, ◌+◌, ◌-◌, ◌<◌, ◌≤◌, ◌==◌, ◌||◌, nat_lt, nat_le, if◌then◌else◌}
+use Rattle.std.proofs.Common.{◌≡◌, ℕ, ◌+◌, ◌-◌, ◌<◌, ◌≤◌, ◌==◌, nat_lt, nat_le, if◌then◌else◌}
 use Rattle.std.proofs.Common.{Bool, true, false, List, [], ◌∷◌}
 use Rattle.std.proofs.Common.{Option, Some, None, refl, ap, sym, ◌∙◌, arith, eq-eqb, zero, suc}
 use Rattle.std.specs.Prelude.{slice_get}
 use Rattle.std.specs.Option.{option_map_or}
-use Rattle.std.specs.List.{list_any}
-use Rattle.cap_rights.specs.Rights.{all}
 use Rattle.std.proofs.lemmas.Bool.{cases_eq, cases_lt, cases_order, ne_eqb}
 use Rattle.std.proofs.lemmas.Bool.Decides.{nat_tests}
 use Rattle.std.proofs.Math.Logic.{⊎_elim}
+use Rattle.cap_trace.specs.Limits.{largest_fd}
 use Rattle.cap_machine.specs.declared.cell.Cell.{Cell}
-use Rattle.cap_machine.specs.declared.cell.Cell.TheVariants.{Unknown, Closed, Held}
-use Rattle.cap_machine.specs.declared.cell.OnExec.TheVariants as flags
+use Rattle.cap_machine.specs.declared.cell.Cell.TheVariants.{Unknown}
 use Rattle.cap_machine.specs.declared.cell.Mode.TheVariants.{Unsure}
-use Rattle.cap_machine.specs.Index.{place_in}
 use Rattle.cap_machine.specs.declared.cells.Cells.{Cells}
-use Rattle.cap_machine.specs.declared.cells.tree.Tree.{Tree}
-use Rattle.cap_machine.specs.declared.cells.far.Step.{Step}
-use Rattle.cap_machine.specs.declared.cells.far.Step.TheVariants.{Write, Settle, CloseFrom}
 use Rattle.cap_machine.specs.declared.table.Process.{Process}
 use Rattle.cap_machine.specs.declared.table.Table.{Table}
 use Rattle.cap_machine.specs.Cells.{cell_in_cells}
-use Rattle.cap_machine.specs.Cells.Far.{stepped, after_steps}
-use Rattle.cap_machine.specs.Cells.Started.{in_started}
-use Rattle.cap_machine.specs.Cells.Tree.{cell_in_tree}
-use Rattle.cap_machine.specs.Cells.Pending.{settled}
 use Rattle.cap_machine.specs.State.{State, Added, listed_cell, with_all, with_listed, usual}
-use Rattle.cap_machine.specs.Table.{own, own_at, cell_in, state_of, start_state}
-use Rattle.cap_machine.specs.Known.{top_of, step_top, far_top, top, cells_below, known_of, known_from, known}
+use Rattle.cap_machine.specs.Table.{own, own_at, cell_in, place_in, state_of, start_state}
+use Rattle.cap_machine.specs.Known.{top, cells_below, known_of, known_from, known}
 use Rattle.cap_machine.proofs.Turns.{same_state}
 use Rattle.cap_machine.proofs.Owners.{either_way}
 
@@ -37,67 +27,19 @@ not_below a b ge = grind (arith, nat_tests, ge)
 is_below : (a b : ℕ) → a < b → nat_lt a b ≡ true
 is_below a b lt = grind (arith, nat_tests, lt)
 
-at_least : (a b : ℕ) → a ≤ b → nat_le a b ≡ true
-at_least a b le = grind (arith, nat_tests, le)
-
--- a list has nothing from its top on
-none_above : (ns : List ℕ) (f : ℕ) → top_of ns ≤ f → list_any (λ g. f == g) ns ≡ false
-none_above [] f above = refl
-none_above (n ∷ ns) f above =
-    ap (λ (b : Bool). b || list_any (λ g. f == g) ns) (ne_eqb f n (λ e. omega arith))
-    ∙ none_above ns f (omega arith)
-
-stepped_above : (step : Step) (c : Cell) (f g : ℕ) → step_top step ≤ f → step_top step ≤ g
-    → stepped step c f ≡ stepped step c g
-stepped_above (Write h d) c f g above also =
-    ap (λ (b : Bool). if b then d else c) (ne_eqb f h (λ e. omega arith) ∙ sym (ne_eqb g h (λ e. omega arith)))
-stepped_above (Settle pending) c f g above also = refl
-stepped_above (CloseFrom n) c f g above also =
-    ap (λ (b : Bool). if b then Closed else c) (at_least n f above ∙ sym (at_least n g also))
-
-steps_above : (steps : List Step) (c : Cell) (f g : ℕ) → far_top steps ≤ f → far_top steps ≤ g
-    → after_steps c steps f ≡ after_steps c steps g
-steps_above [] c f g above also = refl
-steps_above (step ∷ steps) c f g above also =
-    ap (λ (r : Cell). after_steps r steps f) (stepped_above step c f g (omega arith) (omega arith))
-    ∙ steps_above steps (stepped step c g) f g (omega arith) (omega arith)
-
 neither : {X : Type 0} (a b : Bool) (x y z : X) → a ≡ false → b ≡ false
     → (if a then x else (if b then y else z)) ≡ z
 neither a b x y z e g =
     ap (λ (r : Bool). if r then x else (if b then y else z)) e ∙ ap (λ (r : Bool). if r then y else z) g
 
-tree_far : (tree : Tree) (f : ℕ) → 1048576 ≤ f
-    → cell_in_tree tree f ≡ after_steps tree.far.first tree.far.steps.items f
-unfolding cell_in_tree
-tree_far tree f above =
-    neither (nat_lt f 64) (nat_lt f 1048576) _ _ _ (not_below f 64 (omega arith)) (not_below f 1048576 above)
-
-cells_far : (cells : Cells) (f : ℕ) → 1048576 ≤ f → top_of cells.started.small.items ≤ f
-    → top_of cells.started.large.items ≤ f
-    → cell_in_cells cells f ≡ after_steps cells.tree.far.first cells.tree.far.steps.items f
-unfolding cell_in_cells
-cells_far cells f above small large =
-    ap (λ (b : Bool). if b then cell_in_tree cells.tree f else in_started cells.started (cell_in_tree cells.tree f) f)
-    (not_below f 64 (omega arith))
-    ∙ ap (λ (b : Bool). if b then settled cells.started.pending (Held all flags.Unsure) else cell_in_tree cells.tree f)
-    (ap (λ (b : Bool). b || list_any (λ g. f == g) cells.started.large.items)
-    (none_above cells.started.small.items f small)
-    ∙ none_above cells.started.large.items f large)
-    ∙ tree_far cells.tree f above
-
-top_is : (cells : Cells) → top cells ≡ 1048576 + (top_of cells.started.small.items
-    + (top_of cells.started.large.items + far_top cells.tree.far.steps.items))
+is_above : (f : ℕ) → top ≤ f → nat_le f largest_fd ≡ false
 unfolding top
-top_is cells = refl
+is_above f above = grind (arith, nat_tests, above)
 
-cells_above : (cells : Cells) (f : ℕ) → top cells ≤ f → cell_in_cells cells f ≡ cell_in_cells cells (top cells)
+cells_above : (cells : Cells) (f : ℕ) → top ≤ f → cell_in_cells cells f ≡ cells.far
+unfolding cell_in_cells top
 cells_above cells f above =
-    let is : top cells ≡ 1048576 + (top_of cells.started.small.items
-    + (top_of cells.started.large.items + far_top cells.tree.far.steps.items)) = top_is cells in
-    cells_far cells f (omega arith) (omega arith) (omega arith)
-    ∙ steps_above cells.tree.far.steps.items cells.tree.far.first f (top cells) (omega arith) (omega arith)
-    ∙ sym (cells_far cells (top cells) (omega arith) (omega arith) (omega arith))
+    neither (nat_lt f 64) (nat_le f largest_fd) _ _ _ (not_below f 64 (omega arith)) (is_above f above)
 
 one_below : (cell : ℕ → Cell) (rest : Cell) (n f : ℕ)
     → (if nat_lt f n then cell f else (if f == n then cell n else rest)) ≡ (if nat_lt f (suc n) then cell f else rest)
@@ -127,12 +69,11 @@ below_read cell rest (suc n) f =
 known_cell : (q : Process) (f : ℕ) → listed_cell (known_of q).rest (known_of q).cells f ≡ cell_in q f
 known_cell q f =
     let cell : ℕ → Cell = cell_in_cells q.cells in
-    let n : ℕ = top q.cells in
-    below_read cell (cell n) n f
+    below_read cell q.cells.far top f
     ∙ ⊎_elim
-    (λ lt. ap (λ (b : Bool). if b then cell f else cell n) (is_below f n lt))
-    (λ ge. ap (λ (b : Bool). if b then cell f else cell n) (not_below f n ge) ∙ sym (cells_above q.cells f ge))
-    (cases_lt f n)
+    (λ lt. ap (λ (b : Bool). if b then cell f else q.cells.far) (is_below f top lt))
+    (λ ge. ap (λ (b : Bool). if b then cell f else q.cells.far) (not_below f top ge) ∙ sym (cells_above q.cells f ge))
+    (cases_lt f top)
 
 -- the process with a pid, among those that stand at their place, the first of these at place i
 abbrev owner_from : (ℕ → ℕ) → ℕ → List Process → ℕ → Option Process
@@ -249,5 +190,5 @@ pub state_known : (table : Table) → start_state (known table) ≡ state_of tab
 unfolding start_state known
 state_known table =
     same_state (with_all usual (known table)) (state_of table)
-    (cells_known (place_in table.index) table.processes.items)
-    (modes_known (place_in table.index) table.processes.items)
+    (cells_known (place_in table.places.items) table.processes.items)
+    (modes_known (place_in table.places.items) table.processes.items)

@@ -19,7 +19,7 @@ pub mod Excuses
 pub mod RightDenials
 pub mod LackedRights
 pub mod PartsOf
-pub mod FarSteps
+pub mod Within
 pub mod FewCells
 pub mod Owners
 pub mod Leaves

@@ -1,16 +1,28 @@
 -- Which process stands at the place of a pid.
-use Rattle.std.proofs.Common.{◌≡◌, ℕ, ◌+◌, ◌<◌, ◌≤◌, ◌==◌, ◌&&◌, if◌then◌else◌, Bool, true, false, List, [], ◌∷◌, ◌++◌}
+use Rattle.std.proofs.Common.{◌≡◌, ℕ, ◌+◌, ◌<◌, ◌≤◌, ◌==◌, ◌&&◌, ◌||◌, nat_le, if◌then◌else◌, Bool, true, false, List, [], ◌∷◌, ◌++◌}
 use Rattle.std.proofs.Common.{length, get_or, set, Some, None, refl, ap, sym, ◌∙◌, arith, length-append, eq-eqb}
 use Rattle.std.proofs.Common.{zero, suc}
 use Rattle.std.specs.Prelude.{slice_get, slice_set, slice_index_or}
 use Rattle.std.specs.List.{AllZip}
 use Rattle.std.specs.Option.{option_map_or}
 use Rattle.std.proofs.lemmas.Option.{slice_get-get_or, slice_get_past}
-use Rattle.std.proofs.lemmas.Bool.{cases_eq, cases_lt, cases_order, ne_eqb}
+use Rattle.std.proofs.lemmas.Bool.{cases_eq, cases_lt, cases_order, eqb-true, ne_eqb}
 use Rattle.std.proofs.lemmas.Grind.{get_or-set_at, common_steps}
 use Rattle.std.proofs.lemmas.List.{get_or-set_other, length-set}
 use Rattle.std.proofs.Math.Logic.{⊎_elim}
+use Rattle.cap_trace.specs.Seen.{fds_spelled}
+use Rattle.cap_machine.specs.declared.cell.Cell.{Cell}
+use Rattle.cap_machine.specs.declared.cell.Cell.TheVariants.{Unknown, Closed}
+use Rattle.cap_machine.specs.declared.cell.Mode.{Mode}
+use Rattle.cap_machine.specs.declared.cell.Mode.TheVariants.{Inside, Outside, Unsure}
+use Rattle.cap_machine.specs.declared.rule.Effect.{Effect}
+use Rattle.cap_machine.specs.declared.rule.Effect.TheVariants.{Keep, Start, Exit, Forget, Exec, CloseFrom, Enter, Give}
+use Rattle.cap_machine.specs.declared.rule.Effect.TheVariants.{GiveTwo, Change, Fork, ForkAs}
 use Rattle.cap_machine.specs.declared.table.Process.{Process}
+use Rattle.cap_machine.specs.Op.{applied, exec}
+use Rattle.cap_machine.specs.Touch.{Touch, kept, given, taken, Turn, stays, turns, started}
+use Rattle.cap_machine.specs.History.{touched, turned}
+use Rattle.cap_machine.specs.Effect.{effect_touch, effect_turn, own_cell, own_mode, IsOwn}
 use Rattle.cap_machine.specs.Table.{own, own_at, IsSame}
 
 is_own : (q : Process) (r : ℕ) → q.pid ≡ r → own r (Some q) ≡ Some q
@@ -188,6 +200,70 @@ both_tests false false x y = refl
 pub either_way : {R : Type 0} (b : Bool) (x : R) → (if b then x else x) ≡ x
 either_way true x = refl
 either_way false x = refl
+
+-- what an effect of a line of its own makes of a process is what the line does
+choice : {X Y : Type 0} (read : X → Y) (b : Bool) (x y : X) → (if b then read x else read y) ≡ read (if b then x else y)
+choice read true x y = refl
+choice read false x y = refl
+
+module _ (me p f : ℕ) (cell : ℕ → ℕ → Cell) (mine : ℕ → Cell) (is : (g : ℕ) → mine g ≡ cell me g) where
+  -- where the line touches one cell of its own process
+  at_one : (b t : Bool) (touch : Touch) (c : Cell) → (b ≡ true → p ≡ me) → c ≡ touched touch cell p f
+      → (if b then (if t then c else mine f) else cell p f) ≡ touched (if b && t then touch else kept) cell p f
+  at_one true true touch c same e = e
+  at_one true false touch c same e = is f ∙ ap (λ (q : ℕ). cell q f) (sym (same refl))
+  at_one false t touch c same e = refl
+
+  -- where it touches all of them
+  at_all : (b : Bool) (touch : Touch) (c : Cell) → c ≡ touched touch cell p f
+      → (if b then c else cell p f) ≡ touched (if b then touch else kept) cell p f
+  at_all true touch c e = e
+  at_all false touch c e = refl
+
+  none : (b : Bool) → (b ≡ true → p ≡ me) → (if b then mine f else cell p f) ≡ cell p f
+  none true same = is f ∙ ap (λ (q : ℕ). cell q f) (sym (same refl))
+  none false same = refl
+
+  itself : (p == me) ≡ true → p ≡ me
+  itself = eqb-true p me
+
+  pub own_touch : (effect : Effect) → IsOwn effect
+      → (if p == me then own_cell effect mine f else cell p f) ≡ touched (effect_touch effect me p f) cell p f
+  own_touch Keep one = none (p == me) itself
+  own_touch Enter one = none (p == me) itself
+  own_touch (Start fds) one = at_all (p == me) (given (started (fds_spelled fds.now) f)) _ refl
+  own_touch Exit one = at_all (p == me) (given Unknown) Unknown refl
+  own_touch Forget one = at_all (p == me) (given Unknown) Unknown refl
+  own_touch Exec one = at_all (p == me) (taken exec me f) _ (ap (applied exec) (is f))
+  own_touch (CloseFrom n) one = at_one (p == me) (nat_le n f) (given Closed) Closed itself refl
+  own_touch (Give g c) one = at_one (p == me) (f == g) (given c) c itself refl
+  own_touch (GiveTwo g h c) one = at_one (p == me) (f == g || f == h) (given c) c itself refl
+  own_touch (Change g op h) one = at_one (p == me) (f == g) (taken op me h) _ itself (ap (applied op) (is h))
+  own_touch (Fork child) one = absurd one
+  own_touch (ForkAs child g) one = absurd one
+
+pub own_turn : (effect : Effect) (me p : ℕ) (mode : ℕ → Mode) (m : Mode) → IsOwn effect → m ≡ mode me
+    → (if p == me then own_mode effect m else mode p) ≡ turned (effect_turn effect me p) mode p
+own_turn effect me p mode m one is = by effect one
+  where
+    same : (b : Bool) → (b ≡ true → p ≡ me) → (if b then m else mode p) ≡ mode p
+    same true here = is ∙ ap mode (sym (here refl))
+    same false here = refl
+
+    by : (effect : Effect) → IsOwn effect
+        → (if p == me then own_mode effect m else mode p) ≡ turned (effect_turn effect me p) mode p
+    by (Start fds) one = choice (λ (t : Turn). turned t mode p) (p == me) (turns Outside) stays
+    by Exit one = choice (λ (t : Turn). turned t mode p) (p == me) (turns Unsure) stays
+    by Enter one = choice (λ (t : Turn). turned t mode p) (p == me) (turns Inside) stays
+    by Keep one = same (p == me) (eqb-true p me)
+    by Forget one = same (p == me) (eqb-true p me)
+    by Exec one = same (p == me) (eqb-true p me)
+    by (CloseFrom n) one = same (p == me) (eqb-true p me)
+    by (Give g c) one = same (p == me) (eqb-true p me)
+    by (GiveTwo g h c) one = same (p == me) (eqb-true p me)
+    by (Change g op h) one = same (p == me) (eqb-true p me)
+    by (Fork child) one = absurd one
+    by (ForkAs child g) one = absurd one
 
 -- two processes of which the same is asked, if they are anywhere
 asked_if : {R : Type 0} (ask : Process → R) (default : R) (p q : Process) (b : Bool) → ask q ≡ ask p

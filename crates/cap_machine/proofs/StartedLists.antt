@@ -1,13 +1,16 @@
 -- What is left of a list when descriptors are struck off it.
-use Rattle.std.proofs.Common.{◌≡◌, ℕ, ◌==◌, nat_le, nat_lt, ◌||◌, not, if◌then◌else◌, Bool, true, false, List}
-use Rattle.std.proofs.Common.{◌+◌, ◌<◌, length, take, get_or, refl, ap, sym, ◌∙◌, arith}
-use Rattle.std.specs.List.{list_any, filter}
-use Rattle.std.proofs.lemmas.Bool.{cases_eq, cases_lt}
+use Rattle.std.proofs.Common.{◌≡◌, ℕ, ◌==◌, nat_le, nat_lt, ◌||◌, not, if◌then◌else◌, Bool, true, false, List, [], ◌∷◌}
+use Rattle.std.proofs.Common.{◌+◌, ◌<◌, ◌≤◌, length, take, get_or, refl, ap, sym, ◌∙◌, arith}
+use Rattle.std.specs.List.{All, list_any, filter}
+use Rattle.std.proofs.lemmas.Bool.{cases_eq, cases_lt, ne_eqb}
 use Rattle.std.proofs.lemmas.Bool.Decides.{nat_tests}
 use Rattle.std.proofs.lemmas.Map.Views.{any-filter_same}
+use Rattle.std.proofs.lemmas.List.Elements.{All-head, All-tail}
 use Rattle.std.proofs.lemmas.List.Folds.{list_any_more}
 use Rattle.std.proofs.Math.Logic.{⊎_elim}
 use Rattle.cap_rights.specs.Rights.{all}
+use Rattle.cap_trace.specs.Entry.{IsFd}
+use Rattle.cap_trace.specs.Limits.{largest_fd}
 use Rattle.cap_machine.specs.declared.cell.OnExec.TheVariants.{Unsure}
 use Rattle.cap_machine.specs.declared.cell.Cell.TheVariants.{Held, Closed}
 use Rattle.cap_machine.specs.Touch.{started}
@@ -98,3 +101,15 @@ pub started_more : (fds : List ℕ) (i f : ℕ) → i < length fds
 started_more fds i f within =
     either (list_any (λ g. f == g) (take i fds)) (f == get_or fds i 0) (Held all Unsure) Closed
     ∙ ap (λ (b : Bool). if b then Held all Unsure else Closed) (sym (list_any_more (λ g. f == g) fds i 0 within))
+
+-- none is above the largest descriptor
+none_listed : (fds : List ℕ) (f : ℕ) → All IsFd fds → largest_fd < f → list_any (λ g. f == g) fds ≡ false
+none_listed [] f are above = refl
+none_listed (n ∷ fds) f are above =
+    let first : n ≤ largest_fd = All-head IsFd n fds are in
+    ap (λ (b : Bool). b || list_any (λ g. f == g) fds) (ne_eqb f n (λ e. omega (arith, first)))
+    ∙ none_listed fds f (All-tail IsFd n fds are) above
+
+pub none_beyond : (fds : List ℕ) (f : ℕ) → All IsFd fds → nat_le f largest_fd ≡ false → started fds f ≡ Closed
+none_beyond fds f are above =
+    ap (λ (b : Bool). if b then Held all Unsure else Closed) (none_listed fds f are (grind (arith, nat_tests, above)))

@@ -1,14 +1,17 @@
 -- What an effect does to one cell and to one mode; me is the process of the line.
-use Rattle.std.specs.Prelude.{◌≡◌, ℕ, ◌==◌, ◌&&◌, ◌||◌, ◌<◌, ◌^◌, nat_le, if◌then◌else◌}
+use Rattle.std.specs.Prelude.{◌≡◌, ℕ, ◌==◌, ◌&&◌, ◌||◌, nat_le, if◌then◌else◌, List, [], ◌∷◌}
+use Rattle.cap_trace.specs.Entry.{IsFd, Arg, an_fd}
 use Rattle.cap_trace.specs.Seen.{fds_spelled}
 use Rattle.cap_trace.specs.declared.line.Answer.{Answer}
 use Rattle.cap_trace.specs.declared.line.Answer.TheVariants as answers
+use Rattle.cap_machine.specs.declared.cell.Cell.{Cell}
 use Rattle.cap_machine.specs.declared.cell.Cell.TheVariants.{Unknown, Closed}
+use Rattle.cap_machine.specs.declared.cell.Mode.{Mode}
 use Rattle.cap_machine.specs.declared.cell.Mode.TheVariants.{Inside, Outside, Unsure}
 use Rattle.cap_machine.specs.declared.rule.Effect.{Effect}
 use Rattle.cap_machine.specs.declared.rule.Effect.TheVariants.{Keep, Start, Exit, Forget, Exec, CloseFrom, Enter, Give}
 use Rattle.cap_machine.specs.declared.rule.Effect.TheVariants.{GiveTwo, Change, Fork, ForkAs}
-use Rattle.cap_machine.specs.Op.{same, exec}
+use Rattle.cap_machine.specs.Op.{applied, same, exec}
 use Rattle.cap_machine.specs.Touch.{Touch, kept, given, taken, Turn, stays, turns, follows, started}
 
 abbrev pub effect_touch : Effect → ℕ → ℕ → ℕ → Touch
@@ -40,15 +43,57 @@ effect_turn (Give g c) me p = stays
 effect_turn (GiveTwo g h c) me p = stays
 effect_turn (Change g op h) me p = stays
 
--- the effect changes no mode
-abbrev pub OnlyCells : Effect → Type 0
-OnlyCells effect = (me p : ℕ) → effect_turn effect me p ≡ stays
+-- what an effect of its own line makes of the cells of a process, and of its mode
+abbrev pub own_cell : Effect → (ℕ → Cell) → ℕ → Cell
+own_cell (Start fds) cell f = started (fds_spelled fds.now) f
+own_cell Exit cell f = Unknown
+own_cell Forget cell f = Unknown
+own_cell Exec cell f = applied exec (cell f)
+own_cell (CloseFrom n) cell f = if nat_le n f then Closed else cell f
+own_cell (Give g c) cell f = if f == g then c else cell f
+own_cell (GiveTwo g h c) cell f = if f == g || f == h then c else cell f
+own_cell (Change g op h) cell f = if f == g then applied op (cell h) else cell f
+own_cell _ cell f = cell f
 
--- what a call made fits a number of 32 bits
+abbrev pub own_mode : Effect → Mode → Mode
+own_mode (Start fds) m = Outside
+own_mode Exit m = Unsure
+own_mode Enter m = Inside
+own_mode _ m = m
+
+-- it makes no child
+abbrev pub IsOwn : Effect → Type 0
+IsOwn (Fork child) = ⊥
+IsOwn (ForkAs child g) = ⊥
+IsOwn _ = Unit {0}
+
+-- the descriptors that it writes, or closes from, are within the limit
+abbrev pub IsWithin : Effect → Type 0
+IsWithin (CloseFrom n) = IsFd n
+IsWithin (Give g c) = IsFd g
+IsWithin (GiveTwo g h c) = IsFd g × IsFd h
+IsWithin (Change g op h) = IsFd g
+IsWithin (ForkAs child g) = IsFd g
+IsWithin _ = Unit {0}
+
+-- so are those among arguments
+abbrev pub ArgWithin : Arg → Type 0
+ArgWithin (an_fd f) = IsFd f
+ArgWithin _ = Unit {0}
+
+abbrev pub FdsWithin : List Arg → Type 0
+FdsWithin [] = Unit {0}
+FdsWithin (a ∷ others) = ArgWithin a × FdsWithin others
+
+-- the effect changes no mode, and no cell beyond the limit by itself
+abbrev pub OnlyCells : Effect → Type 0
+OnlyCells effect = ((me p : ℕ) → effect_turn effect me p ≡ stays) × IsWithin effect
+
+-- what a call made is a descriptor, or a pid, and none is as large as the largest descriptor
 abbrev pub FitsMade : Answer → Type 0
-FitsMade (answers.Made n) = n < 2 ^ 32
+FitsMade (answers.Made n) = IsFd n
 FitsMade _ = Unit {0}
 
 abbrev pub FitsPair : Answer → Type 0
-FitsPair (answers.Pair n m) = (n < 2 ^ 32) × (m < 2 ^ 32)
+FitsPair (answers.Pair n m) = IsFd n × IsFd m
 FitsPair _ = Unit {0}

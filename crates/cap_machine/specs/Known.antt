@@ -1,33 +1,16 @@
 -- What a table knows, as a list of what one would add to the usual start. Only the view of a checker uses this.
-use Rattle.std.specs.Prelude.{ℕ, ◌+◌, ◌==◌, if◌then◌else◌, List, [], ◌∷◌, suc, zero}
+use Rattle.std.specs.Prelude.{ℕ, ◌==◌, if◌then◌else◌, List, [], ◌∷◌, suc, zero}
+use Rattle.cap_trace.specs.Limits.{largest_fd}
 use Rattle.cap_machine.specs.declared.cell.Cell.{Cell}
-use Rattle.cap_machine.specs.declared.cells.Cells.{Cells}
-use Rattle.cap_machine.specs.declared.cells.far.Step.{Step}
-use Rattle.cap_machine.specs.declared.cells.far.Step.TheVariants.{Write, Settle, CloseFrom}
 use Rattle.cap_machine.specs.declared.table.Process.{Process}
 use Rattle.cap_machine.specs.declared.table.Table.{Table}
 use Rattle.cap_machine.specs.Cells.{cell_in_cells}
-use Rattle.cap_machine.specs.Index.{place_in}
 use Rattle.cap_machine.specs.State.{Added}
+use Rattle.cap_machine.specs.Table.{place_in}
 
--- above each of these
-abbrev pub top_of : List ℕ → ℕ
-top_of [] = 0
-top_of (n ∷ more) = suc n + top_of more
-
-abbrev pub step_top : Step → ℕ
-step_top (Write g c) = suc g
-step_top (Settle pending) = 0
-step_top (CloseFrom n) = n
-
-abbrev pub far_top : List Step → ℕ
-far_top [] = 0
-far_top (step ∷ steps) = step_top step + far_top steps
-
--- from this descriptor on all cells of a process are the same
-unfoldable pub top : Cells → ℕ
-top cells = 1048576 + (top_of cells.started.small.items + (top_of cells.started.large.items
-    + far_top cells.tree.far.steps.items))
+-- above the largest descriptor all cells of a process are the same
+unfoldable pub top : ℕ
+top = suc largest_fd
 
 -- the cells below a descriptor
 abbrev pub cells_below : (ℕ → Cell) → ℕ → List (ℕ × Cell)
@@ -38,8 +21,8 @@ abbrev pub known_of : Process → Added
 known_of process = record {
   pid = process.pid;
   mode = process.mode;
-  rest = cell_in_cells process.cells (top process.cells);
-  cells = cells_below (cell_in_cells process.cells) (top process.cells);
+  rest = process.cells.far;
+  cells = cells_below (cell_in_cells process.cells) top;
 }
 
 -- the processes that stand at their place, the first of these at place i
@@ -50,4 +33,4 @@ known_from place i (process ∷ more) =
     else known_from place (suc i) more
 
 unfoldable pub known : Table → List Added
-known table = known_from (place_in table.index) 0 table.processes.items
+known table = known_from (place_in table.places.items) 0 table.processes.items

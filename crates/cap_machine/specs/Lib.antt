@@ -30,7 +30,6 @@ pub mod Composed
 pub mod Named
 pub mod Effect
 pub mod Cells
-pub mod Index
 pub mod Table
 pub mod Starts
 pub mod Known

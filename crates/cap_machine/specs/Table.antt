@@ -17,7 +17,6 @@ use Rattle.cap_machine.specs.State.{State, usual, Added, with_all}
 use Rattle.cap_machine.specs.declared.cell.Op.{Op}
 use Rattle.cap_machine.specs.Op.{applied}
 use Rattle.cap_machine.specs.Cells.{cell_in_cells}
-use Rattle.cap_machine.specs.Index.{place_in}
 use Rattle.cap_machine.specs.declared.rule.Effect.{Effect}
 use Rattle.cap_machine.specs.Touch.{Touch, touch, turn, call_touch, call_turn, started}
 use Rattle.cap_machine.specs.Effect.{effect_touch, effect_turn}
@@ -36,9 +35,13 @@ own p (Some process) = if process.pid == p then Some process else None
 abbrev pub own_at : List Process → ℕ → ℕ → Option Process
 own_at processes place p = own p (slice_get processes place)
 
--- the process with this pid, at the place that the index has for it
+-- the place that is written for a pid, and 0 where none is
+abbrev pub place_in : List ℕ → ℕ → ℕ
+place_in places p = slice_index_or places p 0
+
+-- the process with this pid, at the place that is written for it
 abbrev pub found : Table → ℕ → Option Process
-found table p = own_at table.processes.items (place_in table.index p) p
+found table p = own_at table.processes.items (place_in table.places.items p) p
 
 abbrev pub cell_of : Table → ℕ → ℕ → Cell
 cell_of table p f = option_map_or (λ process. cell_in process f) (found table p) Unknown
@@ -48,7 +51,7 @@ mode_of table p = option_map_or (λ (process : Process). process.mode) (found ta
 
 -- the process with this pid stands at this place
 pub record StandsAt (table : Table) (p i : ℕ) : Type 0 where
-  pub place : i ≡ place_in table.index p
+  pub place : i ≡ place_in table.places.items p
   pub within : i < vec_len table.processes
   pub owner : (d : Process) → (slice_index_or table.processes.items i d).pid ≡ p
 
@@ -72,29 +75,11 @@ pub record Keeps (table : Table) (s : State) : Type 0 where
 abbrev pub with_cell : State → ℕ → ℕ → Cell → State
 with_cell s me g c = record { cell = λ p f. if p == me && f == g then c else s.cell p f; mode = s.mode }
 
--- one mode is written
-abbrev pub with_mode : State → ℕ → Mode → State
-with_mode s me m = record { cell = s.cell; mode = λ p. if p == me then m else s.mode p }
-
 -- a process is as given
 abbrev pub with_process : State → ℕ → Process → State
 with_process s me process = record {
   cell = λ p f. if p == me then cell_in process f else s.cell p f;
   mode = λ p. if p == me then process.mode else s.mode p;
-}
-
--- a process holds these descriptors and no others
-abbrev pub with_started : State → ℕ → List ℕ → State
-with_started s me fds = record {
-  cell = λ p f. if p == me then started fds f else s.cell p f;
-  mode = λ p. if p == me then Outside else s.mode p;
-}
-
--- nothing is known of a process
-abbrev pub with_unknown : State → ℕ → State
-with_unknown s me = record {
-  cell = λ p f. if p == me then Unknown else s.cell p f;
-  mode = λ p. if p == me then Unsure else s.mode p;
 }
 
 -- a child has what its parent has
@@ -103,18 +88,6 @@ with_copy s parent child = record {
   cell = λ p f. if p == child then s.cell parent f else s.cell p f;
   mode = λ p. if p == child then s.mode parent else s.mode p;
 }
-
--- every cell of a process is as given
-abbrev pub with_rest : State → ℕ → Cell → State
-with_rest s me c = record { cell = λ p f. if p == me then c else s.cell p f; mode = s.mode }
-
--- every cell of a process is under an op
-abbrev pub with_op : State → ℕ → Op → State
-with_op s me op = record { cell = λ p f. if p == me then applied op (s.cell p f) else s.cell p f; mode = s.mode }
-
--- every cell of a process at or above a descriptor is closed
-abbrev pub with_closed_from : State → ℕ → ℕ → State
-with_closed_from s me n = record { cell = λ p f. if p == me && nat_le n f then Closed else s.cell p f; mode = s.mode }
 
 -- the state after an effect of process me, and after a step
 abbrev pub effect_after : Effect → ℕ → State → State

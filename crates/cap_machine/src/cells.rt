@@ -1,15 +1,19 @@
 //! The cells of a process: what is known of each of its descriptors. Those of the first 64 stand in one leaf, the
-//! others in a tree whose parts are shared between processes until they are written.
+//! others in a tree whose parts are shared between processes until they are written, and in two lists over it.
 
 ghost use Rattle.std.specs.Prelude.{◌≡◌, ℕ, ◌+◌, ◌≤◌, ◌<◌, OnOk, IfOk, IfSome, ◌==◌, nat_le, if◌then◌else◌};
+ghost use Rattle.std.specs.List.{All};
+ghost use Rattle.cap_rights.specs.Rights.{all};
+ghost use Rattle.cap_trace.specs.Entry.{IsFd};
 ghost use Rattle.cap_machine.specs.Cells.Pending.{settled};
 ghost use Rattle.cap_machine.specs.Cells.{cell_in_cells};
 ghost use Rattle.cap_machine.specs.Cells.Remains.{left_at_most};
-ghost use Rattle.cap_machine.specs.Cells.Parts.{in_leaf};
+ghost use Rattle.cap_machine.specs.Cells.Parts.{in_leaf, in_shared};
+ghost use Rattle.cap_machine.specs.Cells.High.{in_high};
+ghost use Rattle.cap_machine.specs.Cells.Started.{in_started};
 ghost use Rattle.cap_machine.specs.Touch.{started};
 
 mod block;
-mod far;
 mod few;
 mod high;
 mod kind;
@@ -22,23 +26,30 @@ mod remains;
 mod shared;
 mod started;
 mod subtree;
-mod tree;
 
-use crate::cell::Cell;
+use crate::cell::{Cell, OnExec};
+use crate::cells::high::High;
 pub(crate) use crate::cells::leaf::Leaf;
+use crate::cells::listed::Listed;
 pub(crate) use crate::cells::pending::Pending;
 pub(crate) use crate::cells::remains::Remains;
+use crate::cells::shared::Shared;
 use crate::cells::started::Started;
-use crate::cells::tree::Tree;
-use cap_rights::NoMemory;
-use cap_trace::Fd;
+use crate::cells::subtree::Subtree;
+use cap_rights::{NoMemory, RightSet};
+use cap_trace::{Fd, LARGEST_FD};
 use std::alloc::{AllocError, Global};
 
-/// The cells of a process: those from 64 on that are still as `@start` listed them, and all others.
+/// The cells of a process. Those of the first 64 descriptors stand in a leaf. Of the others a few that were written
+/// stand over those that are still as `@start` listed them, and these over a tree. No descriptor above the largest one
+/// is ever written, so one cell stands for all of them.
 #[derive(Drop)]
 pub(crate) struct Cells {
+    low: Shared<Leaf<64>>,
+    few: Listed,
     started: Started,
-    tree: Tree,
+    high: Shared<High>,
+    far: Cell,
 }
 
 impl Cells {
@@ -48,9 +59,24 @@ impl Cells {
         ensures { IfOk result (λ cells. (f : ℕ) → cell_in_cells cells f ≡ cell) }
     {
         Ok(Cells {
+            low: Shared::all(alloc, cell)?,
+            few: Listed::none(alloc),
             started: Started::nothing(alloc),
-            tree: Tree::all(alloc, cell)?,
+            high: Shared::all(alloc, cell)?,
+            far: cell,
         })
+    }
+
+    /// The cell of a descriptor as it is below the few that were written.
+    fn unlisted(&self, fd: Fd) -> Cell
+        requires { IsFd fd }
+        ensures { result ≡ in_started self.now.started (in_shared in_high self.now.high fd) fd }
+    {
+        if self.started.lists(fd) {
+            self.started.cell()
+        } else {
+            self.high.cell(fd as usize)
+        }
     }
 
     /// The cell of a descriptor.
@@ -58,10 +84,12 @@ impl Cells {
     pub(crate) fn cell(&self, fd: Fd) -> Cell
         ensures { result ≡ cell_in_cells self.now fd }
     {
-        if 64 <= fd && self.started.lists(fd) {
-            self.started.cell()
+        if fd < 64 {
+            self.low.cell(fd as usize)
+        } else if fd <= LARGEST_FD {
+            self.few.over(self.unlisted(fd), fd)
         } else {
-            self.tree.cell(fd)
+            self.far
         }
     }
 
@@ -72,33 +100,39 @@ impl Cells {
         ensures low { IfSome result (λ leaf. fd < 64) }
         ensures cell { IfSome result (λ leaf. in_leaf leaf.now fd ≡ cell_in_cells self.now fd) }
     {
-        if fd < 64 { self.tree.low_leaf() } else { None }
+        if fd < 64 { self.low.settled() } else { None }
     }
 
     /// Writes one cell.
     #[tactic(auto, unfolding(crate::specs::Cells::cell_in_cells))]
     #[inline(always)]
     pub(crate) fn write(&mut self, fd: Fd, cell: Cell) -> Result<(), NoMemory>
+        requires { IsFd fd }
         ensures { OnOk result
             ((f : ℕ) → cell_in_cells self.new f ≡ (if f == fd then cell else cell_in_cells self.old f)) }
     {
         if fd < 64 {
-            self.tree.write_low(fd, cell)
+            self.low.write(fd as usize, cell)
         } else {
             self.write_high(fd, cell)
         }
     }
 
-    /// Writes one cell at or above 64.
+    /// Writes one cell at or above 64, in the list of a few while it has room.
     #[tactic(auto, unfolding(crate::specs::Cells::cell_in_cells))]
     #[inline(never)]
     fn write_high(&mut self, fd: Fd, cell: Cell) -> Result<(), NoMemory>
-        requires { 64 ≤ fd }
+        requires high { 64 ≤ fd }
+        requires within { IsFd fd }
         ensures { OnOk result
             ((f : ℕ) → cell_in_cells self.new f ≡ (if f == fd then cell else cell_in_cells self.old f)) }
     {
-        self.started.strike(fd);
-        self.tree.write_high(fd, cell)
+        if self.few.takes(fd) {
+            self.few.write(fd, cell)
+        } else {
+            self.started.strike(fd);
+            self.high.write(fd as usize, cell)
+        }
     }
 
     /// Does this to each cell.
@@ -106,34 +140,83 @@ impl Cells {
     pub(crate) fn settle(&mut self, pending: Pending) -> Result<(), NoMemory>
         ensures { OnOk result ((f : ℕ) → cell_in_cells self.new f ≡ settled pending (cell_in_cells self.old f)) }
     {
+        self.low.settle(pending);
+        self.few.settle(pending)?;
         self.started.settle(pending);
-        self.tree.settle(pending)
+        self.high.settle(pending);
+        self.far = pending.on(self.far);
+        Ok(())
     }
 
     /// Closes the descriptors from one on.
     #[tactic(auto, unfolding(crate::specs::Cells::cell_in_cells))]
     pub(crate) fn close_from(&mut self, fd: Fd) -> Result<(), NoMemory>
+        requires { IsFd fd }
         ensures { OnOk result
             ((f : ℕ) → cell_in_cells self.new f ≡ (if nat_le fd f then Cell.Closed else cell_in_cells self.old f)) }
     {
+        if fd < 64 {
+            self.low.close_from(fd as usize)?;
+            self.high.settle(Pending::Close);
+        } else {
+            self.high.close_from(fd as usize)?;
+        }
+        self.few.strike_from(fd)?;
         self.started.strike_from(fd);
-        self.tree.close_from(fd)
+        self.far = Cell::Closed;
+        Ok(())
+    }
+
+    /// Holds a descriptor that was never limited, if it is below 64.
+    #[tactic(auto, unfolding(crate::specs::Cells::cell_in_cells))]
+    fn start_one(&mut self, fd: Fd) -> Result<(), NoMemory>
+        ensures low { OnOk result ((f : ℕ) → f < 64 → cell_in_cells self.new f
+            ≡ (if f == fd then Cell.Held all OnExec.Unsure else cell_in_cells self.old f)) }
+        ensures high { OnOk result ((f : ℕ) → 64 ≤ f → cell_in_cells self.new f ≡ cell_in_cells self.old f) }
+    {
+        if fd < 64 {
+            self.low
+                .write(fd as usize, Cell::Held(RightSet::all(), OnExec::Unsure))
+        } else {
+            Ok(())
+        }
+    }
+
+    /// All descriptors are closed but those from 64 on that are listed, which were never limited.
+    #[tactic(auto, unfolding(crate::specs::Cells::cell_in_cells), using(crate::proofs::StartedLists::none_beyond))]
+    fn start_high(&mut self, alloc: Global, fds: &[Fd]) -> Result<(), NoMemory>
+        requires { All IsFd fds.now }
+        ensures low { OnOk result ((f : ℕ) → f < 64 → cell_in_cells self.new f ≡ Cell.Closed) }
+        ensures high { OnOk result ((f : ℕ) → 64 ≤ f → cell_in_cells self.new f ≡ started fds.now f) }
+    {
+        self.low.settle(Pending::Close);
+        self.few = Listed::none(alloc);
+        self.started = Started::of(alloc, fds)?;
+        self.high.settle(Pending::Close);
+        self.far = Cell::Closed;
+        Ok(())
     }
 
     /// Holds these descriptors, which were never limited, and no others.
-    #[tactic(auto, unfolding(crate::specs::Cells::cell_in_cells))]
     pub(crate) fn start(&mut self, alloc: Global, fds: &[Fd]) -> Result<(), NoMemory>
+        requires { All IsFd fds.now }
         ensures { OnOk result ((f : ℕ) → cell_in_cells self.new f ≡ started fds.now f) }
     {
-        self.started = Started::of(alloc, fds)?;
-        self.tree.start(fds)
+        self.start_high(alloc, fds)?;
+        for fd in fds {
+            self.start_one(*fd)?;
+        }
+        Ok(())
     }
 
-    /// Hands on what nobody else has of these cells, as they are to be dropped.
+    /// Hands on the tree, where nobody else has it, as these cells are to be dropped.
     pub(crate) fn hand_on(&self, remains: &mut Remains) -> Result<(), NoMemory>
         ensures { left_at_most remains.new ≤ left_at_most remains.old + 37449 }
     {
-        self.tree.hand_on(remains)
+        match self.high.sole()? {
+            Some(high) => remains.add(high),
+            None => Ok(()),
+        }
     }
 }
 
@@ -143,8 +226,11 @@ impl Clone for Cells {
     #[tactic(auto, unfolding(crate::specs::Cells::cell_in_cells))]
     fn clone(&self) -> Result<Cells, AllocError> {
         Ok(Cells {
+            low: self.low.clone()?,
+            few: self.few.clone()?,
             started: self.started.clone()?,
-            tree: self.tree.clone()?,
+            high: self.high.clone()?,
+            far: self.far,
         })
     }
 }

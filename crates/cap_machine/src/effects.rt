@@ -2,7 +2,7 @@
 //! tables stand in `docs/RULES.md`.
 
 ghost use Rattle.std.specs.Prelude.{◌≡◌, ℕ, ◌<◌, codes, IsTrue, if◌then◌else◌};
-ghost use Rattle.cap_trace.specs.Entry.{IsAnswer, kind_of, fcntl_kind};
+ghost use Rattle.cap_trace.specs.Entry.{IsAnswer, IsFd, args_of_call, kind_of, fcntl_kind};
 ghost use Rattle.cap_trace.specs.Seen.{call_seen};
 ghost use Rattle.cap_trace.specs.Call as calls;
 ghost use Rattle.cap_machine.specs.Flags.{has_flag};
@@ -12,8 +12,8 @@ ghost use Rattle.cap_machine.specs.Touch.{copied_to, whole, exec_touch, closefro
 ghost use Rattle.cap_machine.specs.Touch.{socket_flag, fd_flag, fd_touch, fcntl_touch, fcntl_copied_to, set_fd_op};
 ghost use Rattle.cap_machine.specs.Touch.{at_touch, opened_below, flags_touch, fork_touch};
 ghost use Rattle.cap_machine.specs.Touch.{pdfork_touch, bare_touch, call_touch, call_turn, enter_turn};
-ghost use Rattle.cap_machine.specs.Touch.{fork_turn, pdfork_turn};
-ghost use Rattle.cap_machine.specs.Effect.{effect_touch, effect_turn, OnlyCells, FitsMade, FitsPair};
+ghost use Rattle.cap_machine.specs.Touch.{stays, fork_turn, pdfork_turn};
+ghost use Rattle.cap_machine.specs.Effect.{effect_touch, effect_turn, OnlyCells, IsWithin, FdsWithin, FitsMade, FitsPair};
 
 use crate::cell::{Cell, OnExec, Op, Profile};
 use crate::flags::{all_known_of, has_flag_of};
@@ -46,7 +46,7 @@ pub(crate) fn open_flag_of(flags: &[u8]) -> OnExec
 }
 
 /// socket(2), socketpair(2).
-pub(crate) fn socket_flag_of(flags: &[u8]) -> OnExec
+fn socket_flag_of(flags: &[u8]) -> OnExec
     ensures { result ≡ socket_flag flags.now }
 {
     flag_where(has_flag_of(flags, b"SOCK_CLOEXEC"))
@@ -146,6 +146,7 @@ fn fcntl_copied(command: DupCommand, fd: Fd, to: Fd, answer: &Answer) -> Effect<
 
 /// A descriptor is changed where the call succeeded.
 fn changed(fd: Fd, op: Op, answer: &Answer) -> Effect<'static>
+    requires { IsFd fd }
     ensures cells { (me p f : ℕ) → effect_touch result me p f ≡ on_success fd answer.now (taken op me fd) me p f }
     ensures modes { OnlyCells result }
 {
@@ -158,7 +159,8 @@ fn changed(fd: Fd, op: Op, answer: &Answer) -> Effect<'static>
 /// close(2).
 pub(crate) fn closed(fd: Fd, answer: &Answer) -> Effect<'static>
     ensures cells { (me p f : ℕ) → effect_touch result me p f ≡ on_fd fd (closing answer.now) me p f }
-    ensures modes { OnlyCells result }
+    ensures modes { (me p : ℕ) → effect_turn result me p ≡ stays }
+    ensures within { IsFd fd → IsWithin result }
 {
     match answer {
         Answer::Fault(9) => Effect::Keep,
@@ -181,6 +183,7 @@ fn executed(profile: Profile, answer: &Answer) -> Effect<'static>
 
 /// closefrom(2).
 fn closed_from(profile: Profile, fd: Fd, answer: &Answer) -> Effect<'static>
+    requires { IsFd fd }
     ensures cells { (me p f : ℕ) → effect_touch result me p f ≡ closefrom_touch profile fd answer.now me p f }
     ensures modes { OnlyCells result }
 {
@@ -210,7 +213,8 @@ pub(crate) fn keeps_all(call: FdCall) -> bool
 
 /// A call whose one argument is a descriptor.
 fn fd_effect(profile: Profile, call: FdCall, fd: Fd, answer: &Answer) -> Effect<'static>
-    requires { IsAnswer (kind_of (calls.OnFd call fd)) answer.now }
+    requires answer { IsAnswer (kind_of (calls.OnFd call fd)) answer.now }
+    requires within { IsFd fd }
     ensures cells { (me p f : ℕ) → effect_touch result me p f ≡ fd_touch profile call fd answer.now me p f }
     ensures modes { OnlyCells result }
 {
@@ -298,6 +302,7 @@ fn forked(answer: &Answer) -> Effect<'static>
     requires { FitsMade answer.now }
     ensures cells { (me p f : ℕ) → effect_touch result me p f ≡ fork_touch answer.now me p f }
     ensures modes { (me p : ℕ) → effect_turn result me p ≡ fork_turn answer.now me p }
+    ensures within { IsWithin result }
 {
     match answer {
         Answer::Made(0) => Effect::Keep,
@@ -311,6 +316,7 @@ fn forked_with_fd(answer: &Answer) -> Effect<'static>
     requires { FitsPair answer.now }
     ensures cells { (me p f : ℕ) → effect_touch result me p f ≡ pdfork_touch answer.now me p f }
     ensures modes { (me p : ℕ) → effect_turn result me p ≡ pdfork_turn answer.now me p }
+    ensures within { IsWithin result }
 {
     match answer {
         Answer::Pair(0, _) => Effect::Keep,
@@ -323,6 +329,7 @@ fn forked_with_fd(answer: &Answer) -> Effect<'static>
 fn entered(answer: &Answer) -> Effect<'static>
     ensures cells { (me p f : ℕ) → effect_touch result me p f ≡ kept }
     ensures modes { (me p : ℕ) → effect_turn result me p ≡ enter_turn answer.now me p }
+    ensures within { IsWithin result }
 {
     match answer {
         Answer::Fault(_) => Effect::Keep,
@@ -335,6 +342,7 @@ fn bare_effect(call: BareCall, answer: &Answer) -> Effect<'static>
     requires { IsAnswer (kind_of (calls.Bare call)) answer.now }
     ensures cells { (me p f : ℕ) → effect_touch result me p f ≡ bare_touch call answer.now me p f }
     ensures modes { (me p : ℕ) → effect_turn result me p ≡ call_turn (calls.Bare call) answer.now me p }
+    ensures within { IsWithin result }
 {
     match call {
         BareCall::Pipe => made_both(OnExec::Clear, answer),
@@ -362,10 +370,12 @@ fn flags_effect(call: FlagsCall, flags: &[u8], answer: &Answer) -> Effect<'stati
 
 /// What a call does.
 pub(crate) fn effect_of(profile: Profile, call: &Call<'_>, answer: &Answer) -> Effect<'static>
-    requires { IsAnswer (kind_of (call_seen call.now)) answer.now }
+    requires answer { IsAnswer (kind_of (call_seen call.now)) answer.now }
+    requires within { FdsWithin (args_of_call (call_seen call.now)) }
     ensures cells { (me p f : ℕ)
         → effect_touch result me p f ≡ call_touch profile (call_seen call.now) answer.now me p f }
     ensures modes { (me p : ℕ) → effect_turn result me p ≡ call_turn (call_seen call.now) answer.now me p }
+    ensures within { IsWithin result }
 {
     match call {
         Call::OnFd(call, fd) => fd_effect(profile, *call, *fd, answer),

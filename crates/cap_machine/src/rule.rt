@@ -4,7 +4,7 @@ ghost use Rattle.std.specs.Prelude.{◌≡◌, ℕ};
 ghost use Rattle.cap_machine.specs.Rule.{demand, unjudged};
 ghost use Rattle.cap_machine.specs.Steps.{step};
 ghost use Rattle.cap_machine.specs.Touch.{touch, turn};
-ghost use Rattle.cap_machine.specs.Effect.{effect_touch, effect_turn};
+ghost use Rattle.cap_machine.specs.Effect.{effect_touch, effect_turn, IsWithin};
 
 use crate::cell::{Cell, Op, Profile};
 use crate::demands::demand_of;
@@ -139,6 +139,7 @@ pub fn rule_of<'a>(profile: Profile, line: &LineRef<'a>) -> Rule<'a>
 pub(crate) fn effect_of_line<'a>(profile: Profile, line: &LineRef<'a>) -> Effect<'a>
     ensures cells { (p f : ℕ) → effect_touch result line.now.pid p f ≡ touch (step profile line.now) p f }
     ensures modes { (p : ℕ) → effect_turn result line.now.pid p ≡ turn (step profile line.now) p }
+    ensures within { IsWithin result }
 {
     match &line.item {
         Item::Call { call, answer } => effect_of(profile, call, answer),

@@ -1,7 +1,9 @@
 //! What is known before the first line of a trace.
 
-ghost use Rattle.std.specs.Prelude.{◌≡◌, ℕ, OnOk, OnErr, [], ◌∷◌, ◌++◌, ◌||◌};
-ghost use Rattle.std.specs.List.{list_any};
+ghost use Rattle.std.specs.Prelude.{◌≡◌, ◌≤◌, ℕ, OnOk, OnErr, [], ◌∷◌, ◌++◌, ◌||◌};
+ghost use Rattle.std.specs.List.{All, list_any};
+ghost use Rattle.cap_trace.specs.Entry.{IsFd};
+ghost use Rattle.cap_trace.specs.Limits.{largest_pid};
 ghost use Rattle.cap_machine.specs.declared.start.Entry.{Entry};
 ghost use Rattle.cap_machine.specs.Starts.{added_by};
 ghost use Rattle.cap_machine.specs.Standing.{start_lists, added_lists, has_fd};
@@ -74,11 +76,11 @@ impl Start {
         }
     }
 
-    /// Adds what is known of a process: its mode, the cells that are listed, and that of all its other descriptors.
+    /// Adds what is known of a process: its mode, the cells that are listed, and that of all its other descriptors. Its
+    /// pid is at most [`LARGEST_PID`](cap_trace::LARGEST_PID), and a descriptor that is listed at most
+    /// [`LARGEST_FD`](cap_trace::LARGEST_FD).
     ///
-    /// Meant for a pid from 1 to 99,999 above all that were added, and strictly rising descriptors of at most
-    /// 1,048,575. Others do no harm: a process that was added before is replaced, and of a descriptor that is listed
-    /// twice the last cell counts.
+    /// A process that was added before is replaced, and of a descriptor that is listed twice the last cell counts.
     ///
     /// `NoMemory` when out of memory; the start is then as before.
     #[tactic(auto, unfolding(crate::specs::Table::start_state))]
@@ -89,6 +91,8 @@ impl Start {
         rest: Cell,
         cells: Vec<(Fd, Cell)>,
     ) -> Result<(), NoMemory>
+        requires pid { pid ≤ largest_pid }
+        requires fds { All (λ entry. IsFd entry.0) cells.items }
         ensures added { OnOk result
             (self.new ≡ self.old ++ (record { pid = pid; mode = mode; rest = rest; cells = cells.items }) ∷ []) }
         ensures unchanged { OnErr result (self.new ≡ self.old) }

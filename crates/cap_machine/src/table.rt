@@ -1,26 +1,21 @@
 //! The processes of which something is known, going forward: the meaning of a table is what its look-ups answer.
 
-ghost use Rattle.std.specs.Prelude.{◌≡◌, ℕ, ◌<◌, None, Some, IfOk, IfSome, OnOk, OnErr, ◌==◌, nat_le, if◌then◌else◌};
+ghost use Rattle.std.specs.Prelude.{◌≡◌, ℕ, None, IfOk, IfSome, OnOk, OnErr, ◌==◌, if◌then◌else◌};
+ghost use Rattle.std.specs.List.{All};
 ghost use Rattle.std.specs.Option.{option_copied, option_map_or};
 ghost use Rattle.std.specs.Vec.{vec_len};
-ghost use Rattle.cap_trace.specs.Seen.{fds_spelled};
+ghost use Rattle.cap_trace.specs.Entry.{IsFd};
 ghost use Rattle.cap_machine.specs.State.{usual, listed_cell, with_listed};
-ghost use Rattle.cap_machine.specs.Touch.{started};
 ghost use Rattle.cap_machine.specs.Check.{said_of};
-ghost use Rattle.cap_machine.specs.Table.{cell_in, found, cell_of, mode_of, state_of, Keeps, StandsAt, with_cell};
-ghost use Rattle.cap_machine.specs.Table.{with_mode, with_process, with_started, with_unknown, with_copy, with_rest};
-ghost use Rattle.cap_machine.specs.Table.{with_op, with_closed_from, effect_after};
-ghost use Rattle.cap_machine.specs.Op.{exec};
-ghost use Rattle.cap_machine.specs.Cells.Pending.{settled};
-ghost use Rattle.cap_machine.specs.Cells.Parts.{in_leaf};
+ghost use Rattle.cap_machine.specs.Effect.{own_cell, own_mode, IsOwn, IsWithin};
+ghost use Rattle.cap_machine.specs.Table.{cell_in, place_in, found, cell_of, mode_of, state_of, Keeps, StandsAt};
+ghost use Rattle.cap_machine.specs.Table.{with_cell, with_process, with_copy, effect_after};
 
-mod index;
 mod lines;
 
 use crate::cell::{Cell, Mode};
-use crate::cells::{Cells, Leaf, Pending, Remains};
+use crate::cells::{Cells, Pending, Remains};
 use crate::rule::{Checks, Demand, Effect};
-use crate::table::index::Index;
 use crate::verdict::Verdict;
 use cap_rights::{NoMemory, RightSet};
 use cap_trace::{Fd, Pid, fds_of};
@@ -50,7 +45,7 @@ impl Process {
         })
     }
 
-    /// A process with this mode and these cells; of a descriptor that is listed twice the last counts.
+    /// A process with this mode and these cells.
     fn listed(
         alloc: Global,
         pid: Pid,
@@ -58,6 +53,7 @@ impl Process {
         rest: Cell,
         listed: &[(Fd, Cell)],
     ) -> Result<Process, NoMemory>
+        requires { All (λ entry. IsFd entry.0) listed.now }
         ensures cells { IfOk result (λ new. (f : ℕ) → cell_in new f ≡ listed_cell rest listed.now f) }
         ensures mode { IfOk result (λ new. new.mode ≡ mode) }
         ensures pid { IfOk result (λ new. new.pid ≡ pid) }
@@ -69,68 +65,40 @@ impl Process {
         Ok(Process { pid, mode, cells })
     }
 
-    fn cell(&self, fd: Fd) -> Cell
-        ensures { result ≡ cell_in self.now fd }
-    {
-        self.cells.cell(fd)
-    }
-
-    /// The leaf that has the cell of a descriptor, if it is one of the first 64 and nothing is pending.
-    #[inline(always)]
-    fn leaf_of(&self, fd: Fd) -> Option<&Leaf<64>>
-        ensures low { IfSome result (λ leaf. fd < 64) }
-        ensures cell { IfSome result (λ leaf. in_leaf leaf.now fd ≡ cell_in self.now fd) }
-    {
-        self.cells.leaf_of(fd)
-    }
-
-    /// Writes one cell.
-    #[inline(always)]
-    fn write(&mut self, fd: Fd, cell: Cell) -> Result<(), NoMemory>
-        ensures cells { OnOk result ((f : ℕ) → cell_in self.new f ≡ (if f == fd then cell else cell_in self.old f)) }
-        ensures mode { OnOk result (self.new.mode ≡ self.old.mode) }
+    /// What an effect of a line of its own does to it.
+    fn apply(&mut self, alloc: Global, effect: &Effect<'_>) -> Result<(), NoMemory>
+        requires { IsWithin effect.now }
+        ensures cells { OnOk result ((f : ℕ) → cell_in self.new f ≡ own_cell effect.now (cell_in self.old) f) }
+        ensures mode { OnOk result (self.new.mode ≡ own_mode effect.now self.old.mode) }
         ensures pid { OnOk result (self.new.pid ≡ self.old.pid) }
     {
-        self.cells.write(fd, cell)
-    }
-
-    /// Does this to each cell.
-    fn settle(&mut self, pending: Pending) -> Result<(), NoMemory>
-        ensures cells { OnOk result ((f : ℕ) → cell_in self.new f ≡ settled pending (cell_in self.old f)) }
-        ensures mode { OnOk result (self.new.mode ≡ self.old.mode) }
-        ensures pid { OnOk result (self.new.pid ≡ self.old.pid) }
-    {
-        self.cells.settle(pending)
-    }
-
-    /// Closes the descriptors from one on.
-    fn close_from(&mut self, fd: Fd) -> Result<(), NoMemory>
-        ensures cells { OnOk result
-            ((f : ℕ) → cell_in self.new f ≡ (if nat_le fd f then Cell.Closed else cell_in self.old f)) }
-        ensures mode { OnOk result (self.new.mode ≡ self.old.mode) }
-        ensures pid { OnOk result (self.new.pid ≡ self.old.pid) }
-    {
-        self.cells.close_from(fd)
-    }
-
-    /// Holds these descriptors, which were never limited, and no others, and is outside.
-    fn start(&mut self, alloc: Global, fds: &[Fd]) -> Result<(), NoMemory>
-        ensures cells { OnOk result ((f : ℕ) → cell_in self.new f ≡ started fds.now f) }
-        ensures mode { OnOk result (self.new.mode ≡ Mode.Outside) }
-        ensures pid { OnOk result (self.new.pid ≡ self.old.pid) }
-    {
-        self.mode = Mode::Outside;
-        self.cells.start(alloc, fds)
-    }
-
-    /// Nothing is known of it.
-    fn exit(&mut self) -> Result<(), NoMemory>
-        ensures cells { OnOk result ((f : ℕ) → cell_in self.new f ≡ Cell.Unknown) }
-        ensures mode { OnOk result (self.new.mode ≡ Mode.Unsure) }
-        ensures pid { OnOk result (self.new.pid ≡ self.old.pid) }
-    {
-        self.mode = Mode::Unsure;
-        self.cells.settle(Pending::Forget)
+        match effect {
+            Effect::Keep | Effect::Fork(_) | Effect::ForkAs(_, _) => Ok(()),
+            Effect::Enter => {
+                self.mode = Mode::Inside;
+                Ok(())
+            }
+            Effect::Start(fds) => {
+                self.mode = Mode::Outside;
+                self.cells.start(alloc, &fds_of(alloc, fds)?)
+            }
+            Effect::Exit => {
+                self.mode = Mode::Unsure;
+                self.cells.settle(Pending::Forget)
+            }
+            Effect::Forget => self.cells.settle(Pending::Forget),
+            Effect::Exec => self.cells.settle(Pending::Exec),
+            Effect::CloseFrom(fd) => self.cells.close_from(*fd),
+            Effect::Give(fd, cell) => self.cells.write(*fd, *cell),
+            Effect::GiveTwo(first, second, cell) => {
+                self.cells.write(*first, *cell)?;
+                self.cells.write(*second, *cell)
+            }
+            Effect::Change(to, op, from) => {
+                let cell = op.on(self.cells.cell(*from));
+                self.cells.write(*to, cell)
+            }
+        }
     }
 }
 
@@ -163,12 +131,27 @@ fn cell_at(process: Option<&Process>, fd: Fd) -> Cell
     ensures { result ≡ option_map_or (λ p. cell_in p fd) (option_copied process.entry) Cell.Unknown }
 {
     match process {
-        Some(process) => process.cell(fd),
+        Some(process) => process.cells.cell(fd),
         None => Cell::Unknown,
     }
 }
 
-/// Each process of which something is known, and where it stands among them.
+/// Writes the place of a process.
+fn set_place(places: &mut Vec<usize>, pid: Pid, place: usize) -> Result<(), NoMemory>
+    ensures ok { OnOk result ((p : ℕ) → place_in places.new.items p
+        ≡ (if p == pid then place else place_in places.old.items p)) }
+    ensures err { OnErr result ((p : ℕ) → place_in places.new.items p ≡ place_in places.old.items p) }
+{
+    let at = pid as usize;
+    if places.len() <= at {
+        places.resize(at + 1, 0)?;
+    }
+    places[at] = place;
+    Ok(())
+}
+
+/// Each process of which something is known, and by pid where it stands among them; of a pid that has no process it
+/// doesn't matter where.
 ///
 /// A new process begins from a clone of the cells in `blank`, whatever they are, with all of them pending to be
 /// forgotten: so it shares them, and takes memory only for what is written.
@@ -177,7 +160,7 @@ fn cell_at(process: Option<&Process>, fd: Fd) -> Cell
 #[derive(Drop)]
 pub(crate) struct Table {
     alloc: Global,
-    index: Index,
+    places: Vec<usize>,
     processes: Vec<Process>,
     blank: Option<Cells>,
     remains: Remains,
@@ -190,7 +173,7 @@ impl Table {
     {
         Table {
             alloc,
-            index: Index::new(alloc),
+            places: Vec::new(alloc),
             processes: Vec::new(alloc),
             blank: None,
             remains: Remains::nothing(alloc),
@@ -201,52 +184,49 @@ impl Table {
     pub(crate) fn copy(&self, alloc: Global) -> Result<Table, NoMemory>
         ensures { IfOk result (λ table. Keeps table (state_of self.now)) }
     {
-        let index = self.index.clone()?;
+        let places = Vec::from_slice(alloc, &self.places)?;
         let processes = self.processes.clone()?;
         Ok(Table {
             alloc,
-            index,
+            places,
             processes,
             blank: None,
             remains: Remains::nothing(alloc),
         })
     }
 
+    /// The place that is written for a pid.
+    #[inline(always)]
+    fn place(&self, pid: Pid) -> usize
+        ensures { result ≡ place_in self.now.places.items pid }
+    {
+        match self.places.get(pid as usize) {
+            Some(place) => *place,
+            None => 0,
+        }
+    }
+
     /// What is known of a process.
+    #[inline(always)]
     fn find(&self, pid: Pid) -> Option<&Process>
         ensures { option_copied result ≡ found self.now pid }
     {
-        match self.processes.get(self.index.place(pid)) {
+        match self.processes.get(self.place(pid)) {
             Some(process) if process.pid == pid => Some(process),
             _ => None,
         }
     }
 
-    /// What is known of a process, where that is found at once; `None` says nothing.
+    /// Where a process stands, if something is known of it.
     #[inline(always)]
-    fn find_soon(&self, pid: Pid) -> Option<&Process>
-        ensures { IfSome result (λ process. found self.now pid ≡ Some process.now) }
+    fn place_of(&self, pid: Pid) -> Option<usize>
+        ensures some { IfSome result (λ place. StandsAt self.now pid place) }
+        ensures none { result ≡ None → found self.now pid ≡ None }
     {
-        match self.index.place_soon(pid) {
-            Some(place) => match self.processes.get(place) {
-                Some(process) if process.pid == pid => Some(process),
-                _ => None,
-            },
-            None => None,
-        }
-    }
-
-    /// Where a process stands, where that is found at once; `None` says nothing.
-    #[inline(always)]
-    fn place_soon(&self, pid: Pid) -> Option<usize>
-        ensures { IfSome result (λ place. StandsAt self.now pid place) }
-    {
-        match self.index.place_soon(pid) {
-            Some(place) => match self.processes.get(place) {
-                Some(process) if process.pid == pid => Some(place),
-                _ => None,
-            },
-            None => None,
+        let place = self.place(pid);
+        match self.processes.get(place) {
+            Some(process) if process.pid == pid => Some(place),
+            _ => None,
         }
     }
 
@@ -264,7 +244,7 @@ impl Table {
 
     /// Any cells for a process to begin from.
     fn begin(&mut self) -> Result<Cells, NoMemory>
-        ensures index { self.new.index ≡ self.old.index }
+        ensures places { self.new.places ≡ self.old.places }
         ensures processes { self.new.processes ≡ self.old.processes }
     {
         match &self.blank {
@@ -285,7 +265,7 @@ impl Table {
         ensures place { OnOk result (StandsAt self.new process.pid (vec_len self.old.processes)) }
         ensures err { OnErr result ((r : ℕ) → found self.new r ≡ found self.old r) }
     {
-        self.index.set(process.pid, self.processes.len())?;
+        set_place(&mut self.places, process.pid, self.processes.len())?;
         self.processes.push(process)?;
         Ok(())
     }
@@ -296,13 +276,13 @@ impl Table {
             ((r : ℕ) → found self.new r ≡ (if r == process.pid then Some process else found self.old r)) }
         ensures err { OnErr result ((r : ℕ) → found self.new r ≡ found self.old r) }
     {
-        let place = self.index.place(process.pid);
-        match self.processes.get(place) {
-            Some(old) if old.pid == process.pid => {
-                self.processes[place] = process;
+        match self.place_of(process.pid) {
+            Some(place) => {
+                let old = &mut self.processes[place];
+                *old = process;
                 Ok(())
             }
-            _ => self.append(process),
+            None => self.append(process),
         }
     }
 
@@ -335,10 +315,9 @@ impl Table {
         ensures kept { OnOk result (Keeps self.new (state_of self.old)) }
         ensures place { IfOk result (λ place. StandsAt self.new pid place) }
     {
-        let place = self.index.place(pid);
-        match self.processes.get(place) {
-            Some(process) if process.pid == pid => Ok(place),
-            _ => self.enter_new(pid),
+        match self.place_of(pid) {
+            Some(place) => Ok(place),
+            None => self.enter_new(pid),
         }
     }
 
@@ -350,6 +329,7 @@ impl Table {
         rest: Cell,
         cells: &[(Fd, Cell)],
     ) -> Result<(), NoMemory>
+        requires { All (λ entry. IsFd entry.0) cells.now }
         ensures ok { OnOk result (Keeps self.new (with_listed (state_of self.old) pid mode rest cells.now)) }
         ensures err { OnErr result (Keeps self.new (state_of self.old)) }
     {
@@ -360,6 +340,7 @@ impl Table {
     /// Writes one cell.
     #[inline(always)]
     fn write(&mut self, pid: Pid, fd: Fd, cell: Cell) -> Result<(), NoMemory>
+        requires { IsFd fd }
         ensures { OnOk result (Keeps self.new (with_cell (state_of self.old) pid fd cell)) }
     {
         let place = self.enter(pid)?;
@@ -370,57 +351,31 @@ impl Table {
     /// Writes one cell of the process at a place.
     #[inline(always)]
     fn write_at(&mut self, place: usize, pid: Pid, fd: Fd, cell: Cell) -> Result<(), NoMemory>
-        requires { StandsAt self.old pid place }
+        requires place { StandsAt self.old pid place }
+        requires within { IsFd fd }
         ensures { OnOk result (Keeps self.new (with_cell (state_of self.old) pid fd cell)) }
     {
         let process = &mut self.processes[place];
-        process.write(fd, cell)?;
+        process.cells.write(fd, cell)?;
         Ok(())
     }
 
-    /// Writes one mode.
-    fn set_mode(&mut self, pid: Pid, mode: Mode) -> Result<(), NoMemory>
-        ensures { OnOk result (Keeps self.new (with_mode (state_of self.old) pid mode)) }
+    /// What an effect that makes no child does to a process.
+    fn change(&mut self, pid: Pid, effect: &Effect<'_>) -> Result<(), NoMemory>
+        requires within { IsWithin effect.now }
+        requires own { IsOwn effect.now }
+        ensures { OnOk result (Keeps self.new (effect_after effect.now pid (state_of self.old))) }
     {
+        let alloc = self.alloc;
         let place = self.enter(pid)?;
         let process = &mut self.processes[place];
-        process.mode = mode;
-        Ok(())
-    }
-
-    /// Forgets the cells of a process, and keeps its mode.
-    fn forget(&mut self, pid: Pid) -> Result<(), NoMemory>
-        ensures { OnOk result (Keeps self.new (with_rest (state_of self.old) pid Cell.Unknown)) }
-    {
-        let place = self.enter(pid)?;
-        let process = &mut self.processes[place];
-        process.settle(Pending::Forget)?;
-        Ok(())
-    }
-
-    /// Does what an exec does with the cells of a process in profile 2.
-    fn exec(&mut self, pid: Pid) -> Result<(), NoMemory>
-        ensures { OnOk result (Keeps self.new (with_op (state_of self.old) pid exec)) }
-    {
-        let place = self.enter(pid)?;
-        let process = &mut self.processes[place];
-        process.settle(Pending::Exec)?;
-        Ok(())
-    }
-
-    /// Closes the descriptors of a process from one on.
-    fn close_from(&mut self, pid: Pid, fd: Fd) -> Result<(), NoMemory>
-        ensures { OnOk result (Keeps self.new (with_closed_from (state_of self.old) pid fd)) }
-    {
-        let place = self.enter(pid)?;
-        let process = &mut self.processes[place];
-        process.close_from(fd)?;
+        process.apply(alloc, effect)?;
         Ok(())
     }
 
     /// A process that has what another one has.
     fn like(&mut self, parent: Pid, pid: Pid) -> Result<Process, NoMemory>
-        ensures index { self.new.index ≡ self.old.index }
+        ensures places { self.new.places ≡ self.old.places }
         ensures processes { self.new.processes ≡ self.old.processes }
         ensures cells { IfOk result (λ new. (f : ℕ) → cell_in new f ≡ cell_of self.old parent f) }
         ensures mode { IfOk result (λ new. new.mode ≡ mode_of self.old parent) }
@@ -441,12 +396,12 @@ impl Table {
 
     /// Hands on the cells of a process that is to be replaced.
     fn hand_on(&mut self, pid: Pid) -> Result<(), NoMemory>
-        ensures index { self.new.index ≡ self.old.index }
+        ensures places { self.new.places ≡ self.old.places }
         ensures processes { self.new.processes ≡ self.old.processes }
     {
-        match self.processes.get(self.index.place(pid)) {
-            Some(old) if old.pid == pid => old.cells.hand_on(&mut self.remains),
-            _ => Ok(()),
+        match self.place_of(pid) {
+            Some(place) => self.processes[place].cells.hand_on(&mut self.remains),
+            None => Ok(()),
         }
     }
 
@@ -457,35 +412,6 @@ impl Table {
         self.hand_on(child)?;
         let copy = self.like(parent, child)?;
         self.put(copy)
-    }
-
-    /// A process begins, and holds these descriptors and no others.
-    fn start(&mut self, pid: Pid, fds: &[Fd]) -> Result<(), NoMemory>
-        ensures { OnOk result (Keeps self.new (with_started (state_of self.old) pid fds.now)) }
-    {
-        let alloc = self.alloc;
-        let place = self.enter(pid)?;
-        let process = &mut self.processes[place];
-        process.start(alloc, fds)?;
-        Ok(())
-    }
-
-    /// The same of descriptors as they are spelled.
-    pub(crate) fn start_spelled(&mut self, pid: Pid, spelled: &[u8]) -> Result<(), NoMemory>
-        ensures { OnOk result (Keeps self.new (with_started (state_of self.old) pid (fds_spelled spelled.now))) }
-    {
-        let fds = fds_of(self.alloc, spelled)?;
-        self.start(pid, &fds)
-    }
-
-    /// A process ends.
-    fn exit(&mut self, pid: Pid) -> Result<(), NoMemory>
-        ensures { OnOk result (Keeps self.new (with_unknown (state_of self.old) pid)) }
-    {
-        let place = self.enter(pid)?;
-        let process = &mut self.processes[place];
-        process.exit()?;
-        Ok(())
     }
 
     /// What is said of a line of a process with this demand.
@@ -505,32 +431,19 @@ impl Table {
 
     /// What the effect of a line of a process does.
     pub(crate) fn apply(&mut self, pid: Pid, effect: &Effect<'_>) -> Result<(), NoMemory>
+        requires { IsWithin effect.now }
         ensures { OnOk result (Keeps self.new (effect_after effect.now pid (state_of self.old))) }
     {
         self.remains.free_some();
         match effect {
             Effect::Keep => Ok(()),
-            Effect::Enter => self.set_mode(pid, Mode::Inside),
-            Effect::Start(fds) => self.start_spelled(pid, fds),
-            Effect::Exit => self.exit(pid),
-            Effect::Forget => self.forget(pid),
-            Effect::Exec => self.exec(pid),
-            Effect::CloseFrom(fd) => self.close_from(pid, *fd),
-            Effect::Give(fd, cell) => self.write(pid, *fd, *cell),
-            Effect::GiveTwo(first, second, cell) => {
-                self.write(pid, *first, *cell)?;
-                self.write(pid, *second, *cell)
-            }
-            Effect::Change(to, op, from) => {
-                let cell = op.on(self.cell(pid, *from));
-                self.write(pid, *to, cell)
-            }
             Effect::Fork(child) => self.fork(pid, *child),
             Effect::ForkAs(child, fd) => {
                 self.fork(pid, *child)?;
                 self.write(pid, *fd, Cell::Unknown)?;
                 self.write(*child, *fd, Cell::Unknown)
             }
+            _ => self.change(pid, effect),
         }
     }
 }

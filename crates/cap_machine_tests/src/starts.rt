@@ -1,5 +1,10 @@
 //! What is known before a trace.
 
+ghost use Rattle.std.specs.Prelude.{◌≤◌};
+ghost use Rattle.std.specs.List.{All};
+ghost use Rattle.cap_trace.specs.Entry.{IsFd};
+ghost use Rattle.cap_trace.specs.Limits.{largest_pid};
+
 use crate::lines::{Way, lines_of, reports};
 use cap_machine::{Cell, Checker, Finding, Found, Mode, OnExec, Profile, Start, check};
 use cap_rights::{RightSet, parse_rights};
@@ -29,7 +34,10 @@ pub fn add(
     mode: Mode,
     rest: Cell,
     cells: &[(Fd, Cell)],
-) -> bool {
+) -> bool
+    requires pid { pid ≤ largest_pid }
+    requires fds { All (λ entry. IsFd entry.0) cells.now }
+{
     match cells.to_vec(alloc) {
         Ok(cells) => start.add(pid, mode, rest, cells).is_ok(),
         Err(_) => false,
@@ -40,7 +48,7 @@ pub fn add(
 #[derive(Clone, Copy)]
 struct Known {
     mode: Mode,
-    fd: Fd,
+    fd: u8,
     cell: Cell,
     rest: Cell,
 }
@@ -68,7 +76,7 @@ impl Known {
 
     /// Adds that to a start, and says whether it could.
     fn add_to(&self, alloc: Global, start: &mut Start) -> bool {
-        let cells = [(self.fd, self.cell)];
+        let cells = [(Fd::from(self.fd), self.cell)];
         add(alloc, start, 100, self.mode, self.rest, &cells)
     }
 }

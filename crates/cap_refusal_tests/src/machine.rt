@@ -1,5 +1,10 @@
 //! Starts, checks, checkers, machines and explanations.
 
+ghost use Rattle.std.specs.Prelude.{◌≤◌, IfOk};
+ghost use Rattle.std.specs.List.{All};
+ghost use Rattle.cap_trace.specs.Entry.{IsFd};
+ghost use Rattle.cap_trace.specs.Limits.{largest_pid};
+
 use crate::calls::{Call, tried};
 use crate::limits::Part;
 use crate::marks::{Mark, lacked, right};
@@ -8,7 +13,7 @@ use cap_machine::{
     check, explain, origin_of_cell, origin_of_mode,
 };
 use cap_rights::parse_rights;
-use cap_trace::{Fd, Line, parse_line};
+use cap_trace::{Fd, Line, Pid, parse_line};
 use std::alloc::Global;
 use std::test::Fail;
 
@@ -39,7 +44,9 @@ fn held(rights: &[u8]) -> Result<Cell, Fail> {
 }
 
 /// What is known of a process: that it holds CAP_READ on descriptor 0 and all rights on 70.
-fn cells_of(alloc: Global) -> Result<Vec<(Fd, Cell)>, Fail> {
+fn cells_of(alloc: Global) -> Result<Vec<(Fd, Cell)>, Fail>
+    ensures { IfOk result (λ cells. All (λ entry. IsFd entry.0) cells.items) }
+{
     let (read, all) = (held(b"CAP_READ")?, held(b"ALL")?);
     Ok(Vec::from_slice(alloc, &[(0, read), (70, all)])?)
 }
@@ -48,7 +55,7 @@ fn cells_of(alloc: Global) -> Result<Vec<(Fd, Cell)>, Fail> {
 #[derive(Clone, Copy)]
 pub enum Before {
     Usual,
-    Cells(u32, Mode),
+    Cells(u16, Mode),
 }
 
 /// In which process 100 has those cells.
@@ -57,7 +64,7 @@ pub const CELLS: Before = Before::Cells(100, Mode::Outside);
 /// Adds what is known before a trace.
 fn add_before(alloc: Global, start: &mut Start, before: Before) -> Result<(), Fail> {
     if let Before::Cells(pid, mode) = before {
-        start.add(pid, mode, Cell::Closed, cells_of(alloc)?)?;
+        start.add(Pid::from(pid), mode, Cell::Closed, cells_of(alloc)?)?;
     }
     Ok(())
 }
@@ -121,7 +128,9 @@ pub fn try_all(
 }
 
 /// Adds those cells of a process, in a second call where the first lacks memory. Whether a refused call left nothing.
-fn add_or_again(alloc: Global, start: &mut Start, pid: u32) -> Result<bool, Fail> {
+fn add_or_again(alloc: Global, start: &mut Start, pid: u32) -> Result<bool, Fail>
+    requires { pid ≤ largest_pid }
+{
     let cells = cells_of(alloc)?;
     Mark::Begin.set(alloc);
     let first = start.add(pid, Mode::Outside, Cell::Unknown, cells);

@@ -136,7 +136,7 @@ listed_spelled low word entry is =
       cell_named cut.0.1 cell.0 (need_takes bad.Right _ cell.0 cell.1),
     )
 
-cells_spelled : (low : ℕ) (ws : List (List ℕ)) (cells : List (ℕ × Cell)) → cells_from low ws ≡ Ok cells
+pub cells_spelled : (low : ℕ) (ws : List (List ℕ)) (cells : List (ℕ × Cell)) → cells_from low ws ≡ Ok cells
     → All IsListedCell cells
 unfolding cells_from
 cells_spelled low [] cells is =

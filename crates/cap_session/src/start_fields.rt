@@ -11,15 +11,9 @@ use crate::number::number_of;
 use crate::refused::Refused;
 use cap_machine::{Cell, Mode, OnExec};
 use cap_rights::{RightSet, parse_rights};
-use cap_trace::{Fd, Pid};
+use cap_trace::{Fd, LARGEST_FD, LARGEST_PID, Pid};
 use std::alloc::Global;
 use std::marker::Model;
-
-/// The largest pid.
-const MOST_PID: u32 = 99_999;
-
-/// The largest descriptor.
-const MOST_FD: u32 = 1_048_575;
 
 /// The place of the first such byte.
 fn first_place(stop: u8, text: &[u8]) -> Option<usize>
@@ -140,7 +134,7 @@ fn pid_at(low: Pid, word: Option<&[u8]>) -> Result<Pid, Refused>
     let Some(word) = word else {
         return Err(Refused::Pid);
     };
-    match number_from(low, MOST_PID, word) {
+    match number_from(low, LARGEST_PID, word) {
         Some(pid) => Ok(pid),
         None => Err(Refused::Pid),
     }
@@ -181,7 +175,7 @@ fn listed_of(low: Fd, word: &[u8]) -> Result<(Fd, Cell), Refused>
     let Some((fd, cell)) = cut(b'=', word) else {
         return Err(Refused::Argument);
     };
-    let Some(fd) = number_from(low, MOST_FD, fd) else {
+    let Some(fd) = number_from(low, LARGEST_FD, fd) else {
         return Err(Refused::Argument);
     };
     match cell_of(cell) {

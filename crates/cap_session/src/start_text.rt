@@ -1,6 +1,9 @@
 //! Start texts: what was known of each process before a trace, read line by line ([`parse_start`], `read_start`).
 ghost use Rattle.std.specs.Prelude.{◌≡◌, ◌↔◌, ◌+◌, ◌^◌, ◌<◌, ◌≤◌, List, [], ◌∷◌, ◌++◌, Ok, Err, IfOk, IfErr, OnOk};
 ghost use Rattle.std.specs.Prelude.{IsOk};
+ghost use Rattle.std.specs.List.{All};
+ghost use Rattle.cap_trace.specs.Entry.{IsFd};
+ghost use Rattle.cap_trace.specs.Limits.{largest_pid};
 ghost use Rattle.cap_machine.specs.State.{Added};
 ghost use Rattle.cap_machine.specs.Table.{start_state};
 ghost use Rattle.cap_session.specs.Reads.{Reads};
@@ -75,6 +78,8 @@ impl Starting {
         rest: Cell,
         cells: Vec<(Fd, Cell)>,
     ) -> Result<(), NoMemory>
+        requires pid { pid ≤ largest_pid }
+        requires fds { All (λ entry. IsFd entry.0) cells.items }
         ensures added { (added : List Added) → StandsFor self.old.kept added → OnOk result (StandsFor self.new.kept
             (added ++ (record { pid = pid; mode = mode; rest = rest; cells = cells.items }) ∷ [])) }
         ensures low { self.new.low ≡ self.old.low }
@@ -87,6 +92,7 @@ impl Starting {
 
     /// Adds the process of a line, or lets the start go where memory runs out for it.
     fn keep(&mut self, head: Head<'_>) -> Result<(), Refused>
+        requires { head.pid ≤ largest_pid }
         ensures good { OnOk result (Adds head.entry self.old.kept self.new.kept) }
         ensures bad { IfErr result (λ field. cells_from 0 head.entry.listed ≡ Err field) }
         ensures low { self.new.low ≡ self.old.low }

@@ -64,7 +64,7 @@ fn is_cut(
     alloc: Global,
     profile: Profile,
     trace: &str,
-    known: Option<(u32, Cell)>,
+    known: Option<(u16, Cell)>,
     report: &str,
 ) -> Result<bool, Fail> {
     let steps = steps_of(alloc, profile, trace)?;

@@ -2,7 +2,7 @@
 
 use cap_machine::{Cell, Mode, Profile, Start, Step};
 use cap_summary::Summary;
-use cap_trace::parse_line;
+use cap_trace::{Fd, parse_line};
 use cap_tree::{Meter, NoMemory, Segment, Tree};
 use std::alloc::Global;
 use std::rc::Rc;
@@ -98,9 +98,9 @@ pub fn joined_at(alloc: Global, steps: &[Rc<Step>], place: usize) -> Result<Summ
 }
 
 /// Adds the cell of a descriptor of process 100, where it is known.
-fn put_known(alloc: Global, start: &mut Start, known: Option<(u32, Cell)>) -> Result<(), Fail> {
-    if let Some(cell) = known {
-        let cells = Vec::from_slice(alloc, &[cell])?;
+fn put_known(alloc: Global, start: &mut Start, known: Option<(u16, Cell)>) -> Result<(), Fail> {
+    if let Some((fd, cell)) = known {
+        let cells = Vec::from_slice(alloc, &[(Fd::from(fd), cell)])?;
         start.add(100, Mode::Unsure, Cell::Unknown, cells)?;
     }
     Ok(())
@@ -109,7 +109,7 @@ fn put_known(alloc: Global, start: &mut Start, known: Option<(u32, Cell)>) -> Re
 /// Does this with a start in which at most that cell is known.
 pub fn with_start<T, F: FnOnce(&Start) -> Result<T, Fail>>(
     alloc: Global,
-    known: Option<(u32, Cell)>,
+    known: Option<(u16, Cell)>,
     act: F,
 ) -> Result<T, Fail>
     requires { F.IsAlwaysCallable act }

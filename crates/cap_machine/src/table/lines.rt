@@ -2,14 +2,14 @@
 //! followed by itself; any other by its rule.
 
 ghost use Rattle.std.specs.Prelude.{◌≡◌, ℕ, [], OnOk, IsTrue, Option, None};
-ghost use Rattle.cap_trace.specs.Entry.{IsAnswer, kind_of, fcntl_kind};
+ghost use Rattle.cap_trace.specs.Entry.{IsAnswer, IsFd, args_of_call, kind_of, fcntl_kind};
 ghost use Rattle.cap_trace.specs.Seen.{call_seen};
 ghost use Rattle.cap_trace.specs.Call as calls;
 ghost use Rattle.cap_machine.specs.Steps.{step};
 ghost use Rattle.cap_machine.specs.Touch.{on_fd, on_made, on_success, given, taken, whole, closing, copied};
-ghost use Rattle.cap_machine.specs.Touch.{opened_below, open_flag, socket_flag, at_touch, fcntl_touch};
+ghost use Rattle.cap_machine.specs.Touch.{opened_below, open_flag, at_touch, fcntl_touch};
 ghost use Rattle.cap_machine.specs.Places.{below};
-ghost use Rattle.cap_machine.specs.Effect.{FitsMade};
+ghost use Rattle.cap_machine.specs.Effect.{FdsWithin, FitsMade};
 ghost use Rattle.cap_machine.specs.Op.{limit};
 ghost use Rattle.cap_machine.specs.Rule.{demand, call_demand, check_of, reply};
 ghost use Rattle.cap_machine.specs.Judge.{fault};
@@ -17,18 +17,16 @@ ghost use Rattle.cap_machine.specs.Check.{said_of};
 ghost use Rattle.cap_machine.specs.Table.{cell_of, state_of, Keeps, step_after, call_after, touched_by};
 
 use crate::cell::{Cell, Mode, OnExec, Op, Profile, without_full_of};
-use crate::effects::{effect_of, open_flag_of, socket_flag_of};
+use crate::effects::{effect_of, open_flag_of};
 use crate::needs::{
     at_flags_needs_of, at_needs_of, fcntl_needs_of, fd_needs_of, mmap_needs_of, send_needs_of,
 };
 use crate::places::below_of;
-use crate::rule::{Reply, demand_of_line};
+use crate::rule::{Reply, demand_of_line, effect_of_line};
 use crate::table::Table;
 use crate::verdict::Verdict;
 use cap_rights::{NoMemory, RightSet};
-use cap_trace::{
-    Answer, AtFlagsCall, Call, Dir, Fd, FdCall, FdLine, FlagsCall, Item, LineRef, PathCall, Pid,
-};
+use cap_trace::{Answer, AtFlagsCall, Call, Dir, Fd, FdCall, FdLine, Item, LineRef, PathCall, Pid};
 
 /// The cell of a file that was opened below no descriptor (openat(2)).
 fn opened_cell(dir: Dir, path: &[u8], flag: OnExec) -> Cell
@@ -51,8 +49,8 @@ impl Table {
         ensures { IsTrue result → (word : Word) (excuse : Option ℕ)
             → fault word (check_of fd needs excuse) (cell_of self.now pid fd) ≡ [] }
     {
-        if let Some(process) = self.find_soon(pid) {
-            if let Some(leaf) = process.leaf_of(fd) {
+        if let Some(process) = self.find(pid) {
+            if let Some(leaf) = process.cells.leaf_of(fd) {
                 return leaf.may_have(fd as usize, &needs);
             }
         }
@@ -180,7 +178,8 @@ impl Table {
         call: &Call<'_>,
         answer: &Answer,
     ) -> Result<(), NoMemory>
-        requires { IsAnswer (kind_of (call_seen call.now)) answer.now }
+        requires answer { IsAnswer (kind_of (call_seen call.now)) answer.now }
+        requires within { FdsWithin (args_of_call (call_seen call.now)) }
         ensures { OnOk result (Keeps self.new
             (call_after profile (call_seen call.now) answer.now pid (state_of self.old))) }
     {
@@ -192,10 +191,11 @@ impl Table {
     /// Writes one cell.
     #[inline(always)]
     fn write_one(&mut self, pid: Pid, fd: Fd, cell: Cell) -> Result<(), NoMemory>
+        requires { IsFd fd }
         ensures { OnOk result (Keeps self.new (touched_by (on_fd fd (given cell) pid) (state_of self.old))) }
     {
         if fd < 64 {
-            if let Some(place) = self.place_soon(pid) {
+            if let Some(place) = self.place_of(pid) {
                 return self.write_at(place, pid, fd, cell);
             }
         }
@@ -205,6 +205,7 @@ impl Table {
     /// The same. Some of what is left of others is freed first.
     #[inline(never)]
     fn write_with_care(&mut self, pid: Pid, fd: Fd, cell: Cell) -> Result<(), NoMemory>
+        requires { IsFd fd }
         ensures { OnOk result (Keeps self.new (touched_by (on_fd fd (given cell) pid) (state_of self.old))) }
     {
         self.remains.free_some();
@@ -214,6 +215,7 @@ impl Table {
     /// close(2).
     #[inline(never)]
     fn close(&mut self, pid: Pid, fd: Fd, answer: Answer) -> Result<(), NoMemory>
+        requires { IsFd fd }
         ensures { OnOk result (Keeps self.new (touched_by (on_fd fd (closing answer) pid) (state_of self.old))) }
     {
         match answer {
@@ -281,41 +283,6 @@ impl Table {
         }
     }
 
-    /// socket(2).
-    fn socket(&mut self, pid: Pid, flags: &[u8], answer: &Answer) -> Result<(), NoMemory>
-        requires { FitsMade answer.now }
-        ensures { OnOk result (Keeps self.new (touched_by (on_made answer.now (whole (socket_flag flags.now)) pid)
-            (state_of self.old))) }
-    {
-        match answer {
-            Answer::Made(fd) => {
-                let flag = socket_flag_of(flags);
-                self.write_one(pid, *fd as Fd, Cell::Held(RightSet::all(), flag))
-            }
-            _ => Ok(()),
-        }
-    }
-
-    /// A call of flags.
-    #[inline(never)]
-    fn follow_flags(
-        &mut self,
-        profile: Profile,
-        pid: Pid,
-        call: FlagsCall,
-        flags: &[u8],
-        answer: &Answer,
-    ) -> Result<(), NoMemory>
-        requires { IsAnswer (kind_of (calls.OnFlags call flags.now)) answer.now }
-        ensures { OnOk result (Keeps self.new
-            (call_after profile (calls.OnFlags call flags.now) answer.now pid (state_of self.old))) }
-    {
-        match call {
-            FlagsCall::Socket => self.socket(pid, flags, answer),
-            _ => self.follow_rule(profile, pid, &Call::OnFlags(call, flags), answer),
-        }
-    }
-
     /// A call at a directory, with flags.
     #[inline(never)]
     fn follow_at(
@@ -356,6 +323,7 @@ impl Table {
     /// cap_rights_limit(2).
     #[inline(never)]
     fn limit(&mut self, pid: Pid, fd: Fd, asked: &RightSet, answer: &Answer) -> Result<(), NoMemory>
+        requires { IsFd fd }
         ensures { OnOk result (Keeps self.new (touched_by (on_success fd answer.now (taken (limit asked.now) pid fd) pid)
             (state_of self.old))) }
     {
@@ -378,7 +346,8 @@ impl Table {
         fd: Fd,
         answer: Answer,
     ) -> Result<(), NoMemory>
-        requires { IsAnswer (kind_of (calls.OnFd call fd)) answer }
+        requires answer { IsAnswer (kind_of (calls.OnFd call fd)) answer }
+        requires within { IsFd fd }
         ensures { OnOk result (Keeps self.new
             (call_after profile (calls.OnFd call fd) answer pid (state_of self.old))) }
     {
@@ -395,7 +364,8 @@ impl Table {
         fd: Fd,
         answer: &Answer,
     ) -> Result<(), NoMemory>
-        requires { IsAnswer (kind_of (calls.OnFd call fd)) answer.now }
+        requires answer { IsAnswer (kind_of (calls.OnFd call fd)) answer.now }
+        requires within { IsFd fd }
         ensures { OnOk result (Keeps self.new
             (call_after profile (calls.OnFd call fd) answer.now pid (state_of self.old))) }
     {
@@ -421,7 +391,8 @@ impl Table {
         fd: Fd,
         answer: &Answer,
     ) -> Result<(), NoMemory>
-        requires { IsAnswer (kind_of (calls.OnFd call fd)) answer.now }
+        requires answer { IsAnswer (kind_of (calls.OnFd call fd)) answer.now }
+        requires within { IsFd fd }
         ensures { OnOk result (Keeps self.new
             (call_after profile (calls.OnFd call fd) answer.now pid (state_of self.old))) }
     {
@@ -436,7 +407,8 @@ impl Table {
         call: &Call<'_>,
         answer: &Answer,
     ) -> Result<(), NoMemory>
-        requires { IsAnswer (kind_of (call_seen call.now)) answer.now }
+        requires answer { IsAnswer (kind_of (call_seen call.now)) answer.now }
+        requires within { FdsWithin (args_of_call (call_seen call.now)) }
         ensures { OnOk result (Keeps self.new
             (call_after profile (call_seen call.now) answer.now pid (state_of self.old))) }
     {
@@ -448,7 +420,6 @@ impl Table {
                 self.follow_at(pid, *call, *dir, path, flags, answer)
             }
             Call::Fcntl(fd, command) => self.fcntl(pid, *fd, command, answer),
-            Call::OnFlags(call, flags) => { self.follow_flags(profile, pid, *call, flags, answer) }
             Call::OnPath(PathCall::Execve, _) => self.follow_rule(profile, pid, call, answer),
             Call::OnPath(_, _)
             | Call::OnPaths(_, _, _)
@@ -467,18 +438,7 @@ impl Table {
     {
         match &line.item {
             Item::Call { call, answer } => self.follow_call(profile, line.pid, call, answer),
-            Item::Start(fds) => {
-                self.remains.free_some();
-                self.start_spelled(line.pid, fds)
-            }
-            Item::Exit => {
-                self.remains.free_some();
-                self.exit(line.pid)
-            }
-            Item::Foreign(fd) => {
-                self.remains.free_some();
-                self.write(line.pid, *fd, Cell::Unknown)
-            }
+            _ => self.apply(line.pid, &effect_of_line(profile, line)),
         }
     }
 

@@ -4,7 +4,7 @@ use Rattle.cap_machine.specs.declared.cell.OnExec.TheVariants.{Unsure}
 use Rattle.cap_machine.specs.declared.cell.Cell.{Cell}
 use Rattle.cap_machine.specs.declared.cell.Cell.TheVariants.{Held}
 use Rattle.cap_machine.proofs.StartedLists.{started_more}
-use Rattle.cap_machine.proofs.cells.tree.Tree.start.Goals as goal
+use Rattle.cap_machine.proofs.cells.Cells.start.Goals as goal
 
 pub loop-fd-preserved : goal.loop-fd-preserved
 loop-fd-preserved c = record {
