@@ -47,16 +47,6 @@ pub(crate) fn put_said(
 }
 
 /// Judges a line by what is known before it, and moves what is known on.
-fn take_ref(table: &mut Table, profile: Profile, line: &LineRef<'_>) -> Result<Verdict, NoMemory>
-    ensures says { IfOk result (λ verdict. verdict ≡ said (step profile line.now) (state_of table.old)) }
-    ensures moved { OnOk result (Keeps table.new (step_after (step profile line.now) (state_of table.old))) }
-{
-    let verdict = said_in(table, line);
-    table.follow(profile, line)?;
-    Ok(verdict)
-}
-
-/// The same of a line that is kept.
 pub(crate) fn take_line(
     table: &mut Table,
     profile: Profile,
@@ -65,7 +55,10 @@ pub(crate) fn take_line(
     ensures says { IfOk result (λ verdict. verdict ≡ said (step profile line.now) (state_of table.old)) }
     ensures moved { OnOk result (Keeps table.new (step_after (step profile line.now) (state_of table.old))) }
 {
-    take_ref(table, profile, &line.seen())
+    let seen = line.seen();
+    let verdict = said_in(table, &seen);
+    table.follow(profile, &seen)?;
+    Ok(verdict)
 }
 
 /// Adds what is said of the line at a position.

@@ -61,17 +61,6 @@ pub(crate) fn fd_line_was_let_through(line: &FdLine) -> bool
     !matches!(line.answer, Answer::Fault(93) | Answer::Fault(94))
 }
 
-/// What was lacking for a line by what is known before it.
-fn denied_in(table: &Table, line: &LineRef<'_>) -> LineDenials
-    ensures { result ≡ denied_of (demand line.now) line.now.pid (state_of table.now) }
-{
-    if was_let_through(line) {
-        LineDenials::none()
-    } else {
-        table.denied_by_rule(line)
-    }
-}
-
 /// Appends what was lacking for the line at a position, and answers how many denials that is.
 #[inline(never)]
 pub(crate) fn put_denied(
@@ -99,7 +88,7 @@ fn take_denied(table: &mut Table, profile: Profile, line: &Line) -> Result<LineD
     ensures moved { OnOk result (Keeps table.new (step_after (step profile line.now) (state_of table.old))) }
 {
     let seen = line.seen();
-    let found = denied_in(table, &seen);
+    let found = table.denied_by_rule(&seen);
     table.follow(profile, &seen)?;
     Ok(found)
 }

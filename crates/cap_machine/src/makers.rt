@@ -72,15 +72,14 @@ fn made_by_call(call: &Call<'_>, answer: &Answer) -> Made
     ensures { listed_made result ≡ made_of (kind_of (call_seen call.now)) answer.now }
 {
     match call {
-        Call::OnFd(FdCall::Dup, _) => one_made(answer),
-        Call::OnFd(FdCall::Accept, _) => one_made(answer),
-        Call::Accept4(_, _) => one_made(answer),
-        Call::Dup2(_, _) => one_made(answer),
-        Call::FcntlDup(_, _, _) => one_made(answer),
+        Call::OnFd(FdCall::Dup | FdCall::Accept, _)
+        | Call::Accept4(_, _)
+        | Call::Dup2(_, _)
+        | Call::FcntlDup(_, _, _)
+        | Call::Open(_, _)
+        | Call::AtFlags(AtFlagsCall::Openat, _, _, _)
+        | Call::OnFlags(FlagsCall::Socket, _) => one_made(answer),
         Call::Fcntl(_, command) => made_by_fcntl(command, answer),
-        Call::Open(_, _) => one_made(answer),
-        Call::AtFlags(AtFlagsCall::Openat, _, _, _) => one_made(answer),
-        Call::OnFlags(FlagsCall::Socket, _) => one_made(answer),
         Call::OnFlags(_, _) => two_made(answer),
         Call::Bare(call) => made_by_bare(*call, answer),
         _ => Made::Nothing,
@@ -92,9 +91,7 @@ fn made_by_fcntl(command: &[u8], answer: &Answer) -> Made
     requires { IsAnswer (fcntl_kind command.now) answer.now }
     ensures { listed_made result ≡ made_of (fcntl_kind command.now) answer.now }
 {
-    if command == b"F_DUPFD".as_slice() {
-        one_made(answer)
-    } else if command == b"F_DUPFD_CLOEXEC".as_slice() {
+    if command == b"F_DUPFD".as_slice() || command == b"F_DUPFD_CLOEXEC".as_slice() {
         one_made(answer)
     } else {
         Made::Nothing
@@ -108,10 +105,9 @@ fn made_by_bare(call: BareCall, answer: &Answer) -> Made
 {
     match call {
         BareCall::Pipe => two_made(answer),
-        BareCall::Kqueue => one_made(answer),
-        BareCall::ShmOpen => one_made(answer),
-        BareCall::MqOpen => one_made(answer),
-        BareCall::Fhopen => one_made(answer),
+        BareCall::Kqueue | BareCall::ShmOpen | BareCall::MqOpen | BareCall::Fhopen => {
+            one_made(answer)
+        }
         _ => Made::Nothing,
     }
 }

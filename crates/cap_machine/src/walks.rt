@@ -13,7 +13,7 @@ ghost use Rattle.cap_machine.specs.State.{State};
 ghost use Rattle.cap_machine.specs.History.{cell_after, mode_after};
 ghost use Rattle.cap_machine.specs.Table.{start_state};
 ghost use Rattle.cap_machine.specs.Passages.{constant, cell_along, links_along};
-ghost use Rattle.cap_machine.specs.Origin.{same_cell, is_idle, cell_at_end, cell_chain, cell_chain_of};
+ghost use Rattle.cap_machine.specs.Origin.{is_idle, cell_at_end, cell_chain, cell_chain_of};
 ghost use Rattle.cap_machine.specs.Origin.{named_turn, mode_chain, mode_chain_of};
 ghost use Rattle.cap_machine.specs.Walks.{cell_pid, cell_fd, cell_known, cell_found, SameCellWalk, CellIsFound};
 ghost use Rattle.cap_machine.specs.Walks.{mode_pid, mode_known, mode_found, SameModeWalk, ModeIsFound};
@@ -59,16 +59,6 @@ pub struct ModeWalk {
     turned: Option<Mode>,
 }
 
-fn is_same_cell(a: &Cell, b: &Cell) -> bool
-    ensures { result ≡ same_cell a.now b.now }
-{
-    match (a, b) {
-        (Cell::Unknown, Cell::Unknown) | (Cell::Closed, Cell::Closed) => true,
-        (Cell::Held(rights, flag), Cell::Held(others, other)) => rights == others && flag == other,
-        _ => false,
-    }
-}
-
 impl Passage {
     /// A line that gave this cell.
     fn giving(link: CellLink, cell: &Cell) -> Passage
@@ -92,7 +82,7 @@ impl Passage {
     fn is_idle(&self, before: &Cell) -> bool
         ensures { result ≡ is_idle self.now.op self.now.from_itself before.now }
     {
-        self.from_itself && is_same_cell(&self.op.on(*before), before)
+        self.from_itself && self.op.on(*before) == *before
     }
 }
 
