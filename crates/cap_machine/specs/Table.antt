@@ -3,9 +3,6 @@ use Rattle.std.specs.Prelude.{◌≡◌, ℕ, ◌<◌, ◌==◌, ◌&&◌, nat_l
 use Rattle.std.specs.Prelude.{slice_index_or}
 use Rattle.std.specs.Option.{option_map_or}
 use Rattle.std.specs.Vec.{vec_len}
-use Rattle.cap_trace.specs.declared.line.Answer.{Answer}
-use Rattle.cap_trace.specs.Call.{Call}
-use Rattle.cap_machine.specs.declared.cell.Profile.{Profile}
 use Rattle.cap_machine.specs.declared.step.Step.{Step}
 use Rattle.cap_machine.specs.declared.cell.Cell.{Cell}
 use Rattle.cap_machine.specs.declared.cell.Cell.TheVariants.{Unknown, Closed}
@@ -18,7 +15,7 @@ use Rattle.cap_machine.specs.declared.cell.Op.{Op}
 use Rattle.cap_machine.specs.Op.{applied}
 use Rattle.cap_machine.specs.Cells.{cell_in_cells}
 use Rattle.cap_machine.specs.declared.rule.Effect.{Effect}
-use Rattle.cap_machine.specs.Touch.{Touch, touch, turn, call_touch, call_turn, started}
+use Rattle.cap_machine.specs.Touch.{Touch, touch, turn, started}
 use Rattle.cap_machine.specs.Effect.{effect_touch, effect_turn}
 use Rattle.cap_machine.specs.History.{touched, turned}
 
@@ -94,13 +91,6 @@ abbrev pub effect_after : Effect → ℕ → State → State
 effect_after effect me s = record {
   cell = λ p f. touched (effect_touch effect me p f) s.cell p f;
   mode = λ p. turned (effect_turn effect me p) s.mode p;
-}
-
--- the state after a call of process me
-abbrev pub call_after : Profile → Call → Answer → ℕ → State → State
-call_after profile call answer me s = record {
-  cell = λ p f. touched (call_touch profile call answer me p f) s.cell p f;
-  mode = λ p. turned (call_turn call answer me p) s.mode p;
 }
 
 -- the state after these touches, in which no mode changes

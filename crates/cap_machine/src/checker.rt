@@ -8,7 +8,7 @@ use crate::question::Question;
 use crate::start::Start;
 use crate::table::Table;
 use cap_rights::NoMemory;
-use cap_trace::{FdLine, Line, LineRef};
+use cap_trace::{Line, LineRef};
 use std::alloc::Global;
 use std::marker::Model;
 
@@ -139,30 +139,29 @@ impl Checker {
             → IsAsked self.old question profile s trace
             → OnOk result (IsAsked self.new question profile s (trace ++ line.now ∷ [])) }
     {
+        if !self.question.is_silent(line, &self.table) {
+            return self.line_by_rule(&line.copied());
+        }
+        self.table.follow(self.profile, line)?;
+        self.lines += 1;
+        Ok(())
+    }
+
+    /// The same, by the rule of the line.
+    #[inline(never)]
+    fn line_by_rule(&mut self, line: &LineRef<'_>) -> Result<(), NoMemory>
+        requires room { lines_of self.old < 2 ^ 60 }
+        ensures checked { (question : Question) (profile : Profile) (s : State) (trace : List Entry)
+            → IsAsked self.old question profile s trace
+            → OnOk result (IsAsked self.new question profile s (trace ++ line.now ∷ [])) }
+    {
         let at = self.lines + 1;
         let more = self
             .question
             .put_line(&mut self.text, at, line, &self.table)?;
-        self.table.follow(self.profile, line)?;
+        self.table.follow_by_rule(self.profile, line)?;
         self.lines = at;
         self.said += more;
-        Ok(())
-    }
-
-    /// Checks the next line, one with a call on one descriptor, as [`line`](Checker::line) does.
-    ///
-    /// `NoMemory` when out of memory. What the checker then answers isn't promised: drop it.
-    pub fn fd_line(&mut self, line: FdLine) -> Result<(), NoMemory>
-        requires room { lines_of self.old < 2 ^ 60 }
-        ensures checked { (question : Question) (profile : Profile) (s : State) (trace : List Entry)
-            → IsAsked self.old question profile s trace
-            → OnOk result (IsAsked self.new question profile s (trace ++ line ∷ [])) }
-    {
-        if !self.question.is_silent(&line, &self.table) {
-            return self.line_ref(&line.seen());
-        }
-        self.table.follow_fd_line(self.profile, &line)?;
-        self.lines += 1;
         Ok(())
     }
 

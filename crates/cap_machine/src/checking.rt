@@ -39,11 +39,7 @@ pub(crate) fn put_said(
     ensures text { OnOk result (out.new.items ≡ out.old.items ++ flat_map (λ f. finding_line line.now (found_at at f))
         (said_of (demand line.now) line.now.pid (state_of table.now))) }
 {
-    if table.is_silent(line) {
-        Ok(0)
-    } else {
-        put_verdict(out, at, line, &table.said_by_rule(line))
-    }
+    put_verdict(out, at, line, &table.said_by_rule(line))
 }
 
 /// Judges a line by what is known before it, and moves what is known on.

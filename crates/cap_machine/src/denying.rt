@@ -16,7 +16,7 @@ use crate::rule::{Checks, Demand, demand_of_line};
 use crate::start::Start;
 use crate::table::Table;
 use cap_rights::NoMemory;
-use cap_trace::{Answer, FdLine, Item, Line, LineRef, Pid};
+use cap_trace::{Answer, Item, Line, LineRef, Pid};
 use std::alloc::Global;
 
 impl Table {
@@ -44,21 +44,14 @@ impl Table {
 }
 
 /// Whether nothing was lacking for a line, by its answer.
-fn was_let_through(line: &LineRef<'_>) -> bool
+#[inline(always)]
+pub(crate) fn was_let_through(line: &LineRef<'_>) -> bool
     ensures { IsTrue result → (s : State) → denied_of (demand line.now) line.now.pid s ≡ [] }
 {
     match &line.item {
         Item::Call { call: _, answer } => !matches!(answer, Answer::Fault(93) | Answer::Fault(94)),
         _ => true,
     }
-}
-
-/// The same of a line with a call on one descriptor.
-#[inline(always)]
-pub(crate) fn fd_line_was_let_through(line: &FdLine) -> bool
-    ensures { IsTrue result → (s : State) → denied_of (demand line.now) line.now.pid s ≡ [] }
-{
-    !matches!(line.answer, Answer::Fault(93) | Answer::Fault(94))
 }
 
 /// Appends what was lacking for the line at a position, and answers how many denials that is.
@@ -75,11 +68,7 @@ pub(crate) fn put_denied(
     ensures text { OnOk result (out.new.items ≡ out.old.items ++ flat_map (λ d. denial_line line.now (denied_at at d))
         (denied_of (demand line.now) line.now.pid (state_of table.now))) }
 {
-    if was_let_through(line) {
-        Ok(0)
-    } else {
-        put_denials(out, at, line, &table.denied_by_rule(line))
-    }
+    put_denials(out, at, line, &table.denied_by_rule(line))
 }
 
 /// What was lacking for a line by what is known before it, and moves what is known on.

@@ -12,6 +12,7 @@ use cap_rights::{RightBits, RightSet};
 use cap_trace::{AtCall, AtFlagsCall, FdCall};
 
 /// What a call on one descriptor needs of it.
+#[inline(always)]
 #[tactic(auto, unfolding(crate::specs::Needs::fd_needs, crate::specs::Needs::named, cap_rights::specs::Names::table))]
 pub(crate) fn fd_needs_of(call: FdCall) -> RightSet
     ensures { result ≡ fd_needs call }

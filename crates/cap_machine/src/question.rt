@@ -5,11 +5,11 @@ ghost use Rattle.cap_machine.specs.Questions.{line_count, line_text, LineIsSilen
 ghost use Rattle.cap_machine.specs.Table.{state_of};
 
 use crate::checking::put_said;
-use crate::denying::{fd_line_was_let_through, put_denied};
+use crate::denying::{put_denied, was_let_through};
 use crate::report::{put_count, put_denial_count};
 use crate::table::Table;
 use cap_rights::NoMemory;
-use cap_trace::{FdLine, LineRef};
+use cap_trace::LineRef;
 
 /// What a checker is asked about a trace.
 #[derive(Clone, Copy, Debug, PartialEq, Eq)]
@@ -22,7 +22,6 @@ pub enum Question {
 
 impl Question {
     /// Appends what is said of the line at a position, and answers how many lines that is.
-    #[inline(always)]
     pub(crate) fn put_line(
         self,
         out: &mut Vec<u8>,
@@ -41,14 +40,14 @@ impl Question {
         }
     }
 
-    /// Whether nothing is said of a line with a call on one descriptor, where that is seen without its rule.
+    /// Whether nothing is said of a line, where that is seen without its rule.
     #[inline(always)]
-    pub(crate) fn is_silent(self, line: &FdLine, table: &Table) -> bool
+    pub(crate) fn is_silent(self, line: &LineRef<'_>, table: &Table) -> bool
         ensures { IsTrue result → LineIsSilent self line.now (state_of table.now) }
     {
         match self {
-            Question::Findings => table.is_silent_fd_line(line),
-            Question::Denials => fd_line_was_let_through(line),
+            Question::Findings => table.is_silent(line),
+            Question::Denials => was_let_through(line),
         }
     }
 

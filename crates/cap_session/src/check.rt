@@ -16,7 +16,7 @@ use crate::refused::Refusal;
 use crate::short_text::ShortText;
 use crate::write::write_text;
 use cap_machine::{Checker, NoMemory, Profile};
-use cap_trace::{FdLine, LineRef};
+use cap_trace::LineRef;
 use std::alloc::Global;
 
 impl Keep for Checker {
@@ -29,16 +29,11 @@ impl Keep for Checker {
         self.count()
     }
 
+    #[inline(always)]
     fn keep(&mut self, alloc: Global, text: &[u8], line: &LineRef<'_>) -> Result<(), NoMemory> {
         let _ = alloc;
         let _ = text;
         self.line_ref(line)
-    }
-
-    fn keep_fd_line(&mut self, alloc: Global, text: &[u8], line: FdLine) -> Result<(), NoMemory> {
-        let _ = alloc;
-        let _ = text;
-        self.fd_line(line)
     }
 }
 

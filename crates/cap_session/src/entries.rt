@@ -15,7 +15,7 @@ use crate::lines::{Lines, Stop};
 use crate::read::read_text;
 use crate::refused::Refused;
 use cap_machine::NoMemory;
-use cap_trace::{FdLine, LineRef, Unread, parse_fd_line};
+use cap_trace::{LineRef, read_soon, read_with_care};
 use std::alloc::Global;
 
 /// Whether a line is empty or a comment.
@@ -47,13 +47,6 @@ pub trait Keep: Drop {
         requires spelled { line_of text.now ≡ Ok line.now }
         ensures { (s : Setting) (entries : List Entry) → keeps self.old s entries
             → OnOk result (keeps self.new s (entries ++ line.now ∷ [])) };
-
-    /// The same of a line with a call on one descriptor.
-    fn keep_fd_line(&mut self, alloc: Global, text: &[u8], line: FdLine) -> Result<(), NoMemory>
-        requires room { lines_of self.old < most_lines }
-        requires spelled { line_of text.now ≡ Ok line }
-        ensures { (s : Setting) (entries : List Entry) → keeps self.old s entries
-            → OnOk result (keeps self.new s (entries ++ line ∷ [])) };
 }
 
 /// The lines of a trace so far. They are kept until memory runs out, and counted from then on.
@@ -78,6 +71,7 @@ impl<K: Keep> Entries<K> {
     }
 
     /// Keeps the next line, which this text spells and which comes after `count` others.
+    #[inline(always)]
     fn keep(&mut self, count: usize, text: &[u8], line: &LineRef<'_>)
         requires room { ForSome self.old.kept (λ k. K.lines_of k < most_lines) }
         requires most { count < most_lines }
@@ -94,34 +88,16 @@ impl<K: Keep> Entries<K> {
         }
     }
 
-    /// The same of a line with a call on one descriptor.
-    fn keep_fd_line(&mut self, count: usize, text: &[u8], line: FdLine)
+    /// Reads the next line with care, and keeps it.
+    #[inline(never)]
+    fn keep_with_care(&mut self, count: usize, text: &[u8]) -> Result<(), Refused>
         requires room { ForSome self.old.kept (λ k. K.lines_of k < most_lines) }
         requires most { count < most_lines }
-        requires spelled { line_of text.now ≡ Ok line }
-        ensures { (known : Traced) → Follows K.keeps self.old.kept self.old.lost known → count ≡ length known.entries
-            → Follows K.keeps self.new.kept self.new.lost (one_more known line) }
-    {
-        let is_kept = match &mut self.kept {
-            Some(kept) => kept.keep_fd_line(self.alloc, text, line).is_ok(),
-            None => false,
-        };
-        if !is_kept {
-            self.lose(count + 1);
-        }
-    }
-
-    /// Keeps the next line, of which no more is read than how it begins.
-    #[inline(always)]
-    fn keep_unread(&mut self, count: usize, text: &[u8], unread: Unread<'_>) -> Result<(), Refused>
-        requires room { ForSome self.old.kept (λ k. K.lines_of k < most_lines) }
-        requires most { count < most_lines }
-        requires same { unread ≡ text.now }
         requires counts { is_skipped text.now ≡ false }
         ensures { (known : Traced) → Follows K.keeps self.old.kept self.old.lost known → count ≡ length known.entries
             → TakesLine (next_traced known text.now) (Follows K.keeps self.new.kept self.new.lost) result }
     {
-        match unread.line() {
+        match read_with_care(text) {
             Ok(line) => {
                 self.keep(count, text, &line);
                 Ok(())
@@ -157,12 +133,12 @@ impl<K: Keep> Lines for Entries<K> {
         if count >= MOST_LINES {
             return Err(Refused::Full);
         }
-        match parse_fd_line(line) {
-            Ok(read) => {
-                self.keep_fd_line(count, line, read);
+        match read_soon(line) {
+            Some(read) => {
+                self.keep(count, line, &read);
                 Ok(())
             }
-            Err(unread) => self.keep_unread(count, line, unread),
+            None => self.keep_with_care(count, line),
         }
     }
 

@@ -21,7 +21,7 @@ use crate::short_text::ShortText;
 use crate::start_text::read_start;
 use crate::write::write_text;
 use cap_machine::{NoMemory, Profile, Start};
-use cap_trace::{FdLine, Line, LineRef};
+use cap_trace::{Line, LineRef};
 use std::alloc::Global;
 
 impl Keep for Vec<Line> {
@@ -39,10 +39,6 @@ impl Keep for Vec<Line> {
             Ok(()) => Ok(()),
             Err(_) => Err(NoMemory),
         }
-    }
-
-    fn keep_fd_line(&mut self, alloc: Global, text: &[u8], line: FdLine) -> Result<(), NoMemory> {
-        self.keep(alloc, text, &line.seen())
     }
 }
 

@@ -10,7 +10,7 @@ use crate::refused::Refused;
 use crate::session::Session;
 use crate::steps::step_of;
 use cap_machine::{NoMemory, Profile, Step};
-use cap_trace::{FdLine, Line, LineRef};
+use cap_trace::{Line, LineRef};
 use std::alloc::Global;
 use std::marker::Model;
 use std::rc::Rc;
@@ -80,9 +80,5 @@ impl Keep for Loading {
             Ok(()) => Ok(()),
             Err(_) => Err(NoMemory),
         }
-    }
-
-    fn keep_fd_line(&mut self, alloc: Global, text: &[u8], line: FdLine) -> Result<(), NoMemory> {
-        self.keep(alloc, text, &line.seen())
     }
 }

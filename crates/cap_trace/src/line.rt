@@ -118,6 +118,38 @@ impl<'a> Call<'a> {
             _ => self.head().kind(),
         }
     }
+
+    /// The same call once more. It is copied form by form, since only so there is a proof.
+    #[inline(always)]
+    fn copied(&self) -> Call<'a>
+        ensures { call_seen result ≡ call_seen self.now }
+    {
+        match self {
+            Call::OnFd(call, fd) => Call::OnFd(*call, *fd),
+            Call::Send(call, fd) => Call::Send(*call, *fd),
+            Call::SendTo(call, fd) => Call::SendTo(*call, *fd),
+            Call::Accept4(fd, flags) => Call::Accept4(*fd, flags),
+            Call::Dup2(fd, to) => Call::Dup2(*fd, *to),
+            Call::Fcntl(fd, command) => Call::Fcntl(*fd, command),
+            Call::FcntlDup(command, fd, to) => Call::FcntlDup(*command, *fd, *to),
+            Call::FcntlSetFd(fd, flags) => Call::FcntlSetFd(*fd, flags),
+            Call::Mmap(fd, protection, kind) => Call::Mmap(*fd, protection, kind),
+            Call::RightsLimit(fd, rights) => Call::RightsLimit(*fd, *rights),
+            Call::Open(path, flags) => Call::Open(path, flags),
+            Call::OnPath(call, path) => Call::OnPath(*call, path),
+            Call::OnPaths(call, path, other) => Call::OnPaths(*call, path, other),
+            Call::At(call, dir, path) => Call::At(*call, *dir, path),
+            Call::AtFlags(call, dir, path, flags) => Call::AtFlags(*call, *dir, path, flags),
+            Call::SymlinkAt(path, dir, other) => Call::SymlinkAt(path, *dir, other),
+            Call::RenameAt(dir, path, to, other) => Call::RenameAt(*dir, path, *to, other),
+            Call::LinkAt(dir, path, to, other, flags) => {
+                Call::LinkAt(*dir, path, *to, other, flags)
+            }
+            Call::OnFlags(call, flags) => Call::OnFlags(*call, flags),
+            Call::Bare(call) => Call::Bare(*call),
+            Call::Other(name, args) => Call::Other(name, args),
+        }
+    }
 }
 
 /// What a call answered.
@@ -199,6 +231,24 @@ impl<'a> LineRef<'a> {
     {
         let text = Vec::from_slice(alloc, bytes)?;
         Ok(Line { text })
+    }
+
+    /// The same line once more. A caller that hands on no more than this keeps its own in registers.
+    #[inline(always)]
+    pub fn copied(&self) -> LineRef<'a>
+        ensures { result ≡ self.now }
+    {
+        let pid = self.pid;
+        let item = match &self.item {
+            Item::Call { call, answer } => Item::Call {
+                call: call.copied(),
+                answer: *answer,
+            },
+            Item::Start(fds) => Item::Start(fds),
+            Item::Exit => Item::Exit,
+            Item::Foreign(fd) => Item::Foreign(*fd),
+        };
+        LineRef { pid, item }
     }
 
     /// The name of the line's call; of a marker its word with the `@`.

@@ -1,7 +1,9 @@
 //! Reading a line.
 
-ghost use Rattle.std.specs.Prelude.{◌≡◌, IfOk, IfErr, Ok, Err};
+ghost use Rattle.std.specs.Prelude.{◌≡◌, ℕ, List, IfOk, IfSome, Ok, Err};
 ghost use Rattle.cap_trace.specs.Reading.{line_of};
+ghost use Rattle.cap_trace.specs.Rows.{head_seen};
+ghost use Rattle.cap_trace.specs.Quick.{Starts};
 ghost use Rattle.cap_trace.specs.declared.fault.LineFault.TheVariants.{Memory};
 ghost use Rattle.cap_trace.specs.Spelling.{Spells};
 ghost use Rattle.cap_trace.specs.Parsing.{SpellsSome, FaultsAreExact, ReadsOnly, MatchesReading, OneLine};
@@ -10,17 +12,58 @@ ghost use Rattle.cap_trace.specs.Rewriting.{OnlyRightsAreRewritten};
 
 use crate::calls::Form;
 use crate::fault::LineFault;
-use crate::fd_line::FdLine;
-use crate::line::{Item, Line, LineRef};
+use crate::line::{Call, Item, Line, LineRef};
 use crate::names::Head;
 use crate::quick::{Start, call_after, on_fd, start_of};
 use crate::scan::line;
 use std::alloc::Global;
-use std::marker::Model;
 
-/// What the bytes say, read with care.
+/// What the rest of a line says, where that is read in one pass.
+#[inline(always)]
+fn other_soon(start: Start<'_>) -> Option<LineRef<'_>>
+    requires { (bytes : List ℕ) × Starts bytes start.pid (head_seen start.head) start.text.now }
+    ensures { (bytes : List ℕ) → Starts bytes start.entry.pid (head_seen start.entry.head) start.entry.text.now
+        → IfSome result (λ l. line_of bytes ≡ Ok l) }
+{
+    match call_after(start.head, start.text) {
+        Some((call, answer)) => Some(LineRef {
+            pid: start.pid,
+            item: Item::Call { call, answer },
+        }),
+        None => None,
+    }
+}
+
+/// What the bytes say, where that is read in one pass; `None` says nothing. It takes no memory.
+///
+/// A call on one descriptor, which two lines of three have, is told from the others first.
+#[inline(always)]
+pub fn read_soon(bytes: &[u8]) -> Option<LineRef<'_>>
+    // What is read is what reading from the left gives.
+    ensures { IfSome result (λ l. line_of bytes.now ≡ Ok l) }
+{
+    let start = start_of(bytes)?;
+    let Head::Listed(form) = start.head else {
+        return other_soon(start);
+    };
+    let Form::OnFd(call) = form else {
+        return other_soon(start);
+    };
+    let (fd, answer) = on_fd(call, start.text)?;
+    let call = Call::OnFd(call, fd);
+    Some(LineRef {
+        pid: start.pid,
+        item: Item::Call { call, answer },
+    })
+}
+
+/// What the bytes say, read with care. It takes no memory.
+///
+/// # Errors
+///
+/// The first fault of the bytes, from the left. It is never [`LineFault::Memory`].
 #[inline(never)]
-fn read_with_care(bytes: &[u8]) -> Result<LineRef<'_>, LineFault>
+pub fn read_with_care(bytes: &[u8]) -> Result<LineRef<'_>, LineFault>
     ensures read { MatchesReading bytes.now result }
     ensures memory { result ≡ Err Memory → ⊥ }
 {
@@ -35,91 +78,10 @@ pub(crate) fn read(bytes: &[u8]) -> Result<LineRef<'_>, LineFault>
     ensures read { MatchesReading bytes.now result }
     ensures memory { result ≡ Err Memory → ⊥ }
 {
-    match parse_fd_line(bytes) {
-        Ok(line) => Ok(line.seen()),
-        Err(unread) => unread.line(),
+    match read_soon(bytes) {
+        Some(line) => Ok(line),
+        None => read_with_care(bytes),
     }
-}
-
-/// A line that isn't read yet, but maybe for how it begins.
-#[derive(Drop)]
-pub struct Unread<'a> {
-    bytes: &'a [u8],
-    start: Option<Start<'a>>,
-}
-
-impl<'a> Model for Unread<'a> {
-    ghost use Rattle.std.specs.Prelude.{List, ℕ};
-    ghost use Rattle.std.specs.Option.{ForSome};
-    ghost use Rattle.cap_trace.specs.Rows.{head_seen};
-    ghost use Rattle.cap_trace.specs.Quick.{Starts};
-
-    ghost Value = { List ℕ };
-
-    ghost view = { λ u. u.bytes.now };
-
-    ghost invariant = { λ u. ForSome u.start (λ s. Starts u.bytes.now s.pid (head_seen s.head) s.text.now) };
-}
-
-impl<'a> Unread<'a> {
-    /// The line that the bytes spell, with its texts still in them. It takes no memory.
-    ///
-    /// # Errors
-    ///
-    /// The first fault of the bytes, from the left. It is never [`LineFault::Memory`].
-    #[inline(always)]
-    pub fn line(self) -> Result<LineRef<'a>, LineFault>
-        ensures read { MatchesReading self.entry result }
-        ensures memory { result ≡ Err Memory → ⊥ }
-    {
-        let Some(start) = self.start else {
-            return read_with_care(self.bytes);
-        };
-        match call_after(start.head, start.text) {
-            Some((call, answer)) => Ok(LineRef {
-                pid: start.pid,
-                item: Item::Call { call, answer },
-            }),
-            None => read_with_care(self.bytes),
-        }
-    }
-}
-
-/// The line that the bytes spell, where its call is on one descriptor and it is read in one pass. It takes no memory.
-///
-/// # Errors
-///
-/// The same bytes, of whatever they are.
-#[inline(always)]
-pub fn parse_fd_line(bytes: &[u8]) -> Result<FdLine, Unread<'_>>
-    // What is read is what reading from the left gives.
-    ensures read { IfOk result (λ l. line_of bytes.now ≡ Ok l) }
-    ensures unread { IfErr result (λ u. u ≡ bytes.now) }
-{
-    let Some(start) = start_of(bytes) else {
-        return Err(Unread { bytes, start: None });
-    };
-    let Head::Listed(form) = start.head else {
-        return Err(Unread {
-            bytes,
-            start: Some(start),
-        });
-    };
-    let Form::OnFd(call) = form else {
-        return Err(Unread {
-            bytes,
-            start: Some(start),
-        });
-    };
-    let Some((fd, answer)) = on_fd(call, start.text) else {
-        return Err(Unread { bytes, start: None });
-    };
-    Ok(FdLine {
-        pid: start.pid,
-        call,
-        fd,
-        answer,
-    })
 }
 
 /// The line that the bytes spell: at most 1,024 of them, without a line feed at their end.

@@ -5,8 +5,8 @@
 use cap_trace::{
     Answer, Call, Dir, FdCall, Fds, Item, LONGEST_LINE, Line, LineFault, LineRef, Path, PathCall,
     faults_are_of_their_fields, fds_of, has_fd, number_of, one_line, one_path,
-    only_rights_are_rewritten, parse_fd_line, parse_line, reading_is_spelling, spells_arguments,
-    spells_command, spells_flags, spells_name, write_line, written_is_read,
+    only_rights_are_rewritten, parse_line, read_soon, read_with_care, reading_is_spelling,
+    spells_arguments, spells_command, spells_flags, spells_name, write_line, written_is_read,
 };
 use std::alloc::Global;
 
@@ -257,7 +257,10 @@ fn rights_are_written_in_order(rt: HostRuntime) {
 }
 
 /// Lines of the forms that are read where they lie.
-static LYING: [&[u8]; 9] = [
+static LYING: [&[u8]; 12] = [
+    b"100 write(1) RET 5",
+    b"100 dup2(3,4) RET 4",
+    b"100 @start(0,3)",
     b"100 fcntl(3,F_GETFL) RET 2",
     b"100 mmap(3,PROT_READ,MAP_PRIVATE) RET 34366001152",
     b"100 cap_rights_limit(3,CAP_READ) RET 0",
@@ -271,9 +274,9 @@ static LYING: [&[u8]; 9] = [
 
 /// The line that is read where it lies, and then kept.
 fn kept(alloc: Global, bytes: &[u8]) -> Option<Line> {
-    match parse_fd_line(bytes) {
-        Ok(_) => None,
-        Err(unread) => match unread.line() {
+    match read_soon(bytes) {
+        Some(line) => line.copied().kept(alloc, bytes).ok(),
+        None => match read_with_care(bytes) {
             Ok(line) => line.kept(alloc, bytes).ok(),
             Err(_) => None,
         },

@@ -5,8 +5,8 @@ use Rattle.cap_machine.specs.Check.{found_at}
 use Rattle.cap_machine.specs.Report.{finding_line}
 use Rattle.cap_machine.proofs.checking.put_said.Goals as goal
 
-pub returns-else-is_silent-clause-text : goal.returns-else-is_silent-clause-text
-returns-else-is_silent-clause-text c =
+pub returns-clause-text : goal.returns-clause-text
+returns-clause-text c =
     on_ok_weaker c.put_verdict.result
     (λ is. is
     ∙ ap (λ fs. c.args.out.now.items ++ flat_map (λ f. finding_line c.args.line.now (found_at c.args.at f)) fs)

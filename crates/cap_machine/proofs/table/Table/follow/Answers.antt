@@ -1,4 +1,4 @@
-use Rattle.std.proofs.Common.{subst}
+use Rattle.std.proofs.Common.{sym, subst}
 use Rattle.cap_trace.specs.Entry.{args_of}
 use Rattle.cap_trace.specs.Seen.{item_seen}
 use Rattle.cap_trace.specs.declared.line.Item.{Item}
@@ -6,6 +6,9 @@ use Rattle.cap_machine.specs.Effect.{FdsWithin}
 use Rattle.cap_machine.proofs.Within.{proper_within}
 use Rattle.cap_machine.proofs.table.Table.follow.Goals as goal
 
-pub follow_call-requires-clause-within : goal.follow_call-requires-clause-within
-follow_call-requires-clause-within c =
-    subst (λ (i : Item). FdsWithin (args_of (item_seen i))) c.in-Call.is (proper_within _ c.line.invariant)
+pub close-requires : goal.close-requires
+close-requires c =
+    (subst (λ (i : Item). FdsWithin (args_of (item_seen i))) c.in-Call.is (proper_within _ c.line.invariant)).0
+
+pub returns-in-Open : goal.returns-in-Open
+returns-in-Open c = rw (sym c.line.view_is, c.in-Call.is, c.in-Open.is) c.open.ensures

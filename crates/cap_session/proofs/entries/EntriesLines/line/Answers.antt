@@ -13,17 +13,17 @@ returns-then-count-ge-MOST_LINES g c = λ known has.
     let full : 1000000 ≤ length known.entries = omega arith in
     is_full known c.args.line.now (sym c.is_skipped.ensures ∙ c.if-is_skipped.false) full
 
-pub returns-in-Ok : goal.returns-in-Ok
-returns-in-Ok g c = λ known has.
+pub returns-in-Some : goal.returns-in-Some
+returns-in-Some g c = λ known has.
     let count = c.count-count.ensures.lines known has in
     let room : length known.entries < 1000000 = omega arith in (
-      one_more known c.in-Ok.read,
-      reads known c.args.line.now c.in-Ok.read
-          (sym c.is_skipped.ensures ∙ c.if-is_skipped.false) room c.in-Ok.ensures.read,
-      c.keep_fd_line.ensures known has count,
+      one_more known c.in-Some.read,
+      reads known c.args.line.now c.in-Some.read
+          (sym c.is_skipped.ensures ∙ c.if-is_skipped.false) room c.in-Some.ensures,
+      c.keep.ensures known has count,
     )
 
-pub returns-in-Err : goal.returns-in-Err
-returns-in-Err g c = λ known has.
+pub returns-in-None : goal.returns-in-None
+returns-in-None g c = λ known has.
     let count = c.count-count.ensures.lines known has in
-    c.keep_unread.ensures known has count
+    c.keep_with_care.ensures known has count
