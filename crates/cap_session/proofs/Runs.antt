@@ -6,6 +6,7 @@ use Rattle.std.proofs.lemmas.List.{append-nil, length-take, length-drop, take_al
 use Rattle.std.proofs.lemmas.Bool.{cases_lt}
 use Rattle.memchr.specs.Find.{IsFirstByte, is_byte}
 use Rattle.cap_session.specs.Devices.{SinkState}
+use Rattle.cap_session.specs.LineEnds.{IsCut}
 use Rattle.cap_session.specs.Writes.{Wrote, WrotePrefix}
 use Rattle.cap_session.specs.Lines.{whole_lines, last_piece}
 use Rattle.cap_session.specs.Trace.{is_skipped}
@@ -160,11 +161,11 @@ pub record Scripted (start : Scripting) (w0 : SinkState) (piece : List ℕ) (s :
   pub within : length rest ≤ length piece
 
 -- a line was replied to
-pub scripted_on : (start s t : Scripting) (w0 w1 w2 : SinkState) (piece rest : List ℕ) (k : ℕ)
+scripted_at : (start s t : Scripting) (w0 w1 w2 : SinkState) (piece rest : List ℕ) (k : ℕ)
     → Scripted start w0 piece s w1 rest →
     IsFirstByte (is_byte 10) rest (Some k) → Replied s.profile s.trace w1 w2 (due_line s.held (take k rest)) t.trace
     → t.profile ≡ s.profile → t.held ≡ [] → Scripted start w0 piece t w2 (drop (k + 1) rest)
-scripted_on start s t w0 w1 w2 piece rest k went found replied stays empty =
+scripted_at start s t w0 w1 w2 piece rest k went found replied stays empty =
     let cut : Cut s.held rest k = cut_at s.held rest k found in
     record {
       lines = went.lines ++ due_line s.held (take k rest);
@@ -178,14 +179,25 @@ scripted_on start s t w0 w1 w2 piece rest k went found replied stays empty =
       within = let before = went.within in simp length-drop (omega arith);
     }
 
+pub scripted_on : (start s t : Scripting) (w0 w1 w2 : SinkState) (piece rest line left : List ℕ)
+    → Scripted start w0 piece s w1 rest → IsCut rest line left
+    → Replied s.profile s.trace w1 w2 (due_line s.held line) t.trace → t.profile ≡ s.profile → t.held ≡ []
+    → Scripted start w0 piece t w2 left
+scripted_on start s t w0 w1 w2 piece rest line left went cut replied stays empty =
+    subst (λ (l : List ℕ). Scripted start w0 piece t w2 l) (sym cut.leaves)
+    (scripted_at start s t w0 w1 w2 piece rest (length line) went cut.first
+    (subst (λ (l : List ℕ). Replied s.profile s.trace w1 w2 (due_line s.held l) t.trace) cut.begins replied) stays empty)
+
 -- the writer failed in a reply
-pub scripted_broken : (start s : Scripting) (w0 w1 w2 : SinkState) (piece rest : List ℕ) (k : ℕ)
-    → Scripted start w0 piece s w1 rest →
-    IsFirstByte (is_byte 10) rest (Some k) → Broken s.profile s.trace w1 w2 (due_line s.held (take k rest))
+pub scripted_broken : (start s : Scripting) (w0 w1 w2 : SinkState) (piece rest line left : List ℕ)
+    → Scripted start w0 piece s w1 rest → IsCut rest line left → Broken s.profile s.trace w1 w2 (due_line s.held line)
     → Broken start.profile start.trace w0 w2 (due start.held piece)
-scripted_broken start s w0 w1 w2 piece rest k went found broke =
-    rw (went.same, due_cut s.held rest k found) (broken_on _ _ _ _ _ _ _ _ went.replied
-    (broken_more _ _ _ _ _ (due [] (drop (k + 1) rest)) (rw went.profile at broke)))
+scripted_broken start s w0 w1 w2 piece rest line left went cut broke =
+    let k = length line in
+    let here : Broken s.profile s.trace w1 w2 (due_line s.held (take k rest)) =
+    subst (λ (l : List ℕ). Broken s.profile s.trace w1 w2 (due_line s.held l)) cut.begins broke in
+    rw (went.same, due_cut s.held rest k cut.first) (broken_on _ _ _ _ _ _ _ _ went.replied
+    (broken_more _ _ _ _ _ (due [] (drop (k + 1) rest)) (rw went.profile at here)))
 
 -- the piece was worked through
 pub scripted_last : (start s t : Scripting) (w0 w1 w2 : SinkState) (piece rest : List ℕ)

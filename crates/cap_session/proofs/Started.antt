@@ -1,6 +1,6 @@
 -- What a line of a start text does, and how far a text was taken.
 use Rattle.std.proofs.Common.{◌≡◌, ℕ, ◌+◌, ◌≤◌, List, [], ◌∷◌, ◌++◌, length, take, drop, refl, sym, ◌∙◌, ap}
-use Rattle.std.proofs.Common.{arith, append_assoc, true, false}
+use Rattle.std.proofs.Common.{arith, append_assoc, true, false, subst}
 use Rattle.std.specs.Prelude.{Result, Ok, Err, Some, None, OnOk, IfErr}
 use Rattle.std.proofs.lemmas.List.{take-append-drop, length-drop, append-nil}
 use Rattle.memchr.specs.Find.{IsFirstByte, is_byte}
@@ -9,6 +9,7 @@ use Rattle.cap_session.specs.Lines.{whole_lines, last_piece, line_if_any, lines}
 use Rattle.cap_session.specs.Texts.{with_line, with_lines, whole_text, refused_so_far}
 use Rattle.cap_session.specs.Trace.{is_skipped}
 use Rattle.cap_session.specs.Feeds.{Reached}
+use Rattle.cap_session.specs.LineEnds.{IsCut}
 use Rattle.cap_session.specs.StartWords.{words}
 use Rattle.cap_session.specs.StartTexts.{Listed, none_listed, described, with_described, next_process, cells_from}
 use Rattle.cap_session.specs.StartTexts.{good_as, described_by}
@@ -75,12 +76,12 @@ through_first holds bytes is = record {
   reached = reached_first next_process none_listed holds is;
 }
 
-pub through_line : {T : Type 0} (holds after : Listed → Type 0) (bytes rest : List ℕ) (number at : ℕ) (done : T)
+through_at : {T : Type 0} (holds after : Listed → Type 0) (bytes rest : List ℕ) (number at : ℕ) (done : T)
     → Through holds bytes number rest → IsFirstByte (is_byte 10) rest (Some at) →
     ((known : Listed) → holds known
     → TakesNumbered (with_line next_process known (take at rest)) after (number + 1) (Ok done))
     → Through after bytes (number + 1) (drop (at + 1) rest)
-through_line holds after bytes rest number at done t found takes =
+through_at holds after bytes rest number at done t found takes =
     let count = t.count in
     let within = found.0.high in
     let r = t.reached in
@@ -93,14 +94,26 @@ through_line holds after bytes rest number at done t found takes =
       reached = reached_line next_process none_listed holds after t.front [] rest number at r found k.0 k.1 k.2;
     }
 
-pub through_bad : (T : Type 0) (holds after : Listed → Type 0) (bytes rest : List ℕ) (number at : ℕ) (e : Refusal)
-    → Through holds bytes number rest → IsFirstByte (is_byte 10) rest (Some at) →
-    ((known : Listed) → holds known
-    → TakesNumbered {T = T} (with_line next_process known (take at rest)) after (number + 1) (Err e))
+pub through_line : {T : Type 0} (holds after : Listed → Type 0) (bytes rest line left : List ℕ) (number : ℕ) (done : T)
+    → Through holds bytes number rest → IsCut rest line left →
+    ((known : Listed) → holds known → TakesNumbered (with_line next_process known line) after (number + 1) (Ok done))
+    → Through after bytes (number + 1) left
+through_line {T = T} holds after bytes rest line left number done t cut takes =
+    subst (λ (l : List ℕ). Through after bytes (number + 1) l) (sym cut.leaves)
+    (through_at holds after bytes rest number (length line) done t cut.first
+    (subst (λ (l : List ℕ). (known : Listed) → holds known
+    → TakesNumbered (with_line next_process known l) after (number + 1) (Ok done)) cut.begins takes))
+
+pub through_bad : (T : Type 0) (holds after : Listed → Type 0) (bytes rest line left : List ℕ) (number : ℕ) (e : Refusal)
+    → Through holds bytes number rest → IsCut rest line left →
+    ((known : Listed) → holds known → TakesNumbered {T = T} (with_line next_process known line) after (number + 1) (Err e))
     → described_by bytes ≡ Err e
-through_bad T holds after bytes rest number at e t found takes =
+through_bad T holds after bytes rest line left number e t cut takes =
     let r = t.reached in
-    let bad = takes r.known r.does in
+    let at = length line in
+    let found = cut.first in
+    let bad = subst (λ (l : List ℕ). (known : Listed) → holds known
+    → TakesNumbered {T = T} (with_line next_process known l) after (number + 1) (Err e)) cut.begins takes r.known r.does in
     let one : record { reason = e.reason; line = number + 1 } ≡ e =
     ap (λ (n : ℕ). record { reason = e.reason; line = n }) (sym bad.1) in
     let soon : refused_so_far next_process none_listed (t.front ++ rest) ≡ Some e =

@@ -12,11 +12,11 @@ use crate::edit::Edit;
 use crate::entries::is_skipped;
 use crate::held::Held;
 use crate::limits::{LONGEST_SCRIPT_LINE, MOST_HELD};
+use crate::line_ends::LineEnds;
 use crate::refused::Refused;
 use crate::session::Session;
 use crate::short_text::ShortText;
 use crate::write::write_text;
-use memchr::memchr;
 use std::marker::Model;
 
 /// Why a command isn't done.
@@ -220,12 +220,11 @@ impl Script {
             (due self.old.held piece.now)) }
         ensures profile { self.new.profile ≡ self.old.profile }
     {
-        let mut rest = piece;
-        while let Some(at) = memchr(b'\n', rest) {
-            self.line(&rest[..at], writer)?;
-            rest = &rest[at + 1..];
+        let mut ends = LineEnds::of(piece);
+        while let Some(line) = ends.next() {
+            self.line(line, writer)?;
         }
-        self.hold(rest, writer)
+        self.hold(ends.rest(), writer)
     }
 
     /// Replies to the line that is begun, which is the last.

@@ -17,13 +17,13 @@ ghost use Rattle.cap_session.specs.declared.refused.Refusal.{Refusal};
 use crate::devices::Source;
 use crate::entries::is_skipped;
 use crate::limits::LONGEST_LINE;
+use crate::line_ends::LineEnds;
 use crate::lines::{Lines, Stop};
 use crate::read::read_text;
 use crate::refused::{Refusal, Refused};
 use crate::start_fields::{Head, cells_of, head_of};
 use cap_machine::{Cell, Mode, NoMemory, Start};
 use cap_trace::{Fd, Pid};
-use memchr::memchr;
 use std::alloc::Global;
 use thiserror::Error;
 
@@ -135,13 +135,13 @@ impl Starting {
         ensures bad { IfErr result (λ e. described_by bytes.now ≡ Err e) }
     {
         let mut before: usize = 0;
-        let mut rest = bytes;
-        while let Some(at) = memchr(b'\n', rest) {
-            self.numbered(before + 1, &rest[..at])?;
+        let mut ends = LineEnds::of(bytes);
+        while let Some(line) = ends.next() {
+            self.numbered(before + 1, line)?;
             before += 1;
-            rest = &rest[at + 1..];
         }
-        self.numbered(before + 1, rest)
+        let last = self.numbered(before + 1, ends.rest());
+        last
     }
 }
 
