@@ -15,20 +15,28 @@ use Rattle.cap_machine.specs.declared.limit.Limit.{Limit}
 use Rattle.cap_session.specs.LimitScripts.{ScriptLine, insertion, comment, insertions, limit_line, maker_line, maker_lines}
 use Rattle.cap_session.specs.LimitScripts.{enter_line, words_of, script_text, place_words, unknown_lines, unknown_words}
 
-parts : (o i a s p k f c r e z n : List ℕ)
-    → ((((((((o ++ i) ++ a) ++ s) ++ p) ++ k) ++ f) ++ c) ++ r) ++ (e ++ (z ++ n))
-    ≡ o ++ ((i ++ (a ++ (s ++ (p ++ (k ++ ((f ++ (c ++ r)) ++ (e ++ z))))))) ++ n)
-parts o i a s p k f c r e z n = simp append_assoc
+parts : (o i k f c r e z n : List ℕ)
+    → (((o ++ i) ++ (k ++ (f ++ c))) ++ r) ++ (e ++ (z ++ n))
+    ≡ o ++ ((i ++ (k ++ ((f ++ (c ++ r)) ++ (e ++ z)))) ++ n)
+parts o i k f c r e z n = simp append_assoc
 
-pub insertion_put : (at pid fd rights n m : ℕ) (o o1 o2 o3 o4 o5 o6 o7 o8 o9 : List ℕ) → n ≡ pid → m ≡ fd
-    → o1 ≡ o ++ codes "insert " → o2 ≡ o1 ++ decimal at → o3 ≡ o2 ++ codes " " → o4 ≡ o3 ++ decimal n
-    → o5 ≡ o4 ++ codes " cap_rights_limit(" → o6 ≡ o5 ++ decimal m → o7 ≡ o6 ++ codes "," → o8 ≡ o7 ++ text rights
-    → o9 ≡ o8 ++ codes ") RET 0\n"
-    → o9 ≡ o ++ line_of_words (words_of (insertion at (limit_line pid (fd, rights))))
+-- how a line begins that is inserted
+abbrev inserted : ℕ → ℕ → List ℕ
+inserted at pid = codes "insert " ++ (decimal at ++ (codes " " ++ decimal pid))
+
+begins : (i a s p k : List ℕ) → (i ++ (a ++ (s ++ p))) ++ k ≡ i ++ (a ++ (s ++ (p ++ k)))
+begins i a s p k = simp append_assoc
+
+pub insertion_put : (at pid fd rights m : ℕ) (o o1 o2 o3 o4 : List ℕ) → m ≡ fd → o1 ≡ o ++ inserted at pid
+    → o2 ≡ o1 ++ (codes " cap_rights_limit(" ++ (decimal m ++ codes ",")) → o3 ≡ o2 ++ text rights
+    → o4 ≡ o3 ++ codes ") RET 0\n"
+    → o4 ≡ o ++ line_of_words (words_of (insertion at (limit_line pid (fd, rights))))
 unfolding digits
-insertion_put at pid fd rights n m o o1 o2 o3 o4 o5 o6 o7 o8 o9 is_n is_m e1 e2 e3 e4 e5 e6 e7 e8 e9 =
-    rw (e9, e8, e7, e6, e5, e4, e3, e2, e1, is_n, is_m) (parts o (codes "insert ") (decimal at) (codes " ") (decimal pid)
-    (codes " cap_rights_limit(") (decimal fd) (codes ",") (text rights) (codes ") RET ") (decimal 0) (codes "\n"))
+insertion_put at pid fd rights m o o1 o2 o3 o4 same e1 e2 e3 e4 =
+    rw (e4, e3, e2, e1, same) (parts o (inserted at pid) (codes " cap_rights_limit(") (decimal fd) (codes ",")
+    (text rights) (codes ") RET ") (decimal 0) (codes "\n"))
+    ∙ ap (λ (l : List ℕ). o ++ (l ++ codes "\n")) (begins (codes "insert ") (decimal at) (codes " ") (decimal pid)
+    (codes " cap_rights_limit(" ++ ((decimal fd ++ (codes "," ++ text rights)) ++ (codes ") RET " ++ decimal 0))))
 
 -- the text of one limit more
 pub makers_more : (limits : List MakerLimit) (i : ℕ) (one : MakerLimit) (before after : List ℕ) → i < length limits
@@ -122,40 +130,31 @@ unknown_more i limits one first before after lt at_i so_far is =
 
 -- ---- two parts of a comment, with texts before, between and after them
 
-pub two_put : (o a p b k c o1 o2 o3 o4 o5 : List ℕ) → o1 ≡ o ++ a → o2 ≡ o1 ++ p → o3 ≡ o2 ++ b → o4 ≡ o3 ++ k
-    → o5 ≡ o4 ++ c → o5 ≡ o ++ (a ++ ((p ++ (b ++ k)) ++ c))
-two_put o a p b k c o1 o2 o3 o4 o5 e1 e2 e3 e4 e5 =
-    e5 ∙ ap (λ (l : List ℕ). l ++ c) (e4 ∙ ap (λ (l : List ℕ). l ++ k) (e3 ∙ ap (λ (l : List ℕ). l ++ b)
-    (e2 ∙ ap (λ (l : List ℕ). l ++ p) e1)))
-    ∙ ap (λ (l : List ℕ). l ++ c) (append_assoc ((o ++ a) ++ p) b k ∙ append_assoc (o ++ a) p (b ++ k)
-    ∙ append_assoc o a (p ++ (b ++ k)))
-    ∙ append_assoc o (a ++ (p ++ (b ++ k))) c ∙ ap (λ (l : List ℕ). o ++ l) (append_assoc a (p ++ (b ++ k)) c)
+two_put : (o a p b k c o1 o2 o3 : List ℕ) → o1 ≡ o ++ (a ++ (p ++ b)) → o2 ≡ o1 ++ k → o3 ≡ o2 ++ c
+    → o3 ≡ o ++ (a ++ ((p ++ (b ++ k)) ++ c))
+two_put o a p b k c o1 o2 o3 e1 e2 e3 = rw (e3, e2, e1) (simp append_assoc)
 
-number_put : (n pid : ℕ) (before after : List ℕ) → n ≡ pid → after ≡ before ++ decimal n → after ≡ before ++ decimal pid
-number_put n pid before after same is = is ∙ ap (λ (m : ℕ). before ++ decimal m) same
+pub place_put : (pid at n : ℕ) (o o1 o2 o3 : List ℕ) → n ≡ pid
+    → o1 ≡ o ++ (codes "# process " ++ (decimal n ++ codes " before line ")) → o2 ≡ o1 ++ decimal at
+    → o3 ≡ o2 ++ codes "\n" → o3 ≡ o ++ line_text (comment (place_words pid at))
+place_put pid at n o o1 o2 o3 same e1 e2 e3 =
+    two_put o (codes "# process ") (decimal pid) (codes " before line ") (decimal at) (codes "\n") o1 o2 o3
+    (rw same at e1) e2 e3
 
-pub place_put : (pid at n : ℕ) (o o1 o2 o3 o4 o5 : List ℕ) → n ≡ pid → o1 ≡ o ++ codes "# process "
-    → o2 ≡ o1 ++ decimal n → o3 ≡ o2 ++ codes " before line " → o4 ≡ o3 ++ decimal at → o5 ≡ o4 ++ codes "\n"
-    → o5 ≡ o ++ line_text (comment (place_words pid at))
-place_put pid at n o o1 o2 o3 o4 o5 same e1 e2 e3 e4 e5 =
-    two_put o (codes "# process ") (decimal pid) (codes " before line ") (decimal at) (codes "\n") o1 o2 o3 o4 o5 e1
-    (number_put n pid o1 o2 same e2) e3 e4 e5
+pub needed_put : (row : Row) (n : ℕ) (o o1 o2 o3 : List ℕ) → n ≡ row.0
+    → o1 ≡ o ++ (codes "# descriptor " ++ (decimal n ++ codes " isn't known; later calls need "))
+    → o2 ≡ o1 ++ text row.1 → o3 ≡ o2 ++ codes "\n" → o3 ≡ o ++ line_text (comment (unknown_words row))
+needed_put row n o o1 o2 o3 same e1 e2 e3 =
+    two_put o (codes "# descriptor ") (decimal row.0) (codes " isn't known; later calls need ") (text row.1)
+    (codes "\n") o1 o2 o3 (rw same at e1) e2 e3
 
-pub needed_put : (row : Row) (n : ℕ) (o o1 o2 o3 o4 o5 : List ℕ) → n ≡ row.0 → o1 ≡ o ++ codes "# descriptor "
-    → o2 ≡ o1 ++ decimal n → o3 ≡ o2 ++ codes " isn't known; later calls need " → o4 ≡ o3 ++ text row.1
-    → o5 ≡ o4 ++ codes "\n" → o5 ≡ o ++ line_text (comment (unknown_words row))
-needed_put row n o o1 o2 o3 o4 o5 same e1 e2 e3 e4 e5 =
-    two_put o (codes "# descriptor ") (decimal row.0) (codes " isn't known; later calls need ") (text row.1) (codes "\n")
-    o1 o2 o3 o4 o5 e1 (number_put n row.0 o1 o2 same e2) e3 e4 e5
+entry_parts : (o i e z n : List ℕ) → (o ++ i) ++ (e ++ (z ++ n)) ≡ o ++ ((i ++ (e ++ z)) ++ n)
+entry_parts o i e z n = simp append_assoc
 
-entry_parts : (o i a s p e z n : List ℕ)
-    → ((((o ++ i) ++ a) ++ s) ++ p) ++ (e ++ (z ++ n)) ≡ o ++ ((i ++ (a ++ (s ++ (p ++ (e ++ z))))) ++ n)
-entry_parts o i a s p e z n = simp append_assoc
-
-pub entry_put : (at pid n : ℕ) (o o1 o2 o3 o4 o5 : List ℕ) → n ≡ pid → o1 ≡ o ++ codes "insert "
-    → o2 ≡ o1 ++ decimal at → o3 ≡ o2 ++ codes " " → o4 ≡ o3 ++ decimal n → o5 ≡ o4 ++ codes " cap_enter() RET 0\n"
-    → o5 ≡ o ++ line_text (insertion at (enter_line pid))
+pub entry_put : (at pid : ℕ) (o o1 o2 : List ℕ) → o1 ≡ o ++ inserted at pid
+    → o2 ≡ o1 ++ codes " cap_enter() RET 0\n" → o2 ≡ o ++ line_text (insertion at (enter_line pid))
 unfolding digits
-entry_put at pid n o o1 o2 o3 o4 o5 same e1 e2 e3 e4 e5 =
-    rw (e5, e4, e3, e2, e1, same) (entry_parts o (codes "insert ") (decimal at) (codes " ") (decimal pid)
-    (codes " cap_enter() RET ") (decimal 0) (codes "\n"))
+entry_put at pid o o1 o2 e1 e2 =
+    rw (e2, e1) (entry_parts o (inserted at pid) (codes " cap_enter() RET ") (decimal 0) (codes "\n"))
+    ∙ ap (λ (l : List ℕ). o ++ (l ++ codes "\n")) (begins (codes "insert ") (decimal at) (codes " ") (decimal pid)
+    (codes " cap_enter() RET " ++ decimal 0))

@@ -6,7 +6,7 @@ ghost use Rattle.cap_session.specs.Explaining.{numbered, link_line, start_line, 
 ghost use Rattle.cap_session.specs.Explaining.{cell_word, mode_word, mode_end_line, mode_lines};
 
 use crate::trace::Trace;
-use crate::wording::{mode_word, put_cell, put_number};
+use crate::wording::{mode_word, put_between, put_cell};
 use cap_machine::{Cell, CellEnd, CellOrigin, Mode, ModeEnd, ModeOrigin, NoMemory};
 use cap_trace::{Fd, write_line};
 use itoa::Buffer;
@@ -16,8 +16,7 @@ pub fn put_numbered<T: Trace>(out: &mut Vec<u8>, trace: &T, position: usize) -> 
     requires { IsAt (length (T.lines trace.now)) position }
     ensures { OnOk result (out.new.items ≡ out.old.items ++ numbered (T.lines trace.now) position) }
 {
-    put_number(out, position as u64)?;
-    out.extend_from_slice(b" ")?;
+    put_between(out, b"", position as u64, b" ")?;
     write_line(trace.line_at(position), out)?;
     out.extend_from_slice(b"\n")?;
     Ok(())

@@ -1,6 +1,6 @@
 //! The limits of a trace as the text of a script that puts them in.
 ghost use Rattle.std.specs.Prelude.{◌≡◌, ◌⊎◌, ◌↔◌, ◌++◌, ◌+◌, ◌<◌, ◌^◌, length, map, IfOk, OnOk, OnErr, IsTrue, Err, List};
-ghost use Rattle.std.specs.Prelude.{option_copied};
+ghost use Rattle.std.specs.Prelude.{codes, decimal, option_copied};
 ghost use Rattle.std.specs.List.{All};
 ghost use Rattle.cap_trace.specs.Entry.{Entry};
 ghost use Rattle.cap_machine.specs.Limits.{row_of};
@@ -13,13 +13,22 @@ ghost use Rattle.cap_session.specs.LimitStreams.{limits_script, IsMakersText, Is
 
 use crate::refused::Refused;
 use crate::session::is_position;
-use crate::wording::put_number;
+use crate::wording::{put_between, put_number};
 use cap_machine::{
     Entering, Limit, Limits, MakerLimit, NoMemory, Profile, Start, limits_before, limits_of_makers,
 };
 use cap_rights::{RightSet, write_rights};
 use cap_trace::{Fd, Line, Pid};
 use std::alloc::Global;
+
+/// Appends how a line of a script begins that puts in at a position a line of a process.
+fn put_insert(out: &mut Vec<u8>, at: usize, pid: Pid) -> Result<(), NoMemory>
+    ensures { OnOk result (out.new.items
+        ≡ out.old.items ++ (codes "insert " ++ (decimal at ++ (codes " " ++ decimal pid)))) }
+{
+    put_between(out, b"insert ", at as u64, b" ")?;
+    put_number(out, u64::from(pid))
+}
 
 /// Appends the line of a script that puts in at a position the line by which a process limits a descriptor.
 fn put_insertion(
@@ -32,13 +41,8 @@ fn put_insertion(
     ensures { OnOk result (out.new.items
         ≡ out.old.items ++ line_of_words (words_of (insertion at (limit_line pid (fd, rights.now))))) }
 {
-    out.extend_from_slice(b"insert ")?;
-    put_number(out, at as u64)?;
-    out.extend_from_slice(b" ")?;
-    put_number(out, u64::from(pid))?;
-    out.extend_from_slice(b" cap_rights_limit(")?;
-    put_number(out, u64::from(fd))?;
-    out.extend_from_slice(b",")?;
+    put_insert(out, at, pid)?;
+    put_between(out, b" cap_rights_limit(", u64::from(fd), b",")?;
     write_rights(rights, out)?;
     out.extend_from_slice(b") RET 0\n")?;
     Ok(())
@@ -73,7 +77,8 @@ fn makers_text(
 ) -> Result<Vec<u8>, NoMemory>
     ensures { IfOk result (λ text. IsMakersText profile start.now lines.now.items text.items) }
 {
-    let limits = limits_of_makers(alloc, profile, start, lines.as_slice())?;
+    let all = lines.as_slice();
+    let limits = limits_of_makers(alloc, profile, start, all)?;
     let text = script_of(alloc, limits.as_slice())?;
     Ok(text)
 }
@@ -82,9 +87,7 @@ fn makers_text(
 fn put_place(out: &mut Vec<u8>, pid: Pid, at: usize) -> Result<(), NoMemory>
     ensures { OnOk result (out.new.items ≡ out.old.items ++ line_of_words (words_of (comment (place_words pid at)))) }
 {
-    out.extend_from_slice(b"# process ")?;
-    put_number(out, u64::from(pid))?;
-    out.extend_from_slice(b" before line ")?;
+    put_between(out, b"# process ", u64::from(pid), b" before line ")?;
     put_number(out, at as u64)?;
     out.extend_from_slice(b"\n")?;
     Ok(())
@@ -109,9 +112,8 @@ fn put_needed(out: &mut Vec<u8>, limit: &Limit) -> Result<(), NoMemory>
     ensures { OnOk result (out.new.items
         ≡ out.old.items ++ line_of_words (words_of (comment (unknown_words (row_of limit.now))))) }
 {
-    out.extend_from_slice(b"# descriptor ")?;
-    put_number(out, u64::from(limit.fd))?;
-    out.extend_from_slice(b" isn't known; later calls need ")?;
+    let known = b" isn't known; later calls need ";
+    put_between(out, b"# descriptor ", u64::from(limit.fd), known)?;
     write_rights(&limit.rights, out)?;
     out.extend_from_slice(b"\n")?;
     Ok(())
@@ -132,10 +134,7 @@ fn put_unknown(out: &mut Vec<u8>, limits: &[Limit]) -> Result<(), NoMemory>
 fn put_entry(out: &mut Vec<u8>, at: usize, pid: Pid) -> Result<(), NoMemory>
     ensures { OnOk result (out.new.items ≡ out.old.items ++ line_of_words (words_of (insertion at (enter_line pid)))) }
 {
-    out.extend_from_slice(b"insert ")?;
-    put_number(out, at as u64)?;
-    out.extend_from_slice(b" ")?;
-    put_number(out, u64::from(pid))?;
+    put_insert(out, at, pid)?;
     out.extend_from_slice(b" cap_enter() RET 0\n")?;
     Ok(())
 }
@@ -144,10 +143,8 @@ fn put_entry(out: &mut Vec<u8>, at: usize, pid: Pid) -> Result<(), NoMemory>
 fn put_inside(out: &mut Vec<u8>, pid: Pid) -> Result<(), NoMemory>
     ensures { OnOk result (out.new.items ≡ out.old.items ++ line_of_words (words_of (comment (inside_words pid)))) }
 {
-    out.extend_from_slice(b"# process ")?;
-    put_number(out, u64::from(pid))?;
-    out.extend_from_slice(b" is in capability mode already\n")?;
-    Ok(())
+    let is_inside = b" is in capability mode already\n";
+    put_between(out, b"# process ", u64::from(pid), is_inside)
 }
 
 /// Appends the call and the process of the line that is in the way.

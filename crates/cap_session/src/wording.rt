@@ -5,7 +5,7 @@ ghost use Rattle.cap_machine.specs.DenialReport.{denial_words};
 ghost use Rattle.cap_machine.specs.Report.{finding_words, line_of_words};
 ghost use Rattle.cap_session.specs.Explaining.{cell_word, mode_word};
 
-use cap_machine::{Cell, Denial, Finding, Mode, NoMemory};
+use cap_machine::{Cell, Denial, Finding, Mode, NoMemory, put_denial_words};
 use cap_rights::{RightSet, write_rights};
 use cap_trace::Fd;
 use itoa::Buffer;
@@ -19,26 +19,29 @@ pub fn put_number(out: &mut Vec<u8>, number: u64) -> Result<(), NoMemory>
     Ok(())
 }
 
+/// Appends a number, with a text before it and one behind it.
+pub fn put_between(
+    out: &mut Vec<u8>,
+    before: &[u8],
+    number: u64,
+    behind: &[u8],
+) -> Result<(), NoMemory>
+    ensures { OnOk result (out.new.items ≡ out.old.items ++ (before.now ++ (decimal number ++ behind.now))) }
+{
+    out.extend_from_slice(before)?;
+    put_number(out, number)?;
+    out.extend_from_slice(behind)?;
+    Ok(())
+}
+
 /// Appends a word, a descriptor and rights, with one space between, and a line feed.
 fn put_lacking(out: &mut Vec<u8>, word: &[u8], fd: Fd, rights: &RightSet) -> Result<(), NoMemory>
     ensures { OnOk result (out.new.items ≡ out.old.items
         ++ line_of_words (word.now ∷ decimal fd ∷ text rights.now ∷ [])) }
 {
     out.extend_from_slice(word)?;
-    out.extend_from_slice(b" ")?;
-    put_number(out, u64::from(fd))?;
-    out.extend_from_slice(b" ")?;
+    put_between(out, b" ", u64::from(fd), b" ")?;
     write_rights(rights, out)?;
-    out.extend_from_slice(b"\n")?;
-    Ok(())
-}
-
-/// Appends a word and a descriptor, with one space between, and a line feed.
-fn put_closed(out: &mut Vec<u8>, fd: Fd) -> Result<(), NoMemory>
-    ensures { OnOk result (out.new.items ≡ out.old.items ++ line_of_words (codes "closed" ∷ decimal fd ∷ [])) }
-{
-    out.extend_from_slice(b"closed ")?;
-    put_number(out, u64::from(fd))?;
     out.extend_from_slice(b"\n")?;
     Ok(())
 }
@@ -51,7 +54,7 @@ pub fn put_found(out: &mut Vec<u8>, finding: &Finding) -> Result<(), NoMemory>
         Finding::Forbidden => out.extend_from_slice(b"forbidden\n")?,
         Finding::ModeRefusal => out.extend_from_slice(b"moderefusal\n")?,
         Finding::Refusal => out.extend_from_slice(b"refusal\n")?,
-        Finding::Closed(fd) => put_closed(out, *fd)?,
+        Finding::Closed(fd) => put_between(out, b"closed ", u64::from(*fd), b"\n")?,
         Finding::Missing(fd, lacking) => put_lacking(out, b"missing", *fd, lacking)?,
         Finding::Expanded(fd, lacking) => put_lacking(out, b"expanded", *fd, lacking)?,
     }
@@ -62,11 +65,8 @@ pub fn put_found(out: &mut Vec<u8>, finding: &Finding) -> Result<(), NoMemory>
 pub fn put_denied(out: &mut Vec<u8>, denial: &Denial) -> Result<(), NoMemory>
     ensures { OnOk result (out.new.items ≡ out.old.items ++ line_of_words (denial_words denial.now)) }
 {
-    match denial {
-        Denial::Lacks(fd, lacking) => put_lacking(out, b"lacks", *fd, lacking)?,
-        Denial::Inside => out.extend_from_slice(b"inside\n")?,
-        Denial::Unexplained => out.extend_from_slice(b"unexplained\n")?,
-    }
+    put_denial_words(out, denial)?;
+    out.extend_from_slice(b"\n")?;
     Ok(())
 }
 

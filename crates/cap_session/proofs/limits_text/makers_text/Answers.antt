@@ -12,11 +12,11 @@ use Rattle.cap_session.proofs.limits_text.makers_text.Goals as goal
 pub script_of-requires : goal.script_of-requires
 script_of-requires c =
     let s = start_state c.args.start.now in
-    let lines : List Entry = c.as_slice.result.now in
-    let most = c.as_slice.type_inv.1 in
+    let lines : List Entry = c.as_slice-all.result.now in
+    let most = c.as_slice-all.type_inv.1 in
     let long : length (steps c.args.profile lines) ≡ length lines = length-map lines (step c.args.profile) in
-    places_below s (steps c.args.profile lines) c.as_slice-2.result.now 9223372036854775808
-    (subst (λ (l : List MakerLimit). AreMakerLimits s 1 (steps c.args.profile lines) l) (sym c.as_slice-2.ensures.value)
+    places_below s (steps c.args.profile lines) c.as_slice.result.now 9223372036854775808
+    (subst (λ (l : List MakerLimit). AreMakerLimits s 1 (steps c.args.profile lines) l) (sym c.as_slice.ensures.value)
     c.in_ok-limits.ensures) (omega (arith, long, most))
 
 pub returns : goal.returns
@@ -25,7 +25,7 @@ returns c =
     record {
       limits = c.in_ok-limits.limits.items;
       least = subst (λ (l : List Entry). AreMakerLimits s 1 (steps c.args.profile l) c.in_ok-limits.limits.items)
-          c.as_slice.ensures.value c.in_ok-limits.ensures;
-      is = c.in_ok-text.ensures ∙ ap maker_lines c.as_slice-2.ensures.value
+          c.as_slice-all.ensures.value c.in_ok-limits.ensures;
+      is = c.in_ok-text.ensures ∙ ap maker_lines c.as_slice.ensures.value
           ∙ makers_text_is c.in_ok-limits.limits.items;
     }

@@ -2,6 +2,5 @@ use Rattle.cap_session.proofs.LimitTexts.{place_put}
 use Rattle.cap_session.proofs.limits_text.put_place.Goals as goal
 
 pub returns : goal.returns
-returns c = place_put c.args.pid c.args.at c.from.result _ _ _ _ _ _ c.from.ensures
-    c.in_ok-extend_from_slice.ensures.items c.in_ok-put_number.ensures c.in_ok-extend_from_slice-2.ensures.items
-    c.in_ok-put_number-2.ensures c.in_ok-extend_from_slice-3.ensures.items
+returns c = place_put c.args.pid c.args.at c.from.result _ _ _ _ c.from.ensures c.in_ok-put_between.ensures
+    c.in_ok-put_number.ensures c.in_ok-extend_from_slice.ensures.items
