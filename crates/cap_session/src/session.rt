@@ -43,7 +43,7 @@ pub struct Session {
     alloc: Global,
     profile: Profile,
     tree: Tree<Summary>,
-    joins: usize,
+    joins: u64,
     limit: usize,
 }
 
@@ -167,7 +167,7 @@ impl Session {
         ensures profile { self.new.profile ≡ self.old.profile }
     {
         self.tree = tree;
-        self.joins = meter.joins() as usize;
+        self.joins = meter.joins();
         self.count()
     }
 
@@ -307,7 +307,7 @@ impl Session {
     /// After an edit it is at most `12 * bits n + 12`, where n is the count before it, with an inserted line, and
     /// `bits n` the number of its binary digits. After a load of n lines it is at most `2 * n`. A refused edit or load
     /// leaves it as it was.
-    pub fn joins(&self) -> usize
+    pub fn joins(&self) -> u64
         ensures { result ≡ self.now.joins }
     {
         self.joins

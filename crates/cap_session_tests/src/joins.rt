@@ -119,7 +119,7 @@ fn joins_alike(
     edit: &Edit<'_>,
     is_refused: bool,
 ) -> Result<(), Fail> {
-    let before = session.joins() as u64;
+    let before = session.joins();
     let answer = edited(session, edit);
     let joins = if is_refused {
         before
@@ -127,7 +127,7 @@ fn joins_alike(
         edit_tree(alloc, tree, edit)?
     };
     wanted(
-        answer.is_err() == is_refused && session.joins() as u64 == joins,
+        answer.is_err() == is_refused && session.joins() == joins,
         "the joins of an edit",
     )
 }
