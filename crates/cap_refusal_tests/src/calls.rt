@@ -60,7 +60,12 @@ fn answers(alloc: Global, call: &Call<'_>) -> Result<bool, NoMemory> {
         Call::Range(start, summary, range, places) => {
             resolves(alloc, start, summary, *range, places)
         }
-        Call::Ask(session, query, text) => answers_query(session, query, text),
+        Call::Ask(session, query, text) => {
+            let start = Start::unknown(alloc);
+            let is_right = answers_query(session, &start, query, text);
+            drop(start);
+            is_right
+        }
         Call::ReportFrom(session, start) => reports_from(session, start),
         Call::Denials(session, start) => has_denials(session, start),
     }

@@ -3,7 +3,7 @@
 use crate::calls::{Call, is_answered};
 use crate::machine::{TRACE, lines_of};
 use crate::marks::{Mark, lacked, right};
-use cap_machine::{NoMemory, Profile};
+use cap_machine::{NoMemory, Profile, Start};
 use cap_session::{Edit, Edited, Refused, Session};
 use std::alloc::Global;
 use std::test::Fail;
@@ -271,23 +271,28 @@ pub enum Query {
     Limits(Option<usize>),
 }
 
-/// What a session answers. No line that it explains is clean.
-fn asked(session: &Session, query: &Query) -> Result<Vec<u8>, Refused> {
+/// What a session answers, from this start where it takes one. No line that it explains is clean.
+fn asked(session: &Session, start: &Start, query: &Query) -> Result<Vec<u8>, Refused> {
     match query {
         Query::Report => session.report(),
         Query::Range(first, last) => session.report_range(*first, *last),
         Query::Show(position) => session.show(*position),
-        Query::Explain(position) => match session.explain(*position)? {
+        Query::Explain(position) => match session.explain(*position, start)? {
             line if line.is_clean => Err(Refused::Position),
             line => Ok(line.text),
         },
-        Query::Limits(at) => session.limits(*at),
+        Query::Limits(at) => session.limits(*at, start),
     }
 }
 
 /// Asks that: whether this is the answer.
-pub fn answers_query(session: &Session, query: &Query, text: &str) -> Result<bool, NoMemory> {
-    match &asked(session, query) {
+pub fn answers_query(
+    session: &Session,
+    start: &Start,
+    query: &Query,
+    text: &str,
+) -> Result<bool, NoMemory> {
+    match &asked(session, start, query) {
         Ok(answer) => Ok(answer.as_slice() == text.as_bytes()),
         Err(Refused::Memory) => Err(NoMemory),
         Err(_) => Ok(false),

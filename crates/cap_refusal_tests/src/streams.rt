@@ -8,7 +8,7 @@ use cap_session::ExplainOutcome::{self, Ended};
 use cap_session::{
     Failed, Outcome, Source, check_stream, check_stream_as, check_stream_from,
     check_stream_from_as, denials_stream, edit_stream, edit_stream_as, explain_stream,
-    explain_stream_as, explain_stream_from, explain_stream_from_as, limits_stream,
+    limits_stream,
 };
 use cap_session_tests::devices::{Kept, Pieces};
 use std::alloc::Global;
@@ -63,7 +63,7 @@ static REPLIES: [(Outcome, &[u8]); 3] = [
 const EXPLAINED: &[u8] =
     b"5 101 write(3) RET 1\nmissing 3 CAP_WRITE\n3 3 100 fork() RET 101\n3 2 100 cap_rights_limit(3,CAP_READ) RET 0\n3 1 100 @start(0,3)\n";
 
-/// A call of a stream, with a profile or without. The last four explain the last line.
+/// A call of a stream. The last explains the last line of the trace.
 #[derive(Clone, Copy)]
 enum Call {
     Check,
@@ -76,9 +76,6 @@ enum Call {
     Limits,
     LimitsBefore,
     Explain,
-    ExplainAs,
-    ExplainFrom,
-    ExplainFromAs,
 }
 
 /// Makes a call with a trace, a start, a script and a writer: its outcome.
@@ -106,12 +103,7 @@ fn made(
         Call::Denials => denials_stream(alloc, two, 4096, start, trace, kept),
         Call::Limits => return limits_stream(alloc, two, 4096, None, start, trace, kept),
         Call::LimitsBefore => return limits_stream(alloc, two, 4096, Some(2), start, trace, kept),
-        Call::Explain => return explain_stream(alloc, 4096, 5, trace, kept),
-        Call::ExplainAs => return explain_stream_as(alloc, two, 4096, 5, trace, kept),
-        Call::ExplainFrom => return explain_stream_from(alloc, 4096, 5, start, trace, kept),
-        Call::ExplainFromAs => {
-            return explain_stream_from_as(alloc, two, 4096, 5, start, trace, kept);
-        }
+        Call::Explain => return explain_stream(alloc, two, 4096, 5, start, trace, kept),
     };
     Ended(outcome)
 }
@@ -189,16 +181,14 @@ fn limits_streams_refused(rt: HostRuntime) -> Result<(), Fail> {
     Ok(())
 }
 
-static EXPLAINS: [Call; 4] = [
-    Call::Explain,
-    Call::ExplainAs,
-    Call::ExplainFrom,
-    Call::ExplainFromAs,
-];
-
 #[test]
-fn explain_streams_refused(rt: HostRuntime) -> Result<(), Fail> {
-    all_find(rt.alloc(), &EXPLAINS, EXPLAINED, "a line is explained")
+fn explain_stream_refused(rt: HostRuntime) -> Result<(), Fail> {
+    all_find(
+        rt.alloc(),
+        &[Call::Explain],
+        EXPLAINED,
+        "a line is explained",
+    )
 }
 
 /// Whether this may be replied where memory runs out: one of the replies, or nothing after one of them.

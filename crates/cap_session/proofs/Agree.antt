@@ -9,10 +9,17 @@ use Rattle.cap_machine.specs.Questions.{answer}
 use Rattle.cap_session.specs.Devices.{SourceState}
 use Rattle.cap_session.specs.Trace.{trace, soon, next_entry}
 use Rattle.cap_session.specs.Reads.{IsEnded, IsGood}
-use Rattle.cap_session.specs.Refused.{code_of}
+use Rattle.cap_session.specs.AnswerStreams.{IsPrefix}
+use Rattle.cap_session.specs.Outcome.{refused_as}
 use Rattle.cap_session.specs.Refusal.{refusal_text}
-use Rattle.cap_session.specs.Streams.{IsPrefix}
+use Rattle.cap_session.specs.Streams.{asked_says}
 use Rattle.cap_session.specs.Laws.{BeginningDecides, GoodIsReported, BadIsRefused, PiecesAgree}
+use Rattle.cap_machine.specs.State.{State}
+use Rattle.cap_machine.specs.declared.cell.Profile.{Profile}
+use Rattle.cap_machine.specs.declared.question.Question.{Question}
+use Rattle.cap_session.specs.declared.outcome.ExplainOutcome.{ExplainOutcome}
+use Rattle.cap_session.specs.declared.outcome.ExplainOutcome.TheVariants.{Ended, OutOfRange}
+use Rattle.cap_session.specs.declared.refused.Input.TheVariants.{Trace}
 use Rattle.cap_session.specs.declared.refused.Refusal.{Refusal}
 use Rattle.cap_session.specs.declared.outcome.Outcome.TheVariants.{Clean, Findings, Refused, StartRefused, Memory}
 use Rattle.cap_session.specs.declared.outcome.Outcome.TheVariants.{ReadFault, WriteFault, TooLong}
@@ -45,16 +52,31 @@ same_line r d e one two =
     let both = sym one ∙ two in
     cc
 
+-- whatever the outcome, the text is the answer
+is_text : (question : Question) (profile : Profile) (start : State) (t : List Entry) (o : ExplainOutcome) (text : List ℕ)
+    → asked_says question profile start t o text → text ≡ answer question start (steps profile t)
+is_text question profile start t (Ended Clean) text is = is.0
+is_text question profile start t (Ended Findings) text is = is.0
+is_text question profile start t (Ended (Refused code line)) text is = absurd is
+is_text question profile start t (Ended (StartRefused code line)) text is = absurd is
+is_text question profile start t (Ended Memory) text is = absurd is
+is_text question profile start t (Ended ReadFault) text is = absurd is
+is_text question profile start t (Ended WriteFault) text is = absurd is
+is_text question profile start t (Ended TooLong) text is = absurd is
+is_text question profile start t OutOfRange text is = absurd is
+
 pub good_is_reported : GoodIsReported
 good_is_reported question profile start turns r0 r1 w0 w1 Clean entries call seen good =
-    let same = same_entries _ call.answer.0 entries call.answer.1.good good in
-    rw (← same) (call.answer.2, call.answer.1.is)
+    let same = same_entries _ call.answer.known entries call.answer.good good in
+    rw (← same) (call.answer.is.1, call.answer.is.0)
 good_is_reported question profile start turns r0 r1 w0 w1 Findings entries call seen good =
-    let same = same_entries _ call.answer.0 entries call.answer.1.good good in
-    rw (← same) (call.answer.2, call.answer.1.is)
+    let same = same_entries _ call.answer.known entries call.answer.good good in
+    rw (← same) (call.answer.is.1, call.answer.is.0)
 good_is_reported question profile start turns r0 r1 w0 w1 (Refused code line) entries call seen good =
     not_both _ entries _ good (refused_whole _ call.given _ call.answer.says.line.line)
-good_is_reported question profile start turns r0 r1 w0 w1 (StartRefused code line) entries call seen good = absurd call.answer
+good_is_reported question profile start turns r0 r1 w0 w1 (StartRefused code line) entries call seen good =
+    let no = call.answer.is in
+    cc
 good_is_reported question profile start turns r0 r1 w0 w1 Memory entries call seen good = call.answer.silent
 good_is_reported question profile start turns r0 r1 w0 w1 ReadFault entries call seen good =
     let going = call.answer.going in
@@ -65,11 +87,12 @@ good_is_reported question profile start turns r0 r1 w0 w1 TooLong entries call s
     let ended = seen.0 in
     omega arith
 good_is_reported question profile start turns r0 r1 w0 w1 WriteFault entries call seen good =
-    elim call.answer.1 [
+    elim call.answer.2 [
       | inl is ↦
-          let same = same_entries _ is.0 entries is.1.good good in
+          let same = same_entries _ is.1.known entries is.1.good good in
           subst (λ (text : List ℕ). IsPrefix call.written text)
-          (is.1.is ∙ ap (λ (t : List Entry). answer question start (steps profile t)) same) call.answer.2
+          (is_text question profile start is.1.known is.0 call.answer.0 is.1.is
+          ∙ ap (λ (t : List Entry). answer question start (steps profile t)) same) call.answer.1
       | inr is ↦ absurd (not_both _ entries _ good (refused_whole _ call.given _ is.1.line.line))
     ]
 
@@ -96,30 +119,29 @@ not_good seen given e good (inr is) =
 
 pub bad_is_refused : BadIsRefused
 bad_is_refused question profile start turns r0 r1 w0 w1 Clean e call bad =
-    not_both _ call.answer.0 e call.answer.1.good (refused_whole _ call.given e bad)
+    absurd (not_both _ call.answer.known e call.answer.good (refused_whole _ call.given e bad))
 bad_is_refused question profile start turns r0 r1 w0 w1 Findings e call bad =
-    not_both _ call.answer.0 e call.answer.1.good (refused_whole _ call.given e bad)
+    absurd (not_both _ call.answer.known e call.answer.good (refused_whole _ call.given e bad))
 bad_is_refused question profile start turns r0 r1 w0 w1 (Refused code line) e call bad =
     let same : call.answer.refusal ≡ e =
-    same_line _ _ e (refused_whole _ call.given _ call.answer.says.line.line) (refused_whole _ call.given e bad) in (
-      call.answer.code_is ∙ ap (λ (x : Refusal). code_of x.reason) same,
-      call.answer.line_is ∙ ap (λ (x : Refusal). x.line) same,
-      call.answer.says.is ∙ ap refusal_text same,
-    )
-bad_is_refused question profile start turns r0 r1 w0 w1 (StartRefused code line) e call bad = absurd call.answer
+    same_line _ _ e (refused_whole _ call.given _ call.answer.says.line.line) (refused_whole _ call.given e bad) in
+    (call.answer.is ∙ ap (refused_as Trace) same, call.answer.says.is ∙ ap (refusal_text Trace) same)
+bad_is_refused question profile start turns r0 r1 w0 w1 (StartRefused code line) e call bad =
+    let no = call.answer.is in
+    cc
 bad_is_refused question profile start turns r0 r1 w0 w1 Memory e call bad =
-    not_good (IsEnded r0 r1) call.given e call.answer.good bad
+    absurd (not_good (IsEnded r0 r1) call.given e call.answer.good bad)
 bad_is_refused question profile start turns r0 r1 w0 w1 ReadFault e call bad =
-    not_open r0 r1 call.given e call.answer.going call.answer.good bad
+    absurd (not_open r0 r1 call.given e call.answer.going call.answer.good bad)
 bad_is_refused question profile start turns r0 r1 w0 w1 TooLong e call bad =
-    not_open r0 r1 call.given e call.answer.0.going call.answer.0.good bad
+    absurd (not_open r0 r1 call.given e call.answer.0.going call.answer.0.good bad)
 bad_is_refused question profile start turns r0 r1 w0 w1 WriteFault e call bad =
-    elim call.answer.1 [
-      | inl is ↦ absurd (not_both _ is.0 e is.1.good (refused_whole _ call.given e bad))
+    elim call.answer.2 [
+      | inl is ↦ absurd (not_both _ is.1.known e is.1.good (refused_whole _ call.given e bad))
       | inr is ↦
           let same =
           same_line _ is.0 e (refused_whole _ call.given _ is.1.line.line) (refused_whole _ call.given e bad) in
-          subst (λ (text : List ℕ). IsPrefix call.written text) (is.1.is ∙ ap refusal_text same) call.answer.2
+          subst (λ (text : List ℕ). IsPrefix call.written text) (is.1.is ∙ ap (refusal_text Trace) same) call.answer.1
     ]
 
 -- at the end, what was given is the whole text
@@ -138,28 +160,29 @@ refused_text seen text given (Some rest) e read end (inr is) =
 pub pieces_agree : PiecesAgree
 pieces_agree question profile start turns r0 r1 w0 w1 Clean text call known =
     let read = subst (λ (b : Option (List ℕ)). Consumes b r1.bytes call.given) known call.read in (
-      call.answer.0,
-      ap trace (all_given text call.given r1.bytes read call.answer.1.end.1) ∙ call.answer.1.good,
-      call.answer.2,
-      call.answer.1.is,
+      call.answer.known,
+      ap trace (all_given text call.given r1.bytes read call.answer.end.1) ∙ call.answer.good,
+      call.answer.is.1,
+      call.answer.is.0,
     )
 pieces_agree question profile start turns r0 r1 w0 w1 Findings text call known =
     let read = subst (λ (b : Option (List ℕ)). Consumes b r1.bytes call.given) known call.read in (
-      call.answer.0,
-      ap trace (all_given text call.given r1.bytes read call.answer.1.end.1) ∙ call.answer.1.good,
-      call.answer.2,
-      call.answer.1.is,
+      call.answer.known,
+      ap trace (all_given text call.given r1.bytes read call.answer.end.1) ∙ call.answer.good,
+      call.answer.is.1,
+      call.answer.is.0,
     )
 pieces_agree question profile start turns r0 r1 w0 w1 (Refused code line) text call known =
     let read = subst (λ (b : Option (List ℕ)). Consumes b r1.bytes call.given) known call.read in
     let seen = call.answer in (
       seen.refusal,
       refused_text (IsEnded r0 r1) text call.given r1.bytes _ read (λ seen. seen.1) seen.says.line.line,
-      seen.code_is,
-      seen.line_is,
+      seen.is,
       seen.says.is,
     )
-pieces_agree question profile start turns r0 r1 w0 w1 (StartRefused code line) text call known = absurd call.answer
+pieces_agree question profile start turns r0 r1 w0 w1 (StartRefused code line) text call known =
+    let no = call.answer.is in
+    cc
 pieces_agree question profile start turns r0 r1 w0 w1 Memory text call known = tt
 pieces_agree question profile start turns r0 r1 w0 w1 ReadFault text call known = tt
 pieces_agree question profile start turns r0 r1 w0 w1 WriteFault text call known = tt

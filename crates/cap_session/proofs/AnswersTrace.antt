@@ -1,17 +1,18 @@
--- What is read of a trace and what is answered of it, together.
-use Rattle.std.proofs.Common.{rules, ◌≡◌, ℕ, Bool, true, false, List, [], refl, ap, inl, inr, subst, arith}
-use Rattle.std.specs.Prelude.{Err, Ok, IsTrue}
+-- What is read of a text and what is answered of it, together.
+use Rattle.std.proofs.Common.{◌≡◌, ℕ, Bool, true, false, List, [], refl, ap, inl, inr, subst, arith}
+use Rattle.std.specs.Prelude.{Err, Ok}
 use Rattle.cap_trace.specs.Entry.{Entry}
-use Rattle.cap_machine.specs.State.{Added}
-use Rattle.cap_session.specs.AnswerStreams.{Says, WritesAnswer, AnswerStreams, AnswerStartStreams}
+use Rattle.cap_session.specs.AnswerStreams.{Kind, of_trace, SaysOf, Says, nothing, IsAnswer, NamesLine, HasOutcome}
+use Rattle.cap_session.specs.AnswerStreams.{AnswerStreams, Rejected, Taken}
 use Rattle.cap_session.specs.Devices.{SourceState, SinkState}
-use Rattle.cap_session.specs.Trace.{trace, soon}
-use Rattle.cap_session.specs.Reads.{Reads}
+use Rattle.cap_session.specs.Outcome.{found, refused_as, explain_read_faults, explain_write_faults}
+use Rattle.cap_session.specs.Trace.{trace, soon, next_entry}
+use Rattle.cap_session.specs.Reads.{Reads, IsEnded, IsGood}
 use Rattle.cap_session.specs.Refusal.{refusal_text}
-use Rattle.cap_session.specs.Explained.{WritesText, WritesOutOfRange}
-use Rattle.cap_session.specs.Replies.{refused_text}
-use Rattle.cap_session.specs.StartTexts.{described_by, start_soon}
-use Rattle.cap_session.specs.Works.{EndsCall, EndsStart, WritesRefusal}
+use Rattle.cap_session.specs.Works.{EndsCall, Writes, WritesAnswer}
+use Rattle.cap_session.specs.Writes.{Wrote}
+use Rattle.cap_session.specs.declared.refused.Input.{Input}
+use Rattle.cap_session.specs.declared.refused.Input.TheVariants as inputs
 use Rattle.cap_session.specs.declared.refused.Refusal.{Refusal}
 use Rattle.cap_session.specs.declared.lines.Stop.{Stop}
 use Rattle.cap_session.specs.declared.lines.Stop.TheVariants as stops
@@ -20,135 +21,71 @@ use Rattle.cap_session.specs.declared.outcome.Outcome.TheVariants.{Clean, Findin
 use Rattle.cap_session.specs.declared.outcome.Outcome.TheVariants.{ReadFault, WriteFault, TooLong}
 use Rattle.cap_session.specs.declared.outcome.ExplainOutcome.{ExplainOutcome}
 use Rattle.cap_session.specs.declared.outcome.ExplainOutcome.TheVariants.{Ended, OutOfRange}
-use Rattle.cap_session.proofs.Answered.{Whole, is_good}
 use Rattle.cap_session.proofs.Calls.{appends_none}
-use Rattle.cap_session.proofs.StartRejecting.{not_taken}
+use Rattle.cap_session.proofs.Soon.{good_soon}
+use Rattle.cap_session.proofs.Texted.{goes_nowhere}
 
--- ---- the trace was read to its end
-
-module _ (says : Says) (turns : ℕ) (r0 r1 : SourceState) (w0 w1 : SinkState) (t : List Entry)
-    (r : Whole turns r0 r1 t) where
-  answered : (o : ExplainOutcome) → WritesAnswer (says t) w0 w1 o → AnswerStreams says turns r0 r1 w0 w1 o
-  answered (Ended Clean) w =
-      let same = w.1.failures in
-      record {
-        given = r.given;
-        read = r.read;
-        calls = r.calls;
-        written = w.0;
-        wrote = w.1.taken;
-        read_fault = r.failures;
-        write_fault = omega arith;
-        answer = record { end = r.end; entries = t; good = r.good; is = w.2 };
-      }
-  answered (Ended Findings) w =
-      let same = w.1.failures in
-      record {
-        given = r.given;
-        read = r.read;
-        calls = r.calls;
-        written = w.0;
-        wrote = w.1.taken;
-        read_fault = r.failures;
-        write_fault = omega arith;
-        answer = record { end = r.end; entries = t; good = r.good; is = w.2 };
-      }
-  answered OutOfRange w =
-      let same = w.1.failures in
-      record {
-        given = r.given;
-        read = r.read;
-        calls = r.calls;
-        written = w.0;
-        wrote = w.1.taken;
-        read_fault = r.failures;
-        write_fault = omega arith;
-        answer = record { end = r.end; entries = t; good = r.good; is = w.2 };
-      }
-  answered (Ended Memory) w =
-      let same : w1.failures ≡ w0.failures = ap (λ (s : SinkState). s.failures) w in
-      record {
-        given = r.given;
-        read = r.read;
-        calls = r.calls;
-        written = [];
-        wrote = rw w (appends_none w0.taken);
-        read_fault = r.failures;
-        write_fault = omega arith;
-        answer = record { good = is_good _ r.given t r.good; silent = refl };
-      }
-  answered (Ended WriteFault) w =
-      let (o, text, wrote, is) = w in
-      record {
-        given = r.given;
-        read = r.read;
-        calls = r.calls;
-        written = wrote.front;
-        wrote = wrote.taken;
-        read_fault = r.failures;
-        write_fault = wrote.failures;
-        answer = (
-          text,
-          (wrote.rest, wrote.cut),
-          inl (o, record { end = r.end; entries = t; good = r.good; is = is }),
-        );
-      }
-  answered (Ended (Refused code line)) w = absurd w
-  answered (Ended (StartRefused code line)) w = absurd w
-  answered (Ended ReadFault) w = absurd w
-  answered (Ended TooLong) w = absurd w
-
--- the lines that were kept are those of the trace
-pub answer_kept : (says : Says) (turns : ℕ) (r0 r1 : SourceState) (w0 w1 : SinkState) (kept t : List Entry)
-    (o : ExplainOutcome) → Whole turns r0 r1 t → kept ≡ t → WritesAnswer (says kept) w0 w1 o
-    → AnswerStreams says turns r0 r1 w0 w1 o
-answer_kept says turns r0 r1 w0 w1 kept t o r same w = answered says turns r0 r1 w0 w1 t r o
-    (subst (λ (l : List Entry). WritesAnswer (says l) w0 w1 o) same w)
-
--- what is said of a trace, by another name
-pub answers_same : {A : Type 0} (says : A → Says) (a b : A) (turns : ℕ) (r0 r1 : SourceState) (w0 w1 : SinkState)
-    (o : ExplainOutcome) → a ≡ b → AnswerStreams (says a) turns r0 r1 w0 w1 o
-    → AnswerStreams (says b) turns r0 r1 w0 w1 o
-answers_same {A = A} says a b turns r0 r1 w0 w1 o same answered =
-    subst (λ (x : A). AnswerStreams (says x) turns r0 r1 w0 w1 o) same answered
+-- no line is refused of a text that is a trace
+good_trace : {T : Type 0} (holds : T → List Entry → Type 0) (turns : ℕ) (r0 r1 : SourceState) (x : T)
+    → (r : Reads trace soon holds turns r0 r1 (Ok x)) → IsGood trace soon (IsEnded r0 r1) r.given
+good_trace holds turns r0 r1 x r = record {
+  before = good_soon next_entry [] r.answer.1.0 r.given r.answer.1.1;
+  at_end = λ end. rw r.answer.1.1 refl;
+}
 
 -- ---- reading it stopped
 
-module _ (says : Says) (turns : ℕ) (r0 r1 : SourceState) (w0 w1 : SinkState) {T : Type 0}
-    (holds : T → List Entry → Type 0) where
-  line_refused : (e : Refusal) (o : Outcome) → Reads trace soon holds turns r0 r1 (Err (stops.Refused e))
-      → WritesRefusal e w0 w1 o → AnswerStreams says turns r0 r1 w0 w1 (Ended o)
-  line_refused e (Refused code line) r w =
+-- the outcome of a refused line is one of two
+by_input : (input : Input) (e : Refusal) (P : Outcome → Type 0) → ((code line : ℕ) → P (Refused code line))
+    → ((code line : ℕ) → P (StartRefused code line)) → P (refused_as input e)
+by_input inputs.Start e P trace start = start _ _
+by_input inputs.Trace e P trace start = trace _ _
+
+module _ {A : Type 0} (kind : Kind A) (says : SaysOf A) (turns : ℕ) (r0 r1 : SourceState) (w0 w1 : SinkState)
+    {T : Type 0} (holds : T → A → Type 0) where
+  line_refused : (e : Refusal) (o : Outcome) → Reads kind.whole kind.soon holds turns r0 r1 (Err (stops.Refused e))
+      → Writes (refusal_text kind.input e) (refused_as kind.input e) WriteFault w0 w1 o
+      → AnswerStreams kind says turns r0 r1 w0 w1 (Ended o)
+  line_refused e o r (inl w) =
       let same = w.0.failures in
-      record {
+      let names : (outcome : Outcome) → outcome ≡ refused_as kind.input e
+      → NamesLine kind (IsEnded r0 r1) r.given (refusal_text kind.input e) outcome = λ outcome is.
+      record { refusal = e; says = record { line = r.answer; is = refl }; is = is } in
+      rw w.1 (by_input kind.input e (λ (outcome : Outcome). outcome ≡ refused_as kind.input e
+      → AnswerStreams kind says turns r0 r1 w0 w1 (Ended outcome))
+      (λ code line is. record {
         given = r.given;
         read = r.read;
         calls = r.calls;
-        written = refusal_text e;
+        written = refusal_text kind.input e;
         wrote = w.0.taken;
         read_fault = r.failures;
         write_fault = omega arith;
-        answer = record { refusal = e; says = record { line = r.answer; is = refl }; code_is = w.1; line_is = w.2 };
-      }
-  line_refused e WriteFault r w = record {
+        answer = names _ is;
+      })
+      (λ code line is. record {
+        given = r.given;
+        read = r.read;
+        calls = r.calls;
+        written = refusal_text kind.input e;
+        wrote = w.0.taken;
+        read_fault = r.failures;
+        write_fault = omega arith;
+        answer = names _ is;
+      }) refl)
+  line_refused e o r (inr w) = rw w.1 (record {
     given = r.given;
     read = r.read;
     calls = r.calls;
-    written = w.front;
-    wrote = w.taken;
+    written = w.0.front;
+    wrote = w.0.taken;
     read_fault = r.failures;
-    write_fault = w.failures;
-    answer = (refusal_text e, (w.rest, w.cut), inr (e, record { line = r.answer; is = refl }));
-  }
-  line_refused e (StartRefused code line) r w = absurd w
-  line_refused e Clean r w = absurd w
-  line_refused e Findings r w = absurd w
-  line_refused e Memory r w = absurd w
-  line_refused e ReadFault r w = absurd w
-  line_refused e TooLong r w = absurd w
+    write_fault = w.0.failures;
+    answer = (refusal_text kind.input e, (w.0.rest, w.0.cut), inr (e, record { line = r.answer; is = refl }));
+  })
 
-  pub answer_stopped : (stop : Stop) (o : Outcome) → Reads trace soon holds turns r0 r1 (Err stop)
-      → EndsCall stop w0 w1 o → AnswerStreams says turns r0 r1 w0 w1 (Ended o)
+  pub answer_stopped : (stop : Stop) (o : Outcome) → Reads kind.whole kind.soon holds turns r0 r1 (Err stop)
+      → EndsCall kind.input stop w0 w1 o → AnswerStreams kind says turns r0 r1 w0 w1 (Ended o)
   answer_stopped (stops.Refused e) o r w = line_refused e o r w
   answer_stopped stops.Memory o r w =
       rw (w.0, w.1) (record {
@@ -185,60 +122,126 @@ module _ (says : Says) (turns : ℕ) (r0 r1 : SourceState) (w0 w1 : SinkState) {
       })
   answer_stopped stops.WriteFault o r w = absurd r.answer
 
--- ---- from a start
+-- memory ran out before the first read
+pub nothing_read : (says : Says) (turns : ℕ) (r : SourceState) (w : SinkState)
+    → AnswerStreams of_trace says turns r r w w (Ended Memory)
+nothing_read says turns r w =
+    let holds : List Entry → List Entry → Type 0 = λ lines known. known ≡ [] in
+    let follows : List Entry → Type 0 = λ known. known ≡ [] in
+    answer_stopped of_trace says turns r r w w holds stops.Memory Memory
+    (goes_nowhere next_entry follows holds turns r [] refl) (refl, refl)
 
--- the start was read to its end, and the trace answered from it
-pub answer_started : (says : List Added → Says) {T : Type 0} (holds : T → List Added → Type 0) (turns : ℕ)
-    (z0 z1 r0 r1 : SourceState) (w0 w1 : SinkState) (x : T) (added : List Added) (o : ExplainOutcome)
-    → Reads described_by start_soon holds turns z0 z1 (Ok x) → ((known : List Added) → holds x known → added ≡ known)
-    → AnswerStreams (says added) turns r0 r1 w0 w1 o → AnswerStartStreams says turns z0 z1 r0 r1 w0 w1 o
-answer_started says holds turns z0 z1 r0 r1 w0 w1 x added o d is answers =
-    let known = d.answer.1 in
-    let same = d.failures in
-    inr (record {
-      given = d.given;
-      read = d.read;
-      calls = d.calls;
-      failures = omega arith;
-      end = d.answer.0;
-      known = known.0;
-      good = known.1;
-      answered = subst (λ (q : List Added). AnswerStreams (says q) turns r0 r1 w0 w1 o) (is known.0 known.2) answers;
-    })
+-- ---- the trace was read to its end
 
--- reading the start stopped
-pub answer_not_started : (says : List Added → Says) {T : Type 0} (holds : T → List Added → Type 0) (turns : ℕ)
-    (z0 z1 r : SourceState) (w0 w1 : SinkState) (stop : Stop) (o : Outcome)
-    → Reads described_by start_soon holds turns z0 z1 (Err stop) → EndsStart stop w0 w1 o
-    → AnswerStartStreams says turns z0 z1 r r w0 w1 (Ended o)
-answer_not_started says holds turns z0 z1 r w0 w1 stop o d w =
-    inl (not_taken holds turns z0 z1 r w0 w1 stop o d w)
+module _ (says : Says) {T : Type 0} (holds : T → List Entry → Type 0) (turns : ℕ) (r0 r1 : SourceState)
+    (w0 w1 : SinkState) (x : T) (r : Reads trace soon holds turns r0 r1 (Ok x)) where
+  is_answer : (o : ExplainOutcome) (text : List ℕ) → says r.answer.1.0 o text
+      → IsAnswer of_trace says (IsEnded r0 r1) r.given text o
+  is_answer o text said =
+      record { end = r.answer.0; known = r.answer.1.0; good = r.answer.1.1; is = said }
+
+  -- a text was written in an outcome that is no fault
+  told : (o : ExplainOutcome) (text : List ℕ) → explain_read_faults o ≡ 0 → explain_write_faults o ≡ 0
+      → Wrote w0 w1 text → HasOutcome of_trace says turns r0 r1 r.given text o
+      → AnswerStreams of_trace says turns r0 r1 w0 w1 o
+  told o text reads writes w answer =
+      let same = w.failures in
+      let none = r.failures in
+      record {
+        given = r.given;
+        read = r.read;
+        calls = r.calls;
+        written = text;
+        wrote = w.taken;
+        read_fault = omega (arith, reads);
+        write_fault = omega (arith, writes);
+        answer = answer;
+      }
+
+  pub answered : (o : ExplainOutcome) → WritesAnswer (says r.answer.1.0) w0 w1 o
+      → AnswerStreams of_trace says turns r0 r1 w0 w1 o
+  answered (Ended Clean) w = told (Ended Clean) w.0 refl refl w.1 (is_answer (Ended Clean) w.0 w.2)
+  answered (Ended Findings) w = told (Ended Findings) w.0 refl refl w.1 (is_answer (Ended Findings) w.0 w.2)
+  answered OutOfRange w = told OutOfRange w.0 refl refl w.1 (is_answer OutOfRange w.0 w.2)
+  answered (Ended Memory) w =
+      let same : w1.failures ≡ w0.failures = ap (λ (s : SinkState). s.failures) w in
+      record {
+        given = r.given;
+        read = r.read;
+        calls = r.calls;
+        written = [];
+        wrote = rw w (appends_none w0.taken);
+        read_fault = r.failures;
+        write_fault = omega arith;
+        answer = record { good = good_trace holds turns r0 r1 x r; silent = refl };
+      }
+  answered (Ended WriteFault) w =
+      let (o, text, wrote, is) = w in
+      record {
+        given = r.given;
+        read = r.read;
+        calls = r.calls;
+        written = wrote.front;
+        wrote = wrote.taken;
+        read_fault = r.failures;
+        write_fault = wrote.failures;
+        answer = (text, (wrote.rest, wrote.cut), inl (o, is_answer o text is));
+      }
+  answered (Ended (Refused code line)) w = absurd w
+  answered (Ended (StartRefused code line)) w = absurd w
+  answered (Ended ReadFault) w = absurd w
+  answered (Ended TooLong) w = absurd w
 
 -- ---- the answer was written
 
 -- a text that says that there is no finding, or that there are some
-pub answer_written : (says : ExplainOutcome → List ℕ → Type 0) (text : List ℕ) (clean : Bool) (w0 w1 : SinkState)
-    (o : Outcome) → (IsTrue clean → says (Ended Clean) text) → ((IsTrue clean → ⊥) → says (Ended Findings) text)
-    → WritesText text clean w0 w1 o → WritesAnswer says w0 w1 (Ended o)
-answer_written says text clean w0 w1 Clean good bad w = (text, w.0, good w.1)
-answer_written says text clean w0 w1 Findings good bad w = (text, w.0, bad w.1)
-answer_written says text true w0 w1 WriteFault good bad w = (Ended Clean, text, w, good (search rules))
-answer_written says text false w0 w1 WriteFault good bad w = (Ended Findings, text, w, bad (λ no. absurd (search rules)))
-answer_written says text clean w0 w1 Memory good bad w = absurd w
-answer_written says text clean w0 w1 (Refused code line) good bad w = absurd w
-answer_written says text clean w0 w1 (StartRefused code line) good bad w = absurd w
-answer_written says text clean w0 w1 ReadFault good bad w = absurd w
-answer_written says text clean w0 w1 TooLong good bad w = absurd w
+pub answer_written : (says : ExplainOutcome → List ℕ → Type 0) (text : List ℕ) (clean : Bool) (told : Outcome)
+    (w0 w1 : SinkState) (o : Outcome) → told ≡ found clean → says (Ended (found clean)) text
+    → Writes text told WriteFault w0 w1 o → WritesAnswer says w0 w1 (Ended o)
+answer_written says text true told w0 w1 o by is (inl w) = rw (w.1, by) (text, w.0, is)
+answer_written says text false told w0 w1 o by is (inl w) = rw (w.1, by) (text, w.0, is)
+answer_written says text clean told w0 w1 o by is (inr w) = rw w.1 (Ended (found clean), text, w.0, is)
 
 -- that there is no such line
-pub none_written : (says : ExplainOutcome → List ℕ → Type 0) (w0 w1 : SinkState) (o : ExplainOutcome)
-    → says OutOfRange (refused_text 7) → WritesOutOfRange w0 w1 o → WritesAnswer says w0 w1 o
-none_written says w0 w1 OutOfRange is w = (refused_text 7, w, is)
-none_written says w0 w1 (Ended WriteFault) is w = (OutOfRange, refused_text 7, w, is)
-none_written says w0 w1 (Ended Clean) is w = absurd w
-none_written says w0 w1 (Ended Findings) is w = absurd w
-none_written says w0 w1 (Ended Memory) is w = absurd w
-none_written says w0 w1 (Ended (Refused code line)) is w = absurd w
-none_written says w0 w1 (Ended (StartRefused code line)) is w = absurd w
-none_written says w0 w1 (Ended ReadFault) is w = absurd w
-none_written says w0 w1 (Ended TooLong) is w = absurd w
+pub none_written : (says : ExplainOutcome → List ℕ → Type 0) (text : List ℕ) (w0 w1 : SinkState) (o : ExplainOutcome)
+    → says OutOfRange text → Writes text OutOfRange (Ended WriteFault) w0 w1 o → WritesAnswer says w0 w1 o
+none_written says text w0 w1 o is (inl w) = rw w.1 (text, w.0, is)
+none_written says text w0 w1 o is (inr w) = rw w.1 (OutOfRange, text, w.0, is)
+
+-- ---- two texts
+
+module _ {A : Type 0} (kind : Kind A) {T : Type 0} (holds : T → A → Type 0) (turns : ℕ) (x0 x1 : SourceState) where
+  -- reading the first stopped
+  pub first_rejected : (y : SourceState) (w0 w1 : SinkState) (stop : Stop) (o : Outcome)
+      → Reads kind.whole kind.soon holds turns x0 x1 (Err stop) → EndsCall kind.input stop w0 w1 o
+      → Rejected kind turns x0 x1 y y w0 w1 (Ended o)
+  first_rejected y w0 w1 stop o r w =
+      record { stopped = answer_stopped kind nothing turns x0 x1 w0 w1 holds stop o r w; unread = refl }
+
+  -- the first was read to its end, and then this was done
+  pub first_taken : (x : T) (then : A → Type 0) (a : A) → Reads kind.whole kind.soon holds turns x0 x1 (Ok x)
+      → ((known : A) → holds x known → a ≡ known) → then a → Taken kind turns x0 x1 then
+  first_taken x then a r is done =
+      let same = r.failures in
+      record {
+        given = r.given;
+        read = r.read;
+        calls = r.calls;
+        failures = omega arith;
+        end = r.answer.0;
+        known = r.answer.1.0;
+        good = r.answer.1.1;
+        done = subst then (is r.answer.1.0 r.answer.1.2) done;
+      }
+
+-- the trace was read to its end, and memory ran out before anything was done
+pub not_loaded : {T : Type 0} (holds : T → List Entry → Type 0) (turns : ℕ) (x0 x1 y : SourceState) (w : SinkState)
+    (x : T) → Reads trace soon holds turns x0 x1 (Ok x) → Rejected of_trace turns x0 x1 y y w w (Ended Memory)
+not_loaded holds turns x0 x1 y w x r =
+    first_rejected of_trace holds turns x0 x1 y w w stops.Memory Memory (record {
+      given = r.given;
+      read = r.read;
+      calls = r.calls;
+      failures = r.failures;
+      answer = good_trace holds turns x0 x1 x r;
+    }) (refl, refl)

@@ -1,6 +1,6 @@
 pub mod Accepted
 pub mod Agree
-pub mod Answered
+pub mod Answering
 pub mod Applied
 pub mod Calls
 pub mod Cuts
@@ -25,7 +25,6 @@ pub mod Shared
 pub mod Started
 pub mod StartParses
 pub mod StartReads
-pub mod StartRejecting
 pub mod Texted
 pub mod Traces
 pub mod ScriptEdits

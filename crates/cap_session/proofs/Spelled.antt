@@ -1,5 +1,5 @@
 -- What the fields of a line of a start text spell.
-use Rattle.std.proofs.Common.{inl, inr, ◌≡◌, ℕ, suc, ◌+◌, ◌<◌, ◌≤◌, List, [], ◌∷◌, length, take, drop, refl, sym, ◌∙◌}
+use Rattle.std.proofs.Common.{inl, inr, ◌≡◌, ℕ, suc, ◌+◌, ◌≤◌, List, [], ◌∷◌, length, take, drop, refl, sym, ◌∙◌}
 use Rattle.std.proofs.Common.{ap, arith, Bool, true, false, cond, not, ltb}
 use Rattle.std.specs.Prelude.{◌==◌, nat_le, Result, Ok, Err, Option, Some, None, MatchOption, option_copied}
 use Rattle.std.specs.Prelude.{option_and_then, position}

@@ -2,7 +2,6 @@
 use Rattle.std.proofs.Common.{◌≡◌, ℕ, List, ap, inl, inr}
 use Rattle.std.specs.Prelude.{Result, Ok, Err, IsOk, Option, Some, None}
 use Rattle.std.specs.Option.{ok_or}
-use Rattle.cap_machine.specs.State.{Added}
 use Rattle.cap_machine.specs.declared.start.Start.{Start}
 use Rattle.cap_session.specs.Devices.{SourceState}
 use Rattle.cap_session.specs.Reads.{Reads}

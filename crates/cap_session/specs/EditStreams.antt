@@ -1,6 +1,6 @@
 -- The contract of `edit_stream_as`: what a trace and a script in a profile have written, and the outcome.
 use Rattle.std.specs.Prelude.{◌≡◌, ◌≢◌, ℕ, ◌+◌, ◌≤◌, ◌⊎◌, List, [], Result, Ok, Err, ⊤}
-use Rattle.std.specs.Io.KnownBytes.{Consumes, Appends}
+use Rattle.std.specs.Io.KnownBytes.{Consumes}
 use Rattle.cap_trace.specs.Entry.{Entry}
 use Rattle.cap_machine.specs.declared.cell.Profile.{Profile}
 use Rattle.cap_machine.specs.Steps.{steps}
@@ -10,15 +10,14 @@ use Rattle.cap_session.specs.Devices.{SourceState, SinkState}
 use Rattle.cap_session.specs.Lines.{lines}
 use Rattle.cap_session.specs.Reads.{IsEnded, NotAtEnd, UsedUp, faults}
 use Rattle.cap_session.specs.Scripts.{Replied, Broken, script_lines}
-use Rattle.cap_session.specs.Trace.{trace}
-use Rattle.cap_session.specs.Streams.{IsRefusal, NamesLine, IsSilent, IsOpen, IsPrefix}
-use Rattle.cap_session.specs.Outcome.{read_faults, write_faults}
-use Rattle.cap_session.specs.declared.refused.Refusal.{Refusal}
+use Rattle.cap_session.specs.AnswerStreams.{of_trace, Rejected, Taken}
+use Rattle.cap_session.specs.Outcome.{read_faults}
 use Rattle.cap_session.specs.declared.lines.Stop.{Stop}
 use Rattle.cap_session.specs.declared.lines.Stop.TheVariants as stops
 use Rattle.cap_session.specs.declared.outcome.Outcome.{Outcome}
-use Rattle.cap_session.specs.declared.outcome.Outcome.TheVariants.{Clean, Findings, Refused, StartRefused, Memory}
+use Rattle.cap_session.specs.declared.outcome.Outcome.TheVariants.{Clean, Findings, Memory}
 use Rattle.cap_session.specs.declared.outcome.Outcome.TheVariants.{ReadFault, WriteFault, TooLong}
+use Rattle.cap_session.specs.declared.outcome.ExplainOutcome.TheVariants.{Ended}
 
 -- The writer failed in the replies to the lines of a script of which these bytes were given, before its end or at it.
 abbrev pub IsBroken : Profile → SourceState → SourceState → SinkState → SinkState → List ℕ → List Entry → Type 0
@@ -37,8 +36,7 @@ RepliesUntil profile turns s0 s1 w0 w1 given t u (Err stops.ReadFault) =
 RepliesUntil profile turns s0 s1 w0 w1 given t u (Err stops.TooLong) =
     NotAtEnd s0 s1 × UsedUp turns s0 s1 × Replied profile t w0 w1 (script_lines [] given) u
 RepliesUntil profile turns s0 s1 w0 w1 given t u (Err stops.WriteFault) = IsBroken profile s0 s1 w0 w1 given t
-RepliesUntil profile turns s0 s1 w0 w1 given t u (Err (stops.Refused e)) = ⊥
-RepliesUntil profile turns s0 s1 w0 w1 given t u (Err stops.Memory) = ⊥
+RepliesUntil profile turns s0 s1 w0 w1 given t u (Err _) = ⊥
 
 -- Some bytes were given, and the replies are those to their lines.
 pub record RepliesToAll {T : Type 0} (profile : Profile) (turns : ℕ) (s0 s1 : SourceState) (w0 w1 : SinkState)
@@ -54,11 +52,7 @@ abbrev pub IsOutcome : Profile → List Entry → Outcome → Type 0
 IsOutcome profile u Clean = check usual (steps profile u) ≡ []
 IsOutcome profile u Findings = check usual (steps profile u) ≢ []
 IsOutcome profile u Memory = ⊤
-IsOutcome profile u (Refused code line) = ⊥
-IsOutcome profile u (StartRefused code line) = ⊥
-IsOutcome profile u ReadFault = ⊥
-IsOutcome profile u WriteFault = ⊥
-IsOutcome profile u TooLong = ⊥
+IsOutcome profile u _ = ⊥
 
 -- The outcome, for the bytes of the script that were given. At the end it is that of the trace as it then is, unless
 -- memory runs out.
@@ -74,8 +68,7 @@ ScriptHasOutcome profile turns s0 s1 w0 w1 given t u ReadFault =
 ScriptHasOutcome profile turns s0 s1 w0 w1 given t u TooLong =
     NotAtEnd s0 s1 × UsedUp turns s0 s1 × Replied profile t w0 w1 (script_lines [] given) u
 ScriptHasOutcome profile turns s0 s1 w0 w1 given t u WriteFault = IsBroken profile s0 s1 w0 w1 given t
-ScriptHasOutcome profile turns s0 s1 w0 w1 given t u (Refused code line) = ⊥
-ScriptHasOutcome profile turns s0 s1 w0 w1 given t u (StartRefused code line) = ⊥
+ScriptHasOutcome profile turns s0 s1 w0 w1 given t u _ = ⊥
 
 -- What replying to a script on a trace does.
 pub record Replies (profile : Profile) (turns : ℕ) (s0 s1 : SourceState) (w0 w1 : SinkState) (t : List Entry)
@@ -89,43 +82,7 @@ pub record Replies (profile : Profile) (turns : ℕ) (s0 s1 : SourceState) (w0 w
 
 -- ---- the whole call: r is the reader of the trace, s that of the script, and w the writer
 
--- The outcome where the trace isn't taken over, for what was given of it and written.
-abbrev pub Rejects : ℕ → SourceState → SourceState → List ℕ → List ℕ → Outcome → Type 0
-Rejects turns r0 r1 given written (Refused code line) = NamesLine (IsEnded r0 r1) given written code line
-Rejects turns r0 r1 given written (StartRefused code line) = ⊥
-Rejects turns r0 r1 given written Memory = IsSilent (IsEnded r0 r1) given written
-Rejects turns r0 r1 given written ReadFault = IsOpen r0 r1 given written
-Rejects turns r0 r1 given written TooLong = IsOpen r0 r1 given written × UsedUp turns r0 r1
-Rejects turns r0 r1 given written WriteFault =
-    (e : Refusal) × (text : List ℕ) × IsRefusal (IsEnded r0 r1) given text e × IsPrefix written text
-Rejects turns r0 r1 given written Clean = ⊥
-Rejects turns r0 r1 given written Findings = ⊥
-
--- The trace was refused, or wasn't read to its end. The script wasn't read.
-pub record Rejected (turns : ℕ) (r0 r1 s0 s1 : SourceState) (w0 w1 : SinkState) (outcome : Outcome) : Type 0 where
-  pub given : List ℕ
-  pub read : Consumes r0.bytes r1.bytes given
-  pub written : List ℕ
-  pub wrote : Appends w0.taken w1.taken written
-  pub calls : r1.calls ≤ r0.calls + turns
-  pub read_fault : r1.failures ≡ r0.failures + read_faults outcome
-  pub write_fault : w1.failures ≡ w0.failures + write_faults outcome
-  pub answer : Rejects turns r0 r1 given written outcome
-  pub unread : s1 ≡ s0
-
--- The trace was read to its end, no line of it is refused, and the script was replied to.
-pub record Taken (profile : Profile) (turns : ℕ) (r0 r1 s0 s1 : SourceState) (w0 w1 : SinkState)
-    (outcome : Outcome) : Type 0 where
-  pub given : List ℕ
-  pub read : Consumes r0.bytes r1.bytes given
-  pub calls : r1.calls ≤ r0.calls + turns
-  pub failures : r1.failures ≡ r0.failures
-  pub end : IsEnded r0 r1
-  pub entries : List Entry
-  pub good : trace given ≡ Ok entries
-  pub script : Replies profile turns s0 s1 w0 w1 entries outcome
-
 abbrev pub EditStreams : Profile → ℕ → SourceState → SourceState → SourceState → SourceState → SinkState → SinkState
     → Outcome → Type 0
-EditStreams profile turns r0 r1 s0 s1 w0 w1 outcome =
-    Rejected turns r0 r1 s0 s1 w0 w1 outcome ⊎ Taken profile turns r0 r1 s0 s1 w0 w1 outcome
+EditStreams profile turns r0 r1 s0 s1 w0 w1 outcome = Rejected of_trace turns r0 r1 s0 s1 w0 w1 (Ended outcome)
+    ⊎ Taken of_trace turns r0 r1 (λ entries. Replies profile turns s0 s1 w0 w1 entries outcome)

@@ -12,14 +12,16 @@ use Rattle.cap_machine.specs.Explain.{Explained, explanation}
 use Rattle.cap_session.specs.Devices.{SourceState, SinkState}
 use Rattle.cap_session.specs.Trace.{trace, soon}
 use Rattle.cap_session.specs.Reads.{IsEnded}
-use Rattle.cap_session.specs.Refused.{code_of}
+use Rattle.cap_session.specs.Outcome.{refused_as}
 use Rattle.cap_session.specs.Refusal.{refusal_text}
 use Rattle.cap_session.specs.Replies.{found_in}
-use Rattle.cap_session.specs.Streams.{AskedStreams, IsPrefix}
+use Rattle.cap_session.specs.AnswerStreams.{IsPrefix}
+use Rattle.cap_session.specs.Streams.{AskedStreams}
+use Rattle.cap_session.specs.declared.refused.Input.TheVariants.{Trace}
 use Rattle.cap_session.specs.declared.refused.Refusal.{Refusal}
 use Rattle.cap_session.specs.declared.outcome.Outcome.{Outcome}
 use Rattle.cap_session.specs.declared.outcome.Outcome.TheVariants.{Clean, Findings, Refused, StartRefused, Memory}
-use Rattle.cap_session.specs.declared.outcome.Outcome.TheVariants.{ReadFault, WriteFault, TooLong}
+use Rattle.cap_session.specs.declared.outcome.Outcome.TheVariants.{WriteFault}
 
 -- The first refused line of a beginning is that of the text, whatever follows, and whether or not the end was reached.
 abbrev pub BeginningDecides : Type 0
@@ -35,21 +37,12 @@ Reports question profile start entries written Findings =
     (IsNothing question start (steps profile entries) → ⊥) × (written ≡ answer question start (steps profile entries))
 Reports question profile start entries written Memory = written ≡ []
 Reports question profile start entries written WriteFault = IsPrefix written (answer question start (steps profile entries))
-Reports question profile start entries written (Refused code line) = ⊥
-Reports question profile start entries written (StartRefused code line) = ⊥
-Reports question profile start entries written ReadFault = ⊥
-Reports question profile start entries written TooLong = ⊥
+Reports question profile start entries written _ = ⊥
 
 -- An outcome for a refused line: it is written, unless the writer fails. No other outcome comes.
 abbrev pub RefusesLine : Refusal → List ℕ → Outcome → Type 0
-RefusesLine e written (Refused code line) = (code ≡ code_of e.reason) × (line ≡ e.line) × (written ≡ refusal_text e)
-RefusesLine e written (StartRefused code line) = ⊥
-RefusesLine e written Memory = ⊥
-RefusesLine e written WriteFault = IsPrefix written (refusal_text e)
-RefusesLine e written Clean = ⊥
-RefusesLine e written Findings = ⊥
-RefusesLine e written ReadFault = ⊥
-RefusesLine e written TooLong = ⊥
+RefusesLine e written WriteFault = IsPrefix written (refusal_text Trace e)
+RefusesLine e written outcome = (outcome ≡ refused_as Trace e) × (written ≡ refusal_text Trace e)
 
 -- Where the end was reached and no line is refused, the call reports.
 abbrev pub GoodIsReported : Type 0
@@ -71,13 +64,10 @@ IsAnswer question profile start text written Clean = (entries : List Entry) × (
     × IsNothing question start (steps profile entries) × (written ≡ answer question start (steps profile entries))
 IsAnswer question profile start text written Findings = (entries : List Entry) × (trace text ≡ Ok entries)
     × (IsNothing question start (steps profile entries) → ⊥) × (written ≡ answer question start (steps profile entries))
-IsAnswer question profile start text written (Refused code line) =
-    (e : Refusal) × (trace text ≡ Err e) × (code ≡ code_of e.reason) × (line ≡ e.line) × (written ≡ refusal_text e)
+IsAnswer question profile start text written (Refused code line) = (e : Refusal) × (trace text ≡ Err e)
+    × (Refused code line ≡ refused_as Trace e) × (written ≡ refusal_text Trace e)
 IsAnswer question profile start text written (StartRefused code line) = ⊥
-IsAnswer question profile start text written Memory = ⊤
-IsAnswer question profile start text written ReadFault = ⊤
-IsAnswer question profile start text written WriteFault = ⊤
-IsAnswer question profile start text written TooLong = ⊤
+IsAnswer question profile start text written _ = ⊤
 
 -- Any pieces give the same: an answer is that of the whole text that the reader had, however it was cut and however far
 -- it was read.

@@ -19,6 +19,7 @@ pub mod LineEnds
 pub mod Lines
 pub mod Outcome
 pub mod Performs
+pub mod Queries
 pub mod Reads
 pub mod Refusal
 pub mod Refused
@@ -28,7 +29,6 @@ pub mod Scripts
 pub mod Session
 pub mod StartLines
 pub mod StartParsed
-pub mod StartStreams
 pub mod StartTexts
 pub mod StartWords
 pub mod Streams

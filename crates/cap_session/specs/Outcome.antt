@@ -1,6 +1,9 @@
 -- The exit status of an outcome, and the faults that it answers.
-use Rattle.std.specs.Prelude.{ℕ}
+use Rattle.std.specs.Prelude.{ℕ, Bool, true, false}
 use Rattle.cap_session.specs.Refused.{code_of}
+use Rattle.cap_session.specs.declared.refused.Input.{Input}
+use Rattle.cap_session.specs.declared.refused.Input.TheVariants as inputs
+use Rattle.cap_session.specs.declared.refused.Refusal.{Refusal}
 use Rattle.cap_session.specs.declared.lines.Stop.{Stop}
 use Rattle.cap_session.specs.declared.lines.Stop.TheVariants as stops
 use Rattle.cap_session.specs.declared.outcome.Outcome.{Outcome}
@@ -19,35 +22,33 @@ status_of ReadFault = 3
 status_of WriteFault = 3
 status_of TooLong = 3
 
+-- how a call ends that refused a line
+abbrev pub refused_as : Input → Refusal → Outcome
+refused_as inputs.Start e = StartRefused (code_of e.reason) e.line
+refused_as inputs.Trace e = Refused (code_of e.reason) e.line
+
 -- how a call ends that stopped so
 abbrev pub outcome_of : Stop → Outcome
-outcome_of (stops.Refused e) = Refused (code_of e.reason) e.line
+outcome_of (stops.Refused e) = refused_as inputs.Trace e
 outcome_of stops.Memory = Memory
 outcome_of stops.ReadFault = ReadFault
 outcome_of stops.WriteFault = WriteFault
 outcome_of stops.TooLong = TooLong
 
+-- how a call ends that found nothing, or something
+abbrev pub found : Bool → Outcome
+found true = Clean
+found false = Findings
+
 -- one, where the outcome is a fault of the reader
 abbrev pub read_faults : Outcome → ℕ
 read_faults ReadFault = 1
-read_faults Clean = 0
-read_faults Findings = 0
-read_faults (Refused code line) = 0
-read_faults (StartRefused code line) = 0
-read_faults Memory = 0
-read_faults WriteFault = 0
-read_faults TooLong = 0
+read_faults _ = 0
 
 -- one, where it is a fault of the writer
 abbrev pub write_faults : Outcome → ℕ
 write_faults WriteFault = 1
-write_faults Clean = 0
-write_faults Findings = 0
-write_faults (Refused code line) = 0
-write_faults (StartRefused code line) = 0
-write_faults Memory = 0
-write_faults ReadFault = 0
-write_faults TooLong = 0
+write_faults _ = 0
 
 -- ---- of a call that explains a line
 

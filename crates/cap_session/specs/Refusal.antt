@@ -1,13 +1,16 @@
 -- The text of a refused line.
 use Rattle.std.specs.Prelude.{ℕ, List, ◌++◌, codes, decimal}
 use Rattle.cap_session.specs.Refused.{code_of}
+use Rattle.cap_session.specs.declared.refused.Input.{Input}
+use Rattle.cap_session.specs.declared.refused.Input.TheVariants.{Start, Trace}
 use Rattle.cap_session.specs.declared.refused.Refusal.{Refusal}
 
--- `refused E2 line 7` and LF: the code, and the number of the line among all lines of the text
-unfoldable pub refusal_text : Refusal → List ℕ
-refusal_text e = codes "refused E" ++ decimal (code_of e.reason) ++ codes " line " ++ decimal e.line ++ codes "\n"
+-- which text the line is of
+abbrev pub input_words : Input → List ℕ
+input_words Start = codes " start line "
+input_words Trace = codes " line "
 
--- `refused E4 start line 2` and LF: the same of a line of a start
-unfoldable pub start_refusal_text : Refusal → List ℕ
-start_refusal_text e =
-    codes "refused E" ++ decimal (code_of e.reason) ++ codes " start line " ++ decimal e.line ++ codes "\n"
+-- `refused E2 line 7` and LF, or `refused E4 start line 2` and LF: the code, and the number of the line among all lines of
+-- its text
+unfoldable pub refusal_text : Input → Refusal → List ℕ
+refusal_text input e = codes "refused E" ++ decimal (code_of e.reason) ++ input_words input ++ decimal e.line ++ codes "\n"

@@ -5,16 +5,15 @@ ghost use Rattle.cap_machine.specs.declared.cell.Profile.{Profile};
 ghost use Rattle.cap_machine.specs.declared.question.Question.{Question};
 ghost use Rattle.cap_machine.specs.State.{State, usual};
 ghost use Rattle.cap_machine.specs.Checked.{IsAsked, lines_of};
-ghost use Rattle.cap_session.specs.Streams.{AskedStreams, Streams};
-ghost use Rattle.cap_session.specs.Works.{WritesReport, WritesRefusal, EndsCall};
+ghost use Rattle.cap_session.specs.Streams.{AskedStreams, Streams, asked_says};
+ghost use Rattle.cap_session.specs.Works.{WritesAnswer};
+ghost use Rattle.cap_session.specs.declared.outcome.ExplainOutcome.TheVariants.{Ended};
 
 use crate::devices::{Sink, Source};
 use crate::entries::{Keep, read_trace};
-use crate::lines::Stop;
 use crate::outcome::Outcome;
-use crate::refused::Refusal;
-use crate::short_text::ShortText;
-use crate::write::write_text;
+use crate::refused::Input;
+use crate::write::{write_ending, write_stop};
 use cap_machine::{Checker, NoMemory, Profile};
 use cap_trace::LineRef;
 use std::alloc::Global;
@@ -42,41 +41,12 @@ fn write_report<W: Sink>(checker: Checker, writer: &mut W) -> Outcome
     requires { 1 ≤ (W.state writer.old).room }
     ensures { (question : Question) (profile : Profile) (s : State) (entries : List Entry)
         → IsAsked checker question profile s entries
-        → WritesReport question profile s entries (W.state writer.old) (W.state writer.new) result }
+        → WritesAnswer (asked_says question profile s entries) (W.state writer.old) (W.state writer.new) (Ended result) }
 {
     let is_clean = checker.is_clean();
-    let Ok(text) = checker.report() else {
-        return Outcome::Memory;
-    };
-    if write_text(writer, text.as_slice()).is_err() {
-        return Outcome::WriteFault;
-    }
-    if is_clean {
-        Outcome::Clean
-    } else {
-        Outcome::Findings
-    }
-}
-
-/// Writes the text of a refusal.
-fn write_refusal<W: Sink>(refusal: Refusal, writer: &mut W) -> Outcome
-    requires { 1 ≤ (W.state writer.old).room }
-    ensures { WritesRefusal refusal (W.state writer.old) (W.state writer.new) result }
-{
-    if write_text(writer, ShortText::of(refusal).as_slice()).is_err() {
-        return Outcome::WriteFault;
-    }
-    Outcome::from(Stop::Refused(refusal))
-}
-
-/// Ends a call that stopped. A refused line is written, and nothing else.
-pub fn write_stop<W: Sink>(stop: Stop, writer: &mut W) -> Outcome
-    requires { 1 ≤ (W.state writer.old).room }
-    ensures { EndsCall stop (W.state writer.old) (W.state writer.new) result }
-{
-    match stop {
-        Stop::Refused(refusal) => write_refusal(refusal, writer),
-        _ => Outcome::from(stop),
+    match checker.report() {
+        Ok(text) => write_ending(text.as_slice(), Outcome::found(is_clean), writer),
+        Err(_) => Outcome::Memory,
     }
 }
 
@@ -97,7 +67,7 @@ pub fn check_with<R: Source, W: Sink>(
 {
     match read_trace(alloc, turns, reader, checker) {
         Ok(checker) => write_report(checker, writer),
-        Err(stop) => write_stop(stop, writer),
+        Err(stop) => write_stop(Input::Trace, stop, writer),
     }
 }
 

@@ -4,16 +4,17 @@ ghost use Rattle.cap_machine.specs.declared.cell.Profile.TheVariants.{One};
 ghost use Rattle.cap_session.specs.EditStreams.{EditStreams, Replies, IsOutcome};
 ghost use Rattle.cap_session.specs.Limits.{longest_piece};
 
-use crate::check::write_stop;
 use crate::devices::{Sink, Source};
 use crate::entries::read_trace;
 use crate::held::Held;
 use crate::limits::LONGEST_PIECE;
 use crate::loading::Loading;
 use crate::outcome::Outcome;
+use crate::refused::Input;
 use crate::replies::reply_all;
 use crate::script::Script;
 use crate::session::Session;
+use crate::write::write_stop;
 use cap_machine::Profile;
 use std::alloc::Global;
 
@@ -93,7 +94,8 @@ pub fn edit_stream_as<T: Source, S: Source, W: Sink>(
     let Ok(held) = Held::new(alloc) else {
         return Outcome::Memory;
     };
-    match read_trace(alloc, turns, trace, Loading::new(alloc, profile)) {
+    let empty = Loading::new(alloc, profile);
+    match read_trace(alloc, turns, trace, empty) {
         Ok(loading) => {
             let Ok(session) = loading.session() else {
                 return Outcome::Memory;
@@ -101,7 +103,7 @@ pub fn edit_stream_as<T: Source, S: Source, W: Sink>(
             let loaded = Script { session, held };
             edit_loaded(turns, script, writer, loaded, piece.as_mut_slice())
         }
-        Err(stop) => write_stop(stop, writer),
+        Err(stop) => write_stop(Input::Trace, stop, writer),
     }
 }
 

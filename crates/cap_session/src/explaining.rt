@@ -1,25 +1,27 @@
-//! [`explain_stream_as`]: a trace is read, and then one of its lines is explained, from the usual start or from a start
-//! text that is read first.
+//! [`explain_stream`] and [`limits_stream`]: a start text is read, then a trace, and then one of its lines is explained, or
+//! the limits that it needs are written.
 //!
 //! The lines are kept as a list: one walk back over them costs less than a session's tree.
-ghost use Rattle.std.specs.Prelude.{◌≡◌, ◌^◌, ◌≤◌, length};
-ghost use Rattle.cap_machine.specs.State.{usual};
-ghost use Rattle.cap_machine.specs.Table.{start_state};
-ghost use Rattle.cap_machine.specs.declared.cell.Profile.TheVariants.{One};
-ghost use Rattle.cap_session.specs.AnswerStreams.{WritesAnswer};
-ghost use Rattle.cap_session.specs.Explained.{WritesText, WritesOutOfRange};
-ghost use Rattle.cap_session.specs.ExplainStreams.{explain_says, ExplainStreams, ExplainStartStreams};
+ghost use Rattle.std.specs.Prelude.{◌≡◌, ◌^◌, ◌≤◌, length, IfOk, Err};
+ghost use Rattle.cap_session.specs.AnswerStreams.{of_trace, AnswerStreams, AnswerStartStreams};
+ghost use Rattle.cap_session.specs.ExplainStreams.{explanation_says};
+ghost use Rattle.cap_session.specs.LimitStreams.{limits_say};
+ghost use Rattle.cap_session.specs.Outcome.{found};
+ghost use Rattle.cap_session.specs.Queries.{query_says};
+ghost use Rattle.cap_session.specs.Replies.{refused_text};
+ghost use Rattle.cap_session.specs.Works.{Writes, WritesAnswer};
+ghost use Rattle.cap_session.specs.declared.outcome.Outcome.TheVariants.{WriteFault};
+ghost use Rattle.cap_session.specs.declared.outcome.ExplainOutcome.TheVariants.{Ended, OutOfRange};
 
-use crate::check::write_stop;
 use crate::devices::{Sink, Source};
 use crate::entries::{Keep, read_trace};
-use crate::explained::explain_among;
-use crate::from_start::write_start_stop;
+use crate::explained::{ExplainedLine, explain_among};
+use crate::limits_text::limits_among;
 use crate::outcome::{ExplainOutcome, Outcome};
-use crate::refused::Refused;
+use crate::refused::{Input, Refused};
 use crate::short_text::ShortText;
 use crate::start_text::read_start;
-use crate::write::write_text;
+use crate::write::{write_ending, write_stop, write_text};
 use cap_machine::{NoMemory, Profile, Start};
 use cap_trace::{Line, LineRef};
 use std::alloc::Global;
@@ -42,24 +44,44 @@ impl Keep for Vec<Line> {
     }
 }
 
-/// Writes a text that answers what was asked of a trace, and says whether something was found.
-pub fn write_answer<W: Sink>(text: &[u8], is_clean: bool, writer: &mut W) -> Outcome
-    requires { 1 ≤ (W.state writer.old).room }
-    ensures { WritesText text.now is_clean (W.state writer.old) (W.state writer.new) result }
+/// What is asked of the lines of a whole trace.
+#[derive(Clone, Copy)]
+enum Query {
+    /// What the line at a position rests on.
+    Explanation(usize),
+    /// The limits before the line at a position, or behind each line that made a descriptor.
+    Limits(Option<usize>),
+}
+
+/// The answer of a trace that was read, under a start.
+fn answer_among(
+    alloc: Global,
+    query: Query,
+    profile: Profile,
+    start: &Start,
+    lines: &Vec<Line>,
+) -> Result<ExplainedLine, Refused>
+    ensures text { IfOk result (λ line.
+        query_says query profile start.now lines.now.items (Ended (found line.is_clean)) line.text.items) }
+    ensures position { result ≡ Err Refused.Position
+        → query_says query profile start.now lines.now.items OutOfRange (refused_text 7) }
 {
-    if write_text(writer, text).is_err() {
-        Outcome::WriteFault
-    } else if is_clean {
-        Outcome::Clean
-    } else {
-        Outcome::Findings
+    match query {
+        Query::Explanation(position) => explain_among(alloc, profile, start, lines, position),
+        Query::Limits(at) => match limits_among(alloc, profile, start, lines, at) {
+            Ok(text) => Ok(ExplainedLine {
+                text,
+                is_clean: true,
+            }),
+            Err(refused) => Err(refused),
+        },
     }
 }
 
 /// Writes that no line stands at the position.
-pub fn write_out_of_range<W: Sink>(writer: &mut W) -> ExplainOutcome
+fn write_out_of_range<W: Sink>(writer: &mut W) -> ExplainOutcome
     requires { 1 ≤ (W.state writer.old).room }
-    ensures { WritesOutOfRange (W.state writer.old) (W.state writer.new) result }
+    ensures { Writes (refused_text 7) OutOfRange (Ended WriteFault) (W.state writer.old) (W.state writer.new) result }
 {
     let text = ShortText::refused(Refused::Position.code());
     match write_text(writer, text.as_slice()) {
@@ -68,36 +90,35 @@ pub fn write_out_of_range<W: Sink>(writer: &mut W) -> ExplainOutcome
     }
 }
 
-/// Explains a line of a trace that was read, and writes that, or that there is no such line.
-fn write_explained<W: Sink>(
+/// Writes the answer of a trace that was read, or that there is no such line.
+fn write_answer<W: Sink>(
     alloc: Global,
+    query: Query,
     profile: Profile,
     start: &Start,
     lines: &Vec<Line>,
-    position: usize,
     writer: &mut W,
 ) -> ExplainOutcome
     requires { 1 ≤ (W.state writer.old).room }
-    ensures { WritesAnswer (explain_says profile position (start_state start.now) lines.now.items) (W.state writer.old)
+    ensures { WritesAnswer (query_says query profile start.now lines.now.items) (W.state writer.old)
         (W.state writer.new) result }
 {
-    match explain_among(alloc, profile, start, lines, position) {
-        Ok(line) => ExplainOutcome::Ended(write_answer(
-            line.text.as_slice(),
-            line.is_clean,
-            writer,
-        )),
+    match answer_among(alloc, query, profile, start, lines) {
+        Ok(line) => {
+            let told = Outcome::found(line.is_clean);
+            ExplainOutcome::Ended(write_ending(line.text.as_slice(), told, writer))
+        }
         Err(Refused::Position) => write_out_of_range(writer),
         Err(_) => ExplainOutcome::Ended(Outcome::Memory),
     }
 }
 
-/// Reads a trace, and explains one of its lines under a start.
-fn explain_under<R: Source, W: Sink>(
+/// Reads a trace, and answers of it under a start.
+fn answer_under<R: Source, W: Sink>(
     alloc: Global,
+    query: Query,
     profile: Profile,
     turns: u64,
-    position: usize,
     start: &Start,
     reader: &mut R,
     writer: &mut W,
@@ -105,85 +126,21 @@ fn explain_under<R: Source, W: Sink>(
     requires turns { turns ≤ 2 ^ 32 }
     requires calls { turns ≤ (R.state reader.old).room }
     requires failure { 1 ≤ (W.state writer.old).room }
-    ensures { ExplainStreams profile (start_state start.now) turns position (R.state reader.old) (R.state reader.new)
-        (W.state writer.old) (W.state writer.new) result }
+    ensures { AnswerStreams of_trace (query_says query profile start.now) turns (R.state reader.old)
+        (R.state reader.new) (W.state writer.old) (W.state writer.new) result }
 {
     match read_trace(alloc, turns, reader, Vec::new(alloc)) {
-        Ok(lines) => write_explained(alloc, profile, start, &lines, position, writer),
-        Err(stop) => ExplainOutcome::Ended(write_stop(stop, writer)),
+        Ok(lines) => write_answer(alloc, query, profile, start, &lines, writer),
+        Err(stop) => ExplainOutcome::Ended(write_stop(Input::Trace, stop, writer)),
     }
 }
 
-/// Reads a trace in a profile under the usual start, and writes what one of its lines rests on.
-///
-/// It does what [`explain_stream`] does, by the rules of the profile.
-pub fn explain_stream_as<R: Source, W: Sink>(
+/// Reads a start text and then a trace, and answers of the trace from that start.
+fn answer_stream<S: Source, R: Source, W: Sink>(
     alloc: Global,
+    query: Query,
     profile: Profile,
     turns: u64,
-    position: usize,
-    reader: &mut R,
-    writer: &mut W,
-) -> ExplainOutcome
-    requires turns { turns ≤ 2 ^ 32 }
-    requires calls { turns ≤ (R.state reader.old).room }
-    requires failure { 1 ≤ (W.state writer.old).room }
-    ensures { ExplainStreams profile usual turns position (R.state reader.old) (R.state reader.new)
-        (W.state writer.old) (W.state writer.new) result }
-{
-    let start = Start::unknown(alloc);
-    let outcome = explain_under(alloc, profile, turns, position, &start, reader, writer);
-    drop(start);
-    outcome
-}
-
-/// Reads a trace in profile 1 under the usual start, and writes what the line at a position rests on: the line, its
-/// findings, and the lines that these come from. Positions are from 1, and count the lines that are not skipped.
-///
-/// The trace is read as [`check_stream`](crate::check_stream) reads it, to its end, whatever the position, with at most
-/// `turns` calls of `read`.
-///
-/// - `Ended(Clean)` and `Ended(Findings)`: no line of the trace is refused, and the line was explained. It has no
-///   finding, or some.
-/// - `OutOfRange`: no line of the trace is refused, and none stands at the position; `refused E7` and LF was written.
-/// - `Ended(Refused)`, `Ended(ReadFault)` and `Ended(TooLong)`: as there.
-/// - `Ended(Memory)`: no line of what was read is refused, and nothing was written.
-/// - `Ended(WriteFault)`: a prefix of the explanation or of a refusal was written.
-///
-/// `turns` must be at most 2^32, the reader must be able to count so many calls, and the writer must be able to count a
-/// failure.
-pub fn explain_stream<R: Source, W: Sink>(
-    alloc: Global,
-    turns: u64,
-    position: usize,
-    reader: &mut R,
-    writer: &mut W,
-) -> ExplainOutcome
-    requires turns { turns ≤ 2 ^ 32 }
-    requires calls { turns ≤ (R.state reader.old).room }
-    requires failure { 1 ≤ (W.state writer.old).room }
-    ensures { ExplainStreams One usual turns position (R.state reader.old) (R.state reader.new)
-        (W.state writer.old) (W.state writer.new) result }
-{
-    explain_stream_as(alloc, Profile::One, turns, position, reader, writer)
-}
-
-/// Reads a start text, reads a trace in a profile, and writes what one of its lines rests on from that start.
-///
-/// Both texts are read as [`check_stream_from_as`](crate::check_stream_from_as) reads them, the start first; `turns`
-/// bounds the calls of each reader by itself.
-///
-/// - `Ended(StartRefused)`, and `Memory`, `ReadFault`, `TooLong` and `WriteFault` of the start: as there, and the trace
-///   isn't read.
-/// - Else the outcome is that of the trace, as [`explain_stream`] has it, from this start.
-///
-/// `turns` must be at most 2^32, both readers must be able to count so many calls, and the writer must be able to count
-/// a failure.
-pub fn explain_stream_from_as<S: Source, R: Source, W: Sink>(
-    alloc: Global,
-    profile: Profile,
-    turns: u64,
-    position: usize,
     start: &mut S,
     reader: &mut R,
     writer: &mut W,
@@ -192,22 +149,38 @@ pub fn explain_stream_from_as<S: Source, R: Source, W: Sink>(
     requires start_calls { turns ≤ (S.state start.old).room }
     requires calls { turns ≤ (R.state reader.old).room }
     requires failure { 1 ≤ (W.state writer.old).room }
-    ensures { ExplainStartStreams profile turns position (S.state start.old) (S.state start.new)
+    ensures { AnswerStartStreams (query_says query profile) turns (S.state start.old) (S.state start.new)
         (R.state reader.old) (R.state reader.new) (W.state writer.old) (W.state writer.new) result }
 {
     match read_start(alloc, turns, start) {
         Ok(known) => {
-            let outcome = explain_under(alloc, profile, turns, position, &known, reader, writer);
+            let outcome = answer_under(alloc, query, profile, turns, &known, reader, writer);
             drop(known);
             outcome
         }
-        Err(stop) => ExplainOutcome::Ended(write_start_stop(stop, writer)),
+        Err(stop) => ExplainOutcome::Ended(write_stop(Input::Start, stop, writer)),
     }
 }
 
-/// Does what [`explain_stream_from_as`] does, in profile 1.
-pub fn explain_stream_from<S: Source, R: Source, W: Sink>(
+/// Reads a start text, reads a trace in a profile, and writes what the line at a position rests on: the line, its findings,
+/// and the lines that these come from. Positions are from 1, and count the lines that are not skipped. An empty start text
+/// is the usual start.
+///
+/// Both texts are read as [`check_stream_from_as`](crate::check_stream_from_as) reads them, the start first, and the trace
+/// to its end, whatever the position; `turns` bounds the calls of each reader by itself.
+///
+/// - `Ended(Clean)` and `Ended(Findings)`: no line of either text is refused, and the line was explained. It has no
+///   finding, or some.
+/// - `OutOfRange`: no line of either text is refused, and none stands at the position; `refused E7` and LF was written.
+/// - `Ended(Memory)`: no line of what was read is refused, and nothing was written.
+/// - `Ended(WriteFault)`: a prefix of the explanation or of a refusal was written.
+/// - Else as there.
+///
+/// `turns` must be at most 2^32, both readers must be able to count so many calls, and the writer must be able to count
+/// a failure.
+pub fn explain_stream<S: Source, R: Source, W: Sink>(
     alloc: Global,
+    profile: Profile,
     turns: u64,
     position: usize,
     start: &mut S,
@@ -218,8 +191,42 @@ pub fn explain_stream_from<S: Source, R: Source, W: Sink>(
     requires start_calls { turns ≤ (S.state start.old).room }
     requires calls { turns ≤ (R.state reader.old).room }
     requires failure { 1 ≤ (W.state writer.old).room }
-    ensures { ExplainStartStreams One turns position (S.state start.old) (S.state start.new)
+    ensures { AnswerStartStreams (explanation_says profile position) turns (S.state start.old) (S.state start.new)
         (R.state reader.old) (R.state reader.new) (W.state writer.old) (W.state writer.new) result }
 {
-    explain_stream_from_as(alloc, Profile::One, turns, position, start, reader, writer)
+    let query = Query::Explanation(position);
+    answer_stream(alloc, query, profile, turns, start, reader, writer)
+}
+
+/// Reads a start text, reads a trace in a profile, and writes a script that `edit` takes, of limits
+/// (cap_rights_limit(2)) to the rights that later lines need.
+///
+/// - With a position, from 1: before the line there, a limit of each descriptor that its process then holds, but of those
+///   that only a start's cell of all others gives. Then the process enters capability mode (cap_enter(2)), or a comment
+///   says why it can't.
+/// - Without: right behind each line that made a descriptor, which is then held, a limit of it. The last comes first, so
+///   that each position is one of the trace.
+///
+/// Limits are enough and least: `limits_script_is_enough` and `limits_script_is_least` say of what.
+///
+/// The texts are read as [`explain_stream`] reads them, and the outcomes are as there, of the script in place of the
+/// explanation, which is always `Clean`. Without a position the script is empty where the trace made no descriptor.
+pub fn limits_stream<S: Source, R: Source, W: Sink>(
+    alloc: Global,
+    profile: Profile,
+    turns: u64,
+    at: Option<usize>,
+    start: &mut S,
+    reader: &mut R,
+    writer: &mut W,
+) -> ExplainOutcome
+    requires turns { turns ≤ 2 ^ 32 }
+    requires start_calls { turns ≤ (S.state start.old).room }
+    requires calls { turns ≤ (R.state reader.old).room }
+    requires failure { 1 ≤ (W.state writer.old).room }
+    ensures { AnswerStartStreams (limits_say profile at) turns (S.state start.old) (S.state start.new)
+        (R.state reader.old) (R.state reader.new) (W.state writer.old) (W.state writer.new) result }
+{
+    let query = Query::Limits(at);
+    answer_stream(alloc, query, profile, turns, start, reader, writer)
 }

@@ -6,45 +6,16 @@ ghost use Rattle.cap_machine.specs.Table.{start_state};
 ghost use Rattle.cap_machine.specs.declared.cell.Profile.{Profile};
 ghost use Rattle.cap_machine.specs.declared.cell.Profile.TheVariants.{One};
 ghost use Rattle.cap_machine.specs.declared.question.Question.TheVariants.{Denials};
-ghost use Rattle.cap_session.specs.Streams.{AskedStreams};
-ghost use Rattle.cap_session.specs.StartStreams.{AskedStartStreams, StartStreams};
-ghost use Rattle.cap_session.specs.Works.{WritesStartRefusal, EndsStart};
+ghost use Rattle.cap_session.specs.Streams.{AskedStreams, AskedStartStreams, StartStreams};
 
 use crate::check::check_with;
 use crate::devices::{Sink, Source};
-use crate::lines::Stop;
 use crate::outcome::Outcome;
-use crate::refused::Refusal;
-use crate::short_text::ShortText;
+use crate::refused::Input;
 use crate::start_text::read_start;
-use crate::write::write_text;
+use crate::write::write_stop;
 use cap_machine::{Checker, Profile, Question, Start};
 use std::alloc::Global;
-
-/// Writes the text of a refused line of a start.
-fn write_start_refusal<W: Sink>(refusal: Refusal, writer: &mut W) -> Outcome
-    requires { 1 ≤ (W.state writer.old).room }
-    ensures { WritesStartRefusal refusal (W.state writer.old) (W.state writer.new) result }
-{
-    if write_text(writer, ShortText::of_start(refusal).as_slice()).is_err() {
-        return Outcome::WriteFault;
-    }
-    Outcome::StartRefused {
-        code: refusal.reason.code(),
-        line: refusal.line,
-    }
-}
-
-/// Ends a call whose start wasn't taken. A refused line is written, and nothing else.
-pub fn write_start_stop<W: Sink>(stop: Stop, writer: &mut W) -> Outcome
-    requires { 1 ≤ (W.state writer.old).room }
-    ensures { EndsStart stop (W.state writer.old) (W.state writer.new) result }
-{
-    match stop {
-        Stop::Refused(refusal) => write_start_refusal(refusal, writer),
-        _ => Outcome::from(stop),
-    }
-}
 
 /// The same checker, which was given no line, asked this.
 fn asked(checker: Checker, question: Question) -> Checker
@@ -103,7 +74,7 @@ fn ask_stream_from<S: Source, R: Source, W: Sink>(
             drop(known);
             outcome
         }
-        Err(stop) => write_start_stop(stop, writer),
+        Err(stop) => write_stop(Input::Start, stop, writer),
     }
 }
 

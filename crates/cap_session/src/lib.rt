@@ -31,7 +31,6 @@ mod from_start;
 mod held;
 mod laws;
 mod limit_laws;
-mod limiting;
 mod limits;
 mod limits_text;
 mod line_ends;
@@ -58,9 +57,7 @@ pub use devices::{Failed, Sink, Source};
 pub use edit::{Edit, accepted_edits_give, inserted_stands, no_edit_asks_for_memory};
 pub use editing::{edit_stream, edit_stream_as};
 pub use explained::ExplainedLine;
-pub use explaining::{
-    explain_stream, explain_stream_as, explain_stream_from, explain_stream_from_as,
-};
+pub use explaining::{explain_stream, limits_stream};
 pub use from_start::{check_stream_from, check_stream_from_as, denials_stream};
 pub use laws::{
     bad_is_refused, beginning_decides, each_report_is_of_its_trace, explains_what_is_reported,
@@ -70,7 +67,6 @@ pub use limit_laws::{
     entering_before_is_forbidden, limits_script_is_accepted, limits_script_is_enough,
     limits_script_is_least, read_texts_are_spelled,
 };
-pub use limiting::limits_stream;
 pub use limits::{LONGEST_LINE, LONGEST_PIECE, LONGEST_SCRIPT_LINE, MOST_LINES};
 pub use number::number_of;
 pub use outcome::{ExplainOutcome, Outcome};

@@ -1,9 +1,10 @@
 //! How a stream call ends: clean, with findings, refused, or at a fault; one that explains a line also where there is no
 //! such line; and the exit status of each.
 ghost use Rattle.std.specs.Prelude.{◌≡◌};
-ghost use Rattle.cap_session.specs.Outcome.{status_of, explain_status_of, outcome_of};
+ghost use Rattle.cap_session.specs.Outcome.{status_of, explain_status_of, found, outcome_of, refused_as};
 
 use crate::lines::Stop;
+use crate::refused::{Input, Refusal};
 
 /// How a stream call ends.
 #[derive(Clone, Copy, Debug, PartialEq, Eq)]
@@ -40,10 +41,7 @@ impl From<Stop> for Outcome {
 
     fn from(stop: Stop) -> Outcome {
         match stop {
-            Stop::Refused(refusal) => Outcome::Refused {
-                code: refusal.reason.code(),
-                line: refusal.line,
-            },
+            Stop::Refused(refusal) => Outcome::refused(Input::Trace, refusal),
             Stop::Memory => Outcome::Memory,
             Stop::ReadFault => Outcome::ReadFault,
             Stop::WriteFault => Outcome::WriteFault,
@@ -53,6 +51,29 @@ impl From<Stop> for Outcome {
 }
 
 impl Outcome {
+    /// How a call ends that found nothing, or something.
+    pub(crate) fn found(is_clean: bool) -> Outcome
+        ensures { result ≡ found is_clean }
+    {
+        if is_clean {
+            Outcome::Clean
+        } else {
+            Outcome::Findings
+        }
+    }
+
+    /// How a call ends that refused a line.
+    pub(crate) fn refused(input: Input, refusal: Refusal) -> Outcome
+        ensures { result ≡ refused_as input refusal }
+    {
+        let code = refusal.reason.code();
+        let line = refusal.line;
+        match input {
+            Input::Start => Outcome::StartRefused { code, line },
+            Input::Trace => Outcome::Refused { code, line },
+        }
+    }
+
     /// The exit status of a program that ends so: 0 where nothing was found, 1 for findings, 2 for a refused
     /// line, and 3 for out of memory, a fault of a device or a reader whose end wasn't reached.
     pub fn status(&self) -> u8

@@ -40,6 +40,13 @@ pub enum Refused {
     Memory,
 }
 
+/// Which text a line is of.
+#[derive(Clone, Copy)]
+pub enum Input {
+    Start,
+    Trace,
+}
+
 /// Why a line is refused, and its number among all lines of its text, from 1.
 #[derive(Clone, Copy)]
 pub struct Refusal {

@@ -319,7 +319,7 @@ impl Session {
         ensures only { IsOkUnless result Refused.Memory }
     {
         let start = Start::unknown(self.alloc);
-        let text = self.whole(&start);
+        let text = self.report_from(&start);
         drop(start);
         text
     }
@@ -330,7 +330,8 @@ impl Session {
             (λ text. text.items ≡ report (start_state start.now) (steps self.now.profile self.now.trace)) }
         ensures only { IsOkUnless result Refused.Memory }
     {
-        self.whole(start)
+        let found = resolve(self.alloc, self.tree.summary(), start)?;
+        Ok(text_of(self.alloc, &self.tree, found.as_slice())?)
     }
 
     /// What was lacking for each line that errno 93 or 94 refused, from a start: a line for each denial, and how many they
@@ -343,26 +344,12 @@ impl Session {
         Ok(denials_of(self.alloc, self.profile, start, &self.tree)?)
     }
 
-    /// The script of the limits that the trace needs, under the usual start: right behind each line that made a
-    /// descriptor; or before the line at a position, from 1, of the descriptors of its process. `limits_stream` says
-    /// more. It copies the lines.
+    /// The script of the limits that the trace needs, from a start: right behind each line that made a descriptor; or
+    /// before the line at a position, from 1, of the descriptors of its process. `limits_stream` says more. It copies the
+    /// lines.
     ///
     /// `Position` where no line stands at the position, and `Memory` where memory runs out.
-    pub fn limits(&self, at: Option<usize>) -> Result<Vec<u8>, Refused>
-        ensures text { IfOk result (λ text. IsLimitsText self.now.profile at [] self.now.trace text.items) }
-        ensures position { (result ≡ Err Refused.Position) ↔ IsOutside at self.now.trace }
-        ensures only { OnErr result ((result ≡ Err Refused.Position) ⊎ (result ≡ Err Refused.Memory)) }
-    {
-        let start = Start::unknown(self.alloc);
-        let text = self.limits_from(at, &start);
-        drop(start);
-        text
-    }
-
-    /// The script of the limits that the trace needs, as `limits` answers it, under another start.
-    ///
-    /// `Position` where no line stands at the position, and `Memory` where memory runs out.
-    pub fn limits_from(&self, at: Option<usize>, start: &Start) -> Result<Vec<u8>, Refused>
+    pub fn limits(&self, at: Option<usize>, start: &Start) -> Result<Vec<u8>, Refused>
         ensures text { IfOk result (λ text. IsLimitsText self.now.profile at start.now self.now.trace text.items) }
         ensures position { (result ≡ Err Refused.Position) ↔ IsOutside at self.now.trace }
         ensures only { OnErr result ((result ≡ Err Refused.Position) ⊎ (result ≡ Err Refused.Memory)) }
@@ -372,16 +359,6 @@ impl Session {
         }
         let lines = copies_of(self.alloc, &self.tree)?;
         limits_among(self.alloc, self.profile, start, &lines, at)
-    }
-
-    /// The text of all findings under a start.
-    fn whole(&self, start: &Start) -> Result<Vec<u8>, Refused>
-        ensures text { IfOk result
-            (λ text. text.items ≡ report (start_state start.now) (steps self.now.profile self.now.trace)) }
-        ensures only { IsOkUnless result Refused.Memory }
-    {
-        let found = resolve(self.alloc, self.tree.summary(), start)?;
-        Ok(text_of(self.alloc, &self.tree, found.as_slice())?)
     }
 
     /// Whether the report of the trace has no finding. It fails only when memory runs out, and takes none where
@@ -436,23 +413,14 @@ impl Session {
         if !is_range(first, last, self.count()) {
             return Err(Refused::Position);
         }
-        self.part(first, last)
-    }
-
-    /// The text of the findings at a range of positions. Only that part of the tree is visited.
-    fn part(&self, first: usize, last: usize) -> Result<Vec<u8>, Refused>
-        ensures text { IfOk result
-            (λ text. text.items ≡ range_report usual (steps self.now.profile self.now.trace) first last) }
-        ensures only { IsOkUnless result Refused.Memory }
-    {
         let start = Start::unknown(self.alloc);
-        let text = self.part_from(&start, first, last);
+        let text = self.part(&start, first, last);
         drop(start);
         text
     }
 
-    /// The same under another start.
-    fn part_from(&self, start: &Start, first: usize, last: usize) -> Result<Vec<u8>, Refused>
+    /// The text of the findings at a range of positions, from a start. Only that part of the tree is visited.
+    fn part(&self, start: &Start, first: usize, last: usize) -> Result<Vec<u8>, Refused>
         ensures text { IfOk result (λ text. text.items
             ≡ range_report (start_state start.now) (steps self.now.profile self.now.trace) first last) }
         ensures only { IsOkUnless result Refused.Memory }
@@ -461,28 +429,10 @@ impl Session {
         Ok(text_of(self.alloc, &self.tree, found.as_slice())?)
     }
 
-    /// The line at a position, what is said of it, and the lines that this rests on, under the usual start.
+    /// The line at a position, what is said of it, and the lines that this rests on, from a start.
     ///
     /// `Position` where no line stands there, and `Memory` where memory runs out.
-    pub fn explain(&self, position: usize) -> Result<ExplainedLine, Refused>
-        ensures text { IfOk result (λ line.
-            explained_line usual self.now.profile self.now.trace position ≡ Ok line.text.items) }
-        ensures clean { IfOk result
-            (λ line. IsTrue line.is_clean ↔ IsClean usual self.now.profile self.now.trace position) }
-        ensures position { (result ≡ Err Refused.Position)
-            ↔ (explained_line usual self.now.profile self.now.trace position ≡ Err Refused.Position) }
-        ensures only { OnErr result ((result ≡ Err Refused.Position) ⊎ (result ≡ Err Refused.Memory)) }
-    {
-        let start = Start::unknown(self.alloc);
-        let line = self.explain_from(position, &start);
-        drop(start);
-        line
-    }
-
-    /// The line at a position, what is said of it, and the lines that this rests on, under another start.
-    ///
-    /// `Position` where no line stands there, and `Memory` where memory runs out.
-    pub fn explain_from(&self, position: usize, start: &Start) -> Result<ExplainedLine, Refused>
+    pub fn explain(&self, position: usize, start: &Start) -> Result<ExplainedLine, Refused>
         ensures text { IfOk result (λ line.
             explained_line (start_state start.now) self.now.profile self.now.trace position ≡ Ok line.text.items) }
         ensures clean { IfOk result (λ line.

@@ -1,14 +1,25 @@
 //! Short texts: that of a refused line, and replies.
 ghost use Rattle.std.specs.Prelude.{◌≡◌, ◌+◌, ◌≤◌, List, ℕ, [], ◌++◌, length, take, codes, decimal};
-ghost use Rattle.cap_session.specs.Refusal.{refusal_text, start_refusal_text};
+ghost use Rattle.cap_session.specs.Refusal.{refusal_text, input_words};
 ghost use Rattle.cap_session.specs.Replies.{refused_text, line_feed};
 
-use crate::refused::Refusal;
+use crate::refused::{Input, Refusal};
 use itoa::Buffer;
 use std::marker::Model;
 
 /// Room for the longest text: 9 and 12 bytes of words, 3 and 20 digits, and LF.
 const ROOM: usize = 45;
+
+/// The words before the number of a refused line.
+fn words_of(input: Input) -> &'static [u8]
+    ensures words { result.now ≡ input_words input }
+    ensures short { length result.now ≤ 12 }
+{
+    match input {
+        Input::Start => b" start line ",
+        Input::Trace => b" line ",
+    }
+}
 
 /// A short text, in room of its own.
 #[derive(Drop)]
@@ -45,31 +56,16 @@ impl ShortText {
         self.len = end;
     }
 
-    /// The text of a refusal.
+    /// The text of a refused line.
     #[tactic(auto, unfolding(crate::specs::Refusal::refusal_text))]
-    pub fn of(refusal: Refusal) -> ShortText
-        ensures { result ≡ refusal_text refusal }
+    pub fn of(input: Input, refusal: Refusal) -> ShortText
+        ensures { result ≡ refusal_text input refusal }
     {
         let mut text = ShortText::new();
         let mut digits = Buffer::new();
         text.add(b"refused E");
         text.add(digits.format(refusal.reason.code()).as_bytes());
-        text.add(b" line ");
-        text.add(digits.format(refusal.line).as_bytes());
-        text.add(b"\n");
-        text
-    }
-
-    /// The text of a refused line of a start.
-    #[tactic(auto, unfolding(crate::specs::Refusal::start_refusal_text))]
-    pub fn of_start(refusal: Refusal) -> ShortText
-        ensures { result ≡ start_refusal_text refusal }
-    {
-        let mut text = ShortText::new();
-        let mut digits = Buffer::new();
-        text.add(b"refused E");
-        text.add(digits.format(refusal.reason.code()).as_bytes());
-        text.add(b" start line ");
+        text.add(words_of(input));
         text.add(digits.format(refusal.line).as_bytes());
         text.add(b"\n");
         text

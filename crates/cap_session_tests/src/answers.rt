@@ -6,8 +6,7 @@ use crate::devices::{Kept, Pieces};
 use cap_machine::Profile;
 use cap_session::{
     ExplainOutcome, check_stream, check_stream_as, check_stream_from, check_stream_from_as,
-    denials_stream, edit_stream, edit_stream_as, explain_stream, explain_stream_as,
-    explain_stream_from, explain_stream_from_as, limits_stream,
+    denials_stream, edit_stream, edit_stream_as, explain_stream, limits_stream,
 };
 use std::alloc::Global;
 use std::test::Fail;
@@ -27,10 +26,7 @@ pub enum Call {
     Denials(Profile),
     Edit,
     EditAs(Profile),
-    Explain(usize),
-    ExplainAs(Profile, usize),
-    ExplainFrom(usize),
-    ExplainFromAs(Profile, usize),
+    Explain(Profile, usize),
     Limits(Profile, Option<usize>),
 }
 
@@ -108,15 +104,8 @@ fn made(
         Call::Denials(profile) => denials_stream(alloc, profile, turns, other, trace, writer),
         Call::Edit => edit_stream(alloc, turns, trace, other, writer),
         Call::EditAs(profile) => edit_stream_as(alloc, profile, turns, trace, other, writer),
-        Call::Explain(at) => return explain_stream(alloc, turns, at, trace, writer),
-        Call::ExplainAs(profile, at) => {
-            return explain_stream_as(alloc, profile, turns, at, trace, writer);
-        }
-        Call::ExplainFrom(at) => {
-            return explain_stream_from(alloc, turns, at, other, trace, writer);
-        }
-        Call::ExplainFromAs(profile, at) => {
-            return explain_stream_from_as(alloc, profile, turns, at, other, trace, writer);
+        Call::Explain(profile, at) => {
+            return explain_stream(alloc, profile, turns, at, other, trace, writer);
         }
         Call::Limits(profile, at) => {
             return limits_stream(alloc, profile, turns, at, other, trace, writer);

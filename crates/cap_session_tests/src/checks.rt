@@ -21,7 +21,7 @@ const LIMITED: &[u8] =
 
 const LIMITED_REPORT: &str = "3 100 write missing 0 CAP_WRITE\nfindings 1\n";
 
-static TEXTS: [Worked<'static>; 13] = [
+static TEXTS: [Worked<'static>; 12] = [
     (Call::Check, b"", b"", Ended(Outcome::Clean), "findings 0\n"),
     (
         Call::Check,
@@ -95,14 +95,7 @@ static TEXTS: [Worked<'static>; 13] = [
     ),
     // A refused line ends an explanation, too.
     (
-        Call::ExplainAs(Profile::One, 1),
-        b"100 @start(0)\n# note\n\n100 read(x) RET 1\n",
-        b"",
-        Ended(Outcome::Refused { code: 4, line: 4 }),
-        "refused E4 line 4\n",
-    ),
-    (
-        Call::ExplainFromAs(Profile::One, 1),
+        Call::Explain(Profile::One, 1),
         b"100 @start(0)\n# note\n\n100 read(x) RET 1\n",
         b"",
         Ended(Outcome::Refused { code: 4, line: 4 }),

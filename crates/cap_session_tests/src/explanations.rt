@@ -1,7 +1,7 @@
 //! Lines that are explained, by the calls over devices and by a session.
 
 use crate::answers::{Call, is_answered};
-use crate::sessions::{Case, Change, Step, Under, holds};
+use crate::sessions::{Case, Change, Step, holds};
 use cap_machine::Profile;
 use cap_session::{ExplainOutcome, Outcome};
 use std::alloc::Global;
@@ -215,43 +215,22 @@ mode 3 100 cap_enter() RET 0\n",
     ),
 ];
 
-/// Fails a test where a call over devices doesn't explain the line of a row so: that from its start in its profile, and
-/// those that leave out the usual start or the first profile.
-fn is_explained(alloc: Global, row: &Row) -> Result<(), Fail> {
-    let (start, profile, (trace, _), at, outcome, text) = row;
-    let is_first = *profile == Profile::One;
-    let is_usual = start.is_empty();
-    let calls = [
-        (Call::ExplainFromAs(*profile, *at), true),
-        (Call::ExplainFrom(*at), is_first),
-        (Call::ExplainAs(*profile, *at), is_usual),
-        (Call::Explain(*at), is_first && is_usual),
-    ];
-    for (call, is_fit) in &calls {
-        if *is_fit {
-            is_answered(alloc, &(*call, trace, start, *outcome, text))?;
-        }
-    }
-    Ok(())
-}
-
 #[test]
 fn a_line_is_explained_in_pieces_of_any_size(rt: HostRuntime) -> Result<(), Fail> {
-    for row in &ROWS {
-        is_explained(rt.alloc(), row)?;
+    for (start, profile, (trace, _), at, outcome, text) in &ROWS {
+        let call = Call::Explain(*profile, *at);
+        is_answered(rt.alloc(), &(call, trace, start, *outcome, text))?;
     }
     Ok(())
 }
 
-/// Fails a test where a session does not explain the line so, from the start of the row, and from the usual one where it is that.
+/// Fails a test where a session does not explain the line so.
 fn session_explains(alloc: Global, row: &Row) -> Result<(), Fail> {
     let (start, profile, (trace, count), at, outcome, text) = row;
     let steps = [
         Step::Change(Change::Load(trace), Ok(*count)),
-        Step::Explain(*at, Under::Start, *outcome, text),
-        Step::Explain(*at, Under::Usual, *outcome, text),
+        Step::Explain(*at, *outcome, text),
     ];
-    let known = if start.is_empty() { 3 } else { 2 };
     holds(
         alloc,
         &Case {
@@ -259,7 +238,7 @@ fn session_explains(alloc: Global, row: &Row) -> Result<(), Fail> {
             limit: 10,
             profile: Some(*profile),
             start,
-            steps: &steps[..known],
+            steps: &steps,
         },
     )
 }

@@ -392,16 +392,14 @@ fn a_refused_line_has_no_limits(rt: HostRuntime) -> Result<(), Fail> {
     Ok(())
 }
 
-/// Fails a test where a session doesn't answer a row so, from its start, and from the usual one where it is that.
+/// Fails a test where a session doesn't answer a row so.
 fn session_has(alloc: Global, row: &Row) -> Result<(), Fail> {
     let (start, profile, (trace, count), at, answer) = row;
     let (_, name) = ended(*answer);
     let steps = [
         Step::Change(Change::Load(trace), Ok(*count)),
-        Step::Ask(Query::LimitsFrom(*at), *answer),
         Step::Ask(Query::Limits(*at), *answer),
     ];
-    let known = if start.is_empty() { 3 } else { 2 };
     holds(
         alloc,
         &Case {
@@ -409,7 +407,7 @@ fn session_has(alloc: Global, row: &Row) -> Result<(), Fail> {
             limit: 14,
             profile: Some(*profile),
             start,
-            steps: &steps[..known],
+            steps: &steps,
         },
     )
 }

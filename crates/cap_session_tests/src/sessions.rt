@@ -23,8 +23,6 @@ pub enum Query {
     Denials,
     /// The limits, behind the lines that made descriptors or before a line.
     Limits(Option<usize>),
-    /// The same from the start of the case.
-    LimitsFrom(Option<usize>),
     Range(usize, usize),
     Show(usize),
 }
@@ -48,15 +46,7 @@ pub enum Step<'a> {
     Apply(&'a [Edit<'a>], &'a [Answer]),
     ReportAfter(&'a [Edit<'a>], &'a [Answer], &'a str),
     Ask(Query, Result<&'a str, Refused>),
-    /// A line is explained, from the start of the case or from the usual one.
-    Explain(usize, Under, ExplainOutcome, &'a str),
-}
-
-/// From which start a line is explained.
-#[derive(Drop)]
-pub enum Under {
-    Start,
-    Usual,
+    Explain(usize, ExplainOutcome, &'a str),
 }
 
 /// A session, what is known before it, and what is done with it.
@@ -139,8 +129,7 @@ fn answers_query(
         Query::Report => session.report(),
         Query::ReportFrom => session.report_from(start),
         Query::Denials => session.denials(start),
-        Query::Limits(at) => session.limits(*at),
-        Query::LimitsFrom(at) => session.limits_from(*at, start),
+        Query::Limits(at) => session.limits(*at, start),
         Query::Range(first, last) => session.report_range(*first, *last),
         Query::Show(position) => session.show(*position),
     };
@@ -175,19 +164,6 @@ fn explains(
     }
 }
 
-/// Explains a line.
-fn explained(
-    session: &Session,
-    start: &Start,
-    at: usize,
-    under: &Under,
-) -> Result<ExplainedLine, Refused> {
-    match under {
-        Under::Start => session.explain_from(at, start),
-        Under::Usual => session.explain(at),
-    }
-}
-
 /// Whether a session answers a step so.
 fn answers(alloc: Global, session: &mut Session, start: &Start, step: &Step<'_>) -> bool {
     match step {
@@ -196,8 +172,8 @@ fn answers(alloc: Global, session: &mut Session, start: &Start, step: &Step<'_>)
         Step::Apply(edits, answers) => applies(session, edits, answers),
         Step::ReportAfter(edits, answers, report) => reports_after(session, edits, answers, report),
         Step::Ask(query, answer) => answers_query(session, start, query, *answer),
-        Step::Explain(at, under, outcome, text) => {
-            explains(&explained(session, start, *at, under), *outcome, text)
+        Step::Explain(at, outcome, text) => {
+            explains(&session.explain(*at, start), *outcome, text)
         }
     }
 }

@@ -6,12 +6,11 @@ use Rattle.clap.specs.Words.{Text}
 use Rattle.cap_machine.specs.declared.cell.Profile.{Profile}
 use Rattle.cap_machine.specs.declared.question.Question.{Question}
 use Rattle.cap_machine.specs.State.{Added}
-use Rattle.cap_machine.specs.Table.{start_state}
 use Rattle.cap_session.specs.Devices.{SourceState, SinkState}
-use Rattle.cap_session.specs.StartStreams.{AskedStartStreams}
 use Rattle.cap_session.specs.EditStreams.{EditStreams}
 use Rattle.cap_session.specs.AnswerStreams.{Says, AnswerStartStreams}
-use Rattle.cap_session.specs.ExplainStreams.{explain_says}
+use Rattle.cap_session.specs.ExplainStreams.{explanation_says}
+use Rattle.cap_session.specs.Streams.{asked_from}
 use Rattle.cap_session.specs.LimitStreams.{limits_say}
 use Rattle.cap_session.specs.Outcome.{status_of, explain_status_of}
 use Rattle.cap_session.specs.declared.outcome.Outcome.{Outcome}
@@ -28,10 +27,10 @@ abbrev pub turns : ℕ
 turns = 2147483648
 
 -- a text can't be opened, and nothing was written
-pub record Unopened (may_fail : Type 0) (w0 w1 : SinkState) (outcome : Outcome) : Type 0 where
+pub record Unopened (may_fail : Type 0) (w0 w1 : SinkState) (outcome : ExplainOutcome) : Type 0 where
   pub why : may_fail
   pub silent : w1 ≡ w0
-  pub fault : outcome ≡ ReadFault
+  pub fault : outcome ≡ Ended ReadFault
 
 -- Two texts of which this is known were opened, the first as x and the second as y, and then they were read so: each
 -- from its state at first to its state at the end. Both are readers of the texts' own type R, which has this state.
@@ -47,31 +46,23 @@ pub record OpensBoth {R : Type 0} (state : R → SourceState) (first second : Kn
 
 -- ---- the runs
 
+-- the trace was read from the start, and then answered
+abbrev pub AnswersText : {R : Type 0} → (R → SourceState) → (List Added → Says) → Known → Known → SinkState → SinkState
+    → ExplainOutcome → Type 0
+AnswersText state says start trace w0 w1 outcome = Unopened (MayFail start ⊎ MayFail trace) w0 w1 outcome
+    ⊎ OpensBoth state start trace (λ z0 z1 r0 r1. AnswerStartStreams says turns z0 z1 r0 r1 w0 w1 outcome)
+
 -- this was asked of the trace from the start
 abbrev pub AsksText : {R : Type 0} → (R → SourceState) → Question → Profile → Known → Known → SinkState → SinkState
     → Outcome → Type 0
-AsksText state question profile start trace w0 w1 outcome = Unopened (MayFail start ⊎ MayFail trace) w0 w1 outcome
-    ⊎ OpensBoth state start trace (λ z0 z1 r0 r1. AskedStartStreams question profile turns z0 z1 r0 r1 w0 w1 outcome)
+AsksText state question profile start trace w0 w1 outcome =
+    AnswersText state (asked_from question profile) start trace w0 w1 (Ended outcome)
 
 -- the script was replied to, on the trace
 abbrev pub EditsText : {R : Type 0} → (R → SourceState) → Profile → Known → Known → SinkState → SinkState → Outcome
     → Type 0
-EditsText state profile trace script w0 w1 outcome = Unopened (MayFail trace ⊎ MayFail script) w0 w1 outcome
+EditsText state profile trace script w0 w1 outcome = Unopened (MayFail trace ⊎ MayFail script) w0 w1 (Ended outcome)
     ⊎ OpensBoth state trace script (λ r0 r1 s0 s1. EditStreams profile turns r0 r1 s0 s1 w0 w1 outcome)
-
--- a text can't be opened, and nothing was written
-abbrev pub Unanswered : Type 0 → SinkState → SinkState → ExplainOutcome → Type 0
-Unanswered may_fail w0 w1 outcome = (o : Outcome) × Unopened may_fail w0 w1 o × (outcome ≡ Ended o)
-
--- the trace was read from the start, and then answered
-abbrev pub AnswersText : {R : Type 0} → (R → SourceState) → (List Added → Says) → Known → Known → SinkState → SinkState
-    → ExplainOutcome → Type 0
-AnswersText state says start trace w0 w1 outcome = Unanswered (MayFail start ⊎ MayFail trace) w0 w1 outcome
-    ⊎ OpensBoth state start trace (λ z0 z1 r0 r1. AnswerStartStreams says turns z0 z1 r0 r1 w0 w1 outcome)
-
--- line k of the trace is explained from the start
-abbrev pub explanation_says : Profile → ℕ → List Added → Says
-explanation_says profile k = λ (start : List Added). explain_says profile k (start_state start)
 
 -- What is known of the start: where none is named it is an empty text, which is the usual start.
 abbrev pub known_start : (Option Text → Known) → Option (Option (Bor Text)) → Known

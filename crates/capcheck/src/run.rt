@@ -11,8 +11,9 @@ ghost use Rattle.cap_session.specs.Outcome.{status_of, explain_status_of};
 ghost use Rattle.cap_session.specs.StartTexts.{start as start_said};
 ghost use Rattle.capcheck.specs.Faults.{fault_code};
 ghost use Rattle.capcheck.specs.Plans.{seen};
+ghost use Rattle.cap_session.specs.ExplainStreams.{explanation_says};
 ghost use Rattle.cap_session.specs.LimitStreams.{limits_say};
-ghost use Rattle.capcheck.specs.Runs.{AnswersText, AsksText, CarriesOut, EditsText, Finishes, explanation_says};
+ghost use Rattle.capcheck.specs.Runs.{AnswersText, AsksText, CarriesOut, EditsText, Finishes};
 ghost use Rattle.capcheck.specs.Runs.{AskIsNoFault, EditIsNoFault, ExplanationIsNoFault, LimitsAreNoFault, NeverFail};
 ghost use Rattle.capcheck.specs.Runs.{known_start};
 ghost use Rattle.capcheck.specs.Texts.{Gives, MayFail};
@@ -24,7 +25,7 @@ use crate::texts::{SystemTexts, Texts};
 use cap_machine::Question;
 use cap_session::{
     Counted, ExplainOutcome, Failed, Outcome, Sink, Source, check_stream_from_as, denials_stream,
-    edit_stream_as, explain_stream_from_as, limits_stream,
+    edit_stream_as, explain_stream, limits_stream,
 };
 use std::alloc::Global;
 use std::rt::{Env, Files};
@@ -254,7 +255,7 @@ pub fn explain<T: Texts, W: Sink>(
     };
     let (mut start, mut trace) = opened;
     let profile = subject.profile;
-    explain_stream_from_as(
+    explain_stream(
         alloc, profile, TURNS, position, &mut start, &mut trace, output,
     )
 }

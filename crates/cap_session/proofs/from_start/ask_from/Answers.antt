@@ -1,9 +1,11 @@
 use Rattle.cap_machine.specs.Table.{start_state}
-use Rattle.cap_session.proofs.StartRejecting.{not_begun}
+use Rattle.cap_session.specs.Streams.{asked_says}
+use Rattle.cap_session.proofs.AnswersTrace.{nothing_read}
 use Rattle.cap_session.proofs.from_start.ask_from.Goals as goal
 
 pub returns-in_default : goal.returns-in_default
-returns-in_default g c = not_begun c.args.question c.args.profile (start_state c.args.start.now) c.args.turns _ _
+returns-in_default g c =
+    nothing_read (asked_says c.args.question c.args.profile (start_state c.args.start.now)) c.args.turns _ _
 
 pub returns : goal.returns
 returns g c =

@@ -1,4 +1,4 @@
-use Rattle.std.proofs.Common.{◌≡◌, List, ℕ, subst, ◌∙◌, sym}
+use Rattle.std.proofs.Common.{◌≡◌, ◌∙◌}
 use Rattle.std.proofs.lemmas.Result.{err_from_is_err_and, on_ok_weaker, on_err_weaker}
 use Rattle.cap_session.proofs.Runs.{scripted_on, scripted_broken, scripted_last, scripted_last_broken, scripted_held}
 use Rattle.cap_session.proofs.script.Script.feed.Goals as goal

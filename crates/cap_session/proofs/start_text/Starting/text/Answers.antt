@@ -1,4 +1,4 @@
-use Rattle.std.proofs.Common.{◌≡◌, List, ℕ, ◌∙◌, ◌+◌, subst}
+use Rattle.std.proofs.Common.{◌≡◌, ◌∙◌}
 use Rattle.std.proofs.lemmas.Result.{err_from_is_err_and}
 use Rattle.cap_session.specs.StartLines.{Follows}
 use Rattle.cap_session.proofs.Started.{through_first, through_line, through_bad, last_good, last_bad}

@@ -6,7 +6,7 @@ use Rattle.cap_machine.specs.declared.verdict.Found.{Found}
 use Rattle.cap_summary.specs.Positions.{within}
 use Rattle.cap_session.specs.Session.{StandWithin}
 use Rattle.cap_session.proofs.FoundText.{some_stand_within}
-use Rattle.cap_session.proofs.session.Session.part_from.Goals as goal
+use Rattle.cap_session.proofs.session.Session.part.Goals as goal
 
 pub text_of-requires : goal.text_of-requires
 text_of-requires c =

@@ -9,7 +9,7 @@ use Rattle.cap_session.specs.Edits.{is_position}
 use Rattle.cap_session.specs.Explained.{FitsLine}
 use Rattle.cap_session.specs.Session.{SessionState, lines_of}
 use Rattle.cap_session.proofs.Explains.{fits_line, has_line, has_no_line, is_clean}
-use Rattle.cap_session.proofs.session.Session.explain_from.Goals as goal
+use Rattle.cap_session.proofs.session.Session.explain.Goals as goal
 
 pub line_explained-requires : goal.line_explained-requires
 line_explained-requires c =

@@ -4,7 +4,7 @@ use Rattle.cap_machine.specs.Table.{start_state}
 use Rattle.cap_machine.specs.declared.verdict.Found.{Found}
 use Rattle.cap_session.specs.Session.{StandWithin}
 use Rattle.cap_session.proofs.FoundText.{stand_within}
-use Rattle.cap_session.proofs.session.Session.whole.Goals as goal
+use Rattle.cap_session.proofs.session.Session.report_from.Goals as goal
 
 pub text_of-requires : goal.text_of-requires
 text_of-requires c =
