@@ -332,9 +332,8 @@ is_clean s profile trace k found e b said is clean =
 
 -- ---- one of the chains
 
-pub stands_at : (n : ℕ) (origins : List CellOrigin) (i : ℕ) (x : CellOrigin)
-    → All (CellStands n) (map cell_chain_of origins) → i < length origins → x ≡ get_or origins i x
-    → CellStands n (cell_chain_of x)
-stands_at n origins i x all lt is =
-    subst (CellStands n) (get_or-map cell_chain_of origins i x (cell_chain_of x) lt ∙ ap cell_chain_of (sym is))
-    (all i (cell_chain_of x) (omega (arith, lt, length-map origins cell_chain_of)))
+pub all_stand : (n : ℕ) (origins : List CellOrigin) → All (CellStands n) (map cell_chain_of origins)
+    → All (λ (origin : CellOrigin). CellStands n (cell_chain_of origin)) origins
+all_stand n origins all = λ i d lt.
+    subst (CellStands n) (get_or-map cell_chain_of origins i d (cell_chain_of d) lt)
+    (all i (cell_chain_of d) (omega (arith, lt, length-map origins cell_chain_of)))

@@ -4,6 +4,7 @@ ghost use Rattle.std.specs.Prelude.{[]};
 ghost use Rattle.std.specs.List.{All};
 ghost use Rattle.cap_machine.specs.Explain.{explained_by};
 ghost use Rattle.cap_machine.specs.Judge.{listed};
+ghost use Rattle.cap_machine.specs.declared.origin.CellOrigin.{CellOrigin};
 ghost use Rattle.cap_machine.specs.Origin.{cell_chain_of, mode_chain_of};
 ghost use Rattle.cap_machine.specs.Rule.{demand};
 ghost use Rattle.cap_machine.specs.Table.{start_state};
@@ -60,7 +61,8 @@ fn put_cells<T: Trace>(
     cells: &[CellOrigin],
 ) -> Result<(), NoMemory>
     requires one_each { length cells.now ≡ length (listed checks.now) }
-    requires stand { All (CellStands (length (T.lines trace.now))) (map cell_chain_of cells.now) }
+    requires stand { All (λ (origin : CellOrigin). CellStands (length (T.lines trace.now)) (cell_chain_of origin))
+        cells.now }
     ensures { OnOk result (out.new.items ≡ out.old.items
         ++ all_cell_lines (T.lines trace.now) (listed checks.now) (map cell_chain_of cells.now)) }
 {
