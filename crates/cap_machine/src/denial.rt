@@ -105,7 +105,7 @@ impl LineDenials {
         denials
     }
 
-    /// The same, or that nothing explains the errno where there is none.
+    /// These denials; if there is none, that nothing explains the errno.
     fn or_unexplained(self) -> LineDenials
         ensures { result ≡ or_unexplained self }
     {
@@ -140,7 +140,7 @@ fn lack_of(check: &Check, cell: Cell) -> Option<Denial>
     }
 }
 
-/// The same of each check.
+/// The rights that each checked descriptor lacks, in the order of the checks.
 fn lacks_of(checks: &Checks, cells: &[Cell]) -> LineDenials
     requires one_each { length cells.now ≡ length (listed checks.now) }
     ensures { result ≡ lacks (listed checks.now) cells.now }

@@ -50,7 +50,7 @@ pub fn machine_after(
     Ok(machine)
 }
 
-/// What these lines need, which follow as many others.
+/// What these lines need, which come after so many others.
 ///
 /// `NoMemory` when out of memory.
 pub fn live_behind(

@@ -69,7 +69,7 @@ impl Machine {
         self.follow_seen(profile, &line.seen())
     }
 
-    /// The same of a line where it lies.
+    /// Moves on to what is known after a step whose line is borrowed, and judges nothing.
     pub(crate) fn follow_seen(
         &mut self,
         profile: Profile,

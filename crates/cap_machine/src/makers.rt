@@ -295,7 +295,7 @@ fn pass_line(
     live.pass_seen(at, profile, &seen)
 }
 
-/// The least rights of each descriptor that a trace makes and that is then held, right behind the line that made it. The
+/// The least rights of each descriptor that a trace makes and that is then held, right after the line that made it. The
 /// last line comes first, and of two descriptors of a line the larger.
 ///
 /// It goes through the lines once forth and once back. Its memory grows with the descriptors that they make or need

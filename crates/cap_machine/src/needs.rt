@@ -331,7 +331,7 @@ pub(crate) fn has_plain_flags(call: AtFlagsCall, flags: &[u8]) -> bool
     all_known_of(plain_flags_of(call), flags)
 }
 
-/// The same of linkat(2).
+/// Whether the meaning of all flags of a linkat(2) is known.
 #[tactic(auto, unfolding(crate::specs::Needs::plain_at_flags))]
 pub(crate) fn has_plain_link_flags(flags: &[u8]) -> bool
     ensures { result ≡ all_known plain_at_flags flags.now }

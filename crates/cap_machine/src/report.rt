@@ -79,7 +79,7 @@ pub fn put_denial_words(out: &mut Vec<u8>, denial: &Denial) -> Result<(), NoMemo
     Ok(())
 }
 
-/// Appends the position, the process and the name of the call, with one space behind each. On an `Err` a part of it may
+/// Appends the position, the process and the name of the call, with one space after each. On an `Err` a part of it may
 /// have been appended.
 fn put_front(out: &mut Vec<u8>, at: usize, line: &LineRef<'_>) -> Result<(), NoMemory>
     ensures ok { OnOk result (out.new.items ≡ out.old.items

@@ -104,7 +104,7 @@ pub enum Effect<'a> {
     Change(Fd, Op, Fd),
     /// The child has what the process has.
     Fork(Pid),
-    /// The same, and of this descriptor of both nothing is known.
+    /// The child has what the process has, but nothing is known of this descriptor of either.
     ForkAs(Pid, Fd),
 }
 

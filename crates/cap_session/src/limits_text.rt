@@ -48,7 +48,7 @@ fn put_insertion(
     Ok(())
 }
 
-/// Appends the line of a script that puts a limit right behind the line that made its descriptor.
+/// Appends the line of a script that puts a limit right after the line that made its descriptor.
 fn put_maker(out: &mut Vec<u8>, limit: &MakerLimit) -> Result<(), NoMemory>
     requires { limit.now.at < 2 ^ 63 }
     ensures { OnOk result (out.new.items ≡ out.old.items ++ line_of_words (words_of (maker_line limit.now))) }
@@ -56,7 +56,7 @@ fn put_maker(out: &mut Vec<u8>, limit: &MakerLimit) -> Result<(), NoMemory>
     put_insertion(out, limit.at + 1, limit.pid, limit.fd, &limit.rights)
 }
 
-/// The script of limits that each stand right behind a line.
+/// The script of limits, each right after a line.
 fn script_of(alloc: Global, limits: &[MakerLimit]) -> Result<Vec<u8>, NoMemory>
     requires { All (λ (limit : MakerLimit). limit.at < 2 ^ 63) limits.now }
     ensures { IfOk result (λ text. text.items ≡ maker_lines limits.now) }
@@ -68,7 +68,7 @@ fn script_of(alloc: Global, limits: &[MakerLimit]) -> Result<Vec<u8>, NoMemory>
     Ok(text)
 }
 
-/// The script of the least rights of each descriptor that a trace makes, right behind the line that made it.
+/// The script of the least rights of each descriptor that a trace makes, right after the line that made it.
 fn makers_text(
     alloc: Global,
     profile: Profile,
@@ -93,7 +93,7 @@ fn put_place(out: &mut Vec<u8>, pid: Pid, at: usize) -> Result<(), NoMemory>
     Ok(())
 }
 
-/// Appends the limits of a process, the first put in at a position and each other behind the one before.
+/// Appends the limits of a process: the first is put in at a position, and each other after the one before.
 fn put_limits(out: &mut Vec<u8>, at: usize, pid: Pid, limits: &[Limit]) -> Result<(), NoMemory>
     requires { at + length limits.now < 2 ^ 64 }
     ensures { OnOk result (out.new.items
@@ -246,7 +246,7 @@ fn process_text(
     Ok(limits_text(alloc, lines, at, &limits)?)
 }
 
-/// The script of the least rights of a trace: right behind each line that made a descriptor; or before the line at a
+/// The script of the least rights of a trace: right after each line that made a descriptor; or before the line at a
 /// position, of the descriptors of its process.
 ///
 /// `Position` where no line stands there, and `Memory` where memory runs out.

@@ -344,7 +344,7 @@ impl Session {
         Ok(denials_of(self.alloc, self.profile, start, &self.tree)?)
     }
 
-    /// The script of the limits that the trace needs, from a start: right behind each line that made a descriptor; or
+    /// The script of the limits that the trace needs, from a start: right after each line that made a descriptor; or
     /// before the line at a position, from 1, of the descriptors of its process. `limits_stream` says more. It copies the
     /// lines.
     ///
@@ -372,7 +372,7 @@ impl Session {
         clean
     }
 
-    /// The same under another start.
+    /// Whether the report under this start has no finding.
     fn is_clean_from(&self, start: &Start) -> Result<bool, cap_tree::NoMemory>
         ensures { IfOk result (λ clean. IsTrue clean
             ↔ (check (start_state start.now) (steps self.now.profile self.now.trace) ≡ [])) }

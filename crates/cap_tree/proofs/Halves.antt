@@ -6,7 +6,7 @@ use Rattle.cap_tree.specs.declared.node.TheConstants.{LEAF_ITEMS}
 use Rattle.cap_tree.specs.Heights.{DifferByAtMost}
 use Rattle.cap_tree.specs.Run.{values}
 
--- how many items there are in front and behind
+-- how many items there are before and after
 pub record AreHalves (all front back : ℕ) : Type 0 where
   pub front_some : 0 < front
   pub front_fits : front ≤ LEAF_ITEMS

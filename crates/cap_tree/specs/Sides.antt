@@ -27,7 +27,7 @@ abbrev pub IsJoinAt : {S : Type 0} → (S → S → S → Type 0) → Side → S
 IsJoinAt composes Left part other whole = composes part other whole
 IsJoinAt composes Right part other whole = composes other part whole
 
--- where a place lies behind so many items of the left part: on which side, and where there
+-- where a place is, after so many items of the left part: on which side, and where there
 abbrev pub IsAt : Side → ℕ → ℕ → ℕ → Type 0
 IsAt Left middle at place = (at < middle) × (place ≡ at)
 IsAt Right middle at place = middle + place ≡ at

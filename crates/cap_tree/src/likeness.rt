@@ -21,7 +21,7 @@ impl Side {
         }
     }
 
-    /// The side on which a place lies, behind so many items of the left part, and where in that part it is.
+    /// The side of a place, where the left part has so many items, and the place within that part.
     pub(crate) fn of_place(middle: usize, at: usize) -> (Side, usize)
         ensures { IsAt result.0 middle at result.1 }
     {

@@ -32,7 +32,7 @@ pub(crate) fn single<T: Drop>(alloc: Global, item: Rc<T>) -> Result<Vec<Rc<T>>, 
     Ok(run)
 }
 
-/// The same items, shared.
+/// A copy of a run, which shares the items.
 pub(crate) fn shared<T: Drop>(alloc: Global, items: &[Rc<T>]) -> Result<Vec<Rc<T>>, NoMemory>
     ensures { IfOk result (λ run. values run.items ≡ values items.now) }
 {

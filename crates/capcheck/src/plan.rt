@@ -59,7 +59,7 @@ pub enum Plan<'a> {
         position: usize,
     },
     /// Write the limits that later lines need, before the line at this position of the trace, or where there is none
-    /// behind each line that made a descriptor.
+    /// after each line that made a descriptor.
     Limits {
         subject: Subject<'a>,
         at: Option<usize>,

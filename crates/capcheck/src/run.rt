@@ -261,7 +261,7 @@ pub fn explain<T: Texts, W: Sink>(
 }
 
 /// Writes the limits that later lines of the trace need, in the profile, from the start, or why there are none: before
-/// the line at a position, or behind each line that made a descriptor. The texts are opened as those of [`explain`].
+/// the line at a position, or after each line that made a descriptor. The texts are opened as those of [`explain`].
 pub fn limits<T: Texts, W: Sink>(
     alloc: Global,
     texts: &T,

@@ -104,7 +104,7 @@ pub fn wrong_in<'a>(alloc: Global, line: &'a [u8], code: u8) -> Wrong<'a> {
     }
 }
 
-/// What is wrong with a command of a script that is refused with this code: mostly the line in it, behind two words.
+/// What is wrong with a command of a script that is refused with this code: mostly the line in it, after two words.
 pub fn wrong_in_command<'a>(alloc: Global, command: &'a [u8], code: u8) -> Wrong<'a> {
     if let Some(wrong) = wrong_bytes(command) {
         return wrong;

@@ -20,7 +20,7 @@ pub(crate) struct ByFlag {
 }
 
 impl ByFlag {
-    /// The same rights for each flag.
+    /// These rights, whatever the flag.
     pub(crate) fn all(rights: RightSet) -> ByFlag
         ensures { (x : OnExec) → flag_rights result x ≡ rights }
     {

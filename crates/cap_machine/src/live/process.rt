@@ -40,13 +40,13 @@ impl Op {
     }
 }
 
-/// What the lines from one on need of a process. What is needed behind the next exec is kept apart, so that what is
+/// What the lines from one on need of a process. What is needed after the next exec is kept apart, so that what is
 /// needed of a descriptor is moved by one exec alone, however many there are.
 #[derive(Drop)]
 pub(crate) struct LiveProcess {
     /// The rights that are needed of each descriptor before the next exec.
     near: FdRights,
-    /// Those that are needed behind it, of which an exec hands on those where the flag is clear.
+    /// Those that are needed after it. An exec hands on those where the flag is clear.
     far: FdRights,
     /// The position of the first line that is in the way of entering capability mode.
     pub(crate) blocked: Option<usize>,
@@ -136,7 +136,7 @@ impl LiveProcess {
     }
 
     /// What an exec hands on in profile 2: a descriptor with the flag is closed, and of one whose flag isn't known
-    /// nothing is known behind it.
+    /// nothing is known after it.
     fn exec(&mut self) -> Result<(), NoMemory>
         ensures rights { OnOk result ((f : ℕ) (x : OnExec)
             → wanted_of self.new f x ≡ back_through (held_op exec x) (wanted_of self.old f)) }
