@@ -107,7 +107,7 @@ pub struct Op {
     pub set: HeldOp,
     /// What becomes of a held cell that an exec leaves open.
     pub clear: HeldOp,
-    /// What becomes of a held cell of which it isn't known what an exec does.
+    /// What becomes of a held cell where it isn't known whether an exec closes it.
     pub unsure: HeldOp,
 }
 
@@ -152,7 +152,7 @@ impl Op {
         }
     }
 
-    /// The op that leaves each cell as it is: what a child has of its parent (fork(2)).
+    /// The op that changes no cell: a child gets each cell of its parent by it (fork(2)).
     pub fn same() -> Op
         ensures { result ≡ same }
     {
@@ -210,7 +210,7 @@ impl Op {
         Op::marking(Cell::Unknown, Cell::Closed, &None, flag)
     }
 
-    /// What `F_SETFD` makes of a cell where other flags than `FD_CLOEXEC` stand: they may limit the descriptor too.
+    /// What `F_SETFD` makes of a cell if it has other flags than `FD_CLOEXEC`: they may limit the descriptor too.
     pub fn narrow_and_set_flag(flag: OnExec) -> Op
         ensures { result ≡ narrow_and_set_flag flag }
     {

@@ -30,7 +30,7 @@ pub(crate) fn reply_of(answer: &Answer) -> Reply
     }
 }
 
-/// How a call on one descriptor stands to capability mode.
+/// Whether capability mode allows a call on one descriptor.
 fn fd_class_of(call: FdCall) -> Class
     ensures { result ≡ fd_class call }
 {
@@ -99,7 +99,7 @@ pub(crate) fn fd_demand_of(call: FdCall, fd: Fd, answer: &Answer) -> Demand
     }
 }
 
-/// A command of fcntl(2), of which errno 93 is never judged.
+/// What a command of fcntl(2) is judged by. Its errno 93 is never judged.
 fn fcntl(needs: Option<RightSet>, fd: Fd, answer: &Answer) -> Demand
     ensures { result ≡ fcntl_demand needs fd answer.now }
 {

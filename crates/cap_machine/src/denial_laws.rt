@@ -1,5 +1,5 @@
-//! Laws of denials: how they stand to findings, where they stand, and traces in turn. Each function does nothing: its
-//! contract is what it says.
+//! Laws of denials: which findings they exclude, their positions, and traces in turn. Each function does nothing: its
+//! contract is the law.
 
 ghost use Rattle.cap_machine.specs.DenialLaws.{WrongIsUnexplained, LackingIsRight, InsideIsRight, DenialsWithin};
 ghost use Rattle.cap_machine.specs.DenialLaws.{DenialsInTurn, DenialsOneMore, RefusedIsDenied, LackingIsSome};
@@ -27,13 +27,13 @@ pub fn lacking_rights_are_what_to_add()
     ensures enough { LackingIsEnough }
 {}
 
-/// Each denial stands at a position from 1 to the length of the trace.
+/// The position of each denial is from 1 to the length of the trace.
 pub fn denials_are_within()
     ensures { DenialsWithin }
 {}
 
-/// The denials of a trace that follows another are those from the state after the first, and stand that many lines
-/// later. One step that follows adds what was lacking for it in that state, at the next position.
+/// The denials of a trace that follows another are those from the state after the first, that many lines later.
+/// One step that follows adds what was lacking for it in that state, at the next position.
 pub fn denials_in_turn()
     ensures denials { DenialsInTurn }
     ensures one { DenialsOneMore }

@@ -1,5 +1,5 @@
 //! What each form of call does to the cells and the mode of its process and of a child, by what the line records. The
-//! tables stand in `docs/RULES.md`.
+//! tables are in `docs/RULES.md`.
 
 ghost use Rattle.std.specs.Prelude.{◌≡◌, ℕ, ◌<◌, codes, IsTrue, if◌then◌else◌};
 ghost use Rattle.cap_trace.specs.Entry.{IsAnswer, IsFd, args_of_call, kind_of, fcntl_kind};
@@ -31,7 +31,7 @@ fn flag_where(is_asked: bool) -> OnExec
     if is_asked { OnExec::Set } else { OnExec::Clear }
 }
 
-/// Whether flags of open(2) ask for the descriptor to be closed on exec. That flag mostly stands last.
+/// Whether flags of open(2) ask for the descriptor to be closed on exec. That flag is mostly the last.
 fn closes_on_exec(flags: &[u8]) -> bool
     ensures { result ≡ has_flag flags.now (codes "O_CLOEXEC") }
 {

@@ -3,7 +3,7 @@
 ghost use Rattle.std.specs.Prelude.{◌≡◌, map};
 ghost use Rattle.cap_machine.specs.Flags.{has_flag, is_one_of, all_known};
 
-/// Whether a name stands in the flags.
+/// Whether a name is among the flags.
 pub(crate) fn has_flag_of(flags: &[u8], name: &[u8]) -> bool
     ensures { result ≡ has_flag flags.now name.now }
 {
@@ -17,7 +17,7 @@ pub(crate) fn is_one_of_these(known: &[&[u8]], word: &[u8]) -> bool
     known.iter().any(|name| word == *name)
 }
 
-/// Whether no other names than these stand in the flags.
+/// Whether the flags have no other names than these.
 pub(crate) fn all_known_of(known: &[&[u8]], flags: &[u8]) -> bool
     ensures { result ≡ all_known (map (λ name. name.now) known.now) flags.now }
 {

@@ -93,9 +93,9 @@ impl Entering {
 pub struct Limits {
     /// The process.
     pub pid: Pid,
-    /// The limit of each descriptor that it holds and that stands in what is known, one by one, in rising order.
+    /// The limit of each descriptor that it holds and that is known by itself, in rising order.
     pub held: Vec<Limit>,
-    /// What later lines need of each descriptor of which nothing is known, in rising order.
+    /// What later lines need of each unknown descriptor, in rising order.
     pub unknown: Vec<Limit>,
     /// Whether it may enter capability mode.
     pub entering: Entering,

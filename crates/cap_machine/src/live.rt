@@ -131,7 +131,7 @@ impl LiveRights {
         }
     }
 
-    /// Passes a line of a process with this demand and this effect. What is needed of a child stands with it.
+    /// Passes a line of a process with this demand and this effect. What is needed of a child is kept with the child.
     #[inline(always)]
     fn pass_own(
         &mut self,

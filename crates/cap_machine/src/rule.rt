@@ -12,7 +12,7 @@ use crate::effects::effect_of;
 use cap_rights::RightSet;
 use cap_trace::{Fd, Item, LineRef, Pid};
 
-/// How a call stands to capability mode (cap_enter(2)).
+/// Whether a call is allowed in capability mode (cap_enter(2)).
 #[derive(Clone, Copy, Debug, PartialEq, Eq)]
 pub enum Class {
     /// It never succeeds in capability mode.
@@ -67,7 +67,7 @@ pub enum Checks {
 /// What a line is judged by.
 #[derive(Clone, Copy, Debug, PartialEq, Eq)]
 pub struct Demand {
-    /// How the call stands to capability mode.
+    /// Whether the call is allowed in capability mode.
     pub class: Class,
     /// What it needs of its descriptors.
     pub checks: Checks,
@@ -84,7 +84,8 @@ pub struct Demand {
 pub enum Effect<'a> {
     /// Nothing.
     Keep,
-    /// These descriptors, as they are spelled ([`cap_trace::fds_of`]), are held and were never limited, all others are closed, and the mode is outside.
+    /// These descriptors are held and were never limited, all others are closed, and the mode is outside. This is their
+    /// text ([`cap_trace::fds_of`]).
     Start(&'a [u8]),
     /// Nothing more is known of the process.
     Exit,

@@ -1,4 +1,4 @@
-//! Which descriptors of a process stand in what is known of it, one by one.
+//! Which descriptors of a process are known by themselves, and not only as one of all others.
 
 ghost use Rattle.std.specs.Prelude.{◌≡◌, ◌↔◌, ℕ, ◌==◌, ◌||◌, true, reverse, OnOk, IfOk};
 ghost use Rattle.std.specs.List.{list_any};
@@ -46,7 +46,7 @@ pub(crate) fn add_listed(fds: &mut BTreeSet<Fd>, cells: &[(Fd, Cell)]) -> Result
     Ok(())
 }
 
-/// Adds the descriptors of a start as they are spelled.
+/// Adds the descriptors in the text of a start.
 fn add_spelled(alloc: Global, fds: &mut BTreeSet<Fd>, spelled: &[u8]) -> Result<(), NoMemory>
     ensures { OnOk result ((f : ℕ)
         → has_fd fds.new f ≡ (list_any (λ g. f == g) (fds_spelled spelled.now) || has_fd fds.old f)) }
@@ -89,8 +89,8 @@ fn source(effect: &Effect<'_>, me: Pid, pid: Pid) -> Pid
     }
 }
 
-/// Which of the descriptors that a process holds after these lines stand in what is known of it, one by one. Others that
-/// it doesn't hold may be among them.
+/// The descriptors that a process holds after these lines and that are known by themselves. Some that it doesn't hold
+/// may be among them.
 ///
 /// It goes through the lines once, from the last one back. `NoMemory` when out of memory.
 pub fn standing_fds(

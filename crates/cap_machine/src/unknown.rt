@@ -1,4 +1,4 @@
-//! What later lines need of descriptors of which nothing is known.
+//! What later lines need of unknown descriptors.
 
 ghost use Rattle.std.specs.Prelude.{◌≡◌, ◌<◌, ◌^◌, IfOk, map};
 ghost use Rattle.std.specs.List.{All};
@@ -34,8 +34,8 @@ fn unknown_limit(machine: &Machine, pid: Pid, fd: Fd, needed: &RightSet) -> Opti
     }
 }
 
-/// What is needed of the descriptors of a process of which nothing is known, and so not their flags, by what is needed of
-/// each by its flag.
+/// What is needed of the unknown descriptors of a process, whose flags aren't known either, from what is needed of each
+/// by its flag.
 pub(crate) fn unknown_limits(
     alloc: Global,
     machine: &Machine,

@@ -1,4 +1,4 @@
-//! Where a name stands in the table, found without trying one row after the other.
+//! The row of a name in the table, found without trying one row after the other.
 //!
 //! Five bytes of a name tell it from all others: weighed and added up they give each name of the table a slot of its
 //! own among 256. The weights were found by trial; that no two names share a slot is proved over the whole table.

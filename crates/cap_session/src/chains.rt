@@ -22,7 +22,7 @@ pub fn put_numbered<T: Trace>(out: &mut Vec<u8>, trace: &T, position: usize) -> 
     Ok(())
 }
 
-/// Appends what a chain is of, a position, and the line there.
+/// Appends the subject of a chain, a position, and the line there.
 fn put_link<T: Trace>(
     out: &mut Vec<u8>,
     of: &[u8],
@@ -37,7 +37,7 @@ fn put_link<T: Trace>(
     put_numbered(out, trace, position)
 }
 
-/// Appends what a chain of cells is of, and the cell at the start.
+/// Appends the subject of a chain of cells, and the cell at the start.
 fn put_cell_start(out: &mut Vec<u8>, of: &[u8], cell: &Cell) -> Result<(), NoMemory>
     ensures { OnOk result (out.new.items ≡ out.old.items ++ start_line of.now (cell_word cell.now)) }
 {

@@ -10,7 +10,7 @@ use cap_summary::Summary;
 use cap_tree::Tree;
 use std::alloc::Global;
 
-/// A line for each denial of the steps of a tree, each of which has this profile, from a start, and how many they are.
+/// The denials of the steps of a tree, all of this profile, from a start: a line for each, and their number.
 pub fn denials_of(
     alloc: Global,
     profile: Profile,

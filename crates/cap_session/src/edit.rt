@@ -22,7 +22,7 @@ pub fn no_edit_asks_for_memory()
     ensures { NoEditAsksForMemory }
 {}
 
-/// An inserted line stands at its position, and deleting it there gives the trace back.
+/// An inserted line is at its position, and deleting it there gives the trace back.
 pub fn inserted_stands()
     ensures { InsertedStands }
 {}

@@ -22,8 +22,8 @@ pub fn good_is_reported()
     ensures { GoodIsReported }
 {}
 
-/// Where a line is refused, such a call answers with that line, unless the writer fails. Out of memory never stands
-/// in its place.
+/// Where a line is refused, such a call answers with that line, unless the writer fails. Out of memory is never
+/// answered in its place.
 pub fn bad_is_refused()
     ensures { BadIsRefused }
 {}

@@ -83,7 +83,7 @@ fn makers_text(
     Ok(text)
 }
 
-/// Appends the comment that says of which process the limits are, and before which line.
+/// Appends the comment that says for which process and before which line the limits are.
 fn put_place(out: &mut Vec<u8>, pid: Pid, at: usize) -> Result<(), NoMemory>
     ensures { OnOk result (out.new.items ≡ out.old.items ++ line_of_words (words_of (comment (place_words pid at)))) }
 {
@@ -107,7 +107,7 @@ fn put_limits(out: &mut Vec<u8>, at: usize, pid: Pid, limits: &[Limit]) -> Resul
     Ok(())
 }
 
-/// Appends the comment that says what later calls need of a descriptor of which nothing is known.
+/// Appends the comment that says what later calls need of an unknown descriptor.
 fn put_needed(out: &mut Vec<u8>, limit: &Limit) -> Result<(), NoMemory>
     ensures { OnOk result (out.new.items
         ≡ out.old.items ++ line_of_words (words_of (comment (unknown_words (row_of limit.now))))) }
@@ -249,7 +249,7 @@ fn process_text(
 /// The script of the least rights of a trace: right after each line that made a descriptor; or before the line at a
 /// position, of the descriptors of its process.
 ///
-/// `Position` where no line stands there, and `Memory` where memory runs out.
+/// `Position` where there is no such line, and `Memory` where memory runs out.
 pub fn limits_among(
     alloc: Global,
     profile: Profile,

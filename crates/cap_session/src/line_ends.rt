@@ -62,7 +62,7 @@ fn next_marks(text: &[u8], from: usize) -> (usize, u64)
 }
 
 impl<'a> LineEnds<'a> {
-    /// The whole text, of which nothing was looked at yet.
+    /// The whole text, before any of it was looked at.
     pub fn of(text: &'a [u8]) -> LineEnds<'a>
         ensures { result ≡ text.now }
     {

@@ -32,7 +32,7 @@ pub enum Outcome {
 pub enum ExplainOutcome {
     /// As a check ends. `Clean` and `Findings` say of the line that was explained whether it has findings.
     Ended(Outcome),
-    /// The trace was read to its end, and no line stands at the position.
+    /// The trace was read to its end, and has no line at the position.
     OutOfRange,
 }
 
@@ -89,7 +89,7 @@ impl Outcome {
 }
 
 impl ExplainOutcome {
-    /// The exit status of a program that ends so: that of the outcome, and 2 where no line stands at the position.
+    /// The exit status of a program that ends so: that of the outcome, and 2 where the trace has no such line.
     pub fn status(&self) -> u8
         ensures { result ≡ explain_status_of self.now }
     {

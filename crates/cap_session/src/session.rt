@@ -1,6 +1,6 @@
 //! [`Session`]: a trace that is edited line by line, and reported when asked.
 //!
-//! The lines stand in a tree with summaries of its parts. An edit makes a few of them anew. Where findings are few, a
+//! The lines are in a tree with summaries of its parts. An edit makes a few of them anew. Where findings are few, a
 //! report goes only into those in which something is found.
 ghost use Rattle.std.specs.Prelude.{◌≡◌, ◌+◌, ◌≤◌, ◌<◌, ◌↔◌, ◌⊎◌, [], length, Ok, Err, IsOk, IfOk};
 ghost use Rattle.std.specs.Prelude.{OnOk, OnErr, IsOkUnless, IsTrue, ◌*◌, vec_len, insert, remove, slice_set};
@@ -200,7 +200,7 @@ impl Session {
 
     /// Takes the line at a position out, and answers the new count. Those after it move down by one.
     ///
-    /// `Position` where no line stands there, and `Memory` where memory runs out.
+    /// `Position` where there is no such line, and `Memory` where memory runs out.
     pub fn delete(&mut self, position: usize) -> Result<usize, Refused>
         ensures accepted { IfOk result
             (λ count. (deleted self.old.trace position ≡ Ok self.new.trace) × (count ≡ length self.new.trace)) }
@@ -293,10 +293,10 @@ impl Session {
 
     /// The lines as a tree of steps, each a line with the session's profile, and a summary of them all.
     ///
-    /// It is lent as it is: a tree doesn't change, and the next edit puts another in its place.
+    /// A tree doesn't change: the next edit puts another in its place.
     pub fn tree(&self) -> &Tree<Summary>
         ensures list { result.now ≡ steps self.now.profile self.now.trace }
-        // What stands for the list, as the summary that the tree lends does, sums up the trace.
+        // A summary that stands for the list, as the tree's own does, sums up the trace.
         ensures summary { (z : Summary) → Stands z result.now → summed_up z ≡ steps self.now.profile self.now.trace }
     {
         &self.tree
@@ -387,7 +387,7 @@ impl Session {
 
     /// The canonical text of the line at a position, without a line feed.
     ///
-    /// `Position` where no line stands there, and `Memory` where memory runs out.
+    /// `Position` where there is no such line, and `Memory` where memory runs out.
     pub fn show(&self, position: usize) -> Result<Vec<u8>, Refused>
         ensures text { IfOk result (λ text. shown self.now.trace position ≡ Ok text.items) }
         ensures position { (result ≡ Err Refused.Position) ↔ (shown self.now.trace position ≡ Err Refused.Position) }

@@ -23,7 +23,7 @@ fn first_place(stop: u8, text: &[u8]) -> Option<usize>
     text.iter().position(|byte| *byte == stop)
 }
 
-/// What stands before and after the first such byte.
+/// What is before and after the first such byte.
 fn cut(stop: u8, text: &[u8]) -> Option<(&[u8], &[u8])>
     ensures { option_map (λ p. (p.0.now, p.1.now)) result ≡ cut_at_byte stop text.now }
 {

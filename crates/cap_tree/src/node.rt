@@ -428,7 +428,7 @@ impl<S: Segment> Node<S> {
     }
 
     /// Where a list of so many items is cut, so that each leaf but the last can be full, and half of the leaves or one
-    /// more than that stand before the cut.
+    /// more than that are before the cut.
     fn cut(count: usize) -> usize
         requires long { LEAF_ITEMS < count }
         requires few { count ≤ 2 ^ 30 }

@@ -1,6 +1,6 @@
 //! The texts of help beside what `clap` makes of the command line, and the version. No contract reads them.
 
-/// The version, which `--version` prints. It stands here alone; a release gets a section in `CHANGELOG.md`.
+/// The version, which `--version` prints. A release gets a section in `CHANGELOG.md`.
 pub const VERSION: &str = "0.1.0";
 
 /// The end of `capcheck --help`.

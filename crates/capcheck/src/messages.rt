@@ -154,7 +154,7 @@ impl<'n, 'a> Messages<'n, 'a> {
         eprintln!(rt; "capcheck: {name}:{line}: E{code}: {wrong}")
     }
 
-    /// Says that no line stands at a position.
+    /// Says that the trace has no line at a position.
     pub fn tell_no_line<R: Eprint>(&self, rt: &R, position: usize) {
         if !self.notes.are_wanted() {
             return;

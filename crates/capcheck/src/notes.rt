@@ -1,5 +1,5 @@
-//! What a run notes for its words on standard error: the text that it opened or read last, the line at which that
-//! stands, and the last error of a device. No contract reads it.
+//! What a run notes for its words on standard error: the text that it opened or read last, the line that was reached
+//! there, and the last error of a device. No contract reads it.
 ghost use Rattle.std.specs.Prelude.{◌≡◌};
 
 use std::alloc::Global;

@@ -1,4 +1,4 @@
-//! The command line, as `clap` is given it: the commands and their arguments. The texts of help stand in `help`.
+//! The command line, as `clap` is given it: the commands and their arguments. The texts of help are in `help`.
 //!
 //! The contract of [`command`] says that it builds the command line which `specs/CommandLine.antt` has as a value.
 ghost use Rattle.std.specs.Prelude.{◌≡◌, IfOk, false};

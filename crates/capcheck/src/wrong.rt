@@ -16,7 +16,7 @@ const MOST_SHOWN: usize = 60;
 /// So many bytes a command of a script may have.
 const LONGEST_COMMAND: usize = 1056;
 
-/// What a word isn't that stands in the place of a pid.
+/// What is wrong with a word in the place of a pid.
 const NO_PID: &str = "is not a pid, a number from 1 to 99999 without a leading zero";
 
 /// What is wrong with a line.
@@ -52,7 +52,7 @@ impl fmt::Display for Wrong<'_> {
     }
 }
 
-/// A text as it is shown: so many characters from its beginning, with control characters escaped.
+/// A text to be shown: so many characters from its beginning, with control characters escaped.
 #[derive(Clone, Copy)]
 pub struct Shown<'a> {
     pub text: &'a str,
@@ -122,7 +122,7 @@ pub fn wrong_in_command<'a>(alloc: Global, command: &'a [u8], code: u8) -> Wrong
     }
 }
 
-/// What a code stands for.
+/// What a code means.
 pub fn general<'a>(code: u8) -> Wrong<'a> {
     Wrong::Said(match code {
         1 => "the line has more than 1,024 bytes",
@@ -324,7 +324,7 @@ fn first_wrong<'a>(alloc: Global, name: &str, fitting: &str, args: &'a str) -> O
     None
 }
 
-/// Arguments, cut at the commas that don't stand in quotes.
+/// Arguments, cut at the commas outside quotes.
 fn parts(alloc: Global, args: &str) -> Result<Vec<&str>, AllocError> {
     let mut in_quotes = false;
     let mut is_escaped = false;

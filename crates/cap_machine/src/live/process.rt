@@ -169,7 +169,7 @@ impl LiveProcess {
         Ok(LiveProcess { near, far, blocked })
     }
 
-    /// Goes back before an effect of a line of the process. What is needed of a child stands with it.
+    /// Goes back before an effect of a line of the process. What is needed of a child is kept with the child.
     #[inline(always)]
     fn undo(&mut self, effect: &Effect<'_>) -> Result<(), NoMemory>
         ensures rights { OnOk result ((f : ℕ) (x : OnExec)
@@ -233,7 +233,7 @@ impl LiveProcess {
     }
 
     /// Passes a line of the process with this demand and this effect; `at` is its position. What is needed of a child
-    /// stands with it.
+    /// is kept with the child.
     #[inline(always)]
     pub(crate) fn pass(
         &mut self,
