@@ -130,7 +130,7 @@ fn are_denied(alloc: Global, start: &Start, lines: &[Line]) -> bool {
         && explains(alloc, start, lines, 7, 1)
 }
 
-/// The same of the trace.
+/// Whether the lines of the trace have their denials, and their explanations too.
 fn is_denied(alloc: Global, start: &Start) -> bool {
     match lines_of(alloc, TRACE) {
         Some(lines) => {

@@ -21,7 +21,7 @@ fn put_links(text: &mut String, links: &[CellLink]) -> bool {
     true
 }
 
-/// The same of a chain of cells, and how it ends.
+/// Appends the links of a chain of cells, and how it ends.
 fn put_cells(text: &mut String, origin: &CellOrigin) -> bool {
     put_links(text, origin.links.as_slice())
         && match origin.end {
@@ -40,7 +40,7 @@ fn put_mode_links(text: &mut String, links: &[ModeLink]) -> bool {
     true
 }
 
-/// The same of a chain of modes, and how it ends.
+/// Appends the links of a chain of modes, and how it ends.
 fn put_modes(text: &mut String, origin: &ModeOrigin) -> bool {
     put_mode_links(text, origin.links.as_slice())
         && match origin.end {
@@ -163,7 +163,7 @@ fn is_explained_in(alloc: Global, start: &Start, lines: &[Line], row: &Row) -> b
     }
 }
 
-/// The same from a start.
+/// Whether the line of a row is explained as the row says, from a start.
 fn is_explained_from(alloc: Global, start: &Start, row: &Row) -> bool {
     match lines_of(alloc, row.0) {
         Some(lines) => is_explained_in(alloc, start, &lines, row),
@@ -171,7 +171,7 @@ fn is_explained_from(alloc: Global, start: &Start, row: &Row) -> bool {
     }
 }
 
-/// The same from the usual one.
+/// Whether the line of a row is explained as the row says, from the usual start.
 fn is_explained(alloc: Global, row: &Row) -> bool {
     let start = Start::unknown(alloc);
     let is_explained = is_explained_from(alloc, &start, row);
@@ -227,7 +227,7 @@ fn chains_reach(alloc: Global, start: &Start, cell: Cell) -> bool {
     }
 }
 
-/// The same from a start in which descriptor 0 is held for reading.
+/// Whether the chains reach their ends, from a start in which descriptor 0 is held for reading.
 fn chains_reach_reading(alloc: Global) -> bool {
     let cells = [(0, readable())];
     let mut start = Start::unknown(alloc);

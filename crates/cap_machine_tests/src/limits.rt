@@ -280,7 +280,7 @@ static BEFORE: [BeforeRow; 6] = [
     ),
 ];
 
-/// The same after a start in which process 100 holds 7, which is listed, and all others.
+/// Limits before a line, from a start in which process 100 holds 7, which is listed, and all others.
 static STARTED: [BeforeRow; 2] = [
     (
         b"100 dup(3) RET 4\n100 read(4) RET 1\n100 read(5) RET 1",
@@ -317,7 +317,7 @@ fn passed(alloc: Global, lines: &[Line], from: usize) -> Option<LiveRights> {
     Some(live)
 }
 
-/// The same of the lines of a trace.
+/// What the lines of a trace need from one on.
 fn passed_of(alloc: Global, trace: &[u8], from: usize) -> Option<LiveRights> {
     match lines_of(alloc, trace) {
         Some(lines) => passed(alloc, &lines, from),
@@ -371,7 +371,7 @@ fn makes(alloc: Global, start: &Start, lines: &[Line], rows: &[(usize, u32, u32,
     }
 }
 
-/// The same of the lines of a trace.
+/// Whether these are the limits of what the lines of a trace make.
 fn is_made(alloc: Global, row: &MakerRow) -> bool {
     let start = Start::unknown(alloc);
     match lines_of(alloc, row.0) {
@@ -405,7 +405,7 @@ fn is_before(alloc: Global, start: &Start, lines: &[Line], row: &BeforeRow) -> b
     }
 }
 
-/// The same of the lines of a trace, after the usual start.
+/// Whether the limits before a line of a trace are those of a row, from the usual start.
 fn is_usual(alloc: Global, row: &BeforeRow) -> bool {
     let start = Start::unknown(alloc);
     match lines_of(alloc, row.0) {
@@ -432,7 +432,7 @@ fn all_held(alloc: Global) -> Option<Start> {
     }
 }
 
-/// The same of the lines of a trace, after that start.
+/// Whether the limits before a line of a trace are those of a row, from the start in which all is held.
 fn is_started(alloc: Global, row: &BeforeRow) -> bool {
     match (all_held(alloc), lines_of(alloc, row.0)) {
         (Some(start), Some(lines)) => is_before(alloc, &start, &lines, row),

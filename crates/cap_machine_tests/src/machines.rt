@@ -21,7 +21,7 @@ fn says(machine: &mut Machine, profile: Profile, line: &Line, findings: &[Findin
     }
 }
 
-/// The same of the text of a line, and of one finding where it is missing.
+/// Moves a machine on by the text of a line, and says whether it finds that a right is missing where the row says so.
 fn finds(alloc: Global, machine: &mut Machine, row: &(Profile, &[u8], bool)) -> bool {
     let missing = [Finding::Missing(5, rights_of(b"CAP_WRITE"))];
     let findings = if row.2 { missing.as_slice() } else { &[] };
@@ -41,7 +41,7 @@ fn finds_in_steps(alloc: Global, machine: &mut Machine) -> bool {
     true
 }
 
-/// The same of a machine that knows what a start says.
+/// Whether a machine from a start finds in each step what the rows say.
 fn judges_from(alloc: Global, start: &Start) -> bool {
     match Machine::from_start(alloc, start) {
         Ok(mut machine) => {
@@ -53,7 +53,7 @@ fn judges_from(alloc: Global, start: &Start) -> bool {
     }
 }
 
-/// The same where process 100 holds CAP_READ on descriptor 5, and nothing else.
+/// Whether a machine finds what the rows say where process 100 holds CAP_READ on descriptor 5, and nothing else.
 fn judges(alloc: Global) -> bool {
     let cells = [(5, Cell::Held(rights_of(b"CAP_READ"), OnExec::Clear))];
     let mut start = Start::unknown(alloc);

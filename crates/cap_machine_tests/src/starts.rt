@@ -138,7 +138,7 @@ fn finds_in(
     }
 }
 
-/// The same of a trace.
+/// Whether a check of a trace finds this.
 fn finds_from(
     alloc: Global,
     profile: Profile,
@@ -152,7 +152,7 @@ fn finds_from(
     }
 }
 
-/// The same where that is known.
+/// Whether a check of a trace finds this, from a start where that is known.
 fn finds(alloc: Global, profile: Profile, known: &Known, trace: &[u8], found: &[Found]) -> bool {
     let mut start = Start::unknown(alloc);
     let finds = known.add_to(alloc, &mut start) && finds_from(alloc, profile, &start, trace, found);
@@ -212,7 +212,7 @@ fn reports_from(
     }
 }
 
-/// The same where that is known.
+/// Whether a checker reports this of a trace, from a start where that is known.
 fn reports_where(
     alloc: Global,
     profile: Profile,

@@ -39,7 +39,7 @@ fn walked(
     Some(walk)
 }
 
-/// The same over the lines of a trace.
+/// A walk over lines of a trace, at these positions.
 fn walked_over(
     alloc: Global,
     trace: &[u8],
@@ -72,7 +72,7 @@ fn mode_walked(alloc: Global, lines: &[Line], pid: u32, positions: &[usize]) -> 
     Some(walk)
 }
 
-/// The same over the forks.
+/// A walk of a mode over the forks, at these positions.
 fn mode_walked_over_forks(alloc: Global, pid: u32, positions: &[usize]) -> Option<ModeWalk> {
     match lines_of(alloc, FORKS) {
         Some(lines) => mode_walked(alloc, &lines, pid, positions),
@@ -121,7 +121,7 @@ fn finishes(
     }
 }
 
-/// The same, and whether it has ended where a line gave the cell.
+/// Whether a walk finds this, and has ended where a line gave the cell.
 fn finds(
     alloc: Global,
     walk: CellWalk,
@@ -218,7 +218,7 @@ fn copies_end(alloc: Global, start: &Start) -> bool {
         && finds_copy(alloc, start, 5, Cell::Closed, given, &CLOSED)
 }
 
-/// The same from a start in which the first is held for reading.
+/// Whether both end where they should, from a start in which the first is held for reading.
 fn both_end(alloc: Global) -> bool {
     let cells = [(3, readable())];
     let mut start = Start::unknown(alloc);
@@ -288,7 +288,7 @@ fn is_mode(walk: ModeWalk, start: &Start, row: &ModeRow) -> bool {
         && origin.links.as_slice() == row.links
 }
 
-/// The same of the walk of a row over the forks.
+/// Whether the walk of a row over the forks finds its mode.
 fn finds_mode(alloc: Global, start: &Start, row: &ModeRow) -> bool {
     match mode_walked_over_forks(alloc, row.pid, row.positions) {
         Some(walk) => is_mode(walk, start, row),
@@ -296,7 +296,7 @@ fn finds_mode(alloc: Global, start: &Start, row: &ModeRow) -> bool {
     }
 }
 
-/// The same of each row.
+/// Whether the walk of each row finds its mode.
 fn finds_modes(alloc: Global, start: &Start) -> bool {
     for row in &MODES {
         if !finds_mode(alloc, start, row) {
@@ -306,7 +306,7 @@ fn finds_modes(alloc: Global, start: &Start) -> bool {
     true
 }
 
-/// The same from a start in which process 200 is outside.
+/// Whether the walk of each row finds its mode, from a start in which process 200 is outside.
 fn finds_modes_from_outside(alloc: Global) -> bool {
     let mut start = Start::unknown(alloc);
     let finds = add(alloc, &mut start, 200, Mode::Outside, Cell::Unknown, &[])
@@ -369,7 +369,7 @@ fn is_explained_by_cell(alloc: Global, start: &Start, line: &Line) -> bool {
     is_explained_by_cells(line, cells, missing) && is_added
 }
 
-/// The same of a write to it.
+/// Whether a write to it is explained by descriptor 4 of process 202.
 fn is_write_explained(alloc: Global, start: &Start) -> bool {
     match parse_line(alloc, b"202 write(4) RET 1") {
         Ok(line) => is_explained_by_cell(alloc, start, &line),
@@ -407,7 +407,7 @@ fn is_explained_by_its_mode(alloc: Global, start: &Start, line: &Line) -> bool {
     }
 }
 
-/// The same of an open.
+/// Whether an open is explained by the mode of process 202.
 fn is_open_explained(alloc: Global, start: &Start) -> bool {
     match parse_line(alloc, b"202 open(\"x\",O_RDONLY) RET 3") {
         Ok(line) => is_explained_by_its_mode(alloc, start, &line),

@@ -112,7 +112,7 @@ fn try_each(alloc: Global, start: &Start, lines: &[Line], calls: &[OnTrace]) -> 
     Ok(())
 }
 
-/// The same with what is known before a trace, and its lines.
+/// Tries each call on a trace with what is known before it.
 pub fn try_all(
     alloc: Global,
     before: Before,

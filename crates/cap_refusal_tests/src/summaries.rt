@@ -115,7 +115,7 @@ fn is_whole(alloc: Global, start: &Start, summary: &Summary) -> bool {
     }
 }
 
-/// The same of one that was made.
+/// Whether a summary was made, and all that is to be found in the trace is found in it.
 fn is_made_whole(alloc: Global, start: &Start, made: Result<Summary, NoMemory>) -> bool {
     match made {
         Ok(summary) => {
@@ -236,7 +236,7 @@ fn tree_of(alloc: Global) -> Result<Tree<Summary>, Fail> {
     Ok(Tree::from_list(alloc, &mut Meter::new(), steps)?)
 }
 
-/// The same from the start that the trace has.
+/// Resolves the ranges of a tree from the start that the trace has.
 fn resolve_all(alloc: Global, tree: &Tree<Summary>) -> Result<(), Fail> {
     let start = start_of(alloc, CELLS)?;
     let result = resolve_ranges(alloc, &start, tree.summary());

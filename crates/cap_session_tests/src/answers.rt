@@ -53,7 +53,7 @@ pub struct Run<'a> {
 }
 
 impl<'a> Run<'a> {
-    /// The same with so many bytes at once, and no device that fails.
+    /// This run with so many bytes at once, and no device that fails.
     pub fn by(&self, size: usize) -> Run<'a> {
         Run {
             trace: (self.trace.0, size, 0),

@@ -166,7 +166,7 @@ closed 5\n\
 5 2 100 execve(\"/bin/x\") RET 0\n\
 5 1 100 open(\"a\",O_RDONLY|O_CLOEXEC) RET 5\n",
     ),
-    // What was lacking stands behind the findings and before the chains.
+    // What was lacking comes after the findings and before the chains.
     (
         b"",
         Profile::One,

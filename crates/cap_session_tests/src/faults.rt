@@ -256,7 +256,7 @@ static SWEEPS: [Sweep; 14] = [
         replies: &[],
         pieces: (64, 1),
     },
-    // The same of the denials.
+    // Faults while denials are asked for.
     Sweep {
         run: DENIED,
         is_of_trace: false,
@@ -274,7 +274,7 @@ static SWEEPS: [Sweep; 14] = [
         replies: &[],
         pieces: (64, 16),
     },
-    // And of limits: behind the lines that made descriptors, before a line, and where there is no such line.
+    // And of limits: after the lines that made descriptors, before a line, and where there is no such line.
     Sweep {
         run: Run {
             call: Call::Limits(Profile::Two, None),
@@ -329,7 +329,7 @@ static SWEEPS: [Sweep; 14] = [
         replies: REPLIES,
         pieces: (64, 10),
     },
-    // The same in profile 1.
+    // Faults of a check in profile 1.
     Sweep {
         run: Run {
             call: Call::Check,

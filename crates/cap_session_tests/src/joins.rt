@@ -132,7 +132,7 @@ fn joins_alike(
     )
 }
 
-/// The same so many times.
+/// Makes an edit of a session and of a tree so many times, and compares the joins each time.
 fn join_alike(
     alloc: Global,
     session: &mut Session,
@@ -146,7 +146,7 @@ fn join_alike(
     Ok(())
 }
 
-/// The same through all edits of a session and a tree without lines, which have 280 then.
+/// Makes all edits of a session and a tree without lines, and compares the joins. Both have 280 lines then.
 fn all_join_alike(
     alloc: Global,
     session: &mut Session,
@@ -162,7 +162,7 @@ fn all_join_alike(
     wanted(session.count() == 280 && tree.len() == 280, "280 lines")
 }
 
-/// The same of a session, with a tree that is made for it.
+/// Makes all edits of a session and of a new tree, and compares the joins.
 fn join_as_a_tree(alloc: Global, session: &mut Session) -> Result<(), Fail> {
     let mut tree = Tree::from_list(alloc, &mut Meter::new(), Vec::new(alloc))?;
     let result = all_join_alike(alloc, session, &mut tree);

@@ -1,4 +1,4 @@
-//! Limits, by the call over devices and by a session: behind the lines that made descriptors, and before a line.
+//! Limits, by the call over devices and by a session: after the lines that made descriptors, and before a line.
 
 use crate::answers::{Call, is_answered};
 use crate::sessions::{Case, Change, Query, Step, holds};
@@ -110,7 +110,7 @@ insert 3 2101 cap_rights_limit(3,CAP_READ|CAP_SEEK|CAP_FSTAT) RET 0\n",
 insert 2 100 cap_rights_limit(3,NONE) RET 0\n",
         ),
     ),
-    // In profile 1 nothing is known behind an exec.
+    // In profile 1 nothing is known after an exec.
     (
         b"",
         One,
@@ -198,7 +198,7 @@ insert 2 100 cap_rights_limit(0,CAP_READ) RET 0\n\
 insert 3 100 cap_enter() RET 0\n",
         ),
     ),
-    // What is needed of descriptors that aren't known stands behind the limits.
+    // What is needed of unknown descriptors comes after the limits.
     (
         b"",
         One,
@@ -212,7 +212,7 @@ insert 2 100 cap_rights_limit(4,CAP_READ) RET 0\n\
 insert 3 100 cap_enter() RET 0\n",
         ),
     ),
-    // What stands behind cap_enter is in the way of nothing that it isn't in already.
+    // Lines after a cap_enter prevent nothing that it doesn't prevent already.
     (
         b"",
         One,
@@ -275,7 +275,7 @@ insert 3 100 cap_rights_limit(7,NONE) RET 0\n\
 insert 4 100 cap_enter() RET 0\n",
         ),
     ),
-    // A descriptor that an exec closes needs nothing that stands behind it.
+    // A descriptor that an exec closes needs no right for the lines after it.
     (
         b"",
         Two,

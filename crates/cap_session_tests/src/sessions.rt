@@ -21,7 +21,7 @@ pub enum Query {
     ReportFrom,
     /// The denials from the start of the case.
     Denials,
-    /// The limits, behind the lines that made descriptors or before a line.
+    /// The limits, after the lines that made descriptors or before a line.
     Limits(Option<usize>),
     Range(usize, usize),
     Show(usize),
@@ -188,7 +188,7 @@ fn answers_all(alloc: Global, session: &mut Session, start: &Start, steps: &[Ste
     true
 }
 
-/// The same after what is known before it.
+/// Whether a session answers all steps of a case from its start.
 fn answers_from(alloc: Global, session: &mut Session, case: &Case<'_>) -> bool {
     match parse_start(alloc, case.start) {
         Ok(start) => {

@@ -165,7 +165,7 @@ fn finds(alloc: Global, start: &Start, line: &[u8], count: usize) -> Result<bool
     Ok(check(alloc, Profile::One, start, &lines)?.len() == count)
 }
 
-/// The same from the start of a text.
+/// Whether a line has so many findings from the start of a text.
 fn finds_from(alloc: Global, text: &[u8], line: &[u8], count: usize) -> Result<bool, Fail> {
     let start = parse_start(alloc, text)?;
     let finds = finds(alloc, &start, line, count);

@@ -58,7 +58,7 @@ fn edited_by(
     }
 }
 
-/// The same without a meter.
+/// A tree after an edit, by a meter that is thrown away.
 fn next_of(alloc: Global, tree: &Tree<Listed>, edit: Edit, number: u32) -> Option<Tree<Listed>> {
     edited_by(alloc, &mut Meter::new(), tree, edit, number)
 }
@@ -468,7 +468,7 @@ fn removes_merge(alloc: Global, first: Tree<Listed>, part: usize) -> bool {
     has_len(tree, 1)
 }
 
-/// The same of the first tree.
+/// Whether leaves merge where items are removed from a part of the first tree.
 fn removes_from_part_merge(alloc: Global, part: usize) -> bool {
     match tree_of(alloc, &mut Meter::new(), 0..FIRST) {
         Some(tree) => removes_merge(alloc, tree, part),

@@ -100,7 +100,7 @@ fn edit_metered(
     meter.joins() == watch.joins.get()
 }
 
-/// The same by a number.
+/// Edits a tree by a number, and says whether the meter counted the joins.
 fn edit_by(
     alloc: Global,
     watch: &Rc<Watch>,
@@ -154,7 +154,7 @@ fn edits_are_metered(alloc: Global, watch: &Rc<Watch>, first: Tree<Watched>, pla
     is_empty(tree)
 }
 
-/// The same of the first tree.
+/// Whether each edit of the first tree is metered.
 fn all_are_metered(alloc: Global, watch: &Rc<Watch>, place: usize) -> bool {
     match first_metered(alloc, watch) {
         Some(tree) => edits_are_metered(alloc, watch, tree, place),
@@ -162,7 +162,7 @@ fn all_are_metered(alloc: Global, watch: &Rc<Watch>, place: usize) -> bool {
     }
 }
 
-/// The same near each place.
+/// Whether each edit of the first tree near these places is metered.
 fn all_are_metered_near(alloc: Global, watch: &Rc<Watch>, places: &[usize]) -> bool {
     for place in places {
         if !all_are_metered(alloc, watch, *place) {
@@ -172,7 +172,7 @@ fn all_are_metered_near(alloc: Global, watch: &Rc<Watch>, places: &[usize]) -> b
     true
 }
 
-/// The same with a watch.
+/// Whether each edit of a watched tree near these places is metered.
 fn all_are_metered_with_watch(alloc: Global, places: &[usize]) -> bool {
     match watch(alloc) {
         Some(watch) => all_are_metered_near(alloc, &watch, places),
@@ -209,7 +209,7 @@ fn each_is_refused(
     false
 }
 
-/// The same with the list of the tree.
+/// Whether that holds, by the list of the tree before the edit.
 fn all_are_refused(
     alloc: Global,
     watch: &Rc<Watch>,
@@ -250,7 +250,7 @@ fn edits_are_refused(alloc: Global, watch: &Rc<Watch>, first: Tree<Watched>, pla
     is_empty(tree)
 }
 
-/// The same of the first tree.
+/// Whether the first tree stays whole where memory is refused to its edits.
 fn first_is_edited(alloc: Global, watch: &Rc<Watch>, place: usize) -> bool {
     match first_tree(alloc, &mut Meter::new(), watch) {
         Some(tree) => edits_are_refused(alloc, watch, tree, place),
@@ -258,7 +258,7 @@ fn first_is_edited(alloc: Global, watch: &Rc<Watch>, place: usize) -> bool {
     }
 }
 
-/// The same near each place.
+/// Whether the first tree stays whole where memory is refused to its edits near these places.
 fn first_is_edited_near(alloc: Global, watch: &Rc<Watch>, places: &[usize]) -> bool {
     for place in places {
         if !first_is_edited(alloc, watch, *place) {
@@ -268,7 +268,7 @@ fn first_is_edited_near(alloc: Global, watch: &Rc<Watch>, places: &[usize]) -> b
     true
 }
 
-/// The same with a watch.
+/// Whether a watched tree stays whole where memory is refused to its edits near these places.
 fn first_is_edited_with_watch(alloc: Global, places: &[usize]) -> bool {
     match watch(alloc) {
         Some(watch) => first_is_edited_near(alloc, &watch, places),
@@ -300,7 +300,7 @@ fn shares_with_replaced(
     }
 }
 
-/// The same of an item that is made of the number.
+/// Whether a tree shares its list after an item of this number is put at a place.
 fn shares_with_put(
     alloc: Global,
     watch: &Rc<Watch>,
@@ -314,7 +314,7 @@ fn shares_with_put(
     }
 }
 
-/// The same of the first tree.
+/// Whether the first tree shares its list after an item of this number is put at a place.
 fn first_shares(alloc: Global, watch: &Rc<Watch>, place: u32, number: u32) -> Option<bool> {
     match first_tree(alloc, &mut Meter::new(), watch) {
         Some(tree) => {
