@@ -44,7 +44,7 @@ fn answers_on_trace(
         OnTrace::Machine => two_found_by_machine(alloc, start, lines),
         OnTrace::Cell => traces_cell(alloc, start, lines),
         OnTrace::Mode => traces_mode(alloc, start, lines),
-        OnTrace::Explain(at, behind) => explains(alloc, start, lines, *at, behind),
+        OnTrace::Explain(at, named) => explains(alloc, start, lines, *at, named),
         OnTrace::Limits(part) => limits(alloc, start, lines, *part),
     }
 }

@@ -1,4 +1,4 @@
-//! What limits rest on, and limits: behind the lines that made descriptors, and before a line.
+//! What limits rest on, and limits: after the lines that made descriptors, and before a line.
 
 use crate::machine::{Before, CELLS, OnTrace, try_all};
 use crate::sessions::{Query, ask_each};
@@ -31,7 +31,7 @@ pub enum Part {
     Followed,
     /// Which descriptors of the child stand in what is known.
     Standing,
-    /// What the fork and the lines behind it need.
+    /// What the fork and the lines after it need.
     Live,
     /// The limits of some descriptors before the fork.
     Among,
@@ -143,8 +143,8 @@ fn limits_parent(alloc: Global, start: &Start, lines: &[Line]) -> Result<bool, N
     }
 }
 
-/// Whether this limits a descriptor to the rights of a name, behind the line at a position.
-fn is_behind(limit: &MakerLimit, at: usize, fd: Fd, name: &[u8]) -> bool {
+/// Whether this limits a descriptor to the rights of a name, after the line at a position.
+fn is_limited_after(limit: &MakerLimit, at: usize, fd: Fd, name: &[u8]) -> bool {
     limit.at == at && limit.fd == fd && is_named(limit.rights, name)
 }
 
@@ -153,9 +153,9 @@ fn limits_made(alloc: Global, start: &Start, lines: &[Line]) -> Result<bool, NoM
     let limits = limits_of_makers(alloc, Profile::Two, start, lines)?;
     match limits.as_slice() {
         [file, write, read] => Ok(
-            is_behind(file, 8, 5, b"CAP_FSTAT")
-                && is_behind(write, 3, 4, b"CAP_WRITE")
-                && is_behind(read, 3, 3, b"CAP_READ"),
+            is_limited_after(file, 8, 5, b"CAP_FSTAT")
+                && is_limited_after(write, 3, 4, b"CAP_WRITE")
+                && is_limited_after(read, 3, 3, b"CAP_READ"),
         ),
         _ => Ok(false),
     }

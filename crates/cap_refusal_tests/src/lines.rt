@@ -31,7 +31,7 @@ static LINES: [&str; 12] = [
     "100 sched_setscheduler(any arguments at all) RET -1 errno 9",
 ];
 
-/// What is written behind other text.
+/// What is written after other text.
 #[derive(Drop)]
 enum Part<'a> {
     Rights(&'a RightSet),
@@ -52,7 +52,7 @@ fn put(part: &Part<'_>, out: &mut Vec<u8>) -> Result<(), NoMemory> {
     }
 }
 
-/// Writes something, in a second call where the first lacks memory: it is this text, behind what was written before. A
+/// Writes something, in a second call where the first lacks memory: it is this text, after what was written before. A
 /// refused call left that.
 fn write(alloc: Global, part: &Part<'_>, before: &str, text: &str) -> Result<(), Fail> {
     let mut out = Vec::from_slice(alloc, before.as_bytes())?;

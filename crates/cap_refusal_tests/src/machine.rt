@@ -311,7 +311,7 @@ fn positions_of(alloc: Global, found: &Explanation) -> Result<Vec<usize>, NoMemo
 }
 
 /// The positions of the lines that a line's cells come from, in profile 2.
-fn lines_behind(
+fn named_lines(
     alloc: Global,
     start: &Start,
     lines: &[Line],
@@ -332,10 +332,10 @@ pub fn explains(
     start: &Start,
     lines: &[Line],
     at: usize,
-    behind: &[usize],
+    named: &[usize],
 ) -> Result<bool, NoMemory> {
-    let positions = lines_behind(alloc, start, lines, at)?;
-    Ok(positions.as_slice() == behind)
+    let positions = named_lines(alloc, start, lines, at)?;
+    Ok(positions.as_slice() == named)
 }
 
 /// Explanations of two lines.

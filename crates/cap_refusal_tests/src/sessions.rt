@@ -267,7 +267,7 @@ pub enum Query {
     Show(usize),
     /// What a line with findings rests on.
     Explain(usize),
-    /// The limits, behind the lines that made descriptors or before a line.
+    /// The limits, after the lines that made descriptors or before a line.
     Limits(Option<usize>),
 }
 

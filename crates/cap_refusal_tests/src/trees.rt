@@ -18,7 +18,7 @@ enum Edit {
     Remove(usize),
 }
 
-/// Inserts near both ends, replaces, and then removes behind the middle: leaves split, merge and vanish, and there are
+/// Inserts near both ends, replaces, and then removes after the middle: leaves split, merge and vanish, and there are
 /// single and double rotations from both sides.
 fn edit_at(turn: u32, len: usize) -> Edit {
     if turn < 60 {
