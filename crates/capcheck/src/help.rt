@@ -183,7 +183,7 @@ mode would forbid:
   # process 201 is in capability mode already
   # no cap_enter: line 5, openat of process 201
 
-Without K there is a limit right behind each line that made a descriptor which is
+Without K there is a limit right after each line that made a descriptor which is
 then known to be held. The last comes first, so that each position is one of the
 trace:
   insert 8 300 cap_rights_limit(4,CAP_READ) RET 0

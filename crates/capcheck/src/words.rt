@@ -250,6 +250,6 @@ fn position_arg<'a>(alloc: Global) -> Arg<'a>
     ensures local { result.global ≡ false }
 {
     Arg::new(alloc, "position").value_name("K").help(
-        "The line before which limits are put, counted as for explain; else behind each line that made a descriptor",
+        "The line before which limits are put, counted as for explain; else after each line that made a descriptor",
     )
 }
