@@ -80,6 +80,7 @@ fn unchecked(class: Class, answer: &Answer) -> Demand
 }
 
 /// A call whose one argument is a descriptor.
+// Inlined: a large value that is returned is copied by each function that it goes through.
 #[inline(always)]
 pub(crate) fn fd_demand_of(call: FdCall, fd: Fd, answer: &Answer) -> Demand
     ensures { result ≡ fd_demand call fd answer.now }

@@ -193,7 +193,7 @@ fn closed_from(profile: Profile, fd: Fd, answer: &Answer) -> Effect<'static>
     }
 }
 
-/// Whether a call on one descriptor changes no descriptor, whatever it answers; `false` says nothing.
+/// Whether a call on one descriptor changes no descriptor, whatever it answers. Conservative: `false` may be wrong.
 #[inline(always)]
 pub(crate) fn keeps_all(call: FdCall) -> bool
     ensures { IsTrue result → (profile : Profile) (fd : ℕ) (answer : Answer) (me p f : ℕ)

@@ -175,7 +175,8 @@ impl LiveRights {
         self.pass_own(at, me, demand, effect)
     }
 
-    /// Passes a line where it lies, by its rule.
+    /// Passes a borrowed line by its rule: the slow path.
+    // Out of line: a function with a large enum among its locals clears it at each call.
     #[inline(never)]
     fn pass_by_rule(
         &mut self,
@@ -194,6 +195,8 @@ impl LiveRights {
     }
 
     /// Passes a line with a call on one descriptor, which mostly changes nothing.
+    // The fast path: the effect of close(2) and of a call that changes nothing is known without the rule. For any other
+    // call it gives up. Both paths have the contract of `pass`, so they agree.
     #[inline(always)]
     fn pass_on_fd(
         &mut self,
@@ -218,7 +221,7 @@ impl LiveRights {
         }
     }
 
-    /// Passes a line where it lies.
+    /// Passes a borrowed line.
     #[inline(always)]
     pub(crate) fn pass_seen(
         &mut self,

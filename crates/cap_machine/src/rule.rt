@@ -122,6 +122,7 @@ pub struct Rule<'a> {
 ///
 /// The demand follows rights(4) and cap_enter(2); the effect follows what the line records, close(2) and
 /// cap_rights_limit(2) among others, whatever is said of the line.
+// Inlined: a large value that is returned is copied by each function that it goes through.
 #[inline(always)]
 pub fn rule_of<'a>(profile: Profile, line: &LineRef<'a>) -> Rule<'a>
     ensures demand { result.demand ≡ demand line.now }
@@ -136,6 +137,7 @@ pub fn rule_of<'a>(profile: Profile, line: &LineRef<'a>) -> Rule<'a>
 }
 
 /// What a line does in a profile.
+// Inlined for the reason of `rule_of`.
 #[inline(always)]
 pub(crate) fn effect_of_line<'a>(profile: Profile, line: &LineRef<'a>) -> Effect<'a>
     ensures cells { (p f : ℕ) → effect_touch result line.now.pid p f ≡ touch (step profile line.now) p f }

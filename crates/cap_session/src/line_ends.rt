@@ -136,6 +136,8 @@ impl<'a> LineEnds<'a> {
     }
 
     /// Cuts off the next line, without its LF. Nothing where no LF is left.
+    // The fast path takes the lowest mark of the bytes that were looked at. Without a mark it gives up, and the bytes
+    // after them are looked at. `look`, the slow path, has this contract too, so they agree.
     #[inline(always)]
     pub fn next(&mut self) -> Option<&'a [u8]>
         ensures { MatchOption result (IsFirstByte (is_byte 10) self.old None × (self.new ≡ self.old))
