@@ -40,6 +40,7 @@ use Rattle.cap_machine.specs.declared.verdict.Finding.{Finding}
 use Rattle.cap_machine.specs.Op.{applied, same, derive, copy_to_itself, limit, narrow, set_flag, narrow_and_set_flag}
 use Rattle.cap_machine.specs.Flags.{all_known}
 use Rattle.cap_machine.specs.Places.{below, is_cwd, is_empty}
+use Rattle.cap_machine.specs.Errno.{ebadf}
 use Rattle.cap_machine.specs.Touch.{Touch, kept, given, taken, started, succeeded, on_fd, on_success, on_made, on_both}
 use Rattle.cap_machine.specs.Touch.{closing, whole, copied, copied_to, unknown, left_by_exec, exec_touch}
 use Rattle.cap_machine.specs.Touch.{closefrom_touch, open_flag, socket_flag, fd_flag, fd_touch, fcntl_touch}
@@ -199,7 +200,7 @@ module _ (one two : ℕ → ℕ → Cell) (under : (p f : ℕ) → Under (one p 
   closing_fit : (answer : Answer) → Fit (closing answer) (closing answer)
   closing_fit (answers.Made d) = given_fit Closed
   closing_fit (answers.Pair d e) = given_fit Closed
-  closing_fit (answers.Fault e) = choose (e == 9) kept (given Unknown) kept_fit (given_fit Unknown)
+  closing_fit (answers.Fault e) = choose (e == ebadf) kept (given Unknown) kept_fit (given_fit Unknown)
 
   derived_fit : (flag : OnExec) (g me : ℕ) → Fit (copied flag g me) (copied flag g me)
   derived_fit flag g me = taken_fit Unknown None flag flag flag me g

@@ -42,6 +42,7 @@ use Rattle.cap_machine.specs.Op.{applied, held, same, derive, copy_to_itself, li
 use Rattle.cap_machine.specs.Op.{narrow_and_set_flag}
 use Rattle.cap_machine.specs.Flags.{all_known}
 use Rattle.cap_machine.specs.Places.{below, is_cwd, is_empty}
+use Rattle.cap_machine.specs.Errno.{ebadf}
 use Rattle.cap_machine.specs.Touch.{Touch, kept, given, taken, started, succeeded, on_fd, on_success, on_made, on_both}
 use Rattle.cap_machine.specs.Touch.{closing, whole, copied, copied_to, unknown, left_by_exec, exec_touch}
 use Rattle.cap_machine.specs.Touch.{closefrom_touch, open_flag, socket_flag, fd_flag, fd_touch, fcntl_touch}
@@ -120,7 +121,7 @@ all_set = omega arith
 closing_set : (answer : Answer) → TouchSet (closing answer)
 closing_set (answers.Made d) = tt
 closing_set (answers.Pair d e) = tt
-closing_set (answers.Fault e) = choose (e == 9) kept (given Unknown) tt tt
+closing_set (answers.Fault e) = choose (e == ebadf) kept (given Unknown) tt tt
 
 copied_set : (itself : Op) (flag : OnExec) (g h me : ℕ) → OpSet itself → TouchSet (copied_to itself flag g h me)
 copied_set itself flag g h me is = by (g == h)

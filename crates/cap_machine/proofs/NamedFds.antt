@@ -48,6 +48,7 @@ use Rattle.cap_machine.specs.Op.{derive, same, exec}
 use Rattle.cap_machine.specs.Places.{place, is_empty, is_absolute, dir_fd}
 use Rattle.cap_machine.specs.Needs.{at_needs, at_flags_needs, symlink_needs, fcntl_needs}
 use Rattle.cap_machine.specs.Needs.{rename_from_needs, rename_to_needs, link_from_needs, link_to_needs}
+use Rattle.cap_machine.specs.Errno.{ebadf}
 use Rattle.cap_machine.specs.Touch.{Touch, kept, given, taken, touch, succeeded, on_fd, on_success, on_made, on_both}
 use Rattle.cap_machine.specs.Touch.{exec_touch, closefrom_touch, closing, opened_below, open_flag, fd_touch}
 use Rattle.cap_machine.specs.Touch.{fcntl_touch, fcntl_copied_to, path_touch, at_touch, flags_touch, fork_touch}
@@ -124,7 +125,7 @@ module _ (named : ℕ → Bool) (me p f : ℕ) where
   closing_names : (answer : Answer) → Names named me f (closing answer)
   closing_names (answers.Made d) = tt
   closing_names (answers.Pair d e) = tt
-  closing_names (answers.Fault e) = if_names (e == 9) kept (given Unknown) (λ _. tt) tt
+  closing_names (answers.Fault e) = if_names (e == ebadf) kept (given Unknown) (λ _. tt) tt
 
   fork_names : (answer : Answer) → Names named me f (fork_touch answer me p f)
   fork_names (answers.Made c) = if_names (not (c == 0) && p == c) (taken same me f) kept (λ _. own_names same) tt

@@ -1,6 +1,7 @@
 pub mod State
 pub mod Op
 pub mod Steps
+pub mod Errno
 pub mod Flags
 pub mod Places
 pub mod PlaceSeen

@@ -25,15 +25,16 @@ use Rattle.cap_machine.specs.declared.rule.Check.{Check}
 use Rattle.cap_machine.specs.declared.rule.Checks.{Checks}
 use Rattle.cap_machine.specs.declared.rule.Checks.TheVariants.{Nothing, One, Two}
 use Rattle.cap_machine.specs.declared.rule.Demand.{Demand}
+use Rattle.cap_machine.specs.Errno.{enotcapable, ecapmode}
 use Rattle.cap_machine.specs.Flags.{all_known}
 use Rattle.cap_machine.specs.Places.{Place, place, is_empty, is_global, below}
 use Rattle.cap_machine.specs.Needs.{fd_needs, fd_excuse, send_needs, send_to_needs, accept_needs, fcntl_needs}
 use Rattle.cap_machine.specs.Needs.{mmap_needs, mmap_excuse, at_needs, at_flags_needs, symlink_needs, rename_from_needs}
 use Rattle.cap_machine.specs.Needs.{rename_to_needs, link_from_needs, link_to_needs, plain_flags, plain_at_flags}
 
--- intro(2), errno(2): 93 is ENOTCAPABLE, 94 is ECAPMODE
+-- the kind of an answer (errno(2))
 abbrev pub reply : Answer → Reply
-reply (answers.Fault e) = if e == 93 then NotCapable else if e == 94 then NotPermitted else Other
+reply (answers.Fault e) = if e == enotcapable then NotCapable else if e == ecapmode then NotPermitted else Other
 reply _ = Success
 
 abbrev pub check_of : ℕ → ℕ → Option ℕ → Check

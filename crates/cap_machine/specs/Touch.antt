@@ -26,6 +26,7 @@ use Rattle.cap_trace.specs.declared.calls.FlagsCall.TheVariants.{Socket, Socketp
 use Rattle.cap_trace.specs.declared.calls.BareCall.{BareCall}
 use Rattle.cap_trace.specs.declared.calls.BareCall.TheVariants.{Pipe, Kqueue, ShmOpen, MqOpen, Fhopen, Fork, Vfork}
 use Rattle.cap_trace.specs.declared.calls.BareCall.TheVariants.{Pdfork, CapEnter}
+use Rattle.cap_machine.specs.Errno.{ebadf}
 use Rattle.cap_machine.specs.declared.cell.Profile.{Profile}
 use Rattle.cap_machine.specs.declared.cell.Profile.TheVariants.{One, Two}
 use Rattle.cap_machine.specs.declared.cell.OnExec.{OnExec}
@@ -86,7 +87,7 @@ started fds f = if list_any (λ g. f == g) fds then Held all flags.Unsure else C
 
 -- close(2): a descriptor is closed by a success, and in doubt after any other failure than errno 9, that there was none
 abbrev pub closing : Answer → Touch
-closing (answers.Fault e) = if e == 9 then kept else given Unknown
+closing (answers.Fault e) = if e == ebadf then kept else given Unknown
 closing _ = given Closed
 
 -- rights(4): a new descriptor has all rights, those of the one that it comes from, or nothing is known of them

@@ -12,6 +12,7 @@ ghost use Rattle.cap_machine.specs.Rule.{check_of, on_one, on_none, fd_class, fd
 ghost use Rattle.cap_machine.specs.Rule.{bare_class, reply, at_demand, call_demand};
 
 use crate::cell::without_full_of;
+use crate::errno::{ECAPMODE, ENOTCAPABLE};
 use crate::needs;
 use crate::places::{Place, at_one, at_two};
 use crate::rule::{Check, Checks, Class, Demand, Reply, Word};
@@ -23,8 +24,8 @@ pub(crate) fn reply_of(answer: &Answer) -> Reply
     ensures { result ≡ reply answer.now }
 {
     match answer {
-        Answer::Fault(93) => Reply::NotCapable,
-        Answer::Fault(94) => Reply::NotPermitted,
+        Answer::Fault(ENOTCAPABLE) => Reply::NotCapable,
+        Answer::Fault(ECAPMODE) => Reply::NotPermitted,
         Answer::Fault(_) => Reply::Other,
         _ => Reply::Success,
     }

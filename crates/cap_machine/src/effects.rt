@@ -16,6 +16,7 @@ ghost use Rattle.cap_machine.specs.Touch.{stays, fork_turn, pdfork_turn};
 ghost use Rattle.cap_machine.specs.Effect.{effect_touch, effect_turn, OnlyCells, IsWithin, FdsWithin, FitsMade, FitsPair};
 
 use crate::cell::{Cell, OnExec, Op, Profile};
+use crate::errno::EBADF;
 use crate::flags::{all_known_of, has_flag_of};
 use crate::places::below_of;
 use crate::rule::Effect;
@@ -163,7 +164,7 @@ pub(crate) fn closed(fd: Fd, answer: &Answer) -> Effect<'static>
     ensures within { IsFd fd → IsWithin result }
 {
     match answer {
-        Answer::Fault(9) => Effect::Keep,
+        Answer::Fault(EBADF) => Effect::Keep,
         Answer::Fault(_) => Effect::Give(fd, Cell::Unknown),
         _ => Effect::Give(fd, Cell::Closed),
     }

@@ -34,6 +34,7 @@ mod denial;
 mod denial_laws;
 mod denying;
 mod effects;
+mod errno;
 mod explaining;
 mod flags;
 mod laws;

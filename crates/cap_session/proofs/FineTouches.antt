@@ -47,6 +47,7 @@ use Rattle.cap_machine.specs.Flags.{all_known}
 use Rattle.cap_machine.specs.Named.{dir_names, arg_names}
 use Rattle.cap_machine.specs.Places.{below, is_empty, is_absolute, dir_fd}
 use Rattle.cap_machine.specs.Standing.{IsHeld}
+use Rattle.cap_machine.specs.Errno.{ebadf}
 use Rattle.cap_machine.specs.Touch.{Touch, kept, given, taken, started, succeeded, on_fd, on_success, on_made, on_both}
 use Rattle.cap_machine.specs.Touch.{closing, whole, copied, copied_to, unknown, exec_touch}
 use Rattle.cap_machine.specs.Touch.{closefrom_touch, open_flag, socket_flag, fd_flag, fd_touch, fcntl_touch}
@@ -182,7 +183,7 @@ module _ (Every : Type 0) (me p f : ℕ) where
   closing_fine : (answer : Answer) → FineTouch Every f (closing answer)
   closing_fine (answers.Made d) = closed_fine
   closing_fine (answers.Pair d e) = closed_fine
-  closing_fine (answers.Fault e) = if_fine (e == 9) kept (given Unknown) (λ _. tt) nothing_fine
+  closing_fine (answers.Fault e) = if_fine (e == ebadf) kept (given Unknown) (λ _. tt) nothing_fine
 
   exec_fine : (profile : Profile) (answer : Answer)
       → (((n : ℕ) → exec_touch profile answer me p n ≡ kept → ⊥) → Every)
