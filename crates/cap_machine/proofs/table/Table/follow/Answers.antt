@@ -8,7 +8,8 @@ use Rattle.cap_machine.proofs.table.Table.follow.Goals as goal
 
 pub close-requires : goal.close-requires
 close-requires c =
-    (subst (λ (i : Item). FdsWithin (args_of (item_seen i))) c.in-Call.is (proper_within _ c.line.invariant)).0
+    let within = subst (λ (i : Item). FdsWithin (args_of (item_seen i))) c.in-Call.is (proper_within _ c.line.invariant) in
+    (rw c.in-OnFd.is at within).0
 
 pub returns-in-Open : goal.returns-in-Open
 returns-in-Open c = rw (sym c.line.view_is, c.in-Call.is, c.in-Open.is) c.open.ensures
