@@ -34,8 +34,8 @@ use Rattle.cap_machine.specs.declared.cell.Op.{Op}
 use Rattle.cap_machine.specs.declared.cell.Mode.{Mode}
 use Rattle.cap_machine.specs.declared.cell.Profile.TheVariants.{One, Two}
 use Rattle.cap_machine.specs.declared.rule.Check.{Check}
-use Rattle.cap_machine.specs.declared.rule.Word.{Word}
-use Rattle.cap_machine.specs.declared.rule.Word.TheVariants.{Expanded}
+use Rattle.cap_machine.specs.declared.rule.LimitWord.{LimitWord}
+use Rattle.cap_machine.specs.declared.rule.LimitWord.TheVariants.{Expanded}
 use Rattle.cap_machine.specs.declared.verdict.Finding.{Finding}
 use Rattle.cap_machine.specs.Op.{applied, same, derive, copy_to_itself, limit, narrow, set_flag, narrow_and_set_flag}
 use Rattle.cap_machine.specs.Flags.{all_known}
@@ -48,7 +48,7 @@ use Rattle.cap_machine.specs.Touch.{fcntl_copied_to, plain_fd_flags, set_fd_op, 
 use Rattle.cap_machine.specs.Touch.{flags_touch, fork_touch, pdfork_touch, bare_touch, call_touch, item_touch}
 use Rattle.cap_machine.specs.History.{touched}
 use Rattle.cap_machine.specs.Judge.{listed, fault, judged}
-use Rattle.cap_machine.specs.Rule.{limit_demand, call_demand, item_demand, check_of}
+use Rattle.cap_machine.specs.Rule.{limit_requirement, call_requirement, item_requirement, check_of}
 use Rattle.cap_machine.specs.ProfileLaws.{is_closefrom, item_did}
 use Rattle.cap_machine.proofs.Rights.{IsFewer, few_same, few_masked, few_limited}
 
@@ -119,7 +119,7 @@ quiet_of_has true x is = refl
 quiet_of_has false x is = cc
 
 -- a limit that succeeded where nothing was found in profile 2
-limit_held : (asked : ℕ) (word : Word) (check : Check) (x y : OnExec) (s t : ℕ) → IsFewer s t
+limit_held : (asked : ℕ) (word : LimitWord) (check : Check) (x y : OnExec) (s t : ℕ) → IsFewer s t
     → Under (applied (limit asked) (Held s x)) (applied (limit asked) (Held t y))
 limit_held asked word check x y s t fewer =
     held_under (Held (without_full asked) flags.Unsure) (Some asked) flags.Set flags.Clear flags.Unsure x y s t fewer
@@ -130,7 +130,7 @@ limit_unknown asked t flags.Set has = few_limited asked t has
 limit_unknown asked t flags.Clear has = few_limited asked t has
 limit_unknown asked t flags.Unsure has = few_limited asked t has
 
-limit_under : (asked : ℕ) (word : Word) (check : Check) (c e : Cell) → check.needs ≡ without_full asked
+limit_under : (asked : ℕ) (word : LimitWord) (check : Check) (c e : Cell) → check.needs ≡ without_full asked
     → fault word check e ≡ [] → Under c e → Under (applied (limit asked) c) (applied (limit asked) e)
 limit_under asked word check Unknown Unknown needs quiet u = few_same (without_full asked)
 limit_under asked word check Unknown Closed needs quiet u = few_same (without_full asked)
@@ -336,7 +336,7 @@ module _ (one two : ℕ → ℕ → Cell) (under : (p f : ℕ) → Under (one p 
 
   -- a limit that succeeded, where nothing was found in profile 2
   limit_fits : (g asked : ℕ) (answer : Answer) (m : Mode) (me : ℕ)
-      → judged (limit_demand g asked answer) m (two me g ∷ []) ≡ []
+      → judged (limit_requirement g asked answer) m (two me g ∷ []) ≡ []
       → (p f : ℕ) → Under (touched (on_success g answer (taken (limit asked) me g) me p f) one p f)
       (touched (on_success g answer (taken (limit asked) me g) me p f) two p f)
   limit_fits g asked (answers.Fault e) m me quiet p f = kept_fit p f
@@ -351,8 +351,8 @@ module _ (one two : ℕ → ℕ → Cell) (under : (p f : ℕ) → Under (one p 
 
   -- of a call that isn't a closefrom that succeeded, where nothing was found in profile 2
   call_fits : (call : Call) (answer : Answer) (m : Mode) (me : ℕ) → (is_closefrom call && succeeded answer) ≡ false
-      → judged (call_demand call answer) m
-      (map (λ (check : Check). two me check.fd) (listed (call_demand call answer).checks)) ≡ []
+      → judged (call_requirement call answer) m
+      (map (λ (check : Check). two me check.fd) (listed (call_requirement call answer).checks)) ≡ []
       → (p f : ℕ) → Under (touched (call_touch One call answer me p f) one p f)
       (touched (call_touch Two call answer me p f) two p f)
   call_fits (calls.OnFd call g) answer m me never quiet p f = fd_fits call g answer never me p f
@@ -375,7 +375,8 @@ module _ (one two : ℕ → ℕ → Cell) (under : (p f : ℕ) → Under (one p 
   call_fits _ answer m me never quiet p f = kept_fit p f
 
   pub item_fits : (item : Item) (m : Mode) (me : ℕ) → item_did is_closefrom item ≡ false
-      → judged (item_demand item) m (map (λ (check : Check). two me check.fd) (listed (item_demand item).checks)) ≡ []
+      → judged (item_requirement item) m
+      (map (λ (check : Check). two me check.fd) (listed (item_requirement item).checks)) ≡ []
       → (p f : ℕ) → Under (touched (item_touch One item me p f) one p f) (touched (item_touch Two item me p f) two p f)
   item_fits (items.Call call answer) m me never quiet p f = call_fits call answer m me never quiet p f
   item_fits (items.Start fds) m me never quiet p f =

@@ -6,12 +6,12 @@ use Rattle.std.proofs.lemmas.Bool.{cases_lt, lt-ltb, le-ltb}
 use Rattle.std.proofs.Math.Logic.{⊎_elim}
 use Rattle.cap_machine.specs.declared.cell.Mode.{Mode}
 use Rattle.cap_machine.specs.declared.cell.Mode.TheVariants.{Inside, Outside, Unsure}
-use Rattle.cap_machine.specs.declared.rule.Demand.{Demand}
+use Rattle.cap_machine.specs.declared.rule.Requirement.{Requirement}
 use Rattle.cap_machine.specs.declared.rule.Effect.{Effect}
 use Rattle.cap_machine.specs.declared.rule.Effect.TheVariants.{Keep, Start, Exit, Forget, Exec, CloseFrom, Enter, Give}
 use Rattle.cap_machine.specs.declared.rule.Effect.TheVariants.{GiveTwo, Change, Fork, ForkAs}
 use Rattle.cap_machine.specs.declared.step.Step.{Step}
-use Rattle.cap_machine.specs.Rule.{demand}
+use Rattle.cap_machine.specs.Rule.{requirement}
 use Rattle.cap_machine.specs.Judge.{is_forbidden}
 use Rattle.cap_machine.specs.Touch.{Turn, stays, turns, follows, turn}
 use Rattle.cap_machine.specs.Effect.{effect_turn}
@@ -232,16 +232,16 @@ handed_turn : (one other : ℕ → Turn) (later : List Step) (p n : ℕ) → ((q
     → Handed one later p n → Handed other later p n
 handed_turn one other later p n e h = (h.0, subst (λ (t : Turn). ModePasses t p h.0) (e h.0) h.1, h.2)
 
-pub blocked_line : (step : Step) (d : Demand) (effect : Effect) (at me : ℕ) (blocked new : ℕ → Option ℕ)
-    (later : List Step) → d ≡ demand step.line → me ≡ step.line.pid
+pub blocked_line : (step : Step) (d : Requirement) (effect : Effect) (at me : ℕ) (blocked new : ℕ → Option ℕ)
+    (later : List Step) → d ≡ requirement step.line → me ≡ step.line.pid
     → ((p : ℕ) → effect_turn effect me p ≡ turn step p)
     → ((p : ℕ) → new p ≡ blocked_before d effect at me blocked p)
     → ((p : ℕ) → IsFirstBlock later (at + 1) p (blocked p)) → (p : ℕ) → IsFirstBlock (step ∷ later) at p (new p)
-blocked_line step d effect at me blocked new later is_demand is_me turned is first p =
+blocked_line step d effect at me blocked new later is_requirement is_me turned is first p =
     let blocks : Bool = is_success d.reply && (p == me && is_forbidden d.class) in
     let is_blocks : blocks ≡ step_blocks step p =
     ap (λ (r : ℕ). is_success d.reply && (p == r && is_forbidden d.class)) is_me
-    ∙ ap (λ (e : Demand). is_success e.reply && (p == step.line.pid && is_forbidden e.class)) is_demand in
+    ∙ ap (λ (e : Requirement). is_success e.reply && (p == step.line.pid && is_forbidden e.class)) is_requirement in
     let moves = blocked_moves effect me blocked later (at + 1) p (λ q. as_first later (at + 1) q (blocked q) (first q)) in
     from_first (step ∷ later) at p (new p)
     (subst (λ (r : Option ℕ). IsFirst (Blocks (step ∷ later) p) at r) (sym (is p))

@@ -7,10 +7,10 @@ use Rattle.cap_trace.specs.Entry.{Entry}
 use Rattle.cap_trace.specs.declared.calls.FdCall.{FdCall}
 use Rattle.cap_trace.specs.declared.line.Answer.{Answer}
 use Rattle.cap_machine.specs.declared.cell.Profile.{Profile}
-use Rattle.cap_machine.specs.declared.rule.Demand.{Demand}
+use Rattle.cap_machine.specs.declared.rule.Requirement.{Requirement}
 use Rattle.cap_machine.specs.declared.rule.Effect.{Effect}
 use Rattle.cap_machine.specs.Effect.{effect_touch, effect_turn}
-use Rattle.cap_machine.specs.Rule.{demand, item_demand, fd_demand}
+use Rattle.cap_machine.specs.Rule.{requirement, item_requirement, fd_requirement}
 use Rattle.cap_machine.specs.Steps.{step}
 use Rattle.cap_machine.specs.Touch.{stays, touch, turn, fd_touch, item_touch, item_turn}
 
@@ -19,9 +19,9 @@ pub record CallsOnFd (line : Entry) (me : ℕ) (call : FdCall) (fd : ℕ) (answe
   pub item : line.item ≡ items.Call (calls.OnFd call fd) answer
   pub owner : me ≡ line.pid
 
-pub demand_on_fd : (line : Entry) (me : ℕ) (call : FdCall) (fd : ℕ) (answer : Answer) (d : Demand)
-    → CallsOnFd line me call fd answer → d ≡ fd_demand call fd answer → d ≡ demand line
-demand_on_fd line me call fd answer d calls is = is ∙ ap item_demand (sym calls.item)
+pub requirement_on_fd : (line : Entry) (me : ℕ) (call : FdCall) (fd : ℕ) (answer : Answer) (d : Requirement)
+    → CallsOnFd line me call fd answer → d ≡ fd_requirement call fd answer → d ≡ requirement line
+requirement_on_fd line me call fd answer d calls is = is ∙ ap item_requirement (sym calls.item)
 
 pub touches_on_fd : (profile : Profile) (line : Entry) (me : ℕ) (call : FdCall) (fd : ℕ) (answer : Answer) (effect : Effect)
     → CallsOnFd line me call fd answer

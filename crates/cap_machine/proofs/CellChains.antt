@@ -7,17 +7,18 @@ use Rattle.std.proofs.lemmas.Bool.{cases_eq, ne_eqb}
 use Rattle.std.proofs.Math.Logic.{⊎_elim}
 use Rattle.cap_machine.specs.declared.step.Step.{Step}
 use Rattle.cap_machine.specs.declared.cell.Cell.{Cell}
-use Rattle.cap_machine.specs.declared.origin.CellLink.{CellLink}
-use Rattle.cap_machine.specs.declared.origin.CellEnd.{CellEnd}
-use Rattle.cap_machine.specs.declared.origin.CellEnd.TheVariants as cells
+use Rattle.cap_machine.specs.declared.provenance.CellLink.{CellLink}
+use Rattle.cap_machine.specs.declared.provenance.CellEnd.{CellEnd}
+use Rattle.cap_machine.specs.declared.provenance.CellEnd.TheVariants as cells
 use Rattle.cap_machine.specs.State.{State}
 use Rattle.cap_machine.specs.declared.cell.Op.{Op}
 use Rattle.cap_machine.specs.Op.{applied}
 use Rattle.cap_machine.specs.Touch.{Touch, kept, given, taken, touch}
 use Rattle.cap_machine.specs.History.{touched, cell_after}
-use Rattle.cap_machine.specs.Origin.{CellChain, same_cell, is_idle, named_touch, by_touch, cell_chain, cell_at_end}
-use Rattle.cap_machine.specs.OriginLaws.{touch_at, made, replayed, CellsAreReplayed, named_at, NoneNamed, CellGoesOn}
-use Rattle.cap_machine.specs.OriginLaws.{IsCellChain, CellsSkipNone, UnnamedLeaves, NamedChanges}
+use Rattle.cap_machine.specs.Provenance.{CellChain, same_cell, is_idle, named_touch, by_touch, cell_chain, cell_at_end}
+use Rattle.cap_machine.specs.ProvenanceLaws.{touch_at, made, replayed, CellsAreReplayed, named_at, NoneNamed}
+use Rattle.cap_machine.specs.ProvenanceLaws.{CellGoesOn}
+use Rattle.cap_machine.specs.ProvenanceLaws.{IsCellChain, CellsSkipNone, UnnamedLeaves, NamedChanges}
 use Rattle.cap_machine.proofs.Passages.{same_cell-self, idle_takes, idle_leaves}
 
 -- ---- the step at a position

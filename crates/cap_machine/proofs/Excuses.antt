@@ -24,7 +24,8 @@ use Rattle.cap_machine.specs.Needs.{plain_at_flags, symlink_needs, rename_from_n
 use Rattle.cap_machine.specs.Needs.{link_to_needs}
 use Rattle.cap_machine.specs.Places.{Place, place, below}
 use Rattle.cap_machine.specs.Judge.{listed}
-use Rattle.cap_machine.specs.Rule.{fd_demand, fcntl_demand, call_demand, item_demand, place_check, place_checks, both}
+use Rattle.cap_machine.specs.Rule.{fd_requirement, fcntl_requirement, call_requirement, item_requirement, place_check}
+use Rattle.cap_machine.specs.Rule.{place_checks, both}
 use Rattle.cap_machine.specs.Rule.{at_excuse, has_empty}
 use Rattle.cap_machine.proofs.NamedNeeds.{IsNamed, AllNamed, item_checks}
 
@@ -126,16 +127,17 @@ places_excused is_plain all_places (a ∷ b ∷ more) named =
 
 -- ---- each form of call
 
-fd_checks : (call : FdCall) (f : ℕ) (answer : Answer) → AllExcused (listed (fd_demand call f answer).checks)
+fd_checks : (call : FdCall) (f : ℕ) (answer : Answer) → AllExcused (listed (fd_requirement call f answer).checks)
 fd_checks Closefrom f answer = tt
 fd_checks call f answer = (fd_excused call, tt)
 
-fcntl_checks : (needs : Option ℕ) (f : ℕ) (answer : Answer) → AllExcused (listed (fcntl_demand needs f answer).checks)
+fcntl_checks : (needs : Option ℕ) (f : ℕ) (answer : Answer)
+    → AllExcused (listed (fcntl_requirement needs f answer).checks)
 fcntl_checks None f answer = tt
 fcntl_checks (Some n) f answer = (tt, tt)
 
-call_excused : (call : Call) (answer : Answer) → AllNamed (listed (call_demand call answer).checks)
-    → AllExcused (listed (call_demand call answer).checks)
+call_excused : (call : Call) (answer : Answer) → AllNamed (listed (call_requirement call answer).checks)
+    → AllExcused (listed (call_requirement call answer).checks)
 call_excused (calls.OnFd call f) answer named = fd_checks call f answer
 call_excused (calls.Send call f) answer named = (and_self send_needs, tt)
 call_excused (calls.SendTo call f) answer named = (and_self send_to_needs, tt)
@@ -166,7 +168,7 @@ call_excused (calls.OnFlags call flags) answer named = tt
 call_excused (calls.Bare call) answer named = tt
 call_excused (calls.Other name args) answer named = tt
 
-pub item_excused : (item : Item) → AllExcused (listed (item_demand item).checks)
+pub item_excused : (item : Item) → AllExcused (listed (item_requirement item).checks)
 item_excused (items.Call call answer) = call_excused call answer (item_checks (items.Call call answer))
 item_excused (items.Start fds) = tt
 item_excused items.Exit = tt

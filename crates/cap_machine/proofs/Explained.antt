@@ -10,7 +10,7 @@ use Rattle.cap_machine.specs.declared.step.Step.{Step}
 use Rattle.cap_machine.specs.Steps.{step}
 use Rattle.cap_machine.specs.State.{State}
 use Rattle.cap_machine.specs.Explain.{explained, explained_at}
-use Rattle.cap_machine.proofs.Origins.{back, back-append, length-back}
+use Rattle.cap_machine.proofs.Provenances.{back, back-append, length-back}
 
 -- a step that isn't at the position
 passed : (s : State) (step : Step) (history : List Step) (k : ℕ) → (k ≡ length history + 1 → ⊥)

@@ -94,10 +94,10 @@ skipped place i q qs p other =
     ∙ either_way (place q.pid == i) more)
     (cases_eq q.pid p)
 
--- no place behind that of a pid has its process
+-- no place after that of a pid has its process
 passed : (place : ℕ → ℕ) (i : ℕ) (qs : List Process) (p : ℕ) → place p < i → owner_from place i qs p ≡ None
-passed place i [] p behind = refl
-passed place i (q ∷ qs) p behind =
+passed place i [] p beyond = refl
+passed place i (q ∷ qs) p beyond =
     skipped place i q qs p (λ e at. omega arith) ∙ passed place (suc i) qs p (omega arith)
 
 own_first : (q : Process) (p : ℕ) (b : Bool) (o : Option Process) → (q.pid == p) ≡ b → o ≡ None

@@ -13,11 +13,11 @@ use Rattle.cap_machine.specs.declared.cell.OnExec.{OnExec}
 use Rattle.cap_machine.specs.declared.rule.Reply.{Reply}
 use Rattle.cap_machine.specs.declared.rule.Reply.TheVariants.{Success, NotCapable, NotPermitted, Other}
 use Rattle.cap_machine.specs.declared.rule.Check.{Check}
-use Rattle.cap_machine.specs.declared.rule.Demand.{Demand}
+use Rattle.cap_machine.specs.declared.rule.Requirement.{Requirement}
 use Rattle.cap_machine.specs.declared.denial.Denial.{Denial}
 use Rattle.cap_machine.specs.declared.denial.Denial.TheVariants.{Lacks, Inside, Unexplained}
 use Rattle.cap_machine.specs.State.{State}
-use Rattle.cap_machine.specs.Rule.{demand}
+use Rattle.cap_machine.specs.Rule.{requirement}
 use Rattle.cap_machine.specs.Judge.{listed, is_inside, is_allowed}
 use Rattle.cap_machine.specs.Denials.{lack, lacks, or_unexplained, denied_by, denied}
 use Rattle.cap_machine.specs.DenialLaws.{is_refused, RefusedIsDenied, HoldsRightSets, LackingIsSome, LackingIsEnough}
@@ -34,7 +34,7 @@ mode_never_none : (b : Bool) → (if b then Inside ∷ [] else Unexplained ∷ [
 mode_never_none true is = cc
 mode_never_none false is = cc
 
-denied_where : (r : Reply) (d : Demand) (m : Mode) (cells : List Cell)
+denied_where : (r : Reply) (d : Requirement) (m : Mode) (cells : List Cell)
     → (denied_by r d m cells ≡ []) ↔ (is_refused r ≡ false)
 denied_where Success d m cells = (λ is. refl, λ is. refl)
 denied_where NotCapable d m cells =
@@ -45,7 +45,7 @@ denied_where Other d m cells = (λ is. refl, λ is. refl)
 
 pub refused_is_denied : RefusedIsDenied
 refused_is_denied s step =
-    let d : Demand = demand step.line in
+    let d : Requirement = requirement step.line in
     denied_where d.reply d (s.mode step.line.pid)
     (map (λ (check : Check). s.cell step.line.pid check.fd) (listed d.checks))
 
@@ -83,7 +83,7 @@ all_enough (check ∷ checks) named =
 
 pub lacking_is_enough : LackingIsEnough
 unfolding IsEnoughFor
-lacking_is_enough line = all_enough (listed (demand line).checks) (item_checks line.item)
+lacking_is_enough line = all_enough (listed (requirement line).checks) (item_checks line.item)
 
 -- ---- some are lacking
 
@@ -137,7 +137,7 @@ unexplained_names_some : (found : List Denial) → All NamesSome found → All N
 unexplained_names_some [] are = All-cons NamesSome Unexplained [] tt (All-nil NamesSome)
 unexplained_names_some (denial ∷ more) are = are
 
-denied_name_some : (r : Reply) (d : Demand) (m : Mode) (cells : List Cell) → AllNamed (listed d.checks)
+denied_name_some : (r : Reply) (d : Requirement) (m : Mode) (cells : List Cell) → AllNamed (listed d.checks)
     → AreSetCells cells → All NamesSome (denied_by r d m cells)
 denied_name_some Success d m cells named sets = All-nil NamesSome
 denied_name_some NotCapable d m cells named sets =
@@ -161,7 +161,7 @@ cells_are_sets s p are (check ∷ checks) = (cell_set (s.cell p check.fd) (are p
 
 pub lacking_is_some : LackingIsSome
 lacking_is_some s step f lacking are has =
-    let d : Demand = demand step.line in
+    let d : Requirement = requirement step.line in
     let cells : List Cell = map (λ (check : Check). s.cell step.line.pid check.fd) (listed d.checks) in
     All-contains NamesSome (denied step s) (Lacks f lacking)
     (denied_name_some d.reply d (s.mode step.line.pid) cells (item_checks step.line.item)

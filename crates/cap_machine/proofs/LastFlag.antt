@@ -1,4 +1,4 @@
--- A flag that stands last, behind a bar.
+-- A flag that stands last, after a bar.
 use Rattle.std.proofs.Common.{◌≡◌, ℕ, ◌-◌, ◌==◌, Bool, true, false, List, [], ◌∷◌, ◌++◌, cond, length, take, drop}
 use Rattle.std.proofs.Common.{sym, ap, ◌∙◌, eqb}
 use Rattle.std.specs.List.{onto_first, list_any, ends_with}
@@ -8,29 +8,29 @@ use Rattle.std.proofs.lemmas.Slice.Eq.{bytes_eq-Decides}
 use Rattle.std.proofs.lemmas.Bool.{or_right}
 use Rattle.cap_machine.specs.Flags.{flag_words, has_flag}
 
-abbrev behind_first : List (List ℕ) → List (List ℕ)
-behind_first [] = []
-behind_first (word ∷ words) = words
+abbrev beyond_first : List (List ℕ) → List (List ℕ)
+beyond_first [] = []
+beyond_first (word ∷ words) = words
 
 abbrev stands_in : List ℕ → List (List ℕ) → Bool
 stands_in name words = list_any (λ word. bytes_eq word name) words
 
 -- one byte before words of which the name is one, and not the first
 one_before : (name : List ℕ) (is_bar : Bool) (byte : ℕ) (words : List (List ℕ))
-    → stands_in name (behind_first words) ≡ true
-    → stands_in name (behind_first (cond is_bar ([] ∷ words) (onto_first byte words))) ≡ true
+    → stands_in name (beyond_first words) ≡ true
+    → stands_in name (beyond_first (cond is_bar ([] ∷ words) (onto_first byte words))) ≡ true
 one_before name true byte [] is = absurd (cc)
 one_before name true byte (word ∷ words) is = or_right (bytes_eq word name) (stands_in name words) is
 one_before name false byte [] is = absurd (cc)
 one_before name false byte (word ∷ words) is = is
 
-behind_bar : (name front last : List ℕ) → has_flag last name ≡ true
-    → stands_in name (behind_first (flag_words (front ++ 124 ∷ last))) ≡ true
-behind_bar name [] last is = is
-behind_bar name (byte ∷ front) last is =
-    one_before name (byte == 124) byte (flag_words (front ++ 124 ∷ last)) (behind_bar name front last is)
+after_bar : (name front last : List ℕ) → has_flag last name ≡ true
+    → stands_in name (beyond_first (flag_words (front ++ 124 ∷ last))) ≡ true
+after_bar name [] last is = is
+after_bar name (byte ∷ front) last is =
+    one_before name (byte == 124) byte (flag_words (front ++ 124 ∷ last)) (after_bar name front last is)
 
-among : (name : List ℕ) (words : List (List ℕ)) → stands_in name (behind_first words) ≡ true
+among : (name : List ℕ) (words : List (List ℕ)) → stands_in name (beyond_first words) ≡ true
     → stands_in name words ≡ true
 among name [] is = is
 among name (word ∷ words) is = or_right (bytes_eq word name) (stands_in name words) is
@@ -44,4 +44,4 @@ last_flag flags name itself ends =
     let parts : flags ≡ take at flags ++ 124 ∷ name =
     sym (take-append-drop at flags) ∙ ap (λ (l : List ℕ). take at flags ++ l) (sym last) in
     ap (λ (l : List ℕ). has_flag l name) parts
-    ∙ among name (flag_words (take at flags ++ 124 ∷ name)) (behind_bar name (take at flags) name itself)
+    ∙ among name (flag_words (take at flags ++ 124 ∷ name)) (after_bar name (take at flags) name itself)

@@ -10,11 +10,11 @@ use Rattle.std.proofs.lemmas.List.{get_or-set_other}
 use Rattle.std.proofs.Math.Logic.{⊎_elim}
 use Rattle.cap_rights.specs.Rights.{none}
 use Rattle.cap_machine.specs.declared.cell.Cell.{Cell}
-use Rattle.cap_machine.specs.declared.cells.kind.Kind.{Kind}
-use Rattle.cap_machine.specs.declared.cells.kind.Kind.TheVariants.{Unknown}
+use Rattle.cap_machine.specs.declared.cells.kind.CellKind.{CellKind}
+use Rattle.cap_machine.specs.declared.cells.kind.CellKind.TheVariants.{Unknown}
 use Rattle.cap_machine.specs.Cells.Kind.{kind_of_cell, rights_of_cell, cell_of_kind, kept_cell}
 
-pub put_in : (kinds : List Kind) (rights : List ℕ) (place : ℕ) (cell : Cell) (kind : Kind) (right f : ℕ)
+pub put_in : (kinds : List CellKind) (rights : List ℕ) (place : ℕ) (cell : Cell) (kind : CellKind) (right f : ℕ)
     → place < length kinds → place < length rights → kind ≡ kind_of_cell cell → right ≡ rights_of_cell cell
     → cell_of_kind (slice_index_or (slice_set kinds place kind) f Unknown)
     (slice_index_or (slice_set rights place right) f none)
@@ -23,14 +23,14 @@ put_in kinds rights place cell kind right f in_kinds in_rights is_kind are_right
     ⊎_elim
     (λ e.
     let yes : (f == place) ≡ true = grind (arith, nat_tests, e) in
-    ap (λ (k : Kind). cell_of_kind k (get_or (slice_set rights place right) f none))
+    ap (λ (k : CellKind). cell_of_kind k (get_or (slice_set rights place right) f none))
     (get_or-set_at kinds place f kind Unknown e in_kinds ∙ is_kind)
     ∙ ap (cell_of_kind (kind_of_cell cell)) (get_or-set_at rights place f right none e in_rights ∙ are_rights)
     ∙ kept_cell cell
     ∙ ap (λ b. if b then cell else cell_of_kind (get_or kinds f Unknown) (get_or rights f none)) (sym yes))
     (λ ne.
     let no : (f == place) ≡ false = grind (arith, nat_tests, ne) in
-    ap (λ (k : Kind). cell_of_kind k (get_or (slice_set rights place right) f none))
+    ap (λ (k : CellKind). cell_of_kind k (get_or (slice_set rights place right) f none))
     (get_or-set_other kinds place f kind Unknown ne)
     ∙ ap (cell_of_kind (get_or kinds f Unknown)) (get_or-set_other rights place f right none ne)
     ∙ ap (λ b. if b then cell else cell_of_kind (get_or kinds f Unknown) (get_or rights f none)) (sym no))

@@ -20,13 +20,13 @@ pub mod RightDenials
 pub mod LackedRights
 pub mod PartsOf
 pub mod Within
-pub mod FewCells
+pub mod WrittenCells
 pub mod Owners
 pub mod Leaves
 pub mod Starts
 pub mod KnownTables
 pub mod StartedLists
-pub mod Origins
+pub mod Provenances
 pub mod Passages
 pub mod Walking
 pub mod ModeMatters
@@ -49,7 +49,7 @@ pub mod BlockedBack
 pub mod MakerLimits
 pub mod RowOrder
 pub mod LeastRows
-pub mod NearAndFar
+pub mod AroundExec
 pub mod StandingBack
 pub mod StandingRows
 pub mod UnknownRows

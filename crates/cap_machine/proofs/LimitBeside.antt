@@ -16,10 +16,10 @@ use Rattle.cap_machine.specs.declared.cell.Mode.TheVariants.{Inside}
 use Rattle.cap_machine.specs.declared.step.Step.{Step}
 use Rattle.cap_machine.specs.declared.rule.Check.{Check}
 use Rattle.cap_machine.specs.declared.rule.Class.{Class}
-use Rattle.cap_machine.specs.declared.rule.Demand.{Demand}
+use Rattle.cap_machine.specs.declared.rule.Requirement.{Requirement}
 use Rattle.cap_machine.specs.declared.rule.Reply.{Reply}
 use Rattle.cap_machine.specs.declared.rule.Reply.TheVariants.{Success, NotCapable, NotPermitted, Other}
-use Rattle.cap_machine.specs.declared.rule.Word.{Word}
+use Rattle.cap_machine.specs.declared.rule.LimitWord.{LimitWord}
 use Rattle.cap_machine.specs.declared.verdict.Finding.{Finding}
 use Rattle.cap_machine.specs.declared.verdict.Finding.TheVariants as say
 use Rattle.cap_machine.specs.State.{State}
@@ -29,7 +29,7 @@ use Rattle.cap_machine.specs.History.{touched, turned}
 use Rattle.cap_machine.specs.Table.{step_after}
 use Rattle.cap_machine.specs.Judge.{listed, is_inside, is_outside, is_forbidden, is_allowed, shortfall, fault, faults}
 use Rattle.cap_machine.specs.Judge.{forbidden, judged_by, is_excused, all_excused, has_check}
-use Rattle.cap_machine.specs.Rule.{demand}
+use Rattle.cap_machine.specs.Rule.{requirement}
 use Rattle.cap_machine.specs.Check.{check, said}
 use Rattle.cap_machine.specs.Live.{Live, HandsOn, Passes, ModePasses, Blocks, checks_need, is_success}
 use Rattle.cap_machine.proofs.NamedNeeds.{AllNamed, item_checks}
@@ -78,7 +78,7 @@ if_both : (a b : Bool) (x y : Finding) → a ≡ b → x ≡ y
 if_both a b x y same alike =
     ap (λ (c : Bool). if c then [] else x ∷ []) same ∙ ap (λ (z : Finding). if b then [] else z ∷ []) alike
 
-fault_same : (word : Word) (one : Check) (c e : Cell) → one.needs < 2 ^ 63
+fault_same : (word : LimitWord) (one : Check) (c e : Cell) → one.needs < 2 ^ 63
     → Beside (λ y k. holds one.needs k ≡ true) c e → fault word one e ≡ fault word one c
 fault_same word one c e lt (inl same) = ap (fault word one) same
 fault_same word one c e lt (inr h) =
@@ -91,7 +91,7 @@ fault_same word one c e lt (inr h) =
     (ap (shortfall word one.fd) (part_lacks h.fewer h.rights one.needs h.set_less h.set lt h.is_part enough))
     ∙ sym (ap (fault word one) h.is)
 
-faults_same : (word : Word) (checks : List Check) (cells less : ℕ → Cell) → AllNamed checks
+faults_same : (word : LimitWord) (checks : List Check) (cells less : ℕ → Cell) → AllNamed checks
     → ((f : ℕ) → Beside (λ y k. checks_need checks f k ≡ true) (cells f) (less f))
     → faults word checks (map (λ (one : Check). less one.fd) checks)
     ≡ faults word checks (map (λ (one : Check). cells one.fd) checks)
@@ -162,7 +162,7 @@ not_or : (at a b : Bool) → (a ≡ true → b ≡ true) → (not at || a) ≡ t
 not_or true a b h is = h is
 not_or false a b h is = refl
 
-judged_within : (reply : Reply) (d : Demand) (m n : Mode) (cells less : ℕ → Cell) → AllNamed (listed d.checks)
+judged_within : (reply : Reply) (d : Requirement) (m n : Mode) (cells less : ℕ → Cell) → AllNamed (listed d.checks)
     → ((f : ℕ) → Beside (λ y k. (is_success reply && checks_need (listed d.checks) f k) ≡ true) (cells f) (less f))
     → (n ≡ m) ⊎ ((n ≡ Inside) × ((is_success reply && is_forbidden d.class) ≡ true → ⊥))
     → Within (judged_by reply d n (map (λ (one : Check). less one.fd) (listed d.checks)))
@@ -209,7 +209,7 @@ own_needs b c me is =
 pub said_within : (step : Step) (later : List Step) (s less : State) → Enough (step ∷ later) s less
     → Within (said step less) (said step s)
 said_within step later s less enough =
-    let d = demand step.line in
+    let d = requirement step.line in
     let me = step.line.pid in
     judged_within d.reply d (s.mode me) (less.mode me) (s.cell me) (less.cell me) (item_checks step.line.item)
     (λ f. beside_for (Live (step ∷ later) me f)

@@ -15,7 +15,7 @@ use Rattle.cap_machine.specs.declared.cell.Cell.{Cell}
 use Rattle.cap_machine.specs.declared.cell.Cell.TheVariants.{Unknown, Closed, Held}
 use Rattle.cap_machine.specs.declared.cell.Mode.TheVariants.{Inside}
 use Rattle.cap_machine.specs.declared.step.Step.{Step}
-use Rattle.cap_machine.specs.declared.rule.Word.TheVariants.{Expanded}
+use Rattle.cap_machine.specs.declared.rule.LimitWord.TheVariants.{Expanded}
 use Rattle.cap_machine.specs.declared.verdict.Finding.{Finding}
 use Rattle.cap_machine.specs.declared.verdict.Found.{Found}
 use Rattle.cap_machine.specs.State.{State}

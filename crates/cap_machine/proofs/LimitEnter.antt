@@ -9,11 +9,11 @@ use Rattle.cap_machine.specs.declared.cell.Mode.{Mode}
 use Rattle.cap_machine.specs.declared.cell.Mode.TheVariants.{Inside, Outside, Unsure}
 use Rattle.cap_machine.specs.declared.step.Step.{Step}
 use Rattle.cap_machine.specs.declared.rule.Check.{Check}
-use Rattle.cap_machine.specs.declared.rule.Demand.{Demand}
+use Rattle.cap_machine.specs.declared.rule.Requirement.{Requirement}
 use Rattle.cap_machine.specs.declared.rule.Reply.{Reply}
 use Rattle.cap_machine.specs.declared.rule.Reply.TheVariants.{Success, NotCapable, NotPermitted, Other}
-use Rattle.cap_machine.specs.declared.rule.Word.{Word}
-use Rattle.cap_machine.specs.declared.rule.Word.TheVariants.{Missing, Expanded}
+use Rattle.cap_machine.specs.declared.rule.LimitWord.{LimitWord}
+use Rattle.cap_machine.specs.declared.rule.LimitWord.TheVariants.{Missing, Expanded}
 use Rattle.cap_machine.specs.declared.verdict.Finding.TheVariants as say
 use Rattle.cap_machine.specs.declared.verdict.Found.{Found}
 use Rattle.cap_machine.specs.State.{State}
@@ -21,7 +21,7 @@ use Rattle.cap_machine.specs.Touch.{Turn, stays, turns, follows, turn}
 use Rattle.cap_machine.specs.History.{turned}
 use Rattle.cap_machine.specs.Table.{step_after}
 use Rattle.cap_machine.specs.Judge.{listed, is_inside, is_forbidden, shortfall, fault, faults, forbidden, judged_by}
-use Rattle.cap_machine.specs.Rule.{demand}
+use Rattle.cap_machine.specs.Rule.{requirement}
 use Rattle.cap_machine.specs.Check.{check, said, found_at}
 use Rattle.cap_machine.specs.Live.{is_success, step_blocks, ModePasses, Blocks}
 use Rattle.cap_machine.specs.LimitLaws.{BlockedIsForbidden}
@@ -32,11 +32,11 @@ use Rattle.cap_machine.proofs.LimitFindings.{found_after}
 -- ---- one line
 
 -- no check says that a call is forbidden
-shortfall_other : (word : Word) (f lacking : ℕ) → say.Forbidden ≡ shortfall word f lacking → ⊥
+shortfall_other : (word : LimitWord) (f lacking : ℕ) → say.Forbidden ≡ shortfall word f lacking → ⊥
 shortfall_other Missing f lacking e = absurd (cc)
 shortfall_other Expanded f lacking e = absurd (cc)
 
-fault_other : (word : Word) (one : Check) (cell : Cell) → In (fault word one cell) say.Forbidden → ⊥
+fault_other : (word : LimitWord) (one : Check) (cell : Cell) → In (fault word one cell) say.Forbidden → ⊥
 fault_other word one Unknown is = is
 fault_other word one Closed (inl e) = absurd (cc)
 fault_other word one Closed (inr is) = is
@@ -47,7 +47,8 @@ fault_other word one (Held rights flag) is = by (has_all rights one.needs) is
     by false (inl e) = shortfall_other word one.fd (minus one.needs rights) e
     by false (inr is) = is
 
-faults_other : (word : Word) (checks : List Check) (cells : List Cell) → In (faults word checks cells) say.Forbidden → ⊥
+faults_other : (word : LimitWord) (checks : List Check) (cells : List Cell)
+    → In (faults word checks cells) say.Forbidden → ⊥
 faults_other word [] cells is = is
 faults_other word (one ∷ checks) [] is = is
 faults_other word (one ∷ checks) (cell ∷ cells) is =
@@ -56,7 +57,7 @@ faults_other word (one ∷ checks) (cell ∷ cells) is =
       | inr there ↦ faults_other word checks cells there
     ]
 
-forbidden_inside : (d : Demand) (reply : Reply) (m : Mode) (cells : List Cell) → is_success reply ≡ true
+forbidden_inside : (d : Requirement) (reply : Reply) (m : Mode) (cells : List Cell) → is_success reply ≡ true
     → is_forbidden d.class ≡ true → m ≡ Inside → In (judged_by reply d m cells) say.Forbidden
 forbidden_inside d Success m cells ok is inside =
     in_left (forbidden d.class m) (faults d.word (listed d.checks) cells) say.Forbidden
@@ -73,7 +74,7 @@ not_forbidden true Inside out is = out refl
 not_forbidden true Outside out is = is
 not_forbidden true Unsure out is = is
 
-free_outside : (d : Demand) (reply : Reply) (m : Mode) (cells : List Cell) → is_success reply ≡ true
+free_outside : (d : Requirement) (reply : Reply) (m : Mode) (cells : List Cell) → is_success reply ≡ true
     → (m ≡ Inside → ⊥) → In (judged_by reply d m cells) say.Forbidden → ⊥
 free_outside d Success m cells ok out is =
     elim (in_either (forbidden d.class m) (faults d.word (listed d.checks) cells) say.Forbidden is) [
@@ -86,15 +87,15 @@ free_outside d Other m cells ok out is = absurd (cc)
 
 -- what a line that is in the way is
 pub record InTheWay (step : Step) (p : ℕ) : Type 0 where
-  pub succeeds : is_success (demand step.line).reply ≡ true
+  pub succeeds : is_success (requirement step.line).reply ≡ true
   pub own : p ≡ step.line.pid
-  pub class : is_forbidden (demand step.line).class ≡ true
+  pub class : is_forbidden (requirement step.line).class ≡ true
 
 pub in_the_way : (step : Step) (p : ℕ) → step_blocks step p ≡ true → InTheWay step p
 in_the_way step p is =
-    let first = and_parts (is_success (demand step.line).reply)
-    (p == step.line.pid && is_forbidden (demand step.line).class) is in
-    let second = and_parts (p == step.line.pid) (is_forbidden (demand step.line).class) first.1 in
+    let first = and_parts (is_success (requirement step.line).reply)
+    (p == step.line.pid && is_forbidden (requirement step.line).class) is in
+    let second = and_parts (p == step.line.pid) (is_forbidden (requirement step.line).class) first.1 in
     record { succeeds = first.0; own = eqb-true p step.line.pid second.0; class = second.1 }
 
 -- ---- a trace
@@ -111,7 +112,7 @@ record IsForbiddenAt (s inside : State) (later : List Step) (n : ℕ) : Type 0 w
 blocked_now : (s inside : State) (step : Step) (later : List Step) (p : ℕ) → InTheWay step p → (s.mode p ≡ Inside → ⊥)
     → inside.mode p ≡ Inside → IsForbiddenAt s inside (step ∷ later) 1
 blocked_now s inside step later p way out is =
-    let d = demand step.line in
+    let d = requirement step.line in
     let me = step.line.pid in
     let cells : State → List Cell = λ state. map (λ (check : Check). state.cell me check.fd) (listed d.checks) in
     record {

@@ -144,7 +144,7 @@ newly_in new old k h = (
   λ other is at lacks. h.not_old other (in_among old other is) at lacks,
 )
 
--- a finding behind one more step
+-- a finding after one more step
 pub new_later : (s t : State) (a b : Step) (before after : List Step) (k : ℕ)
     → NewIn (check (step_after a t) after) (check (step_after b s) before) k
     → NewIn (check t (a ∷ after)) (check s (b ∷ before)) k

@@ -12,11 +12,11 @@ use Rattle.cap_machine.specs.declared.cell.HeldOp.TheVariants.{Becomes, Keeps}
 use Rattle.cap_machine.specs.declared.cell.Mode.{Mode}
 use Rattle.cap_machine.specs.declared.step.Step.{Step}
 use Rattle.cap_machine.specs.declared.rule.Check.{Check}
-use Rattle.cap_machine.specs.declared.rule.Demand.{Demand}
+use Rattle.cap_machine.specs.declared.rule.Requirement.{Requirement}
 use Rattle.cap_machine.specs.declared.rule.Reply.{Reply}
 use Rattle.cap_machine.specs.declared.rule.Reply.TheVariants.{Success, NotCapable, NotPermitted, Other}
-use Rattle.cap_machine.specs.declared.rule.Word.{Word}
-use Rattle.cap_machine.specs.declared.rule.Word.TheVariants.{Missing, Expanded}
+use Rattle.cap_machine.specs.declared.rule.LimitWord.{LimitWord}
+use Rattle.cap_machine.specs.declared.rule.LimitWord.TheVariants.{Missing, Expanded}
 use Rattle.cap_machine.specs.declared.verdict.Finding.{Finding}
 use Rattle.cap_machine.specs.declared.verdict.Finding.TheVariants as say
 use Rattle.cap_machine.specs.State.{State}
@@ -26,7 +26,7 @@ use Rattle.cap_machine.specs.Touch.{Touch, kept, given, taken, touch}
 use Rattle.cap_machine.specs.History.{touched}
 use Rattle.cap_machine.specs.Table.{step_after}
 use Rattle.cap_machine.specs.Judge.{listed, is_inside, is_forbidden, shortfall, fault, faults, forbidden, judged_by}
-use Rattle.cap_machine.specs.Rule.{demand}
+use Rattle.cap_machine.specs.Rule.{requirement}
 use Rattle.cap_machine.specs.Check.{check}
 use Rattle.cap_machine.specs.Live.{Live, HandsOn, Passes, step_needs, checks_need, is_success}
 use Rattle.cap_machine.specs.LimitLaws.{Lacks, LimitsAreLeast}
@@ -35,11 +35,11 @@ use Rattle.cap_machine.proofs.LimitFindings.{In, in_left, in_right, in_either, N
 
 -- ---- one line
 
-lacks_shortfall : (word : Word) (f lacking k : ℕ) → holds lacking k ≡ true → Lacks (shortfall word f lacking) f k
+lacks_shortfall : (word : LimitWord) (f lacking k : ℕ) → holds lacking k ≡ true → Lacks (shortfall word f lacking) f k
 lacks_shortfall Missing f lacking k is = (refl, is)
 lacks_shortfall Expanded f lacking k is = (refl, is)
 
-shortfall_lacks : (word : Word) (f lacking g k : ℕ) → Lacks (shortfall word f lacking) g k
+shortfall_lacks : (word : LimitWord) (f lacking g k : ℕ) → Lacks (shortfall word f lacking) g k
     → (f ≡ g) × (holds lacking k ≡ true)
 shortfall_lacks Missing f lacking g k h = h
 shortfall_lacks Expanded f lacking g k h = h
@@ -69,7 +69,7 @@ not_both true false is both = cc
 not_both false b is both = cc
 
 -- a check of a cell that lacks the right
-fault_lacks : (word : Word) (one : Check) (cell : Cell) (fewer k : ℕ) (flag : OnExec) → cell ≡ Held fewer flag
+fault_lacks : (word : LimitWord) (one : Check) (cell : Cell) (fewer k : ℕ) (flag : OnExec) → cell ≡ Held fewer flag
     → fewer ≤ all → k < 63 → holds one.needs k ≡ true → holds fewer k ≡ false → Lacking (fault word one cell) one.fd k
 fault_lacks word one cell fewer k flag is le lt needs lacks =
     subst (λ (c : Cell). Lacking (fault word one c) one.fd k) (sym is) (by (has_all fewer one.needs) refl)
@@ -85,7 +85,7 @@ fault_lacks word one cell fewer k flag is le lt needs lacks =
     }
 
 -- and of one that holds it
-fault_holds : (word : Word) (one : Check) (cell : Cell) (rights f k : ℕ) (flag : OnExec)
+fault_holds : (word : LimitWord) (one : Check) (cell : Cell) (rights f k : ℕ) (flag : OnExec)
     → (one.fd ≡ f → cell ≡ Held rights flag)
     → rights ≤ all → k < 63 → holds rights k ≡ true → (x : Finding) → In (fault word one cell) x → Lacks x f k → ⊥
 fault_holds word one Unknown rights f k flag is le lt has x found lacks = found
@@ -104,7 +104,7 @@ fault_holds word one (Held there y) rights f k flag is le lt has x found lacks =
         ∙ ap (λ (r : ℕ). holds (minus one.needs r) k) (sym same) ∙ h.1)
     by false (inr found) = found
 
-checks_lack : (word : Word) (checks : List Check) (cells : ℕ → Cell) (f fewer k : ℕ) (flag : OnExec)
+checks_lack : (word : LimitWord) (checks : List Check) (cells : ℕ → Cell) (f fewer k : ℕ) (flag : OnExec)
     → checks_need checks f k ≡ true → cells f ≡ Held fewer flag → fewer ≤ all → k < 63 → holds fewer k ≡ false
     → Lacking (faults word checks (map (λ (one : Check). cells one.fd) checks)) f k
 checks_lack word [] cells f fewer k flag needs is le lt lacks = absurd (cc)
@@ -121,7 +121,7 @@ checks_lack word (one ∷ checks) cells f fewer k flag needs is le lt lacks =
           (checks_lack word checks cells f fewer k flag there is le lt lacks)
     ]
 
-checks_hold : (word : Word) (checks : List Check) (cells : ℕ → Cell) (f rights k : ℕ) (flag : OnExec)
+checks_hold : (word : LimitWord) (checks : List Check) (cells : ℕ → Cell) (f rights k : ℕ) (flag : OnExec)
     → cells f ≡ Held rights flag → rights ≤ all → k < 63 → holds rights k ≡ true → (x : Finding)
     → In (faults word checks (map (λ (one : Check). cells one.fd) checks)) x → Lacks x f k → ⊥
 checks_hold word [] cells f rights k flag is le lt has x found lacks = found
@@ -134,7 +134,7 @@ checks_hold word (one ∷ checks) cells f rights k flag is le lt has x found lac
       | inr there ↦ checks_hold word checks cells f rights k flag is le lt has x there lacks
     ]
 
-judged_lacks : (reply : Reply) (d : Demand) (m : Mode) (cells : ℕ → Cell) (f fewer k : ℕ) (flag : OnExec)
+judged_lacks : (reply : Reply) (d : Requirement) (m : Mode) (cells : ℕ → Cell) (f fewer k : ℕ) (flag : OnExec)
     → is_success reply ≡ true → checks_need (listed d.checks) f k ≡ true → cells f ≡ Held fewer flag → fewer ≤ all
     → k < 63
     → holds fewer k ≡ false
@@ -152,7 +152,7 @@ forbidden_lacks true x f k (inl e) lacks = subst (λ (y : Finding). Lacks y f k)
 forbidden_lacks true x f k (inr found) lacks = found
 forbidden_lacks false x f k found lacks = found
 
-judged_holds : (reply : Reply) (d : Demand) (m : Mode) (cells : ℕ → Cell) (f rights k : ℕ) (flag : OnExec)
+judged_holds : (reply : Reply) (d : Requirement) (m : Mode) (cells : ℕ → Cell) (f rights k : ℕ) (flag : OnExec)
     → is_success reply ≡ true → cells f ≡ Held rights flag → rights ≤ all → k < 63 → holds rights k ≡ true
     → (x : Finding)
     → In (judged_by reply d m (map (λ (one : Check). cells one.fd) (listed d.checks))) x → Lacks x f k → ⊥
@@ -168,13 +168,13 @@ judged_holds Other d m cells f rights k flag ok is le lt has x found lacks = abs
 
 -- what a step that needs the right is
 pub record Needing (step : Step) (p f k : ℕ) : Type 0 where
-  pub succeeds : is_success (demand step.line).reply ≡ true
+  pub succeeds : is_success (requirement step.line).reply ≡ true
   pub own : p ≡ step.line.pid
-  pub needs : checks_need (listed (demand step.line).checks) f k ≡ true
+  pub needs : checks_need (listed (requirement step.line).checks) f k ≡ true
 
 pub needing : (step : Step) (p f k : ℕ) → step_needs step p f k ≡ true → Needing step p f k
 needing step p f k is =
-    let d = demand step.line in
+    let d = requirement step.line in
     let first = and_parts (is_success d.reply) (p == step.line.pid && checks_need (listed d.checks) f k) is in
     let second = and_parts (p == step.line.pid) (checks_need (listed d.checks) f k) first.1 in
     record { succeeds = first.0; own = eqb-true p step.line.pid second.0; needs = second.1 }
@@ -242,7 +242,7 @@ differ_now : (s less : State) (step : Step) (later : List Step) (p f k : ℕ) (x
     → Differ s less p f k x
     → Needing step p f k → NewIn (check less (step ∷ later)) (check s (step ∷ later)) k
 differ_now s less step later p f k x lt d n =
-    let dem = demand step.line in
+    let dem = requirement step.line in
     let me = step.line.pid in
     let lacking = judged_lacks dem.reply dem (less.mode me) (less.cell me) f d.fewer k x n.succeeds n.needs
     (ap (λ (r : ℕ). less.cell r f) (sym n.own) ∙ d.is_less) d.set_less lt d.lacks in

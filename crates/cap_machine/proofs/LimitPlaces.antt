@@ -136,14 +136,14 @@ limited_cell profile s p f asked rights x is =
     (sym (and_from (p == p) (f == f) (eq-eqb p p refl) (eq-eqb f f refl)))
     (ap (applied (limit asked)) is ∙ limit_held asked rights x)
 
--- a finding behind more steps
-new_behind : (k : ℕ) (first : List Step) (s : State) (after before : List Step)
+-- a finding after more steps
+new_beyond : (k : ℕ) (first : List Step) (s : State) (after before : List Step)
     → NewIn (check (ended s first) after) (check (ended s first) before) k
     → NewIn (check s (first ++ after)) (check s (first ++ before)) k
-new_behind k [] s after before h = h
-new_behind k (step ∷ first) s after before h =
+new_beyond k [] s after before h = h
+new_beyond k (step ∷ first) s after before h =
     new_later s s step step (first ++ before) (first ++ after) k
-    (new_behind k first (step_after step s) after before
+    (new_beyond k first (step_after step s) after before
     (subst (λ (r : State). NewIn (check r after) (check r before) k) (ended_first s step first) h))
 
 -- a row with one right less, among all others
@@ -152,12 +152,12 @@ module _ (profile : Profile) (after : List Limited) (more : List Row) (f rights 
   abbrev later : List Step
   later = without_limits after
 
-  abbrev behind : ℕ → List Row → List Step
-  behind p rows = map (limit_step profile p) rows ++ with_limits profile after
+  abbrev beyond : ℕ → List Row → List Step
+  beyond p rows = map (limit_step profile p) rows ++ with_limits profile after
 
   row_lacks : (p : ℕ) (old new : State) → Enough later old new → HoldsSets old
       → All (IsLimit old later p) ((f, rights) ∷ more) → AreLimits old after
-      → NewIn (check new (behind p ((f, fewer) ∷ more))) (check new (behind p ((f, rights) ∷ more))) k
+      → NewIn (check new (beyond p ((f, fewer) ∷ more))) (check new (beyond p ((f, rights) ∷ more))) k
   row_lacks p old new enough sets rows are =
       let is = All-head (IsLimit old later p) (f, rights) more rows in
       let just = as_limit (Live later p f) (old.cell p f) (new.cell p f) is.0 is.1 is.2 (sets p f is.0 is.1 is.2) rights
@@ -167,7 +167,7 @@ module _ (profile : Profile) (after : List Limited) (more : List Row) (f rights 
       let flag : is.1 ≡ less.flag = same_flag is.0 less.rights is.1 less.flag (sym is.2 ∙ less.is) in
       let good = limit_step profile p (f, rights) in
       let bad = limit_step profile p (f, fewer) in
-      let tail = behind p more in
+      let tail = beyond p more in
       let alive : Live tail p f is.1 k =
       live_past_rows profile later (with_limits profile after) old p more p f is.0 k is.1 lt is.2 parts.0 parts.1
       (All-tail (IsLimit old later p) (f, rights) more rows)
@@ -189,11 +189,11 @@ module _ (profile : Profile) (after : List Limited) (more : List Row) (f rights 
 
   some_lack : (some : List Row) (p : ℕ) (old new : State) → Enough later old new → HoldsSets old
       → All (IsLimit old later p) (some ++ (f, rights) ∷ more) → AreLimits old after
-      → NewIn (check new (behind p (some ++ (f, fewer) ∷ more))) (check new (behind p (some ++ (f, rights) ∷ more))) k
+      → NewIn (check new (beyond p (some ++ (f, fewer) ∷ more))) (check new (beyond p (some ++ (f, rights) ∷ more))) k
   some_lack [] p old new enough sets rows are = row_lacks p old new enough sets rows are
   some_lack (row ∷ some) p old new enough sets rows are =
       let first = limit_step profile p row in
-      new_later new new first first (behind p (some ++ (f, rights) ∷ more)) (behind p (some ++ (f, fewer) ∷ more)) k
+      new_later new new first first (beyond p (some ++ (f, rights) ∷ more)) (beyond p (some ++ (f, fewer) ∷ more)) k
       (some_lack some p old (step_after first new)
       (enough_limited profile later old new p row enough sets
       (All-head (IsLimit old later p) row (some ++ (f, rights) ∷ more) rows)) sets
@@ -206,7 +206,7 @@ module _ (profile : Profile) (after : List Limited) (more : List Row) (f rights 
       (check new (with_limits profile (before ++ (step, some ++ (f, rights) ∷ more) ∷ after))) k
   place_lacks some step [] old new enough sets are =
       let p = step.line.pid in
-      new_later new new step step (behind p (some ++ (f, rights) ∷ more)) (behind p (some ++ (f, fewer) ∷ more)) k
+      new_later new new step step (beyond p (some ++ (f, rights) ∷ more)) (beyond p (some ++ (f, fewer) ∷ more)) k
       (some_lack some p (step_after step old) (step_after step new) (enough_after step later old new enough)
       (holds_sets_after step old sets) are.0 are.1)
   place_lacks some step (place ∷ before) old new enough sets are =
@@ -214,7 +214,7 @@ module _ (profile : Profile) (after : List Limited) (more : List Row) (f rights 
       let bad : List Limited = before ++ (step, some ++ (f, fewer) ∷ more) ∷ after in
       let limits = limits_after profile place in
       new_later new new place.0 place.0 (limits ++ with_limits profile good) (limits ++ with_limits profile bad) k
-      (new_behind k limits (step_after place.0 new) (with_limits profile bad) (with_limits profile good)
+      (new_beyond k limits (step_after place.0 new) (with_limits profile bad) (with_limits profile good)
       (place_lacks some step before (step_after place.0 old) (ended (step_after place.0 new) limits)
       (limited_enough profile place good old new enough sets are) (holds_sets_after place.0 old sets) are.1))
 

@@ -15,20 +15,20 @@ use Rattle.cap_machine.specs.declared.cell.HeldOp.{HeldOp}
 use Rattle.cap_machine.specs.declared.cell.HeldOp.TheVariants.{Becomes, Keeps}
 use Rattle.cap_machine.specs.declared.cell.Op.{Op}
 use Rattle.cap_machine.specs.declared.rule.Check.{Check}
-use Rattle.cap_machine.specs.declared.rule.Demand.{Demand}
+use Rattle.cap_machine.specs.declared.rule.Requirement.{Requirement}
 use Rattle.cap_machine.specs.declared.rule.Effect.{Effect}
 use Rattle.cap_machine.specs.declared.rule.Effect.TheVariants.{Keep, Start, Exit, Forget, Exec, CloseFrom, Enter, Give}
 use Rattle.cap_machine.specs.declared.rule.Effect.TheVariants.{GiveTwo, Change, Fork, ForkAs}
 use Rattle.cap_machine.specs.Op.{held_op, same, exec}
-use Rattle.cap_trace.specs.Seen.{fds_spelled}
+use Rattle.cap_trace.specs.Views.{fds_spelled}
 use Rattle.cap_machine.specs.declared.step.Step.{Step}
-use Rattle.cap_machine.specs.Rule.{demand}
+use Rattle.cap_machine.specs.Rule.{requirement}
 use Rattle.cap_machine.specs.Touch.{Touch, kept, given, taken, started, touch}
 use Rattle.cap_machine.specs.Effect.{effect_touch}
 use Rattle.cap_machine.specs.Judge.{listed}
 use Rattle.cap_machine.specs.Live.{is_success, checks_need, step_needs, HandsOn, Passes, Live}
 use Rattle.cap_machine.specs.Wanted.{back_through, wanted_with, undone, gathered, is_child, with_checks}
-use Rattle.cap_machine.specs.Wanted.{with_demand, wanted_before}
+use Rattle.cap_machine.specs.Wanted.{with_requirement, wanted_before}
 use Rattle.std.proofs.Math.Path.{fun_ext}
 
 -- ---- one line of a process, as the code takes it apart
@@ -70,10 +70,11 @@ by_own me p own new mid rest f is_mid is =
     (is_mid me ∙ cond-true (me == me) own (rest me) (eq-eqb me me refl))
     ∙ own_then (p == me) own (mid p) (rest p) (is_mid p) (f own)
 
-pub before_rule : (d : Demand) (effect : Effect) (me : ℕ) (w mid new : ℕ → ℕ → OnExec → ℕ)
+pub before_rule : (d : Requirement) (effect : Effect) (me : ℕ) (w mid new : ℕ → ℕ → OnExec → ℕ)
     → ((p f : ℕ) (x : OnExec) → mid p f x
     ≡ (if p == me then gathered effect me w f x else (if is_child effect p then 0 else w p f x)))
-    → (p f : ℕ) (x : OnExec) → new p f x ≡ (if p == me then with_demand d (undone effect (mid me)) f x else mid p f x)
+    → (p f : ℕ) (x : OnExec) → new p f x
+    ≡ (if p == me then with_requirement d (undone effect (mid me)) f x else mid p f x)
     → new p f x ≡ wanted_before d effect me w p f x
 before_rule d effect me w mid new is_mid p f x is =
     let own : mid me ≡ gathered effect me w =
@@ -81,9 +82,9 @@ before_rule d effect me w mid new is_mid p f x is =
     ∙ cond-true (me == me) (gathered effect me w g y) (if is_child effect me then 0 else w me g y)
     (eq-eqb me me refl))) in
     is
-    ∙ ap (λ (u : ℕ → OnExec → ℕ). if p == me then with_demand d (undone effect u) f x else mid p f x) own
+    ∙ ap (λ (u : ℕ → OnExec → ℕ). if p == me then with_requirement d (undone effect u) f x else mid p f x) own
     ∙ own_then (p == me) (gathered effect me w f x) (mid p f x) (if is_child effect p then 0 else w p f x)
-    (is_mid p f x) (with_demand d (undone effect (gathered effect me w)) f x)
+    (is_mid p f x) (with_requirement d (undone effect (gathered effect me w)) f x)
 
 -- ---- where rights come from
 
@@ -492,16 +493,18 @@ needs_in false true checks w f x k r = refl
 needs_in false false checks w f x k r = refl
 
 -- right by right: what is wanted before a line is live there
-pub live_before : (step : Step) (d : Demand) (effect : Effect) (me : ℕ) (w new : ℕ → ℕ → OnExec → ℕ) (later : List Step)
-    → d ≡ demand step.line → me ≡ step.line.pid → ((p f : ℕ) → effect_touch effect me p f ≡ touch step p f)
+pub live_before : (step : Step) (d : Requirement) (effect : Effect) (me : ℕ) (w new : ℕ → ℕ → OnExec → ℕ)
+    (later : List Step)
+    → d ≡ requirement step.line → me ≡ step.line.pid → ((p f : ℕ) → effect_touch effect me p f ≡ touch step p f)
     → ((p f : ℕ) (x : OnExec) → new p f x ≡ wanted_before d effect me w p f x)
     → ((p f : ℕ) (x : OnExec) (k : ℕ) → k < 63 → (holds (w p f x) k ≡ true) ↔ Live later p f x k)
     → (p f : ℕ) (x : OnExec) (k : ℕ) → k < 63 → (holds (new p f x) k ≡ true) ↔ Live (step ∷ later) p f x k
-live_before step d effect me w new later is_demand is_me touches is live p f x k lt =
+live_before step d effect me w new later is_requirement is_me touches is live p f x k lt =
     let needs : Bool = is_success d.reply && (p == me && checks_need (listed d.checks) f k) in
     let is_needs : needs ≡ step_needs step p f k =
     ap (λ (r : ℕ). is_success d.reply && (p == r && checks_need (listed d.checks) f k)) is_me
-    ∙ ap (λ (e : Demand). is_success e.reply && (p == step.line.pid && checks_need (listed e.checks) f k)) is_demand in
+    ∙ ap (λ (e : Requirement). is_success e.reply
+    && (p == step.line.pid && checks_need (listed e.checks) f k)) is_requirement in
     let split : holds (new p f x) k ≡ (needs || holds (moved effect me w p f x) k) =
     ap (λ (r : ℕ). holds r k) (is p f x)
     ∙ needs_in (is_success d.reply) (p == me) (listed d.checks) (undone effect (gathered effect me w)) f x k

@@ -63,7 +63,7 @@ row_limits next later at p f (Held rights flag) w rows is live rest =
     (record { at = at; pid = p; fd = f; rights = least_of rights (w flag) }) rows
     (rights, flag, is, least_is later p f rights (w flag) flag (live flag)) rest
 
--- the rows of two descriptors behind others
+-- the rows of two descriptors after others
 pub both_rows : (s : State) (at p f g : ℕ) (w : ℕ → OnExec → ℕ) (rows : List MakerLimit)
     → (rows ++ maker_row at p f (s.cell p f) (w f)) ++ maker_row at p g (s.cell p g) (w g)
     ≡ rows ++ maker_rows s at p (f ∷ g ∷ []) w

@@ -6,16 +6,16 @@ use Rattle.std.proofs.lemmas.List.{length-reverse}
 use Rattle.std.proofs.lemmas.Bool.{cases_eq, ne_eqb}
 use Rattle.std.proofs.Math.Logic.{⊎_elim}
 use Rattle.cap_machine.specs.declared.step.Step.{Step}
-use Rattle.cap_machine.specs.declared.origin.ModeLink.{ModeLink}
-use Rattle.cap_machine.specs.declared.origin.ModeEnd.{ModeEnd}
-use Rattle.cap_machine.specs.declared.origin.ModeEnd.TheVariants as modes
+use Rattle.cap_machine.specs.declared.provenance.ModeLink.{ModeLink}
+use Rattle.cap_machine.specs.declared.provenance.ModeEnd.{ModeEnd}
+use Rattle.cap_machine.specs.declared.provenance.ModeEnd.TheVariants as modes
 use Rattle.cap_machine.specs.declared.cell.Mode.{Mode}
 use Rattle.cap_machine.specs.State.{State}
 use Rattle.cap_machine.specs.Touch.{Turn, stays, turns, follows, turn}
 use Rattle.cap_machine.specs.History.{turned, mode_after}
-use Rattle.cap_machine.specs.Origin.{named_turn, ModeChain, by_turn, mode_chain}
-use Rattle.cap_machine.specs.OriginLaws.{turn_at, mode_at_end, ModesAreFollowed, Unturned, ModeGoesOn, IsModeChain}
-use Rattle.cap_machine.specs.OriginLaws.{ModesSkipNone}
+use Rattle.cap_machine.specs.Provenance.{named_turn, ModeChain, by_turn, mode_chain}
+use Rattle.cap_machine.specs.ProvenanceLaws.{turn_at, mode_at_end, ModesAreFollowed, Unturned, ModeGoesOn, IsModeChain}
+use Rattle.cap_machine.specs.ProvenanceLaws.{ModesSkipNone}
 
 -- ---- a chain ends in the mode
 

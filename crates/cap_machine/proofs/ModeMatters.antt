@@ -12,7 +12,7 @@ use Rattle.cap_machine.specs.declared.cell.Mode.TheVariants.{Inside, Outside}
 use Rattle.cap_machine.specs.declared.rule.Class.{Class}
 use Rattle.cap_machine.specs.declared.rule.Class.TheVariants.{Forbidden, Allowed, Either}
 use Rattle.cap_machine.specs.declared.rule.Check.{Check}
-use Rattle.cap_machine.specs.declared.rule.Demand.{Demand}
+use Rattle.cap_machine.specs.declared.rule.Requirement.{Requirement}
 use Rattle.cap_machine.specs.declared.rule.Reply.{Reply}
 use Rattle.cap_machine.specs.declared.rule.Reply.TheVariants.{Success, NotCapable, NotPermitted, Other}
 use Rattle.cap_machine.specs.declared.verdict.Finding.{Finding}
@@ -65,7 +65,7 @@ forbidden_free Forbidden m n e = absurd (cc)
 forbidden_free Allowed m n e = refl
 forbidden_free Either m n e = refl
 
-free_by : (reply : Reply) (d : Demand) (m n : Mode) (cells : List Cell) → mode_matters_by reply d ≡ false
+free_by : (reply : Reply) (d : Requirement) (m n : Mode) (cells : List Cell) → mode_matters_by reply d ≡ false
     → judged_by reply d m cells ≡ judged_by reply d n cells
 free_by Success d m n cells e =
     ap (λ (r : List Finding). r ++ faults d.word (listed d.checks) cells) (forbidden_free d.class m n e)
@@ -127,7 +127,7 @@ forbidden_differs Forbidden rest e same =
 forbidden_differs Allowed rest e same = absurd (cc)
 forbidden_differs Either rest e same = absurd (cc)
 
-known_by_reply : (reply : Reply) (d : Demand) → mode_matters_by reply d ≡ true
+known_by_reply : (reply : Reply) (d : Requirement) → mode_matters_by reply d ≡ true
     → judged_by reply d Inside (excusing (listed d.checks)) ≡ judged_by reply d Outside (excusing (listed d.checks)) → ⊥
 known_by_reply Success d e same =
     forbidden_differs d.class (faults d.word (listed d.checks) (excusing (listed d.checks))) e same

@@ -8,7 +8,7 @@ use Rattle.std.proofs.lemmas.Bool.{ne_eqb, eqb-true, or_left, or_right, and_from
 use Rattle.std.proofs.lemmas.Bool.Decides.{nat_tests}
 use Rattle.std.proofs.lemmas.List.Elements.{All-cons, All-nil}
 use Rattle.std.proofs.lemmas.Bool.{or_from, or_parts}
-use Rattle.cap_trace.specs.Seen.{fds_spelled}
+use Rattle.cap_trace.specs.Views.{fds_spelled}
 use Rattle.cap_trace.specs.Item.{Item}
 use Rattle.cap_trace.specs.Item as items
 use Rattle.cap_trace.specs.Call.{Call}
@@ -54,7 +54,7 @@ use Rattle.cap_machine.specs.Touch.{exec_touch, closefrom_touch, closing, opened
 use Rattle.cap_machine.specs.Touch.{fcntl_touch, fcntl_copied_to, path_touch, at_touch, flags_touch, fork_touch}
 use Rattle.cap_machine.specs.Touch.{pdfork_touch, bare_touch, call_touch, item_touch, started}
 use Rattle.cap_machine.specs.Effect.{effect_touch}
-use Rattle.cap_machine.specs.Rule.{call_demand, item_demand, fd_demand, fcntl_demand, place_check}
+use Rattle.cap_machine.specs.Rule.{call_requirement, item_requirement, fd_requirement, fcntl_requirement, place_check}
 use Rattle.cap_machine.specs.Rule.{both, check_of}
 use Rattle.cap_machine.specs.Judge.{listed}
 use Rattle.cap_machine.specs.Named.{dir_names, arg_names, answer_names, item_answer_names, names_fd}
@@ -583,12 +583,12 @@ module _ (named : ℕ → Bool) where
   one_check check is = All-cons IsIn check [] is (All-nil IsIn)
 
   fd_checks : (call : FdCall) (f : ℕ) (answer : Answer) → named f ≡ true
-      → All IsIn (listed (fd_demand call f answer).checks)
+      → All IsIn (listed (fd_requirement call f answer).checks)
   fd_checks Closefrom f answer is = All-nil IsIn
   fd_checks _ f answer is = one_check _ is
 
   fcntl_checks : (needs : Option ℕ) (f : ℕ) (answer : Answer) → named f ≡ true
-      → All IsIn (listed (fcntl_demand needs f answer).checks)
+      → All IsIn (listed (fcntl_requirement needs f answer).checks)
   fcntl_checks None f answer is = All-nil IsIn
   fcntl_checks (Some needs) f answer is = one_check _ is
 
@@ -616,7 +616,7 @@ module _ (named : ℕ → Bool) where
 
 module _ (named : ℕ → Bool) (answer : Answer) where
   call_checks : (call : Call) → ((g : ℕ) → list_any (arg_names g) (args_of_call call) ≡ true → named g ≡ true)
-      → All (λ (check : Check). named check.fd ≡ true) (listed (call_demand call answer).checks)
+      → All (λ (check : Check). named check.fd ≡ true) (listed (call_requirement call answer).checks)
   call_checks (calls.OnFd call f) is = fd_checks named call f answer (is f (leading f _))
   call_checks (calls.Send call f) is = one_check named _ (is f (leading f _))
   call_checks (calls.SendTo call f) is = one_check named _ (is f (leading f _))
@@ -649,7 +649,7 @@ module _ (named : ℕ → Bool) (answer : Answer) where
   call_checks _ is = All-nil (λ (check : Check). named check.fd ≡ true)
 
 item_checks : (item : Item) → All (λ (check : Check). list_any (arg_names check.fd) (args_of item) ≡ true)
-    (listed (item_demand item).checks)
+    (listed (item_requirement item).checks)
 item_checks (items.Call call answer) =
     call_checks (λ g. list_any (arg_names g) (args_of_call call)) answer call (λ g is. is)
 item_checks item = All-nil (λ (check : Check). list_any (arg_names check.fd) (args_of item) ≡ true)

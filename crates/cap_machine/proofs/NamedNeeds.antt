@@ -36,7 +36,8 @@ use Rattle.cap_machine.specs.Needs.{access_needs, opening_needs, openat_needs, a
 use Rattle.cap_machine.specs.Needs.{rename_from_needs, rename_to_needs, link_from_needs, link_to_needs}
 use Rattle.cap_machine.specs.Places.{Place, below}
 use Rattle.cap_machine.specs.Judge.{listed}
-use Rattle.cap_machine.specs.Rule.{fd_demand, fcntl_demand, call_demand, item_demand, place_check, place_checks, both}
+use Rattle.cap_machine.specs.Rule.{fd_requirement, fcntl_requirement, call_requirement, item_requirement, place_check}
+use Rattle.cap_machine.specs.Rule.{place_checks, both}
 
 abbrev pub IsNamed : ℕ → Type 0
 IsNamed rights = rights < 2 ^ 63
@@ -249,16 +250,16 @@ two_places excuse x y first second =
 
 -- ---- each form of call
 
-fd_checks : (call : FdCall) (f : ℕ) (answer : Answer) → AllNamed (listed (fd_demand call f answer).checks)
+fd_checks : (call : FdCall) (f : ℕ) (answer : Answer) → AllNamed (listed (fd_requirement call f answer).checks)
 fd_checks Closefrom f answer = tt
 fd_checks call f answer = (fd_named call, tt)
 
 fcntl_checks : (needs : Option ℕ) (f : ℕ) (answer : Answer) → IsNamedOption needs
-    → AllNamed (listed (fcntl_demand needs f answer).checks)
+    → AllNamed (listed (fcntl_requirement needs f answer).checks)
 fcntl_checks None f answer is = tt
 fcntl_checks (Some n) f answer is = (is, tt)
 
-call_checks : (call : Call) (answer : Answer) → AllNamed (listed (call_demand call answer).checks)
+call_checks : (call : Call) (answer : Answer) → AllNamed (listed (call_requirement call answer).checks)
 call_checks (calls.OnFd call f) answer = fd_checks call f answer
 call_checks (calls.Send call f) answer = (send_named, tt)
 call_checks (calls.SendTo call f) answer = (send_to_named, tt)
@@ -288,7 +289,7 @@ call_checks (calls.OnFlags call flags) answer = tt
 call_checks (calls.Bare call) answer = tt
 call_checks (calls.Other name args) answer = tt
 
-pub item_checks : (item : Item) → AllNamed (listed (item_demand item).checks)
+pub item_checks : (item : Item) → AllNamed (listed (item_requirement item).checks)
 item_checks (items.Call call answer) = call_checks call answer
 item_checks (items.Start fds) = tt
 item_checks items.Exit = tt

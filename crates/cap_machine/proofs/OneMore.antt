@@ -18,7 +18,7 @@ use Rattle.cap_machine.specs.Check.{found_at}
 use Rattle.cap_machine.specs.Report.{finding_line}
 use Rattle.cap_machine.specs.Denials.{denied_at}
 use Rattle.cap_machine.specs.DenialReport.{denial_line}
-use Rattle.cap_machine.specs.Questions.{answer_count, answer_lines, line_count, line_text, LineIsSilent}
+use Rattle.cap_machine.specs.Questions.{answer_count, answer_lines, line_count, line_text, LineHasNoEntry}
 use Rattle.cap_machine.specs.Table.{state_of, start_state, Keeps, step_after}
 use Rattle.cap_machine.proofs.KnownTables.{state_known}
 use Rattle.cap_machine.proofs.Turns.{ends_more, same_state}
@@ -84,11 +84,11 @@ asked_more a b was now line q profile s trace knew knows asks same lines said te
     }
 
 -- a line of which nothing is said
-pub silent_count : (q : Question) (line : Entry) (s : State) → LineIsSilent q line s → line_count q line s ≡ 0
+pub silent_count : (q : Question) (line : Entry) (s : State) → LineHasNoEntry q line s → line_count q line s ≡ 0
 silent_count Findings line s is = ap length is
 silent_count Denials line s is = ap length is
 
-pub silent_text : (q : Question) (at : ℕ) (line : Entry) (s : State) → LineIsSilent q line s
+pub silent_text : (q : Question) (at : ℕ) (line : Entry) (s : State) → LineHasNoEntry q line s
     → line_text q at line s ≡ []
 silent_text Findings at line s is = ap (flat_map (λ f. finding_line line (found_at at f))) is
 silent_text Denials at line s is = ap (flat_map (λ d. denial_line line (denied_at at d))) is

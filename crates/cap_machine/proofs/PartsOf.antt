@@ -14,10 +14,10 @@ use Rattle.std.proofs.lemmas.List.{get_or-set_other, length-set}
 use Rattle.std.proofs.Math.Nat.{div-add-mod}
 use Rattle.std.proofs.Math.Nat.{mul-le-mul_left, mul-suc, mod-lt}
 use Rattle.std.proofs.Math.Logic.{⊎_elim}
-use Rattle.cap_machine.specs.Cells.Pending.{settled}
+use Rattle.cap_machine.specs.Cells.Deferred.{with_deferred}
 use Rattle.cap_machine.specs.Cells.Parts.{look}
-use Rattle.cap_machine.specs.declared.cells.pending.Pending.{Pending}
-use Rattle.cap_machine.specs.declared.cells.pending.Pending.TheVariants.{Nothing, Close}
+use Rattle.cap_machine.specs.declared.cells.deferred.Deferred.{Deferred}
+use Rattle.cap_machine.specs.declared.cells.deferred.Deferred.TheVariants.{Nothing, Close}
 use Rattle.cap_machine.specs.declared.cell.Cell.{Cell}
 use Rattle.cap_machine.specs.declared.cell.Cell.TheVariants.{Unknown, Closed}
 
@@ -71,44 +71,47 @@ asked_alike R ask same (x ∷ xs) [] i zip = absurd zip
 asked_alike R ask same (x ∷ xs) (y ∷ ys) zero zip = same x y zip.0
 asked_alike R ask same (x ∷ xs) (y ∷ ys) (suc i) zip = asked_alike R ask same xs ys i zip.1
 
-pub seen : {X : Type 0} (ask : X → ℕ → Cell) (w : ℕ) (marks : List Pending) (parts : List X) (f : ℕ) (d : X)
+pub view : {X : Type 0} (ask : X → ℕ → Cell) (w : ℕ) (marks : List Deferred) (parts : List X) (f : ℕ) (d : X)
     → f / w < length parts
-    → look ask w marks parts f ≡ settled (get_or marks (f / w) Nothing) (ask (get_or parts (f / w) d) (f % w))
-seen ask w marks parts f d lt =
-    ap (settled (get_or marks (f / w) Nothing)) (asked (λ part. ask part (f % w)) parts (f / w) d lt)
+    → look ask w marks parts f ≡ with_deferred (get_or marks (f / w) Nothing) (ask (get_or parts (f / w) d) (f % w))
+view ask w marks parts f d lt =
+    ap (with_deferred (get_or marks (f / w) Nothing)) (asked (λ part. ask part (f % w)) parts (f / w) d lt)
 
 -- in the part of another descriptor
-seen_at : {X : Type 0} (ask : X → ℕ → Cell) (w : ℕ) (marks : List Pending) (parts : List X) (f i : ℕ) (d : X)
+seen_at : {X : Type 0} (ask : X → ℕ → Cell) (w : ℕ) (marks : List Deferred) (parts : List X) (f i : ℕ) (d : X)
     → f / w < length parts
-    → f / w ≡ i → look ask w marks parts f ≡ settled (get_or marks i Nothing) (ask (get_or parts i d) (f % w))
+    → f / w ≡ i → look ask w marks parts f ≡ with_deferred (get_or marks i Nothing) (ask (get_or parts i d) (f % w))
 seen_at ask w marks parts f i d lt e =
-    seen ask w marks parts f d lt
-    ∙ ap (λ k. settled (get_or marks k Nothing) (ask (get_or parts k d) (f % w))) e
+    view ask w marks parts f d lt
+    ∙ ap (λ k. with_deferred (get_or marks k Nothing) (ask (get_or parts k d) (f % w))) e
 
 -- where one part is another now
-seen_new : {X : Type 0} (ask : X → ℕ → Cell) (w : ℕ) (marks : List Pending) (parts : List X) (f i : ℕ) (new : X)
+seen_new : {X : Type 0} (ask : X → ℕ → Cell) (w : ℕ) (marks : List Deferred) (parts : List X) (f i : ℕ) (new : X)
     → f / w < length parts
-    → f / w ≡ i → look ask w marks (set parts i new) f ≡ settled (get_or marks (f / w) Nothing) (ask new (f % w))
+    → f / w ≡ i → look ask w marks (set parts i new) f ≡ with_deferred (get_or marks (f / w) Nothing) (ask new (f % w))
 seen_new ask w marks parts f i new lt e =
     let within : f / w < length (set parts i new) = omega (arith, length-set parts i new) in
     let at : i < length parts = omega arith in
-    seen ask w marks (set parts i new) f new within
-    ∙ ap (λ x. settled (get_or marks (f / w) Nothing) (ask x (f % w))) (get_or-set_at parts i (f / w) new new e at)
+    view ask w marks (set parts i new) f new within
+    ∙ ap (λ x. with_deferred (get_or marks (f / w) Nothing) (ask x (f % w)))
+    (get_or-set_at parts i (f / w) new new e at)
 
 -- and in the other parts
-seen_other : {X : Type 0} (ask : X → ℕ → Cell) (w : ℕ) (marks : List Pending) (parts : List X) (f i : ℕ) (new : X)
+seen_other : {X : Type 0} (ask : X → ℕ → Cell) (w : ℕ) (marks : List Deferred) (parts : List X) (f i : ℕ) (new : X)
     → f / w < length parts → (f / w ≡ i → ⊥) → look ask w marks (set parts i new) f ≡ look ask w marks parts f
 seen_other ask w marks parts f i new lt ne =
     let within : f / w < length (set parts i new) = omega (arith, length-set parts i new) in
-    seen ask w marks (set parts i new) f new within
-    ∙ ap (λ x. settled (get_or marks (f / w) Nothing) (ask x (f % w))) (get_or-set_other parts i (f / w) new new ne)
-    ∙ sym (seen ask w marks parts f new lt)
+    view ask w marks (set parts i new) f new within
+    ∙ ap (λ x. with_deferred (get_or marks (f / w) Nothing) (ask x (f % w)))
+    (get_or-set_other parts i (f / w) new new ne)
+    ∙ sym (view ask w marks parts f new lt)
 
 -- one part is written, and nothing is pending there
-pub part_written : {X : Type 0} (ask : X → ℕ → Cell) (w : ℕ) (marks : List Pending) (parts : List X) (fd : ℕ)
+pub part_written : {X : Type 0} (ask : X → ℕ → Cell) (w : ℕ) (marks : List Deferred) (parts : List X) (fd : ℕ)
     (cell : Cell) (old new : X) (f : ℕ)
     → length marks ≡ 8 → length parts ≡ 8 → fd / w < 8 → f / w < 8 → ask new (f % w) ≡ (if f % w == fd % w
-    then cell else settled (slice_index_or marks (fd / w) Nothing) (ask (slice_index_or parts (fd / w) old) (f % w)))
+    then cell else with_deferred (slice_index_or marks (fd / w) Nothing)
+    (ask (slice_index_or parts (fd / w) old) (f % w)))
     → look ask w (slice_set marks (fd / w) Nothing) (slice_set parts (fd / w) new) f
     ≡ (if f == fd then cell else look ask w marks parts f)
 part_written ask w marks parts fd cell old new f m p lt lf wrote =
@@ -117,24 +120,25 @@ part_written ask w marks parts fd cell old new f m p lt lf wrote =
     ⊎_elim
     (λ e.
     seen_new ask w (set marks (fd / w) Nothing) parts f (fd / w) new within e
-    ∙ ap (λ k. settled k (ask new (f % w))) (get_or-set_at marks (fd / w) (f / w) Nothing Nothing e marked)
+    ∙ ap (λ k. with_deferred k (ask new (f % w))) (get_or-set_at marks (fd / w) (f / w) Nothing Nothing e marked)
     ∙ wrote
     ∙ ap (λ c. if f % w == fd % w then cell else c) (sym (seen_at ask w marks parts f (fd / w) old within e))
     ∙ ap (λ b. if b then cell else look ask w marks parts f) (sym (same_part f fd w e)))
     (λ ne.
     seen_other ask w (set marks (fd / w) Nothing) parts f (fd / w) new within ne
-    ∙ ap (λ k. settled k (option_map_or (λ part. ask part (f % w)) (slice_get parts (f / w)) Unknown))
+    ∙ ap (λ k. with_deferred k (option_map_or (λ part. ask part (f % w)) (slice_get parts (f / w)) Unknown))
     (get_or-set_other marks (fd / w) (f / w) Nothing Nothing ne)
     ∙ ap (λ b. if b then cell else look ask w marks parts f) (sym (other_part f fd w ne)))
     (cases_eq (f / w) (fd / w))
 
 -- one part is closed from a descriptor on and nothing is pending there, and those after it are closed
-pub part_closed : {X : Type 0} (ask : X → ℕ → Cell) (w : ℕ) (marks later : List Pending) (parts : List X) (fd : ℕ)
+pub part_closed : {X : Type 0} (ask : X → ℕ → Cell) (w : ℕ) (marks later : List Deferred) (parts : List X) (fd : ℕ)
     (d new : X) (f : ℕ) → 0 < w
     → length marks ≡ 8 → length parts ≡ 8 → fd / w < 8 → f / w < 8 → ask new (f % w) ≡ (if nat_le (fd % w) (f % w)
-    then Closed else settled (slice_index_or marks (fd / w) Nothing) (ask (slice_index_or parts (fd / w) d) (f % w)))
-    → ((i : ℕ) (c : Cell) → i < 8 → settled (slice_index_or later i Nothing) c ≡ (if nat_le (fd / w + 1) i
-    then Closed else settled (slice_index_or (slice_set marks (fd / w) Nothing) i Nothing) c))
+    then Closed else with_deferred (slice_index_or marks (fd / w) Nothing)
+    (ask (slice_index_or parts (fd / w) d) (f % w)))
+    → ((i : ℕ) (c : Cell) → i < 8 → with_deferred (slice_index_or later i Nothing) c ≡ (if nat_le (fd / w + 1) i
+    then Closed else with_deferred (slice_index_or (slice_set marks (fd / w) Nothing) i Nothing) c))
     → look ask w later (slice_set parts (fd / w) new) f ≡ (if nat_le fd f then Closed else look ask w marks parts f)
 part_closed ask w marks later parts fd d new f pos m p lt lf wrote closed =
     let within : f / w < length parts = omega arith in
@@ -144,9 +148,10 @@ part_closed ask w marks later parts fd d new f pos m p lt lf wrote closed =
     let before : nat_le (fd / w + 1) (f / w) ≡ false = grind (arith, nat_tests, e) in
     seen_new ask w later parts f (fd / w) new within e
     ∙ closed (f / w) (ask new (f % w)) lf
-    ∙ ap (λ b. if b then Closed else settled (get_or (set marks (fd / w) Nothing) (f / w) Nothing) (ask new (f % w)))
+    ∙ ap (λ b. if b then Closed else with_deferred (get_or (set marks (fd / w) Nothing) (f / w) Nothing)
+    (ask new (f % w)))
     before
-    ∙ ap (λ k. settled k (ask new (f % w))) (get_or-set_at marks (fd / w) (f / w) Nothing Nothing e marked)
+    ∙ ap (λ k. with_deferred k (ask new (f % w))) (get_or-set_at marks (fd / w) (f / w) Nothing Nothing e marked)
     ∙ wrote
     ∙ ap (λ c. if nat_le (fd % w) (f % w) then Closed else c) (sym (seen_at ask w marks parts f (fd / w) d within e))
     ∙ ap (λ b. if b then Closed else look ask w marks parts f) (sym (same_part_from f fd w e)))
@@ -154,7 +159,7 @@ part_closed ask w marks later parts fd d new f pos m p lt lf wrote closed =
     let there : Cell = option_map_or (λ part. ask part (f % w)) (slice_get parts (f / w)) Unknown in
     seen_other ask w later parts f (fd / w) new within ne
     ∙ closed (f / w) there lf
-    ∙ ap (λ k. if nat_le (fd / w + 1) (f / w) then Closed else settled k there)
+    ∙ ap (λ k. if nat_le (fd / w + 1) (f / w) then Closed else with_deferred k there)
     (get_or-set_other marks (fd / w) (f / w) Nothing Nothing ne)
     ∙ ap (λ b. if b then Closed else look ask w marks parts f) (sym (other_part_from f fd w pos ne)))
     (cases_eq (f / w) (fd / w))
@@ -164,48 +169,50 @@ more : (i k : ℕ) → (i ≡ k → ⊥) → nat_lt i k ≡ nat_lt i (k + 1)
 more i k ne = grind (arith, nat_tests, ne)
 
 -- one more place is closed
-pub closed_more : (now old : List Pending) (from k i : ℕ) (c : Cell) → length now ≡ 8 → from ≤ k → k < 8
-    → settled (slice_index_or now i Nothing) c
-    ≡ (if nat_le from i && nat_lt i k then Closed else settled (slice_index_or old i Nothing) c)
-    → settled (slice_index_or (slice_set now k Close) i Nothing) c
-    ≡ (if nat_le from i && nat_lt i (k + 1) then Closed else settled (slice_index_or old i Nothing) c)
+pub closed_more : (now old : List Deferred) (from k i : ℕ) (c : Cell) → length now ≡ 8 → from ≤ k → k < 8
+    → with_deferred (slice_index_or now i Nothing) c
+    ≡ (if nat_le from i && nat_lt i k then Closed else with_deferred (slice_index_or old i Nothing) c)
+    → with_deferred (slice_index_or (slice_set now k Close) i Nothing) c
+    ≡ (if nat_le from i && nat_lt i (k + 1) then Closed else with_deferred (slice_index_or old i Nothing) c)
 closed_more now old from k i c n le lt before =
     let at : k < length now = omega arith in
     ⊎_elim
     (λ e.
     let yes : (nat_le from i && nat_lt i (k + 1)) ≡ true = grind (arith, nat_tests, e) in
-    ap (λ m. settled m c) (get_or-set_at now k i Close Nothing e at)
-    ∙ ap (λ b. if b then Closed else settled (get_or old i Nothing) c) (sym yes))
+    ap (λ m. with_deferred m c) (get_or-set_at now k i Close Nothing e at)
+    ∙ ap (λ b. if b then Closed else with_deferred (get_or old i Nothing) c) (sym yes))
     (λ ne.
     let same : (nat_le from i && nat_lt i k) ≡ (nat_le from i && nat_lt i (k + 1)) =
     ap (λ b. nat_le from i && b) (more i k ne) in
-    ap (λ m. settled m c) (get_or-set_other now k i Close Nothing ne)
+    ap (λ m. with_deferred m c) (get_or-set_other now k i Close Nothing ne)
     ∙ before
-    ∙ ap (λ b. if b then Closed else settled (get_or old i Nothing) c) same)
+    ∙ ap (λ b. if b then Closed else with_deferred (get_or old i Nothing) c) same)
     (cases_eq i k)
 
 -- one more place is settled
-pub settled_more : (now old : List Pending) (next m : Pending) (k i : ℕ) → length now ≡ 8 → k < 8
-    → ((c : Cell) → settled m c ≡ settled next (settled (slice_index_or now k Nothing) c))
-    → ((i : ℕ) (c : Cell) → i < 8 → settled (slice_index_or now i Nothing) c ≡ (if nat_lt i k
-    then settled next (settled (slice_index_or old i Nothing) c) else settled (slice_index_or old i Nothing) c))
-    → (c : Cell) → i < 8 → settled (slice_index_or (slice_set now k m) i Nothing) c ≡ (if nat_lt i (k + 1)
-    then settled next (settled (slice_index_or old i Nothing) c) else settled (slice_index_or old i Nothing) c)
-settled_more now old next m k i n lt gives before c within =
+pub with_deferred_more : (now old : List Deferred) (next m : Deferred) (k i : ℕ) → length now ≡ 8 → k < 8
+    → ((c : Cell) → with_deferred m c ≡ with_deferred next (with_deferred (slice_index_or now k Nothing) c))
+    → ((i : ℕ) (c : Cell) → i < 8 → with_deferred (slice_index_or now i Nothing) c ≡ (if nat_lt i k
+    then with_deferred next (with_deferred (slice_index_or old i Nothing) c)
+    else with_deferred (slice_index_or old i Nothing) c))
+    → (c : Cell) → i < 8 → with_deferred (slice_index_or (slice_set now k m) i Nothing) c ≡ (if nat_lt i (k + 1)
+    then with_deferred next (with_deferred (slice_index_or old i Nothing) c)
+    else with_deferred (slice_index_or old i Nothing) c)
+with_deferred_more now old next m k i n lt gives before c within =
     let at : k < length now = omega arith in
-    let done : Cell → Bool → Cell = λ d b. if b then settled next (settled (get_or old i Nothing) d)
-    else settled (get_or old i Nothing) d in
+    let done : Cell → Bool → Cell = λ d b. if b then with_deferred next (with_deferred (get_or old i Nothing) d)
+    else with_deferred (get_or old i Nothing) d in
     ⊎_elim
     (λ e.
     let yes : nat_lt i (k + 1) ≡ true = grind (arith, nat_tests, e) in
     let no : nat_lt i k ≡ false = grind (arith, nat_tests, e) in
-    ap (λ o. settled o c) (get_or-set_at now k i m Nothing e at)
+    ap (λ o. with_deferred o c) (get_or-set_at now k i m Nothing e at)
     ∙ gives c
-    ∙ ap (λ j. settled next (settled (get_or now j Nothing) c)) (sym e)
-    ∙ ap (settled next) (before i c within ∙ ap (done c) no)
+    ∙ ap (λ j. with_deferred next (with_deferred (get_or now j Nothing) c)) (sym e)
+    ∙ ap (with_deferred next) (before i c within ∙ ap (done c) no)
     ∙ ap (done c) (sym yes))
     (λ ne.
-    ap (λ o. settled o c) (get_or-set_other now k i m Nothing ne)
+    ap (λ o. with_deferred o c) (get_or-set_other now k i m Nothing ne)
     ∙ before i c within
     ∙ ap (done c) (more i k ne))
     (cases_eq i k)

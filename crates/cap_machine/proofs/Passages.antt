@@ -8,13 +8,13 @@ use Rattle.cap_machine.specs.declared.cell.Cell.TheVariants.{Unknown, Closed, He
 use Rattle.cap_machine.specs.declared.cell.OnExec.{OnExec}
 use Rattle.cap_machine.specs.declared.cell.OnExec.TheVariants as flags
 use Rattle.cap_machine.specs.declared.cell.Op.{Op}
-use Rattle.cap_machine.specs.declared.origin.CellLink.{CellLink}
-use Rattle.cap_machine.specs.declared.origin.CellEnd.{CellEnd}
+use Rattle.cap_machine.specs.declared.provenance.CellLink.{CellLink}
+use Rattle.cap_machine.specs.declared.provenance.CellEnd.{CellEnd}
 use Rattle.cap_machine.specs.declared.walks.Passage.{Passage}
 use Rattle.cap_machine.specs.Op.{applied}
 use Rattle.cap_machine.specs.Touch.{kept, given, taken}
 use Rattle.cap_machine.specs.History.{touched}
-use Rattle.cap_machine.specs.Origin.{CellChain, same_flag, same_cell, is_idle, named_touch, cell_link, by_touch}
+use Rattle.cap_machine.specs.Provenance.{CellChain, same_flag, same_cell, is_idle, named_touch, cell_link, by_touch}
 use Rattle.cap_machine.specs.Passages.{constant, cell_along, links_along, chain_along}
 use Rattle.cap_machine.specs.Walks.{chain_unless}
 use Rattle.cap_machine.specs.Following.{passage}

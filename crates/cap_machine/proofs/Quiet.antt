@@ -10,8 +10,8 @@ use Rattle.cap_machine.specs.declared.cell.Cell.TheVariants.{Unknown, Closed, He
 use Rattle.cap_machine.specs.declared.cell.Mode.{Mode}
 use Rattle.cap_machine.specs.declared.cell.Profile.TheVariants.{One, Two}
 use Rattle.cap_machine.specs.declared.rule.Check.{Check}
-use Rattle.cap_machine.specs.declared.rule.Demand.{Demand}
-use Rattle.cap_machine.specs.declared.rule.Word.{Word}
+use Rattle.cap_machine.specs.declared.rule.Requirement.{Requirement}
+use Rattle.cap_machine.specs.declared.rule.LimitWord.{LimitWord}
 use Rattle.cap_machine.specs.declared.rule.Reply.{Reply}
 use Rattle.cap_machine.specs.declared.rule.Reply.TheVariants.{Success, NotCapable, NotPermitted, Other}
 use Rattle.cap_machine.specs.declared.verdict.Finding.{Finding}
@@ -21,7 +21,7 @@ use Rattle.cap_machine.specs.Touch.{turn}
 use Rattle.cap_machine.specs.History.{after, cell_after, mode_after, turned}
 use Rattle.cap_machine.specs.Judge.{listed, fault, faults, is_excused, all_excused, judged, judged_by, forbidden}
 use Rattle.cap_machine.specs.Judge.{has_check, is_outside}
-use Rattle.cap_machine.specs.Rule.{demand}
+use Rattle.cap_machine.specs.Rule.{requirement}
 use Rattle.cap_machine.specs.Check.{check, findings, said, found_at}
 use Rattle.cap_machine.specs.ProfileLaws.{is_closefrom, did, Never, NoAlarmLost}
 use Rattle.cap_machine.proofs.Profiles.{map-reverse, any-reverse}
@@ -33,7 +33,7 @@ module _ (one two : ℕ → Cell) (under : (f : ℕ) → Under (one f) (two f)) 
   abbrev cells : (ℕ → Cell) → List Check → List Cell
   cells at checks = map (λ (check : Check). at check.fd) checks
 
-  fault_quiet : (word : Word) (check : Check) → check.needs < 2 ^ 63 → (c e : Cell) → Under c e
+  fault_quiet : (word : LimitWord) (check : Check) → check.needs < 2 ^ 63 → (c e : Cell) → Under c e
       → fault word check e ≡ [] → fault word check c ≡ []
   fault_quiet word check is Unknown e u quiet = refl
   fault_quiet word check is Closed Unknown u quiet = absurd u
@@ -44,7 +44,7 @@ module _ (one two : ℕ → Cell) (under : (f : ℕ) → Under (one f) (two f)) 
   fault_quiet word check is (Held s x) (Held t y) u quiet = quiet_of_has (has_all s check.needs) _
       (has_need s t check.needs u is (has_of_quiet (has_all t check.needs) _ quiet))
 
-  faults_quiet : (word : Word) (checks : List Check) → AllNamed checks → faults word checks (cells two checks) ≡ []
+  faults_quiet : (word : LimitWord) (checks : List Check) → AllNamed checks → faults word checks (cells two checks) ≡ []
       → faults word checks (cells one checks) ≡ []
   faults_quiet word [] are quiet = refl
   faults_quiet word (check ∷ checks) are quiet =
@@ -77,7 +77,7 @@ module _ (one two : ℕ → Cell) (under : (f : ℕ) → Under (one f) (two f)) 
   refusal_quiet true false c d x more quiet = refl
   refusal_quiet true true c d x more quiet = ap (λ e. if e && c then x ∷ [] else []) (sym (more refl)) ∙ quiet
 
-  pub judged_quiet : (d : Demand) (m : Mode) → AllNamed (listed d.checks) → (reply : Reply)
+  pub judged_quiet : (d : Requirement) (m : Mode) → AllNamed (listed d.checks) → (reply : Reply)
       → judged_by reply d m (cells two (listed d.checks)) ≡ [] → judged_by reply d m (cells one (listed d.checks)) ≡ []
   judged_quiet d m are Success quiet =
       let parts = none_of (forbidden d.class m) (faults d.word (listed d.checks) (cells two (listed d.checks))) quiet in
@@ -115,13 +115,14 @@ beside s (line ∷ history) never quiet =
     let me = line.pid in
     let modes_alike : mode_after s (steps One history) me ≡ mode_after s (steps Two history) me =
     ap (λ (m : ℕ → Mode). m me) before.modes in
-    let said_two : judged (demand line) (mode_after s (steps One history) me)
-    (map (λ (check : Check). cell_after s (steps Two history) me check.fd) (listed (demand line).checks)) ≡ [] =
-    ap (λ m. judged (demand line) m (map (λ (check : Check). cell_after s (steps Two history) me check.fd)
-    (listed (demand line).checks))) modes_alike ∙ here in
+    let said_two : judged (requirement line) (mode_after s (steps One history) me)
+    (map (λ (check : Check). cell_after s (steps Two history) me check.fd) (listed (requirement line).checks)) ≡ [] =
+    ap (λ m. judged (requirement line) m (map (λ (check : Check). cell_after s (steps Two history) me check.fd)
+    (listed (requirement line).checks))) modes_alike ∙ here in
     let said_one : said (step One line) (after s (steps One history)) ≡ [] =
     judged_quiet (cell_after s (steps One history) me) (cell_after s (steps Two history) me) (before.under me)
-    (demand line) (mode_after s (steps One history) me) (item_checks line.item) (demand line).reply said_two in
+    (requirement line) (mode_after s (steps One history) me) (item_checks line.item)
+    (requirement line).reply said_two in
     record {
       under = item_fits (cell_after s (steps One history)) (cell_after s (steps Two history)) before.under line.item
           (mode_after s (steps Two history) me) me nevers.0 here;

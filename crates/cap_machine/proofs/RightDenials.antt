@@ -12,10 +12,10 @@ use Rattle.cap_machine.specs.declared.cell.Mode.{Mode}
 use Rattle.cap_machine.specs.declared.cell.Mode.TheVariants as modes
 use Rattle.cap_machine.specs.declared.rule.Reply.{Reply}
 use Rattle.cap_machine.specs.declared.rule.Reply.TheVariants.{Success, NotCapable, NotPermitted, Other}
-use Rattle.cap_machine.specs.declared.rule.Word.{Word}
-use Rattle.cap_machine.specs.declared.rule.Word.TheVariants as words
+use Rattle.cap_machine.specs.declared.rule.LimitWord.{LimitWord}
+use Rattle.cap_machine.specs.declared.rule.LimitWord.TheVariants as words
 use Rattle.cap_machine.specs.declared.rule.Check.{Check}
-use Rattle.cap_machine.specs.declared.rule.Demand.{Demand}
+use Rattle.cap_machine.specs.declared.rule.Requirement.{Requirement}
 use Rattle.cap_machine.specs.declared.step.Step.{Step}
 use Rattle.cap_machine.specs.declared.verdict.Finding.{Finding}
 use Rattle.cap_machine.specs.declared.verdict.Finding.TheVariants as say
@@ -24,7 +24,7 @@ use Rattle.cap_machine.specs.declared.denial.Denial.TheVariants.{Lacks, Inside, 
 use Rattle.cap_machine.specs.declared.denial.Denied.{Denied}
 use Rattle.cap_machine.specs.State.{State}
 use Rattle.cap_machine.specs.History.{after}
-use Rattle.cap_machine.specs.Rule.{demand}
+use Rattle.cap_machine.specs.Rule.{requirement}
 use Rattle.cap_machine.specs.Judge.{listed, fault, faults, shortfall, forbidden, is_excused, all_excused, has_check}
 use Rattle.cap_machine.specs.Judge.{is_forbidden, is_inside, is_outside, is_allowed, judged_by}
 use Rattle.cap_machine.specs.Denials.{lack, lacks, or_unexplained, denied_by, denied, denied_at, denied_in, denials}
@@ -63,11 +63,11 @@ is_wrong _ = false
 abbrev IsOther : Finding → Type 0
 IsOther finding = is_wrong finding ≡ false
 
-short_is_other : (word : Word) (f r : ℕ) → IsOther (shortfall word f r)
+short_is_other : (word : LimitWord) (f r : ℕ) → IsOther (shortfall word f r)
 short_is_other words.Missing f r = refl
 short_is_other words.Expanded f r = refl
 
-faults_are_other : (word : Word) (checks : List Check) (cells : List Cell) → All IsOther (faults word checks cells)
+faults_are_other : (word : LimitWord) (checks : List Check) (cells : List Cell) → All IsOther (faults word checks cells)
 faults_are_other word [] cells = All-nil IsOther
 faults_are_other word (check ∷ checks) [] = All-nil IsOther
 faults_are_other word (check ∷ checks) (cell ∷ cells) =
@@ -85,7 +85,7 @@ faults_are_other word (check ∷ checks) (cell ∷ cells) =
               (short_is_other word check.fd (minus check.needs held)) (All-nil IsOther)
         ]
 
-success_is_other : (d : Demand) (m : Mode) (cells : List Cell) → All IsOther (judged_by Success d m cells)
+success_is_other : (d : Requirement) (m : Mode) (cells : List Cell) → All IsOther (judged_by Success d m cells)
 success_is_other d m cells =
     All-append IsOther (forbidden d.class m) (faults d.word (listed d.checks) cells)
     (one (is_forbidden d.class && is_inside m))
@@ -134,10 +134,11 @@ only x y has = All-contains (λ z. x ≡ z) (x ∷ []) y (All-cons (λ z. x ≡ 
 -- ---- what is said and what was lacking, by the kind of answer
 
 -- whether a refusal for lack of rights is wrong
-abbrev wrong_rights : Demand → Mode → List Cell → Bool
+abbrev wrong_rights : Requirement → Mode → List Cell → Bool
 wrong_rights d m cells = has_check d.checks && (all_excused (listed d.checks) cells && (not d.at || is_outside m))
 
-lacks_none : (d : Demand) (m : Mode) (cells : List Cell) → AllExcused (listed d.checks) → wrong_rights d m cells ≡ true
+lacks_none : (d : Requirement) (m : Mode) (cells : List Cell) → AllExcused (listed d.checks) → wrong_rights d m cells
+    ≡ true
     → denied_by NotCapable d m cells ≡ Unexplained ∷ []
 lacks_none d m cells within is =
     let first = and_parts (has_check d.checks) (all_excused (listed d.checks) cells && (not d.at || is_outside m)) is in
@@ -162,14 +163,14 @@ chosen : {X : Type 0} (b : Bool) (x y : X) → Contains (if b then x ∷ [] else
 chosen true x y has = refl
 chosen false x y has = absurd (nothing y has)
 
-is_other : (d : Demand) (m : Mode) (cells : List Cell) (x : Finding) → is_wrong x ≡ true
+is_other : (d : Requirement) (m : Mode) (cells : List Cell) (x : Finding) → is_wrong x ≡ true
     → Contains (judged_by Success d m cells) x → ⊥
 is_other d m cells x is has =
     let other : is_wrong x ≡ false =
     All-contains IsOther (judged_by Success d m cells) x (success_is_other d m cells) has in
     cc
 
-wrong_is_unexplained : (r : Reply) (d : Demand) (m : Mode) (cells : List Cell) (x : Finding) → is_wrong x ≡ true
+wrong_is_unexplained : (r : Reply) (d : Requirement) (m : Mode) (cells : List Cell) (x : Finding) → is_wrong x ≡ true
     → AllExcused (listed d.checks) → Contains (judged_by r d m cells) x → denied_by r d m cells ≡ Unexplained ∷ []
 wrong_is_unexplained Success d m cells x is within has = absurd (is_other d m cells x is has)
 wrong_is_unexplained NotCapable d m cells x is within has =
@@ -181,7 +182,7 @@ wrong_is_unexplained Other d m cells x is within has = absurd (nothing x has)
 
 pub the_wrong : WrongIsUnexplained
 the_wrong s step has =
-    let d : Demand = demand step.line in
+    let d : Requirement = requirement step.line in
     let m : Mode = s.mode step.line.pid in
     let cells : List Cell = map (λ (check : Check). s.cell step.line.pid check.fd) (listed d.checks) in
     let within : AllExcused (listed d.checks) = item_excused step.line.item in
@@ -198,7 +199,7 @@ chosen_lacks : (b : Bool) (f r : ℕ) → Contains (if b then Inside ∷ [] else
 chosen_lacks true f r has = let is = only Inside (Lacks f r) has in cc
 chosen_lacks false f r has = unexplained_lacks f r has
 
-lacking_is_right : (r : Reply) (d : Demand) (m : Mode) (cells : List Cell) (f lacking : ℕ)
+lacking_is_right : (r : Reply) (d : Requirement) (m : Mode) (cells : List Cell) (f lacking : ℕ)
     → AllExcused (listed d.checks) → Contains (denied_by r d m cells) (Lacks f lacking) → judged_by r d m cells ≡ []
 lacking_is_right Success d m cells f lacking within has = absurd (nothing (Lacks f lacking) has)
 lacking_is_right NotCapable d m cells f lacking within has =
@@ -214,12 +215,12 @@ lacking_is_right Other d m cells f lacking within has = refl
 
 pub the_lacking : LackingIsRight
 the_lacking s step f lacking has =
-    let d : Demand = demand step.line in
+    let d : Requirement = requirement step.line in
     lacking_is_right d.reply d (s.mode step.line.pid)
     (map (λ (check : Check). s.cell step.line.pid check.fd) (listed d.checks)) f lacking
     (item_excused step.line.item) has
 
-inside_is_right : (r : Reply) (d : Demand) (m : Mode) (cells : List Cell) → Contains (denied_by r d m cells) Inside
+inside_is_right : (r : Reply) (d : Requirement) (m : Mode) (cells : List Cell) → Contains (denied_by r d m cells) Inside
     → judged_by r d m cells ≡ []
 inside_is_right Success d m cells has = absurd (nothing Inside has)
 inside_is_right NotCapable d m cells has =
@@ -239,7 +240,7 @@ inside_is_right Other d m cells has = refl
 
 pub the_inside : InsideIsRight
 the_inside s step has =
-    let d : Demand = demand step.line in
+    let d : Requirement = requirement step.line in
     inside_is_right d.reply d (s.mode step.line.pid)
     (map (λ (check : Check). s.cell step.line.pid check.fd) (listed d.checks)) has
 

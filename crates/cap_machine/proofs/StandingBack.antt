@@ -5,7 +5,7 @@ use Rattle.std.specs.List.{list_any}
 use Rattle.std.proofs.lemmas.Bool.{cases_Bool, cond-true, cond-false, eqb-true}
 use Rattle.std.proofs.lemmas.Bool.Decides.{nat_tests}
 use Rattle.std.proofs.Math.Logic.{⊎_elim}
-use Rattle.cap_trace.specs.Seen.{fds_spelled}
+use Rattle.cap_trace.specs.Views.{fds_spelled}
 use Rattle.cap_rights.specs.Rights.{all}
 use Rattle.cap_machine.specs.declared.cell.OnExec.TheVariants as flags
 use Rattle.cap_machine.specs.declared.cell.Cell.{Cell}

@@ -8,20 +8,20 @@ use Rattle.std.proofs.lemmas.List.Elements.{All-head, All-tail}
 use Rattle.cap_machine.specs.declared.step.Step.{Step}
 use Rattle.cap_machine.specs.declared.cell.Cell.{Cell}
 use Rattle.cap_machine.specs.declared.cell.Mode.{Mode}
-use Rattle.cap_machine.specs.declared.origin.CellLink.{CellLink}
-use Rattle.cap_machine.specs.declared.origin.CellEnd.{CellEnd}
-use Rattle.cap_machine.specs.declared.origin.CellEnd.TheVariants as cells
-use Rattle.cap_machine.specs.declared.origin.ModeLink.{ModeLink}
-use Rattle.cap_machine.specs.declared.origin.ModeEnd.{ModeEnd}
-use Rattle.cap_machine.specs.declared.origin.ModeEnd.TheVariants as modes
+use Rattle.cap_machine.specs.declared.provenance.CellLink.{CellLink}
+use Rattle.cap_machine.specs.declared.provenance.CellEnd.{CellEnd}
+use Rattle.cap_machine.specs.declared.provenance.CellEnd.TheVariants as cells
+use Rattle.cap_machine.specs.declared.provenance.ModeLink.{ModeLink}
+use Rattle.cap_machine.specs.declared.provenance.ModeEnd.{ModeEnd}
+use Rattle.cap_machine.specs.declared.provenance.ModeEnd.TheVariants as modes
 use Rattle.cap_machine.specs.declared.walks.Passage.{Passage}
 use Rattle.cap_machine.specs.declared.walks.CellWalk.{CellWalk}
 use Rattle.cap_machine.specs.declared.walks.ModeWalk.{ModeWalk}
 use Rattle.cap_machine.specs.State.{State}
 use Rattle.cap_machine.specs.Touch.{Touch, kept, given, taken, touch, Turn, stays, turns, follows, turn}
 use Rattle.cap_machine.specs.History.{touched, cell_after, turned, mode_after}
-use Rattle.cap_machine.specs.Origin.{CellChain, named_touch, by_touch, cell_chain, cell_at_end}
-use Rattle.cap_machine.specs.Origin.{ModeChain, named_turn, by_turn, mode_chain, mode_link}
+use Rattle.cap_machine.specs.Provenance.{CellChain, named_touch, by_touch, cell_chain, cell_at_end}
+use Rattle.cap_machine.specs.Provenance.{ModeChain, named_turn, by_turn, mode_chain, mode_link}
 use Rattle.cap_machine.specs.Passages.{constant, cell_along, links_along, chain_along}
 use Rattle.cap_machine.specs.Walks.{cell_known, cell_found, chain_unless, SameCellWalk, CellIsFound, LeavesCell}
 use Rattle.cap_machine.specs.Walks.{mode_known, mode_found, mode_chain_unless, mode_along, ModeIsFound, LeavesMode}

@@ -9,7 +9,7 @@ use Rattle.cap_trace.specs.Limits.{largest_fd}
 use Rattle.cap_trace.specs.Number.{num_at}
 use Rattle.cap_trace.specs.Quotes.{pieces}
 use Rattle.cap_trace.specs.Reading.{fd_at}
-use Rattle.cap_trace.specs.Seen.{fds_in, fds_spelled}
+use Rattle.cap_trace.specs.Views.{fds_in, fds_spelled}
 use Rattle.cap_trace.specs.Spelling.{SpellsArg, SpellsArgs, IsProper}
 use Rattle.cap_trace.proofs.Numerals.{need_ok, num_takes}
 use Rattle.cap_machine.specs.Effect.{ArgWithin, FdsWithin}

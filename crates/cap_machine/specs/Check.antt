@@ -2,21 +2,21 @@
 use Rattle.std.specs.Prelude.{ℕ, ◌+◌, List, [], ◌∷◌, ◌++◌, length, map, reverse}
 use Rattle.cap_machine.specs.declared.step.Step.{Step}
 use Rattle.cap_machine.specs.declared.rule.Check.{Check}
-use Rattle.cap_machine.specs.declared.rule.Demand.{Demand}
+use Rattle.cap_machine.specs.declared.rule.Requirement.{Requirement}
 use Rattle.cap_machine.specs.declared.verdict.Finding.{Finding}
 use Rattle.cap_machine.specs.declared.verdict.Found.{Found}
 use Rattle.cap_machine.specs.State.{State}
 use Rattle.cap_machine.specs.History.{after}
-use Rattle.cap_machine.specs.Rule.{demand}
+use Rattle.cap_machine.specs.Rule.{requirement}
 use Rattle.cap_machine.specs.Judge.{listed, judged}
 
--- what is said of a process's line with this demand, in a state: its mode, and the cell of each check
-abbrev pub said_of : Demand → ℕ → State → List Finding
-said_of d p s = judged d (s.mode p) (map (λ (check : Check). s.cell p check.fd) (listed d.checks))
+-- what is said of a process's line with this requirement, in a state: its mode, and the cell of each check
+abbrev pub findings_of : Requirement → ℕ → State → List Finding
+findings_of d p s = judged d (s.mode p) (map (λ (check : Check). s.cell p check.fd) (listed d.checks))
 
 -- what is said of a step in a state
 abbrev pub said : Step → State → List Finding
-said step s = said_of (demand step.line) step.line.pid s
+said step s = findings_of (requirement step.line) step.line.pid s
 
 -- a finding, and the position of its line
 abbrev pub found_at : ℕ → Finding → Found

@@ -15,7 +15,7 @@ use Rattle.cap_machine.specs.declared.denial.Denial.TheVariants.{Lacks, Inside, 
 use Rattle.cap_machine.specs.declared.denial.Denied.{Denied}
 use Rattle.cap_machine.specs.State.{State}
 use Rattle.cap_machine.specs.History.{ended}
-use Rattle.cap_machine.specs.Rule.{demand}
+use Rattle.cap_machine.specs.Rule.{requirement}
 use Rattle.cap_machine.specs.Judge.{listed}
 use Rattle.cap_machine.specs.Check.{said}
 use Rattle.cap_machine.specs.Denials.{lack, denied, denials, denied_at}
@@ -40,7 +40,7 @@ is_refused NotPermitted = true
 is_refused _ = false
 
 abbrev pub RefusedIsDenied : Type 0
-RefusedIsDenied = (s : State) (step : Step) → (denied step s ≡ []) ↔ (is_refused (demand step.line).reply ≡ false)
+RefusedIsDenied = (s : State) (step : Step) → (denied step s ≡ []) ↔ (is_refused (requirement step.line).reply ≡ false)
 
 -- each cell that is held has a set of rights
 abbrev pub HoldsRightSets : State → Type 0
@@ -54,7 +54,7 @@ LackingIsSome = (s : State) (step : Step) (f lacking : ℕ) → HoldsRightSets s
 -- and lacks none any more once it holds them
 abbrev pub LackingIsEnough : Type 0
 LackingIsEnough = (line : Entry) → All (λ (check : Check). (rights : ℕ) (flag : OnExec) → IsRightSet rights
-    → lack check (Held (join rights (minus check.needs rights)) flag) ≡ []) (listed (demand line).checks)
+    → lack check (Held (join rights (minus check.needs rights)) flag) ≡ []) (listed (requirement line).checks)
 
 -- each denial stands at a position of the trace, from 1
 abbrev pub DenialsWithin : Type 0

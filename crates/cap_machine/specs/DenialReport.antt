@@ -39,6 +39,6 @@ last_denial_line count = line_of_words (codes "denials" ∷ decimal count ∷ []
 abbrev pub denial_report : State → List Step → List ℕ
 denial_report s trace = flat_map (denied_line trace) (denials s trace) ++ last_denial_line (length (denials s trace))
 
--- three words with a space behind each, as a line begins. Only the code's contracts use this.
+-- three words with a space after each, as a line begins. Only the code's contracts use this.
 abbrev pub front_of : List ℕ → List ℕ → List ℕ → List ℕ
 front_of at pid name = at ++ 32 ∷ (pid ++ 32 ∷ (name ++ 32 ∷ []))

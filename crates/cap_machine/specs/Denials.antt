@@ -8,14 +8,14 @@ use Rattle.cap_machine.specs.declared.cell.Mode.{Mode}
 use Rattle.cap_machine.specs.declared.rule.Reply.{Reply}
 use Rattle.cap_machine.specs.declared.rule.Reply.TheVariants.{Success, NotCapable, NotPermitted, Other}
 use Rattle.cap_machine.specs.declared.rule.Check.{Check}
-use Rattle.cap_machine.specs.declared.rule.Demand.{Demand}
+use Rattle.cap_machine.specs.declared.rule.Requirement.{Requirement}
 use Rattle.cap_machine.specs.declared.step.Step.{Step}
 use Rattle.cap_machine.specs.declared.denial.Denial.{Denial}
 use Rattle.cap_machine.specs.declared.denial.Denial.TheVariants.{Lacks, Inside, Unexplained}
 use Rattle.cap_machine.specs.declared.denial.Denied.{Denied}
 use Rattle.cap_machine.specs.State.{State}
 use Rattle.cap_machine.specs.History.{after}
-use Rattle.cap_machine.specs.Rule.{demand}
+use Rattle.cap_machine.specs.Rule.{requirement}
 use Rattle.cap_machine.specs.Judge.{listed, is_inside, is_allowed}
 
 -- the needed rights without which a descriptor is held
@@ -38,7 +38,7 @@ or_unexplained (denial ∷ more) = denial ∷ more
 -- a call was refused for lack of rights, which some of its descriptors lack, or none;
 -- a call was refused for capability mode, in which its process is and which doesn't always allow the call, or not;
 -- nothing was lacking for any other
-abbrev pub denied_by : Reply → Demand → Mode → List Cell → List Denial
+abbrev pub denied_by : Reply → Requirement → Mode → List Cell → List Denial
 denied_by Success d m cells = []
 denied_by NotCapable d m cells = or_unexplained (lacks (listed d.checks) cells)
 denied_by NotPermitted d m cells =
@@ -46,16 +46,16 @@ denied_by NotPermitted d m cells =
 denied_by Other d m cells = []
 
 -- what was lacking for a call in this mode, with the cell of each of its checks
-abbrev pub denied_with : Demand → Mode → List Cell → List Denial
+abbrev pub denied_with : Requirement → Mode → List Cell → List Denial
 denied_with d m cells = denied_by d.reply d m cells
 
--- for a process's line with this demand, in a state: its mode, and the cell of each check
-abbrev pub denied_of : Demand → ℕ → State → List Denial
+-- for a process's line with this requirement, in a state: its mode, and the cell of each check
+abbrev pub denied_of : Requirement → ℕ → State → List Denial
 denied_of d p s = denied_with d (s.mode p) (map (λ (check : Check). s.cell p check.fd) (listed d.checks))
 
 -- for a step in a state
 abbrev pub denied : Step → State → List Denial
-denied step s = denied_of (demand step.line) step.line.pid s
+denied step s = denied_of (requirement step.line) step.line.pid s
 
 -- a denial, and the position of its line
 abbrev pub denied_at : ℕ → Denial → Denied

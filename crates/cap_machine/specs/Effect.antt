@@ -1,7 +1,7 @@
 -- What an effect does to one cell and to one mode; me is the process of the line.
 use Rattle.std.specs.Prelude.{◌≡◌, ℕ, ◌==◌, ◌&&◌, ◌||◌, nat_le, if◌then◌else◌, List, [], ◌∷◌}
 use Rattle.cap_trace.specs.Entry.{IsFd, Arg, an_fd}
-use Rattle.cap_trace.specs.Seen.{fds_spelled}
+use Rattle.cap_trace.specs.Views.{fds_spelled}
 use Rattle.cap_trace.specs.declared.line.Answer.{Answer}
 use Rattle.cap_trace.specs.declared.line.Answer.TheVariants as answers
 use Rattle.cap_machine.specs.declared.cell.Cell.{Cell}

@@ -5,23 +5,23 @@ use Rattle.std.specs.Prelude.{◌≡◌, reverse, Option, Some, None, option_map
 use Rattle.std.specs.Option.{option_map_or}
 use Rattle.cap_machine.specs.declared.step.Step.{Step}
 use Rattle.cap_machine.specs.declared.rule.Check.{Check}
-use Rattle.cap_machine.specs.declared.rule.Demand.{Demand}
+use Rattle.cap_machine.specs.declared.rule.Requirement.{Requirement}
 use Rattle.cap_machine.specs.declared.rule.Reply.{Reply}
 use Rattle.cap_machine.specs.declared.rule.Reply.TheVariants.{Success, NotCapable, NotPermitted, Other}
 use Rattle.cap_machine.specs.declared.verdict.Finding.{Finding}
 use Rattle.cap_machine.specs.declared.denial.Denial.{Denial}
 use Rattle.cap_machine.specs.declared.cell.Mode.{Mode}
 use Rattle.cap_machine.specs.declared.cell.Mode.TheVariants.{Unsure}
-use Rattle.cap_machine.specs.declared.origin.CellOrigin.{CellOrigin}
-use Rattle.cap_machine.specs.declared.origin.ModeOrigin.{ModeOrigin}
+use Rattle.cap_machine.specs.declared.provenance.CellProvenance.{CellProvenance}
+use Rattle.cap_machine.specs.declared.provenance.ModeProvenance.{ModeProvenance}
 use Rattle.cap_machine.specs.declared.explaining.Explanation.{Explanation}
 use Rattle.cap_machine.specs.State.{State}
 use Rattle.cap_machine.specs.History.{after, cell_after, mode_after}
-use Rattle.cap_machine.specs.Rule.{demand}
+use Rattle.cap_machine.specs.Rule.{requirement}
 use Rattle.cap_machine.specs.Judge.{listed, has_check, is_forbidden, is_allowed}
-use Rattle.cap_machine.specs.Check.{said_of}
+use Rattle.cap_machine.specs.Check.{findings_of}
 use Rattle.cap_machine.specs.Denials.{denied_of}
-use Rattle.cap_machine.specs.Origin.{CellChain, ModeChain, cell_chain, mode_chain, cell_chain_of, mode_chain_of}
+use Rattle.cap_machine.specs.Provenance.{CellChain, ModeChain, cell_chain, mode_chain, cell_chain_of, mode_chain_of}
 
 -- each check has rights that make a refusal wrongful
 abbrev pub has_excuse : Option ℕ → Bool
@@ -34,13 +34,13 @@ all_have_excuse (check ∷ checks) = has_excuse check.excuse && all_have_excuse 
 
 -- Whether what is said of a line can depend on the mode of its process: of a call that succeeded where capability mode
 -- forbids it; of errno 93 at a directory, where it is ever judged; of errno 94 but for a call that is allowed
-abbrev pub mode_matters_by : Reply → Demand → Bool
+abbrev pub mode_matters_by : Reply → Requirement → Bool
 mode_matters_by Success d = is_forbidden d.class
 mode_matters_by NotCapable d = d.at && (has_check d.checks && all_have_excuse (listed d.checks))
 mode_matters_by NotPermitted d = not (is_allowed d.class)
 mode_matters_by Other d = false
 
-abbrev pub mode_matters : Demand → Bool
+abbrev pub mode_matters : Requirement → Bool
 mode_matters d = mode_matters_by d.reply d
 
 -- the findings of a line, its denials, the chain of each descriptor that it checks, in order, and that of its process's
@@ -51,17 +51,17 @@ pub record Explained : Type 0 where
   pub cells : List CellChain
   pub mode : Option ModeChain
 
--- of a line of process p with this demand, after a history
-abbrev pub explained_of : State → List Step → Demand → ℕ → Explained
+-- of a line of process p with this requirement, after a history
+abbrev pub explained_of : State → List Step → Requirement → ℕ → Explained
 explained_of s history d p = record {
-  findings = said_of d p (after s history);
+  findings = findings_of d p (after s history);
   denials = denied_of d p (after s history);
   cells = map (λ (check : Check). cell_chain s history p check.fd) (listed d.checks);
   mode = if mode_matters d then Some (mode_chain s history p) else None;
 }
 
 abbrev pub explained : State → List Step → Step → Explained
-explained s history step = explained_of s history (demand step.line) step.line.pid
+explained s history step = explained_of s history (requirement step.line) step.line.pid
 
 -- the step at a position of a history, with those before it; steps are numbered from 1
 abbrev pub explained_at : State → List Step → ℕ → Option Explained
@@ -84,16 +84,16 @@ explained_by e = record {
 }
 
 -- where the mode doesn't matter it isn't looked up
-abbrev pub mode_or_unsure : Option ModeOrigin → Mode
-mode_or_unsure origin = option_map_or (λ (o : ModeOrigin). o.mode) origin Unsure
+abbrev pub mode_or_unsure : Option ModeProvenance → Mode
+mode_or_unsure provenance = option_map_or (λ (o : ModeProvenance). o.mode) provenance Unsure
 
--- what a line of process p with this demand rests on after a history: of each check, in order, its cell and where that
--- comes from; and the same of the mode, where it matters
-pub record RestsOn (s : State) (history : List Step) (d : Demand) (p : ℕ) (origins : List CellOrigin)
-    (mode_from : Option ModeOrigin) : Type 0 where
-  pub cells : map (λ (origin : CellOrigin). origin.cell) origins
+-- what a line of process p with this requirement rests on after a history: of each check, in order, its cell and where
+-- that comes from; and the same of the mode, where it matters
+pub record RestsOn (s : State) (history : List Step) (d : Requirement) (p : ℕ) (provenances : List CellProvenance)
+    (mode_from : Option ModeProvenance) : Type 0 where
+  pub cells : map (λ (provenance : CellProvenance). provenance.cell) provenances
       ≡ map (λ (check : Check). cell_after s history p check.fd) (listed d.checks)
-  pub chains : map cell_chain_of origins
+  pub chains : map cell_chain_of provenances
       ≡ map (λ (check : Check). cell_chain s history p check.fd) (listed d.checks)
   pub mode : mode_matters d ≡ true → mode_or_unsure mode_from ≡ mode_after s history p
   pub mode_links : option_map mode_chain_of mode_from

@@ -5,7 +5,7 @@ use Rattle.cap_machine.specs.declared.walks.Passage.{Passage}
 use Rattle.cap_machine.specs.declared.walks.CellWalk.{CellWalk}
 use Rattle.cap_machine.specs.declared.walks.ModeWalk.{ModeWalk}
 use Rattle.cap_machine.specs.Touch.{Touch, kept, given, taken, Turn, stays, turns, follows}
-use Rattle.cap_machine.specs.Origin.{cell_link, mode_link}
+use Rattle.cap_machine.specs.Provenance.{cell_link, mode_link}
 use Rattle.cap_machine.specs.Passages.{constant}
 
 abbrev pub passage : ℕ → ℕ → ℕ → Op → Bool → Passage

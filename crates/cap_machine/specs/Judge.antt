@@ -10,12 +10,12 @@ use Rattle.cap_machine.specs.declared.rule.Class.{Class}
 use Rattle.cap_machine.specs.declared.rule.Class.TheVariants.{Forbidden, Allowed}
 use Rattle.cap_machine.specs.declared.rule.Reply.{Reply}
 use Rattle.cap_machine.specs.declared.rule.Reply.TheVariants.{Success, NotCapable, NotPermitted, Other}
-use Rattle.cap_machine.specs.declared.rule.Word.{Word}
-use Rattle.cap_machine.specs.declared.rule.Word.TheVariants.{Missing, Expanded}
+use Rattle.cap_machine.specs.declared.rule.LimitWord.{LimitWord}
+use Rattle.cap_machine.specs.declared.rule.LimitWord.TheVariants.{Missing, Expanded}
 use Rattle.cap_machine.specs.declared.rule.Check.{Check}
 use Rattle.cap_machine.specs.declared.rule.Checks.{Checks}
 use Rattle.cap_machine.specs.declared.rule.Checks.TheVariants.{Nothing, One, Two}
-use Rattle.cap_machine.specs.declared.rule.Demand.{Demand}
+use Rattle.cap_machine.specs.declared.rule.Requirement.{Requirement}
 use Rattle.cap_machine.specs.declared.verdict.Finding.{Finding}
 use Rattle.cap_machine.specs.declared.verdict.Finding.TheVariants as say
 
@@ -42,19 +42,19 @@ is_allowed Allowed = true
 is_allowed _ = false
 
 -- a success without the rights: of cap_rights_limit(2) the rights have grown
-abbrev pub shortfall : Word → ℕ → ℕ → Finding
+abbrev pub shortfall : LimitWord → ℕ → ℕ → Finding
 shortfall Missing f lacking = say.Missing f lacking
 shortfall Expanded f lacking = say.Expanded f lacking
 
 -- what is said of one check of a call that succeeded; against what is unknown nothing is said
-abbrev pub fault : Word → Check → Cell → List Finding
+abbrev pub fault : LimitWord → Check → Cell → List Finding
 fault word check Unknown = []
 fault word check Closed = say.Closed check.fd ∷ []
 fault word check (Held held flag) = if has_all held check.needs then []
     else shortfall word check.fd (minus check.needs held) ∷ []
 
 -- the same of each check, with its cell
-abbrev pub faults : Word → List Check → List Cell → List Finding
+abbrev pub faults : LimitWord → List Check → List Cell → List Finding
 faults word (check ∷ checks) (cell ∷ cells) = fault word check cell ++ faults word checks cells
 faults word _ _ = []
 
@@ -80,7 +80,7 @@ forbidden class m = if is_forbidden class && is_inside m then say.Forbidden ∷ 
 -- a call that succeeded was forbidden in capability mode, or lacked rights;
 -- a call was refused for lack of rights that were held, which of a call at a directory is sure only outside capability
 -- mode; a call was refused for capability mode outside it, or one that capability mode allows
-abbrev pub judged_by : Reply → Demand → Mode → List Cell → List Finding
+abbrev pub judged_by : Reply → Requirement → Mode → List Cell → List Finding
 judged_by Success d m cells = forbidden d.class m ++ faults d.word (listed d.checks) cells
 judged_by NotCapable d m cells = if has_check d.checks
     && (all_excused (listed d.checks) cells && (not d.at || is_outside m)) then say.Refusal ∷ [] else []
@@ -88,5 +88,5 @@ judged_by NotPermitted d m cells = if is_outside m || is_allowed d.class then sa
 judged_by Other d m cells = []
 
 -- what is said of a call in this mode, with the cell of each of its checks
-abbrev pub judged : Demand → Mode → List Cell → List Finding
+abbrev pub judged : Requirement → Mode → List Cell → List Finding
 judged d m cells = judged_by d.reply d m cells

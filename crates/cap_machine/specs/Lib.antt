@@ -4,7 +4,7 @@ pub mod Steps
 pub mod Errno
 pub mod Flags
 pub mod Places
-pub mod PlaceSeen
+pub mod PlaceView
 pub mod Touch
 pub mod History
 pub mod Needs
@@ -36,11 +36,11 @@ pub mod Starts
 pub mod Known
 pub mod Checked
 pub mod Touched
-pub mod Origin
+pub mod Provenance
 pub mod Passages
 pub mod Walks
 pub mod Following
 pub mod Explain
 pub mod ExplainLaws
 pub mod MayHave
-pub mod OriginLaws
+pub mod ProvenanceLaws

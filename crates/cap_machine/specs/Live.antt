@@ -12,7 +12,7 @@ use Rattle.cap_machine.specs.declared.rule.Reply.{Reply}
 use Rattle.cap_machine.specs.declared.rule.Reply.TheVariants.{Success}
 use Rattle.cap_machine.specs.declared.step.Step.{Step}
 use Rattle.cap_machine.specs.Op.{masked, held_op}
-use Rattle.cap_machine.specs.Rule.{demand}
+use Rattle.cap_machine.specs.Rule.{requirement}
 use Rattle.cap_machine.specs.Judge.{listed, is_forbidden}
 use Rattle.cap_machine.specs.Touch.{Touch, kept, given, taken, Turn, stays, turns, follows, touch, turn}
 
@@ -29,7 +29,8 @@ checks_need checks f k = list_any (λ (check : Check). check.fd == f && holds ch
 -- a call that succeeded needs right k of descriptor f of process p. What a call that failed asks for is not needed
 abbrev pub step_needs : Step → ℕ → ℕ → ℕ → Bool
 step_needs step p f k =
-    is_success (demand step.line).reply && (p == step.line.pid && checks_need (listed (demand step.line).checks) f k)
+    is_success (requirement step.line).reply
+    && (p == step.line.pid && checks_need (listed (requirement step.line).checks) f k)
 
 -- ---- what one step hands on
 
@@ -55,7 +56,8 @@ Live (step ∷ later) p f x k = (step_needs step p f k ≡ true)
 
 -- a call of process p that capability mode forbids succeeded
 abbrev pub step_blocks : Step → ℕ → Bool
-step_blocks step p = is_success (demand step.line).reply && (p == step.line.pid && is_forbidden (demand step.line).class)
+step_blocks step p = is_success (requirement step.line).reply
+    && (p == step.line.pid && is_forbidden (requirement step.line).class)
 
 -- the mode of process q after a step is that of process p before it
 abbrev pub ModePasses : Turn → ℕ → ℕ → Type 0

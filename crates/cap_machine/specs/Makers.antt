@@ -1,11 +1,11 @@
--- The least rights of each descriptor that a trace makes, right behind the step that made it.
+-- The least rights of each descriptor that a trace makes, right after the step that made it.
 use Rattle.std.specs.Prelude.{◌≡◌, ℕ, ◌+◌, ◌==◌, nat_lt, if◌then◌else◌, List, [], ◌∷◌, ◌++◌, map, reverse}
 use Rattle.std.specs.List.{All, flat_map}
 use Rattle.cap_trace.specs.Item.{Item}
 use Rattle.cap_trace.specs.Item as items
 use Rattle.cap_trace.specs.Entry.{kind_of}
-use Rattle.cap_trace.specs.declared.calls.Kind.{Kind}
-use Rattle.cap_trace.specs.declared.calls.Kind.TheVariants.{Fd, Same, FdPair}
+use Rattle.cap_trace.specs.declared.calls.ResultKind.{ResultKind}
+use Rattle.cap_trace.specs.declared.calls.ResultKind.TheVariants.{Fd, Same, FdPair}
 use Rattle.cap_trace.specs.declared.line.Answer.{Answer}
 use Rattle.cap_trace.specs.declared.line.Answer.TheVariants as answers
 use Rattle.cap_machine.specs.declared.cell.OnExec.{OnExec}
@@ -32,7 +32,7 @@ two_fds (answers.Pair n m) = if n == m then n ∷ [] else (if nat_lt n m then m 
 two_fds _ = []
 
 -- by what a call answers where it doesn't fail
-abbrev pub made_of : Kind → Answer → List ℕ
+abbrev pub made_of : ResultKind → Answer → List ℕ
 made_of Fd answer = one_fd answer
 made_of (Same g) answer = one_fd answer
 made_of FdPair answer = two_fds answer
@@ -61,14 +61,14 @@ held_places s at p [] = []
 held_places s at p (f ∷ fds) = held_place (s.cell p f) at p f ++ held_places s at p fds
 
 -- Of each step that makes descriptors, the first of which stands at a position: the limit of each that is then held, to
--- the rights that are live there. The last step comes first, so that each line can be put in right behind its step
+-- the rights that are live there. The last step comes first, so that each line can be put in right after its step
 -- without a shift of the others.
 abbrev pub AreMakerLimits : State → ℕ → List Step → List MakerLimit → Type 0
 AreMakerLimits s at [] limits = limits ≡ []
 AreMakerLimits s at (step ∷ later) limits =
     let next = ended s (step ∷ []) in
-    (behind : List MakerLimit) × (own : List MakerLimit) × (limits ≡ behind ++ own)
-    × AreMakerLimits next (at + 1) later behind
+    (beyond : List MakerLimit) × (own : List MakerLimit) × (limits ≡ beyond ++ own)
+    × AreMakerLimits next (at + 1) later beyond
     × (map place_of own ≡ held_places next at step.line.pid (made_fds step.line.item))
     × All (λ (limit : MakerLimit). IsLimit next later limit.pid (limit.fd, limit.rights)) own
 

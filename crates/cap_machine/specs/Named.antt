@@ -1,7 +1,7 @@
 -- What a line can touch: its process and a child, and of single descriptors those that it names.
 use Rattle.std.specs.Prelude.{◌≡◌, ℕ, ◌≤◌, ◌==◌, ◌&&◌, ◌||◌, not, Bool, true, false, List, [], ◌∷◌, length}
 use Rattle.std.specs.List.{list_any, All}
-use Rattle.cap_trace.specs.Seen.{fds_spelled}
+use Rattle.cap_trace.specs.Views.{fds_spelled}
 use Rattle.cap_trace.specs.Item.{Item}
 use Rattle.cap_trace.specs.Item as items
 use Rattle.cap_trace.specs.Call.{Call}
@@ -23,7 +23,7 @@ use Rattle.cap_machine.specs.declared.rule.Effect.{Effect}
 use Rattle.cap_machine.specs.declared.rule.Effect.TheVariants.{Start, Give, GiveTwo, Change, ForkAs}
 use Rattle.cap_machine.specs.Touch.{kept, taken, stays, touch, turn}
 use Rattle.cap_machine.specs.Effect.{effect_touch}
-use Rattle.cap_machine.specs.Rule.{demand}
+use Rattle.cap_machine.specs.Rule.{requirement}
 use Rattle.cap_machine.specs.Judge.{listed}
 use Rattle.cap_machine.specs.Check.{check}
 
@@ -119,7 +119,8 @@ NamedEffects = (step : Step) (effect : Effect) → ((p f : ℕ) → effect_touch
 
 -- what a line is judged by speaks of no other descriptors than those of its arguments
 abbrev pub NamedChecks : Type 0
-NamedChecks = (line : Entry) → All (λ (check : Check). args_name check.fd line ≡ true) (listed (demand line).checks)
+NamedChecks = (line : Entry) → All (λ (check : Check). args_name check.fd line ≡ true)
+    (listed (requirement line).checks)
 
 -- each finding stands at a position of the trace, from 1
 abbrev pub PositionsWithin : Type 0

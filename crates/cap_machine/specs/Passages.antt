@@ -3,10 +3,10 @@ use Rattle.std.specs.Prelude.{if◌then◌else◌, List, [], ◌∷◌, ◌++◌
 use Rattle.cap_machine.specs.declared.cell.Cell.{Cell}
 use Rattle.cap_machine.specs.declared.cell.HeldOp.TheVariants.{Becomes}
 use Rattle.cap_machine.specs.declared.cell.Op.{Op}
-use Rattle.cap_machine.specs.declared.origin.CellLink.{CellLink}
+use Rattle.cap_machine.specs.declared.provenance.CellLink.{CellLink}
 use Rattle.cap_machine.specs.declared.walks.Passage.{Passage}
 use Rattle.cap_machine.specs.Op.{applied}
-use Rattle.cap_machine.specs.Origin.{CellChain, is_idle}
+use Rattle.cap_machine.specs.Provenance.{CellChain, is_idle}
 
 -- the op that makes this cell of each
 abbrev pub constant : Cell → Op

@@ -5,8 +5,8 @@ use Rattle.cap_machine.specs.declared.question.Question.{Question}
 use Rattle.cap_machine.specs.declared.question.Question.TheVariants.{Findings, Denials}
 use Rattle.cap_machine.specs.declared.step.Step.{Step}
 use Rattle.cap_machine.specs.State.{State}
-use Rattle.cap_machine.specs.Rule.{demand}
-use Rattle.cap_machine.specs.Check.{check, said_of, found_at}
+use Rattle.cap_machine.specs.Rule.{requirement}
+use Rattle.cap_machine.specs.Check.{check, findings_of, found_at}
 use Rattle.cap_machine.specs.Report.{report, report_line, finding_line, last_line}
 use Rattle.cap_machine.specs.Denials.{denials, denied_of, denied_at}
 use Rattle.cap_machine.specs.DenialReport.{denial_report, denied_line, denial_line, last_denial_line}
@@ -36,17 +36,19 @@ IsNothing Denials s trace = denials s trace ≡ []
 -- ---- of one line, with the state that stands before it. Only the code's contracts use these.
 
 abbrev pub line_count : Question → Entry → State → ℕ
-line_count Findings line s = length (said_of (demand line) line.pid s)
-line_count Denials line s = length (denied_of (demand line) line.pid s)
+line_count Findings line s = length (findings_of (requirement line) line.pid s)
+line_count Denials line s = length (denied_of (requirement line) line.pid s)
 
 -- the lines about the one at a position
 abbrev pub line_text : Question → ℕ → Entry → State → List ℕ
-line_text Findings at line s = flat_map (λ f. finding_line line (found_at at f)) (said_of (demand line) line.pid s)
-line_text Denials at line s = flat_map (λ d. denial_line line (denied_at at d)) (denied_of (demand line) line.pid s)
+line_text Findings at line s = flat_map (λ f. finding_line line (found_at at f))
+    (findings_of (requirement line) line.pid s)
+line_text Denials at line s = flat_map (λ d. denial_line line (denied_at at d))
+    (denied_of (requirement line) line.pid s)
 
-abbrev pub LineIsSilent : Question → Entry → State → Type 0
-LineIsSilent Findings line s = said_of (demand line) line.pid s ≡ []
-LineIsSilent Denials line s = denied_of (demand line) line.pid s ≡ []
+abbrev pub LineHasNoEntry : Question → Entry → State → Type 0
+LineHasNoEntry Findings line s = findings_of (requirement line) line.pid s ≡ []
+LineHasNoEntry Denials line s = denied_of (requirement line) line.pid s ≡ []
 
 abbrev pub last_text : Question → ℕ → List ℕ
 last_text Findings count = last_line count

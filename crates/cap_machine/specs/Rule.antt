@@ -20,11 +20,11 @@ use Rattle.cap_machine.specs.declared.rule.Class.{Class}
 use Rattle.cap_machine.specs.declared.rule.Class.TheVariants.{Forbidden, Allowed, Either}
 use Rattle.cap_machine.specs.declared.rule.Reply.{Reply}
 use Rattle.cap_machine.specs.declared.rule.Reply.TheVariants.{Success, NotCapable, NotPermitted, Other}
-use Rattle.cap_machine.specs.declared.rule.Word.TheVariants.{Missing, Expanded}
+use Rattle.cap_machine.specs.declared.rule.LimitWord.TheVariants.{Missing, Expanded}
 use Rattle.cap_machine.specs.declared.rule.Check.{Check}
 use Rattle.cap_machine.specs.declared.rule.Checks.{Checks}
 use Rattle.cap_machine.specs.declared.rule.Checks.TheVariants.{Nothing, One, Two}
-use Rattle.cap_machine.specs.declared.rule.Demand.{Demand}
+use Rattle.cap_machine.specs.declared.rule.Requirement.{Requirement}
 use Rattle.cap_machine.specs.Errno.{enotcapable, ecapmode}
 use Rattle.cap_machine.specs.Flags.{all_known}
 use Rattle.cap_machine.specs.Places.{Place, place, is_empty, is_global, below}
@@ -42,7 +42,7 @@ check_of f needs excuse = record { fd = f; needs = needs; excuse = excuse }
 
 -- ---- a call on one descriptor
 
-abbrev pub on_one : Class → Check → Answer → Demand
+abbrev pub on_one : Class → Check → Answer → Requirement
 on_one class check answer = record {
   class = class;
   checks = One check;
@@ -70,22 +70,22 @@ fd_class Dup = Allowed
 fd_class _ = Either
 
 -- where there is nothing to check
-abbrev pub on_none : Class → Answer → Demand
+abbrev pub on_none : Class → Answer → Requirement
 on_none class answer = record { class = class; checks = Nothing; reply = reply answer; at = false; word = Missing }
 
 -- closefrom(2) needs no descriptor to be open
-abbrev pub fd_demand : FdCall → ℕ → Answer → Demand
-fd_demand Closefrom f answer = on_none Either answer
-fd_demand call f answer = on_one (fd_class call) (check_of f (fd_needs call) (fd_excuse call)) answer
+abbrev pub fd_requirement : FdCall → ℕ → Answer → Requirement
+fd_requirement Closefrom f answer = on_none Either answer
+fd_requirement call f answer = on_one (fd_class call) (check_of f (fd_needs call) (fd_excuse call)) answer
 
-abbrev pub fcntl_demand : Option ℕ → ℕ → Answer → Demand
-fcntl_demand None f answer = on_none Either answer
-fcntl_demand (Some needs) f answer = on_one Either (check_of f needs None) answer
+abbrev pub fcntl_requirement : Option ℕ → ℕ → Answer → Requirement
+fcntl_requirement None f answer = on_none Either answer
+fcntl_requirement (Some needs) f answer = on_one Either (check_of f needs None) answer
 
 -- a limit needs the rights that it asks for, since it can only take away; what it gives beyond them has a word of its
 -- own. ALL is refused rightly to a descriptor that was limited to all 63 by name
-abbrev pub limit_demand : ℕ → ℕ → Answer → Demand
-limit_demand f asked answer = record {
+abbrev pub limit_requirement : ℕ → ℕ → Answer → Requirement
+limit_requirement f asked answer = record {
   class = Allowed;
   checks = One (check_of f (without_full asked) (Some asked));
   reply = reply answer;
@@ -121,8 +121,8 @@ place_checks excuse [] = Nothing
 place_checks excuse (a ∷ []) = both (place_check excuse a) None
 place_checks excuse (a ∷ b ∷ more) = both (place_check excuse a) (place_check excuse b)
 
-abbrev pub at_demand : Bool → List Place → Answer → Demand
-at_demand is_plain places answer = record {
+abbrev pub at_requirement : Bool → List Place → Answer → Requirement
+at_requirement is_plain places answer = record {
   class = if has_global places then Forbidden else Either;
   checks = place_checks (at_excuse is_plain places) places;
   reply = reply answer;
@@ -137,41 +137,42 @@ bare_class Fork = Allowed
 bare_class CapEnter = Allowed
 bare_class _ = Either
 
-abbrev pub call_demand : Call → Answer → Demand
-call_demand (calls.OnFd call f) answer = fd_demand call f answer
-call_demand (calls.Send call f) answer = on_one Either (check_of f send_needs (Some send_needs)) answer
-call_demand (calls.SendTo call f) answer = on_one Either (check_of f send_to_needs (Some send_to_needs)) answer
-call_demand (calls.Accept4 f flags) answer = on_one Either (check_of f accept_needs (Some accept_needs)) answer
-call_demand (calls.Dup2 f g) answer = on_one Allowed (check_of f none (Some none)) answer
-call_demand (calls.Fcntl f command) answer = fcntl_demand (fcntl_needs command) f answer
-call_demand (calls.FcntlDup command f g) answer = fcntl_demand (Some none) f answer
-call_demand (calls.FcntlSetFd f flags) answer = fcntl_demand (Some none) f answer
-call_demand (calls.Mmap f protection kind) answer =
+abbrev pub call_requirement : Call → Answer → Requirement
+call_requirement (calls.OnFd call f) answer = fd_requirement call f answer
+call_requirement (calls.Send call f) answer = on_one Either (check_of f send_needs (Some send_needs)) answer
+call_requirement (calls.SendTo call f) answer = on_one Either (check_of f send_to_needs (Some send_to_needs)) answer
+call_requirement (calls.Accept4 f flags) answer = on_one Either (check_of f accept_needs (Some accept_needs)) answer
+call_requirement (calls.Dup2 f g) answer = on_one Allowed (check_of f none (Some none)) answer
+call_requirement (calls.Fcntl f command) answer = fcntl_requirement (fcntl_needs command) f answer
+call_requirement (calls.FcntlDup command f g) answer = fcntl_requirement (Some none) f answer
+call_requirement (calls.FcntlSetFd f flags) answer = fcntl_requirement (Some none) f answer
+call_requirement (calls.Mmap f protection kind) answer =
     on_one Either (check_of f (mmap_needs protection kind) (Some mmap_excuse)) answer
-call_demand (calls.RightsLimit f asked) answer = limit_demand f asked answer
-call_demand (calls.Open path flags) answer = on_none Forbidden answer
-call_demand (calls.OnPath call path) answer = on_none Forbidden answer
-call_demand (calls.OnPaths call path other) answer = on_none Forbidden answer
-call_demand (calls.At call dir path) answer = at_demand true (place dir path (at_needs call) ∷ []) answer
-call_demand (calls.AtFlags call dir path flags) answer =
-    at_demand (all_known (plain_flags call) flags) (place dir path (at_flags_needs call flags) ∷ []) answer
-call_demand (calls.SymlinkAt target dir path) answer = at_demand true (place dir path symlink_needs ∷ []) answer
-call_demand (calls.RenameAt dir path to_dir to_path) answer =
-    at_demand true (place dir path rename_from_needs ∷ place to_dir to_path rename_to_needs ∷ []) answer
-call_demand (calls.LinkAt dir path to_dir to_path flags) answer = at_demand (all_known plain_at_flags flags)
+call_requirement (calls.RightsLimit f asked) answer = limit_requirement f asked answer
+call_requirement (calls.Open path flags) answer = on_none Forbidden answer
+call_requirement (calls.OnPath call path) answer = on_none Forbidden answer
+call_requirement (calls.OnPaths call path other) answer = on_none Forbidden answer
+call_requirement (calls.At call dir path) answer = at_requirement true (place dir path (at_needs call) ∷ []) answer
+call_requirement (calls.AtFlags call dir path flags) answer =
+    at_requirement (all_known (plain_flags call) flags) (place dir path (at_flags_needs call flags) ∷ []) answer
+call_requirement (calls.SymlinkAt target dir path) answer = at_requirement true
+    (place dir path symlink_needs ∷ []) answer
+call_requirement (calls.RenameAt dir path to_dir to_path) answer =
+    at_requirement true (place dir path rename_from_needs ∷ place to_dir to_path rename_to_needs ∷ []) answer
+call_requirement (calls.LinkAt dir path to_dir to_path flags) answer = at_requirement (all_known plain_at_flags flags)
     (place dir path link_from_needs ∷ place to_dir to_path link_to_needs ∷ []) answer
-call_demand (calls.OnFlags call flags) answer = on_none Either answer
-call_demand (calls.Bare call) answer = on_none (bare_class call) answer
-call_demand (calls.Other name args) answer = on_none Either answer
+call_requirement (calls.OnFlags call flags) answer = on_none Either answer
+call_requirement (calls.Bare call) answer = on_none (bare_class call) answer
+call_requirement (calls.Other name args) answer = on_none Either answer
 
 -- nothing is said of a marker
-abbrev pub unjudged : Demand
+abbrev pub unjudged : Requirement
 unjudged = record { class = Either; checks = Nothing; reply = Other; at = false; word = Missing }
 
-abbrev pub item_demand : Item → Demand
-item_demand (items.Call call answer) = call_demand call answer
-item_demand _ = unjudged
+abbrev pub item_requirement : Item → Requirement
+item_requirement (items.Call call answer) = call_requirement call answer
+item_requirement _ = unjudged
 
 -- what a line is judged by
-abbrev pub demand : Entry → Demand
-demand line = item_demand line.item
+abbrev pub requirement : Entry → Requirement
+requirement line = item_requirement line.item

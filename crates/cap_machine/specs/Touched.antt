@@ -6,12 +6,12 @@ use Rattle.cap_machine.specs.declared.touched.Touched.TheVariants as touched
 use Rattle.cap_machine.specs.declared.touched.Turned.{Turned}
 use Rattle.cap_machine.specs.declared.touched.Turned.TheVariants as turned
 
-abbrev pub touch_seen : ℕ → Touched → Touch
-touch_seen me touched.Kept = kept
-touch_seen me (touched.Given c) = given c
-touch_seen me (touched.Taken op g) = taken op me g
+abbrev pub touch_view : ℕ → Touched → Touch
+touch_view me touched.Kept = kept
+touch_view me (touched.Given c) = given c
+touch_view me (touched.Taken op g) = taken op me g
 
-abbrev pub turn_seen : ℕ → Turned → Turn
-turn_seen me turned.Stays = stays
-turn_seen me (turned.Turns m) = turns m
-turn_seen me turned.Follows = follows me
+abbrev pub turn_view : ℕ → Turned → Turn
+turn_view me turned.Stays = stays
+turn_view me (turned.Turns m) = turns m
+turn_view me turned.Follows = follows me

@@ -6,15 +6,15 @@ use Rattle.std.specs.List.{All}
 use Rattle.cap_machine.specs.declared.step.Step.{Step}
 use Rattle.cap_machine.specs.declared.cell.Cell.{Cell}
 use Rattle.cap_machine.specs.declared.cell.Mode.{Mode}
-use Rattle.cap_machine.specs.declared.origin.CellEnd.TheVariants as cells
-use Rattle.cap_machine.specs.declared.origin.ModeLink.{ModeLink}
-use Rattle.cap_machine.specs.declared.origin.ModeEnd.TheVariants as modes
+use Rattle.cap_machine.specs.declared.provenance.CellEnd.TheVariants as cells
+use Rattle.cap_machine.specs.declared.provenance.ModeLink.{ModeLink}
+use Rattle.cap_machine.specs.declared.provenance.ModeEnd.TheVariants as modes
 use Rattle.cap_machine.specs.declared.walks.CellWalk.{CellWalk}
 use Rattle.cap_machine.specs.declared.walks.ModeWalk.{ModeWalk}
 use Rattle.cap_machine.specs.State.{State}
 use Rattle.cap_machine.specs.Touch.{kept, stays, touch, turn}
 use Rattle.cap_machine.specs.History.{cell_after, mode_after}
-use Rattle.cap_machine.specs.Origin.{CellChain, ModeChain, cell_chain, mode_chain}
+use Rattle.cap_machine.specs.Provenance.{CellChain, ModeChain, cell_chain, mode_chain}
 use Rattle.cap_machine.specs.Passages.{cell_along, chain_along}
 
 -- ---- cells

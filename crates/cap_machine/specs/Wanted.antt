@@ -11,7 +11,7 @@ use Rattle.cap_machine.specs.declared.cell.OnExec.TheVariants.{Set, Clear, Unsur
 use Rattle.cap_machine.specs.declared.cell.HeldOp.{HeldOp}
 use Rattle.cap_machine.specs.declared.cell.HeldOp.TheVariants.{Becomes, Keeps}
 use Rattle.cap_machine.specs.declared.rule.Check.{Check}
-use Rattle.cap_machine.specs.declared.rule.Demand.{Demand}
+use Rattle.cap_machine.specs.declared.rule.Requirement.{Requirement}
 use Rattle.cap_machine.specs.declared.rule.Effect.{Effect}
 use Rattle.cap_machine.specs.declared.rule.Effect.TheVariants.{Keep, Start, Exit, Forget, Exec, CloseFrom, Enter, Give}
 use Rattle.cap_machine.specs.declared.rule.Effect.TheVariants.{GiveTwo, Change, Fork, ForkAs}
@@ -41,15 +41,15 @@ HasFrom rights n = (f : ℕ) × (n ≤ f) × IsSome (get nat_cmp rights.map f)
 
 -- ---- one process
 
--- what is wanted before the next exec, and what it hands on of what is wanted behind it
-abbrev pub near_and_far : (ℕ → OnExec → ℕ) → (ℕ → OnExec → ℕ) → ℕ → OnExec → ℕ
-near_and_far near far f Set = near f Set
-near_and_far near far f Clear = join (near f Clear) (far f Clear)
-near_and_far near far f Unsure = near f Unsure
+-- what is wanted before the next exec, and what it hands on of what is wanted after it
+abbrev pub around_exec : (ℕ → OnExec → ℕ) → (ℕ → OnExec → ℕ) → ℕ → OnExec → ℕ
+around_exec until_exec after_exec f Set = until_exec f Set
+around_exec until_exec after_exec f Clear = join (until_exec f Clear) (after_exec f Clear)
+around_exec until_exec after_exec f Unsure = until_exec f Unsure
 
 -- the rights that are wanted of a descriptor where it is held with this flag
 abbrev pub wanted_of : LiveProcess → ℕ → OnExec → ℕ
-wanted_of own f x = near_and_far (rights_of own.near) (rights_of own.far) f x
+wanted_of own f x = around_exec (rights_of own.until_exec) (rights_of own.after_exec) f x
 
 -- what is wanted of a held cell, from what is wanted of what it becomes
 abbrev pub back_through : HeldOp → (OnExec → ℕ) → ℕ
@@ -99,11 +99,11 @@ abbrev pub with_checks : List Check → (ℕ → OnExec → ℕ) → ℕ → OnE
 with_checks [] wanted f x = wanted f x
 with_checks (check ∷ checks) wanted f x = with_checks checks (wanted_with check.fd (λ y. check.needs) wanted) f x
 
--- with what a line with this demand needs, and where it is in the way
-abbrev pub with_demand : Demand → (ℕ → OnExec → ℕ) → ℕ → OnExec → ℕ
-with_demand d wanted f x = if is_success d.reply then with_checks (listed d.checks) wanted f x else wanted f x
+-- with what a line with this requirement needs, and where it is in the way
+abbrev pub with_requirement : Requirement → (ℕ → OnExec → ℕ) → ℕ → OnExec → ℕ
+with_requirement d wanted f x = if is_success d.reply then with_checks (listed d.checks) wanted f x else wanted f x
 
-abbrev pub blocked_with : Demand → ℕ → Option ℕ → Option ℕ
+abbrev pub blocked_with : Requirement → ℕ → Option ℕ → Option ℕ
 blocked_with d at blocked = if is_success d.reply && is_forbidden d.class then Some at else blocked
 
 -- ---- all processes
@@ -132,13 +132,13 @@ gathered_blocked (Fork child) me blocked = earlier (blocked me) (if child == me 
 gathered_blocked (ForkAs child g) me blocked = earlier (blocked me) (if child == me then None else blocked child)
 gathered_blocked effect me blocked = blocked me
 
--- what is wanted before a line of process me with this demand and this effect
-abbrev pub wanted_before : Demand → Effect → ℕ → (ℕ → ℕ → OnExec → ℕ) → ℕ → ℕ → OnExec → ℕ
+-- what is wanted before a line of process me with this requirement and this effect
+abbrev pub wanted_before : Requirement → Effect → ℕ → (ℕ → ℕ → OnExec → ℕ) → ℕ → ℕ → OnExec → ℕ
 wanted_before d effect me wanted p f x =
-    if p == me then with_demand d (undone effect (gathered effect me wanted)) f x
+    if p == me then with_requirement d (undone effect (gathered effect me wanted)) f x
     else if is_child effect p then 0 else wanted p f x
 
-abbrev pub blocked_before : Demand → Effect → ℕ → ℕ → (ℕ → Option ℕ) → ℕ → Option ℕ
+abbrev pub blocked_before : Requirement → Effect → ℕ → ℕ → (ℕ → Option ℕ) → ℕ → Option ℕ
 blocked_before d effect at me blocked p =
     if p == me then blocked_with d at (unblocked effect (gathered_blocked effect me blocked))
     else if is_child effect p then None else blocked p

@@ -5,35 +5,35 @@ ghost use Rattle.std.specs.Prelude.{◌≡◌, ℕ, ◌+◌, ◌≤◌, ◌<◌,
 ghost use Rattle.std.specs.List.{All};
 ghost use Rattle.cap_rights.specs.Rights.{all};
 ghost use Rattle.cap_trace.specs.Entry.{IsFd};
-ghost use Rattle.cap_machine.specs.Cells.Pending.{settled};
+ghost use Rattle.cap_machine.specs.Cells.Deferred.{with_deferred};
 ghost use Rattle.cap_machine.specs.Cells.{cell_in_cells};
-ghost use Rattle.cap_machine.specs.Cells.Remains.{left_at_most};
+ghost use Rattle.cap_machine.specs.Cells.DeferredFree.{left_at_most};
 ghost use Rattle.cap_machine.specs.Cells.Parts.{in_leaf, in_shared};
-ghost use Rattle.cap_machine.specs.Cells.High.{in_high};
+ghost use Rattle.cap_machine.specs.Cells.Cells1M.{in_cells_1m};
 ghost use Rattle.cap_machine.specs.Cells.Started.{in_started};
 ghost use Rattle.cap_machine.specs.Touch.{started};
 
-mod block;
-mod few;
-mod high;
+mod cells_16k;
+mod cells_1m;
+mod cells_256;
+mod deferred;
+mod deferred_free;
 mod kind;
 mod leaf;
-mod listed;
 mod node;
-mod pending;
-mod region;
-mod remains;
 mod shared;
+mod shared_written_cells;
 mod started;
 mod subtree;
+mod written_cells;
 
 use crate::cell::{Cell, OnExec};
-use crate::cells::high::High;
+use crate::cells::cells_1m::Cells1M;
+pub(crate) use crate::cells::deferred::Deferred;
+pub(crate) use crate::cells::deferred_free::DeferredFree;
 pub(crate) use crate::cells::leaf::Leaf;
-use crate::cells::listed::Listed;
-pub(crate) use crate::cells::pending::Pending;
-pub(crate) use crate::cells::remains::Remains;
 use crate::cells::shared::Shared;
+use crate::cells::shared_written_cells::SharedWrittenCells;
 use crate::cells::started::Started;
 use crate::cells::subtree::Subtree;
 use cap_rights::{NoMemory, RightSet};
@@ -46,9 +46,9 @@ use std::alloc::{AllocError, Global};
 #[derive(Drop)]
 pub(crate) struct Cells {
     low: Shared<Leaf<64>>,
-    few: Listed,
+    few: SharedWrittenCells,
     started: Started,
-    high: Shared<High>,
+    high: Shared<Cells1M>,
     far: Cell,
 }
 
@@ -60,7 +60,7 @@ impl Cells {
     {
         Ok(Cells {
             low: Shared::all(alloc, cell)?,
-            few: Listed::none(alloc),
+            few: SharedWrittenCells::none(alloc),
             started: Started::nothing(alloc),
             high: Shared::all(alloc, cell)?,
             far: cell,
@@ -70,7 +70,7 @@ impl Cells {
     /// The cell of a descriptor as it is below the few that were written.
     fn unlisted(&self, fd: Fd) -> Cell
         requires { IsFd fd }
-        ensures { result ≡ in_started self.now.started (in_shared in_high self.now.high fd) fd }
+        ensures { result ≡ in_started self.now.started (in_shared in_cells_1m self.now.high fd) fd }
     {
         if self.started.lists(fd) {
             self.started.cell()
@@ -93,14 +93,14 @@ impl Cells {
         }
     }
 
-    /// The leaf that has the cell of a descriptor, if it is one of the first 64 and nothing is pending.
+    /// The leaf that has the cell of a descriptor, if it is one of the first 64 and nothing is deferred.
     #[tactic(auto, unfolding(crate::specs::Cells::cell_in_cells))]
     #[inline(always)]
     pub(crate) fn leaf_of(&self, fd: Fd) -> Option<&Leaf<64>>
         ensures low { IfSome result (λ leaf. fd < 64) }
         ensures cell { IfSome result (λ leaf. in_leaf leaf.now fd ≡ cell_in_cells self.now fd) }
     {
-        if fd < 64 { self.low.settled() } else { None }
+        if fd < 64 { self.low.up_to_date() } else { None }
     }
 
     /// Writes one cell.
@@ -137,14 +137,14 @@ impl Cells {
 
     /// Does this to each cell.
     #[tactic(auto, unfolding(crate::specs::Cells::cell_in_cells))]
-    pub(crate) fn settle(&mut self, pending: Pending) -> Result<(), NoMemory>
-        ensures { OnOk result ((f : ℕ) → cell_in_cells self.new f ≡ settled pending (cell_in_cells self.old f)) }
+    pub(crate) fn apply_deferred(&mut self, deferred: Deferred) -> Result<(), NoMemory>
+        ensures { OnOk result ((f : ℕ) → cell_in_cells self.new f ≡ with_deferred deferred (cell_in_cells self.old f)) }
     {
-        self.low.settle(pending);
-        self.few.settle(pending)?;
-        self.started.settle(pending);
-        self.high.settle(pending);
-        self.far = pending.on(self.far);
+        self.low.apply_deferred(deferred);
+        self.few.apply_deferred(deferred)?;
+        self.started.apply_deferred(deferred);
+        self.high.apply_deferred(deferred);
+        self.far = deferred.on(self.far);
         Ok(())
     }
 
@@ -157,7 +157,7 @@ impl Cells {
     {
         if fd < 64 {
             self.low.close_from(fd as usize)?;
-            self.high.settle(Pending::Close);
+            self.high.apply_deferred(Deferred::Close);
         } else {
             self.high.close_from(fd as usize)?;
         }
@@ -189,10 +189,10 @@ impl Cells {
         ensures low { OnOk result ((f : ℕ) → f < 64 → cell_in_cells self.new f ≡ Cell.Closed) }
         ensures high { OnOk result ((f : ℕ) → 64 ≤ f → cell_in_cells self.new f ≡ started fds.now f) }
     {
-        self.low.settle(Pending::Close);
-        self.few = Listed::none(alloc);
+        self.low.apply_deferred(Deferred::Close);
+        self.few = SharedWrittenCells::none(alloc);
         self.started = Started::of(alloc, fds)?;
-        self.high.settle(Pending::Close);
+        self.high.apply_deferred(Deferred::Close);
         self.far = Cell::Closed;
         Ok(())
     }
@@ -210,11 +210,11 @@ impl Cells {
     }
 
     /// Hands on the tree, where nobody else has it, as these cells are to be dropped.
-    pub(crate) fn hand_on(&self, remains: &mut Remains) -> Result<(), NoMemory>
-        ensures { left_at_most remains.new ≤ left_at_most remains.old + 37449 }
+    pub(crate) fn hand_on(&self, deferred_free: &mut DeferredFree) -> Result<(), NoMemory>
+        ensures { left_at_most deferred_free.new ≤ left_at_most deferred_free.old + 37449 }
     {
         match self.high.sole()? {
-            Some(high) => remains.add(high),
+            Some(high) => deferred_free.add(high),
             None => Ok(()),
         }
     }

@@ -86,7 +86,7 @@ impl Checker {
         }
     }
 
-    /// The same, asked for the denials in place of the findings: for each line that errno 93 or 94 refused, what was
+    /// A checker that is asked for the denials, not the findings: for each line that errno 93 or 94 refused, what was
     /// lacking. It was given no line yet.
     pub fn for_denials(self) -> Checker
         requires { lines_of self ≡ 0 }
@@ -126,7 +126,7 @@ impl Checker {
             → IsAsked self.old question profile s trace
             → OnOk result (IsAsked self.new question profile s (trace ++ line.now ∷ [])) }
     {
-        self.line_ref(&line.seen())
+        self.line_ref(&line.view())
     }
 
     /// Checks the next line, whose texts lie elsewhere, as [`line`](Checker::line) does.
@@ -139,10 +139,10 @@ impl Checker {
             → IsAsked self.old question profile s trace
             → OnOk result (IsAsked self.new question profile s (trace ++ line.now ∷ [])) }
     {
-        if !self.question.is_silent(line, &self.table) {
+        if !self.question.has_no_entry(line, &self.table) {
             return self.line_by_rule(&line.copied());
         }
-        self.table.follow(self.profile, line)?;
+        self.table.apply_line(self.profile, line)?;
         self.lines += 1;
         Ok(())
     }
@@ -159,7 +159,7 @@ impl Checker {
         let more = self
             .question
             .put_line(&mut self.text, at, line, &self.table)?;
-        self.table.follow_by_rule(self.profile, line)?;
+        self.table.apply_by_rule(self.profile, line)?;
         self.lines = at;
         self.said += more;
         Ok(())

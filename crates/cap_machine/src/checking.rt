@@ -2,9 +2,9 @@
 
 ghost use Rattle.std.specs.Prelude.{◌≡◌, ◌≤◌, ◌++◌, map, length, flat_map, IfOk, OnOk};
 ghost use Rattle.cap_machine.specs.Steps.{step, steps};
-ghost use Rattle.cap_machine.specs.Rule.{demand};
+ghost use Rattle.cap_machine.specs.Rule.{requirement};
 ghost use Rattle.cap_machine.specs.Report.{finding_line};
-ghost use Rattle.cap_machine.specs.Check.{check, said, said_of, found_at};
+ghost use Rattle.cap_machine.specs.Check.{check, said, findings_of, found_at};
 ghost use Rattle.cap_machine.specs.Table.{Keeps, state_of, step_after, start_state};
 
 use crate::cell::Profile;
@@ -17,29 +17,30 @@ use cap_trace::{Line, LineRef};
 use std::alloc::Global;
 
 /// What is said of a line by what is known before it.
-fn said_in(table: &Table, line: &LineRef<'_>) -> Verdict
-    ensures { result ≡ said_of (demand line.now) line.now.pid (state_of table.now) }
+fn findings_in(table: &Table, line: &LineRef<'_>) -> Verdict
+    ensures { result ≡ findings_of (requirement line.now) line.now.pid (state_of table.now) }
 {
-    if table.is_silent(line) {
+    if table.has_no_finding(line) {
         Verdict::silent()
     } else {
-        table.said_by_rule(line)
+        table.findings_by_rule(line)
     }
 }
 
 /// Appends what is said of the line at a position, and answers how many findings that is.
-pub(crate) fn put_said(
+pub(crate) fn put_findings(
     out: &mut Vec<u8>,
     at: usize,
     line: &LineRef<'_>,
     table: &Table,
 ) -> Result<usize, NoMemory>
     ensures few { IfOk result (λ count. count ≤ 3) }
-    ensures count { IfOk result (λ count. count ≡ length (said_of (demand line.now) line.now.pid (state_of table.now))) }
+    ensures count { IfOk result (λ count. count
+        ≡ length (findings_of (requirement line.now) line.now.pid (state_of table.now))) }
     ensures text { OnOk result (out.new.items ≡ out.old.items ++ flat_map (λ f. finding_line line.now (found_at at f))
-        (said_of (demand line.now) line.now.pid (state_of table.now))) }
+        (findings_of (requirement line.now) line.now.pid (state_of table.now))) }
 {
-    put_verdict(out, at, line, &table.said_by_rule(line))
+    put_verdict(out, at, line, &table.findings_by_rule(line))
 }
 
 /// Judges a line by what is known before it, and moves what is known on.
@@ -51,9 +52,9 @@ pub(crate) fn take_line(
     ensures says { IfOk result (λ verdict. verdict ≡ said (step profile line.now) (state_of table.old)) }
     ensures moved { OnOk result (Keeps table.new (step_after (step profile line.now) (state_of table.old))) }
 {
-    let seen = line.seen();
-    let verdict = said_in(table, &seen);
-    table.follow(profile, &seen)?;
+    let view = line.view();
+    let verdict = findings_in(table, &view);
+    table.apply_line(profile, &view)?;
     Ok(verdict)
 }
 

@@ -5,7 +5,7 @@ ghost use Rattle.cap_machine.specs.Judge.{listed};
 ghost use Rattle.cap_machine.specs.Denials.{lack, lacks, or_unexplained, denied_with};
 
 use crate::cell::{Cell, Mode};
-use crate::rule::{Check, Checks, Class, Demand, Reply};
+use crate::rule::{Check, Checks, Class, Reply, Requirement};
 use cap_rights::RightSet;
 use cap_trace::Fd;
 use std::fmt;
@@ -157,9 +157,9 @@ fn lacks_of(checks: &Checks, cells: &[Cell]) -> LineDenials
     denials
 }
 
-impl Demand {
-    /// What was lacking for a line with this demand, in this mode and with the cell of each check in order. It takes no
-    /// memory.
+impl Requirement {
+    /// What was lacking for a line with this requirement, in this mode and with the cell of each check in order. It
+    /// takes no memory.
     pub fn denials(&self, mode: Mode, cells: &[Cell]) -> LineDenials
         requires one_each { length cells.now ≡ length (listed self.now.checks) }
         ensures { result ≡ denied_with self.now mode cells.now }

@@ -3,7 +3,7 @@
 
 ghost use Rattle.std.specs.Prelude.{◌≡◌, ◌≤◌, ◌++◌, [], map, length, flat_map, IfOk, OnOk, IsTrue};
 ghost use Rattle.cap_machine.specs.Steps.{step, steps};
-ghost use Rattle.cap_machine.specs.Rule.{demand};
+ghost use Rattle.cap_machine.specs.Rule.{requirement};
 ghost use Rattle.cap_machine.specs.State.{State};
 ghost use Rattle.cap_machine.specs.Denials.{denials, denied, denied_of, denied_at};
 ghost use Rattle.cap_machine.specs.DenialReport.{denial_line};
@@ -12,7 +12,7 @@ ghost use Rattle.cap_machine.specs.Table.{Keeps, state_of, step_after, start_sta
 use crate::cell::Profile;
 use crate::denial::{Denied, LineDenials};
 use crate::report::put_denials;
-use crate::rule::{Checks, Demand, demand_of_line};
+use crate::rule::{Checks, Requirement, requirement_of_line};
 use crate::start::Start;
 use crate::table::Table;
 use cap_rights::NoMemory;
@@ -20,16 +20,16 @@ use cap_trace::{Answer, Item, Line, LineRef, Pid};
 use std::alloc::Global;
 
 impl Table {
-    /// What was lacking for a line of a process with this demand.
-    fn denied(&self, pid: Pid, demand: &Demand) -> LineDenials
-        ensures { result ≡ denied_of demand.now pid (state_of self.now) }
+    /// What was lacking for a line of a process with this requirement.
+    fn denied(&self, pid: Pid, requirement: &Requirement) -> LineDenials
+        ensures { result ≡ denied_of requirement.now pid (state_of self.now) }
     {
         let mode = self.mode(pid);
-        match &demand.checks {
-            Checks::Nothing => demand.denials(mode, &[]),
-            Checks::One(a) => demand.denials(mode, &[self.cell(pid, a.fd)]),
+        match &requirement.checks {
+            Checks::Nothing => requirement.denials(mode, &[]),
+            Checks::One(a) => requirement.denials(mode, &[self.cell(pid, a.fd)]),
             Checks::Two(a, b) => {
-                demand.denials(mode, &[self.cell(pid, a.fd), self.cell(pid, b.fd)])
+                requirement.denials(mode, &[self.cell(pid, a.fd), self.cell(pid, b.fd)])
             }
         }
     }
@@ -37,16 +37,16 @@ impl Table {
     /// What was lacking for a line, by its rule.
     #[inline(never)]
     fn denied_by_rule(&self, line: &LineRef<'_>) -> LineDenials
-        ensures { result ≡ denied_of (demand line.now) line.now.pid (state_of self.now) }
+        ensures { result ≡ denied_of (requirement line.now) line.now.pid (state_of self.now) }
     {
-        self.denied(line.pid, &demand_of_line(line))
+        self.denied(line.pid, &requirement_of_line(line))
     }
 }
 
 /// Whether nothing was lacking for a line, by its answer.
 #[inline(always)]
 pub(crate) fn was_let_through(line: &LineRef<'_>) -> bool
-    ensures { IsTrue result → (s : State) → denied_of (demand line.now) line.now.pid s ≡ [] }
+    ensures { IsTrue result → (s : State) → denied_of (requirement line.now) line.now.pid s ≡ [] }
 {
     match &line.item {
         Item::Call { call: _, answer } => !matches!(answer, Answer::Fault(93) | Answer::Fault(94)),
@@ -64,9 +64,9 @@ pub(crate) fn put_denied(
 ) -> Result<usize, NoMemory>
     ensures few { IfOk result (λ count. count ≤ 3) }
     ensures count { IfOk result (λ count. count
-        ≡ length (denied_of (demand line.now) line.now.pid (state_of table.now))) }
+        ≡ length (denied_of (requirement line.now) line.now.pid (state_of table.now))) }
     ensures text { OnOk result (out.new.items ≡ out.old.items ++ flat_map (λ d. denial_line line.now (denied_at at d))
-        (denied_of (demand line.now) line.now.pid (state_of table.now))) }
+        (denied_of (requirement line.now) line.now.pid (state_of table.now))) }
 {
     put_denials(out, at, line, &table.denied_by_rule(line))
 }
@@ -76,9 +76,9 @@ fn take_denied(table: &mut Table, profile: Profile, line: &Line) -> Result<LineD
     ensures says { IfOk result (λ found. found ≡ denied (step profile line.now) (state_of table.old)) }
     ensures moved { OnOk result (Keeps table.new (step_after (step profile line.now) (state_of table.old))) }
 {
-    let seen = line.seen();
-    let found = table.denied_by_rule(&seen);
-    table.follow(profile, &seen)?;
+    let view = line.view();
+    let found = table.denied_by_rule(&view);
+    table.apply_line(profile, &view)?;
     Ok(found)
 }
 

@@ -3,7 +3,7 @@
 
 ghost use Rattle.std.specs.Prelude.{◌≡◌, ℕ, ◌<◌, codes, IsTrue, if◌then◌else◌};
 ghost use Rattle.cap_trace.specs.Entry.{IsAnswer, IsFd, args_of_call, kind_of, fcntl_kind};
-ghost use Rattle.cap_trace.specs.Seen.{call_seen};
+ghost use Rattle.cap_trace.specs.Views.{call_view};
 ghost use Rattle.cap_trace.specs.Call as calls;
 ghost use Rattle.cap_machine.specs.Flags.{has_flag};
 ghost use Rattle.cap_machine.specs.Places.{below};
@@ -371,11 +371,11 @@ fn flags_effect(call: FlagsCall, flags: &[u8], answer: &Answer) -> Effect<'stati
 
 /// What a call does.
 pub(crate) fn effect_of(profile: Profile, call: &Call<'_>, answer: &Answer) -> Effect<'static>
-    requires answer { IsAnswer (kind_of (call_seen call.now)) answer.now }
-    requires within { FdsWithin (args_of_call (call_seen call.now)) }
+    requires answer { IsAnswer (kind_of (call_view call.now)) answer.now }
+    requires within { FdsWithin (args_of_call (call_view call.now)) }
     ensures cells { (me p f : ℕ)
-        → effect_touch result me p f ≡ call_touch profile (call_seen call.now) answer.now me p f }
-    ensures modes { (me p : ℕ) → effect_turn result me p ≡ call_turn (call_seen call.now) answer.now me p }
+        → effect_touch result me p f ≡ call_touch profile (call_view call.now) answer.now me p f }
+    ensures modes { (me p : ℕ) → effect_turn result me p ≡ call_turn (call_view call.now) answer.now me p }
     ensures within { IsWithin result }
 {
     match call {

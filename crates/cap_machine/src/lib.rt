@@ -29,7 +29,6 @@ mod cells;
 mod checker;
 mod checking;
 mod composed;
-mod demands;
 mod denial;
 mod denial_laws;
 mod denying;
@@ -45,11 +44,12 @@ mod live;
 mod machine;
 mod makers;
 mod needs;
-mod origin;
-mod origin_laws;
 mod places;
+mod provenance;
+mod provenance_laws;
 mod question;
 mod report;
+mod requirements;
 mod rule;
 mod standing;
 mod start;
@@ -80,19 +80,20 @@ pub use limit_laws::{
     all_limits_are_enough, all_limits_are_least, blocked_is_forbidden, limits_are_enough,
     limits_are_least,
 };
-pub use limits::{Entering, Limits, limits_before, live_behind, machine_after};
+pub use limits::{Entering, Limits, limits_before, live_after, machine_after};
 pub use live::LiveRights;
 pub use machine::Machine;
 pub use makers::{MakerLimit, limits_of_makers};
-pub use origin::{
-    CellEnd, CellLink, CellOrigin, ModeEnd, ModeLink, ModeOrigin, origin_of_cell, origin_of_mode,
+pub use provenance::{
+    CellEnd, CellLink, CellProvenance, ModeEnd, ModeLink, ModeProvenance, provenance_of_cell,
+    provenance_of_mode,
 };
-pub use origin_laws::{
+pub use provenance_laws::{
     chains_are_enough, chains_skip_no_line, mode_matters_where_it_decides, named_lines_matter,
 };
 pub use question::Question;
 pub use report::{put_count, put_denial, put_denial_count, put_denial_words, put_finding};
-pub use rule::{Check, Checks, Class, Demand, Effect, Reply, Rule, Word, rule_of};
+pub use rule::{Check, Checks, Class, Effect, LimitWord, Reply, Requirement, Rule, rule_of};
 pub use standing::standing_fds;
 pub use start::Start;
 pub use step::Step;

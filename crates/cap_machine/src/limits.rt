@@ -45,7 +45,7 @@ pub fn machine_after(
 {
     let mut machine = Machine::from_start(alloc, start)?;
     for line in lines {
-        machine.follow(profile, line)?;
+        machine.apply_line(profile, line)?;
     }
     Ok(machine)
 }
@@ -53,7 +53,7 @@ pub fn machine_after(
 /// What these lines need, which come after so many others.
 ///
 /// `NoMemory` when out of memory.
-pub fn live_behind(
+pub fn live_after(
     alloc: Global,
     profile: Profile,
     before: usize,
@@ -115,11 +115,11 @@ fn limits_of(
         (length before.now + 1) pid) }
 {
     let machine = machine_after(alloc, profile, start, before)?;
-    let live = live_behind(alloc, profile, before.len(), later)?;
+    let live = live_after(alloc, profile, before.len(), later)?;
     let fds = standing_fds(alloc, profile, start, before, pid)?;
     let entering = Entering::of(&machine, &live, pid);
     let held = limits_among(alloc, &machine, &live, pid, fds)?;
-    let unknown = unknown_limits(alloc, &machine, pid, live.into_near(pid))?;
+    let unknown = unknown_limits(alloc, &machine, pid, live.into_until_exec(pid))?;
     Ok(Limits {
         pid,
         held,

@@ -12,15 +12,15 @@ ghost use Rattle.cap_machine.specs.declared.step.Step.{Step};
 ghost use Rattle.cap_machine.specs.Steps.{step};
 ghost use Rattle.cap_machine.specs.LiveRights.{AreLive, AreBlocked};
 ghost use Rattle.cap_machine.specs.Wanted.{rights_of, wanted_of, wanted, blocked, gathered, gathered_blocked, is_child};
-ghost use Rattle.cap_machine.specs.Wanted.{undone, unblocked, earlier, with_demand, blocked_with, wanted_before};
+ghost use Rattle.cap_machine.specs.Wanted.{undone, unblocked, earlier, with_requirement, blocked_with, wanted_before};
 ghost use Rattle.cap_machine.specs.Wanted.{blocked_before};
 
 use crate::cell::{OnExec, Profile};
-use crate::demands::fd_demand_of;
 use crate::effects::{closed, keeps_all};
 use crate::live::fd_rights::FdRights;
 use crate::live::process::LiveProcess;
-use crate::rule::{Demand, Effect, demand_of_line, effect_of_line};
+use crate::requirements::fd_requirement_of;
+use crate::rule::{Effect, Requirement, effect_of_line, requirement_of_line};
 use cap_rights::{NoMemory, RightSet};
 use cap_trace::{Answer, Call, Fd, FdCall, Item, Line, LineRef, Pid};
 use std::alloc::Global;
@@ -70,11 +70,11 @@ impl LiveRights {
     }
 
     /// What is needed of each descriptor of a process before its next exec. Of one whose flag isn't known that is all.
-    pub(crate) fn into_near(self, pid: Pid) -> FdRights
+    pub(crate) fn into_until_exec(self, pid: Pid) -> FdRights
         ensures { (f : ℕ) → rights_of result f OnExec.Unsure ≡ wanted self pid f OnExec.Unsure }
     {
         let mut live = self;
-        live.take(pid).into_near()
+        live.take(pid).into_until_exec()
     }
 
     /// Takes out what is needed of a process.
@@ -131,48 +131,49 @@ impl LiveRights {
         }
     }
 
-    /// Passes a line of a process with this demand and this effect. What is needed of a child is kept with the child.
+    /// Passes a line of a process with this requirement and this effect. What is needed of a child is kept with the
+    /// child.
     #[inline(always)]
     fn pass_own(
         &mut self,
         at: usize,
         me: Pid,
-        demand: &Demand,
+        requirement: &Requirement,
         effect: &Effect<'_>,
     ) -> Result<(), NoMemory>
         ensures rights { OnOk result ((p f : ℕ) (x : OnExec) → wanted self.new p f x
-            ≡ (if p == me then with_demand demand.now (undone effect.now (wanted self.old me)) f x
+            ≡ (if p == me then with_requirement requirement.now (undone effect.now (wanted self.old me)) f x
             else wanted self.old p f x)) }
         ensures blocked { OnOk result ((p : ℕ) → blocked self.new p
-            ≡ (if p == me then blocked_with demand.now at (unblocked effect.now (blocked self.old me))
+            ≡ (if p == me then blocked_with requirement.now at (unblocked effect.now (blocked self.old me))
             else blocked self.old p)) }
     {
         match self.processes.get_mut(&me) {
-            Some(own) => own.pass(at, demand, effect),
+            Some(own) => own.pass(at, requirement, effect),
             None => {
                 let mut own = LiveProcess::none(self.alloc);
-                own.pass(at, demand, effect)?;
+                own.pass(at, requirement, effect)?;
                 self.put(me, own)
             }
         }
     }
 
-    /// Passes a line of a process with this demand and this effect.
+    /// Passes a line of a process with this requirement and this effect.
     #[inline(always)]
     fn pass_rule(
         &mut self,
         at: usize,
         me: Pid,
-        demand: &Demand,
+        requirement: &Requirement,
         effect: &Effect<'_>,
     ) -> Result<(), NoMemory>
         ensures rights { OnOk result ((p f : ℕ) (x : OnExec)
-            → wanted self.new p f x ≡ wanted_before demand.now effect.now me (wanted self.old) p f x) }
+            → wanted self.new p f x ≡ wanted_before requirement.now effect.now me (wanted self.old) p f x) }
         ensures blocked { OnOk result ((p : ℕ)
-            → blocked self.new p ≡ blocked_before demand.now effect.now at me (blocked self.old) p) }
+            → blocked self.new p ≡ blocked_before requirement.now effect.now at me (blocked self.old) p) }
     {
         self.gather(me, effect)?;
-        self.pass_own(at, me, demand, effect)
+        self.pass_own(at, me, requirement, effect)
     }
 
     /// Passes a borrowed line by its rule: the slow path.
@@ -189,9 +190,9 @@ impl LiveRights {
         ensures blocked { OnOk result ((later : List Step)
             → AreBlocked self.old (at + 1) later → AreBlocked self.new at (step profile line.now ∷ later)) }
     {
-        let demand = demand_of_line(line);
+        let requirement = requirement_of_line(line);
         let effect = effect_of_line(profile, line);
-        self.pass_rule(at, line.pid, &demand, &effect)
+        self.pass_rule(at, line.pid, &requirement, &effect)
     }
 
     /// Passes a line with a call on one descriptor, which mostly changes nothing.
@@ -213,17 +214,17 @@ impl LiveRights {
         ensures blocked { OnOk result ((later : List Step)
             → AreBlocked self.old (at + 1) later → AreBlocked self.new at (step profile line.now ∷ later)) }
     {
-        let demand = fd_demand_of(call, fd, answer);
+        let requirement = fd_requirement_of(call, fd, answer);
         match call {
-            FdCall::Close => self.pass_rule(at, line.pid, &demand, &closed(fd, answer)),
-            _ if keeps_all(call) => self.pass_rule(at, line.pid, &demand, &Effect::Keep),
+            FdCall::Close => self.pass_rule(at, line.pid, &requirement, &closed(fd, answer)),
+            _ if keeps_all(call) => self.pass_rule(at, line.pid, &requirement, &Effect::Keep),
             _ => self.pass_by_rule(at, profile, line),
         }
     }
 
     /// Passes a borrowed line.
     #[inline(always)]
-    pub(crate) fn pass_seen(
+    pub(crate) fn pass_view(
         &mut self,
         at: usize,
         profile: Profile,
@@ -252,6 +253,6 @@ impl LiveRights {
         ensures blocked { OnOk result ((later : List Step)
             → AreBlocked self.old (at + 1) later → AreBlocked self.new at (step profile line.now ∷ later)) }
     {
-        self.pass_seen(at, profile, &line.seen())
+        self.pass_view(at, profile, &line.view())
     }
 }

@@ -62,15 +62,15 @@ impl Machine {
     /// Moves on to what is known after the next step, and judges nothing.
     ///
     /// `NoMemory` when out of memory. What the machine then knows isn't promised: drop it.
-    pub fn follow(&mut self, profile: Profile, line: &Line) -> Result<(), NoMemory>
+    pub fn apply_line(&mut self, profile: Profile, line: &Line) -> Result<(), NoMemory>
         ensures { OnOk result
             (start_state self.new ≡ ended (start_state self.old) (step profile line.now ∷ [])) }
     {
-        self.follow_seen(profile, &line.seen())
+        self.apply_view(profile, &line.view())
     }
 
     /// Moves on to what is known after a step whose line is borrowed, and judges nothing.
-    pub(crate) fn follow_seen(
+    pub(crate) fn apply_view(
         &mut self,
         profile: Profile,
         line: &LineRef<'_>,
@@ -78,7 +78,7 @@ impl Machine {
         ensures { OnOk result
             (start_state self.new ≡ ended (start_state self.old) (step profile line.now ∷ [])) }
     {
-        self.table.follow(profile, line)
+        self.table.apply_line(profile, line)
     }
 
     /// What is known of a descriptor of a process.

@@ -3,7 +3,7 @@
 ghost use Rattle.std.specs.Prelude.{◌≡◌, ◌++◌, OnOk, IfOk, List, [], ◌∷◌};
 ghost use Rattle.cap_trace.specs.Entry.{IsAnswer, kind_of, fcntl_kind};
 ghost use Rattle.cap_trace.specs.Call as calls;
-ghost use Rattle.cap_trace.specs.Seen.{call_seen};
+ghost use Rattle.cap_trace.specs.Views.{call_view};
 ghost use Rattle.cap_machine.specs.Effect.{FitsMade, FitsPair};
 ghost use Rattle.cap_machine.specs.History.{ended};
 ghost use Rattle.cap_machine.specs.declared.cell.Cell.{Cell};
@@ -68,8 +68,8 @@ fn two_made(answer: &Answer) -> Made
 /// The descriptors that a call made.
 #[inline(always)]
 fn made_by_call(call: &Call<'_>, answer: &Answer) -> Made
-    requires { IsAnswer (kind_of (call_seen call.now)) answer.now }
-    ensures { listed_made result ≡ made_of (kind_of (call_seen call.now)) answer.now }
+    requires { IsAnswer (kind_of (call_view call.now)) answer.now }
+    ensures { listed_made result ≡ made_of (kind_of (call_view call.now)) answer.now }
 {
     match call {
         Call::OnFd(FdCall::Dup | FdCall::Accept, _)
@@ -239,7 +239,7 @@ fn add_cells(
 }
 
 /// Moves a machine on by a line, and adds what is then known of the descriptors that it made.
-fn follow_line(
+fn apply_maker_line(
     machine: &mut Machine,
     cells: &mut Vec<Cell>,
     profile: Profile,
@@ -250,10 +250,10 @@ fn follow_line(
     ensures cells { OnOk result (cells.new.items
         ≡ cells.old.items ++ cells_made (start_state machine.new) line.now.pid (made_fds line.now.item)) }
 {
-    let seen = line.seen();
-    let pid = seen.pid;
-    let made = made_by(&seen);
-    machine.follow_seen(profile, &seen)?;
+    let view = line.view();
+    let pid = view.pid;
+    let made = made_by(&view);
+    machine.apply_view(profile, &view)?;
     add_cells(cells, machine, pid, &made)
 }
 
@@ -269,7 +269,7 @@ fn made_along(
     let mut machine = Machine::from_start(alloc, start)?;
     let mut cells = Vec::new(alloc);
     for line in lines {
-        follow_line(&mut machine, &mut cells, profile, line)?;
+        apply_maker_line(&mut machine, &mut cells, profile, line)?;
     }
     Ok(cells)
 }
@@ -290,9 +290,9 @@ fn pass_line(
     ensures live { OnOk result ((later : List Step)
         → AreLive live.old later → AreLive live.new (step profile line.now ∷ later)) }
 {
-    let seen = line.seen();
-    add_limits(limits, cells, at, seen.pid, &made_by(&seen), live)?;
-    live.pass_seen(at, profile, &seen)
+    let view = line.view();
+    add_limits(limits, cells, at, view.pid, &made_by(&view), live)?;
+    live.pass_view(at, profile, &view)
 }
 
 /// The least rights of each descriptor that a trace makes and that is then held, right after the line that made it. The

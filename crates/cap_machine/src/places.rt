@@ -3,11 +3,12 @@
 ghost use Rattle.std.specs.Prelude.{◌≡◌, [], ◌∷◌, ◌&&◌, not, if◌then◌else◌};
 ghost use Rattle.cap_rights.specs.Rights.{all};
 ghost use Rattle.cap_machine.specs.Places.{is_global, below};
-ghost use Rattle.cap_machine.specs.Rule.{place_check, both, place_checks, at_excuse, at_demand, has_empty, has_global};
-ghost use Rattle.cap_machine.specs.PlaceSeen.{place_seen};
+ghost use Rattle.cap_machine.specs.Rule.{place_check, both, place_checks, at_excuse, at_requirement, has_empty};
+ghost use Rattle.cap_machine.specs.Rule.{has_global};
+ghost use Rattle.cap_machine.specs.PlaceView.{place_view};
 
-use crate::demands::reply_of;
-use crate::rule::{Check, Checks, Class, Demand, Word};
+use crate::requirements::reply_of;
+use crate::rule::{Check, Checks, Class, LimitWord, Requirement};
 use cap_rights::RightSet;
 use cap_trace::{Answer, Dir, Fd};
 
@@ -52,7 +53,7 @@ pub(crate) fn below_of(dir: Dir, path: &[u8]) -> Option<Fd>
 
 /// What is checked of a directory.
 fn place_check(excuse: Option<RightSet>, place: &Place<'_>) -> Option<Check>
-    ensures { result ≡ place_check excuse (place_seen place.now) }
+    ensures { result ≡ place_check excuse (place_view place.now) }
 {
     match below_of(place.dir, place.path) {
         None => None,
@@ -97,36 +98,36 @@ fn class_where(is_global: bool) -> Class
 }
 
 /// What a call at one directory is judged by.
-pub(crate) fn at_one(is_plain: bool, a: &Place<'_>, answer: &Answer) -> Demand
-    ensures { result ≡ at_demand is_plain (place_seen a.now ∷ []) answer.now }
+pub(crate) fn at_one(is_plain: bool, a: &Place<'_>, answer: &Answer) -> Requirement
+    ensures { result ≡ at_requirement is_plain (place_view a.now ∷ []) answer.now }
 {
     let excuse = excuse_where(is_plain && !a.path.is_empty());
-    Demand {
+    Requirement {
         class: class_where(is_global_of(a.dir, a.path)),
         checks: both_of(place_check(excuse, a), None),
         reply: reply_of(answer),
         at: true,
-        word: Word::Missing,
+        word: LimitWord::Missing,
     }
 }
 
 /// Whether errno 93 of a call at two directories can be judged.
 fn is_judged(is_plain: bool, a: &Place<'_>, b: &Place<'_>) -> bool
-    ensures { result ≡ (is_plain && not (has_empty (place_seen a.now ∷ place_seen b.now ∷ []))) }
+    ensures { result ≡ (is_plain && not (has_empty (place_view a.now ∷ place_view b.now ∷ []))) }
 {
     is_plain && !a.path.is_empty() && !b.path.is_empty()
 }
 
 /// Whether one of two paths begins in a global name space.
 fn one_is_global(a: &Place<'_>, b: &Place<'_>) -> bool
-    ensures { result ≡ has_global (place_seen a.now ∷ place_seen b.now ∷ []) }
+    ensures { result ≡ has_global (place_view a.now ∷ place_view b.now ∷ []) }
 {
     is_global_of(a.dir, a.path) || is_global_of(b.dir, b.path)
 }
 
 /// The checks of two directories.
 fn two_checks(is_plain: bool, a: &Place<'_>, b: &Place<'_>) -> Checks
-    ensures { let places = place_seen a.now ∷ place_seen b.now ∷ [] in
+    ensures { let places = place_view a.now ∷ place_view b.now ∷ [] in
         result ≡ place_checks (at_excuse is_plain places) places }
 {
     let is_judged = is_judged(is_plain, a, b);
@@ -136,14 +137,14 @@ fn two_checks(is_plain: bool, a: &Place<'_>, b: &Place<'_>) -> Checks
 }
 
 /// What a call at two directories is judged by.
-pub(crate) fn at_two(is_plain: bool, a: &Place<'_>, b: &Place<'_>, answer: &Answer) -> Demand
-    ensures { result ≡ at_demand is_plain (place_seen a.now ∷ place_seen b.now ∷ []) answer.now }
+pub(crate) fn at_two(is_plain: bool, a: &Place<'_>, b: &Place<'_>, answer: &Answer) -> Requirement
+    ensures { result ≡ at_requirement is_plain (place_view a.now ∷ place_view b.now ∷ []) answer.now }
 {
-    Demand {
+    Requirement {
         class: class_where(one_is_global(a, b)),
         checks: two_checks(is_plain, a, b),
         reply: reply_of(answer),
         at: true,
-        word: Word::Missing,
+        word: LimitWord::Missing,
     }
 }

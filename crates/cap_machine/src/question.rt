@@ -1,10 +1,10 @@
 //! What a checker is asked about a trace.
 
 ghost use Rattle.std.specs.Prelude.{◌≡◌, ◌≤◌, ◌++◌, IsTrue, IfOk, OnOk};
-ghost use Rattle.cap_machine.specs.Questions.{line_count, line_text, LineIsSilent, last_text};
+ghost use Rattle.cap_machine.specs.Questions.{line_count, line_text, LineHasNoEntry, last_text};
 ghost use Rattle.cap_machine.specs.Table.{state_of};
 
-use crate::checking::put_said;
+use crate::checking::put_findings;
 use crate::denying::{put_denied, was_let_through};
 use crate::report::{put_count, put_denial_count};
 use crate::table::Table;
@@ -35,18 +35,18 @@ impl Question {
             (out.new.items ≡ out.old.items ++ line_text self at line.now (state_of table.now)) }
     {
         match self {
-            Question::Findings => put_said(out, at, line, table),
+            Question::Findings => put_findings(out, at, line, table),
             Question::Denials => put_denied(out, at, line, table),
         }
     }
 
     /// Whether nothing is said of a line, where that is seen without its rule.
     #[inline(always)]
-    pub(crate) fn is_silent(self, line: &LineRef<'_>, table: &Table) -> bool
-        ensures { IsTrue result → LineIsSilent self line.now (state_of table.now) }
+    pub(crate) fn has_no_entry(self, line: &LineRef<'_>, table: &Table) -> bool
+        ensures { IsTrue result → LineHasNoEntry self line.now (state_of table.now) }
     {
         match self {
-            Question::Findings => table.is_silent(line),
+            Question::Findings => table.has_no_finding(line),
             Question::Denials => was_let_through(line),
         }
     }

@@ -1,14 +1,14 @@
 //! The rule of a line: what it is judged by, and what it does.
 
 ghost use Rattle.std.specs.Prelude.{◌≡◌, ℕ};
-ghost use Rattle.cap_machine.specs.Rule.{demand, unjudged};
+ghost use Rattle.cap_machine.specs.Rule.{requirement, unjudged};
 ghost use Rattle.cap_machine.specs.Steps.{step};
 ghost use Rattle.cap_machine.specs.Touch.{touch, turn};
 ghost use Rattle.cap_machine.specs.Effect.{effect_touch, effect_turn, IsWithin};
 
 use crate::cell::{Cell, Op, Profile};
-use crate::demands::demand_of;
 use crate::effects::effect_of;
+use crate::requirements::requirement_of;
 use cap_rights::RightSet;
 use cap_trace::{Fd, Item, LineRef, Pid};
 
@@ -38,7 +38,7 @@ pub enum Reply {
 
 /// By which word lacking rights are reported.
 #[derive(Clone, Copy, Debug, PartialEq, Eq)]
-pub enum Word {
+pub enum LimitWord {
     /// The call lacked rights.
     Missing,
     /// cap_rights_limit(2) gave rights that weren't held.
@@ -66,7 +66,7 @@ pub enum Checks {
 
 /// What a line is judged by.
 #[derive(Clone, Copy, Debug, PartialEq, Eq)]
-pub struct Demand {
+pub struct Requirement {
     /// Whether the call is allowed in capability mode.
     pub class: Class,
     /// What it needs of its descriptors.
@@ -76,7 +76,7 @@ pub struct Demand {
     /// Whether it is a call at a directory, whose errno 93 may come from a path that leaves the directory.
     pub at: bool,
     /// By which word lacking rights are reported.
-    pub word: Word,
+    pub word: LimitWord,
 }
 
 /// What a line does to the cells and the mode of its process, and to those of a child.
@@ -113,25 +113,25 @@ pub enum Effect<'a> {
 #[derive(Clone, Copy, Debug)]
 pub struct Rule<'a> {
     /// What the line is judged by.
-    pub demand: Demand,
+    pub requirement: Requirement,
     /// What the line does, with the list of `@start` lent from the line.
     pub effect: Effect<'a>,
 }
 
 /// The rule of a line in a profile.
 ///
-/// The demand follows rights(4) and cap_enter(2); the effect follows what the line records, close(2) and
+/// The requirement follows rights(4) and cap_enter(2); the effect follows what the line records, close(2) and
 /// cap_rights_limit(2) among others, whatever is said of the line.
 // Inlined: a large value that is returned is copied by each function that it goes through.
 #[inline(always)]
 pub fn rule_of<'a>(profile: Profile, line: &LineRef<'a>) -> Rule<'a>
-    ensures demand { result.demand ≡ demand line.now }
+    ensures requirement { result.requirement ≡ requirement line.now }
     // The effect does to each cell and to each mode what the line does.
     ensures cells { (p f : ℕ) → effect_touch result.effect line.now.pid p f ≡ touch (step profile line.now) p f }
     ensures modes { (p : ℕ) → effect_turn result.effect line.now.pid p ≡ turn (step profile line.now) p }
 {
     Rule {
-        demand: demand_of_line(line),
+        requirement: requirement_of_line(line),
         effect: effect_of_line(profile, line),
     }
 }
@@ -153,24 +153,24 @@ pub(crate) fn effect_of_line<'a>(profile: Profile, line: &LineRef<'a>) -> Effect
 }
 
 /// What a line is judged by.
-pub(crate) fn demand_of_line(line: &LineRef<'_>) -> Demand
-    ensures { result ≡ demand line.now }
+pub(crate) fn requirement_of_line(line: &LineRef<'_>) -> Requirement
+    ensures { result ≡ requirement line.now }
 {
     match &line.item {
-        Item::Call { call, answer } => demand_of(call, answer),
-        _ => unjudged_demand(),
+        Item::Call { call, answer } => requirement_of(call, answer),
+        _ => unjudged_requirement(),
     }
 }
 
 /// Nothing is said of a marker.
-fn unjudged_demand() -> Demand
+fn unjudged_requirement() -> Requirement
     ensures { result ≡ unjudged }
 {
-    Demand {
+    Requirement {
         class: Class::Either,
         checks: Checks::Nothing,
         reply: Reply::Other,
         at: false,
-        word: Word::Missing,
+        word: LimitWord::Missing,
     }
 }

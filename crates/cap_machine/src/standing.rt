@@ -2,7 +2,7 @@
 
 ghost use Rattle.std.specs.Prelude.{◌≡◌, ◌↔◌, ℕ, ◌==◌, ◌||◌, true, reverse, OnOk, IfOk};
 ghost use Rattle.std.specs.List.{list_any};
-ghost use Rattle.cap_trace.specs.Seen.{fds_spelled};
+ghost use Rattle.cap_trace.specs.Views.{fds_spelled};
 ghost use Rattle.cap_machine.specs.declared.cell.Cell.{Cell};
 ghost use Rattle.cap_machine.specs.Steps.{steps};
 ghost use Rattle.cap_machine.specs.History.{ended};
@@ -107,9 +107,9 @@ pub fn standing_fds(
     let mut own = pid;
     let mut rest = lines;
     while let Some((line, earlier)) = rest.split_last() {
-        let seen = line.seen();
-        let me = seen.pid;
-        let rule = rule_of(profile, &seen);
+        let view = line.view();
+        let me = view.pid;
+        let rule = rule_of(profile, &view);
         add_single(alloc, &mut fds, &rule.effect, me, own)?;
         own = source(&rule.effect, me, own);
         rest = earlier;

@@ -6,7 +6,7 @@ ghost use Rattle.std.specs.Option.{option_copied, option_map_or};
 ghost use Rattle.std.specs.Vec.{vec_len};
 ghost use Rattle.cap_trace.specs.Entry.{IsFd};
 ghost use Rattle.cap_machine.specs.State.{usual, listed_cell, with_listed};
-ghost use Rattle.cap_machine.specs.Check.{said_of};
+ghost use Rattle.cap_machine.specs.Check.{findings_of};
 ghost use Rattle.cap_machine.specs.Effect.{own_cell, own_mode, IsOwn, IsWithin};
 ghost use Rattle.cap_machine.specs.Table.{cell_in, place_in, found, cell_of, mode_of, state_of, Keeps, StandsAt};
 ghost use Rattle.cap_machine.specs.Table.{with_cell, with_process, with_copy, effect_after};
@@ -14,8 +14,8 @@ ghost use Rattle.cap_machine.specs.Table.{with_cell, with_process, with_copy, ef
 mod lines;
 
 use crate::cell::{Cell, Mode};
-use crate::cells::{Cells, Pending, Remains};
-use crate::rule::{Checks, Demand, Effect};
+use crate::cells::{Cells, Deferred, DeferredFree};
+use crate::rule::{Checks, Effect, Requirement};
 use crate::verdict::Verdict;
 use cap_rights::{NoMemory, RightSet};
 use cap_trace::{Fd, Pid, fds_of};
@@ -37,7 +37,7 @@ impl Process {
         ensures pid { IfOk result (λ new. new.pid ≡ pid) }
     {
         let mut cells = cells;
-        cells.settle(Pending::Forget)?;
+        cells.apply_deferred(Deferred::Forget)?;
         Ok(Process {
             pid,
             mode: Mode::Unsure,
@@ -84,10 +84,10 @@ impl Process {
             }
             Effect::Exit => {
                 self.mode = Mode::Unsure;
-                self.cells.settle(Pending::Forget)
+                self.cells.apply_deferred(Deferred::Forget)
             }
-            Effect::Forget => self.cells.settle(Pending::Forget),
-            Effect::Exec => self.cells.settle(Pending::Exec),
+            Effect::Forget => self.cells.apply_deferred(Deferred::Forget),
+            Effect::Exec => self.cells.apply_deferred(Deferred::Exec),
             Effect::CloseFrom(fd) => self.cells.close_from(*fd),
             Effect::Give(fd, cell) => self.cells.write(*fd, *cell),
             Effect::GiveTwo(first, second, cell) => {
@@ -156,14 +156,14 @@ fn set_place(places: &mut Vec<usize>, pid: Pid, place: usize) -> Result<(), NoMe
 /// A new process begins from a clone of the cells in `blank`, whatever they are, with all of them pending to be
 /// forgotten: so it shares them, and takes memory only for what is written.
 ///
-/// What is left of a process that a fork replaced is in `remains`, and is freed by the lines that follow.
+/// What is left of a process that a fork replaced is in `deferred_free`, and is freed by the lines that follow.
 #[derive(Drop)]
 pub(crate) struct Table {
     alloc: Global,
     places: Vec<usize>,
     processes: Vec<Process>,
     blank: Option<Cells>,
-    remains: Remains,
+    deferred_free: DeferredFree,
 }
 
 impl Table {
@@ -176,7 +176,7 @@ impl Table {
             places: Vec::new(alloc),
             processes: Vec::new(alloc),
             blank: None,
-            remains: Remains::nothing(alloc),
+            deferred_free: DeferredFree::nothing(alloc),
         }
     }
 
@@ -191,7 +191,7 @@ impl Table {
             places,
             processes,
             blank: None,
-            remains: Remains::nothing(alloc),
+            deferred_free: DeferredFree::nothing(alloc),
         })
     }
 
@@ -400,7 +400,7 @@ impl Table {
         ensures processes { self.new.processes ≡ self.old.processes }
     {
         match self.place_of(pid) {
-            Some(place) => self.processes[place].cells.hand_on(&mut self.remains),
+            Some(place) => self.processes[place].cells.hand_on(&mut self.deferred_free),
             None => Ok(()),
         }
     }
@@ -414,17 +414,17 @@ impl Table {
         self.put(copy)
     }
 
-    /// What is said of a line of a process with this demand.
-    pub(crate) fn said(&self, pid: Pid, demand: &Demand) -> Verdict
-        ensures { result ≡ said_of demand.now pid (state_of self.now) }
+    /// What is said of a line of a process with this requirement.
+    pub(crate) fn said(&self, pid: Pid, requirement: &Requirement) -> Verdict
+        ensures { result ≡ findings_of requirement.now pid (state_of self.now) }
     {
         let process = self.find(pid);
         let mode = mode_in(process);
-        match &demand.checks {
-            Checks::Nothing => demand.judge(mode, &[]),
-            Checks::One(a) => demand.judge(mode, &[cell_at(process, a.fd)]),
+        match &requirement.checks {
+            Checks::Nothing => requirement.judge(mode, &[]),
+            Checks::One(a) => requirement.judge(mode, &[cell_at(process, a.fd)]),
             Checks::Two(a, b) => {
-                demand.judge(mode, &[cell_at(process, a.fd), cell_at(process, b.fd)])
+                requirement.judge(mode, &[cell_at(process, a.fd), cell_at(process, b.fd)])
             }
         }
     }
@@ -434,7 +434,7 @@ impl Table {
         requires { IsWithin effect.now }
         ensures { OnOk result (Keeps self.new (effect_after effect.now pid (state_of self.old))) }
     {
-        self.remains.free_some();
+        self.deferred_free.free_some();
         match effect {
             Effect::Keep => Ok(()),
             Effect::Fork(child) => self.fork(pid, *child),

@@ -1,11 +1,11 @@
 //! What one line does to one cell and to one mode.
 
 ghost use Rattle.std.specs.Prelude.{◌≡◌};
-ghost use Rattle.cap_trace.specs.Seen.{fds_spelled};
+ghost use Rattle.cap_trace.specs.Views.{fds_spelled};
 ghost use Rattle.cap_machine.specs.Steps.{step};
 ghost use Rattle.cap_machine.specs.Touch.{touch, turn, started};
 ghost use Rattle.cap_machine.specs.Effect.{effect_touch, effect_turn};
-ghost use Rattle.cap_machine.specs.Touched.{touch_seen, turn_seen};
+ghost use Rattle.cap_machine.specs.Touched.{touch_view, turn_view};
 
 use crate::cell::{Cell, Mode, OnExec, Op, Profile};
 use crate::rule::{Effect, rule_of};
@@ -47,7 +47,7 @@ fn started_with(fds: &[u8], fd: Fd) -> Cell
 
 /// What an effect of a line of a process does to one cell of the same process.
 fn own_touch(effect: &Effect<'_>, me: Pid, fd: Fd) -> Touched
-    ensures { touch_seen me result ≡ effect_touch effect.now me me fd }
+    ensures { touch_view me result ≡ effect_touch effect.now me me fd }
 {
     match effect {
         Effect::Keep | Effect::Enter => Touched::Kept,
@@ -71,7 +71,7 @@ fn own_touch(effect: &Effect<'_>, me: Pid, fd: Fd) -> Touched
 impl Effect<'_> {
     /// What the effect of a line of process `me` does to one cell.
     pub fn touch(&self, me: Pid, pid: Pid, fd: Fd) -> Touched
-        ensures { touch_seen me result ≡ effect_touch self.now me pid fd }
+        ensures { touch_view me result ≡ effect_touch self.now me pid fd }
     {
         if pid == me {
             return own_touch(self, me, fd);
@@ -91,7 +91,7 @@ impl Effect<'_> {
 
     /// What the effect of a line of process `me` does to the mode of one process.
     pub fn turn(&self, me: Pid, pid: Pid) -> Turned
-        ensures { turn_seen me result ≡ effect_turn self.now me pid }
+        ensures { turn_view me result ≡ effect_turn self.now me pid }
     {
         match self {
             Effect::Start(_) if pid == me => Turned::Turns(Mode::Outside),
@@ -105,16 +105,16 @@ impl Effect<'_> {
 
 /// What a line does to one cell.
 pub(crate) fn touch_of(profile: Profile, line: &Line, pid: Pid, fd: Fd) -> Touched
-    ensures { touch_seen line.now.pid result ≡ touch (step profile line.now) pid fd }
+    ensures { touch_view line.now.pid result ≡ touch (step profile line.now) pid fd }
 {
-    rule_of(profile, &line.seen())
+    rule_of(profile, &line.view())
         .effect
         .touch(line.pid(), pid, fd)
 }
 
 /// What a line does to the mode of one process.
 pub(crate) fn turn_of(profile: Profile, line: &Line, pid: Pid) -> Turned
-    ensures { turn_seen line.now.pid result ≡ turn (step profile line.now) pid }
+    ensures { turn_view line.now.pid result ≡ turn (step profile line.now) pid }
 {
-    rule_of(profile, &line.seen()).effect.turn(line.pid(), pid)
+    rule_of(profile, &line.view()).effect.turn(line.pid(), pid)
 }

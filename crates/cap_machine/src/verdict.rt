@@ -4,7 +4,7 @@ ghost use Rattle.std.specs.Prelude.{◌≡◌, ◌≤◌, ◌<◌, ◌+◌, ◌+
 ghost use Rattle.cap_machine.specs.Judge.{listed, forbidden, fault, judged, is_excused};
 
 use crate::cell::{Cell, Mode};
-use crate::rule::{Check, Checks, Class, Demand, Reply, Rule, Word};
+use crate::rule::{Check, Checks, Class, LimitWord, Reply, Requirement, Rule};
 use cap_rights::RightSet;
 use cap_trace::Fd;
 use std::fmt;
@@ -128,7 +128,7 @@ fn forbidden_of(class: Class, mode: Mode) -> Option<Finding>
 }
 
 /// What is said of one check of a call that succeeded.
-fn fault_of(word: Word, check: &Check, cell: Cell) -> Option<Finding>
+fn fault_of(word: LimitWord, check: &Check, cell: Cell) -> Option<Finding>
     ensures { option_to_list result ≡ fault word check.now cell }
 {
     match cell {
@@ -140,8 +140,8 @@ fn fault_of(word: Word, check: &Check, cell: Cell) -> Option<Finding>
             } else {
                 let lacking = check.needs.minus(&held);
                 Some(match word {
-                    Word::Missing => Finding::Missing(check.fd, lacking),
-                    Word::Expanded => Finding::Expanded(check.fd, lacking),
+                    LimitWord::Missing => Finding::Missing(check.fd, lacking),
+                    LimitWord::Expanded => Finding::Expanded(check.fd, lacking),
                 })
             }
         }
@@ -157,45 +157,45 @@ fn is_excused_by(excuse: Option<RightSet>, cell: Cell) -> bool
     }
 }
 
-fn judge_success(demand: &Demand, mode: Mode, cells: &[Cell]) -> Verdict
-    requires one_each { length cells.now ≡ length (listed demand.now.checks) }
-    requires success { demand.now.reply ≡ Reply.Success }
-    ensures { result ≡ judged demand.now mode cells.now }
+fn judge_success(requirement: &Requirement, mode: Mode, cells: &[Cell]) -> Verdict
+    requires one_each { length cells.now ≡ length (listed requirement.now.checks) }
+    requires success { requirement.now.reply ≡ Reply.Success }
+    ensures { result ≡ judged requirement.now mode cells.now }
 {
     let mut verdict = Verdict::silent();
-    verdict.add(forbidden_of(demand.class, mode));
-    match &demand.checks {
+    verdict.add(forbidden_of(requirement.class, mode));
+    match &requirement.checks {
         Checks::Nothing => {}
-        Checks::One(a) => verdict.add(fault_of(demand.word, a, cells[0])),
+        Checks::One(a) => verdict.add(fault_of(requirement.word, a, cells[0])),
         Checks::Two(a, b) => {
-            verdict.add(fault_of(demand.word, a, cells[0]));
-            verdict.add(fault_of(demand.word, b, cells[1]));
+            verdict.add(fault_of(requirement.word, a, cells[0]));
+            verdict.add(fault_of(requirement.word, b, cells[1]));
         }
     }
     verdict
 }
 
-fn judge_refusal(demand: &Demand, mode: Mode, cells: &[Cell]) -> Verdict
-    requires one_each { length cells.now ≡ length (listed demand.now.checks) }
-    requires refused { demand.now.reply ≡ Reply.NotCapable }
-    ensures { result ≡ judged demand.now mode cells.now }
+fn judge_refusal(requirement: &Requirement, mode: Mode, cells: &[Cell]) -> Verdict
+    requires one_each { length cells.now ≡ length (listed requirement.now.checks) }
+    requires refused { requirement.now.reply ≡ Reply.NotCapable }
+    ensures { result ≡ judged requirement.now mode cells.now }
 {
-    let excused = match &demand.checks {
+    let excused = match &requirement.checks {
         Checks::Nothing => false,
         Checks::One(a) => is_excused_by(a.excuse, cells[0]),
         Checks::Two(a, b) => {
             is_excused_by(a.excuse, cells[0]) && is_excused_by(b.excuse, cells[1])
         }
     };
-    if excused && (!demand.at || mode == Mode::Outside) {
+    if excused && (!requirement.at || mode == Mode::Outside) {
         Verdict::only(Finding::Refusal)
     } else {
         Verdict::silent()
     }
 }
 
-impl Demand {
-    /// What is said of a line with this demand, in this mode and with the cell of each check in order. It takes no
+impl Requirement {
+    /// What is said of a line with this requirement, in this mode and with the cell of each check in order. It takes no
     /// memory.
     pub fn judge(&self, mode: Mode, cells: &[Cell]) -> Verdict
         requires one_each { length cells.now ≡ length (listed self.now.checks) }
@@ -220,8 +220,8 @@ impl Demand {
 ///
 /// What is known of a descriptor's close-on-exec flag makes no difference.
 pub fn judge(rule: &Rule<'_>, mode: Mode, cells: &[Cell]) -> Verdict
-    requires one_each { length cells.now ≡ length (listed rule.now.demand.checks) }
-    ensures { result ≡ judged rule.now.demand mode cells.now }
+    requires one_each { length cells.now ≡ length (listed rule.now.requirement.checks) }
+    ensures { result ≡ judged rule.now.requirement mode cells.now }
 {
-    rule.demand.judge(mode, cells)
+    rule.requirement.judge(mode, cells)
 }

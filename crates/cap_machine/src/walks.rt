@@ -4,7 +4,7 @@
 //! may be left out ([`walks_may_leave_out`]).
 
 ghost use Rattle.std.specs.Prelude.{◌≡◌, ◌+◌, IfOk, OnOk, OnErr, List, [], ◌∷◌, length, true, false};
-ghost use Rattle.cap_machine.specs.Touched.{touch_seen, turn_seen};
+ghost use Rattle.cap_machine.specs.Touched.{touch_view, turn_view};
 ghost use Rattle.cap_machine.specs.Following.{Follows, FollowsMode};
 ghost use Rattle.cap_machine.specs.Walks.{chain_unless};
 ghost use Rattle.cap_machine.specs.declared.step.Step.{Step};
@@ -13,14 +13,14 @@ ghost use Rattle.cap_machine.specs.State.{State};
 ghost use Rattle.cap_machine.specs.History.{cell_after, mode_after};
 ghost use Rattle.cap_machine.specs.Table.{start_state};
 ghost use Rattle.cap_machine.specs.Passages.{constant, cell_along, links_along};
-ghost use Rattle.cap_machine.specs.Origin.{is_idle, cell_at_end, cell_chain, cell_chain_of};
-ghost use Rattle.cap_machine.specs.Origin.{named_turn, mode_chain, mode_chain_of};
+ghost use Rattle.cap_machine.specs.Provenance.{is_idle, cell_at_end, cell_chain, cell_chain_of};
+ghost use Rattle.cap_machine.specs.Provenance.{named_turn, mode_chain, mode_chain_of};
 ghost use Rattle.cap_machine.specs.Walks.{cell_pid, cell_fd, cell_known, cell_found, SameCellWalk, CellIsFound};
 ghost use Rattle.cap_machine.specs.Walks.{mode_pid, mode_known, mode_found, SameModeWalk, ModeIsFound};
 ghost use Rattle.cap_machine.specs.Walks.{CellsMayBeLeftOut, ModesMayBeLeftOut};
 
 use crate::cell::{Cell, HeldOp, Mode, Op, Profile};
-use crate::origin::{CellEnd, CellLink, CellOrigin, ModeEnd, ModeLink, ModeOrigin};
+use crate::provenance::{CellEnd, CellLink, CellProvenance, ModeEnd, ModeLink, ModeProvenance};
 use crate::start::Start;
 use crate::touched::{Touched, Turned, touch_of, turn_of};
 use cap_rights::NoMemory;
@@ -188,7 +188,7 @@ impl CellWalk {
     /// Goes on where a line of process `owner` did this to the cell.
     fn follow(&mut self, at: usize, owner: Pid, touched: &Touched) -> Result<(), NoMemory>
         requires { self.old.given ≡ None }
-        ensures follows { OnOk result (Follows self.old self.new at (touch_seen owner touched.now)) }
+        ensures follows { OnOk result (Follows self.old self.new at (touch_view owner touched.now)) }
         ensures unchanged { OnErr result (SameCellWalk self.old self.new) }
     {
         let link = CellLink {
@@ -231,13 +231,14 @@ impl CellWalk {
     /// Where the cell comes from, once it has passed every line, but for those that it may leave out.
     ///
     /// `NoMemory` when out of memory.
-    pub fn finish(self, alloc: Global, start: &Start) -> Result<CellOrigin, NoMemory>
-        ensures chain { IfOk result (λ origin. cell_chain_of origin ≡ cell_found self (start_state start.now) []) }
-        ensures cell { IfOk result (λ origin. origin.cell ≡ cell_known self (start_state start.now) []) }
+    pub fn finish(self, alloc: Global, start: &Start) -> Result<CellProvenance, NoMemory>
+        ensures chain { IfOk result (λ provenance. cell_chain_of provenance
+            ≡ cell_found self (start_state start.now) []) }
+        ensures cell { IfOk result (λ provenance. provenance.cell ≡ cell_known self (start_state start.now) []) }
     {
         let end = self.end(start);
         let (cell, links) = named_links(alloc, &self.passages, &end.cell())?;
-        Ok(CellOrigin { cell, links, end })
+        Ok(CellProvenance { cell, links, end })
     }
 }
 
@@ -299,7 +300,7 @@ impl ModeWalk {
     fn follow(&mut self, at: usize, me: Pid, turn: Turned) -> Result<(), NoMemory>
         requires { self.old.turned ≡ None }
         ensures follows { OnOk result
-            (FollowsMode self.old self.new at (named_turn (turn_seen me turn) self.old.pid)) }
+            (FollowsMode self.old self.new at (named_turn (turn_view me turn) self.old.pid)) }
         ensures unchanged { OnErr result (SameModeWalk self.old self.new) }
     {
         let link = ModeLink { at, pid: self.pid };
@@ -320,19 +321,19 @@ impl ModeWalk {
 
     /// Where the mode comes from, once it has passed every line, but for those that it may leave out. It takes
     /// no memory.
-    pub fn finish(self, start: &Start) -> ModeOrigin
+    pub fn finish(self, start: &Start) -> ModeProvenance
         ensures chain { mode_chain_of result ≡ mode_found self (start_state start.now) [] }
         ensures mode { result.mode ≡ mode_known self (start_state start.now) [] }
     {
         match self.turned {
-            Some(mode) => ModeOrigin {
+            Some(mode) => ModeProvenance {
                 mode,
                 links: self.links,
                 end: ModeEnd::Given(mode),
             },
             None => {
                 let mode = start.mode(self.pid);
-                ModeOrigin {
+                ModeProvenance {
                     mode,
                     links: self.links,
                     end: ModeEnd::Start(self.pid, mode),

@@ -11,9 +11,9 @@ use cap_trace::{Line, parse_line};
 use std::alloc::Global;
 
 /// What is said of the one check of a line that does nothing.
-fn said_of(line: &Line, cell: Cell) -> Option<Finding> {
-    let rule = rule_of(Profile::Two, &line.seen());
-    match rule.demand.checks {
+fn findings_of(line: &Line, cell: Cell) -> Option<Finding> {
+    let rule = rule_of(Profile::Two, &line.view());
+    match rule.requirement.checks {
         Checks::One(_) if matches!(rule.effect, Effect::Keep) => {
             judge(&rule, Mode::Unsure, &[cell])
                 .as_slice()
@@ -29,7 +29,7 @@ fn is_missing(alloc: Global, flag: OnExec) -> bool {
     let held = Cell::Held(rights_of(b"CAP_READ"), flag);
     let missing = Finding::Missing(0, rights_of(b"CAP_WRITE"));
     match parse_line(alloc, b"100 write(0) RET 1") {
-        Ok(line) => said_of(&line, held) == Some(missing),
+        Ok(line) => findings_of(&line, held) == Some(missing),
         Err(_) => false,
     }
 }
@@ -44,7 +44,7 @@ fn a_line_is_judged(rt: HostRuntime) {
 /// Whether a step is an exec in its profile.
 fn is_exec(step: &Step) -> bool {
     matches!(
-        rule_of(step.profile, &step.line.seen()).effect,
+        rule_of(step.profile, &step.line.view()).effect,
         Effect::Exec
     )
 }
@@ -52,10 +52,10 @@ fn is_exec(step: &Step) -> bool {
 /// How many findings there are of a call without checks that succeeded in capability mode and forgets in the first
 /// profile.
 fn said_inside(line: &Line) -> usize {
-    let rule = rule_of(Profile::One, &line.seen());
-    match rule.demand.checks {
+    let rule = rule_of(Profile::One, &line.view());
+    match rule.requirement.checks {
         Checks::Nothing if matches!(rule.effect, Effect::Forget) => {
-            rule.demand.judge(Mode::Inside, &[]).len()
+            rule.requirement.judge(Mode::Inside, &[]).len()
         }
         _ => 0,
     }

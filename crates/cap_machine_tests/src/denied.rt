@@ -169,7 +169,7 @@ fn writes_a_read(alloc: Global, text: &[u8]) -> bool {
     match parse_line(alloc, b"100 read(5) RET -1 errno 93") {
         Ok(line) => writes(
             alloc,
-            &line.seen(),
+            &line.view(),
             Denial::Lacks(5, rights_of(b"CAP_READ")),
             text,
         ),
@@ -185,9 +185,9 @@ fn denials_are_written(rt: HostRuntime) {
 
 /// What was lacking for a line that checks one descriptor, in capability mode.
 fn lacking_of(line: &Line, cell: Cell) -> Option<Denial> {
-    let demand = rule_of(Profile::One, &line.seen()).demand;
-    match demand.checks {
-        Checks::One(_) => demand
+    let requirement = rule_of(Profile::One, &line.view()).requirement;
+    match requirement.checks {
+        Checks::One(_) => requirement
             .denials(Mode::Inside, &[cell])
             .as_slice()
             .first()

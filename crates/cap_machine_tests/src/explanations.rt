@@ -3,9 +3,9 @@
 use crate::lines::lines_of;
 use crate::starts::{add, readable};
 use cap_machine::{
-    Cell, CellEnd, CellLink, CellOrigin, Explanation, Mode, ModeEnd, ModeLink, ModeOrigin, Profile,
-    Start, chains_are_enough, chains_skip_no_line, explain, mode_matters_where_it_decides,
-    named_lines_matter, origin_of_cell, origin_of_mode,
+    Cell, CellEnd, CellLink, CellProvenance, Explanation, Mode, ModeEnd, ModeLink, ModeProvenance,
+    Profile, Start, chains_are_enough, chains_skip_no_line, explain, mode_matters_where_it_decides,
+    named_lines_matter, provenance_of_cell, provenance_of_mode,
 };
 use cap_trace::Line;
 use std::alloc::Global;
@@ -22,9 +22,9 @@ fn put_links(text: &mut String, links: &[CellLink]) -> bool {
 }
 
 /// Appends the links of a chain of cells, and how it ends.
-fn put_cells(text: &mut String, origin: &CellOrigin) -> bool {
-    put_links(text, origin.links.as_slice())
-        && match origin.end {
+fn put_cells(text: &mut String, provenance: &CellProvenance) -> bool {
+    put_links(text, provenance.links.as_slice())
+        && match provenance.end {
             CellEnd::Given(_) => text.push_str("given; ").is_ok(),
             CellEnd::Start(pid, fd, _) => write!(text, "start {pid} {fd}; ").is_ok(),
         }
@@ -41,18 +41,18 @@ fn put_mode_links(text: &mut String, links: &[ModeLink]) -> bool {
 }
 
 /// Appends the links of a chain of modes, and how it ends.
-fn put_modes(text: &mut String, origin: &ModeOrigin) -> bool {
-    put_mode_links(text, origin.links.as_slice())
-        && match origin.end {
+fn put_modes(text: &mut String, provenance: &ModeProvenance) -> bool {
+    put_mode_links(text, provenance.links.as_slice())
+        && match provenance.end {
             ModeEnd::Given(_) => text.push_str("mode given; ").is_ok(),
             ModeEnd::Start(pid, _) => write!(text, "mode start {pid}; ").is_ok(),
         }
 }
 
 /// Writes each chain of cells, and says whether it could.
-fn put_origins(text: &mut String, origins: &[CellOrigin]) -> bool {
-    for origin in origins {
-        if !put_cells(text, origin) {
+fn put_provenances(text: &mut String, provenances: &[CellProvenance]) -> bool {
+    for provenance in provenances {
+        if !put_cells(text, provenance) {
             return false;
         }
     }
@@ -62,8 +62,10 @@ fn put_origins(text: &mut String, origins: &[CellOrigin]) -> bool {
 /// Writes the chains of an explanation, and how many findings it has, and says whether it could.
 fn put_explanation(text: &mut String, found: &Explanation) -> bool {
     let has_put = match &found.mode {
-        Some(origin) => { put_origins(text, found.cells.as_slice()) && put_modes(text, origin) }
-        None => put_origins(text, found.cells.as_slice()),
+        Some(provenance) => {
+            put_provenances(text, found.cells.as_slice()) && put_modes(text, provenance)
+        }
+        None => put_provenances(text, found.cells.as_slice()),
     };
     has_put && write!(text, "{}", found.verdict.len()).is_ok()
 }
@@ -191,25 +193,25 @@ fn a_line_has_its_explanation(rt: HostRuntime) -> Result<(), Fail> {
 
 /// Whether a cell comes from descriptor 0 of process 100 at the start, which has this cell.
 fn cell_reaches(alloc: Global, start: &Start, lines: &[Line], cell: Cell) -> bool {
-    match origin_of_cell(alloc, Profile::One, start, lines, 101, 4) {
-        Ok(origin) => origin.end == CellEnd::Start(100, 0, cell),
+    match provenance_of_cell(alloc, Profile::One, start, lines, 101, 4) {
+        Ok(provenance) => provenance.end == CellEnd::Start(100, 0, cell),
         Err(_) => false,
     }
 }
 
 /// Whether another one is closed, as the others are.
 fn other_is_closed(alloc: Global, start: &Start, lines: &[Line]) -> bool {
-    match origin_of_cell(alloc, Profile::One, start, lines, 100, 5) {
-        Ok(origin) => origin.cell == Cell::Closed,
+    match provenance_of_cell(alloc, Profile::One, start, lines, 100, 5) {
+        Ok(provenance) => provenance.cell == Cell::Closed,
         Err(_) => false,
     }
 }
 
 /// Whether the mode of process 101 comes from that of 100 at the start, outside.
 fn mode_reaches(alloc: Global, start: &Start, lines: &[Line]) -> bool {
-    match origin_of_mode(alloc, Profile::One, start, lines, 101) {
-        Ok(origin) => {
-            origin.mode == Mode::Outside && origin.end == ModeEnd::Start(100, Mode::Outside)
+    match provenance_of_mode(alloc, Profile::One, start, lines, 101) {
+        Ok(provenance) => {
+            provenance.mode == Mode::Outside && provenance.end == ModeEnd::Start(100, Mode::Outside)
         }
         Err(_) => false,
     }

@@ -59,7 +59,7 @@ static LIVE: [LiveRow; 19] = [
         OnExec::Clear,
         b"NONE",
     ),
-    // Nor does what stands behind a close.
+    // Nor does what stands after a close.
     (
         b"100 close(3) RET 0\n100 open(\"a\",O_RDONLY) RET 3\n100 read(3) RET 1",
         1,
@@ -86,7 +86,7 @@ static LIVE: [LiveRow; 19] = [
         OnExec::Clear,
         b"CAP_LOOKUP|CAP_READ|CAP_FSTAT",
     ),
-    // Behind an exec stands only what stays open.
+    // After an exec stands only what stays open.
     (
         b"100 execve(\"x\") RET 0\n100 read(3) RET 1",
         1,

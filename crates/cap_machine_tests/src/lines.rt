@@ -5,7 +5,7 @@ ghost use Rattle.cap_machine.specs.Checked.{lines_of};
 ghost use Rattle.std.specs.Prelude.{◌<◌, ◌^◌};
 
 use cap_machine::Checker;
-use cap_trace::{Line, parse_line, read_soon, read_with_care};
+use cap_trace::{Line, parse_line, read_fast, read_slow};
 use std::alloc::Global;
 
 /// Adds the line that is read from a text, and says whether it could.
@@ -50,9 +50,9 @@ fn check_owned(alloc: Global, checker: &mut Checker, text: &[u8]) -> bool
 fn check_in_place(checker: &mut Checker, text: &[u8]) -> bool
     requires { lines_of checker.old < 2 ^ 60 }
 {
-    match read_soon(text) {
+    match read_fast(text) {
         Some(line) => checker.line_ref(&line).is_ok(),
-        None => match read_with_care(text) {
+        None => match read_slow(text) {
             Ok(line) => checker.line_ref(&line).is_ok(),
             Err(_) => false,
         },

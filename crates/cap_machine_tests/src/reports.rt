@@ -52,7 +52,7 @@ fn writes(alloc: Global, line: &LineRef<'_>, finding: Finding, text: &[u8]) -> b
 /// Whether an open that is forbidden is written so.
 fn writes_an_open(alloc: Global, text: &[u8]) -> bool {
     match parse_line(alloc, b"100 open(\"a\",0) RET 3") {
-        Ok(line) => writes(alloc, &line.seen(), Finding::Forbidden, text),
+        Ok(line) => writes(alloc, &line.view(), Finding::Forbidden, text),
         Err(_) => false,
     }
 }

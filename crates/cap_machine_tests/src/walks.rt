@@ -3,8 +3,8 @@
 use crate::lines::lines_of;
 use crate::starts::{add, readable, rights_of};
 use cap_machine::{
-    Cell, CellEnd, CellLink, CellOrigin, CellWalk, Checks, Explanation, Finding, Mode, ModeEnd,
-    ModeLink, ModeOrigin, ModeWalk, OnExec, Op, Profile, Start, Touched, Turned, rule_of,
+    Cell, CellEnd, CellLink, CellProvenance, CellWalk, Checks, Explanation, Finding, Mode, ModeEnd,
+    ModeLink, ModeProvenance, ModeWalk, OnExec, Op, Profile, Start, Touched, Turned, rule_of,
     walks_may_leave_out,
 };
 use cap_trace::{Line, parse_line};
@@ -114,8 +114,8 @@ fn finishes(
     links: &[CellLink],
 ) -> bool {
     match walk.finish(alloc, start) {
-        Ok(origin) => {
-            origin.cell == cell && origin.end == end && origin.links.as_slice() == links
+        Ok(provenance) => {
+            provenance.cell == cell && provenance.end == end && provenance.links.as_slice() == links
         }
         Err(_) => false,
     }
@@ -281,11 +281,11 @@ static MODES: [ModeRow; 3] = [
 /// Whether a walk is where a row says, and finds what it says.
 fn is_mode(walk: ModeWalk, start: &Start, row: &ModeRow) -> bool {
     let is_there = walk.pid() == row.at && walk.has_ended() == row.has_ended;
-    let origin = walk.finish(start);
+    let provenance = walk.finish(start);
     is_there
-        && origin.mode == row.mode
-        && origin.end == row.end
-        && origin.links.as_slice() == row.links
+        && provenance.mode == row.mode
+        && provenance.end == row.end
+        && provenance.links.as_slice() == row.links
 }
 
 /// Whether the walk of a row over the forks finds its mode.
@@ -321,7 +321,7 @@ fn a_mode_walk_finds_the_lines_that_a_mode_comes_from(rt: HostRuntime) {
 }
 
 /// Where descriptor 4 of process 202 comes from.
-fn cell_of_202(alloc: Global, start: &Start) -> Option<CellOrigin> {
+fn cell_of_202(alloc: Global, start: &Start) -> Option<CellProvenance> {
     match walked_over(alloc, FORKS, 202, 4, &[8, 6, 4, 2]) {
         Some(walk) => walk.finish(alloc, start).ok(),
         None => None,
@@ -329,15 +329,15 @@ fn cell_of_202(alloc: Global, start: &Start) -> Option<CellOrigin> {
 }
 
 /// Adds that, and says whether it could.
-fn add_cell_of_202(alloc: Global, start: &Start, cells: &mut Vec<CellOrigin>) -> bool {
+fn add_cell_of_202(alloc: Global, start: &Start, cells: &mut Vec<CellProvenance>) -> bool {
     match cell_of_202(alloc, start) {
-        Some(origin) => cells.push(origin).is_ok(),
+        Some(provenance) => cells.push(provenance).is_ok(),
         None => false,
     }
 }
 
 /// Where its mode comes from.
-fn mode_of_202(alloc: Global, start: &Start) -> Option<ModeOrigin> {
+fn mode_of_202(alloc: Global, start: &Start) -> Option<ModeProvenance> {
     match mode_walked_over_forks(alloc, 202, &[8, 5]) {
         Some(walk) => Some(walk.finish(start)),
         None => None,
@@ -346,11 +346,11 @@ fn mode_of_202(alloc: Global, start: &Start) -> Option<ModeOrigin> {
 
 /// Whether a line that checks one descriptor, for which the mode doesn't matter, is explained by one cell, with this
 /// finding.
-fn is_explained_by_cells(line: &Line, cells: Vec<CellOrigin>, finding: Finding) -> bool {
-    let demand = rule_of(Profile::Two, &line.seen()).demand;
-    match &demand.checks {
-        Checks::One(_) if cells.len() == 1 && !demand.mode_matters() => {
-            let found = Explanation::of(&demand, cells, None);
+fn is_explained_by_cells(line: &Line, cells: Vec<CellProvenance>, finding: Finding) -> bool {
+    let requirement = rule_of(Profile::Two, &line.view()).requirement;
+    match &requirement.checks {
+        Checks::One(_) if cells.len() == 1 && !requirement.mode_matters() => {
+            let found = Explanation::of(&requirement, cells, None);
             let holds = found.verdict.as_slice() == [finding].as_slice()
                 && found.cells.len() == 1
                 && found.mode.is_none();
@@ -386,11 +386,11 @@ fn an_explanation_is_made_of_a_cell(rt: HostRuntime) {
 }
 
 /// Whether a line that checks none, for which the mode matters, is explained by a mode, with one finding.
-fn is_explained_by_mode(alloc: Global, line: &Line, origin: ModeOrigin) -> bool {
-    let demand = rule_of(Profile::Two, &line.seen()).demand;
-    match &demand.checks {
-        Checks::Nothing if demand.mode_matters() => {
-            let found = Explanation::of(&demand, Vec::new(alloc), Some(origin));
+fn is_explained_by_mode(alloc: Global, line: &Line, provenance: ModeProvenance) -> bool {
+    let requirement = rule_of(Profile::Two, &line.view()).requirement;
+    match &requirement.checks {
+        Checks::Nothing if requirement.mode_matters() => {
+            let found = Explanation::of(&requirement, Vec::new(alloc), Some(provenance));
             let holds = found.verdict.len() == 1 && found.cells.is_empty() && found.mode.is_some();
             drop(found);
             holds
@@ -402,7 +402,7 @@ fn is_explained_by_mode(alloc: Global, line: &Line, origin: ModeOrigin) -> bool 
 /// Whether it is explained by the mode of process 202.
 fn is_explained_by_its_mode(alloc: Global, start: &Start, line: &Line) -> bool {
     match mode_of_202(alloc, start) {
-        Some(origin) => is_explained_by_mode(alloc, line, origin),
+        Some(provenance) => is_explained_by_mode(alloc, line, provenance),
         None => false,
     }
 }
@@ -424,7 +424,7 @@ fn an_explanation_is_made_of_a_mode(rt: HostRuntime) {
 }
 
 fn touched_by(line: &Line, pid: u32, fd: u32) -> Touched {
-    rule_of(Profile::Two, &line.seen())
+    rule_of(Profile::Two, &line.view())
         .effect
         .touch(line.pid(), pid, fd)
 }
@@ -500,7 +500,7 @@ static TURNS: [(&[u8], u32, Turned); 5] = [
 fn turns(alloc: Global, row: &(&[u8], u32, Turned)) -> bool {
     match parse_line(alloc, row.0) {
         Ok(line) => {
-            rule_of(Profile::Two, &line.seen())
+            rule_of(Profile::Two, &line.view())
                 .effect
                 .turn(line.pid(), row.1)
                 == row.2

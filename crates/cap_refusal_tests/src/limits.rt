@@ -4,7 +4,7 @@ use crate::machine::{Before, CELLS, OnTrace, try_all};
 use crate::sessions::{Query, ask_each};
 use cap_machine::{
     Cell, Entering, Limit, Limits, MakerLimit, NoMemory, OnExec, Profile, Start, limits_among,
-    limits_before, limits_of_makers, live_behind, machine_after, standing_fds,
+    limits_before, limits_of_makers, live_after, machine_after, standing_fds,
 };
 use cap_rights::{RightSet, parse_rights};
 use cap_trace::{Fd, Line};
@@ -71,7 +71,7 @@ fn parted(lines: &[Line]) -> (&[Line], &[Line]) {
 /// Whether the descriptor that isn't known is needed, and the fifth line from the fork on is in the way.
 fn needs(alloc: Global, lines: &[Line]) -> Result<bool, NoMemory> {
     let (_, later) = parted(lines);
-    let live = live_behind(alloc, Profile::Two, 0, later)?;
+    let live = live_after(alloc, Profile::Two, 0, later)?;
     let is_right = is_named(live.rights(100, 7, OnExec::Unsure), b"CAP_FSYNC")
         && live.blocked(100) == Some(5);
     drop(live);
@@ -103,7 +103,7 @@ fn limits_between(
     later: &[Line],
 ) -> Result<Vec<Limit>, NoMemory> {
     let machine = machine_after(alloc, Profile::Two, start, before)?;
-    let live = live_behind(alloc, Profile::Two, 0, later)?;
+    let live = live_after(alloc, Profile::Two, 0, later)?;
     let fds = standing_fds(alloc, Profile::Two, start, before, 100)?;
     limits_among(alloc, &machine, &live, 100, fds)
 }
@@ -190,7 +190,7 @@ fn standing_fds_refused(rt: HostRuntime) -> Result<(), Fail> {
 }
 
 #[test]
-fn live_behind_refused(rt: HostRuntime) -> Result<(), Fail> {
+fn live_after_refused(rt: HostRuntime) -> Result<(), Fail> {
     try_part(rt.alloc(), Before::Usual, Part::Live)
 }
 

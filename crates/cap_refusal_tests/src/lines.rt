@@ -47,7 +47,7 @@ fn put(part: &Part<'_>, out: &mut Vec<u8>) -> Result<(), NoMemory> {
     match part {
         Part::Rights(rights) => write_rights(rights, out),
         Part::Line(line) => write_line(line, out),
-        Part::Forbidden(line) => put_finding(out, 7, &line.seen(), &Finding::Forbidden),
+        Part::Forbidden(line) => put_finding(out, 7, &line.view(), &Finding::Forbidden),
         Part::Count(count) => put_count(out, *count),
     }
 }

@@ -10,7 +10,7 @@ use crate::limits::Part;
 use crate::marks::{Mark, lacked, right};
 use cap_machine::{
     Cell, Checker, Explanation, Finding, Found, Machine, Mode, NoMemory, OnExec, Profile, Start,
-    check, explain, origin_of_cell, origin_of_mode,
+    check, explain, provenance_of_cell, provenance_of_mode,
 };
 use cap_rights::parse_rights;
 use cap_trace::{Fd, Line, Pid, parse_line};
@@ -279,8 +279,8 @@ fn machine_refused(rt: HostRuntime) -> Result<(), Fail> {
 
 /// Whether the cell of descriptor 3 of process 100 comes from two lines.
 pub fn traces_cell(alloc: Global, start: &Start, lines: &[Line]) -> Result<bool, NoMemory> {
-    let origin = origin_of_cell(alloc, Profile::One, start, lines, 100, 3)?;
-    Ok(origin.links.len() == 2)
+    let provenance = provenance_of_cell(alloc, Profile::One, start, lines, 100, 3)?;
+    Ok(provenance.links.len() == 2)
 }
 
 #[test]
@@ -290,8 +290,8 @@ fn origin_of_cell_refused(rt: HostRuntime) -> Result<(), Fail> {
 
 /// Whether the mode of process 101 comes from two lines.
 pub fn traces_mode(alloc: Global, start: &Start, lines: &[Line]) -> Result<bool, NoMemory> {
-    let origin = origin_of_mode(alloc, Profile::One, start, lines, 101)?;
-    Ok(origin.links.len() == 2)
+    let provenance = provenance_of_mode(alloc, Profile::One, start, lines, 101)?;
+    Ok(provenance.links.len() == 2)
 }
 
 #[test]
@@ -302,8 +302,8 @@ fn origin_of_mode_refused(rt: HostRuntime) -> Result<(), Fail> {
 /// The positions of the lines that the cells of an explanation come from.
 fn positions_of(alloc: Global, found: &Explanation) -> Result<Vec<usize>, NoMemory> {
     let mut positions = Vec::new(alloc);
-    for origin in &found.cells {
-        for link in &origin.links {
+    for provenance in &found.cells {
+        for link in &provenance.links {
             positions.push(link.at)?;
         }
     }

@@ -4,7 +4,7 @@ use crate::calls::{Call, is_answered};
 use crate::machine::{TRACE, lines_of};
 use crate::marks::{Mark, lacked, right};
 use cap_machine::{NoMemory, Profile, Start};
-use cap_session::{Edit, Edited, Refused, Session};
+use cap_session::{Edit, EditOutcome, Refused, Session};
 use std::alloc::Global;
 use std::test::Fail;
 
@@ -179,7 +179,7 @@ static TWO: [Edit<'static>; 2] = [Edit::Delete { position: 9 }, Edit::Delete { p
 /// What came of the edit that takes the limit out.
 #[derive(Clone, Copy)]
 enum Came {
-    Edited,
+    EditOutcome,
     NotEdited,
     Lacked,
     Wrong,
@@ -190,7 +190,7 @@ fn came_of(answers: Result<Vec<Result<usize, Refused>>, Refused>) -> Came {
     match answers {
         Ok(answers) => match answers.as_slice() {
             [Err(Refused::Position), Err(Refused::Memory)] => Came::Lacked,
-            [Err(Refused::Position), Ok(_)] => Came::Edited,
+            [Err(Refused::Position), Ok(_)] => Came::EditOutcome,
             _ => Came::Wrong,
         },
         Err(Refused::Memory) => Came::Lacked,
@@ -202,7 +202,7 @@ fn came_of(answers: Result<Vec<Result<usize, Refused>>, Refused>) -> Came {
 fn apply_two(alloc: Global, session: &mut Session) -> Result<(), Fail> {
     Mark::Begin.set(alloc);
     let came = came_of(session.apply(&TWO));
-    let mut is_right = matches!(came, Came::Edited);
+    let mut is_right = matches!(came, Came::EditOutcome);
     if lacked(alloc, matches!(came, Came::Lacked)) {
         is_right = is_at(session, 8, REPORT);
         drop(session.apply(&TWO)?);
@@ -217,13 +217,13 @@ fn apply_refused(rt: HostRuntime) -> Result<(), Fail> {
 }
 
 /// What came of the edit, by the report after it.
-fn came_of_report(edited: Result<Edited, Refused>) -> Came {
+fn came_of_report(edited: Result<EditOutcome, Refused>) -> Came {
     let report = match edited {
         Ok(edited) => edited.report,
         Err(refused) => Err(refused),
     };
     match &report {
-        Ok(text) if text.as_slice() == SHORTER.as_bytes() => Came::Edited,
+        Ok(text) if text.as_slice() == SHORTER.as_bytes() => Came::EditOutcome,
         Ok(text) if text.as_slice() == REPORT.as_bytes() => Came::NotEdited,
         Err(Refused::Memory) => Came::Lacked,
         _ => Came::Wrong,
@@ -233,7 +233,7 @@ fn came_of_report(edited: Result<Edited, Refused>) -> Came {
 /// Whether that fits the session after it.
 fn fits(came: Came, count: usize) -> bool {
     match came {
-        Came::Edited => count == 7,
+        Came::EditOutcome => count == 7,
         Came::NotEdited => count == 8,
         Came::Lacked => count == 7 || count == 8,
         Came::Wrong => false,
@@ -244,12 +244,12 @@ fn fits(came: Came, count: usize) -> bool {
 fn report_one(alloc: Global, session: &mut Session) -> Result<(), Fail> {
     Mark::Begin.set(alloc);
     let came = came_of_report(session.report_after(&TWO[1..]));
-    let is_lacking = lacked(alloc, !matches!(came, Came::Edited));
+    let is_lacking = lacked(alloc, !matches!(came, Came::EditOutcome));
     let mut is_right = fits(came, session.count());
     if is_lacking && session.count() != 7 {
         let is_left = is_at(session, 8, REPORT);
         let again = came_of_report(session.report_after(&TWO[1..]));
-        is_right = is_right && is_left && matches!(again, Came::Edited);
+        is_right = is_right && is_left && matches!(again, Came::EditOutcome);
     }
     is_right = is_right && is_at(session, 7, SHORTER);
     right(alloc, is_right, "an edit is reported on")

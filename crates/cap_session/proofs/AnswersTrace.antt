@@ -14,8 +14,8 @@ use Rattle.cap_session.specs.Writes.{Wrote}
 use Rattle.cap_session.specs.declared.refused.Input.{Input}
 use Rattle.cap_session.specs.declared.refused.Input.TheVariants as inputs
 use Rattle.cap_session.specs.declared.refused.Refusal.{Refusal}
-use Rattle.cap_session.specs.declared.lines.Stop.{Stop}
-use Rattle.cap_session.specs.declared.lines.Stop.TheVariants as stops
+use Rattle.cap_session.specs.declared.lines.StopReason.{StopReason}
+use Rattle.cap_session.specs.declared.lines.StopReason.TheVariants as stops
 use Rattle.cap_session.specs.declared.outcome.Outcome.{Outcome}
 use Rattle.cap_session.specs.declared.outcome.Outcome.TheVariants.{Clean, Findings, Refused, StartRefused, Memory}
 use Rattle.cap_session.specs.declared.outcome.Outcome.TheVariants.{ReadFault, WriteFault, TooLong}
@@ -84,7 +84,7 @@ module _ {A : Type 0} (kind : Kind A) (says : SaysOf A) (turns : ℕ) (r0 r1 : S
     answer = (refusal_text kind.input e, (w.0.rest, w.0.cut), inr (e, record { line = r.answer; is = refl }));
   })
 
-  pub answer_stopped : (stop : Stop) (o : Outcome) → Reads kind.whole kind.soon holds turns r0 r1 (Err stop)
+  pub answer_stopped : (stop : StopReason) (o : Outcome) → Reads kind.whole kind.soon holds turns r0 r1 (Err stop)
       → EndsCall kind.input stop w0 w1 o → AnswerStreams kind says turns r0 r1 w0 w1 (Ended o)
   answer_stopped (stops.Refused e) o r w = line_refused e o r w
   answer_stopped stops.Memory o r w =
@@ -212,7 +212,7 @@ none_written says text w0 w1 o is (inr w) = rw w.1 (OutOfRange, text, w.0, is)
 
 module _ {A : Type 0} (kind : Kind A) {T : Type 0} (holds : T → A → Type 0) (turns : ℕ) (x0 x1 : SourceState) where
   -- reading the first stopped
-  pub first_rejected : (y : SourceState) (w0 w1 : SinkState) (stop : Stop) (o : Outcome)
+  pub first_rejected : (y : SourceState) (w0 w1 : SinkState) (stop : StopReason) (o : Outcome)
       → Reads kind.whole kind.soon holds turns x0 x1 (Err stop) → EndsCall kind.input stop w0 w1 o
       → Rejected kind turns x0 x1 y y w0 w1 (Ended o)
   first_rejected y w0 w1 stop o r w =

@@ -27,7 +27,8 @@ use Rattle.cap_machine.specs.Needs.{rename_from_needs, rename_to_needs, link_fro
 use Rattle.cap_machine.specs.Places.{Place, below}
 use Rattle.cap_machine.specs.Judge.{listed}
 use Rattle.cap_machine.specs.Live.{checks_need}
-use Rattle.cap_machine.specs.Rule.{fd_demand, fcntl_demand, call_demand, item_demand, place_check, place_checks, both}
+use Rattle.cap_machine.specs.Rule.{fd_requirement, fcntl_requirement, call_requirement, item_requirement, place_check}
+use Rattle.cap_machine.specs.Rule.{place_checks, both}
 use Rattle.cap_session.proofs.ClosedSets.{IsClosed, none_closed, join_closed, without_full_closed, found_closed}
 use Rattle.cap_session.proofs.FineLines.{FineArgs}
 
@@ -183,17 +184,17 @@ two_places excuse x y first second = both_closed (place_check excuse x) (place_c
 
 -- ---- each form of call
 
-fd_checks : (call : FdCall) (f : ℕ) (answer : Answer) → AllClosed (listed (fd_demand call f answer).checks)
+fd_checks : (call : FdCall) (f : ℕ) (answer : Answer) → AllClosed (listed (fd_requirement call f answer).checks)
 fd_checks Closefrom f answer = tt
 fd_checks call f answer = (fd_closed call, tt)
 
 fcntl_checks : (needs : Option ℕ) (f : ℕ) (answer : Answer) → IsClosedOption needs
-    → AllClosed (listed (fcntl_demand needs f answer).checks)
+    → AllClosed (listed (fcntl_requirement needs f answer).checks)
 fcntl_checks None f answer is = tt
 fcntl_checks (Some n) f answer is = (is, tt)
 
 call_checks : (call : Call) (answer : Answer) → FineArgs (args_of_call call)
-    → AllClosed (listed (call_demand call answer).checks)
+    → AllClosed (listed (call_requirement call answer).checks)
 call_checks (calls.OnFd call f) answer fine = fd_checks call f answer
 call_checks (calls.Send call f) answer fine = (send_closed, tt)
 call_checks (calls.SendTo call f) answer fine = (send_to_closed, tt)
@@ -218,7 +219,7 @@ call_checks (calls.LinkAt dir path to_dir to_path flags) answer fine =
     (record { dir = to_dir; path = to_path; needs = link_to_needs }) link_from_closed link_to_closed
 call_checks _ answer fine = tt
 
-pub item_checks : (item : Item) → FineArgs (args_of item) → AllClosed (listed (item_demand item).checks)
+pub item_checks : (item : Item) → FineArgs (args_of item) → AllClosed (listed (item_requirement item).checks)
 item_checks (items.Call call answer) fine = call_checks call answer fine
 item_checks _ fine = tt
 

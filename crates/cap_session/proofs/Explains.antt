@@ -15,11 +15,11 @@ use Rattle.std.proofs.lemmas.Option.{slice_get-map}
 use Rattle.cap_trace.specs.Entry.{Entry}
 use Rattle.cap_machine.specs.declared.cell.Profile.{Profile}
 use Rattle.cap_machine.specs.declared.explaining.Explanation.{Explanation}
-use Rattle.cap_machine.specs.declared.origin.CellLink.{CellLink}
-use Rattle.cap_machine.specs.declared.origin.CellOrigin.{CellOrigin}
-use Rattle.cap_machine.specs.declared.origin.ModeLink.{ModeLink}
+use Rattle.cap_machine.specs.declared.provenance.CellLink.{CellLink}
+use Rattle.cap_machine.specs.declared.provenance.CellProvenance.{CellProvenance}
+use Rattle.cap_machine.specs.declared.provenance.ModeLink.{ModeLink}
 use Rattle.cap_machine.specs.declared.rule.Check.{Check}
-use Rattle.cap_machine.specs.declared.rule.Demand.{Demand}
+use Rattle.cap_machine.specs.declared.rule.Requirement.{Requirement}
 use Rattle.cap_machine.specs.declared.step.Step.{Step}
 use Rattle.cap_machine.specs.declared.verdict.Finding.{Finding}
 use Rattle.cap_machine.specs.declared.verdict.Found.{Found}
@@ -27,9 +27,9 @@ use Rattle.cap_machine.specs.Check.{findings, found_at, said}
 use Rattle.cap_machine.specs.Explain.{Explained, explained, explained_at, explained_by, explanation, mode_matters}
 use Rattle.cap_machine.specs.History.{after, cell_after}
 use Rattle.cap_machine.specs.Judge.{listed}
-use Rattle.cap_machine.specs.Origin.{CellChain, ModeChain, by_touch, by_turn, cell_chain, cell_chain_of, cell_link}
-use Rattle.cap_machine.specs.Origin.{mode_chain, mode_link, named_touch, named_turn}
-use Rattle.cap_machine.specs.Rule.{demand}
+use Rattle.cap_machine.specs.Provenance.{CellChain, ModeChain, by_touch, by_turn, cell_chain, cell_chain_of, cell_link}
+use Rattle.cap_machine.specs.Provenance.{mode_chain, mode_link, named_touch, named_turn}
+use Rattle.cap_machine.specs.Rule.{requirement}
 use Rattle.cap_machine.specs.State.{State}
 use Rattle.cap_machine.specs.Steps.{step, steps}
 use Rattle.cap_machine.specs.Touch.{Touch, kept, given, taken, touch, Turn, stays, turns, follows, turn}
@@ -165,19 +165,19 @@ module _ (s : State) (profile : Profile) (trace : List Entry) (k : ℕ) (e : Exp
   place : IsAt (length trace) k
   place = (omega (arith, found.here), omega (arith, found.here, long))
 
-  checks : checks_at trace k ≡ listed (demand found.step.line).checks
+  checks : checks_at trace k ≡ listed (requirement found.step.line).checks
   checks = ap checks_of line_stands
 
   one_each : length e.cells ≡ length (checks_at trace k)
   one_each =
-      let d : Demand = demand found.step.line in
+      let d : Requirement = requirement found.step.line in
       ap (λ (x : Explained). length x.cells) found.is
       ∙ length-map (listed d.checks) (λ (check : Check). cell_chain s found.older found.step.line.pid check.fd)
       ∙ sym (ap length checks)
 
   cells : All (CellStands (length trace)) e.cells
   cells =
-      let d : Demand = demand found.step.line in
+      let d : Requirement = requirement found.step.line in
       let chain : Check → CellChain = λ (check : Check). cell_chain s found.older found.step.line.pid check.fd in
       let few : length found.older ≤ length trace = omega (arith, long) in
       let all : All (CellStands (length trace)) (map chain (listed d.checks)) =
@@ -195,7 +195,7 @@ any_mode_stands n m false chain le are = tt
 mode : (s : State) (profile : Profile) (trace : List Entry) (k : ℕ) (e : Explained)
     → Explains s (reverse (steps profile trace)) k e → AnyModeStands (length trace) e.mode
 mode s profile trace k e found =
-    let d : Demand = demand found.step.line in
+    let d : Requirement = requirement found.step.line in
     let few : length found.older ≤ length trace = omega (arith, long s profile trace k e found) in
     subst (λ (x : Explained). AnyModeStands (length trace) x.mode) (sym found.is)
     (any_mode_stands (length found.older) (length trace) (mode_matters d)
@@ -332,8 +332,8 @@ is_clean s profile trace k found e b said is clean =
 
 -- ---- one of the chains
 
-pub all_stand : (n : ℕ) (origins : List CellOrigin) → All (CellStands n) (map cell_chain_of origins)
-    → All (λ (origin : CellOrigin). CellStands n (cell_chain_of origin)) origins
-all_stand n origins all = λ i d lt.
-    subst (CellStands n) (get_or-map cell_chain_of origins i d (cell_chain_of d) lt)
-    (all i (cell_chain_of d) (omega (arith, lt, length-map origins cell_chain_of)))
+pub all_stand : (n : ℕ) (provenances : List CellProvenance) → All (CellStands n) (map cell_chain_of provenances)
+    → All (λ (provenance : CellProvenance). CellStands n (cell_chain_of provenance)) provenances
+all_stand n provenances all = λ i d lt.
+    subst (CellStands n) (get_or-map cell_chain_of provenances i d (cell_chain_of d) lt)
+    (all i (cell_chain_of d) (omega (arith, lt, length-map provenances cell_chain_of)))

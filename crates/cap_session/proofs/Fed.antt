@@ -9,8 +9,8 @@ use Rattle.cap_session.specs.Feeds.{Completes, Reached, Feeds}
 use Rattle.cap_session.specs.LineEnds.{IsCut}
 use Rattle.cap_session.specs.declared.refused.Refused.{Refused}
 use Rattle.cap_session.specs.declared.refused.Refused.TheVariants.{LongLine}
-use Rattle.cap_session.specs.declared.lines.Stop.{Stop}
-use Rattle.cap_session.specs.declared.lines.Stop.TheVariants as stops
+use Rattle.cap_session.specs.declared.lines.StopReason.{StopReason}
+use Rattle.cap_session.specs.declared.lines.StopReason.TheVariants as stops
 use Rattle.cap_session.proofs.Reach.{reached_line, refused_line, reached_piece, long_piece}
 
 -- a front of the piece was worked through, and the rest is left
@@ -63,7 +63,7 @@ joins given front rest piece cut = append_assoc given front rest ∙ ap (λ l. g
 -- a line stopped it
 fed_stopped : {A : Type 0} (T : Type 0) (next : A → List ℕ → Result A Refused) (before now after : A → Type 0)
     (number0 : ℕ)
-    (held0 piece : List ℕ) (number : ℕ) (held rest : List ℕ) (at : ℕ) (stop : Stop) (later : ℕ) (last : List ℕ) →
+    (held0 piece : List ℕ) (number : ℕ) (held rest : List ℕ) (at : ℕ) (stop : StopReason) (later : ℕ) (last : List ℕ) →
     Fed next before now number0 held0 piece number held rest → IsFirstByte (is_byte 10) rest (Some at) →
     ((known : A) → now known → Completes {T = T} (with_line next known (held ++ take at rest)) after number (Err stop))
     →
@@ -88,7 +88,7 @@ fed_stopped T next before now after number0 held0 piece number held rest at stop
 -- the same of a line that was cut off
 pub cut_stopped : {A : Type 0} (T : Type 0) (next : A → List ℕ → Result A Refused) (before now after : A → Type 0)
     (number0 : ℕ)
-    (held0 piece : List ℕ) (number : ℕ) (held rest line left : List ℕ) (stop : Stop) (later : ℕ) (last : List ℕ) →
+    (held0 piece : List ℕ) (number : ℕ) (held rest line left : List ℕ) (stop : StopReason) (later : ℕ) (last : List ℕ) →
     Fed next before now number0 held0 piece number held rest → IsCut rest line left →
     ((known : A) → now known → Completes {T = T} (with_line next known (held ++ line)) after number (Err stop))
     →

@@ -5,8 +5,8 @@ use Rattle.std.specs.Io.KnownBytes.{Consumes, Keeps, IsAtEnd}
 use Rattle.std.proofs.lemmas.List.{append-nil}
 use Rattle.cap_session.specs.Devices.{SourceState}
 use Rattle.cap_session.specs.Gives.{Gives}
-use Rattle.cap_session.specs.declared.lines.Stop.{Stop}
-use Rattle.cap_session.specs.declared.lines.Stop.TheVariants as stops
+use Rattle.cap_session.specs.declared.lines.StopReason.{StopReason}
+use Rattle.cap_session.specs.declared.lines.StopReason.TheVariants as stops
 use Rattle.cap_session.proofs.Calls.{consumes_more, consumes_kept, consumes_none}
 
 -- what was given in these turns was taken, and there is room for the turns that are left
@@ -57,8 +57,8 @@ goes_on took after fits later r0 r1 r2 turns turn piece went more read short cal
       room = omega arith;
     }
 
-module _ (took : List ℕ → Type 0) (stopped : List ℕ → List ℕ → Stop → Type 0)
-    (ended : List ℕ → Result (Unit {0}) Stop → Type 0) (turns : ℕ) where
+module _ (took : List ℕ → Type 0) (stopped : List ℕ → List ℕ → StopReason → Type 0)
+    (ended : List ℕ → Result (Unit {0}) StopReason → Type 0) (turns : ℕ) where
   pub goes_failed : (fits : ℕ → Type 0) (r0 r1 r2 : SourceState) (turn : ℕ) → Goes took fits r0 r1 turns turn
       → turn < turns → Keeps r1.bytes r2.bytes →
       r2.calls ≡ r1.calls + 1 → r2.failures ≡ r1.failures + 1 → r2.ends ≡ r1.ends + 0
@@ -87,9 +87,9 @@ module _ (took : List ℕ → Type 0) (stopped : List ℕ → List ℕ → Stop 
       }
 
 -- a piece stopped it
-pub goes_stopped : (took after : List ℕ → Type 0) (stopped : List ℕ → List ℕ → Stop → Type 0)
-    (ended : List ℕ → Result (Unit {0}) Stop → Type 0)
-    (fits : ℕ → Type 0) (r0 r1 r2 : SourceState) (turns turn : ℕ) (piece : List ℕ) (stop : Stop) →
+pub goes_stopped : (took after : List ℕ → Type 0) (stopped : List ℕ → List ℕ → StopReason → Type 0)
+    (ended : List ℕ → Result (Unit {0}) StopReason → Type 0)
+    (fits : ℕ → Type 0) (r0 r1 r2 : SourceState) (turns turn : ℕ) (piece : List ℕ) (stop : StopReason) →
     Goes took fits r0 r1 turns turn → turn < turns → Consumes r1.bytes r2.bytes piece → length piece ≤ 65536 →
     r2.calls ≡ r1.calls + 1 → r2.failures ≡ r1.failures + 0 → r2.ends ≡ r1.ends + 0 →
     ((given : List ℕ) → took given → stopped given piece stop) → Gives after stopped ended turns r0 r2 (Err stop)
@@ -116,9 +116,9 @@ goes_stopped took after stopped ended fits r0 r1 r2 turns turn piece stop went m
     }
 
 -- the end came
-pub goes_to_end : (took after : List ℕ → Type 0) (stopped : List ℕ → List ℕ → Stop → Type 0)
-    (ended : List ℕ → Result (Unit {0}) Stop → Type 0)
-    (fits : ℕ → Type 0) (r0 r1 r2 : SourceState) (turns turn : ℕ) (result : Result (Unit {0}) Stop) →
+pub goes_to_end : (took after : List ℕ → Type 0) (stopped : List ℕ → List ℕ → StopReason → Type 0)
+    (ended : List ℕ → Result (Unit {0}) StopReason → Type 0)
+    (fits : ℕ → Type 0) (r0 r1 r2 : SourceState) (turns turn : ℕ) (result : Result (Unit {0}) StopReason) →
     Goes took fits r0 r1 turns turn → turn < turns → Consumes r1.bytes r2.bytes [] → IsAtEnd r2.bytes →
     r2.calls ≡ r1.calls + 1 → r2.failures ≡ r1.failures + 0 → r2.ends ≡ r1.ends + 1 →
     ((given : List ℕ) → took given → ended given result) → Gives after stopped ended turns r0 r2 result

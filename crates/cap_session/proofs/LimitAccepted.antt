@@ -97,7 +97,7 @@ limits_before_are_accepted profile start t k limits spelled proper are left repl
     let accepts = process_accepted profile t left k limits replies proper.1 (omega (arith, place)) high facts run in
     (accepts, λ ok. leaves t left (limits_script t k limits) replies (process_read t k limits facts) accepts ok)
 
--- ---- behind the lines that made descriptors
+-- ---- after the lines that made descriptors
 
 makers_read : (t : List Entry) (limits : List MakerLimit) → All (IsMakerLimit t) limits
     → All (λ (limit : MakerLimit). IsNamed limit.rights) limits → ReadsBack (makers_script limits)

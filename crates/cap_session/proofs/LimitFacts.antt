@@ -21,7 +21,7 @@ use Rattle.cap_machine.specs.LimitLaws.{Row, IsLimit}
 use Rattle.cap_machine.specs.Limits.{row_of, IsEntering}
 use Rattle.cap_machine.specs.LimitsBefore.{AreLimitsBefore, IsUnknownLimit, rows_name}
 use Rattle.cap_machine.specs.Live.{Blocks, is_success}
-use Rattle.cap_machine.specs.Rule.{demand}
+use Rattle.cap_machine.specs.Rule.{requirement}
 use Rattle.cap_machine.specs.Standing.{IsHeld}
 use Rattle.cap_machine.specs.State.{State, Added}
 use Rattle.cap_machine.specs.Steps.{steps}
@@ -88,11 +88,11 @@ unknown_spelled s later p row fine is =
 
 -- ---- the line that is in the way
 
-get_behind : (a b : List Entry) (n : ℕ) → slice_get (a ++ b) (length a + n) ≡ slice_get b n
-get_behind [] b n = let same : 0 + n ≡ n = omega arith in ap (slice_get b) same
-get_behind (line ∷ a) b n =
+get_beyond : (a b : List Entry) (n : ℕ) → slice_get (a ++ b) (length a + n) ≡ slice_get b n
+get_beyond [] b n = let same : 0 + n ≡ n = omega arith in ap (slice_get b) same
+get_beyond (line ∷ a) b n =
     let next : suc (length a) + n ≡ suc (length a + n) = omega arith in
-    ap (slice_get (line ∷ (a ++ b))) next ∙ get_behind a b n
+    ap (slice_get (line ∷ (a ++ b))) next ∙ get_beyond a b n
 
 -- a line of these is in the way, and can be spelled
 record InTheWay (lines : List Entry) (n : ℕ) : Type 0 where
@@ -100,7 +100,7 @@ record InTheWay (lines : List Entry) (n : ℕ) : Type 0 where
   stands : slice_get lines n ≡ Some line
   within : n < length lines
   pid : IsPid line.pid
-  forbidden : is_forbidden (demand line).class ≡ true
+  forbidden : is_forbidden (requirement line).class ≡ true
 
 in_the_way : (profile : Profile) (lines : List Entry) (p n : ℕ) → AllFine (steps profile lines)
     → Blocks (steps profile lines) p n → InTheWay lines n
@@ -111,7 +111,7 @@ in_the_way profile (line ∷ later) p zero fine blocks = record {
   within = omega arith;
   pid = fine.0.pid;
   forbidden =
-      (let d = demand line in
+      (let d = requirement line in
       let both = and_parts (is_success d.reply) (p == line.pid && is_forbidden d.class) blocks in
       (and_parts (p == line.pid) (is_forbidden d.class) both.1).1);
 }
@@ -137,7 +137,7 @@ stands_there profile before rest t s k p (Blocked position) cut at fine is =
     let long : length t ≡ length before + length rest = ap length cut ∙ length-append before rest in (
       way.line,
       ap (slice_get t) place ∙ ap (λ (l : List Entry). slice_get l (length before + first.0)) cut
-          ∙ get_behind before rest first.0 ∙ way.stands,
+          ∙ get_beyond before rest first.0 ∙ way.stands,
       omega (arith, first.1, at),
       omega (arith, first.1, at, long, way.within),
       way.pid,

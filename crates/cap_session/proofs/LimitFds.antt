@@ -26,7 +26,7 @@ use Rattle.cap_machine.specs.LimitLaws.{IsLeast}
 use Rattle.cap_machine.specs.Live.{Live, HandsOn, Passes, step_needs, checks_need, is_success}
 use Rattle.cap_machine.specs.Named.{args_name}
 use Rattle.cap_machine.specs.Op.{applied, held_op, masked}
-use Rattle.cap_machine.specs.Rule.{demand}
+use Rattle.cap_machine.specs.Rule.{requirement}
 use Rattle.cap_machine.specs.Standing.{Stands, StandsBy, IsHeld, start_lists, added_lists}
 use Rattle.cap_machine.specs.State.{State, Added}
 use Rattle.cap_machine.specs.Touch.{Touch, kept, given, taken, touch}
@@ -107,7 +107,7 @@ checks_within line (check ∷ checks) f k fine are is =
 
 needed_within : (step : Step) (p f k : ℕ) → FineLine step.line → step_needs step p f k ≡ true → IsFd f
 needed_within step p f k fine is =
-    checks_within step.line (listed (demand step.line).checks) f k fine (named_checks step.line)
+    checks_within step.line (listed (requirement step.line).checks) f k fine (named_checks step.line)
     (needing step p f k is).needs
 
 source_within : (Every : Type 0) (t : Touch) (p f : ℕ) (x : OnExec) (q g : ℕ) (y : OnExec) (k : ℕ)
@@ -132,7 +132,7 @@ live_within (step ∷ later) p f x k are live = elim live [
 needs_with : (step : Step) (p f k j : ℕ) → FineLine step.line → k < 63 → holds (value_at k) j ≡ true
     → step_needs step p f k ≡ true → step_needs step p f j ≡ true
 needs_with step p f k j fine lt value is =
-    let d = demand step.line in
+    let d = requirement step.line in
     let first = and_parts (is_success d.reply) (p == step.line.pid && checks_need (listed d.checks) f k) is in
     let second = and_parts (p == step.line.pid) (checks_need (listed d.checks) f k) first.1 in
     and_from (is_success d.reply) (p == step.line.pid && checks_need (listed d.checks) f j) first.0

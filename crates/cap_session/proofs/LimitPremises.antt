@@ -6,7 +6,7 @@ use Rattle.cap_trace.specs.Entry.{Entry, IsPid, IsFd}
 use Rattle.cap_machine.specs.Judge.{is_forbidden}
 use Rattle.cap_machine.specs.LimitLaws.{Row}
 use Rattle.cap_machine.specs.Limits.{row_of}
-use Rattle.cap_machine.specs.Rule.{demand}
+use Rattle.cap_machine.specs.Rule.{requirement}
 use Rattle.cap_machine.specs.declared.limits.Entering.{Entering}
 use Rattle.cap_machine.specs.declared.limits.Entering.TheVariants.{Inside, Blocked, May}
 use Rattle.cap_machine.specs.declared.limits.Limits.{Limits}
@@ -22,7 +22,7 @@ abbrev pub StandsInTheWay : List Entry → Entering → Type 0
 StandsInTheWay t May = Unit {0}
 StandsInTheWay t Inside = Unit {0}
 StandsInTheWay t (Blocked n) = (line : Entry) × (slice_get t (n - 1) ≡ Some line) × (1 ≤ n) × (n ≤ length t)
-    × IsPid line.pid × (is_forbidden (demand line).class ≡ true)
+    × IsPid line.pid × (is_forbidden (requirement line).class ≡ true)
 
 abbrev pub IsMakerLimit : List Entry → MakerLimit → Type 0
 IsMakerLimit t limit = (limit.at ≤ length t) × IsPid limit.pid × IsRow (limit.fd, limit.rights)

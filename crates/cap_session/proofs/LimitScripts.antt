@@ -25,7 +25,7 @@ use Rattle.cap_machine.specs.LimitLaws.{Row}
 use Rattle.cap_machine.specs.Limits.{row_of as line_row}
 use Rattle.cap_machine.specs.declared.limits.Limits.{Limits}
 use Rattle.cap_machine.specs.Judge.{is_forbidden}
-use Rattle.cap_machine.specs.Rule.{demand, call_demand, item_demand}
+use Rattle.cap_machine.specs.Rule.{requirement, call_requirement, item_requirement}
 use Rattle.cap_machine.specs.declared.cell.Profile.{Profile}
 use Rattle.cap_machine.specs.declared.makers.MakerLimit.{MakerLimit}
 use Rattle.cap_session.specs.declared.edit.Edit.TheVariants.{Insert}
@@ -200,7 +200,7 @@ text_accepted profile t left script replies few fits run = accepts profile t lef
     (subst (λ (l : List (List ℕ)). Run profile t l replies left)
     (script_lines script (all_no_lf (length t) script fits)) run)
 
--- ---- behind the lines that made descriptors
+-- ---- after the lines that made descriptors
 
 rest_of : {X : Type 0} (P : X → Type 0) (x : X) (xs : List X) → All P (x ∷ xs) → All P xs
 rest_of P x xs all = λ k d lt. all (suc k) d (omega (arith, lt))
@@ -303,7 +303,7 @@ listed_short f = (find_takes (λ g. bytes_eq (row_of g).name (row_of f).name) (�
     all_forms f short_names (form_again f)).1
 
 -- a call that capability mode forbids is one of the table
-call_listed : (c : Call) (a : Answer) → is_forbidden (call_demand c a).class ≡ true
+call_listed : (c : Call) (a : Answer) → is_forbidden (call_requirement c a).class ≡ true
     → (f : Form) × (head_of_call c ≡ listed f)
 call_listed (calls.OnFd c x) a h = (forms.OnFd c, refl)
 call_listed (calls.Send c x) a h = (forms.Send c, refl)
@@ -327,19 +327,19 @@ call_listed (calls.OnFlags c x) a h = (forms.OnFlags c, refl)
 call_listed (calls.Bare c) a h = (forms.Bare c, refl)
 call_listed (calls.Other n args) a h = absurd cc
 
-item_listed : (i : Item) → is_forbidden (item_demand i).class ≡ true → (f : Form) × (head_of i ≡ listed f)
+item_listed : (i : Item) → is_forbidden (item_requirement i).class ≡ true → (f : Form) × (head_of i ≡ listed f)
 item_listed (items.Call c a) h = call_listed c a h
 item_listed (items.Start fs) h = absurd cc
 item_listed items.Exit h = absurd cc
 item_listed (items.Foreign f) h = absurd cc
 
-name_short : (line : Entry) → is_forbidden (demand line).class ≡ true
+name_short : (line : Entry) → is_forbidden (requirement line).class ≡ true
     → is_short_name (name_of (head_of line.item)) ≡ true
 name_short line h =
     let l = item_listed line.item h in
     ap (λ (x : Head). is_short_name (name_of x)) l.1 ∙ listed_short l.0
 
-call_fits : (line : Entry) → IsPid line.pid → is_forbidden (demand line).class ≡ true
+call_fits : (line : Entry) → IsPid line.pid → is_forbidden (requirement line).class ≡ true
     → (has_no_lf (call_text (Some line)) ≡ true) × (length (call_text (Some line)) ≤ 74)
 call_fits line pid forbidden =
     let name : List ℕ = name_of (head_of line.item) in
@@ -360,7 +360,7 @@ call_fits line pid forbidden =
       ),
     )
 
-blocked_fits : (n : ℕ) (line : Entry) → n ≤ 1000000 → IsPid line.pid → is_forbidden (demand line).class ≡ true
+blocked_fits : (n : ℕ) (line : Entry) → n ≤ 1000000 → IsPid line.pid → is_forbidden (requirement line).class ≡ true
     → FitsComment (blocked_words n (Some line))
 blocked_fits n line most pid forbidden =
     let call = call_fits line pid forbidden in

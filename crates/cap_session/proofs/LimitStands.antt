@@ -22,7 +22,7 @@ pub insert_seam : (before after : List Entry) (x : Entry)
 insert_seam before after x = ap (λ (l : List Entry). l ++ x ∷ drop (length before) (before ++ after))
     (take-append_seam before after) ∙ ap (λ (l : List Entry). before ++ x ∷ l) (drop-append_seam before after)
 
--- one behind the other
+-- one after the other
 rows_in : (at : ℕ) (before after xs : List Entry) (others : List ScriptLine) → at ≡ length before + 1 →
     with_script (before ++ after) (insertions at xs ++ others) ≡ with_script (before ++ (xs ++ after)) others
 rows_in at before after [] others place = refl

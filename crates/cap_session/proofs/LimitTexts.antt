@@ -53,7 +53,7 @@ makers_more limits i one before after lt at so_far is =
     (get_or limits i one ∷ []))
     ∙ ap maker_lines (sym (take_more limits i one lt))
 
--- ---- limits that are put in one behind the other
+-- ---- limits that are put in one after the other
 
 insertions_last : (at : ℕ) (lines : List Entry) (line : Entry)
     → insertions at (lines ++ line ∷ []) ≡ insertions at lines ++ insertion (at + length lines) line ∷ []

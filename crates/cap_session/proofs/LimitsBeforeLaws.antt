@@ -187,12 +187,12 @@ module _ (profile : Profile) (start : List Added) (t : List Entry) (k : ℕ) (li
         | inl now ↦
             let near = found_within (start_state start) first (found_at n Forbidden) now in
             omega (arith, near, position, at)
-        | inr behind ↦
-            let there : n ≡ length first + behind.0.at = ap (λ (r : Found). r.at) behind.2 in
-            let place : behind.0.at ≡ suc m = omega (arith, there, position, at) in
-            let same : behind.0 ≡ found_at (suc m) Forbidden = ap (λ (i : ℕ). found_at i behind.0.finding) place
-            ∙ ap (λ (r : Found). found_at (suc m) r.finding) (sym behind.2) in
-            none (subst (IsAmong (check known more)) same (among_in (check known more) behind.0 behind.1))
+        | inr beyond ↦
+            let there : n ≡ length first + beyond.0.at = ap (λ (r : Found). r.at) beyond.2 in
+            let place : beyond.0.at ≡ suc m = omega (arith, there, position, at) in
+            let same : beyond.0 ≡ found_at (suc m) Forbidden = ap (λ (i : ℕ). found_at i beyond.0.finding) place
+            ∙ ap (λ (r : Found). found_at (suc m) r.finding) (sym beyond.2) in
+            none (subst (IsAmong (check known more)) same (among_in (check known more) beyond.0 beyond.1))
       ]
 
   entering : (n : ℕ) → IsEntering known k more limits.pid (Blocked n)

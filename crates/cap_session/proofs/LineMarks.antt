@@ -114,11 +114,11 @@ left_marks text from seen marks bit are lt =
           (omega (arith, was.0), ap is_end (sym (there k)) ∙ was.1);
     }
 
--- what is found behind a place before which no LF stands
-pub found_behind : (text : List ℕ) (from at : ℕ) → IsWithin text from
+-- what is found after a place before which no LF stands
+pub found_beyond : (text : List ℕ) (from at : ℕ) → IsWithin text from
     → IsFirstByte (is_byte 10) (drop from text) (Some at) → from ≤ length text
     → IsCut text (take (from + at) text) (drop (from + at + 1) text)
-found_behind text from at none found within =
+found_beyond text from at none found within =
     let high : from + at < length text = omega (arith, found.0.high, length-drop from text) in
     cut_at text (from + at) high (ap is_end (sym (get_or-drop from text at 0)) ∙ found.1) (λ k low lt ends. ⊎_elim
     (λ early. none k low early ends)
@@ -128,9 +128,9 @@ found_behind text from at none found within =
     (ap is_end (get_or-drop from text (k - from) 0) ∙ ap (λ i. is_end (get_or text i 0)) is ∙ ends))
     (cases_lt k from))
 
-pub none_behind : (text : List ℕ) (from : ℕ) → IsWithin text from → IsFirstByte (is_byte 10) (drop from text) None
+pub none_beyond : (text : List ℕ) (from : ℕ) → IsWithin text from → IsFirstByte (is_byte 10) (drop from text) None
     → from ≤ length text → IsFirstByte (is_byte 10) text None
-none_behind text from none found within k low high ends =
+none_beyond text from none found within k low high ends =
     ⊎_elim
     (λ early. none k low early ends)
     (λ late.
@@ -146,7 +146,7 @@ none_marked text seen marks are none k low lt ends =
     let clear : bit_at marks k ≡ 0 = ap (λ m. bit_at m k) none ∙ ap (λ m. m % 2) (zero-div (2 ^ k)) in
     absurd (omega (arith, set, clear))
 
--- nor in a block behind
+-- nor in a block after
 pub none_in_block : (text : List ℕ) (from marks : ℕ) → IsWithin text from → AreMarks (drop from text) 64 marks
     → marks ≡ 0 → IsWithin text (from + 64)
 none_in_block text from marks before are none k low lt ends =

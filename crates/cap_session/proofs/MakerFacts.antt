@@ -1,4 +1,4 @@
--- What is known of the limits of a trace behind the lines that made descriptors, where it and its start can be spelled.
+-- What is known of the limits of a trace after the lines that made descriptors, where it and its start can be spelled.
 use Rattle.std.proofs.Common.{◌≡◌, ℕ, ◌+◌, ◌≤◌, ◌==◌, Bool, true, false, if◌then◌else◌, List, [], ◌∷◌, ◌++◌, map}
 use Rattle.std.proofs.Common.{length, refl, sym, subst, arith}
 use Rattle.std.specs.Prelude.{nat_lt}
@@ -6,8 +6,8 @@ use Rattle.std.specs.List.{All}
 use Rattle.std.proofs.lemmas.List.Elements.{All-nil, All-cons, All-head, All-tail, All-append, All-weaker, All-same}
 use Rattle.cap_trace.specs.Item.{Item}
 use Rattle.cap_trace.specs.Item as items
-use Rattle.cap_trace.specs.declared.calls.Kind.{Kind}
-use Rattle.cap_trace.specs.declared.calls.Kind.TheVariants.{Fd, Same, FdPair}
+use Rattle.cap_trace.specs.declared.calls.ResultKind.{ResultKind}
+use Rattle.cap_trace.specs.declared.calls.ResultKind.TheVariants.{Fd, Same, FdPair}
 use Rattle.cap_trace.specs.declared.line.Answer.{Answer}
 use Rattle.cap_trace.specs.declared.line.Answer.TheVariants as answers
 use Rattle.cap_trace.specs.Entry.{Entry, IsFd, IsPid, IsAnswer, IsWhole, kind_of}
@@ -57,7 +57,7 @@ made_same : (g : ℕ) (answer : Answer) (n : ℕ) → answer ≡ answers.Made n 
 made_same g answer n same is =
     let both = subst (IsAnswer (Same g)) same is in both.1
 
-of_kind : (kind : Kind) (answer : Answer) → IsAnswer kind answer → All IsFd (made_of kind answer)
+of_kind : (kind : ResultKind) (answer : Answer) → IsAnswer kind answer → All IsFd (made_of kind answer)
 of_kind Fd answer is = one_within answer (λ n same. made_by answer n same is)
 of_kind (Same g) answer is = one_within answer (λ n same. made_same g answer n same is)
 of_kind FdPair answer is = two_within answer is

@@ -47,7 +47,7 @@ maker_limits_are_enough profile start t limits spelled proper are =
 
 -- ---- one limit among all others
 
--- an element of two lists, one behind the other, is in one of them
+-- an element of two lists, one after the other, is in one of them
 split : {X : Type 0} (xs ys some more : List X) (x : X) → xs ++ ys ≡ some ++ x ∷ more
     → ((u : List X) × (xs ≡ some ++ x ∷ u) × (more ≡ u ++ ys))
     ⊎ ((u : List X) × (some ≡ xs ++ u) × (ys ≡ u ++ x ∷ more))

@@ -1,4 +1,4 @@
--- Where the limits of makers stand: behind a line of the trace.
+-- Where the limits of makers stand: after a line of the trace.
 use Rattle.std.proofs.Common.{◌≡◌, ℕ, zero, suc, ◌+◌, ◌<◌, ◌≤◌, List, [], ◌∷◌, ◌++◌, length, map, refl, sym, ap, subst}
 use Rattle.std.proofs.Common.{arith}
 use Rattle.std.specs.List.{All}
@@ -46,16 +46,16 @@ limits_below : (s : State) (at : ℕ) (trace : List Step) (limits : List MakerLi
     → Below (at + length trace) limits
 limits_below s at [] limits are = subst (Below (at + 0)) (sym are) tt
 limits_below s at (step ∷ later) limits are =
-    let (behind, own, cut, before, places, least) = are in
+    let (beyond, own, cut, before, places, least) = are in
     let n = at + suc (length later) in
     let next = ended s (step ∷ []) in
     let same : at + 1 + length later ≡ at + suc (length later) = omega arith in
-    let others : Below (at + suc (length later)) behind =
-    subst (λ (m : ℕ). Below m behind) same (limits_below next (at + 1) later behind before) in
+    let others : Below (at + suc (length later)) beyond =
+    subst (λ (m : ℕ). Below m beyond) same (limits_below next (at + 1) later beyond before) in
     let p = step.line.pid in
     let mine : Below (at + suc (length later)) own = own_below (at + suc (length later)) at p own
     (subst (AreAt at p) (sym places) (held_at next at p (made_fds step.line.item))) (omega arith) in
-    subst (Below (at + suc (length later))) (sym cut) (below_both (at + suc (length later)) behind own others mine)
+    subst (Below (at + suc (length later))) (sym cut) (below_both (at + suc (length later)) beyond own others mine)
 
 all_below : (m n : ℕ) (limits : List MakerLimit) → Below m limits → m ≤ n
     → All (λ (limit : MakerLimit). limit.at < n) limits
@@ -63,7 +63,7 @@ all_below m n [] h le k d lt = absurd (omega (arith, lt))
 all_below m n (limit ∷ limits) h le zero d lt = let one = h.0 in omega (arith, one, le)
 all_below m n (limit ∷ limits) h le (suc k) d lt = all_below m n limits h.1 le k d (omega (arith, lt))
 
--- each limit stands behind one of the lines, so its own position is no larger than their number and one
+-- each limit stands after one of the lines, so its own position is no larger than their number and one
 pub places_below : (s : State) (trace : List Step) (limits : List MakerLimit) (n : ℕ) → AreMakerLimits s 1 trace limits
     → length trace < n → All (λ (limit : MakerLimit). limit.at < n) limits
 places_below s trace limits n are few =

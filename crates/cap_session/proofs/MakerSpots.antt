@@ -1,4 +1,4 @@
--- Where the limits of makers stand: each right behind its line. A trace is taken as its lines, each with its limits.
+-- Where the limits of makers stand: each right after its line. A trace is taken as its lines, each with its limits.
 use Rattle.std.proofs.Common.{◌≡◌, ℕ, ◌+◌, ◌-◌, List, [], ◌∷◌, ◌++◌, length, map, refl, sym, ap, ◌∙◌, subst, arith}
 use Rattle.std.proofs.Common.{append_assoc, length-append}
 use Rattle.std.specs.Prelude.{insert}
@@ -61,7 +61,7 @@ limited profile spot = (step profile spot.0, rows_of spot.1)
 abbrev pub all_limited : Profile → List Spot → List Limited
 all_limited profile spots = map (limited profile) spots
 
--- the lines, each with its limits right behind it
+-- the lines, each with its limits right after it
 abbrev pub laid : List Spot → List Entry
 laid [] = []
 laid (spot ∷ more) = spot.0 ∷ (map (limit_line spot.0.pid) (rows_of spot.1) ++ laid more)
@@ -106,7 +106,7 @@ spots_in before (spot ∷ more) others are =
     ∙ own_in (length before + 1) spot.0.pid next (laid more) spot.1 others are.0 long
     ∙ ap (λ (t : List Entry). with_script t others) (append_assoc before (spot.0 ∷ []) (rows ++ laid more))
 
--- each limit stands right behind its line
+-- each limit stands right after its line
 pub makers_stand : (spots : List Spot) → AreAligned 1 spots
     → with_script (lines_of spots) (makers_script (limits_of spots)) ≡ laid spots
 makers_stand spots are =
@@ -160,9 +160,9 @@ pub record Spots (profile : Profile) (s : State) (at : ℕ) (t : List Entry) (li
 pub spots_of : (profile : Profile) (s : State) (at : ℕ) (t : List Entry) (limits : List MakerLimit)
     → AreMakerLimits s at (steps profile t) limits → Spots profile s at t limits
 spots_of profile s at [] limits are = record { spots = []; lines = refl; all = sym are; aligned = tt; are = tt }
-spots_of profile s at (line ∷ later) limits (behind, own, cut, before, places, least) =
+spots_of profile s at (line ∷ later) limits (beyond, own, cut, before, places, least) =
     let next = ended s (step profile line ∷ []) in
-    let rest = spots_of profile next (at + 1) later behind before in
+    let rest = spots_of profile next (at + 1) later beyond before in
     let here : AreAt at line.pid (map place_of own) =
     subst (AreAt at line.pid) (sym places) (held_at next at line.pid (made_fds line.item)) in
     let same : steps profile later ≡ without_limits (all_limited profile rest.spots) =

@@ -123,14 +123,14 @@ was profile (spot ∷ spots) d old new x aligned none is =
     elim (found_when new first (rows ++ with_limits profile places) x is) [
       | inl now ↦ subst W (sym now.2) (was_now profile spot spots d old new aligned now.0
           ((all_in (said first new) (said first old) none.0).within now.0 now.1))
-      | inr behind ↦ elim (found_where next rows (with_limits profile places) behind.0 behind.1) [
-        | inl silent ↦ absurd (subst (λ (l : List Found). In l behind.0) none.1 silent)
+      | inr beyond ↦ elim (found_where next rows (with_limits profile places) beyond.0 beyond.1) [
+        | inl silent ↦ absurd (subst (λ (l : List Found). In l beyond.0) none.1 silent)
         | inr far ↦
             let rest : NoneNew profile (step_after first old) (ended next rows) places =
             subst (λ (r : State). NoneNew profile (step_after first old) r places) (ended_first new first rows)
             none.2 in
             let inner = was profile spots (d + 1) (step_after first old) (ended next rows) far.0 aligned.1 rest far.1 in
-            subst W (sym (behind.2 ∙ ap (later 1) far.2))
+            subst W (sym (beyond.2 ∙ ap (later 1) far.2))
             (was_later profile spot spots d old new aligned far.0 inner)
       ]
     ]

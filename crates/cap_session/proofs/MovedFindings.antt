@@ -26,7 +26,7 @@ all_in new old all = record {
       (in_among old (slice_index_or new among.0 x) (all among.0 x among.1.0)));
 }
 
--- no finding stands behind the last step
+-- no finding stands after the last step
 pub found_within : (s : State) (trace : List Step) (x : Found) → In (check s trace) x → x.at ≤ length trace
 found_within s trace x is =
     let among = among_in (check s trace) x is in
@@ -41,9 +41,9 @@ found_first s first more x is =
     subst (λ (l : List Found). In l x) (sym (checks_in_turn s first more))
     (in_left (check s first) (map (later (length first)) (check (ended s first) more)) x is)
 
-pub found_behind : (s : State) (first more : List Step) (x : Found) → In (check (ended s first) more) x
+pub found_beyond : (s : State) (first more : List Step) (x : Found) → In (check (ended s first) more) x
     → In (check s (first ++ more)) (later (length first) x)
-found_behind s first more x is =
+found_beyond s first more x is =
     subst (λ (l : List Found). In l (later (length first) x)) (sym (checks_in_turn s first more))
     (in_right (check s first) (map (later (length first)) (check (ended s first) more)) (later (length first) x)
     (in_map (later (length first)) (check (ended s first) more) x is))
@@ -62,8 +62,8 @@ found_where s first more x is =
 pub moved_before : (k n : ℕ) (x : Found) → x.at < k → moved k n x ≡ x
 moved_before k n x lt = rw (lt-ltb x.at k lt) refl
 
-pub moved_behind : (k n m : ℕ) (x : Found) → k ≤ m + x.at → moved k n (later m x) ≡ later m (later n x)
-moved_behind k n m x le =
+pub moved_beyond : (k n m : ℕ) (x : Found) → k ≤ m + x.at → moved k n (later m x) ≡ later m (later n x)
+moved_beyond k n m x le =
     let at : m + x.at + n ≡ m + (n + x.at) = omega arith in
     rw (le-ltb (m + x.at) k le) (ap (λ (i : ℕ). found_at i x.finding) at)
 
@@ -78,12 +78,12 @@ module _ (s : State) (before put after : List Step) (k n : ℕ) (place : k ≡ l
 
   far_moved : (x : Found) → 1 ≤ x.at
       → moved k n (later (length before) x) ≡ later (length before) (later (length put) x)
-  far_moved x low = moved_behind k n (length before) x (omega (arith, place, low))
+  far_moved x low = moved_beyond k n (length before) x (omega (arith, place, low))
       ∙ ap (λ (m : ℕ). later (length before) (later m x)) count
 
   pub found_far : (x : Found) → In (check (ended there put) after) x
       → In (check s (before ++ (put ++ after))) (later (length before) (later (length put) x))
-  found_far x is = found_behind s before (put ++ after) (later (length put) x) (found_behind there put after x is)
+  found_far x is = found_beyond s before (put ++ after) (later (length put) x) (found_beyond there put after x is)
 
   -- enough
   enough_by_then : check there put ≡ [] → Within (check (ended there put) after) (check there after) → (x : Found)
@@ -97,7 +97,7 @@ module _ (s : State) (before put after : List Step) (k n : ℕ) (place : k ≡ l
         (far_moved then.0 (found_after there after then.0 old)
         ∙ ap (later (length before)) (sym then.2))
         (in_map (moved k n) (check s (before ++ after)) (later (length before) then.0)
-        (found_behind s before after then.0 old))
+        (found_beyond s before after then.0 old))
   ]
 
   pub put_is_enough : check there put ≡ [] → All (IsAmong (check there after)) (check (ended there put) after)

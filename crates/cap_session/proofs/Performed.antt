@@ -3,7 +3,7 @@ use Rattle.std.proofs.Common.{◌≡◌, ℕ, List, refl, ◌∙◌, ap, inl, in
 use Rattle.std.specs.Prelude.{Result, Ok, Err, IsTrue, ◌⊎◌}
 use Rattle.cap_trace.specs.Entry.{Entry}
 use Rattle.cap_machine.specs.declared.cell.Profile.{Profile}
-use Rattle.cap_session.specs.declared.script.NotDone.{NotDone}
+use Rattle.cap_session.specs.declared.script.CommandError.{CommandError}
 use Rattle.cap_session.specs.declared.refused.Refused.{Refused}
 use Rattle.cap_session.specs.declared.refused.Refused.TheVariants.{LongLine, Shape, Pid, Argument, Right, Answer}
 use Rattle.cap_session.specs.declared.refused.Refused.TheVariants.{Position, Full, Memory}
@@ -12,7 +12,7 @@ use Rattle.cap_session.specs.Replies.{edit_done, commanded, may_run_out}
 use Rattle.cap_session.specs.Commands.{Asked, asked}
 use Rattle.cap_session.specs.Performs.{Performs, text_of}
 use Rattle.cap_session.specs.Scripts.{Commands}
-use Rattle.cap_session.specs.Replies.{refused_text, not_done_code}
+use Rattle.cap_session.specs.Replies.{refused_text, command_error_code}
 use Rattle.cap_session.specs.declared.script.Reply.{Reply}
 use Rattle.cap_session.specs.declared.edit.Edit.{Edit}
 use Rattle.cap_session.specs.declared.edit.Edit.TheVariants.{Insert, Delete, Replace}
@@ -35,15 +35,16 @@ done_ok : (asked : Result (List Entry) Refused) → IsOk asked → IsOk (edit_do
 done_ok (Ok next) ok = ok
 done_ok (Err e) ok = absurd (cc)
 
-seen : (asked : Result (List Entry) Refused) (e : Refused) → asked ≡ Err e → edit_done asked ≡ Err (NotDone.Refused e)
+seen : (asked : Result (List Entry) Refused) (e : Refused) → asked ≡ Err e → edit_done asked
+    ≡ Err (CommandError.Refused e)
 seen asked e is = ap edit_done is
 
 -- the two ways in which an edit isn't made
-abbrev NotMade : Result (List Entry) Refused → NotDone → Type 0
-NotMade asked why = (edit_done asked ≡ Err why) ⊎ ((why ≡ NotDone.Refused Memory) × IsOk (edit_done asked))
+abbrev NotMade : Result (List Entry) Refused → CommandError → Type 0
+NotMade asked why = (edit_done asked ≡ Err why) ⊎ ((why ≡ CommandError.Refused Memory) × IsOk (edit_done asked))
 
 not_made : (asked : Result (List Entry) Refused) (e : Refused) → RefusesExactly asked (Err e)
-    → (◌≡◌ {A = Result ℕ Refused} (Err e) (Err Memory) → IsOk asked) → NotMade asked (NotDone.Refused e)
+    → (◌≡◌ {A = Result ℕ Refused} (Err e) (Err Memory) → IsOk asked) → NotMade asked (CommandError.Refused e)
 not_made asked Memory refused memory = inr (refl, done_ok asked (memory refl))
 not_made asked LongLine refused memory = inl (seen asked LongLine ((refused LongLine (λ e. cc)).0 refl))
 not_made asked Shape refused memory = inl (seen asked Shape ((refused Shape (λ e. cc)).0 refl))
@@ -54,9 +55,10 @@ not_made asked Answer refused memory = inl (seen asked Answer ((refused Answer (
 not_made asked Position refused memory = inl (seen asked Position ((refused Position (λ e. cc)).0 refl))
 not_made asked Full refused memory = inl (seen asked Full ((refused Full (λ e. cc)).0 refl))
 
-as_command : (profile : Profile) (t : List Entry) (e : Edit) (why : NotDone) → NotMade (edited 1000000 t e) why
+as_command : (profile : Profile) (t : List Entry) (e : Edit) (why : CommandError) → NotMade (edited 1000000 t e) why
     → (commanded profile t (edit_asked e) ≡ Err why)
-    ⊎ ((why ≡ NotDone.Refused Memory) × IsOk (commanded profile t (edit_asked e)) × IsTrue (may_run_out (edit_asked e)))
+    ⊎ ((why ≡ CommandError.Refused Memory) × IsOk (commanded profile t (edit_asked e))
+    × IsTrue (may_run_out (edit_asked e)))
 as_command profile t e why (inl is) = inl (edit_commanded profile t e ∙ is)
 as_command profile t e why (inr is) = inr (is.0, rw (edit_commanded profile t e) is.1, edit_may_run_out e)
 
@@ -64,12 +66,12 @@ as_command profile t e why (inr is) = inr (is.0, rw (edit_commanded profile t e)
 pub edit_refused : (old new : SessionState) (e : Edit) (refused : Refused) → old.limit ≡ 1000000
     → RefusesExactly (edited old.limit old.trace e) (Err refused) →
     (◌≡◌ {A = Result ℕ Refused} (Err refused) (Err Memory) → IsOk (edited old.limit old.trace e)) → new ≡ old →
-    (new.trace ≡ old.trace) × ((commanded old.profile old.trace (edit_asked e) ≡ Err (NotDone.Refused refused))
-    ⊎ ((NotDone.Refused refused ≡ NotDone.Refused Memory)
+    (new.trace ≡ old.trace) × ((commanded old.profile old.trace (edit_asked e) ≡ Err (CommandError.Refused refused))
+    ⊎ ((CommandError.Refused refused ≡ CommandError.Refused Memory)
     × IsOk (commanded old.profile old.trace (edit_asked e)) × IsTrue (may_run_out (edit_asked e))))
 edit_refused old new e refused limit says memory kept = (
   ap (λ (s : SessionState). s.trace) kept,
-  as_command old.profile old.trace e (NotDone.Refused refused)
+  as_command old.profile old.trace e (CommandError.Refused refused)
       (not_made (edited 1000000 old.trace e) refused (rw limit at says) (rw limit at memory)),
 )
 
@@ -79,10 +81,10 @@ pub does_command : (profile : Profile) (t : List Entry) (ask : Asked) (reply : R
     → Performs profile t ask (Ok reply) u → Commands profile t ask (text_of reply) u
 does_command profile t ask reply u is = inl (rw is (refl, refl))
 
-pub refuses_command : (profile : Profile) (t : List Entry) (ask : Asked) (why : NotDone) (u : List Entry)
-    → Performs profile t ask (Err why) u → Commands profile t ask (refused_text (not_done_code why)) u
+pub refuses_command : (profile : Profile) (t : List Entry) (ask : Asked) (why : CommandError) (u : List Entry)
+    → Performs profile t ask (Err why) u → Commands profile t ask (refused_text (command_error_code why)) u
 refuses_command profile t ask why u is =
     elim is.1 [
       | inl e ↦ inl (rw e (refl, is.0))
-      | inr w ↦ inr (w.2, w.1, ap (λ d. refused_text (not_done_code d)) w.0, is.0)
+      | inr w ↦ inr (w.2, w.1, ap (λ d. refused_text (command_error_code d)) w.0, is.0)
     ]

@@ -7,8 +7,8 @@ use Rattle.memchr.specs.Find.{IsFirstByte, is_byte}
 use Rattle.cap_session.specs.Lines.{whole_lines, last_piece, line_if_long, lines, lines_so_far}
 use Rattle.cap_session.specs.Texts.{with_line, with_lines, whole_text, refusal_of, refused_so_far}
 use Rattle.cap_session.specs.Feeds.{Completes, Reached, Finishes, Ends}
-use Rattle.cap_session.specs.declared.lines.Stop.{Stop}
-use Rattle.cap_session.specs.declared.lines.Stop.TheVariants as stops
+use Rattle.cap_session.specs.declared.lines.StopReason.{StopReason}
+use Rattle.cap_session.specs.declared.lines.StopReason.TheVariants as stops
 use Rattle.cap_session.specs.declared.refused.Refused.{Refused}
 use Rattle.cap_session.specs.declared.refused.Refused.TheVariants.{LongLine}
 use Rattle.cap_session.proofs.Cuts.{whole_lines-append, last_piece-append, front_at, cut_at, no_cut}
@@ -155,7 +155,7 @@ pub last_line : (given : List ℕ) (b : ℕ) (held : List ℕ) → b ∷ held �
 last_line given b held is = rw (← is) refl
 
 pub ends_with : {A T : Type 0} (next : A → List ℕ → Result A Refused) (start : A) (holds after : A → Type 0)
-    (given held : List ℕ) (number : ℕ) (result : Result T Stop) →
+    (given held : List ℕ) (number : ℕ) (result : Result T StopReason) →
     (r : Reached next start holds given number held) → (held ≡ [] → ⊥)
     → Completes (with_line next r.known (held ++ [])) after number result → Finishes next start after given result
 ends_with next start holds after given [] number result r some does = absurd (some refl)
@@ -182,7 +182,7 @@ ends_with next start holds after given (b ∷ held) number (Err stops.TooLong) r
 
 -- a line that was refused at the end
 pub finishes_badly : {A : Type 0} (T U : Type 0) (next : A → List ℕ → Result A Refused) (start : A)
-    (follows holds : A → Type 0) (given : List ℕ) (stop : Stop)
+    (follows holds : A → Type 0) (given : List ℕ) (stop : StopReason)
     → Finishes {T = T} next start follows given (Err stop) → Ends {T = U} next start holds given (Err stop)
 finishes_badly T U next start follows holds given (stops.Refused e) is = is
 finishes_badly T U next start follows holds given stops.Memory is = absurd is

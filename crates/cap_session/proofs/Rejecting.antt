@@ -9,8 +9,8 @@ use Rattle.cap_session.specs.AnswerStreams.{of_trace}
 use Rattle.cap_session.specs.EditStreams.{EditStreams, RepliesToAll, Replies, IsOutcome}
 use Rattle.cap_session.specs.Reads.{Reads}
 use Rattle.cap_session.specs.Trace.{trace, soon}
-use Rattle.cap_session.specs.declared.lines.Stop.{Stop}
-use Rattle.cap_session.specs.declared.lines.Stop.TheVariants as stops
+use Rattle.cap_session.specs.declared.lines.StopReason.{StopReason}
+use Rattle.cap_session.specs.declared.lines.StopReason.TheVariants as stops
 use Rattle.cap_session.specs.declared.outcome.Outcome.{Outcome}
 use Rattle.cap_session.specs.declared.outcome.Outcome.TheVariants.{Clean, Findings, Refused, StartRefused, Memory}
 use Rattle.cap_session.specs.declared.outcome.Outcome.TheVariants.{ReadFault, WriteFault, TooLong}
@@ -51,7 +51,7 @@ replied profile turns s0 s1 w0 w1 t u x WriteFault r is = absurd is
 replied profile turns s0 s1 w0 w1 t u x TooLong r is = absurd is
 
 pub stopped : {T : Type 0} (profile : Profile) (turns : ℕ) (s0 s1 : SourceState) (w0 w1 : SinkState) (t u : List Entry)
-    (stop : Stop) (o : Outcome) → RepliesToAll {T = T} profile turns s0 s1 w0 w1 t u (Err stop)
+    (stop : StopReason) (o : Outcome) → RepliesToAll {T = T} profile turns s0 s1 w0 w1 t u (Err stop)
     → o ≡ outcome_of stop → Replies profile turns s0 s1 w0 w1 t o
 stopped profile turns s0 s1 w0 w1 t u stops.ReadFault o r is = rw is
     (record { given = r.given; read = r.read; calls = r.calls; read_fault = r.failures; after = u; answer = r.answer })

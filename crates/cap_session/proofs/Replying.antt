@@ -11,9 +11,9 @@ use Rattle.cap_session.specs.Gives.{Gives}
 use Rattle.cap_session.specs.Lines.{whole_lines, last_piece, line_if_any, lines}
 use Rattle.cap_session.specs.Scripts.{Scripting, Replied, Broken, script_lines, due, due_end}
 use Rattle.cap_session.specs.EditStreams.{RepliesToAll}
-use Rattle.cap_session.specs.Takes.{TookScript, StoppedScript, EndedScript}
-use Rattle.cap_session.specs.declared.lines.Stop.{Stop}
-use Rattle.cap_session.specs.declared.lines.Stop.TheVariants as stops
+use Rattle.cap_session.specs.Chunks.{TookScript, StoppedScript, EndedScript}
+use Rattle.cap_session.specs.declared.lines.StopReason.{StopReason}
+use Rattle.cap_session.specs.declared.lines.StopReason.TheVariants as stops
 use Rattle.cap_session.proofs.Soon.{any_long}
 use Rattle.cap_session.proofs.Runs.{replied_none, replied_on, broken_on, is_long, is_short}
 use Rattle.cap_session.proofs.Joins.{cut, last_same, pieces_same, replied_same, broken_same}
@@ -97,12 +97,12 @@ script_broken_at_end start s t w0 w1 w2 given went broke stays = record {
 
 -- what was given on to a script was replied to
 module _ (start t : Scripting) (w0 w1 : SinkState) (turns : ℕ) (s0 s1 : SourceState) where
-  abbrev GivesScript : Result (Unit {0}) Stop → Type 0
+  abbrev GivesScript : Result (Unit {0}) StopReason → Type 0
   GivesScript result =
       Gives (TookScript start t w0 w1) (λ front piece stop. StoppedScript start t w0 w1 (front ++ piece) stop)
       (EndedScript start t w0 w1) turns s0 s1 result
 
-  pub all_stays : (result : Result (Unit {0}) Stop) → GivesScript result → t.profile ≡ start.profile
+  pub all_stays : (result : Result (Unit {0}) StopReason) → GivesScript result → t.profile ≡ start.profile
   all_stays result gives = elim gives.answer [
     | inl (inl f) ↦ f.taken.profile
     | inl (inr u) ↦ u.taken.profile
@@ -110,7 +110,7 @@ module _ (start t : Scripting) (w0 w1 : SinkState) (turns : ℕ) (s0 s1 : Source
     | inr (inr e) ↦ e.what.profile
   ]
 
-  pub all_replied : (result : Result (Unit {0}) Stop) → GivesScript result
+  pub all_replied : (result : Result (Unit {0}) StopReason) → GivesScript result
       → RepliesToAll start.profile turns s0 s1 w0 w1 start.trace t.trace result
   all_replied (Ok u) gives = elim gives.answer [
     | inl (inl f) ↦ let no = f.is in absurd cc

@@ -13,7 +13,7 @@ use Rattle.cap_session.specs.Performs.{edit_asked}
 use Rattle.cap_session.specs.Replies.{Done, edit_done, refused_text}
 use Rattle.cap_session.specs.Limits.{most_lines}
 use Rattle.cap_session.specs.Scripts.{RepliesTo, Commands, Answers}
-use Rattle.cap_session.specs.declared.script.NotDone.{NotDone}
+use Rattle.cap_session.specs.declared.script.CommandError.{CommandError}
 use Rattle.cap_session.proofs.Performed.{edit_commanded}
 use Rattle.cap_session.specs.ScriptLaws.{Asks, answer_text, ReportOrOutOfMemory, ScriptReportsWhatEditsGive}
 
@@ -41,9 +41,9 @@ out_of_memory t u text (Err e) ok is stays = absurd (cc)
 pub edit_replied : (profile : Profile) (t u : List Entry) (text : List ℕ) (e : Edit)
     → Commands profile t (edit_asked e) text u → EditReplied t (edited most_lines t e) text u
 edit_replied profile t u text e (inl is) = seen t u text (edited most_lines t e)
-    (subst (λ (r : Result Done NotDone). RepliesTo t r text u) (edit_commanded profile t e) is)
+    (subst (λ (r : Result Done CommandError). RepliesTo t r text u) (edit_commanded profile t e) is)
 edit_replied profile t u text e (inr is) = out_of_memory t u text (edited most_lines t e)
-    (subst (λ (r : Result Done NotDone). IsOk r) (edit_commanded profile t e) is.1) is.2 is.3
+    (subst (λ (r : Result Done CommandError). IsOk r) (edit_commanded profile t e) is.1) is.2 is.3
 
 answered : (profile : Profile) (t u : List Entry) (line text : List ℕ) (e : Edit) → Asks line e
     → Answers profile t line text u → EditReplied t (edited most_lines t e) text u

@@ -9,8 +9,8 @@ use Rattle.cap_session.specs.Texts.{whole_text}
 use Rattle.cap_session.specs.StartTexts.{Listed, none_listed, next_process, good_as, described_by, start_soon}
 use Rattle.cap_session.specs.StartLines.{Holds}
 use Rattle.cap_session.specs.declared.refused.Refusal.{Refusal}
-use Rattle.cap_session.specs.declared.lines.Stop.{Stop}
-use Rattle.cap_session.specs.declared.lines.Stop.TheVariants as stops
+use Rattle.cap_session.specs.declared.lines.StopReason.{StopReason}
+use Rattle.cap_session.specs.declared.lines.StopReason.TheVariants as stops
 
 still_good : {A B : Type 0} (f : A → B) (r : Result A Refusal) → IsOk r → IsOk (good_as f r)
 still_good f (Ok x) is = is
@@ -19,7 +19,7 @@ still_good f (Err e) is = is
 -- what is made of a good text matters nothing where reading stopped
 pub stopped_as : {A B T U : Type 0} (f : A → B) (whole : List ℕ → Result A Refusal)
     (soon : List ℕ → Option Refusal) (holds : T → A → Type 0) (keeps : U → B → Type 0) (turns : ℕ)
-    (r0 r1 : SourceState) (stop : Stop) → Reads whole soon holds turns r0 r1 (Err stop)
+    (r0 r1 : SourceState) (stop : StopReason) → Reads whole soon holds turns r0 r1 (Err stop)
     → Reads (λ (text : List ℕ). good_as f (whole text)) soon keeps turns r0 r1 (Err stop)
 stopped_as f whole soon holds keeps turns r0 r1 (stops.Refused e) r =
     record {

@@ -6,13 +6,13 @@ use Rattle.std.proofs.lemmas.List.{append-nil}
 use Rattle.cap_session.specs.Devices.{SourceState}
 use Rattle.cap_session.specs.Texts.{whole_text, refused_so_far}
 use Rattle.cap_session.specs.Feeds.{Reached, Feeds, Ends}
-use Rattle.cap_session.specs.Takes.{TookText, StoppedText, EndedText}
+use Rattle.cap_session.specs.Chunks.{TookText, StoppedText, EndedText}
 use Rattle.cap_session.specs.Gives.{Gives}
 use Rattle.cap_session.specs.Reads.{Reads, IsEnded}
 use Rattle.cap_session.specs.declared.refused.Refused.{Refused}
 use Rattle.cap_session.specs.declared.refused.Refusal.{Refusal}
-use Rattle.cap_session.specs.declared.lines.Stop.{Stop}
-use Rattle.cap_session.specs.declared.lines.Stop.TheVariants as stops
+use Rattle.cap_session.specs.declared.lines.StopReason.{StopReason}
+use Rattle.cap_session.specs.declared.lines.StopReason.TheVariants as stops
 use Rattle.cap_session.proofs.Calls.{consumes_none}
 use Rattle.cap_session.proofs.Reach.{reached_first, reached_good}
 
@@ -33,13 +33,14 @@ text_begins next before = λ start begins. reached_first next start before begin
 -- what a piece does, and what the end does
 module _ {A : Type 0} (next : A → List ℕ → Result A Refused) (before now after : A → Type 0) (number : ℕ)
     (held : List ℕ) (given : List ℕ) (took : TookText next before now number held given) where
-  pub text_on : (number' : ℕ) (held' piece : List ℕ) (result : Result (Unit {0}) Stop) → ((start : A) (given : List ℕ)
+  pub text_on : (number' : ℕ) (held' piece : List ℕ) (result : Result (Unit {0}) StopReason)
+      → ((start : A) (given : List ℕ)
       → Reached next start now given number held → Feeds next start after (given ++ piece) number' held' result) →
       OnOk result (TookText next before after number' held' (given ++ piece))
   text_on number' held' piece (Ok u) feeds = λ start begins. feeds start given (took start begins)
   text_on number' held' piece (Err stop) feeds = tt
 
-  pub text_stops : (number' : ℕ) (held' piece : List ℕ) (result : Result (Unit {0}) Stop)
+  pub text_stops : (number' : ℕ) (held' piece : List ℕ) (result : Result (Unit {0}) StopReason)
       → ((start : A) (given : List ℕ)
       → Reached next start now given number held → Feeds next start after (given ++ piece) number' held' result) →
       IfErr result (λ stop. StoppedText next before after number' held' given piece stop)
@@ -47,7 +48,7 @@ module _ {A : Type 0} (next : A → List ℕ → Result A Refused) (before now a
   text_stops number' held' piece (Err stop) feeds = λ start begins.
       (reached_good next start now given held number (took start begins), feeds start given (took start begins))
 
-  pub text_ends : (lines : A → Type 0) (result : Result (Unit {0}) Stop)
+  pub text_ends : (lines : A → Type 0) (result : Result (Unit {0}) StopReason)
       → ((start : A) (given : List ℕ) → Reached next start now given number held → Ends next start lines given result)
       → EndedText next before lines given result
   text_ends lines result ends = λ start begins.
@@ -56,7 +57,7 @@ module _ {A : Type 0} (next : A → List ℕ → Result A Refused) (before now a
 module _ {A T : Type 0} (next : A → List ℕ → Result A Refused) (before after : A → Type 0) (holds : T → A → Type 0)
     (turns : ℕ) (r0 r1 : SourceState) (number : ℕ) (held : List ℕ) where
   -- a piece stopped it
-  stopped_so : (front piece : List ℕ) (stop : Stop) → Consumes r0.bytes r1.bytes (front ++ piece)
+  stopped_so : (front piece : List ℕ) (stop : StopReason) → Consumes r0.bytes r1.bytes (front ++ piece)
       → r1.calls ≤ r0.calls + turns → length piece ≤ 65536 → r1.ends ≡ r0.ends → r1.failures ≡ r0.failures →
       (start : A) → (refused_so_far next start front ≡ None)
       × Feeds {T = Unit {0}} next start after (front ++ piece) number held (Err stop)
@@ -83,7 +84,7 @@ module _ {A T : Type 0} (next : A → List ℕ → Result A Refused) (before aft
   stopped_so front piece stops.TooLong read calls short going failed start why = absurd why.1
 
   -- the end stopped it
-  ended_so : (given : List ℕ) (stop : Stop) (lines : A → Type 0) → Consumes r0.bytes r1.bytes given
+  ended_so : (given : List ℕ) (stop : StopReason) (lines : A → Type 0) → Consumes r0.bytes r1.bytes given
       → r1.calls ≤ r0.calls + turns → IsEnded r0 r1 → r1.failures ≡ r0.failures →
       (start : A) → (refused_so_far next start given ≡ None) × Ends {T = Unit {0}} next start lines given (Err stop)
       → Reads (whole_text next start) (refused_so_far next start) holds turns r0 r1 (Err stop)
@@ -109,7 +110,7 @@ module _ {A T : Type 0} (next : A → List ℕ → Result A Refused) (before aft
   ended_so given stops.TooLong lines read calls end failed start why = absurd why.1
 
   -- reading stopped
-  pub text_stopped : (lines : A → Type 0) (stop : Stop) → Gives (TookText next before after number held)
+  pub text_stopped : (lines : A → Type 0) (stop : StopReason) → Gives (TookText next before after number held)
       (StoppedText next before after number held) (EndedText next before lines) turns r0 r1 (Err stop) →
       (start : A) → before start
       → Reads (whole_text next start) (refused_so_far next start) holds turns r0 r1 (Err stop)

@@ -11,8 +11,8 @@ use Rattle.cap_session.specs.Reads.{Reads, IsNear}
 use Rattle.cap_session.specs.declared.refused.Refusal.{Refusal}
 use Rattle.cap_session.specs.declared.refused.Refused.{Refused}
 use Rattle.cap_session.specs.declared.refused.Refused.TheVariants.{LongLine}
-use Rattle.cap_session.specs.declared.lines.Stop.{Stop}
-use Rattle.cap_session.specs.declared.lines.Stop.TheVariants as stops
+use Rattle.cap_session.specs.declared.lines.StopReason.{StopReason}
+use Rattle.cap_session.specs.declared.lines.StopReason.TheVariants as stops
 use Rattle.std.specs.Prelude.{nat_lt, length, true, false, cond}
 use Rattle.std.specs.Option.{ok_or}
 use Rattle.cap_session.proofs.Lined.{line_good, line_bad, no_line}
@@ -88,7 +88,7 @@ near_started s given n = record {
 
 -- reading a text after a start, as reading the trace that it spells
 pub read_stopped : {T U : Type 0} (holds : T → Traced → Type 0) (keeps : U → List Entry → Type 0) (s : Setting)
-    (turns : ℕ) (r0 r1 : SourceState) (stop : Stop) →
+    (turns : ℕ) (r0 r1 : SourceState) (stop : StopReason) →
     Reads (whole_text next_traced (record { setting = s; entries = [] }))
     (refused_so_far next_traced (record { setting = s; entries = [] })) holds turns r0 r1 (Err stop)
     → Reads trace soon keeps turns r0 r1 (Err stop)

@@ -30,9 +30,9 @@ pub word_before : (line : List ℕ) (k : ℕ) → IsFirstByte (is_byte 32) line 
 word_before line k found =
     sym (split_from line k found.0.high (λ j h. found.0.before j (omega arith) h) found.1).0
 
-pub rest_behind : (line : List ℕ) (k : ℕ) → IsFirstByte (is_byte 32) line (Some k)
+pub rest_beyond : (line : List ℕ) (k : ℕ) → IsFirstByte (is_byte 32) line (Some k)
     → Some (drop (k + 1) line) ≡ after_word line
-rest_behind line k found =
+rest_beyond line k found =
     rw add-one (sym (split_from line k found.0.high (λ j h. found.0.before j (omega arith) h) found.1).1)
 
 pub word_alone : (line : List ℕ) → IsFirstByte (is_byte 32) line None → first_word line ≡ line

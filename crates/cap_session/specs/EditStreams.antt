@@ -12,8 +12,8 @@ use Rattle.cap_session.specs.Reads.{IsEnded, NotAtEnd, UsedUp, faults}
 use Rattle.cap_session.specs.Scripts.{Replied, Broken, script_lines}
 use Rattle.cap_session.specs.AnswerStreams.{of_trace, Rejected, Taken}
 use Rattle.cap_session.specs.Outcome.{read_faults}
-use Rattle.cap_session.specs.declared.lines.Stop.{Stop}
-use Rattle.cap_session.specs.declared.lines.Stop.TheVariants as stops
+use Rattle.cap_session.specs.declared.lines.StopReason.{StopReason}
+use Rattle.cap_session.specs.declared.lines.StopReason.TheVariants as stops
 use Rattle.cap_session.specs.declared.outcome.Outcome.{Outcome}
 use Rattle.cap_session.specs.declared.outcome.Outcome.TheVariants.{Clean, Findings, Memory}
 use Rattle.cap_session.specs.declared.outcome.Outcome.TheVariants.{ReadFault, WriteFault, TooLong}
@@ -29,7 +29,7 @@ IsBroken profile s0 s1 w0 w1 given t = (NotAtEnd s0 s1 × Broken profile t w0 w1
 -- What the replies to the lines end with, for the bytes that were given: t is the trace before them, and u the one
 -- after them.
 abbrev pub RepliesUntil : {T : Type 0} → Profile → ℕ → SourceState → SourceState → SinkState → SinkState → List ℕ
-    → List Entry → List Entry → Result T Stop → Type 0
+    → List Entry → List Entry → Result T StopReason → Type 0
 RepliesUntil profile turns s0 s1 w0 w1 given t u (Ok _) = IsEnded s0 s1 × Replied profile t w0 w1 (lines given) u
 RepliesUntil profile turns s0 s1 w0 w1 given t u (Err stops.ReadFault) =
     NotAtEnd s0 s1 × Replied profile t w0 w1 (script_lines [] given) u
@@ -40,7 +40,7 @@ RepliesUntil profile turns s0 s1 w0 w1 given t u (Err _) = ⊥
 
 -- Some bytes were given, and the replies are those to their lines.
 pub record RepliesToAll {T : Type 0} (profile : Profile) (turns : ℕ) (s0 s1 : SourceState) (w0 w1 : SinkState)
-    (t u : List Entry) (result : Result T Stop) : Type 0 where
+    (t u : List Entry) (result : Result T StopReason) : Type 0 where
   pub given : List ℕ
   pub read : Consumes s0.bytes s1.bytes given
   pub calls : s1.calls ≤ s0.calls + turns

@@ -3,10 +3,10 @@
 use Rattle.std.specs.Prelude.{◌≡◌, ℕ, ◌≤◌, List, length, Option, None, Some, ⊤}
 use Rattle.std.specs.List.{All}
 use Rattle.cap_trace.specs.Entry.{Entry}
-use Rattle.cap_machine.specs.declared.origin.CellLink.{CellLink}
-use Rattle.cap_machine.specs.declared.origin.ModeLink.{ModeLink}
+use Rattle.cap_machine.specs.declared.provenance.CellLink.{CellLink}
+use Rattle.cap_machine.specs.declared.provenance.ModeLink.{ModeLink}
 use Rattle.cap_machine.specs.Explain.{Explained}
-use Rattle.cap_machine.specs.Origin.{CellChain, ModeChain}
+use Rattle.cap_machine.specs.Provenance.{CellChain, ModeChain}
 use Rattle.cap_session.specs.Explaining.{checks_at}
 
 -- one of the positions 1 to n

@@ -18,20 +18,20 @@ use Rattle.cap_machine.specs.declared.cell.Mode.{Mode}
 use Rattle.cap_machine.specs.declared.cell.Mode.TheVariants.{Inside, Outside, Unsure}
 use Rattle.cap_machine.specs.declared.cell.Profile.{Profile}
 use Rattle.cap_machine.specs.declared.denial.Denial.{Denial}
-use Rattle.cap_machine.specs.declared.origin.CellEnd.{CellEnd}
-use Rattle.cap_machine.specs.declared.origin.CellEnd.TheVariants as cells
-use Rattle.cap_machine.specs.declared.origin.CellLink.{CellLink}
-use Rattle.cap_machine.specs.declared.origin.ModeEnd.{ModeEnd}
-use Rattle.cap_machine.specs.declared.origin.ModeEnd.TheVariants as modes
-use Rattle.cap_machine.specs.declared.origin.ModeLink.{ModeLink}
+use Rattle.cap_machine.specs.declared.provenance.CellEnd.{CellEnd}
+use Rattle.cap_machine.specs.declared.provenance.CellEnd.TheVariants as cells
+use Rattle.cap_machine.specs.declared.provenance.CellLink.{CellLink}
+use Rattle.cap_machine.specs.declared.provenance.ModeEnd.{ModeEnd}
+use Rattle.cap_machine.specs.declared.provenance.ModeEnd.TheVariants as modes
+use Rattle.cap_machine.specs.declared.provenance.ModeLink.{ModeLink}
 use Rattle.cap_machine.specs.declared.rule.Check.{Check}
 use Rattle.cap_machine.specs.declared.verdict.Finding.{Finding}
 use Rattle.cap_machine.specs.DenialReport.{denial_words}
 use Rattle.cap_machine.specs.Explain.{Explained, explanation}
 use Rattle.cap_machine.specs.Judge.{listed}
-use Rattle.cap_machine.specs.Origin.{CellChain, ModeChain}
+use Rattle.cap_machine.specs.Provenance.{CellChain, ModeChain}
 use Rattle.cap_machine.specs.Report.{finding_words, line_of_words}
-use Rattle.cap_machine.specs.Rule.{demand}
+use Rattle.cap_machine.specs.Rule.{requirement}
 use Rattle.cap_machine.specs.State.{State}
 use Rattle.cap_machine.specs.Steps.{steps}
 use Rattle.cap_session.specs.Replies.{found_in}
@@ -51,7 +51,7 @@ text_at trace at = text_of (slice_get trace (at - 1))
 -- the descriptors that it checks, in order
 abbrev pub checks_of : Option Entry → List Check
 checks_of None = []
-checks_of (Some line) = listed (demand line).checks
+checks_of (Some line) = listed (requirement line).checks
 
 abbrev pub checks_at : List Entry → ℕ → List Check
 checks_at trace at = checks_of (slice_get trace (at - 1))

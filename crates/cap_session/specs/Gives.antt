@@ -5,12 +5,12 @@ use Rattle.std.specs.Io.KnownBytes.{Consumes}
 use Rattle.cap_session.specs.Devices.{SourceState}
 use Rattle.cap_session.specs.Limits.{longest_piece}
 use Rattle.cap_session.specs.Reads.{IsEnded, NotAtEnd, UsedUp}
-use Rattle.cap_session.specs.declared.lines.Stop.{Stop}
-use Rattle.cap_session.specs.declared.lines.Stop.TheVariants.{ReadFault, TooLong}
+use Rattle.cap_session.specs.declared.lines.StopReason.{StopReason}
+use Rattle.cap_session.specs.declared.lines.StopReason.TheVariants.{ReadFault, TooLong}
 
 -- The reader failed, and what it gave before was taken.
 pub record IsFailed (took : List ℕ → Type 0) (old new : SourceState) (given : List ℕ)
-    (result : Result (Unit {0}) Stop) : Type 0 where
+    (result : Result (Unit {0}) StopReason) : Type 0 where
   pub is : result ≡ Err ReadFault
   pub going : NotAtEnd old new
   pub taken : took given
@@ -18,7 +18,7 @@ pub record IsFailed (took : List ℕ → Type 0) (old new : SourceState) (given 
 
 -- The reader was called as often as it may be, and what it gave was taken.
 pub record IsUsedUp (took : List ℕ → Type 0) (turns : ℕ) (old new : SourceState) (given : List ℕ)
-    (result : Result (Unit {0}) Stop) : Type 0 where
+    (result : Result (Unit {0}) StopReason) : Type 0 where
   pub is : result ≡ Err TooLong
   pub going : NotAtEnd old new
   pub used : UsedUp turns old new
@@ -26,11 +26,11 @@ pub record IsUsedUp (took : List ℕ → Type 0) (turns : ℕ) (old new : Source
   pub failures : new.failures ≡ old.failures
 
 -- The last piece stopped it.
-pub record IsStopped (stopped : List ℕ → List ℕ → Stop → Type 0) (old new : SourceState) (given : List ℕ)
-    (result : Result (Unit {0}) Stop) : Type 0 where
+pub record IsStopped (stopped : List ℕ → List ℕ → StopReason → Type 0) (old new : SourceState) (given : List ℕ)
+    (result : Result (Unit {0}) StopReason) : Type 0 where
   pub front : List ℕ
   pub piece : List ℕ
-  pub stop : Stop
+  pub stop : StopReason
   pub cut : given ≡ front ++ piece
   pub short : length piece ≤ longest_piece
   pub is : result ≡ Err stop
@@ -39,16 +39,16 @@ pub record IsStopped (stopped : List ℕ → List ℕ → Stop → Type 0) (old 
   pub failures : new.failures ≡ old.failures
 
 -- The end came.
-pub record IsGiven (ended : List ℕ → Result (Unit {0}) Stop → Type 0) (old new : SourceState) (given : List ℕ)
-    (result : Result (Unit {0}) Stop) : Type 0 where
+pub record IsGiven (ended : List ℕ → Result (Unit {0}) StopReason → Type 0) (old new : SourceState) (given : List ℕ)
+    (result : Result (Unit {0}) StopReason) : Type 0 where
   pub end : IsEnded old new
   pub what : ended given result
   pub failures : new.failures ≡ old.failures
 
 -- Some bytes were given, and one of these is the answer.
-pub record Gives (took : List ℕ → Type 0) (stopped : List ℕ → List ℕ → Stop → Type 0)
-    (ended : List ℕ → Result (Unit {0}) Stop → Type 0)
-    (turns : ℕ) (old new : SourceState) (result : Result (Unit {0}) Stop) : Type 0 where
+pub record Gives (took : List ℕ → Type 0) (stopped : List ℕ → List ℕ → StopReason → Type 0)
+    (ended : List ℕ → Result (Unit {0}) StopReason → Type 0)
+    (turns : ℕ) (old new : SourceState) (result : Result (Unit {0}) StopReason) : Type 0 where
   pub given : List ℕ
   pub read : Consumes old.bytes new.bytes given
   pub calls : new.calls ≤ old.calls + turns

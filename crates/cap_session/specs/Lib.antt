@@ -32,7 +32,7 @@ pub mod StartParsed
 pub mod StartTexts
 pub mod StartWords
 pub mod Streams
-pub mod Takes
+pub mod Chunks
 pub mod Texts
 pub mod Trace
 pub mod Traced

@@ -39,7 +39,7 @@ bytes_of line = join_with_byte 32 (words_of line)
 abbrev pub script_text : List ScriptLine → List ℕ
 script_text script = flat_map (λ (line : ScriptLine). line_of_words (words_of line)) script
 
--- lines inserted one behind the other, the first at a position
+-- lines inserted one after the other, the first at a position
 abbrev pub insertions : ℕ → List Entry → List ScriptLine
 insertions at [] = []
 insertions at (line ∷ lines) = insertion at line ∷ insertions (at + 1) lines
@@ -54,7 +54,7 @@ limit_line p row = record { pid = p; item = items.Call (calls.RightsLimit row.0 
 abbrev pub enter_line : ℕ → Entry
 enter_line p = record { pid = p; item = items.Call (calls.Bare CapEnter) (answers.Made 0) }
 
--- ---- right behind each line that made a descriptor
+-- ---- right after each line that made a descriptor
 
 abbrev pub maker_line : MakerLimit → ScriptLine
 maker_line limit = insertion (limit.at + 1) (limit_line limit.pid (limit.fd, limit.rights))

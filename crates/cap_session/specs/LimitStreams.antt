@@ -33,7 +33,7 @@ pub record IsProcessText (profile : Profile) (start : List Added) (t : List Entr
   pub least : AreLimitsBefore profile start t k (Some limits)
   pub is : text ≡ script_text (limits_script t k limits)
 
--- behind the lines that made descriptors, or before a line
+-- after the lines that made descriptors, or before a line
 abbrev pub IsLimitsText : Profile → Option ℕ → List Added → List Entry → List ℕ → Type 0
 IsLimitsText profile None start t text = IsMakersText profile start t text
 IsLimitsText profile (Some k) start t text = IsProcessText profile start t k text

@@ -127,9 +127,9 @@ EnteringBeforeIsForbidden = (profile : Profile) (start : List Added) (t : List E
     → IsAmong (checked profile start (with_script t (insertion k (enter_line limits.pid) ∷ []))) (found_at (n + 1) Forbidden)
     × (IsAmong (checked profile start t) (found_at n Forbidden) → ⊥)
 
--- ---- behind each line that made a descriptor
+-- ---- after each line that made a descriptor
 
--- where a finding stands after the limits were put in, each behind its line
+-- where a finding stands after the limits were put in, each after its line
 abbrev pub lines_above : List MakerLimit → ℕ → ℕ
 lines_above [] at = 0
 lines_above (limit ∷ more) at = (if nat_lt limit.at at then 1 else 0) + lines_above more at

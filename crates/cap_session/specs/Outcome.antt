@@ -4,8 +4,8 @@ use Rattle.cap_session.specs.Refused.{code_of}
 use Rattle.cap_session.specs.declared.refused.Input.{Input}
 use Rattle.cap_session.specs.declared.refused.Input.TheVariants as inputs
 use Rattle.cap_session.specs.declared.refused.Refusal.{Refusal}
-use Rattle.cap_session.specs.declared.lines.Stop.{Stop}
-use Rattle.cap_session.specs.declared.lines.Stop.TheVariants as stops
+use Rattle.cap_session.specs.declared.lines.StopReason.{StopReason}
+use Rattle.cap_session.specs.declared.lines.StopReason.TheVariants as stops
 use Rattle.cap_session.specs.declared.outcome.Outcome.{Outcome}
 use Rattle.cap_session.specs.declared.outcome.Outcome.TheVariants.{Clean, Findings, Refused, StartRefused, Memory}
 use Rattle.cap_session.specs.declared.outcome.Outcome.TheVariants.{ReadFault, WriteFault, TooLong}
@@ -28,7 +28,7 @@ refused_as inputs.Start e = StartRefused (code_of e.reason) e.line
 refused_as inputs.Trace e = Refused (code_of e.reason) e.line
 
 -- how a call ends that stopped so
-abbrev pub outcome_of : Stop → Outcome
+abbrev pub outcome_of : StopReason → Outcome
 outcome_of (stops.Refused e) = refused_as inputs.Trace e
 outcome_of stops.Memory = Memory
 outcome_of stops.ReadFault = ReadFault

@@ -9,7 +9,7 @@ use Rattle.cap_session.specs.Replies.{commanded, may_run_out}
 use Rattle.cap_session.specs.declared.edit.Edit.{Edit}
 use Rattle.cap_session.specs.declared.edit.Edit.TheVariants.{Insert, Delete, Replace}
 use Rattle.cap_session.specs.declared.refused.Refused.TheVariants.{Memory}
-use Rattle.cap_session.specs.declared.script.NotDone.{NotDone}
+use Rattle.cap_session.specs.declared.script.CommandError.{CommandError}
 use Rattle.cap_session.specs.declared.script.Reply.{Reply}
 use Rattle.cap_session.specs.declared.script.Reply.TheVariants.{Short, Long}
 use Rattle.cap_session.specs.declared.command.Command.{Command}
@@ -35,7 +35,7 @@ text_of (Long text) = text.items
 
 -- A command was done and has its reply, or it isn't done for this reason, or memory ran out for it. The trace goes
 -- from t to u.
-abbrev pub Performs : Profile → List Entry → Asked → Result Reply NotDone → List Entry → Type 0
+abbrev pub Performs : Profile → List Entry → Asked → Result Reply CommandError → List Entry → Type 0
 Performs profile t ask (Ok reply) u = commanded profile t ask ≡ Ok (record { text = text_of reply; trace = u })
 Performs profile t ask (Err why) u = (u ≡ t) × ((commanded profile t ask ≡ Err why)
-    ⊎ ((why ≡ NotDone.Refused Memory) × IsOk (commanded profile t ask) × IsTrue (may_run_out ask)))
+    ⊎ ((why ≡ CommandError.Refused Memory) × IsOk (commanded profile t ask) × IsTrue (may_run_out ask)))

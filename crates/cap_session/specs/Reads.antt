@@ -4,8 +4,8 @@ use Rattle.std.specs.Io.KnownBytes.{Consumes, IsAtEnd}
 use Rattle.cap_session.specs.Devices.{SourceState}
 use Rattle.cap_session.specs.Limits.{longest_piece}
 use Rattle.cap_session.specs.declared.refused.Refusal.{Refusal}
-use Rattle.cap_session.specs.declared.lines.Stop.{Stop}
-use Rattle.cap_session.specs.declared.lines.Stop.TheVariants.{Refused, Memory, ReadFault, WriteFault, TooLong}
+use Rattle.cap_session.specs.declared.lines.StopReason.{StopReason}
+use Rattle.cap_session.specs.declared.lines.StopReason.TheVariants.{Refused, Memory, ReadFault, WriteFault, TooLong}
 
 -- The reader answered in this call that its end is reached; it didn't; it was called as often as it may be.
 abbrev pub IsEnded : SourceState → SourceState → Type 0
@@ -38,7 +38,7 @@ pub record IsGood {A : Type 0} (whole : List ℕ → Result A Refusal) (soon : L
   pub at_end : ended → IsOk (whole given)
 
 -- one, where reading stopped at a fault of the reader
-abbrev pub faults : {T : Type 0} → Result T Stop → ℕ
+abbrev pub faults : {T : Type 0} → Result T StopReason → ℕ
 faults (Err ReadFault) = 1
 faults (Err (Refused e)) = 0
 faults (Err Memory) = 0
@@ -48,7 +48,7 @@ faults (Ok lines) = 0
 
 -- What reading answers, for what was given.
 abbrev pub Read : {A T : Type 0} → (List ℕ → Result A Refusal) → (List ℕ → Option Refusal) → (T → A → Type 0) → ℕ
-    → SourceState → SourceState → List ℕ → Result T Stop → Type 0
+    → SourceState → SourceState → List ℕ → Result T StopReason → Type 0
 Read {A = A} whole soon holds turns old new given (Ok lines) =
     IsEnded old new × ((known : A) × (whole given ≡ Ok known) × holds lines known)
 Read whole soon holds turns old new given (Err (Refused e)) = IsRefused whole soon (IsEnded old new) given e
@@ -59,7 +59,7 @@ Read whole soon holds turns old new given (Err WriteFault) = ⊥
 
 -- Some bytes were given, and the answer is that to these bytes.
 pub record Reads {A T : Type 0} (whole : List ℕ → Result A Refusal) (soon : List ℕ → Option Refusal)
-    (holds : T → A → Type 0) (turns : ℕ) (old new : SourceState) (result : Result T Stop) : Type 0 where
+    (holds : T → A → Type 0) (turns : ℕ) (old new : SourceState) (result : Result T StopReason) : Type 0 where
   pub given : List ℕ
   pub read : Consumes old.bytes new.bytes given
   pub calls : new.calls ≤ old.calls + turns

@@ -9,13 +9,13 @@ use Rattle.cap_session.specs.Lines.{whole_lines, last_piece, line_if_any}
 use Rattle.cap_session.specs.Trace.{is_skipped}
 use Rattle.cap_session.specs.Writes.{Wrote, WrotePrefix}
 use Rattle.cap_session.specs.Commands.{Asked, asked}
-use Rattle.cap_session.specs.Replies.{Done, commanded, may_run_out, not_done_code, refused_text}
-use Rattle.cap_session.specs.declared.script.NotDone.{NotDone}
+use Rattle.cap_session.specs.Replies.{Done, commanded, may_run_out, command_error_code, refused_text}
+use Rattle.cap_session.specs.declared.script.CommandError.{CommandError}
 
 -- The command was done, and its reply is this; or it was refused, and left the trace.
-abbrev pub RepliesTo : List Entry → Result Done NotDone → List ℕ → List Entry → Type 0
+abbrev pub RepliesTo : List Entry → Result Done CommandError → List ℕ → List Entry → Type 0
 RepliesTo t (Ok done) text u = (text ≡ done.text) × (u ≡ done.trace)
-RepliesTo t (Err why) text u = (text ≡ refused_text (not_done_code why)) × (u ≡ t)
+RepliesTo t (Err why) text u = (text ≡ refused_text (command_error_code why)) × (u ≡ t)
 
 -- Memory ran out for a command that isn't refused, and the trace was left.
 abbrev pub RunsOut : Profile → List Entry → Asked → List ℕ → List Entry → Type 0

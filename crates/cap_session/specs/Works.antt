@@ -5,8 +5,8 @@ use Rattle.cap_session.specs.Devices.{SinkState}
 use Rattle.cap_session.specs.Outcome.{refused_as, outcome_of}
 use Rattle.cap_session.specs.Refusal.{refusal_text}
 use Rattle.cap_session.specs.Writes.{Wrote, WrotePrefix}
-use Rattle.cap_session.specs.declared.lines.Stop.{Stop}
-use Rattle.cap_session.specs.declared.lines.Stop.TheVariants as stops
+use Rattle.cap_session.specs.declared.lines.StopReason.{StopReason}
+use Rattle.cap_session.specs.declared.lines.StopReason.TheVariants as stops
 use Rattle.cap_session.specs.declared.refused.Input.{Input}
 use Rattle.cap_session.specs.declared.outcome.Outcome.{Outcome}
 use Rattle.cap_session.specs.declared.outcome.Outcome.TheVariants as outcomes
@@ -18,7 +18,7 @@ abbrev pub Writes : {T : Type 0} → List ℕ → T → T → SinkState → Sink
 Writes text told fault w0 w1 result = (Wrote w0 w1 text × (result ≡ told)) ⊎ (WrotePrefix w0 w1 text × (result ≡ fault))
 
 -- What ending a call that stopped does and answers: only a refused line is written.
-abbrev pub EndsCall : Input → Stop → SinkState → SinkState → Outcome → Type 0
+abbrev pub EndsCall : Input → StopReason → SinkState → SinkState → Outcome → Type 0
 EndsCall input (stops.Refused e) w0 w1 outcome =
     Writes (refusal_text input e) (refused_as input e) outcomes.WriteFault w0 w1 outcome
 EndsCall input stop w0 w1 outcome = (w1 ≡ w0) × (outcome ≡ outcome_of stop)

@@ -1,13 +1,13 @@
 //! The text of where a cell and a mode come from: a line for each link, newest first, and one for the start.
 ghost use Rattle.std.specs.Prelude.{◌≡◌, ◌++◌, codes, length, OnOk};
-ghost use Rattle.cap_machine.specs.Origin.{cell_chain_of, mode_chain_of};
+ghost use Rattle.cap_machine.specs.Provenance.{cell_chain_of, mode_chain_of};
 ghost use Rattle.cap_session.specs.Explained.{IsAt, CellStands, ModeStands};
 ghost use Rattle.cap_session.specs.Explaining.{numbered, link_line, start_line, cell_end_line, cell_lines};
 ghost use Rattle.cap_session.specs.Explaining.{cell_word, mode_word, mode_end_line, mode_lines};
 
 use crate::trace::Trace;
 use crate::wording::{mode_word, put_between, put_cell};
-use cap_machine::{Cell, CellEnd, CellOrigin, Mode, ModeEnd, ModeOrigin, NoMemory};
+use cap_machine::{Cell, CellEnd, CellProvenance, Mode, ModeEnd, ModeProvenance, NoMemory};
 use cap_trace::{Fd, write_line};
 use itoa::Buffer;
 
@@ -83,33 +83,33 @@ pub fn put_cell_origin<T: Trace>(
     out: &mut Vec<u8>,
     trace: &T,
     fd: Fd,
-    origin: &CellOrigin,
+    provenance: &CellProvenance,
 ) -> Result<(), NoMemory>
-    requires { CellStands (length (T.lines trace.now)) (cell_chain_of origin.now) }
+    requires { CellStands (length (T.lines trace.now)) (cell_chain_of provenance.now) }
     ensures { OnOk result
-        (out.new.items ≡ out.old.items ++ cell_lines (T.lines trace.now) fd (cell_chain_of origin.now)) }
+        (out.new.items ≡ out.old.items ++ cell_lines (T.lines trace.now) fd (cell_chain_of provenance.now)) }
 {
     let mut buffer = Buffer::new();
     let of = buffer.format(fd).as_bytes();
-    let links = origin.links.as_slice();
+    let links = provenance.links.as_slice();
     for link in links {
         put_link(out, of, trace, link.at)?;
     }
-    put_cell_end(out, of, &origin.end)
+    put_cell_end(out, of, &provenance.end)
 }
 
 /// Appends where the mode of the process comes from.
 pub fn put_mode_origin<T: Trace>(
     out: &mut Vec<u8>,
     trace: &T,
-    origin: &ModeOrigin,
+    provenance: &ModeProvenance,
 ) -> Result<(), NoMemory>
-    requires { ModeStands (length (T.lines trace.now)) (mode_chain_of origin.now) }
+    requires { ModeStands (length (T.lines trace.now)) (mode_chain_of provenance.now) }
     ensures { OnOk result
-        (out.new.items ≡ out.old.items ++ mode_lines (T.lines trace.now) (mode_chain_of origin.now)) }
+        (out.new.items ≡ out.old.items ++ mode_lines (T.lines trace.now) (mode_chain_of provenance.now)) }
 {
-    for link in origin.links.as_slice() {
+    for link in provenance.links.as_slice() {
         put_link(out, b"mode", trace, link.at)?;
     }
-    put_mode_end(out, &origin.end)
+    put_mode_end(out, &provenance.end)
 }

@@ -10,7 +10,7 @@ ghost use Rattle.cap_session.specs.Works.{WritesAnswer};
 ghost use Rattle.cap_session.specs.declared.outcome.ExplainOutcome.TheVariants.{Ended};
 
 use crate::devices::{Sink, Source};
-use crate::entries::{Keep, read_trace};
+use crate::entries::{TraceSink, read_trace};
 use crate::outcome::Outcome;
 use crate::refused::Input;
 use crate::write::{write_ending, write_stop};
@@ -18,7 +18,7 @@ use cap_machine::{Checker, NoMemory, Profile};
 use cap_trace::LineRef;
 use std::alloc::Global;
 
-impl Keep for Checker {
+impl TraceSink for Checker {
     ghost keeps = { λ checker setting entries.
         IsAsked checker setting.question setting.profile setting.start entries };
 

@@ -20,7 +20,7 @@ pub enum Command<'a> {
 }
 
 /// The bytes before the first space, and those after it where there is one.
-#[tactic(auto, using(std::proofs::lemmas::List::take_rest, crate::proofs::Words::word_before, crate::proofs::Words::rest_behind, crate::proofs::Words::word_alone, crate::proofs::Words::no_rest))]
+#[tactic(auto, using(std::proofs::lemmas::List::take_rest, crate::proofs::Words::word_before, crate::proofs::Words::rest_beyond, crate::proofs::Words::word_alone, crate::proofs::Words::no_rest))]
 fn split_word<'a>(line: &'a [u8]) -> (&'a [u8], Option<&'a [u8]>)
     ensures word { result.0.now ≡ first_word line.now }
     ensures rest { MatchOption result.1 (after_word line.now ≡ None) (λ rest. after_word line.now ≡ Some rest.now) }

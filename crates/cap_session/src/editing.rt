@@ -6,8 +6,8 @@ ghost use Rattle.cap_session.specs.Limits.{longest_piece};
 
 use crate::devices::{Sink, Source};
 use crate::entries::read_trace;
-use crate::held::Held;
 use crate::limits::LONGEST_PIECE;
+use crate::line_buffer::LineBuffer;
 use crate::loading::Loading;
 use crate::outcome::Outcome;
 use crate::refused::Input;
@@ -91,7 +91,7 @@ pub fn edit_stream_as<T: Source, S: Source, W: Sink>(
     let Ok(mut piece) = vec![in alloc; 0u8; LONGEST_PIECE] else {
         return Outcome::Memory;
     };
-    let Ok(held) = Held::new(alloc) else {
+    let Ok(held) = LineBuffer::new(alloc) else {
         return Outcome::Memory;
     };
     let empty = Loading::new(alloc, profile);

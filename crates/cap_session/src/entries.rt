@@ -1,4 +1,5 @@
-//! The lines of a trace, each read and given to what keeps them: a checker, which keeps none, or a session ([`Keep`]).
+//! The lines of a trace, each read and given to what keeps them: a checker, which keeps none, or a session
+//! ([`TraceSink`]).
 ghost use Rattle.std.specs.Prelude.{◌≡◌, ◌<◌, ◌≤◌, ◌^◌, ℕ, ◌++◌, ◌∷◌, [], List, length, OnOk, Ok, None, MatchOption, false};
 ghost use Rattle.std.specs.Option.{ForSome};
 ghost use Rattle.cap_trace.specs.Entry.{Entry};
@@ -11,11 +12,11 @@ ghost use Rattle.cap_session.specs.Feeds.{TakesLine};
 
 use crate::devices::Source;
 use crate::limits::MOST_LINES;
-use crate::lines::{Lines, Stop};
+use crate::lines::{Lines, StopReason};
 use crate::read::read_text;
 use crate::refused::Refused;
 use cap_machine::NoMemory;
-use cap_trace::{LineRef, read_soon, read_with_care};
+use cap_trace::{LineRef, read_fast, read_slow};
 use std::alloc::Global;
 
 /// Whether a line is empty or a comment.
@@ -29,7 +30,7 @@ pub fn is_skipped(line: &[u8]) -> bool
 }
 
 /// What keeps the lines of a trace.
-pub trait Keep: Drop {
+pub trait TraceSink: Drop {
     /// It keeps these lines of a trace that is checked so.
     ghost keeps: { Self → Setting → List Entry → Type 0 };
 
@@ -51,13 +52,13 @@ pub trait Keep: Drop {
 
 /// The lines of a trace so far. They are kept until memory runs out, and counted from then on.
 #[derive(Drop)]
-struct Entries<K: Keep> {
+struct Entries<K: TraceSink> {
     alloc: Global,
     kept: Option<K>,
     lost: usize,
 }
 
-impl<K: Keep> Entries<K> {
+impl<K: TraceSink> Entries<K> {
     /// How many lines there are so far.
     fn count(&self) -> usize
         ensures count { MatchOption self.now.kept (result ≡ self.now.lost) (λ k. result ≡ K.lines_of k) }
@@ -97,7 +98,7 @@ impl<K: Keep> Entries<K> {
         ensures { (known : Traced) → Follows K.keeps self.old.kept self.old.lost known → count ≡ length known.entries
             → TakesLine (next_traced known text.now) (Follows K.keeps self.new.kept self.new.lost) result }
     {
-        match read_with_care(text) {
+        match read_slow(text) {
             Ok(line) => {
                 self.keep(count, text, &line);
                 Ok(())
@@ -116,7 +117,7 @@ impl<K: Keep> Entries<K> {
     }
 }
 
-impl<K: Keep> Lines for Entries<K> {
+impl<K: TraceSink> Lines for Entries<K> {
     ghost Known = { Traced };
 
     ghost next = { next_traced };
@@ -133,7 +134,7 @@ impl<K: Keep> Lines for Entries<K> {
         if count >= MOST_LINES {
             return Err(Refused::Full);
         }
-        match read_soon(line) {
+        match read_fast(line) {
             Some(read) => {
                 self.keep(count, line, &read);
                 Ok(())
@@ -148,12 +149,12 @@ impl<K: Keep> Lines for Entries<K> {
 }
 
 /// Reads a trace to its end, or to its first refused line. What keeps its lines is in the answer.
-pub fn read_trace<K: Keep, R: Source>(
+pub fn read_trace<K: TraceSink, R: Source>(
     alloc: Global,
     turns: u64,
     reader: &mut R,
     keep: K,
-) -> Result<K, Stop>
+) -> Result<K, StopReason>
     requires turns { turns ≤ 2 ^ 32 }
     requires calls { turns ≤ (R.state reader.old).room }
     ensures { (s : Setting) → K.keeps keep s []
@@ -165,5 +166,5 @@ pub fn read_trace<K: Keep, R: Source>(
         lost: 0,
     };
     let entries = read_text(alloc, turns, reader, entries)?;
-    entries.kept.ok_or(Stop::Memory)
+    entries.kept.ok_or(StopReason::Memory)
 }

@@ -4,9 +4,9 @@ ghost use Rattle.std.specs.Prelude.{[]};
 ghost use Rattle.std.specs.List.{All};
 ghost use Rattle.cap_machine.specs.Explain.{explained_by};
 ghost use Rattle.cap_machine.specs.Judge.{listed};
-ghost use Rattle.cap_machine.specs.declared.origin.CellOrigin.{CellOrigin};
-ghost use Rattle.cap_machine.specs.Origin.{cell_chain_of, mode_chain_of};
-ghost use Rattle.cap_machine.specs.Rule.{demand};
+ghost use Rattle.cap_machine.specs.declared.provenance.CellProvenance.{CellProvenance};
+ghost use Rattle.cap_machine.specs.Provenance.{cell_chain_of, mode_chain_of};
+ghost use Rattle.cap_machine.specs.Rule.{requirement};
 ghost use Rattle.cap_machine.specs.Table.{start_state};
 ghost use Rattle.cap_session.specs.Explained.{CellStands, AnyModeStands, FitsLine};
 ghost use Rattle.cap_session.specs.Explaining.{finding_lines, denial_lines, all_cell_lines, any_mode_lines};
@@ -18,8 +18,8 @@ use crate::session::is_position;
 use crate::trace::Trace;
 use crate::wording::{put_denied, put_found};
 use cap_machine::{
-    CellOrigin, Checks, Explanation, LineDenials, ModeOrigin, NoMemory, Profile, Start, Verdict,
-    explain, rule_of,
+    CellProvenance, Checks, Explanation, LineDenials, ModeProvenance, NoMemory, Profile, Start,
+    Verdict, explain, rule_of,
 };
 use cap_trace::Line;
 use std::alloc::Global;
@@ -58,10 +58,11 @@ fn put_cells<T: Trace>(
     out: &mut Vec<u8>,
     trace: &T,
     checks: &Checks,
-    cells: &[CellOrigin],
+    cells: &[CellProvenance],
 ) -> Result<(), NoMemory>
     requires one_each { length cells.now ≡ length (listed checks.now) }
-    requires stand { All (λ (origin : CellOrigin). CellStands (length (T.lines trace.now)) (cell_chain_of origin))
+    requires stand { All (λ (provenance : CellProvenance). CellStands (length (T.lines trace.now))
+        (cell_chain_of provenance))
         cells.now }
     ensures { OnOk result (out.new.items ≡ out.old.items
         ++ all_cell_lines (T.lines trace.now) (listed checks.now) (map cell_chain_of cells.now)) }
@@ -81,23 +82,23 @@ fn put_cells<T: Trace>(
 fn put_mode<T: Trace>(
     out: &mut Vec<u8>,
     trace: &T,
-    mode: &Option<ModeOrigin>,
+    mode: &Option<ModeProvenance>,
 ) -> Result<(), NoMemory>
     requires { AnyModeStands (length (T.lines trace.now)) (option_map mode_chain_of mode.now) }
     ensures { OnOk result (out.new.items ≡ out.old.items
         ++ any_mode_lines (T.lines trace.now) (option_map mode_chain_of mode.now)) }
 {
     match mode {
-        Some(origin) => put_mode_origin(out, trace, origin),
+        Some(provenance) => put_mode_origin(out, trace, provenance),
         None => Ok(()),
     }
 }
 
 /// What a line checks.
 fn checks_of(line: &Line) -> Checks
-    ensures { listed result ≡ listed (demand line.now).checks }
+    ensures { listed result ≡ listed (requirement line.now).checks }
 {
-    rule_of(Profile::One, &line.seen()).demand.checks
+    rule_of(Profile::One, &line.view()).requirement.checks
 }
 
 /// The text of what the line at a position rests on.

@@ -14,7 +14,7 @@ ghost use Rattle.cap_session.specs.declared.outcome.Outcome.TheVariants.{WriteFa
 ghost use Rattle.cap_session.specs.declared.outcome.ExplainOutcome.TheVariants.{Ended, OutOfRange};
 
 use crate::devices::{Sink, Source};
-use crate::entries::{Keep, read_trace};
+use crate::entries::{TraceSink, read_trace};
 use crate::explained::{ExplainedLine, explain_among};
 use crate::limits_text::limits_among;
 use crate::outcome::{ExplainOutcome, Outcome};
@@ -26,7 +26,7 @@ use cap_machine::{NoMemory, Profile, Start};
 use cap_trace::{Line, LineRef};
 use std::alloc::Global;
 
-impl Keep for Vec<Line> {
+impl TraceSink for Vec<Line> {
     ghost keeps = { λ lines _ entries. lines.items ≡ entries };
 
     ghost lines_of = { λ lines. length lines.items };
@@ -36,7 +36,7 @@ impl Keep for Vec<Line> {
     }
 
     fn keep(&mut self, alloc: Global, text: &[u8], line: &LineRef<'_>) -> Result<(), NoMemory> {
-        let line = line.kept(alloc, text)?;
+        let line = line.to_line(alloc, text)?;
         match self.push(line) {
             Ok(()) => Ok(()),
             Err(_) => Err(NoMemory),
@@ -49,7 +49,7 @@ impl Keep for Vec<Line> {
 enum Query {
     /// What the line at a position rests on.
     Explanation(usize),
-    /// The limits before the line at a position, or behind each line that made a descriptor.
+    /// The limits before the line at a position, or after each line that made a descriptor.
     Limits(Option<usize>),
 }
 
@@ -204,7 +204,7 @@ pub fn explain_stream<S: Source, R: Source, W: Sink>(
 /// - With a position, from 1: before the line there, a limit of each descriptor that its process then holds, but of those
 ///   that only a start's cell of all others gives. Then the process enters capability mode (cap_enter(2)), or a comment
 ///   says why it can't.
-/// - Without: right behind each line that made a descriptor, which is then held, a limit of it. The last comes first, so
+/// - Without: right after each line that made a descriptor, which is then held, a limit of it. The last comes first, so
 ///   that each position is one of the trace.
 ///
 /// Limits are enough and least: `limits_script_is_enough` and `limits_script_is_least` say of what.

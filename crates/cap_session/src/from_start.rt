@@ -17,7 +17,7 @@ use crate::write::write_stop;
 use cap_machine::{Checker, Profile, Question, Start};
 use std::alloc::Global;
 
-/// The same checker, which was given no line, asked this.
+/// A checker that was given no line, asked this question.
 fn asked(checker: Checker, question: Question) -> Checker
     requires { lines_of checker ≡ 0 }
     ensures { (profile : Profile) (s : State) → HasChecked checker profile s []

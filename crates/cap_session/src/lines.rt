@@ -8,15 +8,15 @@ ghost use Rattle.cap_session.specs.Limits.{longest_line};
 ghost use Rattle.cap_session.specs.Texts.{with_line};
 ghost use Rattle.cap_session.specs.Feeds.{TakesLine, Completes, Reached, Feeds, Finishes, Ends};
 
-use crate::held::Held;
 use crate::limits::LONGEST_LINE;
+use crate::line_buffer::LineBuffer;
 use crate::line_ends::LineEnds;
 use crate::refused::{Refusal, Refused};
 use std::alloc::{AllocError, Global};
 
 /// Why a text or a script isn't worked through to its end.
 #[derive(Clone, Copy)]
-pub enum Stop {
+pub enum StopReason {
     /// A line of the text is refused.
     Refused(Refusal),
     /// Memory ran out.
@@ -58,24 +58,24 @@ pub trait Lines: Drop {
 
 /// A text that comes.
 #[derive(Drop)]
-pub struct Reading<L: Lines> {
+pub struct LineReader<L: Lines> {
     pub lines: L,
     /// How many lines were taken.
     pub number: usize,
     /// The beginning of the next line.
-    pub held: Held<LONGEST_LINE>,
+    pub held: LineBuffer<LONGEST_LINE>,
 }
 
-impl<L: Lines> Reading<L> {
-    pub fn new(alloc: Global, lines: L) -> Result<Reading<L>, AllocError>
+impl<L: Lines> LineReader<L> {
+    pub fn new(alloc: Global, lines: L) -> Result<LineReader<L>, AllocError>
         ensures lines { IfOk result (λ s. s.lines ≡ lines) }
         ensures number { IfOk result (λ s. s.number ≡ 0) }
         ensures held { IfOk result (λ s. s.held ≡ []) }
     {
-        Ok(Reading {
+        Ok(LineReader {
             lines,
             number: 0,
-            held: Held::new(alloc)?,
+            held: LineBuffer::new(alloc)?,
         })
     }
 
@@ -101,7 +101,7 @@ impl<L: Lines> Reading<L> {
     }
 
     /// Takes the line that is begun, which these bytes complete.
-    fn complete(&mut self, bytes: &[u8]) -> Result<(), Stop>
+    fn complete(&mut self, bytes: &[u8]) -> Result<(), StopReason>
         requires { self.old.number + 1 < 2 ^ 64 }
         ensures completes { (known : L.Known) → L.follows self.old.lines known → Completes
             (with_line L.next known (self.old.held ++ bytes.now)) (L.follows self.new.lines) self.old.number result }
@@ -118,24 +118,24 @@ impl<L: Lines> Reading<L> {
     }
 
     /// Stops at the next line.
-    fn stop(&self, reason: Refused) -> Stop
+    fn stop(&self, reason: Refused) -> StopReason
         requires { self.now.number + 1 < 2 ^ 64 }
-        ensures { result ≡ Stop.Refused (record { reason = reason; line = self.now.number + 1 }) }
+        ensures { result ≡ StopReason.Refused (record { reason = reason; line = self.now.number + 1 }) }
     {
-        Stop::Refused(Refusal {
+        StopReason::Refused(Refusal {
             reason,
             line: self.number + 1,
         })
     }
 
     /// Begins a line, or goes on with it.
-    fn hold(&mut self, bytes: &[u8]) -> Result<(), Stop>
+    fn hold(&mut self, bytes: &[u8]) -> Result<(), StopReason>
         requires { self.old.number + 1 < 2 ^ 64 }
         ensures held { OnOk result (self.new.held ≡ self.old.held ++ bytes.now) }
         ensures short { OnOk result (length self.old.held + length bytes.now ≤ longest_line) }
         ensures long { OnErr result (longest_line < length self.old.held + length bytes.now) }
         ensures stops { OnErr result
-            (result ≡ Err (Stop.Refused (record { reason = Refused.LongLine; line = self.old.number + 1 }))) }
+            (result ≡ Err (StopReason.Refused (record { reason = Refused.LongLine; line = self.old.number + 1 }))) }
         ensures lines { self.new.lines ≡ self.old.lines }
         ensures number { self.new.number ≡ self.old.number }
     {
@@ -146,7 +146,7 @@ impl<L: Lines> Reading<L> {
     }
 
     /// Works the next piece through. `Memory` only where no line is refused so far.
-    pub fn feed(&mut self, piece: &[u8]) -> Result<(), Stop>
+    pub fn feed(&mut self, piece: &[u8]) -> Result<(), StopReason>
         requires { self.old.number + length piece.now + 1 < 2 ^ 64 }
         ensures feeds { (start : L.Known) (given : List ℕ)
             → Reached L.next start (L.follows self.old.lines) given self.old.number self.old.held
@@ -159,13 +159,13 @@ impl<L: Lines> Reading<L> {
         }
         self.hold(ends.rest())?;
         if self.lines.is_out_of_memory() {
-            return Err(Stop::Memory);
+            return Err(StopReason::Memory);
         }
         Ok(())
     }
 
     /// Takes the line that is begun, where there is one: it is the last.
-    fn finish(&mut self) -> Result<(), Stop>
+    fn finish(&mut self) -> Result<(), StopReason>
         requires { self.old.number + 1 < 2 ^ 64 }
         ensures { (start : L.Known) (given : List ℕ) → Reached L.next start (L.follows self.old.lines) given
             self.old.number self.old.held → Finishes L.next start (L.follows self.new.lines) given result }
@@ -177,14 +177,14 @@ impl<L: Lines> Reading<L> {
     }
 
     /// Works the end through. `Memory` only where no line is refused.
-    pub fn end(&mut self) -> Result<(), Stop>
+    pub fn end(&mut self) -> Result<(), StopReason>
         requires { self.old.number + 1 < 2 ^ 64 }
         ensures { (start : L.Known) (given : List ℕ) → Reached L.next start (L.follows self.old.lines) given
             self.old.number self.old.held → Ends L.next start (L.holds self.new.lines) given result }
     {
         self.finish()?;
         if self.lines.is_out_of_memory() {
-            return Err(Stop::Memory);
+            return Err(StopReason::Memory);
         }
         Ok(())
     }

@@ -4,7 +4,7 @@ ghost use Rattle.cap_session.specs.Limits.{most_lines};
 ghost use Rattle.cap_session.specs.Session.{LoadingState, IsKept, lines_of};
 ghost use Rattle.cap_tree.specs.Run.{values};
 
-use crate::entries::Keep;
+use crate::entries::TraceSink;
 use crate::limits::MOST_LINES;
 use crate::refused::Refused;
 use crate::session::Session;
@@ -65,7 +65,7 @@ impl Loading {
     }
 }
 
-impl Keep for Loading {
+impl TraceSink for Loading {
     ghost keeps = { λ loading setting entries. (loading.profile ≡ setting.profile) × (loading.trace ≡ entries) };
 
     ghost lines_of = { λ loading. length loading.trace };
@@ -75,7 +75,7 @@ impl Keep for Loading {
     }
 
     fn keep(&mut self, alloc: Global, text: &[u8], line: &LineRef<'_>) -> Result<(), NoMemory> {
-        let line = line.kept(alloc, text)?;
+        let line = line.to_line(alloc, text)?;
         match self.push(line) {
             Ok(()) => Ok(()),
             Err(_) => Err(NoMemory),

@@ -3,7 +3,7 @@
 ghost use Rattle.std.specs.Prelude.{◌≡◌};
 ghost use Rattle.cap_session.specs.Outcome.{status_of, explain_status_of, found, outcome_of, refused_as};
 
-use crate::lines::Stop;
+use crate::lines::StopReason;
 use crate::refused::{Input, Refusal};
 
 /// How a stream call ends.
@@ -36,16 +36,16 @@ pub enum ExplainOutcome {
     OutOfRange,
 }
 
-impl From<Stop> for Outcome {
+impl From<StopReason> for Outcome {
     ghost from_gives = { λ stop outcome. outcome ≡ outcome_of stop };
 
-    fn from(stop: Stop) -> Outcome {
+    fn from(stop: StopReason) -> Outcome {
         match stop {
-            Stop::Refused(refusal) => Outcome::refused(Input::Trace, refusal),
-            Stop::Memory => Outcome::Memory,
-            Stop::ReadFault => Outcome::ReadFault,
-            Stop::WriteFault => Outcome::WriteFault,
-            Stop::TooLong => Outcome::TooLong,
+            StopReason::Refused(refusal) => Outcome::refused(Input::Trace, refusal),
+            StopReason::Memory => Outcome::Memory,
+            StopReason::ReadFault => Outcome::ReadFault,
+            StopReason::WriteFault => Outcome::WriteFault,
+            StopReason::TooLong => Outcome::TooLong,
         }
     }
 }

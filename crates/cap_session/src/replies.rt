@@ -2,14 +2,14 @@
 ghost use Rattle.std.specs.Prelude.{◌≡◌, ◌+◌, ◌^◌, ◌<◌, ◌≤◌, [], ◌++◌, length};
 ghost use Rattle.cap_session.specs.EditStreams.{RepliesToAll};
 ghost use Rattle.cap_session.specs.Limits.{longest_piece};
-ghost use Rattle.cap_session.specs.Takes.{TookScript, StoppedScript, EndedScript};
+ghost use Rattle.cap_session.specs.Chunks.{TookScript, StoppedScript, EndedScript};
 
 use crate::devices::{Failed, Sink, Source};
-use crate::lines::Stop;
-use crate::read::{Takes, give_all};
+use crate::lines::StopReason;
+use crate::read::{ChunkHandler, read_chunks};
 use crate::script::Script;
 
-impl<W: Sink> Takes<W> for Script {
+impl<W: Sink> ChunkHandler<W> for Script {
     ghost fits = { λ _ w _. 1 ≤ (W.state w).room };
 
     ghost took = { λ s w t v given. TookScript s t (W.state w) (W.state v) given };
@@ -18,17 +18,17 @@ impl<W: Sink> Takes<W> for Script {
 
     ghost ended = { λ s w t v given result. EndedScript s t (W.state w) (W.state v) given result };
 
-    fn take_piece(&mut self, piece: &[u8], output: &mut W) -> Result<(), Stop> {
+    fn take_piece(&mut self, piece: &[u8], output: &mut W) -> Result<(), StopReason> {
         match self.feed(piece, output) {
             Ok(()) => Ok(()),
-            Err(Failed) => Err(Stop::WriteFault),
+            Err(Failed) => Err(StopReason::WriteFault),
         }
     }
 
-    fn take_end(&mut self, output: &mut W) -> Result<(), Stop> {
+    fn take_end(&mut self, output: &mut W) -> Result<(), StopReason> {
         match self.end(output) {
             Ok(()) => Ok(()),
-            Err(Failed) => Err(Stop::WriteFault),
+            Err(Failed) => Err(StopReason::WriteFault),
         }
     }
 }
@@ -40,7 +40,7 @@ pub fn reply_all<R: Source, W: Sink>(
     writer: &mut W,
     script: &mut Script,
     piece: &mut [u8],
-) -> Result<(), Stop>
+) -> Result<(), StopReason>
     requires turns { turns ≤ 2 ^ 32 }
     requires calls { turns ≤ (R.state reader.old).room }
     requires failure { 1 ≤ (W.state writer.old).room }
@@ -51,5 +51,5 @@ pub fn reply_all<R: Source, W: Sink>(
         (W.state writer.new) script.old.trace script.new.trace result }
     ensures profile { script.new.profile ≡ script.old.profile }
 {
-    give_all(turns, reader, script, writer, piece)
+    read_chunks(turns, reader, script, writer, piece)
 }

@@ -3,15 +3,15 @@ ghost use Rattle.std.specs.Prelude.{◌≡◌, ◌<◌, ◌≤◌, [], ◌∷◌
 ghost use Rattle.cap_session.specs.Limits.{longest_piece, most_held, most_lines};
 ghost use Rattle.cap_session.specs.Lines.{last_piece};
 ghost use Rattle.cap_session.specs.Performs.{command_asked, Performs, text_of};
-ghost use Rattle.cap_session.specs.Replies.{not_done_code};
+ghost use Rattle.cap_session.specs.Replies.{command_error_code};
 ghost use Rattle.cap_session.specs.Scripts.{Scripting, Replied, Broken, due, due_line, due_piece, due_end};
 
 use crate::command::{Command, command_of};
 use crate::devices::{Failed, Sink};
 use crate::edit::Edit;
 use crate::entries::is_skipped;
-use crate::held::Held;
 use crate::limits::{LONGEST_SCRIPT_LINE, MOST_HELD};
+use crate::line_buffer::LineBuffer;
 use crate::line_ends::LineEnds;
 use crate::refused::Refused;
 use crate::session::Session;
@@ -21,21 +21,21 @@ use std::marker::Model;
 
 /// Why a command isn't done.
 #[derive(Clone, Copy)]
-pub enum NotDone {
+pub enum CommandError {
     /// The session refuses it.
     Refused(Refused),
     /// There is no such command.
     Unknown,
 }
 
-impl NotDone {
+impl CommandError {
     /// The number that stands in the reply.
     pub fn code(self) -> u8
-        ensures { result ≡ not_done_code self }
+        ensures { result ≡ command_error_code self }
     {
         match self {
-            NotDone::Refused(refused) => refused.code(),
-            NotDone::Unknown => 10,
+            CommandError::Refused(refused) => refused.code(),
+            CommandError::Unknown => 10,
         }
     }
 }
@@ -59,7 +59,7 @@ impl Reply {
 }
 
 /// Makes an edit, and replies with the new count.
-fn perform_edit(session: &mut Session, edit: &Edit<'_>) -> Result<Reply, NotDone>
+fn perform_edit(session: &mut Session, edit: &Edit<'_>) -> Result<Reply, CommandError>
     requires { session.old.limit ≡ most_lines }
     ensures performs { Performs session.old.profile session.old.trace
         (command_asked (Command.Edit edit.now)) result session.new.trace }
@@ -68,47 +68,47 @@ fn perform_edit(session: &mut Session, edit: &Edit<'_>) -> Result<Reply, NotDone
 {
     match session.edit(edit) {
         Ok(count) => Ok(Reply::Short(ShortText::accepted(count))),
-        Err(refused) => Err(NotDone::Refused(refused)),
+        Err(refused) => Err(CommandError::Refused(refused)),
     }
 }
 
 /// Replies with the text of a line.
-fn perform_show(session: &Session, position: usize) -> Result<Reply, NotDone>
+fn perform_show(session: &Session, position: usize) -> Result<Reply, CommandError>
     ensures { Performs session.now.profile session.now.trace
         (command_asked (Command.Show position)) result session.now.trace }
 {
     match session.show(position) {
         Ok(mut text) => match text.push(b'\n') {
             Ok(()) => Ok(Reply::Long(text)),
-            Err(_) => Err(NotDone::Refused(Refused::Memory)),
+            Err(_) => Err(CommandError::Refused(Refused::Memory)),
         },
-        Err(refused) => Err(NotDone::Refused(refused)),
+        Err(refused) => Err(CommandError::Refused(refused)),
     }
 }
 
 /// Replies with the report.
-fn perform_report(session: &Session) -> Result<Reply, NotDone>
+fn perform_report(session: &Session) -> Result<Reply, CommandError>
     ensures { Performs session.now.profile session.now.trace (command_asked Command.Report) result session.now.trace }
 {
     match session.report() {
         Ok(text) => Ok(Reply::Long(text)),
-        Err(refused) => Err(NotDone::Refused(refused)),
+        Err(refused) => Err(CommandError::Refused(refused)),
     }
 }
 
 /// Replies with the report of a part.
-fn perform_range(session: &Session, first: usize, last: usize) -> Result<Reply, NotDone>
+fn perform_range(session: &Session, first: usize, last: usize) -> Result<Reply, CommandError>
     ensures { Performs session.now.profile session.now.trace
         (command_asked (Command.ReportRange first last)) result session.now.trace }
 {
     match session.report_range(first, last) {
         Ok(text) => Ok(Reply::Long(text)),
-        Err(refused) => Err(NotDone::Refused(refused)),
+        Err(refused) => Err(CommandError::Refused(refused)),
     }
 }
 
 /// Does a command, and gives its reply.
-fn perform(session: &mut Session, command: &Command<'_>) -> Result<Reply, NotDone>
+fn perform(session: &mut Session, command: &Command<'_>) -> Result<Reply, CommandError>
     requires { session.old.limit ≡ most_lines }
     ensures performs { Performs session.old.profile session.old.trace
         (command_asked command.now) result session.new.trace }
@@ -121,7 +121,7 @@ fn perform(session: &mut Session, command: &Command<'_>) -> Result<Reply, NotDon
         Command::Count => Ok(Reply::Short(ShortText::number(session.count()))),
         Command::Report => perform_report(session),
         Command::ReportRange(first, last) => perform_range(session, first, last),
-        Command::Unknown => Err(NotDone::Unknown),
+        Command::Unknown => Err(CommandError::Unknown),
     }
 }
 
@@ -156,7 +156,7 @@ fn answer<W: Sink>(session: &mut Session, line: &[u8], writer: &mut W) -> Result
 #[derive(Drop)]
 pub struct Script {
     pub session: Session,
-    pub held: Held<MOST_HELD>,
+    pub held: LineBuffer<MOST_HELD>,
 }
 
 impl Model for Script {

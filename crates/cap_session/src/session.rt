@@ -25,9 +25,9 @@ ghost use Rattle.cap_tree.specs.Run.{values};
 use crate::denied::denials_of;
 use crate::edit::Edit;
 use crate::explained::{ExplainedLine, line_explained};
-use crate::found::text_of;
 use crate::limits_text::{is_outside, limits_among};
 use crate::refused::Refused;
+use crate::report::text_of;
 use crate::steps::{copies_of, step_of, steps_of};
 use cap_machine::{NoMemory, Profile, Start, Step};
 use cap_summary::{Summary, explain, resolve, resolve_range};
@@ -57,7 +57,7 @@ impl Model for Session {
 
 /// What a list of edits gave.
 #[derive(Drop)]
-pub struct Edited {
+pub struct EditOutcome {
     /// What each edit answered, in order.
     pub answers: Vec<Result<usize, Refused>>,
     /// The report of the trace that the edits left; `Memory` where there was no memory for it.
@@ -498,7 +498,7 @@ impl Session {
     /// Makes edits one after the other, as `apply` does, and reports the trace that they leave.
     ///
     /// `Memory` where there is no memory for the answers. No edit is made then.
-    pub fn report_after(&mut self, edits: &[Edit<'_>]) -> Result<Edited, Refused>
+    pub fn report_after(&mut self, edits: &[Edit<'_>]) -> Result<EditOutcome, Refused>
         // After any edits, the report is that of checking anew the trace which the accepted edits give.
         ensures report { IfOk result (λ r. IfOk r.report (λ text. text.items ≡ report usual
             (steps self.old.profile (after self.old.limit self.old.trace edits.now (ran_out r.answers.items))))) }
@@ -514,7 +514,7 @@ impl Session {
         ensures only { IsOkUnless result Refused.Memory }
     {
         let answers = self.apply(edits)?;
-        Ok(Edited {
+        Ok(EditOutcome {
             answers,
             report: self.report(),
         })

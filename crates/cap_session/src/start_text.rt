@@ -18,7 +18,7 @@ use crate::devices::Source;
 use crate::entries::is_skipped;
 use crate::limits::LONGEST_LINE;
 use crate::line_ends::LineEnds;
-use crate::lines::{Lines, Stop};
+use crate::lines::{Lines, StopReason};
 use crate::read::read_text;
 use crate::refused::{Refusal, Refused};
 use crate::start_fields::{Head, cells_of, head_of};
@@ -51,19 +51,19 @@ impl From<Refusal> for StartFault {
 
 /// A start that takes the lines of a text. It is kept until memory runs out.
 #[derive(Drop)]
-pub struct Starting {
+pub struct StartParser {
     alloc: Global,
     kept: Option<Start>,
     /// The least pid that may come next.
     low: Pid,
 }
 
-impl Starting {
+impl StartParser {
     /// Before the first line. It takes no memory.
-    fn new(alloc: Global) -> Starting
+    fn new(alloc: Global) -> StartParser
         ensures { Follows result.kept result.low none_listed }
     {
-        Starting {
+        StartParser {
             alloc,
             kept: Some(Start::unknown(alloc)),
             low: 1,
@@ -145,7 +145,7 @@ impl Starting {
     }
 }
 
-impl Lines for Starting {
+impl Lines for StartParser {
     ghost Known = { Listed };
 
     ghost next = { next_process };
@@ -173,20 +173,20 @@ impl Lines for Starting {
 fn read_bytes(alloc: Global, bytes: &[u8]) -> Result<Start, StartFault>
     ensures { Parses (described_by bytes.now) result }
 {
-    let mut starting = Starting::new(alloc);
+    let mut starting = StartParser::new(alloc);
     starting.text(bytes)?;
     starting.kept.ok_or(StartFault::Memory)
 }
 
 /// Reads a start text from a reader to its end, or to its first refused line.
-pub fn read_start<R: Source>(alloc: Global, turns: u64, reader: &mut R) -> Result<Start, Stop>
+pub fn read_start<R: Source>(alloc: Global, turns: u64, reader: &mut R) -> Result<Start, StopReason>
     requires turns { turns ≤ 2 ^ 32 }
     requires calls { turns ≤ (R.state reader.old).room }
     ensures { Reads described_by start_soon (λ start known. start ≡ known) turns (R.state reader.old)
         (R.state reader.new) result }
 {
-    let starting = read_text(alloc, turns, reader, Starting::new(alloc))?;
-    starting.kept.ok_or(Stop::Memory)
+    let starting = read_text(alloc, turns, reader, StartParser::new(alloc))?;
+    starting.kept.ok_or(StopReason::Memory)
 }
 
 /// Reads a start text: what was known of each process before a trace.

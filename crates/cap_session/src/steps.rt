@@ -40,7 +40,7 @@ fn copy_of(alloc: Global, line: &Line) -> Result<Line, cap_machine::NoMemory>
 {
     let mut text = Vec::new(alloc);
     write_line(line, &mut text)?;
-    line.seen().kept(alloc, text.as_slice())
+    line.view().to_line(alloc, text.as_slice())
 }
 
 /// Copies of the lines of a tree.

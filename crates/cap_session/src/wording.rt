@@ -19,18 +19,18 @@ pub fn put_number(out: &mut Vec<u8>, number: u64) -> Result<(), NoMemory>
     Ok(())
 }
 
-/// Appends a number, with a text before it and one behind it.
+/// Appends a number, with a text before it and one after it.
 pub fn put_between(
     out: &mut Vec<u8>,
     before: &[u8],
     number: u64,
-    behind: &[u8],
+    beyond: &[u8],
 ) -> Result<(), NoMemory>
-    ensures { OnOk result (out.new.items ≡ out.old.items ++ (before.now ++ (decimal number ++ behind.now))) }
+    ensures { OnOk result (out.new.items ≡ out.old.items ++ (before.now ++ (decimal number ++ beyond.now))) }
 {
     out.extend_from_slice(before)?;
     put_number(out, number)?;
-    out.extend_from_slice(behind)?;
+    out.extend_from_slice(beyond)?;
     Ok(())
 }
 

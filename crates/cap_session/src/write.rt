@@ -5,7 +5,7 @@ ghost use Rattle.cap_session.specs.Writes.{Wrote, WrotePrefix};
 ghost use Rattle.cap_session.specs.declared.outcome.Outcome.TheVariants.{WriteFault};
 
 use crate::devices::{Failed, Sink};
-use crate::lines::Stop;
+use crate::lines::StopReason;
 use crate::outcome::Outcome;
 use crate::refused::Input;
 use crate::short_text::ShortText;
@@ -36,12 +36,12 @@ pub fn write_ending<W: Sink>(text: &[u8], told: Outcome, writer: &mut W) -> Outc
 }
 
 /// Ends a call that stopped. A refused line is written, and nothing else.
-pub fn write_stop<W: Sink>(input: Input, stop: Stop, writer: &mut W) -> Outcome
+pub fn write_stop<W: Sink>(input: Input, stop: StopReason, writer: &mut W) -> Outcome
     requires { 1 ≤ (W.state writer.old).room }
     ensures { EndsCall input stop (W.state writer.old) (W.state writer.new) result }
 {
     match stop {
-        Stop::Refused(refusal) => {
+        StopReason::Refused(refusal) => {
             let text = ShortText::of(input, refusal);
             write_ending(text.as_slice(), Outcome::refused(input, refusal), writer)
         }

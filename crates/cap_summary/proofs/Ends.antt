@@ -1,4 +1,4 @@
--- The state behind an effect, and behind what is known.
+-- The state after an effect, and after what is known.
 use Rattle.cap_machine.proofs.{Turns.same_state}
 use Rattle.cap_summary.specs.{◌≡◌, ℕ, List, refl, Step, Mode, Inside, Outside, State, ended, Before.state_of}
 use Rattle.cap_summary.specs.{Effects.changed, Keys.cells_of, Keys.mode_cell, Keys.cell_mode, Knows.Knows}

@@ -42,14 +42,14 @@ pub explained_there : (s : State) (t : List Step) (k n : ℕ) (step : Step) → 
     → get_or t n step ≡ step → explanation s t k ≡ Some (explained s (reverse (take n t)) step)
 explained_there s t k n step at lt is =
     let before : List Step = take n t in
-    let behind : List Step = drop (n + 1) t in
+    let beyond : List Step = drop (n + 1) t in
     let upto : List Step = before ++ step ∷ [] in
-    let split : t ≡ upto ++ behind = sym (take-append-drop (n + 1) t)
-    ∙ ap (λ (r : List Step). r ++ behind) (take_more t n step lt ∙ ap (λ (x : Step). before ++ x ∷ []) is) in
+    let split : t ≡ upto ++ beyond = sym (take-append-drop (n + 1) t)
+    ∙ ap (λ (r : List Step). r ++ beyond) (take_more t n step lt ∙ ap (λ (x : Step). before ++ x ∷ []) is) in
     let long : length (reverse before) ≡ n = length-reverse before ∙ length-take-le n t (omega arith) in
     let turned : reverse upto ≡ step ∷ reverse before = reverse-append before (step ∷ []) in
     ap (λ (r : List Step). explained_at s (reverse r) k) split
-    ∙ ap (λ (h : List Step). explained_at s h k) (reverse-append upto behind)
-    ∙ ap (λ (h : List Step). explained_at s (reverse behind ++ h) k) turned
-    ∙ older s (reverse behind) (step ∷ reverse before) k (omega (arith, at, long))
+    ∙ ap (λ (h : List Step). explained_at s h k) (reverse-append upto beyond)
+    ∙ ap (λ (h : List Step). explained_at s (reverse beyond ++ h) k) turned
+    ∙ older s (reverse beyond) (step ∷ reverse before) k (omega (arith, at, long))
     ∙ newest s step (reverse before) k (omega (arith, at, long))

@@ -2,7 +2,7 @@
 use Rattle.cap_machine.specs.{History.turned, Table.step_after}
 use Rattle.cap_machine.proofs.{Turns.ends_more}
 use Rattle.cap_summary.specs.{◌≡◌, ℕ, List, [], ◌∷◌, ◌++◌, ◌+◌, ◌<◌, false, ◌||◌, length, map, refl, get_or, take, ◌≤◌}
-use Rattle.cap_summary.specs.{if◌then◌else◌, Rc, values, Step, LineEffect, State, demand, Turn, kept, stays, turns}
+use Rattle.cap_summary.specs.{if◌then◌else◌, Rc, values, Step, LineEffect, State, requirement, Turn, kept, stays, turns}
 use Rattle.cap_summary.specs.{follows, touch, turn, effect_touch, effect_turn, touched, ended, check, said, found_at}
 use Rattle.cap_summary.specs.{later, Composing.IsJoined, Effects.changed, Few.is_refusal, Few.refused, Keys.Cells}
 use Rattle.cap_summary.specs.{Keys.mode_cell, Keys.cells_of, Leaving.LineLeaves, Leaving.LeavesThenLine}
@@ -81,7 +81,7 @@ knows_both a b both t u first second joined = record {
       (second_effect p) (second_effect p);
   asks_named = joined.precondition.names (names_in (t ++ u)) effect
       (asks_among (names_in t) (names_in (t ++ u)) front a.precondition.value first.asks_named)
-      (asks_among (names_in u) (names_in (t ++ u)) behind b.precondition.value second.asks_named);
+      (asks_among (names_in u) (names_in (t ++ u)) beyond b.precondition.value second.asks_named);
   few = omega (arith, joined.precondition.few, first.few, second.few, length-append t u);
   refusals = omega (arith, joined.precondition.refusals, first.refusals, second.refusals, refused_parts t u);
 }
@@ -89,14 +89,14 @@ knows_both a b both t u first second joined = record {
     front : AreAmong (names_in t) (names_in (t ++ u))
     front = first_among t u
 
-    behind : AreAmong (names_in u) (names_in (t ++ u))
-    behind = second_among t u
+    beyond : AreAmong (names_in u) (names_in (t ++ u))
+    beyond = second_among t u
 
     effect : EffectWithin (names_in (t ++ u)) a.effect.value
     effect = effect_among (names_in t) (names_in (t ++ u)) front a.effect.value first.effect_named
 
     second_effect : EffectWithin (names_in (t ++ u)) b.effect.value
-    second_effect = effect_among (names_in u) (names_in (t ++ u)) behind b.effect.value second.effect_named
+    second_effect = effect_among (names_in u) (names_in (t ++ u)) beyond b.effect.value second.effect_named
 
     between : (s : State) → changed a.effect.value (cells_of s) ≡ cells_of (ended s t)
     between s = cells_after a.effect.value a.precondition.value t first s
@@ -160,7 +160,7 @@ module _ (step : Step) (line : LineEffect) (me : ℕ) (cells : (p f : ℕ) → e
       → PreWithin names more) → LineWithin (names_in (t ++ step ∷ [])) me line
       → LineAsksWithin (names_in (t ++ step ∷ [])) asks → asks_size more ≤ asks_size pre + 3
       → length more.refusals.items ≤ length pre.refusals.items + refusals_in asks
-      → refusals_in asks ≤ (if is_refusal (demand step.line).reply then 1 else 0) → Says new more (t ++ step ∷ [])
+      → refusals_in asks ≤ (if is_refusal (requirement step.line).reply then 1 else 0) → Says new more (t ++ step ∷ [])
   says_more effect new pre more asks t so_far does leaves met possible says effects pres line_named asks_named few
       refusals one = record {
         after = λ s. after_more effect new t s (so_far.after s) does;

@@ -1,5 +1,5 @@
 -- What one line asks, and where something is said of it.
-use Rattle.cap_summary.specs.{◌≡◌, List, [], ◌∷◌, ◌++◌, Bool, true, false, ◌&&◌, ◌||◌, cond, refl, not, Cell, Word}
+use Rattle.cap_summary.specs.{◌≡◌, List, [], ◌∷◌, ◌++◌, Bool, true, false, ◌&&◌, ◌||◌, cond, refl, not, Cell, LimitWord}
 use Rattle.cap_summary.specs.{Check, fault, faults, Mode, Inside, Outside, is_outside, Keys.mode_cell, LineAsks.has_any}
 use Rattle.cap_summary.specs.{Tests.has_kind, declared.kinds.TheConstants.Kinds.UNHELD}
 use Rattle.cap_summary.proofs.{sym, ap, ◌∙◌, or-false, or-true, Bools.and_left, Bools.and_right}
@@ -9,11 +9,11 @@ has_any-append [] ys = refl
 has_any-append (x ∷ xs) ys = refl
 
 -- ---- a call that succeeded
-pub one_missing : (word : Word) (a : Check) (cell : Cell) (asked : Bool) → asked ≡ has_any (fault word a cell)
+pub one_missing : (word : LimitWord) (a : Check) (cell : Cell) (asked : Bool) → asked ≡ has_any (fault word a cell)
     → (asked || false) ≡ has_any (faults word (a ∷ []) (cell ∷ []))
 one_missing word a cell asked is = rw is (sym (has_any-append (fault word a cell) []))
 
-pub two_missing : (word : Word) (a b : Check) (cell other : Cell) (asked more : Bool)
+pub two_missing : (word : LimitWord) (a b : Check) (cell other : Cell) (asked more : Bool)
     → asked ≡ has_any (fault word a cell) → more ≡ has_any (fault word b other)
     → (asked || more) ≡ has_any (faults word (a ∷ b ∷ []) (cell ∷ other ∷ []))
 two_missing word a b cell other asked more is also =

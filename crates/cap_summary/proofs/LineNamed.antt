@@ -11,7 +11,8 @@ use Rattle.cap_machine.specs.{declared.cell.Profile.TheVariants.One, declared.ce
 use Rattle.cap_machine.specs.Touch.{fd_touch, path_touch, bare_touch, call_touch, pdfork_touch}
 use Rattle.cap_machine.proofs.{NamedFds.named_effects}
 use Rattle.cap_summary.specs.{◌≡◌, ℕ, suc, ◌+◌, ◌==◌, ◌&&◌, ◌||◌, Bool, true, false, not, cond, [], ◌∷◌, refl}
-use Rattle.cap_summary.specs.{slice_index_or, list_any, All, fds_spelled, Item, Answer, Kind, Count, Fd, Same, FdPair}
+use Rattle.cap_summary.specs.{slice_index_or, list_any, All, fds_spelled, Item, Answer, ResultKind, Count, Fd, Same}
+use Rattle.cap_summary.specs.{FdPair}
 use Rattle.cap_summary.specs.{kind_of, Cell, Unknown, Op, Step, LineEffect, same, Touch, kept, given, taken, touch}
 use Rattle.cap_summary.specs.{started, effect_touch, fds_of, Names.answers_fd, Names.line_names_fd}
 use Rattle.cap_summary.proofs.{sym, ap, ◌∙◌, arith, ne_eqb, eq-eqb, or_left, or_right, All-nil, All-cons}
@@ -23,13 +24,13 @@ by_cases false one other = other refl
 -- ---- calls that answer no descriptor do the same whatever number they answer
 
 -- the numbers of an answer are descriptors
-abbrev is_told : Kind → Answer → Bool
+abbrev is_told : ResultKind → Answer → Bool
 is_told Fd (Answer.Made n) = true
 is_told (Same g) (Answer.Made n) = true
 is_told FdPair (Answer.Pair n m) = true
 is_told kind answer = false
 
-told_named : (f : ℕ) (kind : Kind) (answer : Answer) → is_told kind answer ≡ true → answer_names f answer ≡ true
+told_named : (f : ℕ) (kind : ResultKind) (answer : Answer) → is_told kind answer ≡ true → answer_names f answer ≡ true
     → answers_fd f kind answer ≡ true
 told_named f Fd (Answer.Made n) told named = named
 told_named f (Same g) (Answer.Made n) told named = named

@@ -3,8 +3,9 @@ use Rattle.std.proofs.{lemmas.Bool.true_from_ne_false}
 use Rattle.cap_machine.proofs.{NamedFds.named_checks, Naming.own_processes}
 use Rattle.cap_summary.specs.{◌≡◌, ℕ, ◌==◌, Bool, true, false, ◌||◌, ◌&&◌, List, [], ◌∷◌, ◌++◌, Option, Some, None}
 use Rattle.cap_summary.specs.{refl, cond, IfSome, list_any, Step, LineEffect, Unknown, same, Touch, kept, given, taken}
-use Rattle.cap_summary.specs.{touch, effect_touch, names_pid, args_name, demand, Sorted.found, Values.reads_within}
-use Rattle.cap_summary.specs.{declared.ask.Ask.Ask, declared.base.Others.Others, declared.effect.Effect.Effect}
+use Rattle.cap_summary.specs.{touch, effect_touch, names_pid, args_name, requirement, Sorted.found, Values.reads_within}
+use Rattle.cap_summary.specs.{declared.ask.Ask.Ask, declared.base.DefaultCells.DefaultCells}
+use Rattle.cap_summary.specs.{declared.effect.Effect.Effect}
 use Rattle.cap_summary.specs.{declared.effect.Row.Row, declared.key.Key.Key, declared.line_asks.UpToThree.UpToThree}
 use Rattle.cap_summary.specs.{declared.precondition.Precondition.Precondition, declared.value.Value.Value}
 use Rattle.cap_summary.specs.Names.{line_names_fd, item_answers_fd, Names, names_in, AreAmong, has_key, has_cell}
@@ -33,8 +34,8 @@ module _ (a b : Names) (among : AreAmong a b) where
   listed_among f None is = is
   listed_among f (Some v) is = record { key = among.fds f is.key; source = value_among v is.source }
 
-  others_among : (o : Others) → others_within a o ≡ true → others_within b o ≡ true
-  others_among (Others.Of q passing) is = among.pids q is
+  others_among : (o : DefaultCells) → others_within a o ≡ true → others_within b o ≡ true
+  others_among (DefaultCells.Of q passing) is = among.pids q is
   others_among _ is = refl
 
   mode_among : (mode : Option Value) → mode_within a mode ≡ true → mode_within b mode ≡ true
@@ -137,8 +138,8 @@ module _ (step : Step) (t : List Step) where
     fds = λ k d lt. fd_in _ (named_one_by_one step line does k d lt);
   }
 
-  pub demand_in : DemandWithin named step.line.pid (demand step.line)
-  demand_in = record {
+  pub requirement_in : DemandWithin named step.line.pid (requirement step.line)
+  requirement_in = record {
     own = own_in;
     checks = λ k d lt. fd_in _ (or_first (args_name _ step.line) (item_answers_fd _ step.line.item)
         (named_checks step.line k d lt));

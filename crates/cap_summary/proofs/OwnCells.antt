@@ -1,7 +1,7 @@
--- A row that reads its own process alone, behind a segment that leaves that process.
+-- A row that reads its own process alone, after a segment that leaves that process.
 use Rattle.cap_summary.specs.{◌≡◌, ℕ, ◌==◌, Bool, true, false, List, [], ◌∷◌, cond, Option, Some, None, refl, IfSome}
 use Rattle.cap_summary.specs.{option_map_or, All, Cell, Closed, applied, Composing.IsComposedSo, Keys.Cells}
-use Rattle.cap_summary.specs.{Sorted.found, declared.base.Others.Others, declared.effect.Effect.Effect}
+use Rattle.cap_summary.specs.{Sorted.found, declared.base.DefaultCells.DefaultCells, declared.effect.Effect.Effect}
 use Rattle.cap_summary.specs.{declared.effect.Row.Row, declared.key.Key.Key, declared.value.Value.Value}
 use Rattle.cap_summary.specs.Effects.{passed, is_from, others_cell, base_cell, row_cell, cell_in, changed}
 use Rattle.cap_summary.specs.Names.{only, has_cell, has_key, others_within, mode_within, IsListedWithin, ListWithin}
@@ -67,12 +67,12 @@ module _ (before after : Cells) (p : ℕ) (same : (k : Key) → before p k ≡ a
   same_mode None is = same Key.Mode
   same_mode (Some v) is = same_value v is
 
-  same_others : (o : Others) (f : ℕ) → others_within (only p) o ≡ true
+  same_others : (o : DefaultCells) (f : ℕ) → others_within (only p) o ≡ true
       → others_cell before p o f ≡ others_cell after p o f
-  same_others Others.Own f is = same (Key.Fd f)
-  same_others (Others.Of q passing) f is = ap (passed passing) (same_cell q (Key.Fd f) is)
-  same_others Others.Unknown f is = refl
-  same_others Others.Closed f is = refl
+  same_others DefaultCells.Own f is = same (Key.Fd f)
+  same_others (DefaultCells.Of q passing) f is = ap (passed passing) (same_cell q (Key.Fd f) is)
+  same_others DefaultCells.Unknown f is = refl
+  same_others DefaultCells.Closed f is = refl
 
   pub own_row : (row : Row) → RowWithin (only p) row → (k : Key) → row_cell before p row k ≡ row_cell after p row k
   own_row row is Key.Mode = same_mode row.mode is.mode

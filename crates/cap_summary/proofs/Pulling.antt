@@ -4,7 +4,8 @@ use Rattle.cap_summary.specs.{◌≡◌, List, [], ◌∷◌, ◌++◌, Bool, tr
 use Rattle.cap_summary.specs.{drop, refl, list_any, All, State, Option, Some, None, is_none, not, if◌then◌else◌}
 use Rattle.cap_summary.specs.{option_map_or, Cell, Closed, Global, Keys.Cells, Keys.cells_of, Leaving.is_own}
 use Rattle.cap_summary.specs.{Leaving.base_leaves, Leaving.row_leaves, Sorted.found, Values.read, declared.ask.Ask.Ask}
-use Rattle.cap_summary.specs.{declared.base.Others.Others, declared.effect.Effect.Effect, declared.effect.Row.Row}
+use Rattle.cap_summary.specs.{declared.base.DefaultCells.DefaultCells, declared.effect.Effect.Effect}
+use Rattle.cap_summary.specs.{declared.effect.Row.Row}
 use Rattle.cap_summary.specs.{declared.key.Key.Key, declared.precondition.Precondition.Precondition}
 use Rattle.cap_summary.specs.{declared.precondition.Refusal.Refusal, declared.value.Value.Value}
 use Rattle.cap_summary.specs.Asks.{place, holds, any_holds, CanBe, AskWithin, Rises, IsUnionOf, Within, Can}
@@ -18,11 +19,12 @@ use Rattle.cap_summary.proofs.Bools.{and_left, and_right, or_last, or_crossed}
 use Rattle.cap_summary.proofs.Uniting.{all_left, all_right, rises_put, rises_without, drop_here}
 
 -- ---- a cell that the first segment leaves
-others_left : (cells : Cells) (p f : ℕ) (o : Others) → is_own o ≡ true → others_cell cells p o f ≡ cells p (Key.Fd f)
-others_left cells p f Others.Own is = refl
-others_left cells p f Others.Unknown is = absurd cc
-others_left cells p f Others.Closed is = absurd cc
-others_left cells p f (Others.Of q passing) is = absurd cc
+others_left : (cells : Cells) (p f : ℕ) (o : DefaultCells) → is_own o ≡ true → others_cell cells p o f
+    ≡ cells p (Key.Fd f)
+others_left cells p f DefaultCells.Own is = refl
+others_left cells p f DefaultCells.Unknown is = absurd cc
+others_left cells p f DefaultCells.Closed is = absurd cc
+others_left cells p f (DefaultCells.Of q passing) is = absurd cc
 
 not_read : (cells : Cells) (v : Option Value) (c : Cell) → is_none v ≡ true → option_map_or (read cells) v c ≡ c
 not_read cells None c is = refl

@@ -1,5 +1,5 @@
 -- What is known of an old whole, of a whole that has another part in place of one.
-use Rattle.cap_summary.specs.{◌≡◌, ℕ, ◌||◌, true, false, refl, Likeness, Side, Left, Right, part_at, Effects.cell_in}
+use Rattle.cap_summary.specs.{◌≡◌, ℕ, ◌||◌, true, false, refl, Similarity, Side, Left, Right, part_at, Effects.cell_in}
 use Rattle.cap_summary.specs.{Effects.changed, Keys.Cells, Keys.cells_of, Sorted.found, declared.effect.Effect.Effect}
 use Rattle.cap_summary.specs.{declared.known.Known.Known, declared.precondition.Precondition.Precondition}
 use Rattle.cap_summary.specs.Composing.{IsJoined, IsComposedSo, IsJoinedEffect, AreAlike, KeepsEffect}
@@ -13,9 +13,9 @@ same_cells a b same cells = ap (λ rows. λ p k. cell_in cells (found rows p) p 
 named_too : (a b : Effect) → a.rows ≡ b.rows → (names : Names) → EffectWithin names b → EffectWithin names a
 named_too a b same names within = rw same within
 
-pub keeps_none : (side : Side) (likeness : Likeness) → likeness.precondition ≡ false → KeepsEffect side likeness
-keeps_none Left likeness none = λ is. absurd (let wrong : false ≡ true = sym none ∙ is in cc)
-keeps_none Right likeness none = tt
+pub keeps_none : (side : Side) (similarity : Similarity) → similarity.precondition ≡ false → KeepsEffect side similarity
+keeps_none Left similarity none = λ is. absurd (let wrong : false ≡ true = sym none ∙ is in cc)
+keeps_none Right similarity none = tt
 
 -- the same effect in the first place, and in the second
 first_effect : (was first later old : Effect) → was.rows ≡ first.rows → IsJoinedEffect was later old
@@ -69,7 +69,7 @@ second_asks first own was later old same asked = record {
 }
 
 -- the effect of the old whole is that of the new one
-pub rejoined_effect : (side : Side) (first second was old : Known) (kept : Likeness)
+pub rejoined_effect : (side : Side) (first second was old : Known) (kept : Similarity)
     → IsJoined (part_at side was first) (part_at side second was) old
     → AreAlike kept was (part_at side first second) → kept.effect ≡ true
     → IsJoinedEffect first.effect.value second.effect.value old.effect.value
@@ -79,7 +79,7 @@ rejoined_effect Right first second was old kept joined alike is = second_effect 
     second.effect.value old.effect.value (alike.effect is) joined.effect
 
 -- and what it asks is
-pub rejoined_asks : (side : Side) (first second was old : Known) (kept : Likeness)
+pub rejoined_asks : (side : Side) (first second was old : Known) (kept : Similarity)
     → IsJoined (part_at side was first) (part_at side second was) old
     → AreAlike kept was (part_at side first second) → KeepsEffect side kept → kept.precondition ≡ true
     → IsAskedByBoth first.effect.value first.precondition.value second.precondition.value old.precondition.value

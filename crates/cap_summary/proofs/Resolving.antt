@@ -123,7 +123,7 @@ alike p true (x ∷ xs) all = rw (All-head (λ y. p y ≡ true) x xs all)
 alike p false (x ∷ xs) all = rw (All-head (λ y. p y ≡ false) x xs all)
     (alike p false xs (All-tail (λ y. p y ≡ false) x xs all))
 
--- nothing of a segment stands at positions before it or behind it
+-- nothing of a segment stands at positions before it or after it
 not_before : (from to at n : ℕ) (xs : List Found) → All (IsBelow n) xs → at + n < from
     → within from to (map (later at) xs) ≡ []
 not_before from to at n xs all before = alike (is_at from to) false (map (later at) xs)
@@ -131,9 +131,9 @@ not_before from to at n xs all before = alike (is_at from to) false (map (later 
     (λ k d lt. let is : IsBelow n (get_or xs k d) = all k d lt in
     rw (lt-leb from (at + (get_or xs k d).at) (omega (arith, is.1))) refl))
 
-not_behind : (from to at n : ℕ) (xs : List Found) → All (IsBelow n) xs
+not_beyond : (from to at n : ℕ) (xs : List Found) → All (IsBelow n) xs
     → to ≤ at → within from to (map (later at) xs) ≡ []
-not_behind from to at n xs all behind = alike (is_at from to) false (map (later at) xs)
+not_beyond from to at n xs all beyond = alike (is_at from to) false (map (later at) xs)
     (All-map (λ x. is_at from to x ≡ false) (later at) xs
     (λ k d lt. let is : IsBelow n (get_or xs k d) = all k d lt in
     rw (lt-leb (at + (get_or xs k d).at) to (omega (arith, is.0))) (and-false (nat_le from (at + (get_or xs k d).at)))))
@@ -143,10 +143,10 @@ pub found_before : (s : State) (t : List Step) (at from to : ℕ) (old : List Fo
 found_before s t at from to old before = sym (append-nil old) ∙ ap (λ (r : List Found). old ++ r)
     (sym (not_before from to at (length t) (check s t) (positions_within s t) before))
 
-pub found_behind : (s : State) (t : List Step) (at from to : ℕ) (old : List Found)
+pub found_beyond : (s : State) (t : List Step) (at from to : ℕ) (old : List Found)
     → to ≤ at → old ≡ old ++ within from to (map (later at) (check s t))
-found_behind s t at from to old behind = sym (append-nil old) ∙ ap (λ (r : List Found). old ++ r)
-    (sym (not_behind from to at (length t) (check s t) (positions_within s t) behind))
+found_beyond s t at from to old beyond = sym (append-nil old) ∙ ap (λ (r : List Found). old ++ r)
+    (sym (not_beyond from to at (length t) (check s t) (positions_within s t) beyond))
 
 -- what is said of one step, where its position is asked for and where not
 pub said_at : (from to at : ℕ) (xs : List Finding) (asked : Bool) → asked ≡ (nat_le from at && nat_le at to)
@@ -192,13 +192,14 @@ all_or_many most s t from to found is = rw (later-none (check s t)) at is
 -- the first steps are enough, up to the last position that is asked for
 pub found_in_first : (s : State) (t : List Step) (n at from to : ℕ) → (n < length t → to ≤ at + n)
     → within from to (map (later at) (check s (take n t))) ≡ within from to (map (later at) (check s t))
-found_in_first s t n at from to behind = elim (cases_lt n (length t)) [
+found_in_first s t n at from to beyond = elim (cases_lt n (length t)) [
   | inl short ↦
       let a : List Step = take n t in
       let b : List Step = drop n t in
       let first : List Found = within from to (map (later at) (check s a)) in
-      let none : within from to (map (later (at + n)) (check (ended s a) b)) ≡ [] = not_behind from to (at + n) (length b)
-      (check (ended s a) b) (positions_within (ended s a) b) (behind short) in
+      let none : within from to (map (later (at + n)) (check (ended s a) b))
+      ≡ [] = not_beyond from to (at + n) (length b)
+      (check (ended s a) b) (positions_within (ended s a) b) (beyond short) in
       found_parts s a b at n from to [] first first (sym (length-take-le n t (omega arith))) refl
       (sym (append-nil first) ∙ ap (λ (r : List Found). first ++ r) (sym none))
       ∙ ap (λ (r : List Step). within from to (map (later at) (check s r))) (take-append-drop n t)
@@ -207,9 +208,9 @@ found_in_first s t n at from to behind = elim (cases_lt n (length t)) [
 
 pub found_upto_last : (s : State) (t : List Step) (n from to : ℕ) (found : List Found) → (n < length t → to ≤ n)
     → found ≡ within from to (check s (take n t)) → found ≡ within from to (check s t)
-found_upto_last s t n from to found behind is =
+found_upto_last s t n from to found beyond is =
     is ∙ rw (later-none (check s (take n t)), later-none (check s t))
-    at (found_in_first s t n 0 from to (λ short. omega (arith, behind short)))
+    at (found_in_first s t n 0 from to (λ short. omega (arith, beyond short)))
 
 -- nothing stands before the first position that is asked for
 pub none_before_first : (s : State) (t : List Step) (from to : ℕ) → [] ≡ within from to (check s (take (from - 1) t))
@@ -237,12 +238,12 @@ found_next s t n from to step old new short is one two =
     ∙ sym (ap (λ (r : List Step). within from to (check s r)) more ∙ ap (within from to) (checks_more s a step)
     ∙ filter-append (is_at from to) (check s a) (here (length a + 1)))
 
--- where nothing is asked for behind a part, it doesn't matter in which state the next one begins
-pub same_behind : (s r : State) (t : List Step) (at from to : ℕ) → (at ≤ to → s ≡ r)
+-- where nothing is asked for after a part, it doesn't matter in which state the next one begins
+pub same_beyond : (s r : State) (t : List Step) (at from to : ℕ) → (at ≤ to → s ≡ r)
     → within from to (map (later at) (check s t)) ≡ within from to (map (later at) (check r t))
-same_behind s r t at from to same = elim (cases_lt to at) [
-  | inl behind ↦ not_behind from to at (length t) (check s t) (positions_within s t) (omega arith)
-      ∙ sym (not_behind from to at (length t) (check r t) (positions_within r t) (omega arith))
+same_beyond s r t at from to same = elim (cases_lt to at) [
+  | inl beyond ↦ not_beyond from to at (length t) (check s t) (positions_within s t) (omega arith)
+      ∙ sym (not_beyond from to at (length t) (check r t) (positions_within r t) (omega arith))
   | inr before ↦ ap (λ (state : State). within from to (map (later at) (check state t))) (same before)
 ]
 

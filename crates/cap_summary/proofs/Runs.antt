@@ -4,14 +4,14 @@ use Rattle.cap_summary.specs.{◌≡◌, ℕ, List, [], ◌∷◌, ◌++◌, ◌
 use Rattle.cap_summary.specs.{View.NodeView}
 use Rattle.cap_summary.proofs.{sym, ap, ◌∙◌, arith, append-nil}
 
--- a list without items, before and behind another
+-- a list without items, before and after another
 pub none_before : {X : Type 0} (a b n : List X) → n ≡ b → length a ≡ 0 → n ≡ a ++ b
 none_before [] b n is none = is
 none_before (x ∷ xs) b n is none = absurd (omega arith)
 
-pub none_behind : {X : Type 0} (a b n : List X) → n ≡ a → length b ≡ 0 → n ≡ a ++ b
-none_behind a [] n is none = is ∙ sym (append-nil a)
-none_behind a (x ∷ xs) n is none = absurd (omega arith)
+pub none_beyond : {X : Type 0} (a b n : List X) → n ≡ a → length b ≡ 0 → n ≡ a ++ b
+none_beyond a [] n is none = is ∙ sym (append-nil a)
+none_beyond a (x ∷ xs) n is none = absurd (omega arith)
 
 -- the first of a run
 pub values-take : {X Z : Type 0} (n : ℕ) (run : List (Rc X Z)) → take n (values run) ≡ values (take n run)

@@ -1,4 +1,4 @@
--- The state behind a start and effects.
+-- The state after a start and effects.
 use Rattle.cap_summary.specs.{State, start_state, Effects.changed, Keys.Cells, Keys.cells_of, Keys.cell_mode}
 use Rattle.cap_summary.specs.{declared.before.Before.Before, declared.before.Before.TheVariants.At}
 use Rattle.cap_summary.specs.{declared.before.Before.TheVariants.After', declared.key.Key.Key}

@@ -1,7 +1,7 @@
 -- What is known of two segments together. What their effect names is named by the second segment, or by the rows of the
 -- first that the second one reads.
 use Rattle.cap_summary.specs.{◌≡◌, ℕ, ◌||◌, ◌&&◌, true, Option, IfSome, is_none, option_map, option_and_then, part_at}
-use Rattle.cap_summary.specs.{option_or, Likeness, Side, Left, Right, Keys.Cells, Leaving.leaves_in}
+use Rattle.cap_summary.specs.{option_or, Similarity, Side, Left, Right, Keys.Cells, Leaving.leaves_in}
 use Rattle.cap_summary.specs.{Preconditions.IsAskedByBoth, Preconditions.IsSamePrecondition, Sorted.found, Values.read}
 use Rattle.cap_summary.specs.{declared.base.Passing.Passing, declared.composed.Replaced.Replaced}
 use Rattle.cap_summary.specs.{declared.effect.Effect.Effect, declared.effect.Row.Row, declared.key.Key.Key}
@@ -48,13 +48,13 @@ pub record IsJoined (first later both : Known) : Type 0 where
   pub precondition : IsAskedByBoth first.effect.value first.precondition.value later.precondition.value
       both.precondition.value
 
--- what the likeness says is so
-pub record AreAlike (likeness : Likeness) (old new : Known) : Type 0 where
-  pub effect : likeness.effect ≡ true → old.effect.value.rows ≡ new.effect.value.rows
-  pub precondition : likeness.precondition ≡ true
+-- what the similarity says is so
+pub record AreAlike (similarity : Similarity) (old new : Known) : Type 0 where
+  pub effect : similarity.effect ≡ true → old.effect.value.rows ≡ new.effect.value.rows
+  pub precondition : similarity.precondition ≡ true
       → IsSamePrecondition old.precondition.value new.precondition.value
 
 -- a new first part asks for the old whole's precondition only with the effect that it had
-abbrev pub KeepsEffect : Side → Likeness → Type 0
-KeepsEffect Left likeness = likeness.precondition ≡ true → likeness.effect ≡ true
-KeepsEffect Right likeness = Unit {0}
+abbrev pub KeepsEffect : Side → Similarity → Type 0
+KeepsEffect Left similarity = similarity.precondition ≡ true → similarity.effect ≡ true
+KeepsEffect Right similarity = Unit {0}

@@ -1,7 +1,8 @@
 -- What becomes of each cell over a segment, whatever the cells before it: the transfer function of the segment.
 use Rattle.cap_summary.specs.{◌≡◌, ℕ, Bool, false, Option, Some, None, nat_le, if◌then◌else◌, [], option_map_or, Cell}
 use Rattle.cap_summary.specs.{Unknown, Closed, applied, exec, Keys.Cells, Sorted.found, Values.read}
-use Rattle.cap_summary.specs.{declared.base.Base.Base, declared.base.Others.Others, declared.base.Passing.Passing}
+use Rattle.cap_summary.specs.{declared.base.Base.Base, declared.base.DefaultCells.DefaultCells}
+use Rattle.cap_summary.specs.{declared.base.Passing.Passing}
 use Rattle.cap_summary.specs.{declared.effect.Effect.Effect, declared.effect.Row.Row, declared.key.Key.Key}
 
 -- how a whole table of cells is handed on: as it is (fork(2)), or by an exec (execve(2))
@@ -15,11 +16,11 @@ is_from None f = false
 is_from (Some n) f = nat_le n f
 
 -- the cell of a descriptor of process p that isn't listed
-abbrev pub others_cell : Cells → ℕ → Others → ℕ → Cell
-others_cell cells p Others.Own f = cells p (Key.Fd f)
-others_cell cells p Others.Unknown f = Unknown
-others_cell cells p Others.Closed f = Closed
-others_cell cells p (Others.Of q passing) f = passed passing (cells q (Key.Fd f))
+abbrev pub others_cell : Cells → ℕ → DefaultCells → ℕ → Cell
+others_cell cells p DefaultCells.Own f = cells p (Key.Fd f)
+others_cell cells p DefaultCells.Unknown f = Unknown
+others_cell cells p DefaultCells.Closed f = Closed
+others_cell cells p (DefaultCells.Of q passing) f = passed passing (cells q (Key.Fd f))
 
 abbrev pub base_cell : Cells → ℕ → Base → ℕ → Cell
 base_cell cells p base f = if is_from base.closed_from f then Closed else others_cell cells p base.others f
@@ -31,7 +32,7 @@ row_cell cells p row (Key.Fd f) = option_map_or (read cells) (found row.cells f)
 
 -- the row of a process that stays as it is
 abbrev pub own_row : Row
-own_row = record { base = record { others = Others.Own; closed_from = None }; mode = None; cells = [] }
+own_row = record { base = record { others = DefaultCells.Own; closed_from = None }; mode = None; cells = [] }
 
 -- a row that may be there: without one a process keeps its cells
 abbrev pub cell_in : Cells → Option Row → ℕ → Key → Cell

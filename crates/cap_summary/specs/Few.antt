@@ -2,7 +2,7 @@
 -- calls that were refused for lack of a right.
 use Rattle.cap_machine.specs.{declared.rule.Reply.Reply}
 use Rattle.cap_summary.specs.{ℕ, ◌+◌, ◌*◌, ◌<◌, ◌⊎◌, ◌==◌, if◌then◌else◌, Bool, true, false, List, [], ◌∷◌, length}
-use Rattle.cap_summary.specs.{list_any, Step, NotCapable, demand, Names.Names, Names.names_in, Names.AreAmong}
+use Rattle.cap_summary.specs.{list_any, Step, NotCapable, requirement, Names.Names, Names.names_in, Names.AreAmong}
 
 -- a number is one of these
 abbrev pub is_one : List ℕ → ℕ → Bool
@@ -28,7 +28,7 @@ is_refusal reply = false
 -- how many of them were
 abbrev pub refused : List Step → ℕ
 refused [] = 0
-refused (step ∷ rest) = (if is_refusal (demand step.line).reply then 1 else 0) + refused rest
+refused (step ∷ rest) = (if is_refusal (requirement step.line).reply then 1 else 0) + refused rest
 
 abbrev pub RefusesMany : List Step → Type 0
 RefusesMany t = 30000 < refused t

@@ -2,11 +2,12 @@
 -- process that neither lists nor closes them. A cell that came back by a fork is touched.
 use Rattle.cap_summary.specs.{◌≡◌, ℕ, ◌&&◌, not, Bool, true, false, Option, is_none, option_map_or, LineEffect, kept}
 use Rattle.cap_summary.specs.{stays, effect_touch, effect_turn, Effects.is_from, Sorted.found, declared.base.Base.Base}
-use Rattle.cap_summary.specs.{declared.base.Others.Others, declared.effect.Effect.Effect, declared.effect.Row.Row}
+use Rattle.cap_summary.specs.{declared.base.DefaultCells.DefaultCells, declared.effect.Effect.Effect}
+use Rattle.cap_summary.specs.{declared.effect.Row.Row}
 use Rattle.cap_summary.specs.{declared.key.Key.Key}
 
-abbrev pub is_own : Others → Bool
-is_own Others.Own = true
+abbrev pub is_own : DefaultCells → Bool
+is_own DefaultCells.Own = true
 is_own _ = false
 
 -- a descriptor that isn't listed

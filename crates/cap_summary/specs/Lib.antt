@@ -20,6 +20,6 @@ pub mod Falls
 pub mod Stands
 pub mod Before
 pub mod Positions
-pub mod Behind
+pub mod PlaceInNode
 pub mod Few
 pub use Prelude.*

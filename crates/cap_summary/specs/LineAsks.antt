@@ -1,6 +1,6 @@
 -- What one line asks of the cells before it.
 use Rattle.cap_summary.specs.{◌≡◌, ℕ, ◌||◌, not, Bool, true, false, List, [], ◌∷◌, map, Option, Some, None}
-use Rattle.cap_summary.specs.{option_map_or, State, Cell, Check, Checks, Demand, listed, said_of, Asks.holds}
+use Rattle.cap_summary.specs.{option_map_or, State, Cell, Check, Checks, Requirement, listed, findings_of, Asks.holds}
 use Rattle.cap_summary.specs.{Keys.Cells, Keys.cells_of, declared.ask.Ask.Ask, declared.line_asks.LineAsks.LineAsks}
 use Rattle.cap_summary.specs.{declared.line_asks.UpToThree.UpToThree}
 use Rattle.cap_summary.specs.declared.line_asks.LineAsks.TheVariants.{Always, Where, Unless}
@@ -39,5 +39,5 @@ refusals_in (Unless asks) = 1
 refusals_in asks = 0
 
 -- it holds in a state exactly where something is said of the line there
-abbrev pub IsAskedBy : Demand → ℕ → LineAsks → Type 0
-IsAskedBy demand me asks = (s : State) → asked_holds (cells_of s) asks ≡ has_any (said_of demand me s)
+abbrev pub IsAskedBy : Requirement → ℕ → LineAsks → Type 0
+IsAskedBy requirement me asks = (s : State) → asked_holds (cells_of s) asks ≡ has_any (findings_of requirement me s)

@@ -1,8 +1,11 @@
 -- Which processes and which descriptors an effect and a precondition name.
 use Rattle.cap_summary.specs.{◌≡◌, ℕ, ◌==◌, ◌&&◌, ◌||◌, Bool, true, false, List, Option, IfSome, option_map_or}
-use Rattle.cap_summary.specs.{list_any, All, Item, Answer, Kind, Fd, Same, FdPair, ChildAndFd, Entry, kind_of, Step}
-use Rattle.cap_summary.specs.{Check, Checks, Demand, LineEffect, listed, args_name, names_pid, fds_of, Asks.AreWithin}
-use Rattle.cap_summary.specs.{Sorted.found, Values.reads_within, declared.ask.Ask.Ask, declared.base.Others.Others}
+use Rattle.cap_summary.specs.{list_any, All, Item, Answer, ResultKind, Fd, Same, FdPair, ChildAndFd, Entry, kind_of}
+use Rattle.cap_summary.specs.{Step}
+use Rattle.cap_summary.specs.{Check, Checks, Requirement, LineEffect, listed, args_name, names_pid, fds_of}
+use Rattle.cap_summary.specs.{Asks.AreWithin}
+use Rattle.cap_summary.specs.{Sorted.found, Values.reads_within, declared.ask.Ask.Ask}
+use Rattle.cap_summary.specs.{declared.base.DefaultCells.DefaultCells}
 use Rattle.cap_summary.specs.{declared.effect.Effect.Effect, declared.effect.Row.Row, declared.key.Key.Key}
 use Rattle.cap_summary.specs.{declared.line_asks.LineAsks.LineAsks, declared.line_asks.UpToThree.UpToThree}
 use Rattle.cap_summary.specs.{declared.precondition.Precondition.Precondition, declared.precondition.Refusal.Refusal}
@@ -12,7 +15,7 @@ use Rattle.cap_summary.specs.declared.line_asks.LineAsks.TheVariants.{Always, Wh
 -- ---- what the lines of a trace name
 
 -- a descriptor of an answer, by the kind of answer that the call has: the count that read(2) answers is none
-abbrev pub answers_fd : ℕ → Kind → Answer → Bool
+abbrev pub answers_fd : ℕ → ResultKind → Answer → Bool
 answers_fd f Fd (Answer.Made n) = f == n
 answers_fd f (Same g) (Answer.Made n) = f == n
 answers_fd f FdPair (Answer.Pair n m) = f == n || f == m
@@ -68,8 +71,8 @@ abbrev pub ListWithin : Names → List (ℕ × Value) → Type 0
 ListWithin names cells = (f : ℕ) → IfSome (found cells f) (IsListedWithin names f)
 
 -- the process whose cells are handed on
-abbrev pub others_within : Names → Others → Bool
-others_within names (Others.Of q passing) = names.pids q
+abbrev pub others_within : Names → DefaultCells → Bool
+others_within names (DefaultCells.Of q passing) = names.pids q
 others_within names _ = true
 
 -- the cell that a mode follows, if a line turns it
@@ -137,6 +140,6 @@ abbrev pub ChecksWithin : Names → Checks → Type 0
 ChecksWithin names checks = All (λ (check : Check). names.fds check.fd ≡ true) (listed checks)
 
 -- the process of a line, and those descriptors
-pub record DemandWithin (names : Names) (me : ℕ) (demand : Demand) : Type 0 where
+pub record DemandWithin (names : Names) (me : ℕ) (requirement : Requirement) : Type 0 where
   pub own : names.pids me ≡ true
-  pub checks : ChecksWithin names demand.checks
+  pub checks : ChecksWithin names requirement.checks

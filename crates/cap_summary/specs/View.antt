@@ -1,5 +1,5 @@
 -- A node of a summary as a contract sees it: its steps, and what is known of them where that is kept.
-use Rattle.cap_summary.specs.{◌≡◌, ◌<◌, List, length, Option, IfSome, Step, Likeness, Composing.IsJoined}
+use Rattle.cap_summary.specs.{◌≡◌, ◌<◌, List, length, Option, IfSome, Step, Similarity, Composing.IsJoined}
 use Rattle.cap_summary.specs.{Composing.AreAlike, Preconditions.IsSamePrecondition, declared.known.Known.Known}
 
 pub record NodeView : Type 0 where
@@ -23,5 +23,5 @@ abbrev pub NodesAskAlike : NodeView → NodeView → Type 0
 NodesAskAlike a b = IfKept (λ old new. IsSamePrecondition old.precondition.value new.precondition.value) a b
 
 -- how far what is known of two nodes is the same, where it is kept of both
-abbrev pub NodesAlike : Likeness → NodeView → NodeView → Type 0
-NodesAlike likeness a b = IfKept (AreAlike likeness) a b
+abbrev pub NodesAlike : Similarity → NodeView → NodeView → Type 0
+NodesAlike similarity a b = IfKept (AreAlike similarity) a b

@@ -8,7 +8,7 @@ ghost use Rattle.cap_summary.specs.Effects.{row_cell, cell_in, changed};
 ghost use Rattle.cap_summary.specs.Names.{Names, has_cell, RowWithin, IsRowWithin, EffectWithin};
 ghost use Rattle.cap_summary.specs.Tests.{has_kind, lacks, passes, holding};
 
-use crate::seen::Seen;
+use crate::view::Seen;
 use crate::{Effect, Key, Kinds, Row, cell_of_mode};
 use cap_machine::{Cell, Mode, OnExec, Op};
 use cap_rights::RightSet;
@@ -157,7 +157,7 @@ impl Ask {
         )
     }
 
-    /// The same ask before an op: a cell passes it exactly where this one is passed after the op.
+    /// This ask pulled back through an op: a cell passes it exactly where this one is passed after the op.
     fn before_op(&self, op: &Op) -> Ask
         ensures passes { (c : Cell) → passes result c ≡ passes self.now (applied op.now c) }
     {
@@ -192,7 +192,7 @@ impl Ask {
         ensures names { (names : Names) → RowWithin names row.now → has_cell names self.now.pid self.now.key ≡ true
             → pulled_within (has_cell names) result ≡ true }
     {
-        let (pid, key, ask) = match row.seen(self.pid, self.key) {
+        let (pid, key, ask) = match row.view(self.pid, self.key) {
             Seen::Is(cell) => return Pulled::of(self.passes(cell)),
             Seen::Same(pid, key) => (pid, key, *self),
             Seen::Executed(pid, key) => (pid, key, self.before_op(&Op::exec())),
@@ -214,7 +214,7 @@ impl Ask {
         }
     }
 
-    /// The same by the row of its process, if there is one; `None` where it stays as it is, since its cell is left.
+    /// This ask pulled back through the row of its process, if there is one. `None` where the row leaves its cell.
     #[inline(always)]
     #[tactic(auto, using(crate::proofs::Pulling::row_left))]
     pub(crate) fn pulled(&self, row: Option<&Row>) -> Option<Pulled>

@@ -21,7 +21,7 @@ pub enum Passing {
 
 /// The cells of a process that aren't listed, below those that are closed.
 #[derive(Clone, Copy, Debug, PartialEq, Eq)]
-pub enum Others {
+pub enum DefaultCells {
     /// Each is as it was.
     Own,
     /// Nothing is known of any.
@@ -37,7 +37,7 @@ pub enum Others {
 #[derive(Clone, Copy, Debug, PartialEq, Eq)]
 pub struct Base {
     /// Those below `closed_from`.
-    pub others: Others,
+    pub others: DefaultCells,
     /// From here up each is closed (closefrom(2)).
     pub closed_from: Option<Fd>,
 }
@@ -51,7 +51,7 @@ impl Passing {
     {
         match self {
             Passing::Same => Ok(value.clone()?),
-            Passing::Exec => value.seen().then(alloc, &SharedOp::new(alloc, Op::exec())?),
+            Passing::Exec => value.view().then(alloc, &SharedOp::new(alloc, Op::exec())?),
         }
     }
 
@@ -66,22 +66,22 @@ impl Passing {
     }
 }
 
-impl Others {
+impl DefaultCells {
     /// Those of a process, as another one has them.
-    pub(crate) fn of(&self, pid: Pid) -> Others
+    pub(crate) fn of(&self, pid: Pid) -> DefaultCells
         ensures cells { (cells : Cells) (p f : ℕ) → others_cell cells p result f ≡ others_cell cells pid self.now f }
         ensures others { is_own result ≡ false }
         ensures names { (names : Names) → names.pids pid ≡ true → others_within names self.now ≡ true
             → others_within names result ≡ true }
     {
         match self {
-            Others::Own => Others::Of(pid, Passing::Same),
+            DefaultCells::Own => DefaultCells::Of(pid, Passing::Same),
             others => *others,
         }
     }
 
     /// Those of a process where they are handed on to one.
-    pub(crate) fn pass(&self, pid: Pid, passing: Passing) -> Others
+    pub(crate) fn pass(&self, pid: Pid, passing: Passing) -> DefaultCells
         ensures cells { (cells : Cells) (p f : ℕ)
             → others_cell cells p result f ≡ passed passing (others_cell cells pid self.now f) }
         ensures others { is_own result ≡ false }
@@ -89,7 +89,7 @@ impl Others {
             → others_within names result ≡ true }
     {
         match self.of(pid) {
-            Others::Of(source, first) => Others::Of(source, first.then(passing)),
+            DefaultCells::Of(source, first) => DefaultCells::Of(source, first.then(passing)),
             others => others,
         }
     }
@@ -108,7 +108,7 @@ pub(crate) fn lower_of(a: Option<Fd>, b: Option<Fd>) -> Option<Fd>
 
 impl Base {
     /// These cells, all of them listed nowhere and none closed.
-    pub(crate) fn of(others: Others) -> Base
+    pub(crate) fn of(others: DefaultCells) -> Base
         ensures cells { (cells : Cells) (p f : ℕ) → base_cell cells p result f ≡ others_cell cells p others f }
         ensures others { result.others ≡ others }
         ensures open { result.closed_from ≡ None }

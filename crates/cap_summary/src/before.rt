@@ -1,12 +1,12 @@
-//! The state behind a start and effects, and what holds there.
+//! The state after a start and effects, and what holds there.
 
-ghost use Rattle.cap_summary.specs.{◌≡◌, list_any, said_of, Asks.holds, Asks.any_holds, Before.state_before};
+ghost use Rattle.cap_summary.specs.{◌≡◌, list_any, findings_of, Asks.holds, Asks.any_holds, Before.state_before};
 ghost use Rattle.cap_summary.specs.{Keys.cells_of, LineAsks.part_holds, LineAsks.one_holds, Preconditions.is_wrongful};
 ghost use Rattle.cap_summary.specs.{Preconditions.is_met};
 
-use crate::seen::Seen;
+use crate::view::Seen;
 use crate::{Ask, Effect, Key, Precondition, Refusal, UpToThree, cell_of_mode, mode_of_cell};
-use cap_machine::{Cell, Checks, Demand, Mode, Op, Start, Verdict};
+use cap_machine::{Cell, Checks, Mode, Op, Requirement, Start, Verdict};
 use cap_trace::{Fd, Pid};
 
 /// A start, or what effects make of one.
@@ -29,7 +29,7 @@ impl<'a> Before<'a> {
                 Key::Fd(fd) => start.cell(pid, fd),
             },
             Before::After(before, effect) => {
-                let cell = match effect.seen(pid, key) {
+                let cell = match effect.view(pid, key) {
                     Seen::Is(cell) => cell,
                     Seen::Same(source, at) => before.read(source, at),
                     Seen::Executed(source, at) => Op::exec().on(before.read(source, at)),
@@ -109,16 +109,16 @@ impl<'a> Before<'a> {
             || self.any_is_wrongful(&precondition.refusals)
     }
 
-    /// What is said of a line of a process with this demand.
-    pub fn said(&self, pid: Pid, demand: &Demand) -> Verdict
-        ensures { result ≡ said_of demand.now pid (state_before self.now) }
+    /// What is said of a line of a process with this requirement.
+    pub fn said(&self, pid: Pid, requirement: &Requirement) -> Verdict
+        ensures { result ≡ findings_of requirement.now pid (state_before self.now) }
     {
         let mode = self.mode(pid);
-        match &demand.checks {
-            Checks::Nothing => demand.judge(mode, &[]),
-            Checks::One(a) => demand.judge(mode, &[self.cell(pid, a.fd)]),
+        match &requirement.checks {
+            Checks::Nothing => requirement.judge(mode, &[]),
+            Checks::One(a) => requirement.judge(mode, &[self.cell(pid, a.fd)]),
             Checks::Two(a, b) => {
-                demand.judge(mode, &[self.cell(pid, a.fd), self.cell(pid, b.fd)])
+                requirement.judge(mode, &[self.cell(pid, a.fd), self.cell(pid, b.fd)])
             }
         }
     }

@@ -10,7 +10,7 @@ ghost use Rattle.cap_summary.specs.Names.{EffectWithin, ReadWithin};
 
 use crate::base::lower_of;
 use crate::sorted::{Combine, merge};
-use crate::{Base, Effect, Listed, Others, Passing, Row, SharedRow, Value};
+use crate::{Base, DefaultCells, Effect, Listed, Passing, Row, SharedRow, Value};
 use cap_trace::{Fd, Pid};
 use cap_tree::{NoMemory, Side};
 use std::alloc::Global;
@@ -28,7 +28,7 @@ impl Row {
     /// The cells of this row where they are handed on.
     fn handed(
         &self,
-        others: Others,
+        others: DefaultCells,
         passing: Passing,
         closed_from: Option<Fd>,
     ) -> Result<Handed, NoMemory>
@@ -67,12 +67,12 @@ impl Effect {
             → of.pids pid ≡ true → others_within of base.now.others ≡ true → ListWithin names handed.cells) }
     {
         let first = match &base.others {
-            Others::Own => self.row(pid),
-            Others::Of(source, _) => self.row(*source),
+            DefaultCells::Own => self.row(pid),
+            DefaultCells::Of(source, _) => self.row(*source),
             _ => None,
         };
         match (first, &base.others) {
-            (Some(first), Others::Of(source, passing)) => {
+            (Some(first), DefaultCells::Of(source, passing)) => {
                 let others = first.base.others.pass(*source, *passing);
                 first.handed(others, *passing, base.closed_from)
             }
@@ -321,7 +321,8 @@ impl Effect {
         self.joined(alloc, later, None)
     }
 
-    /// The same, which shares rows with that of an old whole in which one of the two parts was replaced.
+    /// This effect and then another. It shares rows with the effect of an old whole in which one of the two parts was
+    /// replaced.
     pub(crate) fn joined(
         &self,
         alloc: Global,

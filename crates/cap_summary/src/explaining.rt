@@ -1,42 +1,43 @@
 //! What one step of a summary rests on.
 
-ghost use Rattle.cap_machine.specs.{History.cell_after, History.mode_after, declared.origin.CellOrigin.CellOrigin};
-ghost use Rattle.cap_machine.specs.{declared.origin.ModeOrigin.ModeOrigin};
+ghost use Rattle.cap_machine.specs.{History.cell_after, History.mode_after};
+ghost use Rattle.cap_machine.specs.{declared.provenance.CellProvenance.CellProvenance};
+ghost use Rattle.cap_machine.specs.{declared.provenance.ModeProvenance.ModeProvenance};
 ghost use Rattle.cap_machine.specs.Explain.{mode_matters, mode_or_unsure, explained_by};
-ghost use Rattle.cap_machine.specs.Origin.{cell_chain, cell_chain_of, mode_chain, mode_chain_of};
+ghost use Rattle.cap_machine.specs.Provenance.{cell_chain, cell_chain_of, mode_chain, mode_chain_of};
 ghost use Rattle.cap_summary.specs.{◌≡◌, ◌+◌, ◌<◌, ◌≤◌, [], length, map, option_map, true, if◌then◌else◌, Some, None};
 ghost use Rattle.cap_summary.specs.{IfOk, OnOk, Check, listed, explained, explanation, start_state, check};
 ghost use Rattle.cap_summary.specs.{Positions.within, Positions.positions, Stands.summed_up};
-ghost use Rattle.cap_summary.specs.Behind.{IsPlace, state_at_start, history};
+ghost use Rattle.cap_summary.specs.PlaceInNode.{IsPlace, state_at_start, history};
 
 use crate::in_order::note_asked;
 use crate::judging::Asked;
 use crate::node::Node;
 use crate::{Report, Summary};
 use cap_machine::{
-    CellOrigin, CellWalk, Checks, Demand, Explanation, Found, ModeOrigin, ModeWalk, Start, Step,
-    rule_of,
+    CellProvenance, CellWalk, Checks, Explanation, Found, ModeProvenance, ModeWalk, Requirement,
+    Start, Step, rule_of,
 };
 use cap_trace::{Fd, Pid};
 use cap_tree::NoMemory;
 use std::alloc::Global;
 
-/// The place behind so many steps of a node, which begin from a start.
+/// The place after so many steps of a node, which begin from a start.
 #[derive(Clone, Copy)]
-pub(crate) struct Behind<'a> {
+pub(crate) struct PlaceInNode<'a> {
     start: &'a Start,
     node: &'a Node,
     count: usize,
 }
 
-impl Behind<'_> {
+impl PlaceInNode<'_> {
     /// Where the cell of a descriptor of a process comes from.
-    fn cell_origin(&self, alloc: Global, pid: Pid, fd: Fd) -> Result<CellOrigin, NoMemory>
+    fn cell_provenance(&self, alloc: Global, pid: Pid, fd: Fd) -> Result<CellProvenance, NoMemory>
         requires { IsPlace self.now }
-        ensures cell { IfOk result (λ origin.
-            origin.cell ≡ cell_after (state_at_start self.now) (history self.now) pid fd) }
-        ensures chain { IfOk result (λ origin.
-            cell_chain_of origin ≡ cell_chain (state_at_start self.now) (history self.now) pid fd) }
+        ensures cell { IfOk result (λ provenance.
+            provenance.cell ≡ cell_after (state_at_start self.now) (history self.now) pid fd) }
+        ensures chain { IfOk result (λ provenance.
+            cell_chain_of provenance ≡ cell_chain (state_at_start self.now) (history self.now) pid fd) }
     {
         let mut walk = CellWalk::from(alloc, pid, fd);
         self.node.walk(&mut walk, 0, self.count)?;
@@ -44,12 +45,12 @@ impl Behind<'_> {
     }
 
     /// Where the mode of a process comes from.
-    fn mode_origin(&self, alloc: Global, pid: Pid) -> Result<ModeOrigin, NoMemory>
+    fn mode_provenance(&self, alloc: Global, pid: Pid) -> Result<ModeProvenance, NoMemory>
         requires { IsPlace self.now }
-        ensures mode { IfOk result (λ origin.
-            origin.mode ≡ mode_after (state_at_start self.now) (history self.now) pid) }
-        ensures chain { IfOk result (λ origin.
-            mode_chain_of origin ≡ mode_chain (state_at_start self.now) (history self.now) pid) }
+        ensures mode { IfOk result (λ provenance.
+            provenance.mode ≡ mode_after (state_at_start self.now) (history self.now) pid) }
+        ensures chain { IfOk result (λ provenance.
+            mode_chain_of provenance ≡ mode_chain (state_at_start self.now) (history self.now) pid) }
     {
         let mut walk = ModeWalk::from(alloc, pid);
         self.node.walk(&mut walk, 0, self.count)?;
@@ -57,45 +58,51 @@ impl Behind<'_> {
     }
 
     /// Where the cell of each descriptor that is checked comes from, in order.
-    fn origins(&self, alloc: Global, pid: Pid, checks: &Checks) -> Result<Vec<CellOrigin>, NoMemory>
+    fn provenances(
+        &self,
+        alloc: Global,
+        pid: Pid,
+        checks: &Checks,
+    ) -> Result<Vec<CellProvenance>, NoMemory>
         requires { IsPlace self.now }
-        ensures cells { IfOk result (λ origins. map (λ (origin : CellOrigin). origin.cell) origins.items
+        ensures cells { IfOk result (λ provenances. map
+            (λ (provenance : CellProvenance). provenance.cell) provenances.items
             ≡ map (λ (check : Check). cell_after (state_at_start self.now) (history self.now) pid check.fd)
             (listed checks.now)) }
-        ensures chains { IfOk result (λ origins. map cell_chain_of origins.items
+        ensures chains { IfOk result (λ provenances. map cell_chain_of provenances.items
             ≡ map (λ (check : Check). cell_chain (state_at_start self.now) (history self.now) pid check.fd)
             (listed checks.now)) }
     {
-        let mut origins = Vec::new(alloc);
+        let mut provenances = Vec::new(alloc);
         match checks {
             Checks::Nothing => {}
             Checks::One(a) => {
-                origins.push(self.cell_origin(alloc, pid, a.fd)?)?;
+                provenances.push(self.cell_provenance(alloc, pid, a.fd)?)?;
             }
             Checks::Two(a, b) => {
-                origins.push(self.cell_origin(alloc, pid, a.fd)?)?;
-                origins.push(self.cell_origin(alloc, pid, b.fd)?)?;
+                provenances.push(self.cell_provenance(alloc, pid, a.fd)?)?;
+                provenances.push(self.cell_provenance(alloc, pid, b.fd)?)?;
             }
         }
-        Ok(origins)
+        Ok(provenances)
     }
 
-    /// Where the mode of a process comes from, where what is said of a line with this demand can depend on it.
+    /// Where the mode of a process comes from, where what is said of a line with this requirement can depend on it.
     fn mode_where(
         &self,
         alloc: Global,
         pid: Pid,
-        demand: &Demand,
-    ) -> Result<Option<ModeOrigin>, NoMemory>
+        requirement: &Requirement,
+    ) -> Result<Option<ModeProvenance>, NoMemory>
         requires { IsPlace self.now }
-        ensures mode { mode_matters demand.now ≡ true → IfOk result
-            (λ origin. mode_or_unsure origin ≡ mode_after (state_at_start self.now) (history self.now) pid) }
-        ensures chain { IfOk result (λ origin. option_map mode_chain_of origin
-            ≡ (if mode_matters demand.now then Some (mode_chain (state_at_start self.now) (history self.now) pid)
+        ensures mode { mode_matters requirement.now ≡ true → IfOk result
+            (λ provenance. mode_or_unsure provenance ≡ mode_after (state_at_start self.now) (history self.now) pid) }
+        ensures chain { IfOk result (λ provenance. option_map mode_chain_of provenance
+            ≡ (if mode_matters requirement.now then Some (mode_chain (state_at_start self.now) (history self.now) pid)
             else None)) }
     {
-        if demand.mode_matters() {
-            Ok(Some(self.mode_origin(alloc, pid)?))
+        if requirement.mode_matters() {
+            Ok(Some(self.mode_provenance(alloc, pid)?))
         } else {
             Ok(None)
         }
@@ -107,12 +114,12 @@ impl Behind<'_> {
         ensures { IfOk result
             (λ e. explained_by e ≡ explained (state_at_start self.now) (history self.now) step.now) }
     {
-        let line = step.line.seen();
+        let line = step.line.view();
         let pid = line.pid;
-        let demand = rule_of(step.profile, &line).demand;
-        let cells = self.origins(alloc, pid, &demand.checks)?;
-        let mode = self.mode_where(alloc, pid, &demand)?;
-        Ok(Explanation::of(&demand, cells, mode))
+        let requirement = rule_of(step.profile, &line).requirement;
+        let cells = self.provenances(alloc, pid, &requirement.checks)?;
+        let mode = self.mode_where(alloc, pid, &requirement)?;
+        Ok(Explanation::of(&requirement, cells, mode))
     }
 }
 
@@ -134,8 +141,8 @@ pub(crate) fn judge_alone(
     let last = asked.to.min(node.len());
     let mut count = asked.from.saturating_sub(1);
     while count < last {
-        let behind = Behind { start, node, count };
-        let explanation = behind.explain(alloc, node.step(count))?;
+        let place = PlaceInNode { start, node, count };
+        let explanation = place.explain(alloc, node.step(count))?;
         count += 1;
         note_asked(&explanation.verdict, count, asked, &mut report.found)?;
         report.judged += 1;
@@ -162,12 +169,12 @@ pub fn explain(
     if position == 0 || position > summary.node.len() {
         return Ok(None);
     }
-    let behind = Behind {
+    let place = PlaceInNode {
         start,
         node: &*summary.node,
         count: position - 1,
     };
     let step = summary.node.step(position - 1);
-    let explanation = behind.explain(alloc, step)?;
+    let explanation = place.explain(alloc, step)?;
     Ok(Some(explanation))
 }

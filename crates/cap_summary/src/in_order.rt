@@ -34,7 +34,7 @@ fn judged(machine: &mut Machine, step: &Step) -> Result<Verdict, NoMemory>
     machine.step(step.profile, &step.line).map_err(|_| NoMemory)
 }
 
-/// Notes what is found in a run of steps behind so many others, at the positions that are asked for, and moves the
+/// Notes what is found in a run of steps after so many others, at the positions that are asked for, and moves the
 /// machine on to what is known after them.
 fn judge_each(
     run: &[Rc<Step>],
@@ -56,7 +56,7 @@ fn judge_each(
     judge_each(&run[1..], machine, at + 1, asked, found)
 }
 
-/// The same, with each step of the run counted as judged.
+/// Judges the steps of a run in order, and counts each as judged.
 pub(crate) fn judge_in_order(
     run: &[Rc<Step>],
     machine: &mut Machine,

@@ -1,10 +1,11 @@
 //! Which findings are asked for, what a report has, and the findings of a run of steps that begins in a state.
 
-ghost use Rattle.cap_summary.specs.{◌≡◌, ◌&&◌, nat_le, ◌+◌, ◌^◌, ◌<◌, ◌≤◌, ◌++◌, [], length, OnOk, map, check, said_of};
+ghost use Rattle.cap_summary.specs.{◌≡◌, ◌&&◌, nat_le, ◌+◌, ◌^◌, ◌<◌, ◌≤◌, ◌++◌, [], length, OnOk, map, check};
+ghost use Rattle.cap_summary.specs.{findings_of};
 ghost use Rattle.cap_summary.specs.{found_at, later, values, Before.state_before, Positions.within};
 
 use crate::{Before, Effect};
-use cap_machine::{Demand, Found, Step, Verdict, rule_of};
+use cap_machine::{Found, Requirement, Step, Verdict, rule_of};
 use cap_trace::Pid;
 use cap_tree::NoMemory;
 use std::alloc::Global;
@@ -75,23 +76,24 @@ pub(crate) fn note(found: &mut Vec<Found>, at: usize, verdict: &Verdict) -> Resu
 fn note_line(
     before: &Before<'_>,
     pid: Pid,
-    demand: &Demand,
+    requirement: &Requirement,
     at: usize,
     asked: &Asked,
     found: &mut Vec<Found>,
 ) -> Result<(), NoMemory>
     ensures { OnOk result (found.new.items ≡ found.old.items
-        ++ within asked.now.from asked.now.to (map (found_at at) (said_of demand.now pid (state_before before.now)))) }
+        ++ within asked.now.from asked.now.to
+        (map (found_at at) (findings_of requirement.now pid (state_before before.now)))) }
 {
     if !asked.has(at) {
         return Ok(());
     }
-    let verdict = before.said(pid, demand);
+    let verdict = before.said(pid, requirement);
     note(found, at, &verdict)
 }
 
-/// Notes what is found in a run of steps that begins in this state behind so many others, at the positions that are
-/// asked for. Each step of the run counts as judged, and none is read behind the last of these positions.
+/// Notes what is found in a run of steps that begins in this state after so many others, at the positions that are
+/// asked for. Each step of the run counts as judged, and none is read after the last of these positions.
 pub(crate) fn judge_run(
     alloc: Global,
     run: &[Rc<Step>],
@@ -112,13 +114,13 @@ pub(crate) fn judge_run(
     let read = &run[..run.len().min(asked.to.saturating_sub(at))];
     for step in read {
         position += 1;
-        let line = step.line.seen();
+        let line = step.line.view();
         let rule = rule_of(step.profile, &line);
         let here = Before::After(&*before, &effect);
         note_line(
             &here,
             line.pid,
-            &rule.demand,
+            &rule.requirement,
             position,
             asked,
             &mut report.found,

@@ -10,7 +10,7 @@ use crate::composed::Replaced;
 use crate::{Before, Effect, Key, LineAsks, Precondition};
 use cap_machine::{Cell, Mode, Start, Step, rule_of};
 use cap_trace::{Fd, Pid};
-use cap_tree::{Likeness, NoMemory, Side};
+use cap_tree::{NoMemory, Side, Similarity};
 use std::alloc::Global;
 use std::rc::Rc;
 
@@ -34,10 +34,10 @@ fn put_step(
     ensures { (steps : List Step) → Says effect.old precondition.old steps
         → OnOk result (Says effect.new precondition.new (steps ++ step.now ∷ [])) }
 {
-    let line = step.line.seen();
+    let line = step.line.view();
     let rule = rule_of(step.profile, &line);
     let pid = step.line.pid();
-    let asks = LineAsks::of_line(pid, &rule.demand);
+    let asks = LineAsks::of_line(pid, &rule.requirement);
     precondition.put_line(effect, &asks)?;
     effect.push(alloc, pid, &rule.effect)?;
     Ok(())
@@ -112,36 +112,36 @@ impl Known {
     /// How far this is the same as what was known of a part in its place, where so much is known of it already: as far as
     /// that tells what may be kept of a whole.
     #[tactic(auto, using(crate::proofs::Rejoining::keeps_none))]
-    fn likeness_to(&self, was: &Known, side: Side, likeness: Likeness) -> Likeness
-        requires { AreAlike likeness was.now self.now }
+    fn similarity_to(&self, was: &Known, side: Side, similarity: Similarity) -> Similarity
+        requires { AreAlike similarity was.now self.now }
         ensures alike { AreAlike result was.now self.now }
         ensures effect { KeepsEffect side result }
     {
-        let effect = likeness.effect || was.effect.is_same(&self.effect);
+        let effect = similarity.effect || was.effect.is_same(&self.effect);
         if matches!(side, Side::Left) && !effect {
-            return Likeness::none();
+            return Similarity::none();
         }
-        Likeness {
+        Similarity {
             effect,
-            precondition: likeness.precondition || was.precondition.is_same(&self.precondition),
+            precondition: similarity.precondition || was.precondition.is_same(&self.precondition),
         }
     }
 
-    /// The same of the part of two that took the place of another.
-    fn likeness_at(
+    /// What is the same of a part as of the one whose place it took.
+    fn similarity_at(
         first: &Known,
         second: &Known,
         was: &Known,
         side: Side,
-        likeness: Likeness,
-    ) -> Likeness
-        requires { AreAlike likeness was.now (part_at side first.now second.now) }
+        similarity: Similarity,
+    ) -> Similarity
+        requires { AreAlike similarity was.now (part_at side first.now second.now) }
         ensures alike { AreAlike result was.now (part_at side first.now second.now) }
         ensures effect { KeepsEffect side result }
     {
         match side {
-            Side::Left => first.likeness_to(was, side, likeness),
-            Side::Right => second.likeness_to(was, side, likeness),
+            Side::Left => first.similarity_to(was, side, similarity),
+            Side::Right => second.similarity_to(was, side, similarity),
         }
     }
 
@@ -155,7 +155,7 @@ impl Known {
         old: &Known,
         was: &Known,
         side: Side,
-        kept: Likeness,
+        kept: Similarity,
     ) -> Result<Rc<Effect>, NoMemory>
         requires old { IsJoined (part_at side was.now self.now) (part_at side later.now was.now) old.now }
         requires kept { kept.effect ≡ true
@@ -182,7 +182,7 @@ impl Known {
         alloc: Global,
         later: &Known,
         old: &Known,
-        kept: Likeness,
+        kept: Similarity,
     ) -> Result<Rc<Precondition>, NoMemory>
         requires own { IsSettled self.now.precondition.value }
         requires later { IsSettled later.now.precondition.value }
@@ -201,7 +201,8 @@ impl Known {
     }
 
     /// What is known of two segments, one of which took the place of `was` in an old whole, and how far it is the same as
-    /// what was known of that whole. What is the same is shared. `likeness` says how far `was` and the new part are alike.
+    /// what was known of that whole. What is the same is shared. `similarity` says how far `was` and the new part are
+    /// alike.
     #[tactic(auto, using(crate::proofs::Rejoining::rejoined_effect, crate::proofs::Rejoining::rejoined_asks))]
     pub(crate) fn rejoin(
         alloc: Global,
@@ -210,16 +211,16 @@ impl Known {
         old: &Known,
         was: &Known,
         side: Side,
-        likeness: Likeness,
-    ) -> Result<(Known, Likeness), NoMemory>
+        similarity: Similarity,
+    ) -> Result<(Known, Similarity), NoMemory>
         requires own { IsSettled first.now.precondition.value }
         requires later { IsSettled second.now.precondition.value }
         requires old { IsJoined (part_at side was.now first.now) (part_at side second.now was.now) old.now }
-        requires like { AreAlike likeness was.now (part_at side first.now second.now) }
+        requires like { AreAlike similarity was.now (part_at side first.now second.now) }
         ensures joined { IfOk result (λ new. IsJoined first.now second.now new.0) }
         ensures alike { IfOk result (λ new. AreAlike new.1 old.now new.0) }
     {
-        let kept = Known::likeness_at(first, second, was, side, likeness);
+        let kept = Known::similarity_at(first, second, was, side, similarity);
         let effect = first.rejoined_effect(alloc, second, old, was, side, kept)?;
         let precondition = first.rejoined_precondition(alloc, second, old, kept)?;
         let known = Known {

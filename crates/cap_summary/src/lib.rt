@@ -19,16 +19,16 @@ mod listed;
 mod node;
 mod precondition;
 mod reading;
-mod seen;
 mod shared;
 mod sharing;
 mod sorted;
 mod summary;
 mod value;
+mod view;
 mod walking;
 
 pub use ask::{Ask, Pulled};
-pub use base::{Base, Others, Passing};
+pub use base::{Base, DefaultCells, Passing};
 pub use before::Before;
 pub use effect::{Effect, Row};
 pub use explaining::explain;

@@ -12,7 +12,8 @@ ghost use Rattle.cap_summary.specs.Names.{Names, others_within, mode_within, IsL
 ghost use Rattle.cap_summary.specs.Names.{RowsWithin, EffectWithin, LineWithin};
 
 use crate::{
-    Base, Effect, Key, Listed, Map, Others, Passing, Row, SharedOp, SharedRow, Value, cell_of_mode,
+    Base, DefaultCells, Effect, Key, Listed, Map, Passing, Row, SharedOp, SharedRow, Value,
+    cell_of_mode,
 };
 use cap_machine::{Effect as LineEffect, Mode, OnExec};
 use cap_rights::RightSet;
@@ -43,14 +44,14 @@ fn base_of(me: Pid, line: &LineEffect<'_>) -> Base
     ensures names { (names : Names) → names.pids me ≡ true → others_within names result.others ≡ true }
 {
     match line {
-        LineEffect::Start(_) => Base::of(Others::Closed),
-        LineEffect::Exit | LineEffect::Forget => Base::of(Others::Unknown),
-        LineEffect::Exec => Base::of(Others::Of(me, Passing::Exec)),
+        LineEffect::Start(_) => Base::of(DefaultCells::Closed),
+        LineEffect::Exit | LineEffect::Forget => Base::of(DefaultCells::Unknown),
+        LineEffect::Exec => Base::of(DefaultCells::Of(me, Passing::Exec)),
         LineEffect::CloseFrom(fd) => Base {
-            others: Others::Own,
+            others: DefaultCells::Own,
             closed_from: Some(*fd),
         },
-        _ => Base::of(Others::Own),
+        _ => Base::of(DefaultCells::Own),
     }
 }
 
@@ -209,7 +210,7 @@ impl Effect {
             }
             LineEffect::Change(fd, op, from) => {
                 let op = SharedOp::new(alloc, *op)?;
-                let value = self.seen(me, Key::Fd(*from)).then(alloc, &op)?;
+                let value = self.view(me, Key::Fd(*from)).then(alloc, &op)?;
                 self.set(alloc, me, *fd, value)
             }
             _ => self.push_row(alloc, me, line),

@@ -2,7 +2,8 @@
 
 ghost use Rattle.cap_machine.specs.{Judge.is_excused};
 ghost use Rattle.cap_summary.specs.{◌≡◌, ◌≤◌, ◌&&◌, ◌||◌, not, true, false, IfSome, if◌then◌else◌, option_map_or, Cell};
-ghost use Rattle.cap_summary.specs.{Word, Success, NotCapable, State, fault, faults, listed, has_check, all_excused};
+ghost use Rattle.cap_summary.specs.{LimitWord, Success, NotCapable, State, fault, faults, listed, has_check};
+ghost use Rattle.cap_summary.specs.{all_excused};
 ghost use Rattle.cap_summary.specs.{Asks.holds, Few.is_refusal, Tests.has_kind, Tests.lacks, declared.key.Key.Key};
 ghost use Rattle.cap_summary.specs.Keys.{Cells, cells_of, mode_cell};
 ghost use Rattle.cap_summary.specs.LineAsks.{has_any, part_holds, one_holds, excuses_hold, checked_cells, asked_holds};
@@ -11,7 +12,7 @@ ghost use Rattle.cap_summary.specs.Names.{Names, has_cell, part_within, ChecksWi
 ghost use Rattle.cap_summary.specs.Preconditions.{has_part, part_sure, are_sure_at};
 
 use crate::{Ask, Key, Kinds};
-use cap_machine::{Check, Checks, Class, Demand, Reply};
+use cap_machine::{Check, Checks, Class, Reply, Requirement};
 use cap_rights::RightSet;
 use cap_trace::{Fd, Pid};
 
@@ -117,7 +118,7 @@ fn lacking(me: Pid, fd: Fd, kinds: Kinds, rights: &RightSet) -> Ask
 
 /// A call that succeeded lacked the rights that a check needs.
 fn missing(me: Pid, check: &Check) -> Ask
-    ensures holds { (word : Word) (cells : Cells)
+    ensures holds { (word : LimitWord) (cells : Cells)
         → holds cells result ≡ has_any (fault word check.now (cells me (Key.Fd check.now.fd))) }
     ensures cell { (result.pid ≡ me) × (result.key ≡ Key.Fd check.now.fd) }
 {
@@ -138,7 +139,8 @@ fn may_lack(me: Pid, check: &Check) -> Option<Ask>
 
 /// What a call that succeeded asks of the cells of its checks.
 fn check_asks(me: Pid, checks: &Checks) -> (Option<Ask>, Option<Ask>)
-    ensures hold { (word : Word) (s : State) → (part_holds (cells_of s) result.0 || part_holds (cells_of s) result.1)
+    ensures hold { (word : LimitWord) (s : State)
+        → (part_holds (cells_of s) result.0 || part_holds (cells_of s) result.1)
         ≡ has_any (faults word (listed checks.now) (checked_cells me checks.now s)) }
     ensures names { (names : Names) → names.pids me ≡ true → ChecksWithin names checks.now
         → (part_within names result.0 ≡ true) × (part_within names result.1 ≡ true) }
@@ -166,17 +168,17 @@ fn excuse_asks(me: Pid, checks: &Checks) -> Option<(Ask, Option<Ask>)>
 
 impl LineAsks {
     /// What a call that succeeded asks.
-    fn of_success(me: Pid, demand: &Demand) -> LineAsks
-        requires { demand.now.reply ≡ Success }
-        ensures holds { IsAskedBy demand.now me result }
+    fn of_success(me: Pid, requirement: &Requirement) -> LineAsks
+        requires { requirement.now.reply ≡ Success }
+        ensures holds { IsAskedBy requirement.now me result }
         ensures refusals { refusals_in result ≡ 0 }
-        ensures names { (names : Names) → DemandWithin names me demand.now → LineAsksWithin names result }
+        ensures names { (names : Names) → DemandWithin names me requirement.now → LineAsksWithin names result }
     {
-        let mode = match demand.class {
+        let mode = match requirement.class {
             Class::Forbidden => Some(of_mode(me, Kinds::CLOSED)),
             _ => None,
         };
-        let (first, second) = check_asks(me, &demand.checks);
+        let (first, second) = check_asks(me, &requirement.checks);
         LineAsks::Where(UpToThree {
             mode,
             first,
@@ -185,16 +187,16 @@ impl LineAsks {
     }
 
     /// What a call that was refused for lack of rights asks.
-    fn of_refusal(me: Pid, demand: &Demand) -> LineAsks
-        requires { demand.now.reply ≡ NotCapable }
-        ensures holds { IsAskedBy demand.now me result }
+    fn of_refusal(me: Pid, requirement: &Requirement) -> LineAsks
+        requires { requirement.now.reply ≡ NotCapable }
+        ensures holds { IsAskedBy requirement.now me result }
         ensures refusals { refusals_in result ≤ 1 }
-        ensures names { (names : Names) → DemandWithin names me demand.now → LineAsksWithin names result }
+        ensures names { (names : Names) → DemandWithin names me requirement.now → LineAsksWithin names result }
     {
-        let Some((first, second)) = excuse_asks(me, &demand.checks) else {
+        let Some((first, second)) = excuse_asks(me, &requirement.checks) else {
             return LineAsks::nothing();
         };
-        let mode = if demand.at {
+        let mode = if requirement.at {
             Some(of_mode(me, Kinds::UNHELD))
         } else {
             None
@@ -219,16 +221,16 @@ impl LineAsks {
         })
     }
 
-    /// What a line with this demand of process `me` asks.
-    pub fn of_line(me: Pid, demand: &Demand) -> LineAsks
-        ensures holds { IsAskedBy demand.now me result }
-        ensures refusals { refusals_in result ≤ (if is_refusal demand.now.reply then 1 else 0) }
-        ensures names { (names : Names) → DemandWithin names me demand.now → LineAsksWithin names result }
+    /// What a line with this requirement of process `me` asks.
+    pub fn of_line(me: Pid, requirement: &Requirement) -> LineAsks
+        ensures holds { IsAskedBy requirement.now me result }
+        ensures refusals { refusals_in result ≤ (if is_refusal requirement.now.reply then 1 else 0) }
+        ensures names { (names : Names) → DemandWithin names me requirement.now → LineAsksWithin names result }
     {
-        match demand.reply {
-            Reply::Success => LineAsks::of_success(me, demand),
-            Reply::NotCapable => LineAsks::of_refusal(me, demand),
-            Reply::NotPermitted => match demand.class {
+        match requirement.reply {
+            Reply::Success => LineAsks::of_success(me, requirement),
+            Reply::NotCapable => LineAsks::of_refusal(me, requirement),
+            Reply::NotPermitted => match requirement.class {
                 Class::Allowed => LineAsks::Always,
                 _ => LineAsks::Where(UpToThree {
                     mode: Some(of_mode(me, Kinds::CLEAR)),

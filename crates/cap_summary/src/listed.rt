@@ -56,7 +56,7 @@ impl PartialEq for Listed {
     }
 }
 
-/// The same entries with a value at a descriptor: these, or a copy where they are shared.
+/// The entries with a value at a descriptor. They are copied where they are shared.
 fn put(cells: Rc<Map<Value>>, fd: u32, value: Value) -> Result<Rc<Map<Value>>, NoMemory>
     ensures { IfOk result (λ new. (g : ℕ) → found new.value g
         ≡ (if g == fd then Some value else found cells.value g)) }

@@ -12,7 +12,7 @@ use crate::in_order::judge_in_order;
 use crate::judging::{Asked, judge_run};
 use crate::{Before, Known, Report};
 use cap_machine::{Machine, Step};
-use cap_tree::{Likeness, Meter, NoMemory, Side};
+use cap_tree::{Meter, NoMemory, Side, Similarity};
 use std::alloc::Global;
 use std::marker::Model;
 use std::rc::Rc;
@@ -118,7 +118,7 @@ impl Node {
     pub(crate) fn known(&self) -> Option<&Known>
         ensures kept { IfSome result (λ known. IsKept known.now self.now.steps) }
         ensures many { IfNone result (NameOrRefuseMany self.now.steps) }
-        ensures seen { option_copied result ≡ self.now.known }
+        ensures view { option_copied result ≡ self.now.known }
     {
         self.known.as_ref()
     }
@@ -213,7 +213,7 @@ impl Node {
     }
 
     /// The steps of the one and then those of the other.
-    #[tactic(auto, using(crate::proofs::Runs::none_before, crate::proofs::Runs::none_behind))]
+    #[tactic(auto, using(crate::proofs::Runs::none_before, crate::proofs::Runs::none_beyond))]
     pub(crate) fn join(
         alloc: Global,
         left: &Rc<Node>,
@@ -236,9 +236,9 @@ impl Node {
         Node::of_parts(alloc, Some(known), left, right)
     }
 
-    /// The same in the place of an old node, of whose two parts `was` stood where the part on that side stands now. What is
-    /// known is shared with the old node where it is the same: the answer says how far. `likeness` says how far `was` and
-    /// the new part are alike.
+    /// A node of two parts in place of an old one, in which `was` was the part on that side. What is
+    /// known is shared with the old node where it is the same: the answer says how far. `similarity` says how far `was`
+    /// and the new part are alike.
     pub(crate) fn rejoin(
         alloc: Global,
         left: &Rc<Node>,
@@ -246,12 +246,12 @@ impl Node {
         old: &Node,
         was: &Node,
         side: Side,
-        likeness: Likeness,
-    ) -> Result<(Rc<Node>, Likeness), NoMemory>
+        similarity: Similarity,
+    ) -> Result<(Rc<Node>, Similarity), NoMemory>
         requires few { length left.now.value.steps + length right.now.value.steps ≤ 2 ^ 30 }
         requires old { NodesCompose (part_at side was.now left.now.value) (part_at side right.now.value was.now)
             old.now }
-        requires like { NodesAlike likeness was.now (part_at side left.now.value right.now.value) }
+        requires like { NodesAlike similarity was.now (part_at side left.now.value right.now.value) }
         ensures steps { IfOk result
             (λ new. new.0.value.steps ≡ left.now.value.steps ++ right.now.value.steps) }
         ensures composed { IfOk result (λ new. NodesCompose left.now.value right.now.value new.0.value) }
@@ -267,9 +267,11 @@ impl Node {
         if left.len() == 0 || right.len() == 0 || was.len() == 0 {
             return Node::join_anew(alloc, left, right);
         }
-        let (known, likeness) = Known::rejoin(alloc, first, second, whole, part, side, likeness)?;
+        let (known, similarity) = Known::rejoin(
+            alloc, first, second, whole, part, side, similarity,
+        )?;
         let node = Node::of_parts(alloc, Some(known), left, right)?;
-        Ok((node, likeness))
+        Ok((node, similarity))
     }
 
     /// The steps of the one and then those of the other, with nothing known of what is like an old node.
@@ -277,7 +279,7 @@ impl Node {
         alloc: Global,
         left: &Rc<Node>,
         right: &Rc<Node>,
-    ) -> Result<(Rc<Node>, Likeness), NoMemory>
+    ) -> Result<(Rc<Node>, Similarity), NoMemory>
         requires { length left.now.value.steps + length right.now.value.steps ≤ 2 ^ 30 }
         ensures steps { IfOk result
             (λ new. new.0.value.steps ≡ left.now.value.steps ++ right.now.value.steps) }
@@ -285,7 +287,7 @@ impl Node {
         ensures alike { IfOk result (λ new. (old : NodeView) → NodesAlike new.1 old new.0.value) }
     {
         let node = Node::join(alloc, left, right)?;
-        Ok((node, Likeness::none()))
+        Ok((node, Similarity::none()))
     }
 
     /// What is known of two parts, where it may be kept of both together.
@@ -293,7 +295,7 @@ impl Node {
     fn known_of_both<'a>(left: &'a Node, right: &'a Node) -> Option<(&'a Known, &'a Known)>
         ensures first { IfSome result (λ both. IsKept both.0.now left.now.steps) }
         ensures second { IfSome result (λ both. IsKept both.1.now right.now.steps) }
-        ensures seen { IfSome result (λ both.
+        ensures view { IfSome result (λ both.
             (left.now.known ≡ Some both.0.now) × (right.now.known ≡ Some both.1.now)) }
         ensures many { IfNone result (NameOrRefuseMany (left.now.steps ++ right.now.steps)) }
     {
@@ -332,9 +334,10 @@ impl Node {
 }
 
 impl Node {
-    /// Notes what is found in the steps, which begin in this state behind so many others, at the positions that are asked
-    /// for. It visits only parts that have such positions, and stops where more was found than is looked up one by one.
-    /// Where few positions are asked for beside what all steps ask, it goes down to these without a look at all asks.
+    /// Notes what is found in the steps, which begin in this state after so many others, at the positions that are
+    /// asked for. It visits only parts that have such positions, and stops where more was found than is looked up one
+    /// by one. Where few positions are asked for beside what all steps ask, it goes down to these without a look at all
+    /// asks.
     pub(crate) fn resolve(
         &self,
         alloc: Global,
@@ -382,8 +385,8 @@ impl Node {
         }
     }
 
-    /// Notes what is found in the steps behind so many others, at the positions that are asked for, and moves the machine
-    /// on to what is known after them; where no position behind them is asked for, it may stop before.
+    /// Notes what is found in the steps after so many others, at the positions that are asked for, and moves the
+    /// machine on to what is known after them; where no position after them is asked for, it may stop before.
     pub(crate) fn judge(
         &self,
         machine: &mut Machine,

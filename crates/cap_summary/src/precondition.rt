@@ -331,7 +331,7 @@ impl Precondition {
         Ok(both)
     }
 
-    /// The same, settled: its asks in order, and nothing asked where something is certain.
+    /// The precondition settled: its asks are in order, and nothing is asked where something is certain.
     pub fn settled(self, alloc: Global) -> Result<Precondition, NoMemory>
         ensures met { IfOk result (λ pre. (s : State) → is_met (cells_of s) pre ≡ is_met (cells_of s) self) }
         ensures settled { IfOk result IsSettled }

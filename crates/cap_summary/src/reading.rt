@@ -4,7 +4,7 @@ ghost use Rattle.cap_summary.specs.{◌≡◌, ℕ, true, false, IfOk, option_co
 ghost use Rattle.cap_summary.specs.{Keys.Cells, Leaving.row_leaves, Leaving.leaves, Names.Names, Names.RowWithin};
 ghost use Rattle.cap_summary.specs.{RowSizes.IsSizeOf, Sorted.found, Sorted.Rises, declared.key.Key.Key};
 
-use crate::{Base, Effect, Key, Listed, Map, Others, Row, SharedRow, Value};
+use crate::{Base, DefaultCells, Effect, Key, Listed, Map, Row, SharedRow, Value};
 use cap_trace::Pid;
 use cap_tree::NoMemory;
 use std::alloc::AllocError;
@@ -42,7 +42,7 @@ impl Row {
     {
         Row {
             base: Base {
-                others: Others::Own,
+                others: DefaultCells::Own,
                 closed_from: None,
             },
             mode: None,
@@ -80,7 +80,7 @@ impl Row {
             Key::Mode => self.mode.is_none(),
             Key::Fd(fd) => {
                 self.cells.get(fd).is_none()
-                    && matches!(self.base.others, Others::Own)
+                    && matches!(self.base.others, DefaultCells::Own)
                     && !self.base.closes(fd)
             }
         }

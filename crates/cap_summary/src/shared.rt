@@ -45,8 +45,8 @@ impl SharedOp {
         })
     }
 
-    /// The same op. It takes constant time and allocates nothing. It fails only if there are so many that they can't be
-    /// counted.
+    /// A copy that shares the op. It takes constant time and allocates nothing. It fails only if there are so many that
+    /// they can't be counted.
     pub fn share(&self) -> Result<SharedOp, AllocError>
         ensures { IfOk result (λ shared. shared ≡ self.now) }
     {

@@ -3,7 +3,7 @@
 ghost use Rattle.cap_summary.specs.{◌≡◌, true, Values.reads_within};
 ghost use Rattle.cap_summary.specs.Names.{only, has_cell, others_within, ListWithin, RowWithin};
 
-use crate::{Others, Row, Value};
+use crate::{DefaultCells, Row, Value};
 use cap_trace::Pid;
 
 impl Value {
@@ -19,13 +19,13 @@ impl Value {
     }
 }
 
-impl Others {
+impl DefaultCells {
     /// Whether they are of no other process than this one.
     fn reads_only(&self, pid: Pid) -> bool
         ensures { result ≡ true → others_within (only pid) self.now ≡ true }
     {
         match self {
-            Others::Of(source, _) => *source == pid,
+            DefaultCells::Of(source, _) => *source == pid,
             _ => true,
         }
     }

@@ -11,7 +11,7 @@ use crate::judging::Asked;
 use crate::node::Node;
 use crate::{Before, Known, Report};
 use cap_machine::{Found, Machine, Start, Step};
-use cap_tree::{Likeness, Meter, NoMemory, Segment, Side};
+use cap_tree::{Meter, NoMemory, Segment, Side, Similarity};
 use std::alloc::Global;
 use std::rc::Rc;
 
@@ -34,7 +34,7 @@ impl Summary {
     pub fn known(&self) -> Option<&Known>
         ensures kept { IfSome result (λ known. IsKept known.now (summed_up self.now)) }
         ensures many { IfNone result (NameOrRefuseMany (summed_up self.now)) }
-        ensures seen { option_copied result ≡ kept_of self.now }
+        ensures view { option_copied result ≡ kept_of self.now }
         ensures few { length (summed_up self.now) ≤ 2 ^ 30 }
     {
         let _len = self.node.len();
@@ -70,9 +70,9 @@ pub fn resolve_range(
     Ok(report.found)
 }
 
-/// The same, and how many steps were judged for it. Where what is known of all steps is kept, only runs of at most 48
-/// steps are judged that have a finding; where more than one in 2,048 steps has one, all are, in order. Where it isn't
-/// kept, all are too; but of at most 16 positions each is judged alone, as [`explain`] does.
+/// The findings at a range of positions, and how many steps were judged. Where what is known of all steps is kept, only
+/// runs of at most 48 steps are judged that have a finding; where more than one in 2,048 steps has one, all are, in
+/// order. Where it isn't kept, all are too; but of at most 16 positions each is judged alone, as [`explain`] does.
 ///
 /// [`explain`]: crate::explaining::explain
 ///
@@ -191,18 +191,18 @@ impl Segment for Summary {
         old: &Summary,
         was: &Summary,
         side: Side,
-        likeness: Likeness,
-    ) -> Result<(Summary, Likeness), NoMemory> {
-        let (node, likeness) = Node::rejoin(
+        similarity: Similarity,
+    ) -> Result<(Summary, Similarity), NoMemory> {
+        let (node, similarity) = Node::rejoin(
             alloc,
             &left.node,
             &right.node,
             &old.node,
             &was.node,
             side,
-            likeness,
+            similarity,
         )?;
         meter.tick();
-        Ok((Summary { node }, likeness))
+        Ok((Summary { node }, similarity))
     }
 }

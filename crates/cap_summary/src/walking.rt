@@ -2,7 +2,7 @@
 
 ghost use Rattle.cap_summary.specs.{◌≡◌, ◌+◌, ◌^◌, ◌<◌, ◌≤◌, ◌∷◌, [], ℕ, List, length, take, slice_index_or, true};
 ghost use Rattle.cap_summary.specs.{OnOk, Step, State, values, Knows.Knows};
-ghost use Rattle.cap_summary.specs.Behind.{Origin, Passes, cell_seen, mode_seen};
+ghost use Rattle.cap_summary.specs.PlaceInNode.{Origin, Passes, cell_seen, mode_seen};
 
 use crate::node::{Content, Node};
 use crate::{Key, Known};
@@ -24,7 +24,7 @@ pub(crate) trait Walk {
         ensures { result ≡ true → (t : List Step) → Knows known.now t → (at count : ℕ)
             → Passes sees self.now self.now at (take count t) };
 
-    /// Passes the step behind so many others.
+    /// Passes the step after so many others.
     fn pass_step(&mut self, at: usize, step: &Step) -> Result<(), NoMemory>
         requires { at < 2 ^ 31 }
         ensures { OnOk result (Passes sees self.old self.new at (step.now ∷ [])) };
@@ -64,7 +64,7 @@ impl Walk for ModeWalk {
     }
 }
 
-/// Walks back through a run of steps behind so many others, up to the step that gave what the walk looks for.
+/// Walks back through a run of steps after so many others, up to the step that gave what the walk looks for.
 fn walk_run<W: Walk>(walk: &mut W, at: usize, run: &[Rc<Step>]) -> Result<(), NoMemory>
     requires short { at + length run.now ≤ 2 ^ 31 }
     ensures { OnOk result (Passes W.sees walk.old walk.new at (values run.now)) }
@@ -81,7 +81,7 @@ fn walk_run<W: Walk>(walk: &mut W, at: usize, run: &[Rc<Step>]) -> Result<(), No
 }
 
 impl Node {
-    /// The step behind so many others.
+    /// The step after so many others.
     pub(crate) fn step(&self, count: usize) -> &Step
         requires { count < length self.now.steps }
         ensures { slice_index_or self.now.steps count result.now ≡ result.now }
@@ -108,7 +108,7 @@ impl Node {
         }
     }
 
-    /// Walks back through the first steps, so many, which stand behind others: the right part first, and up to the step
+    /// Walks back through the first steps, so many, which stand after others: the right part first, and up to the step
     /// that gave what the walk looks for. A part of which it is known that no step touches that is left out.
     pub(crate) fn walk<W: Walk>(
         &self,

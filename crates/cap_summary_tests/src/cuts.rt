@@ -18,7 +18,7 @@ fn put_report(
 ) -> Result<(), cap_machine::NoMemory> {
     for one in found {
         if let Some(step) = steps.get(one.at.saturating_sub(1)) {
-            put_finding(text, one.at, &step.line.seen(), &one.finding)?;
+            put_finding(text, one.at, &step.line.view(), &one.finding)?;
         }
     }
     put_count(text, found.len())
@@ -59,7 +59,7 @@ fn reports_cut(
     Ok(true)
 }
 
-/// The same of a trace in a profile, from a start in which at most that cell is known.
+/// Whether a trace has this report in a profile, cut at each place, from a start in which at most that cell is known.
 fn is_cut(
     alloc: Global,
     profile: Profile,

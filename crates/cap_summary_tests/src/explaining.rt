@@ -2,7 +2,9 @@
 
 use crate::cuts::whole_of;
 use crate::parts::{ensure, joined_at, steps_of, with_start};
-use cap_machine::{CellEnd, CellOrigin, Explanation, ModeEnd, ModeOrigin, Profile, Start, Step};
+use cap_machine::{
+    CellEnd, CellProvenance, Explanation, ModeEnd, ModeProvenance, Profile, Start, Step,
+};
 use cap_summary::{Key, Summary, explain};
 use cap_tree::NoMemory;
 use std::alloc::Global;
@@ -10,23 +12,23 @@ use std::rc::Rc;
 use std::test::Fail;
 
 /// Writes the lines of a chain of cells, as position, pid and descriptor, and how it ends.
-fn put_cells(text: &mut String, origin: &CellOrigin) -> Result<(), NoMemory> {
-    for link in &origin.links {
+fn put_cells(text: &mut String, provenance: &CellProvenance) -> Result<(), NoMemory> {
+    for link in &provenance.links {
         write!(text, "{} {} {}, ", link.at, link.pid, link.fd)?;
     }
-    match origin.end {
+    match provenance.end {
         CellEnd::Given(_) => text.push_str("given; ")?,
         CellEnd::Start(pid, fd, _) => write!(text, "start {pid} {fd}; ")?,
     }
     Ok(())
 }
 
-/// The same of a chain of modes, with position and pid.
-fn put_modes(text: &mut String, origin: &ModeOrigin) -> Result<(), NoMemory> {
-    for link in &origin.links {
+/// Appends the links of a chain of modes, with position and pid, and how it ends.
+fn put_modes(text: &mut String, provenance: &ModeProvenance) -> Result<(), NoMemory> {
+    for link in &provenance.links {
         write!(text, "{} {}, ", link.at, link.pid)?;
     }
-    match origin.end {
+    match provenance.end {
         ModeEnd::Given(_) => text.push_str("mode given; ")?,
         ModeEnd::Start(pid, _) => write!(text, "mode start {pid}; ")?,
     }
@@ -35,11 +37,11 @@ fn put_modes(text: &mut String, origin: &ModeOrigin) -> Result<(), NoMemory> {
 
 /// Writes the chains of an explanation, and how many findings it has.
 fn put_explanation(text: &mut String, found: &Explanation) -> Result<(), NoMemory> {
-    for origin in &found.cells {
-        put_cells(text, origin)?;
+    for provenance in &found.cells {
+        put_cells(text, provenance)?;
     }
-    if let Some(origin) = &found.mode {
-        put_modes(text, origin)?;
+    if let Some(provenance) = &found.mode {
+        put_modes(text, provenance)?;
     }
     Ok(write!(text, "{}", found.verdict.len())?)
 }
@@ -130,7 +132,7 @@ fn is_explained(
     }
 }
 
-/// The same of these steps, cut at each place and joined.
+/// Whether these steps are explained so, cut at each place and joined.
 fn is_explained_cut(
     alloc: Global,
     steps: &[Rc<Step>],
@@ -146,7 +148,7 @@ fn is_explained_cut(
     Ok(true)
 }
 
-/// The same of a row, where nothing is known before the trace.
+/// Whether the trace of a row is explained so, where nothing is known before it.
 fn explains(alloc: Global, row: &Row) -> Result<bool, Fail> {
     let steps = steps_of(alloc, row.1, row.0)?;
     with_start(alloc, None, |start| {
@@ -264,7 +266,7 @@ fn says(whole: &Summary, row: &Said) -> bool {
     is_touched_so && row.3.iter().all(|(pid, unturned)| known.leaves(*pid, Key::Mode) == *unturned)
 }
 
-/// The same of these steps, cut at each place and joined.
+/// Whether the summary of these steps says so, cut at each place and joined.
 fn says_cut(alloc: Global, steps: &[Rc<Step>], row: &Said) -> Result<bool, NoMemory> {
     for place in 0..steps.len() + 1 {
         if !says(&joined_at(alloc, steps, place)?, row) {
@@ -274,7 +276,7 @@ fn says_cut(alloc: Global, steps: &[Rc<Step>], row: &Said) -> Result<bool, NoMem
     Ok(true)
 }
 
-/// The same of a row's trace.
+/// Whether the summary of a row's trace says so.
 fn is_said(alloc: Global, row: &Said) -> Result<bool, Fail> {
     let steps = steps_of(alloc, row.1, row.0)?;
     Ok(says_cut(alloc, &steps, row)?)

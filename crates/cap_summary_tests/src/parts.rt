@@ -63,7 +63,7 @@ pub fn long_steps(
     Ok(steps)
 }
 
-/// The same steps.
+/// A list that shares the steps.
 fn shared(alloc: Global, steps: &[Rc<Step>]) -> Result<Vec<Rc<Step>>, NoMemory> {
     let mut items = Vec::new(alloc);
     for step in steps {

@@ -11,8 +11,8 @@ use Rattle.cap_trace.specs.declared.fault.FirstFault.{FirstFault}
 use Rattle.cap_trace.specs.declared.fault.FirstFault.TheVariants as faults
 use Rattle.cap_trace.specs.declared.line.Answer.{Answer}
 use Rattle.cap_trace.specs.declared.line.Answer.TheVariants as answers
-use Rattle.cap_trace.specs.declared.calls.Kind.{Kind}
-use Rattle.cap_trace.specs.declared.calls.Kind.TheVariants.{Count, Zero, Fd, Same, FdPair, Child, ChildAndFd, Any}
+use Rattle.cap_trace.specs.declared.calls.ResultKind.{ResultKind}
+use Rattle.cap_trace.specs.declared.calls.ResultKind.TheVariants.{Count, Zero, Fd, Same, FdPair, Child, ChildAndFd, Any}
 use Rattle.cap_trace.specs.Number.{num_at}
 use Rattle.cap_trace.specs.Quotes.{cut_at_byte}
 use Rattle.cap_trace.specs.Entry.{IsAnswer}
@@ -26,14 +26,15 @@ use Rattle.cap_trace.proofs.Spelled.{ok_is, bind_made}
 use Rattle.cap_trace.proofs.Quiet.{weaken}
 
 -- an answer of this kind, so spelled
-abbrev SpellsAnswer : Kind → List ℕ → Answer → Type 0
+abbrev SpellsAnswer : ResultKind → List ℕ → Answer → Type 0
 SpellsAnswer k t a = (t ≡ answer_text a) × IsAnswer k a
 
 number_ok : (o : Option ℕ) (a : Answer) → number_at o ≡ Ok a → (n : ℕ) × (o ≡ Some n) × (answers.Made n ≡ a)
 number_ok None a e = absurd cc
 number_ok (Some n) a e = (n, refl, ok_is (answers.Made n) a e)
 
-number_takes : (k : Kind) (most : ℕ) (t : List ℕ) (a : Answer) → ((n : ℕ) → n ≤ most → IsAnswer k (answers.Made n))
+number_takes : (k : ResultKind) (most : ℕ) (t : List ℕ) (a : Answer)
+    → ((n : ℕ) → n ≤ most → IsAnswer k (answers.Made n))
     → number_at (num_at most t) ≡ Ok a → SpellsAnswer k t a
 number_takes k most t a fits e =
     let n = number_ok (num_at most t) a e in
@@ -51,7 +52,7 @@ same_ok : (g : ℕ) (o : Option ℕ) (a : Answer) → same_at g o ≡ Ok a
 same_ok g None a e = absurd cc
 same_ok g (Some n) a e = let k = same_test g n a (eqb n g) refl e in (n, refl, k.0, k.1)
 
-pair_takes : (k : Kind) (m o : ℕ) (t : List ℕ) (c : Option (List ℕ × List ℕ)) (a : Answer) → cut_at_byte 44 t ≡ c
+pair_takes : (k : ResultKind) (m o : ℕ) (t : List ℕ) (c : Option (List ℕ × List ℕ)) (a : Answer) → cut_at_byte 44 t ≡ c
     → ((x y : ℕ) → x ≤ m → y ≤ o → IsAnswer k (answers.Pair x y)) → pair_at m o c ≡ Ok a → SpellsAnswer k t a
 pair_takes k m o t None a at fits e = absurd cc
 pair_takes k m o t (Some c) a at fits e =
@@ -71,7 +72,7 @@ any_takes t None a at e = number_takes Any (2 ^ 64 - 1) t a (λ n h. omega (arit
 any_takes t (Some c) a at e =
     pair_takes Any (2 ^ 64 - 1) (2 ^ 64 - 1) t (Some c) a at (λ x y h g. (omega (arith, h), omega (arith, g))) e
 
-made_takes : (k : Kind) (t : List ℕ) (a : Answer) → made_at k t ≡ Ok a → SpellsAnswer k t a
+made_takes : (k : ResultKind) (t : List ℕ) (a : Answer) → made_at k t ≡ Ok a → SpellsAnswer k t a
 unfolding made_at
 made_takes Count t a e = number_takes Count (2 ^ 64 - 1) t a (λ n h. omega (arith, h)) e
 made_takes Zero t a e = number_takes Zero 0 t a (λ n h. omega (arith, h)) e
@@ -85,7 +86,7 @@ made_takes Child t a e = number_takes Child 99999 t a (λ n h. h) e
 made_takes ChildAndFd t a e = pair_takes ChildAndFd 99999 1048575 t (cut_at_byte 44 t) a refl (λ x y h g. (h, g)) e
 made_takes Any t a e = any_takes t (cut_at_byte 44 t) a refl e
 
-result_takes : (k : Kind) (t : List ℕ) (o : Option (List ℕ)) (a : Answer) → after_prefix (codes "-1 errno ") t ≡ o
+result_takes : (k : ResultKind) (t : List ℕ) (o : Option (List ℕ)) (a : Answer) → after_prefix (codes "-1 errno ") t ≡ o
     → result_at k t o ≡ Ok a → SpellsAnswer k t a
 result_takes k t None a at e = made_takes k t a e
 result_takes k t (Some n) a at e =
@@ -95,7 +96,7 @@ result_takes k t (Some n) a at e =
     subst (λ (y : Answer). SpellsAnswer k t y) x.2
     (after_prefix_takes (codes "-1 errno ") t n at ∙ ap (λ (d : List ℕ). codes "-1 errno " ++ d) p.0, (q.1, p.1))
 
-pub answer_takes : (k : Kind) (tail : List ℕ) (a : Answer) → answer_at k tail ≡ Ok a
+pub answer_takes : (k : ResultKind) (tail : List ℕ) (a : Answer) → answer_at k tail ≡ Ok a
     → (tail ≡ codes " RET " ++ answer_text a) × IsAnswer k a
 unfolding answer_at
 answer_takes k tail a e =
@@ -123,7 +124,7 @@ digit_no_comma c h = grind (arith, tests)
 digits_lack : (t : List ℕ) → all_ascii_digits t ≡ true → lacks 44 t ≡ true
 digits_lack t h = weaken is_ascii_digit (λ c. not (eqb c 44)) digit_no_comma t h
 
-pub answer_is : (k : Kind) (t : List ℕ) (o : Option (List ℕ)) → after_prefix (codes "-1 errno ") t ≡ o
+pub answer_is : (k : ResultKind) (t : List ℕ) (o : Option (List ℕ)) → after_prefix (codes "-1 errno ") t ≡ o
     → answer_at k (codes " RET " ++ t) ≡ result_at k t o
 unfolding answer_at
 answer_is k t o e =
@@ -131,7 +132,7 @@ answer_is k t o e =
     (after_prefix_again (codes " RET ") t)
     ∙ ap (λ (x : Option (List ℕ)). result_at k t x) e
 
-fault_again : (k : Kind) (e : ℕ) → 0 < e → e ≤ 65535
+fault_again : (k : ResultKind) (e : ℕ) → 0 < e → e ≤ 65535
     → answer_at k (codes " RET " ++ (codes "-1 errno " ++ decimal e)) ≡ Ok (answers.Fault e)
 fault_again k e lt le =
     answer_is k (codes "-1 errno " ++ decimal e) (Some (decimal e)) (after_prefix_again (codes "-1 errno ") (decimal e))
@@ -145,10 +146,10 @@ pub decimal_no_errno : (n : ℕ) → n < 2 ^ 64 → after_prefix (codes "-1 errn
 decimal_no_errno n lt = ap (after_prefix (codes "-1 errno ")) (sym (append-none (decimal n)))
     ∙ no_errno (decimal n) [] (decimal_nonempty n lt) (digits_decimal own n lt)
 
-number_result : (k : Kind) (n : ℕ) → n < 2 ^ 64 → answer_at k (codes " RET " ++ decimal n) ≡ made_at k (decimal n)
+number_result : (k : ResultKind) (n : ℕ) → n < 2 ^ 64 → answer_at k (codes " RET " ++ decimal n) ≡ made_at k (decimal n)
 number_result k n lt = answer_is k (decimal n) None (decimal_no_errno n lt)
 
-pair_result : (k : Kind) (n m : ℕ) → n < 2 ^ 64
+pair_result : (k : ResultKind) (n m : ℕ) → n < 2 ^ 64
     → answer_at k (codes " RET " ++ (decimal n ++ (44 ∷ decimal m))) ≡ made_at k (decimal n ++ (44 ∷ decimal m))
 pair_result k n m lt = answer_is k (decimal n ++ (44 ∷ decimal m)) None
     (no_errno (decimal n) (44 ∷ decimal m) (decimal_nonempty n lt) (digits_decimal own n lt))
@@ -160,7 +161,7 @@ pair_again : (most other n m : ℕ) → n ≤ most → m ≤ other → n < 2 ^ 6
     → pair_at most other (cut_at_byte 44 (decimal n ++ (44 ∷ decimal m))) ≡ Ok (answers.Pair n m)
 pair_again most other n m le le2 lt lt2 = rw (pair_cut n m lt, num_again most n le lt, num_again other m le2 lt2) refl
 
-pub answer_again : (k : Kind) (a : Answer) → IsAnswer k a → answer_at k (codes " RET " ++ answer_text a) ≡ Ok a
+pub answer_again : (k : ResultKind) (a : Answer) → IsAnswer k a → answer_at k (codes " RET " ++ answer_text a) ≡ Ok a
 unfolding made_at
 answer_again Count (answers.Fault e) h = fault_again Count e h.0 h.1
 answer_again Zero (answers.Fault e) h = fault_again Zero e h.0 h.1
@@ -205,7 +206,7 @@ answer_again Any (answers.Pair n m) h =
     ∙ pair_again (2 ^ 64 - 1) (2 ^ 64 - 1) n m (omega (arith, h.0)) (omega (arith, h.1)) h.0 h.1
 
 -- an answer that is this number
-pub made_again : (k j : Kind) (tail : List ℕ) (n : ℕ) → k ≡ j → tail ≡ codes " RET " ++ decimal n
+pub made_again : (k j : ResultKind) (tail : List ℕ) (n : ℕ) → k ≡ j → tail ≡ codes " RET " ++ decimal n
     → IsAnswer j (answers.Made n) → answer_at k tail ≡ Ok (answers.Made n)
-made_again k j tail n is at h = ap (λ (x : Kind). answer_at x tail) is ∙ ap (answer_at j) at
+made_again k j tail n is at h = ap (λ (x : ResultKind). answer_at x tail) is ∙ ap (answer_at j) at
     ∙ answer_again j (answers.Made n) h

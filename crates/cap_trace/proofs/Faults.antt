@@ -12,8 +12,8 @@ use Rattle.cap_trace.specs.Item as items
 use Rattle.cap_trace.specs.declared.line.Answer.{Answer}
 use Rattle.cap_trace.specs.declared.line.Answer.TheVariants as answers
 use Rattle.cap_trace.specs.declared.line.Dir.TheVariants as dirs
-use Rattle.cap_trace.specs.declared.calls.Kind.{Kind}
-use Rattle.cap_trace.specs.declared.calls.Kind.TheVariants.{Count, Zero, Fd, Same, FdPair, Child, ChildAndFd, Any}
+use Rattle.cap_trace.specs.declared.calls.ResultKind.{ResultKind}
+use Rattle.cap_trace.specs.declared.calls.ResultKind.TheVariants.{Count, Zero, Fd, Same, FdPair, Child, ChildAndFd, Any}
 use Rattle.cap_trace.specs.declared.calls.Form.TheVariants as forms
 use Rattle.cap_trace.specs.Names.{Head, listed, unlisted}
 use Rattle.cap_trace.specs.Number.{num_at}
@@ -221,11 +221,12 @@ pub same_err : (g : ℕ) (o : Option ℕ) (d : FirstFault) → same_at g o ≡ E
 same_err g None d e = inl (refl, sym (err_is {A = Answer} faults.Answer d e))
 same_err g (Some n) d e = inr (n, (refl, cond_err faults.Argument (answers.Made n) (eqb n g) d e))
 
-unfoldable pub is_same : Kind → Bool
+unfoldable pub is_same : ResultKind → Bool
 is_same (Same g) = true
 is_same k = false
 
-pub made_fails : (k : Kind) (t : List ℕ) (d : FirstFault) → is_same k ≡ false → made_at k t ≡ Err d → d ≡ faults.Answer
+pub made_fails : (k : ResultKind) (t : List ℕ) (d : FirstFault) → is_same k ≡ false → made_at k t ≡ Err d → d
+    ≡ faults.Answer
 unfolding made_at is_same
 made_fails Count t d s e = number_err (num_at 18446744073709551615 t) d e
 made_fails Zero t d s e = number_err (num_at 0 t) d e
@@ -236,6 +237,6 @@ made_fails Child t d s e = number_err (num_at 99999 t) d e
 made_fails ChildAndFd t d s e = pair_err 99999 1048575 (cut_at_byte 44 t) d e
 made_fails Any t d s e = any_err t (cut_at_byte 44 t) d e
 
-pub errno_err : (k : Kind) (t n : List ℕ) (d : FirstFault) → result_at k t (Some n) ≡ Err d → d ≡ faults.Answer
+pub errno_err : (k : ResultKind) (t n : List ℕ) (d : FirstFault) → result_at k t (Some n) ≡ Err d → d ≡ faults.Answer
 errno_err k t n d e = positive_err faults.Answer (num_at 65535 n) d
     (made_err (positive faults.Answer (num_at 65535 n)) (λ x. answers.Fault x) d e)

@@ -14,8 +14,8 @@ use Rattle.cap_trace.specs.declared.fault.FirstFault.{FirstFault}
 use Rattle.cap_trace.specs.declared.fault.FirstFault.TheVariants as faults
 use Rattle.cap_trace.specs.Item.{Item}
 use Rattle.cap_trace.specs.Item as items
-use Rattle.cap_trace.specs.declared.calls.Kind.{Kind}
-use Rattle.cap_trace.specs.declared.calls.Kind.TheVariants.{Count, Zero, Fd, Same, FdPair, Child, ChildAndFd, Any}
+use Rattle.cap_trace.specs.declared.calls.ResultKind.{ResultKind}
+use Rattle.cap_trace.specs.declared.calls.ResultKind.TheVariants.{Count, Zero, Fd, Same, FdPair, Child, ChildAndFd, Any}
 use Rattle.cap_trace.specs.declared.calls.Form.TheVariants as forms
 use Rattle.cap_trace.specs.Names.{Head, listed, name_of, head_named}
 use Rattle.cap_trace.specs.Number.{num_at}
@@ -59,7 +59,7 @@ same_result q p g o d e = elim (same_err g o d e) as (λ _. q d ≡ true) [
   | inr h ↦ ap q h.1.1 ∙ p.argument
 ]
 
-made_result : (q : FirstFault → Bool) → Passes q → (k : Kind) (t : List ℕ) (d : FirstFault) → made_at k t ≡ Err d
+made_result : (q : FirstFault → Bool) → Passes q → (k : ResultKind) (t : List ℕ) (d : FirstFault) → made_at k t ≡ Err d
     → q d ≡ true
 unfolding made_at is_same
 made_result q p (Same g) t d e = same_result q p g (num_at 1048575 t) d e
@@ -71,12 +71,13 @@ made_result q p Child t d e = ap q (made_fails Child t d refl e) ∙ p.answer
 made_result q p ChildAndFd t d e = ap q (made_fails ChildAndFd t d refl e) ∙ p.answer
 made_result q p Any t d e = ap q (made_fails Any t d refl e) ∙ p.answer
 
-result_passes : (q : FirstFault → Bool) → Passes q → (k : Kind) (t : List ℕ) (o : Option (List ℕ)) (d : FirstFault)
+result_passes : (q : FirstFault → Bool) → Passes q
+    → (k : ResultKind) (t : List ℕ) (o : Option (List ℕ)) (d : FirstFault)
     → result_at k t o ≡ Err d → q d ≡ true
 result_passes q p k t None d e = made_result q p k t d e
 result_passes q p k t (Some n) d e = ap q (errno_err k t n d e) ∙ p.answer
 
-answer_passes : (q : FirstFault → Bool) → Passes q → (k : Kind) (tail : List ℕ) (d : FirstFault)
+answer_passes : (q : FirstFault → Bool) → Passes q → (k : ResultKind) (tail : List ℕ) (d : FirstFault)
     → answer_at k tail ≡ Err d → q d ≡ true
 unfolding answer_at
 answer_passes q p k tail d e =

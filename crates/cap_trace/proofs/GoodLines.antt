@@ -14,8 +14,8 @@ use Rattle.cap_trace.specs.Call as calls
 use Rattle.cap_trace.specs.declared.line.Answer.{Answer}
 use Rattle.cap_trace.specs.declared.line.Answer.TheVariants as answers
 use Rattle.cap_trace.specs.declared.line.Dir.TheVariants as dirs
-use Rattle.cap_trace.specs.declared.calls.Kind.{Kind}
-use Rattle.cap_trace.specs.declared.calls.Kind.TheVariants.{Count, Zero, Fd, Same, FdPair, Child, ChildAndFd, Any}
+use Rattle.cap_trace.specs.declared.calls.ResultKind.{ResultKind}
+use Rattle.cap_trace.specs.declared.calls.ResultKind.TheVariants.{Count, Zero, Fd, Same, FdPair, Child, ChildAndFd, Any}
 use Rattle.cap_trace.specs.declared.calls.Form.{Form}
 use Rattle.cap_trace.specs.Names.{Head, listed, unlisted, is_name, form_named}
 use Rattle.cap_trace.specs.Entry.{Entry, Arg, an_fd, a_dir, some_flags, some_rights, a_path, a_command, a_word}
@@ -25,7 +25,7 @@ use Rattle.cap_trace.specs.Spelling.{SpellsArg, SpellsArgs, SpellsBy, IsHead, Is
 use Rattle.cap_trace.specs.Making.{is_fd, is_pid, is_good, are_good, is_head, is_answer, all_rise, is_good_item}
 use Rattle.cap_trace.specs.Making.{is_same_set, is_named, has_named_rights}
 use Rattle.cap_trace.specs.Reading.{fds_from}
-use Rattle.cap_trace.specs.Seen.{fds_in, fds_spelled}
+use Rattle.cap_trace.specs.Views.{fds_in, fds_spelled}
 use Rattle.cap_trace.proofs.Cuts.{eqb_same, pieces_again}
 use Rattle.cap_trace.proofs.Spelled.{ok_is, args_parts, fds_again, fds_closed}
 use Rattle.cap_trace.proofs.Rising.{failure, rising_listed}
@@ -109,7 +109,7 @@ head_to : (h : Head) → IsHead h → is_head h ≡ true
 head_to (listed f) h = refl
 head_to (unlisted n) h = and_from (is_name n) (is_none (form_named n)) h.0 (ap is_none h.1)
 
-answer_from : (k : Kind) (a : Answer) → is_answer k a ≡ true → IsAnswer k a
+answer_from : (k : ResultKind) (a : Answer) → is_answer k a ≡ true → IsAnswer k a
 answer_from Count (answers.Fault e) h =
     (let k = and_parts (ltb 0 e) (leb e 65535) h in (ltb-true _ _ k.0, leb-true e 65535 k.1))
 answer_from Count (answers.Made n) h = ltb-true _ _ h
@@ -145,7 +145,7 @@ answer_from Any (answers.Made n) h = ltb-true _ _ h
 answer_from Any (answers.Pair n m) h =
     (let k = and_parts (ltb n 18446744073709551616) (ltb m 18446744073709551616) h in (ltb-true _ _ k.0, ltb-true _ _ k.1))
 
-answer_to : (k : Kind) (a : Answer) → IsAnswer k a → is_answer k a ≡ true
+answer_to : (k : ResultKind) (a : Answer) → IsAnswer k a → is_answer k a ≡ true
 answer_to Count (answers.Fault e) h = and_from (ltb 0 e) (leb e 65535) (lt-ltb _ _ h.0) (le-leb e 65535 h.1)
 answer_to Count (answers.Made n) h = lt-ltb _ _ h
 answer_to Count (answers.Pair n m) h = absurd h

@@ -6,7 +6,7 @@ use Rattle.std.proofs.lemmas.List.{append-nil}
 use Rattle.cap_trace.specs.declared.fault.FirstFault.{FirstFault}
 use Rattle.cap_trace.specs.declared.fault.FirstFault.TheVariants as faults
 use Rattle.cap_trace.specs.Reading.{◌>>=◌, fd_at, fds_from}
-use Rattle.cap_trace.specs.Seen.{fds_in, TakesFd}
+use Rattle.cap_trace.specs.Views.{fds_in, TakesFd}
 
 -- what went wrong, if anything did
 abbrev pub failure : {A : Type 0} → Result A FirstFault → Option FirstFault

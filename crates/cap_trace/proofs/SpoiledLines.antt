@@ -14,8 +14,8 @@ use Rattle.cap_trace.specs.Item as items
 use Rattle.cap_trace.specs.Call.{Call}
 use Rattle.cap_trace.specs.Call as calls
 use Rattle.cap_trace.specs.declared.line.Answer.{Answer}
-use Rattle.cap_trace.specs.declared.calls.Kind.{Kind}
-use Rattle.cap_trace.specs.declared.calls.Kind.TheVariants.{Count, Zero, Fd, Same, FdPair, Child, ChildAndFd, Any}
+use Rattle.cap_trace.specs.declared.calls.ResultKind.{ResultKind}
+use Rattle.cap_trace.specs.declared.calls.ResultKind.TheVariants.{Count, Zero, Fd, Same, FdPair, Child, ChildAndFd, Any}
 use Rattle.cap_trace.specs.declared.calls.DupCommand.TheVariants as dup_commands
 use Rattle.cap_trace.specs.declared.calls.Form.{Form}
 use Rattle.cap_trace.specs.declared.calls.Form.TheVariants as forms
@@ -385,7 +385,7 @@ spoiled_argument = λ e texts f h le s. err_fault (joined e texts) f (spoiled_li
 fd_no_errno : (n : ℕ) → IsFd n → after_prefix (codes "-1 errno ") (decimal n) ≡ None
 fd_no_errno n is = decimal_no_errno n (omega (arith, is))
 
-result_fault : (k : Kind) (t : List ℕ) (o : Option (List ℕ)) (d : FirstFault) → is_same k ≡ false
+result_fault : (k : ResultKind) (t : List ℕ) (o : Option (List ℕ)) (d : FirstFault) → is_same k ≡ false
     → result_at k t o ≡ Err d → d ≡ faults.Answer
 result_fault k t None d s e = made_fails k t d s e
 result_fault k t (Some n) d s e = errno_err k t n d e
@@ -409,7 +409,8 @@ same_fault g t (Some n) d at e =
       errno_err (Same g) t n d e,
     )
 
-kind_fault : (k : Kind) (t : List ℕ) (o : Option (List ℕ)) (d : FirstFault) → after_prefix (codes "-1 errno ") t ≡ o
+kind_fault : (k : ResultKind) (t : List ℕ) (o : Option (List ℕ)) (d : FirstFault) → after_prefix (codes "-1 errno ") t
+    ≡ o
     → result_at k t o ≡ Err d → FaultOfAnswer k t d
 unfolding is_same
 kind_fault (Same g) t o d at e = same_fault g t o d at e
@@ -421,7 +422,7 @@ kind_fault Child t o d at e = result_fault Child t o d refl e
 kind_fault ChildAndFd t o d at e = result_fault ChildAndFd t o d refl e
 kind_fault Any t o d at e = result_fault Any t o d refl e
 
-one_fault : (k : Kind) (t : List ℕ) (d f : FirstFault) → FaultOfAnswer k t d → FaultOfAnswer k t f → d ≡ f
+one_fault : (k : ResultKind) (t : List ℕ) (d f : FirstFault) → FaultOfAnswer k t d → FaultOfAnswer k t f → d ≡ f
 one_fault (Same g) t d f (inl h) (inl i) = h.1 ∙ sym i.1
 one_fault (Same g) t d f (inl h) (inr i) = absurd (i.0 h.0.0 h.0.1.0 h.0.1.1)
 one_fault (Same g) t d f (inr h) (inl i) = absurd (h.0 i.0.0 i.0.1.0 i.0.1.1)
@@ -434,7 +435,7 @@ one_fault Child t d f h i = h ∙ sym i
 one_fault ChildAndFd t d f h i = h ∙ sym i
 one_fault Any t d f h i = h ∙ sym i
 
-answer_spoiled : (k : Kind) (t : List ℕ) (f : FirstFault) (r : Result Answer FirstFault)
+answer_spoiled : (k : ResultKind) (t : List ℕ) (f : FirstFault) (r : Result Answer FirstFault)
     → answer_at k (codes " RET " ++ t) ≡ r → SpellsNoAnswer k t → FaultOfAnswer k t f → r ≡ Err f
 answer_spoiled k t f (Ok a) e none h =
     let p = answer_takes k (codes " RET " ++ t) a e in

@@ -11,8 +11,8 @@ use Rattle.cap_trace.specs.declared.line.Answer.TheVariants as answers
 use Rattle.cap_trace.specs.declared.line.Dir.{Dir}
 use Rattle.cap_trace.specs.declared.calls.DupCommand.{DupCommand}
 use Rattle.cap_trace.specs.declared.calls.Form.TheVariants as forms
-use Rattle.cap_trace.specs.declared.calls.Kind.{Kind}
-use Rattle.cap_trace.specs.declared.calls.Kind.TheVariants.{Count, Zero, Fd, Same, FdPair, Child, ChildAndFd, Any}
+use Rattle.cap_trace.specs.declared.calls.ResultKind.{ResultKind}
+use Rattle.cap_trace.specs.declared.calls.ResultKind.TheVariants.{Count, Zero, Fd, Same, FdPair, Child, ChildAndFd, Any}
 use Rattle.cap_trace.specs.Limits.{largest_pid, largest_fd, largest_errno}
 use Rattle.cap_trace.specs.Names.{Head, listed, unlisted, row_of}
 
@@ -114,21 +114,21 @@ args_of (items.Foreign f) = an_fd f ∷ []
 -- ---- the answer
 
 -- the commands of fcntl that make a descriptor
-abbrev pub fcntl_kind : List ℕ → Kind
+abbrev pub fcntl_kind : List ℕ → ResultKind
 fcntl_kind w = if bytes_eq w (codes "F_DUPFD") || bytes_eq w (codes "F_DUPFD_CLOEXEC") then Fd else Count
 
-abbrev pub head_kind : Head → Kind
+abbrev pub head_kind : Head → ResultKind
 head_kind (listed f) = (row_of f).kind
 head_kind (unlisted n) = Any
 
 -- dup2 and the commands of fcntl that do the same answer the descriptor that they were given
-abbrev pub kind_of : Call → Kind
+abbrev pub kind_of : Call → ResultKind
 kind_of (calls.Dup2 x y) = Same y
 kind_of (calls.FcntlDup c x y) = Same y
 kind_of (calls.Fcntl x y) = fcntl_kind y
 kind_of c = head_kind (head_of_call c)
 
-abbrev pub IsAnswer : Kind → Answer → Type 0
+abbrev pub IsAnswer : ResultKind → Answer → Type 0
 IsAnswer k (answers.Fault e) = (0 < e) × (e ≤ largest_errno)
 IsAnswer Count (answers.Made n) = n < 2 ^ 64
 IsAnswer Zero (answers.Made n) = n ≡ 0

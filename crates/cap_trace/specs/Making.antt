@@ -11,8 +11,8 @@ use Rattle.cap_trace.specs.Call as calls
 use Rattle.cap_trace.specs.declared.line.Answer.{Answer}
 use Rattle.cap_trace.specs.declared.line.Answer.TheVariants as answers
 use Rattle.cap_trace.specs.declared.line.Dir.TheVariants as dirs
-use Rattle.cap_trace.specs.declared.calls.Kind.{Kind}
-use Rattle.cap_trace.specs.declared.calls.Kind.TheVariants.{Count, Zero, Fd, Same, FdPair, Child, ChildAndFd, Any}
+use Rattle.cap_trace.specs.declared.calls.ResultKind.{ResultKind}
+use Rattle.cap_trace.specs.declared.calls.ResultKind.TheVariants.{Count, Zero, Fd, Same, FdPair, Child, ChildAndFd, Any}
 use Rattle.cap_trace.specs.Limits.{largest_pid, largest_fd, largest_errno}
 use Rattle.cap_trace.specs.Names.{Head, listed, unlisted, is_name, form_named}
 use Rattle.cap_trace.specs.Fields.{is_flags, are_items, is_free}
@@ -60,7 +60,7 @@ abbrev pub is_head : Head → Bool
 is_head (listed f) = true
 is_head (unlisted n) = is_name n && is_none (form_named n)
 
-abbrev pub is_answer : Kind → Answer → Bool
+abbrev pub is_answer : ResultKind → Answer → Bool
 is_answer k (answers.Fault e) = nat_lt 0 e && nat_le e largest_errno
 is_answer Count (answers.Made n) = nat_lt n (2 ^ 64)
 is_answer Zero (answers.Made n) = n == 0

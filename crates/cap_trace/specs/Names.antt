@@ -24,15 +24,15 @@ use Rattle.cap_trace.specs.declared.calls.DupCommand.{DupCommand}
 use Rattle.cap_trace.specs.declared.calls.DupCommand.TheVariants as dup_commands
 use Rattle.cap_trace.specs.declared.calls.Form.{Form}
 use Rattle.cap_trace.specs.declared.calls.Form.TheVariants as forms
-use Rattle.cap_trace.specs.declared.calls.Kind.{Kind}
-use Rattle.cap_trace.specs.declared.calls.Kind.TheVariants.{Count, Zero, Fd, FdPair, Child, ChildAndFd}
+use Rattle.cap_trace.specs.declared.calls.ResultKind.{ResultKind}
+use Rattle.cap_trace.specs.declared.calls.ResultKind.TheVariants.{Count, Zero, Fd, FdPair, Child, ChildAndFd}
 
 -- a row: the name, and the result of a call that doesn't fail
 pub record Row : Type 0 where
   pub name : List ℕ
-  pub kind : Kind
+  pub kind : ResultKind
 
-abbrev pub row : List ℕ → Kind → Row
+abbrev pub row : List ℕ → ResultKind → Row
 row n k = record { name = n; kind = k }
 
 -- a call whose one argument is a descriptor

@@ -13,8 +13,8 @@ use Rattle.cap_trace.specs.declared.line.Answer.{Answer}
 use Rattle.cap_trace.specs.declared.line.Answer.TheVariants as answers
 use Rattle.cap_trace.specs.declared.line.Dir.{Dir}
 use Rattle.cap_trace.specs.declared.line.Dir.TheVariants as dirs
-use Rattle.cap_trace.specs.declared.calls.Kind.{Kind}
-use Rattle.cap_trace.specs.declared.calls.Kind.TheVariants.{Count, Zero, Fd, Same, FdPair, Child, ChildAndFd, Any}
+use Rattle.cap_trace.specs.declared.calls.ResultKind.{ResultKind}
+use Rattle.cap_trace.specs.declared.calls.ResultKind.TheVariants.{Count, Zero, Fd, Same, FdPair, Child, ChildAndFd, Any}
 use Rattle.cap_trace.specs.Limits.{longest_line, largest_pid, largest_fd, largest_errno}
 use Rattle.cap_trace.specs.Names.{Head, listed, unlisted, head_named}
 use Rattle.cap_trace.specs.Number.{num_at}
@@ -146,7 +146,7 @@ abbrev pub any_at : List ℕ → Option (List ℕ × List ℕ) → Result Answer
 any_at t None = number_at (num_at (2 ^ 64 - 1) t)
 any_at t (Some c) = pair_at (2 ^ 64 - 1) (2 ^ 64 - 1) (Some c)
 
-unfoldable pub made_at : Kind → List ℕ → Result Answer FirstFault
+unfoldable pub made_at : ResultKind → List ℕ → Result Answer FirstFault
 made_at Count t = number_at (num_at (2 ^ 64 - 1) t)
 made_at Zero t = number_at (num_at 0 t)
 made_at Fd t = number_at (num_at largest_fd t)
@@ -157,11 +157,11 @@ made_at ChildAndFd t = pair_at largest_pid largest_fd (cut_at_byte 44 t)
 made_at Any t = any_at t (cut_at_byte 44 t)
 
 -- by the errno that stands there, if one does
-abbrev pub result_at : Kind → List ℕ → Option (List ℕ) → Result Answer FirstFault
+abbrev pub result_at : ResultKind → List ℕ → Option (List ℕ) → Result Answer FirstFault
 result_at k t None = made_at k t
 result_at k t (Some n) = positive faults.Answer (num_at largest_errno n) >>= λ e. Ok (answers.Fault e)
 
-unfoldable pub answer_at : Kind → List ℕ → Result Answer FirstFault
+unfoldable pub answer_at : ResultKind → List ℕ → Result Answer FirstFault
 answer_at k tail = do
   t ← need faults.Shape (after_prefix (codes " RET ") tail)
   result_at k t (after_prefix (codes "-1 errno ") t)

@@ -12,6 +12,6 @@ table_row r = (r.1, row r.0.now r.2)
 abbrev pub in_table : Form → Form × Row
 in_table f = (f, row_of f)
 
-abbrev pub head_seen : heads.Head → Head
-head_seen (heads_are.Listed f) = listed f
-head_seen (heads_are.Unlisted n) = unlisted n.now
+abbrev pub head_view : heads.Head → Head
+head_view (heads_are.Listed f) = listed f
+head_view (heads_are.Unlisted n) = unlisted n.now

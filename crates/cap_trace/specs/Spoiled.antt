@@ -8,8 +8,8 @@ use Rattle.cap_trace.specs.declared.fault.FirstFault.TheVariants as faults
 use Rattle.cap_trace.specs.Item as items
 use Rattle.cap_trace.specs.Call.{Call}
 use Rattle.cap_trace.specs.declared.line.Answer.{Answer}
-use Rattle.cap_trace.specs.declared.calls.Kind.{Kind}
-use Rattle.cap_trace.specs.declared.calls.Kind.TheVariants.{Same}
+use Rattle.cap_trace.specs.declared.calls.ResultKind.{ResultKind}
+use Rattle.cap_trace.specs.declared.calls.ResultKind.TheVariants.{Same}
 use Rattle.cap_trace.specs.Limits.{longest_line}
 use Rattle.cap_trace.specs.Names.{name_of}
 use Rattle.cap_trace.specs.Quotes.{place}
@@ -97,11 +97,11 @@ abbrev pub answered : ℕ → Call → List (List ℕ) → List ℕ → List ℕ
 answered pid call texts answer = decimal pid
     ++ (32 ∷ (name_of (head_of_call call) ++ (40 ∷ (join_with_byte 44 texts ++ (41 ∷ (codes " RET " ++ answer))))))
 
-abbrev pub SpellsNoAnswer : Kind → List ℕ → Type 0
+abbrev pub SpellsNoAnswer : ResultKind → List ℕ → Type 0
 SpellsNoAnswer k t = (a : Answer) → IsAnswer k a → t ≡ answer_text a → ⊥
 
 -- where a call has to answer the descriptor that it was given, another descriptor is a wrong argument
-abbrev pub FaultOfAnswer : Kind → List ℕ → FirstFault → Type 0
+abbrev pub FaultOfAnswer : ResultKind → List ℕ → FirstFault → Type 0
 FaultOfAnswer (Same g) t f = (((n : ℕ) × (IsFd n × (t ≡ decimal n))) × (f ≡ faults.Argument))
     ⊎ (((n : ℕ) → IsFd n → t ≡ decimal n → ⊥) × (f ≡ faults.Answer))
 FaultOfAnswer k t f = f ≡ faults.Answer

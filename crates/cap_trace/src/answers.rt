@@ -6,7 +6,7 @@ ghost use Rattle.cap_trace.specs.Number.{num_at};
 ghost use Rattle.cap_trace.specs.Reading.{Gives, number_at, same_at, pair_at, any_at, made_at, answer_at};
 ghost use Rattle.cap_trace.specs.Quotes.{cut_at_byte};
 
-use crate::calls::Kind;
+use crate::calls::ResultKind;
 use crate::fault::FirstFault;
 use crate::limits::{LARGEST_FD, LARGEST_PID};
 use crate::line::Answer;
@@ -60,25 +60,25 @@ fn any(text: &[u8]) -> Result<Answer, FirstFault>
 /// The result of a call of this kind, without an errno.
 #[inline(always)]
 #[tactic(auto, unfolding(crate::specs::Reading::made_at))]
-fn made(kind: Kind, text: &[u8]) -> Result<Answer, FirstFault>
+fn made(kind: ResultKind, text: &[u8]) -> Result<Answer, FirstFault>
     ensures { Gives (λ a. a) result (made_at kind text.now) }
 {
     match kind {
-        Kind::Count => number(u64::MAX, text),
-        Kind::Zero => number(0, text),
-        Kind::Fd => number(u64::from(LARGEST_FD), text),
-        Kind::Same(fd) => same(fd, text),
-        Kind::FdPair => pair(u64::from(LARGEST_FD), u64::from(LARGEST_FD), text),
-        Kind::Child => number(u64::from(LARGEST_PID), text),
-        Kind::ChildAndFd => pair(u64::from(LARGEST_PID), u64::from(LARGEST_FD), text),
-        Kind::Any => any(text),
+        ResultKind::Count => number(u64::MAX, text),
+        ResultKind::Zero => number(0, text),
+        ResultKind::Fd => number(u64::from(LARGEST_FD), text),
+        ResultKind::Same(fd) => same(fd, text),
+        ResultKind::FdPair => pair(u64::from(LARGEST_FD), u64::from(LARGEST_FD), text),
+        ResultKind::Child => number(u64::from(LARGEST_PID), text),
+        ResultKind::ChildAndFd => pair(u64::from(LARGEST_PID), u64::from(LARGEST_FD), text),
+        ResultKind::Any => any(text),
     }
 }
 
 /// What follows the arguments of a call.
 #[inline(always)]
 #[tactic(auto, unfolding(crate::specs::Reading::answer_at))]
-pub(crate) fn answer(kind: Kind, tail: &[u8]) -> Result<Answer, FirstFault>
+pub(crate) fn answer(kind: ResultKind, tail: &[u8]) -> Result<Answer, FirstFault>
     ensures { Gives (λ a. a) result (answer_at kind tail.now) }
 {
     let Some(text) = tail.strip_prefix(b" RET ".as_slice()) else {

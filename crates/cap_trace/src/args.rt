@@ -2,15 +2,15 @@
 
 ghost use Rattle.std.specs.Prelude.{◌≡◌};
 
-use crate::args::ArgSeen::{Command, Dest, Dir, DupTo, Fd, Flags, Free, Path, Rights, SetFd};
+use crate::args::ArgRef::{Command, Dest, Dir, DupTo, Fd, Flags, Free, Path, Rights, SetFd};
+use crate::arguments::Arguments::{self, Five, Four, One, Three, Two, Zero};
 use crate::calls::DupCommand;
-use crate::few::Few::{self, Five, Four, One, Three, Two, Zero};
 use crate::line::{self, Call};
 use cap_rights::RightSet;
 
 /// An argument.
 #[derive(Clone, Copy)]
-pub(crate) enum ArgSeen<'a> {
+pub(crate) enum ArgRef<'a> {
     Fd(line::Fd),
     Dir(line::Dir),
     Flags(&'a [u8]),
@@ -29,11 +29,11 @@ pub(crate) enum ArgSeen<'a> {
 
 impl<'a> Call<'a> {
     ghost use Rattle.cap_trace.specs.Entry.{args_of_call};
-    ghost use Rattle.cap_trace.specs.Seen.{args_seen, call_seen};
+    ghost use Rattle.cap_trace.specs.Views.{args_view, call_view};
 
     /// The arguments.
-    pub(crate) fn args(&self) -> Few<ArgSeen<'a>>
-        ensures { args_seen result ≡ args_of_call (call_seen self.now) }
+    pub(crate) fn args(&self) -> Arguments<ArgRef<'a>>
+        ensures { args_view result ≡ args_of_call (call_view self.now) }
     {
         match *self {
             Call::OnFd(_, fd) | Call::Send(_, fd) => One(Fd(fd)),

@@ -69,7 +69,7 @@ fn names(text: &[u8]) -> bool
 }
 
 /// Whether a text spells flags: `0`, or names joined by a bar.
-pub fn spells_flags(text: &[u8]) -> bool
+pub fn is_valid_flags(text: &[u8]) -> bool
     ensures { result ≡ is_flags text.now }
 {
     text == b"0".as_slice() || names(text)
@@ -77,7 +77,7 @@ pub fn spells_flags(text: &[u8]) -> bool
 
 /// Whether a text is a command of `fcntl` for [`crate::Call::Fcntl`]: any but `F_SETFD`, `F_DUP2FD` and
 /// `F_DUP2FD_CLOEXEC`, which ask for a third argument.
-pub fn spells_command(text: &[u8]) -> bool
+pub fn is_valid_command(text: &[u8]) -> bool
     ensures { result ≡ is_command text.now }
 {
     word(text)
@@ -184,7 +184,7 @@ pub(crate) fn items(text: &[u8]) -> bool
 }
 
 /// Whether a text may be the arguments of a call that has no form of its own: any bytes but `(`, `)` and line feeds.
-pub fn spells_arguments(text: &[u8]) -> bool
+pub fn is_valid_arguments(text: &[u8]) -> bool
     ensures { result ≡ list_all is_free text.now }
 {
     text.iter()

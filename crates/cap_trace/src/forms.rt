@@ -7,19 +7,19 @@ ghost use Rattle.cap_trace.specs.Names.{listed, unlisted};
 ghost use Rattle.cap_trace.specs.Quotes.{pieces};
 ghost use Rattle.cap_trace.specs.Forms.{a_call};
 ghost use Rattle.cap_trace.specs.Reading.{Gives, said_at, fds_from};
-ghost use Rattle.cap_trace.specs.Seen.{call_seen, said_seen, fds_in, is_call_form};
+ghost use Rattle.cap_trace.specs.Views.{call_view, said_view, fds_in, is_call_form};
 
+use crate::arguments::Arguments::{Five, Four, One, Three, Two, Zero};
 use crate::calls::{DupCommand, Form, SendCall};
 use crate::fault::FirstFault;
-use crate::few::Few::{Five, Four, One, Three, Two, Zero};
 use crate::line::{Call, Item};
-use crate::parts::{Parts, few_parts};
+use crate::parts::{Parts, argument_parts};
 use crate::scan_fields::{command_of, dir_of, fd_of, flags_of, free_of, path_of, rights_of};
-use crate::seen::Said;
+use crate::view::Said;
 
 /// `sendto(fd,DEST)`
 fn send_to<'a>(call: SendCall, fd: &[u8], word: &[u8]) -> Result<Call<'a>, FirstFault>
-    ensures { Gives (λ c. a_call (call_seen c)) result
+    ensures { Gives (λ c. a_call (call_view c)) result
         (said_at (listed (forms.Send call)) (fd.now ∷ word.now ∷ [])) }
 {
     let fd = fd_of(fd)?;
@@ -31,7 +31,7 @@ fn send_to<'a>(call: SendCall, fd: &[u8], word: &[u8]) -> Result<Call<'a>, First
 
 /// `fcntl(fd,F_SETFD,flags)`, `fcntl(fd,F_DUP2FD,fd)`, `fcntl(fd,F_DUP2FD_CLOEXEC,fd)`
 fn fcntl_three<'a>(fd: &[u8], word: &[u8], third: &'a [u8]) -> Result<Call<'a>, FirstFault>
-    ensures { Gives (λ c. a_call (call_seen c)) result
+    ensures { Gives (λ c. a_call (call_view c)) result
         (said_at (listed forms.Fcntl) (fd.now ∷ word.now ∷ third.now ∷ [])) }
 {
     if word == b"F_SETFD".as_slice() {
@@ -66,7 +66,7 @@ fn rising(args: &[u8]) -> Result<(), FirstFault>
 
 /// The arguments of a call that has no form of its own.
 pub(crate) fn other<'a>(name: &'a [u8], args: &'a [u8]) -> Result<Call<'a>, FirstFault>
-    ensures { Gives (λ c. a_call (call_seen c)) result (said_at (unlisted name.now) (args.now ∷ [])) }
+    ensures { Gives (λ c. a_call (call_view c)) result (said_at (unlisted name.now) (args.now ∷ [])) }
 {
     Ok(Call::Other(name, free_of(args)?))
 }
@@ -74,7 +74,7 @@ pub(crate) fn other<'a>(name: &'a [u8], args: &'a [u8]) -> Result<Call<'a>, Firs
 /// What a call says of one argument.
 fn call_of_one<'a>(form: Form, text: &'a [u8]) -> Result<Call<'a>, FirstFault>
     requires { IsTrue (is_call_form form) }
-    ensures { Gives (λ c. a_call (call_seen c)) result (said_at (listed form) (text.now ∷ [])) }
+    ensures { Gives (λ c. a_call (call_view c)) result (said_at (listed form) (text.now ∷ [])) }
 {
     match form {
         Form::OnFd(call) => Ok(Call::OnFd(call, fd_of(text)?)),
@@ -88,7 +88,7 @@ fn call_of_one<'a>(form: Form, text: &'a [u8]) -> Result<Call<'a>, FirstFault>
 /// What a call says of two arguments.
 fn call_of_two<'a>(form: Form, first: &'a [u8], second: &'a [u8]) -> Result<Call<'a>, FirstFault>
     requires { IsTrue (is_call_form form) }
-    ensures { Gives (λ c. a_call (call_seen c)) result (said_at (listed form) (first.now ∷ second.now ∷ [])) }
+    ensures { Gives (λ c. a_call (call_view c)) result (said_at (listed form) (first.now ∷ second.now ∷ [])) }
 {
     match form {
         Form::Send(call) => send_to(call, first, second),
@@ -111,7 +111,7 @@ fn call_of_three<'a>(
     third: &'a [u8],
 ) -> Result<Call<'a>, FirstFault>
     requires { IsTrue (is_call_form form) }
-    ensures { Gives (λ c. a_call (call_seen c)) result
+    ensures { Gives (λ c. a_call (call_view c)) result
         (said_at (listed form) (first.now ∷ second.now ∷ third.now ∷ [])) }
 {
     match form {
@@ -131,9 +131,9 @@ fn call_of_three<'a>(
 /// What a call that has a form of its own says, of its arguments.
 fn call<'a>(form: Form, args: &'a [u8]) -> Result<Call<'a>, FirstFault>
     requires { IsTrue (is_call_form form) }
-    ensures { Gives (λ c. a_call (call_seen c)) result (said_at (listed form) (pieces args.now)) }
+    ensures { Gives (λ c. a_call (call_view c)) result (said_at (listed form) (pieces args.now)) }
 {
-    match (form, few_parts(args)) {
+    match (form, argument_parts(args)) {
         (Form::Bare(call), Some(Zero)) => Ok(Call::Bare(call)),
         (_, Some(One(text))) => call_of_one(form, text),
         (_, Some(Two(first, second))) => call_of_two(form, first, second),
@@ -151,18 +151,18 @@ fn call<'a>(form: Form, args: &'a [u8]) -> Result<Call<'a>, FirstFault>
 
 /// What a call or a marker that has a form of its own says, without its answer.
 pub(crate) fn said<'a>(form: Form, args: &'a [u8]) -> Result<Said<'a>, FirstFault>
-    ensures { Gives said_seen result (said_at (listed form) (pieces args.now)) }
+    ensures { Gives said_view result (said_at (listed form) (pieces args.now)) }
 {
     match form {
         Form::Start => {
             rising(args)?;
             Ok(Said::Marker(Item::Start(args)))
         }
-        Form::Exit => match few_parts(args) {
+        Form::Exit => match argument_parts(args) {
             Some(Zero) => Ok(Said::Marker(Item::Exit)),
             _ => Err(FirstFault::Argument),
         },
-        Form::Foreign => match few_parts(args) {
+        Form::Foreign => match argument_parts(args) {
             Some(One(fd)) => Ok(Said::Marker(Item::Foreign(fd_of(fd)?))),
             _ => Err(FirstFault::Argument),
         },

@@ -4,14 +4,14 @@
 ghost use Rattle.std.specs.Prelude.{◌≡◌, IfOk, Ok};
 
 use crate::calls::{
-    AtCall, AtFlagsCall, BareCall, DupCommand, FdCall, FlagsCall, Form, Kind, PathCall, PathsCall,
-    SendCall,
+    AtCall, AtFlagsCall, BareCall, DupCommand, FdCall, FlagsCall, Form, PathCall, PathsCall,
+    ResultKind, SendCall,
 };
 use crate::names::Head;
 use crate::parse::read;
 use crate::quotes::cut;
 use crate::scan_fields::pid_of;
-use crate::seen::fcntl_kind;
+use crate::view::fcntl_kind;
 use cap_rights::{NoMemory, RightSet};
 use std::alloc::Global;
 use std::marker::Model;
@@ -37,7 +37,7 @@ pub enum Call<'a> {
     OnFd(FdCall, Fd),
     /// `sendto(fd)`, `sendmsg(fd)`.
     Send(SendCall, Fd),
-    /// The same with `DEST`: a destination was given.
+    /// `sendto(fd,DEST)`, `sendmsg(fd,DEST)`: a destination was given.
     SendTo(SendCall, Fd),
     /// `accept4(fd,flags)`.
     Accept4(Fd, &'a [u8]),
@@ -79,12 +79,12 @@ pub enum Call<'a> {
 
 impl<'a> Call<'a> {
     ghost use Rattle.cap_trace.specs.Entry.{head_of_call, kind_of};
-    ghost use Rattle.cap_trace.specs.Rows.{head_seen};
-    ghost use Rattle.cap_trace.specs.Seen.{call_seen};
+    ghost use Rattle.cap_trace.specs.Rows.{head_view};
+    ghost use Rattle.cap_trace.specs.Views.{call_view};
 
     /// What stands before the arguments.
     pub(crate) fn head(&self) -> Head<'a>
-        ensures { head_seen result ≡ head_of_call (call_seen self.now) }
+        ensures { head_view result ≡ head_of_call (call_view self.now) }
     {
         Head::Listed(match self {
             Call::OnFd(call, _) => Form::OnFd(*call),
@@ -109,11 +109,11 @@ impl<'a> Call<'a> {
     }
 
     /// What the call answers where it doesn't fail.
-    pub(crate) fn kind(&self) -> Kind
-        ensures { result ≡ kind_of (call_seen self.now) }
+    pub(crate) fn kind(&self) -> ResultKind
+        ensures { result ≡ kind_of (call_view self.now) }
     {
         match self {
-            Call::Dup2(_, fd) | Call::FcntlDup(_, _, fd) => Kind::Same(*fd),
+            Call::Dup2(_, fd) | Call::FcntlDup(_, _, fd) => ResultKind::Same(*fd),
             Call::Fcntl(_, command) => fcntl_kind(command),
             _ => self.head().kind(),
         }
@@ -122,7 +122,7 @@ impl<'a> Call<'a> {
     /// The same call once more. It is copied form by form, since only so there is a proof.
     #[inline(always)]
     fn copied(&self) -> Call<'a>
-        ensures { call_seen result ≡ call_seen self.now }
+        ensures { call_view result ≡ call_view self.now }
     {
         match self {
             Call::OnFd(call, fd) => Call::OnFd(*call, *fd),
@@ -178,12 +178,12 @@ pub enum Item<'a> {
 
 impl<'a> Item<'a> {
     ghost use Rattle.cap_trace.specs.Entry.{head_of};
-    ghost use Rattle.cap_trace.specs.Rows.{head_seen};
-    ghost use Rattle.cap_trace.specs.Seen.{item_seen};
+    ghost use Rattle.cap_trace.specs.Rows.{head_view};
+    ghost use Rattle.cap_trace.specs.Views.{item_view};
 
     /// What stands before the arguments.
     pub(crate) fn head(&self) -> Head<'a>
-        ensures { head_seen result ≡ head_of (item_seen self.now) }
+        ensures { head_view result ≡ head_of (item_view self.now) }
     {
         match self {
             Item::Call { call, .. } => call.head(),
@@ -207,12 +207,12 @@ impl<'a> Model for LineRef<'a> {
 
     ghost Value = { Entry };
 
-    ghost use Rattle.cap_trace.specs.Seen.{item_seen};
+    ghost use Rattle.cap_trace.specs.Views.{item_view};
     ghost use Rattle.cap_trace.specs.Spelling.{IsProper};
 
-    ghost view = { λ l. record { pid = l.pid; item = item_seen l.item } };
+    ghost view = { λ l. record { pid = l.pid; item = item_view l.item } };
 
-    ghost invariant = { λ l. IsProper (record { pid = l.pid; item = item_seen l.item }) };
+    ghost invariant = { λ l. IsProper (record { pid = l.pid; item = item_view l.item }) };
 }
 
 impl<'a> LineRef<'a> {
@@ -220,12 +220,12 @@ impl<'a> LineRef<'a> {
     ghost use Rattle.cap_trace.specs.Names.{name_of};
     ghost use Rattle.cap_trace.specs.Reading.{line_of};
 
-    /// The same line, which keeps these bytes that spell it.
+    /// An owned copy of the line, which keeps these bytes that spell it.
     ///
     /// # Errors
     ///
     /// [`NoMemory`] where memory ran out.
-    pub fn kept(&self, alloc: Global, bytes: &[u8]) -> Result<Line, NoMemory>
+    pub fn to_line(&self, alloc: Global, bytes: &[u8]) -> Result<Line, NoMemory>
         requires spelled { line_of bytes.now ≡ Ok self.now }
         ensures { IfOk result (λ l. l ≡ self.now) }
     {
@@ -282,7 +282,7 @@ impl Line {
     ghost use Rattle.cap_trace.specs.Names.{name_of};
 
     /// What the line says. It is read from its text, and takes no memory.
-    pub fn seen(&self) -> LineRef<'_>
+    pub fn view(&self) -> LineRef<'_>
         ensures { result ≡ self.now }
     {
         match read(&self.text) {
@@ -306,7 +306,7 @@ impl Line {
     pub fn name(&self) -> &[u8]
         ensures { result.now ≡ name_of (head_of self.now.item) }
     {
-        self.seen().name()
+        self.view().name()
     }
 }
 

@@ -4,24 +4,24 @@ ghost use Rattle.std.specs.Prelude.{◌≡◌, ◌&&◌, IfOk, length, nat_le};
 ghost use Rattle.std.specs.List.{list_all};
 ghost use Rattle.cap_trace.specs.declared.fault.LineFault.TheVariants.{Argument};
 ghost use Rattle.cap_trace.specs.declared.line.Answer.TheVariants as answers;
-ghost use Rattle.cap_trace.specs.Seen.{fds_spelled};
+ghost use Rattle.cap_trace.specs.Views.{fds_spelled};
 ghost use Rattle.cap_trace.specs.Names.{unlisted};
 ghost use Rattle.cap_trace.specs.Entry.{args_of_call, head_of_call};
-ghost use Rattle.cap_trace.specs.Seen.{arg_seen, call_seen, item_seen};
+ghost use Rattle.cap_trace.specs.Views.{arg_view, call_view, item_view};
 ghost use Rattle.cap_trace.specs.Limits.{longest_line};
 ghost use Rattle.cap_trace.specs.Spelling.{canon};
 ghost use Rattle.cap_trace.specs.Making.{MakesWhere, IsLineOf, is_fd, is_pid, is_good, are_good, is_head, is_answer};
 ghost use Rattle.cap_trace.specs.Making.{all_rise, is_good_item, is_named, has_named_rights};
 
-use crate::args::ArgSeen;
-use crate::calls::Kind;
+use crate::args::ArgRef;
+use crate::arguments::Arguments;
+use crate::calls::ResultKind;
 use crate::fault::LineFault;
-use crate::few::Few;
-use crate::fields::{items, spells_arguments, spells_command, spells_flags};
+use crate::fields::{is_valid_arguments, is_valid_command, is_valid_flags, items};
 use crate::limits::{LARGEST_FD, LARGEST_PID, LONGEST_LINE};
 use crate::line::{Answer, Call, Dir, Fd, Item, Line, Pid};
 use crate::names::{form_of, is_call_name};
-use crate::seen::fds_of;
+use crate::view::fds_of;
 use crate::write::{put_fds, put_text};
 use cap_rights::{NoMemory, RightSet, parse_rights, write_rights};
 use std::alloc::Global;
@@ -29,7 +29,7 @@ use std::marker::Model;
 
 /// Whether a text is the name of a call that has no form of its own: of `a` to `z`, `0` to `9` and `_`, not beginning
 /// with a digit, and no name that has a form.
-pub fn spells_name(text: &[u8]) -> bool
+pub fn is_valid_name(text: &[u8]) -> bool
     ensures { result ≡ is_head (unlisted text.now) }
 {
     is_call_name(text) && form_of(text).is_none()
@@ -63,78 +63,83 @@ fn rise(fds: &[Fd]) -> bool
 }
 
 /// Whether an argument has a text; of rights see `rights_are_named`.
-fn arg_fits(arg: &ArgSeen<'_>) -> bool
-    ensures { result ≡ is_good (arg_seen arg.now) }
+fn arg_fits(arg: &ArgRef<'_>) -> bool
+    ensures { result ≡ is_good (arg_view arg.now) }
 {
     match arg {
-        ArgSeen::Fd(fd) | ArgSeen::Dir(Dir::Fd(fd)) => fd_fits(*fd),
-        ArgSeen::Flags(text) => spells_flags(text),
-        ArgSeen::Path(text) => items(text),
-        ArgSeen::Command(text) => spells_command(text),
-        ArgSeen::Free(text) => spells_arguments(text),
-        ArgSeen::Dir(Dir::Cwd)
-        | ArgSeen::Rights(_)
-        | ArgSeen::Dest
-        | ArgSeen::SetFd
-        | ArgSeen::DupTo(_) => true,
+        ArgRef::Fd(fd) | ArgRef::Dir(Dir::Fd(fd)) => fd_fits(*fd),
+        ArgRef::Flags(text) => is_valid_flags(text),
+        ArgRef::Path(text) => items(text),
+        ArgRef::Command(text) => is_valid_command(text),
+        ArgRef::Free(text) => is_valid_arguments(text),
+        ArgRef::Dir(Dir::Cwd)
+        | ArgRef::Rights(_)
+        | ArgRef::Dest
+        | ArgRef::SetFd
+        | ArgRef::DupTo(_) => true,
     }
 }
 
 fn args_fit(call: &Call<'_>) -> bool
-    ensures { result ≡ are_good (args_of_call (call_seen call.now)) }
+    ensures { result ≡ are_good (args_of_call (call_view call.now)) }
 {
     match call.args() {
-        Few::Zero => true,
-        Few::One(a) => all_fit(&[a]),
-        Few::Two(a, b) => all_fit(&[a, b]),
-        Few::Three(a, b, c) => all_fit(&[a, b, c]),
-        Few::Four(a, b, c, d) => all_fit(&[a, b, c, d]),
-        Few::Five(a, b, c, d, e) => all_fit(&[a, b, c, d, e]),
+        Arguments::Zero => true,
+        Arguments::One(a) => all_fit(&[a]),
+        Arguments::Two(a, b) => all_fit(&[a, b]),
+        Arguments::Three(a, b, c) => all_fit(&[a, b, c]),
+        Arguments::Four(a, b, c, d) => all_fit(&[a, b, c, d]),
+        Arguments::Five(a, b, c, d, e) => all_fit(&[a, b, c, d, e]),
     }
 }
 
-fn all_fit(args: &[ArgSeen<'_>]) -> bool
-    ensures { result ≡ list_all (λ a. is_good (arg_seen a)) args.now }
+fn all_fit(args: &[ArgRef<'_>]) -> bool
+    ensures { result ≡ list_all (λ a. is_good (arg_view a)) args.now }
 {
     args.iter().all(|arg| arg_fits(arg))
 }
 
 fn name_fits(call: &Call<'_>) -> bool
-    ensures { result ≡ is_head (head_of_call (call_seen call.now)) }
+    ensures { result ≡ is_head (head_of_call (call_view call.now)) }
 {
     match call {
-        Call::Other(name, _) => spells_name(name),
+        Call::Other(name, _) => is_valid_name(name),
         _ => true,
     }
 }
 
 /// Whether a number is an answer of this kind.
-fn number_fits(kind: Kind, number: u64) -> bool
+fn number_fits(kind: ResultKind, number: u64) -> bool
     ensures { result ≡ is_answer kind (answers.Made number) }
 {
     match kind {
-        Kind::Count | Kind::Any => true,
-        Kind::Zero => number == 0,
-        Kind::Fd => number <= u64::from(LARGEST_FD),
-        Kind::Same(fd) => number == u64::from(fd) && number <= u64::from(LARGEST_FD),
-        Kind::Child => number <= u64::from(LARGEST_PID),
-        Kind::FdPair | Kind::ChildAndFd => false,
+        ResultKind::Count | ResultKind::Any => true,
+        ResultKind::Zero => number == 0,
+        ResultKind::Fd => number <= u64::from(LARGEST_FD),
+        ResultKind::Same(fd) => number == u64::from(fd) && number <= u64::from(LARGEST_FD),
+        ResultKind::Child => number <= u64::from(LARGEST_PID),
+        ResultKind::FdPair | ResultKind::ChildAndFd => false,
     }
 }
 
 /// Whether two numbers are an answer of this kind.
-fn pair_fits(kind: Kind, first: u64, second: u64) -> bool
+fn pair_fits(kind: ResultKind, first: u64, second: u64) -> bool
     ensures { result ≡ is_answer kind (answers.Pair first second) }
 {
     match kind {
-        Kind::Any => true,
-        Kind::FdPair => first <= u64::from(LARGEST_FD) && second <= u64::from(LARGEST_FD),
-        Kind::ChildAndFd => first <= u64::from(LARGEST_PID) && second <= u64::from(LARGEST_FD),
-        Kind::Count | Kind::Zero | Kind::Fd | Kind::Same(_) | Kind::Child => false,
+        ResultKind::Any => true,
+        ResultKind::FdPair => first <= u64::from(LARGEST_FD) && second <= u64::from(LARGEST_FD),
+        ResultKind::ChildAndFd => first <= u64::from(LARGEST_PID)
+            && second <= u64::from(LARGEST_FD),
+        ResultKind::Count
+        | ResultKind::Zero
+        | ResultKind::Fd
+        | ResultKind::Same(_)
+        | ResultKind::Child => false,
     }
 }
 
-fn answer_fits(kind: Kind, answer: Answer) -> bool
+fn answer_fits(kind: ResultKind, answer: Answer) -> bool
     ensures { result ≡ is_answer kind answer }
 {
     match answer {
@@ -145,7 +150,7 @@ fn answer_fits(kind: Kind, answer: Answer) -> bool
 }
 
 fn item_fits(alloc: Global, item: &Item<'_>) -> Result<bool, NoMemory>
-    ensures { IfOk result (λ b. b ≡ is_good_item (item_seen item.now)) }
+    ensures { IfOk result (λ b. b ≡ is_good_item (item_view item.now)) }
 {
     Ok(match item {
         Item::Call { call, answer } => {
@@ -170,7 +175,7 @@ fn is_read_again(alloc: Global, rights: &RightSet) -> Result<bool, NoMemory>
 }
 
 fn rights_are_named(alloc: Global, item: &Item<'_>) -> Result<bool, NoMemory>
-    ensures { IfOk result (λ b. b ≡ has_named_rights (item_seen item.now)) }
+    ensures { IfOk result (λ b. b ≡ has_named_rights (item_view item.now)) }
 {
     match item {
         Item::Call {
@@ -182,7 +187,8 @@ fn rights_are_named(alloc: Global, item: &Item<'_>) -> Result<bool, NoMemory>
 }
 
 fn fields_fit(alloc: Global, pid: Pid, item: &Item<'_>) -> Result<bool, NoMemory>
-    ensures { IfOk result (λ b. b ≡ (is_pid pid && is_good_item (item_seen item.now) && has_named_rights (item_seen item.now))) }
+    ensures { IfOk result (λ b. b ≡
+        (is_pid pid && is_good_item (item_view item.now) && has_named_rights (item_view item.now))) }
 {
     if pid_fits(pid) && item_fits(alloc, item)? {
         rights_are_named(alloc, item)
@@ -193,7 +199,7 @@ fn fields_fit(alloc: Global, pid: Pid, item: &Item<'_>) -> Result<bool, NoMemory
 
 /// The canonical text of what a line of this process says, whether or not it is a line.
 fn text_of(alloc: Global, pid: Pid, item: &Item<'_>) -> Result<Vec<u8>, NoMemory>
-    ensures { IfOk result (λ v. v.items ≡ canon (record { pid = pid; item = item_seen item.now })) }
+    ensures { IfOk result (λ v. v.items ≡ canon (record { pid = pid; item = item_view item.now })) }
 {
     let mut text = Vec::new(alloc);
     put_text(pid, item, &mut text)?;
@@ -214,7 +220,7 @@ pub struct Fds {
 
 impl Model for Fds {
     ghost use Rattle.std.specs.Prelude.{List, ℕ};
-    ghost use Rattle.cap_trace.specs.Seen.{fds_spelled};
+    ghost use Rattle.cap_trace.specs.Views.{fds_spelled};
 
     ghost Value = { List ℕ };
 
@@ -260,7 +266,7 @@ impl Line {
     ///
     /// [`NoMemory`] where memory ran out.
     pub fn new(alloc: Global, pid: Pid, item: &Item<'_>) -> Result<Option<Line>, NoMemory>
-        ensures { IfOk result (λ o. IsLineOf (record { pid = pid; item = item_seen item.now }) o) }
+        ensures { IfOk result (λ o. IsLineOf (record { pid = pid; item = item_view item.now }) o) }
     {
         if !fields_fit(alloc, pid, item)? {
             return Ok(None);

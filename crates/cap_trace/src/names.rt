@@ -7,9 +7,9 @@ ghost use Rattle.cap_trace.specs.Names.{row_of, dup_command_name, form_named, al
 ghost use Rattle.cap_trace.specs.Names.{name_of, head_named, on_fd};
 ghost use Rattle.cap_trace.specs.Entry.{head_kind};
 ghost use Rattle.cap_trace.specs.Slots.{slot_at, slots};
-ghost use Rattle.cap_trace.specs.Rows.{table_row, in_table, head_seen};
+ghost use Rattle.cap_trace.specs.Rows.{table_row, in_table, head_view};
 
-use crate::calls::Kind::{self, Child, ChildAndFd, Count, Fd, FdPair, Zero};
+use crate::calls::ResultKind::{self, Child, ChildAndFd, Count, Fd, FdPair, Zero};
 use crate::calls::{
     AtCall, AtFlagsCall, BareCall, DupCommand, FdCall, FlagsCall, Form, PathCall, PathsCall,
     SendCall,
@@ -18,7 +18,11 @@ use crate::equal::{ends, same_by_ends};
 
 /// A row of the table: the name, its form, and the result of a call that doesn't fail.
 #[derive(Clone, Copy)]
-pub(crate) struct Row(pub(crate) &'static [u8], pub(crate) Form, pub(crate) Kind);
+pub(crate) struct Row(
+    pub(crate) &'static [u8],
+    pub(crate) Form,
+    pub(crate) ResultKind,
+);
 
 /// The table.
 // tools/name_slots: rows
@@ -201,7 +205,7 @@ impl Form {
 
     /// What a call of this form answers where it doesn't fail, if its arguments don't decide.
     #[inline(always)]
-    pub(crate) fn kind(self) -> Kind
+    pub(crate) fn kind(self) -> ResultKind
         ensures { result ≡ (row_of self).kind }
     {
         self.row().2
@@ -210,7 +214,7 @@ impl Form {
 
 impl FdCall {
     /// What the call answers where it doesn't fail. The table says the same, with more instructions.
-    pub(crate) fn kind(self) -> Kind
+    pub(crate) fn kind(self) -> ResultKind
         ensures { result ≡ (on_fd self).kind }
     {
         match self {
@@ -344,7 +348,7 @@ pub(crate) enum Head<'a> {
 impl<'a> Head<'a> {
     /// The name.
     pub(crate) fn name(self) -> &'a [u8]
-        ensures { result.now ≡ name_of (head_seen self.entry) }
+        ensures { result.now ≡ name_of (head_view self.entry) }
     {
         match self {
             Head::Listed(form) => form.name(),
@@ -353,12 +357,12 @@ impl<'a> Head<'a> {
     }
 
     /// What a call with this name answers where it doesn't fail, if its arguments don't decide.
-    pub(crate) fn kind(self) -> Kind
-        ensures { result ≡ head_kind (head_seen self.entry) }
+    pub(crate) fn kind(self) -> ResultKind
+        ensures { result ≡ head_kind (head_view self.entry) }
     {
         match self {
             Head::Listed(form) => form.kind(),
-            Head::Unlisted(_) => Kind::Any,
+            Head::Unlisted(_) => ResultKind::Any,
         }
     }
 }
@@ -366,7 +370,7 @@ impl<'a> Head<'a> {
 /// The form of a name, where it is one.
 #[inline(always)]
 pub(crate) fn head_of(name: &[u8]) -> Option<Head<'_>>
-    ensures { option_map head_seen result ≡ head_named name.now }
+    ensures { option_map head_view result ≡ head_named name.now }
 {
     match form_of(name) {
         Some(form) => Some(Head::Listed(form)),

@@ -2,8 +2,8 @@
 
 ghost use Rattle.std.specs.Prelude.{◌≡◌, ℕ, List, IfOk, IfSome, Ok, Err};
 ghost use Rattle.cap_trace.specs.Reading.{line_of};
-ghost use Rattle.cap_trace.specs.Rows.{head_seen};
-ghost use Rattle.cap_trace.specs.Quick.{Starts};
+ghost use Rattle.cap_trace.specs.Rows.{head_view};
+ghost use Rattle.cap_trace.specs.FastPath.{Starts};
 ghost use Rattle.cap_trace.specs.declared.fault.LineFault.TheVariants.{Memory};
 ghost use Rattle.cap_trace.specs.Spelling.{Spells};
 ghost use Rattle.cap_trace.specs.Parsing.{SpellsSome, FaultsAreExact, ReadsOnly, MatchesReading, OneLine};
@@ -11,18 +11,18 @@ ghost use Rattle.cap_trace.specs.Parsing.{ReadingIsSpelling, WrittenIsRead};
 ghost use Rattle.cap_trace.specs.Rewriting.{OnlyRightsAreRewritten};
 
 use crate::calls::Form;
+use crate::fast_path::{Start, call_after, on_fd, start_of};
 use crate::fault::LineFault;
 use crate::line::{Call, Item, Line, LineRef};
 use crate::names::Head;
-use crate::quick::{Start, call_after, on_fd, start_of};
 use crate::scan::line;
 use std::alloc::Global;
 
 /// What the rest of a line says, where that is read in one pass.
 #[inline(always)]
-fn other_soon(start: Start<'_>) -> Option<LineRef<'_>>
-    requires { (bytes : List ℕ) × Starts bytes start.pid (head_seen start.head) start.text.now }
-    ensures { (bytes : List ℕ) → Starts bytes start.entry.pid (head_seen start.entry.head) start.entry.text.now
+fn other_fast(start: Start<'_>) -> Option<LineRef<'_>>
+    requires { (bytes : List ℕ) × Starts bytes start.pid (head_view start.head) start.text.now }
+    ensures { (bytes : List ℕ) → Starts bytes start.entry.pid (head_view start.entry.head) start.entry.text.now
         → IfSome result (λ l. line_of bytes ≡ Ok l) }
 {
     match call_after(start.head, start.text) {
@@ -38,16 +38,16 @@ fn other_soon(start: Start<'_>) -> Option<LineRef<'_>>
 ///
 /// A call on one descriptor, which two lines of three have, is told from the others first.
 #[inline(always)]
-pub fn read_soon(bytes: &[u8]) -> Option<LineRef<'_>>
+pub fn read_fast(bytes: &[u8]) -> Option<LineRef<'_>>
     // What is read is what reading from the left gives.
     ensures { IfSome result (λ l. line_of bytes.now ≡ Ok l) }
 {
     let start = start_of(bytes)?;
     let Head::Listed(form) = start.head else {
-        return other_soon(start);
+        return other_fast(start);
     };
     let Form::OnFd(call) = form else {
-        return other_soon(start);
+        return other_fast(start);
     };
     let (fd, answer) = on_fd(call, start.text)?;
     let call = Call::OnFd(call, fd);
@@ -63,7 +63,7 @@ pub fn read_soon(bytes: &[u8]) -> Option<LineRef<'_>>
 ///
 /// The first fault of the bytes, from the left. It is never [`LineFault::Memory`].
 #[inline(never)]
-pub fn read_with_care(bytes: &[u8]) -> Result<LineRef<'_>, LineFault>
+pub fn read_slow(bytes: &[u8]) -> Result<LineRef<'_>, LineFault>
     ensures read { MatchesReading bytes.now result }
     ensures memory { result ≡ Err Memory → ⊥ }
 {
@@ -78,9 +78,9 @@ pub(crate) fn read(bytes: &[u8]) -> Result<LineRef<'_>, LineFault>
     ensures read { MatchesReading bytes.now result }
     ensures memory { result ≡ Err Memory → ⊥ }
 {
-    match read_soon(bytes) {
+    match read_fast(bytes) {
         Some(line) => Ok(line),
-        None => read_with_care(bytes),
+        None => read_slow(bytes),
     }
 }
 
@@ -106,7 +106,7 @@ pub fn parse_line(alloc: Global, bytes: &[u8]) -> Result<Line, LineFault>
     ensures reads { MatchesReading bytes.now result }
 {
     match read(bytes) {
-        Ok(line) => match line.kept(alloc, bytes) {
+        Ok(line) => match line.to_line(alloc, bytes) {
             Ok(line) => Ok(line),
             Err(_) => Err(LineFault::Memory),
         },

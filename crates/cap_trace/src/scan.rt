@@ -2,7 +2,7 @@
 
 ghost use Rattle.cap_trace.specs.Names.{listed, unlisted};
 ghost use Rattle.cap_trace.specs.Reading.{Gives, after_bracket, item_at, line_of};
-ghost use Rattle.cap_trace.specs.Seen.{item_seen};
+ghost use Rattle.cap_trace.specs.Views.{item_view};
 
 use crate::answers::answer;
 use crate::calls::Form;
@@ -13,12 +13,12 @@ use crate::line::{Item, Pid};
 use crate::names::{Head, head_of};
 use crate::quotes::{cut, cut_outside_quotes};
 use crate::scan_fields::pid_of;
-use crate::seen::Said;
+use crate::view::Said;
 
 /// What follows the opening bracket, where the name has a form of its own.
 #[tactic(auto, unfolding(crate::specs::Reading::ended))]
 fn listed_item<'a>(form: Form, rest: &'a [u8]) -> Result<Item<'a>, FirstFault>
-    ensures { Gives item_seen result (after_bracket (listed form) rest.now) }
+    ensures { Gives item_view result (after_bracket (listed form) rest.now) }
 {
     let Some((args, tail)) = cut_outside_quotes(b')', rest) else {
         return Err(FirstFault::Shape);
@@ -37,7 +37,7 @@ fn listed_item<'a>(form: Form, rest: &'a [u8]) -> Result<Item<'a>, FirstFault>
 /// What follows the opening bracket, where the name has none.
 #[tactic(auto, unfolding(crate::specs::Reading::ended))]
 fn unlisted_item<'a>(name: &'a [u8], rest: &'a [u8]) -> Result<Item<'a>, FirstFault>
-    ensures { Gives item_seen result (after_bracket (unlisted name.now) rest.now) }
+    ensures { Gives item_view result (after_bracket (unlisted name.now) rest.now) }
 {
     let Some((args, tail)) = cut(b')', rest) else {
         return Err(FirstFault::Shape);
@@ -54,7 +54,7 @@ fn unlisted_item<'a>(name: &'a [u8], rest: &'a [u8]) -> Result<Item<'a>, FirstFa
 /// What follows the pid.
 #[tactic(auto, unfolding(crate::specs::Reading::item_at))]
 fn item(text: &[u8]) -> Result<Item<'_>, FirstFault>
-    ensures { Gives item_seen result (item_at text.now) }
+    ensures { Gives item_view result (item_at text.now) }
 {
     let Some((name, rest)) = cut(b'(', text) else {
         return Err(FirstFault::Shape);
@@ -69,7 +69,7 @@ fn item(text: &[u8]) -> Result<Item<'_>, FirstFault>
 /// What a line says, or its first fault.
 #[tactic(auto, unfolding(crate::specs::Reading::line_of, crate::specs::Reading::entry_at))]
 pub(crate) fn line(bytes: &[u8]) -> Result<(Pid, Item<'_>), FirstFault>
-    ensures { Gives (λ l. record { pid = l.0; item = item_seen l.1 }) result (line_of bytes.now) }
+    ensures { Gives (λ l. record { pid = l.0; item = item_view l.1 }) result (line_of bytes.now) }
 {
     if bytes.len() > LONGEST_LINE {
         return Err(FirstFault::LongLine);

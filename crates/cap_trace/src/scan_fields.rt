@@ -6,7 +6,7 @@ ghost use Rattle.cap_trace.specs.Reading.{Gives, pid_at, fd_at, rights_at, dir_a
 ghost use Rattle.cap_trace.specs.Reading.{free_at};
 
 use crate::fault::FirstFault;
-use crate::fields::{items, spells_arguments, spells_command, spells_flags};
+use crate::fields::{is_valid_arguments, is_valid_command, is_valid_flags, items};
 use crate::limits::{LARGEST_FD, LARGEST_PID};
 use crate::line::{Dir, Fd, Pid};
 use crate::number::number_of;
@@ -54,7 +54,7 @@ pub(crate) fn dir_of(text: &[u8]) -> Result<Dir, FirstFault>
 pub(crate) fn flags_of(text: &[u8]) -> Result<&[u8], FirstFault>
     ensures { Gives (λ f. f.now) result (flags_at text.now) }
 {
-    spells_flags(text)
+    is_valid_flags(text)
         .then_some(text)
         .ok_or(FirstFault::Argument)
 }
@@ -63,7 +63,7 @@ pub(crate) fn flags_of(text: &[u8]) -> Result<&[u8], FirstFault>
 pub(crate) fn command_of(text: &[u8]) -> Result<&[u8], FirstFault>
     ensures { Gives (λ c. c.now) result (command_at text.now) }
 {
-    spells_command(text)
+    is_valid_command(text)
         .then_some(text)
         .ok_or(FirstFault::Argument)
 }
@@ -86,7 +86,7 @@ pub(crate) fn path_of(text: &[u8]) -> Result<&[u8], FirstFault>
 pub(crate) fn free_of(text: &[u8]) -> Result<&[u8], FirstFault>
     ensures { Gives (λ a. a.now) result (free_at text.now) }
 {
-    spells_arguments(text)
+    is_valid_arguments(text)
         .then_some(text)
         .ok_or(FirstFault::Shape)
 }

@@ -9,13 +9,13 @@ ghost use Rattle.cap_trace.specs.Names.{name_of};
 ghost use Rattle.cap_trace.specs.Fields.{quoted};
 ghost use Rattle.cap_trace.specs.Entry.{args_of_call, args_of, fds as fd_args, head_of};
 ghost use Rattle.cap_trace.specs.Spelling.{Spells, arg_text, answer_text, tail_text, canon};
-ghost use Rattle.cap_trace.specs.Seen.{call_seen, fds_spelled, item_seen};
+ghost use Rattle.cap_trace.specs.Views.{call_view, fds_spelled, item_view};
 ghost use Rattle.cap_trace.specs.Writing.{shown_text, with_commas};
 
-use crate::args::ArgSeen;
-use crate::few::Few;
+use crate::args::ArgRef;
+use crate::arguments::Arguments;
 use crate::line::{Answer, Call, Dir, Fd, Item, Line, LineRef, Pid};
-use crate::seen::fds_of;
+use crate::view::fds_of;
 use cap_rights::{NoMemory, write_rights};
 use itoa::Buffer;
 use std::alloc::AllocError;
@@ -36,26 +36,26 @@ fn put_path(path: &[u8], out: &mut Vec<u8>) -> Result<(), AllocError>
     out.extend_from_slice(b"\"")
 }
 
-fn put_argument(argument: &ArgSeen<'_>, out: &mut Vec<u8>) -> Result<(), AllocError>
+fn put_argument(argument: &ArgRef<'_>, out: &mut Vec<u8>) -> Result<(), AllocError>
     ensures ok { OnOk result (out.new.items ≡ out.old.items ++ shown_text argument.now) }
     ensures err { OnErr result (take (length out.old.items) out.new.items ≡ out.old.items) }
 {
     match argument {
-        ArgSeen::Fd(fd) | ArgSeen::Dir(Dir::Fd(fd)) => put_number(u64::from(*fd), out),
-        ArgSeen::Dir(Dir::Cwd) => out.extend_from_slice(b"AT_FDCWD"),
-        ArgSeen::Flags(text) | ArgSeen::Command(text) | ArgSeen::Free(text) => {
+        ArgRef::Fd(fd) | ArgRef::Dir(Dir::Fd(fd)) => put_number(u64::from(*fd), out),
+        ArgRef::Dir(Dir::Cwd) => out.extend_from_slice(b"AT_FDCWD"),
+        ArgRef::Flags(text) | ArgRef::Command(text) | ArgRef::Free(text) => {
             out.extend_from_slice(text)
         }
-        ArgSeen::Path(path) => put_path(path, out),
-        ArgSeen::Rights(rights) => write_rights(rights, out).map_err(|_| AllocError),
-        ArgSeen::Dest => out.extend_from_slice(b"DEST"),
-        ArgSeen::SetFd => out.extend_from_slice(b"F_SETFD"),
-        ArgSeen::DupTo(command) => out.extend_from_slice(command.name()),
+        ArgRef::Path(path) => put_path(path, out),
+        ArgRef::Rights(rights) => write_rights(rights, out).map_err(|_| AllocError),
+        ArgRef::Dest => out.extend_from_slice(b"DEST"),
+        ArgRef::SetFd => out.extend_from_slice(b"F_SETFD"),
+        ArgRef::DupTo(command) => out.extend_from_slice(command.name()),
     }
 }
 
 /// Each argument after a comma.
-fn put_others(others: &[ArgSeen<'_>], out: &mut Vec<u8>) -> Result<(), AllocError>
+fn put_others(others: &[ArgRef<'_>], out: &mut Vec<u8>) -> Result<(), AllocError>
     ensures ok { OnOk result (out.new.items ≡ out.old.items ++ with_commas (map shown_text others.now)) }
     ensures err { OnErr result (take (length out.old.items) out.new.items ≡ out.old.items) }
 {
@@ -67,7 +67,7 @@ fn put_others(others: &[ArgSeen<'_>], out: &mut Vec<u8>) -> Result<(), AllocErro
 }
 
 /// The arguments, with commas between them.
-fn put_arguments(arguments: &[ArgSeen<'_>], out: &mut Vec<u8>) -> Result<(), AllocError>
+fn put_arguments(arguments: &[ArgRef<'_>], out: &mut Vec<u8>) -> Result<(), AllocError>
     ensures ok { OnOk result (out.new.items ≡ out.old.items ++ join_with_byte 44 (map shown_text arguments.now)) }
     ensures err { OnErr result (take (length out.old.items) out.new.items ≡ out.old.items) }
 {
@@ -83,16 +83,16 @@ fn put_arguments(arguments: &[ArgSeen<'_>], out: &mut Vec<u8>) -> Result<(), All
 /// The arguments of a call.
 fn put_call(call: &Call<'_>, out: &mut Vec<u8>) -> Result<(), AllocError>
     ensures ok { OnOk result
-        (out.new.items ≡ out.old.items ++ join_with_byte 44 (map arg_text (args_of_call (call_seen call.now)))) }
+        (out.new.items ≡ out.old.items ++ join_with_byte 44 (map arg_text (args_of_call (call_view call.now)))) }
     ensures err { OnErr result (take (length out.old.items) out.new.items ≡ out.old.items) }
 {
     match call.args() {
-        Few::Zero => Ok(()),
-        Few::One(a) => put_arguments(&[a], out),
-        Few::Two(a, b) => put_arguments(&[a, b], out),
-        Few::Three(a, b, c) => put_arguments(&[a, b, c], out),
-        Few::Four(a, b, c, d) => put_arguments(&[a, b, c, d], out),
-        Few::Five(a, b, c, d, e) => put_arguments(&[a, b, c, d, e], out),
+        Arguments::Zero => Ok(()),
+        Arguments::One(a) => put_arguments(&[a], out),
+        Arguments::Two(a, b) => put_arguments(&[a, b], out),
+        Arguments::Three(a, b, c) => put_arguments(&[a, b, c], out),
+        Arguments::Four(a, b, c, d) => put_arguments(&[a, b, c, d], out),
+        Arguments::Five(a, b, c, d, e) => put_arguments(&[a, b, c, d, e], out),
     }
 }
 
@@ -135,7 +135,8 @@ fn put_start(spelled: &[u8], out: &mut Vec<u8>) -> Result<(), AllocError>
 
 /// What stands between the brackets.
 fn put_between(item: &Item<'_>, out: &mut Vec<u8>) -> Result<(), AllocError>
-    ensures ok { OnOk result (out.new.items ≡ out.old.items ++ join_with_byte 44 (map arg_text (args_of (item_seen item.now)))) }
+    ensures ok { OnOk result (out.new.items ≡ out.old.items
+        ++ join_with_byte 44 (map arg_text (args_of (item_view item.now)))) }
     ensures err { OnErr result (take (length out.old.items) out.new.items ≡ out.old.items) }
 {
     match item {
@@ -166,7 +167,7 @@ fn put_answer(answer: &Answer, out: &mut Vec<u8>) -> Result<(), AllocError>
 
 /// What follows the closing bracket.
 fn put_tail(item: &Item<'_>, out: &mut Vec<u8>) -> Result<(), AllocError>
-    ensures ok { OnOk result (out.new.items ≡ out.old.items ++ tail_text (item_seen item.now)) }
+    ensures ok { OnOk result (out.new.items ≡ out.old.items ++ tail_text (item_view item.now)) }
     ensures err { OnErr result (take (length out.old.items) out.new.items ≡ out.old.items) }
 {
     match item {
@@ -181,7 +182,7 @@ fn put_tail(item: &Item<'_>, out: &mut Vec<u8>) -> Result<(), AllocError>
 /// What stands before the arguments.
 fn put_head(pid: Pid, item: &Item<'_>, out: &mut Vec<u8>) -> Result<(), AllocError>
     ensures ok { OnOk result
-        (out.new.items ≡ out.old.items ++ (decimal pid ++ (32 ∷ (name_of (head_of (item_seen item.now)) ++ 40 ∷ [])))) }
+        (out.new.items ≡ out.old.items ++ (decimal pid ++ (32 ∷ (name_of (head_of (item_view item.now)) ++ 40 ∷ [])))) }
     ensures err { OnErr result (take (length out.old.items) out.new.items ≡ out.old.items) }
 {
     put_number(u64::from(pid), out)?;
@@ -192,7 +193,8 @@ fn put_head(pid: Pid, item: &Item<'_>, out: &mut Vec<u8>) -> Result<(), AllocErr
 
 /// The canonical text of what a line of this process says, whether or not it is a line.
 pub(crate) fn put_text(pid: Pid, item: &Item<'_>, out: &mut Vec<u8>) -> Result<(), AllocError>
-    ensures ok { OnOk result (out.new.items ≡ out.old.items ++ canon (record { pid = pid; item = item_seen item.now })) }
+    ensures ok { OnOk result (out.new.items ≡ out.old.items
+        ++ canon (record { pid = pid; item = item_view item.now })) }
     ensures err { OnErr result (take (length out.old.items) out.new.items ≡ out.old.items) }
 {
     put_head(pid, item, out)?;
@@ -213,7 +215,7 @@ pub fn write_line(line: &Line, out: &mut Vec<u8>) -> Result<(), NoMemory>
     ensures err { OnErr result (out.new.items ≡ out.old.items) }
 {
     let start = out.len();
-    let LineRef { pid, item } = line.seen();
+    let LineRef { pid, item } = line.view();
     // Names the type of a part of what is held, which the check has to be told.
     let _none: Option<Call<'_>> = None;
     match put_text(pid, &item, out) {

@@ -4,9 +4,9 @@
 
 use cap_trace::{
     Answer, Call, Dir, FdCall, Fds, Item, LONGEST_LINE, Line, LineFault, LineRef, Path, PathCall,
-    faults_are_of_their_fields, fds_of, has_fd, number_of, one_line, one_path,
-    only_rights_are_rewritten, parse_line, read_soon, read_with_care, reading_is_spelling,
-    spells_arguments, spells_command, spells_flags, spells_name, write_line, written_is_read,
+    faults_are_of_their_fields, fds_of, has_fd, is_valid_arguments, is_valid_command,
+    is_valid_flags, is_valid_name, number_of, one_line, one_path, only_rights_are_rewritten,
+    parse_line, read_fast, read_slow, reading_is_spelling, write_line, written_is_read,
 };
 use std::alloc::Global;
 
@@ -274,10 +274,10 @@ static LYING: [&[u8]; 12] = [
 
 /// The line that is read where it lies, and then kept.
 fn kept(alloc: Global, bytes: &[u8]) -> Option<Line> {
-    match read_soon(bytes) {
-        Some(line) => line.copied().kept(alloc, bytes).ok(),
-        None => match read_with_care(bytes) {
-            Ok(line) => line.kept(alloc, bytes).ok(),
+    match read_fast(bytes) {
+        Some(line) => line.copied().to_line(alloc, bytes).ok(),
+        None => match read_slow(bytes) {
+            Ok(line) => line.to_line(alloc, bytes).ok(),
             Err(_) => None,
         },
     }
@@ -348,7 +348,7 @@ static ON_FDS: [(&[u8], (u32, FdCall, u32, Answer)); 2] = [
 /// Whether a line that is read says this.
 fn is_on_fd(alloc: Global, row: &(&[u8], (u32, FdCall, u32, Answer))) -> bool {
     match parse_line(alloc, row.0) {
-        Ok(line) => on_fd(&line.seen()) == Some(row.1),
+        Ok(line) => on_fd(&line.view()) == Some(row.1),
         Err(_) => false,
     }
 }
@@ -400,7 +400,7 @@ static KEPT: [(&[u8], &[u8], &[u8]); 5] = [
 /// Whether a line that is read keeps these texts.
 fn keeps(alloc: Global, row: &(&[u8], &[u8], &[u8])) -> bool {
     match parse_line(alloc, row.0) {
-        Ok(line) => texts(&line.seen()) == Some((row.1, row.2)),
+        Ok(line) => texts(&line.view()) == Some((row.1, row.2)),
         Err(_) => false,
     }
 }
@@ -431,7 +431,7 @@ fn is_start(alloc: Global, line: &LineRef<'_>, fds: &[u32]) -> bool {
 /// Whether a line that is read starts process 100 with these.
 fn starts(alloc: Global, bytes: &[u8], fds: &[u32]) -> bool {
     match parse_line(alloc, bytes) {
-        Ok(line) => line.pid() == 100 && is_start(alloc, &line.seen(), fds),
+        Ok(line) => line.pid() == 100 && is_start(alloc, &line.view(), fds),
         Err(_) => false,
     }
 }
@@ -475,7 +475,7 @@ fn call_of<'a>(asked: &Asked<'a>) -> Call<'a> {
     }
 }
 
-/// The same for a line of a call.
+/// Whether a line of a call is made, with this text.
 fn makes_call(alloc: Global, pid: u32, asked: &Asked<'_>, made: u64, text: &[u8]) -> bool {
     let call = call_of(asked);
     let answer = Answer::Made(made);
@@ -633,14 +633,14 @@ fn bad_parts_are_not_made(rt: HostRuntime) {
 #[test]
 fn texts_are_tested_by_their_kind(rt: HostRuntime) {
     assert!(rt;
-        spells_flags(b"O_RDONLY|O_CLOEXEC")
-            && !spells_flags(b"O_RDONLY|")
-            && spells_command(b"F_GETFL")
-            && !spells_command(b"F_SETFD")
-            && spells_name(b"kevent")
-            && !spells_name(b"read")
-            && spells_arguments(b"3,0")
-            && !spells_arguments(b"3)")
+        is_valid_flags(b"O_RDONLY|O_CLOEXEC")
+            && !is_valid_flags(b"O_RDONLY|")
+            && is_valid_command(b"F_GETFL")
+            && !is_valid_command(b"F_SETFD")
+            && is_valid_name(b"kevent")
+            && !is_valid_name(b"read")
+            && is_valid_arguments(b"3,0")
+            && !is_valid_arguments(b"3)")
     );
 }
 

@@ -28,20 +28,20 @@ values-append_clones old new more (added, is, same) =
 before : {X Z : Type 0} (run : List (Rc X Z)) (at : ℕ) → values (take at run) ≡ take at (values run)
 before run at = sym (take-map (λ item. item.value) at run)
 
-behind : {X Z : Type 0} (run : List (Rc X Z)) (at : ℕ)
+beyond : {X Z : Type 0} (run : List (Rc X Z)) (at : ℕ)
     → values (slice_range run at (length run)) ≡ drop at (values run)
-behind run at = ap values (between_to_end run at (length run) (omega arith))
+beyond run at = ap values (between_to_end run at (length run) (omega arith))
     ∙ sym (drop-map (λ item. item.value) at run)
 
 pub insert-values : {X Z : Type 0} (run : List (Rc X Z)) (at : ℕ) (x : X)
     → values (take at run) ++ x ∷ values (slice_range run at (length run)) ≡ insert (values run) at x
-insert-values run at x = rw (before run at, behind run at) refl
+insert-values run at x = rw (before run at, beyond run at) refl
 
 pub remove-values : {X Z : Type 0} (run : List (Rc X Z)) (at : ℕ)
     → values (take at run) ++ values (slice_range run (at + 1) (length run)) ≡ remove (values run) at
-remove-values run at = rw (before run at, behind run (at + 1), add-one) refl
+remove-values run at = rw (before run at, beyond run (at + 1), add-one) refl
 
 pub set-values : {X Z : Type 0} (run : List (Rc X Z)) (at : ℕ) (x : X) → at < length run
     → values (take at run) ++ x ∷ values (slice_range run (at + 1) (length run)) ≡ slice_set (values run) at x
-set-values run at x within = rw (before run at, behind run (at + 1), add-one)
+set-values run at x within = rw (before run at, beyond run (at + 1), add-one)
     (sym (set_split (values run) at x (rw (length-map run (λ item. item.value)) within)))

@@ -1,7 +1,7 @@
 -- The two parts of a whole, as an edit of one of them sees them: the part on a side, and the other one.
 use Rattle.std.specs.Prelude.{◌≡◌, ℕ, ◌+◌, ◌<◌, List, ◌++◌}
-use Rattle.cap_tree.specs.declared.likeness.Side.{Side}
-use Rattle.cap_tree.specs.declared.likeness.Side.TheVariants.{Left, Right}
+use Rattle.cap_tree.specs.declared.similarity.Side.{Side}
+use Rattle.cap_tree.specs.declared.similarity.Side.TheVariants.{Left, Right}
 
 -- of a left and a right one, the one on the side ..
 abbrev pub part_at : {T : Type 0} → Side → T → T → T

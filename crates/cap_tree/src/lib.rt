@@ -20,18 +20,18 @@
 
 mod items;
 mod laws;
-mod likeness;
 mod meter;
 mod no_memory;
 mod node;
 mod run;
 mod segment;
+mod similarity;
 mod tree;
 
 pub use items::Items;
 pub use laws::bits_are_digits;
-pub use likeness::{Likeness, Side};
 pub use meter::Meter;
 pub use no_memory::NoMemory;
 pub use segment::Segment;
+pub use similarity::{Side, Similarity};
 pub use tree::Tree;

@@ -11,11 +11,11 @@ ghost use Rattle.cap_tree.specs.Heights.{DifferByAtMost, HaveChanged, IsLeastHei
 ghost use Rattle.cap_tree.specs.Run.{values};
 ghost use Rattle.cap_tree.specs.Sides.{beside, IsJoinAt};
 
-use crate::likeness::{Likeness, Side};
 use crate::meter::Meter;
 use crate::no_memory::NoMemory;
 use crate::run::{self, Edit};
 use crate::segment::Segment;
+use crate::similarity::{Side, Similarity};
 use std::alloc::Global;
 use std::marker::Model;
 use std::rc::Rc;
@@ -228,8 +228,8 @@ impl<S: Segment> Node<S> {
     }
 
     /// This node with the part on the side in place of an old one, balanced anew, and what of both nodes is known to be
-    /// the same; `likeness` says it of the parts. Two leaves become one as soon as one can hold all items.
-    fn settle(
+    /// the same; `similarity` says it of the parts. Two leaves become one as soon as one can hold all items.
+    fn rebalance(
         &self,
         was: &Node<S>,
         alloc: Global,
@@ -237,10 +237,10 @@ impl<S: Segment> Node<S> {
         side: Side,
         part: Rc<Node<S>>,
         other: Rc<Node<S>>,
-        likeness: Likeness,
-    ) -> Result<(Rc<Node<S>>, Likeness), NoMemory>
+        similarity: Similarity,
+    ) -> Result<(Rc<Node<S>>, Similarity), NoMemory>
         requires old { IsJoinAt S.composes side was.now.2 other.value.2 self.now.2 }
-        requires alike { AreAlike S.same_effect S.same_precondition likeness was.now.2 part.value.2 }
+        requires alike { AreAlike S.same_effect S.same_precondition similarity was.now.2 part.value.2 }
         requires changed { HaveChanged part.value.1 other.value.1 self.now.1 }
         requires few { length part.value.0 + length other.value.0 ≤ 2 ^ 30 }
         requires room { meter.old + 3 < 2 ^ 64 }
@@ -252,18 +252,18 @@ impl<S: Segment> Node<S> {
     {
         if part.height() > other.height() + 1 {
             let node = Node::rotate(alloc, meter, side, &part, other)?;
-            return Ok((node, Likeness::none()));
+            return Ok((node, Similarity::none()));
         }
         if other.height() > part.height() + 1 {
             let node = Node::rotate(alloc, meter, side.opposite(), &other, part)?;
-            return Ok((node, Likeness::none()));
+            return Ok((node, Similarity::none()));
         }
         if self.height == 1 && part.fit_in_a_leaf(&other) {
             let node = Node::merge(alloc, meter, side, &part, &other)?;
-            return Ok((node, Likeness::none()));
+            return Ok((node, Similarity::none()));
         }
         let (left, right) = side.order(part, other);
-        let (summary, likeness) = S::rejoin(
+        let (summary, similarity) = S::rejoin(
             alloc,
             meter,
             left.summary(),
@@ -271,10 +271,10 @@ impl<S: Segment> Node<S> {
             &self.summary,
             was.summary(),
             side,
-            likeness,
+            similarity,
         )?;
         let node = Node::over(alloc, summary, left, right)?;
-        Ok((node, likeness))
+        Ok((node, similarity))
     }
 
     /// The node after an edit at a place, at most one level higher or lower, and what of both nodes is known to be the
@@ -285,7 +285,7 @@ impl<S: Segment> Node<S> {
         meter: &mut Meter,
         at: usize,
         edit: Edit<S::Item>,
-    ) -> Result<Option<(Rc<Node<S>>, Likeness)>, NoMemory>
+    ) -> Result<Option<(Rc<Node<S>>, Similarity)>, NoMemory>
         requires allowed { IsAllowed edit (length this.now.value.0) at }
         requires room { meter.old + 2 ^ 32 < 2 ^ 64 }
         ensures items { IfOk result (λ o. MatchOption o (edited edit this.now.value.0 at ≡ [])
@@ -301,7 +301,7 @@ impl<S: Segment> Node<S> {
         match &node.shape {
             Shape::Leaf(_) => match Node::edit_leaf(this, alloc, meter, at, edit)? {
                 None => Ok(None),
-                Some(new) => Ok(Some((new, Likeness::none()))),
+                Some(new) => Ok(Some((new, Similarity::none()))),
             },
             Shape::Branch(left, right) => {
                 let (side, place) = Side::of_place(left.len(), at);
@@ -309,9 +309,11 @@ impl<S: Segment> Node<S> {
                 let changed = Node::edited(part, alloc, meter, place, edit)?;
                 let kept = other.clone()?;
                 match changed {
-                    None => Ok(Some((kept, Likeness::none()))),
-                    Some((changed, likeness)) => {
-                        let new = node.settle(part, alloc, meter, side, changed, kept, likeness)?;
+                    None => Ok(Some((kept, Similarity::none()))),
+                    Some((changed, similarity)) => {
+                        let new = node.rebalance(
+                            part, alloc, meter, side, changed, kept, similarity,
+                        )?;
                         Ok(Some(new))
                     }
                 }

@@ -4,9 +4,9 @@ ghost use Rattle.cap_tree.specs.Alike.{AreAlike};
 ghost use Rattle.cap_tree.specs.Run.{values};
 ghost use Rattle.cap_tree.specs.Sides.{IsJoinAt, part_at, other_at};
 
-use crate::likeness::{Likeness, Side};
 use crate::meter::Meter;
 use crate::no_memory::NoMemory;
+use crate::similarity::{Side, Similarity};
 use std::alloc::Global;
 use std::rc::Rc;
 
@@ -84,8 +84,9 @@ pub trait Segment: Drop {
     }
 
     /// As [`Segment::join`] of both parts, where the one on the side stands in place of an old one: `old` is a join of `was`
-    /// and the other part, and `likeness` says what of `was` and the new part is known to be the same. The new summary may
-    /// share with the old one what is the same. The answer says too what of these two is known to be the same.
+    /// and the other part, and `similarity` says what of `was` and the new part is known to be the same. The new
+    /// summary may share with the old one what is the same. The answer says too what of these two is known to be the
+    /// same.
     fn rejoin(
         alloc: Global,
         meter: &mut Meter,
@@ -94,12 +95,12 @@ pub trait Segment: Drop {
         old: &Self,
         was: &Self,
         side: Side,
-        likeness: Likeness,
-    ) -> Result<(Self, Likeness), NoMemory>
+        similarity: Similarity,
+    ) -> Result<(Self, Similarity), NoMemory>
         requires few { size left.now + size right.now ≤ 2 ^ 30 }
         requires room { meter.old + 1 < 2 ^ 64 }
         requires old { IsJoinAt composes side was.now (other_at side left.now right.now) old.now }
-        requires alike { AreAlike same_effect same_precondition likeness was.now (part_at side left.now right.now) }
+        requires alike { AreAlike same_effect same_precondition similarity was.now (part_at side left.now right.now) }
         ensures joined { IfOk result (λ new. (t u : List Self.Item) → stands left.now t → stands right.now u
             → stands new.0 (t ++ u)) }
         ensures composed { IfOk result (λ new. composes left.now right.now new.0) }
@@ -110,9 +111,9 @@ pub trait Segment: Drop {
     {
         let _ = old;
         let _ = was;
-        let _ = (side, likeness);
+        let _ = (side, similarity);
         let new = Self::join(alloc, meter, left, right)?;
-        Ok((new, Likeness::none()))
+        Ok((new, Similarity::none()))
     }
 
     /// All lists that one value sums up have its length.

@@ -4,7 +4,7 @@ ghost use Rattle.std.specs.Prelude.{◌≡◌, ◌+◌, ◌^◌, ◌<◌, ◌++�
 ghost use Rattle.cap_tree_tests.specs.Numbers.{numbers, length-numbers};
 
 use crate::listed::appended;
-use cap_tree::{Likeness, Meter, NoMemory, Segment, Side};
+use cap_tree::{Meter, NoMemory, Segment, Side, Similarity};
 use std::alloc::Global;
 use std::cell::Cell;
 use std::rc::Rc;
@@ -102,21 +102,21 @@ impl Segment for Watched {
         old: &Watched,
         was: &Watched,
         side: Side,
-        likeness: Likeness,
-    ) -> Result<(Watched, Likeness), NoMemory> {
+        similarity: Similarity,
+    ) -> Result<(Watched, Similarity), NoMemory> {
         let (part, _) = side.order(left, right);
-        if !likeness.effect && !part.is_like(was) {
+        if !similarity.effect && !part.is_like(was) {
             let new = Watched::join(alloc, meter, left, right)?;
-            return Ok((new, Likeness::none()));
+            return Ok((new, Similarity::none()));
         }
         let watch = allowed(left, right)?;
         let list = old.list.clone()?;
         let new = Watched::counted(meter, list, watch);
-        let likeness = Likeness {
+        let similarity = Similarity {
             effect: true,
             precondition: false,
         };
-        Ok((new, likeness))
+        Ok((new, similarity))
     }
 
     ghost sized = { λ s t e. length-numbers s.list.value.items t e };

@@ -88,7 +88,7 @@ pub fn plan_of<'a>(alloc: Global, words: &'a [&'a str]) -> Plan<'a>
             Some(plan) => plan,
             None => no_run(alloc, &matches),
         },
-        Err(error) => answered(alloc, &error),
+        Err(error) => plan_for_error(alloc, &error),
     }
 }
 
@@ -271,7 +271,7 @@ fn value<'a>(found: &ArgMatches<'a>, id: &str) -> Option<&'a str>
 }
 
 /// The answer to words that give no matches.
-fn answered<'a>(alloc: Global, error: &Error) -> Plan<'a>
+fn plan_for_error<'a>(alloc: Global, error: &Error) -> Plan<'a>
     ensures { TellsKind (kind_of error.now) result }
 {
     let kind = error.kind();

@@ -58,13 +58,13 @@ pub fn run<R: Env + Files + Input + Print + Eprint + AllocGlobal>(rt: &R, is_ter
     let args = match args_of(rt) {
         Ok(args) => args,
         Err(error) if error.kind() == io::ErrorKind::OutOfMemory => {
-            return ended(rt, &messages, Outcome::Memory);
+            return exit_status(rt, &messages, Outcome::Memory);
         }
-        Err(_) => return mistaken(rt, NO_TEXT),
+        Err(_) => return usage_error(rt, NO_TEXT),
     };
     let words: Vec<&str> = match args.iter().map(|word| word.as_str()).collect(rt.alloc()) {
         Ok(words) => words,
-        Err(_) => return ended(rt, &messages, Outcome::Memory),
+        Err(_) => return exit_status(rt, &messages, Outcome::Memory),
     };
     let mut output = Counted::new(Output::new(rt, &notes));
     let texts = SystemTexts::new(rt, &notes);
@@ -110,32 +110,32 @@ fn carry_out<T: Texts, W: Sink, R: Print + Eprint + AllocGlobal>(
         Plan::Ask { question, subject } => {
             let messages = Messages::of(notes, &subject);
             let outcome = ask(rt.alloc(), texts, output, question, &subject);
-            ended(rt, &messages, outcome)
+            exit_status(rt, &messages, outcome)
         }
         Plan::Edit { subject, script } => {
             let messages = Messages::of_script(rt.alloc(), notes, &subject, script);
             let outcome = edit(rt.alloc(), texts, output, &subject, script);
-            ended(rt, &messages, outcome)
+            exit_status(rt, &messages, outcome)
         }
         Plan::Explain { subject, position } => {
             let messages = Messages::of(notes, &subject);
             let outcome = explain(rt.alloc(), texts, output, &subject, position);
-            ended_answering(rt, &messages, outcome, Some(position))
+            exit_status_of_answer(rt, &messages, outcome, Some(position))
         }
         Plan::Limits { subject, at } => {
             let messages = Messages::of(notes, &subject);
             let outcome = limits(rt.alloc(), texts, output, &subject, at);
-            ended_answering(rt, &messages, outcome, at)
+            exit_status_of_answer(rt, &messages, outcome, at)
         }
         Plan::Help(text) => match rt.print(text) {
             Ok(()) => 0,
             Err(error) => {
                 notes.fail(error);
-                ended(rt, &Messages::without_texts(notes), Outcome::WriteFault)
+                exit_status(rt, &Messages::without_texts(notes), Outcome::WriteFault)
             }
         },
-        Plan::Usage(text) => mistaken(rt, text.as_str()),
-        Plan::Memory => ended(rt, &Messages::without_texts(notes), Outcome::Memory),
+        Plan::Usage(text) => usage_error(rt, text.as_str()),
+        Plan::Memory => exit_status(rt, &Messages::without_texts(notes), Outcome::Memory),
     }
 }
 
@@ -283,7 +283,7 @@ pub fn limits<T: Texts, W: Sink>(
 }
 
 /// Prints on standard error what is wrong with the words; whether that can be written doesn't matter.
-fn mistaken<R: Eprint>(rt: &R, text: &str) -> u8
+fn usage_error<R: Eprint>(rt: &R, text: &str) -> u8
     ensures { result ≡ 2 }
 {
     let _ = rt.eprint(text);
@@ -292,7 +292,7 @@ fn mistaken<R: Eprint>(rt: &R, text: &str) -> u8
 
 /// The exit status of an outcome. What kept the program from an answer is said in words, where they are wanted, and
 /// printed as a code; whether that can be written doesn't matter.
-fn ended<R: Eprint + AllocGlobal>(rt: &R, messages: &Messages<'_, '_>, outcome: Outcome) -> u8
+fn exit_status<R: Eprint + AllocGlobal>(rt: &R, messages: &Messages<'_, '_>, outcome: Outcome) -> u8
     ensures { result ≡ status_of outcome }
 {
     messages.tell(rt, outcome);
@@ -304,7 +304,7 @@ fn ended<R: Eprint + AllocGlobal>(rt: &R, messages: &Messages<'_, '_>, outcome: 
 
 /// The exit status of a call that answers of a whole trace, as [`ended`] has it, or of the line at a position. Where
 /// there is no such line it is that of a refused one.
-fn ended_answering<R: Eprint + AllocGlobal>(
+fn exit_status_of_answer<R: Eprint + AllocGlobal>(
     rt: &R,
     messages: &Messages<'_, '_>,
     how: ExplainOutcome,
@@ -313,7 +313,7 @@ fn ended_answering<R: Eprint + AllocGlobal>(
     ensures { result ≡ explain_status_of how }
 {
     match how {
-        ExplainOutcome::Ended(outcome) => ended(rt, messages, outcome),
+        ExplainOutcome::Ended(outcome) => exit_status(rt, messages, outcome),
         ExplainOutcome::OutOfRange => {
             if let Some(position) = at {
                 messages.tell_no_line(rt, position);

@@ -4,10 +4,10 @@ use Rattle.cap_rights.specs.Rights.{none}
 use Rattle.cap_machine.specs.declared.cell.OnExec.TheVariants as flags
 use Rattle.cap_machine.specs.declared.cell.Cell.{Cell}
 use Rattle.cap_machine.specs.declared.cell.Cell.TheVariants as cells
-use Rattle.cap_machine.specs.declared.cells.kind.Kind.{Kind}
-use Rattle.cap_machine.specs.declared.cells.kind.Kind.TheVariants.{Unknown, Closed, Set, Clear, Unsure}
+use Rattle.cap_machine.specs.declared.cells.kind.CellKind.{CellKind}
+use Rattle.cap_machine.specs.declared.cells.kind.CellKind.TheVariants.{Unknown, Closed, Set, Clear, Unsure}
 
-abbrev pub kind_of_cell : Cell → Kind
+abbrev pub kind_of_cell : Cell → CellKind
 kind_of_cell cells.Unknown = Unknown
 kind_of_cell cells.Closed = Closed
 kind_of_cell (cells.Held rights flags.Set) = Set
@@ -20,7 +20,7 @@ rights_of_cell cells.Unknown = none
 rights_of_cell cells.Closed = none
 rights_of_cell (cells.Held rights flag) = rights
 
-abbrev pub cell_of_kind : Kind → ℕ → Cell
+abbrev pub cell_of_kind : CellKind → ℕ → Cell
 cell_of_kind Unknown rights = cells.Unknown
 cell_of_kind Closed rights = cells.Closed
 cell_of_kind Set rights = cells.Held rights flags.Set

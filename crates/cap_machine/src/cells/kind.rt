@@ -8,7 +8,7 @@ use cap_rights::RightSet;
 
 /// What a cell is, but for its rights. Kept apart from them it takes one byte.
 #[derive(Clone, Copy)]
-pub(crate) enum Kind {
+pub(crate) enum CellKind {
     /// Nothing is known of it.
     Unknown,
     /// It is closed.
@@ -21,17 +21,17 @@ pub(crate) enum Kind {
     Unsure,
 }
 
-impl Kind {
+impl CellKind {
     /// The kind of a cell.
-    pub(crate) fn of(cell: &Cell) -> Kind
+    pub(crate) fn of(cell: &Cell) -> CellKind
         ensures { result ≡ kind_of_cell cell.now }
     {
         match cell {
-            Cell::Unknown => Kind::Unknown,
-            Cell::Closed => Kind::Closed,
-            Cell::Held(_, OnExec::Set) => Kind::Set,
-            Cell::Held(_, OnExec::Clear) => Kind::Clear,
-            Cell::Held(_, OnExec::Unsure) => Kind::Unsure,
+            Cell::Unknown => CellKind::Unknown,
+            Cell::Closed => CellKind::Closed,
+            Cell::Held(_, OnExec::Set) => CellKind::Set,
+            Cell::Held(_, OnExec::Clear) => CellKind::Clear,
+            Cell::Held(_, OnExec::Unsure) => CellKind::Unsure,
         }
     }
 
@@ -40,11 +40,11 @@ impl Kind {
         ensures { result ≡ cell_of_kind self rights }
     {
         match self {
-            Kind::Unknown => Cell::Unknown,
-            Kind::Closed => Cell::Closed,
-            Kind::Set => Cell::Held(rights, OnExec::Set),
-            Kind::Clear => Cell::Held(rights, OnExec::Clear),
-            Kind::Unsure => Cell::Held(rights, OnExec::Unsure),
+            CellKind::Unknown => Cell::Unknown,
+            CellKind::Closed => Cell::Closed,
+            CellKind::Set => Cell::Held(rights, OnExec::Set),
+            CellKind::Clear => Cell::Held(rights, OnExec::Clear),
+            CellKind::Unsure => Cell::Held(rights, OnExec::Unsure),
         }
     }
 }

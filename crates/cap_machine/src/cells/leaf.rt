@@ -3,8 +3,8 @@
 ghost use Rattle.std.specs.Prelude.{◌≡◌, ℕ, ◌<◌, ◌==◌, if◌then◌else◌};
 
 use crate::cell::Cell;
-use crate::cells::kind::{Kind, rights_of};
-use crate::cells::pending::Pending;
+use crate::cells::deferred::Deferred;
+use crate::cells::kind::{CellKind, rights_of};
 use crate::cells::subtree::Subtree;
 use cap_rights::{NoMemory, RightSet};
 use std::alloc::Global;
@@ -13,7 +13,7 @@ use std::alloc::Global;
 #[derive(Clone, Copy)]
 pub(crate) struct Leaf<const N: usize> {
     rights: [RightSet; N],
-    kinds: [Kind; N],
+    kinds: [CellKind; N],
 }
 
 impl<const N: usize> Leaf<N> {
@@ -37,8 +37,8 @@ impl<const N: usize> Leaf<N> {
         ensures { result ≡ may_have (in_leaf self.now place) needs.now }
     {
         match self.kinds[place] {
-            Kind::Unknown => true,
-            Kind::Closed => false,
+            CellKind::Unknown => true,
+            CellKind::Closed => false,
             _ => self.rights[place].has_all(needs),
         }
     }
@@ -48,7 +48,7 @@ impl<const N: usize> Leaf<N> {
         requires { place < N }
         ensures { (f : ℕ) → in_leaf self.new f ≡ (if f == place then cell else in_leaf self.old f) }
     {
-        self.kinds[place] = Kind::of(&cell);
+        self.kinds[place] = CellKind::of(&cell);
         self.rights[place] = rights_of(&cell);
     }
 }
@@ -64,7 +64,7 @@ impl<const N: usize> Subtree for Leaf<N> {
     fn all(_alloc: Global, cell: Cell) -> Result<Leaf<N>, NoMemory> {
         Ok(Leaf {
             rights: [rights_of(&cell); N],
-            kinds: [Kind::of(&cell); N],
+            kinds: [CellKind::of(&cell); N],
         })
     }
 
@@ -77,9 +77,9 @@ impl<const N: usize> Subtree for Leaf<N> {
         Ok(())
     }
 
-    fn settle(&mut self, pending: Pending) {
+    fn apply_deferred(&mut self, deferred: Deferred) {
         for k in 0..N {
-            let cell = pending.on(self.at(k));
+            let cell = deferred.on(self.at(k));
             self.put(k, cell);
         }
     }

@@ -3,10 +3,10 @@
 ghost use Rattle.std.specs.Prelude.{◌≡◌, ℕ, ◌<◌, ◌/◌, ◌%◌, IfOk, nat_le, if◌then◌else◌, slice_get};
 ghost use Rattle.std.specs.List.{slice_index_or};
 ghost use Rattle.std.specs.Option.{option_map_or};
-ghost use Rattle.cap_machine.specs.Cells.Pending.{settled};
+ghost use Rattle.cap_machine.specs.Cells.Deferred.{with_deferred};
 
 use crate::cell::Cell;
-use crate::cells::pending::Pending;
+use crate::cells::deferred::Deferred;
 use crate::cells::shared::{close_part, write_part};
 use crate::cells::subtree::Subtree;
 use cap_rights::NoMemory;
@@ -14,12 +14,12 @@ use std::alloc::{AllocError, Global};
 use std::rc::Rc;
 
 /// Eight parts that stand next to each other, of so many descriptors each. A clone shares them, and a write makes anew
-/// the one that it is in. What was done to a whole part is pending: it is done to the parts of the part only once one
+/// the one that it is in. What was done to a whole part is deferred: it is done to the parts of the part only once one
 /// of them is written.
 #[derive(Drop)]
 pub(crate) struct Node<T, const WIDTH: usize> {
     pub(crate) parts: [Rc<T>; 8],
-    pending: [Pending; 8],
+    deferred: [Deferred; 8],
 }
 
 impl<T: Subtree, const WIDTH: usize> Clone for Node<T, WIDTH> {
@@ -30,7 +30,7 @@ impl<T: Subtree, const WIDTH: usize> Clone for Node<T, WIDTH> {
     fn clone(&self) -> Result<Node<T, WIDTH>, AllocError> {
         Ok(Node {
             parts: self.parts.clone()?,
-            pending: self.pending,
+            deferred: self.deferred,
         })
     }
 }
@@ -54,22 +54,22 @@ fn eight<T: Subtree>(part: Rc<T>) -> Result<[Rc<T>; 8], NoMemory>
 }
 
 /// Does this to each of eight parts, once it must.
-fn settle_all(pending: &mut [Pending; 8], next: Pending)
-    ensures { (i : ℕ) (c : Cell) → i < 8 → settled (slice_index_or pending.new i Pending.Nothing) c
-        ≡ settled next (settled (slice_index_or pending.old i Pending.Nothing) c) }
+fn defer_to_parts(deferred: &mut [Deferred; 8], next: Deferred)
+    ensures { (i : ℕ) (c : Cell) → i < 8 → with_deferred (slice_index_or deferred.new i Deferred.Nothing) c
+        ≡ with_deferred next (with_deferred (slice_index_or deferred.old i Deferred.Nothing) c) }
 {
     for k in 0..8 {
-        pending[k] = next.after(pending[k]);
+        deferred[k] = next.after(deferred[k]);
     }
 }
 
 /// Closes the parts from one on.
-fn close_all(pending: &mut [Pending; 8], from: usize)
-    ensures { (i : ℕ) (c : Cell) → i < 8 → settled (slice_index_or pending.new i Pending.Nothing) c
-        ≡ (if nat_le from i then Cell.Closed else settled (slice_index_or pending.old i Pending.Nothing) c) }
+fn close_all(deferred: &mut [Deferred; 8], from: usize)
+    ensures { (i : ℕ) (c : Cell) → i < 8 → with_deferred (slice_index_or deferred.new i Deferred.Nothing) c
+        ≡ (if nat_le from i then Cell.Closed else with_deferred (slice_index_or deferred.old i Deferred.Nothing) c) }
 {
     for k in from..8 {
-        pending[k] = Pending::Close;
+        deferred[k] = Deferred::Close;
     }
 }
 
@@ -84,32 +84,32 @@ impl<T: Subtree, const WIDTH: usize> Subtree for Node<T, WIDTH> {
         let part = Rc::new(alloc, T::all(alloc, cell)?)?;
         Ok(Node {
             parts: eight(part)?,
-            pending: [Pending::Nothing; 8],
+            deferred: [Deferred::Nothing; 8],
         })
     }
 
     fn cell(&self, fd: usize) -> Cell {
         let at = fd / WIDTH;
-        self.pending[at].on(self.parts[at].cell(fd % WIDTH))
+        self.deferred[at].on(self.parts[at].cell(fd % WIDTH))
     }
 
     fn write(&mut self, fd: usize, cell: Cell) -> Result<(), NoMemory> {
         let at = fd / WIDTH;
-        write_part(&mut self.parts[at], self.pending[at], fd % WIDTH, cell)?;
-        self.pending[at] = Pending::Nothing;
+        write_part(&mut self.parts[at], self.deferred[at], fd % WIDTH, cell)?;
+        self.deferred[at] = Deferred::Nothing;
         Ok(())
     }
 
     #[tactic(auto, unfolding(crate::specs::Cells::Parts::in_node))]
-    fn settle(&mut self, pending: Pending) {
-        settle_all(&mut self.pending, pending);
+    fn apply_deferred(&mut self, deferred: Deferred) {
+        defer_to_parts(&mut self.deferred, deferred);
     }
 
     fn close_from(&mut self, fd: usize) -> Result<(), NoMemory> {
         let at = fd / WIDTH;
-        close_part(&mut self.parts[at], self.pending[at], fd % WIDTH)?;
-        self.pending[at] = Pending::Nothing;
-        close_all(&mut self.pending, at + 1);
+        close_part(&mut self.parts[at], self.deferred[at], fd % WIDTH)?;
+        self.deferred[at] = Deferred::Nothing;
+        close_all(&mut self.deferred, at + 1);
         Ok(())
     }
 

@@ -1,62 +1,63 @@
 //! A part of the tree that processes share until one of them writes to it.
 
 ghost use Rattle.std.specs.Prelude.{◌≡◌, ℕ, OnOk, IfOk, IfSome, ◌==◌, nat_le, if◌then◌else◌};
-ghost use Rattle.cap_machine.specs.Cells.Pending.{settled};
+ghost use Rattle.cap_machine.specs.Cells.Deferred.{with_deferred};
 
 use crate::cell::Cell;
-use crate::cells::pending::Pending;
+use crate::cells::deferred::Deferred;
 use crate::cells::subtree::Subtree;
 use cap_rights::NoMemory;
 use std::alloc::{AllocError, Global};
 use std::rc::Rc;
 
-/// Does what is pending of a part to it.
-fn settle_part<T: Subtree>(part: &mut T, pending: Pending)
-    ensures { (f : ℕ) → T.has f → T.cell_at part.new f ≡ settled pending (T.cell_at part.old f) }
+/// Does what is deferred of a part to it.
+fn apply_to_part<T: Subtree>(part: &mut T, deferred: Deferred)
+    ensures { (f : ℕ) → T.has f → T.cell_at part.new f ≡ with_deferred deferred (T.cell_at part.old f) }
 {
-    match pending {
-        Pending::Nothing => {}
-        _ => part.settle(pending),
+    match deferred {
+        Deferred::Nothing => {}
+        _ => part.apply_deferred(deferred),
     }
 }
 
-/// Writes one cell of a shared part with something pending, in a part of its own, in which then nothing is pending.
+/// Writes one cell of a shared part with something deferred, in a part of its own, in which then nothing is deferred.
 #[inline(never)]
 pub(crate) fn write_part<T: Subtree>(
     part: &mut Rc<T>,
-    pending: Pending,
+    deferred: Deferred,
     fd: usize,
     cell: Cell,
 ) -> Result<(), NoMemory>
     requires { T.has fd }
     ensures { OnOk result ((f : ℕ) → T.has f
-        → T.cell_at part.new.value f ≡ (if f == fd then cell else settled pending (T.cell_at part.old.value f))) }
+        → T.cell_at part.new.value f ≡ (if f == fd then cell
+        else with_deferred deferred (T.cell_at part.old.value f))) }
 {
     let below = Rc::make_mut(part)?;
-    settle_part(below, pending);
+    apply_to_part(below, deferred);
     below.write(fd, cell)
 }
 
-/// Closes the descriptors of a shared part with something pending from one on, in a part of its own, in which then
-/// nothing is pending.
+/// Closes the descriptors of a shared part with something deferred from one on, in a part of its own, in which then
+/// nothing is deferred.
 pub(crate) fn close_part<T: Subtree>(
     part: &mut Rc<T>,
-    pending: Pending,
+    deferred: Deferred,
     fd: usize,
 ) -> Result<(), NoMemory>
     requires { T.has fd }
     ensures { OnOk result ((f : ℕ) → T.has f → T.cell_at part.new.value f
-        ≡ (if nat_le fd f then Cell.Closed else settled pending (T.cell_at part.old.value f))) }
+        ≡ (if nat_le fd f then Cell.Closed else with_deferred deferred (T.cell_at part.old.value f))) }
 {
     let below = Rc::make_mut(part)?;
-    settle_part(below, pending);
+    apply_to_part(below, deferred);
     below.close_from(fd)
 }
 
-/// A part with something pending. A clone shares it until one of the two writes.
+/// A part with something deferred. A clone shares it until one of the two writes.
 #[derive(Drop)]
 pub(crate) struct Shared<T> {
-    pending: Pending,
+    deferred: Deferred,
     part: Rc<T>,
 }
 
@@ -75,14 +76,14 @@ impl<T: Drop> Shared<T> {
 impl<T: Subtree> Shared<T> {
     ghost use Rattle.cap_machine.specs.Cells.Parts.{in_shared};
 
-    /// The part, where nothing is pending.
+    /// The part, where nothing is deferred.
     #[tactic(auto, unfolding(crate::specs::Cells::Parts::in_shared))]
     #[inline(always)]
-    pub(crate) fn settled(&self) -> Option<&T>
+    pub(crate) fn up_to_date(&self) -> Option<&T>
         ensures { IfSome result (λ part. (f : ℕ) → T.cell_at part.now f ≡ in_shared T.cell_at self.now f) }
     {
-        match self.pending {
-            Pending::Nothing => Some(&*self.part),
+        match self.deferred {
+            Deferred::Nothing => Some(&*self.part),
             _ => None,
         }
     }
@@ -96,7 +97,7 @@ impl<T: Subtree> Clone for Shared<T> {
     #[tactic(auto, unfolding(crate::specs::Cells::Parts::in_shared))]
     fn clone(&self) -> Result<Shared<T>, AllocError> {
         Ok(Shared {
-            pending: self.pending,
+            deferred: self.deferred,
             part: self.part.clone()?,
         })
     }
@@ -112,38 +113,38 @@ impl<T: Subtree> Subtree for Shared<T> {
     #[tactic(auto, unfolding(crate::specs::Cells::Parts::in_shared))]
     fn all(alloc: Global, cell: Cell) -> Result<Shared<T>, NoMemory> {
         Ok(Shared {
-            pending: Pending::Nothing,
+            deferred: Deferred::Nothing,
             part: Rc::new(alloc, T::all(alloc, cell)?)?,
         })
     }
 
     #[tactic(auto, unfolding(crate::specs::Cells::Parts::in_shared))]
     fn cell(&self, fd: usize) -> Cell {
-        self.pending.on(self.part.cell(fd))
+        self.deferred.on(self.part.cell(fd))
     }
 
     #[tactic(auto, unfolding(crate::specs::Cells::Parts::in_shared))]
     #[inline(always)]
     fn write(&mut self, fd: usize, cell: Cell) -> Result<(), NoMemory> {
-        if let Pending::Nothing = self.pending {
+        if let Deferred::Nothing = self.deferred {
             if let Some(part) = Rc::get_mut(&mut self.part) {
                 return part.write(fd, cell);
             }
         }
-        write_part(&mut self.part, self.pending, fd, cell)?;
-        self.pending = Pending::Nothing;
+        write_part(&mut self.part, self.deferred, fd, cell)?;
+        self.deferred = Deferred::Nothing;
         Ok(())
     }
 
     #[tactic(auto, unfolding(crate::specs::Cells::Parts::in_shared))]
-    fn settle(&mut self, pending: Pending) {
-        self.pending = pending.after(self.pending);
+    fn apply_deferred(&mut self, deferred: Deferred) {
+        self.deferred = deferred.after(self.deferred);
     }
 
     #[tactic(auto, unfolding(crate::specs::Cells::Parts::in_shared))]
     fn close_from(&mut self, fd: usize) -> Result<(), NoMemory> {
-        close_part(&mut self.part, self.pending, fd)?;
-        self.pending = Pending::Nothing;
+        close_part(&mut self.part, self.deferred, fd)?;
+        self.deferred = Deferred::Nothing;
         Ok(())
     }
 

@@ -3,11 +3,11 @@
 ghost use Rattle.std.specs.Prelude.{◌≡◌, ℕ, ◌≤◌, IfOk, OnOk, ◌==◌, ◌||◌, nat_le, if◌then◌else◌, false};
 ghost use Rattle.std.specs.List.{list_any};
 ghost use Rattle.cap_rights.specs.Rights.{all};
-ghost use Rattle.cap_machine.specs.Cells.Pending.{settled};
+ghost use Rattle.cap_machine.specs.Cells.Deferred.{with_deferred};
 ghost use Rattle.cap_machine.specs.Cells.Started.{is_listed, in_started};
 
 use crate::cell::{Cell, OnExec};
-use crate::cells::pending::Pending;
+use crate::cells::deferred::Deferred;
 use cap_rights::{NoMemory, RightSet};
 use cap_trace::Fd;
 use std::alloc::{AllocError, Global};
@@ -19,7 +19,7 @@ use std::alloc::{AllocError, Global};
 pub(crate) struct Started {
     small: Vec<u16>,
     large: Vec<Fd>,
-    pending: Pending,
+    deferred: Deferred,
 }
 
 impl Started {
@@ -30,14 +30,14 @@ impl Started {
         Started {
             small: Vec::new(alloc),
             large: Vec::new(alloc),
-            pending: Pending::Nothing,
+            deferred: Deferred::Nothing,
         }
     }
 
     /// Lists one descriptor more, if it isn't one of the first 64.
     fn list(&mut self, fd: Fd) -> Result<(), NoMemory>
         ensures listed { OnOk result ((f : ℕ) → 64 ≤ f → is_listed self.new f ≡ (is_listed self.old f || f == fd)) }
-        ensures pending { OnOk result (self.new.pending ≡ self.old.pending) }
+        ensures deferred { OnOk result (self.new.deferred ≡ self.old.deferred) }
     {
         if fd < 64 {
             return Ok(());
@@ -52,7 +52,7 @@ impl Started {
     /// None is listed, and there is room for those of these from 64 on.
     fn with_room(alloc: Global, fds: &[Fd]) -> Result<Started, NoMemory>
         ensures listed { IfOk result (λ new. (f : ℕ) → is_listed new f ≡ false) }
-        ensures pending { IfOk result (λ new. new.pending ≡ Pending.Nothing) }
+        ensures deferred { IfOk result (λ new. new.deferred ≡ Deferred.Nothing) }
     {
         let (mut small, mut large) = (0, 0);
         for fd in fds {
@@ -65,7 +65,7 @@ impl Started {
         Ok(Started {
             small: Vec::with_capacity(alloc, small)?,
             large: Vec::with_capacity(alloc, large)?,
-            pending: Pending::Nothing,
+            deferred: Deferred::Nothing,
         })
     }
 
@@ -104,9 +104,10 @@ impl Started {
 
     /// The cell of each that is listed.
     pub(crate) fn cell(&self) -> Cell
-        ensures { result ≡ settled self.now.pending (Cell.Held all OnExec.Unsure) }
+        ensures { result ≡ with_deferred self.now.deferred (Cell.Held all OnExec.Unsure) }
     {
-        self.pending.on(Cell::Held(RightSet::all(), OnExec::Unsure))
+        self.deferred
+            .on(Cell::Held(RightSet::all(), OnExec::Unsure))
     }
 
     /// Strikes a descriptor off the list.
@@ -126,11 +127,11 @@ impl Started {
     }
 
     /// Does this to each.
-    pub(crate) fn settle(&mut self, pending: Pending)
+    pub(crate) fn apply_deferred(&mut self, deferred: Deferred)
         ensures { (c : Cell) (f : ℕ)
-            → in_started self.new (settled pending c) f ≡ settled pending (in_started self.old c f) }
+            → in_started self.new (with_deferred deferred c) f ≡ with_deferred deferred (in_started self.old c f) }
     {
-        self.pending = pending.after(self.pending);
+        self.deferred = deferred.after(self.deferred);
     }
 }
 
@@ -143,7 +144,7 @@ impl Clone for Started {
         Ok(Started {
             small: self.small.clone()?,
             large: self.large.clone()?,
-            pending: self.pending,
+            deferred: self.deferred,
         })
     }
 }

@@ -2,10 +2,10 @@
 //! node and a shared part keep them.
 
 ghost use Rattle.std.specs.Prelude.{◌≡◌, ℕ, OnOk, IfOk, ◌==◌, nat_le, if◌then◌else◌};
-ghost use Rattle.cap_machine.specs.Cells.Pending.{settled};
+ghost use Rattle.cap_machine.specs.Cells.Deferred.{with_deferred};
 
 use crate::cell::Cell;
-use crate::cells::pending::Pending;
+use crate::cells::deferred::Deferred;
 use cap_rights::NoMemory;
 use std::alloc::Global;
 
@@ -35,8 +35,8 @@ pub(crate) trait Subtree: Clone + Drop {
         ensures { OnOk result ((f : ℕ) → has f → cell_at self.new f ≡ (if f == fd then cell else cell_at self.old f)) };
 
     /// Does this to each cell.
-    fn settle(&mut self, pending: Pending)
-        ensures { (f : ℕ) → has f → cell_at self.new f ≡ settled pending (cell_at self.old f) };
+    fn apply_deferred(&mut self, deferred: Deferred)
+        ensures { (f : ℕ) → has f → cell_at self.new f ≡ with_deferred deferred (cell_at self.old f) };
 
     /// Closes the descriptors from one on.
     fn close_from(&mut self, fd: usize) -> Result<(), NoMemory>

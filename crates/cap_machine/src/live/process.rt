@@ -5,11 +5,11 @@ ghost use Rattle.cap_rights.specs.Rights.{join};
 ghost use Rattle.cap_machine.specs.declared.cell.OnExec.{OnExec};
 ghost use Rattle.cap_machine.specs.Op.{held_op, exec};
 ghost use Rattle.cap_machine.specs.Wanted.{rights_of, flag_rights, wanted_of, back_through, wanted_without, wanted_with};
-ghost use Rattle.cap_machine.specs.Wanted.{undone, unblocked, earlier, with_demand, blocked_with};
+ghost use Rattle.cap_machine.specs.Wanted.{undone, unblocked, earlier, with_requirement, blocked_with};
 
 use crate::cell::{HeldOp, OnExec, Op};
 use crate::live::fd_rights::{ByFlag, FdRights};
-use crate::rule::{Check, Checks, Class, Demand, Effect, Reply};
+use crate::rule::{Check, Checks, Class, Effect, Reply, Requirement};
 use cap_rights::{NoMemory, RightSet};
 use cap_trace::Fd;
 use std::alloc::Global;
@@ -45,9 +45,9 @@ impl Op {
 #[derive(Drop)]
 pub(crate) struct LiveProcess {
     /// The rights that are needed of each descriptor before the next exec.
-    near: FdRights,
+    until_exec: FdRights,
     /// Those that are needed after it. An exec hands on those where the flag is clear.
-    far: FdRights,
+    after_exec: FdRights,
     /// The position of the first line that is in the way of entering capability mode.
     pub(crate) blocked: Option<usize>,
 }
@@ -59,8 +59,8 @@ impl LiveProcess {
         ensures blocked { result.blocked ≡ None }
     {
         LiveProcess {
-            near: FdRights::none(alloc),
-            far: FdRights::none(alloc),
+            until_exec: FdRights::none(alloc),
+            after_exec: FdRights::none(alloc),
             blocked: None,
         }
     }
@@ -69,18 +69,18 @@ impl LiveProcess {
     pub(crate) fn get(&self, fd: Fd, flag: OnExec) -> RightSet
         ensures { result ≡ wanted_of self.now fd flag }
     {
-        let near = self.near.get(fd, flag);
+        let until_exec = self.until_exec.get(fd, flag);
         match flag {
-            OnExec::Clear => near.join(&self.far.get(fd, flag)),
-            OnExec::Set | OnExec::Unsure => near,
+            OnExec::Clear => until_exec.join(&self.after_exec.get(fd, flag)),
+            OnExec::Set | OnExec::Unsure => until_exec,
         }
     }
 
     /// What is needed of each descriptor before the next exec. Of one whose flag isn't known that is all.
-    pub(crate) fn into_near(self) -> FdRights
+    pub(crate) fn into_until_exec(self) -> FdRights
         ensures { (f : ℕ) → rights_of result f OnExec.Unsure ≡ wanted_of self f OnExec.Unsure }
     {
-        self.near
+        self.until_exec
     }
 
     /// Adds rights of a descriptor.
@@ -90,7 +90,7 @@ impl LiveProcess {
             → wanted_of self.new f x ≡ wanted_with fd (flag_rights rights.now) (wanted_of self.old) f x) }
         ensures blocked { OnOk result (self.new.blocked ≡ self.old.blocked) }
     {
-        self.near.add(fd, rights)
+        self.until_exec.add(fd, rights)
     }
 
     /// Takes the rights of a descriptor away.
@@ -99,12 +99,12 @@ impl LiveProcess {
         ensures rest { (f : ℕ) (x : OnExec) → wanted_of self.new f x ≡ wanted_without fd (wanted_of self.old) f x }
         ensures blocked { self.new.blocked ≡ self.old.blocked }
     {
-        let near = self.near.take(fd);
-        let far = self.far.take(fd);
+        let until_exec = self.until_exec.take(fd);
+        let after_exec = self.after_exec.take(fd);
         ByFlag {
-            set: near.set,
-            clear: near.clear.join(&far.clear),
-            unsure: near.unsure,
+            set: until_exec.set,
+            clear: until_exec.clear.join(&after_exec.clear),
+            unsure: until_exec.unsure,
         }
     }
 
@@ -113,8 +113,8 @@ impl LiveProcess {
         ensures rights { (f : ℕ) (x : OnExec) → wanted_of self.new f x ≡ 0 }
         ensures blocked { self.new.blocked ≡ self.old.blocked }
     {
-        self.near.clear();
-        self.far.clear();
+        self.until_exec.clear();
+        self.after_exec.clear();
     }
 
     /// Nothing is needed of it.
@@ -131,8 +131,8 @@ impl LiveProcess {
         ensures rights { (f : ℕ) (x : OnExec) → wanted_of self.new f x ≡ (if nat_le fd f then 0 else wanted_of self.old f x) }
         ensures blocked { self.new.blocked ≡ self.old.blocked }
     {
-        self.near.clear_from(fd);
-        self.far.clear_from(fd);
+        self.until_exec.clear_from(fd);
+        self.after_exec.clear_from(fd);
     }
 
     /// What an exec hands on in profile 2: a descriptor with the flag is closed, and of one whose flag isn't known
@@ -142,7 +142,7 @@ impl LiveProcess {
             → wanted_of self.new f x ≡ back_through (held_op exec x) (wanted_of self.old f)) }
         ensures blocked { OnOk result (self.new.blocked ≡ self.old.blocked) }
     {
-        self.far.add_all(&mut self.near)?;
+        self.after_exec.add_all(&mut self.until_exec)?;
         Ok(())
     }
 
@@ -164,9 +164,13 @@ impl LiveProcess {
         ensures blocked { IfOk result (λ both. both.blocked ≡ earlier self.blocked other.blocked) }
     {
         let blocked = earlier_of(self.blocked, other.blocked);
-        let near = self.near.joined(other.near)?;
-        let far = self.far.joined(other.far)?;
-        Ok(LiveProcess { near, far, blocked })
+        let until_exec = self.until_exec.joined(other.until_exec)?;
+        let after_exec = self.after_exec.joined(other.after_exec)?;
+        Ok(LiveProcess {
+            until_exec,
+            after_exec,
+            blocked,
+        })
     }
 
     /// Goes back before an effect of a line of the process. What is needed of a child is kept with the child.
@@ -209,20 +213,20 @@ impl LiveProcess {
         self.add(check.fd, &ByFlag::all(check.needs))
     }
 
-    /// Adds what a line with this demand needs; `at` is its position.
+    /// Adds what a line with this requirement needs; `at` is its position.
     #[inline(always)]
-    fn demand(&mut self, at: usize, demand: &Demand) -> Result<(), NoMemory>
+    fn requirement(&mut self, at: usize, requirement: &Requirement) -> Result<(), NoMemory>
         ensures rights { OnOk result ((f : ℕ) (x : OnExec)
-            → wanted_of self.new f x ≡ with_demand demand.now (wanted_of self.old) f x) }
-        ensures blocked { OnOk result (self.new.blocked ≡ blocked_with demand.now at self.old.blocked) }
+            → wanted_of self.new f x ≡ with_requirement requirement.now (wanted_of self.old) f x) }
+        ensures blocked { OnOk result (self.new.blocked ≡ blocked_with requirement.now at self.old.blocked) }
     {
-        if demand.reply != Reply::Success {
+        if requirement.reply != Reply::Success {
             return Ok(());
         }
-        if demand.class == Class::Forbidden {
+        if requirement.class == Class::Forbidden {
             self.blocked = Some(at);
         }
-        match &demand.checks {
+        match &requirement.checks {
             Checks::Nothing => Ok(()),
             Checks::One(a) => self.need(a),
             Checks::Two(a, b) => {
@@ -232,22 +236,22 @@ impl LiveProcess {
         }
     }
 
-    /// Passes a line of the process with this demand and this effect; `at` is its position. What is needed of a child
-    /// is kept with the child.
+    /// Passes a line of the process with this requirement and this effect; `at` is its position. What is needed of a
+    /// child is kept with the child.
     #[inline(always)]
     pub(crate) fn pass(
         &mut self,
         at: usize,
-        demand: &Demand,
+        requirement: &Requirement,
         effect: &Effect<'_>,
     ) -> Result<(), NoMemory>
         ensures rights { OnOk result ((f : ℕ) (x : OnExec) → wanted_of self.new f x
-            ≡ with_demand demand.now (undone effect.now (wanted_of self.old)) f x) }
+            ≡ with_requirement requirement.now (undone effect.now (wanted_of self.old)) f x) }
         ensures blocked { OnOk result
-            (self.new.blocked ≡ blocked_with demand.now at (unblocked effect.now self.old.blocked)) }
+            (self.new.blocked ≡ blocked_with requirement.now at (unblocked effect.now self.old.blocked)) }
     {
         self.undo(effect)?;
-        self.demand(at, demand)
+        self.requirement(at, requirement)
     }
 }
 

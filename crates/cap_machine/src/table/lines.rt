@@ -1,19 +1,19 @@
 //! What a line of a trace does to a table, and whether nothing is said of it. A common call is judged and followed by
 //! itself; any other by its rule.
 //!
-//! Only here is a call gone by beside its rule (`demands`, `effects`). Each function has the contract that follows from
-//! the rule, so both are the same. Of some 630 instructions a line, that spares 110 where it judges and 60 where it
-//! follows: a `Demand` and an `Effect` are large, and are cleared and copied in memory.
+//! Only here is a call gone by beside its rule (`requirements`, `effects`). Each function has the contract that follows
+//! from the rule, so both are the same. Of some 630 instructions a line, that spares 110 where it judges and 60 where
+//! it follows: a `Requirement` and an `Effect` are large, and are cleared and copied in memory.
 
 ghost use Rattle.std.specs.Prelude.{◌≡◌, ℕ, [], OnOk, IsTrue, Option};
 ghost use Rattle.cap_trace.specs.Entry.{IsFd};
-ghost use Rattle.cap_trace.specs.Seen.{call_seen};
+ghost use Rattle.cap_trace.specs.Views.{call_view};
 ghost use Rattle.cap_machine.specs.Steps.{step};
 ghost use Rattle.cap_machine.specs.Touch.{on_fd, on_made, given, whole, closing, open_flag};
 ghost use Rattle.cap_machine.specs.Effect.{FitsMade};
-ghost use Rattle.cap_machine.specs.Rule.{demand, call_demand, check_of, reply};
+ghost use Rattle.cap_machine.specs.Rule.{requirement, call_requirement, check_of, reply};
 ghost use Rattle.cap_machine.specs.Judge.{fault};
-ghost use Rattle.cap_machine.specs.Check.{said_of};
+ghost use Rattle.cap_machine.specs.Check.{findings_of};
 ghost use Rattle.cap_machine.specs.Table.{cell_of, state_of, Keeps, step_after, touched_by};
 
 use crate::cell::{Cell, Mode, Profile, without_full_of};
@@ -22,7 +22,7 @@ use crate::needs::{
     at_flags_needs_of, at_needs_of, fcntl_needs_of, fd_needs_of, mmap_needs_of, send_needs_of,
 };
 use crate::places::below_of;
-use crate::rule::{Reply, demand_of_line, effect_of_line};
+use crate::rule::{Reply, effect_of_line, requirement_of_line};
 use crate::table::Table;
 use crate::verdict::Verdict;
 use cap_rights::{NoMemory, RightSet};
@@ -30,12 +30,12 @@ use cap_trace::{Answer, AtFlagsCall, Call, Fd, FdCall, Item, LineRef, PathCall, 
 
 impl Table {
     ghost use Rattle.cap_trace.specs.declared.line.Answer.{Answer};
-    ghost use Rattle.cap_machine.specs.declared.rule.Word.{Word};
+    ghost use Rattle.cap_machine.specs.declared.rule.LimitWord.{LimitWord};
 
     /// Whether a descriptor is known to have these rights, or nothing is known of it.
     #[inline(always)]
     fn may_have(&self, pid: Pid, fd: Fd, needs: RightSet) -> bool
-        ensures { IsTrue result → (word : Word) (excuse : Option ℕ)
+        ensures { IsTrue result → (word : LimitWord) (excuse : Option ℕ)
             → fault word (check_of fd needs excuse) (cell_of self.now pid fd) ≡ [] }
     {
         if let Some(process) = self.find(pid) {
@@ -46,10 +46,10 @@ impl Table {
         self.cell_may_have(pid, fd, needs)
     }
 
-    /// The same, by the cell.
+    /// Whether the cell of a descriptor may have these rights, looked up on the slow path.
     #[inline(never)]
     fn cell_may_have(&self, pid: Pid, fd: Fd, needs: RightSet) -> bool
-        ensures { IsTrue result → (word : Word) (excuse : Option ℕ)
+        ensures { IsTrue result → (word : LimitWord) (excuse : Option ℕ)
             → fault word (check_of fd needs excuse) (cell_of self.now pid fd) ≡ [] }
     {
         self.cell(pid, fd).may_have(&needs)
@@ -57,9 +57,9 @@ impl Table {
 
     /// The same of a call that succeeded.
     #[inline(always)]
-    fn is_silent_success(&self, pid: Pid, call: &Call<'_>) -> bool
+    fn has_no_finding_on_success(&self, pid: Pid, call: &Call<'_>) -> bool
         ensures { IsTrue result → (answer : Answer) → reply answer ≡ Reply.Success
-            → said_of (call_demand (call_seen call.now) answer) pid (state_of self.now) ≡ [] }
+            → findings_of (call_requirement (call_view call.now) answer) pid (state_of self.now) ≡ [] }
     {
         match call {
             Call::OnFd(FdCall::Closefrom, _) => true,
@@ -94,38 +94,39 @@ impl Table {
 
     /// Whether nothing is said of a call, where that is seen without its rule; `false` says nothing.
     #[inline(always)]
-    fn is_silent_call(&self, pid: Pid, call: &Call<'_>, answer: &Answer) -> bool
-        ensures { IsTrue result → said_of (call_demand (call_seen call.now) answer.now) pid (state_of self.now) ≡ [] }
+    fn has_no_finding_in_call(&self, pid: Pid, call: &Call<'_>, answer: &Answer) -> bool
+        ensures { IsTrue result → findings_of (call_requirement (call_view call.now) answer.now) pid (state_of self.now)
+            ≡ [] }
     {
         match answer {
             Answer::Fault(93) | Answer::Fault(94) => false,
             Answer::Fault(_) => true,
-            _ => self.is_silent_success(pid, call),
+            _ => self.has_no_finding_on_success(pid, call),
         }
     }
 
-    /// The same of a line.
+    /// Whether nothing is found in a line. May miss some.
     #[inline(always)]
-    pub(crate) fn is_silent(&self, line: &LineRef<'_>) -> bool
-        ensures { IsTrue result → said_of (demand line.now) line.now.pid (state_of self.now) ≡ [] }
+    pub(crate) fn has_no_finding(&self, line: &LineRef<'_>) -> bool
+        ensures { IsTrue result → findings_of (requirement line.now) line.now.pid (state_of self.now) ≡ [] }
     {
         match &line.item {
-            Item::Call { call, answer } => self.is_silent_call(line.pid, call, answer),
+            Item::Call { call, answer } => self.has_no_finding_in_call(line.pid, call, answer),
             _ => true,
         }
     }
 
     /// What is said of a line, by its rule.
     #[inline(never)]
-    pub(crate) fn said_by_rule(&self, line: &LineRef<'_>) -> Verdict
-        ensures { result ≡ said_of (demand line.now) line.now.pid (state_of self.now) }
+    pub(crate) fn findings_by_rule(&self, line: &LineRef<'_>) -> Verdict
+        ensures { result ≡ findings_of (requirement line.now) line.now.pid (state_of self.now) }
     {
-        self.said(line.pid, &demand_of_line(line))
+        self.said(line.pid, &requirement_of_line(line))
     }
 
     /// What is known after a line, by its rule.
     #[inline(never)]
-    pub(crate) fn follow_by_rule(
+    pub(crate) fn apply_by_rule(
         &mut self,
         profile: Profile,
         line: &LineRef<'_>,
@@ -147,16 +148,16 @@ impl Table {
                 return self.write_at(place, pid, fd, cell);
             }
         }
-        self.write_with_care(pid, fd, cell)
+        self.write_slow(pid, fd, cell)
     }
 
-    /// The same. Some of what is left of others is freed first.
+    /// Writes one cell on the slow path. Some of what is left of others is freed first.
     #[inline(never)]
-    fn write_with_care(&mut self, pid: Pid, fd: Fd, cell: Cell) -> Result<(), NoMemory>
+    fn write_slow(&mut self, pid: Pid, fd: Fd, cell: Cell) -> Result<(), NoMemory>
         requires { IsFd fd }
         ensures { OnOk result (Keeps self.new (touched_by (on_fd fd (given cell) pid) (state_of self.old))) }
     {
-        self.remains.free_some();
+        self.deferred_free.free_some();
         self.write(pid, fd, cell)
     }
 
@@ -191,7 +192,11 @@ impl Table {
 
     /// What is known after a line.
     #[inline(always)]
-    pub(crate) fn follow(&mut self, profile: Profile, line: &LineRef<'_>) -> Result<(), NoMemory>
+    pub(crate) fn apply_line(
+        &mut self,
+        profile: Profile,
+        line: &LineRef<'_>,
+    ) -> Result<(), NoMemory>
         ensures { OnOk result (Keeps self.new (step_after (step profile line.now) (state_of self.old))) }
     {
         if let Item::Call { call, answer } = &line.item {
@@ -218,6 +223,6 @@ impl Table {
                 _ => {}
             }
         }
-        self.follow_by_rule(profile, &line.copied())
+        self.apply_by_rule(profile, &line.copied())
     }
 }

@@ -345,7 +345,7 @@ static LEAF_PLACES: [u32; 8] = [0, 47, 48, 95, 96, 143, 144, 191];
 /// old one: the four leaves of the first tree stand below two nodes and the root. A number that is put where it stands is
 /// compared once, and another one twice.
 #[test]
-fn likeness_is_handed_on(rt: HostRuntime) {
+fn similarity_is_handed_on(rt: HostRuntime) {
     let alloc = rt.alloc();
     for place in &LEAF_PLACES {
         assert!(rt;

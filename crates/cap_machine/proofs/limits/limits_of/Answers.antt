@@ -25,12 +25,12 @@ returns c =
     let is : start_state c.in_ok-machine.machine ≡ s = c.in_ok-machine.ensures in
     let rows : List Row = map row_of c.in_ok-held.held.items in
     let cells : ℕ → Cell = (start_state c.in_ok-machine.machine).cell c.args.pid in
-    let needed : ℕ → ℕ = λ f. rights_of c.into_near.result f Unsure in
+    let needed : ℕ → ℕ = λ f. rights_of c.into_until_exec.result f Unsure in
     let are : AreUnknownRows cells needed (map row_of c.in_ok-unknown.unknown.items) =
     subst (AreUnknownRows cells needed) (sym c.in_ok-unknown.ensures.rows)
-    (rows_are cells c.into_near.result c.in_ok-unknown.ensures.sorted) in
+    (rows_are cells c.into_until_exec.result c.in_ok-unknown.ensures.sorted) in
     let unknown = unknown_are (start_state c.in_ok-machine.machine) later c.args.pid (wanted c.in_ok-live.live c.args.pid)
-    needed (map row_of c.in_ok-unknown.unknown.items) c.into_near.ensures
+    needed (map row_of c.in_ok-unknown.unknown.items) c.into_until_exec.ensures
     (c.in_ok-live.ensures.rights c.args.pid) are in
     record {
       pid = refl;
@@ -45,9 +45,10 @@ returns c =
           (λ h. stands.0 (sym named ∙ h), λ h. named ∙ stands.1 h);
       unknown = subst (λ (u : State). All (IsUnknownLimit u later c.args.pid) (map row_of c.in_ok-unknown.unknown.items)) is
           unknown.0;
-      unknown_in_order = in_order c.in_ok-unknown.unknown.items (unknown_rows cells c.into_near.result.map.entries)
+      unknown_in_order = in_order c.in_ok-unknown.unknown.items
+          (unknown_rows cells c.into_until_exec.result.map.entries)
           c.in_ok-unknown.ensures.rows c.in_ok-unknown.ensures.fds
-          (rows_in_order cells c.into_near.result.map.entries c.in_ok-unknown.ensures.sorted);
+          (rows_in_order cells c.into_until_exec.result.map.entries c.in_ok-unknown.ensures.sorted);
       unknown_live = λ f k lt none live. unknown.1 f k lt (ap (λ (u : State). u.cell c.args.pid f) is ∙ none) live;
       entering = subst (λ (u : State). IsEntering u (length c.args.before.now + 1) later c.args.pid c.of-entering.result) is
           (c.of-entering.ensures (length c.args.before.now + 1) later c.in_ok-live.ensures.blocked);

@@ -23,5 +23,5 @@ loop-line-preserved c =
     ∙ ap (λ (r : Entry). before ++ r ∷ []) (sym c.line-item.is) in
     let more : steps c.args.profile (take (c.loop-line.line-index + 1) c.args.lines.now) ≡ t ++ l ∷ [] =
     ap (steps c.args.profile) lines ∙ steps-more c.args.profile before line in
-    c.in_ok-follow.ensures ∙ ap (λ (u : State). ended u (l ∷ [])) c.loop-line.invariant
+    c.in_ok-apply_line.ensures ∙ ap (λ (u : State). ended u (l ∷ [])) c.loop-line.invariant
     ∙ sym (ends_more s t l) ∙ ap (ended s) (sym more)

@@ -26,13 +26,14 @@ loop-line-preserved c =
     ∙ ap (λ (r : Entry). before ++ r ∷ []) (sym c.line-item.is) in
     let more : steps c.args.profile (take (c.loop-line.line-index + 1) c.args.lines.now) ≡ t ++ l ∷ [] =
     ap (steps c.args.profile) lines ∙ steps-more c.args.profile before line in
-    let now : start_state c.follow_line.new.machine ≡ ended s (t ++ l ∷ []) =
-    c.in_ok-follow_line.ensures.moves ∙ ap (λ (u : State). ended u (l ∷ [])) c.loop-line.invariant.state
+    let now : start_state c.apply_maker_line.new.machine ≡ ended s (t ++ l ∷ []) =
+    c.in_ok-apply_maker_line.ensures.moves ∙ ap (λ (u : State). ended u (l ∷ [])) c.loop-line.invariant.state
     ∙ sym (ends_more s t l) in
     record {
       state = now ∙ ap (ended s) (sym more);
-      cells = c.in_ok-follow_line.ensures.cells
-          ∙ ap (λ (r : List Cell). r ++ cells_made (start_state c.follow_line.new.machine) line.pid (made_fds line.item))
+      cells = c.in_ok-apply_maker_line.ensures.cells
+          ∙ ap (λ (r : List Cell). r ++ cells_made (start_state c.apply_maker_line.new.machine) line.pid
+          (made_fds line.item))
           c.loop-line.invariant.cells
           ∙ ap (λ (u : State). cells_along s t ++ cells_made u line.pid (made_fds line.item)) now
           ∙ sym (cells_more s t l) ∙ ap (cells_along s) (sym more);

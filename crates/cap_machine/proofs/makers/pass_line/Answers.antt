@@ -7,7 +7,7 @@ use Rattle.cap_machine.proofs.makers.pass_line.Goals as goal
 
 pub returns-clause-live : goal.returns-clause-live
 returns-clause-live c =
-    on_ok_weaker c.pass_seen.result
-    (λ is later live. subst (λ (e : Entry). AreLive c.pass_seen.new.self (step c.args.profile e ∷ later))
-    c.seen-seen.ensures (is later live))
-    c.pass_seen.ensures.rights
+    on_ok_weaker c.pass_view.result
+    (λ is later live. subst (λ (e : Entry). AreLive c.pass_view.new.self (step c.args.profile e ∷ later))
+    c.view-view.ensures (is later live))
+    c.pass_view.ensures.rights

@@ -27,13 +27,13 @@ loop-line-preserved c = λ f.
     ap (λ (r : List Entry). reverse (steps c.args.profile r)) c.in-Some.ensures.cases.0
     ∙ ap reverse (steps-more c.args.profile earlier line)
     ∙ reverse-append (steps c.args.profile earlier) (l ∷ []) in
-    let owner : c.seen.inside.pid ≡ c.seen-seen.result.pid = ap (λ (e : Entry). e.pid) c.seen.view_is in
-    let same_touch : effect_touch effect c.seen.inside.pid ≡ touch l =
+    let owner : c.view.inside.pid ≡ c.view-view.result.pid = ap (λ (e : Entry). e.pid) c.view.view_is in
+    let same_touch : effect_touch effect c.view.inside.pid ≡ touch l =
     fun_ext (λ p. fun_ext (λ g. ap (λ (me : ℕ). effect_touch effect me p g) owner ∙ c.rule_of-rule.ensures.cells p g
-    ∙ ap (λ (e : Entry). touch (step c.args.profile e) p g) c.seen-seen.ensures)) in
+    ∙ ap (λ (e : Entry). touch (step c.args.profile e) p g) c.view-view.ensures)) in
     subst (λ (from : ℕ). SoFar s c.args.start.now whole c.args.pid older from (has_fd c.add_single.new.fds) f)
     (sym c.source-own.ensures)
-    (over_line s c.args.start.now whole c.args.pid older l c.loop-line.own effect c.seen.inside.pid
+    (over_line s c.args.start.now whole c.args.pid older l c.loop-line.own effect c.view.inside.pid
     (has_fd c.loop-line.fds) (has_fd c.add_single.new.fds) same_touch c.in_ok-add_single.ensures
     (λ g. subst (λ (h : List Step).
     SoFar s c.args.start.now whole c.args.pid h c.loop-line.own (has_fd c.loop-line.fds) g) back

@@ -1,7 +1,7 @@
 use Rattle.std.proofs.Common.{Vec, Global, ◌≡◌, Bool, List, [], ◌∷◌, ◌++◌, reverse, if◌then◌else◌, sym, ap, ◌∙◌}
 use Rattle.std.proofs.lemmas.List.{reverse-append}
 use Rattle.cap_machine.specs.declared.cell.Cell.{Cell}
-use Rattle.cap_machine.specs.declared.origin.CellLink.{CellLink}
+use Rattle.cap_machine.specs.declared.provenance.CellLink.{CellLink}
 use Rattle.cap_machine.specs.declared.walks.Passage.{Passage}
 use Rattle.cap_machine.specs.Passages.{cell_along, links_along}
 use Rattle.cap_machine.proofs.Passages.{cell_along-oldest, one_more_named}

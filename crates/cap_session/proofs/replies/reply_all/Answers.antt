@@ -1,11 +1,11 @@
 use Rattle.cap_session.proofs.Replying.{script_begins, all_replied, all_stays}
 use Rattle.cap_session.proofs.replies.reply_all.Goals as goal
 
-pub give_all-requires-clause-begins : goal.give_all-requires-clause-begins
-give_all-requires-clause-begins g c = script_begins c.args.script.now _ c.requires.begins
+pub read_chunks-requires-clause-begins : goal.read_chunks-requires-clause-begins
+read_chunks-requires-clause-begins g c = script_begins c.args.script.now _ c.requires.begins
 
 pub returns-clause-all : goal.returns-clause-all
-returns-clause-all g c = all_replied _ _ _ _ c.args.turns _ _ c.give_all.result c.give_all.ensures
+returns-clause-all g c = all_replied _ _ _ _ c.args.turns _ _ c.read_chunks.result c.read_chunks.ensures
 
 pub returns-clause-profile : goal.returns-clause-profile
-returns-clause-profile g c = all_stays _ _ _ _ c.args.turns _ _ c.give_all.result c.give_all.ensures
+returns-clause-profile g c = all_stays _ _ _ _ c.args.turns _ _ c.read_chunks.result c.read_chunks.ensures

@@ -2,7 +2,7 @@ use Rattle.std.proofs.lemmas.Result.{err_from_is_err_and}
 use Rattle.cap_session.specs.StartTexts.{Listed, none_listed, next_process, start_soon}
 use Rattle.cap_session.specs.StartLines.{Holds}
 use Rattle.cap_session.specs.Texts.{whole_text}
-use Rattle.cap_session.specs.declared.start_text.Starting.{Starting}
+use Rattle.cap_session.specs.declared.start_text.StartParser.{StartParser}
 use Rattle.cap_session.proofs.StartReads.{stopped_as, start_kept}
 use Rattle.cap_session.proofs.start_text.read_start.Goals as goal
 
@@ -14,5 +14,5 @@ returns-in_err-starting g c =
 
 pub returns : goal.returns
 returns g c =
-    rw c.ok_or.ensures.value (start_kept (λ (s : Starting). Holds s.kept) c.args.turns _ _ c.in_ok-starting.starting
+    rw c.ok_or.ensures.value (start_kept (λ (s : StartParser). Holds s.kept) c.args.turns _ _ c.in_ok-starting.starting
     c.in_ok-starting.starting.kept (λ known has. has) (c.in_ok-starting.ensures none_listed c.new.ensures))

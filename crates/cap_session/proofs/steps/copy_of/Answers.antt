@@ -4,10 +4,10 @@ use Rattle.cap_trace.specs.Spelling.{Spells, canon}
 use Rattle.cap_trace.proofs.Kept.{canon_read}
 use Rattle.cap_session.proofs.steps.copy_of.Goals as goal
 
-pub kept-requires : goal.kept-requires
-kept-requires c =
+pub to_line-requires : goal.to_line-requires
+to_line-requires c =
     let line = c.args.line.now in
     let written = c.as_slice.ensures.value ∙ c.in_ok-write_line.ensures.ok
-    ∙ ap (λ (before : List ℕ). before ++ canon line) c.new-text.ensures.items ∙ ap canon (sym c.seen.ensures) in
-    let spelled = subst (λ (e : Entry). Spells (canon e) e) (sym c.seen.ensures) c.in_ok-write_line.ensures.spelled in
-    record { spelled = canon_read c.as_slice.result.now c.seen.result written (canon c.seen.result, spelled) }
+    ∙ ap (λ (before : List ℕ). before ++ canon line) c.new-text.ensures.items ∙ ap canon (sym c.view.ensures) in
+    let spelled = subst (λ (e : Entry). Spells (canon e) e) (sym c.view.ensures) c.in_ok-write_line.ensures.spelled in
+    record { spelled = canon_read c.as_slice.result.now c.view.result written (canon c.view.result, spelled) }

@@ -28,11 +28,11 @@ loop-step-preserved c =
     let rule = c.rule_of-rule.ensures in
     let here : c.deref.result.now ≡ step = c.deref.ensures in
     let pid : c.line.inside.pid ≡ step.line.pid =
-    ap (λ (e : Entry). e.pid) (rw (c.seen-line.ensures, here) at c.line.view_is) in
+    ap (λ (e : Entry). e.pid) (rw (c.view-line.ensures, here) at c.line.view_is) in
     let position : c.loop-step.position + 1 ≡ c.args.at + n + 1 = omega (arith, c.loop-step.invariant.position) in
     let said_here : all ≡ first ++ within from to (map (found_at (c.args.at + n + 1))
     (said step (state_of (changed c.loop-step.effect (cells_of s))))) =
-    rw (position, pid, rule.demand, c.seen-line.ensures, here)
+    rw (position, pid, rule.requirement, c.view-line.ensures, here)
     at c.in_ok-note_line.ensures in
     let len : n ≡ length (values run) =
     sym (length-map run (λ (item : Rc Step Global). item.value)
@@ -44,8 +44,8 @@ loop-step-preserved c =
           (more_judged s (values run) c.args.at n from to c.args.report.now.found.items first all c.loop-step.effect
           c.push.new.self step c.loop-step.invariant.judged len said_here
           (after_more step c.rule_of-rule.result.effect c.line.inside.pid
-          (λ p f. rw pid (rw (c.seen-line.ensures, c.deref-in-loop-step.ensures, here) at (rule.cells p f)))
-          (λ p. rw pid (rw (c.seen-line.ensures, here) at (rule.modes p)))
+          (λ p f. rw pid (rw (c.view-line.ensures, c.deref-in-loop-step.ensures, here) at (rule.cells p f)))
+          (λ p. rw pid (rw (c.view-line.ensures, here) at (rule.modes p)))
           c.loop-step.effect c.push.new.self (values run) s c.loop-step.invariant.judged.after
           c.in_ok-push.ensures.cells));
     }

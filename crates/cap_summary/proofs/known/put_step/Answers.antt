@@ -1,20 +1,20 @@
 use Rattle.cap_summary.specs.{[], ◌∷◌, ◌++◌, Names.names_in}
-use Rattle.cap_summary.proofs.{Knowing.says_more, Naming.line_in, Naming.demand_in}
+use Rattle.cap_summary.proofs.{Knowing.says_more, Naming.line_in, Naming.requirement_in}
 use Rattle.cap_summary.proofs.known.put_step.Goals as goal
 
 pub returns : goal.returns
 returns c = λ steps so_far.
     let rule = c.rule_of-rule.ensures in
-    let seen = c.seen-line.ensures in
+    let view = c.view-line.ensures in
     let pid = c.pid-pid.ensures in
-    let demand = rw seen at rule.demand in
+    let requirement = rw view at rule.requirement in
     says_more c.args.step.now c.rule_of-rule.result.effect c.pid-pid.result
-    (λ p f. rw pid (rw seen at (rule.cells p f)))
-    (λ p. rw pid (rw seen at (rule.modes p))) c.args.effect.now c.push.new.self c.args.precondition.now
+    (λ p f. rw pid (rw view at (rule.cells p f)))
+    (λ p. rw pid (rw view at (rule.modes p))) c.args.effect.now c.push.new.self c.args.precondition.now
     c.put_line.new.self c.of_line-asks.result steps so_far
     c.in_ok-push.ensures.cells c.in_ok-push.ensures.leaves c.in_ok-put_line.ensures.met c.in_ok-put_line.ensures.possible
-    (λ s. rw (pid, demand) at (c.of_line-asks.ensures.holds s)) c.in_ok-push.ensures.names
+    (λ s. rw (pid, requirement) at (c.of_line-asks.ensures.holds s)) c.in_ok-push.ensures.names
     c.in_ok-put_line.ensures.names (rw pid (line_in c.args.step.now steps c.rule_of-rule.result.effect
-    (λ p f. rw seen at (rule.cells p f)))) (c.of_line-asks.ensures.names (names_in (steps ++ c.args.step.now ∷ []))
-    (rw (pid, demand) (demand_in c.args.step.now steps)))
-    c.in_ok-put_line.ensures.few c.in_ok-put_line.ensures.refusals (rw demand at c.of_line-asks.ensures.refusals)
+    (λ p f. rw view at (rule.cells p f)))) (c.of_line-asks.ensures.names (names_in (steps ++ c.args.step.now ∷ []))
+    (rw (pid, requirement) (requirement_in c.args.step.now steps)))
+    c.in_ok-put_line.ensures.few c.in_ok-put_line.ensures.refusals (rw requirement at c.of_line-asks.ensures.refusals)

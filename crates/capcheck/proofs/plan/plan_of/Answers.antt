@@ -6,4 +6,4 @@ use Rattle.capcheck.proofs.plan.plan_of.Goals as goal
 pub returns : goal.returns
 returns c =
     let words = map (λ (w : Bor Text). w.now) c.args.words.now in
-    told_fits words c.answered.result c.in-Err.error c.in-Err.ensures.kinds c.answered.ensures
+    told_fits words c.plan_for_error.result c.in-Err.error c.in-Err.ensures.kinds c.plan_for_error.ensures

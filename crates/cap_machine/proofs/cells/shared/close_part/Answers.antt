@@ -1,6 +1,6 @@
 use Rattle.std.proofs.Common.{rules, ◌≡◌, ℕ, nat_le, if◌then◌else◌, ap, ◌∙◌}
 use Rattle.std.proofs.Math.Logic.{⊎_elim}
-use Rattle.cap_machine.specs.Cells.Pending.{settled}
+use Rattle.cap_machine.specs.Cells.Deferred.{with_deferred}
 use Rattle.cap_machine.specs.declared.cell.Cell.{Cell}
 use Rattle.cap_machine.specs.declared.cell.Cell.TheVariants.{Closed}
 use Rattle.cap_machine.proofs.PartsOf.{still_ok}
@@ -18,5 +18,5 @@ returns g c =
     ap (λ tree. g.T.Subtree.cell_at tree f) back
     ∙ closed f has
     ∙ ap (λ (was : Cell). if nat_le c.args.fd f then Closed else was)
-    (c.settle_part.ensures f has ∙ ap (settled c.args.pending) (same f)))
+    (c.apply_to_part.ensures f has ∙ ap (with_deferred c.args.deferred) (same f)))
     c.close_from.ensures

@@ -1,6 +1,6 @@
 use Rattle.std.proofs.Common.{rules, ◌≡◌, ◌==◌, ℕ, if◌then◌else◌, ap, ◌∙◌}
 use Rattle.std.proofs.Math.Logic.{⊎_elim}
-use Rattle.cap_machine.specs.Cells.Pending.{settled}
+use Rattle.cap_machine.specs.Cells.Deferred.{with_deferred}
 use Rattle.cap_machine.specs.declared.cell.Cell.{Cell}
 use Rattle.cap_machine.proofs.PartsOf.{still_ok}
 use Rattle.cap_machine.proofs.cells.shared.write_part.Goals as goal
@@ -17,5 +17,5 @@ returns g c =
     ap (λ tree. g.T.Subtree.cell_at tree f) back
     ∙ wrote f has
     ∙ ap (λ (was : Cell). if f == c.args.fd then c.args.cell else was)
-    (c.settle_part.ensures f has ∙ ap (settled c.args.pending) (same f)))
+    (c.apply_to_part.ensures f has ∙ ap (with_deferred c.args.deferred) (same f)))
     c.write.ensures

@@ -7,14 +7,14 @@ use Rattle.cap_machine.proofs.live.LiveRights.pass.Goals as goal
 
 pub returns-clause-rights : goal.returns-clause-rights
 returns-clause-rights c =
-    on_ok_weaker c.pass_seen.result
-    (λ is later live. subst (λ (e : Entry). AreLive c.pass_seen.new.self (step c.args.profile e ∷ later)) c.seen.ensures
+    on_ok_weaker c.pass_view.result
+    (λ is later live. subst (λ (e : Entry). AreLive c.pass_view.new.self (step c.args.profile e ∷ later)) c.view.ensures
     (is later live))
-    c.pass_seen.ensures.rights
+    c.pass_view.ensures.rights
 
 pub returns-clause-blocked : goal.returns-clause-blocked
 returns-clause-blocked c =
-    on_ok_weaker c.pass_seen.result
-    (λ is later first. subst (λ (e : Entry). AreBlocked c.pass_seen.new.self c.args.at (step c.args.profile e ∷ later))
-    c.seen.ensures (is later first))
-    c.pass_seen.ensures.blocked
+    on_ok_weaker c.pass_view.result
+    (λ is later first. subst (λ (e : Entry). AreBlocked c.pass_view.new.self c.args.at (step c.args.profile e ∷ later))
+    c.view.ensures (is later first))
+    c.pass_view.ensures.blocked

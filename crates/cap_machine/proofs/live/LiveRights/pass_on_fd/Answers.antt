@@ -8,7 +8,7 @@ use Rattle.cap_machine.specs.Touch.{fd_touch}
 use Rattle.cap_machine.specs.Wanted.{wanted, blocked}
 use Rattle.cap_machine.proofs.LiveBack.{live_before}
 use Rattle.cap_machine.proofs.BlockedBack.{blocked_line}
-use Rattle.cap_machine.proofs.CallsOnFd.{CallsOnFd, demand_on_fd, touches_on_fd, turns_on_fd}
+use Rattle.cap_machine.proofs.CallsOnFd.{CallsOnFd, requirement_on_fd, touches_on_fd, turns_on_fd}
 use Rattle.cap_machine.proofs.live.LiveRights.pass_on_fd.Goals as goal
 
 pub returns-in-Close-clause-rights : goal.returns-in-Close-clause-rights
@@ -19,9 +19,10 @@ returns-in-Close-clause-rights c =
     let calls : CallsOnFd line me c.args.call c.args.fd answer =
     record { item = c.requires; owner = ap (λ (e : Entry). e.pid) c.line.view_is } in
     on_ok_weaker c.pass_rule.result
-    (λ is later live. live_before (step c.args.profile line) c.fd_demand_of-demand.result c.closed.result me
+    (λ is later live. live_before (step c.args.profile line) c.fd_requirement_of-requirement.result c.closed.result me
     (wanted c.args.self.now) (wanted c.pass_rule.new.self) later
-    (demand_on_fd line me c.args.call c.args.fd answer c.fd_demand_of-demand.result calls c.fd_demand_of-demand.ensures)
+    (requirement_on_fd line me c.args.call c.args.fd answer c.fd_requirement_of-requirement.result calls
+    c.fd_requirement_of-requirement.ensures)
     calls.owner
     (touches_on_fd c.args.profile line me c.args.call c.args.fd answer c.closed.result calls
     (λ p f. c.closed.ensures.cells me p f
@@ -37,9 +38,11 @@ returns-in-Close-clause-blocked c =
     let calls : CallsOnFd line me c.args.call c.args.fd answer =
     record { item = c.requires; owner = ap (λ (e : Entry). e.pid) c.line.view_is } in
     on_ok_weaker c.pass_rule.result
-    (λ is later first. blocked_line (step c.args.profile line) c.fd_demand_of-demand.result c.closed.result c.args.at me
+    (λ is later first. blocked_line
+    (step c.args.profile line) c.fd_requirement_of-requirement.result c.closed.result c.args.at me
     (blocked c.args.self.now) (blocked c.pass_rule.new.self) later
-    (demand_on_fd line me c.args.call c.args.fd answer c.fd_demand_of-demand.result calls c.fd_demand_of-demand.ensures)
+    (requirement_on_fd line me c.args.call c.args.fd answer c.fd_requirement_of-requirement.result calls
+    c.fd_requirement_of-requirement.ensures)
     calls.owner
     (turns_on_fd c.args.profile line me c.args.call c.args.fd answer c.closed.result calls (c.closed.ensures.modes me))
     is first)
@@ -52,19 +55,21 @@ returns-in_default c =
     let answer = c.args.answer.now in
     let calls : CallsOnFd line me c.args.call c.args.fd answer =
     record { item = c.requires; owner = ap (λ (e : Entry). e.pid) c.line.view_is } in
-    let is_demand =
-    demand_on_fd line me c.args.call c.args.fd answer c.fd_demand_of-demand.result calls c.fd_demand_of-demand.ensures in
+    let is_requirement =
+    requirement_on_fd line me c.args.call c.args.fd answer c.fd_requirement_of-requirement.result calls
+    c.fd_requirement_of-requirement.ensures in
     record {
       rights = on_ok_weaker c.pass_rule-in_default.result
-          (λ is later live. live_before (step c.args.profile line) c.fd_demand_of-demand.result Keep me
-          (wanted c.args.self.now) (wanted c.pass_rule-in_default.new.self) later is_demand calls.owner
+          (λ is later live. live_before (step c.args.profile line) c.fd_requirement_of-requirement.result Keep me
+          (wanted c.args.self.now) (wanted c.pass_rule-in_default.new.self) later is_requirement calls.owner
           (touches_on_fd c.args.profile line me c.args.call c.args.fd answer Keep calls
           (λ p f. sym (c.if-keeps_all.ensures refl c.args.profile c.args.fd answer me p f)))
           is live)
           c.pass_rule-in_default.ensures.rights;
       blocked = on_ok_weaker c.pass_rule-in_default.result
-          (λ is later first. blocked_line (step c.args.profile line) c.fd_demand_of-demand.result Keep c.args.at me
-          (blocked c.args.self.now) (blocked c.pass_rule-in_default.new.self) later is_demand calls.owner
+          (λ is later first. blocked_line
+          (step c.args.profile line) c.fd_requirement_of-requirement.result Keep c.args.at me
+          (blocked c.args.self.now) (blocked c.pass_rule-in_default.new.self) later is_requirement calls.owner
           (turns_on_fd c.args.profile line me c.args.call c.args.fd answer Keep calls (λ p. refl))
           is first)
           c.pass_rule-in_default.ensures.blocked;

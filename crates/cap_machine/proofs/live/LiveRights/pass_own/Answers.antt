@@ -5,7 +5,7 @@ use Rattle.std.proofs.lemmas.Result.{on_ok_weaker}
 use Rattle.std.proofs.Math.Path.{fun_ext}
 use Rattle.cap_machine.specs.declared.cell.OnExec.{OnExec}
 use Rattle.cap_machine.specs.declared.live.process.LiveProcess.{LiveProcess}
-use Rattle.cap_machine.specs.Wanted.{wanted_of, wanted, undone, with_demand}
+use Rattle.cap_machine.specs.Wanted.{wanted_of, wanted, undone, with_requirement}
 use Rattle.cap_machine.proofs.LiveBack.{written_at}
 use Rattle.cap_machine.proofs.StandingRows.{at_is}
 use Rattle.cap_machine.proofs.live.LiveRights.pass_own.Goals as goal
@@ -19,7 +19,7 @@ returns-in-Some-clause-rights c =
     (is_at (nat_cmp c.args.me) p) c.pass.new.self (get nat_cmp c.args.self.now.processes p)
     (get nat_cmp (c.get_mut.follows.lender c.pass.new.self) p) (at_is c.args.me p) (updates.0 p)
     ∙ ap (λ (n : ℕ). if p == c.args.me then n else wanted c.args.self.now p f x)
-    (is f x ∙ ap (λ (o : Option LiveProcess). with_demand c.args.demand.now
+    (is f x ∙ ap (λ (o : Option LiveProcess). with_requirement c.args.requirement.now
     (undone c.args.effect.now (λ g y. option_map_or (λ own. wanted_of own g y) o 0)) f x) c.in-Some.ensures.value))
     c.pass.ensures.rights
 
@@ -31,7 +31,7 @@ returns-in_ok-pass-in-None-clause-rights c =
     else option_map_or (λ own. wanted_of own f x) (get nat_cmp m p) 0) c.get_mut.follows.holds-at-none
     ∙ ap (λ (n : ℕ). if p == c.args.me then n else wanted c.args.self.now p f x)
     (c.in_ok-pass-in-None.ensures.rights f x
-    ∙ ap (λ (u : ℕ → OnExec → ℕ). with_demand c.args.demand.now (undone c.args.effect.now u) f x)
+    ∙ ap (λ (u : ℕ → OnExec → ℕ). with_requirement c.args.requirement.now (undone c.args.effect.now u) f x)
     (fun_ext (λ g. fun_ext (λ y. c.none-own.ensures.rights g y
     ∙ ap (λ (o : Option LiveProcess). option_map_or (λ own. wanted_of own g y) o 0) c.in-None.ensures.value)))))
     c.put.ensures.rights

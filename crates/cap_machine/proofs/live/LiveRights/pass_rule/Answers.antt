@@ -7,7 +7,7 @@ use Rattle.cap_machine.proofs.live.LiveRights.pass_rule.Goals as goal
 pub returns-clause-rights : goal.returns-clause-rights
 returns-clause-rights c =
     on_ok_weaker c.pass_own.result
-    (λ is p f x. before_rule c.args.demand.now c.args.effect.now c.args.me (wanted c.args.self.now)
+    (λ is p f x. before_rule c.args.requirement.now c.args.effect.now c.args.me (wanted c.args.self.now)
     (wanted c.gather.new.self) (wanted c.pass_own.new.self) c.in_ok-gather.ensures.rights p f x (is p f x))
     c.pass_own.ensures.rights
 
@@ -17,6 +17,6 @@ returns-clause-blocked c =
     (λ is p. by_own c.args.me p (gathered_blocked c.args.effect.now c.args.me (blocked c.args.self.now))
     (blocked c.pass_own.new.self p) (blocked c.gather.new.self)
     (λ q. if is_child c.args.effect.now q then None else blocked c.args.self.now q)
-    (λ (b : Option ℕ). blocked_with c.args.demand.now c.args.at (unblocked c.args.effect.now b))
+    (λ (b : Option ℕ). blocked_with c.args.requirement.now c.args.at (unblocked c.args.effect.now b))
     c.in_ok-gather.ensures.blocked (is p))
     c.pass_own.ensures.blocked

@@ -2,7 +2,7 @@ use Rattle.std.proofs.Common.{ℕ, ◌∷◌, ap, ◌∙◌}
 use Rattle.std.proofs.lemmas.Result.{on_ok_weaker}
 use Rattle.std.specs.Option.{is_some}
 use Rattle.cap_machine.specs.Steps.{step}
-use Rattle.cap_machine.specs.Touched.{turn_seen}
+use Rattle.cap_machine.specs.Touched.{turn_view}
 use Rattle.cap_machine.proofs.Walking.{mode_is_found, mode_found_next, mode_known_next}
 use Rattle.cap_machine.proofs.walks.ModeWalk.pass.Goals as goal
 
@@ -19,19 +19,19 @@ returns-in-Some-clause-mode c s history =
 pub returns-in-None-clause-chain : goal.returns-in-None-clause-chain
 returns-in-None-clause-chain c =
     let is =
-    ap (λ (me : ℕ). turn_seen me c.turn_of-turn.result) c.pid.ensures ∙ c.turn_of-turn.ensures in
+    ap (λ (me : ℕ). turn_view me c.turn_of-turn.result) c.pid.ensures ∙ c.turn_of-turn.ensures in
     on_ok_weaker c.follow.result
     (λ goes s history at. mode_found_next c.args.self.now c.follow.new.self s history
-    (step c.args.profile c.args.line.now) c.args.at (turn_seen c.pid.result c.turn_of-turn.result)
+    (step c.args.profile c.args.line.now) c.args.at (turn_view c.pid.result c.turn_of-turn.result)
     c.in-None.is is goes at)
     c.follow.ensures.follows
 
 pub returns-in-None-clause-mode : goal.returns-in-None-clause-mode
 returns-in-None-clause-mode c =
     let is =
-    ap (λ (me : ℕ). turn_seen me c.turn_of-turn.result) c.pid.ensures ∙ c.turn_of-turn.ensures in
+    ap (λ (me : ℕ). turn_view me c.turn_of-turn.result) c.pid.ensures ∙ c.turn_of-turn.ensures in
     on_ok_weaker c.follow.result
     (λ goes s history. mode_known_next c.args.self.now c.follow.new.self s history
-    (step c.args.profile c.args.line.now) c.args.at (turn_seen c.pid.result c.turn_of-turn.result)
+    (step c.args.profile c.args.line.now) c.args.at (turn_view c.pid.result c.turn_of-turn.result)
     c.in-None.is is goes)
     c.follow.ensures.follows

@@ -3,7 +3,7 @@ use Rattle.std.specs.Prelude.{None, Some}
 use Rattle.std.proofs.lemmas.List.{take_rest}
 use Rattle.memchr.specs.Find.{IsFirstByte, is_byte}
 use Rattle.cap_session.specs.LineEnds.{IsCut, IsWithin}
-use Rattle.cap_session.proofs.LineMarks.{found_behind, none_behind}
+use Rattle.cap_session.proofs.LineMarks.{found_beyond, none_beyond}
 use Rattle.cap_session.proofs.line_ends.LineEnds.cut_last.Goals as goal
 
 pub returns-in-Some : goal.returns-in-Some
@@ -18,7 +18,7 @@ returns-in-Some c =
     subst (λ t. c.args.from ≤ length t) (sym c.self.view_is) c.requires.from in
     subst (λ t. IsCut t (take at text) (take (length text - (at + 1)) (drop (at + 1) text))) c.self.view_is
     (subst (λ r. IsCut text (take at text) r) (sym (take_rest text (at + 1)))
-    (found_behind text c.args.from c.in-Some.at before found within))
+    (found_beyond text c.args.from c.in-Some.at before found within))
 
 pub returns-in-None : goal.returns-in-None
 returns-in-None c =
@@ -29,6 +29,6 @@ returns-in-None c =
     subst (λ t. IsWithin t c.args.from) (sym c.self.view_is) c.requires.before in
     let within : c.args.from ≤ length text =
     subst (λ t. c.args.from ≤ length t) (sym c.self.view_is) c.requires.from in (
-      subst (λ t. IsFirstByte (is_byte 10) t None) c.self.view_is (none_behind text c.args.from before found within),
+      subst (λ t. IsFirstByte (is_byte 10) t None) c.self.view_is (none_beyond text c.args.from before found within),
       refl,
     )

@@ -21,4 +21,4 @@ pub returns-in_ok-value-in-Change-clause-names : goal.returns-in_ok-value-in-Cha
 returns-in_ok-value-in-Change-clause-names c = on_ok_weaker c.set-in-Change.result (λ set names line effect.
     set names line.own (change_within names c.args.me c.args.line.now c.in-Change.fd c.in-Change.op c.in-Change.from
     c.in_ok-value-in-Change.value c.in-Change.is (λ named. c.in_ok-value-in-Change.ensures.names (has_cell names)
-    (c.seen.ensures.names names (effect c.args.me) named)) line) effect) c.set-in-Change.ensures.names
+    (c.view.ensures.names names (effect c.args.me) named)) line) effect) c.set-in-Change.ensures.names

@@ -5,17 +5,18 @@ use Rattle.cap_summary.proofs.line_asks.LineAsks.of_refusal.Goals as goal
 
 pub returns-clause-holds : goal.returns-clause-holds
 returns-clause-holds c = λ s.
-    let demand = c.args.demand.now in
+    let requirement = c.args.requirement.now in
     let outside = is_outside (s.mode c.args.me) in
-    let inside : part_holds (cells_of s) c.if-demand.mode ≡ (demand.at && not outside) = elim c.if-demand.branch [
-      | goal.then-demand w ↦
-          rw (w.mode-is, w.if-demand.true) (w.of_mode.ensures.holds s ∙ may_be_inside (s.mode c.args.me))
-      | goal.else-demand w ↦ rw (w.mode-is, w.if-demand.false) refl
+    let inside : part_holds (cells_of s) c.if-requirement.mode
+    ≡ (requirement.at && not outside) = elim c.if-requirement.branch [
+      | goal.then-requirement w ↦
+          rw (w.mode-is, w.if-requirement.true) (w.of_mode.ensures.holds s ∙ may_be_inside (s.mode c.args.me))
+      | goal.else-requirement w ↦ rw (w.mode-is, w.if-requirement.false) refl
     ] in
-    rw c.requires (refusal_found Finding.Refusal (has_check demand.checks)
-    (all_excused (listed demand.checks) (checked_cells c.args.me demand.checks s)) demand.at outside
+    rw c.requires (refusal_found Finding.Refusal (has_check requirement.checks)
+    (all_excused (listed requirement.checks) (checked_cells c.args.me requirement.checks s)) requirement.at outside
     (holds (cells_of s) c.in-Some.first || part_holds (cells_of s) c.in-Some.second)
-    (part_holds (cells_of s) c.if-demand.mode) (c.in-Some.ensures.hold s) inside)
+    (part_holds (cells_of s) c.if-requirement.mode) (c.in-Some.ensures.hold s) inside)
 
 pub returns-in_default-clause-names : goal.returns-in_default-clause-names
 returns-in_default-clause-names c = λ names within. c.nothing.ensures.names names

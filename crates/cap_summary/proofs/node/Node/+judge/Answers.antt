@@ -1,11 +1,11 @@
 use Rattle.cap_summary.specs.{◌≡◌, ℕ, ◌+◌, ◌≤◌, ◌++◌, List, length, map, Step, State, Found, check, ended, later}
 use Rattle.cap_summary.specs.{start_state, values, Content.content_steps, Positions.within}
 use Rattle.cap_summary.proofs.{sym, ap, ◌∙◌, arith, length-append, on_ok_weaker, ends_in_turn, Counted.run_judged}
-use Rattle.cap_summary.proofs.{Resolving.found_parts, Resolving.found_behind, Resolving.same_behind, Runs.same_steps}
+use Rattle.cap_summary.proofs.{Resolving.found_parts, Resolving.found_beyond, Resolving.same_beyond, Runs.same_steps}
 use Rattle.cap_summary.proofs.node.Node.+judge.Goals as goal
 
 pub returns-then-asked-at-clause-found : goal.returns-then-asked-at-clause-found
-returns-then-asked-at-clause-found t c = found_behind (start_state c.args.machine.now) c.args.self.now.steps c.args.at
+returns-then-asked-at-clause-found t c = found_beyond (start_state c.args.machine.now) c.args.self.now.steps c.args.at
     c.args.asked.now.from c.args.asked.now.to c.args.report.now.found.items (omega arith)
 
 pub returns-else-asked-at-clause-moves : goal.returns-else-asked-at-clause-moves
@@ -41,7 +41,7 @@ returns-in_ok-judge-in-Both t c =
     rw (← parts) (record {
       found = on_ok_weaker c.judge-in-Both.result (λ last.
           found_parts s a b c.args.at c.len.result from to old found c.judge-in-Both.new.report.found.items len first
-          (rw c.deref-in-Both-2.ensures at last ∙ ap (λ r. found ++ r) (same_behind between (ended s a) b
+          (rw c.deref-in-Both-2.ensures at last ∙ ap (λ r. found ++ r) (same_beyond between (ended s a) b
           (c.args.at + c.len.result) from to (λ before. moved (omega (arith, len, before))))))
           c.judge-in-Both.ensures.found;
       moves = on_ok_weaker c.judge-in-Both.result (λ last. λ ends.

@@ -3,7 +3,7 @@ use Rattle.cap_summary.specs.{Before.state_before, Content.content_steps, Kept.I
 use Rattle.cap_summary.specs.{Positions.within}
 use Rattle.cap_summary.proofs.{sym, ap, ◌∙◌, arith, inl, length-append, on_ok_weaker, Counted.run_judged}
 use Rattle.cap_summary.proofs.{Ends.known_ends, Runs.same_steps}
-use Rattle.cap_summary.proofs.Resolving.{found_before, found_behind, not_many, stopped, parts_or_many, many_parts}
+use Rattle.cap_summary.proofs.Resolving.{found_before, found_beyond, not_many, stopped, parts_or_many, many_parts}
 use Rattle.cap_summary.proofs.Resolving.{some_found}
 use Rattle.cap_summary.proofs.node.Node.+resolve.Goals as goal
 
@@ -17,7 +17,7 @@ returns-then-asked-at-clause-found t c =
     let len : c.self.inside.len ≡ length steps = c.self.invariant.len
     ∙ ap (λ (r : List Step). length r) (same_steps c.self.view_is) in
     elim c.then-asked-at.branch [
-      | goal.then-asked-at-via-then-asked-at w ↦ inl (found_behind s steps c.args.at from to old (omega arith))
+      | goal.then-asked-at-via-then-asked-at w ↦ inl (found_beyond s steps c.args.at from to old (omega arith))
       | goal.then-asked-at-via-else-asked-at+then-at-self w ↦
           inl (found_before s steps c.args.at from to old (omega (arith, w.if-at-self.true, len)))
     ]

@@ -1,18 +1,18 @@
 use Rattle.std.proofs.Common.{◌≡◌, Ok, ◌∙◌}
 use Rattle.cap_trace.specs.Entry.{Entry}
 use Rattle.cap_trace.specs.Reading.{line_of}
-use Rattle.cap_trace.specs.Seen.{item_seen}
+use Rattle.cap_trace.specs.Views.{item_view}
 use Rattle.cap_trace.specs.Spelling.{IsProper}
 use Rattle.cap_trace.proofs.GoodLines.{bad_fields, too_long, short_proper}
 use Rattle.cap_trace.proofs.Kept.{kept_is, spells_a_line, canon_read}
 use Rattle.cap_trace.proofs.line.Line.new.Goals as goal
 
 pub returns-then-not-branch : goal.returns-then-not-branch
-returns-then-not-branch c = bad_fields (record { pid = c.args.pid; item = item_seen c.args.item.now })
+returns-then-not-branch c = bad_fields (record { pid = c.args.pid; item = item_view c.args.item.now })
     c.in_ok-fields_fit.field-0 c.in_ok-fields_fit.ensures c.if-not-branch.true
 
 abbrev entry : goal.Then-is_short → Entry
-entry c = record { pid = c.args.pid; item = item_seen c.args.item.now }
+entry c = record { pid = c.args.pid; item = item_view c.args.item.now }
 
 proper : (c : goal.Then-is_short) → IsProper (entry c)
 proper c = short_proper (entry c) c.in_ok-fields_fit.field-0 c.is_short.result c.deref.result.now
@@ -29,5 +29,5 @@ pub returns-then-is_short : goal.returns-then-is_short
 returns-then-is_short c = (kept_is c.in_ok-text.text.items (entry c) (reads c), proper c)
 
 pub returns-else-is_short : goal.returns-else-is_short
-returns-else-is_short c = too_long (record { pid = c.args.pid; item = item_seen c.args.item.now }) c.is_short.result
+returns-else-is_short c = too_long (record { pid = c.args.pid; item = item_view c.args.item.now }) c.is_short.result
     c.deref.result.now c.is_short.ensures (c.deref.ensures.value ∙ c.in_ok-text.ensures) c.if-is_short.false

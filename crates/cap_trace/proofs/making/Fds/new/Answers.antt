@@ -1,6 +1,6 @@
 use Rattle.std.proofs.Common.{◌≡◌, ◌++◌, ◌∙◌, ap, true, List, ℕ, map}
 use Rattle.std.specs.List.{join_with_byte}
-use Rattle.cap_trace.specs.Seen.{fds_spelled}
+use Rattle.cap_trace.specs.Views.{fds_spelled}
 use Rattle.cap_trace.specs.Entry.{fds}
 use Rattle.cap_trace.specs.Making.{all_rise}
 use Rattle.cap_trace.specs.Spelling.{arg_text}

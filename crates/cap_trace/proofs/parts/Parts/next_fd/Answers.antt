@@ -1,6 +1,6 @@
 use Rattle.std.proofs.Common.{sym, ap, ◌∙◌}
 use Rattle.cap_trace.specs.Quotes.{left}
-use Rattle.cap_trace.proofs.QuickLines.{fd_first}
+use Rattle.cap_trace.proofs.FastPathLines.{fd_first}
 use Rattle.cap_trace.proofs.parts.Parts.next_fd.Goals as goal
 
 pub returns-in-Some-clause-value : goal.returns-in-Some-clause-value

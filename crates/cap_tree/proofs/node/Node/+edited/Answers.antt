@@ -21,8 +21,8 @@ returns-in_ok-new-in-Some-changed-clause-items g t c =
     c.order.ensures.part c.order.ensures.other long c.of_place-side.ensures in
     rw (part, c.in_ok-kept-in-Branch.ensures.cases, new, all) at c.in_ok-new-in-Some-changed.ensures.items
 
-pub settle-requires-clause-few : goal.settle-requires-clause-few
-settle-requires-clause-few g t c =
+pub rebalance-requires-clause-few : goal.rebalance-requires-clause-few
+rebalance-requires-clause-few g t c =
     let all = rw c.deref-node.ensures at (ap (λ d. d.0) (rw c.in-Branch.is at c.node.view_is)) in
     let few = rw (c.in-Branch.is, all) at c.node.invariant.few in
     let long = rw c.deref.ensures at c.len.ensures.count in

@@ -2,12 +2,12 @@ use Rattle.std.proofs.Common.{ℕ, ap, ◌∙◌}
 use Rattle.std.proofs.lemmas.Result.{on_ok_weaker}
 use Rattle.std.proofs.Math.Path.{fun_ext}
 use Rattle.cap_machine.specs.declared.cell.OnExec.{OnExec}
-use Rattle.cap_machine.specs.Wanted.{with_demand}
+use Rattle.cap_machine.specs.Wanted.{with_requirement}
 use Rattle.cap_machine.proofs.live.process.LiveProcess.pass.Goals as goal
 
 pub returns-clause-rights : goal.returns-clause-rights
 returns-clause-rights c =
-    on_ok_weaker c.demand.result
-    (λ is f x. is f x ∙ ap (λ (u : ℕ → OnExec → ℕ). with_demand c.args.demand.now u f x)
+    on_ok_weaker c.requirement.result
+    (λ is f x. is f x ∙ ap (λ (u : ℕ → OnExec → ℕ). with_requirement c.args.requirement.now u f x)
     (fun_ext (λ g. fun_ext (λ y. c.in_ok-undo.ensures.rights g y))))
-    c.demand.ensures.rights
+    c.requirement.ensures.rights

@@ -1,8 +1,0 @@
-use Rattle.std.proofs.Common.{◌≡◌, ℕ, ◌<◌, nat_lt, if◌then◌else◌}
-use Rattle.cap_machine.specs.Cells.Parts.{in_leaf}
-use Rattle.cap_machine.specs.Cells.Pending.{settled}
-use Rattle.cap_machine.proofs.cells.leaf.LeafSubtree.settle.Given as goal
-
-abbrev pub invariant-loop-k : goal.invariant-loop-k
-invariant-loop-k g l = (f : ℕ) → f < g.row.N → in_leaf l.self f
-    ≡ (if nat_lt f l.k then settled l.pending (in_leaf l.initial.self f) else in_leaf l.initial.self f)

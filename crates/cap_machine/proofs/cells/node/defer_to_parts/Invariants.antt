@@ -1,0 +1,14 @@
+use Rattle.std.proofs.Common.{◌≡◌, ℕ, ◌<◌, nat_lt, length, if◌then◌else◌}
+use Rattle.std.specs.List.{slice_index_or}
+use Rattle.cap_machine.specs.Cells.Deferred.{with_deferred}
+use Rattle.cap_machine.specs.declared.cell.Cell.{Cell}
+use Rattle.cap_machine.specs.declared.cells.deferred.Deferred.TheVariants.{Nothing}
+use Rattle.cap_machine.proofs.cells.node.defer_to_parts.Given as goal
+
+abbrev pub invariant-loop-k : goal.invariant-loop-k
+invariant-loop-k l = record {
+  long : length l.deferred ≡ 8;
+  each : (i : ℕ) (c : Cell) → i < 8 → with_deferred (slice_index_or l.deferred i Nothing) c
+      ≡ (if nat_lt i l.k then with_deferred l.next (with_deferred (slice_index_or l.initial.deferred i Nothing) c)
+      else with_deferred (slice_index_or l.initial.deferred i Nothing) c);
+}

@@ -1,7 +1,0 @@
-use Rattle.std.proofs.Common.{◌-◌, ◌≤◌}
-use Rattle.cap_machine.specs.Cells.Remains.{left_at_most}
-use Rattle.cap_machine.proofs.cells.remains.Remains.free_next.Given as goal
-
--- each turn so far freed a part, if there was one
-abbrev pub invariant-loop : goal.invariant-loop
-invariant-loop l = left_at_most l.self ≤ left_at_most l.initial.self - l.counter

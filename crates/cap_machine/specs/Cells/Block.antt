@@ -1,8 +1,0 @@
--- The cells of 256 descriptors.
-use Rattle.std.specs.Prelude.{ℕ}
-use Rattle.cap_machine.specs.declared.cell.Cell.{Cell}
-use Rattle.cap_machine.specs.declared.cells.block.Block.{Block}
-use Rattle.cap_machine.specs.Cells.Parts.{in_leaf, in_node}
-
-unfoldable pub in_block : Block → ℕ → Cell
-in_block block f = in_node (in_node in_leaf 4) 32 block.node f

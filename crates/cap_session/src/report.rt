@@ -1,0 +1,24 @@
+//! The text of a report, from the findings in a tree of steps.
+ghost use Rattle.std.specs.Prelude.{◌≡◌, ◌++◌, length, flat_map, IfOk};
+ghost use Rattle.cap_machine.specs.Report.{report_line, last_line};
+ghost use Rattle.cap_session.specs.Session.{StandWithin};
+
+use cap_machine::{Found, NoMemory, put_count, put_finding};
+use cap_summary::Summary;
+use cap_tree::Tree;
+use std::alloc::Global;
+
+/// A line for each finding, with that step of the tree that stands at its position, and how many they are.
+pub fn text_of(alloc: Global, tree: &Tree<Summary>, found: &[Found]) -> Result<Vec<u8>, NoMemory>
+    requires { StandWithin (length tree.now) found.now }
+    ensures { IfOk result (λ text. text.items
+        ≡ flat_map (report_line tree.now) found.now ++ last_line (length found.now)) }
+{
+    let mut text = Vec::new(alloc);
+    for one in found {
+        let step = tree.get(one.at - 1);
+        put_finding(&mut text, one.at, &step.line.view(), &one.finding)?;
+    }
+    put_count(&mut text, found.len())?;
+    Ok(text)
+}
