@@ -24,7 +24,9 @@ PREFIX ?= /usr/local
 SOURCES = $(shell find crates -path '*/out' -prune -o -type f -name '*.rt' -print -o -type f -name '*.antt' -print) crates.txt HANDLES
 
 # What runs the built program, each with the program as its argument.
-SCRIPTS = tests/edits tests/documents examples/check tests/needs tests/rows tests/talks tests/memory tests/allocations tests/bounds tests/faults tests/compare tests/recorder tests/annotate tests/whatif tests/install
+SCRIPTS = tests/wrong_bodies_fit.py tests/documents.py tests/examples.sh tests/missing_programs.py tests/rows.py \
+	tests/talks.py tests/out_of_memory.py tests/allocation_counts.py tests/bounds.py tests/hostile_input.py \
+	tests/compare.py tests/recorder.py tests/annotate.py tests/whatif.py tests/install.py
 
 .PHONY: all run test wrong examples refusals bench install clean
 all: capcheck
@@ -53,24 +55,24 @@ examples: capcheck
 refusals:
 	$(call needs,python3 $(RT))
 	cd crates/cap_refusal_tests && $(RT) test
-	tests/refusals crates/cap_refusal_tests/out/cap_refusal_tests_tests
+	tests/refusals.py crates/cap_refusal_tests/out/cap_refusal_tests_tests
 
 test:
 	$(call needs,python3 bash $(RT))
-	tests/gate $(SCRIPTS) tests/refusals
+	tests/gate.py $(SCRIPTS) tests/refusals.py
 
 wrong:
 	$(call needs,bash git tar python3 $(RT))
-	tests/wrong_bodies
+	tests/wrong_bodies.py
 
 bench: capcheck
 	$(call needs,python3 rt /usr/bin/time)
-	bench/run ./capcheck
-	bench/edits ./capcheck
-	bench/sessions ./capcheck
-	bench/commands ./capcheck
-	bench/reading
-	if command -v valgrind >/dev/null; then bench/instructions ./capcheck; bench/edited ./capcheck; bench/replaced ./capcheck; fi
+	bench/check_times.py ./capcheck
+	bench/edit_times.py ./capcheck
+	bench/session_times.py ./capcheck
+	bench/command_times.py ./capcheck
+	bench/parse_times.py
+	if command -v valgrind >/dev/null; then for script in bench/*_instructions.py; do $$script ./capcheck || exit 1; done; fi
 
 # What is installed where; DESTDIR goes before each. PROGRAM is the program to install.
 PROGRAM = capcheck
@@ -83,9 +85,9 @@ TOOLS = capcheck-truss capcheck-annotate capcheck-whatif
 install: $(PROGRAM)
 	install -d "$(BIN)" "$(MAN)" "$(BASH_COMPLETIONS)" "$(ZSH_COMPLETIONS)"
 	install -m 755 $(PROGRAM) "$(BIN)/capcheck"
-	install -m 755 contrib/truss2trace "$(BIN)/capcheck-truss"
-	install -m 755 contrib/annotate "$(BIN)/capcheck-annotate"
-	install -m 755 contrib/whatif "$(BIN)/capcheck-whatif"
+	install -m 755 contrib/truss2trace.py "$(BIN)/capcheck-truss"
+	install -m 755 contrib/annotate.py "$(BIN)/capcheck-annotate"
+	install -m 755 contrib/whatif.py "$(BIN)/capcheck-whatif"
 	install -m 644 docs/*.1 "$(MAN)"
 	install -m 644 contrib/completions/_capcheck "$(ZSH_COMPLETIONS)"
 	install -m 644 contrib/completions/capcheck.bash "$(BASH_COMPLETIONS)/capcheck"

@@ -1,11 +1,11 @@
 #!/usr/bin/env python3
 """The rules of capcheck once more, not made from the definitions that the proofs rest on, as plainly as Python
-allows. `tests/compare` holds the program against it: a proof ties the program to its definitions, and this ties the
+allows. `tests/compare.py` holds the program against it: a proof ties the program to its definitions, and this ties the
 definitions to a second reading of docs/FORMAT.md, docs/RULES.md, docs/SCRIPTS.md, docs/EXPLAIN.md and docs/SANDBOXING.md.
 
 It runs as the program does: tests/reference.py check [FILE] [--start FILE] [--profile N], edit FILE [SCRIPT] [--profile N],
 explain FILE K [--start FILE] [--profile N], limits FILE [K] [--start FILE] [--profile N], or
-denials [FILE] [--start FILE] [--profile N]. `tests/compare --laws` tries what is proved of limits on the answers given here.
+denials [FILE] [--start FILE] [--profile N]. `tests/compare.py --laws` tries what is proved of limits on the answers given here.
 """
 
 import argparse

@@ -1,7 +1,7 @@
 //! Each call that may take memory, with each of its allocations refused in turn: it answers that memory ran out, or what
 //! is right; what it was given is as it was; and the same call with memory then gives what is right.
 //!
-//! `tests/refusals` runs these tests so. Run by themselves they pass too, and refuse nothing.
+//! `tests/refusals.py` runs these tests so. Run by themselves they pass too, and refuse nothing.
 #![tactic(auto)]
 
 #[cfg(test)]

@@ -1,6 +1,6 @@
 //! Marks around a call that is tried with each of its allocations refused.
 //!
-//! A mark is an allocation of a size that nothing else here has. `tests/refusals` runs these tests over allocation
+//! A mark is an allocation of a size that nothing else here has. `tests/refusals.py` runs these tests over allocation
 //! functions of its own: they see the marks, and between `Begin` and `End` they refuse each allocation, one at a time,
 //! in a copy of the process. Without them a mark does nothing.
 

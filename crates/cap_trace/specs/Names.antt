@@ -194,7 +194,7 @@ is_name (c ∷ cs) = is_name_byte c && not (is_ascii_digit c) && list_all is_nam
 -- ---- looking a name up
 
 -- every row's form, from above
--- tools/name_slots: forms
+-- tools/name_slots.py: forms
 unfoldable pub all_forms : List Form
 all_forms =
     forms.OnFd on_fd_calls.Read ∷ forms.OnFd on_fd_calls.Readv ∷ forms.OnFd on_fd_calls.Recvfrom ∷

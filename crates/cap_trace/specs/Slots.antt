@@ -22,7 +22,7 @@ last_word t =
     else from_le_bytes w16 (take 2 (drop (length t - 2) t))
 
 -- by slot, the number of the form in all_forms, or 255
--- tools/name_slots: slots
+-- tools/name_slots.py: slots
 unfoldable pub slots : List ℕ
 slots =
     94 ∷ 255 ∷ 255 ∷ 255 ∷ 255 ∷ 66 ∷ 255 ∷ 255 ∷ 255 ∷ 255 ∷ 255 ∷ 255 ∷ 255 ∷ 255 ∷ 255 ∷ 78 ∷ 255 ∷
@@ -59,7 +59,7 @@ slots =
 -- the end of slots
 
 -- the slot of a name of 3 to 16 bytes, by its two words
--- tools/name_slots: slot by the two words
+-- tools/name_slots.py: slot by the two words
 abbrev pub slot_by : ℕ → ℕ → ℕ
 slot_by first last =
     ((first * 13191425951303302721) % 2 ^ 64 + (last * 9016636173579439701) % 2 ^ 64) % 2 ^ 64 / 2 ^ 55

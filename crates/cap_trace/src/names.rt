@@ -25,7 +25,7 @@ pub(crate) struct Row(
 );
 
 /// The table.
-// tools/name_slots: rows
+// tools/name_slots.py: rows
 static ROWS: [Row; 98] = [
     Row(b"read", Form::OnFd(FdCall::Read), Count),
     Row(b"readv", Form::OnFd(FdCall::Readv), Count),
@@ -136,7 +136,7 @@ static ROWS: [Row; 98] = [
 ];
 // the end of rows
 
-// tools/name_slots: places
+// tools/name_slots.py: places
 impl Form {
     /// The place of its row in the table.
     #[tactic(auto, unfolding(crate::specs::Names::all_forms))]
@@ -238,14 +238,14 @@ impl DupCommand {
     }
 }
 
-// tools/name_slots: factors
+// tools/name_slots.py: factors
 const FIRST_FACTOR: u64 = 13191425951303302721;
 
 const LAST_FACTOR: u64 = 9016636173579439701;
 // the end of factors
 
 /// The number of the form whose name has this slot, or 255.
-// tools/name_slots: slots
+// tools/name_slots.py: slots
 static SLOTS: [u8; 512] = [
     94, 255, 255, 255, 255, 66, 255, 255, 255, 255, 255, 255, 255, 255, 255, 78, 255, 255, 255,
     255, 255, 255, 255, 255, 4, 255, 85, 11, 255, 255, 12, 255, 255, 255, 255, 6, 255, 255, 255,

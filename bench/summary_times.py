@@ -1,0 +1,243 @@
+#!/usr/bin/env python3
+"""Times the summaries of traces beside a check of the same lines.
+
+    bench/summary_times.py [LINES [TRACE..]]
+
+A program over crates/cap_summary is written to a temporary folder and built there by `rt run`, which proves it first: so `rt`, the
+command of the Rattle kit, is needed.
+The traces are those of TRACES in traces.py, `quiet` and `forms` where none is named; all are checked in profile 2.
+Times are in milliseconds, of one run each. What is to be looked at are the ratios to reading and checking the lines:
+of all summaries, of an ordinary edit near the middle, of one behind which the state changes, and of a whole report.
+The memory is that in use before the summaries are made, of the lines, and the peak, of the lines and all summaries.
+"""
+
+import os
+import resource
+import shutil
+import subprocess
+import sys
+import tempfile
+
+import traces
+
+ROOT = os.path.join(os.path.dirname(os.path.abspath(__file__)), "..")
+CRATES = ["cap_rights", "cap_trace", "cap_machine", "cap_tree", "cap_summary"]
+USES = "cap_summary cap_tree cap_machine cap_trace"
+MOST_MEMORY = 8 << 30
+
+MAIN = r'''//! Times the summaries of a trace that comes on standard input, in nanoseconds.
+#![tactic(auto)]
+
+use cap_machine::{Checker, Profile, Start, Step};
+use cap_summary::{Summary, resolve};
+use cap_trace::parse_line;
+use cap_tree::{Meter, NoMemory, Tree};
+use std::alloc::Global;
+use std::io;
+use std::io::Read;
+use std::rc::Rc;
+use std::time::Instant;
+
+/// How many edits, and how many reports.
+const EDITS: u64 = 200;
+const REPORTS: u64 = 5;
+
+fn step_of(alloc: Global, text: &[u8]) -> Result<Option<Rc<Step>>, NoMemory> {
+    let Ok(line) = parse_line(alloc, text) else {
+        return Ok(None);
+    };
+    let profile = Profile::Two;
+    Ok(Some(Rc::new(alloc, Step { profile, line })?))
+}
+
+fn steps_of(alloc: Global, bytes: &[u8]) -> Result<Vec<Rc<Step>>, NoMemory> {
+    let mut steps = Vec::new(alloc);
+    for text in bytes.split(|byte| *byte == b'\n') {
+        if let Some(step) = step_of(alloc, text)? {
+            steps.push(step)?;
+        }
+    }
+    Ok(steps)
+}
+
+/// Checks the lines anew, and answers how many there were.
+fn checked(alloc: Global, steps: &[Rc<Step>]) -> usize {
+    let mut checker = Checker::new(alloc, Profile::Two);
+    for step in steps {
+        if checker.count() >= 1_000_000_000 || checker.line(&step.line).is_err() {
+            return 0;
+        }
+    }
+    checker.count()
+}
+
+/// Inserts a line at a place, or removes the line there.
+fn edited(
+    alloc: Global,
+    tree: &Tree<Summary>,
+    place: usize,
+    text: &[u8],
+    inserts: bool,
+) -> Result<Tree<Summary>, NoMemory> {
+    let mut meter = Meter::new();
+    let len = tree.len();
+    if len >= 1_000_000_000 || place >= len {
+        return Err(NoMemory);
+    }
+    if !inserts {
+        return tree.remove(alloc, &mut meter, place);
+    }
+    match step_of(alloc, text)? {
+        Some(step) => tree.insert(alloc, &mut meter, place, step),
+        None => Err(NoMemory),
+    }
+}
+
+/// Times edits at a place.
+fn time_edits(
+    rt: &HostRuntime,
+    name: &str,
+    first: Tree<Summary>,
+    place: usize,
+    text: &[u8],
+) -> io::Result<Tree<Summary>> {
+    let alloc = rt.alloc();
+    let mut tree = first;
+    let begun = Instant::now(rt)?;
+    for turn in 0..EDITS {
+        match edited(alloc, &tree, place, text, turn % 2 == 0) {
+            Ok(next) => tree = next,
+            Err(_) => return Ok(tree),
+        }
+    }
+    let took = begun.elapsed(rt)?.as_nanos() / EDITS as u128;
+    println!(rt; "{name} {took}")?;
+    Ok(tree)
+}
+
+/// Times whole reports.
+fn time_reports(rt: &HostRuntime, tree: &Tree<Summary>) -> io::Result<()> {
+    let alloc = rt.alloc();
+    let start = Start::unknown(alloc);
+    let mut count = 0;
+    let begun = Instant::now(rt)?;
+    for _ in 0..REPORTS {
+        match resolve(alloc, tree.summary(), &start) {
+            Ok(found) => count = found.len(),
+            Err(_) => return Ok(()),
+        }
+    }
+    let took = begun.elapsed(rt)?.as_nanos() / REPORTS as u128;
+    println!(rt; "report {took}")?;
+    println!(rt; "findings {count}")
+}
+
+fn time(rt: &HostRuntime, bytes: &[u8]) -> io::Result<()> {
+    let alloc = rt.alloc();
+    let begun = Instant::now(rt)?;
+    let Ok(steps) = steps_of(alloc, bytes) else {
+        return Ok(());
+    };
+    let read = begun.elapsed(rt)?.as_nanos();
+    let begun = Instant::now(rt)?;
+    let lines = checked(alloc, &steps);
+    let check = begun.elapsed(rt)?.as_nanos();
+    println!(rt; "lines {lines}\nread {read}\ncheck {check}")?;
+    if steps.len() >= 1_000_000_000 {
+        return Ok(());
+    }
+    let mut meter = Meter::new();
+    let begun = Instant::now(rt)?;
+    let Ok(tree) = Tree::<Summary>::from_list(alloc, &mut meter, steps) else {
+        return Ok(());
+    };
+    let took = begun.elapsed(rt)?.as_nanos();
+    println!(rt; "summaries {took}")?;
+    time_reports(rt, &tree)?;
+    let middle = tree.len() / 2;
+    let tree = time_edits(rt, "edit", tree, middle, b"107 fstat(0) RET 1".as_slice())?;
+    let _tree = time_edits(rt, "lasting", tree, 40, b"107 socket(0) RET 63".as_slice())?;
+    Ok(())
+}
+
+fn main(rt: HostRuntime) -> io::Result<()> {
+    let alloc = rt.alloc();
+    let mut text = Vec::new(alloc);
+    rt.reader().read_to_end(&mut text)?;
+    time(&rt, text.as_slice())
+}
+'''
+
+
+def build(folder):
+    """The program, built in a folder over copies of the crates."""
+    for name in CRATES:
+        shutil.copytree(os.path.join(ROOT, "crates", name), os.path.join(folder, "crates", name))
+    crate = os.path.join(folder, "crates", "summary_bench")
+    os.makedirs(os.path.join(crate, "src"))
+    with open(os.path.join(crate, "src", "main.rt"), "w") as out:
+        out.write(MAIN)
+    with open(os.path.join(ROOT, "crates.txt")) as given:
+        kept = [line for line in given if line.split(":")[0] in CRATES]
+    with open(os.path.join(folder, "crates.txt"), "w") as out:
+        out.writelines([*kept, f"summary_bench: {USES}\n"])
+    with open(os.path.join(folder, "HANDLES"), "w") as out:
+        out.write("Handles allowed: none.\n")
+    done = subprocess.run(["rt", "run"], cwd=crate, stdin=subprocess.DEVNULL, capture_output=True, text=True)
+    program = os.path.join(crate, "out", "summary_bench")
+    if not os.path.exists(program):
+        sys.exit(done.stdout + done.stderr)
+    return program
+
+
+def limit():
+    resource.setrlimit(resource.RLIMIT_AS, (MOST_MEMORY, MOST_MEMORY))
+
+
+def memory_of(pid):
+    """The memory that a process has in use, in MB."""
+    with open(f"/proc/{pid}/status") as status:
+        return next((int(line.split()[1]) / 1024 for line in status if line.startswith("VmRSS:")), 0)
+
+
+def run(program, path):
+    """What the program says of a trace, by name, the memory of the lines, and its peak memory, both in MB."""
+    seen, lines = {}, 0
+    with open(path) as trace:
+        done = subprocess.Popen([program], stdin=trace, stdout=subprocess.PIPE, text=True, preexec_fn=limit)
+        for name, value in map(str.split, done.stdout):
+            seen[name] = int(value)
+            if name == "check":
+                lines = memory_of(done.pid)
+        _, _, usage = os.wait4(done.pid, 0)
+    return seen, lines, usage.ru_maxrss / 1024
+
+
+def main():
+    words = sys.argv[1:]
+    lines = int(words[0]) if words else 1_000_000
+    names = words[1:] or ["quiet", "forms"]
+    if any(name not in traces.TRACES for name in names):
+        sys.exit(__doc__.strip())
+    if not shutil.which("rt"):
+        sys.exit("bench/summary_times.py needs rt, the command of the Rattle kit, which isn't there.")
+    folder = tempfile.mkdtemp(prefix="summary_bench")
+    try:
+        program = build(folder)
+        path = os.path.join(folder, "trace")
+        print("trace        lines  read, check  summaries (ratio)     edit (part)  lasting (part)   report (ratio)  findings  MB: lines, all")
+        for name in names:
+            traces.write(name, lines, path)
+            seen, lines_alone, memory = run(program, path)
+            ms = {key: seen.get(key, 0) / 1e6 for key in ("read", "check", "summaries", "edit", "lasting", "report")}
+            whole = ms["read"] + ms["check"]
+            parts = [f"{ms[key]:8.3f} (1/{whole / max(ms[key], 1e-6):5.0f})" for key in ("edit", "lasting")]
+            print(
+                f"{name:9} {seen['lines']:9,}  {ms['read']:5.0f}, {ms['check']:5.0f}  {ms['summaries']:9.0f} ({ms['summaries'] / whole:5.1f})"
+                f"  {parts[0]}  {parts[1]}  {ms['report']:8.2f} ({ms['report'] / whole:5.3f})  {seen.get('findings', 0):8,}  {lines_alone:4.0f}, {memory:4.0f}"
+            )
+    finally:
+        shutil.rmtree(folder)
+
+
+main()

@@ -1,0 +1,130 @@
+#!/usr/bin/env python3
+"""Whether the pages name what is there: tests/documents.py [PROGRAM]
+
+- Each function, type, definition and clause in a column "Contract" of docs/PROOFS.md is declared in the crates.
+- Each file in a table of docs/ARCHITECTURE.md is there, and declares the functions beside it.
+- Each file and name that CONTRIBUTING.md has in backticks is in some crate or script.
+- Each path that a page has in backticks is there, and no line of a table has more than 200 characters.
+- docs/RIGHTS.md is what tools/rights_page.py makes.
+"""
+
+import glob
+import os
+import re
+import subprocess
+import sys
+
+os.chdir(os.path.join(os.path.dirname(os.path.abspath(__file__)), ".."))
+PAGES = sorted([*glob.glob("*.md"), *glob.glob("docs/*.md"), *glob.glob("crates/*/*.md")])
+SOURCES = [*glob.glob("crates/*/src/**/*.rt", recursive=True), *glob.glob("crates/*/specs/**/*.antt", recursive=True)]
+PROOFS = glob.glob("crates/*/proofs/**/*.antt", recursive=True)
+SCRIPTS = [*glob.glob("contrib/*"), *glob.glob("tests/*"), *glob.glob("tools/*")]
+LONGEST = 200  # characters of a line of a table
+PATH = r"`((?:bench|contrib|crates|docs|examples|tests|tools|\.ci)/[^`\s]*|[A-Z]+\.md|LICENSE|\.gitmessage)`"
+STANDS_FOR = r"NAME|WHAT|CRATE"  # in a path, these stand for any name
+wrong = []
+
+
+def text_of(path):
+    """What a file has."""
+    with open(path, encoding="utf-8") as file:
+        return file.read()
+
+
+def lines_of(page):
+    """The lines of a page, each with where it is."""
+    return [(f"{page}:{number}", line) for number, line in enumerate(text_of(page).split("\n"), 1)]
+
+
+def rows_of(page):
+    """The cells of each row of a page's tables, with where it is."""
+    rows = [(where, line) for where, line in lines_of(page) if line.startswith("| ")]
+    return [(where, [cell.strip() for cell in re.split(r"(?<!\\)\|", line)[1:-1]]) for where, line in rows]
+
+
+def names_in(cell):
+    """The names in backticks in a cell, without what is before `::`."""
+    return [re.split(r"::|\.", name)[-1] for name in re.findall(r"`([\w:.]+)`", cell)]
+
+
+def declared_in(path):
+    """The names that a file declares: functions, types, definitions, and clauses of contracts."""
+    text = text_of(path)
+    return {*re.findall(r"\b(?:fn|struct|enum|trait|record|ensures) (\w+)", text), *re.findall(r"\bpub (\w+)", text)}
+
+
+def check_contracts():
+    """That each contract of docs/PROOFS.md is there."""
+    everything, column = set().union(*map(declared_in, SOURCES)), None
+    for where, cells in rows_of("docs/PROOFS.md"):
+        heads = [cells.index(head) for head in ("Contract", "Clause") if head in cells]
+        if heads:
+            column = heads[0]
+        else:
+            wrong.extend(f"{where}: nothing declares {name}" for name in names_in(cells[column]) if name not in everything)
+
+
+def check_file(where, path, names):
+    """That a source is there, and declares these."""
+    if not os.path.isfile(path):
+        wrong.append(f"{where}: there is no {path}")
+    else:
+        wrong.extend(f"{where}: {path} declares no {name}" for name in set(names) - declared_in(path))
+
+
+def check_files():
+    """That the files of docs/ARCHITECTURE.md are there, and declare what is beside them. An empty cell is the crate above."""
+    crate = None
+    for where, cells in rows_of("docs/ARCHITECTURE.md"):
+        if re.fullmatch(r"`\w+/src/[\w/]+\.rt`", cells[0]):
+            check_file(where, f"crates/{cells[0][1:-1]}", names_in(cells[1]))
+        elif re.fullmatch(r"`(cap_\w+|capcheck)`|", cells[0]):
+            crate = cells[0].strip("`") or crate
+            for name in names_in(cells[1]):
+                check_file(where, f"crates/{crate}/specs/{name}.antt", [])
+
+
+def check_lists():
+    """That what CONTRIBUTING.md names is in some crate or script."""
+    words = set(os.listdir("crates"))
+    for path in filter(os.path.isfile, [*SOURCES, *PROOFS, *SCRIPTS]):
+        words.update(re.findall(r"\w+", text_of(path)))
+    for where, line in lines_of("CONTRIBUTING.md"):
+        for name in re.findall(r"`([\w/.:]+)`", line):
+            if re.match(r"(src|specs|proofs)/", name):
+                is_there = glob.glob(f"crates/*/{name}")
+            else:
+                is_there = not re.fullmatch(r"[\w:]*(_|[a-z][A-Z])[\w:]*", name) or set(re.findall(r"\w+", name)) <= words
+            if not is_there and not re.search(STANDS_FOR, name):
+                wrong.append(f"{where}: nothing has {name}")
+
+
+def check_page(page):
+    """That the paths of a page are there, and that no line of its tables is long."""
+    for where, line in lines_of(page):
+        for path in re.findall(PATH, line):
+            if not os.path.exists(path) and not re.search(STANDS_FOR, path):
+                wrong.append(f"{where}: there is no {path}")
+        if line.startswith("|") and len(line) > LONGEST:
+            wrong.append(f"{where}: a line of a table with {len(line)} characters")
+
+
+def check_rights():
+    """That docs/RIGHTS.md is up to date."""
+    made = subprocess.run([sys.executable, "tools/rights_page.py", "--print"], stdout=subprocess.PIPE, encoding="utf-8")
+    if made.returncode or made.stdout != text_of("docs/RIGHTS.md"):
+        wrong.append("docs/RIGHTS.md isn't what tools/rights_page.py makes")
+
+
+def main():
+    check_contracts()
+    check_files()
+    check_lists()
+    for page in PAGES:
+        check_page(page)
+    check_rights()
+    print(*wrong, f"{len(PAGES)} pages: {f'{len(wrong)} things are wrong' if wrong else 'all that they name is there'}", sep="\n")
+    sys.exit(1 if wrong else 0)
+
+
+main()
