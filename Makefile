@@ -62,7 +62,7 @@ test:
 	tests/gate.py $(SCRIPTS) tests/refusals.py
 
 wrong:
-	$(call needs,bash git tar python3 $(RT))
+	$(call needs,git python3 $(RT))
 	tests/wrong_bodies.py
 
 bench: capcheck

@@ -1,9 +1,9 @@
 #!/usr/bin/env python3
 """Whether what lacks something that it needs fails, with a sentence that names it: tests/missing_programs.py PROGRAM
 
-Scripts, and make, run with a PATH from which python3, bash, cc, rt or valgrind is taken away. Without `cc` a test uses the clang of
-the kit that `rt` is in, and passes; without both it fails. And whether `make run` asks `rt` for no proof, shows a report, and fails
-where there is none: PROGRAM answers in the place of `rt try`. It needs make, bash and `rt`.
+Scripts, and make, run with a PATH from which python3, bash, cc, rt, git or valgrind is taken away. Without `cc` a test uses the
+clang of the kit that `rt` is in, and passes; without both it fails. And whether `make run` asks `rt` for no proof, shows a report,
+and fails where there is none: PROGRAM answers in the place of `rt try`. It needs make, bash and `rt`.
 """
 
 import os
@@ -22,7 +22,7 @@ PROVERS = ["tests/gate.py", "tools/build_unproved.py OUT"]
 PROVERS += ["bench/parse_times.py", "bench/explain_times.py P", "bench/summary_times.py", "bench/tree_times.py"]
 COUNTERS = ["bench/edit_instructions.py P", "bench/command_instructions.py P", "bench/fork_instructions.py P"]
 WITH_PROGRAM = ["examples.sh", "compare.py", "missing_programs.py", *(it.split()[0] for it in COMPILED)]
-TARGETS = {"python3": ["run", "-B capcheck", "refusals", "test", "wrong"], "bash": ["test", "wrong"]}
+TARGETS = {"python3": ["run", "-B capcheck", "refusals", "test", "wrong"], "bash": ["test"], "git": ["wrong"]}
 TARGETS["rt"] = TARGETS["python3"]
 # In the place of `rt`: what it is asked for is answered by the program, or, as code that `rt try` refuses, by status 1 alone.
 TRIES = '#!/bin/sh\ntest "$*" = "try -- check" || exit 9\nexec {} check\n'
@@ -72,7 +72,7 @@ def scripts():
 
 def without_one(program, folder):
     """Scripts, and make, that lack one program."""
-    paths = {tool: path_without([tool], folder) for tool in ("python3", "bash", "rt", "valgrind")}
+    paths = {tool: path_without([tool], folder) for tool in ("python3", "bash", "rt", "git", "valgrind")}
     for script, tool in scripts():
         ends([script], paths[tool], 127, rf".*env: .{tool}.: .*\n")
     for tool, needy in (("rt", PROVERS), ("valgrind", COUNTERS)):
