@@ -2,9 +2,10 @@
 #
 #   make            proves every crate and leaves the program as ./capcheck
 #   make run        shows the report of an example trace, or of TRACE, without a proof: in a minute or two
-#   make test       the gate: every proof, test and stored run, and the wrong bodies under must-fail/, from nothing, and with the program that this builds
-#                   the examples, worked traces and scripts, random ones beside a second reading of the rules, each allocation
-#                   refused in turn, hostile input, the recorder and the annotator; and that all wrong bodies still fit the code
+#   make test       the gate: every proof, test and stored run, and the wrong bodies under must-fail/, from nothing, and with
+#                   the program that this builds the examples, worked traces and scripts, random ones beside a second reading
+#                   of the rules, each allocation refused in turn, hostile input, the recorder and the annotator; that all
+#                   wrong bodies fit the code, and that scripts can be read
 #   make examples   the same scripts alone, with ./capcheck
 #   make wrong      the wrong bodies that the gate leaves out (tests/wrong), each of which the prover must refuse: this takes hours
 #   make refusals   each call that takes memory, with each of its allocations refused
@@ -24,8 +25,8 @@ PREFIX ?= /usr/local
 SOURCES = $(shell find crates -path '*/out' -prune -o -type f -name '*.rt' -print -o -type f -name '*.antt' -print) crates.txt HANDLES
 
 # What runs the built program, each with the program as its argument.
-SCRIPTS = tests/wrong_bodies_fit.py tests/documents.py tests/examples.sh tests/missing_programs.py tests/rows.py \
-	tests/talks.py tests/out_of_memory.py tests/allocation_counts.py tests/bounds.py tests/hostile_input.py \
+SCRIPTS = tests/lint.py tests/wrong_bodies_fit.py tests/documents.py tests/examples.sh tests/missing_programs.py \
+	tests/rows.py tests/talks.py tests/out_of_memory.py tests/allocation_counts.py tests/bounds.py tests/hostile_input.py \
 	tests/compare.py tests/recorder.py tests/annotate.py tests/whatif.py tests/install.py
 
 .PHONY: all run test wrong examples refusals bench install clean

@@ -34,7 +34,7 @@ ENVIRONMENT = {
     **os.environ, "TERM": "dumb", "INPUTRC": "/dev/null", "HOME": FOLDER.name, "LC_ALL": "C.UTF-8",
     "XDG_STATE_HOME": os.path.join(FOLDER.name, "state"),
 }
-CTRL_A, CTRL_C, CTRL_D, CTRL_K, CTRL_P, CTRL_U = (chr(ord(letter) & 31) for letter in "ACDKPU")
+CTRL_A, CTRL_C, CTRL_D, CTRL_K, CTRL_P = (chr(ord(letter) & 31) for letter in "ACDKP")
 count = wrong = 0
 
 sys.dont_write_bytecode = True
