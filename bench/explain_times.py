@@ -18,18 +18,16 @@ What is to be looked at are the ratios to a check, there to reading and checking
 """
 
 import os
-import shutil
 import statistics
 import subprocess
 import sys
 import tempfile
 
+import programs
 import traces
 from timing import timed
 
 ROUNDS = 5
-ROOT = os.path.join(os.path.dirname(os.path.abspath(__file__)), "..")
-CRATES = ["cap_rights", "cap_trace", "cap_machine", "cap_tree", "cap_summary", "cap_session"]
 USES = "cap_session cap_summary cap_tree cap_machine cap_trace cap_rights"
 FIRST = ["1 @start(0)", "1 cap_rights_limit(0,CAP_READ) RET 0", "1 fork() RET 2"]
 LAST = "2 write(0) RET 1"
@@ -115,28 +113,6 @@ fn main(rt: HostRuntime) -> io::Result<()> {
 '''
 
 
-def build(folder):
-    """The program, built in a folder over copies of the crates."""
-    for name in CRATES:
-        given = os.path.join(ROOT, "crates", name)
-        shutil.copytree(given, os.path.join(folder, "crates", name), ignore=shutil.ignore_patterns("incremental", "must-fail"))
-    crate = os.path.join(folder, "crates", "explain_bench")
-    os.makedirs(os.path.join(crate, "src"))
-    with open(os.path.join(crate, "src", "main.rt"), "w") as out:
-        out.write(MAIN)
-    with open(os.path.join(ROOT, "crates.txt")) as given:
-        kept = [line for line in given if line.split(":")[0] in CRATES]
-    with open(os.path.join(folder, "crates.txt"), "w") as out:
-        out.writelines([*kept, f"explain_bench: {USES}\n"])
-    with open(os.path.join(folder, "HANDLES"), "w") as out:
-        out.write("Handles allowed: none.\n")
-    done = subprocess.run(["rt", "run"], cwd=crate, stdin=subprocess.DEVNULL, capture_output=True, text=True)
-    program = os.path.join(crate, "out", "explain_bench")
-    if not os.path.exists(program):
-        sys.exit(done.stdout + done.stderr)
-    return program
-
-
 def runs(program, path, count):
     """Seconds of a check and of an explanation of the last line, by medians of runs in turn."""
     check, explain = [program, "check", path], [program, "explain", path, str(count)]
@@ -156,11 +132,10 @@ def main():
     names = words[2:] or ["quiet", "forms"]
     if not words or any(name not in traces.TRACES for name in names):
         sys.exit(__doc__.strip())
-    if not shutil.which("rt"):
-        sys.exit("bench/explain_times.py needs rt, the command of the Rattle kit, which isn't there.")
+    programs.with_rt()
     count = int(words[1]) if len(words) > 1 else 1_000_000
     with tempfile.TemporaryDirectory(prefix="explain_bench") as folder:
-        bench, path = build(folder), os.path.join(folder, "trace")
+        bench, path = programs.build(folder, "explain_bench", USES, MAIN), os.path.join(folder, "trace")
         for name in names:
             traces.put(FIRST + traces.TRACES[name](count - len(FIRST) - 1) + [LAST], path)
             check, explain = runs(os.path.abspath(words[0]), path, count)

@@ -9,18 +9,16 @@ times `parse_line` over its lines, once.
 """
 
 import os
-import shutil
 import statistics
 import subprocess
 import sys
 import tempfile
 import time
 
+import programs
 import traces
 
 ROUNDS = 7
-HERE = os.path.dirname(os.path.abspath(__file__))
-CRATES = os.path.join(HERE, "..", "crates")
 
 PROGRAM = r"""//! Times the reading of lines.
 #![tactic(auto)]
@@ -48,37 +46,15 @@ fn main(rt: HostRuntime) -> io::Result<()> {
 """
 
 
-def build(folder):
-    """Builds the program, and answers its path."""
-    for name in ("cap_rights", "cap_trace"):
-        shutil.copytree(os.path.join(CRATES, name), os.path.join(folder, "crates", name))
-    with open(os.path.join(CRATES, "..", "crates.txt")) as crates:
-        rows = [row for row in crates if row.startswith(("cap_rights:", "cap_trace:"))]
-    with open(os.path.join(folder, "crates.txt"), "w") as out:
-        out.writelines(rows + ["reading_bench: cap_trace\n"])
-    with open(os.path.join(folder, "HANDLES"), "w") as out:
-        out.write("Handles allowed: none.\n")
-    crate = os.path.join(folder, "crates", "reading_bench")
-    os.makedirs(os.path.join(crate, "src"))
-    with open(os.path.join(crate, "src", "main.rt"), "w") as out:
-        out.write(PROGRAM)
-    done = subprocess.run(["rt", "run"], cwd=crate, stdin=subprocess.DEVNULL, capture_output=True, text=True)
-    program = os.path.join(crate, "out", "reading_bench")
-    if done.returncode or not os.path.exists(program):
-        sys.exit(done.stdout + done.stderr)
-    return program
-
-
 def main():
     words = sys.argv[1:]
     names = words[1:] or ["quiet", "forms"]
     if any(name not in traces.TRACES for name in names):
         sys.exit(__doc__.strip())
-    if not shutil.which("rt"):
-        sys.exit("bench/parse_times.py needs rt, the command of the Rattle kit, which isn't there.")
+    programs.with_rt()
     lines = int(words[0]) if words else 1_000_000
     with tempfile.TemporaryDirectory() as folder:
-        program = build(folder)
+        program = programs.build(folder, "reading_bench", "cap_trace", PROGRAM)
         for name in names:
             path = os.path.join(folder, name)
             count = traces.write(name, lines, path)

@@ -13,15 +13,13 @@ The memory is that in use before the summaries are made, of the lines, and the p
 
 import os
 import resource
-import shutil
 import subprocess
 import sys
 import tempfile
 
+import programs
 import traces
 
-ROOT = os.path.join(os.path.dirname(os.path.abspath(__file__)), "..")
-CRATES = ["cap_rights", "cap_trace", "cap_machine", "cap_tree", "cap_summary"]
 USES = "cap_summary cap_tree cap_machine cap_trace"
 MOST_MEMORY = 8 << 30
 
@@ -169,27 +167,6 @@ fn main(rt: HostRuntime) -> io::Result<()> {
 '''
 
 
-def build(folder):
-    """The program, built in a folder over copies of the crates."""
-    for name in CRATES:
-        shutil.copytree(os.path.join(ROOT, "crates", name), os.path.join(folder, "crates", name))
-    crate = os.path.join(folder, "crates", "summary_bench")
-    os.makedirs(os.path.join(crate, "src"))
-    with open(os.path.join(crate, "src", "main.rt"), "w") as out:
-        out.write(MAIN)
-    with open(os.path.join(ROOT, "crates.txt")) as given:
-        kept = [line for line in given if line.split(":")[0] in CRATES]
-    with open(os.path.join(folder, "crates.txt"), "w") as out:
-        out.writelines([*kept, f"summary_bench: {USES}\n"])
-    with open(os.path.join(folder, "HANDLES"), "w") as out:
-        out.write("Handles allowed: none.\n")
-    done = subprocess.run(["rt", "run"], cwd=crate, stdin=subprocess.DEVNULL, capture_output=True, text=True)
-    program = os.path.join(crate, "out", "summary_bench")
-    if not os.path.exists(program):
-        sys.exit(done.stdout + done.stderr)
-    return program
-
-
 def limit():
     resource.setrlimit(resource.RLIMIT_AS, (MOST_MEMORY, MOST_MEMORY))
 
@@ -219,11 +196,9 @@ def main():
     names = words[1:] or ["quiet", "forms"]
     if any(name not in traces.TRACES for name in names):
         sys.exit(__doc__.strip())
-    if not shutil.which("rt"):
-        sys.exit("bench/summary_times.py needs rt, the command of the Rattle kit, which isn't there.")
-    folder = tempfile.mkdtemp(prefix="summary_bench")
-    try:
-        program = build(folder)
+    programs.with_rt()
+    with tempfile.TemporaryDirectory(prefix="summary_bench") as folder:
+        program = programs.build(folder, "summary_bench", USES, MAIN)
         path = os.path.join(folder, "trace")
         print("trace        lines  read, check  summaries (ratio)     edit (part)  lasting (part)   report (ratio)  findings  MB: lines, all")
         for name in names:
@@ -236,8 +211,6 @@ def main():
                 f"{name:9} {seen['lines']:9,}  {ms['read']:5.0f}, {ms['check']:5.0f}  {ms['summaries']:9.0f} ({ms['summaries'] / whole:5.1f})"
                 f"  {parts[0]}  {parts[1]}  {ms['report']:8.2f} ({ms['report'] / whole:5.3f})  {seen.get('findings', 0):8,}  {lines_alone:4.0f}, {memory:4.0f}"
             )
-    finally:
-        shutil.rmtree(folder)
 
 
 main()

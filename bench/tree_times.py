@@ -17,18 +17,17 @@ counted.)
 
 import os
 import re
-import shutil
 import subprocess
 import sys
 import tempfile
+
+import programs
 
 LENGTHS = (1_000, 30_000, 1_000_000)
 EDITS = 20_000
 ROUNDS = 9
 POINTER = 8
 NEAR = 500
-
-CRATES = os.path.join(os.path.dirname(os.path.abspath(__file__)), "..", "crates")
 
 PROGRAM = r"""//! Times edits of a tree of numbers.
 #![tactic(auto)]
@@ -206,30 +205,14 @@ fn main(rt: HostRuntime) -> io::Result<()> {
 """
 
 
-def build(folder, proved):
-    """The program's runner: a function of its arguments that gives its output and its peak memory."""
-    os.makedirs(os.path.join(folder, "crates", "tree_bench", "src"))
-    shutil.copytree(os.path.join(CRATES, "cap_tree"), os.path.join(folder, "crates", "cap_tree"))
-    with open(os.path.join(folder, "crates.txt"), "w") as out:
-        out.write("cap_tree: thiserror\ntree_bench: cap_tree\n")
-    with open(os.path.join(folder, "HANDLES"), "w") as out:
-        out.write("Handles allowed: none.\n")
-    crate = os.path.join(folder, "crates", "tree_bench")
-    with open(os.path.join(crate, "src", "main.rt"), "w") as out:
-        out.write(PROGRAM)
-    if not proved:
-        return lambda *words: subprocess.run(
-            ["rt", "try", "--", *map(str, words)], cwd=crate, stdin=subprocess.DEVNULL, capture_output=True, text=True
-        ).stdout
-    done = subprocess.run(
-        ["rt", "run", "--", "0"], cwd=crate, stdin=subprocess.DEVNULL, capture_output=True, text=True
-    )
-    program = os.path.join(crate, "out", "tree_bench")
-    if done.returncode or not os.path.exists(program):
-        sys.exit(done.stdout + done.stderr)
-    return lambda *words: subprocess.run(
-        [program, *map(str, words)], stdin=subprocess.DEVNULL, capture_output=True, text=True, check=True
-    ).stdout
+def runner(folder, proved):
+    """A function of the program's arguments that answers its output."""
+    how = {"stdin": subprocess.DEVNULL, "capture_output": True, "text": True, "check": proved}
+    if proved:
+        words = [programs.build(folder, "tree_bench", "cap_tree", PROGRAM)]
+    else:
+        words, how["cwd"] = ["rt", "try", "--"], programs.written(folder, "tree_bench", "cap_tree", PROGRAM)
+    return lambda *given: subprocess.run([*words, *map(str, given)], **how).stdout
 
 
 def peak(program, *words):
@@ -248,11 +231,9 @@ def peak(program, *words):
 
 def main():
     proved = "--unproved" not in sys.argv[1:]
-    if not shutil.which("rt"):
-        sys.exit("bench/tree_times.py needs rt, the command of the Rattle kit, which isn't there.")
-    folder = tempfile.mkdtemp(prefix="tree_bench")
-    try:
-        run = build(folder, proved)
+    programs.with_rt()
+    with tempfile.TemporaryDirectory(prefix="tree_bench") as folder:
+        run = runner(folder, proved)
         program = os.path.join(folder, "crates", "tree_bench", "out", "tree_bench")
         counts = {}
         seen = {length: [] for length in LENGTHS}
@@ -281,8 +262,6 @@ def main():
                 bare = peak(program, length, 0, lists, 0) / (lists * length) - POINTER
                 whole = peak(program, length, 0, lists, 1) / (lists * length) - POINTER / lists
                 print(f"{length:9,} items: {whole:.1f} bytes an item, {whole - bare:.1f} of them the tree's and not the item's own")
-    finally:
-        shutil.rmtree(folder)
 
 
 main()
