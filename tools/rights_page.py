@@ -12,7 +12,7 @@ PAGE = ROOT / "docs" / "RIGHTS.md"
 HEAD = """# The names of rights
 
 For a reader who meets a name in a trace or a report. rights(4) says what each right allows, `docs/RULES.md` what each call
-needs. `tools/rights_page` writes this page from `crates/cap_rights/src/bits.rt`.
+needs. `tools/rights_page.py` writes this page from `crates/cap_rights/src/bits.rt`.
 
 ## Rights
 
