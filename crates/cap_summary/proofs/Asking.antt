@@ -1,8 +1,9 @@
 -- Asks that hold in every state, in none, or in some.
 use Rattle.std.proofs.{lemmas.Bool.and_cases, lemmas.List.Sums.AllPass-from_list_all}
-use Rattle.cap_summary.specs.{◌≡◌, ℕ, ◌<◌, true, false, ◌&&◌, ◌||◌, refl, get_or, Bool, List, [], ◌∷◌, if◌then◌else◌}
-use Rattle.cap_summary.specs.{not, list_all, All, none, has_all, OnExec, Set, Clear, Unsure, Cell, Unknown, Closed}
-use Rattle.cap_summary.specs.{Held, Mode, Inside, Outside, State, Preconditions.any_certain, declared.ask.Ask.Ask}
+use Rattle.std.specs.Prelude.{◌≡◌, ◌<◌, ◌&&◌, ◌||◌, ◌∷◌, if◌then◌else◌, ℕ, true, false, refl, get_or, Bool, List, []}
+use Rattle.std.specs.Prelude.{not, All}
+use Rattle.cap_summary.specs.{list_all, none, has_all, OnExec, Set, Clear, Unsure, Cell, Unknown, Closed, Held, Mode}
+use Rattle.cap_summary.specs.{Inside, Outside, State, Preconditions.any_certain, declared.ask.Ask.Ask}
 use Rattle.cap_summary.specs.{declared.key.Key.Key, declared.kinds.Kinds.Kinds}
 use Rattle.cap_summary.specs.Asks.{any_holds, standing, is_sure, certain_at, possible_at, CanBe, IsOpen}
 use Rattle.cap_summary.specs.Keys.{Cells, mode_cell, cell_mode, cells_of}

@@ -1,6 +1,6 @@
 -- Laws of Booleans.
 use Rattle.std.proofs.{lemmas.Bool.and_parts}
-use Rattle.cap_summary.specs.{◌≡◌, Bool, true, false, ◌&&◌, ◌||◌, refl, not}
+use Rattle.std.specs.Prelude.{◌≡◌, ◌&&◌, ◌||◌, Bool, true, false, refl, not}
 use Rattle.cap_summary.proofs.{sym, ap, ◌∙◌, or-true, or_assoc, or_comm, or_parts}
 
 pub not_and : (x y : Bool) → not (x && y) ≡ (not x || not y)

@@ -1,7 +1,8 @@
 -- How many steps are judged at least for what is found.
-use Rattle.cap_summary.specs.{◌≡◌, ℕ, ◌+◌, ◌≤◌, ◌==◌, ◌&&◌, nat_le, Bool, true, false, cond, List, [], ◌∷◌, ◌++◌}
-use Rattle.cap_summary.specs.{length, map, refl, Rc, Step, Found, Finding, State, ended, check, said, found_at, later}
-use Rattle.cap_summary.specs.{values, declared.judging.Report.Report}
+use Rattle.std.specs.Prelude.{◌≡◌, ◌+◌, ◌≤◌, ◌==◌, ◌&&◌, ◌∷◌, ◌++◌, ℕ, nat_le, Bool, true, false, cond, List, []}
+use Rattle.std.specs.Prelude.{length, map, refl}
+use Rattle.cap_summary.specs.{Rc, Step, Found, Finding, State, ended, check, said, found_at, later, values}
+use Rattle.cap_summary.specs.{declared.judging.Report.Report}
 use Rattle.cap_summary.specs.Positions.{within, starts, positions, WereJudged}
 use Rattle.cap_summary.proofs.{arith, subst, eq-eqb, length-map, Resolving.said_at, Resolving.found_step}
 

@@ -1,6 +1,6 @@
 -- How much rows list.
-use Rattle.cap_summary.specs.{◌≡◌, ℕ, ◌+◌, ◌<◌, List, [], ◌∷◌, ◌++◌, length, get_or, take, All, RowSizes.rows_size}
-use Rattle.cap_summary.specs.{RowSizes.CellsRise, declared.effect.Row.Row}
+use Rattle.std.specs.Prelude.{◌≡◌, ◌+◌, ◌<◌, ◌∷◌, ◌++◌, ℕ, List, [], length, get_or, take, All}
+use Rattle.cap_summary.specs.{RowSizes.rows_size, RowSizes.CellsRise, declared.effect.Row.Row}
 use Rattle.cap_summary.proofs.{ap, ◌∙◌, sym, subst, arith, take_more, All-push}
 
 sizes-append : (a b : List (ℕ × Row)) → rows_size (a ++ b) ≡ rows_size a + rows_size b

@@ -1,8 +1,9 @@
 -- The state after an effect, and after what is known.
 use Rattle.cap_machine.proofs.{Turns.same_state}
-use Rattle.cap_summary.specs.{◌≡◌, ℕ, List, refl, Step, Mode, Inside, Outside, State, ended, Before.state_of}
-use Rattle.cap_summary.specs.{Effects.changed, Keys.cells_of, Keys.mode_cell, Keys.cell_mode, Knows.Knows}
-use Rattle.cap_summary.specs.{declared.effect.Effect.Effect, declared.key.Key.Key, declared.known.Known.Known}
+use Rattle.std.specs.Prelude.{◌≡◌, ℕ, List, refl}
+use Rattle.cap_summary.specs.{Step, Mode, Inside, Outside, State, ended, Before.state_of, Effects.changed}
+use Rattle.cap_summary.specs.{Keys.cells_of, Keys.mode_cell, Keys.cell_mode, Knows.Knows, declared.effect.Effect.Effect}
+use Rattle.cap_summary.specs.{declared.key.Key.Key, declared.known.Known.Known}
 use Rattle.cap_summary.proofs.{ap, ◌∙◌}
 
 pub mode_back : (m : Mode) → cell_mode (mode_cell m) ≡ m

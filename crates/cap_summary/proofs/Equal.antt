@@ -1,8 +1,8 @@
 -- Asks and refusals that `==` finds equal are the same.
 use Rattle.std.specs.{Option.option_eq}
 use Rattle.std.proofs.{Math.Bool.beq}
-use Rattle.cap_summary.specs.{◌≡◌, Bool, true, false, ◌&&◌, refl, Option, Some, None, ℕ, List, [], ◌∷◌, eqb, pointwise}
-use Rattle.cap_summary.specs.{Cell, Held, HeldOp, Op, declared.ask.Ask.Ask, declared.base.Base.Base}
+use Rattle.std.specs.Prelude.{◌≡◌, ◌&&◌, ◌∷◌, Bool, true, false, refl, Option, Some, None, ℕ, List, [], eqb}
+use Rattle.cap_summary.specs.{pointwise, Cell, Held, HeldOp, Op, declared.ask.Ask.Ask, declared.base.Base.Base}
 use Rattle.cap_summary.specs.{declared.effect.Row.Row, declared.key.Key.Key, declared.kinds.Kinds.Kinds}
 use Rattle.cap_summary.specs.{declared.line_asks.UpToThree.UpToThree, declared.precondition.Refusal.Refusal}
 use Rattle.cap_summary.specs.{declared.value.Value.Value}

@@ -1,7 +1,8 @@
 -- Which step of a trace is explained.
 use Rattle.cap_machine.specs.{Explain.explained_at}
-use Rattle.cap_summary.specs.{◌≡◌, ℕ, ◌+◌, ◌<◌, ◌≤◌, if◌then◌else◌, Bool, List, [], ◌∷◌, ◌++◌, length, take, drop}
-use Rattle.cap_summary.specs.{get_or, Some, None, refl, reverse, Step, State, explained, explanation}
+use Rattle.std.specs.Prelude.{◌≡◌, ◌+◌, ◌<◌, ◌≤◌, if◌then◌else◌, ◌∷◌, ◌++◌, ℕ, Bool, List, [], length, take, drop}
+use Rattle.std.specs.Prelude.{get_or, Some, None, refl, reverse}
+use Rattle.cap_summary.specs.{Step, State, explained, explanation}
 use Rattle.cap_summary.proofs.{sym, ap, ◌∙◌, arith, length-append, eq-eqb, reverse-append, length-reverse}
 use Rattle.cap_summary.proofs.{take-append-drop, length-take-le, take_more, ne_eqb}
 

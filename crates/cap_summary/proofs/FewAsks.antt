@@ -1,6 +1,6 @@
 -- How much is listed and asked at most where only these processes and descriptors are named.
 use Rattle.std.proofs.{Math.Nat.mul_assoc}
-use Rattle.cap_summary.specs.{◌≡◌, ℕ, ◌+◌, ◌*◌, ◌^◌, ◌<◌, ◌≤◌, List, [], ◌∷◌, length, map, true, refl, All}
+use Rattle.std.specs.Prelude.{◌≡◌, ◌+◌, ◌*◌, ◌^◌, ◌<◌, ◌≤◌, ◌∷◌, ℕ, List, [], length, map, true, refl, All}
 use Rattle.cap_summary.specs.{Names.has_cell, Names.has_key, declared.ask.Ask.Ask, declared.key.Key.Key}
 use Rattle.cap_summary.specs.Asks.{held_number, key_number, place, place_in_process, RisesFrom, Rises, AskWithin}
 use Rattle.cap_summary.specs.Asks.{AreWithin}

@@ -1,7 +1,8 @@
 -- How long a list is whose numbers strictly rise and are all among some numbers.
 use Rattle.std.proofs.{Math.Nat.add-mul, Math.Nat.one-mul}
-use Rattle.cap_summary.specs.{◌≡◌, ℕ, ◌+◌, ◌*◌, ◌≤◌, eqb, List, [], ◌∷◌, ◌++◌, length, map, Some, Bool, true, false}
-use Rattle.cap_summary.specs.{cond, refl, ◌||◌, is_some, nat_le, Few.is_one, Sorted.found, Sorted.RisesFrom}
+use Rattle.std.specs.Prelude.{◌≡◌, ◌+◌, ◌*◌, ◌≤◌, ◌∷◌, ◌++◌, ◌||◌, ℕ, eqb, List, [], length, map, Some, Bool, true}
+use Rattle.std.specs.Prelude.{false, cond, refl, is_some, nat_le}
+use Rattle.cap_summary.specs.{Few.is_one, Sorted.found, Sorted.RisesFrom}
 use Rattle.cap_summary.proofs.{sym, ap, ◌∙◌, arith, subst, length-append, or-true, eqb-true, eq-eqb, list_any-append}
 use Rattle.cap_summary.proofs.{nat_tests}
 

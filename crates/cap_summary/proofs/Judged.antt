@@ -1,7 +1,8 @@
 -- What was judged of a run so far.
-use Rattle.cap_summary.specs.{◌≡◌, ℕ, ◌+◌, List, [], ◌∷◌, ◌++◌, length, map, Step, Found, State, ended, check, said}
-use Rattle.cap_summary.specs.{found_at, later, Before.state_of, Effects.changed, Keys.Cells, Keys.cells_of}
-use Rattle.cap_summary.specs.{Positions.within, declared.effect.Effect.Effect, declared.key.Key.Key}
+use Rattle.std.specs.Prelude.{◌≡◌, ◌+◌, ◌∷◌, ◌++◌, ℕ, List, [], length, map}
+use Rattle.cap_summary.specs.{Step, Found, State, ended, check, said, found_at, later, Before.state_of, Effects.changed}
+use Rattle.cap_summary.specs.{Keys.Cells, Keys.cells_of, Positions.within, declared.effect.Effect.Effect}
+use Rattle.cap_summary.specs.{declared.key.Key.Key}
 use Rattle.cap_summary.proofs.{sym, ap, ◌∙◌, append-nil, Ends.ends_so, Resolving.found_more}
 
 -- the findings, and the effect of the steps that were judged

@@ -1,8 +1,8 @@
 -- What is known is kept where few processes and descriptors are named, unless many calls were refused.
 use Rattle.std.proofs.{Math.Nat.mul-le-mul_right}
-use Rattle.cap_summary.specs.{◌≡◌, ℕ, ◌+◌, ◌*◌, ◌<◌, ◌≤◌, ◌⊎◌, List, [], ◌∷◌, ◌++◌, length, Bool, true, false, cond}
-use Rattle.cap_summary.specs.{eqb, Option, Some, None, refl, IfSome, IfNone, is_some, nat_le, All, Step}
-use Rattle.cap_summary.specs.{Content.KeepsParts, Knows.Knows, Preconditions.IsSettled, declared.effect.Row.Row}
+use Rattle.std.specs.Prelude.{◌≡◌, ◌+◌, ◌*◌, ◌<◌, ◌≤◌, ◌⊎◌, ◌∷◌, ◌++◌, ℕ, List, [], length, Bool, true, false, cond}
+use Rattle.std.specs.Prelude.{eqb, Option, Some, None, refl, IfSome, IfNone, is_some, nat_le, All}
+use Rattle.cap_summary.specs.{Step, Content.KeepsParts, Knows.Knows, Preconditions.IsSettled, declared.effect.Row.Row}
 use Rattle.cap_summary.specs.{declared.known.Known.Known, declared.node.Content.Content}
 use Rattle.cap_summary.specs.{declared.node.Content.TheVariants.Run, declared.node.Content.TheVariants.Both}
 use Rattle.cap_summary.specs.Few.{is_one, these, room, refused, NameOrRefuseMany}

@@ -1,10 +1,11 @@
 -- What a summary says after one more step, or one more segment.
 use Rattle.cap_machine.specs.{History.turned, Table.step_after}
 use Rattle.cap_machine.proofs.{Turns.ends_more}
-use Rattle.cap_summary.specs.{◌≡◌, ℕ, List, [], ◌∷◌, ◌++◌, ◌+◌, ◌<◌, false, ◌||◌, length, map, refl, get_or, take, ◌≤◌}
-use Rattle.cap_summary.specs.{if◌then◌else◌, Rc, values, Step, LineEffect, State, requirement, Turn, kept, stays, turns}
-use Rattle.cap_summary.specs.{follows, touch, turn, effect_touch, effect_turn, touched, ended, check, said, found_at}
-use Rattle.cap_summary.specs.{later, Composing.IsJoined, Effects.changed, Few.is_refusal, Few.refused, Keys.Cells}
+use Rattle.std.specs.Prelude.{◌≡◌, ◌∷◌, ◌++◌, ◌+◌, ◌<◌, ◌||◌, ◌≤◌, if◌then◌else◌, ℕ, List, [], false, length, map, refl}
+use Rattle.std.specs.Prelude.{get_or, take}
+use Rattle.cap_summary.specs.{Rc, values, Step, LineEffect, State, requirement, Turn, kept, stays, turns, follows}
+use Rattle.cap_summary.specs.{touch, turn, effect_touch, effect_turn, touched, ended, check, said, found_at, later}
+use Rattle.cap_summary.specs.{Composing.IsJoined, Effects.changed, Few.is_refusal, Few.refused, Keys.Cells}
 use Rattle.cap_summary.specs.{Keys.mode_cell, Keys.cells_of, Leaving.LineLeaves, Leaving.LeavesThenLine}
 use Rattle.cap_summary.specs.{declared.effect.Effect.Effect, declared.key.Key.Key, declared.known.Known.Known}
 use Rattle.cap_summary.specs.{declared.line_asks.LineAsks.LineAsks, declared.precondition.Precondition.Precondition}

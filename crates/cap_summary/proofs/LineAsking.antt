@@ -1,7 +1,7 @@
 -- What one line asks, and where something is said of it.
-use Rattle.cap_summary.specs.{◌≡◌, List, [], ◌∷◌, ◌++◌, Bool, true, false, ◌&&◌, ◌||◌, cond, refl, not, Cell, LimitWord}
-use Rattle.cap_summary.specs.{Check, fault, faults, Mode, Inside, Outside, is_outside, Keys.mode_cell, LineAsks.has_any}
-use Rattle.cap_summary.specs.{Tests.has_kind, declared.kinds.TheConstants.Kinds.UNHELD}
+use Rattle.std.specs.Prelude.{◌≡◌, ◌∷◌, ◌++◌, ◌&&◌, ◌||◌, List, [], Bool, true, false, cond, refl, not}
+use Rattle.cap_summary.specs.{Cell, LimitWord, Check, fault, faults, Mode, Inside, Outside, is_outside, Keys.mode_cell}
+use Rattle.cap_summary.specs.{LineAsks.has_any, Tests.has_kind, declared.kinds.TheConstants.Kinds.UNHELD}
 use Rattle.cap_summary.proofs.{sym, ap, ◌∙◌, or-false, or-true, Bools.and_left, Bools.and_right}
 
 pub has_any-append : {X : Type 0} (xs ys : List X) → has_any (xs ++ ys) ≡ (has_any xs || has_any ys)

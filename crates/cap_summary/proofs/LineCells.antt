@@ -1,8 +1,8 @@
 -- What one line lists.
-use Rattle.cap_summary.specs.{◌≡◌, ℕ, ◌+◌, ◌<◌, ◌≤◌, eqb, List, Bool, true, false, ◌||◌, cond, Option, Some, length}
-use Rattle.cap_summary.specs.{get_or, take, refl, option_map_or, list_any, all, Unsure, Closed, LineEffect, fds_spelled}
-use Rattle.cap_summary.specs.{Keys.Cells, Lines.IsStarted, Lines.IsListOf, Sorted.found, Values.read}
-use Rattle.cap_summary.specs.{declared.value.Value.Value}
+use Rattle.std.specs.Prelude.{◌≡◌, ◌+◌, ◌<◌, ◌≤◌, ◌||◌, ℕ, eqb, List, Bool, true, false, cond, Option, Some, length}
+use Rattle.std.specs.Prelude.{get_or, take, refl}
+use Rattle.cap_summary.specs.{option_map_or, list_any, all, Unsure, Closed, LineEffect, fds_spelled, Keys.Cells}
+use Rattle.cap_summary.specs.{Lines.IsStarted, Lines.IsListOf, Sorted.found, Values.read, declared.value.Value.Value}
 use Rattle.cap_summary.proofs.{Bor, take_all, list_any_more, or-false, or-true, eq-eqb}
 
 one_more : (cells : Cells) (v : Value) (b any : Bool) (o : Option Value)

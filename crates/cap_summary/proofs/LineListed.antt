@@ -1,6 +1,6 @@
 -- What one line lists is named by it.
-use Rattle.cap_summary.specs.{◌≡◌, ℕ, ◌==◌, Bool, true, false, cond, List, [], ◌∷◌, Option, Some, refl, IfSome, All, Op}
-use Rattle.cap_summary.specs.{LineEffect, Names.Names, Names.has_cell, Names.IsListedWithin, Names.LineWithin}
+use Rattle.std.specs.Prelude.{◌≡◌, ◌==◌, ◌∷◌, ℕ, Bool, true, false, cond, List, [], Option, Some, refl, IfSome, All}
+use Rattle.cap_summary.specs.{Op, LineEffect, Names.Names, Names.has_cell, Names.IsListedWithin, Names.LineWithin}
 use Rattle.cap_summary.specs.{Sorted.found, Values.reads_within, declared.key.Key.Key, declared.value.Value.Value}
 use Rattle.cap_summary.proofs.{sym, subst, eqb-true, and_from, All-head, All-tail}
 

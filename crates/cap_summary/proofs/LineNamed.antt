@@ -10,11 +10,11 @@ use Rattle.cap_machine.specs.{Named.arg_names, Named.answer_names, Named.is_fork
 use Rattle.cap_machine.specs.{declared.cell.Profile.TheVariants.One, declared.cell.Profile.TheVariants.Two}
 use Rattle.cap_machine.specs.Touch.{fd_touch, path_touch, bare_touch, call_touch, pdfork_touch}
 use Rattle.cap_machine.proofs.{NamedFds.named_effects}
-use Rattle.cap_summary.specs.{◌≡◌, ℕ, suc, ◌+◌, ◌==◌, ◌&&◌, ◌||◌, Bool, true, false, not, cond, [], ◌∷◌, refl}
-use Rattle.cap_summary.specs.{slice_index_or, list_any, All, fds_spelled, Item, Answer, ResultKind, Count, Fd, Same}
-use Rattle.cap_summary.specs.{FdPair}
-use Rattle.cap_summary.specs.{kind_of, Cell, Unknown, Op, Step, LineEffect, same, Touch, kept, given, taken, touch}
-use Rattle.cap_summary.specs.{started, effect_touch, fds_of, Names.answers_fd, Names.line_names_fd}
+use Rattle.std.specs.Prelude.{◌≡◌, ◌+◌, ◌==◌, ◌&&◌, ◌||◌, ◌∷◌, ℕ, suc, Bool, true, false, not, cond, [], refl}
+use Rattle.std.specs.Prelude.{slice_index_or, All}
+use Rattle.cap_summary.specs.{list_any, fds_spelled, Item, Answer, ResultKind, Count, Fd, Same, FdPair, kind_of, Cell}
+use Rattle.cap_summary.specs.{Unknown, Op, Step, LineEffect, same, Touch, kept, given, taken, touch, started}
+use Rattle.cap_summary.specs.{effect_touch, fds_of, Names.answers_fd, Names.line_names_fd}
 use Rattle.cap_summary.proofs.{sym, ap, ◌∙◌, arith, ne_eqb, eq-eqb, or_left, or_right, All-nil, All-cons}
 
 by_cases : {X : Type 0} (b : Bool) → (b ≡ true → X) → (b ≡ false → X) → X

@@ -1,8 +1,8 @@
 -- The cells after a line, by the rows of the processes that it touches.
-use Rattle.cap_summary.specs.{◌≡◌, ℕ, ◌==◌, Bool, true, false, ◌||◌, cond, refl, List, Some, None, option_map_or, Set}
-use Rattle.cap_summary.specs.{Clear, Unsure, Cell, Unknown, Closed, Held, LineEffect, applied, same, kept, given, taken}
-use Rattle.cap_summary.specs.{stays, follows, touched, Effects.row_cell, Effects.changed, Effects.IsRowAfter}
-use Rattle.cap_summary.specs.{Keys.Cells, Sorted.found, Values.read, declared.effect.Effect.Effect}
+use Rattle.std.specs.Prelude.{◌≡◌, ◌==◌, ◌||◌, ℕ, Bool, true, false, cond, refl, List, Some, None}
+use Rattle.cap_summary.specs.{option_map_or, Set, Clear, Unsure, Cell, Unknown, Closed, Held, LineEffect, applied, same}
+use Rattle.cap_summary.specs.{kept, given, taken, stays, follows, touched, Effects.row_cell, Effects.changed}
+use Rattle.cap_summary.specs.{Effects.IsRowAfter, Keys.Cells, Sorted.found, Values.read, declared.effect.Effect.Effect}
 use Rattle.cap_summary.specs.{declared.effect.Row.Row, declared.key.Key.Key, declared.value.Value.Value}
 use Rattle.cap_summary.specs.Leaving.{row_leaves, leaves, LineLeaves, LeavesThenLine}
 use Rattle.cap_summary.specs.Lines.{turned_cell, line_after, IsThenLine, is_touched, IsPut, LeavesPut, IsRowOf}

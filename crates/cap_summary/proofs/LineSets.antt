@@ -1,6 +1,7 @@
 -- A cell that is set in place.
-use Rattle.cap_summary.specs.{◌≡◌, ℕ, ◌==◌, ◌&&◌, Bool, true, false, cond, List, Option, Some, None, refl, IfSome}
-use Rattle.cap_summary.specs.{unwrap_or, option_map_or, Cell, Keys.Cells, Lines.is_cell, Lines.with_cell, Sorted.found}
+use Rattle.std.specs.Prelude.{◌≡◌, ◌==◌, ◌&&◌, ℕ, Bool, true, false, cond, List, Option, Some, None, refl, IfSome}
+use Rattle.std.specs.Prelude.{unwrap_or}
+use Rattle.cap_summary.specs.{option_map_or, Cell, Keys.Cells, Lines.is_cell, Lines.with_cell, Sorted.found}
 use Rattle.cap_summary.specs.{Values.read, declared.effect.Effect.Effect, declared.effect.Row.Row, declared.key.Key.Key}
 use Rattle.cap_summary.specs.{declared.value.Value.Value}
 use Rattle.cap_summary.specs.Effects.{own_row, base_cell, row_cell, cell_in, changed}

@@ -1,5 +1,6 @@
 -- Copies of what is listed.
-use Rattle.cap_summary.specs.{◌≡◌, ℕ, ◌+◌, List, [], ◌∷◌, AllZip, Sorted.RisesFrom}
+use Rattle.std.specs.Prelude.{◌≡◌, ◌+◌, ◌∷◌, ℕ, List, []}
+use Rattle.cap_summary.specs.{AllZip, Sorted.RisesFrom}
 
 -- each entry has the same key
 module _ {V : Type 0} (Copied : V → V → Type 0) where

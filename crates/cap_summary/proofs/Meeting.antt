@@ -1,9 +1,10 @@
 -- Where something is found.
-use Rattle.cap_summary.specs.{◌≡◌, List, [], ◌∷◌, ◌++◌, Bool, true, false, ◌||◌, refl, Option, Some, None, ℕ, ◌<◌}
-use Rattle.cap_summary.specs.{length, get_or, not, IfSome, is_some, list_any, All, State, Asks.any_holds, Asks.CanBe}
-use Rattle.cap_summary.specs.{Asks.IsOpen, Keys.Cells, Keys.cells_of, LineAsks.part_holds, LineAsks.one_holds}
-use Rattle.cap_summary.specs.{declared.ask.Ask.Ask, declared.line_asks.UpToThree.UpToThree}
-use Rattle.cap_summary.specs.{declared.precondition.Precondition.Precondition, declared.precondition.Refusal.Refusal}
+use Rattle.std.specs.Prelude.{◌≡◌, ◌∷◌, ◌++◌, ◌||◌, ◌<◌, List, [], Bool, true, false, refl, Option, Some, None, ℕ}
+use Rattle.std.specs.Prelude.{length, get_or, not, IfSome, is_some, All}
+use Rattle.cap_summary.specs.{list_any, State, Asks.any_holds, Asks.CanBe, Asks.IsOpen, Keys.Cells, Keys.cells_of}
+use Rattle.cap_summary.specs.{LineAsks.part_holds, LineAsks.one_holds, declared.ask.Ask.Ask}
+use Rattle.cap_summary.specs.{declared.line_asks.UpToThree.UpToThree, declared.precondition.Precondition.Precondition}
+use Rattle.cap_summary.specs.{declared.precondition.Refusal.Refusal}
 use Rattle.cap_summary.specs.Preconditions.{is_wrongful, is_met, has_part, PartsAreOpen, RefusalIsOpen, IsPossible}
 use Rattle.cap_summary.specs.Preconditions.{IsMetOr}
 use Rattle.cap_summary.proofs.{ap, ◌∙◌, sym, inl, inr, subst, All-push, or-false, or-true, or_assoc, or_cases}

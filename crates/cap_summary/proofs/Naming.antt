@@ -1,13 +1,14 @@
 -- What is named by some lines is named by more.
 use Rattle.std.proofs.{lemmas.Bool.true_from_ne_false}
 use Rattle.cap_machine.proofs.{NamedFds.named_checks, Naming.own_processes}
-use Rattle.cap_summary.specs.{◌≡◌, ℕ, ◌==◌, Bool, true, false, ◌||◌, ◌&&◌, List, [], ◌∷◌, ◌++◌, Option, Some, None}
-use Rattle.cap_summary.specs.{refl, cond, IfSome, list_any, Step, LineEffect, Unknown, same, Touch, kept, given, taken}
-use Rattle.cap_summary.specs.{touch, effect_touch, names_pid, args_name, requirement, Sorted.found, Values.reads_within}
+use Rattle.std.specs.Prelude.{◌≡◌, ◌==◌, ◌||◌, ◌&&◌, ◌∷◌, ◌++◌, ℕ, Bool, true, false, List, [], Option, Some, None}
+use Rattle.std.specs.Prelude.{refl, cond, IfSome}
+use Rattle.cap_summary.specs.{list_any, Step, LineEffect, Unknown, same, Touch, kept, given, taken, touch, effect_touch}
+use Rattle.cap_summary.specs.{names_pid, args_name, requirement, Sorted.found, Values.reads_within}
 use Rattle.cap_summary.specs.{declared.ask.Ask.Ask, declared.base.DefaultCells.DefaultCells}
-use Rattle.cap_summary.specs.{declared.effect.Effect.Effect}
-use Rattle.cap_summary.specs.{declared.effect.Row.Row, declared.key.Key.Key, declared.line_asks.UpToThree.UpToThree}
-use Rattle.cap_summary.specs.{declared.precondition.Precondition.Precondition, declared.value.Value.Value}
+use Rattle.cap_summary.specs.{declared.effect.Effect.Effect, declared.effect.Row.Row, declared.key.Key.Key}
+use Rattle.cap_summary.specs.{declared.line_asks.UpToThree.UpToThree, declared.precondition.Precondition.Precondition}
+use Rattle.cap_summary.specs.{declared.value.Value.Value}
 use Rattle.cap_summary.specs.Names.{line_names_fd, item_answers_fd, Names, names_in, AreAmong, has_key, has_cell}
 use Rattle.cap_summary.specs.Names.{IsListedWithin, others_within, mode_within, RowWithin, IsRowWithin, EffectWithin}
 use Rattle.cap_summary.specs.Names.{ChildWithin, LineWithin, part_within, PartsWithin, PreWithin, DemandWithin}

@@ -1,7 +1,8 @@
 -- A row that reads its own process alone, after a segment that leaves that process.
-use Rattle.cap_summary.specs.{◌≡◌, ℕ, ◌==◌, Bool, true, false, List, [], ◌∷◌, cond, Option, Some, None, refl, IfSome}
-use Rattle.cap_summary.specs.{option_map_or, All, Cell, Closed, applied, Composing.IsComposedSo, Keys.Cells}
-use Rattle.cap_summary.specs.{Sorted.found, declared.base.DefaultCells.DefaultCells, declared.effect.Effect.Effect}
+use Rattle.std.specs.Prelude.{◌≡◌, ◌==◌, ◌∷◌, ℕ, Bool, true, false, List, [], cond, Option, Some, None, refl, IfSome}
+use Rattle.std.specs.Prelude.{All}
+use Rattle.cap_summary.specs.{option_map_or, Cell, Closed, applied, Composing.IsComposedSo, Keys.Cells, Sorted.found}
+use Rattle.cap_summary.specs.{declared.base.DefaultCells.DefaultCells, declared.effect.Effect.Effect}
 use Rattle.cap_summary.specs.{declared.effect.Row.Row, declared.key.Key.Key, declared.value.Value.Value}
 use Rattle.cap_summary.specs.Effects.{passed, is_from, others_cell, base_cell, row_cell, cell_in, changed}
 use Rattle.cap_summary.specs.Names.{only, has_cell, has_key, others_within, mode_within, IsListedWithin, ListWithin}

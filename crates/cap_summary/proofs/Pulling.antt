@@ -1,13 +1,13 @@
 -- Asks of a later segment, pulled back through the effect of a first one.
 use Rattle.std.specs.{declared.vec.Vec.Vec}
-use Rattle.cap_summary.specs.{◌≡◌, List, [], ◌∷◌, ◌++◌, Bool, true, false, ◌||◌, ℕ, ◌+◌, ◌<◌, ◌≤◌, length, get_or, take}
-use Rattle.cap_summary.specs.{drop, refl, list_any, All, State, Option, Some, None, is_none, not, if◌then◌else◌}
-use Rattle.cap_summary.specs.{option_map_or, Cell, Closed, Global, Keys.Cells, Keys.cells_of, Leaving.is_own}
-use Rattle.cap_summary.specs.{Leaving.base_leaves, Leaving.row_leaves, Sorted.found, Values.read, declared.ask.Ask.Ask}
-use Rattle.cap_summary.specs.{declared.base.DefaultCells.DefaultCells, declared.effect.Effect.Effect}
-use Rattle.cap_summary.specs.{declared.effect.Row.Row}
-use Rattle.cap_summary.specs.{declared.key.Key.Key, declared.precondition.Precondition.Precondition}
-use Rattle.cap_summary.specs.{declared.precondition.Refusal.Refusal, declared.value.Value.Value}
+use Rattle.std.specs.Prelude.{◌≡◌, ◌∷◌, ◌++◌, ◌||◌, ◌+◌, ◌<◌, ◌≤◌, if◌then◌else◌, List, [], Bool, true, false, ℕ}
+use Rattle.std.specs.Prelude.{length, get_or, take, drop, refl, All, Option, Some, None, is_none, not}
+use Rattle.cap_summary.specs.{list_any, State, option_map_or, Cell, Closed, Global, Keys.Cells, Keys.cells_of}
+use Rattle.cap_summary.specs.{Leaving.is_own, Leaving.base_leaves, Leaving.row_leaves, Sorted.found, Values.read}
+use Rattle.cap_summary.specs.{declared.ask.Ask.Ask, declared.base.DefaultCells.DefaultCells}
+use Rattle.cap_summary.specs.{declared.effect.Effect.Effect, declared.effect.Row.Row, declared.key.Key.Key}
+use Rattle.cap_summary.specs.{declared.precondition.Precondition.Precondition, declared.precondition.Refusal.Refusal}
+use Rattle.cap_summary.specs.{declared.value.Value.Value}
 use Rattle.cap_summary.specs.Asks.{place, holds, any_holds, CanBe, AskWithin, Rises, IsUnionOf, Within, Can}
 use Rattle.cap_summary.specs.Effects.{is_from, others_cell, base_cell, row_cell, changed}
 use Rattle.cap_summary.specs.Names.{Names, has_cell, EffectWithin, RefusalsWithin, PreWithin}

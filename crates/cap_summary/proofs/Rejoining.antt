@@ -1,7 +1,8 @@
 -- What is known of an old whole, of a whole that has another part in place of one.
-use Rattle.cap_summary.specs.{◌≡◌, ℕ, ◌||◌, true, false, refl, Similarity, Side, Left, Right, part_at, Effects.cell_in}
-use Rattle.cap_summary.specs.{Effects.changed, Keys.Cells, Keys.cells_of, Sorted.found, declared.effect.Effect.Effect}
-use Rattle.cap_summary.specs.{declared.known.Known.Known, declared.precondition.Precondition.Precondition}
+use Rattle.std.specs.Prelude.{◌≡◌, ◌||◌, ℕ, true, false, refl}
+use Rattle.cap_summary.specs.{Similarity, Side, Left, Right, part_at, Effects.cell_in, Effects.changed, Keys.Cells}
+use Rattle.cap_summary.specs.{Keys.cells_of, Sorted.found, declared.effect.Effect.Effect, declared.known.Known.Known}
+use Rattle.cap_summary.specs.{declared.precondition.Precondition.Precondition}
 use Rattle.cap_summary.specs.Composing.{IsJoined, IsComposedSo, IsJoinedEffect, AreAlike, KeepsEffect}
 use Rattle.cap_summary.specs.Names.{Names, EffectWithin, PreWithin}
 use Rattle.cap_summary.specs.Preconditions.{is_met, IsPossible, IsSamePrecondition, IsAskedByBoth}

@@ -3,9 +3,9 @@ use Rattle.std.proofs.Common.{add_assoc, length-take, le-leb}
 use Rattle.std.proofs.{lemmas.Bool.lt-leb, lemmas.List.Elements.filter-append, lemmas.List.Elements.All-map}
 use Rattle.std.proofs.{lemmas.List.Filters.length-filter_both}
 use Rattle.cap_machine.proofs.{Positions.positions_within}
-use Rattle.cap_summary.specs.{◌≡◌, ℕ, ◌+◌, ◌<◌, ◌≤◌, List, [], ◌∷◌, ◌++◌, Bool, true, false, ◌&&◌, cond, length, map}
-use Rattle.cap_summary.specs.{take, drop, get_or, ◌-◌, refl, All, filter, nat_le, not, ◌*◌, ◌/◌, Step, Found, Finding}
-use Rattle.cap_summary.specs.{State, ended, check, said, found_at, later, LineAsks.has_any}
+use Rattle.std.specs.Prelude.{◌≡◌, ◌+◌, ◌<◌, ◌≤◌, ◌∷◌, ◌++◌, ◌&&◌, ◌-◌, ◌*◌, ◌/◌, ℕ, List, [], Bool, true, false, cond}
+use Rattle.std.specs.Prelude.{length, map, take, drop, get_or, refl, All, filter, nat_le, not}
+use Rattle.cap_summary.specs.{Step, Found, Finding, State, ended, check, said, found_at, later, LineAsks.has_any}
 use Rattle.cap_summary.specs.Positions.{is_at, within, AllOrMany}
 use Rattle.cap_summary.proofs.{sym, ap, ◌∙◌, append_assoc, arith, inl, inr, length-append, map-append, append-nil}
 use Rattle.cap_summary.proofs.{length-map, length-take-le, take_all, take_more, take-append-drop, All-head, All-tail}

@@ -1,9 +1,10 @@
 -- The cells of a process after two segments.
-use Rattle.cap_summary.specs.{◌≡◌, ℕ, ◌&&◌, ◌||◌, not, Bool, true, false, Option, Some, None, option_map, refl, List}
-use Rattle.cap_summary.specs.{unwrap_or, option_and_then, is_none, option_map_or, option_or, Cell, Closed}
-use Rattle.cap_summary.specs.{Composing.IsHandedSo, Keys.Cells, Sorted.found, Values.read, declared.base.Base.Base}
-use Rattle.cap_summary.specs.{declared.base.Passing.Passing, declared.effect.Effect.Effect, declared.effect.Row.Row}
-use Rattle.cap_summary.specs.{declared.key.Key.Key, declared.value.Value.Value}
+use Rattle.std.specs.Prelude.{◌≡◌, ◌&&◌, ◌||◌, ℕ, not, Bool, true, false, Option, Some, None, option_map, refl, List}
+use Rattle.std.specs.Prelude.{unwrap_or, option_and_then, is_none}
+use Rattle.cap_summary.specs.{option_map_or, option_or, Cell, Closed, Composing.IsHandedSo, Keys.Cells, Sorted.found}
+use Rattle.cap_summary.specs.{Values.read, declared.base.Base.Base, declared.base.Passing.Passing}
+use Rattle.cap_summary.specs.{declared.effect.Effect.Effect, declared.effect.Row.Row, declared.key.Key.Key}
+use Rattle.cap_summary.specs.{declared.value.Value.Value}
 use Rattle.cap_summary.specs.Effects.{passed, is_from, base_cell, handed_on, row_cell, changed, IsRowAfter}
 use Rattle.cap_summary.specs.Leaving.{is_own, base_leaves, row_leaves, leaves}
 use Rattle.cap_summary.proofs.{◌∙◌, and_from, not-true, Bools.and_left, Bools.and_right}

@@ -2,8 +2,9 @@
 use Rattle.std.specs.Prelude.{◌≢◌, Result, Ok, Err}
 use Rattle.std.specs.{List.Sorted.IsSearchInRange, List.Sorted.IsBinarySearchResult, Ordering.ordering_index}
 use Rattle.std.proofs.{lemmas.Option.slice_get-get_or}
-use Rattle.cap_summary.specs.{◌≡◌, ℕ, zero, suc, ◌+◌, ◌<◌, ◌≤◌, List, [], ◌∷◌, length, get_or, None, Some, IfOk, IfErr}
-use Rattle.cap_summary.specs.{option_map, slice_get, refl, IsNonDecreasingBy, nat_cmp}
+use Rattle.std.specs.Prelude.{◌≡◌, ◌+◌, ◌<◌, ◌≤◌, ◌∷◌, ℕ, zero, suc, List, [], length, get_or, None, Some, IfOk, IfErr}
+use Rattle.std.specs.Prelude.{option_map, slice_get, refl}
+use Rattle.cap_summary.specs.{IsNonDecreasingBy, nat_cmp}
 use Rattle.cap_summary.specs.Sorted.{IsAt, IsGap, found, RisesFrom, Rises, KeysRise}
 use Rattle.cap_summary.proofs.{sym, ap, ◌∙◌, arith, ranked, nat_tests}
 

@@ -1,7 +1,8 @@
 -- A table that is made of two, key by key.
 use mathlib.Core.Bool.{false≢true}
-use Rattle.cap_summary.specs.{◌≡◌, ℕ, ◌+◌, ◌<◌, ◌≤◌, eqb, Bool, true, false, ◌||◌, List, [], ◌∷◌, ◌++◌, Option, Some}
-use Rattle.cap_summary.specs.{None, if◌then◌else◌, refl, option_or, is_some}
+use Rattle.std.specs.Prelude.{◌≡◌, ◌+◌, ◌<◌, ◌≤◌, ◌||◌, ◌∷◌, ◌++◌, if◌then◌else◌, ℕ, eqb, Bool, true, false, List, []}
+use Rattle.std.specs.Prelude.{Option, Some, None, refl, is_some}
+use Rattle.cap_summary.specs.{option_or}
 use Rattle.cap_summary.specs.Sorted.{found, RisesFrom, Rises}
 use Rattle.cap_summary.proofs.{inl, inr, sym, ap, ◌∙◌, arith, cases_lt, ne_eqb, nat_tests, SortedFound.found_below}
 

@@ -1,6 +1,6 @@
 -- A value that is put at a key of a list whose keys rise.
 use Rattle.std.specs.Prelude.{set, insert}
-use Rattle.cap_summary.specs.{◌≡◌, ℕ, zero, suc, ◌+◌, ◌<◌, ◌≤◌, eqb, List, [], ◌∷◌, Some, if◌then◌else◌}
+use Rattle.std.specs.Prelude.{◌≡◌, ◌+◌, ◌<◌, ◌≤◌, ◌∷◌, if◌then◌else◌, ℕ, zero, suc, eqb, List, [], Some}
 use Rattle.cap_summary.specs.Sorted.{IsAt, IsGap, found, RisesFrom}
 use Rattle.cap_summary.proofs.{arith, nat_tests, SortedFound.rises_at, SortedFound.is_at_tail}
 

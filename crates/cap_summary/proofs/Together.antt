@@ -1,7 +1,7 @@
 -- Up to three asks, of which one holds in every state, or none holds in some.
-use Rattle.cap_summary.specs.{◌≡◌, ℕ, true, false, ◌&&◌, Option, Some, None, refl, ◌==◌, none, join, has_all, OnExec}
-use Rattle.cap_summary.specs.{Cell, Held, State, Asks.is_sure, Asks.key_number, Keys.Cells, Keys.cells_of}
-use Rattle.cap_summary.specs.{LineAsks.part_holds, LineAsks.one_holds, Tests.passes, Tests.each_kind}
+use Rattle.std.specs.Prelude.{◌≡◌, ◌&&◌, ◌==◌, ℕ, true, false, Option, Some, None, refl}
+use Rattle.cap_summary.specs.{none, join, has_all, OnExec, Cell, Held, State, Asks.is_sure, Asks.key_number, Keys.Cells}
+use Rattle.cap_summary.specs.{Keys.cells_of, LineAsks.part_holds, LineAsks.one_holds, Tests.passes, Tests.each_kind}
 use Rattle.cap_summary.specs.{declared.ask.Ask.Ask, declared.key.Key.Key, declared.line_asks.UpToThree.UpToThree}
 use Rattle.cap_summary.specs.Preconditions.{is_about, part_sure, one_sure, are_sure_at}
 use Rattle.cap_summary.proofs.{inl, inr, sym, ap, ◌∙◌, arith, eqb-true, eq-eqb, or_cases, or_parts, or-true}

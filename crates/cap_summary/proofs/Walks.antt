@@ -2,8 +2,8 @@
 use Rattle.std.proofs.{Math.Seq.take-append-add, lemmas.List.Elements.All-take}
 use Rattle.cap_machine.specs.Walks.{cell_pid, cell_fd, mode_pid}
 use Rattle.cap_machine.proofs.{Walking.cells_may_be_left_out, Walking.modes_may_be_left_out}
-use Rattle.cap_summary.specs.{◌≡◌, ℕ, ◌+◌, ◌-◌, ◌<◌, List, ◌++◌, length, take, refl, reverse, Step, CellWalk, ModeWalk}
-use Rattle.cap_summary.specs.{State, kept, stays, touch, turn, LeavesCell, LeavesMode}
+use Rattle.std.specs.Prelude.{◌≡◌, ◌+◌, ◌-◌, ◌<◌, ◌++◌, ℕ, List, length, take, refl, reverse}
+use Rattle.cap_summary.specs.{Step, CellWalk, ModeWalk, State, kept, stays, touch, turn, LeavesCell, LeavesMode}
 use Rattle.cap_summary.specs.PlaceInNode.{Origin, Passes, cell_seen, mode_seen}
 use Rattle.cap_summary.proofs.{sym, ap, ◌∙◌, arith, append_assoc, length-append, reverse-append, length-reverse}
 use Rattle.cap_summary.proofs.{take_all}

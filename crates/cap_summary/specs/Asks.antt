@@ -1,8 +1,9 @@
 -- What is asked of the cells before a segment.
-use Rattle.cap_summary.specs.{◌≡◌, ℕ, ◌+◌, ◌*◌, ◌^◌, ◌%◌, ◌≤◌, ◌||◌, Bool, true, false, List, [], ◌∷◌, length, Option}
-use Rattle.cap_summary.specs.{Some, None, list_any, list_all, All, Inside, Outside, Cell, State, Mode, Keys.Cells}
-use Rattle.cap_summary.specs.{Keys.mode_cell, Keys.cell_mode, Keys.cells_of, declared.ask.Ask.Ask}
-use Rattle.cap_summary.specs.{declared.ask.Pulled.Pulled, declared.key.Key.Key, declared.kinds.Kinds.Kinds}
+use Rattle.std.specs.Prelude.{◌≡◌, ◌+◌, ◌*◌, ◌^◌, ◌%◌, ◌≤◌, ◌||◌, ◌∷◌, ℕ, Bool, true, false, List, [], length, Option}
+use Rattle.std.specs.Prelude.{Some, None, All}
+use Rattle.cap_summary.specs.{list_any, list_all, Inside, Outside, Cell, State, Mode, Keys.Cells, Keys.mode_cell}
+use Rattle.cap_summary.specs.{Keys.cell_mode, Keys.cells_of, declared.ask.Ask.Ask, declared.ask.Pulled.Pulled}
+use Rattle.cap_summary.specs.{declared.key.Key.Key, declared.kinds.Kinds.Kinds}
 use Rattle.cap_summary.specs.Tests.{passes, can_pass, holding, each_kind}
 use Rattle.cap_summary.specs.declared.ask.Pulled.TheVariants.{Always, Never, Where}
 

@@ -1,7 +1,7 @@
 -- What is known of two segments together. What their effect names is named by the second segment, or by the rows of the
 -- first that the second one reads.
-use Rattle.cap_summary.specs.{◌≡◌, ℕ, ◌||◌, ◌&&◌, true, Option, IfSome, is_none, option_map, option_and_then, part_at}
-use Rattle.cap_summary.specs.{option_or, Similarity, Side, Left, Right, Keys.Cells, Leaving.leaves_in}
+use Rattle.std.specs.Prelude.{◌≡◌, ◌||◌, ◌&&◌, ℕ, true, Option, IfSome, is_none, option_map, option_and_then}
+use Rattle.cap_summary.specs.{part_at, option_or, Similarity, Side, Left, Right, Keys.Cells, Leaving.leaves_in}
 use Rattle.cap_summary.specs.{Preconditions.IsAskedByBoth, Preconditions.IsSamePrecondition, Sorted.found, Values.read}
 use Rattle.cap_summary.specs.{declared.base.Passing.Passing, declared.composed.Replaced.Replaced}
 use Rattle.cap_summary.specs.{declared.effect.Effect.Effect, declared.effect.Row.Row, declared.key.Key.Key}

@@ -1,8 +1,8 @@
 -- What a node of a summary is seen as, and what always holds of it.
-use Rattle.cap_summary.specs.{◌≡◌, ℕ, ◌^◌, ◌<◌, ◌≤◌, List, ◌++◌, length, true, Option, is_some, IfSome, IfNone, Step}
-use Rattle.cap_summary.specs.{values, Few.NameOrRefuseMany, Kept.IsKept, View.NodeView, declared.known.Known.Known}
-use Rattle.cap_summary.specs.{declared.node.Content.Content, declared.node.Content.TheVariants.Run}
-use Rattle.cap_summary.specs.{declared.node.Content.TheVariants.Both}
+use Rattle.std.specs.Prelude.{◌≡◌, ◌^◌, ◌<◌, ◌≤◌, ◌++◌, ℕ, List, length, true, Option, is_some, IfSome, IfNone}
+use Rattle.cap_summary.specs.{Step, values, Few.NameOrRefuseMany, Kept.IsKept, View.NodeView}
+use Rattle.cap_summary.specs.{declared.known.Known.Known, declared.node.Content.Content}
+use Rattle.cap_summary.specs.{declared.node.Content.TheVariants.Run, declared.node.Content.TheVariants.Both}
 
 -- the steps, from the first
 abbrev pub content_steps : Content → List Step

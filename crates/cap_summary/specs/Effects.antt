@@ -1,9 +1,9 @@
 -- What becomes of each cell over a segment, whatever the cells before it: the transfer function of the segment.
-use Rattle.cap_summary.specs.{◌≡◌, ℕ, Bool, false, Option, Some, None, nat_le, if◌then◌else◌, [], option_map_or, Cell}
-use Rattle.cap_summary.specs.{Unknown, Closed, applied, exec, Keys.Cells, Sorted.found, Values.read}
-use Rattle.cap_summary.specs.{declared.base.Base.Base, declared.base.DefaultCells.DefaultCells}
-use Rattle.cap_summary.specs.{declared.base.Passing.Passing}
-use Rattle.cap_summary.specs.{declared.effect.Effect.Effect, declared.effect.Row.Row, declared.key.Key.Key}
+use Rattle.std.specs.Prelude.{◌≡◌, if◌then◌else◌, ℕ, Bool, false, Option, Some, None, nat_le, []}
+use Rattle.cap_summary.specs.{option_map_or, Cell, Unknown, Closed, applied, exec, Keys.Cells, Sorted.found}
+use Rattle.cap_summary.specs.{Values.read, declared.base.Base.Base, declared.base.DefaultCells.DefaultCells}
+use Rattle.cap_summary.specs.{declared.base.Passing.Passing, declared.effect.Effect.Effect, declared.effect.Row.Row}
+use Rattle.cap_summary.specs.{declared.key.Key.Key}
 
 -- how a whole table of cells is handed on: as it is (fork(2)), or by an exec (execve(2))
 abbrev pub passed : Passing → Cell → Cell

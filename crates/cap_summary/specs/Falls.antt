@@ -1,6 +1,7 @@
 -- Each part is shorter than its node.
 use Rattle.std.specs.Prelude.{max}
-use Rattle.cap_summary.specs.{◌≤◌, length, Content.content_steps, Content.HasParts, declared.node.Content.Content}
+use Rattle.std.specs.Prelude.{◌≤◌, length}
+use Rattle.cap_summary.specs.{Content.content_steps, Content.HasParts, declared.node.Content.Content}
 use Rattle.cap_summary.specs.{declared.node.Content.TheVariants.Run, declared.node.Content.TheVariants.Both}
 use Rattle.cap_summary.specs.{declared.node.Node.TheDeep.deep-Content}
 use Rattle.std.proofs.Common.{arith, length-append}

@@ -1,7 +1,7 @@
 -- Of which steps so much may be known that it isn't kept: of those that name many processes and descriptors, or have many
 -- calls that were refused for lack of a right.
 use Rattle.cap_machine.specs.{declared.rule.Reply.Reply}
-use Rattle.cap_summary.specs.{ℕ, ◌+◌, ◌*◌, ◌<◌, ◌⊎◌, ◌==◌, if◌then◌else◌, Bool, true, false, List, [], ◌∷◌, length}
+use Rattle.std.specs.Prelude.{◌+◌, ◌*◌, ◌<◌, ◌⊎◌, ◌==◌, if◌then◌else◌, ◌∷◌, ℕ, Bool, true, false, List, [], length}
 use Rattle.cap_summary.specs.{list_any, Step, NotCapable, requirement, Names.Names, Names.names_in, Names.AreAmong}
 
 -- a number is one of these

@@ -1,6 +1,7 @@
 -- What is kept of steps.
-use Rattle.cap_summary.specs.{ℕ, ◌+◌, ◌<◌, ◌≤◌, ◌⊎◌, min, List, length, Step, Knows.Knows, Preconditions.IsSettled}
-use Rattle.cap_summary.specs.{Preconditions.size, RowSizes.rows_size, RowSizes.AllRise, declared.known.Known.Known}
+use Rattle.std.specs.Prelude.{◌+◌, ◌<◌, ◌≤◌, ◌⊎◌, ℕ, min, List, length}
+use Rattle.cap_summary.specs.{Step, Knows.Knows, Preconditions.IsSettled, Preconditions.size, RowSizes.rows_size}
+use Rattle.cap_summary.specs.{RowSizes.AllRise, declared.known.Known.Known}
 
 -- the most rows and cells that are kept of so many steps
 abbrev pub limit : ℕ → ℕ

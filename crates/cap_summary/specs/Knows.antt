@@ -1,8 +1,9 @@
 -- What an effect and a precondition say of the steps of a segment, whatever the state before them.
-use Rattle.cap_summary.specs.{◌≡◌, ℕ, ◌*◌, ◌≤◌, Bool, true, List, length, Step, State, ended, check, LeavesCell}
-use Rattle.cap_summary.specs.{LeavesMode, Before.state_of, Effects.changed, Few.refused, Keys.cells_of, Leaving.leaves}
-use Rattle.cap_summary.specs.{LineAsks.has_any, declared.effect.Effect.Effect, declared.key.Key.Key}
-use Rattle.cap_summary.specs.{declared.known.Known.Known, declared.precondition.Precondition.Precondition}
+use Rattle.std.specs.Prelude.{◌≡◌, ◌*◌, ◌≤◌, ℕ, Bool, true, List, length}
+use Rattle.cap_summary.specs.{Step, State, ended, check, LeavesCell, LeavesMode, Before.state_of, Effects.changed}
+use Rattle.cap_summary.specs.{Few.refused, Keys.cells_of, Leaving.leaves, LineAsks.has_any}
+use Rattle.cap_summary.specs.{declared.effect.Effect.Effect, declared.key.Key.Key, declared.known.Known.Known}
+use Rattle.cap_summary.specs.{declared.precondition.Precondition.Precondition}
 use Rattle.cap_summary.specs.Names.{names_in, EffectWithin, PreWithin}
 use Rattle.cap_summary.specs.Preconditions.{is_met, IsPossible, asks_size}
 

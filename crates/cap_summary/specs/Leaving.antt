@@ -1,10 +1,9 @@
 -- Which cells and modes no line of a segment touches, as far as is known: those that have no row, or a row of their own
 -- process that neither lists nor closes them. A cell that came back by a fork is touched.
-use Rattle.cap_summary.specs.{◌≡◌, ℕ, ◌&&◌, not, Bool, true, false, Option, is_none, option_map_or, LineEffect, kept}
-use Rattle.cap_summary.specs.{stays, effect_touch, effect_turn, Effects.is_from, Sorted.found, declared.base.Base.Base}
-use Rattle.cap_summary.specs.{declared.base.DefaultCells.DefaultCells, declared.effect.Effect.Effect}
-use Rattle.cap_summary.specs.{declared.effect.Row.Row}
-use Rattle.cap_summary.specs.{declared.key.Key.Key}
+use Rattle.std.specs.Prelude.{◌≡◌, ◌&&◌, ℕ, not, Bool, true, false, Option, is_none}
+use Rattle.cap_summary.specs.{option_map_or, LineEffect, kept, stays, effect_touch, effect_turn, Effects.is_from}
+use Rattle.cap_summary.specs.{Sorted.found, declared.base.Base.Base, declared.base.DefaultCells.DefaultCells}
+use Rattle.cap_summary.specs.{declared.effect.Effect.Effect, declared.effect.Row.Row, declared.key.Key.Key}
 
 abbrev pub is_own : DefaultCells → Bool
 is_own DefaultCells.Own = true

@@ -1,5 +1,5 @@
 -- What one line asks of the cells before it.
-use Rattle.cap_summary.specs.{◌≡◌, ℕ, ◌||◌, not, Bool, true, false, List, [], ◌∷◌, map, Option, Some, None}
+use Rattle.std.specs.Prelude.{◌≡◌, ◌||◌, ◌∷◌, ℕ, not, Bool, true, false, List, [], map, Option, Some, None}
 use Rattle.cap_summary.specs.{option_map_or, State, Cell, Check, Checks, Requirement, listed, findings_of, Asks.holds}
 use Rattle.cap_summary.specs.{Keys.Cells, Keys.cells_of, declared.ask.Ask.Ask, declared.line_asks.LineAsks.LineAsks}
 use Rattle.cap_summary.specs.{declared.line_asks.UpToThree.UpToThree}

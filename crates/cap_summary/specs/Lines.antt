@@ -1,5 +1,5 @@
 -- What one line does to each cell and to each mode, by key; me is the process of the line.
-use Rattle.cap_summary.specs.{◌≡◌, ℕ, ◌==◌, ◌&&◌, ◌||◌, not, ◌⊎◌, Bool, true, false, List, nat_le, if◌then◌else◌}
+use Rattle.std.specs.Prelude.{◌≡◌, ◌==◌, ◌&&◌, ◌||◌, ◌⊎◌, if◌then◌else◌, ℕ, not, Bool, true, false, List, nat_le}
 use Rattle.cap_summary.specs.{option_map_or, Cell, Unknown, Closed, LineEffect, applied, exec, Turn, stays, turns}
 use Rattle.cap_summary.specs.{follows, started, effect_touch, effect_turn, touched, is_child, Keys.Cells}
 use Rattle.cap_summary.specs.{Keys.mode_cell, Sorted.found, Values.read, declared.effect.Effect.Effect}

@@ -1,15 +1,12 @@
 -- Which processes and which descriptors an effect and a precondition name.
-use Rattle.cap_summary.specs.{◌≡◌, ℕ, ◌==◌, ◌&&◌, ◌||◌, Bool, true, false, List, Option, IfSome, option_map_or}
-use Rattle.cap_summary.specs.{list_any, All, Item, Answer, ResultKind, Fd, Same, FdPair, ChildAndFd, Entry, kind_of}
-use Rattle.cap_summary.specs.{Step}
-use Rattle.cap_summary.specs.{Check, Checks, Requirement, LineEffect, listed, args_name, names_pid, fds_of}
-use Rattle.cap_summary.specs.{Asks.AreWithin}
-use Rattle.cap_summary.specs.{Sorted.found, Values.reads_within, declared.ask.Ask.Ask}
-use Rattle.cap_summary.specs.{declared.base.DefaultCells.DefaultCells}
-use Rattle.cap_summary.specs.{declared.effect.Effect.Effect, declared.effect.Row.Row, declared.key.Key.Key}
-use Rattle.cap_summary.specs.{declared.line_asks.LineAsks.LineAsks, declared.line_asks.UpToThree.UpToThree}
-use Rattle.cap_summary.specs.{declared.precondition.Precondition.Precondition, declared.precondition.Refusal.Refusal}
-use Rattle.cap_summary.specs.{declared.value.Value.Value}
+use Rattle.std.specs.Prelude.{◌≡◌, ◌==◌, ◌&&◌, ◌||◌, ℕ, Bool, true, false, List, Option, IfSome, All}
+use Rattle.cap_summary.specs.{option_map_or, list_any, Item, Answer, ResultKind, Fd, Same, FdPair, ChildAndFd, Entry}
+use Rattle.cap_summary.specs.{kind_of, Step, Check, Checks, Requirement, LineEffect, listed, args_name, names_pid}
+use Rattle.cap_summary.specs.{fds_of, Asks.AreWithin, Sorted.found, Values.reads_within, declared.ask.Ask.Ask}
+use Rattle.cap_summary.specs.{declared.base.DefaultCells.DefaultCells, declared.effect.Effect.Effect}
+use Rattle.cap_summary.specs.{declared.effect.Row.Row, declared.key.Key.Key, declared.line_asks.LineAsks.LineAsks}
+use Rattle.cap_summary.specs.{declared.line_asks.UpToThree.UpToThree, declared.precondition.Precondition.Precondition}
+use Rattle.cap_summary.specs.{declared.precondition.Refusal.Refusal, declared.value.Value.Value}
 use Rattle.cap_summary.specs.declared.line_asks.LineAsks.TheVariants.{Always, Where, Unless}
 
 -- ---- what the lines of a trace name

@@ -1,6 +1,7 @@
 -- The findings at a range of positions.
-use Rattle.cap_summary.specs.{◌≡◌, ℕ, ◌+◌, ◌<◌, ◌≤◌, ◌==◌, ◌&&◌, ◌⊎◌, Bool, List, [], ◌∷◌, length, nat_le}
-use Rattle.cap_summary.specs.{if◌then◌else◌, filter, Found, declared.judging.Report.Report}
+use Rattle.std.specs.Prelude.{◌≡◌, ◌+◌, ◌<◌, ◌≤◌, ◌==◌, ◌&&◌, ◌⊎◌, ◌∷◌, if◌then◌else◌, ℕ, Bool, List, [], length}
+use Rattle.std.specs.Prelude.{nat_le, filter}
+use Rattle.cap_summary.specs.{Found, declared.judging.Report.Report}
 
 -- a finding stands at a position from one to another, both included
 abbrev pub is_at : ℕ → ℕ → Found → Bool

@@ -1,7 +1,8 @@
 -- Under which cells before a segment something is found in it.
-use Rattle.cap_summary.specs.{◌≡◌, ℕ, ◌&&◌, ◌||◌, ◌+◌, ◌≤◌, ◌==◌, not, Bool, true, false, List, [], length, Option}
-use Rattle.cap_summary.specs.{IfSome, is_some, list_any, list_all, All, option_map_or, Cell, State, Effects.changed}
-use Rattle.cap_summary.specs.{Keys.Cells, Keys.cells_of, LineAsks.one_holds, RowSizes.rows_size, Tests.each_kind}
+use Rattle.std.specs.Prelude.{◌≡◌, ◌&&◌, ◌||◌, ◌+◌, ◌≤◌, ◌==◌, ℕ, not, Bool, true, false, List, [], length, Option}
+use Rattle.std.specs.Prelude.{IfSome, is_some, All}
+use Rattle.cap_summary.specs.{list_any, list_all, option_map_or, Cell, State, Effects.changed, Keys.Cells}
+use Rattle.cap_summary.specs.{Keys.cells_of, LineAsks.one_holds, RowSizes.rows_size, Tests.each_kind}
 use Rattle.cap_summary.specs.{declared.ask.Ask.Ask, declared.effect.Effect.Effect, declared.key.Key.Key}
 use Rattle.cap_summary.specs.{declared.known.Known.Known, declared.line_asks.UpToThree.UpToThree}
 use Rattle.cap_summary.specs.{declared.precondition.Precondition.Precondition, declared.precondition.Refusal.Refusal}

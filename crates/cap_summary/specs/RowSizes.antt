@@ -1,5 +1,6 @@
 -- How much rows list.
-use Rattle.cap_summary.specs.{◌≡◌, ℕ, ◌+◌, List, [], ◌∷◌, length, min, All, Sorted.KeysRise, declared.effect.Row.Row}
+use Rattle.std.specs.Prelude.{◌≡◌, ◌+◌, ◌∷◌, ℕ, List, [], length, min, All}
+use Rattle.cap_summary.specs.{Sorted.KeysRise, declared.effect.Row.Row}
 
 -- rows, and the cells that they list
 abbrev pub rows_size : List (ℕ × Row) → ℕ

@@ -1,6 +1,7 @@
 -- A table as the list of its entries, each a key and a value.
-use Rattle.cap_summary.specs.{◌≡◌, ℕ, ◌+◌, ◌<◌, ◌≤◌, ◌==◌, List, [], ◌∷◌, length, slice_index_or, Option, Some, None}
-use Rattle.cap_summary.specs.{if◌then◌else◌, Rc, Global}
+use Rattle.std.specs.Prelude.{◌≡◌, ◌+◌, ◌<◌, ◌≤◌, ◌==◌, ◌∷◌, if◌then◌else◌, ℕ, List, [], length, slice_index_or, Option}
+use Rattle.std.specs.Prelude.{Some, None}
+use Rattle.cap_summary.specs.{Rc, Global}
 
 -- the value of the first entry that has the key
 abbrev pub found : {V : Type 0} → List (ℕ × V) → ℕ → Option V

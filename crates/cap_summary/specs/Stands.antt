@@ -1,6 +1,6 @@
 -- What a summary stands for.
-use Rattle.cap_summary.specs.{◌≡◌, List, length, Option, Step, declared.known.Known.Known}
-use Rattle.cap_summary.specs.{declared.summary.Summary.Summary}
+use Rattle.std.specs.Prelude.{◌≡◌, List, length, Option}
+use Rattle.cap_summary.specs.{Step, declared.known.Known.Known, declared.summary.Summary.Summary}
 use Rattle.std.proofs.Common.{ap}
 
 -- the steps that a summary sums up, from the first

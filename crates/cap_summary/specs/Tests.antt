@@ -1,7 +1,7 @@
 -- Tests of one cell: which kinds of cell pass, and of held cells those that lack rights.
-use Rattle.cap_summary.specs.{ℕ, ◌==◌, ◌&&◌, ◌||◌, not, Bool, false, List, [], ◌∷◌, list_all, bit_at, none, has_all}
-use Rattle.cap_summary.specs.{OnExec, Set, Clear, Unsure, Cell, Unknown, Closed, Held, declared.ask.Ask.Ask}
-use Rattle.cap_summary.specs.{declared.kinds.Kinds.Kinds}
+use Rattle.std.specs.Prelude.{◌==◌, ◌&&◌, ◌||◌, ◌∷◌, ℕ, not, Bool, false, List, []}
+use Rattle.cap_summary.specs.{list_all, bit_at, none, has_all, OnExec, Set, Clear, Unsure, Cell, Unknown, Closed, Held}
+use Rattle.cap_summary.specs.{declared.ask.Ask.Ask, declared.kinds.Kinds.Kinds}
 
 -- the number of the kind of held cells with a flag
 abbrev pub held_kind : OnExec → ℕ

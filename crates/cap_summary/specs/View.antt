@@ -1,6 +1,7 @@
 -- A node of a summary as a contract sees it: its steps, and what is known of them where that is kept.
-use Rattle.cap_summary.specs.{◌≡◌, ◌<◌, List, length, Option, IfSome, Step, Similarity, Composing.IsJoined}
-use Rattle.cap_summary.specs.{Composing.AreAlike, Preconditions.IsSamePrecondition, declared.known.Known.Known}
+use Rattle.std.specs.Prelude.{◌≡◌, ◌<◌, List, length, Option, IfSome}
+use Rattle.cap_summary.specs.{Step, Similarity, Composing.IsJoined, Composing.AreAlike}
+use Rattle.cap_summary.specs.{Preconditions.IsSamePrecondition, declared.known.Known.Known}
 
 pub record NodeView : Type 0 where
   pub steps : List Step

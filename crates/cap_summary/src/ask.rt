@@ -1,7 +1,7 @@
 //! What is asked of the cells before a segment.
 
-ghost use Rattle.cap_summary.specs.{◌≡◌, ℕ, ◌^◌, ◌<◌, ◌||◌, Bool, true, IfSome, option_copied, nat_cmp, State, Cell};
-ghost use Rattle.cap_summary.specs.{applied, Keys.Cells, Keys.cells_of, declared.key.Key.Key};
+ghost use Rattle.std.specs.Prelude.{◌≡◌, ◌^◌, ◌<◌, ◌||◌, ℕ, Bool, true, IfSome, option_copied};
+ghost use Rattle.cap_summary.specs.{nat_cmp, State, Cell, applied, Keys.Cells, Keys.cells_of, declared.key.Key.Key};
 ghost use Rattle.cap_summary.specs.Asks.{holds, is_sure, certain_at, possible_at, pulled_holds, pulled_within};
 ghost use Rattle.cap_summary.specs.Asks.{PulledIsOpen, place, place_in_process, IsAtPlace, CanBe, PulledCan, or_same};
 ghost use Rattle.cap_summary.specs.Effects.{row_cell, cell_in, changed};

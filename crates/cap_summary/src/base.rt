@@ -1,7 +1,8 @@
 //! The cells of a process that aren't listed.
 
-ghost use Rattle.cap_summary.specs.{◌≡◌, ℕ, ◌||◌, true, false, None, IfOk, Cell, Keys.Cells, Leaving.is_own};
-ghost use Rattle.cap_summary.specs.{Names.Names, Names.has_cell, Names.others_within, Values.read, Values.reads_within};
+ghost use Rattle.std.specs.Prelude.{◌≡◌, ◌||◌, ℕ, true, false, None, IfOk};
+ghost use Rattle.cap_summary.specs.{Cell, Keys.Cells, Leaving.is_own, Names.Names, Names.has_cell, Names.others_within};
+ghost use Rattle.cap_summary.specs.{Values.read, Values.reads_within};
 ghost use Rattle.cap_summary.specs.Effects.{passed, is_from, others_cell, base_cell};
 
 use crate::{SharedOp, Value};

@@ -1,6 +1,7 @@
 //! The state after a start and effects, and what holds there.
 
-ghost use Rattle.cap_summary.specs.{◌≡◌, list_any, findings_of, Asks.holds, Asks.any_holds, Before.state_before};
+ghost use Rattle.std.specs.Prelude.{◌≡◌};
+ghost use Rattle.cap_summary.specs.{list_any, findings_of, Asks.holds, Asks.any_holds, Before.state_before};
 ghost use Rattle.cap_summary.specs.{Keys.cells_of, LineAsks.part_holds, LineAsks.one_holds, Preconditions.is_wrongful};
 ghost use Rattle.cap_summary.specs.{Preconditions.is_met};
 

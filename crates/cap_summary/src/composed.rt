@@ -1,7 +1,7 @@
 //! The effect of two segments, one after the other.
 
-ghost use Rattle.cap_summary.specs.{◌≡◌, ℕ, false, true, ◌||◌, is_none, Some, IfSome, IfOk, option_map_or};
-ghost use Rattle.cap_summary.specs.{option_copied, Closed, Keys.Cells, Sorted.found, Values.read, declared.key.Key.Key};
+ghost use Rattle.std.specs.Prelude.{◌≡◌, ◌||◌, ℕ, false, true, is_none, Some, IfSome, IfOk, option_copied};
+ghost use Rattle.cap_summary.specs.{option_map_or, Closed, Keys.Cells, Sorted.found, Values.read, declared.key.Key.Key};
 ghost use Rattle.cap_summary.specs.Composing.{IsHandedSo, IsComposedSo, IsJoinedEffect, IsOldAt, IsReplaced};
 ghost use Rattle.cap_summary.specs.Effects.{passed, is_from, base_cell, changed, IsRowAfter, IsComposed};
 ghost use Rattle.cap_summary.specs.Leaving.{base_leaves, row_leaves, leaves, LeavesBoth};
@@ -210,8 +210,8 @@ impl Combine for Composing<'_> {
 
     type Out = SharedRow;
 
-    ghost use Rattle.cap_summary.specs.{◌≡◌, IfSome, refl, Composing.IsComposedSo, Composing.IsOldAt, Effects.cell_in};
-    ghost use Rattle.cap_summary.specs.{Sorted.found};
+    ghost use Rattle.std.specs.Prelude.{◌≡◌, IfSome, refl};
+    ghost use Rattle.cap_summary.specs.{Composing.IsComposedSo, Composing.IsOldAt, Effects.cell_in, Sorted.found};
     ghost use Rattle.std.proofs.Common.{ap};
 
     ghost gives = { λ s p left right out. left ≡ found s.first.now.rows p

@@ -5,9 +5,10 @@ ghost use Rattle.cap_machine.specs.{declared.provenance.CellProvenance.CellProve
 ghost use Rattle.cap_machine.specs.{declared.provenance.ModeProvenance.ModeProvenance};
 ghost use Rattle.cap_machine.specs.Explain.{mode_matters, mode_or_unsure, explained_by};
 ghost use Rattle.cap_machine.specs.Provenance.{cell_chain, cell_chain_of, mode_chain, mode_chain_of};
-ghost use Rattle.cap_summary.specs.{◌≡◌, ◌+◌, ◌<◌, ◌≤◌, [], length, map, option_map, true, if◌then◌else◌, Some, None};
-ghost use Rattle.cap_summary.specs.{IfOk, OnOk, Check, listed, explained, explanation, start_state, check};
-ghost use Rattle.cap_summary.specs.{Positions.within, Positions.positions, Stands.summed_up};
+ghost use Rattle.std.specs.Prelude.{◌≡◌, ◌+◌, ◌<◌, ◌≤◌, if◌then◌else◌, [], length, map, option_map, true, Some, None};
+ghost use Rattle.std.specs.Prelude.{IfOk, OnOk};
+ghost use Rattle.cap_summary.specs.{Check, listed, explained, explanation, start_state, check, Positions.within};
+ghost use Rattle.cap_summary.specs.{Positions.positions, Stands.summed_up};
 ghost use Rattle.cap_summary.specs.PlaceInNode.{IsPlace, state_at_start, history};
 
 use crate::in_order::note_asked;

@@ -1,7 +1,7 @@
 //! Steps that are judged one after the other by one machine.
 
-ghost use Rattle.cap_summary.specs.{◌≡◌, ◌+◌, ◌^◌, ◌<◌, ◌≤◌, ◌++◌, ◌∷◌, [], length, map, IfOk, OnOk, check, said};
-ghost use Rattle.cap_summary.specs.{found_at, ended, later, start_state, values, Positions.within};
+ghost use Rattle.std.specs.Prelude.{◌≡◌, ◌+◌, ◌^◌, ◌<◌, ◌≤◌, ◌++◌, ◌∷◌, [], length, map, IfOk, OnOk};
+ghost use Rattle.cap_summary.specs.{check, said, found_at, ended, later, start_state, values, Positions.within};
 
 use crate::Report;
 use crate::judging::{Asked, note};

@@ -1,8 +1,7 @@
 //! Which findings are asked for, what a report has, and the findings of a run of steps that begins in a state.
 
-ghost use Rattle.cap_summary.specs.{◌≡◌, ◌&&◌, nat_le, ◌+◌, ◌^◌, ◌<◌, ◌≤◌, ◌++◌, [], length, OnOk, map, check};
-ghost use Rattle.cap_summary.specs.{findings_of};
-ghost use Rattle.cap_summary.specs.{found_at, later, values, Before.state_before, Positions.within};
+ghost use Rattle.std.specs.Prelude.{◌≡◌, ◌&&◌, ◌+◌, ◌^◌, ◌<◌, ◌≤◌, ◌++◌, nat_le, [], length, OnOk, map};
+ghost use Rattle.cap_summary.specs.{check, findings_of, found_at, later, values, Before.state_before, Positions.within};
 
 use crate::{Before, Effect};
 use cap_machine::{Found, Requirement, Step, Verdict, rule_of};

@@ -1,8 +1,9 @@
 //! The effect of one line.
 
-ghost use Rattle.cap_summary.specs.{◌≡◌, ◌==◌, ℕ, true, false, is_none, Some, unwrap_or, if◌then◌else◌, IfOk, OnOk};
-ghost use Rattle.cap_summary.specs.{option_map_or, All, fds_spelled, stays, effect_turn, is_child, Keys.Cells};
-ghost use Rattle.cap_summary.specs.{Sorted.found, Values.read, declared.key.Key.Key};
+ghost use Rattle.std.specs.Prelude.{◌≡◌, ◌==◌, if◌then◌else◌, ℕ, true, false, is_none, Some, unwrap_or, IfOk, OnOk};
+ghost use Rattle.std.specs.Prelude.{All};
+ghost use Rattle.cap_summary.specs.{option_map_or, fds_spelled, stays, effect_turn, is_child, Keys.Cells, Sorted.found};
+ghost use Rattle.cap_summary.specs.{Values.read, declared.key.Key.Key};
 ghost use Rattle.cap_summary.specs.Effects.{own_row, base_cell, changed};
 ghost use Rattle.cap_summary.specs.Leaving.{base_leaves, leaves, LeavesThenLine};
 ghost use Rattle.cap_summary.specs.Lines.{turned_cell, unlisted, leaves_unlisted, IsThenLine, IsPut, LeavesPut};

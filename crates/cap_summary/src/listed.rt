@@ -1,7 +1,7 @@
 //! The cells that a row lists.
 
-ghost use Rattle.cap_summary.specs.{◌≡◌, ℕ, ◌==◌, [], Some, if◌then◌else◌, IfOk, OnOk, option_copied, Sorted.found};
-ghost use Rattle.cap_summary.specs.{Sorted.Rises};
+ghost use Rattle.std.specs.Prelude.{◌≡◌, ◌==◌, if◌then◌else◌, ℕ, [], Some, IfOk, OnOk, option_copied};
+ghost use Rattle.cap_summary.specs.{Sorted.found, Sorted.Rises};
 
 use crate::{Map, Value};
 use cap_tree::NoMemory;
@@ -43,7 +43,8 @@ impl Clone for Listed {
 impl PartialEq for Listed {
     ghost use Rattle.std.specs.{Cmp.Lexicographic.lists_per};
     ghost use Rattle.std.specs.Cmp.{and_per, on_per, partial_equiv_from_equiv, nat_eq_equiv};
-    ghost use Rattle.cap_summary.specs.{◌&&◌, ◌==◌, pointwise, contracts.value.ValuePartialEq.TheImpl.Laws.laws-law};
+    ghost use Rattle.std.specs.Prelude.{◌&&◌, ◌==◌};
+    ghost use Rattle.cap_summary.specs.{pointwise, contracts.value.ValuePartialEq.TheImpl.Laws.laws-law};
     ghost use Rattle.cap_summary.specs.contracts.value.ValuePartialEq.TheImpl as values;
 
     ghost eq = { pointwise (λ x y. x.0 == y.0 && values.eq-value.it x.1 y.1) };

@@ -1,9 +1,10 @@
 //! The nodes of a summary. A contract sees a node as its steps, and what is known of them where that is kept.
 
-ghost use Rattle.cap_summary.specs.{◌≡◌, ◌+◌, ◌*◌, ◌^◌, ◌<◌, ◌≤◌, ◌++◌, ◌∷◌, [], length, IfOk, OnOk, IfSome, IfNone};
-ghost use Rattle.cap_summary.specs.{◌⊎◌, true, is_some, Some, map, option_copied, check, ended, start_state, later};
-ghost use Rattle.cap_summary.specs.{values, part_at, Before.state_before, Few.NameOrRefuseMany, Kept.IsKept};
-ghost use Rattle.cap_summary.specs.{Kept.IsWithin, Kept.IsLarge, Kept.ListsMany, Knows.Knows, Preconditions.IsSettled};
+ghost use Rattle.std.specs.Prelude.{◌≡◌, ◌+◌, ◌*◌, ◌^◌, ◌<◌, ◌≤◌, ◌++◌, ◌∷◌, ◌⊎◌, [], length, IfOk, OnOk, IfSome};
+ghost use Rattle.std.specs.Prelude.{IfNone, true, is_some, Some, map, option_copied};
+ghost use Rattle.cap_summary.specs.{check, ended, start_state, later, values, part_at, Before.state_before};
+ghost use Rattle.cap_summary.specs.{Few.NameOrRefuseMany, Kept.IsKept, Kept.IsWithin, Kept.IsLarge, Kept.ListsMany};
+ghost use Rattle.cap_summary.specs.{Knows.Knows, Preconditions.IsSettled};
 ghost use Rattle.cap_summary.specs.Content.{content_steps, HasParts, AreKept, KeepsParts};
 ghost use Rattle.cap_summary.specs.Positions.{within, AllOrMany, WereJudged};
 ghost use Rattle.cap_summary.specs.View.{NodeView, NodesCompose, NodesAlike};

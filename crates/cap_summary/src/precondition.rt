@@ -1,8 +1,9 @@
 //! Under which states before a segment something is found in it.
 
-ghost use Rattle.cap_summary.specs.{◌≡◌, ◌+◌, ◌≤◌, ◌||◌, not, false, true, [], length, IfOk, IfSome, IfNone, OnOk};
-ghost use Rattle.cap_summary.specs.{list_any, option_copied, option_map_or, State, Effects.changed, Keys.Cells};
-ghost use Rattle.cap_summary.specs.{Keys.cells_of, Sorted.found};
+ghost use Rattle.std.specs.Prelude.{◌≡◌, ◌+◌, ◌≤◌, ◌||◌, not, false, true, [], length, IfOk, IfSome, IfNone, OnOk};
+ghost use Rattle.std.specs.Prelude.{option_copied};
+ghost use Rattle.cap_summary.specs.{list_any, option_map_or, State, Effects.changed, Keys.Cells, Keys.cells_of};
+ghost use Rattle.cap_summary.specs.{Sorted.found};
 ghost use Rattle.cap_summary.specs.Asks.{any_holds, pulled_holds, pulled_within, PulledIsOpen, IsOpen, Rises};
 ghost use Rattle.cap_summary.specs.LineAsks.{part_holds, one_holds, asked_holds, refusals_in};
 ghost use Rattle.cap_summary.specs.Names.{Names, has_cell, part_within, PartsWithin, LineAsksWithin, RefusalsWithin};

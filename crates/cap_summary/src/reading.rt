@@ -1,8 +1,9 @@
 //! What a row and an effect say of a cell, and how much they list.
 
-ghost use Rattle.cap_summary.specs.{◌≡◌, ℕ, true, false, IfOk, option_copied, Effects.own_row, Effects.row_cell};
-ghost use Rattle.cap_summary.specs.{Keys.Cells, Leaving.row_leaves, Leaving.leaves, Names.Names, Names.RowWithin};
-ghost use Rattle.cap_summary.specs.{RowSizes.IsSizeOf, Sorted.found, Sorted.Rises, declared.key.Key.Key};
+ghost use Rattle.std.specs.Prelude.{◌≡◌, ℕ, true, false, IfOk, option_copied};
+ghost use Rattle.cap_summary.specs.{Effects.own_row, Effects.row_cell, Keys.Cells, Leaving.row_leaves, Leaving.leaves};
+ghost use Rattle.cap_summary.specs.{Names.Names, Names.RowWithin, RowSizes.IsSizeOf, Sorted.found, Sorted.Rises};
+ghost use Rattle.cap_summary.specs.{declared.key.Key.Key};
 
 use crate::{Base, DefaultCells, Effect, Key, Listed, Map, Row, SharedRow, Value};
 use cap_trace::Pid;

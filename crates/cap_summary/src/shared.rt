@@ -1,6 +1,6 @@
 //! Ops that values share, and rows that effects share.
 
-ghost use Rattle.cap_summary.specs.{◌≡◌, IfOk};
+ghost use Rattle.std.specs.Prelude.{◌≡◌, IfOk};
 
 use crate::Row;
 use cap_machine::Op;

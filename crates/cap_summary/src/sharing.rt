@@ -1,6 +1,7 @@
 //! Which rows read no other process, and so are shared with a later segment.
 
-ghost use Rattle.cap_summary.specs.{◌≡◌, true, Values.reads_within};
+ghost use Rattle.std.specs.Prelude.{◌≡◌, true};
+ghost use Rattle.cap_summary.specs.{Values.reads_within};
 ghost use Rattle.cap_summary.specs.Names.{only, has_cell, others_within, ListWithin, RowWithin};
 
 use crate::{DefaultCells, Row, Value};

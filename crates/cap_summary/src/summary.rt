@@ -1,8 +1,9 @@
 //! The summary of a segment of a trace.
 
-ghost use Rattle.cap_summary.specs.{◌≡◌, ◌+◌, ◌*◌, ◌^◌, ◌<◌, ◌≤◌, true, is_some, length, IfOk, OnOk, IfSome, IfNone};
-ghost use Rattle.cap_summary.specs.{option_copied, check, start_state, Few.NameOrRefuseMany, Kept.IsKept};
-ghost use Rattle.cap_summary.specs.{Positions.within, Positions.positions};
+ghost use Rattle.std.specs.Prelude.{◌≡◌, ◌+◌, ◌*◌, ◌^◌, ◌<◌, ◌≤◌, true, is_some, length, IfOk, OnOk, IfSome, IfNone};
+ghost use Rattle.std.specs.Prelude.{option_copied};
+ghost use Rattle.cap_summary.specs.{check, start_state, Few.NameOrRefuseMany, Kept.IsKept, Positions.within};
+ghost use Rattle.cap_summary.specs.{Positions.positions};
 ghost use Rattle.cap_summary.specs.Stands.{Stands, summed_up, kept_of};
 ghost use Rattle.cap_summary.specs.View.{NodesCompose, NodesDoAlike, NodesAskAlike};
 

@@ -1,6 +1,7 @@
 //! What a cell is after a segment, by the cells before it.
 
-ghost use Rattle.cap_summary.specs.{◌≡◌, None, Keys.Cells, Values.read, Values.source};
+ghost use Rattle.std.specs.Prelude.{◌≡◌, None};
+ghost use Rattle.cap_summary.specs.{Keys.Cells, Values.read, Values.source};
 
 use crate::{Key, SharedOp};
 use cap_machine::{Cell, OnExec};

@@ -1,7 +1,8 @@
 //! What is seen of a cell after a segment.
 
-ghost use Rattle.cap_summary.specs.{◌≡◌, ℕ, Bool, true, IfSome, IfOk, applied, Effects.base_cell, Effects.row_cell};
-ghost use Rattle.cap_summary.specs.{Effects.changed, Keys.Cells, Sorted.found, declared.key.Key.Key};
+ghost use Rattle.std.specs.Prelude.{◌≡◌, ℕ, Bool, true, IfSome, IfOk};
+ghost use Rattle.cap_summary.specs.{applied, Effects.base_cell, Effects.row_cell, Effects.changed, Keys.Cells};
+ghost use Rattle.cap_summary.specs.{Sorted.found, declared.key.Key.Key};
 ghost use Rattle.cap_summary.specs.Names.{Names, has_cell, others_within, RowWithin, IsRowWithin, ReadWithin};
 ghost use Rattle.cap_summary.specs.Values.{read, reads_within, seen_cell, seen_within};
 

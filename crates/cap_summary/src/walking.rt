@@ -1,7 +1,8 @@
 //! Walks back through the steps of a node.
 
-ghost use Rattle.cap_summary.specs.{◌≡◌, ◌+◌, ◌^◌, ◌<◌, ◌≤◌, ◌∷◌, [], ℕ, List, length, take, slice_index_or, true};
-ghost use Rattle.cap_summary.specs.{OnOk, Step, State, values, Knows.Knows};
+ghost use Rattle.std.specs.Prelude.{◌≡◌, ◌+◌, ◌^◌, ◌<◌, ◌≤◌, ◌∷◌, [], ℕ, List, length, take, slice_index_or, true};
+ghost use Rattle.std.specs.Prelude.{OnOk};
+ghost use Rattle.cap_summary.specs.{Step, State, values, Knows.Knows};
 ghost use Rattle.cap_summary.specs.PlaceInNode.{Origin, Passes, cell_seen, mode_seen};
 
 use crate::node::{Content, Node};

@@ -1,7 +1,7 @@
 //! Maps that are changed in place.
 ghost use Rattle.std.specs.Prelude.{OnErr};
-ghost use Rattle.cap_summary.specs.{◌≡◌, ℕ, ◌==◌, false, unwrap_or, [], Some, None, if◌then◌else◌, OnOk, slice_get};
-ghost use Rattle.cap_summary.specs.{option_map, IfOk, IfErr, option_copied};
+ghost use Rattle.std.specs.Prelude.{◌≡◌, ◌==◌, if◌then◌else◌, ℕ, false, unwrap_or, [], Some, None, OnOk, slice_get};
+ghost use Rattle.std.specs.Prelude.{option_map, IfOk, IfErr, option_copied};
 ghost use Rattle.cap_summary.specs.Sorted.{IsAt, IsGap, found, Rises};
 
 use cap_tree::NoMemory;

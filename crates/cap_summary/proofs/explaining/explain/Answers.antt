@@ -1,4 +1,5 @@
-use Rattle.cap_summary.specs.{◌≡◌, ℕ, ◌-◌, List, Some, length, Step, State, Explained, start_state, Stands.summed_up}
+use Rattle.std.specs.Prelude.{◌≡◌, ◌-◌, ℕ, List, Some, length}
+use Rattle.cap_summary.specs.{Step, State, Explained, start_state, Stands.summed_up}
 use Rattle.cap_summary.proofs.{sym, ap, ◌∙◌, arith}
 use Rattle.cap_summary.proofs.Explained.{explained_zero, explained_past, explained_there}
 use Rattle.cap_summary.proofs.explaining.explain.Goals as goal

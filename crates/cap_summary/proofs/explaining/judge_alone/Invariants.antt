@@ -1,4 +1,5 @@
-use Rattle.cap_summary.specs.{◌≡◌, ◌-◌, ◌≤◌, length, take, check, start_state, Positions.within, Positions.positions}
+use Rattle.std.specs.Prelude.{◌≡◌, ◌-◌, ◌≤◌, length, take}
+use Rattle.cap_summary.specs.{check, start_state, Positions.within, Positions.positions}
 use Rattle.cap_summary.proofs.explaining.judge_alone.Given as goal
 
 abbrev pub invariant-loop-count : goal.invariant-loop-count

@@ -1,5 +1,5 @@
-use Rattle.cap_summary.specs.{◌≡◌, ◌+◌, ◌++◌, ◌∷◌, [], List, length, map, slice_range, Rc, Step, State, Found, ended}
-use Rattle.cap_summary.specs.{said, found_at, start_state, values, Positions.within}
+use Rattle.std.specs.Prelude.{◌≡◌, ◌+◌, ◌++◌, ◌∷◌, [], List, length, map, slice_range}
+use Rattle.cap_summary.specs.{Rc, Step, State, Found, ended, said, found_at, start_state, values, Positions.within}
 use Rattle.cap_summary.proofs.{sym, ◌∙◌, arith, on_ok_weaker, ends_in_turn, Resolving.found_step, Runs.head_tail}
 use Rattle.cap_summary.proofs.in_order.+judge_each.Goals as goal
 

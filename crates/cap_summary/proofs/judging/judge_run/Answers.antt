@@ -1,6 +1,6 @@
-use Rattle.cap_summary.specs.{◌≡◌, ◌+◌, ◌++◌, ℕ, List, length, map, take, Rc, Global, Step, Found, State, check, said}
-use Rattle.cap_summary.specs.{found_at, later, Entry, values, Before.state_before, Before.state_of, Effects.changed}
-use Rattle.cap_summary.specs.{Keys.cells_of, Positions.within}
+use Rattle.std.specs.Prelude.{◌≡◌, ◌+◌, ◌++◌, ℕ, List, length, map, take}
+use Rattle.cap_summary.specs.{Rc, Global, Step, Found, State, check, said, found_at, later, Entry, values}
+use Rattle.cap_summary.specs.{Before.state_before, Before.state_of, Effects.changed, Keys.cells_of, Positions.within}
 use Rattle.cap_summary.proofs.{sym, ap, ◌∙◌, arith, length-map, length-take-le, take_all, Judged.none_judged}
 use Rattle.cap_summary.proofs.{Judged.more_judged, Knowing.one_more, Knowing.after_more, Resolving.found_in_first}
 use Rattle.cap_summary.proofs.{Runs.values-take}

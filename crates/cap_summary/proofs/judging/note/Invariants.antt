@@ -1,4 +1,5 @@
-use Rattle.cap_summary.specs.{◌≡◌, ◌++◌, take, map, found_at}
+use Rattle.std.specs.Prelude.{◌≡◌, ◌++◌, take, map}
+use Rattle.cap_summary.specs.{found_at}
 use Rattle.cap_summary.proofs.judging.note.Given as goal
 
 abbrev pub invariant-loop-finding : goal.invariant-loop-finding

@@ -1,4 +1,5 @@
-use Rattle.cap_summary.specs.{[], ◌∷◌, ◌++◌, Names.names_in}
+use Rattle.std.specs.Prelude.{◌∷◌, ◌++◌, []}
+use Rattle.cap_summary.specs.{Names.names_in}
 use Rattle.cap_summary.proofs.{Knowing.says_more, Naming.line_in, Naming.requirement_in}
 use Rattle.cap_summary.proofs.known.put_step.Goals as goal
 

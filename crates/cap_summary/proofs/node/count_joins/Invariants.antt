@@ -1,4 +1,4 @@
-use Rattle.cap_summary.specs.{◌≡◌, ◌+◌, ◌-◌, ◌≤◌}
+use Rattle.std.specs.Prelude.{◌≡◌, ◌+◌, ◌-◌, ◌≤◌}
 use Rattle.cap_summary.proofs.node.count_joins.Given as goal
 
 abbrev pub invariant-loop-counted : goal.invariant-loop-counted

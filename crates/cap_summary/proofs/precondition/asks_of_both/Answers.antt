@@ -1,5 +1,6 @@
 use Rattle.std.proofs.{lemmas.List.nil_from_length}
-use Rattle.cap_summary.specs.{◌≡◌, [], Asks.any_holds, Asks.IsUnionOf, Keys.cells_of, Preconditions.IsPulledBack}
+use Rattle.std.specs.Prelude.{◌≡◌, []}
+use Rattle.cap_summary.specs.{Asks.any_holds, Asks.IsUnionOf, Keys.cells_of, Preconditions.IsPulledBack}
 use Rattle.cap_summary.proofs.{sym, ◌∙◌, arith, eqb-true, IfSome_then, IfOk-weaker, or-true, Pulling.asked_by_both}
 use Rattle.cap_summary.proofs.{Uniting.united_none, Uniting.united_with}
 use Rattle.cap_summary.proofs.precondition.asks_of_both.Goals as goal

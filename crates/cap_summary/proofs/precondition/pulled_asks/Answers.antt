@@ -1,6 +1,7 @@
 use Rattle.std.proofs.{lemmas.List.Folds.list_any_at}
-use Rattle.cap_summary.specs.{◌≡◌, true, refl, IfSome, Equal, State, Effects.cell_in, Effects.changed, Keys.cells_of}
-use Rattle.cap_summary.specs.{Tests.passes, declared.ask.Ask.Ask}
+use Rattle.std.specs.Prelude.{◌≡◌, true, refl, IfSome}
+use Rattle.cap_summary.specs.{Equal, State, Effects.cell_in, Effects.changed, Keys.cells_of, Tests.passes}
+use Rattle.cap_summary.specs.{declared.ask.Ask.Ask}
 use Rattle.cap_summary.specs.Asks.{holds, pulled_holds, pulled_within, AskWithin}
 use Rattle.cap_summary.specs.Names.{Names, has_cell, IsRowWithin, EffectWithin}
 use Rattle.cap_summary.proofs.{drop_all, append-nil, arith, sym, ap, ◌∙◌, subst, ranked}

@@ -1,5 +1,5 @@
-use Rattle.cap_summary.specs.{◌≡◌, ◌++◌, take, drop, option_copied, Asks.Rises, Preconditions.IsPulledBack}
-use Rattle.cap_summary.specs.{Sorted.found}
+use Rattle.std.specs.Prelude.{◌≡◌, ◌++◌, take, drop, option_copied}
+use Rattle.cap_summary.specs.{Asks.Rises, Preconditions.IsPulledBack, Sorted.found}
 use Rattle.cap_summary.proofs.precondition.pulled_asks.Given as goal
 
 abbrev pub invariant-loop-ask : goal.invariant-loop-ask

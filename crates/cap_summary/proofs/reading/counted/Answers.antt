@@ -1,5 +1,6 @@
-use Rattle.cap_summary.specs.{◌≡◌, ℕ, List, length, min, All, RowSizes.rows_size, RowSizes.CellsRise, Sorted.RisesFrom}
-use Rattle.cap_summary.specs.{declared.effect.Row.Row, declared.value.Value.Value}
+use Rattle.std.specs.Prelude.{◌≡◌, ℕ, List, length, min, All}
+use Rattle.cap_summary.specs.{RowSizes.rows_size, RowSizes.CellsRise, Sorted.RisesFrom, declared.effect.Row.Row}
+use Rattle.cap_summary.specs.{declared.value.Value.Value}
 use Rattle.cap_summary.proofs.{ap, subst, ◌∙◌, arith, take_all, Counting.sizes_more, Counting.rises_more}
 use Rattle.cap_summary.proofs.{SortedFound.keys_rise}
 use Rattle.cap_summary.proofs.reading.counted.Goals as goal

@@ -1,4 +1,5 @@
-use Rattle.cap_summary.specs.{◌≡◌, min, take, All, RowSizes.rows_size, RowSizes.CellsRise}
+use Rattle.std.specs.Prelude.{◌≡◌, min, take, All}
+use Rattle.cap_summary.specs.{RowSizes.rows_size, RowSizes.CellsRise}
 use Rattle.cap_summary.proofs.reading.counted.Given as goal
 
 abbrev pub invariant-loop-entry : goal.invariant-loop-entry

@@ -1,5 +1,5 @@
-use Rattle.cap_summary.specs.{◌≡◌, ◌/◌, ℕ, List, length, true, false, Found, check, State, start_state, is_some}
-use Rattle.cap_summary.specs.{Positions.within, Stands.summed_up, Stands.kept_of}
+use Rattle.std.specs.Prelude.{◌≡◌, ◌/◌, ℕ, List, length, true, false, is_some}
+use Rattle.cap_summary.specs.{Found, check, State, start_state, Positions.within, Stands.summed_up, Stands.kept_of}
 use Rattle.cap_summary.proofs.{ap, arith, sym, ◌∙◌, Resolving.all_or_many, Resolving.judged_all, Resolving.not_many}
 use Rattle.cap_summary.proofs.summary.report_range.Goals as goal
 

@@ -1,4 +1,5 @@
-use Rattle.cap_summary.specs.{length, ◌≤◌, values}
+use Rattle.std.specs.Prelude.{◌≤◌, length}
+use Rattle.cap_summary.specs.{values}
 use Rattle.cap_summary.proofs.{Walks.Sees}
 use Rattle.cap_summary.proofs.walking.walk_run.Given as goal
 

@@ -1,5 +1,5 @@
-use Rattle.cap_summary.specs.{◌≡◌, ℕ, ◌+◌, ◌*◌, ◌^◌, ◌<◌, refl, nat_cmp, Ordering, Less, Equal, Greater}
-use Rattle.cap_summary.specs.{Asks.place_in_process}
+use Rattle.std.specs.Prelude.{◌≡◌, ◌+◌, ◌*◌, ◌^◌, ◌<◌, ℕ, refl}
+use Rattle.cap_summary.specs.{nat_cmp, Ordering, Less, Equal, Greater, Asks.place_in_process}
 use Rattle.cap_summary.proofs.{arith, nat_tests, ranked}
 use Rattle.cap_summary.proofs.ask.Ask.order.Goals as goal
 

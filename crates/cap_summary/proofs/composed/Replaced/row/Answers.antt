@@ -1,5 +1,6 @@
-use Rattle.cap_summary.specs.{◌≡◌, true, false, Option, Some, None, IfSome, option_copied, Composing.IsComposedSo}
-use Rattle.cap_summary.specs.{Composing.IsOldAt, Sorted.found, declared.effect.Effect.Effect, declared.effect.Row.Row}
+use Rattle.std.specs.Prelude.{◌≡◌, true, false, Option, Some, None, IfSome, option_copied}
+use Rattle.cap_summary.specs.{Composing.IsComposedSo, Composing.IsOldAt, Sorted.found, declared.effect.Effect.Effect}
+use Rattle.cap_summary.specs.{declared.effect.Row.Row}
 use Rattle.cap_summary.proofs.{Bor, sym, subst, ◌∙◌, IfSome_then, OwnCells.first_replaced, OwnCells.second_replaced}
 use Rattle.cap_summary.proofs.composed.Replaced.row.Goals as goal
 

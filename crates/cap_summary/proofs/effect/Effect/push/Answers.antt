@@ -1,4 +1,5 @@
-use Rattle.cap_summary.specs.{◌≡◌, ℕ, true, [], ◌∷◌, refl, All, Names.has_cell}
+use Rattle.std.specs.Prelude.{◌≡◌, ◌∷◌, ℕ, true, [], refl, All}
+use Rattle.cap_summary.specs.{Names.has_cell}
 use Rattle.cap_summary.proofs.{on_ok_weaker, All-head, All-tail, LineListed.change_within}
 use Rattle.cap_summary.proofs.effect.Effect.push.Goals as goal
 

@@ -1,5 +1,6 @@
-use Rattle.cap_summary.specs.{◌≡◌, ◌&&◌, ◌||◌, refl, not, is_outside, has_check, all_excused, listed, Finding}
-use Rattle.cap_summary.specs.{Asks.holds, Keys.cells_of, LineAsks.part_holds, LineAsks.checked_cells}
+use Rattle.std.specs.Prelude.{◌≡◌, ◌&&◌, ◌||◌, refl, not}
+use Rattle.cap_summary.specs.{is_outside, has_check, all_excused, listed, Finding, Asks.holds, Keys.cells_of}
+use Rattle.cap_summary.specs.{LineAsks.part_holds, LineAsks.checked_cells}
 use Rattle.cap_summary.proofs.{◌∙◌, LineAsking.may_be_inside, LineAsking.refusal_found}
 use Rattle.cap_summary.proofs.line_asks.LineAsks.of_refusal.Goals as goal
 

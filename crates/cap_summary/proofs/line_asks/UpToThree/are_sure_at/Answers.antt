@@ -1,4 +1,5 @@
-use Rattle.cap_summary.specs.{◌≡◌, Bool, refl, list_all, Cell, Preconditions.one_sure, Tests.has_kind, Tests.each_kind}
+use Rattle.std.specs.Prelude.{◌≡◌, Bool, refl}
+use Rattle.cap_summary.specs.{list_all, Cell, Preconditions.one_sure, Tests.has_kind, Tests.each_kind}
 use Rattle.cap_summary.proofs.{ap, ◌∙◌, fun_ext}
 use Rattle.cap_summary.proofs.line_asks.UpToThree.are_sure_at.Goals as goal
 

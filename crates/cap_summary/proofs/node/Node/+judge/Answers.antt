@@ -1,5 +1,6 @@
-use Rattle.cap_summary.specs.{◌≡◌, ℕ, ◌+◌, ◌≤◌, ◌++◌, List, length, map, Step, State, Found, check, ended, later}
-use Rattle.cap_summary.specs.{start_state, values, Content.content_steps, Positions.within}
+use Rattle.std.specs.Prelude.{◌≡◌, ◌+◌, ◌≤◌, ◌++◌, ℕ, List, length, map}
+use Rattle.cap_summary.specs.{Step, State, Found, check, ended, later, start_state, values, Content.content_steps}
+use Rattle.cap_summary.specs.{Positions.within}
 use Rattle.cap_summary.proofs.{sym, ap, ◌∙◌, arith, length-append, on_ok_weaker, ends_in_turn, Counted.run_judged}
 use Rattle.cap_summary.proofs.{Resolving.found_parts, Resolving.found_beyond, Resolving.same_beyond, Runs.same_steps}
 use Rattle.cap_summary.proofs.node.Node.+judge.Goals as goal

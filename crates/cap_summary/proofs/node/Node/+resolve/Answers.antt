@@ -1,6 +1,6 @@
-use Rattle.cap_summary.specs.{◌≡◌, ◌≤◌, ◌++◌, ℕ, List, length, map, true, Step, State, Found, check, later}
-use Rattle.cap_summary.specs.{Before.state_before, Content.content_steps, Kept.IsKept, LineAsks.has_any}
-use Rattle.cap_summary.specs.{Positions.within}
+use Rattle.std.specs.Prelude.{◌≡◌, ◌≤◌, ◌++◌, ℕ, List, length, map, true}
+use Rattle.cap_summary.specs.{Step, State, Found, check, later, Before.state_before, Content.content_steps, Kept.IsKept}
+use Rattle.cap_summary.specs.{LineAsks.has_any, Positions.within}
 use Rattle.cap_summary.proofs.{sym, ap, ◌∙◌, arith, inl, length-append, on_ok_weaker, Counted.run_judged}
 use Rattle.cap_summary.proofs.{Ends.known_ends, Runs.same_steps}
 use Rattle.cap_summary.proofs.Resolving.{found_before, found_beyond, not_many, stopped, parts_or_many, many_parts}

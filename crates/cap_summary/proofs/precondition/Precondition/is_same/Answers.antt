@@ -1,4 +1,4 @@
-use Rattle.cap_summary.specs.{◌≡◌, true, false}
+use Rattle.std.specs.Prelude.{◌≡◌, true, false}
 use Rattle.cap_summary.proofs.{sym, ◌∙◌, Equal.same_asks, Equal.same_refusals, Equal.beq_true}
 use Rattle.cap_summary.proofs.precondition.Precondition.is_same.Goals as goal
 

@@ -1,4 +1,5 @@
-use Rattle.cap_summary.specs.{◌≡◌, false, refl, Keys.cells_of, Preconditions.is_met, Preconditions.AreAskedByBoth}
+use Rattle.std.specs.Prelude.{◌≡◌, false, refl}
+use Rattle.cap_summary.specs.{Keys.cells_of, Preconditions.is_met, Preconditions.AreAskedByBoth}
 use Rattle.cap_summary.specs.{declared.precondition.Precondition.Precondition}
 use Rattle.cap_summary.proofs.{sym, ◌∙◌, or-true}
 use Rattle.cap_summary.proofs.Pulling.{always_asked, met_by_asks, met_joined, asked_joined}

@@ -1,5 +1,6 @@
-use Rattle.cap_summary.specs.{◌≡◌, ◌||◌, ◌+◌, take, list_any, Effects.changed, Keys.cells_of, Names.PartsWithin}
-use Rattle.cap_summary.specs.{Preconditions.is_met, Preconditions.is_wrongful, declared.precondition.Refusal.Refusal}
+use Rattle.std.specs.Prelude.{◌≡◌, ◌||◌, ◌+◌, take}
+use Rattle.cap_summary.specs.{list_any, Effects.changed, Keys.cells_of, Names.PartsWithin, Preconditions.is_met}
+use Rattle.cap_summary.specs.{Preconditions.is_wrongful, declared.precondition.Refusal.Refusal}
 use Rattle.cap_summary.proofs.{sym, ap, ◌∙◌, arith, list_any_more, or_assoc, Meeting.read_all}
 use Rattle.cap_summary.proofs.precondition.Precondition.refuse_all_after.Goals as goal
 

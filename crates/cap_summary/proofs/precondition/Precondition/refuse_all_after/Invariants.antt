@@ -1,4 +1,5 @@
-use Rattle.cap_summary.specs.{◌≡◌, ◌+◌, ◌≤◌, length, take, list_any, Effects.changed}
+use Rattle.std.specs.Prelude.{◌≡◌, ◌+◌, ◌≤◌, length, take}
+use Rattle.cap_summary.specs.{list_any, Effects.changed}
 use Rattle.cap_summary.specs.Names.{Names, EffectWithin, PreWithin, RefusalsWithin}
 use Rattle.cap_summary.specs.Preconditions.{is_wrongful, IsMetOr, IsPossible}
 use Rattle.cap_summary.proofs.precondition.Precondition.refuse_all_after.Given as goal

@@ -1,4 +1,5 @@
-use Rattle.cap_summary.specs.{◌≡◌, true, false, [], Keys.cells_of, Names.has_cell, Preconditions.any_certain}
+use Rattle.std.specs.Prelude.{◌≡◌, true, false, []}
+use Rattle.cap_summary.specs.{Keys.cells_of, Names.has_cell, Preconditions.any_certain}
 use Rattle.cap_summary.specs.Asks.{AskWithin, CanBe, IsUnionOf, Within, Can}
 use Rattle.cap_summary.proofs.{sym, ◌∙◌, All-nil, Asking.certain_any, Asking.certain_none, Meeting.met_by_ask}
 use Rattle.cap_summary.proofs.precondition.Precondition.settled.Goals as goal

@@ -1,4 +1,5 @@
-use Rattle.cap_summary.specs.{◌+◌, ◌≤◌, length, Sorted.found}
+use Rattle.std.specs.Prelude.{◌+◌, ◌≤◌, length}
+use Rattle.cap_summary.specs.{Sorted.found}
 use Rattle.cap_summary.proofs.{arith}
 use Rattle.cap_summary.proofs.SortedMerging.{IsMergedTo, Rises-from, bound_le, merged_all, raised, left_out, put_last}
 use Rattle.cap_summary.proofs.SortedMerging.{one_fewer}

@@ -1,4 +1,4 @@
-use Rattle.cap_summary.specs.{ℕ, ◌+◌, ◌≤◌, length}
+use Rattle.std.specs.Prelude.{◌+◌, ◌≤◌, ℕ, length}
 use Rattle.cap_summary.proofs.{SortedMerging.IsMergedTo}
 use Rattle.cap_summary.proofs.sorted.merging.put_each.Given as goal
 
