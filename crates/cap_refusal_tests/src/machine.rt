@@ -149,7 +149,8 @@ fn has_cells(start: &Start, pid: u32, mode: Mode, elsewhere: Cell) -> Result<boo
 }
 
 /// Whether a process is added, and nothing else changes.
-fn adds(alloc: Global, start: &mut Start, pid: u32) -> Result<bool, Fail> {
+fn adds(alloc: Global, start: &mut Start, pid: u16) -> Result<bool, Fail> {
+    let pid = Pid::from(pid);
     Ok(
         add_or_again(alloc, start, pid)?
             && has_cells(start, pid, Mode::Outside, Cell::Unknown)?
