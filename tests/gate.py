@@ -4,7 +4,7 @@
 Runs `rt ci`, and beside it, as soon as that has built the program, each script with the program as its argument: so the program
 is proved and built once. `tests/refusals.py` is handed the tests of cap_refusal_tests in its place. What the scripts print comes
 before the last line of `rt ci`, which stays the last; scripts that failed count as failed there. The status is 0 where `rt ci`
-and all scripts passed.
+and all scripts passed. Above it stands what `rt ci` took by the clock, and in seconds of processors.
 
 `rt ci` takes as many steps side by side as it believes that memory holds, by an estimate of twice what they take here. So
 where three processors or more each have the memory that a step takes at most, it is handed their number as RT_JOBS, unless
@@ -18,6 +18,7 @@ import subprocess
 import sys
 import tempfile
 import threading
+import time
 
 import compiler
 
@@ -126,15 +127,22 @@ def counted(line, failed):
     return f"{found[1]} passed, {int(found[2]) + len(failed)} failed\n" if found and failed else line
 
 
+def took(began, used):
+    """What `rt ci` took since then, with all that it started."""
+    minutes, seconds = (time.monotonic() - began) / 60, used.ru_utime + used.ru_stime
+    return f"rt ci took {minutes:.0f} minutes and {seconds:,.0f} processor seconds, with {processors()} processors\n"
+
+
 def main():
     rt = os.environ.get("RT", "rt")
     if not shutil.which(rt):
         sys.exit(f"tests/gate.py needs {rt}, the command of the Rattle kit, which isn't on the path.")
-    compiler.compiler()  # ends here where there is none, and not behind the proofs
+    compiler.compiler()  # ends here where there is none, and not after the proofs
     os.chdir(ROOT)
     for binary in LOOKS:
         if os.path.lexists(binary):
             os.remove(binary)
+    began = time.monotonic()
     ci = subprocess.Popen([rt, "ci"], stdout=subprocess.PIPE, errors="replace", env=side_by_side())
     scripts = Scripts(sys.argv[1:])
     scripts.start()
@@ -142,10 +150,11 @@ def main():
     for line in ci.stdout:
         print(last, end="", flush=True)
         last = line
-    status = ci.wait()
+    _, status, used = os.wait4(ci.pid, 0)
+    spent = took(began, used)
     scripts.no_more.set()
     scripts.join()
-    print(*scripts.said, sep="", end="", flush=True)
+    print(*scripts.said, spent, sep="", end="", flush=True)
     print(counted(last, scripts.failed), end="", flush=True)
     sys.exit(1 if status or scripts.failed else 0)
 
