@@ -9,7 +9,7 @@ where none is named. `execs` and `turns` run in profile 2. What is timed:
     denials     beside a check, which reads in the same way
     explain     of the first line: the trace is read and its lines are kept, as for `limits`, and next to nothing else is done
     limits      of all that the trace makes
-    limits K    before the line behind the first thousandth, so nearly all lines are gone over backward
+    limits K    before the line after the first thousandth, so nearly all lines are gone over backward
 
 All run in turn, several times. What counts are the ratios of the processor seconds, the least of each, to those of the check; where
 a ratio doesn't grow from a tenth of the lines to all of them, the command grows as a check does. Peak memory is that of `limits K`.
@@ -30,10 +30,10 @@ def run(program, name, lines, path):
     made = traces.TRACES[name](lines)
     traces.put(made, path)
     words = [path, *(["--profile", "2"] if name in IN_PROFILE_2 else [])]
-    behind = str(len(made) // 1000 + 1)
+    after = str(len(made) // 1000 + 1)
     commands = {
         "check": ["check", *words], "denials": ["denials", *words], "explain": ["explain", *words, "1"],
-        "limits": ["limits", *words], "limits K": ["limits", *words, behind],
+        "limits": ["limits", *words], "limits K": ["limits", *words, after],
     }
     taken = {command: [] for command in commands}
     for _ in range(ROUNDS):

@@ -3,7 +3,7 @@
 
     bench/fork_instructions.py PROGRAM
 
-The fork alone, and a line behind it, which frees a few parts of what that process had: beside a process with 50 descriptors one
+The fork alone, and a line after it, which frees a few parts of what that process had: beside a process with 50 descriptors one
 with 500,000. Needs valgrind. Instructions don't depend on how busy the machine is.
 """
 
@@ -15,16 +15,16 @@ import sys
 import tempfile
 
 FORK = "cap_machine::table::Table::fork"
-BEHIND = 1_000
+AFTER = 1_000
 
 
-def trace(count, forks, behind):
+def trace(count, forks, after):
     """A process makes so many descriptors and ends; another one forks its pid, or doesn't, and closes nothing so many times."""
     out = ["100 @start()"]
     out += [f"100 socket(0) RET {fd}" for fd in range(count)]
     out += ["100 @exit()", "200 @start(0)"]
     out += ["200 fork() RET 100"] if forks else []
-    out += ["200 close(0) RET -1 errno 9"] * behind
+    out += ["200 close(0) RET -1 errno 9"] * after
     return "\n".join(out) + "\n"
 
 
@@ -52,10 +52,10 @@ def main(words):
     with tempfile.TemporaryDirectory() as folder:
         for count in (50, 500_000):
             fork = counted(program, FORK, trace(count, True, 0), folder)
-            # what the lines behind the fork take more than the same lines without it
-            lines = [counted(program, None, trace(count, forks, behind), folder) for forks in (True, False) for behind in (BEHIND, 0)]
-            line = (lines[0] - lines[1] - lines[2] + lines[3]) // BEHIND
-            print(f"{count:,} descriptors: the fork {fork:,} instructions, each line behind it {line:,} more")
+            # what the lines after the fork take more than the same lines without it
+            lines = [counted(program, None, trace(count, forks, after), folder) for forks in (True, False) for after in (AFTER, 0)]
+            line = (lines[0] - lines[1] - lines[2] + lines[3]) // AFTER
+            print(f"{count:,} descriptors: the fork {fork:,} instructions, each line after it {line:,} more")
 
 
 if __name__ == "__main__":

@@ -7,7 +7,7 @@ A program over crates/cap_summary is written to a temporary folder and built the
 command of the Rattle kit, is needed.
 The traces are those of TRACES in traces.py, `quiet` and `forms` where none is named; all are checked in profile 2.
 Times are in milliseconds, of one run each. What is to be looked at are the ratios to reading and checking the lines:
-of all summaries, of an ordinary edit near the middle, of one behind which the state changes, and of a whole report.
+of all summaries, of an ordinary edit near the middle, of one after which the state changes, and of a whole report.
 The memory is that in use before the summaries are made, of the lines, and the peak, of the lines and all summaries.
 """
 

@@ -420,7 +420,7 @@ def explain(session, typed):
         put(shown(line))
 
 
-@command("limits [K]", "prints the least limits as inserts: before line K, or behind each line that made a descriptor")
+@command("limits [K]", "prints the least limits as inserts: before line K, or after each line that made a descriptor")
 def limits(session, typed):
     asked = positions(typed, 0, 1)
     for position in asked:

@@ -1,8 +1,8 @@
 #!/usr/bin/env python3
 """Holds the program against reference.py in both profiles: on random traces, some of them with a broken line, and for each on
 a random start and a random script, with good and broken lines, on the explanation of a random line, on denials, and on limits,
-before some lines and behind each line that made a descriptor. A script of limits that the program printed is given to its
-`edit` too: each of its lines must be accepted, and the report behind it must have no finding that is new.
+before some lines and after each line that made a descriptor. A script of limits that the program printed is given to its
+`edit` too: each of its lines must be accepted, and the report after it must have no finding that is new.
 
     tests/compare.py PROGRAM [SEED [COUNT]]
     tests/compare.py --met [SEED [COUNT]]

@@ -4,7 +4,8 @@
 - Each function, type, definition and clause in a column "Contract" of docs/PROOFS.md is declared in the crates.
 - Each file in a table of docs/ARCHITECTURE.md is there, and declares the functions beside it.
 - Each file and name that CONTRIBUTING.md has in backticks is in some crate or script.
-- Each path that a page has in backticks is there, and no line of a table has more than 200 characters.
+- Each path that a page has in backticks is there, and each method as `Type::method`. No line of a table has more than 200
+  characters.
 - docs/RIGHTS.md is what tools/rights_page.py makes.
 """
 
@@ -53,9 +54,9 @@ def declared_in(path):
     return {*re.findall(r"\b(?:fn|struct|enum|trait|record|ensures) (\w+)", text), *re.findall(r"\bpub (\w+)", text)}
 
 
-def check_contracts():
-    """That each contract of docs/PROOFS.md is there."""
-    everything, column = set().union(*map(declared_in, SOURCES)), None
+def check_contracts(everything):
+    """That each contract of docs/PROOFS.md is among these."""
+    column = None
     for where, cells in rows_of("docs/PROOFS.md"):
         heads = [cells.index(head) for head in ("Contract", "Clause") if head in cells]
         if heads:
@@ -99,9 +100,12 @@ def check_lists():
                 wrong.append(f"{where}: nothing has {name}")
 
 
-def check_page(page):
-    """That the paths of a page are there, and that no line of its tables is long."""
+def check_page(page, everything):
+    """That the paths of a page are there, its methods among these, and that no line of its tables is long."""
     for where, line in lines_of(page):
+        for method in re.findall(r"`([A-Z]\w+::[a-z]\w*)`", line):
+            if method.split("::")[1] not in everything:
+                wrong.append(f"{where}: nothing declares {method}")
         for path in re.findall(PATH, line):
             if not os.path.exists(path) and not re.search(STANDS_FOR, path):
                 wrong.append(f"{where}: there is no {path}")
@@ -117,11 +121,12 @@ def check_rights():
 
 
 def main():
-    check_contracts()
+    everything = set().union(*map(declared_in, SOURCES))
+    check_contracts(everything)
     check_files()
     check_lists()
     for page in PAGES:
-        check_page(page)
+        check_page(page, everything)
     check_rights()
     print(*wrong, f"{len(PAGES)} pages: {f'{len(wrong)} things are wrong' if wrong else 'all that they name is there'}", sep="\n")
     sys.exit(1 if wrong else 0)

@@ -2,7 +2,7 @@
 """Hostile input and failing devices, with the built program: tests/hostile_input.py PROGRAM
 
 Each prefix of each worked line, and each worked line with one byte replaced, is read or refused as the second reading in
-tests/reference.py says, and what is shown of a line that was read is read as the same line. The output fails behind each of
+tests/reference.py says, and what is shown of a line that was read is read as the same line. The output fails after each of
 its bytes, and the input at each of its reads: what was written is then a prefix of the right answer. Then come files and
 pipes that no trace is made of, a hundred sessions side by side, and limits of memory from far too small to ample. It needs a C
 compiler (tests/compiler.py).
@@ -247,7 +247,7 @@ def limited_output(most):
     return prepare
 
 
-def output_fails_behind_each_byte():
+def output_fails_after_each_byte():
     for words, wanted, status in streams():
         for most in range(len(wanted) + 1):
             with open("out", "wb") as out:
@@ -434,7 +434,7 @@ def a_killed_writer_ends_its_text():
         os.close(ends[1])
         done = subprocess.run([PROGRAM, *words], stdin=ends[0], stdout=subprocess.PIPE, stderr=subprocess.PIPE, timeout=60)
         os.close(ends[0])
-        same(f"{words} of a writer killed behind {text[-9:]!r}", (done.returncode, done.stdout.decode(), done.stderr.decode()), wanted)
+        same(f"{words} of a writer killed after {text[-9:]!r}", (done.returncode, done.stdout.decode(), done.stderr.decode()), wanted)
         same("the killed writer", writer.wait(30), -signal.SIGKILL)
 
 
@@ -548,7 +548,7 @@ def main():
         library = compiler.library("fail_reads", folder)
         os.chdir(folder)
         lines_are_read_or_refused()
-        output_fails_behind_each_byte()
+        output_fails_after_each_byte()
         input_fails_at_each_read(library)
         files_and_pipes()
         endless_input_is_let_go()

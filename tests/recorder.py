@@ -849,7 +849,7 @@ case("an exec says what came through it", """
 102 read(7) RET -1 errno 9
 """, ["--start", "0,1,2"], findings="findings 0\n")
 
-case("behind a call that hides descriptors, nothing is said of an exec before it", """
+case("after a call that hides descriptors, nothing is said of an exec before it", """
   100: execve("/bin/b",0x7fffffffe8b0,0x7fffffffe8c0) EJUSTRETURN
   100: read(3,"a",1) = 1 (0x1)
   100: pipe2(0x7fffffffe8b0,0) = 0 (0x0)

@@ -264,15 +264,15 @@ def read(line):
         ends = [rest.index(")")] if ")" in rest else []
     if not ends or (not known and "(" in rest[: ends[0]]):
         raise Refused(2)
-    between, behind = rest[: ends[0]], rest[ends[0] + 1 :]
+    between, after = rest[: ends[0]], rest[ends[0] + 1 :]
     given = arguments(name, pieces(between)) if known else [between]
     if name.startswith("@"):
-        if behind:
+        if after:
             raise Refused(2)
         return pid, name, given, None
-    if not behind.startswith(" RET "):
+    if not after.startswith(" RET "):
         raise Refused(2)
-    return pid, name, given, answer(name, given, behind[5:])
+    return pid, name, given, answer(name, given, after[5:])
 
 
 def written(line):
@@ -280,8 +280,8 @@ def written(line):
     _, name, given, _ = read(line)
     if name != "cap_rights_limit":
         return line
-    before, behind = line.split(",")[0], line.split(")")[1]
-    return f"{before},{rights_text(given[1])}){behind}"
+    before, after = line.split(",")[0], line.split(")")[1]
+    return f"{before},{rights_text(given[1])}){after}"
 
 
 # ---- the rule of a call: whether capability mode forbids or allows it, and its checks, each a descriptor, what the call

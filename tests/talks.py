@@ -211,7 +211,7 @@ with tempfile.TemporaryDirectory() as folder:
         talk.ends(2)
     os.close(start)
 
-name = "limits come behind the end of the trace"
+name = "limits come after the end of the trace"
 with Talk(program, "limits", "-", "2") as talk:
     talk.say("100 @start(0)\n100 read(0) RET 5\n")
     talk.hear_nothing()

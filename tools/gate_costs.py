@@ -63,7 +63,7 @@ def bodies_of(crate):
 
 def named(steps):
     """The steps, each with the name of its wrong body. A kit that has no number for one tries them in turn: the first is where the
-    crate is proved to begin with, and what comes behind the last is the crate as it is."""
+    crate is proved to begin with, and what comes after the last is the crate as it is."""
     turns, found = collections.Counter(), []
     for (_, began), ((crate, kind, body), seconds) in sorted(steps.items(), key=lambda it: int(it[0][1])):
         if kind == "wrong body":
