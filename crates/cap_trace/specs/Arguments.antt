@@ -1,7 +1,7 @@
 -- A few values as a list.
 use Rattle.std.specs.Prelude.{List, [], ◌∷◌}
-use Rattle.cap_trace.specs.declared.arguments.Arguments.{Arguments}
-use Rattle.cap_trace.specs.declared.arguments.Arguments.TheVariants as arguments
+use Rattle.cap_trace.specs.declared.args.Arguments.{Arguments}
+use Rattle.cap_trace.specs.declared.args.Arguments.TheVariants as arguments
 
 abbrev pub argument_items : {A B : Type 0} → (A → B) → Arguments A → List B
 argument_items f arguments.Zero = []

@@ -10,14 +10,14 @@ use Rattle.cap_trace.specs.declared.line.Call as code_call
 use Rattle.cap_trace.specs.declared.line.Call.TheVariants as view
 use Rattle.cap_trace.specs.declared.line.Item as code_item
 use Rattle.cap_trace.specs.declared.line.Item.TheVariants as view_items
-use Rattle.cap_trace.specs.declared.view.Said as code_said
-use Rattle.cap_trace.specs.declared.view.Said.TheVariants as view_said
+use Rattle.cap_trace.specs.declared.forms.Said as code_said
+use Rattle.cap_trace.specs.declared.forms.Said.TheVariants as view_said
 use Rattle.cap_trace.specs.Entry.{Arg, an_fd, a_dir, some_flags, some_rights, a_path, a_command, a_word}
 use Rattle.cap_trace.specs.Entry.{free_text, dest, set_fd, dup_to}
 use Rattle.cap_trace.specs.declared.args.ArgRef.{ArgRef}
 use Rattle.cap_trace.specs.declared.args.ArgRef.TheVariants as view_args
 use Rattle.cap_trace.specs.declared.fault.FirstFault.{FirstFault}
-use Rattle.cap_trace.specs.declared.arguments.Arguments.{Arguments}
+use Rattle.cap_trace.specs.declared.args.Arguments.{Arguments}
 use Rattle.cap_trace.specs.Arguments.{argument_items}
 use Rattle.cap_trace.specs.Forms.{Said, a_call, a_marker}
 use Rattle.cap_trace.specs.Quotes.{pieces}

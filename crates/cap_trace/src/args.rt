@@ -3,15 +3,27 @@
 ghost use Rattle.std.specs.Prelude.{◌≡◌};
 
 use crate::args::ArgRef::{Command, Dest, Dir, DupTo, Fd, Flags, Free, Path, Rights, SetFd};
-use crate::arguments::Arguments::{self, Five, Four, One, Three, Two, Zero};
+use crate::args::Arguments::{Five, Four, One, Three, Two, Zero};
 use crate::calls::DupCommand;
+use crate::limits;
 use crate::line::{self, Call};
 use cap_rights::RightSet;
+
+/// None to five values.
+#[derive(Drop)]
+pub(crate) enum Arguments<T> {
+    Zero,
+    One(T),
+    Two(T, T),
+    Three(T, T, T),
+    Four(T, T, T, T),
+    Five(T, T, T, T, T),
+}
 
 /// An argument.
 #[derive(Clone, Copy)]
 pub(crate) enum ArgRef<'a> {
-    Fd(line::Fd),
+    Fd(limits::Fd),
     Dir(line::Dir),
     Flags(&'a [u8]),
     Rights(RightSet),

@@ -16,14 +16,13 @@ ghost use Rattle.cap_trace.specs.FastPath.{Before, SpellsAfter, Starts};
 use crate::answers::answer;
 use crate::calls::{AtFlagsCall, BareCall, FdCall, FlagsCall, Form, PathCall, ResultKind};
 use crate::equal::same_by_ends;
-use crate::limits::{LARGEST_FD, LARGEST_PID, LONGEST_LINE};
-use crate::line::{Answer, Call, Dir, Fd, Pid};
+use crate::limits::{Fd, LARGEST_FD, LARGEST_PID, LONGEST_LINE, Pid};
+use crate::line::{Answer, Call, Dir, fcntl_kind};
 use crate::names::{Head, head_of};
 use crate::number::digit_of;
 use crate::quotes::cut;
 use crate::runs::Run;
 use crate::scan_fields::{command_of, dir_of, free_of, rights_of};
-use crate::view::fcntl_kind;
 
 /// What follows this byte, where a text begins with it.
 #[inline(always)]

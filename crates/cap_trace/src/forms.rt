@@ -9,13 +9,19 @@ ghost use Rattle.cap_trace.specs.Forms.{a_call};
 ghost use Rattle.cap_trace.specs.Reading.{Gives, said_at, fds_from};
 ghost use Rattle.cap_trace.specs.Views.{call_view, said_view, fds_in, is_call_form};
 
-use crate::arguments::Arguments::{Five, Four, One, Three, Two, Zero};
+use crate::args::Arguments::{Five, Four, One, Three, Two, Zero};
 use crate::calls::{DupCommand, Form, SendCall};
 use crate::fault::FirstFault;
 use crate::line::{Call, Item};
 use crate::parts::{Parts, argument_parts};
 use crate::scan_fields::{command_of, dir_of, fd_of, flags_of, free_of, path_of, rights_of};
-use crate::view::Said;
+
+/// A call without its answer, or a marker.
+#[derive(Clone, Copy)]
+pub(crate) enum Said<'a> {
+    Call(Call<'a>),
+    Marker(Item<'a>),
+}
 
 /// `sendto(fd,DEST)`
 fn send_to<'a>(call: SendCall, fd: &[u8], word: &[u8]) -> Result<Call<'a>, FirstFault>
@@ -150,7 +156,7 @@ fn call<'a>(form: Form, args: &'a [u8]) -> Result<Call<'a>, FirstFault>
 }
 
 /// What a call or a marker that has a form of its own says, without its answer.
-pub(crate) fn said<'a>(form: Form, args: &'a [u8]) -> Result<Said<'a>, FirstFault>
+pub(crate) fn said_of<'a>(form: Form, args: &'a [u8]) -> Result<Said<'a>, FirstFault>
     ensures { Gives said_view result (said_at (listed form) (pieces args.now)) }
 {
     match form {

@@ -1,6 +1,10 @@
-//! The limits of a line and of its numbers.
+//! The numbers of a line, and the limits of a line and of its numbers.
 
-use crate::line::{Fd, Pid};
+/// The number of a process, from 1 to [`LARGEST_PID`].
+pub type Pid = u32;
+
+/// A descriptor, from 0 to [`LARGEST_FD`].
+pub type Fd = u32;
 
 /// A line has at most this many bytes, without a line feed.
 pub const LONGEST_LINE: usize = 1024;

@@ -1,26 +1,17 @@
 //! What a line says: its process, and a call with its answer, or a marker. A [`Line`] keeps the text that spells it, and
 //! shows what it says as a [`LineRef`], whose texts still lie in that text.
 
-ghost use Rattle.std.specs.Prelude.{◌≡◌, IfOk, Ok};
+ghost use Rattle.std.specs.Prelude.{◌≡◌};
+ghost use Rattle.cap_trace.specs.Entry.{fcntl_kind as kind_of_command};
 
 use crate::calls::{
     AtCall, AtFlagsCall, BareCall, DupCommand, FdCall, FlagsCall, Form, PathCall, PathsCall,
     ResultKind, SendCall,
 };
+use crate::limits::{Fd, Pid};
 use crate::names::Head;
-use crate::parse::read;
-use crate::quotes::cut;
-use crate::scan_fields::pid_of;
-use crate::view::fcntl_kind;
-use cap_rights::{NoMemory, RightSet};
-use std::alloc::Global;
+use cap_rights::RightSet;
 use std::marker::Model;
-
-/// The number of a process, from 1 to [`crate::LARGEST_PID`].
-pub type Pid = u32;
-
-/// A descriptor, from 0 to [`crate::LARGEST_FD`].
-pub type Fd = u32;
 
 /// Where a path begins: at a directory's descriptor, or (`AT_FDCWD`) where the process stands.
 #[derive(Clone, Copy, Debug, PartialEq, Eq)]
@@ -75,6 +66,17 @@ pub enum Call<'a> {
     Bare(BareCall),
     /// Any other name, with any arguments.
     Other(&'a [u8], &'a [u8]),
+}
+
+/// What a command of fcntl answers where it doesn't fail.
+pub(crate) fn fcntl_kind(command: &[u8]) -> ResultKind
+    ensures { result ≡ kind_of_command command.now }
+{
+    if command == b"F_DUPFD".as_slice() || command == b"F_DUPFD_CLOEXEC".as_slice() {
+        ResultKind::Fd
+    } else {
+        ResultKind::Count
+    }
 }
 
 impl<'a> Call<'a> {
@@ -218,20 +220,6 @@ impl<'a> Model for LineRef<'a> {
 impl<'a> LineRef<'a> {
     ghost use Rattle.cap_trace.specs.Entry.{head_of};
     ghost use Rattle.cap_trace.specs.Names.{name_of};
-    ghost use Rattle.cap_trace.specs.Reading.{line_of};
-
-    /// An owned copy of the line, which keeps these bytes that spell it.
-    ///
-    /// # Errors
-    ///
-    /// [`NoMemory`] where memory ran out.
-    pub fn to_line(&self, alloc: Global, bytes: &[u8]) -> Result<Line, NoMemory>
-        requires spelled { line_of bytes.now ≡ Ok self.now }
-        ensures { IfOk result (λ l. l ≡ self.now) }
-    {
-        let text = Vec::from_slice(alloc, bytes)?;
-        Ok(Line { text })
-    }
 
     /// The same line once more. A caller that hands on no more than this keeps its own in registers.
     #[inline(always)]
@@ -275,39 +263,6 @@ impl Model for Line {
     ghost view = { λ l. entry_of l.text.items };
 
     ghost invariant = { λ l. SpellsALine l.text.items };
-}
-
-impl Line {
-    ghost use Rattle.cap_trace.specs.Entry.{head_of};
-    ghost use Rattle.cap_trace.specs.Names.{name_of};
-
-    /// What the line says. It is read from its text, and takes no memory.
-    pub fn view(&self) -> LineRef<'_>
-        ensures { result ≡ self.now }
-    {
-        match read(&self.text) {
-            Ok(line) => line,
-            Err(_) => unreachable!(),
-        }
-    }
-
-    /// The process of the line. Only the front of its text is read.
-    pub fn pid(&self) -> Pid
-        ensures { result ≡ self.now.pid }
-    {
-        let Some((pid, _)) = cut(b' ', &self.text) else {
-            unreachable!()
-        };
-        let Ok(pid) = pid_of(pid) else { unreachable!() };
-        pid
-    }
-
-    /// The name of the line's call; of a marker its word with the `@`.
-    pub fn name(&self) -> &[u8]
-        ensures { result.now ≡ name_of (head_of self.now.item) }
-    {
-        self.view().name()
-    }
 }
 
 // Each line of a trace is kept while it is edited.

@@ -1,4 +1,4 @@
-//! Reading a line.
+//! Reading a line: from bytes, and again from the text that a [`Line`] keeps.
 
 ghost use Rattle.std.specs.Prelude.{◌≡◌, ℕ, List, IfOk, IfSome, Ok, Err};
 ghost use Rattle.cap_trace.specs.Reading.{line_of};
@@ -6,16 +6,18 @@ ghost use Rattle.cap_trace.specs.Rows.{head_view};
 ghost use Rattle.cap_trace.specs.FastPath.{Starts};
 ghost use Rattle.cap_trace.specs.declared.fault.LineFault.TheVariants.{Memory};
 ghost use Rattle.cap_trace.specs.Spelling.{Spells};
-ghost use Rattle.cap_trace.specs.Parsing.{SpellsSome, FaultsAreExact, ReadsOnly, MatchesReading, OneLine};
-ghost use Rattle.cap_trace.specs.Parsing.{ReadingIsSpelling, WrittenIsRead};
-ghost use Rattle.cap_trace.specs.Rewriting.{OnlyRightsAreRewritten};
+ghost use Rattle.cap_trace.specs.Parsing.{SpellsSome, FaultsAreExact, ReadsOnly, MatchesReading};
 
 use crate::calls::Form;
 use crate::fast_path::{Start, call_after, on_fd, start_of};
 use crate::fault::LineFault;
+use crate::limits::Pid;
 use crate::line::{Call, Item, Line, LineRef};
 use crate::names::Head;
+use crate::quotes::cut;
 use crate::scan::line;
+use crate::scan_fields::pid_of;
+use cap_rights::NoMemory;
 use std::alloc::Global;
 
 /// What the rest of a line says, where that is read in one pass.
@@ -114,23 +116,50 @@ pub fn parse_line(alloc: Global, bytes: &[u8]) -> Result<Line, LineFault>
     }
 }
 
-/// Bytes spell at most one line.
-pub fn one_line()
-    ensures { OneLine }
-{}
+impl<'a> LineRef<'a> {
+    /// An owned copy of the line, which keeps these bytes that spell it.
+    ///
+    /// # Errors
+    ///
+    /// [`NoMemory`] where memory ran out.
+    pub fn to_line(&self, alloc: Global, bytes: &[u8]) -> Result<Line, NoMemory>
+        requires spelled { line_of bytes.now ≡ Ok self.now }
+        ensures { IfOk result (λ l. l ≡ self.now) }
+    {
+        let text = Vec::from_slice(alloc, bytes)?;
+        Ok(Line { text })
+    }
+}
 
-/// Reading from the left finds exactly the line that the bytes spell.
-pub fn reading_is_spelling()
-    ensures { ReadingIsSpelling }
-{}
+impl Line {
+    ghost use Rattle.cap_trace.specs.Entry.{head_of};
+    ghost use Rattle.cap_trace.specs.Names.{name_of};
 
-/// Of each line that bytes spell, the canonical text is read as that line again.
-pub fn written_is_read()
-    ensures { WrittenIsRead }
-{}
+    /// What the line says. It is read from its text, and takes no memory.
+    pub fn view(&self) -> LineRef<'_>
+        ensures { result ≡ self.now }
+    {
+        match read(&self.text) {
+            Ok(line) => line,
+            Err(_) => unreachable!(),
+        }
+    }
 
-/// The canonical text of a line is the text that was read, byte for byte; only the rights of a `cap_rights_limit`
-/// may be spelled in another way.
-pub fn only_rights_are_rewritten()
-    ensures { OnlyRightsAreRewritten }
-{}
+    /// The process of the line. Only the front of its text is read.
+    pub fn pid(&self) -> Pid
+        ensures { result ≡ self.now.pid }
+    {
+        let Some((pid, _)) = cut(b' ', &self.text) else {
+            unreachable!()
+        };
+        let Ok(pid) = pid_of(pid) else { unreachable!() };
+        pid
+    }
+
+    /// The name of the line's call; of a marker its word with the `@`.
+    pub fn name(&self) -> &[u8]
+        ensures { result.now ≡ name_of (head_of self.now.item) }
+    {
+        self.view().name()
+    }
+}

@@ -7,13 +7,12 @@ ghost use Rattle.cap_trace.specs.Views.{item_view};
 use crate::answers::answer;
 use crate::calls::Form;
 use crate::fault::FirstFault;
-use crate::forms::{other, said};
-use crate::limits::LONGEST_LINE;
-use crate::line::{Item, Pid};
+use crate::forms::{Said, other, said_of};
+use crate::limits::{LONGEST_LINE, Pid};
+use crate::line::Item;
 use crate::names::{Head, head_of};
 use crate::quotes::{cut, cut_outside_quotes};
 use crate::scan_fields::pid_of;
-use crate::view::Said;
 
 /// What follows the opening bracket, where the name has a form of its own.
 #[tactic(auto, unfolding(crate::specs::Reading::ended))]
@@ -23,7 +22,7 @@ fn listed_item<'a>(form: Form, rest: &'a [u8]) -> Result<Item<'a>, FirstFault>
     let Some((args, tail)) = cut_outside_quotes(b')', rest) else {
         return Err(FirstFault::Shape);
     };
-    match said(form, args) {
+    match said_of(form, args) {
         Ok(Said::Call(call)) => {
             let answer = answer(call.kind(), tail)?;
             Ok(Item::Call { call, answer })

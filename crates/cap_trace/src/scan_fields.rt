@@ -7,8 +7,8 @@ ghost use Rattle.cap_trace.specs.Reading.{free_at};
 
 use crate::fault::FirstFault;
 use crate::fields::{is_valid_arguments, is_valid_command, is_valid_flags, items};
-use crate::limits::{LARGEST_FD, LARGEST_PID};
-use crate::line::{Dir, Fd, Pid};
+use crate::limits::{Fd, LARGEST_FD, LARGEST_PID, Pid};
+use crate::line::Dir;
 use crate::number::number_of;
 use cap_rights::{RightSet, parse_rights};
 

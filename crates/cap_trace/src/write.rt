@@ -12,10 +12,10 @@ ghost use Rattle.cap_trace.specs.Spelling.{Spells, arg_text, answer_text, tail_t
 ghost use Rattle.cap_trace.specs.Views.{call_view, fds_spelled, item_view};
 ghost use Rattle.cap_trace.specs.Writing.{shown_text, with_commas};
 
-use crate::args::ArgRef;
-use crate::arguments::Arguments;
-use crate::line::{Answer, Call, Dir, Fd, Item, Line, LineRef, Pid};
-use crate::view::fds_of;
+use crate::args::{ArgRef, Arguments};
+use crate::limits::{Fd, Pid};
+use crate::line::{Answer, Call, Dir, Item, Line, LineRef};
+use crate::parts::fds_of;
 use cap_rights::{NoMemory, write_rights};
 use itoa::Buffer;
 use std::alloc::AllocError;

@@ -1,7 +1,7 @@
 use Rattle.std.proofs.Common.{[], ◌∷◌, Ok, Err, append_assoc, ◌∙◌}
 use Rattle.cap_trace.specs.Views.{fds_in}
 use Rattle.cap_trace.proofs.Rising.{listed_on, listed_end}
-use Rattle.cap_trace.proofs.view.fds_of.Goals as goal
+use Rattle.cap_trace.proofs.parts.fds_of.Goals as goal
 
 pub loop-next-preserved-in-Continue-1 : goal.loop-next-preserved-in-Continue-1
 loop-next-preserved-in-Continue-1 c =

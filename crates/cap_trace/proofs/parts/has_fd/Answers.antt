@@ -4,7 +4,7 @@ use Rattle.std.proofs.lemmas.Bool.{eq-eqb, ne_eqb}
 use Rattle.std.specs.List.{list_any}
 use Rattle.cap_trace.specs.Views.{fds_in}
 use Rattle.cap_trace.proofs.Rising.{any_on, any_end}
-use Rattle.cap_trace.proofs.view.has_fd.Goals as goal
+use Rattle.cap_trace.proofs.parts.has_fd.Goals as goal
 
 pub returns-then-fd-found : goal.returns-then-fd-found
 returns-then-fd-found c =
