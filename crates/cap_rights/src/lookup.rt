@@ -28,10 +28,11 @@ pub(crate) fn row_of(word: &[u8]) -> Option<usize>
     if length < 8 {
         return None;
     }
-    let slot = usize::from(word[4]) * 27
-        + usize::from(word[length / 2]) * 58
-        + usize::from(word[length - 1]) * 17
-        + usize::from(word[length - 2])
-        + usize::from(word[length - 3]) * 63;
+    let fifth = usize::from(word[4]);
+    let middle = usize::from(word[length / 2]);
+    let last = usize::from(word[length - 1]);
+    let last_but_one = usize::from(word[length - 2]);
+    let last_but_two = usize::from(word[length - 3]);
+    let slot = fifth * 27 + middle * 58 + last * 17 + last_but_one + last_but_two * 63;
     Some(usize::from(ROW_AT[slot % 256]))
 }
