@@ -7,6 +7,7 @@ use Rattle.std.specs.Char.{is_ascii_digit}
 use Rattle.std.specs.Fmt.{decimal}
 use Rattle.std.proofs.lemmas.Fmt.{digits_decimal, decimal_nonempty}
 use Rattle.std.proofs.lemmas.Bool.{eqb-true, and_parts}
+use Rattle.std.proofs.lemmas.List.{append-nil}
 use Rattle.cap_trace.specs.declared.fault.FirstFault.{FirstFault}
 use Rattle.cap_trace.specs.declared.fault.FirstFault.TheVariants as faults
 use Rattle.cap_trace.specs.declared.line.Answer.{Answer}
@@ -138,12 +139,8 @@ fault_again k e lt le =
     answer_is k (codes "-1 errno " ++ decimal e) (Some (decimal e)) (after_prefix_again (codes "-1 errno ") (decimal e))
     ∙ rw (num_again 65535 e le (omega (arith, le)), positive_again faults.Answer e lt) refl
 
-append-none : (t : List ℕ) → t ++ [] ≡ t
-append-none [] = refl
-append-none (c ∷ cs) = ap (λ (s : List ℕ). c ∷ s) (append-none cs)
-
 pub decimal_no_errno : (n : ℕ) → n < 2 ^ 64 → after_prefix (codes "-1 errno ") (decimal n) ≡ None
-decimal_no_errno n lt = ap (after_prefix (codes "-1 errno ")) (sym (append-none (decimal n)))
+decimal_no_errno n lt = ap (after_prefix (codes "-1 errno ")) (sym (append-nil (decimal n)))
     ∙ no_errno (decimal n) [] (decimal_nonempty n lt) (digits_decimal own n lt)
 
 number_result : (k : ResultKind) (n : ℕ) → n < 2 ^ 64 → answer_at k (codes " RET " ++ decimal n) ≡ made_at k (decimal n)
@@ -161,16 +158,21 @@ pair_again : (most other n m : ℕ) → n ≤ most → m ≤ other → n < 2 ^ 6
     → pair_at most other (cut_at_byte 44 (decimal n ++ (44 ∷ decimal m))) ≡ Ok (answers.Pair n m)
 pair_again most other n m le le2 lt lt2 = rw (pair_cut n m lt, num_again most n le lt, num_again other m le2 lt2) refl
 
+-- a number or two
+pub any_number : {t : List ℕ} {n : ℕ} → t ≡ decimal n → n < 2 ^ 64 → any_at t (cut_at_byte 44 t) ≡ Ok (answers.Made n)
+any_number {n = n} is lt = rw (
+  is,
+  cut_none 44 (decimal n) (digits_lack (decimal n) (digits_decimal own n lt)),
+  num_again (2 ^ 64 - 1) n (omega (arith, lt)) lt,
+) refl
+
+pub any_pair : (t : List ℕ) (c : Option (List ℕ × List ℕ)) → None ≡ num_at (2 ^ 64 - 1) t
+    → pair_at (2 ^ 64 - 1) (2 ^ 64 - 1) c ≡ any_at t c
+any_pair t None e = rw (← e) refl
+any_pair t (Some c) e = refl
+
 pub answer_again : (k : ResultKind) (a : Answer) → IsAnswer k a → answer_at k (codes " RET " ++ answer_text a) ≡ Ok a
 unfolding made_at
-answer_again Count (answers.Fault e) h = fault_again Count e h.0 h.1
-answer_again Zero (answers.Fault e) h = fault_again Zero e h.0 h.1
-answer_again Fd (answers.Fault e) h = fault_again Fd e h.0 h.1
-answer_again (Same g) (answers.Fault e) h = fault_again (Same g) e h.0 h.1
-answer_again FdPair (answers.Fault e) h = fault_again FdPair e h.0 h.1
-answer_again Child (answers.Fault e) h = fault_again Child e h.0 h.1
-answer_again ChildAndFd (answers.Fault e) h = fault_again ChildAndFd e h.0 h.1
-answer_again Any (answers.Fault e) h = fault_again Any e h.0 h.1
 answer_again Count (answers.Made n) h = number_result Count n h
     ∙ rw (num_again (2 ^ 64 - 1) n (omega (arith, h)) h) refl
 answer_again Zero (answers.Made n) h = number_result Zero n (omega (arith, h))
@@ -180,20 +182,9 @@ answer_again Fd (answers.Made n) h = number_result Fd n (omega (arith, h))
 answer_again (Same g) (answers.Made n) h =
     let same : eqb n g ≡ true = rw h.0 (eqb_same g) in
     number_result (Same g) n (omega (arith, h.1)) ∙ rw (num_again 1048575 n h.1 (omega (arith, h.1)), same) refl
-answer_again FdPair (answers.Made n) h = absurd h
 answer_again Child (answers.Made n) h = number_result Child n (omega (arith, h))
     ∙ rw (num_again 99999 n h (omega (arith, h))) refl
-answer_again ChildAndFd (answers.Made n) h = absurd h
-answer_again Any (answers.Made n) h =
-    number_result Any n h ∙ rw (
-      cut_none 44 (decimal n) (digits_lack (decimal n) (digits_decimal own n h)),
-      num_again (2 ^ 64 - 1) n (omega (arith, h)) h,
-    ) refl
-answer_again Count (answers.Pair n m) h = absurd h
-answer_again Zero (answers.Pair n m) h = absurd h
-answer_again Fd (answers.Pair n m) h = absurd h
-answer_again (Same g) (answers.Pair n m) h = absurd h
-answer_again Child (answers.Pair n m) h = absurd h
+answer_again Any (answers.Made n) h = number_result Any n h ∙ any_number refl h
 answer_again FdPair (answers.Pair n m) h =
     pair_result FdPair n m (omega (arith, h.0))
     ∙ pair_again 1048575 1048575 n m h.0 h.1 (omega (arith, h.0)) (omega (arith, h.1))
@@ -204,6 +195,8 @@ answer_again Any (answers.Pair n m) h =
     pair_result Any n m h.0 ∙ ap (any_at (decimal n ++ (44 ∷ decimal m))) (pair_cut n m h.0)
     ∙ ap (pair_at (2 ^ 64 - 1) (2 ^ 64 - 1)) (sym (pair_cut n m h.0))
     ∙ pair_again (2 ^ 64 - 1) (2 ^ 64 - 1) n m (omega (arith, h.0)) (omega (arith, h.1)) h.0 h.1
+answer_again k (answers.Fault e) h = fault_again k e h.0 h.1
+answer_again k a h = absurd h
 
 -- an answer that is this number
 pub made_again : (k j : ResultKind) (tail : List ℕ) (n : ℕ) → k ≡ j → tail ≡ codes " RET " ++ decimal n

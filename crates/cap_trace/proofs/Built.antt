@@ -1,7 +1,6 @@
 -- What a name says of its arguments has that name and these arguments, and is said of them again.
 use Rattle.std.proofs.Common.{◌≡◌, ℕ, Bool, true, false, cond, eqb, List, [], ◌∷◌, length, Result, Ok, Err, refl, sym}
 use Rattle.std.proofs.Common.{ap, subst, ◌∙◌, arith}
-use Rattle.std.specs.Prelude.{codes}
 use Rattle.cap_trace.specs.declared.fault.FirstFault.{FirstFault}
 use Rattle.cap_trace.specs.declared.fault.FirstFault.TheVariants as faults
 use Rattle.cap_trace.specs.Item as items
@@ -10,9 +9,9 @@ use Rattle.cap_trace.specs.Call as calls
 use Rattle.cap_trace.specs.declared.calls.DupCommand.TheVariants as dup_commands
 use Rattle.cap_trace.specs.declared.calls.Form.TheVariants as forms
 use Rattle.cap_trace.specs.Names.{Head, listed, unlisted}
-use Rattle.cap_trace.specs.Entry.{Arg, an_fd, some_flags, a_command, a_word}
-use Rattle.cap_trace.specs.Entry.{dest, set_fd, dup_to, fds, args_of_call, args_of, head_of_call, head_of, RisesFrom}
-use Rattle.cap_trace.specs.Spelling.{SpellsArgs}
+use Rattle.cap_trace.specs.Entry.{Arg, an_fd, some_flags, a_command, a_word, Word, dest, set_fd, dup_to, fds}
+use Rattle.cap_trace.specs.Entry.{args_of_call, args_of, head_of_call, head_of, RisesFrom}
+use Rattle.cap_trace.specs.Spelling.{SpellsArgs, word_text}
 use Rattle.cap_trace.specs.Forms.{Slot, Shape, these, rising_fds, Said, a_call, a_marker, built, shape_of}
 use Rattle.cap_trace.specs.Reading.{◌>>=◌, args_at, fds_from, shaped, said_at}
 use Rattle.cap_trace.proofs.Cuts.{eqb_same}
@@ -141,6 +140,21 @@ these_again h ts given s ss same e h2 =
     rw (as_many ts given h2) (eqb_same (length (slots_of given))) in
     ap (λ (x : List Slot). shaped h (these x) ts) same ∙ rw (many, args_again ts given h2) e
 
+-- a command that asks for a third argument
+command_again : (w : Word) (x : ℕ) (b : Arg) (s : Said)
+    → built (listed forms.Fcntl) (an_fd x ∷ a_word w ∷ b ∷ []) ≡ Ok s
+    → ((t v : List ℕ) → said_at (listed forms.Fcntl) (t ∷ word_text w ∷ v ∷ [])
+    ≡ shaped (listed forms.Fcntl) (these (slots_of (an_fd x ∷ a_word w ∷ b ∷ []))) (t ∷ word_text w ∷ v ∷ []))
+    → (ts : List (List ℕ)) → SpellsArgs ts (an_fd x ∷ a_word w ∷ b ∷ []) → said_at (listed forms.Fcntl) ts ≡ Ok s
+command_again w x b s e same [] h = absurd h
+command_again w x b s e same (t ∷ []) h = absurd h.1
+command_again w x b s e same (t ∷ u ∷ []) h = absurd h.1.1
+command_again w x b s e same (t ∷ u ∷ v ∷ []) h =
+    ap (λ (y : List ℕ). said_at (listed forms.Fcntl) (t ∷ y ∷ v ∷ [])) h.1.0 ∙ same t v
+    ∙ these_again (listed forms.Fcntl) (t ∷ word_text w ∷ v ∷ []) (an_fd x ∷ a_word w ∷ b ∷ []) s _ refl e
+    (h.0, (refl, h.1.1))
+command_again w x b s e same (t ∷ u ∷ v ∷ z ∷ ts) h = absurd h.1.1.1
+
 pub call_again : (c : Call) (ts : List (List ℕ)) → SpellsArgs ts (args_of_call c)
     → said_at (head_of_call c) ts ≡ Ok (a_call c)
 unfolding said_at slot_of
@@ -157,28 +171,11 @@ call_again (calls.Fcntl x y) (t ∷ []) h = absurd h.1
 call_again (calls.Fcntl x y) (t ∷ u ∷ []) h =
     these_again (listed forms.Fcntl) (t ∷ u ∷ []) (an_fd x ∷ a_command y ∷ []) (a_call (calls.Fcntl x y)) _ refl refl h
 call_again (calls.Fcntl x y) (t ∷ u ∷ v ∷ ts) h = absurd h.1.1
-call_again (calls.FcntlSetFd x y) [] h = absurd h
-call_again (calls.FcntlSetFd x y) (t ∷ []) h = absurd h.1
-call_again (calls.FcntlSetFd x y) (t ∷ u ∷ []) h = absurd h.1.1
-call_again (calls.FcntlSetFd x y) (t ∷ u ∷ v ∷ ts) h =
-    ap (λ (w : List ℕ). said_at (listed forms.Fcntl) (t ∷ w ∷ v ∷ ts)) h.1.0
-    ∙ these_again (listed forms.Fcntl) (t ∷ codes "F_SETFD" ∷ v ∷ ts) (an_fd x ∷ a_word set_fd ∷ some_flags y ∷ [])
-    (a_call (calls.FcntlSetFd x y)) _ refl refl (h.0, (refl, h.1.1))
-call_again (calls.FcntlDup dup_commands.FDup2fd x y) [] h = absurd h
-call_again (calls.FcntlDup dup_commands.FDup2fd x y) (t ∷ []) h = absurd h.1
-call_again (calls.FcntlDup dup_commands.FDup2fd x y) (t ∷ u ∷ []) h = absurd h.1.1
-call_again (calls.FcntlDup dup_commands.FDup2fd x y) (t ∷ u ∷ v ∷ ts) h =
-    ap (λ (w : List ℕ). said_at (listed forms.Fcntl) (t ∷ w ∷ v ∷ ts)) h.1.0
-    ∙ these_again (listed forms.Fcntl) (t ∷ codes "F_DUP2FD" ∷ v ∷ ts) (an_fd x ∷ a_word (dup_to dup_commands.FDup2fd)
-    ∷ an_fd y ∷ []) (a_call (calls.FcntlDup dup_commands.FDup2fd x y)) _ refl refl (h.0, (refl, h.1.1))
-call_again (calls.FcntlDup dup_commands.FDup2fdCloexec x y) [] h = absurd h
-call_again (calls.FcntlDup dup_commands.FDup2fdCloexec x y) (t ∷ []) h = absurd h.1
-call_again (calls.FcntlDup dup_commands.FDup2fdCloexec x y) (t ∷ u ∷ []) h = absurd h.1.1
-call_again (calls.FcntlDup dup_commands.FDup2fdCloexec x y) (t ∷ u ∷ v ∷ ts) h =
-    ap (λ (w : List ℕ). said_at (listed forms.Fcntl) (t ∷ w ∷ v ∷ ts)) h.1.0
-    ∙ these_again (listed forms.Fcntl) (t ∷ codes "F_DUP2FD_CLOEXEC" ∷ v ∷ ts)
-    (an_fd x ∷ a_word (dup_to dup_commands.FDup2fdCloexec) ∷ an_fd y ∷ [])
-    (a_call (calls.FcntlDup dup_commands.FDup2fdCloexec x y)) _ refl refl (h.0, (refl, h.1.1))
+call_again (calls.FcntlSetFd x y) ts h = command_again set_fd x (some_flags y) _ refl (λ t v. refl) ts h
+call_again (calls.FcntlDup dup_commands.FDup2fd x y) ts h =
+    command_again (dup_to dup_commands.FDup2fd) x (an_fd y) _ refl (λ t v. refl) ts h
+call_again (calls.FcntlDup dup_commands.FDup2fdCloexec x y) ts h =
+    command_again (dup_to dup_commands.FDup2fdCloexec) x (an_fd y) _ refl (λ t v. refl) ts h
 call_again c ts h = these_again (head_of_call c) ts (args_of_call c) (a_call c) _ refl refl h
 
 pub start_again : (fs : List ℕ) (ts : List (List ℕ)) → SpellsArgs ts (fds fs) → RisesFrom 0 fs

@@ -1,14 +1,13 @@
 -- What runs of bytes say of a path and of flags.
-use Rattle.std.proofs.Common.{◌≡◌, ℕ, zero, suc, ◌+◌, ◌-◌, ◌<◌, ◌≤◌, ◌++◌, ◌∷◌, Bool, true, false, not, eqb, List}
-use Rattle.std.proofs.Common.{length, get_or, take, drop, Some, refl, sym, ap, ◌∙◌, arith, tests, ⊎_elim}
-use Rattle.std.proofs.lemmas.Bool.{cases_lt, and_from, or_right}
-use Rattle.std.proofs.lemmas.List.{length-take-le, get_or-take, length-drop, take_all, drop_more, take-append-drop}
+use Rattle.std.proofs.Common.{◌≡◌, ℕ, zero, suc, ◌+◌, ◌-◌, ◌<◌, ◌≤◌, Bool, true, false, not, eqb, List}
+use Rattle.std.proofs.Common.{length, get_or, take, drop, Some, refl, sym, ◌∙◌, arith, tests}
+use Rattle.std.proofs.lemmas.Bool.{and_from, or_right}
+use Rattle.std.proofs.lemmas.List.{length-take-le, get_or-take}
 use Rattle.std.proofs.lemmas.List.Folds.{list_all_more}
 use Rattle.std.specs.List.{list_all, slice_split}
 use Rattle.std.specs.Char.{is_ascii_uppercase}
 use Rattle.std.specs.Str.{bytes_eq}
 use Rattle.std.specs.Prelude.{codes}
-use Rattle.cap_trace.specs.declared.runs.Run.{Run}
 use Rattle.cap_trace.specs.declared.runs.Run.TheVariants.{Name, Path}
 use Rattle.cap_trace.specs.Entry.{some_flags}
 use Rattle.cap_trace.specs.Fields.{is_flag_byte, is_flags, is_plain, is_word}
@@ -17,10 +16,8 @@ use Rattle.cap_trace.specs.FastPath.{Before}
 use Rattle.cap_trace.specs.Runs.{Runs}
 use Rattle.cap_trace.specs.Steps.{takes_all}
 use Rattle.cap_trace.proofs.Bars.{are_words}
+use Rattle.cap_trace.proofs.Cuts.{parted}
 use Rattle.cap_trace.proofs.Steps.{takes_more, takes_end}
-
-pub runs_on : (r : Run) (t : List ℕ) (i j k : ℕ) → Runs r t i j → Runs r t j k → Runs r t i k
-runs_on r t i j k m n = λ at low high. ⊎_elim (λ early. m at low early) (λ late. n at late high) (cases_lt at j)
 
 -- ---- a path
 
@@ -94,15 +91,6 @@ names_whole t from end lt inside begins upper run =
     let all = takes_end flag_step not false (take end t) end _ (omega (arith, size)) read in
     or_right (bytes_eq (take end t) (codes "0")) (list_all is_word (slice_split (λ c. eqb c 124) (take end t)))
     (sym (all ∙ are_words (take end t)))
-
--- the text round a place
-parted : (t : List ℕ) (i stop : ℕ) → i < length t → get_or t i 0 ≡ stop
-    → t ≡ take i t ++ (stop ∷ take (length t - (i + 1)) (drop (i + 1) t))
-parted t i stop lt at =
-    let whole = take_all (length t - (i + 1)) (drop (i + 1) t) (omega (arith, length-drop (i + 1) t)) in
-    let rest : drop i t ≡ stop ∷ drop (i + 1) t = drop_more t i 0 lt ∙ ap (λ (c : ℕ). c ∷ drop (i + 1) t) at in
-    sym (take-append-drop i t) ∙ ap (λ (s : List ℕ). take i t ++ s) rest
-    ∙ ap (λ (s : List ℕ). take i t ++ (stop ∷ s)) (sym whole)
 
 pub flags_end : (stop : ℕ) (t : List ℕ) (from end : ℕ) → from < end → end < length t → NameBegins t from
     → is_ascii_uppercase (get_or t from 0) ≡ true → Runs Name t (from + 1) end → get_or t end 0 ≡ stop

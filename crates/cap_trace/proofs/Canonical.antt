@@ -17,22 +17,18 @@ use Rattle.cap_trace.specs.declared.line.Answer.{Answer}
 use Rattle.cap_trace.specs.declared.line.Answer.TheVariants as answers
 use Rattle.cap_trace.specs.declared.line.Dir.TheVariants as dirs
 use Rattle.cap_trace.specs.declared.calls.ResultKind.TheVariants.{Zero}
-use Rattle.cap_trace.specs.Entry.{Entry, Arg, an_fd, a_dir, some_flags, some_rights, a_path, a_command, a_word}
-use Rattle.cap_trace.specs.Entry.{free_text, args_of, fds, IsAnswer, IsWhole}
+use Rattle.cap_trace.specs.Entry.{Entry, Arg, an_fd, a_dir, some_rights, a_word}
+use Rattle.cap_trace.specs.Entry.{args_of, fds, IsAnswer, IsWhole}
 use Rattle.cap_trace.specs.Spelling.{SpellsArg, SpellsArgs, SpellsBy, Spells, arg_text, answer_text, joined, canon}
 use Rattle.cap_trace.specs.Spelling.{IsProper}
 
 -- what is written for an argument spells it
 arg_written : (t : List ℕ) (a : Arg) → SpellsArg t a → SpellsArg (arg_text a) a
-arg_written t (an_fd f) h = (refl, h.1)
 arg_written t (a_dir (dirs.Fd f)) h = (refl, h.1)
 arg_written t (a_dir dirs.Cwd) h = refl
-arg_written t (some_flags w) h = (refl, h.1)
 arg_written t (some_rights r) h = named_is_read t r h
-arg_written t (a_path p) h = (refl, h.1)
-arg_written t (a_command w) h = (refl, h.1)
 arg_written t (a_word w) h = refl
-arg_written t (free_text a) h = (refl, h.1)
+arg_written t a h = (refl, h.1)
 
 args_written : (ts : List (List ℕ)) (given : List Arg) → SpellsArgs ts given → SpellsArgs (map arg_text given) given
 args_written [] [] h = tt
@@ -47,15 +43,11 @@ is_settled a = true
 
 arg_same : (t : List ℕ) (a : Arg) → is_settled a ≡ true → SpellsArg t a → t ≡ arg_text a
 unfolding is_settled
-arg_same t (an_fd f) s h = h.0
 arg_same t (a_dir (dirs.Fd f)) s h = h.0
 arg_same t (a_dir dirs.Cwd) s h = h
-arg_same t (some_flags w) s h = h.0
 arg_same t (some_rights r) s h = absurd cc
-arg_same t (a_path p) s h = h.0
-arg_same t (a_command w) s h = h.0
 arg_same t (a_word w) s h = h
-arg_same t (free_text a) s h = h.0
+arg_same t a s h = h.0
 
 abbrev pub are_settled : List Arg → Bool
 are_settled [] = true
@@ -142,8 +134,7 @@ short_item : (bytes : List ℕ) (p : ℕ) (i : Item) (texts : List (List ℕ))
 unfolding is_settled
 short_item bytes p (items.Call c a) texts h = short_call bytes p c a texts h
 short_item bytes p (items.Start fs) texts h = settled_short bytes _ texts (fds_settled fs) h
-short_item bytes p items.Exit texts h = settled_short bytes _ texts refl h
-short_item bytes p (items.Foreign f) texts h = settled_short bytes _ texts refl h
+short_item bytes p i texts h = settled_short bytes _ texts refl h
 
 pub canon_spells : (e : Entry) → IsProper e → Spells (canon e) e
 canon_spells e h =

@@ -5,7 +5,9 @@ use Rattle.std.proofs.Common.{inr}
 use Rattle.std.specs.Prelude.{nat_eq}
 use Rattle.std.specs.List.{position_or_len, list_all, starts_with, ends_with, onto_first, join_with_byte}
 use borrow.Author.Tests.{ltb-true}
-use Rattle.std.proofs.lemmas.List.{take_at, drop_at, length-append}
+use Rattle.std.proofs.lemmas.List.{take_at, drop_at, length-append, length-drop, take_all, drop_more, take-append-drop}
+use Rattle.std.proofs.Common.{get_or, sym}
+use Rattle.std.proofs.lemmas.List.Sums.{passes_at_first}
 use Rattle.std.proofs.lemmas.Bool.{eqb-true, lt-ltb, le-ltb, not-true, and_parts}
 use Rattle.std.proofs.lemmas.Bool.Decides.{Decides-eqb}
 use Rattle.std.proofs.lemmas.Slice.Eq.{starts_is, ends_is}
@@ -22,6 +24,19 @@ use Rattle.cap_trace.proofs.Bars.{onto_some}
 
 pub eqb_same : (n : ℕ) → eqb n n ≡ true
 eqb_same n = (Decides-eqb n n).1 refl
+
+-- ---- round a place
+
+-- the text round a place
+split_at : (t : List ℕ) (i stop : ℕ) → i < length t → get_or t i 0 ≡ stop → t ≡ take i t ++ (stop ∷ drop (i + 1) t)
+split_at t i stop lt at = sym (take-append-drop i t)
+    ∙ ap (λ (s : List ℕ). take i t ++ s) (drop_more t i 0 lt ∙ ap (λ (c : ℕ). c ∷ drop (i + 1) t) at)
+
+pub parted : (t : List ℕ) (i stop : ℕ) → i < length t → get_or t i 0 ≡ stop
+    → t ≡ take i t ++ (stop ∷ take (length t - (i + 1)) (drop (i + 1) t))
+parted t i stop lt at =
+    let whole = take_all (length t - (i + 1)) (drop (i + 1) t) (omega (arith, length-drop (i + 1) t)) in
+    split_at t i stop lt at ∙ ap (λ (s : List ℕ). take i t ++ (stop ∷ s)) (sym whole)
 
 -- ---- a prefix
 
@@ -44,20 +59,9 @@ is c x = eqb x c
 abbrev pub lacks : ℕ → List ℕ → Bool
 lacks c t = list_all (λ x. not (is c x)) t
 
-found_step : (c x : ℕ) (xs : List ℕ) (b : Bool) → (b ≡ true → x ≡ c) → (position_or_len (is c) xs < length xs
-    → xs ≡ take (position_or_len (is c) xs) xs ++ (c ∷ drop (suc (position_or_len (is c) xs)) xs))
-    → cond (not b) (1 + position_or_len (is c) xs) 0 < length (x ∷ xs)
-    → x ∷ xs ≡ take (cond (not b) (1 + position_or_len (is c) xs) 0) (x ∷ xs)
-    ++ (c ∷ drop (suc (cond (not b) (1 + position_or_len (is c) xs) 0)) (x ∷ xs))
-found_step c x xs true same rest lt = ap (λ (y : ℕ). y ∷ xs) (same refl)
-found_step c x xs false same rest lt =
-    let one : 1 + position_or_len (is c) xs ≡ suc (position_or_len (is c) xs) = omega arith in
-    rw one (ap (λ (s : List ℕ). x ∷ s) (rest (omega arith)))
-
 found_byte : (c : ℕ) (t : List ℕ) → position_or_len (is c) t < length t
-    → t ≡ take (position_or_len (is c) t) t ++ (c ∷ drop (suc (position_or_len (is c) t)) t)
-found_byte c [] lt = absurd (omega arith)
-found_byte c (x ∷ xs) lt = found_step c x xs (eqb x c) (λ e. eqb-true x c e) (λ h. found_byte c xs h) lt
+    → t ≡ take (position_or_len (is c) t) t ++ (c ∷ drop (position_or_len (is c) t + 1) t)
+found_byte c t lt = split_at t (position_or_len (is c) t) c lt (eqb-true _ c (passes_at_first (is c) t 0 lt))
 
 first_byte : (c : ℕ) (a b : List ℕ) → lacks c a ≡ true → position_or_len (is c) (a ++ c ∷ b) ≡ length a
 first_byte c [] b h = rw (eqb_same c) refl
@@ -71,7 +75,7 @@ around_some t false k x e = absurd cc
 pub cut_takes : (c : ℕ) (t : List ℕ) (x : List ℕ × List ℕ) → cut_at_byte c t ≡ Some x → t ≡ x.0 ++ (c ∷ x.1)
 cut_takes c t x e =
     let k = around_some t (ltb (position_or_len (is c) t) (length t)) (position_or_len (is c) t) x e in
-    subst (λ (y : List ℕ × List ℕ). t ≡ y.0 ++ (c ∷ y.1)) k.1 (rw add-one (found_byte c t (ltb-true _ _ k.0)))
+    subst (λ (y : List ℕ × List ℕ). t ≡ y.0 ++ (c ∷ y.1)) k.1 (found_byte c t (ltb-true _ _ k.0))
 
 drop_after : (s : List ℕ) (c : ℕ) (b : List ℕ) → drop (suc (length s)) (s ++ (c ∷ b)) ≡ b
 drop_after [] c b = refl
@@ -87,9 +91,7 @@ cut_again c a b h =
 
 -- no such byte stands outside quotes, and the quotes are closed at the end
 abbrev pub closes : Quoting → ℕ → List ℕ → Bool
-closes Outside stop [] = true
-closes Inside stop [] = false
-closes Skipping stop [] = false
+closes q stop [] = elim q as (λ _. Bool) [ Outside ↦ true | Inside ↦ false | Skipping ↦ false ]
 closes q stop (c ∷ cs) = not (stops q stop c) && closes (after q c) stop cs
 
 pub closes-append : (q : Quoting) (stop : ℕ) (a b : List ℕ) → closes q stop a ≡ true → closes Outside stop b ≡ true
@@ -97,12 +99,8 @@ pub closes-append : (q : Quoting) (stop : ℕ) (a b : List ℕ) → closes q sto
 closes-append Outside stop [] b h g = g
 closes-append Inside stop [] b h g = absurd cc
 closes-append Skipping stop [] b h g = absurd cc
-closes-append Outside stop (c ∷ cs) b h g = let p = and_parts (not (stops Outside stop c))
-    (closes (after Outside c) stop cs) h in rw (p.0, closes-append (after Outside c) stop cs b p.1 g) refl
-closes-append Inside stop (c ∷ cs) b h g = let p = and_parts (not (stops Inside stop c))
-    (closes (after Inside c) stop cs) h in rw (closes-append (after Inside c) stop cs b p.1 g) refl
-closes-append Skipping stop (c ∷ cs) b h g = let p = and_parts (not (stops Skipping stop c))
-    (closes (after Skipping c) stop cs) h in rw (closes-append (after Skipping c) stop cs b p.1 g) refl
+closes-append q stop (c ∷ cs) b h g = let p = and_parts (not (stops q stop c)) (closes (after q c) stop cs) h in
+    rw (p.0, closes-append (after q c) stop cs b p.1 g) refl
 
 place_after : (q : Quoting) (stop : ℕ) (a b : List ℕ) → closes q stop a ≡ true
     → place_from q stop (a ++ (stop ∷ b)) ≡ Some (length a)
@@ -110,12 +108,8 @@ unfolding place_from
 place_after Outside stop [] b h = rw (eqb_same stop) refl
 place_after Inside stop [] b h = absurd cc
 place_after Skipping stop [] b h = absurd cc
-place_after Outside stop (c ∷ cs) b h = let p = and_parts (not (stops Outside stop c))
-    (closes (after Outside c) stop cs) h in rw (not-true _ p.0, place_after (after Outside c) stop cs b p.1) refl
-place_after Inside stop (c ∷ cs) b h = let p = and_parts (not (stops Inside stop c)) (closes (after Inside c) stop cs) h in
-    rw (place_after (after Inside c) stop cs b p.1) refl
-place_after Skipping stop (c ∷ cs) b h = let p = and_parts (not (stops Skipping stop c))
-    (closes (after Skipping c) stop cs) h in rw (place_after (after Skipping c) stop cs b p.1) refl
+place_after q stop (c ∷ cs) b h = let p = and_parts (not (stops q stop c)) (closes (after q c) stop cs) h in
+    rw (not-true _ p.0, place_after (after q c) stop cs b p.1) refl
 
 stop_is : (q : Quoting) (stop c : ℕ) → stops q stop c ≡ true → c ≡ stop
 stop_is Outside stop c e = eqb-true c stop e
@@ -156,22 +150,14 @@ unfolding pieces_from
 pieces_after Outside [] b h = refl
 pieces_after Inside [] b h = absurd cc
 pieces_after Skipping [] b h = absurd cc
-pieces_after Outside (c ∷ cs) b h = let p = and_parts (not (stops Outside 44 c)) (closes (after Outside c) 44 cs) h in
-    rw (not-true _ p.0, pieces_after (after Outside c) cs b p.1) refl
-pieces_after Inside (c ∷ cs) b h = let p = and_parts (not (stops Inside 44 c)) (closes (after Inside c) 44 cs) h in
-    rw (pieces_after (after Inside c) cs b p.1) refl
-pieces_after Skipping (c ∷ cs) b h = let p = and_parts (not (stops Skipping 44 c)) (closes (after Skipping c) 44 cs) h in
-    rw (pieces_after (after Skipping c) cs b p.1) refl
+pieces_after q (c ∷ cs) b h = let p = and_parts (not (stops q 44 c)) (closes (after q c) 44 cs) h in
+    rw (not-true _ p.0, pieces_after (after q c) cs b p.1) refl
 
 piece_alone : (q : Quoting) (a : List ℕ) → closes q 44 a ≡ true → pieces_from q a ≡ a ∷ []
 unfolding pieces_from
 piece_alone q [] h = refl
-piece_alone Outside (c ∷ cs) h = let p = and_parts (not (stops Outside 44 c)) (closes (after Outside c) 44 cs) h in
-    rw (not-true _ p.0, piece_alone (after Outside c) cs p.1) refl
-piece_alone Inside (c ∷ cs) h = let p = and_parts (not (stops Inside 44 c)) (closes (after Inside c) 44 cs) h in
-    rw (piece_alone (after Inside c) cs p.1) refl
-piece_alone Skipping (c ∷ cs) h = let p = and_parts (not (stops Skipping 44 c)) (closes (after Skipping c) 44 cs) h in
-    rw (piece_alone (after Skipping c) cs p.1) refl
+piece_alone q (c ∷ cs) h = let p = and_parts (not (stops q 44 c)) (closes (after q c) 44 cs) h in
+    rw (not-true _ p.0, piece_alone (after q c) cs p.1) refl
 
 -- a text that may be a part
 pub record IsPart (t : List ℕ) : Type 0 where

@@ -49,34 +49,30 @@ given view (Ok y) read x g e = g ∙ ap (λ z. Ok (view z)) (some_is y x e)
 given view (Err f) read x g e = absurd cc
 
 -- an argument that is read before a byte
-read_before : (s : Slot) (stop : ℕ) (text t rest : List ℕ) (a : Arg) → Some (t, rest) ≡ cut_at_byte stop text
+read_before : (s : Slot) {stop : ℕ} {text t rest : List ℕ} {a : Arg} → Some (t, rest) ≡ cut_at_byte stop text
     → arg_at s t ≡ Ok a → Before text a stop rest
-read_before s stop text t rest a at e =
+read_before s {stop = stop} {text = text} {t = t} {rest = rest} {a = a} at e =
     record { spelling = t; arg = arg_takes s t a e; parts = cut_takes stop text (t, rest) (sym at) }
 
-pub dir_before : (stop : ℕ) (text t rest : List ℕ) (d : Dir) → Some (t, rest) ≡ cut_at_byte stop text
+pub dir_before : {stop : ℕ} {text t rest : List ℕ} {d : Dir} → Some (t, rest) ≡ cut_at_byte stop text
     → dir_at t ≡ Ok d → Before text (a_dir d) stop rest
 unfolding arg_at
-dir_before stop text t rest d at e = read_before dir stop text t rest (a_dir d) at
-    (ap (λ (r : Result Dir FirstFault). r >>= λ x. Ok (a_dir x)) e)
+dir_before at e = read_before dir at (ap (λ (r : Result Dir FirstFault). r >>= λ x. Ok (a_dir x)) e)
 
-pub command_before : (stop : ℕ) (text t rest w : List ℕ) → Some (t, rest) ≡ cut_at_byte stop text
+pub command_before : {stop : ℕ} {text t rest w : List ℕ} → Some (t, rest) ≡ cut_at_byte stop text
     → command_at t ≡ Ok w → Before text (a_command w) stop rest
 unfolding arg_at
-command_before stop text t rest w at e = read_before command stop text t rest (a_command w) at
-    (ap (λ (r : Result (List ℕ) FirstFault). r >>= λ x. Ok (a_command x)) e)
+command_before at e = read_before command at (ap (λ (r : Result (List ℕ) FirstFault). r >>= λ x. Ok (a_command x)) e)
 
-pub rights_before : (stop : ℕ) (text t rest : List ℕ) (r : ℕ) → Some (t, rest) ≡ cut_at_byte stop text
+pub rights_before : {stop : ℕ} {text t rest : List ℕ} {r : ℕ} → Some (t, rest) ≡ cut_at_byte stop text
     → rights_at t ≡ Ok r → Before text (some_rights r) stop rest
 unfolding arg_at
-rights_before stop text t rest r at e = read_before rights stop text t rest (some_rights r) at
-    (ap (λ (x : Result ℕ FirstFault). x >>= λ y. Ok (some_rights y)) e)
+rights_before at e = read_before rights at (ap (λ (x : Result ℕ FirstFault). x >>= λ y. Ok (some_rights y)) e)
 
-pub free_before : (stop : ℕ) (text t rest a : List ℕ) → Some (t, rest) ≡ cut_at_byte stop text → free_at t ≡ Ok a
+pub free_before : {stop : ℕ} {text t rest a : List ℕ} → Some (t, rest) ≡ cut_at_byte stop text → free_at t ≡ Ok a
     → Before text (free_text a) stop rest
 unfolding arg_at
-free_before stop text t rest a at e = read_before free stop text t rest (free_text a) at
-    (ap (λ (r : Result (List ℕ) FirstFault). r >>= λ x. Ok (free_text x)) e)
+free_before at e = read_before free at (ap (λ (r : Result (List ℕ) FirstFault). r >>= λ x. Ok (free_text x)) e)
 
 -- a descriptor before a comma is what the first part spells
 pub fd_first : (text rest : List ℕ) (f : ℕ) → Before text (an_fd f) 44 rest
@@ -109,10 +105,10 @@ plain_items (c ∷ cs) h =
     (sym (plain_place c (eqb c 92) (is_plain c) slash k.0)) (plain_items cs k.1)
 
 -- a path, its closing quote and the byte
-pub path_before : (stop : ℕ) (text inside after_byte rest : List ℕ) (end : ℕ) → text ≡ 34 ∷ inside → end ≤ length inside
-    → Runs Path inside 0 end → take (length inside - end) (drop end inside) ≡ 34 ∷ after_byte
-    → after_byte ≡ stop ∷ rest → Before text (a_path (take end inside)) stop rest
-path_before stop text inside after_byte rest end e within run f g =
+pub path_before : {stop : ℕ} {text inside after_quote rest : List ℕ} (end : ℕ) → text ≡ 34 ∷ inside
+    → end ≤ length inside → Runs Path inside 0 end → take (length inside - end) (drop end inside) ≡ 34 ∷ after_quote
+    → after_quote ≡ stop ∷ rest → Before text (a_path (take end inside)) stop rest
+path_before {stop = stop} {inside = inside} {rest = rest} end e within run f g =
     let path = take end inside in
     let whole = take_all (length inside - end) (drop end inside) (omega (arith, length-drop end inside)) in
     record {
@@ -124,8 +120,8 @@ path_before stop text inside after_byte rest end e within run f g =
     }
 
 -- the last argument
-pub last : (text rest : List ℕ) (a : Arg) → Before text a 41 rest → Between text (a ∷ []) rest
-last text rest a b = record { texts = b.spelling ∷ []; args = (b.arg, tt); parts = b.parts }
+pub last : {text rest : List ℕ} {a : Arg} → Before text a 41 rest → Between text (a ∷ []) rest
+last b = record { texts = b.spelling ∷ []; args = (b.arg, tt); parts = b.parts }
 
 more_parts : (text more rest t : List ℕ) (a b : Arg) (others : List Arg) (ts : List (List ℕ)) → SpellsArg t a
     → text ≡ t ++ (44 ∷ more) → SpellsArgs ts (b ∷ others) → more ≡ join_with_byte 44 ts ++ (41 ∷ rest)
@@ -140,17 +136,16 @@ more_parts text more rest t a b others (u ∷ us) s e h f =
     }
 
 -- an argument with others after it
-pub next : (text more rest : List ℕ) (a b : Arg) (others : List Arg) → Before text a 44 more
+pub next : {text more rest : List ℕ} {a b : Arg} {others : List Arg} → Before text a 44 more
     → Between more (b ∷ others) rest → Between text (a ∷ b ∷ others) rest
-next text more rest a b others x y =
-    more_parts text more rest x.spelling a b others y.texts x.arg x.parts y.args y.parts
+next x y = more_parts _ _ _ x.spelling _ _ _ y.texts x.arg x.parts y.args y.parts
 
 -- ---- calls and lines
 
 -- a call with its answer
-pub call_after : (h : Head) (text tail : List ℕ) (c : Call) (a : Answer) → head_of_call c ≡ h
+pub call_after : {h : Head} {text tail : List ℕ} {c : Call} {a : Answer} → head_of_call c ≡ h
     → Between text (args_of_call c) tail → answer_at (kind_of c) tail ≡ Ok a → SpellsAfter h text (items.Call c a)
-call_after h text tail c a e b is_answer =
+call_after {tail = tail} {c = c} {a = a} e b is_answer =
     let k = answer_takes (kind_of c) tail a is_answer in
     record {
       head = e;
@@ -163,10 +158,10 @@ call_after h text tail c a e b is_answer =
     }
 
 -- how a line begins
-pub starts : (bytes rest name text : List ℕ) (p : ℕ) (h : Head) → length bytes ≤ 1024
+pub starts : {bytes text : List ℕ} (rest name : List ℕ) {p : ℕ} {h : Head} → length bytes ≤ 1024
     → bytes ≡ decimal p ++ (32 ∷ rest) → IsPid p → rest ≡ name ++ (40 ∷ text)
     → Some h ≡ head_named name → Starts bytes p h text
-starts bytes rest name text p h short at is_pid after named =
+starts {text = text} rest name {p = p} {h = h} short at is_pid after named =
     let n = head_takes name h (sym named) in
     record {
       short = short;
@@ -177,9 +172,9 @@ starts bytes rest name text p h short at is_pid after named =
     }
 
 -- the line, by what follows its bracket
-pub spelled_line : (bytes text : List ℕ) (p : ℕ) (h : Head) (i : Item) → Starts bytes p h text → SpellsAfter h text i
+pub spelled_line : {bytes text : List ℕ} {p : ℕ} {h : Head} {i : Item} → Starts bytes p h text → SpellsAfter h text i
     → Spells bytes (record { pid = p; item = i })
-spelled_line bytes text p h i b s = (
+spelled_line {text = text} {p = p} {h = h} {i = i} b s = (
   s.args.texts,
   record {
     short = b.short;
@@ -192,7 +187,6 @@ spelled_line bytes text p h i b s = (
   },
 )
 
-pub read_so : (bytes text : List ℕ) (p : ℕ) (h : Head) (i : Item) → Starts bytes p h text → SpellsAfter h text i
+pub read_so : {bytes text : List ℕ} {p : ℕ} {h : Head} {i : Item} → Starts bytes p h text → SpellsAfter h text i
     → line_of bytes ≡ Ok (record { pid = p; item = i })
-read_so bytes text p h i b s =
-    line_again bytes (record { pid = p; item = i }) (spelled_line bytes text p h i b s)
+read_so {bytes = bytes} {p = p} {i = i} b s = line_again bytes (record { pid = p; item = i }) (spelled_line b s)

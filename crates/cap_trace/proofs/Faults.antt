@@ -101,14 +101,9 @@ path_err t d e = path_parts (after_prefix (34 ∷ []) t) d e
 
 -- the fault of an argument of each kind
 abbrev pub slot_fault : Slot → FirstFault
-slot_fault fd = faults.Argument
-slot_fault dir = faults.Argument
-slot_fault flags = faults.Argument
 slot_fault rights = faults.Right
-slot_fault path = faults.Argument
-slot_fault command = faults.Argument
-slot_fault (word w) = faults.Argument
 slot_fault free = faults.Shape
+slot_fault s = faults.Argument
 
 pub arg_err : (s : Slot) (t : List ℕ) (d : FirstFault) → arg_at s t ≡ Err d → d ≡ slot_fault s
 unfolding arg_at flags_at command_at free_at rights_at

@@ -15,13 +15,13 @@ use Rattle.cap_trace.specs.declared.fault.FirstFault.TheVariants as faults
 use Rattle.cap_trace.specs.Item.{Item}
 use Rattle.cap_trace.specs.Item as items
 use Rattle.cap_trace.specs.declared.calls.ResultKind.{ResultKind}
-use Rattle.cap_trace.specs.declared.calls.ResultKind.TheVariants.{Count, Zero, Fd, Same, FdPair, Child, ChildAndFd, Any}
+use Rattle.cap_trace.specs.declared.calls.ResultKind.TheVariants.{Same}
 use Rattle.cap_trace.specs.declared.calls.Form.TheVariants as forms
 use Rattle.cap_trace.specs.Names.{Head, listed, name_of, head_named}
 use Rattle.cap_trace.specs.Number.{num_at}
 use Rattle.cap_trace.specs.Quotes.{cut_at_byte, around}
 use Rattle.cap_trace.specs.Entry.{Entry, an_fd, some_rights, IsPid, IsFd, kind_of}
-use Rattle.cap_trace.specs.Forms.{Slot, fd, dir, flags, rights, path, command, word, free, shape_of, send_shape}
+use Rattle.cap_trace.specs.Forms.{Slot, fd, rights, free, shape_of, send_shape}
 use Rattle.cap_trace.specs.Forms.{fcntl_shape, Said, a_call, a_marker, built}
 use Rattle.cap_trace.specs.Reading.{◌>>=◌, need, after_prefix, pid_at, fd_at, rights_at, arg_at, args_at, said_at}
 use Rattle.cap_trace.specs.Reading.{same_at, result_at, made_at, answer_at, ended, args_and_tail, after_bracket}
@@ -63,13 +63,7 @@ made_result : (q : FirstFault → Bool) → Passes q → (k : ResultKind) (t : L
     → q d ≡ true
 unfolding made_at is_same
 made_result q p (Same g) t d e = same_result q p g (num_at 1048575 t) d e
-made_result q p Count t d e = ap q (made_fails Count t d refl e) ∙ p.answer
-made_result q p Zero t d e = ap q (made_fails Zero t d refl e) ∙ p.answer
-made_result q p Fd t d e = ap q (made_fails Fd t d refl e) ∙ p.answer
-made_result q p FdPair t d e = ap q (made_fails FdPair t d refl e) ∙ p.answer
-made_result q p Child t d e = ap q (made_fails Child t d refl e) ∙ p.answer
-made_result q p ChildAndFd t d e = ap q (made_fails ChildAndFd t d refl e) ∙ p.answer
-made_result q p Any t d e = ap q (made_fails Any t d refl e) ∙ p.answer
+made_result q p k t d e = ap q (made_fails k t d refl e) ∙ p.answer
 
 result_passes : (q : FirstFault → Bool) → Passes q
     → (k : ResultKind) (t : List ℕ) (o : Option (List ℕ)) (d : FirstFault)
@@ -147,14 +141,9 @@ item_err q p text d e =
 
 every_slot : (q : FirstFault → Bool) → Passes q → q faults.Right ≡ true → (ss : List Slot) → passes_slots q ss ≡ true
 every_slot q p r [] = refl
-every_slot q p r (fd ∷ ss) = rw (p.argument, every_slot q p r ss) refl
-every_slot q p r (dir ∷ ss) = rw (p.argument, every_slot q p r ss) refl
-every_slot q p r (flags ∷ ss) = rw (p.argument, every_slot q p r ss) refl
 every_slot q p r (rights ∷ ss) = rw (r, every_slot q p r ss) refl
-every_slot q p r (path ∷ ss) = rw (p.argument, every_slot q p r ss) refl
-every_slot q p r (command ∷ ss) = rw (p.argument, every_slot q p r ss) refl
-every_slot q p r (word w ∷ ss) = rw (p.argument, every_slot q p r ss) refl
 every_slot q p r (free ∷ ss) = rw (p.shape, every_slot q p r ss) refl
+every_slot q p r (s ∷ ss) = rw (p.argument, every_slot q p r ss) refl
 
 item_passes : (q : FirstFault → Bool) → Passes q → q faults.Right ≡ true → (text : List ℕ) (d : FirstFault)
     → item_at text ≡ Err d → q d ≡ true

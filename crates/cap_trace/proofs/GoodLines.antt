@@ -1,6 +1,6 @@
 -- A line whose fields are good, and whose text isn't too long, is one that some bytes spell, and none else is.
-use Rattle.std.proofs.Common.{◌≡◌, ℕ, ◌+◌, ◌≤◌, ◌&&◌, Bool, true, false, eqb, ltb, leb, List, [], ◌∷◌, length, map, sym, ◌∙◌}
-use Rattle.std.proofs.Common.{Option, Some, None, Ok, refl, ap}
+use Rattle.std.proofs.Common.{◌≡◌, ℕ, ◌+◌, ◌≤◌, ◌&&◌, Bool, true, false, eqb, ltb, leb, List, [], ◌∷◌, length, map}
+use Rattle.std.proofs.Common.{Option, Some, None, Ok, refl, ap, sym, ◌∙◌, ◌<◌, arith}
 use Rattle.std.specs.Prelude.{is_none}
 use Rattle.std.specs.List.{join_with_byte}
 use Rattle.std.proofs.lemmas.Bool.{eqb-true, lt-ltb, le-leb, and_parts, and_from}
@@ -18,8 +18,8 @@ use Rattle.cap_trace.specs.declared.calls.ResultKind.{ResultKind}
 use Rattle.cap_trace.specs.declared.calls.ResultKind.TheVariants.{Count, Zero, Fd, Same, FdPair, Child, ChildAndFd, Any}
 use Rattle.cap_trace.specs.declared.calls.Form.{Form}
 use Rattle.cap_trace.specs.Names.{Head, listed, unlisted, is_name, form_named}
-use Rattle.cap_trace.specs.Entry.{Entry, Arg, an_fd, a_dir, some_flags, some_rights, a_path, a_command, a_word}
-use Rattle.cap_trace.specs.Entry.{free_text, args_of, args_of_call, head_of, head_of_call, fds, kind_of, IsPid, IsFd}
+use Rattle.cap_trace.specs.Entry.{Entry, Arg, an_fd, a_dir, some_rights, a_word}
+use Rattle.cap_trace.specs.Entry.{args_of, args_of_call, head_of, head_of_call, fds, kind_of, IsPid, IsFd}
 use Rattle.cap_trace.specs.Entry.{IsAnswer, IsWhole, RisesFrom}
 use Rattle.cap_trace.specs.Spelling.{SpellsArg, SpellsArgs, SpellsBy, IsHead, IsProper, arg_text, canon}
 use Rattle.cap_trace.specs.Making.{is_fd, is_pid, is_good, are_good, is_head, is_answer, all_rise, is_good_item}
@@ -52,23 +52,17 @@ arg_from : (a : Arg) → is_good a ≡ true → named_arg a ≡ true → SpellsA
 arg_from (an_fd f) h n = (refl, fd_from f h)
 arg_from (a_dir (dirs.Fd f)) h n = (refl, fd_from f h)
 arg_from (a_dir dirs.Cwd) h n = refl
-arg_from (some_flags w) h n = (refl, h)
 arg_from (some_rights r) h n = same_set r (names (text r)) n
-arg_from (a_path p) h n = (refl, h)
-arg_from (a_command w) h n = (refl, h)
 arg_from (a_word w) h n = refl
-arg_from (free_text a) h n = (refl, h)
+arg_from a h n = (refl, h)
 
 arg_to : (t : List ℕ) (a : Arg) → SpellsArg t a → is_good a ≡ true
 arg_to t (an_fd f) h = fd_to f h.1
 arg_to t (a_dir (dirs.Fd f)) h = fd_to f h.1
 arg_to t (a_dir dirs.Cwd) h = refl
-arg_to t (some_flags w) h = h.1
 arg_to t (some_rights r) h = refl
-arg_to t (a_path p) h = h.1
-arg_to t (a_command w) h = h.1
 arg_to t (a_word w) h = refl
-arg_to t (free_text a) h = h.1
+arg_to t a h = h.1
 
 named_to : (t : List ℕ) (r : ℕ) → names t ≡ Some r → is_named r ≡ true
 named_to t r h = rw (named_is_read t r h) (eqb_same r)
@@ -110,67 +104,34 @@ head_to (listed f) h = refl
 head_to (unlisted n) h = and_from (is_name n) (is_none (form_named n)) h.0 (ap is_none h.1)
 
 answer_from : (k : ResultKind) (a : Answer) → is_answer k a ≡ true → IsAnswer k a
-answer_from Count (answers.Fault e) h =
-    (let k = and_parts (ltb 0 e) (leb e 65535) h in (ltb-true _ _ k.0, leb-true e 65535 k.1))
 answer_from Count (answers.Made n) h = ltb-true _ _ h
-answer_from Count (answers.Pair n m) h = absurd cc
-answer_from Zero (answers.Fault e) h =
-    (let k = and_parts (ltb 0 e) (leb e 65535) h in (ltb-true _ _ k.0, leb-true e 65535 k.1))
 answer_from Zero (answers.Made n) h = eqb-true n 0 h
-answer_from Zero (answers.Pair n m) h = absurd cc
-answer_from Fd (answers.Fault e) h =
-    (let k = and_parts (ltb 0 e) (leb e 65535) h in (ltb-true _ _ k.0, leb-true e 65535 k.1))
 answer_from Fd (answers.Made n) h = fd_from n h
-answer_from Fd (answers.Pair n m) h = absurd cc
-answer_from (Same g) (answers.Fault e) h =
-    (let k = and_parts (ltb 0 e) (leb e 65535) h in (ltb-true _ _ k.0, leb-true e 65535 k.1))
 answer_from (Same g) (answers.Made n) h = (let k = and_parts (eqb n g) (is_fd n) h in (eqb-true n g k.0, fd_from n k.1))
-answer_from (Same g) (answers.Pair n m) h = absurd cc
-answer_from FdPair (answers.Fault e) h =
-    (let k = and_parts (ltb 0 e) (leb e 65535) h in (ltb-true _ _ k.0, leb-true e 65535 k.1))
-answer_from FdPair (answers.Made n) h = absurd cc
 answer_from FdPair (answers.Pair n m) h = (let k = and_parts (is_fd n) (is_fd m) h in (fd_from n k.0, fd_from m k.1))
-answer_from Child (answers.Fault e) h =
-    (let k = and_parts (ltb 0 e) (leb e 65535) h in (ltb-true _ _ k.0, leb-true e 65535 k.1))
 answer_from Child (answers.Made n) h = leb-true n 99999 h
-answer_from Child (answers.Pair n m) h = absurd cc
-answer_from ChildAndFd (answers.Fault e) h =
-    (let k = and_parts (ltb 0 e) (leb e 65535) h in (ltb-true _ _ k.0, leb-true e 65535 k.1))
-answer_from ChildAndFd (answers.Made n) h = absurd cc
 answer_from ChildAndFd (answers.Pair n m) h =
     (let k = and_parts (leb n 99999) (is_fd m) h in (leb-true n 99999 k.0, fd_from m k.1))
-answer_from Any (answers.Fault e) h =
-    (let k = and_parts (ltb 0 e) (leb e 65535) h in (ltb-true _ _ k.0, leb-true e 65535 k.1))
 answer_from Any (answers.Made n) h = ltb-true _ _ h
 answer_from Any (answers.Pair n m) h =
     (let k = and_parts (ltb n 18446744073709551616) (ltb m 18446744073709551616) h in (ltb-true _ _ k.0, ltb-true _ _ k.1))
+answer_from k (answers.Fault e) h =
+    (let k = and_parts (ltb 0 e) (leb e 65535) h in (ltb-true _ _ k.0, leb-true e 65535 k.1))
+answer_from k a h = absurd cc
 
 answer_to : (k : ResultKind) (a : Answer) → IsAnswer k a → is_answer k a ≡ true
-answer_to Count (answers.Fault e) h = and_from (ltb 0 e) (leb e 65535) (lt-ltb _ _ h.0) (le-leb e 65535 h.1)
 answer_to Count (answers.Made n) h = lt-ltb _ _ h
-answer_to Count (answers.Pair n m) h = absurd h
-answer_to Zero (answers.Fault e) h = and_from (ltb 0 e) (leb e 65535) (lt-ltb _ _ h.0) (le-leb e 65535 h.1)
 answer_to Zero (answers.Made n) h = rw h refl
-answer_to Zero (answers.Pair n m) h = absurd h
-answer_to Fd (answers.Fault e) h = and_from (ltb 0 e) (leb e 65535) (lt-ltb _ _ h.0) (le-leb e 65535 h.1)
 answer_to Fd (answers.Made n) h = fd_to n h
-answer_to Fd (answers.Pair n m) h = absurd h
-answer_to (Same g) (answers.Fault e) h = and_from (ltb 0 e) (leb e 65535) (lt-ltb _ _ h.0) (le-leb e 65535 h.1)
 answer_to (Same g) (answers.Made n) h = and_from (eqb n g) (is_fd n) (rw h.0 (eqb_same g)) (fd_to n h.1)
-answer_to (Same g) (answers.Pair n m) h = absurd h
-answer_to FdPair (answers.Fault e) h = and_from (ltb 0 e) (leb e 65535) (lt-ltb _ _ h.0) (le-leb e 65535 h.1)
-answer_to FdPair (answers.Made n) h = absurd h
 answer_to FdPair (answers.Pair n m) h = and_from (is_fd n) (is_fd m) (fd_to n h.0) (fd_to m h.1)
-answer_to Child (answers.Fault e) h = and_from (ltb 0 e) (leb e 65535) (lt-ltb _ _ h.0) (le-leb e 65535 h.1)
 answer_to Child (answers.Made n) h = le-leb n 99999 h
-answer_to Child (answers.Pair n m) h = absurd h
-answer_to ChildAndFd (answers.Fault e) h = and_from (ltb 0 e) (leb e 65535) (lt-ltb _ _ h.0) (le-leb e 65535 h.1)
-answer_to ChildAndFd (answers.Made n) h = absurd h
 answer_to ChildAndFd (answers.Pair n m) h = and_from (leb n 99999) (is_fd m) (le-leb n 99999 h.0) (fd_to m h.1)
-answer_to Any (answers.Fault e) h = and_from (ltb 0 e) (leb e 65535) (lt-ltb _ _ h.0) (le-leb e 65535 h.1)
 answer_to Any (answers.Made n) h = lt-ltb _ _ h
 answer_to Any (answers.Pair n m) h =
     and_from (ltb n 18446744073709551616) (ltb m 18446744073709551616) (lt-ltb _ _ h.0) (lt-ltb _ _ h.1)
+answer_to k (answers.Fault e) h = and_from (ltb 0 e) (leb e 65535) (lt-ltb _ _ h.0) (le-leb e 65535 h.1)
+answer_to k a h = absurd h
 
 pid_from : (p : ℕ) → is_pid p ≡ true → IsPid p
 pid_from p h = let k = and_parts (ltb 0 p) (leb p 99999) h in (ltb-true _ _ k.0, leb-true p 99999 k.1)
@@ -273,16 +234,14 @@ proper_fields e h =
     (and_from (is_pid e.pid) (is_good_item e.item) (pid_to e.pid h.1.1.pid) (item_to e.pid e.item h.0 h.1.0 h.1.1))
     (named_item e.pid e.item h.0 h.1.0 h.1.1)
 
-pub bad_fields : (e : Entry) (b : Bool) → b ≡ has_good_fields e → b ≡ false → IsProper e → ⊥
-bad_fields e b at lacks h = absurd (let yes = proper_fields e h in cc)
+pub bad_fields : {b : Bool} (e : Entry) → b ≡ has_good_fields e → b ≡ false → IsProper e → ⊥
+bad_fields e at lacks h = absurd (let yes = proper_fields e h in cc)
 
-pub too_long : (e : Entry) (b : Bool) (t : List ℕ) → b ≡ leb (length t) 1024 → t ≡ canon e → b ≡ false → IsProper e → ⊥
-too_long e b t at is lacks h =
-    absurd (let yes : leb (length t) 1024 ≡ true = rw is (le-leb _ _ (canon_spells e h).1.short) in cc)
+pub too_long : (e : Entry) → 1024 < length (canon e) → IsProper e → ⊥
+too_long e long h = omega (arith, (canon_spells e h).1.short, long)
 
-pub short_proper : (e : Entry) (a b : Bool) (t : List ℕ) → a ≡ has_good_fields e → a ≡ true → b ≡ leb (length t) 1024
-    → t ≡ canon e → b ≡ true → IsProper e
-short_proper e a b t fields good at is short =
+pub short_proper : {b : Bool} (e : Entry) → b ≡ has_good_fields e → b ≡ true → length (canon e) ≤ 1024 → IsProper e
+short_proper e fields good short =
     let l = and_parts (is_pid e.pid && is_good_item e.item) (has_named_rights e.item) (sym fields ∙ good) in
     let m = and_parts (is_pid e.pid) (is_good_item e.item) l.0 in
-    proper_from e m.0 m.1 l.1 (leb-true _ _ (ap (λ (s : List ℕ). leb (length s) 1024) (sym is) ∙ sym at ∙ short))
+    proper_from e m.0 m.1 l.1 short

@@ -2,7 +2,7 @@
 use Rattle.std.proofs.Common.{◌≡◌, ℕ, zero, suc, ◌^◌, ◌<◌, ◌≤◌, ◌≢◌, ◌&&◌, ◌||◌, Bool, true, false, cond, not, eqb, ltb}
 use Rattle.std.proofs.Common.{leb, List, length, get_or, Option, Some, None, Result, Ok, Err, refl, sym, ap, ◌∙◌, arith}
 use Rattle.std.proofs.Common.{tests, ◌+◌, ◌-◌, ◌∷◌, ◌++◌, take, drop, ◌⊎◌, inl, inr}
-use Rattle.std.proofs.lemmas.List.{length-take-le, get_or-take, length-drop, take_all, drop_more, take-append-drop}
+use Rattle.std.proofs.lemmas.List.{length-take-le, get_or-take, take_all}
 use Rattle.std.specs.Str.{all_ascii_digits}
 use Rattle.std.specs.Str.Parse.{digits_value}
 use Rattle.std.specs.Fmt.{decimal}
@@ -15,6 +15,7 @@ use borrow.Author.Tests.{ltb-true, leb-true}
 use Rattle.cap_trace.specs.declared.fault.FirstFault.{FirstFault}
 use Rattle.cap_trace.specs.Number.{num_at, digits_at, is_odd}
 use Rattle.cap_trace.specs.Reading.{◌>>=◌, need, positive}
+use Rattle.cap_trace.proofs.Cuts.{parted}
 
 pub own : IsNumeralModel (λ ds. all_ascii_digits ds ≡ true) (digits_value 10)
 own = numerals_by_value _ tells_all_ascii_digits
@@ -121,34 +122,35 @@ pub num_only : (most : ℕ) (t : List ℕ) (r : Option ℕ) → r ≡ num_at mos
     → t ≡ decimal n → r ≡ Some n
 num_only most t r e fits n le is = e ∙ ap (num_at most) is ∙ num_again most n le (omega (arith, le, fits))
 
--- ---- a number, the byte that ends it, and the rest
+-- ---- the digits before a place
+
+-- they are digits, and write this number
+pub record Digits (t : List ℕ) (i n : ℕ) : Type 0 where
+  pub digits : all_ascii_digits (take i t) ≡ true
+  pub value : n ≡ digits_value 10 (take i t)
 
 one_digit : (a i : ℕ) → (a ≡ 48 × i ≡ 1) ⊎ (a ≢ 48) → a ≡ 48 → i ≡ 1
 one_digit a i (inl p) e = p.1
 one_digit a i (inr f) e = absurd (f e)
 
-pub number_ends : (stop : ℕ) (t : List ℕ) (i n : ℕ) → i < length t → get_or t i 0 ≡ stop → i ≢ 0
-    → (get_or t 0 0 ≡ 48 × i ≡ 1) ⊎ (get_or t 0 0 ≢ 48) → all_ascii_digits (take i t) ≡ true
-    → n ≡ digits_value 10 (take i t) → n < 2 ^ 64 → t ≡ decimal n ++ (stop ∷ take (length t - (i + 1)) (drop (i + 1) t))
-number_ends stop t i n lt at some nought all e small =
-    let size : length (take i t) ≡ i = length-take-le i t (omega (arith, lt)) in
+digits_are : {t : List ℕ} {i n : ℕ} → Digits t i n → i ≤ length t → i ≢ 0
+    → (get_or t 0 0 ≡ 48 × i ≡ 1) ⊎ (get_or t 0 0 ≢ 48) → n < 2 ^ 64 → decimal n ≡ take i t
+digits_are {t = t} {i = i} {n = n} d le some nought small =
+    let size : length (take i t) ≡ i = length-take-le i t le in
     let first : get_or (take i t) 0 0 ≡ get_or t 0 0 = get_or-take i t 0 0 (omega (arith, some)) in
-    let lead : get_or (take i t) 0 0 ≡ 48 → length (take i t) ≡ 1 =
-    λ z. size ∙ one_digit (get_or t 0 0) i nought (sym first ∙ z) in
-    let digits : decimal n ≡ take i t = ap decimal e ∙ decimal-digits_value own (take i t) all
-    (omega (arith, size, some)) lead (omega (arith, e, small)) in
-    let whole = take_all (length t - (i + 1)) (drop (i + 1) t) (omega (arith, length-drop (i + 1) t)) in
-    let rest : drop i t ≡ stop ∷ drop (i + 1) t = drop_more t i 0 lt ∙ ap (λ (c : ℕ). c ∷ drop (i + 1) t) at in
-    sym (take-append-drop i t) ∙ ap (λ (s : List ℕ). take i t ++ s) rest
-    ∙ ap (λ (s : List ℕ). s ++ (stop ∷ drop (i + 1) t)) (sym digits)
-    ∙ ap (λ (s : List ℕ). decimal n ++ (stop ∷ s)) (sym whole)
+    ap decimal d.value ∙ decimal-digits_value own (take i t) d.digits (omega (arith, size, some))
+    (λ z. size ∙ one_digit (get_or t 0 0) i nought (sym first ∙ z)) (omega (arith, d.value, small))
 
-pub number_whole : (t : List ℕ) (i n : ℕ) → length t ≤ i → i ≤ length t → i ≢ 0
-    → (get_or t 0 0 ≡ 48 × i ≡ 1) ⊎ (get_or t 0 0 ≢ 48) → all_ascii_digits (take i t) ≡ true
-    → n ≡ digits_value 10 (take i t) → n < 2 ^ 64 → t ≡ decimal n
-number_whole t i n le within some nought all e small =
-    let whole : take i t ≡ t = take_all i t le in
-    let all' : all_ascii_digits t ≡ true = rw (← whole) all in
-    let e' : n ≡ digits_value 10 t = rw whole at e in
-    sym (ap decimal e' ∙ decimal-digits_value own t all' (omega (arith, le, within, some))
-    (λ z. omega (arith, le, within, one_digit (get_or t 0 0) i nought z)) (omega (arith, e', small)))
+-- with the byte that ends them, and the rest
+pub number_ends : {t : List ℕ} {i n stop : ℕ} → Digits t i n → i < length t → get_or t i 0 ≡ stop → i ≢ 0
+    → (get_or t 0 0 ≡ 48 × i ≡ 1) ⊎ (get_or t 0 0 ≢ 48) → n < 2 ^ 64
+    → t ≡ decimal n ++ (stop ∷ take (length t - (i + 1)) (drop (i + 1) t))
+number_ends {t = t} {i = i} {n = n} {stop = stop} d lt at some nought small =
+    parted t i stop lt at ∙ ap (λ (s : List ℕ). s ++ (stop ∷ take (length t - (i + 1)) (drop (i + 1) t)))
+    (sym (digits_are d (omega (arith, lt)) some nought small))
+
+-- with nothing after them
+pub number_whole : {t : List ℕ} {i n : ℕ} → Digits t i n → length t ≤ i → i ≤ length t → i ≢ 0
+    → (get_or t 0 0 ≡ 48 × i ≡ 1) ⊎ (get_or t 0 0 ≢ 48) → n < 2 ^ 64 → t ≡ decimal n
+number_whole {t = t} {i = i} d le within some nought small =
+    sym (digits_are d within some nought small ∙ take_all i t le)

@@ -58,12 +58,8 @@ only_this bytes x h = λ e s. inl (ap Ok (ok_same x e (sym h ∙ line_again byte
 -- ---- each clause, by what reading gives
 
 no_memory : (f : FirstFault) → line_fault f ≡ line_faults.Memory → ⊥
-no_memory faults.LongLine e = cc
-no_memory faults.Shape e = cc
-no_memory faults.Pid e = cc
-no_memory faults.Argument e = cc
-no_memory faults.Right e = cc
-no_memory faults.Answer e = cc
+unfolding read_fault
+no_memory f e = let none = sym (read_fault_again f) ∙ ap read_fault e in cc
 
 pub found_by : (bytes : List ℕ) (r : Result Entry LineFault) → MatchesReading bytes r → IfOk r (λ e. Spells bytes e)
 found_by bytes (Ok e) h = line_takes bytes e h

@@ -180,16 +180,12 @@ quoted_step : (p : Place) (stop c : ℕ) (rest : List ℕ) → closes (after (qu
     → closes (quoting_of p) stop (c ∷ rest) ≡ true
 unfolding quoting_of
 quoted_step Between stop c rest h = h
-quoted_step Slash stop c rest h = h
-quoted_step Digits stop c rest h = h
-quoted_step (OneDigit g) stop c rest h = h
+quoted_step p stop c rest h = h
 
 items_end : (p : Place) (stop : ℕ) → is_between p ≡ true → closes (quoting_of p) stop (34 ∷ []) ≡ true
 unfolding quoting_of
 items_end Between stop h = refl
-items_end Slash stop h = absurd cc
-items_end Digits stop h = absurd cc
-items_end (OneDigit g) stop h = absurd cc
+items_end p stop h = absurd cc
 
 items_close : (p : Place) (stop : ℕ) (t : List ℕ) → takes_all item_step is_between p t ≡ true
     → closes (quoting_of p) stop (t ++ 34 ∷ []) ≡ true

@@ -51,8 +51,7 @@ item_differs : (bytes : List ℕ) (p : ℕ) (i : Item) (texts : List (List ℕ))
 unfolding is_settled
 item_differs bytes p (items.Call c a) texts h = call_differs bytes p c a texts h
 item_differs bytes p (items.Start fs) texts h = settled_same bytes _ texts (fds_settled fs) h
-item_differs bytes p items.Exit texts h = settled_same bytes _ texts refl h
-item_differs bytes p (items.Foreign f) texts h = settled_same bytes _ texts refl h
+item_differs bytes p i texts h = settled_same bytes _ texts refl h
 
 pub only_rights : OnlyRightsAreRewritten
 only_rights = λ bytes e h. item_differs bytes e.pid e.item h.0 h.1

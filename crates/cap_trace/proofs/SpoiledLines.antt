@@ -15,7 +15,7 @@ use Rattle.cap_trace.specs.Call.{Call}
 use Rattle.cap_trace.specs.Call as calls
 use Rattle.cap_trace.specs.declared.line.Answer.{Answer}
 use Rattle.cap_trace.specs.declared.calls.ResultKind.{ResultKind}
-use Rattle.cap_trace.specs.declared.calls.ResultKind.TheVariants.{Count, Zero, Fd, Same, FdPair, Child, ChildAndFd, Any}
+use Rattle.cap_trace.specs.declared.calls.ResultKind.TheVariants.{Same}
 use Rattle.cap_trace.specs.declared.calls.DupCommand.TheVariants as dup_commands
 use Rattle.cap_trace.specs.declared.calls.Form.{Form}
 use Rattle.cap_trace.specs.declared.calls.Form.TheVariants as forms
@@ -59,9 +59,7 @@ no_stop false o n e = (refl, some_suc o n e)
 
 step_closes : (q : Quoting) (stop c : ℕ) (cs : List ℕ) → stops q stop c ≡ false → closes (after q c) stop cs ≡ true
     → closes q stop (c ∷ cs) ≡ true
-step_closes Outside stop c cs s h = rw (s, h) refl
-step_closes Inside stop c cs s h = rw h refl
-step_closes Skipping stop c cs s h = rw h refl
+step_closes q stop c cs s h = rw (s, h) refl
 
 closes_there : (q : Quoting) (stop : ℕ) (t : List ℕ) → place_from q stop (t ++ stop ∷ []) ≡ Some (length t)
     → closes q stop t ≡ true
@@ -105,14 +103,8 @@ alike_ok (free_text f) b t c e = absurd cc
 
 same_kind : (a : Arg) → is_closed a ≡ true → slot_fault (slot_of a) ≡ fault_of_arg a
 unfolding slot_of is_closed
-same_kind (an_fd f) c = refl
-same_kind (a_dir d) c = refl
-same_kind (some_flags w) c = refl
-same_kind (some_rights r) c = refl
-same_kind (a_path p) c = refl
-same_kind (a_command w) c = refl
-same_kind (a_word w) c = refl
 same_kind (free_text f) c = absurd cc
+same_kind a c = refl
 
 arg_spoiled : (t : List ℕ) (a : Arg) (r : Result Arg FirstFault) → arg_at (slot_of a) t ≡ r → is_closed a ≡ true
     → Spoils t a → r ≡ Err (fault_of_arg a)
@@ -127,14 +119,8 @@ Step t ts a others f =
 
 spoils_step : (t : List ℕ) (ts : List (List ℕ)) (a : Arg) (others : List Arg) (f : FirstFault)
     → SpoilsOne (t ∷ ts) (a ∷ others) f → Step t ts a others f
-spoils_step t ts (an_fd g) others f h = h
-spoils_step t ts (a_dir d) others f h = h
-spoils_step t ts (some_flags w) others f h = h
-spoils_step t ts (some_rights r) others f h = h
-spoils_step t ts (a_path p) others f h = h
-spoils_step t ts (a_command w) others f h = h
-spoils_step t ts (a_word w) others f h = h
 spoils_step t ts (free_text a) others f h = absurd h
+spoils_step t ts a others f h = h
 
 spoiled_many : (ts : List (List ℕ)) (given : List Arg) (f : FirstFault) → SpoilsOne ts given f
     → length ts ≡ length (slots_of given)
@@ -208,67 +194,23 @@ word_or t u ts a b w others f h =
       ]
     ]
 
-set_fd_spoiled : (x : ℕ) (y : List ℕ) (ts : List (List ℕ)) (f : FirstFault)
-    → SpoilsOne ts (args_of_call (calls.FcntlSetFd x y)) f → said_at (listed forms.Fcntl) ts ≡ Err f
-unfolding said_at slot_of is_closed
-set_fd_spoiled x y [] f h = absurd h
-set_fd_spoiled x y (t ∷ []) f h =
-    absurd (omega (arith, spoiled_many (t ∷ []) (args_of_call (calls.FcntlSetFd x y)) f h))
-set_fd_spoiled x y (t ∷ u ∷ []) f h =
-    absurd (omega (arith, spoiled_many (t ∷ u ∷ []) (args_of_call (calls.FcntlSetFd x y)) f h))
-set_fd_spoiled x y (t ∷ u ∷ v ∷ w ∷ ts) f h =
-    absurd (omega (arith, spoiled_many (t ∷ u ∷ v ∷ w ∷ ts) (args_of_call (calls.FcntlSetFd x y)) f h))
-set_fd_spoiled x y (t ∷ u ∷ v ∷ []) f h =
-    elim (word_or t u (v ∷ []) (an_fd x) (an_fd x) set_fd
-    (some_flags y ∷ []) f h) as (λ _. said_at (listed forms.Fcntl) (t ∷ u ∷ v ∷ []) ≡ Err f) [
-      | inl e ↦ ap (λ (w : List ℕ). said_at (listed forms.Fcntl) (t ∷ w ∷ v ∷ [])) e
-          ∙ these_spoiled (listed forms.Fcntl) (t ∷ codes "F_SETFD" ∷ v ∷ [])
-          (an_fd x ∷ a_word set_fd ∷ some_flags y ∷ []) f _ refl refl
-          (subst (λ (w : List ℕ). SpoilsOne (t ∷ w ∷ v ∷ []) (an_fd x ∷ a_word set_fd ∷ some_flags y ∷ []) f) e h)
-      | inr k ↦ no_command t u v set_fd k.0 ∙ ap Err (sym k.1)
-    ]
-
-dup_spoiled : (x y : ℕ) (ts : List (List ℕ)) (f : FirstFault)
-    → SpoilsOne ts (args_of_call (calls.FcntlDup dup_commands.FDup2fd x y)) f → said_at (listed forms.Fcntl) ts ≡ Err f
-unfolding said_at slot_of is_closed
-dup_spoiled x y [] f h = absurd h
-dup_spoiled x y (t ∷ []) f h =
-    absurd (omega (arith, spoiled_many (t ∷ []) (args_of_call (calls.FcntlDup dup_commands.FDup2fd x y)) f h))
-dup_spoiled x y (t ∷ u ∷ []) f h =
-    absurd (omega (arith, spoiled_many (t ∷ u ∷ []) (args_of_call (calls.FcntlDup dup_commands.FDup2fd x y)) f h))
-dup_spoiled x y (t ∷ u ∷ v ∷ w ∷ ts) f h = absurd
-    (omega (arith, spoiled_many (t ∷ u ∷ v ∷ w ∷ ts) (args_of_call (calls.FcntlDup dup_commands.FDup2fd x y)) f h))
-dup_spoiled x y (t ∷ u ∷ v ∷ []) f h =
-    elim (word_or t u (v ∷ []) (an_fd x) (an_fd x) (dup_to dup_commands.FDup2fd)
-    (an_fd y ∷ []) f h) as (λ _. said_at (listed forms.Fcntl) (t ∷ u ∷ v ∷ []) ≡ Err f) [
-      | inl e ↦ ap (λ (w : List ℕ). said_at (listed forms.Fcntl) (t ∷ w ∷ v ∷ [])) e
-          ∙ these_spoiled (listed forms.Fcntl) (t ∷ codes "F_DUP2FD" ∷ v ∷ []) (an_fd x
-          ∷ a_word (dup_to dup_commands.FDup2fd) ∷ an_fd y ∷ []) f _ refl refl (subst (λ (w : List ℕ). SpoilsOne
-          (t ∷ w ∷ v ∷ []) (an_fd x ∷ a_word (dup_to dup_commands.FDup2fd) ∷ an_fd y ∷ []) f) e h)
-      | inr k ↦ no_command t u v (dup_to dup_commands.FDup2fd) k.0 ∙ ap Err (sym k.1)
-    ]
-
-cloexec_spoiled : (x y : ℕ) (ts : List (List ℕ)) (f : FirstFault)
-    → SpoilsOne ts (args_of_call (calls.FcntlDup dup_commands.FDup2fdCloexec x y)) f
+command_spoiled : (w : Word) (x : ℕ) (b : Arg) → are_closed (an_fd x ∷ a_word w ∷ b ∷ []) ≡ true
+    → ((t v : List ℕ) → said_at (listed forms.Fcntl) (t ∷ word_text w ∷ v ∷ [])
+    ≡ shaped (listed forms.Fcntl) (these (slots_of (an_fd x ∷ a_word w ∷ b ∷ []))) (t ∷ word_text w ∷ v ∷ []))
+    → (ts : List (List ℕ)) (f : FirstFault) → SpoilsOne ts (an_fd x ∷ a_word w ∷ b ∷ []) f
     → said_at (listed forms.Fcntl) ts ≡ Err f
-unfolding said_at slot_of is_closed
-cloexec_spoiled x y [] f h = absurd h
-cloexec_spoiled x y (t ∷ []) f h =
-    absurd (omega (arith, spoiled_many (t ∷ []) (args_of_call (calls.FcntlDup dup_commands.FDup2fdCloexec x y)) f h))
-cloexec_spoiled x y (t ∷ u ∷ []) f h = absurd
-    (omega (arith, spoiled_many (t ∷ u ∷ []) (args_of_call (calls.FcntlDup dup_commands.FDup2fdCloexec x y)) f h))
-cloexec_spoiled x y (t ∷ u ∷ v ∷ w ∷ ts) f h = absurd (omega
-    (arith, spoiled_many (t ∷ u ∷ v ∷ w ∷ ts) (args_of_call (calls.FcntlDup dup_commands.FDup2fdCloexec x y)) f h))
-cloexec_spoiled x y (t ∷ u ∷ v ∷ []) f h =
-    elim (word_or t u (v ∷ []) (an_fd x) (an_fd x) (dup_to dup_commands.FDup2fdCloexec)
-    (an_fd y ∷ []) f h) as (λ _. said_at (listed forms.Fcntl) (t ∷ u ∷ v ∷ []) ≡ Err f) [
-      | inl e ↦ ap (λ (w : List ℕ). said_at (listed forms.Fcntl) (t ∷ w ∷ v ∷ [])) e
-          ∙ these_spoiled (listed forms.Fcntl) (t ∷ codes "F_DUP2FD_CLOEXEC" ∷ v ∷ [])
-          (an_fd x ∷ a_word (dup_to dup_commands.FDup2fdCloexec) ∷ an_fd y ∷ []) f _ refl refl
-          (subst (λ (w : List ℕ). SpoilsOne
-          (t ∷ w ∷ v ∷ []) (an_fd x ∷ a_word (dup_to dup_commands.FDup2fdCloexec) ∷ an_fd y ∷ []) f) e h)
-      | inr k ↦ no_command t u v (dup_to dup_commands.FDup2fdCloexec) k.0 ∙ ap Err (sym k.1)
+unfolding slot_of
+command_spoiled w x b closed same [] f h = absurd h
+command_spoiled w x b closed same (t ∷ u ∷ v ∷ []) f h =
+    elim (word_or t u (v ∷ []) (an_fd x) b w
+    (b ∷ []) f h) as (λ _. said_at (listed forms.Fcntl) (t ∷ u ∷ v ∷ []) ≡ Err f) [
+      | inl e ↦ ap (λ (s : List ℕ). said_at (listed forms.Fcntl) (t ∷ s ∷ v ∷ [])) e ∙ same t v
+          ∙ these_spoiled (listed forms.Fcntl) (t ∷ word_text w ∷ v ∷ []) (an_fd x ∷ a_word w ∷ b ∷ []) f _ refl closed
+          (subst (λ (s : List ℕ). SpoilsOne (t ∷ s ∷ v ∷ []) (an_fd x ∷ a_word w ∷ b ∷ []) f) e h)
+      | inr k ↦ no_command t u v w k.0 ∙ ap Err (sym k.1)
     ]
+command_spoiled w x b closed same ts f h =
+    absurd (omega (arith, spoiled_many ts (an_fd x ∷ a_word w ∷ b ∷ []) f h))
 
 call_spoiled : (c : Call) (ts : List (List ℕ)) (f : FirstFault) → SpoilsOne ts (args_of_call c) f
     → said_at (head_of_call c) ts ≡ Err f
@@ -291,9 +233,11 @@ call_spoiled (calls.Fcntl x y) (t ∷ u ∷ []) f h =
     these_spoiled (listed forms.Fcntl) (t ∷ u ∷ []) (an_fd x ∷ a_command y ∷ []) f _ refl refl h
 call_spoiled (calls.Fcntl x y) (t ∷ u ∷ v ∷ ts) f h =
     absurd (omega (arith, spoiled_many (t ∷ u ∷ v ∷ ts) (an_fd x ∷ a_command y ∷ []) f h))
-call_spoiled (calls.FcntlSetFd x y) ts f h = set_fd_spoiled x y ts f h
-call_spoiled (calls.FcntlDup dup_commands.FDup2fd x y) ts f h = dup_spoiled x y ts f h
-call_spoiled (calls.FcntlDup dup_commands.FDup2fdCloexec x y) ts f h = cloexec_spoiled x y ts f h
+call_spoiled (calls.FcntlSetFd x y) ts f h = command_spoiled set_fd x (some_flags y) refl (λ t v. refl) ts f h
+call_spoiled (calls.FcntlDup dup_commands.FDup2fd x y) ts f h =
+    command_spoiled (dup_to dup_commands.FDup2fd) x (an_fd y) refl (λ t v. refl) ts f h
+call_spoiled (calls.FcntlDup dup_commands.FDup2fdCloexec x y) ts f h =
+    command_spoiled (dup_to dup_commands.FDup2fdCloexec) x (an_fd y) refl (λ t v. refl) ts f h
 call_spoiled c ts f h = these_spoiled (head_of_call c) ts (args_of_call c) f _ refl refl h
 
 fd_spoiled : (t : List ℕ) (g : ℕ) (r : Result ℕ FirstFault) → fd_at t ≡ r → Spoils t (an_fd g) → r ≡ Err faults.Argument
@@ -414,26 +358,14 @@ kind_fault : (k : ResultKind) (t : List ℕ) (o : Option (List ℕ)) (d : FirstF
     → result_at k t o ≡ Err d → FaultOfAnswer k t d
 unfolding is_same
 kind_fault (Same g) t o d at e = same_fault g t o d at e
-kind_fault Count t o d at e = result_fault Count t o d refl e
-kind_fault Zero t o d at e = result_fault Zero t o d refl e
-kind_fault Fd t o d at e = result_fault Fd t o d refl e
-kind_fault FdPair t o d at e = result_fault FdPair t o d refl e
-kind_fault Child t o d at e = result_fault Child t o d refl e
-kind_fault ChildAndFd t o d at e = result_fault ChildAndFd t o d refl e
-kind_fault Any t o d at e = result_fault Any t o d refl e
+kind_fault k t o d at e = result_fault k t o d refl e
 
 one_fault : (k : ResultKind) (t : List ℕ) (d f : FirstFault) → FaultOfAnswer k t d → FaultOfAnswer k t f → d ≡ f
 one_fault (Same g) t d f (inl h) (inl i) = h.1 ∙ sym i.1
 one_fault (Same g) t d f (inl h) (inr i) = absurd (i.0 h.0.0 h.0.1.0 h.0.1.1)
 one_fault (Same g) t d f (inr h) (inl i) = absurd (h.0 i.0.0 i.0.1.0 i.0.1.1)
 one_fault (Same g) t d f (inr h) (inr i) = h.1 ∙ sym i.1
-one_fault Count t d f h i = h ∙ sym i
-one_fault Zero t d f h i = h ∙ sym i
-one_fault Fd t d f h i = h ∙ sym i
-one_fault FdPair t d f h i = h ∙ sym i
-one_fault Child t d f h i = h ∙ sym i
-one_fault ChildAndFd t d f h i = h ∙ sym i
-one_fault Any t d f h i = h ∙ sym i
+one_fault k t d f h i = h ∙ sym i
 
 answer_spoiled : (k : ResultKind) (t : List ℕ) (f : FirstFault) (r : Result Answer FirstFault)
     → answer_at k (codes " RET " ++ t) ≡ r → SpellsNoAnswer k t → FaultOfAnswer k t f → r ≡ Err f

@@ -8,7 +8,7 @@ ghost use Rattle.cap_trace.specs.Quotes.{cut_at_byte};
 
 use crate::calls::ResultKind;
 use crate::fault::FirstFault;
-use crate::limits::{LARGEST_FD, LARGEST_PID};
+use crate::limits::{LARGEST_ERRNO, LARGEST_FD, LARGEST_PID};
 use crate::line::Answer;
 use crate::number::number_of;
 use crate::quotes::cut;
@@ -51,9 +51,9 @@ fn same(fd: u32, text: &[u8]) -> Result<Answer, FirstFault>
 fn any(text: &[u8]) -> Result<Answer, FirstFault>
     ensures { Gives (λ a. a) result (any_at text.now (cut_at_byte 44 text.now)) }
 {
-    match cut(b',', text) {
-        None => number(u64::MAX, text),
-        Some(_) => pair(u64::MAX, u64::MAX, text),
+    match number_of(u64::MAX, text) {
+        Some(number) => Ok(Answer::Made(number)),
+        None => pair(u64::MAX, u64::MAX, text),
     }
 }
 
@@ -86,7 +86,7 @@ pub(crate) fn answer(kind: ResultKind, tail: &[u8]) -> Result<Answer, FirstFault
     };
     match text.strip_prefix(b"-1 errno ".as_slice()) {
         None => made(kind, text),
-        Some(number) => match number_of(65_535, number) {
+        Some(number) => match number_of(LARGEST_ERRNO, number) {
             Some(errno) if errno != 0 => Ok(Answer::Fault(errno as u16)),
             _ => Err(FirstFault::Answer),
         },

@@ -1,41 +1,18 @@
 //! Short texts by four or eight bytes at a time: whether two are the same, and their first and last bytes as numbers.
 
 ghost use Rattle.std.specs.Prelude.{◌≡◌, ◌≤◌, ◌+◌, length, take, drop};
-ghost use Rattle.std.specs.Int.{w16, w32, w64, from_le_bytes};
 ghost use Rattle.std.specs.Str.{bytes_eq};
 ghost use Rattle.cap_trace.specs.Slots.{first_word, last_word};
 
-/// Two bytes as one number.
+/// So many bytes of a text, from this place on.
 #[inline(always)]
-fn two(text: &[u8], from: usize) -> u16
-    requires { from + 2 ≤ length text.now }
-    ensures { result ≡ from_le_bytes w16 (take 2 (drop from text.now)) }
+fn bytes_at<const N: usize>(text: &[u8], from: usize) -> [u8; N]
+    requires { from + N ≤ length text.now }
+    ensures { result ≡ take N (drop from text.now) }
 {
-    let mut bytes = [0u8; 2];
-    bytes.copy_from_slice(&text[from..from + 2]);
-    u16::from_le_bytes(bytes)
-}
-
-/// Four bytes as one number.
-#[inline(always)]
-fn four(text: &[u8], from: usize) -> u32
-    requires { from + 4 ≤ length text.now }
-    ensures { result ≡ from_le_bytes w32 (take 4 (drop from text.now)) }
-{
-    let mut bytes = [0u8; 4];
-    bytes.copy_from_slice(&text[from..from + 4]);
-    u32::from_le_bytes(bytes)
-}
-
-/// Eight bytes as one number.
-#[inline(always)]
-fn eight(text: &[u8], from: usize) -> u64
-    requires { from + 8 ≤ length text.now }
-    ensures { result ≡ from_le_bytes w64 (take 8 (drop from text.now)) }
-{
-    let mut bytes = [0u8; 8];
-    bytes.copy_from_slice(&text[from..from + 8]);
-    u64::from_le_bytes(bytes)
+    let mut bytes = [0u8; N];
+    bytes.copy_from_slice(&text[from..from + N]);
+    bytes
 }
 
 /// The first bytes of a text as one number, and the last: eight bytes, or four or two of a shorter text.
@@ -47,11 +24,16 @@ pub(crate) fn ends(text: &[u8]) -> (u64, u64)
 {
     let size = text.len();
     if size >= 8 {
-        (eight(text, 0), eight(text, size - 8))
+        let (first, last) = (bytes_at(text, 0), bytes_at(text, size - 8));
+        (u64::from_le_bytes(first), u64::from_le_bytes(last))
     } else if size >= 4 {
-        (u64::from(four(text, 0)), u64::from(four(text, size - 4)))
+        let (first, last) = (bytes_at(text, 0), bytes_at(text, size - 4));
+        let (first, last) = (u32::from_le_bytes(first), u32::from_le_bytes(last));
+        (u64::from(first), u64::from(last))
     } else {
-        (u64::from(two(text, 0)), u64::from(two(text, size - 2)))
+        let (first, last) = (bytes_at(text, 0), bytes_at(text, size - 2));
+        let (first, last) = (u16::from_le_bytes(first), u16::from_le_bytes(last));
+        (u64::from(first), u64::from(last))
     }
 }
 

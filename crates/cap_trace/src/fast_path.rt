@@ -1,5 +1,9 @@
-//! The lines that most traces are made of, read in one pass: each field ends at the byte that follows it. What isn't
-//! read so is read with care.
+//! The fast path: the lines that most traces are made of, read in one pass. Each field ends at the byte after it.
+//!
+//! A function here gives up with `None` at a field that it doesn't read: any fault, a number of more than seven digits,
+//! a path with escapes, a form that [`listed_call`] leaves out, and mostly the last bytes of a text. It finds no fault:
+//! the slow path then reads the line. What is read here is spelled by the bytes, and bytes spell at most one line, so
+//! the two agree. Most functions are part of their callers (`inline(always)`): what they read stays in registers.
 
 ghost use Rattle.std.specs.Prelude.{◌≡◌, ◌∷◌, ◌++◌, ◌<◌, IfSome, codes, Ok};
 ghost use Rattle.std.specs.Fmt.{decimal};
@@ -18,7 +22,7 @@ use crate::calls::{AtFlagsCall, BareCall, FdCall, FlagsCall, Form, PathCall, Res
 use crate::equal::same_by_ends;
 use crate::limits::{Fd, LARGEST_FD, LARGEST_PID, LONGEST_LINE, Pid};
 use crate::line::{Answer, Call, Dir, fcntl_kind};
-use crate::names::{Head, head_of};
+use crate::names::{Head, SHORTEST_NAME, head_of};
 use crate::number::digit_of;
 use crate::quotes::cut;
 use crate::runs::Run;
@@ -35,7 +39,7 @@ fn after_byte(byte: u8, text: &[u8]) -> Option<&[u8]>
     }
 }
 
-/// The most bytes that a process or a descriptor and its end take.
+/// The most bytes that a process or a descriptor and its end take. A number here has fewer digits, so it fits 32 bits.
 const MOST_BYTES: usize = 8;
 
 /// A number before this byte, and what follows the byte.
@@ -134,11 +138,12 @@ fn path_before(stop: u8, text: &[u8]) -> Option<(&[u8], &[u8])>
 {
     let inside = after_byte(b'"', text)?;
     let end = Run::Path.end(inside, 0)?;
-    let rest = after_byte(stop, after_byte(b'"', &inside[end..])?)?;
+    let after_quote = after_byte(b'"', &inside[end..])?;
+    let rest = after_byte(stop, after_quote)?;
     Some((&inside[..end], rest))
 }
 
-/// The answer of a call of this kind.
+/// The answer of a call of this kind, as the slow path reads it. It stays a call, so that each form has no copy of it.
 #[inline(never)]
 fn answered(kind: ResultKind, tail: &[u8]) -> Option<Answer>
     ensures { IfSome result (λ a. answer_at kind tail.now ≡ Ok a) }
@@ -177,7 +182,8 @@ fn number_after(tail: &[u8]) -> Option<u32>
     }
 }
 
-/// The answer of a call of this kind, which mostly is a short number.
+/// The answer of a call of this kind, which mostly is a short number; else the slow path reads it. It is part of each
+/// form, where the kind is known and one arm is left.
 #[inline(always)]
 fn short_answer(kind: ResultKind, tail: &[u8]) -> Option<Answer>
     ensures { IfSome result (λ a. answer_at kind tail.now ≡ Ok a) }
@@ -225,14 +231,18 @@ fn fcntl(text: &[u8]) -> Option<(Call<'_>, Answer)>
     ensures { IfSome result (λ p. SpellsAfter (listed forms.Fcntl) text.now (items.Call (call_view p.0) p.1)) }
 {
     let (fd, rest) = fd_before(b',', text)?;
-    if let Some(rest) = set_fd_before(rest) {
-        let (flags, tail) = flags_before(b')', rest)?;
-        let answer = short_answer(ResultKind::Count, tail)?;
-        return Some((Call::FcntlSetFd(fd, flags), answer));
+    match set_fd_before(rest) {
+        Some(rest) => {
+            let (flags, tail) = flags_before(b')', rest)?;
+            let answer = short_answer(ResultKind::Count, tail)?;
+            Some((Call::FcntlSetFd(fd, flags), answer))
+        }
+        None => {
+            let (command, tail) = command_before(b')', rest)?;
+            let answer = short_answer(fcntl_kind(command), tail)?;
+            Some((Call::Fcntl(fd, command), answer))
+        }
     }
-    let (command, tail) = command_before(b')', rest)?;
-    let answer = short_answer(fcntl_kind(command), tail)?;
-    Some((Call::Fcntl(fd, command), answer))
 }
 
 /// `mmap(fd,flags,flags)`
@@ -358,9 +368,6 @@ pub(crate) struct Start<'a> {
     pub(crate) head: Head<'a>,
     pub(crate) text: &'a [u8],
 }
-
-/// The fewest bytes of a name in the table.
-const SHORTEST_NAME: usize = 3;
 
 /// What stands before a bracket, and what follows it. A name that is shorter than any in the table isn't found.
 #[inline(always)]

@@ -14,3 +14,6 @@ pub const LARGEST_PID: Pid = 99_999;
 
 /// Descriptors go from 0 to this.
 pub const LARGEST_FD: Fd = 1_048_575;
+
+/// Errnos go from 1 to this.
+pub(crate) const LARGEST_ERRNO: u64 = 65_535;

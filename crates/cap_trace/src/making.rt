@@ -1,6 +1,6 @@
 //! Making a line of what a producer of traces knows.
 
-ghost use Rattle.std.specs.Prelude.{◌≡◌, ◌&&◌, IfOk, length, nat_le};
+ghost use Rattle.std.specs.Prelude.{◌≡◌, ◌&&◌, IfOk};
 ghost use Rattle.std.specs.List.{list_all};
 ghost use Rattle.cap_trace.specs.declared.fault.LineFault.TheVariants.{Argument};
 ghost use Rattle.cap_trace.specs.declared.line.Answer.TheVariants as answers;
@@ -8,7 +8,6 @@ ghost use Rattle.cap_trace.specs.Views.{fds_spelled};
 ghost use Rattle.cap_trace.specs.Names.{unlisted};
 ghost use Rattle.cap_trace.specs.Entry.{args_of_call, head_of_call};
 ghost use Rattle.cap_trace.specs.Views.{arg_view, call_view, item_view};
-ghost use Rattle.cap_trace.specs.Limits.{longest_line};
 ghost use Rattle.cap_trace.specs.Spelling.{canon};
 ghost use Rattle.cap_trace.specs.Making.{MakesWhere, IsLineOf, is_fd, is_pid, is_good, are_good, is_head, is_answer};
 ghost use Rattle.cap_trace.specs.Making.{all_rise, is_good_item, is_named, has_named_rights};
@@ -38,12 +37,6 @@ fn fd_fits(fd: Fd) -> bool
     ensures { result ≡ is_fd fd }
 {
     fd <= LARGEST_FD
-}
-
-fn pid_fits(pid: Pid) -> bool
-    ensures { result ≡ is_pid pid }
-{
-    0 < pid && pid <= LARGEST_PID
 }
 
 /// Whether each descriptor is above the one before it.
@@ -189,7 +182,7 @@ fn fields_fit(alloc: Global, pid: Pid, item: &Item<'_>) -> Result<bool, NoMemory
     ensures { IfOk result (λ b. b ≡
         (is_pid pid && is_good_item (item_view item.now) && has_named_rights (item_view item.now))) }
 {
-    if pid_fits(pid) && item_fits(alloc, item)? {
+    if 0 < pid && pid <= LARGEST_PID && item_fits(alloc, item)? {
         rights_are_named(alloc, item)
     } else {
         Ok(false)
@@ -203,12 +196,6 @@ fn text_of(alloc: Global, pid: Pid, item: &Item<'_>) -> Result<Vec<u8>, NoMemory
     let mut text = Vec::new(alloc);
     put_text(pid, item, &mut text)?;
     Ok(text)
-}
-
-fn is_short(text: &[u8]) -> bool
-    ensures { result ≡ nat_le (length text.now) longest_line }
-{
-    text.len() <= LONGEST_LINE
 }
 
 /// Descriptors, each above the one before it, as a start spells them ([`Item::Start`]).
@@ -271,7 +258,8 @@ impl Line {
             return Ok(None);
         }
         let text = text_of(alloc, pid, item)?;
-        if is_short(&text) {
+        let is_short = text.len() <= LONGEST_LINE;
+        if is_short {
             Ok(Some(Line { text }))
         } else {
             Ok(None)

@@ -277,14 +277,18 @@ static SLOTS: [u8; 512] = [
 ];
 // the end of slots
 
-/// The slot of a name, by its first and last bytes: each name of the table has one of its own. All of them have 3 to 16
-/// bytes.
+/// The fewest and the most bytes of a name in the table.
+pub(crate) const SHORTEST_NAME: usize = 3;
+
+const LONGEST_NAME: usize = 16;
+
+/// The slot of a name, by its first and last bytes: each name of the table has one of its own.
 #[inline(always)]
 fn slot_of(name: &[u8]) -> Option<usize>
     ensures some { IfSome result (λ k. (k ≡ slot_at name.now) × (k < 512)) }
     ensures none { IsNone result ↔ ((length name.now < 3) ⊎ (16 < length name.now)) }
 {
-    if name.len() < 3 || name.len() > 16 {
+    if name.len() < SHORTEST_NAME || name.len() > LONGEST_NAME {
         return None;
     }
     let (first, last) = ends(name);
@@ -304,14 +308,15 @@ fn in_slot(slot: usize) -> Option<&'static Row>
     listed_at(usize::from(SLOTS[slot]))
 }
 
-/// The form of a name of the table.
+/// The form of a name of the table. Only the row in the slot of the name is compared with it: each row stands in the
+/// slot of its name, so a search through all rows finds the same.
 #[inline(always)]
 pub(crate) fn form_of(name: &[u8]) -> Option<Form>
     ensures { result ≡ form_named name.now }
 {
     let slot = slot_of(name)?;
-    let Row(row_name, form, _) = in_slot(slot)?;
-    same_by_ends(row_name, name).then_some(*form)
+    let row = in_slot(slot)?;
+    same_by_ends(row.0, name).then_some(row.1)
 }
 
 fn name_byte(byte: u8) -> bool

@@ -27,6 +27,7 @@ fn other_fast(start: Start<'_>) -> Option<LineRef<'_>>
     ensures { (bytes : List ℕ) → Starts bytes start.entry.pid (head_view start.entry.head) start.entry.text.now
         → IfSome result (λ l. line_of bytes ≡ Ok l) }
 {
+    // With a `?` in place of the match there is no proof.
     match call_after(start.head, start.text) {
         Some((call, answer)) => Some(LineRef {
             pid: start.pid,
@@ -36,7 +37,9 @@ fn other_fast(start: Start<'_>) -> Option<LineRef<'_>>
     }
 }
 
-/// What the bytes say, where that is read in one pass; `None` says nothing. It takes no memory.
+/// What the bytes say, where that is read in one pass. It takes no memory.
+///
+/// `None` says nothing: [`read_slow`] then tells, and gives what this gives wherever this gives a line.
 ///
 /// A call on one descriptor, which two lines of three have, is told from the others first.
 #[inline(always)]
@@ -59,7 +62,7 @@ pub fn read_fast(bytes: &[u8]) -> Option<LineRef<'_>>
     })
 }
 
-/// What the bytes say, read with care. It takes no memory.
+/// What the bytes say, read with care. It takes no memory. It stays a call, since [`read_fast`] reads most lines.
 ///
 /// # Errors
 ///

@@ -1,5 +1,5 @@
-//! Where the bytes end that may stand in a name of a flag, or for themselves in a path, or that aren't some byte: four at a
-//! time.
+//! Where the bytes end that may stand in a name of a flag, or for themselves in a path, or that aren't some byte. They
+//! are tested four at a time, so that one test of the length serves four bytes.
 
 ghost use Rattle.std.specs.Prelude.{◌≡◌, ◌≤◌, ◌+◌, length, IfSome, MatchOption};
 ghost use Rattle.cap_trace.specs.Runs.{has, Runs, RunsTo};

@@ -3,8 +3,5 @@ use Rattle.cap_trace.proofs.FastPathLines.{path_before}
 use Rattle.cap_trace.proofs.fast_path.path_before.Goals as goal
 
 pub returns : goal.returns
-returns c =
-    path_before c.args.stop c.args.text.now c.in_ok-inside.inside.now c.in_ok-after_byte.field-0.now
-    c.in_ok-rest.rest.now
-    c.in_ok-end.end c.in_ok-inside.ensures (omega (arith, c.in_ok-end.ensures.1)) c.in_ok-end.ensures.2
-    c.in_ok-after_byte.ensures c.in_ok-rest.ensures
+returns c = path_before c.in_ok-end.end c.in_ok-inside.ensures (omega (arith, c.in_ok-end.ensures.1))
+    c.in_ok-end.ensures.2 c.in_ok-after_quote.ensures c.in_ok-rest.ensures

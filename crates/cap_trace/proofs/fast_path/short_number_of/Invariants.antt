@@ -1,11 +1,6 @@
-use Rattle.std.proofs.Common.{◌≡◌, ◌≤◌, true, length, take}
-use Rattle.std.specs.Str.{all_ascii_digits}
-use Rattle.std.specs.Str.Parse.{digits_value}
+use Rattle.std.proofs.Common.{◌≤◌, length}
+use Rattle.cap_trace.proofs.Numerals.{Digits}
 use Rattle.cap_trace.proofs.fast_path.short_number_of.Given as goal
 
 abbrev pub invariant-loop-i : goal.invariant-loop-i
-invariant-loop-i l = record {
-  digits : all_ascii_digits (take l.i l.text) ≡ true;
-  value : l.number ≡ digits_value 10 (take l.i l.text);
-  within : l.i ≤ length l.text;
-}
+invariant-loop-i l = Digits l.text l.i l.number × (l.i ≤ length l.text)

@@ -32,16 +32,16 @@ pub returns-in_err-slot : goal.returns-in_err-slot
 returns-in_err-slot c =
     c.from_residual.ensures ∙ odd_size_none c.args.name.now (c.in_err-slot.ensures.none.0 refl)
 
-pub returns-in_err-row_name : goal.returns-in_err-row_name
-returns-in_err-row_name c =
-    c.from_residual-in_err-row_name.ensures
-    ∙ named_is c.args.name.now c.in_ok-slot.slot None c.in_ok-slot.ensures.some.0 (no_row _ c.in_err-row_name.ensures)
+pub returns-in_err-row : goal.returns-in_err-row
+returns-in_err-row c =
+    c.from_residual-in_err-row.ensures
+    ∙ named_is c.args.name.now c.in_ok-slot.slot None c.in_ok-slot.ensures.some.0 (no_row _ c.in_err-row.ensures)
 
 pub returns : goal.returns
 returns c =
-    let r = c.in_ok-row_name.field-0.now in
+    let r = c.in_ok-row.row.now in
     c.then_some.ensures ∙ then_is c.same_by_ends.result r.1
     ∙ this_named c.args.name.now c.in_ok-slot.slot r.1 c.same_by_ends.result c.in_ok-slot.ensures.some.0
-    (form_is r _ c.in_ok-row_name.ensures)
-    (ap (λ (n : List ℕ). bytes_eq n c.args.name.now) (name_is r _ c.in_ok-row_name.ensures)
+    (form_is r _ c.in_ok-row.ensures)
+    (ap (λ (n : List ℕ). bytes_eq n c.args.name.now) (name_is r _ c.in_ok-row.ensures)
     ∙ sym c.same_by_ends.ensures)

@@ -1,7 +1,5 @@
 use Rattle.std.proofs.Common.{subst}
 use Rattle.cap_trace.specs.declared.names.Head.{Head}
-use Rattle.cap_trace.specs.Item as items
-use Rattle.cap_trace.specs.Call as calls
 use Rattle.cap_trace.specs.declared.calls.Form.{Form}
 use Rattle.cap_trace.specs.declared.calls.Form.TheVariants as forms
 use Rattle.cap_trace.specs.Names.{listed}
@@ -20,6 +18,4 @@ starts c =
     c.in-Listed.is c.in_ok-start.ensures)
 
 pub returns : goal.returns
-returns c = read_so c.args.bytes.now c.in_ok-start.start.text.now c.in_ok-start.start.pid
-    (listed (forms.OnFd c.in-OnFd.call))
-    (items.Call (calls.OnFd c.in-OnFd.call c.in_ok-fd.fd) c.in_ok-fd.answer) (starts c) c.in_ok-fd.ensures
+returns c = read_so (starts c) c.in_ok-fd.ensures

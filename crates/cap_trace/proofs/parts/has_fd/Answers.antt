@@ -1,4 +1,4 @@
-use Rattle.std.proofs.Common.{ℕ, Bool, Ok, Err, ap, sym, ◌∙◌}
+use Rattle.std.proofs.Common.{ℕ, Bool, Ok, ap, sym, ◌∙◌}
 use Rattle.std.specs.Prelude.{◌==◌, ◌||◌}
 use Rattle.std.proofs.lemmas.Bool.{eq-eqb, ne_eqb}
 use Rattle.std.specs.List.{list_any}
@@ -23,7 +23,7 @@ loop-next-preserved-else-fd-found c =
 pub loop-next-preserved : goal.loop-next-preserved
 loop-next-preserved c =
     any_on (λ (g : ℕ). c.args.fd == g) c.loop-next.parts c.next_fd.new.self c.in-Some.next
-    (Err c.in_default-next.field-0) _ c.in-Some.ensures.value c.in_default-next.is c.loop-next.invariant
+    _ _ c.in-Some.ensures.value c.in_default-next.is c.loop-next.invariant
 
 pub returns : goal.returns
 returns c = any_end (λ (g : ℕ). c.args.fd == g) c.loop-next.parts _ c.in_default.ensures.value.0 c.loop-next.invariant

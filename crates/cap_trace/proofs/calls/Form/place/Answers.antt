@@ -8,25 +8,18 @@ use Rattle.cap_trace.specs.declared.calls.Form.{Form}
 use Rattle.cap_trace.specs.declared.calls.Form.TheVariants as forms
 use Rattle.cap_trace.specs.Names.{all_forms, row_of}
 use Rattle.cap_trace.proofs.calls.Form.place.Goals as goal
-use Rattle.cap_trace.specs.declared.calls.SendCall.{SendCall}
 use Rattle.cap_trace.specs.declared.calls.SendCall.TheVariants as sends_calls
 use Rattle.cap_trace.specs.contracts.calls.SendCall as sends_calls_type
-use Rattle.cap_trace.specs.declared.calls.PathCall.{PathCall}
 use Rattle.cap_trace.specs.declared.calls.PathCall.TheVariants as on_path_calls
 use Rattle.cap_trace.specs.contracts.calls.PathCall as on_path_calls_type
-use Rattle.cap_trace.specs.declared.calls.PathsCall.{PathsCall}
 use Rattle.cap_trace.specs.declared.calls.PathsCall.TheVariants as on_paths_calls
 use Rattle.cap_trace.specs.contracts.calls.PathsCall as on_paths_calls_type
-use Rattle.cap_trace.specs.declared.calls.AtCall.{AtCall}
 use Rattle.cap_trace.specs.declared.calls.AtCall.TheVariants as at_dir_calls
 use Rattle.cap_trace.specs.contracts.calls.AtCall as at_dir_calls_type
-use Rattle.cap_trace.specs.declared.calls.AtFlagsCall.{AtFlagsCall}
 use Rattle.cap_trace.specs.declared.calls.AtFlagsCall.TheVariants as at_dir_with_flags_calls
 use Rattle.cap_trace.specs.contracts.calls.AtFlagsCall as at_dir_with_flags_calls_type
-use Rattle.cap_trace.specs.declared.calls.FlagsCall.{FlagsCall}
 use Rattle.cap_trace.specs.declared.calls.FlagsCall.TheVariants as on_flags_calls
 use Rattle.cap_trace.specs.contracts.calls.FlagsCall as on_flags_calls_type
-use Rattle.cap_trace.specs.declared.calls.BareCall.{BareCall}
 use Rattle.cap_trace.specs.declared.calls.BareCall.TheVariants as bare_calls
 use Rattle.cap_trace.specs.contracts.calls.BareCall as bare_calls_type
 
@@ -34,79 +27,74 @@ use Rattle.cap_trace.specs.contracts.calls.BareCall as bare_calls_type
 abbrev begins : Form → ℕ
 begins f = unwrap_or (position (λ g. bytes_eq (row_of g).name (row_of f).name) all_forms) 0
 
-sends : (c : SendCall)
-    → slice_get all_forms (tag_of sends_calls_type.the_type c + begins (forms.Send sends_calls.Sendto))
+-- the form stands as far behind the first of its kind as its call behind the first call
+Stands : Form → Type 0
+Stands (forms.Send c) =
+    slice_get all_forms (tag_of sends_calls_type.the_type c + begins (forms.Send sends_calls.Sendto))
     ≡ Some (forms.Send c)
-unfolding all_forms
-sends sends_calls.Sendto = refl
-sends c = refl
+Stands (forms.OnPath c) =
+    slice_get all_forms (tag_of on_path_calls_type.the_type c + begins (forms.OnPath on_path_calls.Execve))
+    ≡ Some (forms.OnPath c)
+Stands (forms.OnPaths c) =
+    slice_get all_forms (tag_of on_paths_calls_type.the_type c + begins (forms.OnPaths on_paths_calls.Link))
+    ≡ Some (forms.OnPaths c)
+Stands (forms.At c) =
+    slice_get all_forms (tag_of at_dir_calls_type.the_type c + begins (forms.At at_dir_calls.Mkdirat))
+    ≡ Some (forms.At c)
+Stands (forms.AtFlags c) =
+    slice_get all_forms (tag_of at_dir_with_flags_calls_type.the_type c
+    + begins (forms.AtFlags at_dir_with_flags_calls.Openat))
+    ≡ Some (forms.AtFlags c)
+Stands (forms.OnFlags c) =
+    slice_get all_forms (tag_of on_flags_calls_type.the_type c + begins (forms.OnFlags on_flags_calls.Socket))
+    ≡ Some (forms.OnFlags c)
+Stands (forms.Bare c) =
+    slice_get all_forms (tag_of bare_calls_type.the_type c + begins (forms.Bare bare_calls.Pipe))
+    ≡ Some (forms.Bare c)
+Stands f = Unit {0}
+
+stands : (f : Form) → Stands f
+unfolding all_forms Stands
+stands (forms.Send sends_calls.Sendto) = refl
+stands (forms.Send c) = refl
+stands (forms.OnPath on_path_calls.Execve) = refl
+stands (forms.OnPath c) = refl
+stands (forms.OnPaths on_paths_calls.Link) = refl
+stands (forms.OnPaths c) = refl
+stands (forms.At at_dir_calls.Mkdirat) = refl
+stands (forms.At c) = refl
+stands (forms.AtFlags at_dir_with_flags_calls.Openat) = refl
+stands (forms.AtFlags c) = refl
+stands (forms.OnFlags on_flags_calls.Socket) = refl
+stands (forms.OnFlags c) = refl
+stands (forms.Bare bare_calls.Pipe) = refl
+stands (forms.Bare c) = refl
+stands f = tt
 
 pub returns-in-Send : goal.returns-in-Send
-unfolding all_forms
-returns-in-Send c = sends c.in-Send.call ∙ ap Some (sym c.in-Send.is)
-
-on_path : (c : PathCall)
-    → slice_get all_forms (tag_of on_path_calls_type.the_type c + begins (forms.OnPath on_path_calls.Execve))
-    ≡ Some (forms.OnPath c)
-unfolding all_forms
-on_path on_path_calls.Execve = refl
-on_path c = refl
+unfolding all_forms Stands
+returns-in-Send c = stands (forms.Send c.in-Send.call) ∙ ap Some (sym c.in-Send.is)
 
 pub returns-in-OnPath : goal.returns-in-OnPath
-unfolding all_forms
-returns-in-OnPath c = on_path c.in-OnPath.call ∙ ap Some (sym c.in-OnPath.is)
-
-on_paths : (c : PathsCall)
-    → slice_get all_forms (tag_of on_paths_calls_type.the_type c + begins (forms.OnPaths on_paths_calls.Link))
-    ≡ Some (forms.OnPaths c)
-unfolding all_forms
-on_paths on_paths_calls.Link = refl
-on_paths c = refl
+unfolding all_forms Stands
+returns-in-OnPath c = stands (forms.OnPath c.in-OnPath.call) ∙ ap Some (sym c.in-OnPath.is)
 
 pub returns-in-OnPaths : goal.returns-in-OnPaths
-unfolding all_forms
-returns-in-OnPaths c = on_paths c.in-OnPaths.call ∙ ap Some (sym c.in-OnPaths.is)
-
-at_dir : (c : AtCall)
-    → slice_get all_forms (tag_of at_dir_calls_type.the_type c + begins (forms.At at_dir_calls.Mkdirat))
-    ≡ Some (forms.At c)
-unfolding all_forms
-at_dir at_dir_calls.Mkdirat = refl
-at_dir c = refl
+unfolding all_forms Stands
+returns-in-OnPaths c = stands (forms.OnPaths c.in-OnPaths.call) ∙ ap Some (sym c.in-OnPaths.is)
 
 pub returns-in-At : goal.returns-in-At
-unfolding all_forms
-returns-in-At c = at_dir c.in-At.call ∙ ap Some (sym c.in-At.is)
-
-at_dir_with_flags : (c : AtFlagsCall)
-    → slice_get all_forms (tag_of at_dir_with_flags_calls_type.the_type c + begins (forms.AtFlags at_dir_with_flags_calls.Openat))
-    ≡ Some (forms.AtFlags c)
-unfolding all_forms
-at_dir_with_flags at_dir_with_flags_calls.Openat = refl
-at_dir_with_flags c = refl
+unfolding all_forms Stands
+returns-in-At c = stands (forms.At c.in-At.call) ∙ ap Some (sym c.in-At.is)
 
 pub returns-in-AtFlags : goal.returns-in-AtFlags
-unfolding all_forms
-returns-in-AtFlags c = at_dir_with_flags c.in-AtFlags.call ∙ ap Some (sym c.in-AtFlags.is)
-
-on_flags : (c : FlagsCall)
-    → slice_get all_forms (tag_of on_flags_calls_type.the_type c + begins (forms.OnFlags on_flags_calls.Socket))
-    ≡ Some (forms.OnFlags c)
-unfolding all_forms
-on_flags on_flags_calls.Socket = refl
-on_flags c = refl
+unfolding all_forms Stands
+returns-in-AtFlags c = stands (forms.AtFlags c.in-AtFlags.call) ∙ ap Some (sym c.in-AtFlags.is)
 
 pub returns-in-OnFlags : goal.returns-in-OnFlags
-unfolding all_forms
-returns-in-OnFlags c = on_flags c.in-OnFlags.call ∙ ap Some (sym c.in-OnFlags.is)
-
-bare : (c : BareCall)
-    → slice_get all_forms (tag_of bare_calls_type.the_type c + begins (forms.Bare bare_calls.Pipe))
-    ≡ Some (forms.Bare c)
-unfolding all_forms
-bare bare_calls.Pipe = refl
-bare c = refl
+unfolding all_forms Stands
+returns-in-OnFlags c = stands (forms.OnFlags c.in-OnFlags.call) ∙ ap Some (sym c.in-OnFlags.is)
 
 pub returns-in-Bare : goal.returns-in-Bare
-unfolding all_forms
-returns-in-Bare c = bare c.in-Bare.call ∙ ap Some (sym c.in-Bare.is)
+unfolding all_forms Stands
+returns-in-Bare c = stands (forms.Bare c.in-Bare.call) ∙ ap Some (sym c.in-Bare.is)

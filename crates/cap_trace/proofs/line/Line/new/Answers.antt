@@ -1,4 +1,4 @@
-use Rattle.std.proofs.Common.{◌≡◌, Ok, ◌∙◌}
+use Rattle.std.proofs.Common.{◌≡◌, Ok, length, ap, arith}
 use Rattle.cap_trace.specs.Entry.{Entry}
 use Rattle.cap_trace.specs.Reading.{line_of}
 use Rattle.cap_trace.specs.Views.{item_view}
@@ -9,15 +9,14 @@ use Rattle.cap_trace.proofs.line.Line.new.Goals as goal
 
 pub returns-then-not-branch : goal.returns-then-not-branch
 returns-then-not-branch c = bad_fields (record { pid = c.args.pid; item = item_view c.args.item.now })
-    c.in_ok-fields_fit.field-0 c.in_ok-fields_fit.ensures c.if-not-branch.true
+    c.in_ok-fields_fit.ensures c.if-not-branch.true
 
 abbrev entry : goal.Then-is_short → Entry
 entry c = record { pid = c.args.pid; item = item_view c.args.item.now }
 
 proper : (c : goal.Then-is_short) → IsProper (entry c)
-proper c = short_proper (entry c) c.in_ok-fields_fit.field-0 c.is_short.result c.deref.result.now
-    c.in_ok-fields_fit.ensures c.if-not-branch.false c.is_short.ensures
-    (c.deref.ensures.value ∙ c.in_ok-text.ensures) c.if-is_short.true
+proper c = short_proper (entry c) c.in_ok-fields_fit.ensures c.if-not-branch.false
+    (omega (arith, ap length c.in_ok-text.ensures))
 
 reads : (c : goal.Then-is_short) → line_of c.in_ok-text.text.items ≡ Ok (entry c)
 reads c = canon_read c.in_ok-text.text.items (entry c) c.in_ok-text.ensures (proper c)
@@ -29,5 +28,5 @@ pub returns-then-is_short : goal.returns-then-is_short
 returns-then-is_short c = (kept_is c.in_ok-text.text.items (entry c) (reads c), proper c)
 
 pub returns-else-is_short : goal.returns-else-is_short
-returns-else-is_short c = too_long (record { pid = c.args.pid; item = item_view c.args.item.now }) c.is_short.result
-    c.deref.result.now c.is_short.ensures (c.deref.ensures.value ∙ c.in_ok-text.ensures) c.if-is_short.false
+returns-else-is_short c = too_long (record { pid = c.args.pid; item = item_view c.args.item.now })
+    (omega (arith, ap length c.in_ok-text.ensures))

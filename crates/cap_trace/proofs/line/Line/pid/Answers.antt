@@ -12,12 +12,12 @@ unreachable-requires c =
 
 pub unreachable-requires-in_default-pid_of : goal.unreachable-requires-in_default-pid_of
 unreachable-requires-in_default-pid_of c =
-    let read = pid_read c.deref.result.now c.self.inside.text.items c.in-Some.pid.now c.in-Some.field-0-1.now
+    let read = pid_read c.deref.result.now c.self.inside.text.items _ _
     c.self.invariant c.deref.ensures.value c.in-Some.ensures in
     let e = sym c.in_default-pid_of.ensures ∙ read in cc
 
 pub returns : goal.returns
 returns c =
-    let read = pid_read c.deref.result.now c.self.inside.text.items c.in-Some.pid.now c.in-Some.field-0-1.now
+    let read = pid_read c.deref.result.now c.self.inside.text.items _ _
     c.self.invariant c.deref.ensures.value c.in-Some.ensures in
     ok_is c.in-Ok.pid (entry_of c.self.inside.text.items).pid (sym c.in-Ok.ensures ∙ read) ∙ ap (λ e. e.pid) c.self.view_is
