@@ -6,6 +6,7 @@
 //! it follows: a `Requirement` and an `Effect` are large, and are cleared and copied in memory.
 
 ghost use Rattle.std.specs.Prelude.{◌≡◌, ℕ, [], OnOk, IsTrue, Option};
+ghost use Rattle.cap_trace.specs.Call as calls;
 ghost use Rattle.cap_trace.specs.Entry.{IsFd};
 ghost use Rattle.cap_trace.specs.Views.{call_view};
 ghost use Rattle.cap_machine.specs.Steps.{step};
@@ -18,6 +19,7 @@ ghost use Rattle.cap_machine.specs.Table.{cell_of, state_of, Keeps, step_after, 
 
 use crate::cell::{Cell, Mode, Profile, without_full_of};
 use crate::effects::{keeps_all, open_flag_of};
+use crate::errno::{EBADF, ECAPMODE, ENOTCAPABLE};
 use crate::needs::{
     at_flags_needs_of, at_needs_of, fcntl_needs_of, fd_needs_of, mmap_needs_of, send_needs_of,
 };
@@ -26,7 +28,7 @@ use crate::rule::{Reply, effect_of_line, requirement_of_line};
 use crate::table::Table;
 use crate::verdict::Verdict;
 use cap_rights::{NoMemory, RightSet};
-use cap_trace::{Answer, AtFlagsCall, Call, Fd, FdCall, Item, LineRef, PathCall, Pid};
+use cap_trace::{Answer, AtCall, AtFlagsCall, Call, Dir, Fd, FdCall, Item, LineRef, PathCall, Pid};
 
 impl Table {
     ghost use Rattle.cap_trace.specs.declared.line.Answer.{Answer};
@@ -55,7 +57,73 @@ impl Table {
         self.cell(pid, fd).may_have(&needs)
     }
 
-    /// The same of a call that succeeded.
+    /// Whether nothing is found in a fcntl(2) that succeeded.
+    ///
+    /// Like the next four it isn't inlined: what it needs in memory would be cleared at each line, also where it isn't
+    /// called. That spares a twentieth of a check of reads and writes.
+    #[inline(never)]
+    fn fcntl_has_no_finding(&self, pid: Pid, fd: Fd, command: &[u8]) -> bool
+        ensures { IsTrue result → (answer : Answer) → reply answer ≡ Reply.Success
+            → findings_of (call_requirement (calls.Fcntl fd command.now) answer) pid (state_of self.now) ≡ [] }
+    {
+        match fcntl_needs_of(command) {
+            None => true,
+            Some(needs) => self.may_have(pid, fd, needs),
+        }
+    }
+
+    /// Whether nothing is found in a mmap(2) that succeeded.
+    #[inline(never)]
+    fn mmap_has_no_finding(&self, pid: Pid, fd: Fd, protection: &[u8], kind: &[u8]) -> bool
+        ensures { IsTrue result → (answer : Answer) → reply answer ≡ Reply.Success
+            → findings_of (call_requirement (calls.Mmap fd protection.now kind.now) answer) pid (state_of self.now)
+            ≡ [] }
+    {
+        self.may_have(pid, fd, mmap_needs_of(protection, kind))
+    }
+
+    /// Whether nothing is found in a cap_rights_limit(2) that succeeded.
+    #[inline(never)]
+    fn limit_has_no_finding(&self, pid: Pid, fd: Fd, asked: RightSet) -> bool
+        ensures { IsTrue result → (answer : Answer) → reply answer ≡ Reply.Success
+            → findings_of (call_requirement (calls.RightsLimit fd asked) answer) pid (state_of self.now) ≡ [] }
+    {
+        self.may_have(pid, fd, without_full_of(&asked))
+    }
+
+    /// Whether nothing is found in a call at a directory that succeeded.
+    #[inline(never)]
+    fn at_has_no_finding(&self, pid: Pid, call: AtCall, dir: Dir, path: &[u8]) -> bool
+        ensures { IsTrue result → (answer : Answer) → reply answer ≡ Reply.Success
+            → findings_of (call_requirement (calls.At call dir path.now) answer) pid (state_of self.now) ≡ [] }
+    {
+        match below_of(dir, path) {
+            None => self.mode(pid) != Mode::Inside,
+            Some(fd) => self.may_have(pid, fd, at_needs_of(call)),
+        }
+    }
+
+    /// Whether nothing is found in a call at a directory, with flags, that succeeded.
+    #[inline(never)]
+    fn at_flags_has_no_finding(
+        &self,
+        pid: Pid,
+        call: AtFlagsCall,
+        dir: Dir,
+        path: &[u8],
+        flags: &[u8],
+    ) -> bool
+        ensures { IsTrue result → (answer : Answer) → reply answer ≡ Reply.Success
+            → findings_of (call_requirement (calls.AtFlags call dir path.now flags.now) answer) pid (state_of self.now)
+            ≡ [] }
+    {
+        match below_of(dir, path) {
+            None => self.mode(pid) != Mode::Inside,
+            Some(fd) => self.may_have(pid, fd, at_flags_needs_of(call, flags)),
+        }
+    }
+
+    /// Whether nothing is found in a call that succeeded. May miss some.
     #[inline(always)]
     fn has_no_finding_on_success(&self, pid: Pid, call: &Call<'_>) -> bool
         ensures { IsTrue result → (answer : Answer) → reply answer ≡ Reply.Success
@@ -68,22 +136,15 @@ impl Table {
             Call::Dup2(fd, _) | Call::FcntlDup(_, fd, _) | Call::FcntlSetFd(fd, _) => {
                 self.may_have(pid, *fd, RightSet::none())
             }
-            Call::Fcntl(fd, command) => match fcntl_needs_of(command) {
-                None => true,
-                Some(needs) => self.may_have(pid, *fd, needs),
-            },
+            Call::Fcntl(fd, command) => self.fcntl_has_no_finding(pid, *fd, command),
             Call::Mmap(fd, protection, kind) => {
-                self.may_have(pid, *fd, mmap_needs_of(protection, kind))
+                self.mmap_has_no_finding(pid, *fd, protection, kind)
             }
-            Call::RightsLimit(fd, asked) => self.may_have(pid, *fd, without_full_of(asked)),
-            Call::At(call, dir, path) => match below_of(*dir, path) {
-                None => self.mode(pid) != Mode::Inside,
-                Some(fd) => self.may_have(pid, fd, at_needs_of(*call)),
-            },
-            Call::AtFlags(call, dir, path, flags) => match below_of(*dir, path) {
-                None => self.mode(pid) != Mode::Inside,
-                Some(fd) => self.may_have(pid, fd, at_flags_needs_of(*call, flags)),
-            },
+            Call::RightsLimit(fd, asked) => self.limit_has_no_finding(pid, *fd, *asked),
+            Call::At(call, dir, path) => self.at_has_no_finding(pid, *call, *dir, path),
+            Call::AtFlags(call, dir, path, flags) => {
+                self.at_flags_has_no_finding(pid, *call, *dir, path, flags)
+            }
             Call::Open(_, _) | Call::OnPath(_, _) | Call::OnPaths(_, _, _) => {
                 self.mode(pid) != Mode::Inside
             }
@@ -99,7 +160,7 @@ impl Table {
             ≡ [] }
     {
         match answer {
-            Answer::Fault(93) | Answer::Fault(94) => false,
+            Answer::Fault(ENOTCAPABLE | ECAPMODE) => false,
             Answer::Fault(_) => true,
             _ => self.has_no_finding_on_success(pid, call),
         }
@@ -168,7 +229,7 @@ impl Table {
         ensures { OnOk result (Keeps self.new (touched_by (on_fd fd (closing answer) pid) (state_of self.old))) }
     {
         match answer {
-            Answer::Fault(9) => Ok(()),
+            Answer::Fault(EBADF) => Ok(()),
             Answer::Fault(_) => self.write_one(pid, fd, Cell::Unknown),
             _ => self.write_one(pid, fd, Cell::Closed),
         }
