@@ -11,6 +11,7 @@ ghost use Rattle.cap_machine.specs.Cells.DeferredFree.{left_at_most};
 ghost use Rattle.cap_machine.specs.Cells.Parts.{in_leaf, in_shared};
 ghost use Rattle.cap_machine.specs.Cells.Cells1M.{in_cells_1m};
 ghost use Rattle.cap_machine.specs.Cells.Started.{in_started};
+ghost use Rattle.cap_machine.specs.Cells.WrittenCells.{written, in_written_cells};
 ghost use Rattle.cap_machine.specs.Touch.{started};
 
 mod cells_16k;
@@ -22,7 +23,6 @@ mod kind;
 mod leaf;
 mod node;
 mod shared;
-mod shared_written_cells;
 mod started;
 mod subtree;
 mod written_cells;
@@ -33,20 +33,70 @@ pub(crate) use crate::cells::deferred::Deferred;
 pub(crate) use crate::cells::deferred_free::DeferredFree;
 pub(crate) use crate::cells::leaf::Leaf;
 use crate::cells::shared::Shared;
-use crate::cells::shared_written_cells::SharedWrittenCells;
 use crate::cells::started::Started;
 use crate::cells::subtree::Subtree;
+use crate::cells::written_cells::{WrittenCell, WrittenCells};
 use cap_rights::{NoMemory, RightSet};
 use cap_trace::{Fd, LARGEST_FD};
 use std::alloc::{AllocError, Global};
 
+/// Writes a cell in the tree, and strikes it off the list of the start.
+fn write_tree(
+    started: &mut Started,
+    high: &mut Shared<Cells1M>,
+    fd: Fd,
+    cell: Cell,
+) -> Result<(), NoMemory>
+    requires { IsFd fd }
+    ensures { OnOk result ((f : ℕ) → IsFd f
+        → in_started started.new (in_shared in_cells_1m high.new f) f
+        ≡ (if f == fd then cell else in_started started.old (in_shared in_cells_1m high.old f) f)) }
+{
+    started.strike(fd);
+    high.write(fd as usize, cell)?;
+    Ok(())
+}
+
+/// Writes a listed cell in the tree. None is listed above the largest descriptor, where there is no tree.
+fn settle_one(
+    one: &WrittenCell,
+    started: &mut Started,
+    high: &mut Shared<Cells1M>,
+) -> Result<(), NoMemory>
+    ensures { OnOk result ((f : ℕ) → IsFd f
+        → in_started started.new (in_shared in_cells_1m high.new f) f
+        ≡ written one.now (in_started started.old (in_shared in_cells_1m high.old f) f) f) }
+{
+    if LARGEST_FD < one.fd() {
+        return Ok(());
+    }
+    write_tree(started, high, one.fd(), one.cell())?;
+    Ok(())
+}
+
+/// Writes these cells in the tree.
+fn settle_all(
+    few: &WrittenCells,
+    started: &mut Started,
+    high: &mut Shared<Cells1M>,
+) -> Result<(), NoMemory>
+    ensures { OnOk result ((f : ℕ) → IsFd f
+        → in_started started.new (in_shared in_cells_1m high.new f) f
+        ≡ in_written_cells few.now (in_started started.old (in_shared in_cells_1m high.old f) f) f) }
+{
+    for one in few.as_slice() {
+        settle_one(one, started, high)?;
+    }
+    Ok(())
+}
+
 /// The cells of a process. Those of the first 64 descriptors stand in a leaf. Of the others a few that were written
-/// stand over those that are still as `@start` listed them, and these over a tree. No descriptor above the largest one
-/// is ever written, so one cell stands for all of them.
+/// since the last fork stand over those that are still as `@start` listed them, and these over a tree. No descriptor
+/// above the largest one is ever written, so one cell stands for all of them.
 #[derive(Drop)]
 pub(crate) struct Cells {
     low: Shared<Leaf<64>>,
-    few: SharedWrittenCells,
+    few: WrittenCells,
     started: Started,
     high: Shared<Cells1M>,
     far: Cell,
@@ -60,7 +110,7 @@ impl Cells {
     {
         Ok(Cells {
             low: Shared::all(alloc, cell)?,
-            few: SharedWrittenCells::none(alloc),
+            few: WrittenCells::none(alloc),
             started: Started::nothing(alloc),
             high: Shared::all(alloc, cell)?,
             far: cell,
@@ -130,9 +180,19 @@ impl Cells {
         if self.few.takes(fd) {
             self.few.write(fd, cell)
         } else {
-            self.started.strike(fd);
-            self.high.write(fd as usize, cell)
+            write_tree(&mut self.started, &mut self.high, fd, cell)
         }
+    }
+
+    /// Writes in the tree what is listed, for a clone to share. Each listed cell is so written there once, however many
+    /// clones there are, and each clone begins with an empty list.
+    #[tactic(auto, unfolding(crate::specs::Cells::cell_in_cells))]
+    pub(crate) fn settle(&mut self, alloc: Global) -> Result<(), NoMemory>
+        ensures { OnOk result ((f : ℕ) → cell_in_cells self.new f ≡ cell_in_cells self.old f) }
+    {
+        settle_all(&self.few, &mut self.started, &mut self.high)?;
+        self.few = WrittenCells::none(alloc);
+        Ok(())
     }
 
     /// Does this to each cell.
@@ -161,7 +221,7 @@ impl Cells {
         } else {
             self.high.close_from(fd as usize)?;
         }
-        self.few.strike_from(fd)?;
+        self.few.strike_from(fd);
         self.started.strike_from(fd);
         self.far = Cell::Closed;
         Ok(())
@@ -190,7 +250,7 @@ impl Cells {
         ensures high { OnOk result ((f : ℕ) → 64 ≤ f → cell_in_cells self.new f ≡ started fds.now f) }
     {
         self.low.apply_deferred(Deferred::Close);
-        self.few = SharedWrittenCells::none(alloc);
+        self.few = WrittenCells::none(alloc);
         self.started = Started::of(alloc, fds)?;
         self.high.apply_deferred(Deferred::Close);
         self.far = Cell::Closed;

@@ -405,13 +405,37 @@ impl Table {
         }
     }
 
-    /// Gives the child what the parent has.
-    fn fork(&mut self, parent: Pid, child: Pid) -> Result<(), NoMemory>
+    /// Writes in the tree of a process what it listed, for a child to share.
+    fn settle(&mut self, pid: Pid) -> Result<(), NoMemory>
+        ensures { OnOk result (Keeps self.new (state_of self.old)) }
+    {
+        let alloc = self.alloc;
+        match self.place_of(pid) {
+            Some(place) => {
+                let process = &mut self.processes[place];
+                process.cells.settle(alloc)?;
+                Ok(())
+            }
+            None => Ok(()),
+        }
+    }
+
+    /// Gives the child what the parent has, which is settled.
+    fn share(&mut self, parent: Pid, child: Pid) -> Result<(), NoMemory>
         ensures { OnOk result (Keeps self.new (with_copy (state_of self.old) parent child)) }
     {
         self.hand_on(child)?;
         let copy = self.like(parent, child)?;
         self.put(copy)
+    }
+
+    /// Gives the child what the parent has.
+    fn fork(&mut self, parent: Pid, child: Pid) -> Result<(), NoMemory>
+        ensures { OnOk result (Keeps self.new (with_copy (state_of self.old) parent child)) }
+    {
+        self.settle(parent)?;
+        self.share(parent, child)?;
+        Ok(())
     }
 
     /// What is said of a line of a process with this requirement.

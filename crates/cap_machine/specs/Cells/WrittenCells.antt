@@ -1,11 +1,8 @@
 -- The cells that were written while there were few of them, over others.
-use Rattle.std.specs.Prelude.{ℕ, ◌==◌, if◌then◌else◌, List, [], ◌∷◌, Option, Some, None}
-use Rattle.std.specs.declared.rc.Rc.{Rc}
-use Rattle.std.specs.declared.alloc.Global.{Global}
+use Rattle.std.specs.Prelude.{ℕ, ◌==◌, if◌then◌else◌, List, [], ◌∷◌}
 use Rattle.cap_machine.specs.declared.cell.Cell.{Cell}
 use Rattle.cap_machine.specs.declared.cells.written_cells.WrittenCell.{WrittenCell}
 use Rattle.cap_machine.specs.declared.cells.written_cells.WrittenCells.{WrittenCells}
-use Rattle.cap_machine.specs.declared.cells.shared_written_cells.SharedWrittenCells.{SharedWrittenCells}
 use Rattle.cap_machine.specs.Cells.Kind.{cell_of_kind}
 
 abbrev pub written : WrittenCell → Cell → ℕ → Cell
@@ -18,11 +15,3 @@ after_writes below (one ∷ cells) f = after_writes (written one below f) cells 
 
 abbrev pub in_written_cells : WrittenCells → Cell → ℕ → Cell
 in_written_cells few below f = after_writes below few.cells.items f
-
--- they may be shared
-abbrev pub in_shared_cells : Option (Rc WrittenCells Global) → Cell → ℕ → Cell
-in_shared_cells None below f = below
-in_shared_cells (Some few) below f = in_written_cells few.value below f
-
-abbrev pub in_shared_written_cells : SharedWrittenCells → Cell → ℕ → Cell
-in_shared_written_cells listed below f = in_shared_cells listed.few below f

@@ -14,8 +14,8 @@ use cap_rights::NoMemory;
 use std::alloc::Global;
 use std::rc::Rc;
 
-/// So many parts are freed before a line changes anything. It makes at most 14, seven for each cell that it writes: so
-/// while anything is left, no line takes memory for parts.
+/// So many parts are freed before a line changes anything. It makes at most 14, seven for each cell that it writes, at
+/// once or when its process forks: so lines make fewer parts than they free, while anything is left.
 const FREED_AT_ONCE: usize = 16;
 
 /// Parts of trees that nobody has any more, those of each kind in a list of their own. Each had no other owner when it

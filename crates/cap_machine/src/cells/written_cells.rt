@@ -1,7 +1,9 @@
-//! The cells of a process that were written while there were few of them, in a list that stands over its tree.
+//! The cells that a process wrote since it last forked, while there are few of them, in a list that stands over its
+//! tree.
 
 ghost use Rattle.std.specs.Prelude.{◌≡◌, ℕ, OnOk, IfOk, IsFalse, ◌==◌, nat_le, if◌then◌else◌};
 ghost use Rattle.cap_machine.specs.Cells.Deferred.{with_deferred};
+ghost use Rattle.cap_machine.specs.Cells.Kind.{cell_of_kind};
 ghost use Rattle.cap_machine.specs.Cells.WrittenCells.{written, in_written_cells};
 
 use crate::cell::Cell;
@@ -16,22 +18,32 @@ const MOST_WRITTEN_CELLS: usize = 24;
 
 /// A cell that was written.
 #[derive(Clone, Copy)]
-struct WrittenCell {
+pub(crate) struct WrittenCell {
     fd: Fd,
     kind: CellKind,
     rights: RightSet,
 }
 
 impl WrittenCell {
+    /// Whose cell it is.
+    pub(crate) fn fd(&self) -> Fd
+        ensures { result ≡ self.now.fd }
+    {
+        self.fd
+    }
+
+    /// What it is.
+    pub(crate) fn cell(&self) -> Cell
+        ensures { result ≡ cell_of_kind self.now.kind self.now.rights }
+    {
+        self.kind.with(self.rights)
+    }
+
     /// What becomes of the cell of a descriptor.
     fn on(self, cell: Cell, fd: Fd) -> Cell
         ensures { result ≡ written self cell fd }
     {
-        if fd == self.fd {
-            self.kind.with(self.rights)
-        } else {
-            cell
-        }
+        if fd == self.fd { self.cell() } else { cell }
     }
 }
 
@@ -65,8 +77,15 @@ impl WrittenCells {
         cell
     }
 
+    /// Those that are listed; of one descriptor the last counts.
+    pub(crate) fn as_slice(&self) -> &[WrittenCell]
+        ensures { result.now ≡ self.now.cells.items }
+    {
+        &self.cells
+    }
+
     /// Whether a descriptor is listed.
-    pub(crate) fn lists(&self, fd: Fd) -> bool
+    fn lists(&self, fd: Fd) -> bool
         ensures { IsFalse result → ((c : Cell) → in_written_cells self.now c fd ≡ c) }
     {
         for one in &self.cells {
@@ -77,14 +96,16 @@ impl WrittenCells {
         false
     }
 
-    /// Whether one more may be listed.
-    pub(crate) fn has_room(&self) -> bool {
-        self.cells.len() < MOST_WRITTEN_CELLS
+    /// Whether a cell is to be written here: there is room for one more, or it is listed.
+    pub(crate) fn takes(&self, fd: Fd) -> bool
+        ensures { IsFalse result → ((c : Cell) → in_written_cells self.now c fd ≡ c) }
+    {
+        self.cells.len() < MOST_WRITTEN_CELLS || self.lists(fd)
     }
 
     /// Lists one more.
     #[tactic(auto, using(crate::proofs::WrittenCells::after_more, crate::specs::Cells::Kind::kept_cell))]
-    pub(crate) fn list(&mut self, fd: Fd, cell: Cell) -> Result<(), NoMemory>
+    fn list(&mut self, fd: Fd, cell: Cell) -> Result<(), NoMemory>
         ensures { OnOk result
             ((c : Cell) (f : ℕ) → in_written_cells self.new c f
             ≡ (if f == fd then cell else in_written_cells self.old c f)) }
@@ -95,11 +116,21 @@ impl WrittenCells {
     }
 
     /// Strikes a descriptor off the list.
-    pub(crate) fn strike(&mut self, fd: Fd)
+    fn strike(&mut self, fd: Fd)
         ensures { (c : Cell) (f : ℕ) → in_written_cells self.new c f
             ≡ (if f == fd then c else in_written_cells self.old c f) }
     {
         self.cells.retain(|one| one.fd != fd);
+    }
+
+    /// Writes a cell.
+    pub(crate) fn write(&mut self, fd: Fd, cell: Cell) -> Result<(), NoMemory>
+        ensures { OnOk result
+            ((c : Cell) (f : ℕ) → in_written_cells self.new c f
+            ≡ (if f == fd then cell else in_written_cells self.old c f)) }
+    {
+        self.strike(fd);
+        self.list(fd, cell)
     }
 
     /// Strikes those from a descriptor on off the list.
@@ -111,7 +142,7 @@ impl WrittenCells {
     }
 
     /// What a successful exec leaves of them.
-    pub(crate) fn executed(&self) -> Result<WrittenCells, NoMemory>
+    fn executed(&self) -> Result<WrittenCells, NoMemory>
         ensures { IfOk result (λ new. (c : Cell) (f : ℕ)
             → in_written_cells new (with_deferred Deferred.Exec c) f
             ≡ with_deferred Deferred.Exec (in_written_cells self.now c f)) }
@@ -122,6 +153,20 @@ impl WrittenCells {
             new.list(one.fd, cell)?;
         }
         Ok(new)
+    }
+
+    /// Does this to each.
+    pub(crate) fn apply_deferred(&mut self, deferred: Deferred) -> Result<(), NoMemory>
+        ensures { OnOk result ((c : Cell) (f : ℕ)
+            → in_written_cells self.new (with_deferred deferred c) f
+            ≡ with_deferred deferred (in_written_cells self.old c f)) }
+    {
+        match deferred {
+            Deferred::Nothing => {}
+            Deferred::Exec => *self = self.executed()?,
+            Deferred::Close | Deferred::Forget => *self = WrittenCells::none(self.alloc),
+        }
+        Ok(())
     }
 }
 
