@@ -31,7 +31,8 @@ use crate::cell::{Cell, OnExec};
 use crate::cells::cells_1m::Cells1M;
 pub(crate) use crate::cells::deferred::Deferred;
 pub(crate) use crate::cells::deferred_free::DeferredFree;
-pub(crate) use crate::cells::leaf::Leaf;
+use crate::cells::leaf::LOW_LEAF;
+pub(crate) use crate::cells::leaf::{LOW_FDS, Leaf};
 use crate::cells::shared::Shared;
 use crate::cells::started::Started;
 use crate::cells::subtree::Subtree;
@@ -95,7 +96,7 @@ fn settle_all(
 /// above the largest one is ever written, so one cell stands for all of them.
 #[derive(Drop)]
 pub(crate) struct Cells {
-    low: Shared<Leaf<64>>,
+    low: Shared<Leaf<LOW_LEAF>>,
     few: WrittenCells,
     started: Started,
     high: Shared<Cells1M>,
@@ -134,7 +135,7 @@ impl Cells {
     pub(crate) fn cell(&self, fd: Fd) -> Cell
         ensures { result ≡ cell_in_cells self.now fd }
     {
-        if fd < 64 {
+        if fd < LOW_FDS {
             self.low.cell(fd as usize)
         } else if fd <= LARGEST_FD {
             self.few.over(self.unlisted(fd), fd)
@@ -143,14 +144,19 @@ impl Cells {
         }
     }
 
-    /// The leaf that has the cell of a descriptor, if it is one of the first 64 and nothing is deferred.
+    /// The leaf that has the cell of a descriptor, if it is one of the first 64 and nothing is deferred. Where it answers
+    /// `None`, `cell` has the cell.
     #[tactic(auto, unfolding(crate::specs::Cells::cell_in_cells))]
     #[inline(always)]
-    pub(crate) fn leaf_of(&self, fd: Fd) -> Option<&Leaf<64>>
+    pub(crate) fn leaf_of(&self, fd: Fd) -> Option<&Leaf<LOW_LEAF>>
         ensures low { IfSome result (λ leaf. fd < 64) }
         ensures cell { IfSome result (λ leaf. in_leaf leaf.now fd ≡ cell_in_cells self.now fd) }
     {
-        if fd < 64 { self.low.up_to_date() } else { None }
+        if fd < LOW_FDS {
+            self.low.up_to_date()
+        } else {
+            None
+        }
     }
 
     /// Writes one cell.
@@ -161,14 +167,14 @@ impl Cells {
         ensures { OnOk result
             ((f : ℕ) → cell_in_cells self.new f ≡ (if f == fd then cell else cell_in_cells self.old f)) }
     {
-        if fd < 64 {
+        if fd < LOW_FDS {
             self.low.write(fd as usize, cell)
         } else {
             self.write_high(fd, cell)
         }
     }
 
-    /// Writes one cell at or above 64, in the list of a few while it has room.
+    /// Writes one cell at or above 64, in the list of a few while it has room. Not inlined: most writes are below 64.
     #[tactic(auto, unfolding(crate::specs::Cells::cell_in_cells))]
     #[inline(never)]
     fn write_high(&mut self, fd: Fd, cell: Cell) -> Result<(), NoMemory>
@@ -215,7 +221,7 @@ impl Cells {
         ensures { OnOk result
             ((f : ℕ) → cell_in_cells self.new f ≡ (if nat_le fd f then Cell.Closed else cell_in_cells self.old f)) }
     {
-        if fd < 64 {
+        if fd < LOW_FDS {
             self.low.close_from(fd as usize)?;
             self.high.apply_deferred(Deferred::Close);
         } else {
@@ -234,7 +240,7 @@ impl Cells {
             ≡ (if f == fd then Cell.Held all OnExec.Unsure else cell_in_cells self.old f)) }
         ensures high { OnOk result ((f : ℕ) → 64 ≤ f → cell_in_cells self.new f ≡ cell_in_cells self.old f) }
     {
-        if fd < 64 {
+        if fd < LOW_FDS {
             self.low
                 .write(fd as usize, Cell::Held(RightSet::all(), OnExec::Unsure))
         } else {

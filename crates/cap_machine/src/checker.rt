@@ -131,6 +131,8 @@ impl Checker {
 
     /// Checks the next line, whose texts lie elsewhere, as [`line`](Checker::line) does.
     ///
+    /// A line of which nothing is said only moves the table on. Where that isn't seen at once, it goes by its rule.
+    ///
     /// `NoMemory` when out of memory. What the checker then answers isn't promised: drop it.
     #[inline(always)]
     pub fn line_ref(&mut self, line: &LineRef<'_>) -> Result<(), NoMemory>
@@ -147,7 +149,7 @@ impl Checker {
         Ok(())
     }
 
-    /// The same, by the rule of the line.
+    /// Checks the next line by its rule, as [`line_ref`](Checker::line_ref) does where it may have something to say.
     #[inline(never)]
     fn line_by_rule(&mut self, line: &LineRef<'_>) -> Result<(), NoMemory>
         requires room { lines_of self.old < 2 ^ 60 }

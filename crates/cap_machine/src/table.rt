@@ -195,7 +195,7 @@ impl Table {
         })
     }
 
-    /// The place that is written for a pid.
+    /// The place that is written for a pid. Inlined, as the next two: each line looks its process up.
     #[inline(always)]
     fn place(&self, pid: Pid) -> usize
         ensures { result ≡ place_in self.now.places.items pid }
@@ -295,7 +295,7 @@ impl Table {
         Ok(())
     }
 
-    /// Adds a process of which nothing was known, and nothing is; where it stands.
+    /// Adds a process of which nothing was known, and nothing is; where it stands. Not inlined: once for a process.
     #[inline(never)]
     fn enter_new(&mut self, pid: Pid) -> Result<usize, NoMemory>
         requires { found self.old pid ≡ None }
@@ -309,7 +309,7 @@ impl Table {
         Ok(place)
     }
 
-    /// Where a process stands; one of which nothing was known is added.
+    /// Where a process stands; one of which nothing was known is added, by `enter_new`.
     #[inline(always)]
     fn enter(&mut self, pid: Pid) -> Result<usize, NoMemory>
         ensures kept { OnOk result (Keeps self.new (state_of self.old)) }

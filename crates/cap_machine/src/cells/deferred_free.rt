@@ -127,7 +127,7 @@ impl DeferredFree {
             && self.highs.is_empty()
     }
 
-    /// Frees some parts, or all where there are fewer.
+    /// Frees some parts, or all where there are fewer. Mostly nothing is left, and then nothing is called.
     #[inline(always)]
     pub(crate) fn free_some(&mut self)
         ensures { left_at_most self.new ≤ left_at_most self.old - 16 }

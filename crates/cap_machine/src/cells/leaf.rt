@@ -7,7 +7,14 @@ use crate::cells::deferred::Deferred;
 use crate::cells::kind::{CellKind, rights_of};
 use crate::cells::subtree::Subtree;
 use cap_rights::{NoMemory, RightSet};
+use cap_trace::Fd;
 use std::alloc::Global;
+
+/// So many descriptors from 0 on have their cells in one leaf. Few programs use more, and no tree is walked for them.
+pub(crate) const LOW_FDS: Fd = 64;
+
+/// The size of that leaf.
+pub(crate) const LOW_LEAF: usize = LOW_FDS as usize;
 
 /// The cells of `N` descriptors that stand next to each other: the rights of each, and the kind of each.
 #[derive(Clone, Copy)]

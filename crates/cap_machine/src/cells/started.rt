@@ -8,6 +8,7 @@ ghost use Rattle.cap_machine.specs.Cells.Started.{is_listed, in_started};
 
 use crate::cell::{Cell, OnExec};
 use crate::cells::deferred::Deferred;
+use crate::cells::leaf::LOW_FDS;
 use cap_rights::{NoMemory, RightSet};
 use cap_trace::Fd;
 use std::alloc::{AllocError, Global};
@@ -39,7 +40,7 @@ impl Started {
         ensures listed { OnOk result ((f : ℕ) → 64 ≤ f → is_listed self.new f ≡ (is_listed self.old f || f == fd)) }
         ensures deferred { OnOk result (self.new.deferred ≡ self.old.deferred) }
     {
-        if fd < 64 {
+        if fd < LOW_FDS {
             return Ok(());
         }
         match u16::try_from(fd) {
@@ -56,9 +57,9 @@ impl Started {
     {
         let (mut small, mut large) = (0, 0);
         for fd in fds {
-            if 65_536 <= *fd {
+            if Fd::from(u16::MAX) < *fd {
                 large += 1;
-            } else if 64 <= *fd {
+            } else if LOW_FDS <= *fd {
                 small += 1;
             }
         }

@@ -18,6 +18,7 @@ ghost use Rattle.cap_machine.specs.Check.{findings_of};
 ghost use Rattle.cap_machine.specs.Table.{cell_of, state_of, Keeps, step_after, touched_by};
 
 use crate::cell::{Cell, Mode, Profile, without_full_of};
+use crate::cells::LOW_FDS;
 use crate::effects::{keeps_all, open_flag_of};
 use crate::errno::{EBADF, ECAPMODE, ENOTCAPABLE};
 use crate::needs::{
@@ -35,6 +36,9 @@ impl Table {
     ghost use Rattle.cap_machine.specs.declared.rule.LimitWord.{LimitWord};
 
     /// Whether a descriptor is known to have these rights, or nothing is known of it.
+    ///
+    /// The leaf of the first descriptors answers what the cell would, and is asked where it is up to date. Inlined, as a
+    /// call would take as long as the test.
     #[inline(always)]
     fn may_have(&self, pid: Pid, fd: Fd, needs: RightSet) -> bool
         ensures { IsTrue result → (word : LimitWord) (excuse : Option ℕ)
@@ -48,7 +52,8 @@ impl Table {
         self.cell_may_have(pid, fd, needs)
     }
 
-    /// Whether the cell of a descriptor may have these rights, looked up on the slow path.
+    /// Whether the cell of a descriptor may have these rights, looked up on the slow path. Not inlined, so that
+    /// [`may_have`](Table::may_have) ends with a call, and saves no registers.
     #[inline(never)]
     fn cell_may_have(&self, pid: Pid, fd: Fd, needs: RightSet) -> bool
         ensures { IsTrue result → (word : LimitWord) (excuse : Option ℕ)
@@ -166,7 +171,9 @@ impl Table {
         }
     }
 
-    /// Whether nothing is found in a line. May miss some.
+    /// Whether nothing is found in a line. May miss some: where it answers `false`, `findings_by_rule` says what is
+    /// found. Inlined into the loop over lines, as all that it calls for a read or a write, so that no line is put into
+    /// memory for it.
     #[inline(always)]
     pub(crate) fn has_no_finding(&self, line: &LineRef<'_>) -> bool
         ensures { IsTrue result → findings_of (requirement line.now) line.now.pid (state_of self.now) ≡ [] }
@@ -177,7 +184,7 @@ impl Table {
         }
     }
 
-    /// What is said of a line, by its rule.
+    /// What is said of a line, by its rule. Not inlined: a `Requirement` would be cleared at each line.
     #[inline(never)]
     pub(crate) fn findings_by_rule(&self, line: &LineRef<'_>) -> Verdict
         ensures { result ≡ findings_of (requirement line.now) line.now.pid (state_of self.now) }
@@ -185,7 +192,7 @@ impl Table {
         self.said(line.pid, &requirement_of_line(line))
     }
 
-    /// What is known after a line, by its rule.
+    /// What is known after a line, by its rule. Not inlined: an `Effect` would be cleared at each line.
     #[inline(never)]
     pub(crate) fn apply_by_rule(
         &mut self,
@@ -198,13 +205,14 @@ impl Table {
         self.apply(line.pid, &effect)
     }
 
-    /// Writes one cell.
+    /// Writes one cell: in its leaf, where the process is known and the descriptor is one of the first, else by
+    /// `write_slow`. Both write the same cell.
     #[inline(always)]
     fn write_one(&mut self, pid: Pid, fd: Fd, cell: Cell) -> Result<(), NoMemory>
         requires { IsFd fd }
         ensures { OnOk result (Keeps self.new (touched_by (on_fd fd (given cell) pid) (state_of self.old))) }
     {
-        if fd < 64 {
+        if fd < LOW_FDS {
             if let Some(place) = self.place_of(pid) {
                 return self.write_at(place, pid, fd, cell);
             }
@@ -212,7 +220,8 @@ impl Table {
         self.write_slow(pid, fd, cell)
     }
 
-    /// Writes one cell on the slow path. Some of what is left of others is freed first.
+    /// Writes one cell on the slow path. Some of what is left of others is freed first. Not inlined, so that
+    /// [`write_one`](Table::write_one) ends with a call, and saves no registers.
     #[inline(never)]
     fn write_slow(&mut self, pid: Pid, fd: Fd, cell: Cell) -> Result<(), NoMemory>
         requires { IsFd fd }
@@ -222,7 +231,7 @@ impl Table {
         self.write(pid, fd, cell)
     }
 
-    /// close(2).
+    /// close(2). Not inlined, as [`open`](Table::open): the loop over lines would save more registers.
     #[inline(never)]
     fn close(&mut self, pid: Pid, fd: Fd, answer: Answer) -> Result<(), NoMemory>
         requires { IsFd fd }
@@ -252,6 +261,9 @@ impl Table {
     }
 
     /// What is known after a line.
+    ///
+    /// A call that changes nothing, close(2) and open(2) are followed here, by what their rules come to; any other line
+    /// by its rule. Inlined into the loop over lines, so that a read or a write ends here without a call.
     #[inline(always)]
     pub(crate) fn apply_line(
         &mut self,
