@@ -135,7 +135,6 @@ impl Table {
             → findings_of (call_requirement (call_view call.now) answer) pid (state_of self.now) ≡ [] }
     {
         match call {
-            Call::OnFd(FdCall::Closefrom, _) => true,
             Call::OnFd(call, fd) => self.may_have(pid, *fd, fd_needs_of(*call)),
             Call::Send(_, fd) => self.may_have(pid, *fd, send_needs_of()),
             Call::Dup2(fd, _) | Call::FcntlDup(_, fd, _) | Call::FcntlSetFd(fd, _) => {
