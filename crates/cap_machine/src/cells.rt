@@ -144,8 +144,8 @@ impl Cells {
         }
     }
 
-    /// The leaf that has the cell of a descriptor, if it is one of the first 64 and nothing is deferred. Where it answers
-    /// `None`, `cell` has the cell.
+    /// The leaf that has the cell of a descriptor, if it is one of the first 64 and nothing is deferred. Where it
+    /// answers `None`, `cell` has the cell.
     #[tactic(auto, unfolding(crate::specs::Cells::cell_in_cells))]
     #[inline(always)]
     pub(crate) fn leaf_of(&self, fd: Fd) -> Option<&Leaf<LOW_LEAF>>

@@ -123,8 +123,8 @@ impl<T: Subtree> Subtree for Shared<T> {
         self.deferred.on(self.part.cell(fd))
     }
 
-    // In place where nobody else has the part and nothing is deferred; else `write_part`, which would do the same there,
-    // after it made the part its own and did what was deferred.
+    // In place where nobody else has the part and nothing is deferred; else `write_part`, which would do the same
+    // there, after it made the part its own and did what was deferred.
     #[tactic(auto, unfolding(crate::specs::Cells::Parts::in_shared))]
     #[inline(always)]
     fn write(&mut self, fd: usize, cell: Cell) -> Result<(), NoMemory> {

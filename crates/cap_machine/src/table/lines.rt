@@ -37,8 +37,8 @@ impl Table {
 
     /// Whether a descriptor is known to have these rights, or nothing is known of it.
     ///
-    /// The leaf of the first descriptors answers what the cell would, and is asked where it is up to date. Inlined, as a
-    /// call would take as long as the test.
+    /// The leaf of the first descriptors answers what the cell would, and is asked where it is up to date. Inlined, as
+    /// a call would take as long as the test.
     #[inline(always)]
     fn may_have(&self, pid: Pid, fd: Fd, needs: RightSet) -> bool
         ensures { IsTrue result → (word : LimitWord) (excuse : Option ℕ)
