@@ -6,6 +6,7 @@ pub mod NamedNeeds
 pub mod Quiet
 pub mod Ops
 pub mod Naming
+mod LineEffects
 pub mod NamedFds
 pub mod OpenFlags
 pub mod LastFlag

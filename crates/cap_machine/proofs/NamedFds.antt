@@ -1,13 +1,12 @@
 -- The descriptors that a line takes from, that an effect has one by one, and that are checked, stand in the line.
-use Rattle.std.proofs.Common.{◌≡◌, ℕ, ◌+◌, ◌<◌, ◌==◌, ◌&&◌, ◌||◌, not, nat_le, Bool, true, false, if◌then◌else◌}
-use Rattle.std.proofs.Common.{List, [], ◌∷◌, Option, Some, None, refl, ap, sym, ◌∙◌, subst, eq-eqb, arith, suc}
+use Rattle.std.proofs.Common.{◌≡◌, ℕ, ◌+◌, ◌<◌, ◌==◌, ◌&&◌, ◌||◌, nat_le, Bool, true, false, if◌then◌else◌}
+use Rattle.std.proofs.Common.{List, [], ◌∷◌, Option, Some, None, refl, ap, sym, ◌∙◌, subst, arith, suc}
 use Rattle.std.specs.List.{list_any, All}
-use Rattle.std.specs.Prelude.{codes}
-use Rattle.std.specs.Str.{bytes_eq}
-use Rattle.std.proofs.lemmas.Bool.{ne_eqb, eqb-true, or_left, or_right, and_from, true_from_ne_false, and_right}
+use Rattle.std.proofs.lemmas.Bool.{ne_eqb, eqb-true, or_left, or_right, or_from, or_cases, and_from, and_right}
+use Rattle.std.proofs.lemmas.Bool.{cases_Bool, true_from_ne_false}
 use Rattle.std.proofs.lemmas.Bool.Decides.{nat_tests}
 use Rattle.std.proofs.lemmas.List.Elements.{All-cons, All-nil}
-use Rattle.std.proofs.lemmas.Bool.{or_from, or_parts}
+use Rattle.std.proofs.Math.Logic.{⊎_elim}
 use Rattle.cap_trace.specs.Views.{fds_spelled}
 use Rattle.cap_trace.specs.Item.{Item}
 use Rattle.cap_trace.specs.Item as items
@@ -16,25 +15,10 @@ use Rattle.cap_trace.specs.Call as calls
 use Rattle.cap_trace.specs.declared.line.Dir.{Dir}
 use Rattle.cap_trace.specs.declared.line.Dir.TheVariants as dirs
 use Rattle.cap_trace.specs.declared.line.Answer.{Answer}
-use Rattle.cap_trace.specs.declared.line.Answer.TheVariants as answers
-use Rattle.cap_trace.specs.declared.calls.DupCommand.{DupCommand}
-use Rattle.cap_trace.specs.declared.calls.DupCommand.TheVariants.{FDup2fd, FDup2fdCloexec}
 use Rattle.cap_trace.specs.declared.calls.FdCall.{FdCall}
-use Rattle.cap_trace.specs.declared.calls.FdCall.TheVariants.{Accept, Fexecve, Close, Closefrom, Dup, CapIoctlsLimit}
-use Rattle.cap_trace.specs.declared.calls.FdCall.TheVariants.{CapFcntlsLimit}
-use Rattle.cap_trace.specs.declared.calls.PathCall.{PathCall}
-use Rattle.cap_trace.specs.declared.calls.PathCall.TheVariants.{Execve}
-use Rattle.cap_trace.specs.declared.calls.AtFlagsCall.{AtFlagsCall}
-use Rattle.cap_trace.specs.declared.calls.AtFlagsCall.TheVariants.{Openat}
-use Rattle.cap_trace.specs.declared.calls.FlagsCall.{FlagsCall}
-use Rattle.cap_trace.specs.declared.calls.FlagsCall.TheVariants.{Socket, Socketpair, Pipe2}
-use Rattle.cap_trace.specs.declared.calls.BareCall.{BareCall}
-use Rattle.cap_trace.specs.declared.calls.BareCall.TheVariants.{Pipe, Kqueue, ShmOpen, MqOpen, Fhopen, Fork, Vfork}
-use Rattle.cap_trace.specs.declared.calls.BareCall.TheVariants.{Pdfork, CapEnter}
+use Rattle.cap_trace.specs.declared.calls.FdCall.TheVariants.{Closefrom}
 use Rattle.cap_trace.specs.Entry.{args_of, args_of_call, fds}
 use Rattle.cap_machine.specs.declared.cell.Profile.{Profile}
-use Rattle.cap_machine.specs.declared.cell.Profile.TheVariants.{One, Two}
-use Rattle.cap_machine.specs.declared.cell.OnExec.{OnExec}
 use Rattle.cap_machine.specs.declared.cell.OnExec.TheVariants as flags
 use Rattle.cap_machine.specs.declared.cell.Cell.{Cell}
 use Rattle.cap_machine.specs.declared.cell.Cell.TheVariants.{Unknown, Closed, Held}
@@ -44,35 +28,25 @@ use Rattle.cap_machine.specs.declared.rule.Check.{Check}
 use Rattle.cap_machine.specs.declared.rule.Effect.{Effect}
 use Rattle.cap_machine.specs.declared.rule.Effect.TheVariants as effects
 use Rattle.cap_rights.specs.Rights.{all}
-use Rattle.cap_machine.specs.Op.{derive, same, exec}
+use Rattle.cap_machine.specs.Op.{same, exec}
 use Rattle.cap_machine.specs.Places.{place, is_empty, is_absolute, dir_fd}
 use Rattle.cap_machine.specs.Needs.{at_needs, at_flags_needs, symlink_needs, fcntl_needs}
 use Rattle.cap_machine.specs.Needs.{rename_from_needs, rename_to_needs, link_from_needs, link_to_needs}
-use Rattle.cap_machine.specs.Errno.{ebadf}
-use Rattle.cap_machine.specs.Touch.{Touch, kept, given, taken, touch, succeeded, on_fd, on_success, on_made, on_both}
-use Rattle.cap_machine.specs.Touch.{exec_touch, closefrom_touch, closing, opened_below, open_flag, fd_touch}
-use Rattle.cap_machine.specs.Touch.{fcntl_touch, fcntl_copied_to, path_touch, at_touch, flags_touch, fork_touch}
-use Rattle.cap_machine.specs.Touch.{pdfork_touch, bare_touch, call_touch, item_touch, started}
+use Rattle.cap_machine.specs.Touch.{Touch, kept, given, taken, touch, item_touch, started}
 use Rattle.cap_machine.specs.Effect.{effect_touch}
 use Rattle.cap_machine.specs.Rule.{call_requirement, item_requirement, fd_requirement, fcntl_requirement, place_check}
 use Rattle.cap_machine.specs.Rule.{both, check_of}
 use Rattle.cap_machine.specs.Judge.{listed}
-use Rattle.cap_machine.specs.Named.{dir_names, arg_names, answer_names, item_answer_names, names_fd}
-use Rattle.cap_machine.specs.Named.{is_whole_call, is_whole_item, NamedSources, NamedEffects, NamedChecks}
-use Rattle.cap_machine.proofs.Naming.{named_descriptors}
-
-itself : (f : ℕ) → (f == f) ≡ true
-itself f = eq-eqb f f refl
+use Rattle.cap_machine.specs.Named.{dir_names, arg_names, item_answer_names, names_fd, NamedSources, NamedEffects}
+use Rattle.cap_machine.specs.Named.{NamedChecks}
+use Rattle.cap_machine.proofs.LineEffects.{itself, leading, FdsNamed, item_done}
+use Rattle.cap_machine.proofs.Naming.{apart, single_unnamed}
 
 latter : (a b : Bool) → (a && b) ≡ true → b ≡ true
 latter true b is = is
 latter false b is = absurd (cc)
 
--- the first argument
-leading : (g : ℕ) (b : Bool) → (g == g || b) ≡ true
-leading g b = or_left (g == g) b (itself g)
-
--- ---- each touch of the table
+-- ---- what an effect says of one descriptor
 
 -- what a touch of descriptor f by a line of process me says, where the line names descriptors so
 abbrev Names : (ℕ → Bool) → ℕ → ℕ → Touch → Type 0
@@ -88,166 +62,43 @@ module _ (named : ℕ → Bool) (me p f : ℕ) where
   if_names true t u holds other = holds refl
   if_names false t u holds other = other
 
-  fd_names : (g : ℕ) (t : Touch) → ((f == g) ≡ true → Names named me f t) → Names named me f (on_fd g t me p f)
-  fd_names g t holds = if_names (p == me && f == g) t kept (λ e. holds (latter (p == me) (f == g) e)) tt
-
-  made_names : (answer : Answer) (t : Touch) → (answer_names f answer ≡ true → Names named me f t)
-      → Names named me f (on_made answer t me p f)
-  made_names (answers.Made d) t holds = fd_names d t holds
-  made_names (answers.Pair d e) t holds = tt
-  made_names (answers.Fault e) t holds = tt
-
-  both_names : (answer : Answer) (t : Touch) → (answer_names f answer ≡ true → Names named me f t)
-      → Names named me f (on_both answer t me p f)
-  both_names (answers.Made d) t holds = tt
-  both_names (answers.Pair d e) t holds =
-      if_names (p == me && (f == d || f == e)) t kept (λ is. holds (latter (p == me) (f == d || f == e) is)) tt
-  both_names (answers.Fault e) t holds = tt
-
   -- from its own cell
   own_names : (op : Op) → Names named me f (taken op me f)
   own_names op = (refl, λ other. absurd (let same = itself f in cc))
 
-  success_names : (g : ℕ) (answer : Answer) (op : Op) → Names named me f (on_success g answer (taken op me g) me p f)
-  success_names g answer op =
-      if_names (succeeded answer) (on_fd g (taken op me g) me p f) kept
-      (λ _. fd_names g (taken op me g) (λ same. (refl, λ other. absurd (cc)))) tt
+  given_names : (c : Cell) → named f ≡ true → Names named me f (given c)
+  given_names Unknown is = tt
+  given_names Closed is = tt
+  given_names (Held rights flag) is = is
 
-  exec_names : (profile : Profile) (answer : Answer) → Names named me f (exec_touch profile answer me p f)
-  exec_names One answer = if_names (succeeded answer && p == me) (given Unknown) kept (λ _. tt) tt
-  exec_names Two answer = if_names (succeeded answer && p == me) (taken exec me f) kept (λ _. own_names exec) tt
+  is_named : (g : ℕ) → named g ≡ true → (f == g) ≡ true → named f ≡ true
+  is_named g is same = ap named (eqb-true f g same) ∙ is
 
-  closefrom_names : (profile : Profile) (g : ℕ) (answer : Answer)
-      → Names named me f (closefrom_touch profile g answer me p f)
-  closefrom_names One g answer = tt
-  closefrom_names Two g answer = if_names (succeeded answer && (p == me && nat_le g f)) (given Closed) kept (λ _. tt) tt
-
-  closing_names : (answer : Answer) → Names named me f (closing answer)
-  closing_names (answers.Made d) = tt
-  closing_names (answers.Pair d e) = tt
-  closing_names (answers.Fault e) = if_names (e == ebadf) kept (given Unknown) (λ _. tt) tt
-
-  fork_names : (answer : Answer) → Names named me f (fork_touch answer me p f)
-  fork_names (answers.Made c) = if_names (not (c == 0) && p == c) (taken same me f) kept (λ _. own_names same) tt
-  fork_names (answers.Pair c d) = tt
-  fork_names (answers.Fault e) = tt
-
-  pdfork_names : (answer : Answer) → Names named me f (pdfork_touch answer me p f)
-  pdfork_names (answers.Made c) = tt
-  pdfork_names (answers.Pair c d) =
-      if_names (c == 0) kept _ (λ _. tt) (if_names ((p == me || p == c) && f == d) (given Unknown) _ (λ _. tt)
-      (if_names (p == c) (taken same me f) kept (λ _. own_names same) tt))
-  pdfork_names (answers.Fault e) = tt
-
-  start_names : (fs : List ℕ) (b : Bool) → (b ≡ true → named f ≡ true)
+  start_names : (b : Bool) → (b ≡ true → named f ≡ true)
       → Names named me f (given (if b then Held all flags.Unsure else Closed))
-  start_names fs true holds = holds refl
-  start_names fs false holds = tt
+  start_names true holds = holds refl
+  start_names false holds = tt
 
--- ---- each form of call, by its arguments
-
-module _ (args : ℕ → Bool) (answer : Answer) (me p f : ℕ) where
-  abbrev named : ℕ → Bool
-  named g = args g || answer_names g answer
-
-  whole_named : (flag : OnExec) → Names named me f (on_made answer (given (Held all flag)) me p f)
-  whole_named flag = made_names named me p f answer _ (λ e. or_right (args f) (answer_names f answer) e)
-
-  two_named : (flag : OnExec) → Names named me f (on_both answer (given (Held all flag)) me p f)
-  two_named flag = both_names named me p f answer _ (λ e. or_right (args f) (answer_names f answer) e)
-
-  unknown_named : Names named me f (on_made answer (given Unknown) me p f)
-  unknown_named = made_names named me p f answer _ (λ e. tt)
-
-  source_named : (op : Op) (g : ℕ) → args g ≡ true → answer_names f answer ≡ true → Names named me f (taken op me g)
-  source_named op g is made =
-      (refl, λ other. (or_right (args f) (answer_names f answer) made, or_left (args g) (answer_names g answer) is))
-
-  copy_named : (op : Op) (g : ℕ) → args g ≡ true → Names named me f (on_made answer (taken op me g) me p f)
-  copy_named op g is = made_names named me p f answer _ (source_named op g is)
-
-  fd_call_named : (profile : Profile) (call : FdCall) (g : ℕ) → args g ≡ true
-      → Names named me f (fd_touch profile call g answer me p f)
-  fd_call_named profile Close g is = fd_names named me p f g _ (λ _. closing_names named me p f answer)
-  fd_call_named profile Closefrom g is = closefrom_names named me p f profile g answer
-  fd_call_named profile Dup g is = copy_named _ g is
-  fd_call_named profile Accept g is = unknown_named
-  fd_call_named profile Fexecve g is = exec_names named me p f profile answer
-  fd_call_named profile CapIoctlsLimit g is = success_names named me p f g answer _
-  fd_call_named profile CapFcntlsLimit g is = success_names named me p f g answer _
-  fd_call_named profile _ g is = tt
-
-  fcntl_named : (command : List ℕ) (g : ℕ) → args g ≡ true → Names named me f (fcntl_touch command g answer me p f)
-  fcntl_named command g is =
-      if_names named me p f (bytes_eq command (codes "F_DUPFD")) _ _ (λ _. copy_named _ g is)
-      (if_names named me p f (bytes_eq command (codes "F_DUPFD_CLOEXEC")) _ kept (λ _. copy_named _ g is) tt)
-
-  fcntl_copy_named : (command : DupCommand) (g h : ℕ) → args g ≡ true
-      → Names named me f (on_made answer (fcntl_copied_to command g h me) me p f)
-  fcntl_copy_named FDup2fd g h is = copy_named _ g is
-  fcntl_copy_named FDup2fdCloexec g h is = copy_named _ g is
-
-  path_named : (profile : Profile) (call : PathCall) → Names named me f (path_touch profile call answer me p f)
-  path_named profile Execve = exec_names named me p f profile answer
-  path_named profile _ = tt
-
-  at_cwd_named : (flag : OnExec) (path : List ℕ) → answer_names f answer ≡ true
-      → Names named me f (if not (is_empty path) then given (Held all flag) else given Unknown)
-  at_cwd_named flag path made =
-      if_names named me p f (not (is_empty path)) _ _ (λ _. or_right (args f) (answer_names f answer) made) tt
-
-  opened_named : (flag : OnExec) (b : Bool) (dir : Dir) (path : List ℕ) → ((g : ℕ) → dir_names g dir ≡ true
-      → args g ≡ true) → answer_names f answer ≡ true
-      → Names named me f (opened_below (if b then None else dir_fd dir) dir path flag me)
-  opened_named flag true (dirs.Fd g) path is made = tt
-  opened_named flag true dirs.Cwd path is made = at_cwd_named flag path made
-  opened_named flag false (dirs.Fd g) path is made = source_named (derive flag) g (is g (itself g)) made
-  opened_named flag false dirs.Cwd path is made = at_cwd_named flag path made
-
-  below_named : (flag : OnExec) (b : Bool) (dir : Dir) (path : List ℕ) → ((g : ℕ) → dir_names g dir ≡ true
-      → args g ≡ true)
-      → Names named me f (on_made answer (opened_below (if b then None else dir_fd dir) dir path flag me) me p f)
-  below_named flag b dir path is =
-      made_names named me p f answer (opened_below (if b then None else dir_fd dir) dir path flag me)
-      (opened_named flag b dir path is)
-
-  at_named : (call : AtFlagsCall) (dir : Dir) (path names : List ℕ) → ((g : ℕ) → dir_names g dir ≡ true → args g ≡ true)
-      → Names named me f (at_touch call dir path names answer me p f)
-  at_named Openat dir path names is = below_named (open_flag names) (is_empty path || is_absolute path) dir path is
-  at_named _ dir path names is = tt
-
-  flags_named : (call : FlagsCall) (names : List ℕ) → Names named me f (flags_touch call names answer me p f)
-  flags_named Socket names = whole_named _
-  flags_named Socketpair names = two_named _
-  flags_named Pipe2 names = two_named _
-
-  bare_named : (call : BareCall) → Names named me f (bare_touch call answer me p f)
-  bare_named Pipe = two_named _
-  bare_named Kqueue = unknown_named
-  bare_named ShmOpen = unknown_named
-  bare_named MqOpen = unknown_named
-  bare_named Fhopen = unknown_named
-  bare_named Fork = fork_names named me p f answer
-  bare_named Vfork = fork_names named me p f answer
-  bare_named Pdfork = pdfork_names named me p f answer
-  bare_named CapEnter = tt
-
-  call_named : (profile : Profile) (call : Call) → ((g : ℕ) → list_any (arg_names g) (args_of_call call) ≡ true
-      → args g ≡ true) → Names named me f (call_touch profile call answer me p f)
-  call_named profile (calls.OnFd call g) is = fd_call_named profile call g (is g (leading g _))
-  call_named profile (calls.Accept4 g names) is = unknown_named
-  call_named profile (calls.Dup2 g h) is = copy_named _ g (is g (leading g _))
-  call_named profile (calls.Fcntl g command) is = fcntl_named command g (is g (leading g _))
-  call_named profile (calls.FcntlDup command g h) is = fcntl_copy_named command g h (is g (leading g _))
-  call_named profile (calls.FcntlSetFd g names) is = success_names named me p f g answer _
-  call_named profile (calls.RightsLimit g asked) is = success_names named me p f g answer _
-  call_named profile (calls.Open path names) is = whole_named _
-  call_named profile (calls.OnPath call path) is = path_named profile call
-  call_named profile (calls.AtFlags call dir path names) is =
-      at_named call dir path names (λ g here. is g (or_left (dir_names g dir) _ here))
-  call_named profile (calls.OnFlags call names) is = flags_named call names
-  call_named profile (calls.Bare call) is = bare_named call
-  call_named profile _ is = tt
+  effect_names : (effect : Effect) → FdsNamed named effect → Names named me f (effect_touch effect me p f)
+  effect_names effects.Keep are = tt
+  effect_names effects.Enter are = tt
+  effect_names (effects.Start fs) are = absurd are
+  effect_names effects.Exit are = if_names (p == me) (given Unknown) kept (λ _. tt) tt
+  effect_names effects.Forget are = if_names (p == me) (given Unknown) kept (λ _. tt) tt
+  effect_names effects.Exec are = if_names (p == me) (taken exec me f) kept (λ _. own_names exec) tt
+  effect_names (effects.CloseFrom n) are = if_names (p == me && nat_le n f) (given Closed) kept (λ _. tt) tt
+  effect_names (effects.Give g c) are =
+      if_names (p == me && f == g) (given c) kept (λ is. given_names c (is_named g are (latter (p == me) _ is))) tt
+  effect_names (effects.GiveTwo g h c) are =
+      if_names (p == me && (f == g || f == h)) (given c) kept
+      (λ is. given_names c (⊎_elim (is_named g are.0) (is_named h are.1) (or_cases _ _ (latter (p == me) _ is)))) tt
+  effect_names (effects.Change g op h) are =
+      if_names (p == me && f == g) (taken op me h) kept
+      (λ is. (refl, λ other. (is_named g are.0 (latter (p == me) _ is), are.1))) tt
+  effect_names (effects.Fork child) are = if_names (p == child) (taken same me f) kept (λ _. own_names same) tt
+  effect_names (effects.ForkAs child g) are =
+      if_names ((p == me || p == child) && f == g) (given Unknown) _ (λ _. tt)
+      (if_names (p == child) (taken same me f) kept (λ _. own_names same) tt)
 
 all_named : (fs : List ℕ) (f : ℕ) → list_any (λ g. f == g) fs ≡ true → list_any (arg_names f) (fds fs) ≡ true
 all_named [] f is = is
@@ -257,18 +108,18 @@ all_named (g ∷ fs) f is = either (f == g) (list_any (λ g. f == g) fs) _ is (a
     either true b c is later = refl
     either false b c is later = later is
 
-item_named : (profile : Profile) (item : Item) (me p f : ℕ)
-    → Names (λ g. list_any (arg_names g) (args_of item) || item_answer_names g item) me f
-    (item_touch profile item me p f)
-item_named profile (items.Call call answer) me p f =
-    call_named (λ g. list_any (arg_names g) (args_of_call call)) answer me p f profile call (λ g is. is)
+-- the descriptors that a line of this item names
+abbrev named_by : Item → ℕ → Bool
+named_by item f = list_any (arg_names f) (args_of item) || item_answer_names f item
+
+item_named : (profile : Profile) (item : Item) (me p f : ℕ) → Names (named_by item) me f (item_touch profile item me p f)
 item_named profile (items.Start fs) me p f =
-    let named : ℕ → Bool = λ g. list_any (arg_names g) (fds fs) || false in
-    if_names named me p f (p == me) (given (started fs f)) kept
-    (λ _. start_names named me p f fs (list_any (λ g. f == g) fs) (λ is. or_left _ false (all_named fs f is))) tt
-item_named profile items.Exit me p f = if_names (λ g. false) me p f (p == me) (given Unknown) kept (λ _. tt) tt
-item_named profile (items.Foreign g) me p f =
-    fd_names (λ h. (h == g || false) || false) me p f g (given Unknown) (λ _. tt)
+    if_names (named_by (items.Start fs)) me p f (p == me) (given (started fs f)) kept
+    (λ _. start_names (named_by (items.Start fs)) me p f (list_any (λ g. f == g) fs)
+    (λ is. or_left _ false (all_named fs f is))) tt
+item_named profile item me p f =
+    let line = item_done profile item me tt in
+    subst (Names (named_by item) me f) (line.does p f) (effect_names (named_by item) me p f line.effect line.fds)
 
 touch_named : (step : Step) (p f : ℕ) → Names (λ g. names_fd g step.line) step.line.pid f (touch step p f)
 touch_named step p f = item_named step.profile step.line.item step.line.pid p f
@@ -283,107 +134,40 @@ dropped : (b : Bool) (t u : Touch) → (t ≡ kept → ⊥) → (if b then t els
 dropped true t u never is = absurd (never is)
 dropped false t u never is = refl
 
-exec_dropped : (profile : Profile) (answer : Answer) (me p f h : ℕ) → exec_touch profile answer me p h ≡ kept
-    → exec_touch profile answer me p f ≡ kept
-exec_dropped One answer me p f h is = dropped (succeeded answer && p == me) (given Unknown) (given Unknown) (λ e. cc) is
-exec_dropped Two answer me p f h is =
-    dropped (succeeded answer && p == me) (taken exec me h) (taken exec me f) (λ e. cc) is
-
-closed_dropped : (a b c d : Bool) → (d ≡ true → c ≡ true) → (if a && (b && c) then given Closed else kept) ≡ kept
-    → (if a && (b && d) then given Closed else kept) ≡ kept
-closed_dropped false b c d under is = refl
-closed_dropped true false c d under is = refl
-closed_dropped true true c false under is = refl
-closed_dropped true true false true under is = absurd (let later = under refl in cc)
-closed_dropped true true true true under is = is
+closed_dropped : (a c d : Bool) → (d ≡ true → c ≡ true) → (if a && c then given Closed else kept) ≡ kept
+    → (if a && d then given Closed else kept) ≡ kept
+closed_dropped false c d under is = refl
+closed_dropped true c false under is = refl
+closed_dropped true false true under is = absurd (let later = under refl in cc)
+closed_dropped true true true under is = is
 
 further : (g f h : ℕ) → f < h → nat_le g f ≡ true → nat_le g h ≡ true
 further g f h lt is = grind (arith, nat_tests, lt, is)
 
-closefrom_dropped : (profile : Profile) (g : ℕ) (answer : Answer) (me p f h : ℕ) → f < h
-    → closefrom_touch profile g answer me p h ≡ kept → closefrom_touch profile g answer me p f ≡ kept
-closefrom_dropped One g answer me p f h lt is = refl
-closefrom_dropped Two g answer me p f h lt is =
-    closed_dropped (succeeded answer) (p == me) (nat_le g h) (nat_le g f) (further g f h lt) is
+child_dropped : (m b e : Bool) (t u : Touch) → (t ≡ kept → ⊥)
+    → (if (m || b) && e then given Unknown else (if b then t else kept)) ≡ kept → (if b then u else kept) ≡ kept
+child_dropped m false e t u never is = refl
+child_dropped true true true t u never is = absurd (cc)
+child_dropped false true true t u never is = absurd (cc)
+child_dropped true true false t u never is = absurd (never is)
+child_dropped false true false t u never is = absurd (never is)
 
-fork_dropped : (answer : Answer) (me p f h : ℕ) → fork_touch answer me p h ≡ kept → fork_touch answer me p f ≡ kept
-fork_dropped (answers.Made c) me p f h is =
-    dropped (not (c == 0) && p == c) (taken same me h) (taken same me f) (λ e. cc) is
-fork_dropped (answers.Pair c d) me p f h is = refl
-fork_dropped (answers.Fault e) me p f h is = refl
-
-child_dropped : (a m b e d : Bool) (t u : Touch) → (t ≡ kept → ⊥) → d ≡ false
-    → (if a then kept else (if (m || b) && e then given Unknown else (if b then t else kept))) ≡ kept
-    → (if a then kept else (if (m || b) && d then given Unknown else (if b then u else kept))) ≡ kept
-child_dropped a m b e true t u never other is = absurd (cc)
-child_dropped true m b e false t u never other is = refl
-child_dropped false true false e false t u never other is = refl
-child_dropped false false false e false t u never other is = refl
-child_dropped false true true true false t u never other is = absurd (cc)
-child_dropped false true true false false t u never other is = absurd (never is)
-child_dropped false false true true false t u never other is = absurd (cc)
-child_dropped false false true false false t u never other is = absurd (never is)
-
-pdfork_dropped : (answer : Answer) (me p f h : ℕ) → answer_names f answer ≡ false → pdfork_touch answer me p h ≡ kept
-    → pdfork_touch answer me p f ≡ kept
-pdfork_dropped (answers.Made c) me p f h other is = refl
-pdfork_dropped (answers.Pair c d) me p f h other is =
-    child_dropped (c == 0) (p == me) (p == c) (h == d) (f == d) (taken same me h) (taken same me f) (λ e. cc)
-    (or_parts (f == c) (f == d) other).1 is
-pdfork_dropped (answers.Fault e) me p f h other is = refl
-
-module _ (me p f h : ℕ) (lt : f < h) where
-  fd_whole : (profile : Profile) (call : FdCall) (g : ℕ) (answer : Answer) → is_whole_call (calls.OnFd call g) ≡ true
-      → fd_touch profile call g answer me p h ≡ kept → fd_touch profile call g answer me p f ≡ kept
-  fd_whole profile Fexecve g answer whole is = exec_dropped profile answer me p f h is
-  fd_whole profile Closefrom g answer whole is = closefrom_dropped profile g answer me p f h lt is
-  fd_whole profile _ g answer whole is = absurd (cc)
-
-  path_whole : (profile : Profile) (call : PathCall) (path : List ℕ) (answer : Answer)
-      → is_whole_call (calls.OnPath call path) ≡ true → path_touch profile call answer me p h ≡ kept
-      → path_touch profile call answer me p f ≡ kept
-  path_whole profile Execve path answer whole is = exec_dropped profile answer me p f h is
-  path_whole profile _ path answer whole is = absurd (cc)
-
-  bare_whole : (call : BareCall) (answer : Answer) → is_whole_call (calls.Bare call) ≡ true
-      → answer_names f answer ≡ false → bare_touch call answer me p h ≡ kept → bare_touch call answer me p f ≡ kept
-  bare_whole Fork answer whole other is = fork_dropped answer me p f h is
-  bare_whole Vfork answer whole other is = fork_dropped answer me p f h is
-  bare_whole Pdfork answer whole other is = pdfork_dropped answer me p f h other is
-  bare_whole _ answer whole other is = absurd (cc)
-
-  call_whole : (profile : Profile) (call : Call) (answer : Answer) → is_whole_call call ≡ true
-      → answer_names f answer ≡ false → call_touch profile call answer me p h ≡ kept
-      → call_touch profile call answer me p f ≡ kept
-  call_whole profile (calls.OnFd call g) answer whole other is = fd_whole profile call g answer whole is
-  call_whole profile (calls.OnPath call path) answer whole other is = path_whole profile call path answer whole is
-  call_whole profile (calls.Bare call) answer whole other is = bare_whole call answer whole other is
-  call_whole profile _ answer whole other is = absurd (cc)
-
-  item_whole : (profile : Profile) (item : Item) → is_whole_item item ≡ true → item_answer_names f item ≡ false
-      → item_touch profile item me p h ≡ kept → item_touch profile item me p f ≡ kept
-  item_whole profile (items.Call call answer) whole other is = call_whole profile call answer whole other is
-  item_whole profile (items.Start fs) whole other is = dropped (p == me) (given (started fs h)) _ (λ e. cc) is
-  item_whole profile items.Exit whole other is = dropped (p == me) (given Unknown) _ (λ e. cc) is
-  item_whole profile (items.Foreign g) whole other is = absurd (cc)
-
-by_cases : {X : Type 0} (b : Bool) → (b ≡ true → X) → (b ≡ false → X) → X
-by_cases true one other = one refl
-by_cases false one other = other refl
-
--- a step that leaves a descriptor touches one below it only where the line names that
-alone : (step : Step) (p f h : ℕ) → f < h → touch step p h ≡ kept → names_fd f step.line ≡ false
-    → touch step p f ≡ kept
-alone step p f h lt is other =
-    by_cases (is_whole_item step.line.item)
-    (λ whole. item_whole step.line.pid p f h lt step.profile step.line.item whole
-    (or_parts (list_any (arg_names f) (args_of step.line.item)) (item_answer_names f step.line.item) other).1 is)
-    (λ part. named_descriptors step p f part other)
-
-named_alone : (step : Step) (p f h : ℕ) (t : Touch) → (t ≡ kept → ⊥) → f < h → touch step p h ≡ kept
-    → touch step p f ≡ t → names_fd f step.line ≡ true
-named_alone step p f h t never lt is touches =
-    true_from_ne_false (names_fd f step.line) (λ other. never (sym touches ∙ alone step p f h lt is other))
+-- an effect that leaves a descriptor touches one below it only where it is named
+module _ (named : ℕ → Bool) (me p f h : ℕ) (lt : f < h) (none : named f ≡ false) where
+  effect_dropped : (effect : Effect) → FdsNamed named effect → effect_touch effect me p h ≡ kept
+      → effect_touch effect me p f ≡ kept
+  effect_dropped effects.Keep are is = refl
+  effect_dropped effects.Enter are is = refl
+  effect_dropped (effects.Start fs) are is = absurd are
+  effect_dropped effects.Exit are is = is
+  effect_dropped effects.Forget are is = is
+  effect_dropped effects.Exec are is = dropped (p == me) (taken exec me h) (taken exec me f) (λ e. cc) is
+  effect_dropped (effects.CloseFrom n) are is = closed_dropped (p == me) (nat_le n h) (nat_le n f) (further n f h lt) is
+  effect_dropped (effects.Fork child) are is = dropped (p == child) (taken same me h) (taken same me f) (λ e. cc) is
+  effect_dropped (effects.ForkAs child g) are is =
+      rw (and_right (p == me || p == child) (f == g) (apart named f g none are))
+      (child_dropped (p == me) (p == child) (h == g) (taken same me h) (taken same me f) (λ e. cc) is)
+  effect_dropped effect are is = single_unnamed named effect me p f tt are none
 
 -- given, beside another descriptor that is taken: of a pdfork alone
 abbrev is_given : Touch → Bool
@@ -402,85 +186,51 @@ never_taken : (b : Bool) (c : Cell) → is_taken (if b then given c else kept) �
 never_taken true c is = cc
 never_taken false c is = cc
 
-fork_never_given : (answer : Answer) (me p f : ℕ) → is_given (fork_touch answer me p f) ≡ true → ⊥
-fork_never_given (answers.Made c) me p f is = never_given (not (c == 0) && p == c) same me f is
-fork_never_given (answers.Pair c d) me p f is = cc
-fork_never_given (answers.Fault e) me p f is = cc
+child_given : (m d b : Bool) (op : Op) (q g : ℕ)
+    → is_given (if m && d then given Unknown else (if b then taken op q g else kept)) ≡ true → d ≡ true
+child_given m true b op q g is = refl
+child_given true false b op q g is = absurd (never_given b op q g is)
+child_given false false b op q g is = absurd (never_given b op q g is)
 
-child_given : (a m b d : Bool) (op : Op) (q g : ℕ) → is_given
-    (if a then kept else (if (m || b) && d then given Unknown else (if b then taken op q g else kept))) ≡ true
-    → d ≡ true
-child_given a m b true op q g is = refl
-child_given true m b false op q g is = absurd (cc)
-child_given false true true false op q g is = absurd (cc)
-child_given false true false false op q g is = absurd (cc)
-child_given false false true false op q g is = absurd (cc)
-child_given false false false false op q g is = absurd (cc)
+module _ (named : ℕ → Bool) (me p f h : ℕ) where
+  effect_beside : (effect : Effect) → FdsNamed named effect → is_given (effect_touch effect me p f) ≡ true
+      → is_taken (effect_touch effect me p h) ≡ true → named f ≡ true
+  effect_beside effects.Keep are is beside = absurd (cc)
+  effect_beside effects.Enter are is beside = absurd (cc)
+  effect_beside (effects.Start fs) are is beside = absurd are
+  effect_beside effects.Exit are is beside = absurd (never_taken (p == me) Unknown beside)
+  effect_beside effects.Forget are is beside = absurd (never_taken (p == me) Unknown beside)
+  effect_beside effects.Exec are is beside = absurd (never_given (p == me) exec me f is)
+  effect_beside (effects.CloseFrom n) are is beside = absurd (never_taken (p == me && nat_le n h) Closed beside)
+  effect_beside (effects.Give g c) are is beside = absurd (never_taken (p == me && h == g) c beside)
+  effect_beside (effects.GiveTwo g i c) are is beside = absurd (never_taken (p == me && (h == g || h == i)) c beside)
+  effect_beside (effects.Change g op i) are is beside = absurd (never_given (p == me && f == g) op me i is)
+  effect_beside (effects.Fork child) are is beside = absurd (never_given (p == child) same me f is)
+  effect_beside (effects.ForkAs child g) are is beside =
+      is_named named me p f g are (child_given (p == me || p == child) (f == g) (p == child) same me f is)
 
-module _ (me p f h : ℕ) where
-  exec_beside : (profile : Profile) (answer : Answer) → is_given (exec_touch profile answer me p f) ≡ true
-      → is_taken (exec_touch profile answer me p h) ≡ true → ⊥
-  exec_beside One answer is beside = never_taken (succeeded answer && p == me) Unknown beside
-  exec_beside Two answer is beside = never_given (succeeded answer && p == me) exec me f is
+item_dropped : (profile : Profile) (item : Item) (me p f h : ℕ) → f < h → named_by item f ≡ false
+    → item_touch profile item me p h ≡ kept → item_touch profile item me p f ≡ kept
+item_dropped profile (items.Start fs) me p f h lt none is = dropped (p == me) (given (started fs h)) _ (λ e. cc) is
+item_dropped profile item me p f h lt none is =
+    let line = item_done profile item me tt in
+    sym (line.does p f)
+    ∙ effect_dropped (named_by item) me p f h lt none line.effect line.fds (line.does p h ∙ is)
 
-  closefrom_beside : (profile : Profile) (g : ℕ) (answer : Answer)
-      → is_taken (closefrom_touch profile g answer me p h) ≡ true → ⊥
-  closefrom_beside One g answer beside = cc
-  closefrom_beside Two g answer beside = never_taken (succeeded answer && (p == me && nat_le g h)) Closed beside
+item_beside : (profile : Profile) (item : Item) (me p f h : ℕ) → is_given (item_touch profile item me p f) ≡ true
+    → is_taken (item_touch profile item me p h) ≡ true → named_by item f ≡ true
+item_beside profile (items.Start fs) me p f h is beside = absurd (never_taken (p == me) (started fs h) beside)
+item_beside profile item me p f h is beside =
+    let line = item_done profile item me tt in
+    effect_beside (named_by item) me p f h line.effect line.fds (ap is_given (line.does p f) ∙ is)
+    (ap is_taken (line.does p h) ∙ beside)
 
-  pdfork_beside : (answer : Answer) → is_given (pdfork_touch answer me p f) ≡ true → answer_names f answer ≡ true
-  pdfork_beside (answers.Made c) is = absurd (cc)
-  pdfork_beside (answers.Pair c d) is =
-      or_right (f == c) (f == d) (child_given (c == 0) (p == me) (p == c) (f == d) same me f is)
-  pdfork_beside (answers.Fault e) is = absurd (cc)
-
-  fd_beside : (profile : Profile) (call : FdCall) (g : ℕ) (answer : Answer) → is_whole_call (calls.OnFd call g) ≡ true
-      → is_given (fd_touch profile call g answer me p f) ≡ true
-      → is_taken (fd_touch profile call g answer me p h) ≡ true → ⊥
-  fd_beside profile Fexecve g answer whole is beside = exec_beside profile answer is beside
-  fd_beside profile Closefrom g answer whole is beside = closefrom_beside profile g answer beside
-  fd_beside profile _ g answer whole is beside = cc
-
-  path_beside : (profile : Profile) (call : PathCall) (path : List ℕ) (answer : Answer)
-      → is_whole_call (calls.OnPath call path) ≡ true → is_given (path_touch profile call answer me p f) ≡ true
-      → is_taken (path_touch profile call answer me p h) ≡ true → ⊥
-  path_beside profile Execve path answer whole is beside = exec_beside profile answer is beside
-  path_beside profile _ path answer whole is beside = cc
-
-  bare_beside : (call : BareCall) (answer : Answer) → is_whole_call (calls.Bare call) ≡ true
-      → is_given (bare_touch call answer me p f) ≡ true → answer_names f answer ≡ true
-  bare_beside Fork answer whole is = absurd (fork_never_given answer me p f is)
-  bare_beside Vfork answer whole is = absurd (fork_never_given answer me p f is)
-  bare_beside Pdfork answer whole is = pdfork_beside answer is
-  bare_beside _ answer whole is = absurd (cc)
-
-  call_beside : (profile : Profile) (call : Call) (answer : Answer) → is_whole_call call ≡ true
-      → is_given (call_touch profile call answer me p f) ≡ true
-      → is_taken (call_touch profile call answer me p h) ≡ true → answer_names f answer ≡ true
-  call_beside profile (calls.OnFd call g) answer whole is beside =
-      absurd (fd_beside profile call g answer whole is beside)
-  call_beside profile (calls.OnPath call path) answer whole is beside =
-      absurd (path_beside profile call path answer whole is beside)
-  call_beside profile (calls.Bare call) answer whole is beside = bare_beside call answer whole is
-  call_beside profile _ answer whole is beside = absurd (cc)
-
-  item_beside : (profile : Profile) (item : Item) → is_whole_item item ≡ true
-      → is_given (item_touch profile item me p f) ≡ true → is_taken (item_touch profile item me p h) ≡ true
-      → item_answer_names f item ≡ true
-  item_beside profile (items.Call call answer) whole is beside = call_beside profile call answer whole is beside
-  item_beside profile (items.Start fs) whole is beside = absurd (never_taken (p == me) (started fs h) beside)
-  item_beside profile items.Exit whole is beside = absurd (never_taken (p == me) Unknown beside)
-  item_beside profile (items.Foreign g) whole is beside = absurd (cc)
-
-named_beside : (step : Step) (p f h : ℕ) → is_given (touch step p f) ≡ true → is_taken (touch step p h) ≡ true
-    → names_fd f step.line ≡ true
-named_beside step p f h is beside =
-    by_cases (is_whole_item step.line.item)
-    (λ whole. or_right (list_any (arg_names f) (args_of step.line.item)) (item_answer_names f step.line.item)
-    (item_beside step.line.pid p f h step.profile step.line.item whole is beside))
-    (λ part. true_from_ne_false (names_fd f step.line)
-    (λ other. let left : touch step p f ≡ kept = named_descriptors step p f part other in
-    let never : is_given kept ≡ true = sym (ap is_given left) ∙ is in cc))
+-- a step that leaves a descriptor touches one below it only where the line names that
+named_alone : (step : Step) (p f h : ℕ) (t : Touch) → (t ≡ kept → ⊥) → f < h → touch step p h ≡ kept
+    → touch step p f ≡ t → names_fd f step.line ≡ true
+named_alone step p f h t never lt is touches =
+    true_from_ne_false (names_fd f step.line)
+    (λ none. never (sym touches ∙ item_dropped step.profile step.line.item step.line.pid p f h lt none is))
 
 -- ---- effects
 
@@ -540,14 +290,14 @@ module _ (step : Step) where
 
   source_effect : (g h : ℕ) (op : Op) → IsNamed g → touch step step.line.pid g ≡ taken op step.line.pid h → IsNamed h
   source_effect g h op named is =
-      by_cases (g == h) (λ same. subst IsNamed (eqb-true g h same) named)
-      (λ other. ((named_sources step op step.line.pid g step.line.pid h is).1 other).1)
+      ⊎_elim (λ same. subst IsNamed (eqb-true g h same) named)
+      (λ other. ((named_sources step op step.line.pid g step.line.pid h is).1 other).1) (cases_Bool (g == h))
 
   child_effect : (child g : ℕ) → Does (effects.ForkAs child g) → IsNamed g
   child_effect child g does =
       let me : ℕ = step.line.pid in
       let mine : Bool = child == me || child == child in
-      named_beside step child g (suc g)
+      item_beside step.profile step.line.item me child g (suc g)
       (ap is_given (sym (does child g) ∙ picked (mine && g == g) (given Unknown) _
       (and_from mine (g == g) (or_right (child == me) (child == child) (itself child)) (itself g))))
       (ap is_taken (sym (does child (suc g)) ∙ passed (mine && suc g == g) (given Unknown) _
