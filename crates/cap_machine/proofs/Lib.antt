@@ -31,7 +31,7 @@ pub mod Provenances
 pub mod Passages
 pub mod Walking
 pub mod ModeMatters
-pub mod CallsOnFd
+mod LineRules
 pub mod CellChains
 pub mod ModeChains
 pub mod Explained

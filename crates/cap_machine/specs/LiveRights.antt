@@ -4,6 +4,11 @@ use Rattle.cap_rights.specs.Rights.{holds}
 use Rattle.cap_machine.specs.declared.cell.OnExec.{OnExec}
 use Rattle.cap_machine.specs.declared.step.Step.{Step}
 use Rattle.cap_machine.specs.declared.live.LiveRights.{LiveRights}
+use Rattle.cap_machine.specs.declared.rule.Requirement.{Requirement}
+use Rattle.cap_machine.specs.declared.rule.Effect.{Effect}
+use Rattle.cap_machine.specs.Rule.{requirement}
+use Rattle.cap_machine.specs.Touch.{touch, turn}
+use Rattle.cap_machine.specs.Effect.{effect_touch, effect_turn}
 use Rattle.cap_machine.specs.Live.{Live, Blocks}
 use Rattle.cap_machine.specs.Wanted.{wanted, blocked}
 
@@ -21,3 +26,10 @@ IsFirstBlock later at p (Some position) = (n : ℕ) × (position ≡ at + n) × 
 
 abbrev pub AreBlocked : LiveRights → ℕ → List Step → Type 0
 AreBlocked live at later = (p : ℕ) → IsFirstBlock later at p (blocked live p)
+
+-- a step of process me is judged by this, and does this
+pub record IsRule (step : Step) (me : ℕ) (d : Requirement) (effect : Effect) : Type 0 where
+  pub owner : me ≡ step.line.pid
+  pub judged : d ≡ requirement step.line
+  pub touches : (p f : ℕ) → effect_touch effect me p f ≡ touch step p f
+  pub turns : (p : ℕ) → effect_turn effect me p ≡ turn step p

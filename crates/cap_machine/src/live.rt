@@ -10,10 +10,9 @@ ghost use Rattle.cap_trace.specs.Call as calls;
 ghost use Rattle.cap_machine.specs.declared.cell.OnExec.{OnExec};
 ghost use Rattle.cap_machine.specs.declared.step.Step.{Step};
 ghost use Rattle.cap_machine.specs.Steps.{step};
-ghost use Rattle.cap_machine.specs.LiveRights.{AreLive, AreBlocked};
+ghost use Rattle.cap_machine.specs.LiveRights.{AreLive, AreBlocked, IsRule};
 ghost use Rattle.cap_machine.specs.Wanted.{rights_of, wanted_of, wanted, blocked, gathered, gathered_blocked, is_child};
-ghost use Rattle.cap_machine.specs.Wanted.{undone, unblocked, earlier, with_requirement, blocked_with, wanted_before};
-ghost use Rattle.cap_machine.specs.Wanted.{blocked_before};
+ghost use Rattle.cap_machine.specs.Wanted.{undone, unblocked, earlier, with_requirement, blocked_with};
 
 use crate::cell::{OnExec, Profile};
 use crate::effects::{closed, keeps_all};
@@ -167,10 +166,11 @@ impl LiveRights {
         requirement: &Requirement,
         effect: &Effect<'_>,
     ) -> Result<(), NoMemory>
-        ensures rights { OnOk result ((p f : ℕ) (x : OnExec)
-            → wanted self.new p f x ≡ wanted_before requirement.now effect.now me (wanted self.old) p f x) }
-        ensures blocked { OnOk result ((p : ℕ)
-            → blocked self.new p ≡ blocked_before requirement.now effect.now at me (blocked self.old) p) }
+        ensures rights { (line : Step) → IsRule line me requirement.now effect.now
+            → OnOk result ((later : List Step) → AreLive self.old later → AreLive self.new (line ∷ later)) }
+        ensures blocked { (line : Step) → IsRule line me requirement.now effect.now
+            → OnOk result ((later : List Step)
+            → AreBlocked self.old (at + 1) later → AreBlocked self.new at (line ∷ later)) }
     {
         self.gather(me, effect)?;
         self.pass_own(at, me, requirement, effect)
