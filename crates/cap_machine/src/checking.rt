@@ -1,47 +1,18 @@
 //! [`check`]: the findings of a whole trace. One line is judged and then moves the table on, as in the checker.
 
-ghost use Rattle.std.specs.Prelude.{◌≡◌, ◌≤◌, ◌++◌, map, length, flat_map, IfOk, OnOk};
+ghost use Rattle.std.specs.Prelude.{◌≡◌, ◌++◌, map, IfOk, OnOk};
 ghost use Rattle.cap_machine.specs.Steps.{step, steps};
 ghost use Rattle.cap_machine.specs.Rule.{requirement};
-ghost use Rattle.cap_machine.specs.Report.{finding_line};
 ghost use Rattle.cap_machine.specs.Check.{check, said, findings_of, found_at};
 ghost use Rattle.cap_machine.specs.Table.{Keeps, state_of, step_after, start_state};
 
 use crate::cell::Profile;
-use crate::report::put_verdict;
 use crate::start::Start;
 use crate::table::Table;
 use crate::verdict::{Found, Verdict};
 use cap_rights::NoMemory;
 use cap_trace::{Line, LineRef};
 use std::alloc::Global;
-
-/// What is said of a line by what is known before it.
-fn findings_in(table: &Table, line: &LineRef<'_>) -> Verdict
-    ensures { result ≡ findings_of (requirement line.now) line.now.pid (state_of table.now) }
-{
-    if table.has_no_finding(line) {
-        Verdict::silent()
-    } else {
-        table.findings_by_rule(line)
-    }
-}
-
-/// Appends what is said of the line at a position, and answers how many findings that is.
-pub(crate) fn put_findings(
-    out: &mut Vec<u8>,
-    at: usize,
-    line: &LineRef<'_>,
-    table: &Table,
-) -> Result<usize, NoMemory>
-    ensures few { IfOk result (λ count. count ≤ 3) }
-    ensures count { IfOk result (λ count. count
-        ≡ length (findings_of (requirement line.now) line.now.pid (state_of table.now))) }
-    ensures text { OnOk result (out.new.items ≡ out.old.items ++ flat_map (λ f. finding_line line.now (found_at at f))
-        (findings_of (requirement line.now) line.now.pid (state_of table.now))) }
-{
-    put_verdict(out, at, line, &table.findings_by_rule(line))
-}
 
 /// Judges a line by what is known before it, and moves what is known on.
 pub(crate) fn take_line(
@@ -53,7 +24,11 @@ pub(crate) fn take_line(
     ensures moved { OnOk result (Keeps table.new (step_after (step profile line.now) (state_of table.old))) }
 {
     let view = line.view();
-    let verdict = findings_in(table, &view);
+    let verdict = if table.has_no_finding(&view) {
+        Verdict::silent()
+    } else {
+        table.findings_by_rule(&view)
+    };
     table.apply_line(profile, &view)?;
     Ok(verdict)
 }

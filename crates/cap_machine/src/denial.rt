@@ -77,15 +77,6 @@ impl LineDenials {
         self.as_slice().len()
     }
 
-    /// Adds a denial at the end.
-    fn push(&mut self, denial: Denial)
-        requires room { length self.old < 2 }
-        ensures { self.new ≡ self.old ++ denial ∷ [] }
-    {
-        self.denials[self.count] = denial;
-        self.count += 1;
-    }
-
     /// Adds a denial at the end, where there is one.
     fn add(&mut self, denial: Option<Denial>)
         requires room { length self.old < 2 }
@@ -93,7 +84,8 @@ impl LineDenials {
         ensures one { length self.new ≤ length self.old + 1 }
     {
         if let Some(denial) = denial {
-            self.push(denial);
+            self.denials[self.count] = denial;
+            self.count += 1;
         }
     }
 
@@ -101,7 +93,7 @@ impl LineDenials {
         ensures { result ≡ denial ∷ [] }
     {
         let mut denials = LineDenials::none();
-        denials.push(denial);
+        denials.add(Some(denial));
         denials
     }
 

@@ -1,30 +1,32 @@
 //! [`denials`]: what was lacking for each line of a whole trace that errno 93 or 94 refused. Any other line only moves
 //! the table on.
 
-ghost use Rattle.std.specs.Prelude.{◌≡◌, ◌≤◌, ◌++◌, [], map, length, flat_map, IfOk, OnOk, IsTrue};
+ghost use Rattle.std.specs.Prelude.{◌≡◌, ◌++◌, [], map, IfOk, OnOk, IsTrue};
 ghost use Rattle.cap_machine.specs.Steps.{step, steps};
 ghost use Rattle.cap_machine.specs.Rule.{requirement};
 ghost use Rattle.cap_machine.specs.State.{State};
 ghost use Rattle.cap_machine.specs.Denials.{denials, denied, denied_of, denied_at};
-ghost use Rattle.cap_machine.specs.DenialReport.{denial_line};
 ghost use Rattle.cap_machine.specs.Table.{Keeps, state_of, step_after, start_state};
 
 use crate::cell::Profile;
 use crate::denial::{Denied, LineDenials};
-use crate::report::put_denials;
-use crate::rule::{Checks, Requirement, requirement_of_line};
+use crate::errno::{ECAPMODE, ENOTCAPABLE};
+use crate::rule::{Checks, requirement_of_line};
 use crate::start::Start;
 use crate::table::Table;
 use cap_rights::NoMemory;
-use cap_trace::{Answer, Item, Line, LineRef, Pid};
+use cap_trace::{Answer, Item, Line, LineRef};
 use std::alloc::Global;
 
 impl Table {
-    /// What was lacking for a line of a process with this requirement.
-    fn denied(&self, pid: Pid, requirement: &Requirement) -> LineDenials
-        ensures { result ≡ denied_of requirement.now pid (state_of self.now) }
+    /// What was lacking for a line, by its rule.
+    #[inline(never)]
+    pub(crate) fn denied_by_rule(&self, line: &LineRef<'_>) -> LineDenials
+        ensures { result ≡ denied_of (requirement line.now) line.now.pid (state_of self.now) }
     {
+        let pid = line.pid;
         let mode = self.mode(pid);
+        let requirement = requirement_of_line(line);
         match &requirement.checks {
             Checks::Nothing => requirement.denials(mode, &[]),
             Checks::One(a) => requirement.denials(mode, &[self.cell(pid, a.fd)]),
@@ -32,14 +34,6 @@ impl Table {
                 requirement.denials(mode, &[self.cell(pid, a.fd), self.cell(pid, b.fd)])
             }
         }
-    }
-
-    /// What was lacking for a line, by its rule.
-    #[inline(never)]
-    fn denied_by_rule(&self, line: &LineRef<'_>) -> LineDenials
-        ensures { result ≡ denied_of (requirement line.now) line.now.pid (state_of self.now) }
-    {
-        self.denied(line.pid, &requirement_of_line(line))
     }
 }
 
@@ -49,26 +43,9 @@ pub(crate) fn was_let_through(line: &LineRef<'_>) -> bool
     ensures { IsTrue result → (s : State) → denied_of (requirement line.now) line.now.pid s ≡ [] }
 {
     match &line.item {
-        Item::Call { call: _, answer } => !matches!(answer, Answer::Fault(93) | Answer::Fault(94)),
+        Item::Call { call: _, answer } => !matches!(answer, Answer::Fault(ENOTCAPABLE | ECAPMODE)),
         _ => true,
     }
-}
-
-/// Appends what was lacking for the line at a position, and answers how many denials that is.
-#[inline(never)]
-pub(crate) fn put_denied(
-    out: &mut Vec<u8>,
-    at: usize,
-    line: &LineRef<'_>,
-    table: &Table,
-) -> Result<usize, NoMemory>
-    ensures few { IfOk result (λ count. count ≤ 3) }
-    ensures count { IfOk result (λ count. count
-        ≡ length (denied_of (requirement line.now) line.now.pid (state_of table.now))) }
-    ensures text { OnOk result (out.new.items ≡ out.old.items ++ flat_map (λ d. denial_line line.now (denied_at at d))
-        (denied_of (requirement line.now) line.now.pid (state_of table.now))) }
-{
-    put_denials(out, at, line, &table.denied_by_rule(line))
 }
 
 /// What was lacking for a line by what is known before it, and moves what is known on.

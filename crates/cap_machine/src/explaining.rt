@@ -19,10 +19,11 @@ ghost use Rattle.cap_machine.specs.Explain.{explained_of, explained_by, mode_or_
 
 use crate::cell::{Mode, Profile};
 use crate::denial::LineDenials;
-use crate::provenance::{CellProvenance, ModeProvenance, provenance_of_cell, provenance_of_mode};
-use crate::rule::{Check, Checks, Class, Reply, Requirement, rule_of};
+use crate::provenance::{CellProvenance, ModeProvenance};
+use crate::rule::{Checks, Class, Reply, Requirement, requirement_of_line};
 use crate::start::Start;
 use crate::verdict::Verdict;
+use crate::walks::{provenance_of_cell, provenance_of_mode};
 use cap_rights::NoMemory;
 use cap_trace::{Line, Pid};
 use std::alloc::Global;
@@ -183,30 +184,6 @@ impl Explanation {
     }
 }
 
-/// What a line of a process with this requirement rests on that follows these.
-fn explain_requirement(
-    alloc: Global,
-    profile: Profile,
-    start: &Start,
-    before: &[Line],
-    pid: Pid,
-    requirement: &Requirement,
-) -> Result<Explanation, NoMemory>
-    ensures { IfOk result (λ e. explained_by e
-        ≡ explained_of (start_state start.now) (reverse (steps profile before.now)) requirement.now pid) }
-{
-    let cells = provenances_of(alloc, profile, start, before, pid, &requirement.checks)?;
-    let mode = mode_provenance_where(alloc, profile, start, before, pid, requirement)?;
-    Ok(Explanation::of(requirement, cells, mode))
-}
-
-/// What a line is judged by.
-fn requirement_by(profile: Profile, line: &Line) -> Requirement
-    ensures { result ≡ requirement line.now }
-{
-    rule_of(profile, &line.view()).requirement
-}
-
 /// What a line rests on that follows these.
 fn explain_next(
     alloc: Global,
@@ -218,8 +195,11 @@ fn explain_next(
     ensures { IfOk result (λ e. explained_by e
         ≡ explained (start_state start.now) (reverse (steps profile before.now)) (step profile line.now)) }
 {
-    let requirement = requirement_by(profile, line);
-    explain_requirement(alloc, profile, start, before, line.pid(), &requirement)
+    let pid = line.pid();
+    let requirement = requirement_of_line(&line.view());
+    let cells = provenances_of(alloc, profile, start, before, pid, &requirement.checks)?;
+    let mode = mode_provenance_where(alloc, profile, start, before, pid, &requirement)?;
+    Ok(Explanation::of(&requirement, cells, mode))
 }
 
 /// What the line at a position of a trace rests on; positions are from 1. `None` where the trace has no such line.

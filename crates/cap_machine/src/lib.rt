@@ -84,10 +84,7 @@ pub use limits::{Entering, Limits, limits_before, live_after, machine_after};
 pub use live::LiveRights;
 pub use machine::Machine;
 pub use makers::{MakerLimit, limits_of_makers};
-pub use provenance::{
-    CellEnd, CellLink, CellProvenance, ModeEnd, ModeLink, ModeProvenance, provenance_of_cell,
-    provenance_of_mode,
-};
+pub use provenance::{CellEnd, CellLink, CellProvenance, ModeEnd, ModeLink, ModeProvenance};
 pub use provenance_laws::{
     chains_are_enough, chains_skip_no_line, mode_matters_where_it_decides, named_lines_matter,
 };
@@ -99,4 +96,4 @@ pub use start::Start;
 pub use step::Step;
 pub use touched::{Touched, Turned};
 pub use verdict::{Finding, Found, Verdict, judge};
-pub use walks::{CellWalk, ModeWalk, walks_may_leave_out};
+pub use walks::{CellWalk, ModeWalk, provenance_of_cell, provenance_of_mode, walks_may_leave_out};

@@ -1,14 +1,11 @@
 //! The least rights of one descriptor.
 
-ghost use Rattle.std.specs.Prelude.{◌≡◌, ◌<◌, ◌^◌, IfOk, List, map};
+ghost use Rattle.std.specs.Prelude.{◌≡◌, IfOk, List, map};
 ghost use Rattle.std.specs.List.{All};
-ghost use Rattle.std.specs.Ordering.{nat_cmp};
-ghost use Rattle.std.specs.BTreeSet.{IsOrdered};
 ghost use Rattle.cap_machine.specs.declared.step.Step.{Step};
 ghost use Rattle.cap_machine.specs.LimitLaws.{IsLimit};
 ghost use Rattle.cap_machine.specs.LiveRights.{AreLive};
 ghost use Rattle.cap_machine.specs.Wanted.{wanted};
-ghost use Rattle.cap_machine.specs.declared.limit.Limit.{Limit};
 ghost use Rattle.cap_machine.specs.Limits.{row_of, option_rows, held_row, held_rows, least_of, AreInOrder};
 ghost use Rattle.cap_machine.specs.Table.{start_state};
 
@@ -49,29 +46,6 @@ fn limit_of(machine: &Machine, live: &LiveRights, pid: Pid, fd: Fd) -> Option<Li
     }
 }
 
-/// The limit of each of these descriptors of a process that is held, in rising order.
-fn held_limits(
-    alloc: Global,
-    machine: &Machine,
-    live: &LiveRights,
-    pid: Pid,
-    fds: BTreeSet<Fd>,
-) -> Result<Vec<Limit>, NoMemory>
-    ensures rows { IfOk result (λ limits. map row_of limits.items
-        ≡ held_rows (start_state machine.now) (wanted live.now) pid fds.keys) }
-    ensures fds { IfOk result (λ limits. All (λ (limit : Limit). limit.fd < 2 ^ 32) limits.items) }
-    ensures sorted { IfOk result (λ limits. IsOrdered nat_cmp fds) }
-{
-    let mut limits = Vec::with_capacity(alloc, fds.len())?;
-    let mut rest = fds;
-    while let Some(fd) = rest.pop_first() {
-        if let Some(limit) = limit_of(machine, live, pid, fd) {
-            limits.push(limit)?;
-        }
-    }
-    Ok(limits)
-}
-
 /// The limit of each of these descriptors of a process that is held, in rising order: before the lines that `live` has
 /// passed, by what `machine` knows there. It names only rights that are held and live.
 ///
@@ -89,6 +63,12 @@ pub fn limits_among(
         → All (IsLimit (start_state machine.now) later pid) (map row_of limits.items)) }
     ensures in_order { IfOk result (λ limits. AreInOrder (map row_of limits.items)) }
 {
-    let limits = held_limits(alloc, machine, live, pid, fds)?;
+    let mut limits = Vec::with_capacity(alloc, fds.len())?;
+    let mut rest = fds;
+    while let Some(fd) = rest.pop_first() {
+        if let Some(limit) = limit_of(machine, live, pid, fd) {
+            limits.push(limit)?;
+        }
+    }
     Ok(limits)
 }

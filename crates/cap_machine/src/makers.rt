@@ -163,17 +163,6 @@ fn add_limit(
     }
 }
 
-/// Takes the last of the cells.
-fn take_last(cells: &mut Vec<Cell>) -> Cell
-    ensures { (before : List Cell) (last : Cell) → cells.old.items ≡ before ++ last ∷ []
-        → (result ≡ last) × (cells.new.items ≡ before) }
-{
-    match cells.pop() {
-        Some(last) => last,
-        None => Cell::Unknown,
-    }
-}
-
 /// Takes the last of the cells, and adds the limit of a descriptor with this cell, where it is held.
 fn add_last(
     limits: &mut Vec<MakerLimit>,
@@ -187,8 +176,10 @@ fn add_last(
         → OnOk result ((cells.new.items ≡ before)
         × (limits.new.items ≡ limits.old.items ++ maker_row at pid fd last (wanted live.now pid fd))) }
 {
-    let last = take_last(cells);
-    add_limit(limits, at, pid, fd, &last, live)
+    match cells.pop() {
+        Some(last) => add_limit(limits, at, pid, fd, &last, live),
+        None => Ok(()),
+    }
 }
 
 /// Takes the cells of the descriptors that a line made, and adds the limits of those that are held.

@@ -1,17 +1,7 @@
 //! Where what is known of a descriptor and of a mode comes from: the lines that it rests on, newest first.
 
-ghost use Rattle.std.specs.Prelude.{◌≡◌, IfOk};
-ghost use Rattle.cap_machine.specs.Steps.{steps};
-ghost use Rattle.cap_machine.specs.History.{ended};
-ghost use Rattle.cap_machine.specs.Table.{start_state};
-ghost use Rattle.cap_machine.specs.Provenance.{cell_provenance, cell_chain_of, mode_provenance, mode_chain_of};
-
-use crate::cell::{Cell, Mode, Profile};
-use crate::start::Start;
-use crate::walks::{CellWalk, ModeWalk};
-use cap_rights::NoMemory;
-use cap_trace::{Fd, Line, Pid};
-use std::alloc::Global;
+use crate::cell::{Cell, Mode};
+use cap_trace::{Fd, Pid};
 
 /// A line that touched a descriptor of a process.
 #[derive(Clone, Copy, Debug, PartialEq, Eq)]
@@ -72,66 +62,4 @@ pub struct ModeProvenance {
     pub links: Vec<ModeLink>,
     /// Where the chain ends.
     pub end: ModeEnd,
-}
-
-/// Where the cell of a descriptor of a process after these lines comes from.
-///
-/// It goes through the lines from the last one back to where the cell was given, and judges none. Its memory grows with
-/// the lines that touched the cell.
-///
-/// `NoMemory` when out of memory.
-pub fn provenance_of_cell(
-    alloc: Global,
-    profile: Profile,
-    start: &Start,
-    lines: &[Line],
-    pid: Pid,
-    fd: Fd,
-) -> Result<CellProvenance, NoMemory>
-    ensures cell { IfOk result
-        (λ provenance. provenance.cell ≡ (ended (start_state start.now) (steps profile lines.now)).cell pid fd) }
-    ensures chain { IfOk result
-        (λ provenance. cell_chain_of provenance
-        ≡ cell_provenance (start_state start.now) (steps profile lines.now) pid fd) }
-{
-    let mut walk = CellWalk::from(alloc, pid, fd);
-    let mut rest = lines;
-    while let Some((line, before)) = rest.split_last() {
-        if walk.has_ended() {
-            break;
-        }
-        walk.pass(rest.len(), profile, line)?;
-        rest = before;
-    }
-    walk.finish(alloc, start)
-}
-
-/// Where the mode of a process after these lines comes from.
-///
-/// It goes through the lines from the last one back, and judges none. It takes no memory but the chain's.
-///
-/// `NoMemory` when out of memory.
-pub fn provenance_of_mode(
-    alloc: Global,
-    profile: Profile,
-    start: &Start,
-    lines: &[Line],
-    pid: Pid,
-) -> Result<ModeProvenance, NoMemory>
-    ensures mode { IfOk result
-        (λ provenance. provenance.mode ≡ (ended (start_state start.now) (steps profile lines.now)).mode pid) }
-    ensures chain { IfOk result
-        (λ provenance. mode_chain_of provenance
-        ≡ mode_provenance (start_state start.now) (steps profile lines.now) pid) }
-{
-    let mut walk = ModeWalk::from(alloc, pid);
-    let mut earlier = lines;
-    while let Some((line, before)) = earlier.split_last() {
-        if walk.has_ended() {
-            break;
-        }
-        walk.pass(earlier.len(), profile, line)?;
-        earlier = before;
-    }
-    Ok(walk.finish(start))
 }

@@ -4,9 +4,8 @@ ghost use Rattle.std.specs.Prelude.{◌≡◌, ◌≤◌, ◌++◌, IsTrue, IfOk
 ghost use Rattle.cap_machine.specs.Questions.{line_count, line_text, LineHasNoEntry, last_text};
 ghost use Rattle.cap_machine.specs.Table.{state_of};
 
-use crate::checking::put_findings;
-use crate::denying::{put_denied, was_let_through};
-use crate::report::{put_count, put_denial_count};
+use crate::denying::was_let_through;
+use crate::report::{put_count, put_denial_count, put_denials, put_verdict};
 use crate::table::Table;
 use cap_rights::NoMemory;
 use cap_trace::LineRef;
@@ -35,8 +34,8 @@ impl Question {
             (out.new.items ≡ out.old.items ++ line_text self at line.now (state_of table.now)) }
     {
         match self {
-            Question::Findings => put_findings(out, at, line, table),
-            Question::Denials => put_denied(out, at, line, table),
+            Question::Findings => put_verdict(out, at, line, &table.findings_by_rule(line)),
+            Question::Denials => put_denials(out, at, line, &table.denied_by_rule(line)),
         }
     }
 

@@ -3,13 +3,12 @@
 ghost use Rattle.std.specs.Prelude.{◌≡◌, ◌↔◌, ℕ, ◌==◌, ◌||◌, true, reverse, OnOk, IfOk};
 ghost use Rattle.std.specs.List.{list_any};
 ghost use Rattle.cap_trace.specs.Views.{fds_spelled};
-ghost use Rattle.cap_machine.specs.declared.cell.Cell.{Cell};
 ghost use Rattle.cap_machine.specs.Steps.{steps};
 ghost use Rattle.cap_machine.specs.History.{ended};
 ghost use Rattle.cap_machine.specs.Table.{start_state};
 ghost use Rattle.cap_machine.specs.Standing.{Stands, IsHeld, has_fd, is_single, source_of};
 
-use crate::cell::{Cell, Profile};
+use crate::cell::Profile;
 use crate::rule::{Effect, rule_of};
 use crate::start::Start;
 use cap_rights::NoMemory;
@@ -17,31 +16,12 @@ use cap_trace::{Fd, Line, Pid, fds_of};
 use std::alloc::Global;
 use std::collections::BTreeSet;
 
-/// Adds a descriptor.
-fn add(fds: &mut BTreeSet<Fd>, fd: Fd) -> Result<(), NoMemory>
-    ensures { OnOk result ((f : ℕ) → has_fd fds.new f ≡ (f == fd || has_fd fds.old f)) }
-{
-    fds.insert(fd)?;
-    Ok(())
-}
-
 /// Adds these descriptors.
 fn add_all(fds: &mut BTreeSet<Fd>, more: &[Fd]) -> Result<(), NoMemory>
     ensures { OnOk result ((f : ℕ) → has_fd fds.new f ≡ (list_any (λ g. f == g) more.now || has_fd fds.old f)) }
 {
     for fd in more {
-        add(fds, *fd)?;
-    }
-    Ok(())
-}
-
-/// Adds descriptors that are listed with their cells.
-pub(crate) fn add_listed(fds: &mut BTreeSet<Fd>, cells: &[(Fd, Cell)]) -> Result<(), NoMemory>
-    ensures { OnOk result ((f : ℕ) → has_fd fds.new f
-        ≡ (list_any (λ (entry : ℕ × Cell). f == entry.0) cells.now || has_fd fds.old f)) }
-{
-    for entry in cells {
-        add(fds, entry.0)?;
+        fds.insert(*fd)?;
     }
     Ok(())
 }
@@ -70,11 +50,8 @@ fn add_single(
     }
     match effect {
         Effect::Start(spelled) => add_spelled(alloc, fds, spelled),
-        Effect::Give(fd, _) | Effect::Change(fd, _, _) => add(fds, *fd),
-        Effect::GiveTwo(first, second, _) => {
-            add(fds, *second)?;
-            add(fds, *first)
-        }
+        Effect::Give(fd, _) | Effect::Change(fd, _, _) => add_all(fds, &[*fd]),
+        Effect::GiveTwo(first, second, _) => add_all(fds, &[*second, *first]),
         _ => Ok(()),
     }
 }

@@ -1,9 +1,10 @@
 //! What is known before the first line of a trace.
 
-ghost use Rattle.std.specs.Prelude.{◌≡◌, ◌≤◌, ℕ, OnOk, OnErr, [], ◌∷◌, ◌++◌, ◌||◌};
+ghost use Rattle.std.specs.Prelude.{◌≡◌, ◌≤◌, ℕ, ◌==◌, OnOk, OnErr, [], ◌∷◌, ◌++◌, ◌||◌};
 ghost use Rattle.std.specs.List.{All, list_any};
 ghost use Rattle.cap_trace.specs.Entry.{IsFd};
 ghost use Rattle.cap_trace.specs.Limits.{largest_pid};
+ghost use Rattle.cap_machine.specs.declared.cell.Cell.{Cell};
 ghost use Rattle.cap_machine.specs.declared.start.Entry.{Entry};
 ghost use Rattle.cap_machine.specs.Starts.{added_by};
 ghost use Rattle.cap_machine.specs.Standing.{start_lists, added_lists, has_fd};
@@ -11,7 +12,6 @@ ghost use Rattle.cap_machine.specs.State.{usual, with_listed};
 ghost use Rattle.cap_machine.specs.Table.{start_state};
 
 use crate::cell::{Cell, Mode};
-use crate::standing::add_listed;
 use crate::table::Table;
 use cap_rights::NoMemory;
 use cap_trace::{Fd, Pid};
@@ -35,6 +35,17 @@ struct Entry {
 pub struct Start {
     added: Vec<Entry>,
     pub(crate) table: Table,
+}
+
+/// Adds descriptors that are listed with their cells.
+fn add_listed(fds: &mut BTreeSet<Fd>, cells: &[(Fd, Cell)]) -> Result<(), NoMemory>
+    ensures { OnOk result ((f : ℕ) → has_fd fds.new f
+        ≡ (list_any (λ (entry : ℕ × Cell). f == entry.0) cells.now || has_fd fds.old f)) }
+{
+    for entry in cells {
+        fds.insert(entry.0)?;
+    }
+    Ok(())
 }
 
 /// Adds the descriptors that these list for a process.

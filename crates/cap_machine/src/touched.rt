@@ -45,46 +45,28 @@ fn started_with(fds: &[u8], fd: Fd) -> Cell
     }
 }
 
-/// What an effect of a line of a process does to one cell of the same process.
-fn own_touch(effect: &Effect<'_>, me: Pid, fd: Fd) -> Touched
-    ensures { touch_view me result ≡ effect_touch effect.now me me fd }
-{
-    match effect {
-        Effect::Keep | Effect::Enter => Touched::Kept,
-        Effect::Start(fds) => Touched::Given(started_with(fds, fd)),
-        Effect::Exit | Effect::Forget => Touched::Given(Cell::Unknown),
-        Effect::Exec => Touched::Taken(Op::exec(), fd),
-        Effect::CloseFrom(n) if *n <= fd => Touched::Given(Cell::Closed),
-        Effect::Give(to, cell) if fd == *to => Touched::Given(*cell),
-        Effect::GiveTwo(first, second, cell) if fd == *first || fd == *second => {
-            Touched::Given(*cell)
-        }
-        Effect::Change(to, op, from) if fd == *to => Touched::Taken(*op, *from),
-        Effect::ForkAs(_, to) if fd == *to => Touched::Given(Cell::Unknown),
-        Effect::Fork(child) | Effect::ForkAs(child, _) if me == *child => {
-            Touched::Taken(Op::same(), fd)
-        }
-        _ => Touched::Kept,
-    }
-}
-
 impl Effect<'_> {
     /// What the effect of a line of process `me` does to one cell.
     pub fn touch(&self, me: Pid, pid: Pid, fd: Fd) -> Touched
         ensures { touch_view me result ≡ effect_touch self.now me pid fd }
     {
-        if pid == me {
-            return own_touch(self, me, fd);
-        }
         match self {
-            Effect::Fork(child) if pid == *child => Touched::Taken(Op::same(), fd),
-            Effect::ForkAs(child, to) if pid == *child => {
-                if fd == *to {
-                    Touched::Given(Cell::Unknown)
-                } else {
-                    Touched::Taken(Op::same(), fd)
-                }
+            Effect::ForkAs(child, to) if (pid == me || pid == *child) && fd == *to => {
+                Touched::Given(Cell::Unknown)
             }
+            Effect::Fork(child) | Effect::ForkAs(child, _) if pid == *child => {
+                Touched::Taken(Op::same(), fd)
+            }
+            _ if pid != me => Touched::Kept,
+            Effect::Start(fds) => Touched::Given(started_with(fds, fd)),
+            Effect::Exit | Effect::Forget => Touched::Given(Cell::Unknown),
+            Effect::Exec => Touched::Taken(Op::exec(), fd),
+            Effect::CloseFrom(n) if *n <= fd => Touched::Given(Cell::Closed),
+            Effect::Give(to, cell) if fd == *to => Touched::Given(*cell),
+            Effect::GiveTwo(first, second, cell) if fd == *first || fd == *second => {
+                Touched::Given(*cell)
+            }
+            Effect::Change(to, op, from) if fd == *to => Touched::Taken(*op, *from),
             _ => Touched::Kept,
         }
     }

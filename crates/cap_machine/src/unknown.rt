@@ -23,13 +23,7 @@ fn unknown_limit(machine: &Machine, pid: Pid, fd: Fd, needed: &RightSet) -> Opti
 {
     let rights = least_rights(&RightSet::all(), needed);
     match machine.cell(pid, fd) {
-        Cell::Unknown => {
-            if rights == RightSet::none() {
-                None
-            } else {
-                Some(Limit { fd, rights })
-            }
-        }
+        Cell::Unknown if rights != RightSet::none() => Some(Limit { fd, rights }),
         _ => None,
     }
 }

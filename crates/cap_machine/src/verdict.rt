@@ -81,15 +81,6 @@ impl Verdict {
         self.as_slice().len()
     }
 
-    /// Adds a finding at the end.
-    fn push(&mut self, finding: Finding)
-        requires room { length self.old < 3 }
-        ensures { self.new ≡ self.old ++ finding ∷ [] }
-    {
-        self.findings[self.count] = finding;
-        self.count += 1;
-    }
-
     /// Adds a finding at the end, where there is one.
     fn add(&mut self, finding: Option<Finding>)
         requires room { length self.old < 3 }
@@ -97,7 +88,8 @@ impl Verdict {
         ensures one { length self.new ≤ length self.old + 1 }
     {
         if let Some(finding) = finding {
-            self.push(finding);
+            self.findings[self.count] = finding;
+            self.count += 1;
         }
     }
 
@@ -105,7 +97,7 @@ impl Verdict {
         ensures { result ≡ finding ∷ [] }
     {
         let mut verdict = Verdict::silent();
-        verdict.push(finding);
+        verdict.add(Some(finding));
         verdict
     }
 }

@@ -8,13 +8,13 @@ ghost use Rattle.cap_machine.specs.Touched.{touch_view, turn_view};
 ghost use Rattle.cap_machine.specs.Following.{Follows, FollowsMode};
 ghost use Rattle.cap_machine.specs.Walks.{chain_unless};
 ghost use Rattle.cap_machine.specs.declared.step.Step.{Step};
-ghost use Rattle.cap_machine.specs.Steps.{step};
+ghost use Rattle.cap_machine.specs.Steps.{step, steps};
 ghost use Rattle.cap_machine.specs.State.{State};
-ghost use Rattle.cap_machine.specs.History.{cell_after, mode_after};
+ghost use Rattle.cap_machine.specs.History.{cell_after, mode_after, ended};
 ghost use Rattle.cap_machine.specs.Table.{start_state};
 ghost use Rattle.cap_machine.specs.Passages.{constant, cell_along, links_along};
-ghost use Rattle.cap_machine.specs.Provenance.{is_idle, cell_at_end, cell_chain, cell_chain_of};
-ghost use Rattle.cap_machine.specs.Provenance.{named_turn, mode_chain, mode_chain_of};
+ghost use Rattle.cap_machine.specs.Provenance.{is_idle, cell_at_end, cell_chain, cell_chain_of, cell_provenance};
+ghost use Rattle.cap_machine.specs.Provenance.{named_turn, mode_chain, mode_chain_of, mode_provenance};
 ghost use Rattle.cap_machine.specs.Walks.{cell_pid, cell_fd, cell_known, cell_found, SameCellWalk, CellIsFound};
 ghost use Rattle.cap_machine.specs.Walks.{mode_pid, mode_known, mode_found, SameModeWalk, ModeIsFound};
 ghost use Rattle.cap_machine.specs.Walks.{CellsMayBeLeftOut, ModesMayBeLeftOut};
@@ -341,6 +341,68 @@ impl ModeWalk {
             }
         }
     }
+}
+
+/// Where the cell of a descriptor of a process after these lines comes from.
+///
+/// It goes through the lines from the last one back to where the cell was given, and judges none. Its memory grows with
+/// the lines that touched the cell.
+///
+/// `NoMemory` when out of memory.
+pub fn provenance_of_cell(
+    alloc: Global,
+    profile: Profile,
+    start: &Start,
+    lines: &[Line],
+    pid: Pid,
+    fd: Fd,
+) -> Result<CellProvenance, NoMemory>
+    ensures cell { IfOk result
+        (λ provenance. provenance.cell ≡ (ended (start_state start.now) (steps profile lines.now)).cell pid fd) }
+    ensures chain { IfOk result
+        (λ provenance. cell_chain_of provenance
+        ≡ cell_provenance (start_state start.now) (steps profile lines.now) pid fd) }
+{
+    let mut walk = CellWalk::from(alloc, pid, fd);
+    let mut rest = lines;
+    while let Some((line, before)) = rest.split_last() {
+        if walk.has_ended() {
+            break;
+        }
+        walk.pass(rest.len(), profile, line)?;
+        rest = before;
+    }
+    walk.finish(alloc, start)
+}
+
+/// Where the mode of a process after these lines comes from.
+///
+/// It goes through the lines from the last one back, and judges none. It takes no memory but the chain's.
+///
+/// `NoMemory` when out of memory.
+pub fn provenance_of_mode(
+    alloc: Global,
+    profile: Profile,
+    start: &Start,
+    lines: &[Line],
+    pid: Pid,
+) -> Result<ModeProvenance, NoMemory>
+    ensures mode { IfOk result
+        (λ provenance. provenance.mode ≡ (ended (start_state start.now) (steps profile lines.now)).mode pid) }
+    ensures chain { IfOk result
+        (λ provenance. mode_chain_of provenance
+        ≡ mode_provenance (start_state start.now) (steps profile lines.now) pid) }
+{
+    let mut walk = ModeWalk::from(alloc, pid);
+    let mut earlier = lines;
+    while let Some((line, before)) = earlier.split_last() {
+        if walk.has_ended() {
+            break;
+        }
+        walk.pass(earlier.len(), profile, line)?;
+        earlier = before;
+    }
+    Ok(walk.finish(start))
 }
 
 /// A walk finds the same without lines that leave the cell, or the mode, that it is at as it was.

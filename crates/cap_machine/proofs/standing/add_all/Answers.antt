@@ -1,4 +1,5 @@
-use Rattle.std.proofs.Common.{◌==◌, ◌||◌, Bool, ap, ◌∙◌, get_or, take_all}
+use Rattle.std.proofs.Common.{◌==◌, ◌||◌, Bool, ap, ◌∙◌, arith, get_or, take_all}
+use Rattle.std.proofs.lemmas.Grind.{common_steps}
 use Rattle.std.proofs.lemmas.List.Folds.{list_any_more}
 use Rattle.std.specs.List.{list_any}
 use Rattle.cap_machine.specs.Standing.{has_fd}
@@ -7,7 +8,7 @@ use Rattle.cap_machine.proofs.standing.add_all.Goals as goal
 
 pub loop-fd-preserved : goal.loop-fd-preserved
 loop-fd-preserved c = λ f.
-    one_added (f == get_or c.args.more.now c.loop-fd.fd-index 0) _ _ _ _ _ (c.in_ok-add.ensures f) (c.loop-fd.invariant f)
+    one_added (f == get_or c.args.more.now c.loop-fd.fd-index 0) _ _ _ _ _ (grind (arith, common_steps, c.in_ok-insert.ensures.updates.0 f)) (c.loop-fd.invariant f)
     (list_any_more (λ g. f == g) c.args.more.now c.loop-fd.fd-index 0 c.loop-fd-test.true)
 
 pub returns : goal.returns

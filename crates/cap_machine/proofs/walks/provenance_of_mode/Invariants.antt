@@ -4,7 +4,7 @@ use Rattle.cap_machine.specs.Table.{start_state}
 use Rattle.cap_machine.specs.Provenance.{mode_chain}
 use Rattle.cap_machine.specs.Walks.{mode_known, mode_found}
 use Rattle.cap_machine.proofs.Provenances.{back}
-use Rattle.cap_machine.proofs.provenance.provenance_of_mode.Given as goal
+use Rattle.cap_machine.proofs.walks.provenance_of_mode.Given as goal
 
 abbrev pub invariant-loop-line : goal.invariant-loop-line
 invariant-loop-line l = record {

@@ -4,7 +4,7 @@ use Rattle.cap_machine.specs.declared.limit.Limit.{Limit}
 use Rattle.cap_machine.specs.Table.{start_state}
 use Rattle.cap_machine.specs.Wanted.{wanted}
 use Rattle.cap_machine.specs.Limits.{row_of, held_rows}
-use Rattle.cap_machine.proofs.limit.held_limits.Given as goal
+use Rattle.cap_machine.proofs.limit.limits_among.Given as goal
 
 abbrev pub invariant-loop-fd : goal.invariant-loop-fd
 invariant-loop-fd l = record {
