@@ -15,7 +15,6 @@ pub mod Tables
 pub mod Wording
 pub mod ReportLines
 pub mod OneMore
-pub mod DenialTurns
 pub mod Excuses
 pub mod RightDenials
 pub mod LackedRights

@@ -1,8 +1,8 @@
 -- One more line of a trace that is checked going forward.
-use Rattle.std.proofs.Common.{◌≡◌, ℕ, ◌+◌, List, [], ◌∷◌, ◌++◌, length, sym, ap, ◌∙◌, subst}
-use Rattle.std.proofs.Common.{length-append}
+use Rattle.std.proofs.Common.{◌≡◌, ℕ, ◌+◌, ◌<◌, List, [], ◌∷◌, ◌++◌, length, sym, ap, ◌∙◌, subst, arith}
+use Rattle.std.proofs.Common.{length-append, get_or, map, reverse, take}
 use Rattle.std.specs.Prelude.{flat_map}
-use Rattle.std.proofs.lemmas.List.{length-map, map-append}
+use Rattle.std.proofs.lemmas.List.{length-map, length-take, map-append, take_more}
 use Rattle.cap_trace.specs.Entry.{Entry}
 use Rattle.cap_machine.specs.declared.cell.Profile.{Profile}
 use Rattle.cap_machine.specs.declared.question.Question.{Question}
@@ -13,7 +13,7 @@ use Rattle.cap_machine.specs.Checked.{CheckerState, IsAsked}
 use Rattle.cap_machine.specs.Known.{known}
 use Rattle.cap_machine.specs.Steps.{step, steps}
 use Rattle.cap_machine.specs.State.{State}
-use Rattle.cap_machine.specs.History.{ended}
+use Rattle.cap_machine.specs.History.{ended, told}
 use Rattle.cap_machine.specs.Check.{found_at}
 use Rattle.cap_machine.specs.Report.{finding_line}
 use Rattle.cap_machine.specs.Denials.{denied_at}
@@ -21,7 +21,7 @@ use Rattle.cap_machine.specs.DenialReport.{denial_line}
 use Rattle.cap_machine.specs.Questions.{answer_count, answer_lines, line_count, line_text, LineHasNoEntry}
 use Rattle.cap_machine.specs.Table.{state_of, start_state, Keeps, step_after}
 use Rattle.cap_machine.proofs.KnownTables.{state_known}
-use Rattle.cap_machine.proofs.Turns.{ends_more, same_state}
+use Rattle.cap_machine.proofs.Turns.{ends_more, same_state, told_more}
 use Rattle.cap_machine.proofs.ReportLines.{answer_count-more, answer_lines-more}
 
 pub state_kept : (table : Table) (s : State) → Keeps table s → state_of table ≡ s
@@ -35,6 +35,43 @@ kept_state table s e =
 pub steps-more : (profile : Profile) (trace : List Entry) (line : Entry)
     → steps profile (trace ++ line ∷ []) ≡ steps profile trace ++ step profile line ∷ []
 steps-more profile trace line = map-append (step profile) trace (line ∷ [])
+
+-- the lines up to an index, and the one at it
+pub steps_taken : (profile : Profile) (lines : List Entry) (i : ℕ) (line : Entry) → i < length lines
+    → line ≡ get_or lines i line
+    → steps profile (take (i + 1) lines) ≡ steps profile (take i lines) ++ step profile line ∷ []
+steps_taken profile lines i line within is =
+    ap (steps profile) (take_more lines i line within ∙ ap (λ (r : Entry). take i lines ++ r ∷ []) (sym is))
+    ∙ steps-more profile (take i lines) line
+
+-- what is known, and what was told of the lines up to an index
+pub record IsTold {A X : Type 0} (at : ℕ → A → X) (says : Step → State → List A) (profile : Profile) (s : State)
+    (lines : List Entry) (table : Table) (all : List X) : Type 0 where
+  pub state : state_of table ≡ ended s (steps profile lines)
+  pub found : all ≡ told at says s (reverse (steps profile lines))
+
+pub told_line : (A X : Type 0) (at : ℕ → A → X) (says : Step → State → List A) (later : ℕ → X → X)
+    → ((n i : ℕ) (a : A) → later n (at i a) ≡ at (n + i) a)
+    → (profile : Profile) (s : State) (lines : List Entry) (i : ℕ) (line : Entry) (a b : Table) (old new : List X) (xs : List A)
+    → i < length lines → line ≡ get_or lines i line
+    → Keeps b (step_after (step profile line) (state_of a)) → xs ≡ says (step profile line) (state_of a)
+    → new ≡ old ++ map (at (i + 1)) xs → IsTold at says profile s (take i lines) a old
+    → IsTold at says profile s (take (i + 1) lines) b new
+told_line A X at says later moves profile s lines i line a b old new xs within is moved said adds before =
+    let t : List Step = steps profile (take i lines) in
+    let l : Step = step profile line in
+    let more = steps_taken profile lines i line within is in
+    let many : length t ≡ i = omega (arith, length-map (take i lines) (step profile), length-take i lines) in
+    record {
+      state = state_kept b (step_after l (state_of a)) moved ∙ ap (step_after l) before.state ∙ sym (ends_more s t l)
+          ∙ ap (ended s) (sym more);
+      found = adds ∙ ap (λ r. old ++ map (at (i + 1)) r) said
+          ∙ ap (λ r. r ++ map (at (i + 1)) (says l (state_of a))) before.found
+          ∙ ap (λ r. told at says s (reverse t) ++ map (at (i + 1)) (says l r)) before.state
+          ∙ ap (λ n. told at says s (reverse t) ++ map (at (n + 1)) (says l (ended s t))) (sym many)
+          ∙ sym (told_more A X at says later moves s t l)
+          ∙ ap (λ (r : List Step). told at says s (reverse r)) (sym more);
+    }
 
 -- the state after one more step
 pub kept_more : (a b : Table) (s : State) (t : List Step) (l : Step) → Keeps b (step_after l (state_of a))

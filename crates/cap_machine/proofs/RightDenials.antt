@@ -27,8 +27,8 @@ use Rattle.cap_machine.specs.History.{after}
 use Rattle.cap_machine.specs.Rule.{requirement}
 use Rattle.cap_machine.specs.Judge.{listed, fault, faults, shortfall, forbidden, is_excused, all_excused, has_check}
 use Rattle.cap_machine.specs.Judge.{is_forbidden, is_inside, is_outside, is_allowed, judged_by}
-use Rattle.cap_machine.specs.Denials.{lack, lacks, or_unexplained, denied_by, denied, denied_at, denied_in, denials}
-use Rattle.cap_machine.specs.DenialLaws.{WrongIsUnexplained, LackingIsRight, InsideIsRight, DenialsWithin}
+use Rattle.cap_machine.specs.Denials.{lack, lacks, or_unexplained, denied_by, denied}
+use Rattle.cap_machine.specs.DenialLaws.{WrongIsUnexplained, LackingIsRight, InsideIsRight}
 use Rattle.cap_machine.proofs.Excuses.{Excuses, AllExcused, has_needs, item_excused}
 
 -- ---- a call whose refusal for lack of rights is wrong lacks none
@@ -243,31 +243,3 @@ the_inside s step has =
     let d : Requirement = requirement step.line in
     inside_is_right d.reply d (s.mode step.line.pid)
     (map (λ (check : Check). s.cell step.line.pid check.fd) (listed d.checks)) has
-
--- ---- where denials stand
-
-abbrev IsWithin : ℕ → Denied → Type 0
-IsWithin n denied = (1 ≤ denied.at) × (denied.at ≤ n)
-
-one_more : (n : ℕ) (xs : List Denied) → All (IsWithin n) xs → All (IsWithin (n + 1)) xs
-one_more n xs are k d lt = let is = are k d lt in (is.0, omega (arith, is.1))
-
-denied_within : (s : State) (history : List Step) → All (IsWithin (length history)) (denied_in s history)
-denied_within s [] = All-nil (IsWithin 0)
-denied_within s (step ∷ history) =
-    let here :
-    All (IsWithin (length history + 1)) (map (denied_at (length history + 1)) (denied step (after s history))) =
-    All-map (IsWithin (length history + 1)) (denied_at (length history + 1)) (denied step (after s history))
-    (λ k d lt. (omega arith, omega arith)) in
-    let both : All (IsWithin (length history + 1)) (denied_in s (step ∷ history)) =
-    All-append (IsWithin (length history + 1)) (denied_in s history)
-    (map (denied_at (length history + 1)) (denied step (after s history)))
-    (one_more (length history) (denied_in s history) (denied_within s history)) here in
-    let same : length history + 1 ≡ length (step ∷ history) = omega arith in
-    let P : ℕ → Type 0 = λ n. All (IsWithin n) (denied_in s (step ∷ history)) in
-    subst P same both
-
-pub denials_within : DenialsWithin
-denials_within s trace =
-    let P : ℕ → Type 0 = λ n. All (IsWithin n) (denials s trace) in
-    subst P (length-reverse trace) (denied_within s (reverse trace))

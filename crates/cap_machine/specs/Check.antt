@@ -1,12 +1,12 @@
 -- What is found in a trace: of each step, with the state that stands before it.
-use Rattle.std.specs.Prelude.{ℕ, ◌+◌, List, [], ◌∷◌, ◌++◌, length, map, reverse}
+use Rattle.std.specs.Prelude.{ℕ, List, map, reverse}
 use Rattle.cap_machine.specs.declared.step.Step.{Step}
 use Rattle.cap_machine.specs.declared.rule.Check.{Check}
 use Rattle.cap_machine.specs.declared.rule.Requirement.{Requirement}
 use Rattle.cap_machine.specs.declared.verdict.Finding.{Finding}
 use Rattle.cap_machine.specs.declared.verdict.Found.{Found}
 use Rattle.cap_machine.specs.State.{State}
-use Rattle.cap_machine.specs.History.{after}
+use Rattle.cap_machine.specs.History.{told}
 use Rattle.cap_machine.specs.Rule.{requirement}
 use Rattle.cap_machine.specs.Judge.{listed, judged}
 
@@ -22,10 +22,9 @@ said step s = findings_of (requirement step.line) step.line.pid s
 abbrev pub found_at : ℕ → Finding → Found
 found_at position finding = record { at = position; finding = finding }
 
--- the findings of a history, its newest step first; steps are numbered from 1
+-- the findings of a history, its newest step first
 abbrev pub findings : State → List Step → List Found
-findings s [] = []
-findings s (step ∷ history) = findings s history ++ map (found_at (length history + 1)) (said step (after s history))
+findings s history = told found_at said s history
 
 -- the findings of a trace, its steps in their order
 abbrev pub check : State → List Step → List Found

@@ -1,6 +1,6 @@
 -- What was lacking for a call that errno 93 or 94 refused (errno(2), rights(4), capsicum(4)): of each step of a trace,
 -- with the state that stands before it.
-use Rattle.std.specs.Prelude.{ℕ, ◌+◌, ◌&&◌, not, if◌then◌else◌, List, [], ◌∷◌, ◌++◌, length, map, reverse}
+use Rattle.std.specs.Prelude.{ℕ, ◌&&◌, not, if◌then◌else◌, List, [], ◌∷◌, ◌++◌, map, reverse}
 use Rattle.cap_rights.specs.Rights.{has_all, minus}
 use Rattle.cap_machine.specs.declared.cell.Cell.{Cell}
 use Rattle.cap_machine.specs.declared.cell.Cell.TheVariants.{Unknown, Closed, Held}
@@ -14,7 +14,7 @@ use Rattle.cap_machine.specs.declared.denial.Denial.{Denial}
 use Rattle.cap_machine.specs.declared.denial.Denial.TheVariants.{Lacks, Inside, Unexplained}
 use Rattle.cap_machine.specs.declared.denial.Denied.{Denied}
 use Rattle.cap_machine.specs.State.{State}
-use Rattle.cap_machine.specs.History.{after}
+use Rattle.cap_machine.specs.History.{told}
 use Rattle.cap_machine.specs.Rule.{requirement}
 use Rattle.cap_machine.specs.Judge.{listed, is_inside, is_allowed}
 
@@ -61,12 +61,6 @@ denied step s = denied_of (requirement step.line) step.line.pid s
 abbrev pub denied_at : ℕ → Denial → Denied
 denied_at position denial = record { at = position; denial = denial }
 
--- the denials of a history, its newest step first; steps are numbered from 1
-abbrev pub denied_in : State → List Step → List Denied
-denied_in s [] = []
-denied_in s (step ∷ history) =
-    denied_in s history ++ map (denied_at (length history + 1)) (denied step (after s history))
-
 -- the denials of a trace, its steps in their order
 abbrev pub denials : State → List Step → List Denied
-denials s trace = denied_in s (reverse trace)
+denials s trace = told denied_at denied s (reverse trace)

@@ -1,6 +1,6 @@
 -- The cell of one descriptor and the mode of one process after a history, its newest step first: one walks back to the
 -- last step that touched it. A step that takes the cell from another sends one on from there.
-use Rattle.std.specs.Prelude.{ℕ, List, [], ◌∷◌, reverse}
+use Rattle.std.specs.Prelude.{ℕ, ◌+◌, List, [], ◌∷◌, ◌++◌, length, map, reverse}
 use Rattle.cap_machine.specs.declared.step.Step.{Step}
 use Rattle.cap_machine.specs.declared.cell.Cell.{Cell}
 use Rattle.cap_machine.specs.declared.cell.Mode.{Mode}
@@ -34,3 +34,10 @@ after s history = record { cell = cell_after s history; mode = mode_after s hist
 -- the state after a trace, its steps in their order
 abbrev pub ended : State → List Step → State
 ended s trace = after s (reverse trace)
+
+-- what is told of each step of a history, with the state that stands before it and with its position; steps are numbered
+-- from 1
+abbrev pub told : {A X : Type 0} → (ℕ → A → X) → (Step → State → List A) → State → List Step → List X
+told at says s [] = []
+told at says s (step ∷ history) =
+    told at says s history ++ map (at (length history + 1)) (says step (after s history))

@@ -1,12 +1,9 @@
-use Rattle.std.proofs.Common.{◌≡◌, take}
-use Rattle.cap_machine.specs.Steps.{steps}
-use Rattle.cap_machine.specs.History.{ended}
-use Rattle.cap_machine.specs.Check.{check}
-use Rattle.cap_machine.specs.Table.{state_of, start_state}
+use Rattle.std.proofs.Common.{take}
+use Rattle.cap_machine.specs.Check.{said, found_at}
+use Rattle.cap_machine.specs.Table.{start_state}
+use Rattle.cap_machine.proofs.OneMore.{IsTold}
 use Rattle.cap_machine.proofs.checking.check.Given as goal
 
 abbrev pub invariant-loop-i : goal.invariant-loop-i
-invariant-loop-i l = record {
-  state : state_of l.table ≡ ended (start_state l.start) (steps l.fn.profile (take l.i l.lines));
-  found : l.found.items ≡ check (start_state l.start) (steps l.fn.profile (take l.i l.lines));
-}
+invariant-loop-i l =
+    IsTold found_at said l.fn.profile (start_state l.start) (take l.i l.lines) l.table l.found.items

@@ -1,4 +1,4 @@
-use Rattle.cap_machine.proofs.DenialTurns.{denials_in_turn as the_law, denials_more}
+use Rattle.cap_machine.proofs.Turns.{denials_in_turn as the_law, denials_more}
 use Rattle.cap_machine.proofs.denial_laws.denials_in_turn.Goals as goal
 
 pub returns-clause-denials : goal.returns-clause-denials

@@ -9,7 +9,7 @@ use Rattle.cap_machine.specs.History.{ended}
 use Rattle.cap_machine.specs.Table.{start_state}
 use Rattle.cap_machine.specs.Makers.{cells_along, cells_made, made_fds}
 use Rattle.cap_machine.proofs.Turns.{ends_more}
-use Rattle.cap_machine.proofs.OneMore.{steps-more}
+use Rattle.cap_machine.proofs.OneMore.{steps_taken}
 use Rattle.cap_machine.proofs.MakerLimits.{cells_more}
 use Rattle.cap_machine.proofs.makers.made_along.Goals as goal
 
@@ -20,12 +20,8 @@ loop-line-preserved c =
     let before : List Entry = take c.loop-line.line-index c.args.lines.now in
     let t : List Step = steps c.args.profile before in
     let l : Step = step c.args.profile line in
-    let within : c.loop-line.line-index < length c.args.lines.now = omega arith in
-    let lines : take (c.loop-line.line-index + 1) c.args.lines.now ≡ before ++ line ∷ [] =
-    take_more c.args.lines.now c.loop-line.line-index line within
-    ∙ ap (λ (r : Entry). before ++ r ∷ []) (sym c.line-item.is) in
     let more : steps c.args.profile (take (c.loop-line.line-index + 1) c.args.lines.now) ≡ t ++ l ∷ [] =
-    ap (steps c.args.profile) lines ∙ steps-more c.args.profile before line in
+    steps_taken c.args.profile c.args.lines.now c.loop-line.line-index line (omega arith) c.line-item.is in
     let now : start_state c.apply_maker_line.new.machine ≡ ended s (t ++ l ∷ []) =
     c.in_ok-apply_maker_line.ensures.moves ∙ ap (λ (u : State). ended u (l ∷ [])) c.loop-line.invariant.state
     ∙ sym (ends_more s t l) in
