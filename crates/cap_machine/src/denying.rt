@@ -11,7 +11,8 @@ ghost use Rattle.cap_machine.specs.Table.{Keeps, state_of, step_after, start_sta
 use crate::cell::Profile;
 use crate::denial::{Denied, LineDenials};
 use crate::errno::{ECAPMODE, ENOTCAPABLE};
-use crate::rule::{Checks, requirement_of_line};
+use crate::requirements::requirement_of_line;
+use crate::rule::Checks;
 use crate::start::Start;
 use crate::table::Table;
 use cap_rights::NoMemory;

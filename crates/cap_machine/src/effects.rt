@@ -12,7 +12,8 @@ ghost use Rattle.cap_machine.specs.Touch.{copied_to, whole, exec_touch, closefro
 ghost use Rattle.cap_machine.specs.Touch.{socket_flag, fd_flag, fd_touch, fcntl_touch, fcntl_copied_to, set_fd_op};
 ghost use Rattle.cap_machine.specs.Touch.{at_touch, opened_below, flags_touch, fork_touch};
 ghost use Rattle.cap_machine.specs.Touch.{pdfork_touch, bare_touch, call_touch, call_turn, enter_turn};
-ghost use Rattle.cap_machine.specs.Touch.{stays, fork_turn, pdfork_turn};
+ghost use Rattle.cap_machine.specs.Touch.{stays, fork_turn, pdfork_turn, touch, turn};
+ghost use Rattle.cap_machine.specs.Steps.{step};
 ghost use Rattle.cap_machine.specs.Effect.{effect_touch, effect_turn, OnlyCells, IsWithin, FdsWithin, FitsMade, FitsPair};
 
 use crate::cell::{Cell, OnExec, Op, Profile};
@@ -22,7 +23,8 @@ use crate::places::below_of;
 use crate::rule::Effect;
 use cap_rights::RightSet;
 use cap_trace::{
-    Answer, AtFlagsCall, BareCall, Call, Dir, DupCommand, Fd, FdCall, FlagsCall, PathCall, Pid,
+    Answer, AtFlagsCall, BareCall, Call, Dir, DupCommand, Fd, FdCall, FlagsCall, Item, LineRef,
+    PathCall, Pid,
 };
 
 /// The flag of a descriptor, by whether it was asked to be closed on exec.
@@ -370,7 +372,7 @@ fn flags_effect(call: FlagsCall, flags: &[u8], answer: &Answer) -> Effect<'stati
 }
 
 /// What a call does.
-pub(crate) fn effect_of(profile: Profile, call: &Call<'_>, answer: &Answer) -> Effect<'static>
+fn effect_of(profile: Profile, call: &Call<'_>, answer: &Answer) -> Effect<'static>
     requires answer { IsAnswer (kind_of (call_view call.now)) answer.now }
     requires within { FdsWithin (args_of_call (call_view call.now)) }
     ensures cells { (me p f : ℕ)
@@ -396,5 +398,21 @@ pub(crate) fn effect_of(profile: Profile, call: &Call<'_>, answer: &Answer) -> E
         Call::OnFlags(call, flags) => flags_effect(*call, flags, answer),
         Call::Bare(call) => bare_effect(*call, answer),
         _ => Effect::Keep,
+    }
+}
+
+/// What a line does in a profile.
+// Inlined: a large value that is returned is copied by each function that it goes through.
+#[inline(always)]
+pub(crate) fn effect_of_line<'a>(profile: Profile, line: &LineRef<'a>) -> Effect<'a>
+    ensures cells { (p f : ℕ) → effect_touch result line.now.pid p f ≡ touch (step profile line.now) p f }
+    ensures modes { (p : ℕ) → effect_turn result line.now.pid p ≡ turn (step profile line.now) p }
+    ensures within { IsWithin result }
+{
+    match &line.item {
+        Item::Call { call, answer } => effect_of(profile, call, answer),
+        Item::Start(fds) => Effect::Start(fds),
+        Item::Exit => Effect::Exit,
+        Item::Foreign(fd) => Effect::Give(*fd, Cell::Unknown),
     }
 }

@@ -20,7 +20,8 @@ ghost use Rattle.cap_machine.specs.Explain.{explained_of, explained_by, mode_or_
 use crate::cell::{Mode, Profile};
 use crate::denial::LineDenials;
 use crate::provenance::{CellProvenance, ModeProvenance};
-use crate::rule::{Checks, Class, Reply, Requirement, requirement_of_line};
+use crate::requirements::requirement_of_line;
+use crate::rule::{Checks, Class, Reply, Requirement};
 use crate::start::Start;
 use crate::verdict::Verdict;
 use crate::walks::{provenance_of_cell, provenance_of_mode};

@@ -51,6 +51,7 @@ mod question;
 mod report;
 mod requirements;
 mod rule;
+mod rules;
 mod standing;
 mod start;
 mod step;
@@ -90,7 +91,8 @@ pub use provenance_laws::{
 };
 pub use question::Question;
 pub use report::{put_count, put_denial, put_denial_count, put_denial_words, put_finding};
-pub use rule::{Check, Checks, Class, Effect, LimitWord, Reply, Requirement, Rule, rule_of};
+pub use rule::{Check, Checks, Class, Effect, LimitWord, Reply, Requirement, Rule};
+pub use rules::rule_of;
 pub use standing::standing_fds;
 pub use start::Start;
 pub use step::Step;

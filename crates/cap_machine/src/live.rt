@@ -15,11 +15,11 @@ ghost use Rattle.cap_machine.specs.Wanted.{rights_of, wanted_of, wanted, blocked
 ghost use Rattle.cap_machine.specs.Wanted.{undone, unblocked, earlier, with_requirement, blocked_with};
 
 use crate::cell::{OnExec, Profile};
-use crate::effects::{closed, keeps_all};
+use crate::effects::{closed, effect_of_line, keeps_all};
 use crate::live::fd_rights::FdRights;
 use crate::live::process::LiveProcess;
-use crate::requirements::fd_requirement_of;
-use crate::rule::{Effect, Requirement, effect_of_line, requirement_of_line};
+use crate::requirements::{fd_requirement_of, requirement_of_line};
+use crate::rule::{Effect, Requirement};
 use cap_rights::{NoMemory, RightSet};
 use cap_trace::{Answer, Call, Fd, FdCall, Item, Line, LineRef, Pid};
 use std::alloc::Global;

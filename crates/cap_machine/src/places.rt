@@ -7,8 +7,7 @@ ghost use Rattle.cap_machine.specs.Rule.{place_check, both, place_checks, at_exc
 ghost use Rattle.cap_machine.specs.Rule.{has_global};
 ghost use Rattle.cap_machine.specs.PlaceView.{place_view};
 
-use crate::requirements::reply_of;
-use crate::rule::{Check, Checks, Class, LimitWord, Requirement};
+use crate::rule::{Check, Checks, Class, LimitWord, Requirement, reply_of};
 use cap_rights::RightSet;
 use cap_trace::{Answer, Dir, Fd};
 

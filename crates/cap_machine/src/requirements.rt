@@ -10,27 +10,14 @@ ghost use Rattle.cap_machine.specs.Places.{place};
 ghost use Rattle.cap_machine.specs.PlaceView.{place_view};
 ghost use Rattle.cap_machine.specs.Rule.{check_of, on_one, on_none, fd_class, fd_requirement, fcntl_requirement};
 ghost use Rattle.cap_machine.specs.Rule.{limit_requirement};
-ghost use Rattle.cap_machine.specs.Rule.{bare_class, reply, at_requirement, call_requirement};
+ghost use Rattle.cap_machine.specs.Rule.{bare_class, at_requirement, call_requirement, requirement, unjudged};
 
 use crate::cell::without_full_of;
-use crate::errno::{ECAPMODE, ENOTCAPABLE};
 use crate::needs;
 use crate::places::{Place, at_one, at_two};
-use crate::rule::{Check, Checks, Class, LimitWord, Reply, Requirement};
+use crate::rule::{Check, Checks, Class, LimitWord, Reply, Requirement, reply_of};
 use cap_rights::RightSet;
-use cap_trace::{Answer, AtFlagsCall, BareCall, Call, Dir, Fd, FdCall};
-
-/// The kind of an answer (errno(2)).
-pub(crate) fn reply_of(answer: &Answer) -> Reply
-    ensures { result ≡ reply answer.now }
-{
-    match answer {
-        Answer::Fault(ENOTCAPABLE) => Reply::NotCapable,
-        Answer::Fault(ECAPMODE) => Reply::NotPermitted,
-        Answer::Fault(_) => Reply::Other,
-        _ => Reply::Success,
-    }
-}
+use cap_trace::{Answer, AtFlagsCall, BareCall, Call, Dir, Fd, FdCall, Item, LineRef};
 
 /// Whether capability mode allows a call on one descriptor.
 fn fd_class_of(call: FdCall) -> Class
@@ -145,7 +132,7 @@ fn bare_class_of(call: BareCall) -> Class
 }
 
 /// What a call is judged by.
-pub(crate) fn requirement_of(call: &Call<'_>, answer: &Answer) -> Requirement
+fn requirement_of(call: &Call<'_>, answer: &Answer) -> Requirement
     ensures { result ≡ call_requirement (call_view call.now) answer.now }
 {
     match call {
@@ -236,4 +223,27 @@ fn link_at(
     let from = place(dir, path, needs::link_from_needs_of());
     let to = place(to, to_path, needs::link_to_needs_of());
     at_two(needs::has_plain_link_flags(flags), &from, &to, answer)
+}
+
+/// What a line is judged by.
+pub(crate) fn requirement_of_line(line: &LineRef<'_>) -> Requirement
+    ensures { result ≡ requirement line.now }
+{
+    match &line.item {
+        Item::Call { call, answer } => requirement_of(call, answer),
+        _ => unjudged_requirement(),
+    }
+}
+
+/// Nothing is said of a marker.
+fn unjudged_requirement() -> Requirement
+    ensures { result ≡ unjudged }
+{
+    Requirement {
+        class: Class::Either,
+        checks: Checks::Nothing,
+        reply: Reply::Other,
+        at: false,
+        word: LimitWord::Missing,
+    }
 }

@@ -1,16 +1,12 @@
-//! The rule of a line: what it is judged by, and what it does.
+//! What a rule says of a line: what it is judged by, and what it does.
 
-ghost use Rattle.std.specs.Prelude.{◌≡◌, ℕ};
-ghost use Rattle.cap_machine.specs.Rule.{requirement, unjudged};
-ghost use Rattle.cap_machine.specs.Steps.{step};
-ghost use Rattle.cap_machine.specs.Touch.{touch, turn};
-ghost use Rattle.cap_machine.specs.Effect.{effect_touch, effect_turn, IsWithin};
+ghost use Rattle.std.specs.Prelude.{◌≡◌};
+ghost use Rattle.cap_machine.specs.Rule.{reply};
 
-use crate::cell::{Cell, Op, Profile};
-use crate::effects::effect_of;
-use crate::requirements::requirement_of;
+use crate::cell::{Cell, Op};
+use crate::errno::{ECAPMODE, ENOTCAPABLE};
 use cap_rights::RightSet;
-use cap_trace::{Fd, Item, LineRef, Pid};
+use cap_trace::{Answer, Fd, Pid};
 
 /// Whether a call is allowed in capability mode (cap_enter(2)).
 #[derive(Clone, Copy, Debug, PartialEq, Eq)]
@@ -118,59 +114,14 @@ pub struct Rule<'a> {
     pub effect: Effect<'a>,
 }
 
-/// The rule of a line in a profile.
-///
-/// The requirement follows rights(4) and cap_enter(2); the effect follows what the line records, close(2) and
-/// cap_rights_limit(2) among others, whatever is said of the line.
-// Inlined: a large value that is returned is copied by each function that it goes through.
-#[inline(always)]
-pub fn rule_of<'a>(profile: Profile, line: &LineRef<'a>) -> Rule<'a>
-    ensures requirement { result.requirement ≡ requirement line.now }
-    // The effect does to each cell and to each mode what the line does.
-    ensures cells { (p f : ℕ) → effect_touch result.effect line.now.pid p f ≡ touch (step profile line.now) p f }
-    ensures modes { (p : ℕ) → effect_turn result.effect line.now.pid p ≡ turn (step profile line.now) p }
+/// The kind of an answer (errno(2)).
+pub(crate) fn reply_of(answer: &Answer) -> Reply
+    ensures { result ≡ reply answer.now }
 {
-    Rule {
-        requirement: requirement_of_line(line),
-        effect: effect_of_line(profile, line),
-    }
-}
-
-/// What a line does in a profile.
-// Inlined for the reason of `rule_of`.
-#[inline(always)]
-pub(crate) fn effect_of_line<'a>(profile: Profile, line: &LineRef<'a>) -> Effect<'a>
-    ensures cells { (p f : ℕ) → effect_touch result line.now.pid p f ≡ touch (step profile line.now) p f }
-    ensures modes { (p : ℕ) → effect_turn result line.now.pid p ≡ turn (step profile line.now) p }
-    ensures within { IsWithin result }
-{
-    match &line.item {
-        Item::Call { call, answer } => effect_of(profile, call, answer),
-        Item::Start(fds) => Effect::Start(fds),
-        Item::Exit => Effect::Exit,
-        Item::Foreign(fd) => Effect::Give(*fd, Cell::Unknown),
-    }
-}
-
-/// What a line is judged by.
-pub(crate) fn requirement_of_line(line: &LineRef<'_>) -> Requirement
-    ensures { result ≡ requirement line.now }
-{
-    match &line.item {
-        Item::Call { call, answer } => requirement_of(call, answer),
-        _ => unjudged_requirement(),
-    }
-}
-
-/// Nothing is said of a marker.
-fn unjudged_requirement() -> Requirement
-    ensures { result ≡ unjudged }
-{
-    Requirement {
-        class: Class::Either,
-        checks: Checks::Nothing,
-        reply: Reply::Other,
-        at: false,
-        word: LimitWord::Missing,
+    match answer {
+        Answer::Fault(ENOTCAPABLE) => Reply::NotCapable,
+        Answer::Fault(ECAPMODE) => Reply::NotPermitted,
+        Answer::Fault(_) => Reply::Other,
+        _ => Reply::Success,
     }
 }

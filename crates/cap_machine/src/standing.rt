@@ -9,7 +9,8 @@ ghost use Rattle.cap_machine.specs.Table.{start_state};
 ghost use Rattle.cap_machine.specs.Standing.{Stands, IsHeld, has_fd, is_single, source_of};
 
 use crate::cell::Profile;
-use crate::rule::{Effect, rule_of};
+use crate::rule::Effect;
+use crate::rules::rule_of;
 use crate::start::Start;
 use cap_rights::NoMemory;
 use cap_trace::{Fd, Line, Pid, fds_of};

@@ -8,7 +8,8 @@ ghost use Rattle.cap_machine.specs.Effect.{effect_touch, effect_turn};
 ghost use Rattle.cap_machine.specs.Touched.{touch_view, turn_view};
 
 use crate::cell::{Cell, Mode, OnExec, Op, Profile};
-use crate::rule::{Effect, rule_of};
+use crate::rule::Effect;
+use crate::rules::rule_of;
 use cap_rights::RightSet;
 use cap_trace::{Fd, Line, Pid, has_fd};
 

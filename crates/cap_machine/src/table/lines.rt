@@ -19,13 +19,14 @@ ghost use Rattle.cap_machine.specs.Table.{cell_of, state_of, Keeps, step_after, 
 
 use crate::cell::{Cell, Mode, Profile, without_full_of};
 use crate::cells::LOW_FDS;
-use crate::effects::{keeps_all, open_flag_of};
+use crate::effects::{effect_of_line, keeps_all, open_flag_of};
 use crate::errno::{EBADF, ECAPMODE, ENOTCAPABLE};
 use crate::needs::{
     at_flags_needs_of, at_needs_of, fcntl_needs_of, fd_needs_of, mmap_needs_of, send_needs_of,
 };
 use crate::places::below_of;
-use crate::rule::{Reply, effect_of_line, requirement_of_line};
+use crate::requirements::requirement_of_line;
+use crate::rule::Reply;
 use crate::table::Table;
 use crate::verdict::Verdict;
 use cap_rights::{NoMemory, RightSet};

@@ -4,7 +4,7 @@ use Rattle.cap_trace.specs.Views.{item_view}
 use Rattle.cap_trace.specs.declared.line.Item.{Item}
 use Rattle.cap_machine.specs.Effect.{FdsWithin}
 use Rattle.cap_machine.proofs.Within.{proper_within}
-use Rattle.cap_machine.proofs.rule.effect_of_line.Goals as goal
+use Rattle.cap_machine.proofs.effects.effect_of_line.Goals as goal
 
 pub effect_of-requires-clause-within : goal.effect_of-requires-clause-within
 effect_of-requires-clause-within c =

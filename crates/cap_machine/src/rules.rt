@@ -1,0 +1,31 @@
+//! The rule of a line.
+
+ghost use Rattle.std.specs.Prelude.{◌≡◌, ℕ};
+ghost use Rattle.cap_machine.specs.Rule.{requirement};
+ghost use Rattle.cap_machine.specs.Steps.{step};
+ghost use Rattle.cap_machine.specs.Touch.{touch, turn};
+ghost use Rattle.cap_machine.specs.Effect.{effect_touch, effect_turn};
+
+use crate::cell::Profile;
+use crate::effects::effect_of_line;
+use crate::requirements::requirement_of_line;
+use crate::rule::Rule;
+use cap_trace::LineRef;
+
+/// The rule of a line in a profile.
+///
+/// The requirement follows rights(4) and cap_enter(2); the effect follows what the line records, close(2) and
+/// cap_rights_limit(2) among others, whatever is said of the line.
+// Inlined: a large value that is returned is copied by each function that it goes through.
+#[inline(always)]
+pub fn rule_of<'a>(profile: Profile, line: &LineRef<'a>) -> Rule<'a>
+    ensures requirement { result.requirement ≡ requirement line.now }
+    // The effect does to each cell and to each mode what the line does.
+    ensures cells { (p f : ℕ) → effect_touch result.effect line.now.pid p f ≡ touch (step profile line.now) p f }
+    ensures modes { (p : ℕ) → effect_turn result.effect line.now.pid p ≡ turn (step profile line.now) p }
+{
+    Rule {
+        requirement: requirement_of_line(line),
+        effect: effect_of_line(profile, line),
+    }
+}
