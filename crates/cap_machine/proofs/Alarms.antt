@@ -94,12 +94,9 @@ held_under shut mask a b d flags.Unsure flags.Unsure s t fewer = few_masked mask
 op_under : (shut : Cell) (mask : Option ℕ) (a b d : OnExec) (c e : Cell) → Under c e
     → Under (applied (keeping_held shut mask a b d) c) (applied (keeping_held shut mask a b d) e)
 op_under shut mask a b d Unknown e u = tt
-op_under shut mask a b d Closed Unknown u = absurd u
 op_under shut mask a b d Closed Closed u = under_same shut
-op_under shut mask a b d Closed (Held t y) u = absurd u
-op_under shut mask a b d (Held s x) Unknown u = absurd u
-op_under shut mask a b d (Held s x) Closed u = absurd u
 op_under shut mask a b d (Held s x) (Held t y) u = held_under shut mask a b d x y s t u
+op_under shut mask a b d _ _ u = absurd u
 
 -- of nothing each part is nothing
 pub none_of : {X : Type 0} (xs ys : List X) → xs ++ ys ≡ [] → (xs ≡ []) × (ys ≡ [])
@@ -136,12 +133,9 @@ limit_under asked word check Unknown Unknown needs quiet u = few_same (without_f
 limit_under asked word check Unknown Closed needs quiet u = few_same (without_full asked)
 limit_under asked word check Unknown (Held t y) needs quiet u =
     limit_unknown asked t y (ap (has_all t) (sym needs) ∙ has_of_quiet (has_all t check.needs) _ quiet)
-limit_under asked word check Closed Unknown needs quiet u = absurd u
 limit_under asked word check Closed Closed needs quiet u = few_same (without_full asked)
-limit_under asked word check Closed (Held t y) needs quiet u = absurd u
-limit_under asked word check (Held s x) Unknown needs quiet u = absurd u
-limit_under asked word check (Held s x) Closed needs quiet u = absurd u
 limit_under asked word check (Held s x) (Held t y) needs quiet u = limit_held asked word check x y s t u
+limit_under asked word check _ _ needs quiet u = absurd u
 
 -- ---- what a line does
 

@@ -164,12 +164,8 @@ call_excused (calls.RenameAt dir path to_dir to_path) answer named =
 call_excused (calls.LinkAt dir path to_dir to_path flags) answer named =
     let places : List Place = place dir path link_from_needs ∷ place to_dir to_path link_to_needs ∷ [] in
     places_excused (all_known plain_at_flags flags) places places named
-call_excused (calls.OnFlags call flags) answer named = tt
-call_excused (calls.Bare call) answer named = tt
-call_excused (calls.Other name args) answer named = tt
+call_excused _ answer named = tt
 
 pub item_excused : (item : Item) → AllExcused (listed (item_requirement item).checks)
 item_excused (items.Call call answer) = call_excused call answer (item_checks (items.Call call answer))
-item_excused (items.Start fds) = tt
-item_excused items.Exit = tt
-item_excused (items.Foreign g) = tt
+item_excused _ = tt

@@ -15,12 +15,9 @@ use Rattle.cap_machine.specs.Op.{masked}
 -- ---- one right of what an operation makes
 
 min_test : (x y : ℕ) → x < 2 → y < 2 → eqb (min x y) 1 ≡ (eqb x 1 && eqb y 1)
-min_test zero zero p q = refl
-min_test zero (suc zero) p q = refl
-min_test (suc zero) zero p q = refl
-min_test (suc zero) (suc zero) p q = refl
 min_test (suc (suc x)) y p q = absurd (omega arith)
 min_test x (suc (suc y)) p q = absurd (omega arith)
+min_test _ _ p q = refl
 
 not_test : (x : ℕ) → x < 2 → eqb (1 - x) 1 ≡ not (eqb x 1)
 not_test zero p = refl
@@ -151,11 +148,9 @@ module _ (s r n : ℕ) (sl : s ≤ all) (rl : r ≤ all) (nl : n < 2 ^ 63) (is_p
 
   same_lack : (a b c : Bool) → (c ≡ true → b ≡ true) → (a ≡ true → b ≡ true → c ≡ true)
       → (a && not c) ≡ (a && not b)
-  same_lack false b c h g = refl
-  same_lack true true true h g = refl
   same_lack true true false h g = ap not (g refl refl)
   same_lack true false true h g = ap not (sym (h refl))
-  same_lack true false false h g = refl
+  same_lack _ _ _ h g = refl
 
   pub part_lacks : minus n s ≡ minus n r
   part_lacks = same_named (minus n s) (minus n r) (minus_named n s) (minus_named n r)

@@ -91,8 +91,7 @@ module _ (live : OnExec → ℕ → Type 0) (c e : Cell) (rights : ℕ) (flag : 
 pub limit_held : (asked rights : ℕ) (flag : OnExec)
     → applied (limit asked) (Held rights flag) ≡ Held (meet rights asked) flag
 limit_held asked rights flags.Set = refl
-limit_held asked rights flags.Clear = refl
-limit_held asked rights flags.Unsure = refl
+limit_held asked rights _ = refl
 
 limited : (live : OnExec → ℕ → Type 0) (c e : Cell) (least : ℕ) → Limit live c e least
     → Less live c (applied (limit least) e)

@@ -63,16 +63,12 @@ forbidden_inside d Success m cells ok is inside =
     in_left (forbidden d.class m) (faults d.word (listed d.checks) cells) say.Forbidden
     (subst (λ (b : Bool). In (if b then say.Forbidden ∷ [] else []) say.Forbidden)
     (sym (and_from (is_forbidden d.class) (is_inside m) is (ap is_inside inside))) (inl refl))
-forbidden_inside d NotCapable m cells ok is inside = absurd (cc)
-forbidden_inside d NotPermitted m cells ok is inside = absurd (cc)
-forbidden_inside d Other m cells ok is inside = absurd (cc)
+forbidden_inside d _ m cells ok is inside = absurd (cc)
 
 not_forbidden : (b : Bool) (m : Mode) → (m ≡ Inside → ⊥)
     → In (if b && is_inside m then say.Forbidden ∷ [] else []) say.Forbidden → ⊥
-not_forbidden false m out is = is
 not_forbidden true Inside out is = out refl
-not_forbidden true Outside out is = is
-not_forbidden true Unsure out is = is
+not_forbidden _ _ out is = is
 
 free_outside : (d : Requirement) (reply : Reply) (m : Mode) (cells : List Cell) → is_success reply ≡ true
     → (m ≡ Inside → ⊥) → In (judged_by reply d m cells) say.Forbidden → ⊥
@@ -81,9 +77,7 @@ free_outside d Success m cells ok out is =
       | inl here ↦ not_forbidden (is_forbidden d.class) m out here
       | inr there ↦ faults_other d.word (listed d.checks) cells there
     ]
-free_outside d NotCapable m cells ok out is = absurd (cc)
-free_outside d NotPermitted m cells ok out is = absurd (cc)
-free_outside d Other m cells ok out is = absurd (cc)
+free_outside d _ m cells ok out is = absurd (cc)
 
 -- what a line that is in the way is
 pub record InTheWay (step : Step) (p : ℕ) : Type 0 where

@@ -143,9 +143,7 @@ judged_lacks Success d m cells f fewer k flag ok needs is le lt lacks =
     lacking_right (forbidden d.class m)
     (faults d.word (listed d.checks) (map (λ (one : Check). cells one.fd) (listed d.checks)))
     f k (checks_lack d.word (listed d.checks) cells f fewer k flag needs is le lt lacks)
-judged_lacks NotCapable d m cells f fewer k flag ok needs is le lt lacks = absurd (cc)
-judged_lacks NotPermitted d m cells f fewer k flag ok needs is le lt lacks = absurd (cc)
-judged_lacks Other d m cells f fewer k flag ok needs is le lt lacks = absurd (cc)
+judged_lacks _ d m cells f fewer k flag ok needs is le lt lacks = absurd (cc)
 
 forbidden_lacks : (b : Bool) (x : Finding) (f k : ℕ) → In (if b then say.Forbidden ∷ [] else []) x → Lacks x f k → ⊥
 forbidden_lacks true x f k (inl e) lacks = subst (λ (y : Finding). Lacks y f k) e lacks
@@ -162,9 +160,7 @@ judged_holds Success d m cells f rights k flag ok is le lt has x found lacks =
       | inl here ↦ forbidden_lacks (is_forbidden d.class && is_inside m) x f k here lacks
       | inr there ↦ checks_hold d.word (listed d.checks) cells f rights k flag is le lt has x there lacks
     ]
-judged_holds NotCapable d m cells f rights k flag ok is le lt has x found lacks = absurd (cc)
-judged_holds NotPermitted d m cells f rights k flag ok is le lt has x found lacks = absurd (cc)
-judged_holds Other d m cells f rights k flag ok is le lt has x found lacks = absurd (cc)
+judged_holds _ d m cells f rights k flag ok is le lt has x found lacks = absurd (cc)
 
 -- what a step that needs the right is
 pub record Needing (step : Step) (p f k : ℕ) : Type 0 where

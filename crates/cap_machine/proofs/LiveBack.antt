@@ -488,9 +488,7 @@ needs_in : (s : Bool) (own : Bool) (checks : List Check) (w : ℕ → OnExec →
     → holds (if own then (if s then with_checks checks w f x else w f x) else r) k
     ≡ ((s && (own && checks_need checks f k)) || holds (if own then w f x else r) k)
 needs_in true true checks w f x k r = checks_hold checks w f x k
-needs_in true false checks w f x k r = refl
-needs_in false true checks w f x k r = refl
-needs_in false false checks w f x k r = refl
+needs_in _ _ checks w f x k r = refl
 
 -- right by right: what is wanted before a line is live there
 pub live_before : (step : Step) (d : Requirement) (effect : Effect) (me : ℕ) (w new : ℕ → ℕ → OnExec → ℕ)

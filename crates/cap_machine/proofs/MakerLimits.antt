@@ -48,8 +48,7 @@ least_is later p f rights wanted flag live =
 row_place : (at p f : ℕ) (cell : Cell) (w : OnExec → ℕ) (rows : List MakerLimit)
     → map place_of (maker_row at p f cell w ++ rows) ≡ held_place cell at p f ++ map place_of rows
 row_place at p f Unknown w rows = refl
-row_place at p f Closed w rows = refl
-row_place at p f (Held rights flag) w rows = refl
+row_place at p f _ w rows = refl
 
 row_limits : (next : State) (later : List Step) (at p f : ℕ) (cell : Cell) (w : OnExec → ℕ) (rows : List MakerLimit)
     → next.cell p f ≡ cell

@@ -45,10 +45,8 @@ refusal_free : (has excused at have m n : Bool) (x : Finding) → (at && (has &&
     → (have ≡ false → excused ≡ false)
     → (if has && (excused && (not at || m)) then x ∷ [] else [])
     ≡ (if has && (excused && (not at || n)) then x ∷ [] else [])
-refusal_free false excused at have m n x e none = refl
-refusal_free true excused false have m n x e none = refl
-refusal_free true false true have m n x e none = refl
 refusal_free true true true have m n x e none = absurd (let b : true ≡ false = none e in cc)
+refusal_free _ _ _ have m n x e none = refl
 
 or_true : (b : Bool) → (b || true) ≡ true
 or_true true = refl

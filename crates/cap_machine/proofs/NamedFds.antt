@@ -355,10 +355,8 @@ module _ (named : ℕ → Bool) where
   from_dir : (b : Bool) (dir : Dir) (needs : ℕ) (excuse : Option ℕ)
       → ((g : ℕ) → dir_names g dir ≡ true → named g ≡ true)
       → MayBeIn (elim (if b then None else dir_fd dir) [ None ↦ None | Some f ↦ Some (check_of f needs excuse) ])
-  from_dir true (dirs.Fd g) needs excuse is = tt
-  from_dir true dirs.Cwd needs excuse is = tt
   from_dir false (dirs.Fd g) needs excuse is = is g (itself g)
-  from_dir false dirs.Cwd needs excuse is = tt
+  from_dir _ _ needs excuse is = tt
 
   at_place : (excuse : Option ℕ) (dir : Dir) (path : List ℕ) (needs : ℕ) → ((g : ℕ) → dir_names g dir ≡ true
       → named g ≡ true) → MayBeIn (place_check excuse (place dir path needs))

@@ -80,46 +80,12 @@ named_named name = row_named (λ row. bytes_eq row.0 name) table refl
 
 fd_named : (call : FdCall) → IsNamed (fd_needs call)
 unfolding fd_needs
-fd_named Read = named_named _
-fd_named Readv = named_named _
-fd_named Recvfrom = named_named _
-fd_named Recvmsg = named_named _
-fd_named Pread = named_named _
-fd_named Preadv = named_named _
-fd_named Write = named_named _
-fd_named Writev = named_named _
-fd_named Pwrite = named_named _
-fd_named Pwritev = named_named _
-fd_named Lseek = named_named _
-fd_named Fstat = named_named _
-fd_named Fstatfs = named_named _
-fd_named Fsync = named_named _
-fd_named Fdatasync = named_named _
-fd_named Ftruncate = named_named _
-fd_named Fchmod = named_named _
-fd_named Fchown = named_named _
-fd_named Fchflags = named_named _
-fd_named Fchdir = named_named _
-fd_named Flock = named_named _
-fd_named Fpathconf = named_named _
-fd_named Futimes = named_named _
-fd_named Futimens = named_named _
-fd_named Ioctl = named_named _
-fd_named Accept = named_named _
-fd_named Bind = named_named _
-fd_named Connect = named_named _
-fd_named Listen = named_named _
-fd_named Shutdown = named_named _
-fd_named Getpeername = named_named _
-fd_named Getsockname = named_named _
-fd_named Getsockopt = named_named _
-fd_named Setsockopt = named_named _
-fd_named Fexecve = named_named _
 fd_named Close = lit< tt
 fd_named Closefrom = lit< tt
 fd_named Dup = lit< tt
 fd_named CapIoctlsLimit = lit< tt
 fd_named CapFcntlsLimit = lit< tt
+fd_named _ = named_named _
 
 send_named : IsNamed send_needs
 unfolding send_needs
@@ -160,10 +126,7 @@ mmap_named protection kind =
 at_named : (call : AtCall) → IsNamed (at_needs call)
 unfolding at_needs
 at_named Mkdirat = named_named _
-at_named Mkfifoat = named_named _
-at_named Mknodat = named_named _
-at_named Readlinkat = named_named _
-at_named Futimesat = named_named _
+at_named _ = named_named _
 
 access_named : (flags : List ℕ) → IsNamed (access_needs flags)
 unfolding access_needs
@@ -195,12 +158,7 @@ openat_named flags =
 at_flags_named : (call : AtFlagsCall) (flags : List ℕ) → IsNamed (at_flags_needs call flags)
 unfolding at_flags_needs
 at_flags_named Openat flags = openat_named flags
-at_flags_named Unlinkat flags = named_named _
-at_flags_named Fstatat flags = named_named _
-at_flags_named Fchmodat flags = named_named _
-at_flags_named Fchownat flags = named_named _
-at_flags_named Chflagsat flags = named_named _
-at_flags_named Utimensat flags = named_named _
+at_flags_named _ flags = named_named _
 
 symlink_named : IsNamed symlink_needs
 unfolding symlink_needs
@@ -285,12 +243,8 @@ call_checks (calls.RenameAt dir path to_dir to_path) answer =
 call_checks (calls.LinkAt dir path to_dir to_path flags) answer =
     two_places _ (record { dir = dir; path = path; needs = link_from_needs })
     (record { dir = to_dir; path = to_path; needs = link_to_needs }) link_from_named link_to_named
-call_checks (calls.OnFlags call flags) answer = tt
-call_checks (calls.Bare call) answer = tt
-call_checks (calls.Other name args) answer = tt
+call_checks _ answer = tt
 
 pub item_checks : (item : Item) → AllNamed (listed (item_requirement item).checks)
 item_checks (items.Call call answer) = call_checks call answer
-item_checks (items.Start fds) = tt
-item_checks items.Exit = tt
-item_checks (items.Foreign g) = tt
+item_checks _ = tt

@@ -23,19 +23,13 @@ use Rattle.cap_machine.specs.Following.{passage}
 
 same_flag-true : (x y : OnExec) → same_flag x y ≡ true → x ≡ y
 same_flag-true flags.Set flags.Set e = refl
-same_flag-true flags.Set flags.Clear e = absurd (cc)
-same_flag-true flags.Set flags.Unsure e = absurd (cc)
-same_flag-true flags.Clear flags.Set e = absurd (cc)
 same_flag-true flags.Clear flags.Clear e = refl
-same_flag-true flags.Clear flags.Unsure e = absurd (cc)
-same_flag-true flags.Unsure flags.Set e = absurd (cc)
-same_flag-true flags.Unsure flags.Clear e = absurd (cc)
 same_flag-true flags.Unsure flags.Unsure e = refl
+same_flag-true _ _ e = absurd (cc)
 
 same_flag-self : (x : OnExec) → same_flag x x ≡ true
 same_flag-self flags.Set = refl
-same_flag-self flags.Clear = refl
-same_flag-self flags.Unsure = refl
+same_flag-self _ = refl
 
 pub same_cell-true : (c d : Cell) → same_cell c d ≡ true → c ≡ d
 same_cell-true Unknown Unknown e = refl

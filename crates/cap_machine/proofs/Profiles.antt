@@ -92,9 +92,7 @@ call_same _ answer me p f no_exec no_closefrom = refl
 item_same : (item : Item) (me p f : ℕ) → item_did is_exec item ≡ false → item_did is_closefrom item ≡ false
     → item_touch One item me p f ≡ item_touch Two item me p f
 item_same (items.Call call answer) me p f no_exec no_closefrom = call_same call answer me p f no_exec no_closefrom
-item_same (items.Start fds) me p f no_exec no_closefrom = refl
-item_same items.Exit me p f no_exec no_closefrom = refl
-item_same (items.Foreign g) me p f no_exec no_closefrom = refl
+item_same _ me p f no_exec no_closefrom = refl
 
 -- ---- a history
 

@@ -54,12 +54,10 @@ module _ (one two : ℕ → Cell) (under : (f : ℕ) → Under (one f) (two f)) 
       ∙ faults_quiet word checks are.1 parts.1
 
   excused_more : (excuse : Option ℕ) (c e : Cell) → Under c e → is_excused excuse c ≡ true → is_excused excuse e ≡ true
-  excused_more None c e u is = absurd (cc)
-  excused_more (Some x) Unknown e u is = absurd (cc)
-  excused_more (Some x) Closed e u is = absurd (cc)
   excused_more (Some x) (Held s a) Unknown u is = absurd u
   excused_more (Some x) (Held s a) Closed u is = absurd u
   excused_more (Some x) (Held s a) (Held t b) u is = has_excuse s t x u is
+  excused_more _ _ e u is = absurd (cc)
 
   all_excused_more : (checks : List Check) → all_excused checks (cells one checks) ≡ true
       → all_excused checks (cells two checks) ≡ true

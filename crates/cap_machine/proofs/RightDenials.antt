@@ -147,16 +147,12 @@ lacks_none d m cells within is =
 
 -- a wrong refusal for capability mode isn't explained by it, and an explained one isn't wrong
 wrong_mode : (m : Mode) (allowed : Bool) → (is_outside m || allowed) ≡ true → (is_inside m && not allowed) ≡ false
-wrong_mode modes.Inside true is = refl
 wrong_mode modes.Inside false is = absurd (cc)
-wrong_mode modes.Outside allowed is = refl
-wrong_mode modes.Unsure allowed is = refl
+wrong_mode _ _ is = refl
 
 right_mode : (m : Mode) (allowed : Bool) → (is_inside m && not allowed) ≡ true → (is_outside m || allowed) ≡ false
-right_mode modes.Inside true is = absurd (cc)
 right_mode modes.Inside false is = refl
-right_mode modes.Outside allowed is = absurd (cc)
-right_mode modes.Unsure allowed is = absurd (cc)
+right_mode _ _ is = absurd (cc)
 
 -- a finding that stands in one of these lists is there for a reason
 chosen : {X : Type 0} (b : Bool) (x y : X) → Contains (if b then x ∷ [] else []) y → b ≡ true

@@ -15,17 +15,12 @@ use Rattle.cap_machine.specs.DenialReport.{denial_words, front_of}
 pub join_words : (a b d : List ℕ) (f : Finding) → join_with_byte 32 (a ∷ b ∷ d ∷ finding_words f)
     ≡ a ++ 32 ∷ (b ++ 32 ∷ (d ++ 32 ∷ join_with_byte 32 (finding_words f)))
 join_words a b d Forbidden = refl
-join_words a b d ModeRefusal = refl
-join_words a b d (Missing f r) = refl
-join_words a b d (Expanded f r) = refl
-join_words a b d (Closed f) = refl
-join_words a b d Refusal = refl
+join_words a b d _ = refl
 
 pub join_denied : (a b d : List ℕ) (denial : Denial) → join_with_byte 32 (a ∷ b ∷ d ∷ denial_words denial)
     ≡ a ++ 32 ∷ (b ++ 32 ∷ (d ++ 32 ∷ join_with_byte 32 (denial_words denial)))
 join_denied a b d (Lacks f r) = refl
-join_denied a b d Inside = refl
-join_denied a b d Unexplained = refl
+join_denied a b d _ = refl
 
 over : (old a b d : List ℕ) → (((((old ++ a) ++ 32 ∷ []) ++ b) ++ 32 ∷ []) ++ d) ++ 32 ∷ [] ≡ old ++ front_of a b d
 over old a b d = simp append_assoc
