@@ -63,9 +63,8 @@ Under (Held s x) Closed = ⊥
 Under (Held s x) (Held t y) = IsFewer s t
 
 pub under_same : (c : Cell) → Under c c
-under_same Unknown = tt
-under_same Closed = tt
 under_same (Held s x) = few_same s
+under_same _ = tt
 
 -- ---- ops
 
@@ -243,9 +242,8 @@ module _ (one two : ℕ → ℕ → Cell) (under : (p f : ℕ) → Under (one p 
 
   closefrom_fits : (answer : Answer) (g : ℕ) → succeeded answer ≡ false
       → Fits (closefrom_touch One g answer) (closefrom_touch Two g answer)
-  closefrom_fits (answers.Made d) g failed me p f = absurd (cc)
-  closefrom_fits (answers.Pair d e) g failed me p f = absurd (cc)
   closefrom_fits (answers.Fault e) g failed me p f = kept_fit p f
+  closefrom_fits _ g failed me p f = absurd (cc)
 
   fd_fits : (call : FdCall) (g : ℕ) (answer : Answer) → (is_closefrom (calls.OnFd call g) && succeeded answer) ≡ false
       → Fits (fd_touch One call g answer) (fd_touch Two call g answer)

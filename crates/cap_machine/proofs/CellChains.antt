@@ -52,9 +52,8 @@ where_kept false op q g e = absurd (cc)
 
 named_gives : (t : Touch) (before : ℕ → ℕ → Cell) (p f : ℕ) (c : Cell) → named_touch t before p f ≡ given c
     → t ≡ given c
-named_gives kept before p f c e = e
-named_gives (given d) before p f c e = e
 named_gives (taken op q g) before p f c e = absurd (no_gift (is_idle op (q == p && g == f) (before q g)) op q g c e)
+named_gives _ before p f c e = e
 
 named_takes : (t : Touch) (before : ℕ → ℕ → Cell) (p f : ℕ) (op : Op) (q g : ℕ)
     → named_touch t before p f ≡ taken op q g
@@ -154,9 +153,8 @@ cells_are_replayed s trace p f = replay s (reverse trace) p f
 
 goes_along : (x : Touch) (links : List CellLink) (end : CellEnd) (from later : ℕ → ℕ → Type 0)
     → ((q g : ℕ) → from q g → later q g) → CellGoesOn x links end from → CellGoesOn x links end later
-goes_along kept links end from later map h = h
-goes_along (given c) links end from later map h = h
 goes_along (taken op q g) links end from later map h = map q g h
+goes_along _ links end from later map h = h
 
 goes_on : (t u : Touch) (links : List CellLink) (end : CellEnd) (from later : ℕ → ℕ → Type 0) → t ≡ u
     → ((q g : ℕ) → from q g → later q g) → CellGoesOn t links end from → CellGoesOn u links end later

@@ -150,9 +150,8 @@ denied_name_some NotPermitted d m cells named sets = by (is_inside m && not (is_
 denied_name_some Other d m cells named sets = All-nil NamesSome
 
 cell_set : (c : Cell) → ((rights : ℕ) (flag : OnExec) → c ≡ Held rights flag → IsRightSet rights) → IsSetCell c
-cell_set Unknown are = tt
-cell_set Closed are = tt
 cell_set (Held rights flag) are = are rights flag refl
+cell_set _ are = tt
 
 cells_are_sets : (s : State) (p : ℕ) → HoldsRightSets s → (checks : List Check)
     → AreSetCells (map (λ (check : Check). s.cell p check.fd) checks)

@@ -20,9 +20,8 @@ min_test x (suc (suc y)) p q = absurd (omega arith)
 min_test _ _ p q = refl
 
 not_test : (x : ℕ) → x < 2 → eqb (1 - x) 1 ≡ not (eqb x 1)
-not_test zero p = refl
-not_test (suc zero) p = refl
 not_test (suc (suc x)) p = absurd (omega arith)
+not_test _ p = refl
 
 pub meet_holds : (r s k : ℕ) → holds (meet r s) k ≡ (holds r k && holds s k)
 meet_holds r s k = ap (λ (x : ℕ). eqb x 1) (bit_at_and r s k)

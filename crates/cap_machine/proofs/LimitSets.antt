@@ -105,13 +105,11 @@ success_set g answer t me p f is =
 
 made_set : (answer : Answer) (t : Touch) (me p f : ℕ) → TouchSet t → TouchSet (on_made answer t me p f)
 made_set (answers.Made d) t me p f is = unless (p == me && f == d) t is
-made_set (answers.Pair d e) t me p f is = tt
-made_set (answers.Fault e) t me p f is = tt
+made_set _ t me p f is = tt
 
 both_set : (answer : Answer) (t : Touch) (me p f : ℕ) → TouchSet t → TouchSet (on_both answer t me p f)
-both_set (answers.Made d) t me p f is = tt
 both_set (answers.Pair d e) t me p f is = unless (p == me && (f == d || f == e)) t is
-both_set (answers.Fault e) t me p f is = tt
+both_set _ t me p f is = tt
 
 -- ---- each touch
 
@@ -119,9 +117,8 @@ all_set : all ≤ all
 all_set = omega arith
 
 closing_set : (answer : Answer) → TouchSet (closing answer)
-closing_set (answers.Made d) = tt
-closing_set (answers.Pair d e) = tt
 closing_set (answers.Fault e) = choose (e == ebadf) kept (given Unknown) tt tt
+closing_set _ = tt
 
 copied_set : (itself : Op) (flag : OnExec) (g h me : ℕ) → OpSet itself → TouchSet (copied_to itself flag g h me)
 copied_set itself flag g h me is = by (g == h)
@@ -214,16 +211,14 @@ flags_set Pipe2 names answer me p f = both_set answer (whole (open_flag names)) 
 
 fork_set : (answer : Answer) (me p f : ℕ) → TouchSet (fork_touch answer me p f)
 fork_set (answers.Made c) me p f = unless (not (c == 0) && p == c) (taken same me f) (tt, tt, tt, tt, tt)
-fork_set (answers.Pair c d) me p f = tt
-fork_set (answers.Fault e) me p f = tt
+fork_set _ me p f = tt
 
 pdfork_set : (answer : Answer) (me p f : ℕ) → TouchSet (pdfork_touch answer me p f)
 pdfork_set (answers.Pair c d) me p f =
     choose (c == 0) kept _ tt
     (choose ((p == me || p == c) && f == d) (given Unknown) _ tt
     (unless (p == c) (taken same me f) (tt, tt, tt, tt, tt)))
-pdfork_set (answers.Made c) me p f = tt
-pdfork_set (answers.Fault e) me p f = tt
+pdfork_set _ me p f = tt
 
 bare_set : (call : BareCall) (answer : Answer) (me p f : ℕ) → TouchSet (bare_touch call answer me p f)
 bare_set Pipe answer me p f = both_set answer (whole flags.Clear) me p f all_set
@@ -266,9 +261,8 @@ item_set profile (items.Call call answer) me p f = call_set profile call answer 
 -- ---- a state
 
 set_of_held : (c : Cell) → ((rights : ℕ) (flag : OnExec) → c ≡ Held rights flag → rights ≤ all) → CellSet c
-set_of_held Unknown h = tt
-set_of_held Closed h = tt
 set_of_held (Held rights flag) h = h rights flag refl
+set_of_held _ h = tt
 
 pub holds_sets_after : (step : Step) (s : State) → HoldsSets s → HoldsSets (step_after step s)
 holds_sets_after step s sets p f rights flag is =

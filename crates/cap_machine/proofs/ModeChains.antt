@@ -25,9 +25,8 @@ from_itself true q mode p is = ap mode (sym (is refl))
 from_itself false q mode p is = refl
 
 pub named_follows : (t : Turn) (mode : ℕ → Mode) (p : ℕ) → turned (named_turn t p) mode p ≡ turned t mode p
-named_follows stays mode p = refl
-named_follows (turns m) mode p = refl
 named_follows (follows q) mode p = from_itself (q == p) q mode p (λ e. eqb-true q p e)
+named_follows _ mode p = refl
 
 followed_by : (t : Turn) (before : ℕ → ModeChain) (s : State) (history : List Step) (n p : ℕ)
     → ((q : ℕ) → mode_at_end (before q).end ≡ mode_after s history q)
@@ -65,9 +64,8 @@ turn-older step history k p le =
 
 goes_along : (x : Turn) (links : List ModeLink) (end : ModeEnd) (from later : ℕ → Type 0)
     → ((q : ℕ) → from q → later q) → ModeGoesOn x links end from → ModeGoesOn x links end later
-goes_along stays links end from later map h = h
-goes_along (turns m) links end from later map h = h
 goes_along (follows q) links end from later map h = map q h
+goes_along _ links end from later map h = h
 
 goes_on : (t u : Turn) (links : List ModeLink) (end : ModeEnd) (from later : ℕ → Type 0) → t ≡ u
     → ((q : ℕ) → from q → later q) → ModeGoesOn t links end from → ModeGoesOn u links end later

@@ -60,8 +60,7 @@ allowed_free true m n x e =
 
 forbidden_free : (class : Class) (m n : Mode) → is_forbidden class ≡ false → forbidden class m ≡ forbidden class n
 forbidden_free Forbidden m n e = absurd (cc)
-forbidden_free Allowed m n e = refl
-forbidden_free Either m n e = refl
+forbidden_free _ m n e = refl
 
 free_by : (reply : Reply) (d : Requirement) (m n : Mode) (cells : List Cell) → mode_matters_by reply d ≡ false
     → judged_by reply d m cells ≡ judged_by reply d n cells
@@ -122,8 +121,7 @@ forbidden_differs : (class : Class) (rest : List Finding) → is_forbidden class
 forbidden_differs Forbidden rest e same =
     absurd (let longer : length (say.Forbidden ∷ rest) ≡ length rest = ap length same
     in omega arith)
-forbidden_differs Allowed rest e same = absurd (cc)
-forbidden_differs Either rest e same = absurd (cc)
+forbidden_differs _ rest e same = absurd (cc)
 
 known_by_reply : (reply : Reply) (d : Requirement) → mode_matters_by reply d ≡ true
     → judged_by reply d Inside (excusing (listed d.checks)) ≡ judged_by reply d Outside (excusing (listed d.checks)) → ⊥

@@ -67,9 +67,8 @@ module _ (named : ℕ → Bool) (me p f : ℕ) where
   own_names op = (refl, λ other. absurd (let same = itself f in cc))
 
   given_names : (c : Cell) → named f ≡ true → Names named me f (given c)
-  given_names Unknown is = tt
-  given_names Closed is = tt
   given_names (Held rights flag) is = is
+  given_names _ is = tt
 
   is_named : (g : ℕ) → named g ≡ true → (f == g) ≡ true → named f ≡ true
   is_named g is same = ap named (eqb-true f g same) ∙ is

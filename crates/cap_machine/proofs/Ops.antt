@@ -28,8 +28,7 @@ held_in_turn (Keeps mask flag) later rights = kept_in_turn mask (held_op later f
 
 pub ops_in_turn : (first later : Op) (cell : Cell)
     → applied (in_turn first later) cell ≡ applied later (applied first cell)
-ops_in_turn first later Unknown = refl
-ops_in_turn first later Closed = refl
 ops_in_turn first later (Held rights Set) = held_in_turn first.set later rights
 ops_in_turn first later (Held rights Clear) = held_in_turn first.clear later rights
 ops_in_turn first later (Held rights Unsure) = held_in_turn first.unsure later rights
+ops_in_turn first later _ = refl

@@ -45,9 +45,8 @@ same_cell-true (Held r x) (Held t y) e =
     ap (λ (n : ℕ). Held n x) (eqb-true r t parts.0) ∙ ap (Held t) (same_flag-true x y parts.1)
 
 pub same_cell-self : (c : Cell) → same_cell c c ≡ true
-same_cell-self Unknown = refl
-same_cell-self Closed = refl
 same_cell-self (Held r x) = ap (λ (b : Bool). b && same_flag x x) (eq-eqb r r refl) ∙ same_flag-self x
+same_cell-self _ = refl
 
 -- what an idle touch takes, and leaves
 pub idle_takes : (op : Op) (q g p f : ℕ) (c : Cell) → is_idle op (q == p && g == f) c ≡ true → (q ≡ p) × (g ≡ f)

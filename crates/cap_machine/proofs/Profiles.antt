@@ -60,14 +60,12 @@ any-reverse p (x ∷ xs) =
 exec_same : (answer : Answer) (me p f : ℕ) → succeeded answer ≡ false
     → exec_touch One answer me p f ≡ exec_touch Two answer me p f
 exec_same (answers.Fault e) me p f failed = refl
-exec_same (answers.Made n) me p f failed = cc
-exec_same (answers.Pair n m) me p f failed = cc
+exec_same _ me p f failed = cc
 
 closefrom_same : (answer : Answer) (g me p f : ℕ) → succeeded answer ≡ false
     → closefrom_touch One g answer me p f ≡ closefrom_touch Two g answer me p f
 closefrom_same (answers.Fault e) g me p f failed = refl
-closefrom_same (answers.Made n) g me p f failed = cc
-closefrom_same (answers.Pair n m) g me p f failed = cc
+closefrom_same _ g me p f failed = cc
 
 fd_same : (call : FdCall) (g : ℕ) (answer : Answer) (me p f : ℕ) → (is_exec (calls.OnFd call g) && succeeded answer)
     ≡ false → (is_closefrom (calls.OnFd call g) && succeeded answer) ≡ false

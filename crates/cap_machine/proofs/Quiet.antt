@@ -85,8 +85,7 @@ module _ (one two : ℕ → Cell) (under : (f : ℕ) → Under (one f) (two f)) 
       refusal_quiet (has_check d.checks) (all_excused (listed d.checks) (cells one (listed d.checks)))
       (not d.at || is_outside m)
       (all_excused (listed d.checks) (cells two (listed d.checks))) _ (all_excused_more (listed d.checks)) quiet
-  judged_quiet d m are NotPermitted quiet = quiet
-  judged_quiet d m are Other quiet = quiet
+  judged_quiet d m are _ quiet = quiet
 
 -- ---- a history
 

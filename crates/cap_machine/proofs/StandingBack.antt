@@ -86,14 +86,12 @@ given_not_kept : (c : Cell) → given c ≡ kept → ⊥
 given_not_kept c e = cc
 
 same_held : (c : Cell) → IsHeld (applied same c) → IsHeld c
-same_held Unknown h = h
-same_held Closed h = h
 same_held (Held rights flag) h = tt
+same_held _ h = h
 
 exec_held : (c : Cell) → IsHeld (applied exec c) → IsHeld c
-exec_held Unknown h = h
-exec_held Closed h = h
 exec_held (Held rights flag) h = tt
+exec_held _ h = h
 
 and_no : (a : Bool) → (a && false) ≡ false
 and_no true = refl
