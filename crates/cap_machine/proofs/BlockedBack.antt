@@ -198,22 +198,12 @@ fork_turns child me blocked later at p first =
 pub blocked_moves : (effect : Effect) (me : ℕ) (blocked : ℕ → Option ℕ) (later : List Step) (at p : ℕ)
     → ((q : ℕ) → IsFirst (Blocks later q) at (blocked q))
     → IsFirst (Handed (effect_turn effect me) later p) at (blocked_moved effect me blocked p)
-blocked_moves Keep me b later at p first = still Keep me b later at p (λ q. refl) (same_blocked b p me) (first p)
 blocked_moves Enter me b later at p first = turned_moves me Inside b later at p (first p)
 blocked_moves (Start fds) me b later at p first = turned_moves me Outside b later at p (first p)
 blocked_moves Exit me b later at p first = turned_moves me Unsure b later at p (first p)
-blocked_moves Forget me b later at p first = still Forget me b later at p (λ q. refl) (same_blocked b p me) (first p)
-blocked_moves Exec me b later at p first = still Exec me b later at p (λ q. refl) (same_blocked b p me) (first p)
-blocked_moves (CloseFrom n) me b later at p first =
-    still (CloseFrom n) me b later at p (λ q. refl) (same_blocked b p me) (first p)
-blocked_moves (Give g c) me b later at p first =
-    still (Give g c) me b later at p (λ q. refl) (same_blocked b p me) (first p)
-blocked_moves (GiveTwo g h c) me b later at p first =
-    still (GiveTwo g h c) me b later at p (λ q. refl) (same_blocked b p me) (first p)
-blocked_moves (Change g op h) me b later at p first =
-    still (Change g op h) me b later at p (λ q. refl) (same_blocked b p me) (first p)
 blocked_moves (Fork child) me b later at p first = fork_turns child me b later at p first
 blocked_moves (ForkAs child g) me b later at p first = fork_turns child me b later at p first
+blocked_moves effect me b later at p first = still effect me b later at p (λ q. refl) (same_blocked b p me) (first p)
 
 -- ---- a line
 

@@ -87,18 +87,6 @@ fd_named CapIoctlsLimit = lit< tt
 fd_named CapFcntlsLimit = lit< tt
 fd_named _ = named_named _
 
-send_named : IsNamed send_needs
-unfolding send_needs
-send_named = named_named _
-
-send_to_named : IsNamed send_to_needs
-unfolding send_to_needs
-send_to_named = joined _ _ (named_named _) (named_named _)
-
-accept_named : IsNamed accept_needs
-unfolding accept_needs
-accept_named = named_named _
-
 -- a need that is there is named
 abbrev IsNamedOption : Option ℕ → Type 0
 IsNamedOption None = Unit {0}
@@ -160,26 +148,6 @@ unfolding at_flags_needs
 at_flags_named Openat flags = openat_named flags
 at_flags_named _ flags = named_named _
 
-symlink_named : IsNamed symlink_needs
-unfolding symlink_needs
-symlink_named = named_named _
-
-rename_from_named : IsNamed rename_from_needs
-unfolding rename_from_needs
-rename_from_named = named_named _
-
-rename_to_named : IsNamed rename_to_needs
-unfolding rename_to_needs
-rename_to_named = named_named _
-
-link_from_named : IsNamed link_from_needs
-unfolding link_from_needs
-link_from_named = named_named _
-
-link_to_named : IsNamed link_to_needs
-unfolding link_to_needs
-link_to_named = named_named _
-
 -- ---- calls at a directory
 
 abbrev IsNamedCheck : Option Check → Type 0
@@ -218,10 +186,11 @@ fcntl_checks None f answer is = tt
 fcntl_checks (Some n) f answer is = (is, tt)
 
 call_checks : (call : Call) (answer : Answer) → AllNamed (listed (call_requirement call answer).checks)
+unfolding send_needs send_to_needs accept_needs symlink_needs rename_from_needs rename_to_needs link_from_needs link_to_needs
 call_checks (calls.OnFd call f) answer = fd_checks call f answer
-call_checks (calls.Send call f) answer = (send_named, tt)
-call_checks (calls.SendTo call f) answer = (send_to_named, tt)
-call_checks (calls.Accept4 f flags) answer = (accept_named, tt)
+call_checks (calls.Send call f) answer = (named_named _, tt)
+call_checks (calls.SendTo call f) answer = (joined _ _ (named_named _) (named_named _), tt)
+call_checks (calls.Accept4 f flags) answer = (named_named _, tt)
 call_checks (calls.Dup2 f g) answer = (lit< tt, tt)
 call_checks (calls.Fcntl f command) answer = fcntl_checks (fcntl_needs command) f answer (fcntl_named command)
 call_checks (calls.FcntlDup command f g) answer = (lit< tt, tt)
@@ -236,13 +205,13 @@ call_checks (calls.At call dir path) answer =
 call_checks (calls.AtFlags call dir path flags) answer =
     one_place _ (record { dir = dir; path = path; needs = at_flags_needs call flags }) (at_flags_named call flags)
 call_checks (calls.SymlinkAt target dir path) answer =
-    one_place _ (record { dir = dir; path = path; needs = symlink_needs }) symlink_named
+    one_place _ (record { dir = dir; path = path; needs = symlink_needs }) (named_named _)
 call_checks (calls.RenameAt dir path to_dir to_path) answer =
     two_places _ (record { dir = dir; path = path; needs = rename_from_needs })
-    (record { dir = to_dir; path = to_path; needs = rename_to_needs }) rename_from_named rename_to_named
+    (record { dir = to_dir; path = to_path; needs = rename_to_needs }) (named_named _) (named_named _)
 call_checks (calls.LinkAt dir path to_dir to_path flags) answer =
     two_places _ (record { dir = dir; path = path; needs = link_from_needs })
-    (record { dir = to_dir; path = to_path; needs = link_to_needs }) link_from_named link_to_named
+    (record { dir = to_dir; path = to_path; needs = link_to_needs }) (named_named _) (named_named _)
 call_checks _ answer = tt
 
 pub item_checks : (item : Item) → AllNamed (listed (item_requirement item).checks)

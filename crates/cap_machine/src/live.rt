@@ -100,20 +100,6 @@ impl LiveRights {
         Ok(())
     }
 
-    /// Joins what is needed of a child to what is needed of its parent.
-    fn adopt(&mut self, me: Pid, child: Pid) -> Result<(), NoMemory>
-        ensures rights { OnOk result ((p f : ℕ) (x : OnExec) → wanted self.new p f x
-            ≡ (if p == me then join (wanted self.old me f x) (if child == me then 0 else wanted self.old child f x)
-            else (if p == child then 0 else wanted self.old p f x))) }
-        ensures blocked { OnOk result ((p : ℕ) → blocked self.new p
-            ≡ (if p == me then earlier (blocked self.old me) (if child == me then None else blocked self.old child)
-            else (if p == child then None else blocked self.old p))) }
-    {
-        let own = self.take(me);
-        let both = own.joined(self.take(child))?;
-        self.put(me, both)
-    }
-
     /// Joins what is needed of the child that an effect makes to what is needed of its process.
     #[inline(always)]
     fn gather(&mut self, me: Pid, effect: &Effect<'_>) -> Result<(), NoMemory>
@@ -125,7 +111,11 @@ impl LiveRights {
             else (if is_child effect.now p then None else blocked self.old p))) }
     {
         match effect {
-            Effect::Fork(child) | Effect::ForkAs(child, _) => self.adopt(me, *child),
+            Effect::Fork(child) | Effect::ForkAs(child, _) => {
+                let own = self.take(me);
+                let both = own.joined(self.take(*child))?;
+                self.put(me, both)
+            }
             _ => Ok(()),
         }
     }

@@ -117,15 +117,6 @@ impl LiveProcess {
         self.after_exec.clear();
     }
 
-    /// Nothing is needed of it.
-    fn forget(&mut self)
-        ensures rights { (f : ℕ) (x : OnExec) → wanted_of self.new f x ≡ 0 }
-        ensures blocked { self.new.blocked ≡ None }
-    {
-        self.clear();
-        self.blocked = None;
-    }
-
     /// Takes the rights of the descriptors from one on away.
     fn clear_from(&mut self, fd: Fd)
         ensures rights { (f : ℕ) (x : OnExec) → wanted_of self.new f x ≡ (if nat_le fd f then 0 else wanted_of self.old f x) }
@@ -183,8 +174,10 @@ impl LiveProcess {
         match effect {
             Effect::Keep | Effect::Fork(_) => {}
             Effect::Enter => self.blocked = None,
-            Effect::Start(_) => self.forget(),
-            Effect::Exit => self.forget(),
+            Effect::Start(_) | Effect::Exit => {
+                self.clear();
+                self.blocked = None;
+            }
             Effect::Forget => self.clear(),
             Effect::Exec => self.exec()?,
             Effect::CloseFrom(fd) => self.clear_from(*fd),
