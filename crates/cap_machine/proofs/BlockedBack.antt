@@ -8,8 +8,8 @@ use Rattle.cap_machine.specs.declared.cell.Mode.{Mode}
 use Rattle.cap_machine.specs.declared.cell.Mode.TheVariants.{Inside, Outside, Unsure}
 use Rattle.cap_machine.specs.declared.rule.Requirement.{Requirement}
 use Rattle.cap_machine.specs.declared.rule.Effect.{Effect}
-use Rattle.cap_machine.specs.declared.rule.Effect.TheVariants.{Keep, Start, Exit, Forget, Exec, CloseFrom, Enter, Give}
-use Rattle.cap_machine.specs.declared.rule.Effect.TheVariants.{GiveTwo, Change, Fork, ForkAs}
+use Rattle.cap_machine.specs.declared.rule.Effect.TheVariants.{Start, Exit, Enter}
+use Rattle.cap_machine.specs.declared.rule.Effect.TheVariants.{Fork, ForkAs}
 use Rattle.cap_machine.specs.declared.step.Step.{Step}
 use Rattle.cap_machine.specs.Rule.{requirement}
 use Rattle.cap_machine.specs.Judge.{is_forbidden}

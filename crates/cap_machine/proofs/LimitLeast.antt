@@ -14,7 +14,7 @@ use Rattle.cap_machine.specs.declared.step.Step.{Step}
 use Rattle.cap_machine.specs.declared.rule.Check.{Check}
 use Rattle.cap_machine.specs.declared.rule.Requirement.{Requirement}
 use Rattle.cap_machine.specs.declared.rule.Reply.{Reply}
-use Rattle.cap_machine.specs.declared.rule.Reply.TheVariants.{Success, NotCapable, NotPermitted, Other}
+use Rattle.cap_machine.specs.declared.rule.Reply.TheVariants.{Success}
 use Rattle.cap_machine.specs.declared.rule.LimitWord.{LimitWord}
 use Rattle.cap_machine.specs.declared.rule.LimitWord.TheVariants.{Missing, Expanded}
 use Rattle.cap_machine.specs.declared.verdict.Finding.{Finding}

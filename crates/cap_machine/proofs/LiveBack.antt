@@ -30,6 +30,7 @@ use Rattle.cap_machine.specs.Live.{is_success, checks_need, step_needs, HandsOn,
 use Rattle.cap_machine.specs.Wanted.{back_through, wanted_with, undone, gathered, is_child, with_checks}
 use Rattle.cap_machine.specs.Wanted.{with_requirement, wanted_before}
 use Rattle.std.proofs.Math.Path.{fun_ext}
+use Rattle.cap_machine.proofs.Profiles.{or_swap}
 
 -- ---- one line of a process, as the code takes it apart
 
@@ -458,12 +459,6 @@ moves (ForkAs child g) me w p f x k lt = as_moves child g me w p f x k lt
 
 -- ---- what a line needs
 
-or_comm : (a b : Bool) → (a || b) ≡ (b || a)
-or_comm true true = refl
-or_comm true false = refl
-or_comm false true = refl
-or_comm false false = refl
-
 either : (a b n : Bool) → (a || (b || n)) ≡ ((b || a) || n)
 either true true n = refl
 either true false n = refl
@@ -471,7 +466,7 @@ either false true n = refl
 either false false n = refl
 
 with_holds : (b : Bool) (r s k : ℕ) → holds (if b then join r s else r) k ≡ ((b && holds s k) || holds r k)
-with_holds true r s k = join_holds r s k ∙ or_comm (holds r k) (holds s k)
+with_holds true r s k = join_holds r s k ∙ or_swap (holds r k) (holds s k)
 with_holds false r s k = refl
 
 checks_hold : (checks : List Check) (w : ℕ → OnExec → ℕ) (f : ℕ) (x : OnExec) (k : ℕ)

@@ -16,18 +16,12 @@ use Rattle.cap_trace.specs.Call.{Call}
 use Rattle.cap_trace.specs.Call as calls
 use Rattle.cap_trace.specs.declared.line.Answer.{Answer}
 use Rattle.cap_trace.specs.declared.calls.FdCall.{FdCall}
-use Rattle.cap_trace.specs.declared.calls.FdCall.TheVariants.{Read, Readv, Recvfrom, Recvmsg, Pread, Preadv, Write}
-use Rattle.cap_trace.specs.declared.calls.FdCall.TheVariants.{Writev, Pwrite, Pwritev, Lseek, Fstat, Fstatfs, Fsync}
-use Rattle.cap_trace.specs.declared.calls.FdCall.TheVariants.{Fdatasync, Ftruncate, Fchmod, Fchown, Fchflags, Fchdir}
-use Rattle.cap_trace.specs.declared.calls.FdCall.TheVariants.{Flock, Fpathconf, Futimes, Futimens, Ioctl, Accept, Bind}
-use Rattle.cap_trace.specs.declared.calls.FdCall.TheVariants.{Connect, Listen, Shutdown, Getpeername, Getsockname}
-use Rattle.cap_trace.specs.declared.calls.FdCall.TheVariants.{Getsockopt, Setsockopt, Fexecve, Close, Closefrom, Dup}
+use Rattle.cap_trace.specs.declared.calls.FdCall.TheVariants.{Close, Closefrom, Dup}
 use Rattle.cap_trace.specs.declared.calls.FdCall.TheVariants.{CapIoctlsLimit, CapFcntlsLimit}
 use Rattle.cap_trace.specs.declared.calls.AtCall.{AtCall}
-use Rattle.cap_trace.specs.declared.calls.AtCall.TheVariants.{Mkdirat, Mkfifoat, Mknodat, Readlinkat, Futimesat}
+use Rattle.cap_trace.specs.declared.calls.AtCall.TheVariants.{Mkdirat}
 use Rattle.cap_trace.specs.declared.calls.AtFlagsCall.{AtFlagsCall}
-use Rattle.cap_trace.specs.declared.calls.AtFlagsCall.TheVariants.{Openat, Unlinkat, Fstatat, Fchmodat, Fchownat}
-use Rattle.cap_trace.specs.declared.calls.AtFlagsCall.TheVariants.{Chflagsat, Utimensat}
+use Rattle.cap_trace.specs.declared.calls.AtFlagsCall.TheVariants.{Openat}
 use Rattle.cap_machine.specs.declared.rule.Check.{Check}
 use Rattle.cap_machine.specs.Flags.{has_flag, is_one_of}
 use Rattle.cap_machine.specs.Needs.{named, asked, fd_needs, send_needs, send_to_needs, accept_needs, fcntl_needs}

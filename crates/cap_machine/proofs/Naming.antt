@@ -1,9 +1,8 @@
 -- What a line can touch.
-use Rattle.std.proofs.Common.{◌≡◌, ℕ, ◌==◌, ◌&&◌, ◌||◌, not, nat_le, Bool, true, false, if◌then◌else◌, List}
+use Rattle.std.proofs.Common.{◌≡◌, ℕ, ◌==◌, ◌&&◌, ◌||◌, not, Bool, true, false, if◌then◌else◌}
 use Rattle.std.proofs.Common.{refl, sym, ap, ◌∙◌}
 use Rattle.std.specs.List.{list_any}
-use Rattle.std.proofs.Math.Logic.{⊎_elim}
-use Rattle.std.proofs.lemmas.Bool.{or_parts, or_from, eqb-true, cases_Bool, and_right, true_from_ne_false}
+use Rattle.std.proofs.lemmas.Bool.{or_parts, or_from, eqb-true, and_right}
 use Rattle.cap_trace.specs.Item.{Item}
 use Rattle.cap_trace.specs.Item as items
 use Rattle.cap_trace.specs.Call.{Call}
@@ -16,12 +15,12 @@ use Rattle.cap_trace.specs.Entry.{args_of}
 use Rattle.cap_machine.specs.declared.cell.Profile.{Profile}
 use Rattle.cap_machine.specs.declared.rule.Effect.{Effect}
 use Rattle.cap_machine.specs.declared.rule.Effect.TheVariants as effects
-use Rattle.cap_machine.specs.Touch.{Touch, kept, stays, Turn, succeeded, call_turn, item_touch, item_turn}
+use Rattle.cap_machine.specs.Touch.{kept, stays, Turn, succeeded, call_turn, item_touch, item_turn}
 use Rattle.cap_machine.specs.Effect.{effect_touch}
 use Rattle.cap_machine.specs.Named.{arg_names, item_answer_names, is_fork, answer_makes, item_makes, is_whole_item}
 use Rattle.cap_machine.specs.Named.{OwnProcesses, OwnModes, NamedDescriptors}
 use Rattle.cap_machine.specs.Wanted.{is_child}
-use Rattle.cap_machine.proofs.LineEffects.{FdsNamed, IsSingle, IsDone, IsNoStart, item_done}
+use Rattle.cap_machine.proofs.LineEffects.{FdsNamed, IsSingle, item_done}
 
 -- ---- another process
 

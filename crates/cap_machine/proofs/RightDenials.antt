@@ -1,10 +1,9 @@
 -- How denials stand to findings.
-use Rattle.std.proofs.Common.{◌≡◌, ℕ, ◌+◌, ◌≤◌, refl, ap, subst, ◌∙◌, Bool, true, false, ◌&&◌, ◌||◌, not, inl, inr}
-use Rattle.std.proofs.Common.{if◌then◌else◌, List, [], ◌∷◌, ◌++◌, length, map, reverse, Option, Some, None, arith}
+use Rattle.std.proofs.Common.{◌≡◌, ℕ, refl, ap, subst, ◌∙◌, Bool, true, false, ◌&&◌, ◌||◌, not, inl, inr}
+use Rattle.std.proofs.Common.{if◌then◌else◌, List, [], ◌∷◌, ◌++◌, map, Option, Some, None, arith}
 use Rattle.std.specs.List.{All, Contains}
 use Rattle.std.proofs.lemmas.Bool.{and_parts}
-use Rattle.std.proofs.lemmas.List.{length-reverse}
-use Rattle.std.proofs.lemmas.List.Elements.{All-append, All-cons, All-contains, All-map, All-nil}
+use Rattle.std.proofs.lemmas.List.Elements.{All-append, All-cons, All-contains, All-nil}
 use Rattle.cap_rights.specs.Rights.{has_all, minus}
 use Rattle.cap_machine.specs.declared.cell.Cell.{Cell}
 use Rattle.cap_machine.specs.declared.cell.Cell.TheVariants.{Unknown, Closed, Held}
@@ -16,18 +15,14 @@ use Rattle.cap_machine.specs.declared.rule.LimitWord.{LimitWord}
 use Rattle.cap_machine.specs.declared.rule.LimitWord.TheVariants as words
 use Rattle.cap_machine.specs.declared.rule.Check.{Check}
 use Rattle.cap_machine.specs.declared.rule.Requirement.{Requirement}
-use Rattle.cap_machine.specs.declared.step.Step.{Step}
 use Rattle.cap_machine.specs.declared.verdict.Finding.{Finding}
 use Rattle.cap_machine.specs.declared.verdict.Finding.TheVariants as say
 use Rattle.cap_machine.specs.declared.denial.Denial.{Denial}
 use Rattle.cap_machine.specs.declared.denial.Denial.TheVariants.{Lacks, Inside, Unexplained}
-use Rattle.cap_machine.specs.declared.denial.Denied.{Denied}
-use Rattle.cap_machine.specs.State.{State}
-use Rattle.cap_machine.specs.History.{after}
 use Rattle.cap_machine.specs.Rule.{requirement}
 use Rattle.cap_machine.specs.Judge.{listed, fault, faults, shortfall, forbidden, is_excused, all_excused, has_check}
 use Rattle.cap_machine.specs.Judge.{is_forbidden, is_inside, is_outside, is_allowed, judged_by}
-use Rattle.cap_machine.specs.Denials.{lack, lacks, or_unexplained, denied_by, denied}
+use Rattle.cap_machine.specs.Denials.{lack, lacks, or_unexplained, denied_by}
 use Rattle.cap_machine.specs.DenialLaws.{WrongIsUnexplained, LackingIsRight, InsideIsRight}
 use Rattle.cap_machine.proofs.Excuses.{Excuses, AllExcused, has_needs, item_excused}
 

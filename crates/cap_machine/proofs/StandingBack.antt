@@ -82,9 +82,6 @@ out_passed ts cells before p f from single op e none_kept holds_on isnt =
 taken_not_kept : (op : Op) (q g : ℕ) → taken op q g ≡ kept → ⊥
 taken_not_kept op q g e = cc
 
-given_not_kept : (c : Cell) → given c ≡ kept → ⊥
-given_not_kept c e = cc
-
 same_held : (c : Cell) → IsHeld (applied same c) → IsHeld c
 same_held (Held rights flag) h = tt
 same_held _ h = h
@@ -256,35 +253,6 @@ over_line s start history p older step q effect me old new same_touch is so_far 
     Outcome (t q) (cell_after s older) (Stands start older) q f (source_of effect me q) (is_single effect me q f))
     same_touch (outcome effect me q f (cell_after s older) (Stands start older)))
     (is f) (so_far f)
-
-pub none_yet : (s : State) (start : List Added) (history : List Step) (p : ℕ) (added : ℕ → Bool)
-    → ((f : ℕ) → added f ≡ false) → (f : ℕ) → SoFar s start history p history p added f
-none_yet s start history p added none f = inr (inr (none f, λ h. h, (λ h. h, λ h. h)))
-
--- at the beginning
-or_split : (a b : Bool) → b ≡ false → (a || b) ≡ true → a ≡ true
-or_split true b e h = refl
-or_split false b e h = absurd (not_both b e h)
-  where
-    not_both : (b : Bool) → b ≡ false → b ≡ true → ⊥
-    not_both true e h = cc
-    not_both false e h = cc
-
-pub at_start : (s : State) (start : List Added) (history : List Step) (p q : ℕ) (old new : ℕ → Bool) (f : ℕ)
-    → new f ≡ (start_lists start q f || old f)
-    → SoFar s start history p [] q old f → IsHeld (cell_after s history p f)
-    → (new f ≡ true) ↔ Stands start history p f
-at_start s start history p q old new f is so_far held =
-    ⊎_elim
-    (λ lost. absurd (lost held))
-    (λ rest. ⊎_elim
-    (λ found. (λ h. found.1, λ h. is ∙ or_true (start_lists start q f) (old f) found.0))
-    (λ on. (
-      λ h. on.2.1 (or_split (start_lists start q f) (old f) on.0 (sym is ∙ h)),
-      λ h. is ∙ or_first (start_lists start q f) (old f) (on.2.0 h),
-    ))
-    rest)
-    so_far
 
 -- ---- lists of descriptors
 

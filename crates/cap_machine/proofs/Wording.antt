@@ -4,10 +4,9 @@ use Rattle.std.proofs.Common.{◌∙◌, append_assoc}
 use Rattle.std.proofs.lemmas.List.{take_at, take-append-drop}
 use Rattle.std.specs.List.{join_with_byte}
 use Rattle.cap_machine.specs.declared.verdict.Finding.{Finding}
-use Rattle.cap_machine.specs.declared.verdict.Finding.TheVariants.{Forbidden, ModeRefusal, Missing, Expanded, Closed}
-use Rattle.cap_machine.specs.declared.verdict.Finding.TheVariants.{Refusal}
+use Rattle.cap_machine.specs.declared.verdict.Finding.TheVariants.{Forbidden}
 use Rattle.cap_machine.specs.declared.denial.Denial.{Denial}
-use Rattle.cap_machine.specs.declared.denial.Denial.TheVariants.{Lacks, Inside, Unexplained}
+use Rattle.cap_machine.specs.declared.denial.Denial.TheVariants.{Lacks}
 use Rattle.cap_machine.specs.Report.{finding_words, line_of_words}
 use Rattle.cap_machine.specs.DenialReport.{denial_words, front_of}
 

@@ -2,8 +2,7 @@
 
 ghost use Rattle.std.specs.Prelude.{◌≡◌, ◌++◌, map, IfOk, OnOk};
 ghost use Rattle.cap_machine.specs.Steps.{step, steps};
-ghost use Rattle.cap_machine.specs.Rule.{requirement};
-ghost use Rattle.cap_machine.specs.Check.{check, said, findings_of, found_at};
+ghost use Rattle.cap_machine.specs.Check.{check, said, found_at};
 ghost use Rattle.cap_machine.specs.Table.{Keeps, state_of, step_after, start_state};
 
 use crate::cell::Profile;
