@@ -1,7 +1,6 @@
 //! What one line of a trace rests on.
 
-ghost use Rattle.std.specs.Prelude.{◌≡◌, ◌&&◌, true, ℕ, IfOk, List, map, reverse, length, option_map, if◌then◌else◌};
-ghost use Rattle.std.specs.Option.{option_map_or};
+ghost use Rattle.std.specs.Prelude.{◌≡◌, ◌&&◌, ℕ, IfOk, List, map, reverse, length, option_map};
 ghost use Rattle.cap_machine.specs.declared.step.Step.{Step};
 ghost use Rattle.cap_machine.specs.declared.rule.Check.{Check};
 ghost use Rattle.cap_machine.specs.declared.provenance.CellProvenance.{CellProvenance};
@@ -13,7 +12,7 @@ ghost use Rattle.cap_machine.specs.Rule.{requirement};
 ghost use Rattle.cap_machine.specs.Judge.{listed, judged, has_check};
 ghost use Rattle.cap_machine.specs.Denials.{denied_with};
 ghost use Rattle.cap_machine.specs.Table.{start_state};
-ghost use Rattle.cap_machine.specs.Provenance.{cell_provenance, cell_chain_of, mode_provenance, mode_chain_of};
+ghost use Rattle.cap_machine.specs.Provenance.{cell_provenance, cell_chain_of};
 ghost use Rattle.cap_machine.specs.Explain.{all_have_excuse, mode_matters, explained, explanation};
 ghost use Rattle.cap_machine.specs.Explain.{explained_of, explained_by, mode_or_unsure, RestsOn};
 
@@ -125,30 +124,6 @@ fn denials_of(requirement: &Requirement, mode: Mode, provenances: &[CellProvenan
     }
 }
 
-/// Where the mode of a process comes from, where what is said of a line with this requirement can depend on it.
-fn mode_provenance_where(
-    alloc: Global,
-    profile: Profile,
-    start: &Start,
-    lines: &[Line],
-    pid: Pid,
-    requirement: &Requirement,
-) -> Result<Option<ModeProvenance>, NoMemory>
-    ensures mode { mode_matters requirement.now ≡ true
-        → IfOk result (λ provenance. option_map_or (λ (o : ModeProvenance). o.mode) provenance Mode.Unsure
-        ≡ (ended (start_state start.now) (steps profile lines.now)).mode pid) }
-    ensures chain { IfOk result (λ provenance. option_map mode_chain_of provenance
-        ≡ (if mode_matters requirement.now
-        then Some (mode_provenance (start_state start.now) (steps profile lines.now) pid)
-        else None)) }
-{
-    if requirement.mode_matters() {
-        Ok(Some(provenance_of_mode(alloc, profile, start, lines, pid)?))
-    } else {
-        Ok(None)
-    }
-}
-
 impl Explanation {
     /// What a line with this requirement rests on, which is judged here, with what was lacking for it: given where the
     /// cell of each of its checks comes from, in order, and where the mode of its process does, where it matters
@@ -199,7 +174,11 @@ fn explain_next(
     let pid = line.pid();
     let requirement = requirement_of_line(&line.view());
     let cells = provenances_of(alloc, profile, start, before, pid, &requirement.checks)?;
-    let mode = mode_provenance_where(alloc, profile, start, before, pid, &requirement)?;
+    let mode = if requirement.mode_matters() {
+        Some(provenance_of_mode(alloc, profile, start, before, pid)?)
+    } else {
+        None
+    };
     Ok(Explanation::of(&requirement, cells, mode))
 }
 

@@ -92,8 +92,7 @@ impl CellEnd {
         ensures { result ≡ cell_at_end self.now }
     {
         match self {
-            CellEnd::Given(cell) => *cell,
-            CellEnd::Start(_, _, cell) => *cell,
+            CellEnd::Given(cell) | CellEnd::Start(_, _, cell) => *cell,
         }
     }
 }
