@@ -31,18 +31,27 @@ impl<'a, S: Segment> Model for Items<'a, S> {
     ghost invariant = { λ a. (a.next ≤ a.end) × (a.end ≤ length a.tree.now) };
 }
 
-impl<'a, S: Segment> Items<'a, S> {
-    pub(crate) fn new(tree: &'a Tree<S>, range: Range<usize>) -> Items<'a, S>
+impl<S: Segment> Tree<S> {
+    /// The items at the places of a range, from the left. The range must not end before it starts, nor after the last
+    /// item. Allocates nothing, and descends the tree once for each leaf.
+    pub fn range(&self, range: Range<usize>) -> Items<'_, S>
         requires in_order { range.start ≤ range.end }
-        requires in_range { range.end ≤ length tree.now }
-        ensures { result ≡ slice_range tree.now range.start range.end }
+        requires in_range { range.end ≤ length self.now }
+        ensures items { result ≡ slice_range self.now range.start range.end }
     {
         Items {
-            tree,
+            tree: self,
             run: &[],
             next: range.start,
             end: range.end,
         }
+    }
+
+    /// All items, from the left. Allocates nothing, and descends the tree once for each leaf.
+    pub fn iter(&self) -> Items<'_, S>
+        ensures items { result ≡ self.now }
+    {
+        self.range(0..self.len())
     }
 }
 

@@ -7,7 +7,6 @@ ghost use Rattle.cap_tree.specs.Bits.{bound};
 ghost use Rattle.cap_tree.specs.Edits.{edited, IsAllowed};
 ghost use Rattle.cap_tree.specs.Run.{values};
 
-use crate::items::Items;
 use crate::meter::Meter;
 use crate::no_memory::NoMemory;
 use crate::node::Node;
@@ -15,7 +14,6 @@ use crate::run::{self, Edit};
 use crate::segment::Segment;
 use std::alloc::{AllocError, Global};
 use std::marker::Model;
-use std::ops::Range;
 use std::rc::Rc;
 
 /// A list of items with a summary of it. A contract sees the list.
@@ -132,23 +130,6 @@ impl<S: Segment> Tree<S> {
             Root::Empty(_) => unreachable!(),
             Root::Full(node) => node.leaf_at(at),
         }
-    }
-
-    /// The items at the places of a range, from the left. The range must not end before it starts, nor after the last
-    /// item. Allocates nothing, and descends the tree once for each leaf.
-    pub fn range(&self, range: Range<usize>) -> Items<'_, S>
-        requires in_order { range.start ≤ range.end }
-        requires in_range { range.end ≤ length self.now }
-        ensures items { result ≡ slice_range self.now range.start range.end }
-    {
-        Items::new(self, range)
-    }
-
-    /// All items, from the left. Allocates nothing, and descends the tree once for each leaf.
-    pub fn iter(&self) -> Items<'_, S>
-        ensures items { result ≡ self.now }
-    {
-        self.range(0..self.len())
     }
 
     /// The summary of all items. Allocates nothing and makes no join.
