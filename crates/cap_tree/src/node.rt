@@ -403,8 +403,8 @@ impl<S: Segment> Node<S> {
             return Node::leaf(alloc, meter, run);
         }
         let (front, back) = run.as_slice().split_at(run.len() / 2);
-        let left = Node::leaf(alloc, meter, run::shared(alloc, front)?)?;
-        let right = Node::leaf(alloc, meter, run::shared(alloc, back)?)?;
+        let left = Node::build(alloc, meter, front)?;
+        let right = Node::build(alloc, meter, back)?;
         Node::branch(alloc, meter, Side::Left, left, right)
     }
 
