@@ -46,4 +46,12 @@ impl Meter {
     {
         self.count += 1;
     }
+
+    /// Counts so many joins. There must be room for them.
+    pub fn add(&mut self, joins: u64)
+        requires { self.old + joins < 2 ^ 64 }
+        ensures { self.new ≡ self.old + joins }
+    {
+        self.count += joins;
+    }
 }
