@@ -20,6 +20,24 @@ use Rattle.cap_summary.specs.contracts.ask.AskPartialEq.TheImpl as asks
 use Rattle.cap_summary.specs.contracts.line_asks.UpToThreePartialEq.TheImpl as threes
 use Rattle.cap_summary.specs.contracts.precondition.RefusalPartialEq.TheImpl as refusals
 
+-- ---- lists and options
+module _ {X : Type 0} (E : X → X → Bool) (same : (a b : X) → E a b ≡ true → a ≡ b) where
+  same_list : (xs ys : List X) → pointwise E xs ys ≡ true → xs ≡ ys
+  same_list [] [] is = refl
+  same_list [] (y ∷ ys) is = absurd cc
+  same_list (x ∷ xs) [] is = absurd cc
+  same_list (x ∷ xs) (y ∷ ys) is =
+      let head : x ≡ y = same x y (and_left (E x y) (pointwise E xs ys) is) in
+      let rest : xs ≡ ys = same_list xs ys (and_right (E x y) (pointwise E xs ys) is) in
+      cc
+
+  same_option : (a b : Option X) → option_eq E a b ≡ true → a ≡ b
+  same_option None None is = refl
+  same_option None (Some y) is = absurd cc
+  same_option (Some x) None is = absurd cc
+  same_option (Some x) (Some y) is = ap Some (same x y is)
+
+-- ---- asks and refusals
 same_key : (a b : Key) → keys.eq-value.it a b ≡ true → a ≡ b
 same_key a b is = search rules
 
@@ -33,12 +51,6 @@ same_ask a b is =
     let lacking : a.lacking ≡ b.lacking = same_kinds a.lacking b.lacking (grind (arith, common_steps)) in
     grind (arith, common_steps)
 
-same_part : (a b : Option Ask) → option_eq asks.eq-value.it a b ≡ true → a ≡ b
-same_part None None is = refl
-same_part None (Some y) is = absurd cc
-same_part (Some x) None is = absurd cc
-same_part (Some x) (Some y) is = ap Some (same_ask x y is)
-
 abbrev three_of : Option Ask → Option Ask → Option Ask → UpToThree
 three_of mode first second = record { mode = mode; first = first; second = second }
 
@@ -47,25 +59,15 @@ same_three a b is =
     let mode_is = option_eq asks.eq-value.it a.mode b.mode in
     let first_is = option_eq asks.eq-value.it a.first b.first in
     let more = and_right mode_is (first_is && option_eq asks.eq-value.it a.second b.second) is in
-    ap (λ m. three_of m a.first a.second) (same_part a.mode b.mode (and_left mode_is _ is))
-    ∙ ap (λ x. three_of b.mode x a.second) (same_part a.first b.first (and_left first_is _ more))
-    ∙ ap (three_of b.mode b.first) (same_part a.second b.second (and_right first_is _ more))
+    ap (λ m. three_of m a.first a.second) (same_option asks.eq-value.it same_ask a.mode b.mode (and_left mode_is _ is))
+    ∙ ap (λ x. three_of b.mode x a.second) (same_option asks.eq-value.it same_ask a.first b.first (and_left first_is _ more))
+    ∙ ap (three_of b.mode b.first) (same_option asks.eq-value.it same_ask a.second b.second (and_right first_is _ more))
 
 abbrev refusal_of : UpToThree → Refusal
 refusal_of unless = record { unless = unless }
 
 same_refusal : (a b : Refusal) → refusals.eq-value.it a b ≡ true → a ≡ b
 same_refusal a b is = ap refusal_of (same_three a.unless b.unless is)
-
-module _ {X : Type 0} (E : X → X → Bool) (same : (a b : X) → E a b ≡ true → a ≡ b) where
-  same_list : (xs ys : List X) → pointwise E xs ys ≡ true → xs ≡ ys
-  same_list [] [] is = refl
-  same_list [] (y ∷ ys) is = absurd cc
-  same_list (x ∷ xs) [] is = absurd cc
-  same_list (x ∷ xs) (y ∷ ys) is =
-      let head : x ≡ y = same x y (and_left (E x y) (pointwise E xs ys) is) in
-      let rest : xs ≡ ys = same_list xs ys (and_right (E x y) (pointwise E xs ys) is) in
-      cc
 
 pub same_asks : (xs ys : List Ask) → pointwise asks.eq-value.it xs ys ≡ true → xs ≡ ys
 same_asks = same_list asks.eq-value.it same_ask
@@ -130,12 +132,6 @@ same_base a b is = search rules
 abbrev row_of : Base → Option Value → List (ℕ × Value) → Row
 row_of base mode cells = record { base = base; mode = mode; cells = cells }
 
-same_mode : (a b : Option Value) → option_eq values.eq-value.it a b ≡ true → a ≡ b
-same_mode None None is = refl
-same_mode None (Some y) is = absurd cc
-same_mode (Some x) None is = absurd cc
-same_mode (Some x) (Some y) is = ap Some (same_value x y is)
-
 module _ {V : Type 0} (E : V → V → Bool) (same : (a b : V) → E a b ≡ true → a ≡ b) where
   same_entry : (a b : ℕ × V) → (eqb a.0 b.0 && E a.1 b.1) ≡ true → a ≡ b
   same_entry (k, v) (l, w) is =
@@ -152,7 +148,7 @@ same_row a b is =
     let mode_is = option_eq values.eq-value.it a.mode b.mode in
     let more = and_right base_is (mode_is && listed.eq-value.it a.cells b.cells) is in
     ap (λ x. row_of x a.mode a.cells) (same_base a.base b.base (and_left base_is _ is))
-    ∙ ap (λ m. row_of b.base m a.cells) (same_mode a.mode b.mode (and_left mode_is _ more))
+    ∙ ap (λ m. row_of b.base m a.cells) (same_option values.eq-value.it same_value a.mode b.mode (and_left mode_is _ more))
     ∙ ap (row_of b.base b.mode) (same_entries values.eq-value.it same_value a.cells b.cells (and_right mode_is _ more))
 
 pub same_rows : (a b : List (ℕ × Row)) → pointwise (λ x y. eqb x.0 y.0 && rows.eq-value.it x.1 y.1) a b ≡ true → a ≡ b

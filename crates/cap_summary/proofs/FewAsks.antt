@@ -4,7 +4,7 @@ use Rattle.std.specs.Prelude.{◌≡◌, ◌+◌, ◌*◌, ◌^◌, ◌<◌, ◌
 use Rattle.cap_summary.specs.{Names.has_cell, Names.has_key, declared.ask.Ask.Ask, declared.key.Key.Key}
 use Rattle.cap_summary.specs.Asks.{held_number, key_number, place, place_in_process, RisesFrom, Rises, AskWithin}
 use Rattle.cap_summary.specs.Asks.{AreWithin}
-use Rattle.cap_summary.specs.Few.{is_one, these, room}
+use Rattle.cap_summary.specs.{Kept.is_one, Kept.these, Kept.room}
 use Rattle.cap_summary.proofs.{sym, ap, ◌∙◌, arith, nat_tests, length-map, All-head, All-tail, Bools.and_left}
 use Rattle.cap_summary.proofs.{Bools.and_right}
 use Rattle.cap_summary.proofs.FewKeys.{all_of, among_all, among_mapped, count_all, count_each, count_from, count_taken}

@@ -2,9 +2,9 @@
 use Rattle.std.proofs.{Math.Nat.add-mul, Math.Nat.one-mul}
 use Rattle.std.specs.Prelude.{◌≡◌, ◌+◌, ◌*◌, ◌≤◌, ◌∷◌, ◌++◌, ◌||◌, ℕ, eqb, List, [], length, map, Some, Bool, true}
 use Rattle.std.specs.Prelude.{false, cond, refl, is_some, nat_le}
-use Rattle.cap_summary.specs.{Few.is_one, Sorted.found, Sorted.RisesFrom}
+use Rattle.cap_summary.specs.{Kept.is_one, Sorted.found, Sorted.RisesFrom}
 use Rattle.cap_summary.proofs.{sym, ap, ◌∙◌, arith, subst, length-append, or-true, eqb-true, eq-eqb, list_any-append}
-use Rattle.cap_summary.proofs.{nat_tests}
+use Rattle.cap_summary.proofs.{nat_tests, inl, inr, or_cases}
 
 -- how many of some numbers are not below a bound
 abbrev pub count_from : ℕ → List ℕ → ℕ
@@ -19,18 +19,13 @@ count_less : (b c : ℕ) (all : List ℕ) → b ≤ c → count_from c all ≤ c
 count_less b c [] le = omega arith
 count_less b c (n ∷ rest) le = let later = count_less b c rest le in grind (arith, nat_tests, later, le)
 
-one_taken : (b k n : ℕ) (rest : List ℕ) (same found : Bool) → b ≤ k → eqb n k ≡ same → (same || found) ≡ true
-    → (found ≡ true → count_from (k + 1) rest + 1 ≤ count_from b rest)
-    → count_from (k + 1) (n ∷ rest) + 1 ≤ count_from b (n ∷ rest)
-one_taken b k n rest true found le e is later =
-    let less = count_less b (k + 1) rest (omega (arith, le)) in grind (arith, nat_tests, less, le, e)
-one_taken b k n rest false found le e is later = let less = later is in grind (arith, nat_tests, less, le, e)
-
 -- one of them that isn't below the bound is counted, and those above it too
 pub count_taken : (b k : ℕ) (all : List ℕ) → b ≤ k → is_one all k ≡ true → count_from (k + 1) all + 1 ≤ count_from b all
 count_taken b k [] le is = absurd (let no : false ≡ true = is in cc)
-count_taken b k (n ∷ rest) le is =
-    one_taken b k n rest (eqb n k) (is_one rest k) le refl is (count_taken b k rest le)
+count_taken b k (n ∷ rest) le is = elim (or_cases (eqb n k) (is_one rest k) is) [
+  | inl here ↦ let less = count_less b (k + 1) rest (omega (arith, le)) in grind (arith, nat_tests, less, le, here)
+  | inr later ↦ let less = count_taken b k rest le later in grind (arith, nat_tests, less, le)
+]
 
 -- a key that is found in the rest is found
 found_more : {V : Type 0} (k : ℕ) (v : V) (rest : List (ℕ × V)) (key : ℕ) → is_some (found rest key) ≡ true
@@ -73,17 +68,13 @@ abbrev pub all_of : (ℕ → List ℕ) → List ℕ → List ℕ
 all_of g [] = []
 all_of g (m ∷ rest) = g m ++ all_of g rest
 
-one_of : (g : ℕ → List ℕ) (k m n : ℕ) (rest : List ℕ) (same found : Bool) → eqb k m ≡ same → (same || found) ≡ true
-    → is_one (g m) n ≡ true → (found ≡ true → is_one (all_of g rest) n ≡ true) → is_one (g k ++ all_of g rest) n ≡ true
-one_of g k m n rest true found e is own later =
-    in_first (g k) (all_of g rest) n (subst (λ i. is_one (g i) n ≡ true) (sym (eqb-true k m e)) own)
-one_of g k m n rest false found e is own later = in_second (g k) (all_of g rest) n (later is)
-
 pub among_all : (g : ℕ → List ℕ) (all : List ℕ) (m n : ℕ) → is_one all m ≡ true → is_one (g m) n ≡ true
     → is_one (all_of g all) n ≡ true
 among_all g [] m n is own = is
-among_all g (k ∷ rest) m n is own =
-    one_of g k m n rest (eqb k m) (is_one rest m) refl is own (λ e. among_all g rest m n e own)
+among_all g (k ∷ rest) m n is own = elim (or_cases (eqb k m) (is_one rest m) is) [
+  | inl e ↦ in_first (g k) (all_of g rest) n (subst (λ i. is_one (g i) n ≡ true) (sym (eqb-true k m e)) own)
+  | inr later ↦ in_second (g k) (all_of g rest) n (among_all g rest m n later own)
+]
 
 pub count_each : (g : ℕ → List ℕ) (c : ℕ) (all : List ℕ) → ((m : ℕ) → length (g m) ≡ c)
     → length (all_of g all) ≡ length all * c
@@ -96,14 +87,9 @@ count_each g c (m ∷ rest) each =
     let one = one-mul c in
     omega (arith, later, both, own, parts, one)
 
-one_mapped : (g : ℕ → ℕ) (m n : ℕ) (rest : List ℕ) (same found : Bool) → eqb m n ≡ same → (same || found) ≡ true
-    → (found ≡ true → is_one (map g rest) (g n) ≡ true) → (eqb (g m) (g n) || is_one (map g rest) (g n)) ≡ true
-one_mapped g m n rest true found e is later =
-    ap (λ r. r || is_one (map g rest) (g n)) (eq-eqb (g m) (g n) (ap g (eqb-true m n e)))
-one_mapped g m n rest false found e is later =
-    in_second (g m ∷ []) (map g rest) (g n) (later is)
-
 pub among_mapped : (g : ℕ → ℕ) (all : List ℕ) (n : ℕ) → is_one all n ≡ true → is_one (map g all) (g n) ≡ true
 among_mapped g [] n is = is
-among_mapped g (m ∷ rest) n is =
-    one_mapped g m n rest (eqb m n) (is_one rest n) refl is (among_mapped g rest n)
+among_mapped g (m ∷ rest) n is = elim (or_cases (eqb m n) (is_one rest n) is) [
+  | inl e ↦ ap (λ r. r || is_one (map g rest) (g n)) (eq-eqb (g m) (g n) (ap g (eqb-true m n e)))
+  | inr later ↦ in_second (g m ∷ []) (map g rest) (g n) (among_mapped g rest n later)
+]

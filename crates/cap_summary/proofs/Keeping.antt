@@ -5,7 +5,7 @@ use Rattle.std.specs.Prelude.{eqb, Option, Some, None, refl, IfSome, IfNone, is_
 use Rattle.cap_summary.specs.{Step, Content.KeepsParts, Knows.Knows, Preconditions.IsSettled, declared.effect.Row.Row}
 use Rattle.cap_summary.specs.{declared.known.Known.Known, declared.node.Content.Content}
 use Rattle.cap_summary.specs.{declared.node.Content.TheVariants.Run, declared.node.Content.TheVariants.Both}
-use Rattle.cap_summary.specs.Few.{is_one, these, room, refused, NameOrRefuseMany}
+use Rattle.cap_summary.specs.{Kept.is_one, Kept.these, Kept.room, LineAsks.refused, Kept.NameOrRefuseMany}
 use Rattle.cap_summary.specs.Kept.{limit, IsKept, IsWithin, IsLarge, ListsMany}
 use Rattle.cap_summary.specs.Names.{Names, names_in, AreAmong, IsListedWithin, IsRowWithin, ListWithin, RowsWithin}
 use Rattle.cap_summary.specs.RowSizes.{rows_size, CellsRise, AllRise}

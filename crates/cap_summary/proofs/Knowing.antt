@@ -5,8 +5,8 @@ use Rattle.std.specs.Prelude.{◌≡◌, ◌∷◌, ◌++◌, ◌+◌, ◌<◌, 
 use Rattle.std.specs.Prelude.{get_or, take}
 use Rattle.cap_summary.specs.{Rc, values, Step, LineEffect, State, requirement, Turn, kept, stays, turns, follows}
 use Rattle.cap_summary.specs.{touch, turn, effect_touch, effect_turn, touched, ended, check, said, found_at, later}
-use Rattle.cap_summary.specs.{Composing.IsJoined, Effects.changed, Few.is_refusal, Few.refused, Keys.Cells}
-use Rattle.cap_summary.specs.{Keys.mode_cell, Keys.cells_of, Leaving.LineLeaves, Leaving.LeavesThenLine}
+use Rattle.cap_summary.specs.{Composing.IsJoined, Effects.changed, LineAsks.is_refusal, LineAsks.refused, Keys.Cells}
+use Rattle.cap_summary.specs.{Keys.mode_cell, Keys.cells_of, Effects.LineLeaves, Effects.LeavesThenLine}
 use Rattle.cap_summary.specs.{declared.effect.Effect.Effect, declared.key.Key.Key, declared.known.Known.Known}
 use Rattle.cap_summary.specs.{declared.line_asks.LineAsks.LineAsks, declared.precondition.Precondition.Precondition}
 use Rattle.cap_summary.specs.Knows.{Says, Knows, StepsLeave}

@@ -8,7 +8,6 @@ pub mod SortedFound
 pub mod SortedMerging
 pub mod SortedSetting
 pub mod RowsComposed
-pub mod LineCells
 pub mod LineRows
 pub mod LineAsking
 pub mod LineListed
@@ -25,7 +24,6 @@ pub mod Counting
 pub mod Keeping
 pub mod Rejoining
 pub mod OwnCells
-pub mod Ends
 pub mod Resolving
 pub mod Walks
 pub mod Explained

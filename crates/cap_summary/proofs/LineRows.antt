@@ -4,7 +4,7 @@ use Rattle.cap_summary.specs.{option_map_or, Set, Clear, Unsure, Cell, Unknown, 
 use Rattle.cap_summary.specs.{kept, given, taken, stays, follows, touched, Effects.row_cell, Effects.changed}
 use Rattle.cap_summary.specs.{Effects.IsRowAfter, Keys.Cells, Sorted.found, Values.read, declared.effect.Effect.Effect}
 use Rattle.cap_summary.specs.{declared.effect.Row.Row, declared.key.Key.Key, declared.value.Value.Value}
-use Rattle.cap_summary.specs.Leaving.{row_leaves, leaves, LineLeaves, LeavesThenLine}
+use Rattle.cap_summary.specs.{Effects.row_leaves, Effects.leaves, Effects.LineLeaves, Effects.LeavesThenLine}
 use Rattle.cap_summary.specs.Lines.{turned_cell, line_after, IsThenLine, is_touched, IsPut, LeavesPut, IsRowOf}
 use Rattle.cap_summary.specs.Lines.{LeavesOwn, IsListOf}
 use Rattle.cap_summary.proofs.{sym, ap, ◌∙◌, inl, inr, subst, eqb-true, eq-eqb, or-false, Bools.or_right}

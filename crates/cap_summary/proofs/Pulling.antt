@@ -3,7 +3,7 @@ use Rattle.std.specs.{declared.vec.Vec.Vec}
 use Rattle.std.specs.Prelude.{◌≡◌, ◌∷◌, ◌++◌, ◌||◌, ◌+◌, ◌<◌, ◌≤◌, if◌then◌else◌, List, [], Bool, true, false, ℕ}
 use Rattle.std.specs.Prelude.{length, get_or, take, drop, refl, All, Option, Some, None, is_none, not}
 use Rattle.cap_summary.specs.{list_any, State, option_map_or, Cell, Closed, Global, Keys.Cells, Keys.cells_of}
-use Rattle.cap_summary.specs.{Leaving.is_own, Leaving.base_leaves, Leaving.row_leaves, Sorted.found, Values.read}
+use Rattle.cap_summary.specs.{Effects.is_own, Effects.base_leaves, Effects.row_leaves, Sorted.found, Values.read}
 use Rattle.cap_summary.specs.{declared.ask.Ask.Ask, declared.base.DefaultCells.DefaultCells}
 use Rattle.cap_summary.specs.{declared.effect.Effect.Effect, declared.effect.Row.Row, declared.key.Key.Key}
 use Rattle.cap_summary.specs.{declared.precondition.Precondition.Precondition, declared.precondition.Refusal.Refusal}

@@ -3,7 +3,7 @@ use Rattle.std.proofs.Common.{add_assoc, length-take, le-leb}
 use Rattle.std.proofs.{lemmas.Bool.lt-leb, lemmas.List.Elements.filter-append, lemmas.List.Elements.All-map}
 use Rattle.std.proofs.{lemmas.List.Filters.length-filter_both}
 use Rattle.cap_machine.proofs.{Positions.positions_within}
-use Rattle.std.specs.Prelude.{◌≡◌, ◌+◌, ◌<◌, ◌≤◌, ◌∷◌, ◌++◌, ◌&&◌, ◌-◌, ◌*◌, ◌/◌, ℕ, List, [], Bool, true, false, cond}
+use Rattle.std.specs.Prelude.{◌≡◌, ◌+◌, ◌<◌, ◌≤◌, ◌∷◌, ◌++◌, ◌&&◌, ◌⊎◌, ◌-◌, ◌*◌, ◌/◌, ℕ, List, [], Bool, true, false, cond}
 use Rattle.std.specs.Prelude.{length, map, take, drop, get_or, refl, All, filter, nat_le, not}
 use Rattle.cap_summary.specs.{Step, Found, Finding, State, ended, check, said, found_at, later, LineAsks.has_any}
 use Rattle.cap_summary.specs.Positions.{is_at, within, AllOrMany}
@@ -124,29 +124,19 @@ alike p false (x ∷ xs) all = rw (All-head (λ y. p y ≡ false) x xs all)
     (alike p false xs (All-tail (λ y. p y ≡ false) x xs all))
 
 -- nothing of a segment stands at positions before it or after it
-not_before : (from to at n : ℕ) (xs : List Found) → All (IsBelow n) xs → at + n < from
+not_within : (from to at n : ℕ) (xs : List Found) → All (IsBelow n) xs → (at + n < from) ⊎ (to ≤ at)
     → within from to (map (later at) xs) ≡ []
-not_before from to at n xs all before = alike (is_at from to) false (map (later at) xs)
-    (All-map (λ x. is_at from to x ≡ false) (later at) xs
-    (λ k d lt. let is : IsBelow n (get_or xs k d) = all k d lt in
-    rw (lt-leb from (at + (get_or xs k d).at) (omega (arith, is.1))) refl))
+not_within from to at n xs all out = alike (is_at from to) false (map (later at) xs)
+    (All-map (λ x. is_at from to x ≡ false) (later at) xs (λ k d lt. by (get_or xs k d).at (all k d lt) out))
+  where
+    by : (i : ℕ) → (1 ≤ i) × (i ≤ n) → (at + n < from) ⊎ (to ≤ at) → (nat_le from (at + i) && nat_le (at + i) to) ≡ false
+    by i is (inl before) = rw (lt-leb from (at + i) (omega (arith, is.1))) refl
+    by i is (inr beyond) = rw (lt-leb (at + i) to (omega (arith, is.0))) (and-false (nat_le from (at + i)))
 
-not_beyond : (from to at n : ℕ) (xs : List Found) → All (IsBelow n) xs
-    → to ≤ at → within from to (map (later at) xs) ≡ []
-not_beyond from to at n xs all beyond = alike (is_at from to) false (map (later at) xs)
-    (All-map (λ x. is_at from to x ≡ false) (later at) xs
-    (λ k d lt. let is : IsBelow n (get_or xs k d) = all k d lt in
-    rw (lt-leb (at + (get_or xs k d).at) to (omega (arith, is.0))) (and-false (nat_le from (at + (get_or xs k d).at)))))
-
-pub found_before : (s : State) (t : List Step) (at from to : ℕ) (old : List Found) → at + length t < from
-    → old ≡ old ++ within from to (map (later at) (check s t))
-found_before s t at from to old before = sym (append-nil old) ∙ ap (λ (r : List Found). old ++ r)
-    (sym (not_before from to at (length t) (check s t) (positions_within s t) before))
-
-pub found_beyond : (s : State) (t : List Step) (at from to : ℕ) (old : List Found)
-    → to ≤ at → old ≡ old ++ within from to (map (later at) (check s t))
-found_beyond s t at from to old beyond = sym (append-nil old) ∙ ap (λ (r : List Found). old ++ r)
-    (sym (not_beyond from to at (length t) (check s t) (positions_within s t) beyond))
+pub found_outside : (s : State) (t : List Step) (at from to : ℕ) (old : List Found)
+    → (at + length t < from) ⊎ (to ≤ at) → old ≡ old ++ within from to (map (later at) (check s t))
+found_outside s t at from to old out = sym (append-nil old) ∙ ap (λ (r : List Found). old ++ r)
+    (sym (not_within from to at (length t) (check s t) (positions_within s t) out))
 
 -- what is said of one step, where its position is asked for and where not
 pub said_at : (from to at : ℕ) (xs : List Finding) (asked : Bool) → asked ≡ (nat_le from at && nat_le at to)
@@ -197,11 +187,8 @@ found_in_first s t n at from to beyond = elim (cases_lt n (length t)) [
       let a : List Step = take n t in
       let b : List Step = drop n t in
       let first : List Found = within from to (map (later at) (check s a)) in
-      let none : within from to (map (later (at + n)) (check (ended s a) b))
-      ≡ [] = not_beyond from to (at + n) (length b)
-      (check (ended s a) b) (positions_within (ended s a) b) (beyond short) in
       found_parts s a b at n from to [] first first (sym (length-take-le n t (omega arith))) refl
-      (sym (append-nil first) ∙ ap (λ (r : List Found). first ++ r) (sym none))
+      (found_outside (ended s a) b (at + n) from to first (inr (beyond short)))
       ∙ ap (λ (r : List Step). within from to (map (later at) (check s r))) (take-append-drop n t)
   | inr long ↦ ap (λ (r : List Step). within from to (map (later at) (check s r))) (take_all n t long)
 ]
@@ -216,7 +203,7 @@ found_upto_last s t n from to found beyond is =
 pub none_before_first : (s : State) (t : List Step) (from to : ℕ) → [] ≡ within from to (check s (take (from - 1) t))
 none_before_first s t from to = elim (cases_lt (from - 1) from) [
   | inl before ↦ found_in_order s (take (from - 1) t) from to []
-      (found_before s (take (from - 1) t) 0 from to [] (omega (arith, length-take (from - 1) t)))
+      (found_outside s (take (from - 1) t) 0 from to [] (inl (omega (arith, length-take (from - 1) t))))
   | inr none ↦
       let zero : from - 1 ≡ 0 = omega arith in
       ap (λ (n : ℕ). within from to (check s (take n t))) (sym zero)
@@ -242,8 +229,8 @@ found_next s t n from to step old new short is one two =
 pub same_beyond : (s r : State) (t : List Step) (at from to : ℕ) → (at ≤ to → s ≡ r)
     → within from to (map (later at) (check s t)) ≡ within from to (map (later at) (check r t))
 same_beyond s r t at from to same = elim (cases_lt to at) [
-  | inl beyond ↦ not_beyond from to at (length t) (check s t) (positions_within s t) (omega arith)
-      ∙ sym (not_beyond from to at (length t) (check r t) (positions_within r t) (omega arith))
+  | inl beyond ↦ not_within from to at (length t) (check s t) (positions_within s t) (inr (omega arith))
+      ∙ sym (not_within from to at (length t) (check r t) (positions_within r t) (inr (omega arith)))
   | inr before ↦ ap (λ (state : State). within from to (map (later at) (check state t))) (same before)
 ]
 

@@ -6,7 +6,7 @@ use Rattle.cap_summary.specs.{Values.read, declared.base.Base.Base, declared.bas
 use Rattle.cap_summary.specs.{declared.effect.Effect.Effect, declared.effect.Row.Row, declared.key.Key.Key}
 use Rattle.cap_summary.specs.{declared.value.Value.Value}
 use Rattle.cap_summary.specs.Effects.{passed, is_from, base_cell, handed_on, row_cell, changed, IsRowAfter}
-use Rattle.cap_summary.specs.Leaving.{is_own, base_leaves, row_leaves, leaves}
+use Rattle.cap_summary.specs.{Effects.is_own, Effects.base_leaves, Effects.row_leaves, Effects.leaves}
 use Rattle.cap_summary.proofs.{◌∙◌, and_from, not-true, Bools.and_left, Bools.and_right}
 
 pub map_or_is : {X : Type 0} (g : X → Cell) (o : Option X) (d : Cell) → option_map_or g o d ≡ unwrap_or (option_map g o) d

@@ -1,7 +1,7 @@
 -- Runs of shared steps.
 use Rattle.std.proofs.{lemmas.List.take-map, lemmas.Slice.between_to_end}
 use Rattle.std.specs.Prelude.{◌≡◌, ◌∷◌, ◌++◌, ◌<◌, ℕ, List, [], length, get_or, slice_range, take}
-use Rattle.cap_summary.specs.{Rc, values, View.NodeView}
+use Rattle.cap_summary.specs.{Rc, values, Composing.NodeView}
 use Rattle.cap_summary.proofs.{sym, ap, ◌∙◌, arith, append-nil}
 
 -- a list without items, before and after another

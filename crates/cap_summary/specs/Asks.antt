@@ -48,27 +48,22 @@ pulled_holds cells Always = true
 pulled_holds cells Never = false
 pulled_holds cells (Where ask) = holds cells ask
 
-abbrev pub PulledIsOpen : Pulled → Type 0
-PulledIsOpen Always = Unit {0}
-PulledIsOpen Never = Unit {0}
-PulledIsOpen (Where ask) = IsOpen ask
-
--- what an ask becomes, if it doesn't stay as it is
-abbrev pub or_same : Ask → Option Pulled → Pulled
-or_same ask None = Where ask
-or_same ask (Some pulled) = pulled
-
--- in some state it holds, or doesn't, if it asks
-abbrev pub PulledCan : Bool → Pulled → Type 0
-PulledCan answer Always = Unit {0}
-PulledCan answer Never = Unit {0}
-PulledCan answer (Where ask) = CanBe answer ask
+-- this holds of an ask that was pulled back, if it asks
+abbrev pub IfAsked : (Ask → Type 0) → Pulled → Type 0
+IfAsked P Always = Unit {0}
+IfAsked P Never = Unit {0}
+IfAsked P (Where ask) = P ask
 
 -- the cell that it asks about, if it asks, is among these
 abbrev pub pulled_within : (ℕ → Key → Bool) → Pulled → Bool
 pulled_within names Always = true
 pulled_within names Never = true
 pulled_within names (Where ask) = names ask.pid ask.key
+
+-- what an ask becomes, if it doesn't stay as it is
+abbrev pub or_same : Ask → Option Pulled → Pulled
+or_same ask None = Where ask
+or_same ask (Some pulled) = pulled
 
 -- ---- order: by process, then by key, then by the kinds of held cells at which rights are asked about
 abbrev pub key_number : Key → ℕ

@@ -1,12 +1,12 @@
 -- What is known of two segments together. What their effect names is named by the second segment, or by the rows of the
 -- first that the second one reads.
-use Rattle.std.specs.Prelude.{◌≡◌, ◌||◌, ◌&&◌, ℕ, true, Option, IfSome, is_none, option_map, option_and_then}
-use Rattle.cap_summary.specs.{part_at, option_or, Similarity, Side, Left, Right, Keys.Cells, Leaving.leaves_in}
+use Rattle.std.specs.Prelude.{◌≡◌, ◌<◌, ◌||◌, ◌&&◌, ℕ, true, List, length, Option, IfSome, is_none, option_map}
+use Rattle.cap_summary.specs.{option_and_then, part_at, option_or, Step, Similarity, Side, Left, Right, Keys.Cells}
 use Rattle.cap_summary.specs.{Preconditions.IsAskedByBoth, Preconditions.IsSamePrecondition, Sorted.found, Values.read}
 use Rattle.cap_summary.specs.{declared.base.Passing.Passing, declared.composed.Replaced.Replaced}
 use Rattle.cap_summary.specs.{declared.effect.Effect.Effect, declared.effect.Row.Row, declared.key.Key.Key}
 use Rattle.cap_summary.specs.{declared.known.Known.Known, declared.value.Value.Value}
-use Rattle.cap_summary.specs.Effects.{is_from, handed_on, cell_in, changed}
+use Rattle.cap_summary.specs.Effects.{is_from, handed_on, cell_in, changed, leaves_in}
 use Rattle.cap_summary.specs.Names.{Names, IsListedWithin, IsRowWithin, ReadWithin}
 
 -- what is listed for a descriptor: what the second segment lists, by the cells before the first, or else what the first
@@ -58,3 +58,21 @@ pub record AreAlike (similarity : Similarity) (old new : Known) : Type 0 where
 abbrev pub KeepsEffect : Side → Similarity → Type 0
 KeepsEffect Left similarity = similarity.precondition ≡ true → similarity.effect ≡ true
 KeepsEffect Right similarity = Unit {0}
+
+-- ---- a node of a summary, as a contract sees it: its steps, and what is known of them where that is kept
+pub record NodeView : Type 0 where
+  pub steps : List Step
+  pub known : Option Known
+
+-- of two nodes that have steps and a third one, which is theirs in order: what is known of the three, where it is kept
+abbrev pub NodesCompose : NodeView → NodeView → NodeView → Type 0
+NodesCompose a b whole = 0 < length a.steps → 0 < length b.steps
+    → IfSome whole.known (λ both. IfSome a.known (λ first. IfSome b.known (λ later. IsJoined first later both)))
+
+-- something holds of what is known of two nodes, where it is kept of both
+abbrev pub IfKept : (Known → Known → Type 0) → NodeView → NodeView → Type 0
+IfKept R a b = IfSome a.known (λ old. IfSome b.known (λ new. R old new))
+
+-- how far what is known of two nodes is the same, where it is kept of both
+abbrev pub NodesAlike : Similarity → NodeView → NodeView → Type 0
+NodesAlike similarity a b = IfKept (AreAlike similarity) a b

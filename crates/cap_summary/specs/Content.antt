@@ -1,6 +1,6 @@
 -- What a node of a summary is seen as, and what always holds of it.
 use Rattle.std.specs.Prelude.{◌≡◌, ◌^◌, ◌<◌, ◌≤◌, ◌++◌, ℕ, List, length, true, Option, is_some, IfSome, IfNone}
-use Rattle.cap_summary.specs.{Step, values, Few.NameOrRefuseMany, Kept.IsKept, View.NodeView}
+use Rattle.cap_summary.specs.{Step, values, Composing.NodeView, Kept.NameOrRefuseMany, Kept.IsKept}
 use Rattle.cap_summary.specs.{declared.known.Known.Known, declared.node.Content.Content}
 use Rattle.cap_summary.specs.{declared.node.Content.TheVariants.Run, declared.node.Content.TheVariants.Both}
 

@@ -1,9 +1,12 @@
 -- What becomes of each cell over a segment, whatever the cells before it: the transfer function of the segment.
-use Rattle.std.specs.Prelude.{◌≡◌, if◌then◌else◌, ℕ, Bool, false, Option, Some, None, nat_le, []}
-use Rattle.cap_summary.specs.{option_map_or, Cell, Unknown, Closed, applied, exec, Keys.Cells, Sorted.found}
-use Rattle.cap_summary.specs.{Values.read, declared.base.Base.Base, declared.base.DefaultCells.DefaultCells}
-use Rattle.cap_summary.specs.{declared.base.Passing.Passing, declared.effect.Effect.Effect, declared.effect.Row.Row}
+use Rattle.std.specs.Prelude.{◌≡◌, ◌&&◌, if◌then◌else◌, ℕ, not, Bool, true, false, Option, Some, None, is_none, nat_le, []}
+use Rattle.cap_summary.specs.{option_map_or, Cell, Unknown, Closed, State, LineEffect, applied, exec, kept, stays}
+use Rattle.cap_summary.specs.{effect_touch, effect_turn, start_state, Sorted.found, Values.read, declared.base.Base.Base}
+use Rattle.cap_summary.specs.{declared.base.DefaultCells.DefaultCells, declared.base.Passing.Passing}
+use Rattle.cap_summary.specs.{declared.before.Before.Before, declared.effect.Effect.Effect, declared.effect.Row.Row}
 use Rattle.cap_summary.specs.{declared.key.Key.Key}
+use Rattle.cap_summary.specs.Keys.{Cells, cells_of, state_of}
+use Rattle.cap_summary.specs.declared.before.Before.TheVariants.{At, After'}
 
 -- how a whole table of cells is handed on: as it is (fork(2)), or by an exec (execve(2))
 abbrev pub passed : Passing → Cell → Cell
@@ -54,3 +57,44 @@ IsRowAfter first p row new = (cells : Cells) (k : Key) → row_cell cells p new 
 abbrev pub IsComposed : Effect → Effect → Effect → Type 0
 IsComposed first later both = (cells : Cells) (p : ℕ) (k : Key)
     → changed both cells p k ≡ changed later (changed first cells) p k
+
+-- the state after a start and effects
+abbrev pub state_before : Before → State
+state_before (At start) = start_state start.now
+state_before (After' p before effect) = state_of (changed effect.now (cells_of (state_before before)))
+
+-- ---- Which cells and modes no line of a segment touches, as far as is known: those that have no row, or a row of their
+-- own process that neither lists nor closes them. A cell that came back by a fork is touched.
+abbrev pub is_own : DefaultCells → Bool
+is_own DefaultCells.Own = true
+is_own _ = false
+
+-- a descriptor that isn't listed
+abbrev pub base_leaves : Base → ℕ → Bool
+base_leaves base f = is_own base.others && not (is_from base.closed_from f)
+
+abbrev pub row_leaves : Row → Key → Bool
+row_leaves row Key.Mode = is_none row.mode
+row_leaves row (Key.Fd f) = is_none (found row.cells f) && base_leaves row.base f
+
+-- a row that may be there
+abbrev pub leaves_in : Option Row → Key → Bool
+leaves_in row k = option_map_or (λ row. row_leaves row k) row true
+
+abbrev pub leaves : Effect → ℕ → Key → Bool
+leaves effect p k = leaves_in (found effect.rows p) k
+
+-- a line doesn't touch a cell, or turn a mode; me is its process
+abbrev pub LineLeaves : LineEffect → ℕ → ℕ → Key → Type 0
+LineLeaves line me p Key.Mode = effect_turn line me p ≡ stays
+LineLeaves line me p (Key.Fd f) = effect_touch line me p f ≡ kept
+
+-- what is left after a line was left before it, and the line leaves it
+abbrev pub LeavesThenLine : Effect → LineEffect → ℕ → Effect → Type 0
+LeavesThenLine first line me new = (p : ℕ) (k : Key) → leaves new p k ≡ true
+    → (leaves first p k ≡ true) × LineLeaves line me p k
+
+-- what two segments leave, each of them leaves
+abbrev pub LeavesBoth : Effect → Effect → Effect → Type 0
+LeavesBoth first later both = (p : ℕ) (k : Key) → leaves both p k ≡ true
+    → (leaves first p k ≡ true) × (leaves later p k ≡ true)

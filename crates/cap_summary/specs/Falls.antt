@@ -1,6 +1,5 @@
 -- Each part is shorter than its node.
-use Rattle.std.specs.Prelude.{max}
-use Rattle.std.specs.Prelude.{◌≤◌, length}
+use Rattle.std.specs.Prelude.{◌≤◌, max, length}
 use Rattle.cap_summary.specs.{Content.content_steps, Content.HasParts, declared.node.Content.Content}
 use Rattle.cap_summary.specs.{declared.node.Content.TheVariants.Run, declared.node.Content.TheVariants.Both}
 use Rattle.cap_summary.specs.{declared.node.Node.TheDeep.deep-Content}

@@ -1,6 +1,8 @@
--- What is kept of steps.
-use Rattle.std.specs.Prelude.{◌+◌, ◌<◌, ◌≤◌, ◌⊎◌, ℕ, min, List, length}
-use Rattle.cap_summary.specs.{Step, Knows.Knows, Preconditions.IsSettled, Preconditions.size, RowSizes.rows_size}
+-- What is kept of steps, and of which so much may be known that it isn't kept: of those that name many processes and
+-- descriptors, or have many calls that were refused for lack of a right.
+use Rattle.std.specs.Prelude.{◌+◌, ◌*◌, ◌<◌, ◌≤◌, ◌⊎◌, ◌==◌, ℕ, Bool, min, List, length}
+use Rattle.cap_summary.specs.{list_any, Step, Knows.Knows, LineAsks.refused, Names.Names, Names.names_in, Names.AreAmong}
+use Rattle.cap_summary.specs.{Preconditions.IsSettled, Preconditions.size, RowSizes.rows_size}
 use Rattle.cap_summary.specs.{RowSizes.AllRise, declared.known.Known.Known}
 
 -- the most rows and cells that are kept of so many steps
@@ -27,3 +29,20 @@ pub record IsKept (known : Known) (steps : List Step) : Type 0 where
   pub knows : Knows known steps
   pub settled : IsSettled known.precondition.value
   pub within : IsWithin known (length steps)
+
+-- a number is one of these
+abbrev pub is_one : List ℕ → ℕ → Bool
+is_one all n = list_any (λ m. m == n) all
+
+-- just these processes and these descriptors
+abbrev pub these : List ℕ → List ℕ → Names
+these pids fds = record { pids = is_one pids; fds = is_one fds }
+
+-- the cells of these descriptors, and the mode, of each of these processes
+abbrev pub room : List ℕ → List ℕ → ℕ
+room pids fds = length pids * (length fds + 1)
+
+-- All lists of processes and descriptors that have those which the steps name have more than 1,024 cells and modes, or
+-- more than 30,000 calls were refused.
+abbrev pub NameOrRefuseMany : List Step → Type 0
+NameOrRefuseMany t = ((pids fds : List ℕ) → AreAmong (names_in t) (these pids fds) → 1024 < room pids fds) ⊎ (30000 < refused t)

@@ -23,3 +23,7 @@ Cells = ℕ → Key → Cell
 abbrev pub cells_of : State → Cells
 cells_of s p Key.Mode = mode_cell (s.mode p)
 cells_of s p (Key.Fd f) = s.cell p f
+
+-- a state, by its cells
+abbrev pub state_of : Cells → State
+state_of cells = record { cell = λ p f. cells p (Key.Fd f); mode = λ p. cell_mode (cells p Key.Mode) }

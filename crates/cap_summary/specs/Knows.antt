@@ -1,7 +1,7 @@
 -- What an effect and a precondition say of the steps of a segment, whatever the state before them.
 use Rattle.std.specs.Prelude.{◌≡◌, ◌*◌, ◌≤◌, ℕ, Bool, true, List, length}
-use Rattle.cap_summary.specs.{Step, State, ended, check, LeavesCell, LeavesMode, Before.state_of, Effects.changed}
-use Rattle.cap_summary.specs.{Few.refused, Keys.cells_of, Leaving.leaves, LineAsks.has_any}
+use Rattle.cap_summary.specs.{Step, State, ended, check, LeavesCell, LeavesMode, Keys.state_of, Effects.changed}
+use Rattle.cap_summary.specs.{LineAsks.refused, Keys.cells_of, Effects.leaves, LineAsks.has_any}
 use Rattle.cap_summary.specs.{declared.effect.Effect.Effect, declared.key.Key.Key, declared.known.Known.Known}
 use Rattle.cap_summary.specs.{declared.precondition.Precondition.Precondition}
 use Rattle.cap_summary.specs.Names.{names_in, EffectWithin, PreWithin}

@@ -5,7 +5,6 @@ pub mod Tests
 pub mod Asks
 pub mod Sorted
 pub mod Effects
-pub mod Leaving
 pub mod Lines
 pub mod LineAsks
 pub mod Names
@@ -14,12 +13,9 @@ pub mod Preconditions
 pub mod Knows
 pub mod RowSizes
 pub mod Kept
-pub mod View
 pub mod Content
 pub mod Falls
 pub mod Stands
-pub mod Before
 pub mod Positions
 pub mod PlaceInNode
-pub mod Few
 pub use Prelude.*

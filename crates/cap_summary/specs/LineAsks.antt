@@ -1,6 +1,7 @@
 -- What one line asks of the cells before it.
-use Rattle.std.specs.Prelude.{◌≡◌, ◌||◌, ◌∷◌, ℕ, not, Bool, true, false, List, [], map, Option, Some, None}
-use Rattle.cap_summary.specs.{option_map_or, State, Cell, Check, Checks, Requirement, listed, findings_of, Asks.holds}
+use Rattle.std.specs.Prelude.{◌≡◌, ◌+◌, ◌||◌, ◌∷◌, if◌then◌else◌, ℕ, not, Bool, true, false, List, [], map, Option, Some, None}
+use Rattle.cap_machine.specs.{declared.rule.Reply.Reply}
+use Rattle.cap_summary.specs.{option_map_or, Step, State, Cell, NotCapable, requirement, Check, Checks, Requirement, listed, findings_of, Asks.holds}
 use Rattle.cap_summary.specs.{Keys.Cells, Keys.cells_of, declared.ask.Ask.Ask, declared.line_asks.LineAsks.LineAsks}
 use Rattle.cap_summary.specs.{declared.line_asks.UpToThree.UpToThree}
 use Rattle.cap_summary.specs.declared.line_asks.LineAsks.TheVariants.{Always, Where, Unless}
@@ -41,3 +42,13 @@ refusals_in asks = 0
 -- it holds in a state exactly where something is said of the line there
 abbrev pub IsAskedBy : Requirement → ℕ → LineAsks → Type 0
 IsAskedBy requirement me asks = (s : State) → asked_holds (cells_of s) asks ≡ has_any (findings_of requirement me s)
+
+-- a call was refused for lack of a right (errno 93)
+abbrev pub is_refusal : Reply → Bool
+is_refusal NotCapable = true
+is_refusal reply = false
+
+-- how many of them were
+abbrev pub refused : List Step → ℕ
+refused [] = 0
+refused (step ∷ rest) = (if is_refusal (requirement step.line).reply then 1 else 0) + refused rest

@@ -5,7 +5,7 @@ use Rattle.cap_summary.specs.{follows, started, effect_touch, effect_turn, touch
 use Rattle.cap_summary.specs.{Keys.mode_cell, Sorted.found, Values.read, declared.effect.Effect.Effect}
 use Rattle.cap_summary.specs.{declared.effect.Row.Row, declared.key.Key.Key, declared.value.Value.Value}
 use Rattle.cap_summary.specs.Effects.{row_cell, cell_in, changed}
-use Rattle.cap_summary.specs.Leaving.{row_leaves, leaves_in, LineLeaves}
+use Rattle.cap_summary.specs.{Effects.row_leaves, Effects.leaves_in, Effects.LineLeaves}
 
 -- the cell of a mode after a turn, of what the cells were before
 abbrev pub turned_cell : Turn → Cells → ℕ → Cell

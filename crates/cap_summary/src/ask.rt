@@ -3,7 +3,7 @@
 ghost use Rattle.std.specs.Prelude.{◌≡◌, ◌^◌, ◌<◌, ◌||◌, ℕ, Bool, true, IfSome, option_copied};
 ghost use Rattle.cap_summary.specs.{nat_cmp, State, Cell, applied, Keys.Cells, Keys.cells_of, declared.key.Key.Key};
 ghost use Rattle.cap_summary.specs.Asks.{holds, is_sure, certain_at, possible_at, pulled_holds, pulled_within};
-ghost use Rattle.cap_summary.specs.Asks.{PulledIsOpen, place, place_in_process, IsAtPlace, CanBe, PulledCan, or_same};
+ghost use Rattle.cap_summary.specs.Asks.{IfAsked, IsOpen, place, place_in_process, IsAtPlace, CanBe, or_same};
 ghost use Rattle.cap_summary.specs.Effects.{row_cell, cell_in, changed};
 ghost use Rattle.cap_summary.specs.Names.{Names, has_cell, RowWithin, IsRowWithin, EffectWithin};
 ghost use Rattle.cap_summary.specs.Tests.{has_kind, lacks, passes, holding};
@@ -171,7 +171,7 @@ impl Ask {
     /// This ask, or that it holds in every state or in none.
     pub fn settled(self) -> Pulled
         ensures holds { (s : State) → pulled_holds (cells_of s) result ≡ holds (cells_of s) self }
-        ensures open { PulledIsOpen result }
+        ensures open { IfAsked IsOpen result }
         ensures names { (names : ℕ → Key → Bool) → names self.pid self.key ≡ true → pulled_within names result ≡ true }
     {
         if self.is_certain() {
@@ -188,7 +188,7 @@ impl Ask {
     fn through(&self, row: &Row) -> Pulled
         ensures holds { (s : State) → pulled_holds (cells_of s) result
             ≡ passes self.now (row_cell (cells_of s) self.now.pid row.now self.now.key) }
-        ensures open { PulledIsOpen result }
+        ensures open { IfAsked IsOpen result }
         ensures names { (names : Names) → RowWithin names row.now → has_cell names self.now.pid self.now.key ≡ true
             → pulled_within (has_cell names) result ≡ true }
     {
@@ -204,7 +204,7 @@ impl Ask {
     /// What it asks of the state before an earlier segment that has this effect.
     pub(crate) fn before(&self, first: &Effect) -> Pulled
         ensures holds { (s : State) → pulled_holds (cells_of s) result ≡ holds (changed first.now (cells_of s)) self.now }
-        ensures open { PulledIsOpen result }
+        ensures open { IfAsked IsOpen result }
         ensures names { (names : Names) → EffectWithin names first.now → has_cell names self.now.pid self.now.key ≡ true
             → pulled_within (has_cell names) result ≡ true }
     {
@@ -220,7 +220,7 @@ impl Ask {
     pub(crate) fn pulled(&self, row: Option<&Row>) -> Option<Pulled>
         ensures holds { (s : State) → pulled_holds (cells_of s) (or_same self.now result)
             ≡ passes self.now (cell_in (cells_of s) (option_copied row.entry) self.now.pid self.now.key) }
-        ensures can { (answer : Bool) → CanBe answer self.now → PulledCan answer (or_same self.now result) }
+        ensures can { (answer : Bool) → CanBe answer self.now → IfAsked (CanBe answer) (or_same self.now result) }
         ensures names { (names : Names) → IfSome (option_copied row.entry) (IsRowWithin names self.now.pid)
             → has_cell names self.now.pid self.now.key ≡ true
             → pulled_within (has_cell names) (or_same self.now result) ≡ true }
@@ -238,7 +238,7 @@ impl Ask {
 impl Pulled {
     fn of(holds: bool) -> Pulled
         ensures holds { (s : State) → pulled_holds (cells_of s) result ≡ holds }
-        ensures open { PulledIsOpen result }
+        ensures open { IfAsked IsOpen result }
         ensures names { (names : ℕ → Key → Bool) → pulled_within names result ≡ true }
     {
         if holds { Pulled::Always } else { Pulled::Never }

@@ -1,7 +1,7 @@
 //! The cells of a process that aren't listed.
 
 ghost use Rattle.std.specs.Prelude.{◌≡◌, ◌||◌, ℕ, true, false, None, IfOk};
-ghost use Rattle.cap_summary.specs.{Cell, Keys.Cells, Leaving.is_own, Names.Names, Names.has_cell, Names.others_within};
+ghost use Rattle.cap_summary.specs.{Cell, Keys.Cells, Effects.is_own, Names.Names, Names.has_cell, Names.others_within};
 ghost use Rattle.cap_summary.specs.{Values.read, Values.reads_within};
 ghost use Rattle.cap_summary.specs.Effects.{passed, is_from, others_cell, base_cell};
 

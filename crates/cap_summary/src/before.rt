@@ -1,7 +1,7 @@
 //! The state after a start and effects, and what holds there.
 
 ghost use Rattle.std.specs.Prelude.{◌≡◌};
-ghost use Rattle.cap_summary.specs.{list_any, findings_of, Asks.holds, Asks.any_holds, Before.state_before};
+ghost use Rattle.cap_summary.specs.{list_any, findings_of, Asks.holds, Asks.any_holds, Effects.state_before};
 ghost use Rattle.cap_summary.specs.{Keys.cells_of, LineAsks.part_holds, LineAsks.one_holds, Preconditions.is_wrongful};
 ghost use Rattle.cap_summary.specs.{Preconditions.is_met};
 
@@ -82,23 +82,15 @@ impl<'a> Before<'a> {
     fn any_holds(&self, asks: &[Ask]) -> bool
         ensures { result ≡ any_holds (cells_of (state_before self.now)) asks.now }
     {
-        for ask in asks {
-            if self.holds(ask) {
-                return true;
-            }
-        }
-        false
+        asks.iter().any(|ask| self.holds(ask))
     }
 
     fn any_is_wrongful(&self, refusals: &[Refusal]) -> bool
         ensures { result ≡ list_any (is_wrongful (cells_of (state_before self.now))) refusals.now }
     {
-        for refusal in refusals {
-            if !self.one_holds(&refusal.unless) {
-                return true;
-            }
-        }
-        false
+        refusals
+            .iter()
+            .any(|refusal| !self.one_holds(&refusal.unless))
     }
 
     /// Whether something is found in a segment that begins here.

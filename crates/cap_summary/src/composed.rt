@@ -4,7 +4,7 @@ ghost use Rattle.std.specs.Prelude.{◌≡◌, ◌||◌, ℕ, false, true, is_no
 ghost use Rattle.cap_summary.specs.{option_map_or, Closed, Keys.Cells, Sorted.found, Values.read, declared.key.Key.Key};
 ghost use Rattle.cap_summary.specs.Composing.{IsHandedSo, IsComposedSo, IsJoinedEffect, IsOldAt, IsReplaced};
 ghost use Rattle.cap_summary.specs.Effects.{passed, is_from, base_cell, changed, IsRowAfter, IsComposed};
-ghost use Rattle.cap_summary.specs.Leaving.{base_leaves, row_leaves, leaves, LeavesBoth};
+ghost use Rattle.cap_summary.specs.{Effects.base_leaves, Effects.row_leaves, Effects.leaves, Effects.LeavesBoth};
 ghost use Rattle.cap_summary.specs.Names.{Names, others_within, mode_within, ListWithin, RowWithin, IsRowWithin};
 ghost use Rattle.cap_summary.specs.Names.{EffectWithin, ReadWithin};
 

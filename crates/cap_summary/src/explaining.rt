@@ -11,8 +11,7 @@ ghost use Rattle.cap_summary.specs.{Check, listed, explained, explanation, start
 ghost use Rattle.cap_summary.specs.{Positions.positions, Stands.summed_up};
 ghost use Rattle.cap_summary.specs.PlaceInNode.{IsPlace, state_at_start, history};
 
-use crate::in_order::note_asked;
-use crate::judging::Asked;
+use crate::judging::{Asked, note_asked};
 use crate::node::Node;
 use crate::{Report, Summary};
 use cap_machine::{

@@ -1,10 +1,11 @@
-//! Which findings are asked for, what a report has, and the findings of a run of steps that begins in a state.
+//! Which findings are asked for, what a report has, and the findings of a run of steps.
 
-ghost use Rattle.std.specs.Prelude.{◌≡◌, ◌&&◌, ◌+◌, ◌^◌, ◌<◌, ◌≤◌, ◌++◌, nat_le, [], length, OnOk, map};
-ghost use Rattle.cap_summary.specs.{check, findings_of, found_at, later, values, Before.state_before, Positions.within};
+ghost use Rattle.std.specs.Prelude.{◌≡◌, ◌&&◌, ◌+◌, ◌^◌, ◌<◌, ◌≤◌, ◌++◌, ◌∷◌, nat_le, [], length, IfOk, OnOk, map};
+ghost use Rattle.cap_summary.specs.{check, ended, said, start_state, findings_of, found_at, later, values};
+ghost use Rattle.cap_summary.specs.{Effects.state_before, Positions.within};
 
 use crate::{Before, Effect};
-use cap_machine::{Found, Requirement, Step, Verdict, rule_of};
+use cap_machine::{Found, Machine, Requirement, Step, Verdict, rule_of};
 use cap_trace::Pid;
 use cap_tree::NoMemory;
 use std::alloc::Global;
@@ -30,19 +31,6 @@ pub struct Report {
     pub judged: usize,
 }
 
-impl Report {
-    /// Nothing found, and no step judged.
-    pub(crate) fn empty(alloc: Global) -> Report
-        ensures found { result.found.items ≡ [] }
-        ensures judged { result.judged ≡ 0 }
-    {
-        Report {
-            found: Vec::new(alloc),
-            judged: 0,
-        }
-    }
-}
-
 impl Asked {
     /// Whether a position is one of those.
     pub(crate) fn has(&self, at: usize) -> bool
@@ -58,7 +46,7 @@ impl Asked {
 }
 
 /// Notes what is said of the line at a position.
-pub(crate) fn note(found: &mut Vec<Found>, at: usize, verdict: &Verdict) -> Result<(), NoMemory>
+fn note(found: &mut Vec<Found>, at: usize, verdict: &Verdict) -> Result<(), NoMemory>
     ensures { OnOk result (found.new.items ≡ found.old.items ++ map (found_at at) verdict.now) }
 {
     for finding in verdict.as_slice() {
@@ -68,6 +56,23 @@ pub(crate) fn note(found: &mut Vec<Found>, at: usize, verdict: &Verdict) -> Resu
         })?;
     }
     Ok(())
+}
+
+/// Notes what is said of a step at a position, where that is asked for.
+#[tactic(auto, using(crate::proofs::Resolving::not_asked, crate::proofs::Resolving::asked_for))]
+pub(crate) fn note_asked(
+    verdict: &Verdict,
+    at: usize,
+    asked: &Asked,
+    found: &mut Vec<Found>,
+) -> Result<(), NoMemory>
+    ensures { OnOk result (found.new.items ≡ found.old.items
+        ++ within asked.now.from asked.now.to (map (found_at at) verdict.now)) }
+{
+    if !asked.has(at) {
+        return Ok(());
+    }
+    note(found, at, verdict)
 }
 
 /// Notes what is said of a line at a position, where that is asked for.
@@ -127,4 +132,34 @@ pub(crate) fn judge_run(
         effect.push(alloc, line.pid, &rule.effect)?;
     }
     Ok(())
+}
+
+/// Judges the next step.
+fn judged(machine: &mut Machine, step: &Step) -> Result<Verdict, NoMemory>
+    ensures says { IfOk result (λ verdict. verdict ≡ said step.now (start_state machine.old)) }
+    ensures moves { OnOk result (start_state machine.new ≡ ended (start_state machine.old) (step.now ∷ [])) }
+{
+    machine.step(step.profile, &step.line).map_err(|_| NoMemory)
+}
+
+/// Notes what is found in a run of steps after so many others, at the positions that are asked for, and moves the
+/// machine on to what is known after them.
+pub(crate) fn judge_in_order(
+    run: &[Rc<Step>],
+    machine: &mut Machine,
+    at: usize,
+    asked: &Asked,
+    found: &mut Vec<Found>,
+) -> Result<(), NoMemory>
+    requires short { at + length run.now ≤ 2 ^ 31 }
+    ensures found { OnOk result (found.new.items ≡ found.old.items
+        ++ within asked.now.from asked.now.to (map (later at) (check (start_state machine.old) (values run.now)))) }
+    ensures moves { OnOk result (start_state machine.new ≡ ended (start_state machine.old) (values run.now)) }
+{
+    if run.len() == 0 {
+        return Ok(());
+    }
+    let verdict = judged(machine, &run[0])?;
+    note_asked(&verdict, at + 1, asked, found)?;
+    judge_in_order(&run[1..], machine, at + 1, asked, found)
 }

@@ -1,7 +1,7 @@
 //! What is known of a segment of a trace.
 
 ghost use Rattle.std.specs.Prelude.{◌≡◌, ◌<◌, ◌∷◌, ◌++◌, nat_le, true, List, [], IfOk, OnOk};
-ghost use Rattle.cap_summary.specs.{Step, start_state, values, part_at, Leaving.leaves, RowSizes.AllRise};
+ghost use Rattle.cap_summary.specs.{Step, start_state, values, part_at, Effects.leaves, RowSizes.AllRise};
 ghost use Rattle.cap_summary.specs.Composing.{AreAlike, KeepsEffect, IsJoined, IsJoinedEffect, IsReplaced};
 ghost use Rattle.cap_summary.specs.Knows.{Knows, Says, finds, state_after};
 ghost use Rattle.cap_summary.specs.Preconditions.{IsSettled, IsAskedByBoth, IsSamePrecondition, size};

@@ -8,7 +8,6 @@ mod before;
 mod composed;
 mod effect;
 mod explaining;
-mod in_order;
 mod judging;
 mod key;
 mod kinds;

@@ -5,7 +5,7 @@ ghost use Rattle.std.specs.Prelude.{All};
 ghost use Rattle.cap_summary.specs.{option_map_or, fds_spelled, stays, effect_turn, is_child, Keys.Cells, Sorted.found};
 ghost use Rattle.cap_summary.specs.{Values.read, declared.key.Key.Key};
 ghost use Rattle.cap_summary.specs.Effects.{own_row, base_cell, changed};
-ghost use Rattle.cap_summary.specs.Leaving.{base_leaves, leaves, LeavesThenLine};
+ghost use Rattle.cap_summary.specs.{Effects.base_leaves, Effects.leaves, Effects.LeavesThenLine};
 ghost use Rattle.cap_summary.specs.Lines.{turned_cell, unlisted, leaves_unlisted, IsThenLine, IsPut, LeavesPut};
 ghost use Rattle.cap_summary.specs.Lines.{IsRowOf, LeavesOwn, IsListOf, IsStarted, sets_cells, lists, is_cell};
 ghost use Rattle.cap_summary.specs.Lines.{with_cell};
@@ -74,7 +74,7 @@ fn mode_of(line: &LineEffect<'_>) -> Option<Value>
 }
 
 /// The cells that a line of process `me`, which sets none to a value of its own, lists one by one.
-#[tactic(auto, using(crate::proofs::LineRows::fork_list, crate::proofs::LineCells::started_list))]
+#[tactic(auto, using(crate::proofs::LineRows::fork_list, crate::proofs::LineListed::started_list))]
 fn listed_by(alloc: Global, me: Pid, line: &LineEffect<'_>) -> Result<Listed, NoMemory>
     requires { sets_cells line.now ≡ false }
     ensures cells { IfOk result (λ listed. IsListOf line.now me listed) }

@@ -2,15 +2,14 @@
 
 ghost use Rattle.std.specs.Prelude.{◌≡◌, ◌+◌, ◌*◌, ◌^◌, ◌<◌, ◌≤◌, ◌++◌, ◌∷◌, ◌⊎◌, [], length, IfOk, OnOk, IfSome};
 ghost use Rattle.std.specs.Prelude.{IfNone, true, is_some, Some, map, option_copied};
-ghost use Rattle.cap_summary.specs.{check, ended, start_state, later, values, part_at, Before.state_before};
-ghost use Rattle.cap_summary.specs.{Few.NameOrRefuseMany, Kept.IsKept, Kept.IsWithin, Kept.IsLarge, Kept.ListsMany};
+ghost use Rattle.cap_summary.specs.{check, ended, start_state, later, values, part_at, Effects.state_before};
+ghost use Rattle.cap_summary.specs.{Kept.NameOrRefuseMany, Kept.IsKept, Kept.IsWithin, Kept.IsLarge, Kept.ListsMany};
 ghost use Rattle.cap_summary.specs.{Knows.Knows, Preconditions.IsSettled};
 ghost use Rattle.cap_summary.specs.Content.{content_steps, HasParts, AreKept, KeepsParts};
 ghost use Rattle.cap_summary.specs.Positions.{within, AllOrMany, WereJudged};
-ghost use Rattle.cap_summary.specs.View.{NodeView, NodesCompose, NodesAlike};
+ghost use Rattle.cap_summary.specs.{Composing.NodeView, Composing.NodesCompose, Composing.NodesAlike};
 
-use crate::in_order::judge_in_order;
-use crate::judging::{Asked, judge_run};
+use crate::judging::{Asked, judge_in_order, judge_run};
 use crate::{Before, Known, Report};
 use cap_machine::{Machine, Step};
 use cap_tree::{Meter, NoMemory, Side, Similarity};
@@ -37,7 +36,7 @@ pub(crate) enum Content {
 }
 
 impl Model for Node {
-    ghost use Rattle.cap_summary.specs.{length, View.NodeView};
+    ghost use Rattle.cap_summary.specs.{length, Composing.NodeView};
 
     ghost Value = { NodeView };
 
@@ -94,19 +93,6 @@ impl Content {
     }
 }
 
-/// Counts the joins that a run of so many steps stands for: one fewer.
-fn count_joins(meter: &mut Meter, steps: usize)
-    requires some { 0 < steps }
-    requires room { meter.old + steps < 2 ^ 64 }
-    ensures { meter.new + 1 ≡ meter.old + steps }
-{
-    let mut counted = 1;
-    while counted < steps {
-        meter.tick();
-        counted += 1;
-    }
-}
-
 impl Node {
     pub(crate) fn len(&self) -> usize
         ensures count { result ≡ length self.now.steps }
@@ -152,13 +138,6 @@ impl Node {
         Ok(Rc::new(alloc, node)?)
     }
 
-    /// No step.
-    pub(crate) fn empty(alloc: Global) -> Result<Rc<Node>, NoMemory>
-        ensures { IfOk result (λ n. n.value.steps ≡ []) }
-    {
-        Node::of_run(alloc, &[])
-    }
-
     /// Adds the same steps, shared.
     fn share(run: &mut Vec<Rc<Step>>, more: &[Rc<Step>]) -> Result<(), NoMemory>
         ensures { OnOk result (values run.new.items ≡ values run.old.items ++ values more.now) }
@@ -168,7 +147,7 @@ impl Node {
     }
 
     /// The run of these steps, which it shares.
-    fn of_run(alloc: Global, steps: &[Rc<Step>]) -> Result<Rc<Node>, NoMemory>
+    pub(crate) fn of_run(alloc: Global, steps: &[Rc<Step>]) -> Result<Rc<Node>, NoMemory>
         requires { length steps.now ≤ 48 }
         ensures { IfOk result (λ n. n.value.steps ≡ values steps.now) }
     {
@@ -176,14 +155,6 @@ impl Node {
         Node::share(&mut run, steps)?;
         let known = Known::of_run(alloc, steps)?;
         Node::of(alloc, Some(known), Content::Run(run))
-    }
-
-    /// One step.
-    pub(crate) fn one(alloc: Global, step: &Rc<Step>) -> Result<Rc<Node>, NoMemory>
-        ensures { IfOk result (λ n. n.value.steps ≡ step.now.value ∷ []) }
-    {
-        let run = [step.clone()?];
-        Node::of_run(alloc, &run)
     }
 
     /// These steps, with one join fewer than there are steps: as one run where it can hold them, and else half by half.
@@ -202,7 +173,7 @@ impl Node {
     {
         if steps.len() <= RUN_STEPS {
             let node = Node::of_run(alloc, steps)?;
-            count_joins(meter, steps.len());
+            meter.add(steps.len() as u64 - 1);
             return Ok(node);
         }
         let (front, back) = steps.split_at(steps.len() / 2);
@@ -300,12 +271,7 @@ impl Node {
             (left.now.known ≡ Some both.0.now) × (right.now.known ≡ Some both.1.now)) }
         ensures many { IfNone result (NameOrRefuseMany (left.now.steps ++ right.now.steps)) }
     {
-        let Some(first) = left.known() else {
-            return None;
-        };
-        let Some(second) = right.known() else {
-            return None;
-        };
+        let (first, second) = (left.known()?, right.known()?);
         if are_large(first, second) {
             return None;
         }
@@ -410,7 +376,8 @@ impl Node {
                 if asked.to <= at {
                     return Ok(());
                 }
-                judge_in_order(run, machine, at, asked, report)
+                report.judged += run.len();
+                judge_in_order(run, machine, at, asked, &mut report.found)
             }
             Content::Both(a, b) => {
                 a.judge(machine, at, asked, report)?;

@@ -4,7 +4,7 @@ ghost use Rattle.std.specs.Prelude.{◌≡◌, ◌+◌, ◌≤◌, ◌||◌, not
 ghost use Rattle.std.specs.Prelude.{option_copied};
 ghost use Rattle.cap_summary.specs.{list_any, option_map_or, State, Effects.changed, Keys.Cells, Keys.cells_of};
 ghost use Rattle.cap_summary.specs.{Sorted.found};
-ghost use Rattle.cap_summary.specs.Asks.{any_holds, pulled_holds, pulled_within, PulledIsOpen, IsOpen, Rises};
+ghost use Rattle.cap_summary.specs.Asks.{any_holds, pulled_holds, pulled_within, IfAsked, IsOpen, Rises};
 ghost use Rattle.cap_summary.specs.LineAsks.{part_holds, one_holds, asked_holds, refusals_in};
 ghost use Rattle.cap_summary.specs.Names.{Names, has_cell, part_within, PartsWithin, LineAsksWithin, RefusalsWithin};
 ghost use Rattle.cap_summary.specs.Names.{EffectWithin, PreWithin};
@@ -203,7 +203,7 @@ impl Precondition {
     /// Something is also found where an ask that was pulled back holds.
     fn put(&mut self, pulled: Pulled) -> Result<(), NoMemory>
         ensures met { OnOk result (IsMetOr self.old self.new (λ cells. pulled_holds cells pulled)) }
-        ensures possible { OnOk result (PulledIsOpen pulled → IsPossible self.old → IsPossible self.new) }
+        ensures possible { OnOk result (IfAsked IsOpen pulled → IsPossible self.old → IsPossible self.new) }
         ensures names { OnOk result ((names : Names) → pulled_within (has_cell names) pulled ≡ true
             → PreWithin names self.old → PreWithin names self.new) }
         ensures few { OnOk result (asks_size self.new ≤ asks_size self.old + 1) }

@@ -1,7 +1,7 @@
 //! What a row and an effect say of a cell, and how much they list.
 
 ghost use Rattle.std.specs.Prelude.{◌≡◌, ℕ, true, false, IfOk, option_copied};
-ghost use Rattle.cap_summary.specs.{Effects.own_row, Effects.row_cell, Keys.Cells, Leaving.row_leaves, Leaving.leaves};
+ghost use Rattle.cap_summary.specs.{Effects.own_row, Effects.row_cell, Keys.Cells, Effects.row_leaves, Effects.leaves};
 ghost use Rattle.cap_summary.specs.{Names.Names, Names.RowWithin, RowSizes.IsSizeOf, Sorted.found, Sorted.Rises};
 ghost use Rattle.cap_summary.specs.{declared.key.Key.Key};
 

@@ -2,10 +2,10 @@
 
 ghost use Rattle.std.specs.Prelude.{◌≡◌, ◌+◌, ◌*◌, ◌^◌, ◌<◌, ◌≤◌, true, is_some, length, IfOk, OnOk, IfSome, IfNone};
 ghost use Rattle.std.specs.Prelude.{option_copied};
-ghost use Rattle.cap_summary.specs.{check, start_state, Few.NameOrRefuseMany, Kept.IsKept, Positions.within};
+ghost use Rattle.cap_summary.specs.{check, start_state, Kept.NameOrRefuseMany, Kept.IsKept, Positions.within};
 ghost use Rattle.cap_summary.specs.{Positions.positions};
 ghost use Rattle.cap_summary.specs.Stands.{Stands, summed_up, kept_of};
-ghost use Rattle.cap_summary.specs.View.{NodesCompose, NodesDoAlike, NodesAskAlike};
+ghost use Rattle.cap_summary.specs.{Composing.NodesCompose, Composing.IfKept, Preconditions.IsSamePrecondition};
 
 use crate::explaining::judge_alone;
 use crate::judging::Asked;
@@ -94,7 +94,10 @@ pub fn report_range(
 {
     let most = summary.node.len() / STEPS_A_FINDING;
     let asked = Asked { from, to, most };
-    let mut report = Report::empty(alloc);
+    let mut report = Report {
+        found: Vec::new(alloc),
+        judged: 0,
+    };
     if summary.node.is_kept() {
         let before = Before::At(&*start);
         summary
@@ -146,21 +149,24 @@ impl Segment for Summary {
 
     ghost composes = { λ a b whole. NodesCompose a.node.value b.node.value whole.node.value };
 
-    ghost same_effect = { λ old new. NodesDoAlike old.node.value new.node.value };
+    ghost same_effect = { λ old new. IfKept (λ a b. a.effect.value.rows ≡ b.effect.value.rows)
+        old.node.value new.node.value };
 
-    ghost same_precondition = { λ old new. NodesAskAlike old.node.value new.node.value };
+    ghost same_precondition = { λ old new. IfKept (λ a b. IsSamePrecondition a.precondition.value b.precondition.value)
+        old.node.value new.node.value };
 
     ghost use Rattle.cap_summary.specs.{Stands.stands_sized};
 
     ghost sized = { stands_sized };
 
     fn empty(alloc: Global) -> Result<Summary, NoMemory> {
-        let node = Node::empty(alloc)?;
+        let node = Node::of_run(alloc, &[])?;
         Ok(Summary { node })
     }
 
     fn one(alloc: Global, step: &Rc<Step>) -> Result<Summary, NoMemory> {
-        let node = Node::one(alloc, step)?;
+        let run = [step.clone()?];
+        let node = Node::of_run(alloc, &run)?;
         Ok(Summary { node })
     }
 

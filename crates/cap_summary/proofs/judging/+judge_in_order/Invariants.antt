@@ -1,5 +1,5 @@
 use Rattle.cap_summary.specs.{length}
-use Rattle.cap_summary.proofs.in_order.+judge_each.Given as goal
+use Rattle.cap_summary.proofs.judging.+judge_in_order.Given as goal
 
-abbrev pub decreases-judge_each : goal.decreases-judge_each
-decreases-judge_each l = length l.run.now
+abbrev pub decreases-judge_in_order : goal.decreases-judge_in_order
+decreases-judge_in_order l = length l.run.now

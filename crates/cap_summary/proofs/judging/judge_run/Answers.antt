@@ -1,6 +1,6 @@
 use Rattle.std.specs.Prelude.{◌≡◌, ◌+◌, ◌++◌, ℕ, List, length, map, take}
 use Rattle.cap_summary.specs.{Rc, Global, Step, Found, State, check, said, found_at, later, Entry, values}
-use Rattle.cap_summary.specs.{Before.state_before, Before.state_of, Effects.changed, Keys.cells_of, Positions.within}
+use Rattle.cap_summary.specs.{Effects.state_before, Keys.state_of, Effects.changed, Keys.cells_of, Positions.within}
 use Rattle.cap_summary.proofs.{sym, ap, ◌∙◌, arith, length-map, length-take-le, take_all, Judged.none_judged}
 use Rattle.cap_summary.proofs.{Judged.more_judged, Knowing.one_more, Knowing.after_more, Resolving.found_in_first}
 use Rattle.cap_summary.proofs.{Runs.values-take}

@@ -1,5 +1,5 @@
 use Rattle.std.specs.Prelude.{◌≡◌, ◌+◌, length, take}
-use Rattle.cap_summary.specs.{values, Before.state_before}
+use Rattle.cap_summary.specs.{values, Effects.state_before}
 use Rattle.cap_summary.proofs.{Judged.IsJudged}
 use Rattle.cap_summary.proofs.judging.judge_run.Given as goal
 

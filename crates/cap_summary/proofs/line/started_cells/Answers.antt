@@ -1,7 +1,7 @@
 use Rattle.std.specs.Prelude.{◌≡◌, ℕ, List, get_or, refl}
 use Rattle.cap_summary.specs.{all as all_rights, Unsure, Lines.IsStarted, Names.IsListedWithin}
 use Rattle.cap_summary.specs.{declared.value.Value.Value}
-use Rattle.cap_summary.proofs.{sym, subst, IfOk-weaker, LineCells.started_more, LineCells.started_all}
+use Rattle.cap_summary.proofs.{sym, subst, IfOk-weaker, LineListed.started_more, LineListed.started_all}
 use Rattle.cap_summary.proofs.{LineListed.each_put}
 use Rattle.cap_summary.proofs.line.started_cells.Goals as goal
 

@@ -9,7 +9,7 @@ returns-then-len-most-clause-found c =
     let found : List Found = c.resolve.new.report.found.items in
     not_many (c.len-most.result / 2048) found (within c.args.from c.args.to all)
     (all_or_many (c.len-most.result / 2048) (start_state c.args.start.now) (summed_up c.args.summary.now) c.args.from
-    c.args.to found (rw (c.empty-report.ensures.found, c.deref-then-is_kept.ensures) at c.in_ok-resolve.ensures.found))
+    c.args.to found (rw (c.new.ensures.items, c.deref-then-is_kept.ensures) at c.in_ok-resolve.ensures.found))
     (omega arith)
 
 pub returns-clause-few : goal.returns-clause-few
@@ -26,8 +26,8 @@ returns-clause-few c = λ kept.
           judged_all (c.len-most.result / 2048) n w.resolve.new.report.judged c.judge_in_order.new.report.judged
           c.args.from c.args.to found all (ap (λ m. m / 2048) len) (omega arith)
           (all_or_many (c.len-most.result / 2048) s (summed_up c.args.summary.now) c.args.from c.args.to found
-          (rw (c.empty-report.ensures.found, w.deref-then-is_kept.ensures) at w.in_ok-resolve.ensures.found))
-          (omega (arith, few, c.empty-report.ensures.judged)) (rw w.report-is at c.in_ok-judge_in_order.ensures.all)
+          (rw (c.new.ensures.items, w.deref-then-is_kept.ensures) at w.in_ok-resolve.ensures.found))
+          (omega (arith, few)) (rw w.report-is at c.in_ok-judge_in_order.ensures.all)
       | goal.else-is_kept+else-are_at_most w ↦
           absurd (let wrong : true ≡ false = sym kept ∙ sym is ∙ w.if-is_kept.false in cc)
     ]

@@ -1,9 +1,9 @@
 use Rattle.std.specs.Prelude.{◌≡◌, ◌≤◌, ◌++◌, ℕ, List, length, map, true}
-use Rattle.cap_summary.specs.{Step, State, Found, check, later, Before.state_before, Content.content_steps, Kept.IsKept}
+use Rattle.cap_summary.specs.{Step, State, Found, check, later, Effects.state_before, Content.content_steps, Kept.IsKept}
 use Rattle.cap_summary.specs.{LineAsks.has_any, Positions.within}
-use Rattle.cap_summary.proofs.{sym, ap, ◌∙◌, arith, inl, length-append, on_ok_weaker, Counted.run_judged}
-use Rattle.cap_summary.proofs.{Ends.known_ends, Runs.same_steps}
-use Rattle.cap_summary.proofs.Resolving.{found_before, found_beyond, not_many, stopped, parts_or_many, many_parts}
+use Rattle.cap_summary.proofs.{sym, ap, ◌∙◌, arith, inl, inr, length-append, on_ok_weaker, Counted.run_judged}
+use Rattle.cap_summary.proofs.{Judged.known_ends, Runs.same_steps}
+use Rattle.cap_summary.proofs.Resolving.{found_outside, not_many, stopped, parts_or_many, many_parts}
 use Rattle.cap_summary.proofs.Resolving.{some_found}
 use Rattle.cap_summary.proofs.node.Node.+resolve.Goals as goal
 
@@ -17,9 +17,9 @@ returns-then-asked-at-clause-found t c =
     let len : c.self.inside.len ≡ length steps = c.self.invariant.len
     ∙ ap (λ (r : List Step). length r) (same_steps c.self.view_is) in
     elim c.then-asked-at.branch [
-      | goal.then-asked-at-via-then-asked-at w ↦ inl (found_beyond s steps c.args.at from to old (omega arith))
+      | goal.then-asked-at-via-then-asked-at w ↦ inl (found_outside s steps c.args.at from to old (inr (omega arith)))
       | goal.then-asked-at-via-else-asked-at+then-at-self w ↦
-          inl (found_before s steps c.args.at from to old (omega (arith, w.if-at-self.true, len)))
+          inl (found_outside s steps c.args.at from to old (inl (omega (arith, w.if-at-self.true, len))))
     ]
 
 pub returns-else-not-meets-clause-few : goal.returns-else-not-meets-clause-few

@@ -1,4 +1,4 @@
-use Rattle.std.specs.Prelude.{◌≡◌, ◌+◌, ◌-◌, ◌++◌, ℕ, List, length, take}
+use Rattle.std.specs.Prelude.{◌≡◌, ◌++◌, ℕ, List, length, take}
 use Rattle.cap_summary.specs.{Step, values, Content.content_steps}
 use Rattle.cap_summary.proofs.{sym, ap, ◌∙◌, arith, on_ok_weaker, Runs.values-take, Runs.same_steps, Walks.walked_parts}
 use Rattle.cap_summary.proofs.node.Node.+walk.Goals as goal
