@@ -51,23 +51,18 @@ same_ask a b is =
     let lacking : a.lacking ≡ b.lacking = same_kinds a.lacking b.lacking (grind (arith, common_steps)) in
     grind (arith, common_steps)
 
-abbrev three_of : Option Ask → Option Ask → Option Ask → UpToThree
-three_of mode first second = record { mode = mode; first = first; second = second }
-
 same_three : (a b : UpToThree) → threes.eq-value.it a b ≡ true → a ≡ b
 same_three a b is =
     let mode_is = option_eq asks.eq-value.it a.mode b.mode in
     let first_is = option_eq asks.eq-value.it a.first b.first in
     let more = and_right mode_is (first_is && option_eq asks.eq-value.it a.second b.second) is in
-    ap (λ m. three_of m a.first a.second) (same_option asks.eq-value.it same_ask a.mode b.mode (and_left mode_is _ is))
-    ∙ ap (λ x. three_of b.mode x a.second) (same_option asks.eq-value.it same_ask a.first b.first (and_left first_is _ more))
-    ∙ ap (three_of b.mode b.first) (same_option asks.eq-value.it same_ask a.second b.second (and_right first_is _ more))
-
-abbrev refusal_of : UpToThree → Refusal
-refusal_of unless = record { unless = unless }
+    let mode : a.mode ≡ b.mode = same_option asks.eq-value.it same_ask _ _ (and_left mode_is _ is) in
+    let first : a.first ≡ b.first = same_option asks.eq-value.it same_ask _ _ (and_left first_is _ more) in
+    let second : a.second ≡ b.second = same_option asks.eq-value.it same_ask _ _ (and_right first_is _ more) in
+    grind (arith, common_steps)
 
 same_refusal : (a b : Refusal) → refusals.eq-value.it a b ≡ true → a ≡ b
-same_refusal a b is = ap refusal_of (same_three a.unless b.unless is)
+same_refusal a b is = let unless : a.unless ≡ b.unless = same_three a.unless b.unless is in grind (arith, common_steps)
 
 pub same_asks : (xs ys : List Ask) → pointwise asks.eq-value.it xs ys ≡ true → xs ≡ ys
 same_asks = same_list asks.eq-value.it same_ask
@@ -88,10 +83,6 @@ same_cell a b is = search rules
 same_held : (a b : HeldOp) → helds.eq-value.it a b ≡ true → a ≡ b
 same_held a b is = search rules
 
-abbrev op_of : Cell → Cell → HeldOp → HeldOp → HeldOp → Op
-op_of unknown closed set clear unsure =
-    record { unknown = unknown; closed = closed; set = set; clear = clear; unsure = unsure }
-
 same_op : (a b : Op) → ops.eq-value.it a b ≡ true → a ≡ b
 same_op a b is =
     let unknown_is = cells.eq-value.it a.unknown b.unknown in
@@ -102,11 +93,12 @@ same_op a b is =
     let from_closed = and_right unknown_is (closed_is && (set_is && (clear_is && unsure_is))) is in
     let from_set = and_right closed_is (set_is && (clear_is && unsure_is)) from_closed in
     let from_clear = and_right set_is (clear_is && unsure_is) from_set in
-    ap (λ r. op_of r a.closed a.set a.clear a.unsure) (same_cell a.unknown b.unknown (and_left unknown_is _ is))
-    ∙ ap (λ r. op_of b.unknown r a.set a.clear a.unsure) (same_cell a.closed b.closed (and_left closed_is _ from_closed))
-    ∙ ap (λ r. op_of b.unknown b.closed r a.clear a.unsure) (same_held a.set b.set (and_left set_is _ from_set))
-    ∙ ap (λ r. op_of b.unknown b.closed b.set r a.unsure) (same_held a.clear b.clear (and_left clear_is _ from_clear))
-    ∙ ap (op_of b.unknown b.closed b.set b.clear) (same_held a.unsure b.unsure (and_right clear_is _ from_clear))
+    let unknown : a.unknown ≡ b.unknown = same_cell a.unknown b.unknown (and_left unknown_is _ is) in
+    let closed : a.closed ≡ b.closed = same_cell a.closed b.closed (and_left closed_is _ from_closed) in
+    let set : a.set ≡ b.set = same_held a.set b.set (and_left set_is _ from_set) in
+    let clear : a.clear ≡ b.clear = same_held a.clear b.clear (and_left clear_is _ from_clear) in
+    let unsure : a.unsure ≡ b.unsure = same_held a.unsure b.unsure (and_right clear_is _ from_clear) in
+    grind (arith, common_steps)
 
 pub same_value : (a b : Value) → values.eq-value.it a b ≡ true → a ≡ b
 same_value Value.Unknown Value.Unknown is = refl
@@ -129,9 +121,6 @@ same_value a b is = absurd cc
 same_base : (a b : Base) → bases.eq-value.it a b ≡ true → a ≡ b
 same_base a b is = search rules
 
-abbrev row_of : Base → Option Value → List (ℕ × Value) → Row
-row_of base mode cells = record { base = base; mode = mode; cells = cells }
-
 module _ {V : Type 0} (E : V → V → Bool) (same : (a b : V) → E a b ≡ true → a ≡ b) where
   same_entry : (a b : ℕ × V) → (eqb a.0 b.0 && E a.1 b.1) ≡ true → a ≡ b
   same_entry (k, v) (l, w) is =
@@ -147,9 +136,10 @@ same_row a b is =
     let base_is = bases.eq-value.it a.base b.base in
     let mode_is = option_eq values.eq-value.it a.mode b.mode in
     let more = and_right base_is (mode_is && listed.eq-value.it a.cells b.cells) is in
-    ap (λ x. row_of x a.mode a.cells) (same_base a.base b.base (and_left base_is _ is))
-    ∙ ap (λ m. row_of b.base m a.cells) (same_option values.eq-value.it same_value a.mode b.mode (and_left mode_is _ more))
-    ∙ ap (row_of b.base b.mode) (same_entries values.eq-value.it same_value a.cells b.cells (and_right mode_is _ more))
+    let base : a.base ≡ b.base = same_base a.base b.base (and_left base_is _ is) in
+    let mode : a.mode ≡ b.mode = same_option values.eq-value.it same_value _ _ (and_left mode_is _ more) in
+    let cells : a.cells ≡ b.cells = same_entries values.eq-value.it same_value _ _ (and_right mode_is _ more) in
+    grind (arith, common_steps)
 
 pub same_rows : (a b : List (ℕ × Row)) → pointwise (λ x y. eqb x.0 y.0 && rows.eq-value.it x.1 y.1) a b ≡ true → a ≡ b
 same_rows = same_entries rows.eq-value.it same_row
