@@ -6,7 +6,7 @@ use Rattle.cap_summary.specs.{pointwise, Cell, Held, HeldOp, Op, declared.ask.As
 use Rattle.cap_summary.specs.{declared.effect.Row.Row, declared.key.Key.Key, declared.kinds.Kinds.Kinds}
 use Rattle.cap_summary.specs.{declared.line_asks.UpToThree.UpToThree, declared.precondition.Refusal.Refusal}
 use Rattle.cap_summary.specs.{declared.value.Value.Value}
-use Rattle.cap_summary.proofs.{ap, ◌∙◌, rules, arith, eqb-true, common_steps, Bools.and_left, Bools.and_right}
+use Rattle.cap_summary.proofs.{ap, rules, arith, eqb-true, common_steps, Bools.and_left, Bools.and_right}
 use Rattle.cap_machine.specs.contracts.cell.CellPartialEq.TheImpl as cells
 use Rattle.cap_machine.specs.contracts.cell.HeldOpPartialEq.TheImpl as helds
 use Rattle.cap_machine.specs.contracts.cell.OpPartialEq.TheImpl as ops

@@ -11,8 +11,6 @@ pub mod RowsComposed
 pub mod LineRows
 pub mod LineAsking
 pub mod LineListed
-pub mod LineSets
-pub mod Listing
 pub mod LineNamed
 pub mod Naming
 pub mod Meeting
@@ -30,5 +28,4 @@ pub mod Explained
 pub mod FewKeys
 pub mod FewAsks
 pub mod Judged
-pub mod Counted
 pub use Common.*

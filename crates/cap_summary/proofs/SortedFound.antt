@@ -1,10 +1,9 @@
 -- What a look-up finds in a list whose keys rise.
-use Rattle.std.specs.Prelude.{◌≢◌, Result, Ok, Err}
-use Rattle.std.specs.{List.Sorted.IsSearchInRange, List.Sorted.IsBinarySearchResult, Ordering.ordering_index}
-use Rattle.std.proofs.{lemmas.Option.slice_get-get_or}
-use Rattle.std.specs.Prelude.{◌≡◌, ◌+◌, ◌<◌, ◌≤◌, ◌∷◌, ℕ, zero, suc, List, [], length, get_or, None, Some, IfOk, IfErr}
-use Rattle.std.specs.Prelude.{option_map, slice_get, refl}
-use Rattle.cap_summary.specs.{IsNonDecreasingBy, nat_cmp}
+use Rattle.std.specs.List.Sorted.{IsSearchInRange, IsBinarySearchResult}
+use Rattle.std.specs.Ordering.{ordering_index}
+use Rattle.std.proofs.lemmas.Option.{slice_get-get_or}
+use Rattle.std.specs.Prelude.{◌≢◌, Result, Ok, Err, ◌≡◌, ◌+◌, ◌<◌, ◌≤◌, ◌∷◌, ℕ, zero, suc, List, [], length, get_or, None, Some, IfOk, IfErr, option_map, slice_get, refl}
+use Rattle.cap_summary.specs.{IsNonDecreasingBy, nat_cmp, AllZip}
 use Rattle.cap_summary.specs.Sorted.{IsAt, IsGap, found, RisesFrom, Rises, KeysRise}
 use Rattle.cap_summary.proofs.{sym, ap, ◌∙◌, arith, ranked, nat_tests}
 
@@ -124,3 +123,17 @@ found_below_first key first rest rises other =
 pub found_nowhere : {V : Type 0} (l : List (ℕ × V)) (key : ℕ) → length l ≡ 0 → found l key ≡ None
 found_nowhere [] key none = refl
 found_nowhere (x ∷ rest) key none = absurd (omega arith)
+
+-- each entry has the same key
+module _ {V : Type 0} (Copied : V → V → Type 0) where
+  abbrev IsEntry : ℕ × V → ℕ × V → Type 0
+  IsEntry x y = (y.0 ≡ x.0) × Copied x.1 y.1
+
+  pub rises_too : (bound : ℕ) (old copy : List (ℕ × V)) → AllZip IsEntry old copy → RisesFrom bound old
+      → RisesFrom bound copy
+  rises_too bound [] [] all rises = tt
+  rises_too bound [] (y ∷ copy) all rises = absurd all
+  rises_too bound (x ∷ old) [] all rises = absurd all
+  rises_too bound ((k, v) ∷ old) ((l, w) ∷ copy) all rises =
+      let same : l ≡ k = all.0.0 in
+      rw same (rises.0, rises_too (k + 1) old copy all.1 rises.1)

@@ -165,7 +165,7 @@ impl Effect {
     }
 
     /// Sets the cell of a descriptor of a process, in place.
-    #[tactic(auto, using(crate::proofs::LineSets::set_cells, crate::proofs::LineSets::set_names))]
+    #[tactic(auto, using(crate::proofs::LineListed::set_cells, crate::proofs::LineListed::set_names))]
     fn set(&mut self, alloc: Global, pid: Pid, fd: Fd, value: Value) -> Result<(), NoMemory>
         ensures cells { OnOk result ((cells : Cells) (p : ℕ) (k : Key) → changed self.new cells p k
             ≡ with_cell pid fd (read cells value) (changed self.old cells) p k) }

@@ -1,6 +1,6 @@
 //! The nodes of a summary. A contract sees a node as its steps, and what is known of them where that is kept.
 
-ghost use Rattle.std.specs.Prelude.{◌≡◌, ◌+◌, ◌*◌, ◌^◌, ◌<◌, ◌≤◌, ◌++◌, ◌∷◌, ◌⊎◌, [], length, IfOk, OnOk, IfSome};
+ghost use Rattle.std.specs.Prelude.{◌≡◌, ◌+◌, ◌*◌, ◌^◌, ◌<◌, ◌≤◌, ◌++◌, ◌⊎◌, length, IfOk, OnOk, IfSome};
 ghost use Rattle.std.specs.Prelude.{IfNone, true, is_some, Some, map, option_copied};
 ghost use Rattle.cap_summary.specs.{check, ended, start_state, later, values, part_at, Effects.state_before};
 ghost use Rattle.cap_summary.specs.{Kept.NameOrRefuseMany, Kept.IsKept, Kept.IsWithin, Kept.IsLarge, Kept.ListsMany};

@@ -1,6 +1,6 @@
 use Rattle.std.specs.Prelude.{◌≡◌, ◌+◌, ◌≤◌, ℕ, List, take}
 use Rattle.cap_summary.specs.{Step, State, Found, check, Explained, start_state, Positions.within, Positions.positions}
-use Rattle.cap_summary.proofs.{◌∙◌, sym, ap, arith, Counted.one_more}
+use Rattle.cap_summary.proofs.{◌∙◌, sym, ap, arith, Judged.one_more}
 use Rattle.cap_summary.proofs.Resolving.{none_before_first, found_next, found_upto_last}
 use Rattle.cap_summary.proofs.explaining.judge_alone.Goals.{In_ok-note_asked}
 use Rattle.cap_summary.proofs.explaining.judge_alone.Goals as goal

@@ -1,7 +1,7 @@
 use Rattle.std.specs.Prelude.{◌≡◌, ◌+◌, ◌≤◌, ◌++◌, ℕ, List, length, map}
 use Rattle.cap_summary.specs.{Step, State, Found, check, ended, later, start_state, values, Content.content_steps}
 use Rattle.cap_summary.specs.{Positions.within, declared.judging.Report.Report}
-use Rattle.cap_summary.proofs.{sym, ap, ◌∙◌, arith, inr, length-append, on_ok_weaker, ends_in_turn, Counted.run_judged}
+use Rattle.cap_summary.proofs.{sym, ap, ◌∙◌, arith, inr, length-append, on_ok_weaker, ends_in_turn, Judged.run_judged}
 use Rattle.cap_summary.proofs.{Resolving.found_parts, Resolving.found_outside, Resolving.same_beyond, Runs.same_steps}
 use Rattle.cap_summary.proofs.node.Node.+judge.Goals as goal
 

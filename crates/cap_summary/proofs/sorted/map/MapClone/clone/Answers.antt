@@ -1,4 +1,4 @@
-use Rattle.cap_summary.proofs.{Listing.rises_too}
+use Rattle.cap_summary.proofs.{SortedFound.rises_too}
 use Rattle.cap_summary.proofs.sorted.map.MapClone.clone.Goals as goal
 
 pub invariant_of-result : goal.invariant_of-result
