@@ -7,7 +7,7 @@ use Rattle.cap_summary.specs.{Inside, Outside, State, Preconditions.any_certain,
 use Rattle.cap_summary.specs.{declared.key.Key.Key, declared.kinds.Kinds.Kinds}
 use Rattle.cap_summary.specs.Asks.{any_holds, standing, is_sure, certain_at, possible_at, CanBe, IsOpen}
 use Rattle.cap_summary.specs.Keys.{Cells, mode_cell, cell_mode, cells_of}
-use Rattle.cap_summary.specs.Tests.{has, has_kind, held_kind, lacks, any_held, any_kind, holding, passes, can_pass}
+use Rattle.cap_summary.specs.Tests.{has, has_kind, held_kind, lacks, any_held, any_kind, holding, passes}
 use Rattle.cap_summary.specs.Tests.{each_kind}
 use Rattle.cap_summary.proofs.{inl, inr, sym, ap, ◌∙◌, arith, or-false, or-true, and-false, All-nil, All-cons, or_parts}
 use Rattle.cap_summary.proofs.{or_cases, TestPassing.own_rights, TestPassing.none_lacks}
@@ -83,8 +83,8 @@ each_passes p alike all c = by c
     by Closed = at 4 (omega arith)
 
 -- a test that some cell can pass has one that does: of a kind that passes, or one that holds no rights
-possible_passes : (a : Ask) → can_pass a ≡ true → (c : Cell) × (passes a c ≡ true)
-possible_passes a is = elim (or_cases (any_kind a.kinds) _ is) [
+possible_passes : (f : ℕ) (a : Ask) → possible_at (Key.Fd f) a ≡ true → (c : Cell) × (passes a c ≡ true)
+possible_passes f a is = elim (or_cases (any_kind a.kinds) _ is) [
   | inl any ↦ elim (or_cases (any_held a.kinds) _ any) [
     | inl held ↦ of_held a.kinds held (λ c h. rw h refl)
     | inr more ↦ elim (or_cases (has a.kinds 3) _ more) [ inl h ↦ (Unknown, rw h refl) | inr h ↦ (Closed, rw h refl) ]
@@ -126,7 +126,7 @@ fails_somewhere p k a is =
 holds_somewhere : (p : ℕ) (k : Key) (a : Ask) → possible_at k a ≡ true
     → (s : State) × (passes a (cells_of s p k) ≡ true)
 holds_somewhere p Key.Mode a is = let m = mode_passes a is in (everywhere Unknown m.0, m.1)
-holds_somewhere p (Key.Fd f) a is = let c = possible_passes a is in (everywhere c.0 Mode.Unsure, c.1)
+holds_somewhere p (Key.Fd f) a is = let c = possible_passes f a is in (everywhere c.0 Mode.Unsure, c.1)
 
 pub is_open : (ask : Ask) → certain_at ask.key ask ≡ false → possible_at ask.key ask ≡ true → IsOpen ask
 is_open ask certain possible = record {

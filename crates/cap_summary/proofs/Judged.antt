@@ -1,7 +1,10 @@
 -- What was judged of a run so far, and how many steps are judged at least for what is found.
 use Rattle.cap_machine.proofs.Turns.{same_state}
-use Rattle.std.specs.Prelude.{◌≡◌, ℕ, List, refl, ◌+◌, ◌∷◌, ◌++◌, [], length, map, ◌≤◌, ◌==◌, ◌&&◌, nat_le, Bool, true, false, cond}
-use Rattle.cap_summary.specs.{Step, Mode, Inside, Outside, State, ended, declared.effect.Effect.Effect, declared.key.Key.Key, declared.known.Known.Known, Found, check, said, found_at, later, Rc, Finding, values, declared.judging.Report.Report, Effects.changed, Knows.Knows}
+use Rattle.std.specs.Prelude.{◌≡◌, ℕ, List, refl, ◌+◌, ◌∷◌, ◌++◌, [], length, map, ◌≤◌, ◌==◌, ◌&&◌, nat_le, Bool, true}
+use Rattle.std.specs.Prelude.{false, cond}
+use Rattle.cap_summary.specs.{Step, Mode, Inside, Outside, State, ended, declared.effect.Effect.Effect}
+use Rattle.cap_summary.specs.{declared.key.Key.Key, declared.known.Known.Known, Found, check, said, found_at, later, Rc}
+use Rattle.cap_summary.specs.{Finding, values, declared.judging.Report.Report, Effects.changed, Knows.Knows}
 use Rattle.cap_summary.specs.Keys.{state_of, cells_of, mode_cell, cell_mode, Cells}
 use Rattle.cap_summary.specs.Positions.{within, starts, positions, WereJudged}
 use Rattle.cap_summary.proofs.{ap, ◌∙◌, sym, append-nil, arith, subst, eq-eqb, length-map}

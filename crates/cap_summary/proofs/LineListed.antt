@@ -1,10 +1,14 @@
 -- What one line lists, that the line names it, and a cell that is set in place.
-use Rattle.std.specs.Prelude.{◌≡◌, ◌+◌, ◌<◌, ◌≤◌, ◌||◌, ℕ, eqb, List, Bool, true, false, cond, Option, Some, length, get_or, take, refl, ◌==◌, ◌∷◌, [], IfSome, All, ◌&&◌, None, unwrap_or}
-use Rattle.cap_summary.specs.{option_map_or, list_any, all, Unsure, Closed, LineEffect, fds_spelled, declared.value.Value.Value, Op, declared.key.Key.Key, Cell, declared.effect.Effect.Effect, declared.effect.Row.Row, Keys.Cells, Sorted.found, Values.read, Values.reads_within}
+use Rattle.std.specs.Prelude.{◌≡◌, ◌+◌, ◌<◌, ◌≤◌, ◌||◌, ℕ, eqb, List, Bool, true, false, cond, Option, Some, length}
+use Rattle.std.specs.Prelude.{get_or, take, refl, ◌==◌, ◌∷◌, [], IfSome, All, ◌&&◌, None, unwrap_or}
+use Rattle.cap_summary.specs.{option_map_or, list_any, all, Unsure, Closed, LineEffect, fds_spelled}
+use Rattle.cap_summary.specs.{declared.value.Value.Value, Op, declared.key.Key.Key, Cell, declared.effect.Effect.Effect}
+use Rattle.cap_summary.specs.{declared.effect.Row.Row, Keys.Cells, Sorted.found, Values.read, Values.reads_within}
 use Rattle.cap_summary.specs.Lines.{IsStarted, IsListOf, is_cell, with_cell}
 use Rattle.cap_summary.specs.Names.{Names, has_cell, IsListedWithin, LineWithin, RowWithin, IsRowWithin, EffectWithin}
 use Rattle.cap_summary.specs.Effects.{own_row, base_cell, row_cell, cell_in, changed}
-use Rattle.cap_summary.proofs.{Bor, take_all, list_any_more, or-false, or-true, eq-eqb, sym, subst, eqb-true, and_from, All-head, All-tail, ap, ◌∙◌}
+use Rattle.cap_summary.proofs.{Bor, take_all, list_any_more, or-false, or-true, eq-eqb, sym, subst, eqb-true, and_from}
+use Rattle.cap_summary.proofs.{All-head, All-tail, ap, ◌∙◌}
 
 one_more : (cells : Cells) (v : Value) (b any : Bool) (o : Option Value)
     → option_map_or (read cells) o Closed ≡ cond any (read cells v) Closed
@@ -18,8 +22,8 @@ pub started_more : (fds : List ℕ) (i : ℕ) (listed more : List (ℕ × Value)
     → IsStarted (take i fds) listed → IsStarted (take (i + 1) fds) more
 started_more fds i listed more within set started cells f =
     rw (set f, list_any_more (λ g. eqb f g) fds i 0 within)
-    (one_more cells (Value.Held all Unsure) (eqb f (get_or fds i 0)) (list_any (λ g. eqb f g) (take i fds)) (found listed f)
-    (started cells f))
+    (one_more cells (Value.Held all Unsure) (eqb f (get_or fds i 0)) (list_any (λ g. eqb f g) (take i fds))
+    (found listed f) (started cells f))
 
 -- all of them
 pub started_all : (fds : List ℕ) (i : ℕ) (listed : List (ℕ × Value)) → length fds ≤ i → IsStarted (take i fds) listed
@@ -81,7 +85,8 @@ module _ (first new : Effect) (q fd : ℕ) (value : Value) (mid : List (ℕ × R
   now = record { base = row.base; mode = row.mode; cells = listed }
 
   with_if : (cells : Cells) (b : Bool) (was : Option Value) (d : Cell)
-      → option_map_or (read cells) (cond b (Some value) was) d ≡ cond b (read cells value) (option_map_or (read cells) was d)
+      → option_map_or (read cells) (cond b (Some value) was) d
+      ≡ cond b (read cells value) (option_map_or (read cells) was d)
   with_if cells true was d = refl
   with_if cells false was d = refl
 
@@ -119,6 +124,10 @@ module _ (first new : Effect) (q fd : ℕ) (value : Value) (mid : List (ℕ × R
       by : (b : Bool) → (p == q) ≡ b → IfSome (cond b (Some now) (found mid p)) (IsRowWithin names p)
       by true is = rw (eqb-true p q is) (record {
         pid = pid;
-        row = record { cells = each_put (IsListedWithin names) fd value here row.cells listed with old.cells; others = old.others; mode = old.mode };
+        row = record {
+          cells = each_put (IsListedWithin names) fd value here row.cells listed with old.cells;
+          others = old.others;
+          mode = old.mode;
+        };
       })
       by false is = rw (others p is) (within p)

@@ -3,7 +3,8 @@ use Rattle.std.proofs.Common.{add_assoc, length-take, le-leb}
 use Rattle.std.proofs.{lemmas.Bool.lt-leb, lemmas.List.Elements.filter-append, lemmas.List.Elements.All-map}
 use Rattle.std.proofs.{lemmas.List.Filters.length-filter_both}
 use Rattle.cap_machine.proofs.{Positions.positions_within}
-use Rattle.std.specs.Prelude.{◌≡◌, ◌+◌, ◌<◌, ◌≤◌, ◌∷◌, ◌++◌, ◌&&◌, ◌⊎◌, ◌-◌, ◌*◌, ◌/◌, ℕ, List, [], Bool, true, false, cond}
+use Rattle.std.specs.Prelude.{◌≡◌, ◌+◌, ◌<◌, ◌≤◌, ◌∷◌, ◌++◌, ◌&&◌, ◌⊎◌, ◌-◌, ◌*◌, ◌/◌, ℕ, List, [], Bool, true, false}
+use Rattle.std.specs.Prelude.{cond}
 use Rattle.std.specs.Prelude.{length, map, take, drop, get_or, refl, All, filter, nat_le, not}
 use Rattle.cap_summary.specs.{Step, Found, Finding, State, ended, check, said, found_at, later, LineAsks.has_any}
 use Rattle.cap_summary.specs.Positions.{is_at, within, AllOrMany}
@@ -129,7 +130,8 @@ not_within : (from to at n : ℕ) (xs : List Found) → All (IsBelow n) xs → (
 not_within from to at n xs all out = alike (is_at from to) false (map (later at) xs)
     (All-map (λ x. is_at from to x ≡ false) (later at) xs (λ k d lt. by (get_or xs k d).at (all k d lt) out))
   where
-    by : (i : ℕ) → (1 ≤ i) × (i ≤ n) → (at + n < from) ⊎ (to ≤ at) → (nat_le from (at + i) && nat_le (at + i) to) ≡ false
+    by : (i : ℕ) → (1 ≤ i) × (i ≤ n) → (at + n < from) ⊎ (to ≤ at)
+        → (nat_le from (at + i) && nat_le (at + i) to) ≡ false
     by i is (inl before) = rw (lt-leb from (at + i) (omega (arith, is.1))) refl
     by i is (inr beyond) = rw (lt-leb (at + i) to (omega (arith, is.0))) (and-false (nat_le from (at + i)))
 

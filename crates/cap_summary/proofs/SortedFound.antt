@@ -2,7 +2,8 @@
 use Rattle.std.specs.List.Sorted.{IsSearchInRange, IsBinarySearchResult}
 use Rattle.std.specs.Ordering.{ordering_index}
 use Rattle.std.proofs.lemmas.Option.{slice_get-get_or}
-use Rattle.std.specs.Prelude.{◌≢◌, Result, Ok, Err, ◌≡◌, ◌+◌, ◌<◌, ◌≤◌, ◌∷◌, ℕ, zero, suc, List, [], length, get_or, None, Some, IfOk, IfErr, option_map, slice_get, refl}
+use Rattle.std.specs.Prelude.{◌≢◌, Result, Ok, Err, ◌≡◌, ◌+◌, ◌<◌, ◌≤◌, ◌∷◌, ℕ, zero, suc, List, [], length, get_or}
+use Rattle.std.specs.Prelude.{None, Some, IfOk, IfErr, option_map, slice_get, refl}
 use Rattle.cap_summary.specs.{IsNonDecreasingBy, nat_cmp, AllZip}
 use Rattle.cap_summary.specs.Sorted.{IsAt, IsGap, found, RisesFrom, Rises, KeysRise}
 use Rattle.cap_summary.proofs.{sym, ap, ◌∙◌, arith, ranked, nat_tests}

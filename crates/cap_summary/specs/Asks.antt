@@ -1,10 +1,10 @@
 -- What is asked of the cells before a segment.
-use Rattle.std.specs.Prelude.{◌≡◌, ◌+◌, ◌*◌, ◌^◌, ◌%◌, ◌≤◌, ◌||◌, ◌∷◌, ℕ, Bool, true, false, List, [], length, Option}
-use Rattle.std.specs.Prelude.{Some, None, All}
-use Rattle.cap_summary.specs.{list_any, list_all, Inside, Outside, Cell, State, Mode, Keys.Cells, Keys.mode_cell}
-use Rattle.cap_summary.specs.{Keys.cell_mode, Keys.cells_of, declared.ask.Ask.Ask, declared.ask.Pulled.Pulled}
-use Rattle.cap_summary.specs.{declared.key.Key.Key, declared.kinds.Kinds.Kinds}
-use Rattle.cap_summary.specs.Tests.{passes, can_pass, holding, each_kind}
+use Rattle.std.specs.Prelude.{◌≡◌, ◌+◌, ◌*◌, ◌^◌, ◌%◌, ◌≤◌, ◌&&◌, ◌||◌, ◌∷◌, ℕ, not, Bool, true, false, List, []}
+use Rattle.std.specs.Prelude.{length, Option, Some, None, All}
+use Rattle.cap_summary.specs.{list_any, list_all, none, has_all, Inside, Outside, Cell, State, Mode, Keys.Cells}
+use Rattle.cap_summary.specs.{Keys.mode_cell, Keys.cell_mode, Keys.cells_of, declared.ask.Ask.Ask}
+use Rattle.cap_summary.specs.{declared.ask.Pulled.Pulled, declared.key.Key.Key, declared.kinds.Kinds.Kinds}
+use Rattle.cap_summary.specs.Tests.{passes, any_held, any_kind, holding, each_kind}
 use Rattle.cap_summary.specs.declared.ask.Pulled.TheVariants.{Always, Never, Where}
 
 -- an ask holds of the cells before the segment
@@ -28,10 +28,11 @@ is_sure ask key cell = passes ask (standing ask.rights key cell)
 abbrev pub certain_at : Key → Ask → Bool
 certain_at key ask = list_all (is_sure ask key) each_kind
 
--- some cell that can stand at a key passes
+-- some cell that can stand at a key passes: of a descriptor one of a kind, or one that holds no rights, where it can
+-- lack some
 abbrev pub possible_at : Key → Ask → Bool
 possible_at Key.Mode ask = passes ask (mode_cell Mode.Unsure) || (passes ask (mode_cell Inside) || passes ask (mode_cell Outside))
-possible_at (Key.Fd f) ask = can_pass ask
+possible_at (Key.Fd f) ask = any_kind ask.kinds || (any_held ask.lacking && not (has_all none ask.rights))
 
 -- in some state an ask holds, or doesn't
 abbrev pub CanBe : Bool → Ask → Type 0

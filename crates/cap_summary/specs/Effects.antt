@@ -1,7 +1,9 @@
 -- What becomes of each cell over a segment, whatever the cells before it: the transfer function of the segment.
-use Rattle.std.specs.Prelude.{◌≡◌, ◌&&◌, if◌then◌else◌, ℕ, not, Bool, true, false, Option, Some, None, is_none, nat_le, []}
+use Rattle.std.specs.Prelude.{◌≡◌, ◌&&◌, if◌then◌else◌, ℕ, not, Bool, true, false, Option, Some, None, is_none, nat_le}
+use Rattle.std.specs.Prelude.{[]}
 use Rattle.cap_summary.specs.{option_map_or, Cell, Unknown, Closed, State, LineEffect, applied, exec, kept, stays}
-use Rattle.cap_summary.specs.{effect_touch, effect_turn, start_state, Sorted.found, Values.read, declared.base.Base.Base}
+use Rattle.cap_summary.specs.{effect_touch, effect_turn, start_state, Sorted.found, Values.read}
+use Rattle.cap_summary.specs.{declared.base.Base.Base}
 use Rattle.cap_summary.specs.{declared.base.DefaultCells.DefaultCells, declared.base.Passing.Passing}
 use Rattle.cap_summary.specs.{declared.before.Before.Before, declared.effect.Effect.Effect, declared.effect.Row.Row}
 use Rattle.cap_summary.specs.{declared.key.Key.Key}
@@ -63,8 +65,8 @@ abbrev pub state_before : Before → State
 state_before (At start) = start_state start.now
 state_before (After' p before effect) = state_of (changed effect.now (cells_of (state_before before)))
 
--- ---- Which cells and modes no line of a segment touches, as far as is known: those that have no row, or a row of their
--- own process that neither lists nor closes them. A cell that came back by a fork is touched.
+-- ---- which cells and modes no line of a segment touches, as far as is known: those that have no row, or a row of
+-- their own process that neither lists nor closes them; a cell that came back by a fork is touched
 abbrev pub is_own : DefaultCells → Bool
 is_own DefaultCells.Own = true
 is_own _ = false

@@ -1,7 +1,8 @@
 -- What is kept of steps, and of which so much may be known that it isn't kept: of those that name many processes and
 -- descriptors, or have many calls that were refused for lack of a right.
 use Rattle.std.specs.Prelude.{◌+◌, ◌*◌, ◌<◌, ◌≤◌, ◌⊎◌, ◌==◌, ℕ, Bool, min, List, length}
-use Rattle.cap_summary.specs.{list_any, Step, Knows.Knows, LineAsks.refused, Names.Names, Names.names_in, Names.AreAmong}
+use Rattle.cap_summary.specs.{list_any, Step, Knows.Knows, LineAsks.refused, Names.Names, Names.names_in}
+use Rattle.cap_summary.specs.{Names.AreAmong}
 use Rattle.cap_summary.specs.{Preconditions.IsSettled, Preconditions.size, RowSizes.rows_size}
 use Rattle.cap_summary.specs.{RowSizes.AllRise, declared.known.Known.Known}
 
@@ -45,4 +46,5 @@ room pids fds = length pids * (length fds + 1)
 -- All lists of processes and descriptors that have those which the steps name have more than 1,024 cells and modes, or
 -- more than 30,000 calls were refused.
 abbrev pub NameOrRefuseMany : List Step → Type 0
-NameOrRefuseMany t = ((pids fds : List ℕ) → AreAmong (names_in t) (these pids fds) → 1024 < room pids fds) ⊎ (30000 < refused t)
+NameOrRefuseMany t =
+    ((pids fds : List ℕ) → AreAmong (names_in t) (these pids fds) → 1024 < room pids fds) ⊎ (30000 < refused t)

@@ -1,7 +1,9 @@
 -- What one line asks of the cells before it.
-use Rattle.std.specs.Prelude.{◌≡◌, ◌+◌, ◌||◌, ◌∷◌, if◌then◌else◌, ℕ, not, Bool, true, false, List, [], map, Option, Some, None}
+use Rattle.std.specs.Prelude.{◌≡◌, ◌+◌, ◌||◌, ◌∷◌, if◌then◌else◌, ℕ, not, Bool, true, false, List, [], map, Option}
+use Rattle.std.specs.Prelude.{Some, None}
 use Rattle.cap_machine.specs.{declared.rule.Reply.Reply}
-use Rattle.cap_summary.specs.{option_map_or, Step, State, Cell, NotCapable, requirement, Check, Checks, Requirement, listed, findings_of, Asks.holds}
+use Rattle.cap_summary.specs.{option_map_or, Step, State, Cell, NotCapable, requirement, Check, Checks, Requirement}
+use Rattle.cap_summary.specs.{listed, findings_of, Asks.holds}
 use Rattle.cap_summary.specs.{Keys.Cells, Keys.cells_of, declared.ask.Ask.Ask, declared.line_asks.LineAsks.LineAsks}
 use Rattle.cap_summary.specs.{declared.line_asks.UpToThree.UpToThree}
 use Rattle.cap_summary.specs.declared.line_asks.LineAsks.TheVariants.{Always, Where, Unless}

@@ -54,7 +54,3 @@ each_kind = Held none Set ∷ Held none Clear ∷ Held none Unsure ∷ Unknown �
 -- each kind of cell is among these
 abbrev pub is_full : Kinds → Bool
 is_full kinds = list_all (has_kind kinds) each_kind
-
--- some cell passes: one of a kind, or one that holds no rights, where it can lack some
-abbrev pub can_pass : Ask → Bool
-can_pass ask = any_kind ask.kinds || (any_held ask.lacking && not (has_all none ask.rights))

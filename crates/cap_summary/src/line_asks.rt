@@ -3,11 +3,11 @@
 ghost use Rattle.cap_machine.specs.{Judge.is_excused};
 ghost use Rattle.std.specs.Prelude.{◌≡◌, ◌≤◌, ◌&&◌, ◌||◌, if◌then◌else◌, not, true, false, IfSome};
 ghost use Rattle.cap_summary.specs.{option_map_or, Cell, LimitWord, Success, NotCapable, State, fault, faults, listed};
-ghost use Rattle.cap_summary.specs.{has_check, all_excused, Asks.holds, LineAsks.is_refusal, Tests.has_kind, Tests.lacks};
+ghost use Rattle.cap_summary.specs.{has_check, all_excused, Asks.holds, Tests.has_kind, Tests.lacks};
 ghost use Rattle.cap_summary.specs.{declared.key.Key.Key};
 ghost use Rattle.cap_summary.specs.Keys.{Cells, cells_of, mode_cell};
 ghost use Rattle.cap_summary.specs.LineAsks.{has_any, part_holds, one_holds, excuses_hold, checked_cells, asked_holds};
-ghost use Rattle.cap_summary.specs.LineAsks.{IsAskedBy, refusals_in};
+ghost use Rattle.cap_summary.specs.LineAsks.{IsAskedBy, is_refusal, refusals_in};
 ghost use Rattle.cap_summary.specs.Names.{Names, has_cell, part_within, ChecksWithin, LineAsksWithin, DemandWithin};
 ghost use Rattle.cap_summary.specs.Preconditions.{has_part, part_sure, are_sure_at};
 

@@ -18,8 +18,8 @@ returns t c =
     rw (c.in_ok-verdict.ensures.says, at_step) at c.in_ok-note_asked.ensures in
     record {
       found = rw run (on_ok_weaker c.judge_in_order.result (λ last. found_step s step (values rest) c.args.at
-          c.args.asked.now.from c.args.asked.now.to old c.note_asked.new.found.items c.judge_in_order.new.found.items first
-          (rw moved at last)) c.judge_in_order.ensures.found);
+          c.args.asked.now.from c.args.asked.now.to old c.note_asked.new.found.items c.judge_in_order.new.found.items
+          first (rw moved at last)) c.judge_in_order.ensures.found);
       moves = rw run (on_ok_weaker c.judge_in_order.result (λ last.
           rw moved at last ∙ sym (ends_in_turn s (step ∷ []) (values rest))) c.judge_in_order.ensures.moves);
     }

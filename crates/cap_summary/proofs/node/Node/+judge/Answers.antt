@@ -44,8 +44,8 @@ returns-in_ok-judge-in-Both t c =
     let judged = rw c.deref-in-Both.ensures at c.in_ok-judge-in-Both.ensures.all in
     rw (← parts) (record {
       found = on_ok_weaker c.judge-in-Both.result (λ last.
-          found_parts s a b c.args.at c.len-in-Both.result from to old found c.judge-in-Both.new.report.found.items len first
-          (rw c.deref-in-Both-2.ensures at last ∙ ap (λ r. found ++ r) (same_beyond between (ended s a) b
+          found_parts s a b c.args.at c.len-in-Both.result from to old found c.judge-in-Both.new.report.found.items len
+          first (rw c.deref-in-Both-2.ensures at last ∙ ap (λ r. found ++ r) (same_beyond between (ended s a) b
           (c.args.at + c.len-in-Both.result) from to (λ before. moved (omega (arith, len, before))))))
           c.judge-in-Both.ensures.found;
       moves = on_ok_weaker c.judge-in-Both.result (λ last. λ ends.

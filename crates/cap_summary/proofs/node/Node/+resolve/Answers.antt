@@ -1,5 +1,6 @@
 use Rattle.std.specs.Prelude.{◌≡◌, ◌≤◌, ◌++◌, ℕ, List, length, map, true}
-use Rattle.cap_summary.specs.{Step, State, Found, check, later, Effects.state_before, Content.content_steps, Kept.IsKept}
+use Rattle.cap_summary.specs.{Step, State, Found, check, later, Effects.state_before, Content.content_steps}
+use Rattle.cap_summary.specs.{Kept.IsKept}
 use Rattle.cap_summary.specs.{LineAsks.has_any, Positions.within}
 use Rattle.cap_summary.proofs.{sym, ap, ◌∙◌, arith, inl, inr, length-append, on_ok_weaker, Judged.run_judged}
 use Rattle.cap_summary.proofs.{Judged.known_ends, Runs.same_steps}
