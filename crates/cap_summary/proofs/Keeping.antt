@@ -7,7 +7,7 @@ use Rattle.cap_summary.specs.{declared.known.Known.Known, declared.node.Content.
 use Rattle.cap_summary.specs.{declared.node.Content.TheVariants.Run, declared.node.Content.TheVariants.Both}
 use Rattle.cap_summary.specs.{Kept.is_one, Kept.these, Kept.room, LineAsks.refused, Kept.NameOrRefuseMany}
 use Rattle.cap_summary.specs.Kept.{limit, IsKept, IsWithin, IsLarge, ListsMany}
-use Rattle.cap_summary.specs.Names.{Names, names_in, AreAmong, IsListedWithin, IsRowWithin, ListWithin, RowsWithin}
+use Rattle.cap_summary.specs.Names.{names_in, AreAmong, IsListedWithin, IsRowWithin, ListWithin, RowsWithin}
 use Rattle.cap_summary.specs.RowSizes.{rows_size, CellsRise, AllRise}
 use Rattle.cap_summary.specs.Sorted.{found, Rises, RisesFrom, KeysRise}
 use Rattle.cap_summary.proofs.{inl, inr, arith, eqb-true, eq-eqb, nat_tests, All-head, All-tail, FewAsks.few_asks}
@@ -122,26 +122,21 @@ many_listed t known knows lists = inl (λ pids fds among.
     (effect_among (names_in t) (these pids fds) among known.effect.value knows.effect_named) in
     omega (arith, rows, lists.many))
 
--- one of two parts names or refuses many
-among_those : (a b d : Names) → AreAmong a b → AreAmong b d → AreAmong a d
-among_those a b d first then_ = record {
-  pids = λ p is. then_.pids p (first.pids p is);
-  fds = λ f is. then_.fds f (first.fds f is);
-}
+-- more names and refusals are many too
+many_more : (t v : List Step) → AreAmong (names_in t) (names_in v) → refused t ≤ refused v → NameOrRefuseMany t
+    → NameOrRefuseMany v
+many_more t v some less (inl names) = inl (λ pids fds among. names pids fds (record {
+  pids = λ p is. among.pids p (some.pids p is);
+  fds = λ f is. among.fds f (some.fds f is);
+}))
+many_more t v some less (inr refuses) = inr (omega (arith, refuses, less))
 
+-- one of two parts names or refuses many
 pub many_first : (t u : List Step) → NameOrRefuseMany t → NameOrRefuseMany (t ++ u)
-many_first t u many = elim many [
-  | inl names ↦ inl (λ pids fds among.
-      names pids fds (among_those (names_in t) (names_in (t ++ u)) (these pids fds) (first_among t u) among))
-  | inr refuses ↦ inr (omega (arith, refuses, refused_parts t u))
-]
+many_first t u = many_more t (t ++ u) (first_among t u) (omega (arith, refused_parts t u))
 
 pub many_second : (t u : List Step) → NameOrRefuseMany u → NameOrRefuseMany (t ++ u)
-many_second t u many = elim many [
-  | inl names ↦ inl (λ pids fds among.
-      names pids fds (among_those (names_in u) (names_in (t ++ u)) (these pids fds) (second_among t u) among))
-  | inr refuses ↦ inr (omega (arith, refuses, refused_parts t u))
-]
+many_second t u = many_more u (t ++ u) (second_among t u) (omega (arith, refused_parts t u))
 
 pub many_both : (t u : List Step) (first second : Known) → Knows first t → Knows second u
     → ListsMany first ⊎ ListsMany second → NameOrRefuseMany (t ++ u)

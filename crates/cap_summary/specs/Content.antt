@@ -9,9 +9,6 @@ abbrev pub content_steps : Content → List Step
 content_steps (Run run) = values run.items
 content_steps (Both a b) = a.value.steps ++ b.value.steps
 
-abbrev pub node_view : Option Known → Content → NodeView
-node_view kept content = record { steps = content_steps content; known = kept }
-
 -- a run is short, and a node of two parts has steps in both
 abbrev pub HasParts : Content → Type 0
 HasParts (Run run) = length run.items ≤ 48

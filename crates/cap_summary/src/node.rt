@@ -40,9 +40,9 @@ impl Model for Node {
 
     ghost Value = { NodeView };
 
-    ghost use Rattle.cap_summary.specs.{Content.node_view, Content.IsGood};
+    ghost use Rattle.cap_summary.specs.{Content.content_steps, Content.IsGood};
 
-    ghost view = { λ a. node_view a.known a.content };
+    ghost view = { λ a. record { steps = content_steps a.content; known = a.known } };
 
     ghost invariant = { λ a. IsGood a.len a.known a.content };
 
