@@ -137,19 +137,18 @@ swapped first later kept moved back = record {
 
 -- ---- the asks of both segments
 pub asked_by_both : (first : Effect) (own later kept moved united both : List Ask)
-    → IsPulledBack first later kept moved → IsUnionOf own kept united → IsUnionOf united moved both
+    → IsPulledBack first later kept moved → IsUnionOf kept moved united → IsUnionOf own united both
     → AreAskedByBoth first own later both
 asked_by_both first own later kept moved united both back near union = record {
   rises = union.rises;
-  holds = λ s. union.holds (cells_of s) ∙ ap (λ r. r || any_holds (cells_of s) moved) (near.holds (cells_of s))
-      ∙ or_assoc (any_holds (cells_of s) own) (any_holds (cells_of s) kept) (any_holds (cells_of s) moved)
-      ∙ ap (λ r. any_holds (cells_of s) own || r) (back.holds s);
+  holds = λ s. union.holds (cells_of s)
+      ∙ ap (λ r. any_holds (cells_of s) own || r) (near.holds (cells_of s) ∙ back.holds s);
   can = λ answer a b.
       let two = back.can answer b in
-      union.each (Can answer) (near.each (Can answer) a two.0) two.1;
+      union.each (Can answer) a (near.each (Can answer) two.0 two.1);
   names = λ names effect a b.
       let two = back.names names effect b in
-      union.each (Within (has_cell names)) (near.each (Within (has_cell names)) a two.0) two.1;
+      union.each (Within (has_cell names)) a (near.each (Within (has_cell names)) two.0 two.1);
   few = omega (arith, union.few, near.few, back.few);
 }
 

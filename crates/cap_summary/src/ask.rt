@@ -3,7 +3,7 @@
 ghost use Rattle.std.specs.Prelude.{◌≡◌, ◌^◌, ◌<◌, ◌||◌, ℕ, Bool, true, IfSome, option_copied};
 ghost use Rattle.cap_summary.specs.{nat_cmp, State, Cell, applied, Keys.Cells, Keys.cells_of, declared.key.Key.Key};
 ghost use Rattle.cap_summary.specs.Asks.{holds, is_sure, certain_at, possible_at, pulled_holds, pulled_within};
-ghost use Rattle.cap_summary.specs.Asks.{IfAsked, IsOpen, place, place_in_process, IsAtPlace, CanBe, or_same};
+ghost use Rattle.cap_summary.specs.Asks.{IfAsked, IsOpen, place, IsAtPlace, CanBe, or_same};
 ghost use Rattle.cap_summary.specs.Effects.{row_cell, cell_in, changed};
 ghost use Rattle.cap_summary.specs.Names.{Names, has_cell, RowWithin, IsRowWithin, EffectWithin};
 ghost use Rattle.cap_summary.specs.Tests.{has_kind, lacks, passes, holding};
@@ -65,29 +65,15 @@ impl Ask {
         ensures places { result ≡ nat_cmp (place self.now) (place other.now) }
         ensures equal { result ≡ Ordering.Equal → IsAtPlace self.now other.now }
     {
+        let number = self.key.number();
+        let others = other.key.number();
         match self.pid.cmp(&other.pid) {
-            Ordering::Equal => self.place_in_process().cmp(&other.place_in_process()),
-            order => {
-                self.fits();
-                other.fits();
-                order
-            }
+            Ordering::Equal => match number.cmp(&others) {
+                Ordering::Equal => self.lacking.held().cmp(&other.lacking.held()),
+                order => order,
+            },
+            order => order,
         }
-    }
-
-    /// Where it stands among the asks of its process.
-    fn place_in_process(&self) -> u64
-        ensures place { result ≡ place_in_process self.now }
-        ensures fits { result < 2 ^ 36 }
-    {
-        8 * self.key.number() + self.lacking.held() as u64
-    }
-
-    /// Does nothing: its contract says that the process decides between two asks first.
-    fn fits(&self)
-        ensures { place_in_process self.now < 2 ^ 36 }
-    {
-        self.place_in_process();
     }
 
     /// This ask or another at the same place.

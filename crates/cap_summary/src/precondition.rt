@@ -137,14 +137,14 @@ fn asks_of_both(
     let Some(pulled) = pulled_asks(alloc, first, later)? else {
         return Ok(None);
     };
-    let Some(both) = unite(alloc, own, &pulled.kept)? else {
+    if pulled.moved.is_empty() {
+        return unite(alloc, own, &pulled.kept);
+    }
+    let Some(moved) = in_order(alloc, pulled.moved)? else {
         return Ok(None);
     };
-    if pulled.moved.is_empty() {
-        return Ok(Some(both));
-    }
-    match in_order(alloc, pulled.moved)? {
-        Some(moved) => unite(alloc, &both, &moved),
+    match unite(alloc, &pulled.kept, &moved)? {
+        Some(later) => unite(alloc, own, &later),
         None => Ok(None),
     }
 }
