@@ -8,7 +8,7 @@ use Rattle.cap_summary.specs.{declared.ask.Ask.Ask, declared.base.DefaultCells.D
 use Rattle.cap_summary.specs.{declared.effect.Effect.Effect, declared.effect.Row.Row, declared.key.Key.Key}
 use Rattle.cap_summary.specs.{declared.precondition.Precondition.Precondition, declared.precondition.Refusal.Refusal}
 use Rattle.cap_summary.specs.{declared.value.Value.Value}
-use Rattle.cap_summary.specs.Asks.{place, holds, any_holds, CanBe, AskWithin, Rises, IsUnionOf, Within, Can}
+use Rattle.cap_summary.specs.Asks.{place, holds, any_holds, CanBe, IsOpen, AskWithin, Rises, IsUnionOf, Within, Can}
 use Rattle.cap_summary.specs.Effects.{is_from, others_cell, base_cell, row_cell, changed}
 use Rattle.cap_summary.specs.Names.{Names, has_cell, EffectWithin, RefusalsWithin, PreWithin}
 use Rattle.cap_summary.specs.Preconditions.{is_met, is_wrongful, IsPulledBack, AreAskedByBoth, IsAskedByBoth}
@@ -55,6 +55,11 @@ module _ (asks kept : List Ask) (i : ℕ) (ask : Ask) (within : i < length asks)
 
   pub kept_more : (before : Ask) → place before ≡ place ask → Rises ((kept ++ before ∷ []) ++ drop (i + 1) asks)
   kept_more before same = rises_put 0 kept (drop (i + 1) asks) ask before same whole
+
+-- ---- the row that a process has
+pub open_can : (ask : Ask) → IsOpen ask → (answer : Bool) → CanBe answer ask
+open_can ask can true = can.holds
+open_can ask can false = can.fails
 
 pub pulled_none : (first : Effect) (kept moved : List Ask) → kept ≡ [] → moved ≡ [] → IsPulledBack first [] kept moved
 pulled_none first kept moved near far = record {

@@ -6,7 +6,7 @@ use Rattle.cap_summary.specs.{effect_touch, effect_turn, start_state, Sorted.fou
 use Rattle.cap_summary.specs.{declared.base.Base.Base}
 use Rattle.cap_summary.specs.{declared.base.DefaultCells.DefaultCells, declared.base.Passing.Passing}
 use Rattle.cap_summary.specs.{declared.before.Before.Before, declared.effect.Effect.Effect, declared.effect.Row.Row}
-use Rattle.cap_summary.specs.{declared.key.Key.Key}
+use Rattle.cap_summary.specs.{declared.key.Key.Key, declared.value.Value.Value}
 use Rattle.cap_summary.specs.Keys.{Cells, cells_of, state_of}
 use Rattle.cap_summary.specs.declared.before.Before.TheVariants.{At, After'}
 
@@ -29,6 +29,11 @@ others_cell cells p (DefaultCells.Of q passing) f = passed passing (cells q (Key
 
 abbrev pub base_cell : Cells → ℕ → Base → ℕ → Cell
 base_cell cells p base f = if is_from base.closed_from f then Closed else others_cell cells p base.others f
+
+-- the value that a row lists at a key, if it lists one
+abbrev pub listed_value : Row → Key → Option Value
+listed_value row Key.Mode = row.mode
+listed_value row (Key.Fd f) = found row.cells f
 
 -- the cell of a key of process p, which has this row
 abbrev pub row_cell : Cells → ℕ → Row → Key → Cell

@@ -1,15 +1,15 @@
 //! What is asked of the cells before a segment.
 
-ghost use Rattle.std.specs.Prelude.{◌≡◌, ◌^◌, ◌<◌, ◌||◌, ℕ, Bool, true, IfSome, option_copied};
+ghost use Rattle.std.specs.Prelude.{◌≡◌, ◌^◌, ◌<◌, ◌||◌, ℕ, Bool, true, IfSome, IfNone, Some, option_copied};
 ghost use Rattle.cap_summary.specs.{nat_cmp, State, Cell, applied, Keys.Cells, Keys.cells_of, declared.key.Key.Key};
 ghost use Rattle.cap_summary.specs.Asks.{holds, is_sure, certain_at, possible_at, pulled_holds, pulled_within};
-ghost use Rattle.cap_summary.specs.Asks.{IfAsked, IsOpen, place, IsAtPlace, CanBe, or_same};
-ghost use Rattle.cap_summary.specs.Effects.{row_cell, cell_in, changed};
+ghost use Rattle.cap_summary.specs.Asks.{IfAsked, IsOpen, place, IsAtPlace};
+ghost use Rattle.cap_summary.specs.Effects.{row_cell, cell_in, changed, listed_value};
 ghost use Rattle.cap_summary.specs.Names.{Names, has_cell, RowWithin, IsRowWithin, EffectWithin};
 ghost use Rattle.cap_summary.specs.Tests.{has_kind, lacks, passes, holding};
 
 use crate::view::Seen;
-use crate::{Effect, Key, Kinds, Row, cell_of_mode};
+use crate::{Effect, Key, Kinds, Row, Value, cell_of_mode};
 use cap_machine::{Cell, Mode, OnExec, Op};
 use cap_rights::RightSet;
 use cap_trace::Pid;
@@ -170,15 +170,16 @@ impl Ask {
         }
     }
 
-    /// What it asks of the state before an earlier segment that has this row for its process.
-    fn through(&self, row: &Row) -> Pulled
+    /// What it asks of the state before an earlier segment that has this row for its process, which lists this at its key.
+    pub(crate) fn through(&self, row: &Row, listed: Option<&Value>) -> Pulled
+        requires { option_copied listed ≡ listed_value row.now self.now.key }
         ensures holds { (s : State) → pulled_holds (cells_of s) result
             ≡ passes self.now (row_cell (cells_of s) self.now.pid row.now self.now.key) }
         ensures open { IfAsked IsOpen result }
         ensures names { (names : Names) → RowWithin names row.now → has_cell names self.now.pid self.now.key ≡ true
             → pulled_within (has_cell names) result ≡ true }
     {
-        let (pid, key, ask) = match row.view(self.pid, self.key) {
+        let (pid, key, ask) = match row.view(self.pid, self.key, listed) {
             Seen::Is(cell) => return Pulled::of(self.passes(cell)),
             Seen::Same(pid, key) => (pid, key, *self),
             Seen::Executed(pid, key) => (pid, key, self.before_op(&Op::exec())),
@@ -195,29 +196,33 @@ impl Ask {
             → pulled_within (has_cell names) result ≡ true }
     {
         match first.row(self.pid) {
-            Some(row) => self.through(row),
+            Some(row) => self.through(row, row.listed(self.key, &mut 0)),
             None => self.settled(),
         }
     }
 
-    /// This ask pulled back through the row of its process, if there is one. `None` where the row leaves its cell.
+    /// The row of its process, if there is one, and what that lists at its key, looked for near this place. `None` where
+    /// the row leaves its cell.
     #[inline(always)]
     #[tactic(auto, using(crate::proofs::Pulling::row_left))]
-    pub(crate) fn pulled(&self, row: Option<&Row>) -> Option<Pulled>
-        ensures holds { (s : State) → pulled_holds (cells_of s) (or_same self.now result)
-            ≡ passes self.now (cell_in (cells_of s) (option_copied row.entry) self.now.pid self.now.key) }
-        ensures can { (answer : Bool) → CanBe answer self.now → IfAsked (CanBe answer) (or_same self.now result) }
-        ensures names { (names : Names) → IfSome (option_copied row.entry) (IsRowWithin names self.now.pid)
-            → has_cell names self.now.pid self.now.key ≡ true
-            → pulled_within (has_cell names) (or_same self.now result) ≡ true }
+    pub(crate) fn changed_by<'a>(
+        &self,
+        row: Option<&'a Row>,
+        near: &mut usize,
+    ) -> Option<(&'a Row, Option<&'a Value>)>
+        ensures left { IfNone result ((cells : Cells)
+            → cell_in cells (option_copied row.entry) self.now.pid self.now.key ≡ cells self.now.pid self.now.key) }
+        ensures row { IfSome result (λ by. option_copied row.entry ≡ Some by.0.now) }
+        ensures listed { IfSome result (λ by. option_copied by.1 ≡ listed_value by.0.now self.now.key) }
     {
         let Some(row) = row else {
             return None;
         };
-        if row.leaves(self.key) {
+        let listed = row.listed(self.key, near);
+        if row.leaves(self.key, listed) {
             return None;
         }
-        Some(self.through(row))
+        Some((row, listed))
     }
 }
 

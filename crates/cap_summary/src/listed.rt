@@ -98,12 +98,13 @@ impl Listed {
         }
     }
 
-    /// The value of a descriptor, if it is listed. Allocates nothing.
-    pub fn get(&self, fd: u32) -> Option<&Value>
+    /// The value of a descriptor, if it is listed, looked for near this place as in [`Map::get_near`].
+    #[inline(always)]
+    pub(crate) fn get_near(&self, near: &mut usize, fd: u32) -> Option<&Value>
         ensures { option_copied result ≡ found self.now fd }
     {
         match &self.cells {
-            Some(cells) => cells.get(fd),
+            Some(cells) => cells.get_near(near, fd),
             None => None,
         }
     }

@@ -101,14 +101,15 @@ fn pulled_asks(alloc: Global, first: &Effect, asks: &[Ask]) -> Result<Option<Pul
     let mut moved = Vec::new(alloc);
     let mut pid = 0;
     let mut row = first.row(pid);
+    let mut near = 0;
     for ask in asks {
         row = row_of(first, ask.pid, pid, row);
         pid = ask.pid;
-        let Some(pulled) = ask.pulled(row) else {
+        let Some((by, listed)) = ask.changed_by(row, &mut near) else {
             kept.push(*ask)?;
             continue;
         };
-        match pulled {
+        match ask.through(by, listed) {
             Pulled::Always => return Ok(None),
             Pulled::Never => {}
             Pulled::Where(before) => match before.order(ask) {

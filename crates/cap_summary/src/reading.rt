@@ -1,7 +1,8 @@
 //! What a row and an effect say of a cell, and how much they list.
 
 ghost use Rattle.std.specs.Prelude.{◌≡◌, ℕ, true, false, IfOk, option_copied};
-ghost use Rattle.cap_summary.specs.{Effects.own_row, Effects.row_cell, Keys.Cells, Effects.row_leaves, Effects.leaves};
+ghost use Rattle.cap_summary.specs.{Effects.own_row, Effects.row_cell, Effects.listed_value, Effects.row_leaves};
+ghost use Rattle.cap_summary.specs.{Effects.leaves, Keys.Cells};
 ghost use Rattle.cap_summary.specs.{Names.Names, Names.RowWithin, RowSizes.IsSizeOf, Sorted.found, Sorted.Rises};
 ghost use Rattle.cap_summary.specs.{declared.key.Key.Key};
 
@@ -73,14 +74,27 @@ impl Row {
         })
     }
 
-    /// Whether it is known that no line touches a cell or turns the mode.
-    pub(crate) fn leaves(&self, key: Key) -> bool
+    /// The value that is listed at a key, if there is one. That of a descriptor is looked for near this place.
+    #[inline(always)]
+    pub(crate) fn listed(&self, key: Key, near: &mut usize) -> Option<&Value>
+        ensures { option_copied result ≡ listed_value self.now key }
+    {
+        match key {
+            Key::Mode => self.mode.as_ref(),
+            Key::Fd(fd) => self.cells.get_near(near, fd),
+        }
+    }
+
+    /// Whether it is known that no line touches a cell or turns the mode, where this is listed at its key.
+    #[inline(always)]
+    pub(crate) fn leaves(&self, key: Key, listed: Option<&Value>) -> bool
+        requires { option_copied listed ≡ listed_value self.now key }
         ensures { result ≡ row_leaves self.now key }
     {
         match key {
-            Key::Mode => self.mode.is_none(),
+            Key::Mode => listed.is_none(),
             Key::Fd(fd) => {
-                self.cells.get(fd).is_none()
+                listed.is_none()
                     && matches!(self.base.others, DefaultCells::Own)
                     && !self.base.closes(fd)
             }
@@ -104,7 +118,7 @@ impl Effect {
         ensures { result ≡ leaves self.now pid key }
     {
         match self.row(pid) {
-            Some(row) => row.leaves(key),
+            Some(row) => row.leaves(key, row.listed(key, &mut 0)),
             None => true,
         }
     }

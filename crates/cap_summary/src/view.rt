@@ -1,7 +1,7 @@
 //! What is seen of a cell after a segment.
 
-ghost use Rattle.std.specs.Prelude.{◌≡◌, ℕ, Bool, true, IfSome, IfOk};
-ghost use Rattle.cap_summary.specs.{applied, Effects.base_cell, Effects.row_cell, Effects.changed, Keys.Cells};
+ghost use Rattle.std.specs.Prelude.{◌≡◌, ℕ, Bool, true, IfSome, IfOk, option_copied};
+ghost use Rattle.cap_summary.specs.{applied, Effects.{base_cell, row_cell, changed, listed_value}, Keys.Cells};
 ghost use Rattle.cap_summary.specs.{Sorted.found, declared.key.Key.Key};
 ghost use Rattle.cap_summary.specs.Names.{Names, has_cell, others_within, RowWithin, IsRowWithin, ReadWithin};
 ghost use Rattle.cap_summary.specs.Values.{read, reads_within, seen_cell, seen_within};
@@ -79,21 +79,17 @@ impl Base {
 }
 
 impl Row {
-    /// The cell of a key of the process.
-    pub(crate) fn view(&self, pid: Pid, key: Key) -> Seen<'_>
+    /// The cell of a key of the process, where this is listed at the key.
+    pub(crate) fn view<'a>(&'a self, pid: Pid, key: Key, listed: Option<&'a Value>) -> Seen<'a>
+        requires { option_copied listed ≡ listed_value self.now key }
         ensures cells { (cells : Cells) → seen_cell cells result ≡ row_cell cells pid self.now key }
         ensures names { (names : Names) → has_cell names pid key ≡ true → RowWithin names self.now
             → seen_within (has_cell names) result ≡ true }
     {
-        match key {
-            Key::Mode => match &self.mode {
-                Some(value) => value.view(),
-                None => Seen::Same(pid, key),
-            },
-            Key::Fd(fd) => match self.cells.get(fd) {
-                Some(value) => value.view(),
-                None => self.base.view(pid, fd),
-            },
+        match (listed, key) {
+            (Some(value), _) => value.view(),
+            (None, Key::Mode) => Seen::Same(pid, key),
+            (None, Key::Fd(fd)) => self.base.view(pid, fd),
         }
     }
 }
@@ -106,7 +102,7 @@ impl Effect {
             → has_cell names pid key ≡ true → seen_within (has_cell names) result ≡ true }
     {
         match self.row(pid) {
-            Some(row) => row.view(pid, key),
+            Some(row) => row.view(pid, key, row.listed(key, &mut 0)),
             None => Seen::Same(pid, key),
         }
     }

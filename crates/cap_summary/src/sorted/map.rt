@@ -51,6 +51,30 @@ fn place_of<V>(entries: &[(u32, V)], key: u32) -> Result<usize, usize>
     entries.binary_search_by_key(&key, |entry| entry.0)
 }
 
+/// The same, where the entry is likely to be at this place or a little above it. Where those below it have smaller keys, it
+/// goes up from there.
+#[inline(always)]
+fn place_near<V>(entries: &[(u32, V)], near: usize, key: u32) -> Result<usize, usize>
+    requires { Rises entries.now }
+    ensures at { IfOk result (IsAt entries.now key) }
+    ensures value { IfOk result
+        (λ at. found entries.now key ≡ option_map (λ entry. entry.1) (slice_get entries.now at)) }
+    ensures absent { IfErr result (λ _. found entries.now key ≡ None) }
+{
+    if near == 0 || near > entries.len() || key <= entries[near - 1].0 {
+        return place_of(entries, key);
+    }
+    let mut at = near;
+    while at < entries.len() && entries[at].0 < key {
+        at += 1;
+    }
+    if at < entries.len() && entries[at].0 == key {
+        Ok(at)
+    } else {
+        Err(at)
+    }
+}
+
 impl<V> Map<V> {
     /// The entries in the order of their keys. Allocates nothing.
     pub fn entries(&self) -> &[(u32, V)]
@@ -67,6 +91,23 @@ impl<V> Map<V> {
         match place_of(&self.entries, key) {
             Ok(at) => Some(&self.entries[at].1),
             Err(_) => None,
+        }
+    }
+
+    /// The same, looked for near this place, which becomes that of the key: one look-up of several keys that rise.
+    #[inline(always)]
+    pub(crate) fn get_near(&self, near: &mut usize, key: u32) -> Option<&V>
+        ensures { option_copied result ≡ found self.now key }
+    {
+        match place_near(&self.entries, *near, key) {
+            Ok(at) => {
+                *near = at;
+                Some(&self.entries[at].1)
+            }
+            Err(at) => {
+                *near = at;
+                None
+            }
         }
     }
 }

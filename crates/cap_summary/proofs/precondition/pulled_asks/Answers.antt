@@ -1,11 +1,11 @@
 use Rattle.std.proofs.{lemmas.List.Folds.list_any_at}
-use Rattle.std.specs.Prelude.{◌≡◌, true, refl, IfSome}
+use Rattle.std.specs.Prelude.{◌≡◌, true, refl, Some, IfSome}
 use Rattle.cap_summary.specs.{Equal, State, Effects.cell_in, Effects.changed, Keys.cells_of, Tests.passes}
-use Rattle.cap_summary.specs.{declared.ask.Ask.Ask}
-use Rattle.cap_summary.specs.Asks.{holds, pulled_holds, pulled_within, AskWithin}
+use Rattle.cap_summary.specs.{Sorted.found, declared.ask.Ask.Ask}
+use Rattle.cap_summary.specs.Asks.{holds, pulled_holds, pulled_within, AskWithin, IsOpen}
 use Rattle.cap_summary.specs.Names.{Names, has_cell, IsRowWithin, EffectWithin}
 use Rattle.cap_summary.proofs.{drop_all, append-nil, arith, sym, ap, ◌∙◌, subst, ranked}
-use Rattle.cap_summary.proofs.Pulling.{pulled_none, pulled_never, pulled_kept, swapped, kept_same, kept_more}
+use Rattle.cap_summary.proofs.Pulling.{pulled_none, pulled_never, pulled_kept, swapped, kept_same, kept_more, open_can}
 use Rattle.cap_summary.proofs.precondition.pulled_asks.Goals as goal
 
 pub loop-ask-init : goal.loop-ask-init
@@ -20,8 +20,8 @@ returns-in-Always-clause-always c = λ s.
     let cells = changed c.args.first.now (cells_of s) in
     let ask = c.ask-item.result in
     let here : holds cells ask ≡ true =
-    ap (λ r. passes ask (cell_in (cells_of s) r ask.pid ask.key)) (sym c.row_of-row.ensures)
-    ∙ sym (rw c.in-Always.is at (c.in-Some.ensures.holds s)) in
+    ap (λ r. passes ask (cell_in (cells_of s) r ask.pid ask.key)) (sym c.row_of-row.ensures ∙ c.in-Some.ensures.row)
+    ∙ sym (rw c.in-Always.is at (c.through.ensures.holds s)) in
     list_any_at (holds cells) c.args.asks.now c.loop-ask.ask-index ask c.loop-ask-test.true
     (subst (λ (x : Ask). holds cells x ≡ true) c.ask-item.is here)
 
@@ -32,8 +32,8 @@ loop-ask-preserved-in_default c =
     let so_far = c.loop-ask.invariant in record {
       back = rw c.in_ok-push.ensures.items (pulled_kept first c.args.asks.now c.loop-ask.ask-index ask
           c.loop-ask.kept.items c.loop-ask.moved.items c.loop-ask-test.true c.ask-item.is so_far.back ask
-          (λ answer can. can) (λ s. rw c.in_default.is at (c.pulled.ensures.holds s)
-          ∙ ap (λ r. passes ask (cell_in (cells_of s) r ask.pid ask.key)) c.row_of-row.ensures)
+          (λ answer can. can) (λ s. ap (passes ask) (sym (rw c.in_default.is at c.changed_by.ensures.left (cells_of s))
+          ∙ ap (λ r. cell_in (cells_of s) r ask.pid ask.key) c.row_of-row.ensures))
           (λ names effect within. within));
       kept = rw c.in_ok-push.ensures.items
           (kept_more _ _ _ ask c.loop-ask-test.true c.ask-item.is so_far.kept ask refl);
@@ -52,35 +52,41 @@ loop-ask-preserved c =
     let is = c.ask-item.is in
     let so_far = c.loop-ask.invariant in
     let row = c.row_of-row.ensures in
-    let pulled = c.in-Some.pulled in
+    let by : found first.rows ask.pid ≡ Some c.in-Some.by.now = sym row ∙ c.in-Some.ensures.row in
+    let pulled = c.through.result in
     let met : (s : State) → pulled_holds (cells_of s) pulled ≡ holds (changed first (cells_of s)) ask = λ s.
-    c.in-Some.ensures.holds s ∙ ap (λ r. passes ask (cell_in (cells_of s) r ask.pid ask.key)) row in
+    c.through.ensures.holds s ∙ ap (λ r. passes ask (cell_in (cells_of s) r ask.pid ask.key)) (sym by) in
     let named : (names : Names) → EffectWithin names first → AskWithin (has_cell names) ask
     → pulled_within (has_cell names) pulled ≡ true = λ names effect.
-    c.in-Some.ensures.names names (subst (λ r. IfSome r (IsRowWithin names ask.pid)) (sym row) (effect ask.pid)) in
-    elim c.match-pulled-2.branch [
+    let own : IsRowWithin names ask.pid c.in-Some.by.now =
+    subst (λ r. IfSome r (IsRowWithin names ask.pid)) by (effect ask.pid) in
+    c.through.ensures.names names own.row in
+    elim c.match-through.branch [
       | goal.in-Never w ↦ record {
         back = rw (w.kept-is, w.moved-is) (pulled_never first asks i ask kept moved within is so_far.back
             (λ s. sym (rw w.in-Never.is at (met s))));
         kept = rw w.kept-is (kept_same asks kept i ask within is so_far.kept);
         row = row;
       }
-      | goal.in-Where+in-Equal+in_ok-push-in-Equal w ↦ record {
-        back = rw (w.kept-is, w.moved-is, w.in_ok-push-in-Equal.ensures.items) (pulled_kept first asks i ask kept moved
-            within is so_far.back w.in-Where.before (rw w.in-Where.is at c.in-Some.ensures.can)
-            (rw w.in-Where.is at met) (rw w.in-Where.is at named));
-        kept = rw (w.kept-is, w.in_ok-push-in-Equal.ensures.items)
-            (kept_more asks kept i ask within is so_far.kept w.in-Where.before
-            (ranked _ _ Equal w.in-Equal.ensures.places));
-        row = row;
-      }
-      | goal.in-Where+in_default-order+in_ok-push-in_default-order w ↦ record {
-        back = rw (w.kept-is, w.moved-is, w.in_ok-push-in_default-order.ensures.items) (swapped first _ _ kept (pulled_kept
-            first asks i ask moved kept within is (swapped first _ kept moved so_far.back) w.in-Where.before
-            (rw w.in-Where.is at c.in-Some.ensures.can) (rw w.in-Where.is at met) (rw w.in-Where.is at named)));
-        kept = rw w.kept-is (kept_same asks kept i ask within is so_far.kept);
-        row = row;
-      }
+      | goal.in-Where+in-Equal+in_ok-push-in-Equal w ↦
+          let may : IsOpen w.in-Where.before = rw w.in-Where.is at c.through.ensures.open in record {
+            back = rw (w.kept-is, w.moved-is, w.in_ok-push-in-Equal.ensures.items) (pulled_kept first asks i ask kept moved
+                within is so_far.back w.in-Where.before (λ answer can. open_can w.in-Where.before may answer)
+                (rw w.in-Where.is at met) (rw w.in-Where.is at named));
+            kept = rw (w.kept-is, w.in_ok-push-in-Equal.ensures.items)
+                (kept_more asks kept i ask within is so_far.kept w.in-Where.before
+                (ranked _ _ Equal w.in-Equal.ensures.places));
+            row = row;
+          }
+      | goal.in-Where+in_default-order+in_ok-push-in_default-order w ↦
+          let may : IsOpen w.in-Where.before = rw w.in-Where.is at c.through.ensures.open in record {
+            back = rw (w.kept-is, w.moved-is, w.in_ok-push-in_default-order.ensures.items) (swapped first _ _ kept (pulled_kept
+                first asks i ask moved kept within is (swapped first _ kept moved so_far.back) w.in-Where.before
+                (λ answer can. open_can w.in-Where.before may answer)
+                (rw w.in-Where.is at met) (rw w.in-Where.is at named)));
+            kept = rw w.kept-is (kept_same asks kept i ask within is so_far.kept);
+            row = row;
+          }
     ]
 
 pub returns-clause-rises : goal.returns-clause-rises
