@@ -31,7 +31,7 @@ fn started_cells(alloc: Global, spelled: &[u8]) -> Result<Listed, NoMemory>
     let Ok(fds) = fds_of(alloc, spelled) else {
         return Err(NoMemory);
     };
-    let mut listed = Map::new(alloc);
+    let mut listed = Map::with_capacity(alloc, fds.len())?;
     for fd in &fds {
         listed.set(*fd, Value::Held(RightSet::all(), OnExec::Unsure))?;
     }

@@ -122,6 +122,15 @@ impl<V: Drop> Map<V> {
         }
     }
 
+    /// A map without entries, with room for so many.
+    pub fn with_capacity(alloc: Global, room: usize) -> Result<Map<V>, NoMemory>
+        ensures { IfOk result (λ map. map ≡ []) }
+    {
+        Ok(Map {
+            entries: Vec::with_capacity(alloc, room)?,
+        })
+    }
+
     /// The map of these entries, whose keys must strictly rise. It has no spare room.
     pub(super) fn from_sorted(entries: Vec<(u32, V)>) -> Map<V>
         requires { Rises entries.items }
