@@ -61,11 +61,6 @@ pulled_within names Always = true
 pulled_within names Never = true
 pulled_within names (Where ask) = names ask.pid ask.key
 
--- what an ask becomes, if it doesn't stay as it is
-abbrev pub or_same : Ask → Option Pulled → Pulled
-or_same ask None = Where ask
-or_same ask (Some pulled) = pulled
-
 -- ---- order: by process, then by key, then by the kinds of held cells at which rights are asked about
 abbrev pub key_number : Key → ℕ
 key_number Key.Mode = 0
