@@ -1,13 +1,14 @@
 -- What is read of a text and what is answered of it, together.
 use Rattle.std.proofs.Common.{◌≡◌, ℕ, Bool, true, false, List, [], refl, ap, inl, inr, subst, arith}
-use Rattle.std.specs.Prelude.{Err, Ok}
+use Rattle.std.specs.Io.KnownBytes.{Appends}
+use Rattle.std.specs.Prelude.{Err, Ok, Result, ◌+◌}
 use Rattle.cap_trace.specs.Entry.{Entry}
 use Rattle.cap_session.specs.AnswerStreams.{Kind, of_trace, SaysOf, Says, nothing, IsAnswer, NamesLine, HasOutcome}
 use Rattle.cap_session.specs.AnswerStreams.{AnswerStreams, Rejected, Taken}
 use Rattle.cap_session.specs.Devices.{SourceState, SinkState}
 use Rattle.cap_session.specs.Outcome.{found, refused_as, explain_read_faults, explain_write_faults}
 use Rattle.cap_session.specs.Trace.{trace, soon, next_entry}
-use Rattle.cap_session.specs.Reads.{Reads, IsEnded, IsGood}
+use Rattle.cap_session.specs.Reads.{Reads, IsEnded, IsGood, faults}
 use Rattle.cap_session.specs.Refusal.{refusal_text}
 use Rattle.cap_session.specs.Works.{EndsCall, Writes, WritesAnswer}
 use Rattle.cap_session.specs.Writes.{Wrote}
@@ -22,6 +23,7 @@ use Rattle.cap_session.specs.declared.outcome.Outcome.TheVariants.{ReadFault, Wr
 use Rattle.cap_session.specs.declared.outcome.ExplainOutcome.{ExplainOutcome}
 use Rattle.cap_session.specs.declared.outcome.ExplainOutcome.TheVariants.{Ended, OutOfRange}
 use Rattle.cap_session.proofs.Calls.{appends_none}
+use Rattle.cap_session.proofs.ReadsAs.{reads_as}
 use Rattle.cap_session.proofs.Soon.{good_soon}
 use Rattle.cap_session.proofs.Texted.{goes_nowhere}
 
@@ -43,83 +45,55 @@ by_input inputs.Trace e P trace start = trace _ _
 
 module _ {A : Type 0} (kind : Kind A) (says : SaysOf A) (turns : ℕ) (r0 r1 : SourceState) (w0 w1 : SinkState)
     {T : Type 0} (holds : T → A → Type 0) where
+  -- what was read and what was written, with the outcome
+  streams : (o : ExplainOutcome) (x : Result T StopReason) (written : List ℕ)
+      → (r : Reads kind.whole kind.soon holds turns r0 r1 x) → Appends w0.taken w1.taken written
+      → explain_read_faults o ≡ faults x → w1.failures ≡ w0.failures + explain_write_faults o
+      → HasOutcome kind says turns r0 r1 r.given written o → AnswerStreams kind says turns r0 r1 w0 w1 o
+  streams o x written r wrote reads writes answer = record {
+    given = r.given;
+    read = r.read;
+    calls = r.calls;
+    written = written;
+    wrote = wrote;
+    read_fault = rw reads r.failures;
+    write_fault = writes;
+    answer = answer;
+  }
+
+  -- nothing was written
+  silent : (o : ExplainOutcome) (x : Result T StopReason) → (r : Reads kind.whole kind.soon holds turns r0 r1 x)
+      → w1 ≡ w0 → explain_read_faults o ≡ faults x → explain_write_faults o ≡ 0
+      → HasOutcome kind says turns r0 r1 r.given [] o → AnswerStreams kind says turns r0 r1 w0 w1 o
+  silent o x r kept reads writes answer =
+      let same : w1.failures ≡ w0.failures = ap (λ (s : SinkState). s.failures) kept in
+      streams o x [] r (rw kept (appends_none w0.taken)) reads (omega (arith, writes)) answer
+
   line_refused : (e : Refusal) (o : Outcome) → Reads kind.whole kind.soon holds turns r0 r1 (Err (stops.Refused e))
       → Writes (refusal_text kind.input e) (refused_as kind.input e) WriteFault w0 w1 o
       → AnswerStreams kind says turns r0 r1 w0 w1 (Ended o)
   line_refused e o r (inl w) =
       let same = w.0.failures in
+      let text = refusal_text kind.input e in
       let names : (outcome : Outcome) → outcome ≡ refused_as kind.input e
-      → NamesLine kind (IsEnded r0 r1) r.given (refusal_text kind.input e) outcome = λ outcome is.
+      → NamesLine kind (IsEnded r0 r1) r.given text outcome = λ outcome is.
       record { refusal = e; says = record { line = r.answer; is = refl }; is = is } in
       rw w.1 (by_input kind.input e (λ (outcome : Outcome). outcome ≡ refused_as kind.input e
       → AnswerStreams kind says turns r0 r1 w0 w1 (Ended outcome))
-      (λ code line is. record {
-        given = r.given;
-        read = r.read;
-        calls = r.calls;
-        written = refusal_text kind.input e;
-        wrote = w.0.taken;
-        read_fault = r.failures;
-        write_fault = omega arith;
-        answer = names _ is;
-      })
-      (λ code line is. record {
-        given = r.given;
-        read = r.read;
-        calls = r.calls;
-        written = refusal_text kind.input e;
-        wrote = w.0.taken;
-        read_fault = r.failures;
-        write_fault = omega arith;
-        answer = names _ is;
-      }) refl)
-  line_refused e o r (inr w) = rw w.1 (record {
-    given = r.given;
-    read = r.read;
-    calls = r.calls;
-    written = w.0.front;
-    wrote = w.0.taken;
-    read_fault = r.failures;
-    write_fault = w.0.failures;
-    answer = (refusal_text kind.input e, (w.0.rest, w.0.cut), inr (e, record { line = r.answer; is = refl }));
-  })
+      (λ code line is. streams (Ended (Refused code line)) _ text r w.0.taken refl (omega arith) (names _ is))
+      (λ code line is. streams (Ended (StartRefused code line)) _ text r w.0.taken refl (omega arith) (names _ is)) refl)
+  line_refused e o r (inr w) = rw w.1 (streams (Ended WriteFault) _ w.0.front r w.0.taken refl w.0.failures
+      (refusal_text kind.input e, (w.0.rest, w.0.cut), inr (e, record { line = r.answer; is = refl })))
 
   pub answer_stopped : (stop : StopReason) (o : Outcome) → Reads kind.whole kind.soon holds turns r0 r1 (Err stop)
       → EndsCall kind.input stop w0 w1 o → AnswerStreams kind says turns r0 r1 w0 w1 (Ended o)
   answer_stopped (stops.Refused e) o r w = line_refused e o r w
   answer_stopped stops.Memory o r w =
-      rw (w.0, w.1) (record {
-        given = r.given;
-        read = r.read;
-        calls = r.calls;
-        written = [];
-        wrote = appends_none w0.taken;
-        read_fault = r.failures;
-        write_fault = omega arith;
-        answer = record { good = r.answer; silent = refl };
-      })
-  answer_stopped stops.ReadFault o r w =
-      rw (w.0, w.1) (record {
-        given = r.given;
-        read = r.read;
-        calls = r.calls;
-        written = [];
-        wrote = appends_none w0.taken;
-        read_fault = r.failures;
-        write_fault = omega arith;
-        answer = record { going = r.answer.0; good = r.answer.1; silent = refl };
-      })
-  answer_stopped stops.TooLong o r w =
-      rw (w.0, w.1) (record {
-        given = r.given;
-        read = r.read;
-        calls = r.calls;
-        written = [];
-        wrote = appends_none w0.taken;
-        read_fault = r.failures;
-        write_fault = omega arith;
-        answer = (record { going = r.answer.0; good = r.answer.1; silent = refl }, r.answer.2);
-      })
+      rw w.1 (silent (Ended Memory) _ r w.0 refl refl (record { good = r.answer; silent = refl }))
+  answer_stopped stops.ReadFault o r w = rw w.1 (silent (Ended ReadFault) _ r w.0 refl refl
+      (record { going = r.answer.0; good = r.answer.1; silent = refl }))
+  answer_stopped stops.TooLong o r w = rw w.1 (silent (Ended TooLong) _ r w.0 refl refl
+      (record { going = r.answer.0; good = r.answer.1; silent = refl }, r.answer.2))
   answer_stopped stops.WriteFault o r w = absurd r.answer
 
 -- memory ran out before the first read
@@ -146,47 +120,19 @@ module _ (says : Says) {T : Type 0} (holds : T → List Entry → Type 0) (turns
       → AnswerStreams of_trace says turns r0 r1 w0 w1 o
   told o text reads writes w answer =
       let same = w.failures in
-      let none = r.failures in
-      record {
-        given = r.given;
-        read = r.read;
-        calls = r.calls;
-        written = text;
-        wrote = w.taken;
-        read_fault = omega (arith, reads);
-        write_fault = omega (arith, writes);
-        answer = answer;
-      }
+      streams of_trace says turns r0 r1 w0 w1 holds o (Ok x) text r w.taken reads (omega (arith, writes)) answer
 
   pub answered : (o : ExplainOutcome) → WritesAnswer (says r.answer.1.0) w0 w1 o
       → AnswerStreams of_trace says turns r0 r1 w0 w1 o
   answered (Ended Clean) w = told (Ended Clean) w.0 refl refl w.1 (is_answer (Ended Clean) w.0 w.2)
   answered (Ended Findings) w = told (Ended Findings) w.0 refl refl w.1 (is_answer (Ended Findings) w.0 w.2)
   answered OutOfRange w = told OutOfRange w.0 refl refl w.1 (is_answer OutOfRange w.0 w.2)
-  answered (Ended Memory) w =
-      let same : w1.failures ≡ w0.failures = ap (λ (s : SinkState). s.failures) w in
-      record {
-        given = r.given;
-        read = r.read;
-        calls = r.calls;
-        written = [];
-        wrote = rw w (appends_none w0.taken);
-        read_fault = r.failures;
-        write_fault = omega arith;
-        answer = record { good = good_trace holds turns r0 r1 x r; silent = refl };
-      }
+  answered (Ended Memory) w = silent of_trace says turns r0 r1 w0 w1 holds (Ended Memory) (Ok x) r w refl refl
+      (record { good = good_trace holds turns r0 r1 x r; silent = refl })
   answered (Ended WriteFault) w =
       let (o, text, wrote, is) = w in
-      record {
-        given = r.given;
-        read = r.read;
-        calls = r.calls;
-        written = wrote.front;
-        wrote = wrote.taken;
-        read_fault = r.failures;
-        write_fault = wrote.failures;
-        answer = (text, (wrote.rest, wrote.cut), inl (o, is_answer o text is));
-      }
+      streams of_trace says turns r0 r1 w0 w1 holds (Ended WriteFault) (Ok x) wrote.front r wrote.taken refl
+      wrote.failures (text, (wrote.rest, wrote.cut), inl (o, is_answer o text is))
   answered (Ended (Refused code line)) w = absurd w
   answered (Ended (StartRefused code line)) w = absurd w
   answered (Ended ReadFault) w = absurd w
@@ -238,10 +184,5 @@ module _ {A : Type 0} (kind : Kind A) {T : Type 0} (holds : T → A → Type 0) 
 pub not_loaded : {T : Type 0} (holds : T → List Entry → Type 0) (turns : ℕ) (x0 x1 y : SourceState) (w : SinkState)
     (x : T) → Reads trace soon holds turns x0 x1 (Ok x) → Rejected of_trace turns x0 x1 y y w w (Ended Memory)
 not_loaded holds turns x0 x1 y w x r =
-    first_rejected of_trace holds turns x0 x1 y w w stops.Memory Memory (record {
-      given = r.given;
-      read = r.read;
-      calls = r.calls;
-      failures = r.failures;
-      answer = good_trace holds turns x0 x1 x r;
-    }) (refl, refl)
+    first_rejected of_trace holds turns x0 x1 y w w stops.Memory Memory
+    (reads_as r refl (good_trace holds turns x0 x1 x r)) (refl, refl)

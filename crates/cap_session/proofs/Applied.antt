@@ -1,6 +1,6 @@
 -- What edits do, one after the other.
 use Rattle.std.proofs.Common.{◌≡◌, ℕ, ◌+◌, ◌<◌, List, [], ◌∷◌, ◌++◌, length, take, get_or, Bool, refl, ap, ◌∙◌, arith}
-use Rattle.std.proofs.Common.{IsOk, IfOk, OnErr}
+use Rattle.std.proofs.Common.{IsOk, IfOk, OnErr, ◌⊎◌, inl, inr}
 use Rattle.std.specs.Prelude.{Result, Ok, Err}
 use Rattle.std.proofs.lemmas.List.{map-append, length-map, length-append, take_more}
 use Rattle.cap_trace.specs.Entry.{Entry}
@@ -16,41 +16,33 @@ pub record Does (old new : SessionState) (asked : Result (List Entry) Refused) (
   pub answers : a ≡ answer (is_out_of_memory a) asked
   pub trace : new.trace ≡ trace_after old.trace (is_out_of_memory a) asked
 
-is_refused : (old new : SessionState) (asked : Result (List Entry) Refused) (e : Refused)
-    → is_out_of_memory (Err e) ≡ is_out_of_memory (Err e) → asked ≡ Err e → new ≡ old → Does old new asked (Err e)
-is_refused old new asked e same is kept =
-    rw is (record { answers = refl; trace = ap (λ (s : SessionState). s.trace) kept })
+-- a refusal is the one that was asked for, or memory ran out
+pub refused_or_out : (asked : Result (List Entry) Refused) (e : Refused) → RefusesExactly asked (Err e)
+    → (◌≡◌ {A = Result ℕ Refused} (Err e) (Err Memory) → IsOk asked) → (asked ≡ Err e) ⊎ ((e ≡ Memory) × IsOk asked)
+refused_or_out asked Memory refused memory = inr (refl, memory refl)
+refused_or_out asked LongLine refused memory = inl ((refused LongLine (λ e. cc)).0 refl)
+refused_or_out asked Shape refused memory = inl ((refused Shape (λ e. cc)).0 refl)
+refused_or_out asked Pid refused memory = inl ((refused Pid (λ e. cc)).0 refl)
+refused_or_out asked Argument refused memory = inl ((refused Argument (λ e. cc)).0 refl)
+refused_or_out asked Right refused memory = inl ((refused Right (λ e. cc)).0 refl)
+refused_or_out asked Answer refused memory = inl ((refused Answer (λ e. cc)).0 refl)
+refused_or_out asked Position refused memory = inl ((refused Position (λ e. cc)).0 refl)
+refused_or_out asked Full refused memory = inl ((refused Full (λ e. cc)).0 refl)
 
 out_of_memory : (old new : SessionState) (asked : Result (List Entry) Refused) → IsOk asked → new ≡ old
     → Does old new asked (Err Memory)
 out_of_memory old new (Ok next) ok kept = record { answers = refl; trace = ap (λ (s : SessionState). s.trace) kept }
 out_of_memory old new (Err e) ok kept = absurd (cc)
 
-made : (old new : SessionState) (asked : Result (List Entry) Refused) (n : ℕ) → asked ≡ Ok new.trace
-    → n ≡ length new.trace → Does old new asked (Ok n)
-made old new asked n is count = rw (is, count) (record { answers = refl; trace = refl })
-
 pub does : (old new : SessionState) (asked : Result (List Entry) Refused) (a : Result ℕ Refused) →
     IfOk a (λ n. (asked ≡ Ok new.trace) × (n ≡ length new.trace)) → RefusesExactly asked a
     → (a ≡ Err Memory → IsOk asked) → OnErr a (new ≡ old) → Does old new asked a
-does old new asked (Ok n) accepted refused memory kept = made old new asked n accepted.0 accepted.1
-does old new asked (Err Memory) accepted refused memory kept = out_of_memory old new asked (memory refl) kept
-does old new asked (Err LongLine) accepted refused memory kept =
-    is_refused old new asked LongLine refl ((refused LongLine (λ e. cc)).0 refl) kept
-does old new asked (Err Shape) accepted refused memory kept =
-    is_refused old new asked Shape refl ((refused Shape (λ e. cc)).0 refl) kept
-does old new asked (Err Pid) accepted refused memory kept =
-    is_refused old new asked Pid refl ((refused Pid (λ e. cc)).0 refl) kept
-does old new asked (Err Argument) accepted refused memory kept =
-    is_refused old new asked Argument refl ((refused Argument (λ e. cc)).0 refl) kept
-does old new asked (Err Right) accepted refused memory kept =
-    is_refused old new asked Right refl ((refused Right (λ e. cc)).0 refl) kept
-does old new asked (Err Answer) accepted refused memory kept =
-    is_refused old new asked Answer refl ((refused Answer (λ e. cc)).0 refl) kept
-does old new asked (Err Position) accepted refused memory kept =
-    is_refused old new asked Position refl ((refused Position (λ e. cc)).0 refl) kept
-does old new asked (Err Full) accepted refused memory kept =
-    is_refused old new asked Full refl ((refused Full (λ e. cc)).0 refl) kept
+does old new asked (Ok n) accepted refused memory kept =
+    rw (accepted.0, accepted.1) (record { answers = refl; trace = refl })
+does old new asked (Err e) accepted refused memory kept = elim (refused_or_out asked e refused memory) [
+  | inl is ↦ rw is (record { answers = refl; trace = ap (λ (s : SessionState). s.trace) kept })
+  | inr out ↦ rw out.0 (out_of_memory old new asked out.1 kept)
+]
 
 -- ---- one edit more
 

@@ -1,11 +1,11 @@
 -- What a call needs of a descriptor is closed: it asks with each right for all that the name of that right stands for.
-use Rattle.std.proofs.Common.{◌≡◌, ℕ, ◌<◌, ◌==◌, Bool, true, false, ◌&&◌, ◌||◌, if◌then◌else◌, List, []}
-use Rattle.std.proofs.Common.{◌∷◌, Option, Some, None, inl, inr}
+use Rattle.std.proofs.Common.{◌≡◌, ℕ, ◌<◌, ◌==◌, Bool, true, false, ◌&&◌, if◌then◌else◌, List, []}
+use Rattle.std.proofs.Common.{◌∷◌, Option, Some, None, refl, inl, inr}
 use Rattle.std.specs.Prelude.{codes}
 use Rattle.std.specs.Str.{bytes_eq}
-use Rattle.std.proofs.lemmas.Bool.{and_parts, and_from, or_left, or_right, or_cases}
+use Rattle.std.proofs.lemmas.Bool.{and_parts, or_right, or_cases}
 use Rattle.cap_rights.specs.Names.{value_at}
-use Rattle.cap_rights.specs.Rights.{join, none, holds}
+use Rattle.cap_rights.specs.Rights.{none, holds}
 use Rattle.cap_trace.specs.Item.{Item}
 use Rattle.cap_trace.specs.Item as items
 use Rattle.cap_trace.specs.Call.{Call}
@@ -15,11 +15,11 @@ use Rattle.cap_trace.specs.declared.line.Answer.{Answer}
 use Rattle.cap_trace.specs.declared.calls.FdCall.{FdCall}
 use Rattle.cap_trace.specs.declared.calls.FdCall.TheVariants.{Close, Closefrom, Dup, CapIoctlsLimit, CapFcntlsLimit}
 use Rattle.cap_trace.specs.declared.calls.AtCall.{AtCall}
-use Rattle.cap_trace.specs.declared.calls.AtCall.TheVariants.{Mkdirat, Mkfifoat, Mknodat, Readlinkat, Futimesat}
+use Rattle.cap_trace.specs.declared.calls.AtCall.TheVariants.{Mkdirat}
 use Rattle.cap_trace.specs.declared.calls.AtFlagsCall.{AtFlagsCall}
 use Rattle.cap_trace.specs.declared.calls.AtFlagsCall.TheVariants.{Openat}
 use Rattle.cap_machine.specs.declared.rule.Check.{Check}
-use Rattle.cap_machine.specs.Flags.{has_flag, is_one_of}
+use Rattle.cap_machine.specs.Flags.{is_one_of}
 use Rattle.cap_machine.specs.Needs.{named, asked, fd_needs, send_needs, send_to_needs, accept_needs, fcntl_needs}
 use Rattle.cap_machine.specs.Needs.{descriptor_commands, status_commands, lock_commands, mmap_needs, at_needs}
 use Rattle.cap_machine.specs.Needs.{access_needs, opening_needs, openat_needs, at_flags_needs, symlink_needs}
@@ -59,18 +59,6 @@ fd_closed CapIoctlsLimit = none_closed
 fd_closed CapFcntlsLimit = none_closed
 fd_closed _ = by_name _
 
-send_closed : IsClosed send_needs
-unfolding send_needs
-send_closed = by_name _
-
-send_to_closed : IsClosed send_to_needs
-unfolding send_to_needs
-send_to_closed = join_closed _ _ (by_name _) (by_name _)
-
-accept_closed : IsClosed accept_needs
-unfolding accept_needs
-accept_closed = by_name _
-
 -- a need that is there is closed
 abbrev IsClosedOption : Option ℕ → Type 0
 IsClosedOption None = Unit {0}
@@ -90,71 +78,29 @@ fcntl_closed command =
 
 mmap_closed : (protection kind : List ℕ) → IsClosed (mmap_needs protection kind)
 unfolding mmap_needs
-mmap_closed protection kind =
-    join_closed _ _ (by_name _) (join_closed _ _ (asked_closed (has_flag protection (codes "PROT_READ")) _ (by_name _))
-    (join_closed _ _ (asked_closed (has_flag protection (codes "PROT_EXEC")) _ (by_name _))
-    (asked_closed (has_flag protection (codes "PROT_WRITE") && has_flag kind (codes "MAP_SHARED")) _ (by_name _))))
+mmap_closed protection kind = search (join_closed, asked_closed, by_name)
 
 at_closed : (call : AtCall) → IsClosed (at_needs call)
 unfolding at_needs
 at_closed Mkdirat = by_name _
-at_closed Mkfifoat = by_name _
-at_closed Mknodat = by_name _
-at_closed Readlinkat = by_name _
-at_closed Futimesat = by_name _
+at_closed _ = by_name _
 
 access_closed : (flags : List ℕ) → IsClosed (access_needs flags)
 unfolding access_needs
-access_closed flags =
-    chosen (has_flag flags (codes "O_EXEC")) (named (codes "CAP_FEXECVE"))
-    (if has_flag flags (codes "O_RDWR") then join (named (codes "CAP_READ")) (named (codes "CAP_WRITE"))
-    else if has_flag flags (codes "O_WRONLY") then named (codes "CAP_WRITE") else named (codes "CAP_READ"))
-    (by_name _)
-    (chosen (has_flag flags (codes "O_RDWR")) (join (named (codes "CAP_READ")) (named (codes "CAP_WRITE")))
-    (if has_flag flags (codes "O_WRONLY") then named (codes "CAP_WRITE") else named (codes "CAP_READ"))
-    (join_closed _ _ (by_name _) (by_name _))
-    (chosen (has_flag flags (codes "O_WRONLY")) (named (codes "CAP_WRITE")) (named (codes "CAP_READ")) (by_name _)
-    (by_name _)))
+access_closed flags = search (chosen, join_closed, by_name)
 
 opening_closed : (flags : List ℕ) → IsClosed (opening_needs flags)
 unfolding opening_needs
-opening_closed flags =
-    join_closed _ _ (asked_closed (has_flag flags (codes "O_CREAT")) _ (by_name _))
-    (join_closed _ _ (asked_closed (has_flag flags (codes "O_TRUNC")) _ (by_name _))
-    (join_closed _ _
-    (asked_closed (has_flag flags (codes "O_SYNC") || has_flag flags (codes "O_FSYNC")) _ (by_name _))
-    (asked_closed (has_flag flags (codes "O_EXLOCK") || has_flag flags (codes "O_SHLOCK")) _ (by_name _))))
+opening_closed flags = search (join_closed, asked_closed, by_name)
 
 openat_closed : (flags : List ℕ) → IsClosed (openat_needs flags)
 unfolding openat_needs
-openat_closed flags =
-    chosen (has_flag flags (codes "O_PATH") || has_flag flags (codes "O_SEARCH")) _ _ (by_name _)
-    (join_closed _ _ (by_name _) (join_closed _ _ (access_closed flags) (opening_closed flags)))
+openat_closed flags = search (chosen, join_closed, by_name, access_closed, opening_closed)
 
 at_flags_closed : (call : AtFlagsCall) (flags : List ℕ) → IsClosed (at_flags_needs call flags)
 unfolding at_flags_needs
 at_flags_closed Openat flags = openat_closed flags
 at_flags_closed _ flags = by_name _
-
-symlink_closed : IsClosed symlink_needs
-unfolding symlink_needs
-symlink_closed = by_name _
-
-rename_from_closed : IsClosed rename_from_needs
-unfolding rename_from_needs
-rename_from_closed = by_name _
-
-rename_to_closed : IsClosed rename_to_needs
-unfolding rename_to_needs
-rename_to_closed = by_name _
-
-link_from_closed : IsClosed link_from_needs
-unfolding link_from_needs
-link_from_closed = by_name _
-
-link_to_closed : IsClosed link_to_needs
-unfolding link_to_needs
-link_to_closed = by_name _
 
 -- ---- calls at a directory
 
@@ -195,10 +141,11 @@ fcntl_checks (Some n) f answer is = (is, tt)
 
 call_checks : (call : Call) (answer : Answer) → FineArgs (args_of_call call)
     → AllClosed (listed (call_requirement call answer).checks)
+unfolding send_needs send_to_needs accept_needs symlink_needs rename_from_needs rename_to_needs link_from_needs link_to_needs
 call_checks (calls.OnFd call f) answer fine = fd_checks call f answer
-call_checks (calls.Send call f) answer fine = (send_closed, tt)
-call_checks (calls.SendTo call f) answer fine = (send_to_closed, tt)
-call_checks (calls.Accept4 f flags) answer fine = (accept_closed, tt)
+call_checks (calls.Send call f) answer fine = (by_name _, tt)
+call_checks (calls.SendTo call f) answer fine = (join_closed _ _ (by_name _) (by_name _), tt)
+call_checks (calls.Accept4 f flags) answer fine = (by_name _, tt)
 call_checks (calls.Dup2 f g) answer fine = (none_closed, tt)
 call_checks (calls.Fcntl f command) answer fine = fcntl_checks (fcntl_needs command) f answer (fcntl_closed command)
 call_checks (calls.FcntlDup command f g) answer fine = (none_closed, tt)
@@ -210,13 +157,13 @@ call_checks (calls.At call dir path) answer fine =
 call_checks (calls.AtFlags call dir path flags) answer fine =
     one_place _ (record { dir = dir; path = path; needs = at_flags_needs call flags }) (at_flags_closed call flags)
 call_checks (calls.SymlinkAt target dir path) answer fine =
-    one_place _ (record { dir = dir; path = path; needs = symlink_needs }) symlink_closed
+    one_place _ (record { dir = dir; path = path; needs = symlink_needs }) (by_name _)
 call_checks (calls.RenameAt dir path to_dir to_path) answer fine =
     two_places _ (record { dir = dir; path = path; needs = rename_from_needs })
-    (record { dir = to_dir; path = to_path; needs = rename_to_needs }) rename_from_closed rename_to_closed
+    (record { dir = to_dir; path = to_path; needs = rename_to_needs }) (by_name _) (by_name _)
 call_checks (calls.LinkAt dir path to_dir to_path flags) answer fine =
     two_places _ (record { dir = dir; path = path; needs = link_from_needs })
-    (record { dir = to_dir; path = to_path; needs = link_to_needs }) link_from_closed link_to_closed
+    (record { dir = to_dir; path = to_path; needs = link_to_needs }) (by_name _) (by_name _)
 call_checks _ answer fine = tt
 
 pub item_checks : (item : Item) → FineArgs (args_of item) → AllClosed (listed (item_requirement item).checks)
@@ -231,9 +178,9 @@ pub needs_more : (checks : List Check) (f k j : ℕ) → k < 63 → holds (value
 needs_more [] f k j lt value are is = absurd (cc)
 needs_more (check ∷ checks) f k j lt value are is =
     elim (or_cases (check.fd == f && holds check.needs k) (checks_need checks f k) is) [
-      | inl here ↦ (let parts = and_parts (check.fd == f) (holds check.needs k) here in
-          or_left (check.fd == f && holds check.needs j) (checks_need checks f j)
-          (and_from (check.fd == f) (holds check.needs j) parts.0 (are.0.closed k j lt value parts.1)))
+      | inl here ↦
+          let parts = and_parts (check.fd == f) (holds check.needs k) here in
+          rw (parts.0, are.0.closed k j lt value parts.1) refl
       | inr later ↦ or_right (check.fd == f && holds check.needs j) (checks_need checks f j)
           (needs_more checks f k j lt value are.1 later)
     ]

@@ -15,6 +15,7 @@ pub mod Lined
 pub mod Listing
 pub mod Performed
 pub mod Reach
+pub mod ReadsAs
 pub mod Rejecting
 pub mod Replying
 pub mod Runs

@@ -5,8 +5,7 @@ use Rattle.cap_trace.specs.Entry.{Entry}
 use Rattle.cap_machine.specs.declared.cell.Profile.{Profile}
 use Rattle.cap_session.specs.declared.script.CommandError.{CommandError}
 use Rattle.cap_session.specs.declared.refused.Refused.{Refused}
-use Rattle.cap_session.specs.declared.refused.Refused.TheVariants.{LongLine, Shape, Pid, Argument, Right, Answer}
-use Rattle.cap_session.specs.declared.refused.Refused.TheVariants.{Position, Full, Memory}
+use Rattle.cap_session.specs.declared.refused.Refused.TheVariants.{Memory}
 use Rattle.cap_session.specs.Session.{SessionState, RefusesExactly}
 use Rattle.cap_session.specs.Replies.{edit_done, commanded, may_run_out}
 use Rattle.cap_session.specs.Commands.{Asked, asked}
@@ -18,6 +17,7 @@ use Rattle.cap_session.specs.declared.edit.Edit.{Edit}
 use Rattle.cap_session.specs.declared.edit.Edit.TheVariants.{Insert, Delete, Replace}
 use Rattle.cap_session.specs.Edits.{edited}
 use Rattle.cap_session.specs.Performs.{edit_asked}
+use Rattle.cap_session.proofs.Applied.{refused_or_out}
 
 -- An edit as a command, by what was asked of the session.
 pub edit_commanded : (profile : Profile) (t : List Entry) (e : Edit)
@@ -35,25 +35,16 @@ done_ok : (asked : Result (List Entry) Refused) → IsOk asked → IsOk (edit_do
 done_ok (Ok next) ok = ok
 done_ok (Err e) ok = absurd (cc)
 
-seen : (asked : Result (List Entry) Refused) (e : Refused) → asked ≡ Err e → edit_done asked
-    ≡ Err (CommandError.Refused e)
-seen asked e is = ap edit_done is
-
 -- the two ways in which an edit isn't made
 abbrev NotMade : Result (List Entry) Refused → CommandError → Type 0
 NotMade asked why = (edit_done asked ≡ Err why) ⊎ ((why ≡ CommandError.Refused Memory) × IsOk (edit_done asked))
 
 not_made : (asked : Result (List Entry) Refused) (e : Refused) → RefusesExactly asked (Err e)
     → (◌≡◌ {A = Result ℕ Refused} (Err e) (Err Memory) → IsOk asked) → NotMade asked (CommandError.Refused e)
-not_made asked Memory refused memory = inr (refl, done_ok asked (memory refl))
-not_made asked LongLine refused memory = inl (seen asked LongLine ((refused LongLine (λ e. cc)).0 refl))
-not_made asked Shape refused memory = inl (seen asked Shape ((refused Shape (λ e. cc)).0 refl))
-not_made asked Pid refused memory = inl (seen asked Pid ((refused Pid (λ e. cc)).0 refl))
-not_made asked Argument refused memory = inl (seen asked Argument ((refused Argument (λ e. cc)).0 refl))
-not_made asked Right refused memory = inl (seen asked Right ((refused Right (λ e. cc)).0 refl))
-not_made asked Answer refused memory = inl (seen asked Answer ((refused Answer (λ e. cc)).0 refl))
-not_made asked Position refused memory = inl (seen asked Position ((refused Position (λ e. cc)).0 refl))
-not_made asked Full refused memory = inl (seen asked Full ((refused Full (λ e. cc)).0 refl))
+not_made asked e refused memory = elim (refused_or_out asked e refused memory) [
+  | inl is ↦ inl (ap edit_done is)
+  | inr out ↦ inr (ap CommandError.Refused out.0, done_ok asked out.1)
+]
 
 as_command : (profile : Profile) (t : List Entry) (e : Edit) (why : CommandError) → NotMade (edited 1000000 t e) why
     → (commanded profile t (edit_asked e) ≡ Err why)

@@ -1,13 +1,13 @@
 -- The replies to a script, and how it ended.
-use Rattle.std.proofs.Common.{◌≡◌, ℕ, List, inr, subst}
-use Rattle.std.specs.Prelude.{Err, Ok}
+use Rattle.std.proofs.Common.{◌≡◌, ℕ, List, refl, inr, subst}
+use Rattle.std.specs.Prelude.{Err, Ok, Result}
 use Rattle.cap_trace.specs.Entry.{Entry}
 use Rattle.cap_machine.specs.declared.cell.Profile.{Profile}
 use Rattle.cap_session.specs.Devices.{SourceState, SinkState}
-use Rattle.cap_session.specs.Outcome.{outcome_of}
+use Rattle.cap_session.specs.Outcome.{outcome_of, read_faults}
 use Rattle.cap_session.specs.AnswerStreams.{of_trace}
-use Rattle.cap_session.specs.EditStreams.{EditStreams, RepliesToAll, Replies, IsOutcome}
-use Rattle.cap_session.specs.Reads.{Reads}
+use Rattle.cap_session.specs.EditStreams.{EditStreams, RepliesToAll, Replies, IsOutcome, ScriptHasOutcome}
+use Rattle.cap_session.specs.Reads.{Reads, faults}
 use Rattle.cap_session.specs.Trace.{trace, soon}
 use Rattle.cap_session.specs.declared.lines.StopReason.{StopReason}
 use Rattle.cap_session.specs.declared.lines.StopReason.TheVariants as stops
@@ -16,51 +16,40 @@ use Rattle.cap_session.specs.declared.outcome.Outcome.TheVariants.{Clean, Findin
 use Rattle.cap_session.specs.declared.outcome.Outcome.TheVariants.{ReadFault, WriteFault, TooLong}
 use Rattle.cap_session.proofs.AnswersTrace.{first_taken}
 
--- the script was replied to, or that stopped
-pub replied : {T : Type 0} (profile : Profile) (turns : ℕ) (s0 s1 : SourceState) (w0 w1 : SinkState) (t u : List Entry)
-    (x : T) (o : Outcome)
-    → RepliesToAll profile turns s0 s1 w0 w1 t u (Ok x) → IsOutcome profile u o → Replies profile turns s0 s1 w0 w1 t o
-replied profile turns s0 s1 w0 w1 t u x Clean r is = record {
-  given = r.given;
-  read = r.read;
-  calls = r.calls;
-  read_fault = r.failures;
-  after = u;
-  answer = (r.answer.0, r.answer.1, is);
-}
-replied profile turns s0 s1 w0 w1 t u x Findings r is = record {
-  given = r.given;
-  read = r.read;
-  calls = r.calls;
-  read_fault = r.failures;
-  after = u;
-  answer = (r.answer.0, r.answer.1, is);
-}
-replied profile turns s0 s1 w0 w1 t u x Memory r is = record {
-  given = r.given;
-  read = r.read;
-  calls = r.calls;
-  read_fault = r.failures;
-  after = u;
-  answer = r.answer;
-}
-replied profile turns s0 s1 w0 w1 t u x (Refused code line) r is = absurd is
-replied profile turns s0 s1 w0 w1 t u x (StartRefused code line) r is = absurd is
-replied profile turns s0 s1 w0 w1 t u x ReadFault r is = absurd is
-replied profile turns s0 s1 w0 w1 t u x WriteFault r is = absurd is
-replied profile turns s0 s1 w0 w1 t u x TooLong r is = absurd is
+module _ (profile : Profile) (turns : ℕ) (s0 s1 : SourceState) (w0 w1 : SinkState) (t u : List Entry)
+    {T : Type 0} where
+  -- an outcome of replies that says what their answer says
+  replies : (x : Result T StopReason) (o : Outcome) → (r : RepliesToAll profile turns s0 s1 w0 w1 t u x)
+      → read_faults o ≡ faults x → ScriptHasOutcome profile turns s0 s1 w0 w1 r.given t u o
+      → Replies profile turns s0 s1 w0 w1 t o
+  replies x o r same answer = record {
+    given = r.given;
+    read = r.read;
+    calls = r.calls;
+    read_fault = rw same r.failures;
+    after = u;
+    answer = answer;
+  }
 
-pub stopped : {T : Type 0} (profile : Profile) (turns : ℕ) (s0 s1 : SourceState) (w0 w1 : SinkState) (t u : List Entry)
-    (stop : StopReason) (o : Outcome) → RepliesToAll {T = T} profile turns s0 s1 w0 w1 t u (Err stop)
-    → o ≡ outcome_of stop → Replies profile turns s0 s1 w0 w1 t o
-stopped profile turns s0 s1 w0 w1 t u stops.ReadFault o r is = rw is
-    (record { given = r.given; read = r.read; calls = r.calls; read_fault = r.failures; after = u; answer = r.answer })
-stopped profile turns s0 s1 w0 w1 t u stops.WriteFault o r is = rw is
-    (record { given = r.given; read = r.read; calls = r.calls; read_fault = r.failures; after = u; answer = r.answer })
-stopped profile turns s0 s1 w0 w1 t u stops.TooLong o r is = rw is
-    (record { given = r.given; read = r.read; calls = r.calls; read_fault = r.failures; after = u; answer = r.answer })
-stopped profile turns s0 s1 w0 w1 t u stops.Memory o r is = absurd r.answer
-stopped profile turns s0 s1 w0 w1 t u (stops.Refused e) o r is = absurd r.answer
+  -- the script was replied to, or that stopped
+  pub replied : (x : T) (o : Outcome) → RepliesToAll profile turns s0 s1 w0 w1 t u (Ok x) → IsOutcome profile u o
+      → Replies profile turns s0 s1 w0 w1 t o
+  replied x Clean r is = replies (Ok x) Clean r refl (r.answer.0, r.answer.1, is)
+  replied x Findings r is = replies (Ok x) Findings r refl (r.answer.0, r.answer.1, is)
+  replied x Memory r is = replies (Ok x) Memory r refl r.answer
+  replied x (Refused code line) r is = absurd is
+  replied x (StartRefused code line) r is = absurd is
+  replied x ReadFault r is = absurd is
+  replied x WriteFault r is = absurd is
+  replied x TooLong r is = absurd is
+
+  pub stopped : (stop : StopReason) (o : Outcome) → RepliesToAll {T = T} profile turns s0 s1 w0 w1 t u (Err stop)
+      → o ≡ outcome_of stop → Replies profile turns s0 s1 w0 w1 t o
+  stopped stops.ReadFault o r is = rw is (replies (Err stops.ReadFault) ReadFault r refl r.answer)
+  stopped stops.WriteFault o r is = rw is (replies (Err stops.WriteFault) WriteFault r refl r.answer)
+  stopped stops.TooLong o r is = rw is (replies (Err stops.TooLong) TooLong r refl r.answer)
+  stopped stops.Memory o r is = absurd r.answer
+  stopped (stops.Refused e) o r is = absurd r.answer
 
 -- the trace was read to its end, and the script replied to
 pub script_taken : {T : Type 0} (profile : Profile) (holds : T → List Entry → Type 0) (turns : ℕ)

@@ -1,5 +1,5 @@
 -- What comes of the pieces of a script, and of its end.
-use Rattle.std.proofs.Common.{◌≡◌, ℕ, ◌<◌, List, [], ◌∷◌, ◌++◌, length, take, map, refl, sym, ◌∙◌, ap, subst, inl, inr}
+use Rattle.std.proofs.Common.{◌≡◌, ℕ, ◌+◌, ◌<◌, ◌≤◌, List, [], ◌∷◌, ◌++◌, length, take, map, refl, sym, ◌∙◌, ap, subst, inl, inr}
 use Rattle.std.proofs.Common.{arith}
 use Rattle.std.specs.Prelude.{Result, Ok, Err}
 use Rattle.std.specs.Io.KnownBytes.{Consumes}
@@ -10,7 +10,8 @@ use Rattle.cap_session.specs.Devices.{SourceState, SinkState}
 use Rattle.cap_session.specs.Gives.{Gives}
 use Rattle.cap_session.specs.Lines.{whole_lines, last_piece, line_if_any, lines}
 use Rattle.cap_session.specs.Scripts.{Scripting, Replied, Broken, script_lines, due, due_end}
-use Rattle.cap_session.specs.EditStreams.{RepliesToAll}
+use Rattle.cap_session.specs.EditStreams.{RepliesToAll, RepliesUntil}
+use Rattle.cap_session.specs.Reads.{faults}
 use Rattle.cap_session.specs.Chunks.{TookScript, StoppedScript, EndedScript}
 use Rattle.cap_session.specs.declared.lines.StopReason.{StopReason}
 use Rattle.cap_session.specs.declared.lines.StopReason.TheVariants as stops
@@ -110,59 +111,41 @@ module _ (start t : Scripting) (w0 w1 : SinkState) (turns : ℕ) (s0 s1 : Source
     | inr (inr e) ↦ e.what.profile
   ]
 
+  replies : (result : Result (Unit {0}) StopReason) (given : List ℕ) → Consumes s0.bytes s1.bytes given
+      → s1.calls ≤ s0.calls + turns → s1.failures ≡ s0.failures + faults result
+      → RepliesUntil start.profile turns s0 s1 w0 w1 given start.trace t.trace result
+      → RepliesToAll start.profile turns s0 s1 w0 w1 start.trace t.trace result
+  replies result given read calls failures answer =
+      record { given = given; read = read; calls = calls; failures = failures; answer = answer }
+
   pub all_replied : (result : Result (Unit {0}) StopReason) → GivesScript result
       → RepliesToAll start.profile turns s0 s1 w0 w1 start.trace t.trace result
   all_replied (Ok u) gives = elim gives.answer [
     | inl (inl f) ↦ let no = f.is in absurd cc
     | inl (inr u) ↦ let no = u.is in absurd cc
     | inr (inl s) ↦ let no = s.is in absurd cc
-    | inr (inr e) ↦ let failed = e.failures in record {
-      given = gives.given;
-      read = gives.read;
-      calls = gives.calls;
-      failures = omega arith;
-      answer = (e.end, e.what.replied);
-    }
+    | inr (inr e) ↦
+        let failed = e.failures in
+        replies (Ok u) gives.given gives.read gives.calls (omega arith) (e.end, e.what.replied)
   ]
   all_replied (Err stop) gives = elim gives.answer [
     | inl (inl f) ↦
         let is : stop ≡ stops.ReadFault = let same = f.is in cc in
-        let failed = f.failures in
-        rw is (record {
-          given = gives.given;
-          read = gives.read;
-          calls = gives.calls;
-          failures = failed;
-          answer = (f.going, f.taken.replied);
-        })
+        rw is (replies (Err stops.ReadFault) gives.given gives.read gives.calls f.failures (f.going, f.taken.replied))
     | inl (inr u) ↦
         let is : stop ≡ stops.TooLong = let same = u.is in cc in
         let failed = u.failures in
-        rw is (record {
-          given = gives.given;
-          read = gives.read;
-          calls = gives.calls;
-          failures = omega arith;
-          answer = (u.going, u.used, u.taken.replied);
-        })
+        rw is (replies (Err stops.TooLong) gives.given gives.read gives.calls (omega arith)
+        (u.going, u.used, u.taken.replied))
     | inr (inl s) ↦
         let is : stop ≡ stops.WriteFault = let same = s.is in let why = s.why.is in cc in
         let failed = s.failures in
-        rw is (record {
-          given = s.front ++ s.piece;
-          read = subst (λ (l : List ℕ). Consumes s0.bytes s1.bytes l) s.cut gives.read;
-          calls = gives.calls;
-          failures = omega arith;
-          answer = inl (s.going, s.why.broken);
-        })
+        rw is (replies (Err stops.WriteFault) (s.front ++ s.piece)
+        (subst (λ (l : List ℕ). Consumes s0.bytes s1.bytes l) s.cut gives.read) gives.calls (omega arith)
+        (inl (s.going, s.why.broken)))
     | inr (inr e) ↦
         let broken = e.what.broken in
         let failed = e.failures in
-        rw broken.0 (record {
-          given = gives.given;
-          read = gives.read;
-          calls = gives.calls;
-          failures = omega arith;
-          answer = inr (e.end, broken.1);
-        })
+        rw broken.0 (replies (Err stops.WriteFault) gives.given gives.read gives.calls (omega arith)
+        (inr (e.end, broken.1)))
   ]

@@ -29,53 +29,42 @@ shown_keeps : (t u : List Entry) (end text : List ℕ) (r : Result (List ℕ) Re
 shown_keeps t u end text (Ok shown) is = is.1
 shown_keeps t u end text (Err e) is = is.1
 
+is_edit : Asked → Bool
+is_edit (insert_line k line) = true
+is_edit (replace_line k line) = true
+is_edit (delete_line k) = true
+is_edit _ = false
+
+edit_is : (edit : Edit) → is_edit (edit_asked edit) ≡ true
+unfolding is_edit
+edit_is (Insert k line) = refl
+edit_is (Delete k) = refl
+edit_is (Replace k line) = refl
+
+passes : (profile : Profile) (ask : Asked) → is_edit ask ≡ false
+    → ((t u : List Entry) (text : List ℕ) → Commands profile t ask text u → u ≡ t) → Passes profile ask
+passes profile ask asks_none keeps =
+    record { none = λ edit is. let made = sym asks_none ∙ ap is_edit is ∙ edit_is edit in cc; keeps = keeps }
+
 edit_or_not : (profile : Profile) (ask : Asked) → ((edit : Edit) × (ask ≡ edit_asked edit)) ⊎ Passes profile ask
+unfolding is_edit
 edit_or_not profile (insert_line k line) = inl (Insert k (record { ref_ptr = (0, 0); now = line }), refl)
 edit_or_not profile (replace_line k line) = inl (Replace k (record { ref_ptr = (0, 0); now = line }), refl)
 edit_or_not profile (delete_line k) = inl (Delete k, refl)
-edit_or_not profile (show_line k) = inr (record {
-  none = λ edit. elim edit as (λ e. show_line k ≡ edit_asked e → ⊥) [
-    | Insert p l ↦ λ is. cc
-    | Delete p ↦ λ is. cc
-    | Replace p l ↦ λ is. cc
-  ];
-  keeps = λ t u text is. elim is [ inl seen ↦ shown_keeps t u line_feed text (shown t k) seen | inr ran_out ↦ ran_out.3 ];
-})
-edit_or_not profile count_lines = inr (record {
-  none = λ edit. elim edit as (λ e. count_lines ≡ edit_asked e → ⊥) [
-    | Insert p l ↦ λ is. cc
-    | Delete p ↦ λ is. cc
-    | Replace p l ↦ λ is. cc
-  ];
-  keeps = λ t u text is. elim is [ inl seen ↦ seen.1 | inr ran_out ↦ ran_out.3 ];
-})
-edit_or_not profile report_all = inr (record {
-  none = λ edit. elim edit as (λ e. report_all ≡ edit_asked e → ⊥) [
-    | Insert p l ↦ λ is. cc
-    | Delete p ↦ λ is. cc
-    | Replace p l ↦ λ is. cc
-  ];
-  keeps = λ t u text is. elim is [ inl seen ↦ seen.1 | inr ran_out ↦ ran_out.3 ];
-})
-edit_or_not profile (report_lines a b) = inr (record {
-  none = λ edit. elim edit as (λ e. report_lines a b ≡ edit_asked e → ⊥) [
-    | Insert p l ↦ λ is. cc
-    | Delete p ↦ λ is. cc
-    | Replace p l ↦ λ is. cc
-  ];
-  keeps = λ t u text is. elim is [
-    | inl seen ↦ shown_keeps t u [] text (ranged profile t a b) seen
-    | inr ran_out ↦ ran_out.3
-  ];
-})
-edit_or_not profile unknown = inr (record {
-  none = λ edit. elim edit as (λ e. unknown ≡ edit_asked e → ⊥) [
-    | Insert p l ↦ λ is. cc
-    | Delete p ↦ λ is. cc
-    | Replace p l ↦ λ is. cc
-  ];
-  keeps = λ t u text is. elim is [ inl seen ↦ seen.1 | inr ran_out ↦ ran_out.3 ];
-})
+edit_or_not profile (show_line k) = inr (passes profile (show_line k) refl (λ t u text is. elim is [
+  | inl seen ↦ shown_keeps t u line_feed text (shown t k) seen
+  | inr ran_out ↦ ran_out.3
+]))
+edit_or_not profile count_lines =
+    inr (passes profile count_lines refl (λ t u text is. elim is [ inl seen ↦ seen.1 | inr ran_out ↦ ran_out.3 ]))
+edit_or_not profile report_all =
+    inr (passes profile report_all refl (λ t u text is. elim is [ inl seen ↦ seen.1 | inr ran_out ↦ ran_out.3 ]))
+edit_or_not profile (report_lines a b) = inr (passes profile (report_lines a b) refl (λ t u text is. elim is [
+  | inl seen ↦ shown_keeps t u [] text (ranged profile t a b) seen
+  | inr ran_out ↦ ran_out.3
+]))
+edit_or_not profile unknown =
+    inr (passes profile unknown refl (λ t u text is. elim is [ inl seen ↦ seen.1 | inr ran_out ↦ ran_out.3 ]))
 
 -- what one line does
 record Edits (t : List Entry) (line : List ℕ) (u : List Entry) : Type 0 where

@@ -1,5 +1,5 @@
 -- What reading a start text from a reader gives.
-use Rattle.std.proofs.Common.{◌≡◌, ℕ, List, ap, inl, inr}
+use Rattle.std.proofs.Common.{◌≡◌, ℕ, List, refl, ap, inl, inr}
 use Rattle.std.specs.Prelude.{Result, Ok, Err, IsOk, Option, Some, None}
 use Rattle.std.specs.Option.{ok_or}
 use Rattle.cap_machine.specs.declared.start.Start.{Start}
@@ -11,6 +11,7 @@ use Rattle.cap_session.specs.StartLines.{Holds}
 use Rattle.cap_session.specs.declared.refused.Refusal.{Refusal}
 use Rattle.cap_session.specs.declared.lines.StopReason.{StopReason}
 use Rattle.cap_session.specs.declared.lines.StopReason.TheVariants as stops
+use Rattle.cap_session.proofs.ReadsAs.{reads_as}
 
 still_good : {A B : Type 0} (f : A → B) (r : Result A Refusal) → IsOk r → IsOk (good_as f r)
 still_good f (Ok x) is = is
@@ -22,38 +23,14 @@ pub stopped_as : {A B T U : Type 0} (f : A → B) (whole : List ℕ → Result A
     (r0 r1 : SourceState) (stop : StopReason) → Reads whole soon holds turns r0 r1 (Err stop)
     → Reads (λ (text : List ℕ). good_as f (whole text)) soon keeps turns r0 r1 (Err stop)
 stopped_as f whole soon holds keeps turns r0 r1 (stops.Refused e) r =
-    record {
-      given = r.given;
-      read = r.read;
-      calls = r.calls;
-      failures = r.failures;
-      answer = record {
-        line = elim r.answer.line [ inl is ↦ inl is | inr is ↦ inr (is.0, ap (good_as f) is.1) ];
-        near = r.answer.near;
-      };
-    }
+    reads_as r refl (record {
+      line = elim r.answer.line [ inl is ↦ inl is | inr is ↦ inr (is.0, ap (good_as f) is.1) ];
+      near = r.answer.near;
+    })
 stopped_as f whole soon holds keeps turns r0 r1 stops.Memory r =
-    record {
-      given = r.given;
-      read = r.read;
-      calls = r.calls;
-      failures = r.failures;
-      answer = record { before = r.answer.before; at_end = λ ended. still_good f _ (r.answer.at_end ended) };
-    }
-stopped_as f whole soon holds keeps turns r0 r1 stops.ReadFault r = record {
-  given = r.given;
-  read = r.read;
-  calls = r.calls;
-  failures = r.failures;
-  answer = r.answer;
-}
-stopped_as f whole soon holds keeps turns r0 r1 stops.TooLong r = record {
-  given = r.given;
-  read = r.read;
-  calls = r.calls;
-  failures = r.failures;
-  answer = r.answer;
-}
+    reads_as r refl (record { before = r.answer.before; at_end = λ ended. still_good f _ (r.answer.at_end ended) })
+stopped_as f whole soon holds keeps turns r0 r1 stops.ReadFault r = reads_as r refl r.answer
+stopped_as f whole soon holds keeps turns r0 r1 stops.TooLong r = reads_as r refl r.answer
 stopped_as f whole soon holds keeps turns r0 r1 stops.WriteFault r = absurd r.answer
 
 pub start_kept : {T : Type 0} (holds : T → Listed → Type 0) (turns : ℕ) (r0 r1 : SourceState) (x : T)
@@ -62,14 +39,6 @@ pub start_kept : {T : Type 0} (holds : T → Listed → Type 0) (turns : ℕ) (r
     → Reads described_by start_soon (λ (k : Start) known. k ≡ known) turns r0 r1 (ok_or kept stops.Memory)
 start_kept holds turns r0 r1 x (Some k) is r =
     let known = r.answer.1 in
-    record {
-      given = r.given;
-      read = r.read;
-      calls = r.calls;
-      failures = r.failures;
-      answer = (
-        r.answer.0,
-        (known.0.added, ap (good_as (λ (listed : Listed). listed.added)) known.1, is known.0 known.2),
-      );
-    }
+    reads_as r refl
+    (r.answer.0, (known.0.added, ap (good_as (λ (listed : Listed). listed.added)) known.1, is known.0 known.2))
 start_kept holds turns r0 r1 x None is r = absurd (is r.answer.1.0 r.answer.1.2)

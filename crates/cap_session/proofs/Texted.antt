@@ -8,7 +8,7 @@ use Rattle.cap_session.specs.Texts.{whole_text, refused_so_far}
 use Rattle.cap_session.specs.Feeds.{Reached, Feeds, Ends}
 use Rattle.cap_session.specs.Chunks.{TookText, StoppedText, EndedText}
 use Rattle.cap_session.specs.Gives.{Gives}
-use Rattle.cap_session.specs.Reads.{Reads, IsEnded}
+use Rattle.cap_session.specs.Reads.{Read, Reads, IsEnded, faults}
 use Rattle.cap_session.specs.declared.refused.Refused.{Refused}
 use Rattle.cap_session.specs.declared.refused.Refusal.{Refusal}
 use Rattle.cap_session.specs.declared.lines.StopReason.{StopReason}
@@ -56,29 +56,27 @@ module _ {A : Type 0} (next : A → List ℕ → Result A Refused) (before now a
 
 module _ {A T : Type 0} (next : A → List ℕ → Result A Refused) (before after : A → Type 0) (holds : T → A → Type 0)
     (turns : ℕ) (r0 r1 : SourceState) (number : ℕ) (held : List ℕ) where
+  reads : (result : Result T StopReason) (start : A) (given : List ℕ) → Consumes r0.bytes r1.bytes given
+      → r1.calls ≤ r0.calls + turns → r1.failures ≡ r0.failures + faults result
+      → Read (whole_text next start) (refused_so_far next start) holds turns r0 r1 given result
+      → Reads (whole_text next start) (refused_so_far next start) holds turns r0 r1 result
+  reads result start given read calls failures answer =
+      record { given = given; read = read; calls = calls; failures = failures; answer = answer }
+
   -- a piece stopped it
   stopped_so : (front piece : List ℕ) (stop : StopReason) → Consumes r0.bytes r1.bytes (front ++ piece)
       → r1.calls ≤ r0.calls + turns → length piece ≤ 65536 → r1.ends ≡ r0.ends → r1.failures ≡ r0.failures →
       (start : A) → (refused_so_far next start front ≡ None)
       × Feeds {T = Unit {0}} next start after (front ++ piece) number held (Err stop)
       → Reads (whole_text next start) (refused_so_far next start) holds turns r0 r1 (Err stop)
-  stopped_so front piece stops.Memory read calls short going failed start why = record {
-    given = front ++ piece;
-    read = read;
-    calls = calls;
-    failures = omega arith;
-    answer = record { before = why.1; at_end = not_seen r0 r1 _ going };
-  }
-  stopped_so front piece (stops.Refused e) read calls short going failed start why = record {
-    given = front ++ piece;
-    read = read;
-    calls = calls;
-    failures = omega arith;
-    answer = record {
-      line = inl why.1;
-      near = record { front = front; piece = piece; cut = refl; short = short; good = why.0 };
-    };
-  }
+  stopped_so front piece stops.Memory read calls short going failed start why =
+      reads (Err stops.Memory) start (front ++ piece) read calls (omega arith)
+      (record { before = why.1; at_end = not_seen r0 r1 _ going })
+  stopped_so front piece (stops.Refused e) read calls short going failed start why =
+      reads (Err (stops.Refused e)) start (front ++ piece) read calls (omega arith) (record {
+        line = inl why.1;
+        near = record { front = front; piece = piece; cut = refl; short = short; good = why.0 };
+      })
   stopped_so front piece stops.ReadFault read calls short going failed start why = absurd why.1
   stopped_so front piece stops.WriteFault read calls short going failed start why = absurd why.1
   stopped_so front piece stops.TooLong read calls short going failed start why = absurd why.1
@@ -88,23 +86,14 @@ module _ {A T : Type 0} (next : A → List ℕ → Result A Refused) (before aft
       → r1.calls ≤ r0.calls + turns → IsEnded r0 r1 → r1.failures ≡ r0.failures →
       (start : A) → (refused_so_far next start given ≡ None) × Ends {T = Unit {0}} next start lines given (Err stop)
       → Reads (whole_text next start) (refused_so_far next start) holds turns r0 r1 (Err stop)
-  ended_so given stops.Memory lines read calls end failed start why = record {
-    given = given;
-    read = read;
-    calls = calls;
-    failures = omega arith;
-    answer = record { before = why.0; at_end = λ seen. good_at_end (whole_text next start given) why.1 };
-  }
-  ended_so given (stops.Refused e) lines read calls end failed start why = record {
-    given = given;
-    read = read;
-    calls = calls;
-    failures = omega arith;
-    answer = record {
-      line = inr (end, why.1);
-      near = record { front = given; piece = []; cut = sym (append-nil given); short = omega arith; good = why.0 };
-    };
-  }
+  ended_so given stops.Memory lines read calls end failed start why =
+      reads (Err stops.Memory) start given read calls (omega arith)
+      (record { before = why.0; at_end = λ seen. good_at_end (whole_text next start given) why.1 })
+  ended_so given (stops.Refused e) lines read calls end failed start why =
+      reads (Err (stops.Refused e)) start given read calls (omega arith) (record {
+        line = inr (end, why.1);
+        near = record { front = given; piece = []; cut = sym (append-nil given); short = omega arith; good = why.0 };
+      })
   ended_so given stops.ReadFault lines read calls end failed start why = absurd why.1
   ended_so given stops.WriteFault lines read calls end failed start why = absurd why.1
   ended_so given stops.TooLong lines read calls end failed start why = absurd why.1
@@ -118,24 +107,13 @@ module _ {A T : Type 0} (next : A → List ℕ → Result A Refused) (before aft
       elim gives.answer [
         | inl (inl f) ↦
             let is : stop ≡ stops.ReadFault = let same = f.is in cc in
-            let failed = f.failures in
-            rw is (record {
-              given = gives.given;
-              read = gives.read;
-              calls = gives.calls;
-              failures = failed;
-              answer = (f.going, reached_good next start after gives.given held number (f.taken start begins));
-            })
+            rw is (reads (Err stops.ReadFault) start gives.given gives.read gives.calls f.failures
+            (f.going, reached_good next start after gives.given held number (f.taken start begins)))
         | inl (inr u) ↦
             let is : stop ≡ stops.TooLong = let same = u.is in cc in
             let failed = u.failures in
-            rw is (record {
-              given = gives.given;
-              read = gives.read;
-              calls = gives.calls;
-              failures = omega arith;
-              answer = (u.going, reached_good next start after gives.given held number (u.taken start begins), u.used);
-            })
+            rw is (reads (Err stops.TooLong) start gives.given gives.read gives.calls (omega arith)
+            (u.going, reached_good next start after gives.given held number (u.taken start begins), u.used))
         | inr (inl s) ↦
             let is : stop ≡ s.stop = let same = s.is in cc in
             rw is (stopped_so s.front s.piece s.stop (subst (λ (l : List ℕ). Consumes r0.bytes r1.bytes l) s.cut
@@ -157,13 +135,7 @@ module _ {A T : Type 0} (next : A → List ℕ → Result A Refused) (before aft
         | inr (inr e) ↦
             let all = (e.what start begins).1 in
             let failed = e.failures in
-            record {
-              given = gives.given;
-              read = gives.read;
-              calls = gives.calls;
-              failures = omega arith;
-              answer = (e.end, (all.0, all.1, same all.0 all.2));
-            }
+            reads (Ok x) start gives.given gives.read gives.calls (omega arith) (e.end, (all.0, all.1, same all.0 all.2))
       ]
 
 -- memory ran out before the first read

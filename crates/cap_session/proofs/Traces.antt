@@ -16,6 +16,7 @@ use Rattle.cap_session.specs.declared.lines.StopReason.TheVariants as stops
 use Rattle.std.specs.Prelude.{nat_lt, length, true, false, cond}
 use Rattle.std.specs.Option.{ok_or}
 use Rattle.cap_session.proofs.Lined.{line_good, line_bad, no_line}
+use Rattle.cap_session.proofs.ReadsAs.{reads_as}
 
 -- the entries of a text, with how they are checked
 abbrev pub started : Setting → Result (List Entry) Refusal → Result Traced Refusal
@@ -93,46 +94,22 @@ pub read_stopped : {T U : Type 0} (holds : T → Traced → Type 0) (keeps : U �
     (refused_so_far next_traced (record { setting = s; entries = [] })) holds turns r0 r1 (Err stop)
     → Reads trace soon keeps turns r0 r1 (Err stop)
 read_stopped holds keeps s turns r0 r1 (stops.Refused e) r =
-    record {
-      given = r.given;
-      read = r.read;
-      calls = r.calls;
-      failures = r.failures;
-      answer = record {
-        line = elim r.answer.line [
-          | inl is ↦ inl (sym (soon_started s r.given) ∙ is)
-          | inr is ↦ inr (is.0, refused_started s e (trace r.given) (sym (whole_started s r.given) ∙ is.1))
-        ];
-        near = near_started s r.given r.answer.near;
-      };
-    }
+    reads_as r refl (record {
+      line = elim r.answer.line [
+        | inl is ↦ inl (sym (soon_started s r.given) ∙ is)
+        | inr is ↦ inr (is.0, refused_started s e (trace r.given) (sym (whole_started s r.given) ∙ is.1))
+      ];
+      near = near_started s r.given r.answer.near;
+    })
 read_stopped holds keeps s turns r0 r1 stops.Memory r =
-    record {
-      given = r.given;
-      read = r.read;
-      calls = r.calls;
-      failures = r.failures;
-      answer = record {
-        before = sym (soon_started s r.given) ∙ r.answer.before;
-        at_end = λ seen. good_started s (trace r.given) (rw (whole_started s r.given) at (r.answer.at_end seen));
-      };
-    }
+    reads_as r refl (record {
+      before = sym (soon_started s r.given) ∙ r.answer.before;
+      at_end = λ seen. good_started s (trace r.given) (rw (whole_started s r.given) at (r.answer.at_end seen));
+    })
 read_stopped holds keeps s turns r0 r1 stops.ReadFault r =
-    record {
-      given = r.given;
-      read = r.read;
-      calls = r.calls;
-      failures = r.failures;
-      answer = (r.answer.0, sym (soon_started s r.given) ∙ r.answer.1);
-    }
+    reads_as r refl (r.answer.0, sym (soon_started s r.given) ∙ r.answer.1)
 read_stopped holds keeps s turns r0 r1 stops.TooLong r =
-    record {
-      given = r.given;
-      read = r.read;
-      calls = r.calls;
-      failures = r.failures;
-      answer = (r.answer.0, sym (soon_started s r.given) ∙ r.answer.1, r.answer.2);
-    }
+    reads_as r refl (r.answer.0, sym (soon_started s r.given) ∙ r.answer.1, r.answer.2)
 read_stopped holds keeps s turns r0 r1 stops.WriteFault r = absurd r.answer
 
 pub read_whole : {T U : Type 0} (holds : T → Traced → Type 0) (keeps : U → Setting → List Entry → Type 0) (s : Setting)
@@ -144,16 +121,10 @@ pub read_whole : {T U : Type 0} (holds : T → Traced → Type 0) (keeps : U →
 read_whole holds keeps s turns r0 r1 x u is r =
     let known = r.answer.1.0 in
     let both = known_started s known (trace r.given) (sym (whole_started s r.given) ∙ r.answer.1.1) in
-    record {
-      given = r.given;
-      read = r.read;
-      calls = r.calls;
-      failures = r.failures;
-      answer = (
-        r.answer.0,
-        (known.entries, both.0, subst (λ (t : Setting). keeps u t known.entries) both.1 (is known r.answer.1.2)),
-      );
-    }
+    reads_as r refl (
+      r.answer.0,
+      (known.entries, both.0, subst (λ (t : Setting). keeps u t known.entries) both.1 (is known r.answer.1.2)),
+    )
 
 -- what keeps the entries, where memory didn't run out
 pub read_kept : {T K : Type 0} (holds : T → Traced → Type 0) (keeps : K → Setting → List Entry → Type 0) (s : Setting)
