@@ -14,8 +14,7 @@ ghost use Rattle.cap_session.specs.Explaining.{explained_text, explained_line, I
 
 use crate::chains::{put_cell_origin, put_mode_origin, put_numbered};
 use crate::refused::Refused;
-use crate::session::is_position;
-use crate::trace::Trace;
+use crate::trace::{Trace, is_position};
 use crate::wording::{put_denied, put_found};
 use cap_machine::{
     CellProvenance, Checks, Explanation, LineDenials, ModeProvenance, NoMemory, Profile, Start,

@@ -19,7 +19,6 @@ mod chains;
 mod check;
 mod command;
 mod counted;
-mod denied;
 mod devices;
 mod edit;
 mod editing;
@@ -28,14 +27,12 @@ mod explained;
 mod explaining;
 mod from_start;
 mod laws;
-mod limit_laws;
 mod limits;
 mod limits_text;
 mod line_buffer;
 mod line_ends;
 mod lines;
 mod loading;
-mod number;
 mod outcome;
 mod read;
 mod refused;
@@ -52,6 +49,7 @@ mod wording;
 mod write;
 
 pub use check::{check_stream, check_stream_as};
+pub use command::number_of;
 pub use counted::Counted;
 pub use devices::{Failed, Sink, Source};
 pub use edit::{Edit, accepted_edits_give, inserted_stands, no_edit_asks_for_memory};
@@ -60,15 +58,12 @@ pub use explained::ExplainedLine;
 pub use explaining::{explain_stream, limits_stream};
 pub use from_start::{check_stream_from, check_stream_from_as, denials_stream};
 pub use laws::{
-    bad_is_refused, beginning_decides, each_report_is_of_its_trace, explains_what_is_reported,
-    good_is_reported, pieces_agree, script_leaves_what_edits_give, script_reports_what_edits_give,
-};
-pub use limit_laws::{
-    entering_before_is_forbidden, limits_script_is_accepted, limits_script_is_enough,
-    limits_script_is_least, read_texts_are_spelled,
+    bad_is_refused, beginning_decides, each_report_is_of_its_trace, entering_before_is_forbidden,
+    explains_what_is_reported, good_is_reported, limits_script_is_accepted,
+    limits_script_is_enough, limits_script_is_least, pieces_agree, read_texts_are_spelled,
+    script_leaves_what_edits_give, script_reports_what_edits_give,
 };
 pub use limits::{LONGEST_LINE, LONGEST_PIECE, LONGEST_SCRIPT_LINE, MOST_LINES};
-pub use number::number_of;
 pub use outcome::{ExplainOutcome, Outcome};
 pub use refused::Refused;
 pub use session::{EditOutcome, Session};

@@ -12,7 +12,7 @@ ghost use Rattle.cap_session.specs.LimitScripts.{unknown_lines, inside_words, bl
 ghost use Rattle.cap_session.specs.LimitStreams.{limits_script, IsMakersText, IsProcessText, IsLimitsText, IsOutside};
 
 use crate::refused::Refused;
-use crate::session::is_position;
+use crate::trace::is_position;
 use crate::wording::{put_between, put_number};
 use cap_machine::{
     Entering, Limit, Limits, MakerLimit, NoMemory, Profile, Start, limits_before, limits_of_makers,

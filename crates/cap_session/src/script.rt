@@ -4,6 +4,7 @@ ghost use Rattle.cap_session.specs.Limits.{longest_piece, most_held, most_lines}
 ghost use Rattle.cap_session.specs.Lines.{last_piece};
 ghost use Rattle.cap_session.specs.Performs.{command_asked, Performs, text_of};
 ghost use Rattle.cap_session.specs.Replies.{command_error_code};
+ghost use Rattle.cap_session.specs.declared.script.CommandError.TheVariants as errors;
 ghost use Rattle.cap_session.specs.Scripts.{Scripting, Replied, Broken, due, due_line, due_piece, due_end};
 
 use crate::command::{Command, command_of};
@@ -37,6 +38,14 @@ impl CommandError {
             CommandError::Refused(refused) => refused.code(),
             CommandError::Unknown => 10,
         }
+    }
+}
+
+impl From<Refused> for CommandError {
+    ghost from_gives = { λ refused error. error ≡ errors.Refused refused };
+
+    fn from(refused: Refused) -> CommandError {
+        CommandError::Refused(refused)
     }
 }
 
@@ -77,33 +86,10 @@ fn perform_show(session: &Session, position: usize) -> Result<Reply, CommandErro
     ensures { Performs session.now.profile session.now.trace
         (command_asked (Command.Show position)) result session.now.trace }
 {
-    match session.show(position) {
-        Ok(mut text) => match text.push(b'\n') {
-            Ok(()) => Ok(Reply::Long(text)),
-            Err(_) => Err(CommandError::Refused(Refused::Memory)),
-        },
-        Err(refused) => Err(CommandError::Refused(refused)),
-    }
-}
-
-/// Replies with the report.
-fn perform_report(session: &Session) -> Result<Reply, CommandError>
-    ensures { Performs session.now.profile session.now.trace (command_asked Command.Report) result session.now.trace }
-{
-    match session.report() {
-        Ok(text) => Ok(Reply::Long(text)),
-        Err(refused) => Err(CommandError::Refused(refused)),
-    }
-}
-
-/// Replies with the report of a part.
-fn perform_range(session: &Session, first: usize, last: usize) -> Result<Reply, CommandError>
-    ensures { Performs session.now.profile session.now.trace
-        (command_asked (Command.ReportRange first last)) result session.now.trace }
-{
-    match session.report_range(first, last) {
-        Ok(text) => Ok(Reply::Long(text)),
-        Err(refused) => Err(CommandError::Refused(refused)),
+    let mut text = session.show(position)?;
+    match text.push(b'\n') {
+        Ok(()) => Ok(Reply::Long(text)),
+        Err(_) => Err(CommandError::Refused(Refused::Memory)),
     }
 }
 
@@ -119,8 +105,8 @@ fn perform(session: &mut Session, command: &Command<'_>) -> Result<Reply, Comman
         Command::Edit(edit) => perform_edit(session, &edit),
         Command::Show(position) => perform_show(session, position),
         Command::Count => Ok(Reply::Short(ShortText::number(session.count()))),
-        Command::Report => perform_report(session),
-        Command::ReportRange(first, last) => perform_range(session, first, last),
+        Command::Report => Ok(Reply::Long(session.report()?)),
+        Command::ReportRange(first, last) => Ok(Reply::Long(session.report_range(first, last)?)),
         Command::Unknown => Err(CommandError::Unknown),
     }
 }

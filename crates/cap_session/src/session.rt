@@ -11,7 +11,7 @@ ghost use Rattle.cap_machine.specs.State.{usual};
 ghost use Rattle.cap_machine.specs.Steps.{steps};
 ghost use Rattle.cap_machine.specs.Table.{start_state};
 ghost use Rattle.cap_machine.specs.declared.cell.Profile.TheVariants.{One};
-ghost use Rattle.cap_session.specs.Edits.{is_position, inserted, deleted, replaced, loaded, edited, after, answers};
+ghost use Rattle.cap_session.specs.Edits.{inserted, deleted, replaced, loaded, edited, after, answers};
 ghost use Rattle.cap_session.specs.Explaining.{explained_line, IsClean};
 ghost use Rattle.cap_session.specs.LimitStreams.{IsLimitsText, IsOutside};
 ghost use Rattle.cap_session.specs.Limits.{most_lines};
@@ -22,13 +22,13 @@ ghost use Rattle.cap_summary.specs.declared.summary.Summary.{Summary};
 ghost use Rattle.cap_tree.specs.Bits.{bits};
 ghost use Rattle.cap_tree.specs.Run.{values};
 
-use crate::denied::denials_of;
 use crate::edit::Edit;
 use crate::explained::{ExplainedLine, line_explained};
 use crate::limits_text::{is_outside, limits_among};
 use crate::refused::Refused;
-use crate::report::text_of;
+use crate::report::{denials_of, text_of};
 use crate::steps::{copies_of, step_of, steps_of};
+use crate::trace::is_position;
 use cap_machine::{NoMemory, Profile, Start, Step};
 use cap_summary::{Summary, explain, resolve, resolve_range};
 use cap_trace::{Line, parse_line, write_line};
@@ -62,13 +62,6 @@ pub struct EditOutcome {
     pub answers: Vec<Result<usize, Refused>>,
     /// The report of the trace that the edits left; `Memory` where there was no memory for it.
     pub report: Result<Vec<u8>, Refused>,
-}
-
-/// Whether a position is one of 1 to `last`.
-pub(crate) fn is_position(position: usize, last: usize) -> bool
-    ensures { result ≡ is_position position last }
-{
-    1 <= position && position <= last
 }
 
 /// Whether a range begins at a line, and ends at that line or after it.
@@ -414,19 +407,9 @@ impl Session {
             return Err(Refused::Position);
         }
         let start = Start::unknown(self.alloc);
-        let text = self.part(&start, first, last);
+        let found = resolve_range(self.alloc, self.tree.summary(), &start, first, last);
         drop(start);
-        text
-    }
-
-    /// The text of the findings at a range of positions, from a start. Only that part of the tree is visited.
-    fn part(&self, start: &Start, first: usize, last: usize) -> Result<Vec<u8>, Refused>
-        ensures text { IfOk result (λ text. text.items
-            ≡ range_report (start_state start.now) (steps self.now.profile self.now.trace) first last) }
-        ensures only { IsOkUnless result Refused.Memory }
-    {
-        let found = resolve_range(self.alloc, self.tree.summary(), start, first, last)?;
-        Ok(text_of(self.alloc, &self.tree, found.as_slice())?)
+        Ok(text_of(self.alloc, &self.tree, found?.as_slice())?)
     }
 
     /// The line at a position, what is said of it, and the lines that this rests on, from a start.

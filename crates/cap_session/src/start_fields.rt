@@ -3,14 +3,14 @@ ghost use Rattle.std.specs.Prelude.{◌≡◌, ◌≤◌, [], ◌∷◌, IfSome,
 ghost use Rattle.std.specs.Prelude.{length, ◌<◌, option_map, option_and_then, option_copied};
 ghost use Rattle.cap_trace.specs.Quotes.{cut_at_byte};
 ghost use Rattle.cap_session.specs.StartWords.{words};
-ghost use Rattle.cap_session.specs.StartTexts.{held as held_cell, cell_spelled, mode_spelled, number_spelled, need};
+ghost use Rattle.cap_session.specs.StartTexts.{cell_spelled, mode_spelled, number_spelled, need};
 ghost use Rattle.cap_session.specs.StartTexts.{rest_at as rest_said, listed_at, cells_from, described};
 ghost use Rattle.cap_session.specs.StartLines.{completed};
 
-use crate::number::number_of;
+use crate::command::number_of;
 use crate::refused::Refused;
 use cap_machine::{Cell, Mode, OnExec};
-use cap_rights::{RightSet, parse_rights};
+use cap_rights::parse_rights;
 use cap_trace::{Fd, LARGEST_FD, LARGEST_PID, Pid};
 use std::alloc::Global;
 use std::marker::Model;
@@ -86,14 +86,7 @@ fn number_from(low: u32, high: u32, word: &[u8]) -> Option<u32>
     Some(number as u32)
 }
 
-/// A descriptor that is open and holds these rights. Whether an exec closes it isn't known.
-fn held(rights: RightSet) -> Cell
-    ensures { result ≡ held_cell rights }
-{
-    Cell::Held(rights, OnExec::Unsure)
-}
-
-/// The cell that a word spells.
+/// The cell that a word spells. Whether an exec closes a descriptor that is held isn't known.
 #[tactic(auto, unfolding(crate::specs::StartTexts::cell_spelled))]
 fn cell_of(word: &[u8]) -> Option<Cell>
     ensures { result ≡ cell_spelled word.now }
@@ -103,10 +96,8 @@ fn cell_of(word: &[u8]) -> Option<Cell>
     } else if word == b"closed".as_slice() {
         Some(Cell::Closed)
     } else {
-        match parse_rights(word) {
-            Ok(rights) => Some(held(rights)),
-            Err(_) => None,
-        }
+        let rights = parse_rights(word).ok()?;
+        Some(Cell::Held(rights, OnExec::Unsure))
     }
 }
 
@@ -131,39 +122,22 @@ fn pid_at(low: Pid, word: Option<&[u8]>) -> Result<Pid, Refused>
     ensures value { result ≡ need Refused.Pid (option_and_then (number_spelled low 99999) (option_copied word.entry)) }
     ensures bound { IfOk result (λ pid. pid ≤ 99999) }
 {
-    let Some(word) = word else {
-        return Err(Refused::Pid);
-    };
-    match number_from(low, LARGEST_PID, word) {
-        Some(pid) => Ok(pid),
-        None => Err(Refused::Pid),
-    }
+    let word = word.ok_or(Refused::Pid)?;
+    number_from(low, LARGEST_PID, word).ok_or(Refused::Pid)
 }
 
 /// The mode of a line.
 fn mode_at(word: Option<&[u8]>) -> Result<Mode, Refused>
     ensures { result ≡ need Refused.Argument (option_and_then mode_spelled (option_copied word.entry)) }
 {
-    let Some(word) = word else {
-        return Err(Refused::Argument);
-    };
-    match mode_of(word) {
-        Some(mode) => Ok(mode),
-        None => Err(Refused::Argument),
-    }
+    word.and_then(mode_of).ok_or(Refused::Argument)
 }
 
 /// The cell of the descriptors that aren't listed.
 fn rest_at(word: Option<&[u8]>) -> Result<Cell, Refused>
     ensures { result ≡ rest_said (option_copied word.entry) }
 {
-    let Some(word) = word else {
-        return Err(Refused::Argument);
-    };
-    match cell_of(word) {
-        Some(cell) => Ok(cell),
-        None => Err(Refused::Right),
-    }
+    cell_of(word.ok_or(Refused::Argument)?).ok_or(Refused::Right)
 }
 
 /// A listed descriptor, `low` at least, with its cell.
@@ -172,16 +146,10 @@ fn listed_of(low: Fd, word: &[u8]) -> Result<(Fd, Cell), Refused>
     ensures value { result ≡ listed_at low word.now }
     ensures bound { IfOk result (λ listed. listed.0 ≤ 1048575) }
 {
-    let Some((fd, cell)) = cut(b'=', word) else {
-        return Err(Refused::Argument);
-    };
-    let Some(fd) = number_from(low, LARGEST_FD, fd) else {
-        return Err(Refused::Argument);
-    };
-    match cell_of(cell) {
-        Some(cell) => Ok((fd, cell)),
-        None => Err(Refused::Right),
-    }
+    let (fd, cell) = cut(b'=', word).ok_or(Refused::Argument)?;
+    let fd = number_from(low, LARGEST_FD, fd).ok_or(Refused::Argument)?;
+    let cell = cell_of(cell).ok_or(Refused::Right)?;
+    Ok((fd, cell))
 }
 
 /// What a line says of a process, with the words of its listed descriptors.

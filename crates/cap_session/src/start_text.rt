@@ -112,19 +112,15 @@ impl StartParser {
         ensures { (known : Listed) → Follows self.old.kept self.old.low known
             → TakesNumbered (with_line next_process known line.now) (Follows self.new.kept self.new.low) number result }
     {
-        if line.len() > LONGEST_LINE {
-            return Err(Refusal {
-                reason: Refused::LongLine,
-                line: number,
-            });
-        }
-        match self.line(line) {
-            Ok(()) => Ok(()),
-            Err(reason) => Err(Refusal {
-                reason,
-                line: number,
-            }),
-        }
+        let taken = if line.len() > LONGEST_LINE {
+            Err(Refused::LongLine)
+        } else {
+            self.line(line)
+        };
+        taken.map_err(|reason| Refusal {
+            reason,
+            line: number,
+        })
     }
 
     /// Takes the lines of a whole text.

@@ -1,12 +1,20 @@
 //! The lines of a trace by their positions, whatever keeps them.
 ghost use Rattle.std.specs.Prelude.{◌≡◌, ◌-◌, List, length, Some, slice_get};
 ghost use Rattle.cap_trace.specs.Entry.{Entry};
+ghost use Rattle.cap_session.specs.Edits.{is_position};
 ghost use Rattle.cap_session.specs.Explained.{IsAt};
 ghost use Rattle.cap_session.specs.Session.{lines_of};
 
 use cap_summary::Summary;
 use cap_trace::Line;
 use cap_tree::Tree;
+
+/// Whether a position is one of 1 to `last`.
+pub fn is_position(position: usize, last: usize) -> bool
+    ensures { result ≡ is_position position last }
+{
+    1 <= position && position <= last
+}
 
 /// The lines of a trace.
 pub trait Trace {

@@ -9,7 +9,7 @@ use Rattle.cap_machine.specs.Table.{start_state}
 use Rattle.cap_machine.specs.declared.question.Question.TheVariants.{Denials}
 use Rattle.cap_machine.specs.declared.step.Step.{Step}
 use Rattle.cap_session.specs.Session.{lines_of}
-use Rattle.cap_session.proofs.denied.denials_of.Goals as goal
+use Rattle.cap_session.proofs.report.denials_of.Goals as goal
 
 pub loop-step-init : goal.loop-step-init
 loop-step-init c =

@@ -6,11 +6,11 @@ use Rattle.cap_machine.specs.declared.verdict.Found.{Found}
 use Rattle.cap_summary.specs.Positions.{within}
 use Rattle.cap_session.specs.Session.{StandWithin}
 use Rattle.cap_session.proofs.FoundText.{some_stand_within}
-use Rattle.cap_session.proofs.session.Session.part.Goals as goal
+use Rattle.cap_session.proofs.session.Session.report_range.Goals as goal
 
 pub text_of-requires : goal.text_of-requires
 text_of-requires c =
-    let s = start_state c.args.start.now in
+    let s = start_state c.unknown-start.result in
     subst (λ (all : List Found). StandWithin (length c.self.inside.tree) all)
     (sym (c.as_slice.ensures.value ∙ c.in_ok-found.ensures
     ∙ ap (λ (t : List Step). within c.args.first c.args.last (check s t)) c.summary.ensures.steps))

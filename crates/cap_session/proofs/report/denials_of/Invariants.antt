@@ -3,7 +3,7 @@ use Rattle.cap_machine.specs.Checked.{HasDenied}
 use Rattle.cap_machine.specs.Table.{start_state}
 use Rattle.cap_machine.specs.declared.step.Step.{Step}
 use Rattle.cap_session.specs.Session.{lines_of}
-use Rattle.cap_session.proofs.denied.denials_of.Given as goal
+use Rattle.cap_session.proofs.report.denials_of.Given as goal
 
 abbrev pub invariant-loop-step : goal.invariant-loop-step
 invariant-loop-step l = (done : List Step) × (l.tree ≡ done ++ l.step-iterator)
