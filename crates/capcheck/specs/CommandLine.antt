@@ -34,29 +34,21 @@ verbose_rule =
 abbrev pub with_options : App → App
 with_options words = with_rule (with_rule words profile_rule) verbose_rule
 
--- check [FILE]
-abbrev pub check_trace_words : App
-check_trace_words = with_rule (new_app (codes "check")) trace_rule
+-- with --start and the options
+abbrev pub with_start : App → App
+with_start words = with_options (with_rule words start_rule)
 
--- the same, with --start and the options
+-- check [FILE], with --start and the options
 abbrev pub check_words : App
-check_words = with_options (with_rule check_trace_words start_rule)
+check_words = with_start (with_rule (new_app (codes "check")) trace_rule)
 
--- denials [FILE]
-abbrev pub denials_trace_words : App
-denials_trace_words = with_rule (new_app (codes "denials")) trace_rule
-
--- the same, with --start and the options
+-- denials [FILE], with --start and the options
 abbrev pub denials_words : App
-denials_words = with_options (with_rule denials_trace_words start_rule)
+denials_words = with_start (with_rule (new_app (codes "denials")) trace_rule)
 
--- edit FILE [SCRIPT]
-abbrev pub edit_texts_words : App
-edit_texts_words = with_rule (with_rule (new_app (codes "edit")) needed_trace_rule) script_rule
-
--- the same, with the options
+-- edit FILE [SCRIPT], with the options
 abbrev pub edit_words : App
-edit_words = with_options edit_texts_words
+edit_words = with_options (with_rule (with_rule (new_app (codes "edit")) needed_trace_rule) script_rule)
 
 -- the position of a line, which may be absent
 abbrev pub position_rule : Rule
@@ -66,21 +58,14 @@ position_rule = record (new_rule (codes "position")) { value_names = 1 }
 abbrev pub needed_position_rule : Rule
 needed_position_rule = record position_rule { required = true }
 
--- explain FILE K
-abbrev pub explain_line_words : App
-explain_line_words = with_rule (with_rule (new_app (codes "explain")) needed_trace_rule) needed_position_rule
-
--- the same, with --start and the options
+-- explain FILE K, with --start and the options
 abbrev pub explain_words : App
-explain_words = with_options (with_rule explain_line_words start_rule)
+explain_words =
+    with_start (with_rule (with_rule (new_app (codes "explain")) needed_trace_rule) needed_position_rule)
 
--- limits FILE [K]
-abbrev pub limits_line_words : App
-limits_line_words = with_rule (with_rule (new_app (codes "limits")) needed_trace_rule) position_rule
-
--- the same, with --start and the options
+-- limits FILE [K], with --start and the options
 abbrev pub limits_words : App
-limits_words = with_options (with_rule limits_line_words start_rule)
+limits_words = with_start (with_rule (with_rule (new_app (codes "limits")) needed_trace_rule) position_rule)
 
 -- the first word names a command, and there are --help, --version and help
 abbrev pub bare_words : App

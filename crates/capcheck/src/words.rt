@@ -5,10 +5,9 @@ ghost use Rattle.std.specs.Prelude.{◌≡◌, IfOk, false};
 ghost use Rattle.clap.specs.Words.{app_of, rule_of, shape_of};
 ghost use Rattle.clap.specs.declared.builder.command.Command.TheViews.{out-Command};
 ghost use Rattle.capcheck.specs.CommandLine.{asking_words, bare_words, capcheck, check_words, denials_words};
-ghost use Rattle.capcheck.specs.CommandLine.{check_trace_words, denials_trace_words, edit_texts_words, edit_words};
-ghost use Rattle.capcheck.specs.CommandLine.{editing_words, explain_line_words, explain_words, limits_line_words};
-ghost use Rattle.capcheck.specs.CommandLine.{limits_words, needed_position_rule, needed_trace_rule, position_rule};
-ghost use Rattle.capcheck.specs.CommandLine.{profile_rule, script_rule, start_rule, trace_rule, verbose_rule};
+ghost use Rattle.capcheck.specs.CommandLine.{edit_words, editing_words, explain_words, limits_words, needed_position_rule};
+ghost use Rattle.capcheck.specs.CommandLine.{needed_trace_rule, position_rule, profile_rule, script_rule, start_rule};
+ghost use Rattle.capcheck.specs.CommandLine.{trace_rule, verbose_rule, with_options, with_start};
 
 use crate::help;
 use clap::{Arg, ArgAction, Command};
@@ -57,21 +56,11 @@ fn check_command<'a>(alloc: Global) -> Result<Command<'a>, AllocError>
     ensures shape { IfOk result (λ c. shape_of c ≡ check_words.top) }
     ensures local { IfOk result (λ c. (out-Command c).has_globals ≡ false) }
 {
-    check_trace_command(alloc)?
-        .arg(start_arg(alloc))?
-        .arg(profile_arg(alloc))?
-        .arg(verbose_arg(alloc))
-}
-
-/// `check [FILE]`.
-fn check_trace_command<'a>(alloc: Global) -> Result<Command<'a>, AllocError>
-    ensures shape { IfOk result (λ c. shape_of c ≡ check_trace_words.top) }
-    ensures local { IfOk result (λ c. (out-Command c).has_globals ≡ false) }
-{
-    Command::new(alloc, "check")
+    let command = Command::new(alloc, "check")
         .about("Checks a trace, and prints its findings")
         .after_help(help::CHECK)
-        .arg(trace_arg(alloc))
+        .arg(trace_arg(alloc))?;
+    with_start(alloc, command)
 }
 
 /// `denials [FILE]`, with `--start` and the options.
@@ -79,21 +68,29 @@ fn denials_command<'a>(alloc: Global) -> Result<Command<'a>, AllocError>
     ensures shape { IfOk result (λ c. shape_of c ≡ denials_words.top) }
     ensures local { IfOk result (λ c. (out-Command c).has_globals ≡ false) }
 {
-    denials_trace_command(alloc)?
-        .arg(start_arg(alloc))?
-        .arg(profile_arg(alloc))?
-        .arg(verbose_arg(alloc))
-}
-
-/// `denials [FILE]`.
-fn denials_trace_command<'a>(alloc: Global) -> Result<Command<'a>, AllocError>
-    ensures shape { IfOk result (λ c. shape_of c ≡ denials_trace_words.top) }
-    ensures local { IfOk result (λ c. (out-Command c).has_globals ≡ false) }
-{
-    Command::new(alloc, "denials")
+    let command = Command::new(alloc, "denials")
         .about("Shows what was lacking for calls that were refused")
         .after_help(help::DENIALS)
-        .arg(trace_arg(alloc))
+        .arg(trace_arg(alloc))?;
+    with_start(alloc, command)
+}
+
+/// A command, with `--start` and the options.
+fn with_start<'a>(alloc: Global, command: Command<'a>) -> Result<Command<'a>, AllocError>
+    requires { (out-Command command).has_globals ≡ false }
+    ensures shape { IfOk result (λ c. shape_of c ≡ (with_start (app_of command.entry)).top) }
+    ensures local { IfOk result (λ c. (out-Command c).has_globals ≡ false) }
+{
+    with_options(alloc, command.arg(start_arg(alloc))?)
+}
+
+/// A command, with `--profile` and `--verbose`.
+fn with_options<'a>(alloc: Global, command: Command<'a>) -> Result<Command<'a>, AllocError>
+    requires { (out-Command command).has_globals ≡ false }
+    ensures shape { IfOk result (λ c. shape_of c ≡ (with_options (app_of command.entry)).top) }
+    ensures local { IfOk result (λ c. (out-Command c).has_globals ≡ false) }
+{
+    command.arg(profile_arg(alloc))?.arg(verbose_arg(alloc))
 }
 
 /// The trace of `check` and of `denials`.
@@ -149,21 +146,12 @@ fn edit_command<'a>(alloc: Global) -> Result<Command<'a>, AllocError>
     ensures shape { IfOk result (λ c. shape_of c ≡ edit_words.top) }
     ensures local { IfOk result (λ c. (out-Command c).has_globals ≡ false) }
 {
-    edit_texts_command(alloc)?
-        .arg(profile_arg(alloc))?
-        .arg(verbose_arg(alloc))
-}
-
-/// `edit FILE [SCRIPT]`.
-fn edit_texts_command<'a>(alloc: Global) -> Result<Command<'a>, AllocError>
-    ensures shape { IfOk result (λ c. shape_of c ≡ edit_texts_words.top) }
-    ensures local { IfOk result (λ c. (out-Command c).has_globals ≡ false) }
-{
-    Command::new(alloc, "edit")
+    let command = Command::new(alloc, "edit")
         .about("Replies to a script of commands on a trace")
         .after_help(help::EDIT)
         .arg(needed_trace_arg(alloc))?
-        .arg(script_arg(alloc))
+        .arg(script_arg(alloc))?;
+    with_options(alloc, command)
 }
 
 /// The trace where it must be named.
@@ -192,22 +180,12 @@ fn explain_command<'a>(alloc: Global) -> Result<Command<'a>, AllocError>
     ensures shape { IfOk result (λ c. shape_of c ≡ explain_words.top) }
     ensures local { IfOk result (λ c. (out-Command c).has_globals ≡ false) }
 {
-    explain_line_command(alloc)?
-        .arg(start_arg(alloc))?
-        .arg(profile_arg(alloc))?
-        .arg(verbose_arg(alloc))
-}
-
-/// `explain FILE K`.
-fn explain_line_command<'a>(alloc: Global) -> Result<Command<'a>, AllocError>
-    ensures shape { IfOk result (λ c. shape_of c ≡ explain_line_words.top) }
-    ensures local { IfOk result (λ c. (out-Command c).has_globals ≡ false) }
-{
-    Command::new(alloc, "explain")
+    let command = Command::new(alloc, "explain")
         .about("Shows a line of a trace with its findings, and the lines that they rest on")
         .after_help(help::EXPLAIN)
         .arg(needed_trace_arg(alloc))?
-        .arg(needed_position_arg(alloc))
+        .arg(needed_position_arg(alloc))?;
+    with_start(alloc, command)
 }
 
 /// The position of `explain`.
@@ -226,22 +204,12 @@ fn limits_command<'a>(alloc: Global) -> Result<Command<'a>, AllocError>
     ensures shape { IfOk result (λ c. shape_of c ≡ limits_words.top) }
     ensures local { IfOk result (λ c. (out-Command c).has_globals ≡ false) }
 {
-    limits_line_command(alloc)?
-        .arg(start_arg(alloc))?
-        .arg(profile_arg(alloc))?
-        .arg(verbose_arg(alloc))
-}
-
-/// `limits FILE [K]`.
-fn limits_line_command<'a>(alloc: Global) -> Result<Command<'a>, AllocError>
-    ensures shape { IfOk result (λ c. shape_of c ≡ limits_line_words.top) }
-    ensures local { IfOk result (λ c. (out-Command c).has_globals ≡ false) }
-{
-    Command::new(alloc, "limits")
+    let command = Command::new(alloc, "limits")
         .about("Writes a script that limits descriptors to the rights that later lines need")
         .after_help(help::LIMITS)
         .arg(needed_trace_arg(alloc))?
-        .arg(position_arg(alloc))
+        .arg(position_arg(alloc))?;
+    with_start(alloc, command)
 }
 
 /// The position of `limits`.
