@@ -10,6 +10,8 @@ mod help;
 mod messages;
 mod notes;
 mod plan;
+#[cfg(test)]
+mod plan_tests;
 mod run;
 mod texts;
 mod words;
