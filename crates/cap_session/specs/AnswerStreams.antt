@@ -57,7 +57,7 @@ pub record IsRefusal {A : Type 0} (kind : Kind A) (ended : Type 0) (given text :
   pub line : IsRefused kind.whole kind.soon ended given e
   pub is : text ≡ refusal_text kind.input e
 
--- The same, and the outcome is that of such a line: its code and its number.
+-- A line of what was given is refused, the text says so, and the outcome has the code of that line and its number.
 pub record NamesLine {A : Type 0} (kind : Kind A) (ended : Type 0) (given text : List ℕ) (outcome : Outcome)
     : Type 0 where
   pub refusal : Refusal

@@ -20,6 +20,6 @@ explain_says profile k start t (Ended outcomes.Findings) text =
 explain_says profile k start t OutOfRange text = (explained_line start profile t k ≡ Err Position) × (text ≡ refused_text 7)
 explain_says profile k start t _ text = ⊥
 
--- the same, from what a start text says
+-- the explanation of line k, from what a start text says
 abbrev pub explanation_says : Profile → ℕ → List Added → Says
 explanation_says profile k = λ (start : List Added). explain_says profile k (start_state start)

@@ -13,7 +13,7 @@ abbrev pub TakesLine : {A T : Type 0} → Result A Refused → (A → Type 0) �
 TakesLine {A = A} says follows (Ok _) = (now : A) × (says ≡ Ok now) × follows now
 TakesLine says follows (Err reason) = says ≡ Err reason
 
--- The same of the line after the first `number`.
+-- The line after the first `number` did what the definition says, or reading stopped at it.
 abbrev pub Completes : {A T : Type 0} → Result A Refused → (A → Type 0) → ℕ → Result T StopReason → Type 0
 Completes {A = A} says follows number (Ok _) = (now : A) × (says ≡ Ok now) × follows now
 Completes says follows number (Err (stops.Refused e)) = (says ≡ Err e.reason) × (e.line ≡ number + 1)
