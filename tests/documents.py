@@ -3,6 +3,8 @@
 
 - Each function, type, definition and clause in a column "Contract" of docs/PROOFS.md is declared in the crates.
 - Each file in a table of docs/ARCHITECTURE.md is there, and declares the functions beside it.
+- The definitions that docs/ARCHITECTURE.md lists as what must be believed rest only on one another, and none beside a folder
+  specs/Code rests on that folder.
 - Each file and name that CONTRIBUTING.md has in backticks is in some crate or script.
 - Each path that a page has in backticks is there, and each method as `Type::method`. No line of a table has more than 200
   characters.
@@ -73,9 +75,27 @@ def check_file(where, path, names):
         wrong.extend(f"{where}: {path} declares no {name}" for name in set(names) - declared_in(path))
 
 
+def taken_by(path):
+    """The files of specs/ of the repository's crates that one of them takes definitions of, each with its crate."""
+    taken = set()
+    for crate, names in re.findall(r"\buse Rattle\.(cap\w+)\.specs\.(\{[^}]*\}|\w+)", re.sub(r"--.*", "", text_of(path))):
+        taken.update((crate, name) for name in re.findall(r"(?:^|[{,])\s*(\w+)", names))
+    return {(crate, name) for crate, name in taken if name != "declared"}
+
+
+def check_beliefs(listed):
+    """That these files of specs/ rest on nothing else, and those beside a folder Code not on it."""
+    for path in glob.glob("crates/*/specs/*.antt"):
+        crate, name = path.split("/")[1], os.path.basename(path).removesuffix(".antt")
+        has_code = os.path.isdir(f"crates/{crate}/specs/Code")
+        for other in sorted(taken_by(path)):
+            if has_code and other[1] == "Code" or (crate, name) in listed and other not in listed:
+                wrong.append(f"{path} rests on {'/'.join(other)}, which docs/ARCHITECTURE.md doesn't list as to be believed")
+
+
 def check_files():
     """That the files of docs/ARCHITECTURE.md are there, and declare what is beside them. An empty cell is the crate above."""
-    crate = None
+    crate, listed = None, set()
     for where, cells in rows_of("docs/ARCHITECTURE.md"):
         if re.fullmatch(r"`\w+/src/[\w/]+\.rt`", cells[0]):
             check_file(where, f"crates/{cells[0][1:-1]}", names_in(cells[1]))
@@ -83,6 +103,8 @@ def check_files():
             crate = cells[0].strip("`") or crate
             for name in names_in(cells[1]):
                 check_file(where, f"crates/{crate}/specs/{name}.antt", [])
+                listed.add((crate, name))
+    check_beliefs(listed)
 
 
 def check_lists():

@@ -3,7 +3,7 @@
 
 It reads the rows there, which stand in the order of the variants in src/calls.rt, tries factors for the slot of a name
 until each name has a slot of its own, and writes the parts between 'tools/name_slots.py' and its end in src/names.rt,
-specs/Names.antt and specs/Slots.antt.
+specs/Names.antt and specs/Code/Slots.antt.
 """
 import pathlib
 import random
@@ -56,7 +56,7 @@ def ends(name):
 
 
 def slot_of(name, factors):
-    """The slot of a name, as `slot_of` in src/names.rt and `slot_at` in specs/Slots.antt have it."""
+    """The slot of a name, as `slot_of` in src/names.rt and `slot_at` in specs/Code/Slots.antt have it."""
     first, last = ends(name)
     return (first * factors[0] + last * factors[1]) % 2**64 // (2**64 // SLOTS)
 
@@ -110,7 +110,7 @@ def main():
     put(TRACE / "specs" / "Names.antt", "--", {
         "forms": "unfoldable pub all_forms : List Form\nall_forms =\n" + written(in_specs, " ∷ ", 116) + " []",
     })
-    put(TRACE / "specs" / "Slots.antt", "--", {
+    put(TRACE / "specs" / "Code" / "Slots.antt", "--", {
         "slots": "unfoldable pub slots : List ℕ\nslots =\n" + written(numbers, " ∷ ") + " []",
         "slot by the two words": f"abbrev pub slot_by : ℕ → ℕ → ℕ\nslot_by first last =\n    ((first * {first}) % 2 ^ 64"
         f" + (last * {last}) % 2 ^ 64) % 2 ^ 64 / 2 ^ 55",

@@ -4,7 +4,7 @@ use Rattle.cap_rights.specs.Rights.{join}
 use Rattle.cap_machine.specs.declared.cell.OnExec.{OnExec}
 use Rattle.cap_machine.specs.declared.cell.OnExec.TheVariants.{Set, Clear, Unsure}
 use Rattle.cap_machine.specs.Op.{held_op, exec}
-use Rattle.cap_machine.specs.Wanted.{around_exec, wanted_with, back_through}
+use Rattle.cap_machine.specs.Code.Wanted.{around_exec, wanted_with, back_through}
 use Rattle.cap_machine.proofs.JoinedRights.{join_comm, none_join, join_swap, join_pairs}
 
 two : (n m q r : ℕ) → n ≡ m → q ≡ r → join n q ≡ join m r

@@ -16,8 +16,8 @@ use Rattle.cap_machine.specs.Judge.{is_forbidden}
 use Rattle.cap_machine.specs.Touch.{Turn, stays, turns, follows, turn}
 use Rattle.cap_machine.specs.Effect.{effect_turn}
 use Rattle.cap_machine.specs.Live.{is_success, step_blocks, ModePasses, Blocks}
-use Rattle.cap_machine.specs.LiveRights.{IsFirstBlock}
-use Rattle.cap_machine.specs.Wanted.{earlier, unblocked, gathered_blocked, is_child, blocked_before}
+use Rattle.cap_machine.specs.Live.{IsFirstBlock}
+use Rattle.cap_machine.specs.Code.Wanted.{earlier, unblocked, gathered_blocked, is_child, blocked_before}
 
 -- ---- the first number, from one on, at which a fact holds
 

@@ -11,7 +11,7 @@ use Rattle.std.proofs.lemmas.Bool.Decides.{nat_tests}
 use Rattle.cap_rights.specs.Rights.{join}
 use Rattle.cap_machine.specs.declared.cell.OnExec.{OnExec}
 use Rattle.cap_machine.specs.declared.live.fd_rights.ByFlag.{ByFlag}
-use Rattle.cap_machine.specs.Wanted.{flag_rights}
+use Rattle.cap_machine.specs.Code.Wanted.{flag_rights}
 
 pub join_comm : (r s : ℕ) → join r s ≡ join s r
 join_comm r s = or_comm r s

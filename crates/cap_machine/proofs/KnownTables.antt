@@ -14,10 +14,11 @@ use Rattle.cap_machine.specs.declared.cell.Mode.TheVariants.{Unsure}
 use Rattle.cap_machine.specs.declared.cells.Cells.{Cells}
 use Rattle.cap_machine.specs.declared.table.Process.{Process}
 use Rattle.cap_machine.specs.declared.table.Table.{Table}
-use Rattle.cap_machine.specs.Cells.{cell_in_cells}
+use Rattle.cap_machine.specs.Code.Cells.{cell_in_cells}
 use Rattle.cap_machine.specs.State.{State, Added, listed_cell, with_all, with_listed, usual}
-use Rattle.cap_machine.specs.Table.{own, own_at, cell_in, place_in, state_of, start_state}
-use Rattle.cap_machine.specs.Known.{top, cells_below, known_of, known_from, known}
+use Rattle.cap_machine.specs.Code.Table.{own, own_at, cell_in, place_in, state_of}
+use Rattle.cap_machine.specs.State.{start_state}
+use Rattle.cap_machine.specs.Code.Known.{top, cells_below, known_of, known_from, known}
 use Rattle.cap_machine.proofs.Turns.{same_state}
 use Rattle.cap_machine.proofs.Owners.{either_way}
 

@@ -11,8 +11,9 @@ use Rattle.cap_machine.specs.declared.cell.Cell.TheVariants.{Unknown, Closed, He
 use Rattle.cap_machine.specs.declared.step.Step.{Step}
 use Rattle.cap_machine.specs.State.{State}
 use Rattle.cap_machine.specs.Live.{Live}
-use Rattle.cap_machine.specs.LimitLaws.{Row, IsLimit}
-use Rattle.cap_machine.specs.Limits.{least_of, cell_row, held_row, held_rows}
+use Rattle.cap_machine.specs.Limits.{Row, IsLimit}
+use Rattle.cap_machine.specs.Limits.{least_of}
+use Rattle.cap_machine.specs.Code.Rows.{cell_row, held_row, held_rows}
 use Rattle.cap_machine.proofs.MakerLimits.{least_is}
 use Rattle.cap_machine.proofs.RowOrder.{fd_of, HasOne, rows_sorted}
 

@@ -12,7 +12,7 @@ use Rattle.cap_rights.specs.Rights.{none}
 use Rattle.cap_machine.specs.declared.cell.Cell.{Cell}
 use Rattle.cap_machine.specs.declared.cells.kind.CellKind.{CellKind}
 use Rattle.cap_machine.specs.declared.cells.kind.CellKind.TheVariants.{Unknown}
-use Rattle.cap_machine.specs.Cells.Kind.{kind_of_cell, rights_of_cell, cell_of_kind, kept_cell}
+use Rattle.cap_machine.specs.Code.Cells.Kind.{kind_of_cell, rights_of_cell, cell_of_kind, kept_cell}
 
 pub put_in : (kinds : List CellKind) (rights : List ℕ) (place : ℕ) (cell : Cell) (kind : CellKind) (right f : ℕ)
     → place < length kinds → place < length rights → kind ≡ kind_of_cell cell → right ≡ rights_of_cell cell

@@ -26,7 +26,7 @@ use Rattle.cap_machine.specs.State.{State}
 use Rattle.cap_machine.specs.Op.{applied, held, held_op, masked}
 use Rattle.cap_machine.specs.Touch.{Touch, kept, given, taken, Turn, stays, turns, follows, touch, turn}
 use Rattle.cap_machine.specs.History.{touched, turned}
-use Rattle.cap_machine.specs.Table.{step_after}
+use Rattle.cap_machine.specs.Code.Table.{step_after}
 use Rattle.cap_machine.specs.Judge.{listed, is_inside, is_outside, is_forbidden, is_allowed, shortfall, fault, faults}
 use Rattle.cap_machine.specs.Judge.{forbidden, judged_by, is_excused, all_excused, has_check}
 use Rattle.cap_machine.specs.Rule.{requirement}

@@ -19,17 +19,18 @@ use Rattle.cap_machine.specs.declared.rule.LimitWord.TheVariants.{Expanded}
 use Rattle.cap_machine.specs.declared.verdict.Finding.{Finding}
 use Rattle.cap_machine.specs.declared.verdict.Found.{Found}
 use Rattle.cap_machine.specs.State.{State}
-use Rattle.cap_machine.specs.Cells.Kind.{rights_of_cell}
+use Rattle.cap_machine.specs.Code.Cells.Kind.{rights_of_cell}
 use Rattle.cap_machine.specs.Op.{applied, limit}
 use Rattle.cap_machine.specs.Touch.{kept, taken, stays, turns}
 use Rattle.cap_machine.specs.History.{ended, touched, turned}
-use Rattle.cap_machine.specs.Table.{step_after}
+use Rattle.cap_machine.specs.Code.Table.{step_after}
 use Rattle.cap_machine.specs.Judge.{fault}
 use Rattle.cap_machine.specs.Rule.{check_of}
 use Rattle.cap_machine.specs.Check.{check, said}
 use Rattle.cap_machine.specs.Laws.{later as moved}
 use Rattle.cap_machine.specs.Live.{Live, Blocks}
-use Rattle.cap_machine.specs.LimitLaws.{Row, limit_step, enter_step, script, IsLimit, MayEnter, HoldsSets}
+use Rattle.cap_machine.specs.LimitLaws.{limit_step, enter_step, script, MayEnter, HoldsSets}
+use Rattle.cap_machine.specs.Limits.{Row, IsLimit}
 use Rattle.cap_machine.specs.LimitLaws.{LimitsAreEnough}
 use Rattle.cap_machine.proofs.Turns.{ends_in_turn, checks_in_turn}
 use Rattle.cap_machine.proofs.LimitBits.{part_itself, part_of_meet, meet_holds, has_all_from}

@@ -19,7 +19,7 @@ use Rattle.cap_machine.specs.declared.verdict.Found.{Found}
 use Rattle.cap_machine.specs.State.{State}
 use Rattle.cap_machine.specs.Touch.{Turn, stays, turns, follows, turn}
 use Rattle.cap_machine.specs.History.{turned}
-use Rattle.cap_machine.specs.Table.{step_after}
+use Rattle.cap_machine.specs.Code.Table.{step_after}
 use Rattle.cap_machine.specs.Judge.{listed, is_inside, is_forbidden, shortfall, fault, faults, forbidden, judged_by}
 use Rattle.cap_machine.specs.Rule.{requirement}
 use Rattle.cap_machine.specs.Check.{check, said, found_at}

@@ -7,7 +7,7 @@ use Rattle.cap_machine.specs.declared.step.Step.{Step}
 use Rattle.cap_machine.specs.declared.verdict.Found.{Found}
 use Rattle.cap_machine.specs.declared.verdict.Finding.{Finding}
 use Rattle.cap_machine.specs.State.{State}
-use Rattle.cap_machine.specs.Table.{step_after}
+use Rattle.cap_machine.specs.Code.Table.{step_after}
 use Rattle.cap_machine.specs.Check.{check, said, found_at}
 use Rattle.cap_machine.specs.Laws.{later as moved}
 use Rattle.cap_machine.specs.LimitLaws.{Lacks, NewlyLacks}

@@ -20,11 +20,11 @@ use Rattle.cap_machine.specs.declared.rule.LimitWord.TheVariants.{Missing, Expan
 use Rattle.cap_machine.specs.declared.verdict.Finding.{Finding}
 use Rattle.cap_machine.specs.declared.verdict.Finding.TheVariants as say
 use Rattle.cap_machine.specs.State.{State}
-use Rattle.cap_machine.specs.Cells.Kind.{rights_of_cell}
+use Rattle.cap_machine.specs.Code.Cells.Kind.{rights_of_cell}
 use Rattle.cap_machine.specs.Op.{applied, held, held_op, masked}
 use Rattle.cap_machine.specs.Touch.{Touch, kept, given, taken, touch}
 use Rattle.cap_machine.specs.History.{touched}
-use Rattle.cap_machine.specs.Table.{step_after}
+use Rattle.cap_machine.specs.Code.Table.{step_after}
 use Rattle.cap_machine.specs.Judge.{listed, is_inside, is_forbidden, shortfall, fault, faults, forbidden, judged_by}
 use Rattle.cap_machine.specs.Rule.{requirement}
 use Rattle.cap_machine.specs.Check.{check}

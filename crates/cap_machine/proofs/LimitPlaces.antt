@@ -11,14 +11,15 @@ use Rattle.cap_machine.specs.declared.cell.OnExec.{OnExec}
 use Rattle.cap_machine.specs.declared.cell.Cell.TheVariants.{Held}
 use Rattle.cap_machine.specs.declared.step.Step.{Step}
 use Rattle.cap_machine.specs.State.{State}
-use Rattle.cap_machine.specs.Cells.Kind.{rights_of_cell}
+use Rattle.cap_machine.specs.Code.Cells.Kind.{rights_of_cell}
 use Rattle.cap_machine.specs.Op.{applied, limit, masked}
 use Rattle.cap_machine.specs.Touch.{kept, taken, touch}
 use Rattle.cap_machine.specs.History.{ended, touched}
-use Rattle.cap_machine.specs.Table.{step_after}
+use Rattle.cap_machine.specs.Code.Table.{step_after}
 use Rattle.cap_machine.specs.Check.{check, said}
 use Rattle.cap_machine.specs.Live.{Live, Passes, step_needs}
-use Rattle.cap_machine.specs.LimitLaws.{Row, limit_step, IsLimit, HoldsSets, Limited, limits_after}
+use Rattle.cap_machine.specs.LimitLaws.{limit_step, HoldsSets, Limited, limits_after}
+use Rattle.cap_machine.specs.Limits.{Row, IsLimit}
 use Rattle.cap_machine.specs.LimitLaws.{without_limits, with_limits, AreLimits, NoneNew, AllLimitsAreEnough}
 use Rattle.cap_machine.specs.LimitLaws.{AllLimitsAreLeast}
 use Rattle.cap_machine.proofs.LimitBits.{meet_holds, without_full_holds, masked_from}

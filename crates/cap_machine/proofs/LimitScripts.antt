@@ -15,9 +15,10 @@ use Rattle.cap_machine.specs.State.{State}
 use Rattle.cap_machine.specs.Op.{applied, limit}
 use Rattle.cap_machine.specs.Touch.{kept, taken, stays, turns}
 use Rattle.cap_machine.specs.History.{ended, touched, turned}
-use Rattle.cap_machine.specs.Table.{step_after}
+use Rattle.cap_machine.specs.Code.Table.{step_after}
 use Rattle.cap_machine.specs.Check.{check}
-use Rattle.cap_machine.specs.LimitLaws.{Row, limit_step, enter_step, script, IsLimit}
+use Rattle.cap_machine.specs.LimitLaws.{limit_step, enter_step, script}
+use Rattle.cap_machine.specs.Limits.{Row, IsLimit}
 use Rattle.cap_machine.specs.LimitLaws.{ScriptsAreLeast, EnteringIsForbidden}
 use Rattle.cap_machine.proofs.Turns.{ends_in_turn}
 use Rattle.cap_machine.proofs.LimitBits.{meet_holds}

@@ -49,7 +49,7 @@ use Rattle.cap_machine.specs.Touch.{closefrom_touch, open_flag, socket_flag, fd_
 use Rattle.cap_machine.specs.Touch.{fcntl_copied_to, plain_fd_flags, set_fd_op, path_touch, opened_below, at_touch}
 use Rattle.cap_machine.specs.Touch.{flags_touch, fork_touch, pdfork_touch, bare_touch, call_touch, item_touch, touch}
 use Rattle.cap_machine.specs.History.{touched}
-use Rattle.cap_machine.specs.Table.{step_after}
+use Rattle.cap_machine.specs.Code.Table.{step_after}
 use Rattle.cap_machine.specs.LimitLaws.{HoldsSets}
 use Rattle.cap_machine.proofs.LimitBits.{masked_set}
 

@@ -10,7 +10,7 @@ use Rattle.cap_machine.specs.declared.cell.Profile.{Profile}
 use Rattle.cap_machine.specs.declared.rule.Requirement.{Requirement}
 use Rattle.cap_machine.specs.declared.rule.Effect.{Effect}
 use Rattle.cap_machine.specs.Effect.{effect_touch, effect_turn}
-use Rattle.cap_machine.specs.LiveRights.{IsRule}
+use Rattle.cap_machine.specs.Code.LiveRights.{IsRule}
 use Rattle.cap_machine.specs.Rule.{requirement, item_requirement, fd_requirement}
 use Rattle.cap_machine.specs.Steps.{step}
 use Rattle.cap_machine.specs.Touch.{stays, touch, turn, fd_touch, item_touch, item_turn}

@@ -27,8 +27,8 @@ use Rattle.cap_machine.specs.Touch.{Touch, kept, given, taken, started, touch}
 use Rattle.cap_machine.specs.Effect.{effect_touch}
 use Rattle.cap_machine.specs.Judge.{listed}
 use Rattle.cap_machine.specs.Live.{is_success, checks_need, step_needs, HandsOn, Passes, Live}
-use Rattle.cap_machine.specs.Wanted.{back_through, wanted_with, undone, gathered, is_child, with_checks}
-use Rattle.cap_machine.specs.Wanted.{with_requirement, wanted_before}
+use Rattle.cap_machine.specs.Code.Wanted.{back_through, wanted_with, undone, gathered, is_child, with_checks}
+use Rattle.cap_machine.specs.Code.Wanted.{with_requirement, wanted_before}
 use Rattle.std.proofs.Math.Path.{fun_ext}
 use Rattle.cap_machine.proofs.Profiles.{or_swap}
 

@@ -16,7 +16,7 @@ use Rattle.cap_machine.specs.declared.makers.MakerLimit.{MakerLimit}
 use Rattle.cap_machine.specs.State.{State}
 use Rattle.cap_machine.specs.History.{after, ended}
 use Rattle.cap_machine.specs.Live.{Live}
-use Rattle.cap_machine.specs.LimitLaws.{IsLeast, IsLimit}
+use Rattle.cap_machine.specs.Limits.{IsLeast, IsLimit}
 use Rattle.cap_machine.specs.Limits.{least_of}
 use Rattle.cap_machine.specs.Makers.{Place, place_of, held_place, held_places, AreMakerLimits, cells_made, maker_row}
 use Rattle.cap_machine.specs.Makers.{maker_rows, made_fds, cells_along, cells_back}

@@ -9,8 +9,8 @@ use Rattle.cap_machine.specs.declared.question.Question.{Question}
 use Rattle.cap_machine.specs.declared.question.Question.TheVariants.{Findings, Denials}
 use Rattle.cap_machine.specs.declared.step.Step.{Step}
 use Rattle.cap_machine.specs.declared.table.Table.{Table}
-use Rattle.cap_machine.specs.Checked.{CheckerState, IsAsked}
-use Rattle.cap_machine.specs.Known.{known}
+use Rattle.cap_machine.specs.Code.Checked.{CheckerState, IsAsked}
+use Rattle.cap_machine.specs.Code.Known.{known}
 use Rattle.cap_machine.specs.Steps.{step, steps}
 use Rattle.cap_machine.specs.State.{State}
 use Rattle.cap_machine.specs.History.{ended, told}
@@ -19,7 +19,8 @@ use Rattle.cap_machine.specs.Report.{finding_line}
 use Rattle.cap_machine.specs.Denials.{denied_at}
 use Rattle.cap_machine.specs.DenialReport.{denial_line}
 use Rattle.cap_machine.specs.Questions.{answer_count, answer_lines, line_count, line_text, LineHasNoEntry}
-use Rattle.cap_machine.specs.Table.{state_of, start_state, Keeps, step_after}
+use Rattle.cap_machine.specs.Code.Table.{state_of, Keeps, step_after}
+use Rattle.cap_machine.specs.State.{start_state}
 use Rattle.cap_machine.proofs.KnownTables.{state_known}
 use Rattle.cap_machine.proofs.Turns.{ends_more, same_state, told_more}
 use Rattle.cap_machine.proofs.ReportLines.{answer_count-more, answer_lines-more}

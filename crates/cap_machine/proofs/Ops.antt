@@ -8,7 +8,7 @@ use Rattle.cap_machine.specs.declared.cell.HeldOp.{HeldOp}
 use Rattle.cap_machine.specs.declared.cell.HeldOp.TheVariants.{Becomes, Keeps}
 use Rattle.cap_machine.specs.declared.cell.Op.{Op}
 use Rattle.cap_machine.specs.Op.{applied, masked, held, held_op}
-use Rattle.cap_machine.specs.Composed.{both_masks, kept_then, held_then, in_turn}
+use Rattle.cap_machine.specs.Code.Composed.{both_masks, kept_then, held_then, in_turn}
 
 masks_in_turn : (first later : Option ℕ) (rights : ℕ)
     → masked (both_masks first later) rights ≡ masked later (masked first rights)

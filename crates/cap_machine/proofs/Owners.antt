@@ -23,7 +23,7 @@ use Rattle.cap_machine.specs.Op.{applied, exec}
 use Rattle.cap_machine.specs.Touch.{Touch, kept, given, taken, Turn, stays, turns, started}
 use Rattle.cap_machine.specs.History.{touched, turned}
 use Rattle.cap_machine.specs.Effect.{effect_touch, effect_turn, own_cell, own_mode, IsOwn}
-use Rattle.cap_machine.specs.Table.{own, own_at, IsSame}
+use Rattle.cap_machine.specs.Code.Table.{own, own_at, IsSame}
 
 is_own : (q : Process) (r : ℕ) → q.pid ≡ r → own r (Some q) ≡ Some q
 is_own q r e = ap (λ (b : Bool). if b then Some q else None) (eq-eqb q.pid r e)

@@ -14,8 +14,8 @@ use Rattle.std.proofs.lemmas.List.{get_or-set_other, length-set}
 use Rattle.std.proofs.Math.Nat.{div-add-mod}
 use Rattle.std.proofs.Math.Nat.{mul-le-mul_left, mul-suc, mod-lt}
 use Rattle.std.proofs.Math.Logic.{⊎_elim}
-use Rattle.cap_machine.specs.Cells.Deferred.{with_deferred}
-use Rattle.cap_machine.specs.Cells.Parts.{look}
+use Rattle.cap_machine.specs.Code.Cells.Deferred.{with_deferred}
+use Rattle.cap_machine.specs.Code.Cells.Parts.{look}
 use Rattle.cap_machine.specs.declared.cells.deferred.Deferred.{Deferred}
 use Rattle.cap_machine.specs.declared.cells.deferred.Deferred.TheVariants.{Nothing, Close}
 use Rattle.cap_machine.specs.declared.cell.Cell.{Cell}

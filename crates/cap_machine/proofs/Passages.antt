@@ -15,9 +15,9 @@ use Rattle.cap_machine.specs.Op.{applied}
 use Rattle.cap_machine.specs.Touch.{kept, given, taken}
 use Rattle.cap_machine.specs.History.{touched}
 use Rattle.cap_machine.specs.Provenance.{CellChain, same_flag, same_cell, is_idle, named_touch, cell_link, by_touch}
-use Rattle.cap_machine.specs.Passages.{constant, cell_along, links_along, chain_along}
-use Rattle.cap_machine.specs.Walks.{chain_unless}
-use Rattle.cap_machine.specs.Following.{passage}
+use Rattle.cap_machine.specs.Code.Passages.{constant, cell_along, links_along, chain_along}
+use Rattle.cap_machine.specs.Code.Walks.{chain_unless}
+use Rattle.cap_machine.specs.Code.Following.{passage}
 
 -- ---- the same cell
 

@@ -8,7 +8,7 @@ use Rattle.std.proofs.lemmas.Map.Keys.{IsStrictlyIncreasing-from_sorted}
 use Rattle.std.proofs.lemmas.Map.Views.{length-le_from_below}
 use Rattle.std.proofs.Math.Logic.{⊎_elim}
 use Rattle.cap_machine.specs.declared.limit.Limit.{Limit}
-use Rattle.cap_machine.specs.LimitLaws.{Row}
+use Rattle.cap_machine.specs.Limits.{Row}
 use Rattle.cap_machine.specs.Limits.{row_of, AreInOrder}
 
 abbrev pub fd_of : Row → ℕ

@@ -21,8 +21,9 @@ use Rattle.cap_machine.specs.Effect.{effect_touch}
 use Rattle.cap_machine.specs.State.{State, Added}
 use Rattle.cap_machine.specs.History.{touched, cell_after}
 use Rattle.cap_machine.specs.declared.start.Entry.{Entry}
-use Rattle.cap_machine.specs.Starts.{added_by}
-use Rattle.cap_machine.specs.Standing.{StandsBy, Stands, IsHeld, is_single, source_of, start_lists, added_lists}
+use Rattle.cap_machine.specs.Code.Starts.{added_by}
+use Rattle.cap_machine.specs.Standing.{StandsBy, Stands, IsHeld, start_lists, added_lists}
+use Rattle.cap_machine.specs.Code.Singles.{is_single, source_of}
 
 -- ---- one line
 

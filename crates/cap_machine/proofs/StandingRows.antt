@@ -10,8 +10,8 @@ use Rattle.cap_machine.specs.declared.cell.OnExec.{OnExec}
 use Rattle.cap_machine.specs.declared.cell.Cell.{Cell}
 use Rattle.cap_machine.specs.declared.cell.Cell.TheVariants.{Unknown, Closed, Held}
 use Rattle.cap_machine.specs.State.{State}
-use Rattle.cap_machine.specs.LimitLaws.{Row}
-use Rattle.cap_machine.specs.Limits.{cell_row, held_rows}
+use Rattle.cap_machine.specs.Limits.{Row}
+use Rattle.cap_machine.specs.Code.Rows.{cell_row, held_rows}
 use Rattle.cap_machine.specs.LimitsBefore.{rows_name}
 use Rattle.cap_machine.specs.Standing.{IsHeld}
 

@@ -2,9 +2,9 @@
 use Rattle.std.proofs.Common.{◌≡◌, List, [], ◌∷◌, ◌++◌, map, refl, ap, ◌∙◌}
 use Rattle.std.proofs.lemmas.List.{map-append}
 use Rattle.cap_machine.specs.declared.start.Entry.{Entry}
-use Rattle.cap_machine.specs.Starts.{added_by}
+use Rattle.cap_machine.specs.Code.Starts.{added_by}
 use Rattle.cap_machine.specs.State.{State, Added, with_listed, with_all, usual}
-use Rattle.cap_machine.specs.Table.{start_state}
+use Rattle.cap_machine.specs.State.{start_state}
 
 all_more : (s : State) (added : List Added) (next : Added)
     → with_all s (added ++ next ∷ []) ≡ with_listed (with_all s added) next.pid next.mode next.rest next.cells

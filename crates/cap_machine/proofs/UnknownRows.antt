@@ -25,11 +25,11 @@ use Rattle.cap_machine.specs.declared.live.fd_rights.ByFlag.{ByFlag}
 use Rattle.cap_machine.specs.declared.live.fd_rights.FdRights.{FdRights}
 use Rattle.cap_machine.specs.State.{State}
 use Rattle.cap_machine.specs.Live.{Live}
-use Rattle.cap_machine.specs.LimitLaws.{Row, IsLeast}
+use Rattle.cap_machine.specs.Limits.{Row, IsLeast}
 use Rattle.cap_machine.specs.Limits.{least_of}
 use Rattle.cap_machine.specs.LimitsBefore.{rows_name, IsUnknownLimit}
-use Rattle.cap_machine.specs.Unknown.{unknown_row, unknown_rows, IsUnknownRow, AreUnknownRows}
-use Rattle.cap_machine.specs.Wanted.{flag_rights, rights_of}
+use Rattle.cap_machine.specs.Code.Unknown.{unknown_row, unknown_rows, IsUnknownRow, AreUnknownRows}
+use Rattle.cap_machine.specs.Code.Wanted.{flag_rights, rights_of}
 use Rattle.cap_machine.proofs.MakerLimits.{least_is}
 use Rattle.cap_machine.proofs.RowOrder.{fd_of, HasOne, rows_sorted}
 use Rattle.cap_machine.proofs.StandingRows.{at_is}

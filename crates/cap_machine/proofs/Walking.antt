@@ -22,11 +22,11 @@ use Rattle.cap_machine.specs.Touch.{Touch, kept, given, taken, touch, Turn, stay
 use Rattle.cap_machine.specs.History.{touched, cell_after, turned, mode_after}
 use Rattle.cap_machine.specs.Provenance.{CellChain, named_touch, by_touch, cell_chain, cell_at_end}
 use Rattle.cap_machine.specs.Provenance.{ModeChain, named_turn, by_turn, mode_chain, mode_link}
-use Rattle.cap_machine.specs.Passages.{constant, cell_along, links_along, chain_along}
-use Rattle.cap_machine.specs.Walks.{cell_known, cell_found, chain_unless, SameCellWalk, CellIsFound, LeavesCell}
-use Rattle.cap_machine.specs.Walks.{mode_known, mode_found, mode_chain_unless, mode_along, ModeIsFound, LeavesMode}
-use Rattle.cap_machine.specs.Walks.{SameModeWalk, CellsMayBeLeftOut, ModesMayBeLeftOut}
-use Rattle.cap_machine.specs.Following.{passage, Follows, FollowsMode}
+use Rattle.cap_machine.specs.Code.Passages.{constant, cell_along, links_along, chain_along}
+use Rattle.cap_machine.specs.Code.Walks.{cell_known, cell_found, chain_unless, SameCellWalk, CellIsFound, LeavesCell}
+use Rattle.cap_machine.specs.Code.Walks.{mode_known, mode_found, mode_chain_unless, mode_along, ModeIsFound, LeavesMode}
+use Rattle.cap_machine.specs.Code.Walks.{SameModeWalk, CellsMayBeLeftOut, ModesMayBeLeftOut}
+use Rattle.cap_machine.specs.Code.Following.{passage, Follows, FollowsMode}
 use Rattle.cap_machine.proofs.Passages.{chain, same_chain, cell_along-oldest, constant-is, chain_given, chain_taken}
 use Rattle.cap_machine.proofs.ModeChains.{named_follows}
 

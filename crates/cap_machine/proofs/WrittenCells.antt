@@ -8,8 +8,8 @@ use Rattle.std.proofs.lemmas.Bool.Decides.{nat_tests}
 use Rattle.std.proofs.Math.Logic.{⊎_elim}
 use Rattle.cap_machine.specs.declared.cell.Cell.{Cell}
 use Rattle.cap_machine.specs.declared.cells.written_cells.WrittenCell.{WrittenCell}
-use Rattle.cap_machine.specs.Cells.WrittenCells.{written, after_writes}
-use Rattle.cap_machine.specs.Cells.Kind.{cell_of_kind}
+use Rattle.cap_machine.specs.Code.Cells.WrittenCells.{written, after_writes}
+use Rattle.cap_machine.specs.Code.Cells.Kind.{cell_of_kind}
 
 pub after_more : (below : Cell) (cells : List WrittenCell) (one : WrittenCell) (f : ℕ)
     → after_writes below (cells ++ one ∷ []) f ≡ written one (after_writes below cells f) f

@@ -20,10 +20,7 @@ use Rattle.cap_machine.specs.Steps.{step}
 use Rattle.cap_machine.specs.History.{ended}
 use Rattle.cap_machine.specs.Check.{check, said, found_at}
 use Rattle.cap_machine.specs.Live.{Live, Blocks}
-
--- a descriptor and the rights that it is limited to
-abbrev pub Row : Type 0
-Row = ℕ × ℕ
+use Rattle.cap_machine.specs.Limits.{Row, IsLimit}
 
 -- process p limits a descriptor, and enters capability mode
 abbrev pub limit_step : Profile → ℕ → Row → Step
@@ -36,16 +33,6 @@ enter_step profile p = step profile (record { pid = p; item = items.Call (calls.
 abbrev pub script : Profile → ℕ → List Row → Bool → List Step
 script profile p rows enters =
     map (limit_step profile p) rows ++ (if enters then enter_step profile p ∷ [] else [])
-
--- these are just the rights that a cell with these rights and this flag holds and that are live in it
-abbrev pub IsLeast : List Step → ℕ → ℕ → ℕ → OnExec → ℕ → Type 0
-IsLeast later p f rights flag least = (least < 2 ^ 63)
-    × ((k : ℕ) → k < 63 → (holds least k ≡ true) ↔ ((holds rights k ≡ true) × Live later p f flag k))
-
--- the descriptor is held in this state, and the row limits it to its live rights
-abbrev pub IsLimit : State → List Step → ℕ → Row → Type 0
-IsLimit s later p row = (rights : ℕ) × (flag : OnExec) × (s.cell p row.0 ≡ Held rights flag)
-    × IsLeast later p row.0 rights flag row.1
 
 abbrev pub MayEnter : State → List Step → ℕ → Type 0
 MayEnter s later p = (n : ℕ) → Blocks later p n → ⊥

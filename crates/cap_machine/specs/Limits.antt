@@ -1,19 +1,30 @@
 -- The least rights of the descriptors of a process before a line.
-use Rattle.std.specs.Prelude.{◌≡◌, ◌≤◌, ◌^◌, ℕ, List, [], ◌∷◌, map, length, Option, Some, None}
-use Rattle.std.specs.List.{flat_map}
+use Rattle.std.specs.Prelude.{◌≡◌, ◌↔◌, ◌<◌, ◌≤◌, ◌^◌, ℕ, true, List, map, length, Option, Some, None}
 use Rattle.std.specs.List.Sorted.{IsStrictlyIncreasing}
-use Rattle.cap_rights.specs.Rights.{meet, without_full}
+use Rattle.cap_rights.specs.Rights.{meet, without_full, holds}
 use Rattle.cap_machine.specs.declared.cell.OnExec.{OnExec}
-use Rattle.cap_machine.specs.declared.cell.Cell.{Cell}
-use Rattle.cap_machine.specs.declared.cell.Cell.TheVariants.{Unknown, Closed, Held}
+use Rattle.cap_machine.specs.declared.cell.Cell.TheVariants.{Held}
 use Rattle.cap_machine.specs.declared.limit.Limit.{Limit}
 use Rattle.cap_machine.specs.declared.cell.Mode.TheVariants as modes
 use Rattle.cap_machine.specs.declared.step.Step.{Step}
 use Rattle.cap_machine.specs.declared.limits.Entering.{Entering}
 use Rattle.cap_machine.specs.declared.limits.Entering.TheVariants.{Inside, Blocked, May}
-use Rattle.cap_machine.specs.LiveRights.{IsFirstBlock}
+use Rattle.cap_machine.specs.Live.{Live, IsFirstBlock}
 use Rattle.cap_machine.specs.State.{State}
-use Rattle.cap_machine.specs.LimitLaws.{Row}
+
+-- a descriptor and the rights that it is limited to
+abbrev pub Row : Type 0
+Row = ℕ × ℕ
+
+-- these are just the rights that a cell with these rights and this flag holds and that are live in it
+abbrev pub IsLeast : List Step → ℕ → ℕ → ℕ → OnExec → ℕ → Type 0
+IsLeast later p f rights flag least = (least < 2 ^ 63)
+    × ((k : ℕ) → k < 63 → (holds least k ≡ true) ↔ ((holds rights k ≡ true) × Live later p f flag k))
+
+-- the descriptor is held in this state, and the row limits it to its live rights
+abbrev pub IsLimit : State → List Step → ℕ → Row → Type 0
+IsLimit s later p row = (rights : ℕ) × (flag : OnExec) × (s.cell p row.0 ≡ Held rights flag)
+    × IsLeast later p row.0 rights flag row.1
 
 abbrev pub row_of : Limit → Row
 row_of limit = (limit.fd, limit.rights)
@@ -23,26 +34,8 @@ pub record AreInOrder (rows : List Row) : Type 0 where
   pub rise : IsStrictlyIncreasing (map (λ (row : Row). row.0) rows)
   pub few : length rows ≤ 2 ^ 32
 
--- ---- as the code has them
-
 abbrev pub least_of : ℕ → ℕ → ℕ
 least_of held needed = without_full (meet held needed)
-
-abbrev pub option_rows : Option Limit → List Row
-option_rows None = []
-option_rows (Some limit) = row_of limit ∷ []
-
--- the row of a descriptor with this cell, of which these rights are wanted by its flag
-abbrev pub cell_row : Cell → ℕ → (OnExec → ℕ) → List Row
-cell_row Unknown f wanted = []
-cell_row Closed f wanted = []
-cell_row (Held rights flag) f wanted = (f, least_of rights (wanted flag)) ∷ []
-
-abbrev pub held_row : State → (ℕ → ℕ → OnExec → ℕ) → ℕ → ℕ → List Row
-held_row s wanted p f = cell_row (s.cell p f) f (wanted p f)
-
-abbrev pub held_rows : State → (ℕ → ℕ → OnExec → ℕ) → ℕ → List ℕ → List Row
-held_rows s wanted p fds = flat_map (held_row s wanted p) fds
 
 -- ---- capability mode
 

@@ -11,8 +11,8 @@ use Rattle.cap_machine.specs.declared.cell.Cell.TheVariants.{Unknown}
 use Rattle.cap_machine.specs.State.{State, Added}
 use Rattle.cap_machine.specs.Steps.{steps}
 use Rattle.cap_machine.specs.History.{ended}
-use Rattle.cap_machine.specs.Table.{start_state}
-use Rattle.cap_machine.specs.LimitLaws.{Row, IsLeast, IsLimit}
+use Rattle.cap_machine.specs.State.{start_state}
+use Rattle.cap_machine.specs.Limits.{Row, IsLeast, IsLimit}
 use Rattle.cap_machine.specs.Live.{Live}
 use Rattle.cap_machine.specs.Limits.{row_of, AreInOrder, IsEntering}
 use Rattle.cap_machine.specs.Standing.{Stands, IsHeld}

@@ -1,7 +1,8 @@
 -- Which rights of a descriptor the steps from here on need: a backward analysis of a straight-line program, as that of
 -- live variables. A right is live in a cell where the next step needs it of that cell, or hands the cell on with that
 -- right to a cell in which the right is live after the step (rights(4), cap_rights_limit(2)).
-use Rattle.std.specs.Prelude.{◌≡◌, ◌⊎◌, ℕ, ◌==◌, ◌&&◌, Bool, true, false, List, [], ◌∷◌, zero, suc}
+use Rattle.std.specs.Prelude.{◌≡◌, ◌⊎◌, ℕ, ◌+◌, ◌<◌, ◌==◌, ◌&&◌, Bool, true, false, List, [], ◌∷◌, zero, suc}
+use Rattle.std.specs.Prelude.{Option, Some, None}
 use Rattle.std.specs.List.{list_any}
 use Rattle.cap_rights.specs.Rights.{all, holds}
 use Rattle.cap_machine.specs.declared.cell.OnExec.{OnExec}
@@ -71,3 +72,10 @@ abbrev pub Blocks : List Step → ℕ → ℕ → Type 0
 Blocks [] p n = ⊥
 Blocks (step ∷ later) p zero = step_blocks step p ≡ true
 Blocks (step ∷ later) p (suc n) = (q : ℕ) × ModePasses (turn step q) p q × Blocks later q n
+
+-- The first of these steps, which begin at a position, that is in the way of capability mode: none, or the one at
+-- another position.
+abbrev pub IsFirstBlock : List Step → ℕ → ℕ → Option ℕ → Type 0
+IsFirstBlock later at p None = (n : ℕ) → Blocks later p n → ⊥
+IsFirstBlock later at p (Some position) = (n : ℕ) × (position ≡ at + n) × Blocks later p n
+    × ((m : ℕ) → m < n → Blocks later p m → ⊥)

@@ -17,7 +17,7 @@ use Rattle.cap_machine.specs.declared.makers.Made.TheVariants.{Nothing, One, Two
 use Rattle.cap_machine.specs.declared.makers.MakerLimit.{MakerLimit}
 use Rattle.cap_machine.specs.State.{State}
 use Rattle.cap_machine.specs.History.{after, ended}
-use Rattle.cap_machine.specs.LimitLaws.{IsLimit}
+use Rattle.cap_machine.specs.Limits.{IsLimit}
 use Rattle.cap_machine.specs.Limits.{least_of}
 
 -- ---- the descriptors that a line makes

@@ -37,3 +37,7 @@ with_listed s me m rest cells = record {
 abbrev pub with_all : State → List Added → State
 with_all s [] = s
 with_all s (next ∷ more) = with_all (with_listed s next.pid next.mode next.rest next.cells) more
+
+-- the state that a start stands for: from the usual one, what was added in turn
+unfoldable pub start_state : List Added → State
+start_state added = with_all usual added

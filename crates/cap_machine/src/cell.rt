@@ -59,7 +59,7 @@ pub enum HeldOp {
 }
 
 impl Cell {
-    ghost use Rattle.cap_machine.specs.MayHave.{may_have};
+    ghost use Rattle.cap_machine.specs.Code.MayHave.{may_have};
 
     /// Whether it is known to have these rights, or nothing is known of it.
     pub(crate) fn may_have(&self, needs: &RightSet) -> bool

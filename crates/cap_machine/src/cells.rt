@@ -5,13 +5,13 @@ ghost use Rattle.std.specs.Prelude.{◌≡◌, ℕ, ◌+◌, ◌≤◌, ◌<◌,
 ghost use Rattle.std.specs.List.{All};
 ghost use Rattle.cap_rights.specs.Rights.{all};
 ghost use Rattle.cap_trace.specs.Entry.{IsFd};
-ghost use Rattle.cap_machine.specs.Cells.Deferred.{with_deferred};
-ghost use Rattle.cap_machine.specs.Cells.{cell_in_cells};
-ghost use Rattle.cap_machine.specs.Cells.DeferredFree.{left_at_most};
-ghost use Rattle.cap_machine.specs.Cells.Parts.{in_leaf, in_shared};
-ghost use Rattle.cap_machine.specs.Cells.Cells1M.{in_cells_1m};
-ghost use Rattle.cap_machine.specs.Cells.Started.{in_started};
-ghost use Rattle.cap_machine.specs.Cells.WrittenCells.{written, in_written_cells};
+ghost use Rattle.cap_machine.specs.Code.Cells.Deferred.{with_deferred};
+ghost use Rattle.cap_machine.specs.Code.Cells.{cell_in_cells};
+ghost use Rattle.cap_machine.specs.Code.Cells.DeferredFree.{left_at_most};
+ghost use Rattle.cap_machine.specs.Code.Cells.Parts.{in_leaf, in_shared};
+ghost use Rattle.cap_machine.specs.Code.Cells.Cells1M.{in_cells_1m};
+ghost use Rattle.cap_machine.specs.Code.Cells.Started.{in_started};
+ghost use Rattle.cap_machine.specs.Code.Cells.WrittenCells.{written, in_written_cells};
 ghost use Rattle.cap_machine.specs.Touch.{started};
 
 mod cells_16k;
@@ -105,7 +105,7 @@ pub(crate) struct Cells {
 
 impl Cells {
     /// Each cell is this one.
-    #[tactic(auto, unfolding(crate::specs::Cells::cell_in_cells))]
+    #[tactic(auto, unfolding(crate::specs::Code::Cells::cell_in_cells))]
     pub(crate) fn all(alloc: Global, cell: Cell) -> Result<Cells, NoMemory>
         ensures { IfOk result (λ cells. (f : ℕ) → cell_in_cells cells f ≡ cell) }
     {
@@ -131,7 +131,7 @@ impl Cells {
     }
 
     /// The cell of a descriptor.
-    #[tactic(auto, unfolding(crate::specs::Cells::cell_in_cells))]
+    #[tactic(auto, unfolding(crate::specs::Code::Cells::cell_in_cells))]
     pub(crate) fn cell(&self, fd: Fd) -> Cell
         ensures { result ≡ cell_in_cells self.now fd }
     {
@@ -146,7 +146,7 @@ impl Cells {
 
     /// The leaf that has the cell of a descriptor, if it is one of the first 64 and nothing is deferred. Where it
     /// answers `None`, `cell` has the cell.
-    #[tactic(auto, unfolding(crate::specs::Cells::cell_in_cells))]
+    #[tactic(auto, unfolding(crate::specs::Code::Cells::cell_in_cells))]
     #[inline(always)]
     pub(crate) fn leaf_of(&self, fd: Fd) -> Option<&Leaf<LOW_LEAF>>
         ensures low { IfSome result (λ leaf. fd < 64) }
@@ -160,7 +160,7 @@ impl Cells {
     }
 
     /// Writes one cell.
-    #[tactic(auto, unfolding(crate::specs::Cells::cell_in_cells))]
+    #[tactic(auto, unfolding(crate::specs::Code::Cells::cell_in_cells))]
     #[inline(always)]
     pub(crate) fn write(&mut self, fd: Fd, cell: Cell) -> Result<(), NoMemory>
         requires { IsFd fd }
@@ -175,7 +175,7 @@ impl Cells {
     }
 
     /// Writes one cell at or above 64, in the list of a few while it has room. Not inlined: most writes are below 64.
-    #[tactic(auto, unfolding(crate::specs::Cells::cell_in_cells))]
+    #[tactic(auto, unfolding(crate::specs::Code::Cells::cell_in_cells))]
     #[inline(never)]
     fn write_high(&mut self, fd: Fd, cell: Cell) -> Result<(), NoMemory>
         requires high { 64 ≤ fd }
@@ -192,7 +192,7 @@ impl Cells {
 
     /// Writes in the tree what is listed, for a clone to share. Each listed cell is so written there once, however many
     /// clones there are, and each clone begins with an empty list.
-    #[tactic(auto, unfolding(crate::specs::Cells::cell_in_cells))]
+    #[tactic(auto, unfolding(crate::specs::Code::Cells::cell_in_cells))]
     pub(crate) fn settle(&mut self, alloc: Global) -> Result<(), NoMemory>
         ensures { OnOk result ((f : ℕ) → cell_in_cells self.new f ≡ cell_in_cells self.old f) }
     {
@@ -202,7 +202,7 @@ impl Cells {
     }
 
     /// Does this to each cell.
-    #[tactic(auto, unfolding(crate::specs::Cells::cell_in_cells))]
+    #[tactic(auto, unfolding(crate::specs::Code::Cells::cell_in_cells))]
     pub(crate) fn apply_deferred(&mut self, deferred: Deferred) -> Result<(), NoMemory>
         ensures { OnOk result ((f : ℕ) → cell_in_cells self.new f ≡ with_deferred deferred (cell_in_cells self.old f)) }
     {
@@ -215,7 +215,7 @@ impl Cells {
     }
 
     /// Closes the descriptors from one on.
-    #[tactic(auto, unfolding(crate::specs::Cells::cell_in_cells))]
+    #[tactic(auto, unfolding(crate::specs::Code::Cells::cell_in_cells))]
     pub(crate) fn close_from(&mut self, fd: Fd) -> Result<(), NoMemory>
         requires { IsFd fd }
         ensures { OnOk result
@@ -234,7 +234,7 @@ impl Cells {
     }
 
     /// Holds a descriptor that was never limited, if it is below 64.
-    #[tactic(auto, unfolding(crate::specs::Cells::cell_in_cells))]
+    #[tactic(auto, unfolding(crate::specs::Code::Cells::cell_in_cells))]
     fn start_one(&mut self, fd: Fd) -> Result<(), NoMemory>
         ensures low { OnOk result ((f : ℕ) → f < 64 → cell_in_cells self.new f
             ≡ (if f == fd then Cell.Held all OnExec.Unsure else cell_in_cells self.old f)) }
@@ -249,7 +249,7 @@ impl Cells {
     }
 
     /// All descriptors are closed but those from 64 on that are listed, which were never limited.
-    #[tactic(auto, unfolding(crate::specs::Cells::cell_in_cells), using(crate::proofs::StartedLists::none_beyond))]
+    #[tactic(auto, unfolding(crate::specs::Code::Cells::cell_in_cells), using(crate::proofs::StartedLists::none_beyond))]
     fn start_high(&mut self, alloc: Global, fds: &[Fd]) -> Result<(), NoMemory>
         requires { All IsFd fds.now }
         ensures low { OnOk result ((f : ℕ) → f < 64 → cell_in_cells self.new f ≡ Cell.Closed) }
@@ -289,7 +289,7 @@ impl Cells {
 impl Clone for Cells {
     ghost is_clone = { λ a b. (f : ℕ) → cell_in_cells b f ≡ cell_in_cells a f };
 
-    #[tactic(auto, unfolding(crate::specs::Cells::cell_in_cells))]
+    #[tactic(auto, unfolding(crate::specs::Code::Cells::cell_in_cells))]
     fn clone(&self) -> Result<Cells, AllocError> {
         Ok(Cells {
             low: self.low.clone()?,

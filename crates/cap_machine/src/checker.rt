@@ -27,11 +27,11 @@ pub struct Checker {
 
 impl Model for Checker {
     ghost use Rattle.std.specs.Prelude.{◌≤◌, ◌*◌};
-    ghost use Rattle.cap_machine.specs.Checked.{CheckerState};
+    ghost use Rattle.cap_machine.specs.Code.Checked.{CheckerState};
 
     ghost Value = { CheckerState };
 
-    ghost use Rattle.cap_machine.specs.Known.{known};
+    ghost use Rattle.cap_machine.specs.Code.Known.{known};
 
     ghost view = { λ c. record {
       question = c.question;
@@ -52,8 +52,9 @@ impl Checker {
     ghost use Rattle.cap_machine.specs.Steps.{steps};
     ghost use Rattle.cap_machine.specs.State.{State, usual};
     ghost use Rattle.cap_machine.specs.Questions.{answer, IsNothing};
-    ghost use Rattle.cap_machine.specs.Table.{start_state, Keeps};
-    ghost use Rattle.cap_machine.specs.Checked.{IsAsked, HasChecked, HasDenied, lines_of};
+    ghost use Rattle.cap_machine.specs.Code.Table.{Keeps};
+    ghost use Rattle.cap_machine.specs.State.{start_state};
+    ghost use Rattle.cap_machine.specs.Code.Checked.{IsAsked, HasChecked, HasDenied, lines_of};
 
     /// A checker that was given no line, from the usual start. It takes no memory.
     pub fn new(alloc: Global, profile: Profile) -> Checker
@@ -65,7 +66,7 @@ impl Checker {
     /// A checker that was given no line, from another start.
     ///
     /// `NoMemory` when out of memory.
-    #[tactic(auto, unfolding(crate::specs::Table::start_state))]
+    #[tactic(auto, unfolding(crate::specs::State::start_state))]
     pub fn from_start(alloc: Global, profile: Profile, start: &Start) -> Result<Checker, NoMemory>
         ensures { IfOk result (λ checker. HasChecked checker profile (start_state start.now) []) }
     {

@@ -3,7 +3,8 @@
 ghost use Rattle.std.specs.Prelude.{◌≡◌, ◌++◌, map, IfOk, OnOk};
 ghost use Rattle.cap_machine.specs.Steps.{step, steps};
 ghost use Rattle.cap_machine.specs.Check.{check, said, found_at};
-ghost use Rattle.cap_machine.specs.Table.{Keeps, state_of, step_after, start_state};
+ghost use Rattle.cap_machine.specs.Code.Table.{Keeps, state_of, step_after};
+ghost use Rattle.cap_machine.specs.State.{start_state};
 
 use crate::cell::Profile;
 use crate::start::Start;
@@ -48,7 +49,7 @@ fn add_findings(found: &mut Vec<Found>, at: usize, verdict: &Verdict) -> Result<
 /// What is found in a trace from its first line, in order and with positions from 1.
 ///
 /// `NoMemory` when out of memory.
-#[tactic(auto, unfolding(crate::specs::Table::start_state))]
+#[tactic(auto, unfolding(crate::specs::State::start_state))]
 pub fn check(
     alloc: Global,
     profile: Profile,

@@ -2,7 +2,7 @@
 
 ghost use Rattle.std.specs.Prelude.{◌≡◌};
 ghost use Rattle.cap_machine.specs.Op.{applied};
-ghost use Rattle.cap_machine.specs.Composed.{both_masks, kept_then, held_then, in_turn};
+ghost use Rattle.cap_machine.specs.Code.Composed.{both_masks, kept_then, held_then, in_turn};
 
 use crate::cell::{Cell, HeldOp, OnExec, Op};
 use cap_rights::RightSet;

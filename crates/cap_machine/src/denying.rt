@@ -6,7 +6,8 @@ ghost use Rattle.cap_machine.specs.Steps.{step, steps};
 ghost use Rattle.cap_machine.specs.Rule.{requirement};
 ghost use Rattle.cap_machine.specs.State.{State};
 ghost use Rattle.cap_machine.specs.Denials.{denials, denied, denied_of, denied_at};
-ghost use Rattle.cap_machine.specs.Table.{Keeps, state_of, step_after, start_state};
+ghost use Rattle.cap_machine.specs.Code.Table.{Keeps, state_of, step_after};
+ghost use Rattle.cap_machine.specs.State.{start_state};
 
 use crate::cell::Profile;
 use crate::denial::{Denied, LineDenials};
@@ -77,7 +78,7 @@ fn add_denials(all: &mut Vec<Denied>, at: usize, found: &LineDenials) -> Result<
 /// 94 refused.
 ///
 /// `NoMemory` when out of memory.
-#[tactic(auto, unfolding(crate::specs::Table::start_state))]
+#[tactic(auto, unfolding(crate::specs::State::start_state))]
 pub fn denials(
     alloc: Global,
     profile: Profile,

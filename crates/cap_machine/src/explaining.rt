@@ -11,7 +11,7 @@ ghost use Rattle.cap_machine.specs.History.{ended};
 ghost use Rattle.cap_machine.specs.Rule.{requirement};
 ghost use Rattle.cap_machine.specs.Judge.{listed, judged, has_check};
 ghost use Rattle.cap_machine.specs.Denials.{denied_with};
-ghost use Rattle.cap_machine.specs.Table.{start_state};
+ghost use Rattle.cap_machine.specs.State.{start_state};
 ghost use Rattle.cap_machine.specs.Provenance.{cell_provenance, cell_chain_of};
 ghost use Rattle.cap_machine.specs.Explain.{all_have_excuse, mode_matters, explained, explanation};
 ghost use Rattle.cap_machine.specs.Explain.{explained_of, explained_by, mode_or_unsure, RestsOn};

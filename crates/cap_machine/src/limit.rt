@@ -3,11 +3,12 @@
 ghost use Rattle.std.specs.Prelude.{◌≡◌, IfOk, List, map};
 ghost use Rattle.std.specs.List.{All};
 ghost use Rattle.cap_machine.specs.declared.step.Step.{Step};
-ghost use Rattle.cap_machine.specs.LimitLaws.{IsLimit};
-ghost use Rattle.cap_machine.specs.LiveRights.{AreLive};
-ghost use Rattle.cap_machine.specs.Wanted.{wanted};
-ghost use Rattle.cap_machine.specs.Limits.{row_of, option_rows, held_row, held_rows, least_of, AreInOrder};
-ghost use Rattle.cap_machine.specs.Table.{start_state};
+ghost use Rattle.cap_machine.specs.Limits.{IsLimit};
+ghost use Rattle.cap_machine.specs.Code.LiveRights.{AreLive};
+ghost use Rattle.cap_machine.specs.Code.Wanted.{wanted};
+ghost use Rattle.cap_machine.specs.Limits.{row_of, least_of, AreInOrder};
+ghost use Rattle.cap_machine.specs.Code.Rows.{option_rows, held_row, held_rows};
+ghost use Rattle.cap_machine.specs.State.{start_state};
 
 use crate::cell::{Cell, OnExec, without_full_of};
 use crate::live::LiveRights;

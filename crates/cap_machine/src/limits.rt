@@ -4,8 +4,8 @@ ghost use Rattle.std.specs.Prelude.{◌≡◌, ◌+◌, ◌<◌, ◌^◌, ℕ, I
 ghost use Rattle.cap_machine.specs.declared.step.Step.{Step};
 ghost use Rattle.cap_machine.specs.Steps.{steps};
 ghost use Rattle.cap_machine.specs.History.{ended};
-ghost use Rattle.cap_machine.specs.Table.{start_state};
-ghost use Rattle.cap_machine.specs.LiveRights.{AreLive, AreBlocked};
+ghost use Rattle.cap_machine.specs.State.{start_state};
+ghost use Rattle.cap_machine.specs.Code.LiveRights.{AreLive, AreBlocked};
 ghost use Rattle.cap_machine.specs.Limits.{IsEntering};
 ghost use Rattle.cap_machine.specs.LimitsBefore.{AreLimitsOf, AreLimitsBefore};
 

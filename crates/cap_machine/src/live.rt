@@ -9,9 +9,9 @@ ghost use Rattle.cap_trace.specs.Call as calls;
 ghost use Rattle.cap_machine.specs.declared.cell.OnExec.{OnExec};
 ghost use Rattle.cap_machine.specs.declared.step.Step.{Step};
 ghost use Rattle.cap_machine.specs.Steps.{step};
-ghost use Rattle.cap_machine.specs.LiveRights.{AreLive, AreBlocked, IsRule};
-ghost use Rattle.cap_machine.specs.Wanted.{rights_of, wanted_of, wanted, blocked, gathered, gathered_blocked, is_child};
-ghost use Rattle.cap_machine.specs.Wanted.{undone, unblocked, with_requirement, blocked_with};
+ghost use Rattle.cap_machine.specs.Code.LiveRights.{AreLive, AreBlocked, IsRule};
+ghost use Rattle.cap_machine.specs.Code.Wanted.{rights_of, wanted_of, wanted, blocked, gathered, gathered_blocked, is_child};
+ghost use Rattle.cap_machine.specs.Code.Wanted.{undone, unblocked, with_requirement, blocked_with};
 
 use crate::cell::{OnExec, Profile};
 use crate::effects::{closed, effect_of_line, keeps_all};

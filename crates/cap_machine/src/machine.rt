@@ -4,7 +4,7 @@ ghost use Rattle.std.specs.Prelude.{◌≡◌, [], ◌∷◌, IfOk, OnOk};
 ghost use Rattle.cap_machine.specs.Steps.{step};
 ghost use Rattle.cap_machine.specs.History.{ended};
 ghost use Rattle.cap_machine.specs.Check.{said};
-ghost use Rattle.cap_machine.specs.Table.{start_state};
+ghost use Rattle.cap_machine.specs.State.{start_state};
 
 use crate::cell::{Cell, Mode, Profile};
 use crate::checking::take_line;
@@ -31,7 +31,7 @@ impl Model for Machine {
 
     ghost Value = { List Added };
 
-    ghost use Rattle.cap_machine.specs.Known.{known};
+    ghost use Rattle.cap_machine.specs.Code.Known.{known};
 
     ghost view = { λ machine. known machine.table };
 }

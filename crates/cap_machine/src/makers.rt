@@ -8,13 +8,13 @@ ghost use Rattle.cap_machine.specs.Effect.{FitsMade, FitsPair};
 ghost use Rattle.cap_machine.specs.History.{ended};
 ghost use Rattle.cap_machine.specs.declared.cell.Cell.{Cell};
 ghost use Rattle.cap_machine.specs.declared.step.Step.{Step};
-ghost use Rattle.cap_machine.specs.LiveRights.{AreLive};
+ghost use Rattle.cap_machine.specs.Code.LiveRights.{AreLive};
 ghost use Rattle.cap_machine.specs.State.{State};
 ghost use Rattle.cap_machine.specs.Steps.{step, steps};
-ghost use Rattle.cap_machine.specs.Table.{start_state};
+ghost use Rattle.cap_machine.specs.State.{start_state};
 ghost use Rattle.cap_machine.specs.Makers.{listed_made, one_fd, two_fds, made_of, made_fds, cells_made};
 ghost use Rattle.cap_machine.specs.Makers.{maker_row, maker_rows, cells_along, AreMakerLimits};
-ghost use Rattle.cap_machine.specs.Wanted.{wanted};
+ghost use Rattle.cap_machine.specs.Code.Wanted.{wanted};
 
 use crate::cell::{Cell, Profile};
 use crate::limit::least_rights;

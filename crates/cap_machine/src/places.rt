@@ -5,7 +5,7 @@ ghost use Rattle.cap_rights.specs.Rights.{all};
 ghost use Rattle.cap_machine.specs.Places.{is_global, below};
 ghost use Rattle.cap_machine.specs.Rule.{place_check, both, place_checks, at_excuse, at_requirement, has_empty};
 ghost use Rattle.cap_machine.specs.Rule.{has_global};
-ghost use Rattle.cap_machine.specs.PlaceView.{place_view};
+ghost use Rattle.cap_machine.specs.Code.PlaceView.{place_view};
 
 use crate::rule::{Check, Checks, Class, LimitWord, Requirement, reply_of};
 use cap_rights::RightSet;

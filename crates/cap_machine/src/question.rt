@@ -2,7 +2,7 @@
 
 ghost use Rattle.std.specs.Prelude.{◌≡◌, ◌≤◌, ◌++◌, IsTrue, IfOk, OnOk};
 ghost use Rattle.cap_machine.specs.Questions.{line_count, line_text, LineHasNoEntry, last_text};
-ghost use Rattle.cap_machine.specs.Table.{state_of};
+ghost use Rattle.cap_machine.specs.Code.Table.{state_of};
 
 use crate::denying::was_let_through;
 use crate::report::{put_count, put_denial_count, put_denials, put_verdict};

@@ -7,7 +7,7 @@ ghost use Rattle.cap_machine.specs.Flags.{all_known};
 ghost use Rattle.cap_machine.specs.Needs.{at_flags_needs, plain_flags, plain_at_flags, rename_from_needs};
 ghost use Rattle.cap_machine.specs.Needs.{rename_to_needs, link_from_needs, link_to_needs};
 ghost use Rattle.cap_machine.specs.Places.{place};
-ghost use Rattle.cap_machine.specs.PlaceView.{place_view};
+ghost use Rattle.cap_machine.specs.Code.PlaceView.{place_view};
 ghost use Rattle.cap_machine.specs.Rule.{check_of, on_one, on_none, fd_class, fd_requirement, fcntl_requirement};
 ghost use Rattle.cap_machine.specs.Rule.{limit_requirement};
 ghost use Rattle.cap_machine.specs.Rule.{bare_class, at_requirement, call_requirement, requirement, unjudged};

@@ -5,8 +5,9 @@ ghost use Rattle.std.specs.List.{list_any};
 ghost use Rattle.cap_trace.specs.Views.{fds_spelled};
 ghost use Rattle.cap_machine.specs.Steps.{steps};
 ghost use Rattle.cap_machine.specs.History.{ended};
-ghost use Rattle.cap_machine.specs.Table.{start_state};
-ghost use Rattle.cap_machine.specs.Standing.{Stands, IsHeld, has_fd, is_single, source_of};
+ghost use Rattle.cap_machine.specs.State.{start_state};
+ghost use Rattle.cap_machine.specs.Standing.{Stands, IsHeld};
+ghost use Rattle.cap_machine.specs.Code.Singles.{has_fd, is_single, source_of};
 
 use crate::cell::Profile;
 use crate::rule::Effect;

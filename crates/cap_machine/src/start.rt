@@ -6,10 +6,11 @@ ghost use Rattle.cap_trace.specs.Entry.{IsFd};
 ghost use Rattle.cap_trace.specs.Limits.{largest_pid};
 ghost use Rattle.cap_machine.specs.declared.cell.Cell.{Cell};
 ghost use Rattle.cap_machine.specs.declared.start.Entry.{Entry};
-ghost use Rattle.cap_machine.specs.Starts.{added_by};
-ghost use Rattle.cap_machine.specs.Standing.{start_lists, added_lists, has_fd};
+ghost use Rattle.cap_machine.specs.Code.Starts.{added_by};
+ghost use Rattle.cap_machine.specs.Standing.{start_lists, added_lists};
+ghost use Rattle.cap_machine.specs.Code.Singles.{has_fd};
 ghost use Rattle.cap_machine.specs.State.{usual, with_listed};
-ghost use Rattle.cap_machine.specs.Table.{start_state};
+ghost use Rattle.cap_machine.specs.State.{start_state};
 
 use crate::cell::{Cell, Mode};
 use crate::table::Table;
@@ -67,7 +68,7 @@ impl Model for Start {
 
     ghost Value = { List Added };
 
-    ghost use Rattle.cap_machine.specs.Starts.{all_added, IsKept};
+    ghost use Rattle.cap_machine.specs.Code.Starts.{all_added, IsKept};
 
     ghost view = { all_added };
 
@@ -76,7 +77,7 @@ impl Model for Start {
 
 impl Start {
     /// The usual start, in which nothing is known of any process. It takes no memory.
-    #[tactic(auto, unfolding(crate::specs::Table::start_state))]
+    #[tactic(auto, unfolding(crate::specs::State::start_state))]
     pub fn unknown(alloc: Global) -> Start
         ensures empty { result ≡ [] }
         ensures usual { start_state result ≡ usual }
@@ -94,7 +95,7 @@ impl Start {
     /// A process that was added before is replaced, and of a descriptor that is listed twice the last cell counts.
     ///
     /// `NoMemory` when out of memory; the start is then as before.
-    #[tactic(auto, unfolding(crate::specs::Table::start_state))]
+    #[tactic(auto, unfolding(crate::specs::State::start_state))]
     pub fn add(
         &mut self,
         pid: Pid,

@@ -8,8 +8,8 @@ ghost use Rattle.cap_trace.specs.Entry.{IsFd};
 ghost use Rattle.cap_machine.specs.State.{usual, listed_cell, with_listed};
 ghost use Rattle.cap_machine.specs.Check.{findings_of};
 ghost use Rattle.cap_machine.specs.Effect.{own_cell, own_mode, IsOwn, IsWithin};
-ghost use Rattle.cap_machine.specs.Table.{cell_in, place_in, found, cell_of, mode_of, state_of, Keeps, StandsAt};
-ghost use Rattle.cap_machine.specs.Table.{with_cell, with_process, with_copy, effect_after};
+ghost use Rattle.cap_machine.specs.Code.Table.{cell_in, place_in, found, cell_of, mode_of, state_of, Keeps, StandsAt};
+ghost use Rattle.cap_machine.specs.Code.Table.{with_cell, with_process, with_copy, effect_after};
 
 mod lines;
 
@@ -103,7 +103,7 @@ impl Process {
 }
 
 impl Clone for Process {
-    ghost use Rattle.cap_machine.specs.Table.{IsSame};
+    ghost use Rattle.cap_machine.specs.Code.Table.{IsSame};
 
     ghost is_clone = { IsSame };
 

@@ -5,7 +5,7 @@ ghost use Rattle.cap_trace.specs.Views.{fds_spelled};
 ghost use Rattle.cap_machine.specs.Steps.{step};
 ghost use Rattle.cap_machine.specs.Touch.{touch, turn, started};
 ghost use Rattle.cap_machine.specs.Effect.{effect_touch, effect_turn};
-ghost use Rattle.cap_machine.specs.Touched.{touch_view, turn_view};
+ghost use Rattle.cap_machine.specs.Code.Touched.{touch_view, turn_view};
 
 use crate::cell::{Cell, Mode, OnExec, Op, Profile};
 use crate::rule::Effect;

@@ -5,9 +5,10 @@ ghost use Rattle.std.specs.List.{All};
 ghost use Rattle.std.specs.Ordering.{nat_cmp};
 ghost use Rattle.std.specs.BTreeMap.{IsOrdered};
 ghost use Rattle.cap_machine.specs.declared.limit.Limit.{Limit};
-ghost use Rattle.cap_machine.specs.Limits.{row_of, option_rows};
-ghost use Rattle.cap_machine.specs.Table.{start_state};
-ghost use Rattle.cap_machine.specs.Unknown.{unknown_row, unknown_rows};
+ghost use Rattle.cap_machine.specs.Limits.{row_of};
+ghost use Rattle.cap_machine.specs.Code.Rows.{option_rows};
+ghost use Rattle.cap_machine.specs.State.{start_state};
+ghost use Rattle.cap_machine.specs.Code.Unknown.{unknown_row, unknown_rows};
 
 use crate::cell::Cell;
 use crate::limit::{Limit, least_rights};

@@ -4,20 +4,20 @@
 //! may be left out ([`walks_may_leave_out`]).
 
 ghost use Rattle.std.specs.Prelude.{◌≡◌, ◌+◌, IfOk, OnOk, OnErr, List, [], ◌∷◌, length, true, false};
-ghost use Rattle.cap_machine.specs.Touched.{touch_view, turn_view};
-ghost use Rattle.cap_machine.specs.Following.{Follows, FollowsMode};
-ghost use Rattle.cap_machine.specs.Walks.{chain_unless};
+ghost use Rattle.cap_machine.specs.Code.Touched.{touch_view, turn_view};
+ghost use Rattle.cap_machine.specs.Code.Following.{Follows, FollowsMode};
+ghost use Rattle.cap_machine.specs.Code.Walks.{chain_unless};
 ghost use Rattle.cap_machine.specs.declared.step.Step.{Step};
 ghost use Rattle.cap_machine.specs.Steps.{step, steps};
 ghost use Rattle.cap_machine.specs.State.{State};
 ghost use Rattle.cap_machine.specs.History.{cell_after, mode_after, ended};
-ghost use Rattle.cap_machine.specs.Table.{start_state};
-ghost use Rattle.cap_machine.specs.Passages.{constant, cell_along, links_along};
+ghost use Rattle.cap_machine.specs.State.{start_state};
+ghost use Rattle.cap_machine.specs.Code.Passages.{constant, cell_along, links_along};
 ghost use Rattle.cap_machine.specs.Provenance.{is_idle, cell_at_end, cell_chain, cell_chain_of, cell_provenance};
 ghost use Rattle.cap_machine.specs.Provenance.{named_turn, mode_chain, mode_chain_of, mode_provenance};
-ghost use Rattle.cap_machine.specs.Walks.{cell_pid, cell_fd, cell_known, cell_found, SameCellWalk, CellIsFound};
-ghost use Rattle.cap_machine.specs.Walks.{mode_pid, mode_known, mode_found, SameModeWalk, ModeIsFound};
-ghost use Rattle.cap_machine.specs.Walks.{CellsMayBeLeftOut, ModesMayBeLeftOut};
+ghost use Rattle.cap_machine.specs.Code.Walks.{cell_pid, cell_fd, cell_known, cell_found, SameCellWalk, CellIsFound};
+ghost use Rattle.cap_machine.specs.Code.Walks.{mode_pid, mode_known, mode_found, SameModeWalk, ModeIsFound};
+ghost use Rattle.cap_machine.specs.Code.Walks.{CellsMayBeLeftOut, ModesMayBeLeftOut};
 
 use crate::cell::{Cell, HeldOp, Mode, Op, Profile};
 use crate::provenance::{CellEnd, CellLink, CellProvenance, ModeEnd, ModeLink, ModeProvenance};
@@ -123,7 +123,7 @@ fn named_links(
 
 impl CellWalk {
     /// A walk that begins at the cell of a descriptor of a process. It takes no memory.
-    #[tactic(auto, unfolding(crate::specs::Walks::cell_known, crate::specs::Walks::cell_found))]
+    #[tactic(auto, unfolding(crate::specs::Code::Walks::cell_known, crate::specs::Code::Walks::cell_found))]
     pub fn from(alloc: Global, pid: Pid, fd: Fd) -> CellWalk
         ensures chain { (s : State) (history : List Step) → cell_found result s history ≡ cell_chain s history pid fd }
         ensures cell { (s : State) (history : List Step) → cell_known result s history ≡ cell_after s history pid fd }
@@ -154,7 +154,7 @@ impl CellWalk {
     }
 
     /// Whether a line gave the cell: then no older line matters.
-    #[tactic(auto, unfolding(crate::specs::Walks::cell_known, crate::specs::Walks::cell_found))]
+    #[tactic(auto, unfolding(crate::specs::Code::Walks::cell_known, crate::specs::Code::Walks::cell_found))]
     pub fn has_ended(&self) -> bool
         ensures ended { result ≡ true → CellIsFound self.now }
         // Else the chain ends as that of the cell that the walk is at.
@@ -243,7 +243,7 @@ impl CellWalk {
 
 impl ModeWalk {
     /// A walk that begins at the mode of a process. It takes no memory.
-    #[tactic(auto, unfolding(crate::specs::Walks::mode_known, crate::specs::Walks::mode_found))]
+    #[tactic(auto, unfolding(crate::specs::Code::Walks::mode_known, crate::specs::Code::Walks::mode_found))]
     pub fn from(alloc: Global, pid: Pid) -> ModeWalk
         ensures chain { (s : State) (history : List Step) → mode_found result s history ≡ mode_chain s history pid }
         ensures mode { (s : State) (history : List Step) → mode_known result s history ≡ mode_after s history pid }
@@ -265,7 +265,7 @@ impl ModeWalk {
     }
 
     /// Whether a line gave the mode: then no older line matters.
-    #[tactic(auto, unfolding(crate::specs::Walks::mode_known, crate::specs::Walks::mode_found))]
+    #[tactic(auto, unfolding(crate::specs::Code::Walks::mode_known, crate::specs::Code::Walks::mode_found))]
     pub fn has_ended(&self) -> bool
         ensures ended { result ≡ true → ModeIsFound self.now }
         // Else the chain ends as that of the mode that the walk is at.

@@ -1,7 +1,7 @@
 //! Lines of a trace, and the report of a checker. Where memory has run out there are no lines, and what is asked for
 //! doesn't hold.
 
-ghost use Rattle.cap_machine.specs.Checked.{lines_of};
+ghost use Rattle.cap_machine.specs.Code.Checked.{lines_of};
 ghost use Rattle.std.specs.Prelude.{◌<◌, ◌^◌};
 
 use cap_machine::Checker;

@@ -10,7 +10,7 @@ use Rattle.cap_session.specs.Outcome.{found, refused_as, explain_read_faults, ex
 use Rattle.cap_session.specs.Trace.{trace, soon, next_entry}
 use Rattle.cap_session.specs.Reads.{Reads, IsEnded, IsGood, faults}
 use Rattle.cap_session.specs.Refusal.{refusal_text}
-use Rattle.cap_session.specs.Works.{EndsCall, Writes, WritesAnswer}
+use Rattle.cap_session.specs.Code.Works.{EndsCall, Writes, WritesAnswer}
 use Rattle.cap_session.specs.Writes.{Wrote}
 use Rattle.cap_session.specs.declared.refused.Input.{Input}
 use Rattle.cap_session.specs.declared.refused.Input.TheVariants as inputs

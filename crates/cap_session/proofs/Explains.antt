@@ -33,7 +33,7 @@ use Rattle.cap_machine.specs.Rule.{requirement}
 use Rattle.cap_machine.specs.State.{State}
 use Rattle.cap_machine.specs.Steps.{step, steps}
 use Rattle.cap_machine.specs.Touch.{Touch, kept, given, taken, touch, Turn, stays, turns, follows, turn}
-use Rattle.cap_session.specs.Explained.{AnyModeStands, CellStands, FitsLine, IsAt, ModeStands}
+use Rattle.cap_session.specs.Code.Explained.{AnyModeStands, CellStands, FitsLine, IsAt, ModeStands}
 use Rattle.cap_session.specs.Edits.{is_position}
 use Rattle.cap_session.specs.Explaining.{explained_line, IsClean, text_or_refusal}
 use Rattle.cap_session.specs.Laws.{ExplainsWhatIsReported}

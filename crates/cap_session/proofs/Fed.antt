@@ -5,8 +5,8 @@ use Rattle.std.specs.Prelude.{Result, Ok, Err, Some, None}
 use Rattle.std.proofs.lemmas.List.{take-append-drop, length-drop}
 use Rattle.memchr.specs.Find.{IsFirstByte, is_byte}
 use Rattle.cap_session.specs.Texts.{with_line, refused_so_far}
-use Rattle.cap_session.specs.Feeds.{Completes, Reached, Feeds}
-use Rattle.cap_session.specs.LineEnds.{IsCut}
+use Rattle.cap_session.specs.Code.Feeds.{Completes, Reached, Feeds}
+use Rattle.cap_session.specs.Code.LineEnds.{IsCut}
 use Rattle.cap_session.specs.declared.refused.Refused.{Refused}
 use Rattle.cap_session.specs.declared.refused.Refused.TheVariants.{LongLine}
 use Rattle.cap_session.specs.declared.lines.StopReason.{StopReason}

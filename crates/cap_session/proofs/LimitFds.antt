@@ -22,7 +22,7 @@ use Rattle.cap_machine.specs.declared.rule.Check.{Check}
 use Rattle.cap_machine.specs.declared.step.Step.{Step}
 use Rattle.cap_machine.specs.History.{touched, cell_after}
 use Rattle.cap_machine.specs.Judge.{listed}
-use Rattle.cap_machine.specs.LimitLaws.{IsLeast}
+use Rattle.cap_machine.specs.Limits.{IsLeast}
 use Rattle.cap_machine.specs.Live.{Live, HandsOn, Passes, step_needs, checks_need, is_success}
 use Rattle.cap_machine.specs.Named.{args_name}
 use Rattle.cap_machine.specs.Op.{applied, held_op, masked}

@@ -5,7 +5,8 @@ use Rattle.std.specs.Prelude.{insert}
 use Rattle.std.proofs.lemmas.List.{map-append, length-map}
 use Rattle.std.proofs.Math.Seq.{take-append_seam, drop-append_seam}
 use Rattle.cap_trace.specs.Entry.{Entry}
-use Rattle.cap_machine.specs.LimitLaws.{Row, script, limit_step}
+use Rattle.cap_machine.specs.LimitLaws.{script, limit_step}
+use Rattle.cap_machine.specs.Limits.{Row}
 use Rattle.cap_machine.specs.Steps.{step, steps}
 use Rattle.cap_machine.specs.declared.cell.Profile.{Profile}
 use Rattle.cap_machine.specs.declared.limits.Entering.{Entering}

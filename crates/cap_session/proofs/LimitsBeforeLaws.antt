@@ -16,12 +16,13 @@ use Rattle.cap_machine.specs.declared.verdict.Found.{Found}
 use Rattle.cap_machine.specs.declared.verdict.Finding.TheVariants.{Forbidden}
 use Rattle.cap_machine.specs.Check.{check, found_at}
 use Rattle.cap_machine.specs.History.{ended}
-use Rattle.cap_machine.specs.LimitLaws.{Row, script, limit_step, enter_step, IsLimit, MayEnter, HoldsSets, NewlyLacks}
+use Rattle.cap_machine.specs.LimitLaws.{script, limit_step, enter_step, MayEnter, HoldsSets, NewlyLacks}
+use Rattle.cap_machine.specs.Limits.{Row, IsLimit}
 use Rattle.cap_machine.specs.Limits.{row_of, IsEntering}
 use Rattle.cap_machine.specs.LimitsBefore.{AreLimitsBefore}
 use Rattle.cap_machine.specs.State.{State, Added}
 use Rattle.cap_machine.specs.Steps.{step, steps}
-use Rattle.cap_machine.specs.Table.{start_state}
+use Rattle.cap_machine.specs.State.{start_state}
 use Rattle.cap_machine.proofs.LimitEnough.{limits_are_enough}
 use Rattle.cap_machine.proofs.LimitFindings.{In, in_among, among_in}
 use Rattle.cap_machine.proofs.LimitScripts.{scripts_are_least, entering_is_forbidden}

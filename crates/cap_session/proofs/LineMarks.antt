@@ -12,7 +12,7 @@ use Rattle.std.proofs.lemmas.List.{get_or-take, get_or-drop, get_or_past, length
 use Rattle.std.proofs.Math.ListN.{get_or-map}
 use Rattle.std.proofs.Math.Nat.{zero-div}
 use Rattle.memchr.specs.Find.{IsFirstByte, is_byte}
-use Rattle.cap_session.specs.LineEnds.{AreMarks, IsCut, IsWithin, ends_at}
+use Rattle.cap_session.specs.Code.LineEnds.{AreMarks, IsCut, IsWithin, ends_at}
 
 abbrev is_end : ℕ → Bool
 is_end x = x == 10

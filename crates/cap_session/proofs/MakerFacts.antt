@@ -17,12 +17,12 @@ use Rattle.cap_machine.specs.declared.cell.Profile.{Profile}
 use Rattle.cap_machine.specs.declared.makers.MakerLimit.{MakerLimit}
 use Rattle.cap_machine.specs.declared.step.Step.{Step}
 use Rattle.cap_machine.specs.History.{ended}
-use Rattle.cap_machine.specs.LimitLaws.{IsLimit}
+use Rattle.cap_machine.specs.Limits.{IsLimit}
 use Rattle.cap_machine.specs.Makers.{AreMakerLimits, Place, place_of, held_place, held_places, made_fds, made_of}
 use Rattle.cap_machine.specs.Makers.{one_fd, two_fds}
 use Rattle.cap_machine.specs.State.{State, Added}
 use Rattle.cap_machine.specs.Steps.{step, steps}
-use Rattle.cap_machine.specs.Table.{start_state}
+use Rattle.cap_machine.specs.State.{start_state}
 use Rattle.cap_session.specs.LimitScriptLaws.{IsNamed}
 use Rattle.cap_session.specs.LimitTextLaws.{IsTrace, IsSpelledStart}
 use Rattle.cap_session.proofs.FineTouches.{ClosedCell}

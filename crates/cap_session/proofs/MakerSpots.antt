@@ -10,7 +10,8 @@ use Rattle.cap_machine.specs.declared.cell.Profile.{Profile}
 use Rattle.cap_machine.specs.declared.makers.MakerLimit.{MakerLimit}
 use Rattle.cap_machine.specs.declared.step.Step.{Step}
 use Rattle.cap_machine.specs.History.{ended}
-use Rattle.cap_machine.specs.LimitLaws.{Row, IsLimit, Limited, AreLimits, limit_step, with_limits, without_limits}
+use Rattle.cap_machine.specs.LimitLaws.{Limited, AreLimits, limit_step, with_limits, without_limits}
+use Rattle.cap_machine.specs.Limits.{Row, IsLimit}
 use Rattle.cap_machine.specs.Makers.{place_of, made_fds, AreMakerLimits}
 use Rattle.cap_machine.specs.State.{State}
 use Rattle.cap_machine.specs.Steps.{step, steps}

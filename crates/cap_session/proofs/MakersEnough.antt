@@ -17,7 +17,7 @@ use Rattle.cap_machine.specs.LimitLaws.{NoneNew, limit_step, limits_after, with_
 use Rattle.cap_machine.specs.Makers.{place_of}
 use Rattle.cap_machine.specs.State.{State}
 use Rattle.cap_machine.specs.Steps.{step, steps}
-use Rattle.cap_machine.specs.Table.{step_after}
+use Rattle.cap_machine.specs.Code.Table.{step_after}
 use Rattle.cap_machine.proofs.LimitEnough.{ended_first}
 use Rattle.cap_machine.proofs.LimitFindings.{In, in_map, within_all, found_after, found_now, found_later, found_when}
 use Rattle.cap_session.specs.LimitTextLaws.{lines_above, moved_down}

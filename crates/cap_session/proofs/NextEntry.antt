@@ -8,7 +8,7 @@ use Rattle.cap_trace.specs.Reading.{line_of}
 use Rattle.cap_trace.specs.Parsing.{MatchesReading}
 use Rattle.cap_session.specs.Trace.{is_skipped, next_entry, with_entry}
 use Rattle.cap_session.specs.Refused.{refused_line}
-use Rattle.cap_session.specs.Traced.{Traced, one_more, next_traced, with_setting}
+use Rattle.cap_session.specs.Code.Traced.{Traced, one_more, next_traced, with_setting}
 use Rattle.cap_session.specs.declared.refused.Refused.TheVariants.{Full}
 
 skipped_line : (known : List Entry) (line : List ℕ) → is_skipped line ≡ true → next_entry known line ≡ Ok known

@@ -9,14 +9,14 @@ use Rattle.cap_session.specs.declared.refused.Refused.TheVariants.{Memory}
 use Rattle.cap_session.specs.Session.{SessionState, RefusesExactly}
 use Rattle.cap_session.specs.Replies.{edit_done, commanded, may_run_out}
 use Rattle.cap_session.specs.Commands.{Asked, asked}
-use Rattle.cap_session.specs.Performs.{Performs, text_of}
+use Rattle.cap_session.specs.Code.Performs.{Performs, text_of}
 use Rattle.cap_session.specs.Scripts.{Commands}
 use Rattle.cap_session.specs.Replies.{refused_text, command_error_code}
 use Rattle.cap_session.specs.declared.script.Reply.{Reply}
 use Rattle.cap_session.specs.declared.edit.Edit.{Edit}
 use Rattle.cap_session.specs.declared.edit.Edit.TheVariants.{Insert, Delete, Replace}
 use Rattle.cap_session.specs.Edits.{edited}
-use Rattle.cap_session.specs.Performs.{edit_asked}
+use Rattle.cap_session.specs.Commands.{edit_asked}
 use Rattle.cap_session.proofs.Applied.{refused_or_out}
 
 -- An edit as a command, by what was asked of the session.

@@ -6,7 +6,7 @@ use Rattle.std.proofs.lemmas.List.{length-append, append-nil}
 use Rattle.memchr.specs.Find.{IsFirstByte, is_byte}
 use Rattle.cap_session.specs.Lines.{whole_lines, last_piece, line_if_long, lines, lines_so_far}
 use Rattle.cap_session.specs.Texts.{with_line, with_lines, whole_text, refusal_of, refused_so_far}
-use Rattle.cap_session.specs.Feeds.{Completes, Reached, Finishes, Ends}
+use Rattle.cap_session.specs.Code.Feeds.{Completes, Reached, Finishes, Ends}
 use Rattle.cap_session.specs.declared.lines.StopReason.{StopReason}
 use Rattle.cap_session.specs.declared.lines.StopReason.TheVariants as stops
 use Rattle.cap_session.specs.declared.refused.Refused.{Refused}

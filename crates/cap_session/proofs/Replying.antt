@@ -7,12 +7,12 @@ use Rattle.std.proofs.lemmas.List.{append-nil, length-take, take_all, take-take}
 use Rattle.cap_session.proofs.Cuts.{last_piece-append}
 use Rattle.std.proofs.lemmas.Bool.{cases_lt}
 use Rattle.cap_session.specs.Devices.{SourceState, SinkState}
-use Rattle.cap_session.specs.Gives.{Gives}
+use Rattle.cap_session.specs.Code.Gives.{Gives}
 use Rattle.cap_session.specs.Lines.{whole_lines, last_piece, line_if_any, lines}
 use Rattle.cap_session.specs.Scripts.{Scripting, Replied, Broken, script_lines, due, due_end}
 use Rattle.cap_session.specs.EditStreams.{RepliesToAll, RepliesUntil}
 use Rattle.cap_session.specs.Reads.{faults}
-use Rattle.cap_session.specs.Chunks.{TookScript, StoppedScript, EndedScript}
+use Rattle.cap_session.specs.Code.Chunks.{TookScript, StoppedScript, EndedScript}
 use Rattle.cap_session.specs.declared.lines.StopReason.{StopReason}
 use Rattle.cap_session.specs.declared.lines.StopReason.TheVariants as stops
 use Rattle.cap_session.proofs.Soon.{any_long}

@@ -6,7 +6,7 @@ use Rattle.std.proofs.lemmas.List.{append-nil, length-take, length-drop, take_al
 use Rattle.std.proofs.lemmas.Bool.{cases_lt}
 use Rattle.memchr.specs.Find.{IsFirstByte, is_byte}
 use Rattle.cap_session.specs.Devices.{SinkState}
-use Rattle.cap_session.specs.LineEnds.{IsCut}
+use Rattle.cap_session.specs.Code.LineEnds.{IsCut}
 use Rattle.cap_session.specs.Writes.{Wrote, WrotePrefix}
 use Rattle.cap_session.specs.Lines.{whole_lines, last_piece}
 use Rattle.cap_session.specs.Trace.{is_skipped}

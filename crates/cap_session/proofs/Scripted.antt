@@ -9,7 +9,7 @@ use Rattle.cap_session.specs.declared.edit.Edit.{Edit}
 use Rattle.cap_session.specs.declared.refused.Refused.{Refused}
 use Rattle.cap_session.specs.Edits.{edited, trace_after, answer, after, answers}
 use Rattle.cap_session.specs.Commands.{Asked, first_word, after_word}
-use Rattle.cap_session.specs.Performs.{edit_asked}
+use Rattle.cap_session.specs.Commands.{edit_asked}
 use Rattle.cap_session.specs.Replies.{Done, edit_done, refused_text}
 use Rattle.cap_session.specs.Limits.{most_lines}
 use Rattle.cap_session.specs.Scripts.{RepliesTo, Commands, Answers}

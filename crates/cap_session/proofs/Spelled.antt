@@ -14,7 +14,7 @@ use Rattle.cap_session.specs.StartWords.{words}
 use Rattle.cap_session.specs.StartTexts.{number_spelled, at_least, need, rest_at, mode_spelled, cells_from, described}
 use Rattle.cap_session.specs.StartTexts.{◌>>=◌}
 use Rattle.cap_machine.specs.State.{Added}
-use Rattle.cap_session.specs.StartLines.{completed}
+use Rattle.cap_session.specs.Code.StartLines.{completed}
 use Rattle.cap_machine.specs.declared.cell.Cell.{Cell}
 use Rattle.cap_machine.specs.declared.cell.Mode.{Mode}
 use Rattle.cap_session.specs.declared.refused.Refused.{Refused}

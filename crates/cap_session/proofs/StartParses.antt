@@ -3,12 +3,12 @@ use Rattle.std.proofs.Common.{rules, ◌≡◌, ℕ, List, refl, sym, ◌∙◌,
 use Rattle.std.specs.Prelude.{Result, Ok, Err, IsOk, IfOk, Option, Some, None, ◌↔◌, ◌==◌, if◌then◌else◌}
 use Rattle.std.specs.Option.{ok_or}
 use Rattle.cap_machine.specs.State.{Added}
-use Rattle.cap_machine.specs.Table.{start_state}
+use Rattle.cap_machine.specs.State.{start_state}
 use Rattle.cap_machine.specs.declared.start.Start.{Start}
 use Rattle.cap_session.specs.Texts.{whole_text}
 use Rattle.cap_session.specs.StartTexts.{Listed, none_listed, next_process, good_as, described_by}
-use Rattle.cap_session.specs.StartLines.{Follows}
-use Rattle.cap_session.specs.StartParsed.{Parses, fault_of}
+use Rattle.cap_session.specs.Code.StartLines.{Follows}
+use Rattle.cap_session.specs.Code.StartParsed.{Parses, fault_of}
 use Rattle.cap_session.specs.Refused.{code_of}
 use Rattle.cap_session.specs.declared.refused.Refusal.{Refusal}
 use Rattle.cap_session.specs.declared.refused.Refused.{Refused}

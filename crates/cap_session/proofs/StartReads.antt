@@ -7,7 +7,7 @@ use Rattle.cap_session.specs.Devices.{SourceState}
 use Rattle.cap_session.specs.Reads.{Reads}
 use Rattle.cap_session.specs.Texts.{whole_text}
 use Rattle.cap_session.specs.StartTexts.{Listed, none_listed, next_process, good_as, described_by, start_soon}
-use Rattle.cap_session.specs.StartLines.{Holds}
+use Rattle.cap_session.specs.Code.StartLines.{Holds}
 use Rattle.cap_session.specs.declared.refused.Refusal.{Refusal}
 use Rattle.cap_session.specs.declared.lines.StopReason.{StopReason}
 use Rattle.cap_session.specs.declared.lines.StopReason.TheVariants as stops

@@ -8,12 +8,12 @@ use Rattle.cap_machine.specs.declared.cell.Cell.{Cell}
 use Rattle.cap_session.specs.Lines.{whole_lines, last_piece, line_if_any, lines}
 use Rattle.cap_session.specs.Texts.{with_line, with_lines, whole_text, refused_so_far}
 use Rattle.cap_session.specs.Trace.{is_skipped}
-use Rattle.cap_session.specs.Feeds.{Reached}
-use Rattle.cap_session.specs.LineEnds.{IsCut}
+use Rattle.cap_session.specs.Code.Feeds.{Reached}
+use Rattle.cap_session.specs.Code.LineEnds.{IsCut}
 use Rattle.cap_session.specs.StartWords.{words}
 use Rattle.cap_session.specs.StartTexts.{Listed, none_listed, described, with_described, next_process, cells_from}
 use Rattle.cap_session.specs.StartTexts.{good_as, described_by}
-use Rattle.cap_session.specs.StartLines.{completed, process_of, TakesNumbered}
+use Rattle.cap_session.specs.Code.StartLines.{completed, process_of, TakesNumbered}
 use Rattle.cap_session.specs.declared.refused.Refusal.{Refusal}
 use Rattle.cap_session.specs.declared.refused.Refused.{Refused}
 use Rattle.cap_session.specs.declared.start_fields.Head.{Head}

@@ -5,9 +5,9 @@ use Rattle.std.specs.Io.KnownBytes.{Consumes}
 use Rattle.std.proofs.lemmas.List.{append-nil}
 use Rattle.cap_session.specs.Devices.{SourceState}
 use Rattle.cap_session.specs.Texts.{whole_text, refused_so_far}
-use Rattle.cap_session.specs.Feeds.{Reached, Feeds, Ends}
-use Rattle.cap_session.specs.Chunks.{TookText, StoppedText, EndedText}
-use Rattle.cap_session.specs.Gives.{Gives}
+use Rattle.cap_session.specs.Code.Feeds.{Reached, Feeds, Ends}
+use Rattle.cap_session.specs.Code.Chunks.{TookText, StoppedText, EndedText}
+use Rattle.cap_session.specs.Code.Gives.{Gives}
 use Rattle.cap_session.specs.Reads.{Read, Reads, IsEnded, faults}
 use Rattle.cap_session.specs.declared.refused.Refused.{Refused}
 use Rattle.cap_session.specs.declared.refused.Refusal.{Refusal}

@@ -6,7 +6,7 @@ use Rattle.cap_session.specs.Devices.{SourceState}
 use Rattle.cap_session.specs.Lines.{lines, lines_so_far}
 use Rattle.cap_session.specs.Texts.{with_line, with_lines, whole_text, refusal_of, refused_so_far}
 use Rattle.cap_session.specs.Trace.{next_entry, trace, soon}
-use Rattle.cap_session.specs.Traced.{Setting, Traced, with_setting, next_traced, Holds}
+use Rattle.cap_session.specs.Code.Traced.{Setting, Traced, with_setting, next_traced, Holds}
 use Rattle.cap_session.specs.Reads.{Reads, IsNear}
 use Rattle.cap_session.specs.declared.refused.Refusal.{Refusal}
 use Rattle.cap_session.specs.declared.refused.Refused.{Refused}

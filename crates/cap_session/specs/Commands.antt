@@ -2,6 +2,8 @@
 use Rattle.std.specs.Prelude.{ℕ, ◌==◌, List, [], ◌∷◌, codes, if◌then◌else◌, Option, None, Some}
 use Rattle.std.specs.Str.{bytes_eq}
 use Rattle.cap_trace.specs.Number.{num_at}
+use Rattle.cap_session.specs.declared.edit.Edit.{Edit}
+use Rattle.cap_session.specs.declared.edit.Edit.TheVariants.{Insert, Delete, Replace}
 
 pub data Asked : Type 0 where
   -- `insert K LINE`, `replace K LINE` and `delete K`
@@ -80,3 +82,8 @@ asked_of word (Some rest) = asked_with word rest
 
 abbrev pub asked : List ℕ → Asked
 asked line = asked_of (first_word line) (after_word line)
+
+abbrev pub edit_asked : Edit → Asked
+edit_asked (Insert position line) = insert_line position line.now
+edit_asked (Delete position) = delete_line position
+edit_asked (Replace position line) = replace_line position line.now

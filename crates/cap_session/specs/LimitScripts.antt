@@ -15,7 +15,7 @@ use Rattle.cap_trace.specs.declared.calls.BareCall.TheVariants.{CapEnter}
 use Rattle.cap_trace.specs.Entry.{Entry, head_of}
 use Rattle.cap_trace.specs.Names.{name_of}
 use Rattle.cap_trace.specs.Spelling.{canon}
-use Rattle.cap_machine.specs.LimitLaws.{Row}
+use Rattle.cap_machine.specs.Limits.{Row}
 use Rattle.cap_machine.specs.Report.{line_of_words}
 use Rattle.cap_machine.specs.declared.limits.Entering.{Entering}
 use Rattle.cap_machine.specs.declared.limits.Entering.TheVariants.{Inside, Blocked, May}

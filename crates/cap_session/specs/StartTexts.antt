@@ -11,7 +11,7 @@ use Rattle.cap_rights.specs.Text.{names}
 use Rattle.cap_trace.specs.Number.{num_at}
 use Rattle.cap_trace.specs.Quotes.{cut_at_byte}
 use Rattle.cap_machine.specs.State.{State, Added}
-use Rattle.cap_machine.specs.Table.{start_state}
+use Rattle.cap_machine.specs.State.{start_state}
 use Rattle.cap_machine.specs.declared.cell.Cell.{Cell}
 use Rattle.cap_machine.specs.declared.cell.Cell.TheVariants.{Unknown, Closed, Held}
 use Rattle.cap_machine.specs.declared.cell.Mode.{Mode}

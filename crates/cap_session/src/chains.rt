@@ -1,7 +1,7 @@
 //! The text of where a cell and a mode come from: a line for each link, newest first, and one for the start.
 ghost use Rattle.std.specs.Prelude.{◌≡◌, ◌++◌, codes, length, OnOk};
 ghost use Rattle.cap_machine.specs.Provenance.{cell_chain_of, mode_chain_of};
-ghost use Rattle.cap_session.specs.Explained.{IsAt, CellStands, ModeStands};
+ghost use Rattle.cap_session.specs.Code.Explained.{IsAt, CellStands, ModeStands};
 ghost use Rattle.cap_session.specs.Explaining.{numbered, link_line, start_line, cell_end_line, cell_lines};
 ghost use Rattle.cap_session.specs.Explaining.{cell_word, mode_word, mode_end_line, mode_lines};
 

@@ -4,9 +4,9 @@ ghost use Rattle.cap_trace.specs.Entry.{Entry};
 ghost use Rattle.cap_machine.specs.declared.cell.Profile.{Profile};
 ghost use Rattle.cap_machine.specs.declared.question.Question.{Question};
 ghost use Rattle.cap_machine.specs.State.{State, usual};
-ghost use Rattle.cap_machine.specs.Checked.{IsAsked, lines_of};
+ghost use Rattle.cap_machine.specs.Code.Checked.{IsAsked, lines_of};
 ghost use Rattle.cap_session.specs.Streams.{AskedStreams, Streams, asked_says};
-ghost use Rattle.cap_session.specs.Works.{WritesAnswer};
+ghost use Rattle.cap_session.specs.Code.Works.{WritesAnswer};
 ghost use Rattle.cap_session.specs.declared.outcome.ExplainOutcome.TheVariants.{Ended};
 
 use crate::devices::{Sink, Source};

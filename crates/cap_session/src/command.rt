@@ -2,7 +2,7 @@
 ghost use Rattle.std.specs.Prelude.{◌≡◌, MatchOption, None, Some};
 ghost use Rattle.cap_session.specs.Commands.{asked, asked_alone, asked_with, first_word, after_word, position};
 ghost use Rattle.cap_session.specs.Commands.{with_line, with_range, insert_line, replace_line};
-ghost use Rattle.cap_session.specs.Performs.{command_asked};
+ghost use Rattle.cap_session.specs.Code.Performs.{command_asked};
 
 use crate::edit::Edit;
 use bstr::ByteSlice;

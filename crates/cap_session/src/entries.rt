@@ -6,9 +6,9 @@ ghost use Rattle.cap_trace.specs.Entry.{Entry};
 ghost use Rattle.cap_trace.specs.Reading.{line_of};
 ghost use Rattle.cap_session.specs.Limits.{most_lines};
 ghost use Rattle.cap_session.specs.Trace.{is_skipped, trace, soon};
-ghost use Rattle.cap_session.specs.Traced.{Setting, Traced, one_more, next_traced, Follows, Holds};
+ghost use Rattle.cap_session.specs.Code.Traced.{Setting, Traced, one_more, next_traced, Follows, Holds};
 ghost use Rattle.cap_session.specs.Reads.{Reads};
-ghost use Rattle.cap_session.specs.Feeds.{TakesLine};
+ghost use Rattle.cap_session.specs.Code.Feeds.{TakesLine};
 
 use crate::devices::Source;
 use crate::limits::MOST_LINES;

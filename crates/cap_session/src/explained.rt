@@ -7,8 +7,8 @@ ghost use Rattle.cap_machine.specs.Judge.{listed};
 ghost use Rattle.cap_machine.specs.declared.provenance.CellProvenance.{CellProvenance};
 ghost use Rattle.cap_machine.specs.Provenance.{cell_chain_of, mode_chain_of};
 ghost use Rattle.cap_machine.specs.Rule.{requirement};
-ghost use Rattle.cap_machine.specs.Table.{start_state};
-ghost use Rattle.cap_session.specs.Explained.{CellStands, AnyModeStands, FitsLine};
+ghost use Rattle.cap_machine.specs.State.{start_state};
+ghost use Rattle.cap_session.specs.Code.Explained.{CellStands, AnyModeStands, FitsLine};
 ghost use Rattle.cap_session.specs.Explaining.{finding_lines, denial_lines, all_cell_lines, any_mode_lines};
 ghost use Rattle.cap_session.specs.Explaining.{explained_text, explained_line, IsClean};
 

@@ -7,9 +7,9 @@ ghost use Rattle.cap_session.specs.AnswerStreams.{of_trace, AnswerStreams, Answe
 ghost use Rattle.cap_session.specs.ExplainStreams.{explanation_says};
 ghost use Rattle.cap_session.specs.LimitStreams.{limits_say};
 ghost use Rattle.cap_session.specs.Outcome.{found};
-ghost use Rattle.cap_session.specs.Queries.{query_says};
+ghost use Rattle.cap_session.specs.Code.Queries.{query_says};
 ghost use Rattle.cap_session.specs.Replies.{refused_text};
-ghost use Rattle.cap_session.specs.Works.{Writes, WritesAnswer};
+ghost use Rattle.cap_session.specs.Code.Works.{Writes, WritesAnswer};
 ghost use Rattle.cap_session.specs.declared.outcome.Outcome.TheVariants.{WriteFault};
 ghost use Rattle.cap_session.specs.declared.outcome.ExplainOutcome.TheVariants.{Ended, OutOfRange};
 

@@ -1,8 +1,8 @@
 //! A trace is asked for its findings or for its denials as it comes, from a start text that is read first.
 ghost use Rattle.std.specs.Prelude.{◌≡◌, ◌^◌, ◌≤◌, []};
-ghost use Rattle.cap_machine.specs.Checked.{IsAsked, HasChecked, lines_of};
+ghost use Rattle.cap_machine.specs.Code.Checked.{IsAsked, HasChecked, lines_of};
 ghost use Rattle.cap_machine.specs.State.{State};
-ghost use Rattle.cap_machine.specs.Table.{start_state};
+ghost use Rattle.cap_machine.specs.State.{start_state};
 ghost use Rattle.cap_machine.specs.declared.cell.Profile.{Profile};
 ghost use Rattle.cap_machine.specs.declared.cell.Profile.TheVariants.{One};
 ghost use Rattle.cap_machine.specs.declared.question.Question.TheVariants.{Denials};

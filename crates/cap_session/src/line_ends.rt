@@ -1,7 +1,7 @@
 //! Where the lines of a text end, looked for in 64 bytes at once.
 ghost use Rattle.std.specs.Prelude.{◌≡◌, ◌≢◌, ◌+◌, ◌<◌, ◌≤◌, ℕ, List, None, MatchOption, length, drop};
 ghost use Rattle.memchr.specs.Find.{IsFirstByte, is_byte};
-ghost use Rattle.cap_session.specs.LineEnds.{AreMarks, IsCut, IsWithin};
+ghost use Rattle.cap_session.specs.Code.LineEnds.{AreMarks, IsCut, IsWithin};
 
 use memchr::memchr;
 use std::marker::Model;
@@ -22,7 +22,7 @@ pub struct LineEnds<'a> {
 
 impl<'a> Model for LineEnds<'a> {
     ghost use Rattle.std.specs.Prelude.{ℕ, List};
-    ghost use Rattle.cap_session.specs.LineEnds.{AreMarks};
+    ghost use Rattle.cap_session.specs.Code.LineEnds.{AreMarks};
 
     ghost Value = { List ℕ };
 

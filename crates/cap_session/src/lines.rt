@@ -6,7 +6,7 @@ ghost use Rattle.std.specs.Prelude.{◌≡◌, ℕ, ◌+◌, ◌^◌, ◌<◌, �
 ghost use Rattle.std.specs.Prelude.{MatchBool, ⊤};
 ghost use Rattle.cap_session.specs.Limits.{longest_line};
 ghost use Rattle.cap_session.specs.Texts.{with_line};
-ghost use Rattle.cap_session.specs.Feeds.{TakesLine, Completes, Reached, Feeds, Finishes, Ends};
+ghost use Rattle.cap_session.specs.Code.Feeds.{TakesLine, Completes, Reached, Feeds, Finishes, Ends};
 
 use crate::limits::LONGEST_LINE;
 use crate::line_buffer::LineBuffer;

@@ -1,7 +1,7 @@
 //! Reading a text to its end, piece by piece.
 ghost use Rattle.std.specs.Prelude.{ℕ, ◌+◌, ◌*◌, ◌^◌, ◌<◌, ◌≤◌, List, [], ◌++◌, length, OnOk, IfErr};
-ghost use Rattle.cap_session.specs.Chunks.{TookText, StoppedText, EndedText};
-ghost use Rattle.cap_session.specs.Gives.{Gives};
+ghost use Rattle.cap_session.specs.Code.Chunks.{TookText, StoppedText, EndedText};
+ghost use Rattle.cap_session.specs.Code.Gives.{Gives};
 ghost use Rattle.cap_session.specs.Limits.{longest_piece};
 ghost use Rattle.cap_session.specs.Texts.{whole_text, refused_so_far};
 ghost use Rattle.cap_session.specs.Reads.{Reads};

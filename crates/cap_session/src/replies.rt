@@ -2,7 +2,7 @@
 ghost use Rattle.std.specs.Prelude.{◌≡◌, ◌+◌, ◌^◌, ◌<◌, ◌≤◌, [], ◌++◌, length};
 ghost use Rattle.cap_session.specs.EditStreams.{RepliesToAll};
 ghost use Rattle.cap_session.specs.Limits.{longest_piece};
-ghost use Rattle.cap_session.specs.Chunks.{TookScript, StoppedScript, EndedScript};
+ghost use Rattle.cap_session.specs.Code.Chunks.{TookScript, StoppedScript, EndedScript};
 
 use crate::devices::{Failed, Sink, Source};
 use crate::lines::StopReason;

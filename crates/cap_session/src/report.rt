@@ -2,7 +2,7 @@
 ghost use Rattle.std.specs.Prelude.{◌≡◌, ◌≤◌, ◌++◌, length, flat_map, IfOk};
 ghost use Rattle.cap_machine.specs.DenialReport.{denial_report};
 ghost use Rattle.cap_machine.specs.Report.{report_line, last_line};
-ghost use Rattle.cap_machine.specs.Table.{start_state};
+ghost use Rattle.cap_machine.specs.State.{start_state};
 ghost use Rattle.cap_session.specs.Limits.{most_lines};
 ghost use Rattle.cap_session.specs.Session.{IsIn, StandWithin};
 

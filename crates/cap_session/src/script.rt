@@ -2,7 +2,7 @@
 ghost use Rattle.std.specs.Prelude.{◌≡◌, ◌<◌, ◌≤◌, [], ◌∷◌, ◌++◌, length, take, OnOk, OnErr};
 ghost use Rattle.cap_session.specs.Limits.{longest_piece, most_held, most_lines};
 ghost use Rattle.cap_session.specs.Lines.{last_piece};
-ghost use Rattle.cap_session.specs.Performs.{command_asked, Performs, text_of};
+ghost use Rattle.cap_session.specs.Code.Performs.{command_asked, Performs, text_of};
 ghost use Rattle.cap_session.specs.Replies.{command_error_code};
 ghost use Rattle.cap_session.specs.declared.script.CommandError.TheVariants as errors;
 ghost use Rattle.cap_session.specs.Scripts.{Scripting, Replied, Broken, due, due_line, due_piece, due_end};

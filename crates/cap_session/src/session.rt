@@ -9,7 +9,7 @@ ghost use Rattle.cap_machine.specs.Check.{check};
 ghost use Rattle.cap_machine.specs.DenialReport.{denial_report};
 ghost use Rattle.cap_machine.specs.State.{usual};
 ghost use Rattle.cap_machine.specs.Steps.{steps};
-ghost use Rattle.cap_machine.specs.Table.{start_state};
+ghost use Rattle.cap_machine.specs.State.{start_state};
 ghost use Rattle.cap_machine.specs.declared.cell.Profile.TheVariants.{One};
 ghost use Rattle.cap_session.specs.Edits.{inserted, deleted, replaced, loaded, edited, after, answers};
 ghost use Rattle.cap_session.specs.Explaining.{explained_line, IsClean};

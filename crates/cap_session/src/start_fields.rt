@@ -5,7 +5,7 @@ ghost use Rattle.cap_trace.specs.Quotes.{cut_at_byte};
 ghost use Rattle.cap_session.specs.StartWords.{words};
 ghost use Rattle.cap_session.specs.StartTexts.{cell_spelled, mode_spelled, number_spelled, need};
 ghost use Rattle.cap_session.specs.StartTexts.{rest_at as rest_said, listed_at, cells_from, described};
-ghost use Rattle.cap_session.specs.StartLines.{completed};
+ghost use Rattle.cap_session.specs.Code.StartLines.{completed};
 
 use crate::command::number_of;
 use crate::refused::Refused;

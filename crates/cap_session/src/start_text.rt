@@ -5,12 +5,12 @@ ghost use Rattle.std.specs.List.{All};
 ghost use Rattle.cap_trace.specs.Entry.{IsFd};
 ghost use Rattle.cap_trace.specs.Limits.{largest_pid};
 ghost use Rattle.cap_machine.specs.State.{Added};
-ghost use Rattle.cap_machine.specs.Table.{start_state};
+ghost use Rattle.cap_machine.specs.State.{start_state};
 ghost use Rattle.cap_session.specs.Reads.{Reads};
 ghost use Rattle.cap_session.specs.StartTexts.{Listed, none_listed, next_process, cells_from, start as start_said};
 ghost use Rattle.cap_session.specs.StartTexts.{described_by, start_soon};
-ghost use Rattle.cap_session.specs.StartLines.{StandsFor, Follows, Holds, Adds, TakesNumbered};
-ghost use Rattle.cap_session.specs.StartParsed.{fault_of, Parses};
+ghost use Rattle.cap_session.specs.Code.StartLines.{StandsFor, Follows, Holds, Adds, TakesNumbered};
+ghost use Rattle.cap_session.specs.Code.StartParsed.{fault_of, Parses};
 ghost use Rattle.cap_session.specs.Texts.{with_line, whole_text};
 ghost use Rattle.cap_session.specs.declared.refused.Refusal.{Refusal};
 

@@ -2,7 +2,7 @@
 ghost use Rattle.std.specs.Prelude.{◌≡◌, ◌-◌, List, length, Some, slice_get};
 ghost use Rattle.cap_trace.specs.Entry.{Entry};
 ghost use Rattle.cap_session.specs.Edits.{is_position};
-ghost use Rattle.cap_session.specs.Explained.{IsAt};
+ghost use Rattle.cap_session.specs.Code.Explained.{IsAt};
 ghost use Rattle.cap_session.specs.Session.{lines_of};
 
 use cap_summary::Summary;

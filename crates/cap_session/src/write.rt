@@ -1,6 +1,6 @@
 //! Writing, whatever a writer takes at a time, and how a call ends then.
 ghost use Rattle.std.specs.Prelude.{◌<◌, ◌≤◌, OnOk, OnErr};
-ghost use Rattle.cap_session.specs.Works.{EndsCall, Writes};
+ghost use Rattle.cap_session.specs.Code.Works.{EndsCall, Writes};
 ghost use Rattle.cap_session.specs.Writes.{Wrote, WrotePrefix};
 ghost use Rattle.cap_session.specs.declared.outcome.Outcome.TheVariants.{WriteFault};
 

@@ -1,5 +1,5 @@
 -- What a summary says after one more step, or one more segment.
-use Rattle.cap_machine.specs.{History.turned, Table.step_after}
+use Rattle.cap_machine.specs.{History.turned, Code.Table.step_after}
 use Rattle.cap_machine.proofs.{Turns.ends_more}
 use Rattle.std.specs.Prelude.{◌≡◌, ◌∷◌, ◌++◌, ◌+◌, ◌<◌, ◌||◌, ◌≤◌, if◌then◌else◌, ℕ, List, [], false, length, map, refl}
 use Rattle.std.specs.Prelude.{get_or, take}

@@ -1,6 +1,6 @@
 -- Walks back through the parts of a node.
 use Rattle.std.proofs.{Math.Seq.take-append-add, lemmas.List.Elements.All-take}
-use Rattle.cap_machine.specs.Walks.{cell_pid, cell_fd, mode_pid}
+use Rattle.cap_machine.specs.Code.Walks.{cell_pid, cell_fd, mode_pid}
 use Rattle.cap_machine.proofs.{Walking.cells_may_be_left_out, Walking.modes_may_be_left_out}
 use Rattle.std.specs.Prelude.{◌≡◌, ◌+◌, ◌-◌, ◌<◌, ◌++◌, ℕ, List, length, take, refl, reverse}
 use Rattle.cap_summary.specs.{Step, CellWalk, ModeWalk, State, kept, stays, touch, turn, LeavesCell, LeavesMode}

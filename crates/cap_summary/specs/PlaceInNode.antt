@@ -1,6 +1,6 @@
 -- The place after some steps of a node, and walks back from it.
 use Rattle.cap_machine.specs.{Provenance.CellChain, Provenance.ModeChain}
-use Rattle.cap_machine.specs.Walks.{cell_found, cell_known, mode_found, mode_known}
+use Rattle.cap_machine.specs.Code.Walks.{cell_found, cell_known, mode_found, mode_known}
 use Rattle.std.specs.Prelude.{◌≤◌, ◌^◌, ◌≡◌, ◌++◌, List, length, take, reverse, ℕ}
 use Rattle.cap_summary.specs.{Step, State, start_state, Cell, Mode, CellWalk, ModeWalk}
 use Rattle.cap_summary.specs.{declared.explaining.PlaceInNode.PlaceInNode}

@@ -24,9 +24,9 @@ pub use Rattle.cap_machine.specs.{Effect.effect_turn, Explain.Explained, Explain
 pub use Rattle.cap_machine.specs.{History.ended, History.touched, Judge.all_excused, Judge.fault, Judge.faults}
 pub use Rattle.cap_machine.specs.{Judge.has_check, Judge.is_outside, Judge.listed, Laws.later, Named.args_name}
 pub use Rattle.cap_machine.specs.{Named.fds_of, Named.names_pid, Op.applied, Op.exec, Op.same, Rule.requirement}
-pub use Rattle.cap_machine.specs.{State.State, Table.start_state, Touch.follows, Touch.given, Touch.kept, Touch.started}
+pub use Rattle.cap_machine.specs.{State.State, State.start_state, Touch.follows, Touch.given, Touch.kept, Touch.started}
 pub use Rattle.cap_machine.specs.{Touch.stays, Touch.taken, Touch.Touch, Touch.touch, Touch.Turn, Touch.turn}
-pub use Rattle.cap_machine.specs.{Touch.turns, Walks.LeavesCell, Walks.LeavesMode, Wanted.is_child}
+pub use Rattle.cap_machine.specs.{Touch.turns, Code.Walks.LeavesCell, Code.Walks.LeavesMode, Code.Wanted.is_child}
 pub use Rattle.cap_tree.specs.declared.similarity.{Side.Side, Side.TheVariants.Left, Side.TheVariants.Right}
 pub use Rattle.cap_tree.specs.declared.similarity.{Similarity.Similarity}
 pub use Rattle.cap_tree.specs.{Run.values, Sides.part_at}

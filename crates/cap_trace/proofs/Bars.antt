@@ -5,7 +5,7 @@ use Rattle.std.specs.List.{list_all, slice_split, onto_first}
 use Rattle.std.specs.Char.{is_ascii_uppercase}
 use Rattle.cap_trace.specs.Fields.{is_flag_byte, is_word}
 use Rattle.cap_trace.specs.Steps.{takes_all}
-use Rattle.cap_trace.specs.FlagSteps.{flag_step}
+use Rattle.cap_trace.specs.Code.FlagSteps.{flag_step}
 
 -- a test of a byte, as the tables of bytes keep it
 pub is_one : (b : Bool) → eqb (cond b 1 0) 1 ≡ b

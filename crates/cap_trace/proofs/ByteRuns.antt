@@ -11,9 +11,9 @@ use Rattle.std.specs.Prelude.{codes}
 use Rattle.cap_trace.specs.declared.runs.Run.TheVariants.{Name, Path}
 use Rattle.cap_trace.specs.Entry.{some_flags}
 use Rattle.cap_trace.specs.Fields.{is_flag_byte, is_flags, is_plain, is_word}
-use Rattle.cap_trace.specs.FlagSteps.{flag_step}
-use Rattle.cap_trace.specs.FastPath.{Before}
-use Rattle.cap_trace.specs.Runs.{Runs}
+use Rattle.cap_trace.specs.Code.FlagSteps.{flag_step}
+use Rattle.cap_trace.specs.Code.FastPath.{Before}
+use Rattle.cap_trace.specs.Code.Runs.{Runs}
 use Rattle.cap_trace.specs.Steps.{takes_all}
 use Rattle.cap_trace.proofs.Bars.{are_words}
 use Rattle.cap_trace.proofs.Cuts.{parted}

@@ -8,7 +8,7 @@ use Rattle.std.proofs.lemmas.Bool.Decides.{Decides-eqb, same_from_decides}
 use Rattle.std.proofs.lemmas.Slice.Eq.{bytes_eq-Decides}
 use Rattle.std.specs.Str.{bytes_eq}
 use Rattle.std.specs.Int.{w16, w32, w64, from_le_bytes}
-use Rattle.cap_trace.specs.Slots.{first_word, last_word}
+use Rattle.cap_trace.specs.Code.Slots.{first_word, last_word}
 
 taken : (k : ℕ) (a b : List ℕ) (i : ℕ) → take k a ≡ take k b → i < k → get_or a i 0 ≡ get_or b i 0
 taken k a b i e h = sym (get_or-take k a i 0 h) ∙ ap (λ (l : List ℕ). get_or l i 0) e ∙ get_or-take k b i 0 h

@@ -2,7 +2,7 @@
 use Rattle.std.proofs.Common.{◌≡◌, ℕ, ◌+◌, ◌<◌, List, [], ◌∷◌, ◌++◌, length, get_or, drop, refl, sym, ap, ◌∙◌}
 use Rattle.std.proofs.Common.{append_assoc}
 use Rattle.std.proofs.lemmas.List.{drop_more, append-nil}
-use Rattle.cap_trace.specs.Escaping.{escape_of, escaped}
+use Rattle.cap_trace.specs.Code.Escaping.{escape_of, escaped}
 
 pub escaped_step : (b : ℕ) (bs : List ℕ) → escaped (b ∷ bs) ≡ escape_of b ++ escaped bs
 unfolding escaped

@@ -30,12 +30,12 @@ use Rattle.std.specs.Result.{result_ok}
 use Rattle.cap_trace.specs.Reading.{Gives, ◌>>=◌, dir_at, rights_at, command_at, free_at}
 use Rattle.cap_trace.specs.Reading.{arg_at, answer_at, line_of}
 use Rattle.cap_trace.specs.Forms.{Slot, dir, rights, command, free}
-use Rattle.cap_trace.specs.FastPath.{Before, Between, SpellsAfter, Starts}
+use Rattle.cap_trace.specs.Code.FastPath.{Before, Between, SpellsAfter, Starts}
 use Rattle.cap_trace.proofs.Cuts.{cut_takes, pieces_after}
 use Rattle.cap_trace.proofs.Heads.{head_takes, some_is}
 use Rattle.cap_trace.proofs.Spelled.{arg_takes, is_closed, arg_part, fd_again}
 use Rattle.cap_trace.proofs.Answered.{answer_takes}
-use Rattle.cap_trace.specs.Runs.{Runs}
+use Rattle.cap_trace.specs.Code.Runs.{Runs}
 use Rattle.cap_trace.specs.declared.runs.Run.TheVariants.{Path}
 use Rattle.cap_trace.proofs.ByteRuns.{plain_run}
 use Rattle.cap_trace.proofs.WholeLines.{line_again}

@@ -22,8 +22,8 @@ use Rattle.cap_trace.specs.Entry.{Entry, Arg, an_fd, a_dir, some_rights, a_word}
 use Rattle.cap_trace.specs.Entry.{args_of, args_of_call, head_of, head_of_call, fds, kind_of, IsPid, IsFd}
 use Rattle.cap_trace.specs.Entry.{IsAnswer, IsWhole, RisesFrom}
 use Rattle.cap_trace.specs.Spelling.{SpellsArg, SpellsArgs, SpellsBy, IsHead, IsProper, arg_text, canon}
-use Rattle.cap_trace.specs.Making.{is_fd, is_pid, is_good, are_good, is_head, is_answer, all_rise, is_good_item}
-use Rattle.cap_trace.specs.Making.{is_same_set, is_named, has_named_rights}
+use Rattle.cap_trace.specs.Code.Making.{is_fd, is_pid, is_good, are_good, is_head, is_answer, all_rise, is_good_item}
+use Rattle.cap_trace.specs.Code.Making.{is_same_set, is_named, has_named_rights}
 use Rattle.cap_trace.specs.Reading.{fds_from}
 use Rattle.cap_trace.specs.Views.{fds_in, fds_spelled}
 use Rattle.cap_trace.proofs.Cuts.{eqb_same, pieces_again}

@@ -9,7 +9,7 @@ use Rattle.std.proofs.lemmas.Bool.{and_parts}
 use borrow.Author.Tests.{ltb-true}
 use Rattle.cap_trace.specs.declared.calls.Form.{Form}
 use Rattle.cap_trace.specs.Names.{row_of, form_named, all_forms}
-use Rattle.cap_trace.specs.Slots.{slots, slot_at, form_at, if_named}
+use Rattle.cap_trace.specs.Code.Slots.{slots, slot_at, form_at, if_named}
 use Rattle.cap_trace.proofs.Heads.{form_again, form_takes, find_takes}
 
 has_name : List ℕ → Option Form → Bool

@@ -4,7 +4,7 @@ use Rattle.cap_trace.specs.declared.fault.FirstFault.{FirstFault}
 use Rattle.cap_trace.specs.declared.fault.FirstFault.TheVariants as faults
 use Rattle.cap_trace.specs.Item as items
 use Rattle.cap_trace.specs.Entry.{Entry}
-use Rattle.cap_trace.specs.Kept.{entry_of, SpellsALine}
+use Rattle.cap_trace.specs.Code.Kept.{entry_of, SpellsALine}
 use Rattle.cap_trace.specs.Quotes.{cut_at_byte}
 use Rattle.cap_trace.specs.Reading.{◌>>=◌, pid_at, item_at, entry_at, line_of}
 use Rattle.cap_trace.specs.Spelling.{IsProper, canon}

@@ -11,7 +11,7 @@ use Rattle.cap_trace.specs.declared.fields.Place.{Place}
 use Rattle.cap_trace.specs.declared.fields.Place.TheVariants.{Between, Slash, Digits, OneDigit}
 use Rattle.cap_trace.specs.Steps.{takes_all}
 use Rattle.cap_trace.specs.Fields.{is_plain, hex_digit, is_escaped, second_digit, item_step, is_between, are_items}
-use Rattle.cap_trace.specs.Escaping.{hex_of, escape_of, escaped, lacks_zero, hex_byte, slash_byte, first_byte}
+use Rattle.cap_trace.specs.Code.Escaping.{hex_of, escape_of, escaped, lacks_zero, hex_byte, slash_byte, first_byte}
 use Rattle.cap_trace.proofs.EscapedBytes.{escaped_step}
 
 -- ---- digits

@@ -18,7 +18,7 @@ use Rattle.cap_trace.specs.Quotes.{after}
 use Rattle.cap_trace.specs.Fields.{is_flag_byte, is_word, is_flags, is_plain, hex_digit, is_escaped, second_digit}
 use Rattle.cap_trace.specs.Fields.{item_step, is_between, are_items, quoted}
 use Rattle.cap_trace.specs.Steps.{takes_all}
-use Rattle.cap_trace.specs.FlagSteps.{flag_step}
+use Rattle.cap_trace.specs.Code.FlagSteps.{flag_step}
 use Rattle.cap_trace.proofs.Bars.{are_words}
 use Rattle.cap_trace.proofs.Cuts.{closes, IsPart}
 

@@ -6,7 +6,7 @@ use Rattle.std.proofs.lemmas.List.{take_at, take_more, drop_more, take-append-dr
 use Rattle.std.specs.Fmt.{decimal}
 use Rattle.cap_trace.specs.Entry.{fds}
 use Rattle.cap_trace.specs.Spelling.{arg_text}
-use Rattle.cap_trace.specs.Writing.{with_commas}
+use Rattle.cap_trace.specs.Code.Writing.{with_commas}
 
 pub on_err : {A E : Type 0} (r : Result A E) (P : Type 0) → P → OnErr r P
 on_err (Ok x) P p = tt

@@ -2,7 +2,7 @@
 
 ghost use Rattle.std.specs.Prelude.{◌≡◌, ◌≤◌, ◌+◌, length, take, drop};
 ghost use Rattle.std.specs.Str.{bytes_eq};
-ghost use Rattle.cap_trace.specs.Slots.{first_word, last_word};
+ghost use Rattle.cap_trace.specs.Code.Slots.{first_word, last_word};
 
 /// So many bytes of a text, from this place on.
 #[inline(always)]

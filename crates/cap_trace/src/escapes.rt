@@ -3,10 +3,10 @@
 
 ghost use Rattle.std.specs.Prelude.{◌≡◌, ◌++◌, ◌<◌, IfOk, OnOk, option_map};
 ghost use Rattle.cap_trace.specs.declared.fault.LineFault.TheVariants.{Argument};
-ghost use Rattle.cap_trace.specs.Escaping.{hex_of, escape_of, escaped, lacks_zero, hex_byte, first_byte, SpellsBytes};
-ghost use Rattle.cap_trace.specs.Escaping.{OnePath};
+ghost use Rattle.cap_trace.specs.Code.Escaping.{hex_of, escape_of, escaped, lacks_zero, hex_byte, first_byte, SpellsBytes};
+ghost use Rattle.cap_trace.specs.Code.Escaping.{OnePath};
 ghost use Rattle.cap_trace.specs.Fields.{are_items};
-ghost use Rattle.cap_trace.specs.Making.{MakesWhere};
+ghost use Rattle.cap_trace.specs.Code.Making.{MakesWhere};
 
 use crate::fault::LineFault;
 use crate::fields::{hex_value, items, plain};

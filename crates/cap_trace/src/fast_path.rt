@@ -11,11 +11,11 @@ ghost use Rattle.cap_trace.specs.declared.calls.Form.TheVariants as forms;
 ghost use Rattle.cap_trace.specs.Call as calls;
 ghost use Rattle.cap_trace.specs.Item as items;
 ghost use Rattle.cap_trace.specs.Names.{listed, unlisted, row_of};
-ghost use Rattle.cap_trace.specs.Rows.{head_view};
+ghost use Rattle.cap_trace.specs.Code.Rows.{head_view};
 ghost use Rattle.cap_trace.specs.Views.{call_view};
 ghost use Rattle.cap_trace.specs.Entry.{an_fd, a_dir, some_flags, a_path, a_command, a_word, free_text, set_fd};
 ghost use Rattle.cap_trace.specs.Reading.{answer_at};
-ghost use Rattle.cap_trace.specs.FastPath.{Before, SpellsAfter, Starts};
+ghost use Rattle.cap_trace.specs.Code.FastPath.{Before, SpellsAfter, Starts};
 
 use crate::answers::answer;
 use crate::calls::{AtFlagsCall, BareCall, FdCall, FlagsCall, Form, PathCall, ResultKind};

@@ -2,7 +2,7 @@
 
 ghost use Rattle.std.specs.Prelude.{◌≡◌, ◌==◌, ◌<◌, IfSome};
 ghost use Rattle.std.specs.List.{list_all, slice_split};
-ghost use Rattle.cap_trace.specs.FlagSteps.{flag_step};
+ghost use Rattle.cap_trace.specs.Code.FlagSteps.{flag_step};
 ghost use Rattle.cap_trace.specs.Fields.{is_flag_byte, is_word, is_flags, is_plain, hex_digit, is_escaped, item_step};
 ghost use Rattle.cap_trace.specs.Fields.{is_between, are_items, is_free};
 ghost use Rattle.cap_trace.specs.Spelling.{is_command};

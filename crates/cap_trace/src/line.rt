@@ -81,7 +81,7 @@ pub(crate) fn fcntl_kind(command: &[u8]) -> ResultKind
 
 impl<'a> Call<'a> {
     ghost use Rattle.cap_trace.specs.Entry.{head_of_call, kind_of};
-    ghost use Rattle.cap_trace.specs.Rows.{head_view};
+    ghost use Rattle.cap_trace.specs.Code.Rows.{head_view};
     ghost use Rattle.cap_trace.specs.Views.{call_view};
 
     /// What stands before the arguments.
@@ -180,7 +180,7 @@ pub enum Item<'a> {
 
 impl<'a> Item<'a> {
     ghost use Rattle.cap_trace.specs.Entry.{head_of};
-    ghost use Rattle.cap_trace.specs.Rows.{head_view};
+    ghost use Rattle.cap_trace.specs.Code.Rows.{head_view};
     ghost use Rattle.cap_trace.specs.Views.{item_view};
 
     /// What stands before the arguments.
@@ -258,7 +258,7 @@ impl Model for Line {
 
     ghost Value = { Entry };
 
-    ghost use Rattle.cap_trace.specs.Kept.{entry_of, SpellsALine};
+    ghost use Rattle.cap_trace.specs.Code.Kept.{entry_of, SpellsALine};
 
     ghost view = { λ l. entry_of l.text.items };
 

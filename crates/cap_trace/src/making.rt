@@ -9,8 +9,8 @@ ghost use Rattle.cap_trace.specs.Names.{unlisted};
 ghost use Rattle.cap_trace.specs.Entry.{args_of_call, head_of_call};
 ghost use Rattle.cap_trace.specs.Views.{arg_view, call_view, item_view};
 ghost use Rattle.cap_trace.specs.Spelling.{canon};
-ghost use Rattle.cap_trace.specs.Making.{MakesWhere, IsLineOf, is_fd, is_pid, is_good, are_good, is_head, is_answer};
-ghost use Rattle.cap_trace.specs.Making.{all_rise, is_good_item, is_named, has_named_rights};
+ghost use Rattle.cap_trace.specs.Code.Making.{MakesWhere, IsLineOf, is_fd, is_pid, is_good, are_good, is_head, is_answer};
+ghost use Rattle.cap_trace.specs.Code.Making.{all_rise, is_good_item, is_named, has_named_rights};
 
 use crate::args::{ArgRef, Arguments};
 use crate::calls::ResultKind;
@@ -40,7 +40,7 @@ fn fd_fits(fd: Fd) -> bool
 }
 
 /// Whether each descriptor is above the one before it.
-#[tactic(auto, unfolding(crate::specs::Making::all_rise))]
+#[tactic(auto, unfolding(crate::specs::Code::Making::all_rise))]
 fn rise(fds: &[Fd]) -> bool
     ensures { result ≡ all_rise 0 fds.now }
 {

@@ -6,8 +6,8 @@ ghost use Rattle.std.specs.List.{list_all, slice_get};
 ghost use Rattle.cap_trace.specs.Names.{row_of, dup_command_name, form_named, all_forms, is_name, is_name_byte};
 ghost use Rattle.cap_trace.specs.Names.{name_of, head_named, on_fd};
 ghost use Rattle.cap_trace.specs.Entry.{head_kind};
-ghost use Rattle.cap_trace.specs.Slots.{slot_at, slots};
-ghost use Rattle.cap_trace.specs.Rows.{table_row, in_table, head_view};
+ghost use Rattle.cap_trace.specs.Code.Slots.{slot_at, slots};
+ghost use Rattle.cap_trace.specs.Code.Rows.{table_row, in_table, head_view};
 
 use crate::calls::ResultKind::{self, Child, ChildAndFd, Count, Fd, FdPair, Zero};
 use crate::calls::{

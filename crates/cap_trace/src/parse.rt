@@ -2,8 +2,8 @@
 
 ghost use Rattle.std.specs.Prelude.{◌≡◌, ℕ, List, IfOk, IfSome, Ok, Err};
 ghost use Rattle.cap_trace.specs.Reading.{line_of};
-ghost use Rattle.cap_trace.specs.Rows.{head_view};
-ghost use Rattle.cap_trace.specs.FastPath.{Starts};
+ghost use Rattle.cap_trace.specs.Code.Rows.{head_view};
+ghost use Rattle.cap_trace.specs.Code.FastPath.{Starts};
 ghost use Rattle.cap_trace.specs.declared.fault.LineFault.TheVariants.{Memory};
 ghost use Rattle.cap_trace.specs.Spelling.{Spells};
 ghost use Rattle.cap_trace.specs.Parsing.{SpellsSome, FaultsAreExact, ReadsOnly, MatchesReading};

@@ -2,7 +2,7 @@
 //! are tested four at a time, so that one test of the length serves four bytes.
 
 ghost use Rattle.std.specs.Prelude.{◌≡◌, ◌≤◌, ◌+◌, length, IfSome, MatchOption};
-ghost use Rattle.cap_trace.specs.Runs.{has, Runs, RunsTo};
+ghost use Rattle.cap_trace.specs.Code.Runs.{has, Runs, RunsTo};
 
 use crate::fields::{flag_byte, plain};
 

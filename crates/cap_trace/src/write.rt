@@ -10,7 +10,7 @@ ghost use Rattle.cap_trace.specs.Fields.{quoted};
 ghost use Rattle.cap_trace.specs.Entry.{args_of_call, args_of, fds as fd_args, head_of};
 ghost use Rattle.cap_trace.specs.Spelling.{Spells, arg_text, answer_text, tail_text, canon};
 ghost use Rattle.cap_trace.specs.Views.{call_view, fds_spelled, item_view};
-ghost use Rattle.cap_trace.specs.Writing.{shown_text, with_commas};
+ghost use Rattle.cap_trace.specs.Code.Writing.{shown_text, with_commas};
 
 use crate::args::{ArgRef, Arguments};
 use crate::limits::{Fd, Pid};

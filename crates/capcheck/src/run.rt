@@ -140,7 +140,7 @@ fn carry_out<T: Texts, W: Sink, R: Print + Eprint + AllocGlobal>(
 }
 
 /// A start text without any bytes is the usual start.
-#[tactic(auto, unfolding(cap_session::specs::Texts::with_lines, cap_session::specs::Lines::whole_lines, cap_session::specs::Lines::last_piece, cap_machine::specs::Table::start_state))]
+#[tactic(auto, unfolding(cap_session::specs::Texts::with_lines, cap_session::specs::Lines::whole_lines, cap_session::specs::Lines::last_piece, cap_machine::specs::State::start_state))]
 pub fn empty_start_is_usual()
     ensures { start_said [] ≡ Ok usual }
 {}

@@ -16,11 +16,11 @@ pub(crate) struct Cells16K {
 
 impl Clone for Cells16K {
     ghost use Rattle.std.specs.Prelude.{◌≡◌, ℕ};
-    ghost use Rattle.cap_machine.specs.Cells.Cells16K.{in_cells_16k};
+    ghost use Rattle.cap_machine.specs.Code.Cells.Cells16K.{in_cells_16k};
 
     ghost is_clone = { λ a b. (f : ℕ) → in_cells_16k b f ≡ in_cells_16k a f };
 
-    #[tactic(auto, unfolding(crate::specs::Cells::Cells16K::in_cells_16k))]
+    #[tactic(auto, unfolding(crate::specs::Code::Cells::Cells16K::in_cells_16k))]
     fn clone(&self) -> Result<Cells16K, AllocError> {
         Ok(Cells16K {
             node: self.node.clone()?,
@@ -30,35 +30,35 @@ impl Clone for Cells16K {
 
 impl Subtree for Cells16K {
     ghost use Rattle.std.specs.Prelude.{ℕ, ◌<◌};
-    ghost use Rattle.cap_machine.specs.Cells.Cells16K.{in_cells_16k};
+    ghost use Rattle.cap_machine.specs.Code.Cells.Cells16K.{in_cells_16k};
 
     ghost cell_at = { in_cells_16k };
 
     ghost has = { λ f. f < 16384 };
 
-    #[tactic(auto, unfolding(crate::specs::Cells::Cells16K::in_cells_16k))]
+    #[tactic(auto, unfolding(crate::specs::Code::Cells::Cells16K::in_cells_16k))]
     fn all(alloc: Global, cell: Cell) -> Result<Cells16K, NoMemory> {
         Ok(Cells16K {
             node: Node::all(alloc, cell)?,
         })
     }
 
-    #[tactic(auto, unfolding(crate::specs::Cells::Cells16K::in_cells_16k))]
+    #[tactic(auto, unfolding(crate::specs::Code::Cells::Cells16K::in_cells_16k))]
     fn cell(&self, fd: usize) -> Cell {
         self.node.cell(fd)
     }
 
-    #[tactic(auto, unfolding(crate::specs::Cells::Cells16K::in_cells_16k))]
+    #[tactic(auto, unfolding(crate::specs::Code::Cells::Cells16K::in_cells_16k))]
     fn write(&mut self, fd: usize, cell: Cell) -> Result<(), NoMemory> {
         self.node.write(fd, cell)
     }
 
-    #[tactic(auto, unfolding(crate::specs::Cells::Cells16K::in_cells_16k))]
+    #[tactic(auto, unfolding(crate::specs::Code::Cells::Cells16K::in_cells_16k))]
     fn apply_deferred(&mut self, deferred: Deferred) {
         self.node.apply_deferred(deferred);
     }
 
-    #[tactic(auto, unfolding(crate::specs::Cells::Cells16K::in_cells_16k))]
+    #[tactic(auto, unfolding(crate::specs::Code::Cells::Cells16K::in_cells_16k))]
     fn close_from(&mut self, fd: usize) -> Result<(), NoMemory> {
         self.node.close_from(fd)
     }

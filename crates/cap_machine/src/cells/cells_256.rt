@@ -16,11 +16,11 @@ pub(crate) struct Cells256 {
 
 impl Clone for Cells256 {
     ghost use Rattle.std.specs.Prelude.{◌≡◌, ℕ};
-    ghost use Rattle.cap_machine.specs.Cells.Cells256.{in_cells_256};
+    ghost use Rattle.cap_machine.specs.Code.Cells.Cells256.{in_cells_256};
 
     ghost is_clone = { λ a b. (f : ℕ) → in_cells_256 b f ≡ in_cells_256 a f };
 
-    #[tactic(auto, unfolding(crate::specs::Cells::Cells256::in_cells_256))]
+    #[tactic(auto, unfolding(crate::specs::Code::Cells::Cells256::in_cells_256))]
     fn clone(&self) -> Result<Cells256, AllocError> {
         Ok(Cells256 {
             node: self.node.clone()?,
@@ -30,35 +30,35 @@ impl Clone for Cells256 {
 
 impl Subtree for Cells256 {
     ghost use Rattle.std.specs.Prelude.{ℕ, ◌<◌};
-    ghost use Rattle.cap_machine.specs.Cells.Cells256.{in_cells_256};
+    ghost use Rattle.cap_machine.specs.Code.Cells.Cells256.{in_cells_256};
 
     ghost cell_at = { in_cells_256 };
 
     ghost has = { λ f. f < 256 };
 
-    #[tactic(auto, unfolding(crate::specs::Cells::Cells256::in_cells_256))]
+    #[tactic(auto, unfolding(crate::specs::Code::Cells::Cells256::in_cells_256))]
     fn all(alloc: Global, cell: Cell) -> Result<Cells256, NoMemory> {
         Ok(Cells256 {
             node: Node::all(alloc, cell)?,
         })
     }
 
-    #[tactic(auto, unfolding(crate::specs::Cells::Cells256::in_cells_256))]
+    #[tactic(auto, unfolding(crate::specs::Code::Cells::Cells256::in_cells_256))]
     fn cell(&self, fd: usize) -> Cell {
         self.node.cell(fd)
     }
 
-    #[tactic(auto, unfolding(crate::specs::Cells::Cells256::in_cells_256))]
+    #[tactic(auto, unfolding(crate::specs::Code::Cells::Cells256::in_cells_256))]
     fn write(&mut self, fd: usize, cell: Cell) -> Result<(), NoMemory> {
         self.node.write(fd, cell)
     }
 
-    #[tactic(auto, unfolding(crate::specs::Cells::Cells256::in_cells_256))]
+    #[tactic(auto, unfolding(crate::specs::Code::Cells::Cells256::in_cells_256))]
     fn apply_deferred(&mut self, deferred: Deferred) {
         self.node.apply_deferred(deferred);
     }
 
-    #[tactic(auto, unfolding(crate::specs::Cells::Cells256::in_cells_256))]
+    #[tactic(auto, unfolding(crate::specs::Code::Cells::Cells256::in_cells_256))]
     fn close_from(&mut self, fd: usize) -> Result<(), NoMemory> {
         self.node.close_from(fd)
     }

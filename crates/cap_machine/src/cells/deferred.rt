@@ -2,7 +2,7 @@
 //! once something in it is written, so that an exec or a closefrom touches one path of the tree.
 
 ghost use Rattle.std.specs.Prelude.{◌≡◌};
-ghost use Rattle.cap_machine.specs.Cells.Deferred.{with_deferred};
+ghost use Rattle.cap_machine.specs.Code.Cells.Deferred.{with_deferred};
 
 use crate::cell::{Cell, Op};
 

@@ -3,7 +3,7 @@
 
 ghost use Rattle.std.specs.Prelude.{◌≡◌, ◌+◌, ◌-◌, ◌≤◌, nat_lt, IsTrue};
 ghost use Rattle.std.specs.Vec.{vec_len};
-ghost use Rattle.cap_machine.specs.Cells.DeferredFree.{left_at_most};
+ghost use Rattle.cap_machine.specs.Code.Cells.DeferredFree.{left_at_most};
 
 use crate::cells::cells_1m::Cells1M;
 use crate::cells::cells_16k::Cells16K;
@@ -56,7 +56,7 @@ fn free_node<T: Drop, const WIDTH: usize>(node: Rc<Node<T, WIDTH>>, parts: &mut 
 
 impl DeferredFree {
     /// Nothing is left. It takes no memory.
-    #[tactic(auto, unfolding(crate::specs::Cells::DeferredFree::left_at_most))]
+    #[tactic(auto, unfolding(crate::specs::Code::Cells::DeferredFree::left_at_most))]
     pub(crate) fn nothing(alloc: Global) -> DeferredFree
         ensures { left_at_most result ≡ 0 }
     {
@@ -71,7 +71,7 @@ impl DeferredFree {
     }
 
     /// Adds cells that soon nobody has.
-    #[tactic(auto, unfolding(crate::specs::Cells::DeferredFree::left_at_most))]
+    #[tactic(auto, unfolding(crate::specs::Code::Cells::DeferredFree::left_at_most))]
     pub(crate) fn add(&mut self, high: Rc<Cells1M>) -> Result<(), NoMemory>
         ensures { left_at_most self.new ≤ left_at_most self.old + 37449 }
     {
@@ -85,7 +85,7 @@ impl DeferredFree {
     }
 
     /// Frees one part, and its leaves if it has some. Answers whether there was one.
-    #[tactic(auto, unfolding(crate::specs::Cells::DeferredFree::left_at_most))]
+    #[tactic(auto, unfolding(crate::specs::Code::Cells::DeferredFree::left_at_most))]
     fn free_one(&mut self) -> bool
         ensures some { result ≡ nat_lt 0 (left_at_most self.old) }
         ensures fewer { left_at_most self.new ≤ left_at_most self.old - 1 }
@@ -115,7 +115,7 @@ impl DeferredFree {
     }
 
     /// Whether nothing is left.
-    #[tactic(auto, unfolding(crate::specs::Cells::DeferredFree::left_at_most))]
+    #[tactic(auto, unfolding(crate::specs::Code::Cells::DeferredFree::left_at_most))]
     fn is_nothing(&self) -> bool
         ensures { IsTrue result → left_at_most self.now ≡ 0 }
     {

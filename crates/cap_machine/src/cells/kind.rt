@@ -1,7 +1,7 @@
 //! A cell as a leaf keeps it.
 
 ghost use Rattle.std.specs.Prelude.{◌≡◌};
-ghost use Rattle.cap_machine.specs.Cells.Kind.{kind_of_cell, rights_of_cell, cell_of_kind};
+ghost use Rattle.cap_machine.specs.Code.Cells.Kind.{kind_of_cell, rights_of_cell, cell_of_kind};
 
 use crate::cell::{Cell, OnExec};
 use cap_rights::RightSet;

@@ -24,11 +24,11 @@ pub(crate) struct Leaf<const N: usize> {
 }
 
 impl<const N: usize> Leaf<N> {
-    ghost use Rattle.cap_machine.specs.Cells.Parts.{in_leaf};
-    ghost use Rattle.cap_machine.specs.MayHave.{may_have};
+    ghost use Rattle.cap_machine.specs.Code.Cells.Parts.{in_leaf};
+    ghost use Rattle.cap_machine.specs.Code.MayHave.{may_have};
 
     /// The cell at a place.
-    #[tactic(auto, unfolding(crate::specs::Cells::Parts::in_leaf))]
+    #[tactic(auto, unfolding(crate::specs::Code::Cells::Parts::in_leaf))]
     fn at(&self, place: usize) -> Cell
         requires { place < N }
         ensures { result ≡ in_leaf self.now place }
@@ -37,7 +37,7 @@ impl<const N: usize> Leaf<N> {
     }
 
     /// Whether the cell at a place is known to have these rights, or nothing is known of it.
-    #[tactic(auto, unfolding(crate::specs::Cells::Parts::in_leaf))]
+    #[tactic(auto, unfolding(crate::specs::Code::Cells::Parts::in_leaf))]
     #[inline(always)]
     pub(crate) fn may_have(&self, place: usize, needs: &RightSet) -> bool
         requires { place < N }
@@ -61,13 +61,13 @@ impl<const N: usize> Leaf<N> {
 }
 
 impl<const N: usize> Subtree for Leaf<N> {
-    ghost use Rattle.cap_machine.specs.Cells.Parts.{in_leaf};
+    ghost use Rattle.cap_machine.specs.Code.Cells.Parts.{in_leaf};
 
     ghost cell_at = { in_leaf };
 
     ghost has = { λ f. f < N };
 
-    #[tactic(auto, unfolding(crate::specs::Cells::Parts::in_leaf))]
+    #[tactic(auto, unfolding(crate::specs::Code::Cells::Parts::in_leaf))]
     fn all(_alloc: Global, cell: Cell) -> Result<Leaf<N>, NoMemory> {
         Ok(Leaf {
             rights: [rights_of(&cell); N],

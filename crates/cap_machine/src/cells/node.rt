@@ -3,7 +3,7 @@
 ghost use Rattle.std.specs.Prelude.{◌≡◌, ℕ, ◌<◌, ◌/◌, ◌%◌, IfOk, nat_le, if◌then◌else◌, slice_get};
 ghost use Rattle.std.specs.List.{slice_index_or};
 ghost use Rattle.std.specs.Option.{option_map_or};
-ghost use Rattle.cap_machine.specs.Cells.Deferred.{with_deferred};
+ghost use Rattle.cap_machine.specs.Code.Cells.Deferred.{with_deferred};
 
 use crate::cell::Cell;
 use crate::cells::deferred::Deferred;
@@ -23,7 +23,7 @@ pub(crate) struct Node<T, const WIDTH: usize> {
 }
 
 impl<T: Subtree, const WIDTH: usize> Clone for Node<T, WIDTH> {
-    ghost use Rattle.cap_machine.specs.Cells.Parts.{in_node};
+    ghost use Rattle.cap_machine.specs.Code.Cells.Parts.{in_node};
 
     ghost is_clone = { λ a b. (f : ℕ) → in_node T.cell_at WIDTH b f ≡ in_node T.cell_at WIDTH a f };
 
@@ -74,7 +74,7 @@ fn close_all(deferred: &mut [Deferred; 8], from: usize)
 }
 
 impl<T: Subtree, const WIDTH: usize> Subtree for Node<T, WIDTH> {
-    ghost use Rattle.cap_machine.specs.Cells.Parts.{in_node};
+    ghost use Rattle.cap_machine.specs.Code.Cells.Parts.{in_node};
 
     ghost cell_at = { in_node T.cell_at WIDTH };
 
@@ -100,7 +100,7 @@ impl<T: Subtree, const WIDTH: usize> Subtree for Node<T, WIDTH> {
         Ok(())
     }
 
-    #[tactic(auto, unfolding(crate::specs::Cells::Parts::in_node))]
+    #[tactic(auto, unfolding(crate::specs::Code::Cells::Parts::in_node))]
     fn apply_deferred(&mut self, deferred: Deferred) {
         defer_to_parts(&mut self.deferred, deferred);
     }

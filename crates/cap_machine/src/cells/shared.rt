@@ -1,7 +1,7 @@
 //! A part of the tree that processes share until one of them writes to it.
 
 ghost use Rattle.std.specs.Prelude.{◌≡◌, ℕ, OnOk, IfOk, IfSome, ◌==◌, nat_le, if◌then◌else◌};
-ghost use Rattle.cap_machine.specs.Cells.Deferred.{with_deferred};
+ghost use Rattle.cap_machine.specs.Code.Cells.Deferred.{with_deferred};
 
 use crate::cell::Cell;
 use crate::cells::deferred::Deferred;
@@ -74,10 +74,10 @@ impl<T: Drop> Shared<T> {
 }
 
 impl<T: Subtree> Shared<T> {
-    ghost use Rattle.cap_machine.specs.Cells.Parts.{in_shared};
+    ghost use Rattle.cap_machine.specs.Code.Cells.Parts.{in_shared};
 
     /// The part, where nothing is deferred.
-    #[tactic(auto, unfolding(crate::specs::Cells::Parts::in_shared))]
+    #[tactic(auto, unfolding(crate::specs::Code::Cells::Parts::in_shared))]
     #[inline(always)]
     pub(crate) fn up_to_date(&self) -> Option<&T>
         ensures { IfSome result (λ part. (f : ℕ) → T.cell_at part.now f ≡ in_shared T.cell_at self.now f) }
@@ -90,11 +90,11 @@ impl<T: Subtree> Shared<T> {
 }
 
 impl<T: Subtree> Clone for Shared<T> {
-    ghost use Rattle.cap_machine.specs.Cells.Parts.{in_shared};
+    ghost use Rattle.cap_machine.specs.Code.Cells.Parts.{in_shared};
 
     ghost is_clone = { λ a b. (f : ℕ) → in_shared T.cell_at b f ≡ in_shared T.cell_at a f };
 
-    #[tactic(auto, unfolding(crate::specs::Cells::Parts::in_shared))]
+    #[tactic(auto, unfolding(crate::specs::Code::Cells::Parts::in_shared))]
     fn clone(&self) -> Result<Shared<T>, AllocError> {
         Ok(Shared {
             deferred: self.deferred,
@@ -104,13 +104,13 @@ impl<T: Subtree> Clone for Shared<T> {
 }
 
 impl<T: Subtree> Subtree for Shared<T> {
-    ghost use Rattle.cap_machine.specs.Cells.Parts.{in_shared};
+    ghost use Rattle.cap_machine.specs.Code.Cells.Parts.{in_shared};
 
     ghost cell_at = { in_shared T.cell_at };
 
     ghost has = { T.has };
 
-    #[tactic(auto, unfolding(crate::specs::Cells::Parts::in_shared))]
+    #[tactic(auto, unfolding(crate::specs::Code::Cells::Parts::in_shared))]
     fn all(alloc: Global, cell: Cell) -> Result<Shared<T>, NoMemory> {
         Ok(Shared {
             deferred: Deferred::Nothing,
@@ -118,14 +118,14 @@ impl<T: Subtree> Subtree for Shared<T> {
         })
     }
 
-    #[tactic(auto, unfolding(crate::specs::Cells::Parts::in_shared))]
+    #[tactic(auto, unfolding(crate::specs::Code::Cells::Parts::in_shared))]
     fn cell(&self, fd: usize) -> Cell {
         self.deferred.on(self.part.cell(fd))
     }
 
     // In place where nobody else has the part and nothing is deferred; else `write_part`, which would do the same
     // there, after it made the part its own and did what was deferred.
-    #[tactic(auto, unfolding(crate::specs::Cells::Parts::in_shared))]
+    #[tactic(auto, unfolding(crate::specs::Code::Cells::Parts::in_shared))]
     #[inline(always)]
     fn write(&mut self, fd: usize, cell: Cell) -> Result<(), NoMemory> {
         if let Deferred::Nothing = self.deferred {
@@ -138,12 +138,12 @@ impl<T: Subtree> Subtree for Shared<T> {
         Ok(())
     }
 
-    #[tactic(auto, unfolding(crate::specs::Cells::Parts::in_shared))]
+    #[tactic(auto, unfolding(crate::specs::Code::Cells::Parts::in_shared))]
     fn apply_deferred(&mut self, deferred: Deferred) {
         self.deferred = deferred.after(self.deferred);
     }
 
-    #[tactic(auto, unfolding(crate::specs::Cells::Parts::in_shared))]
+    #[tactic(auto, unfolding(crate::specs::Code::Cells::Parts::in_shared))]
     fn close_from(&mut self, fd: usize) -> Result<(), NoMemory> {
         close_part(&mut self.part, self.deferred, fd)?;
         self.deferred = Deferred::Nothing;

@@ -3,8 +3,8 @@
 ghost use Rattle.std.specs.Prelude.{◌≡◌, ℕ, ◌≤◌, IfOk, OnOk, ◌==◌, ◌||◌, nat_le, if◌then◌else◌, false};
 ghost use Rattle.std.specs.List.{list_any};
 ghost use Rattle.cap_rights.specs.Rights.{all};
-ghost use Rattle.cap_machine.specs.Cells.Deferred.{with_deferred};
-ghost use Rattle.cap_machine.specs.Cells.Started.{is_listed, in_started};
+ghost use Rattle.cap_machine.specs.Code.Cells.Deferred.{with_deferred};
+ghost use Rattle.cap_machine.specs.Code.Cells.Started.{is_listed, in_started};
 
 use crate::cell::{Cell, OnExec};
 use crate::cells::deferred::Deferred;

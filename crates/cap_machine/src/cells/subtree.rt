@@ -2,7 +2,7 @@
 //! node and a shared part keep them.
 
 ghost use Rattle.std.specs.Prelude.{◌≡◌, ℕ, OnOk, IfOk, ◌==◌, nat_le, if◌then◌else◌};
-ghost use Rattle.cap_machine.specs.Cells.Deferred.{with_deferred};
+ghost use Rattle.cap_machine.specs.Code.Cells.Deferred.{with_deferred};
 
 use crate::cell::Cell;
 use crate::cells::deferred::Deferred;

@@ -2,9 +2,9 @@
 //! tree.
 
 ghost use Rattle.std.specs.Prelude.{◌≡◌, ℕ, OnOk, IfOk, IsFalse, ◌==◌, nat_le, if◌then◌else◌};
-ghost use Rattle.cap_machine.specs.Cells.Deferred.{with_deferred};
-ghost use Rattle.cap_machine.specs.Cells.Kind.{cell_of_kind};
-ghost use Rattle.cap_machine.specs.Cells.WrittenCells.{written, in_written_cells};
+ghost use Rattle.cap_machine.specs.Code.Cells.Deferred.{with_deferred};
+ghost use Rattle.cap_machine.specs.Code.Cells.Kind.{cell_of_kind};
+ghost use Rattle.cap_machine.specs.Code.Cells.WrittenCells.{written, in_written_cells};
 
 use crate::cell::Cell;
 use crate::cells::deferred::Deferred;
@@ -104,7 +104,7 @@ impl WrittenCells {
     }
 
     /// Lists one more.
-    #[tactic(auto, using(crate::proofs::WrittenCells::after_more, crate::specs::Cells::Kind::kept_cell))]
+    #[tactic(auto, using(crate::proofs::WrittenCells::after_more, crate::specs::Code::Cells::Kind::kept_cell))]
     fn list(&mut self, fd: Fd, cell: Cell) -> Result<(), NoMemory>
         ensures { OnOk result
             ((c : Cell) (f : ℕ) → in_written_cells self.new c f

@@ -3,7 +3,7 @@
 ghost use Rattle.std.specs.Prelude.{◌≡◌, ℕ, OnOk, IfOk, ◌==◌, ◌≤◌, true, false, nat_le, if◌then◌else◌};
 ghost use Rattle.cap_rights.specs.Rights.{join};
 ghost use Rattle.cap_machine.specs.declared.cell.OnExec.{OnExec};
-ghost use Rattle.cap_machine.specs.Wanted.{flag_rights, rights_of, HasFrom};
+ghost use Rattle.cap_machine.specs.Code.Wanted.{flag_rights, rights_of, HasFrom};
 
 use crate::cell::OnExec;
 use cap_rights::{NoMemory, RightSet};

@@ -4,8 +4,8 @@ ghost use Rattle.std.specs.Prelude.{◌≡◌, ℕ, OnOk, IfOk, nat_le, if◌the
 ghost use Rattle.cap_rights.specs.Rights.{join};
 ghost use Rattle.cap_machine.specs.declared.cell.OnExec.{OnExec};
 ghost use Rattle.cap_machine.specs.Op.{held_op, exec};
-ghost use Rattle.cap_machine.specs.Wanted.{rights_of, flag_rights, wanted_of, back_through, wanted_without, wanted_with};
-ghost use Rattle.cap_machine.specs.Wanted.{undone, unblocked, earlier, with_requirement, blocked_with};
+ghost use Rattle.cap_machine.specs.Code.Wanted.{rights_of, flag_rights, wanted_of, back_through, wanted_without, wanted_with};
+ghost use Rattle.cap_machine.specs.Code.Wanted.{undone, unblocked, earlier, with_requirement, blocked_with};
 
 use crate::cell::{HeldOp, OnExec, Op};
 use crate::live::fd_rights::{ByFlag, FdRights};

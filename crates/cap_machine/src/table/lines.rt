@@ -15,7 +15,7 @@ ghost use Rattle.cap_machine.specs.Effect.{FitsMade};
 ghost use Rattle.cap_machine.specs.Rule.{requirement, call_requirement, check_of, reply};
 ghost use Rattle.cap_machine.specs.Judge.{fault};
 ghost use Rattle.cap_machine.specs.Check.{findings_of};
-ghost use Rattle.cap_machine.specs.Table.{cell_of, state_of, Keeps, step_after, touched_by};
+ghost use Rattle.cap_machine.specs.Code.Table.{cell_of, state_of, Keeps, step_after, touched_by};
 
 use crate::cell::{Cell, Mode, Profile, without_full_of};
 use crate::cells::LOW_FDS;

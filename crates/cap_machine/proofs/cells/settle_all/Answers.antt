@@ -1,9 +1,9 @@
 use Rattle.std.proofs.Common.{rules, ap, sym, ◌∙◌}
 use Rattle.cap_machine.specs.declared.cell.Cell.{Cell}
-use Rattle.cap_machine.specs.Cells.Parts.{in_shared}
-use Rattle.cap_machine.specs.Cells.Cells1M.{in_cells_1m}
-use Rattle.cap_machine.specs.Cells.Started.{in_started}
-use Rattle.cap_machine.specs.Cells.WrittenCells.{written}
+use Rattle.cap_machine.specs.Code.Cells.Parts.{in_shared}
+use Rattle.cap_machine.specs.Code.Cells.Cells1M.{in_cells_1m}
+use Rattle.cap_machine.specs.Code.Cells.Started.{in_started}
+use Rattle.cap_machine.specs.Code.Cells.WrittenCells.{written}
 use Rattle.cap_machine.proofs.WrittenCells.{after_next}
 use Rattle.cap_machine.proofs.cells.settle_all.Goals as goal
 

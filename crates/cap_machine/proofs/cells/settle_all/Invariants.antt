@@ -1,9 +1,9 @@
 use Rattle.std.proofs.Common.{◌≡◌, ℕ, take}
 use Rattle.cap_trace.specs.Entry.{IsFd}
-use Rattle.cap_machine.specs.Cells.Parts.{in_shared}
-use Rattle.cap_machine.specs.Cells.Cells1M.{in_cells_1m}
-use Rattle.cap_machine.specs.Cells.Started.{in_started}
-use Rattle.cap_machine.specs.Cells.WrittenCells.{after_writes}
+use Rattle.cap_machine.specs.Code.Cells.Parts.{in_shared}
+use Rattle.cap_machine.specs.Code.Cells.Cells1M.{in_cells_1m}
+use Rattle.cap_machine.specs.Code.Cells.Started.{in_started}
+use Rattle.cap_machine.specs.Code.Cells.WrittenCells.{after_writes}
 use Rattle.cap_machine.proofs.cells.settle_all.Given as goal
 
 abbrev pub invariant-loop-one : goal.invariant-loop-one

@@ -1,7 +1,7 @@
 use Rattle.std.proofs.Common.{arith, refl, rules}
 use Rattle.cap_machine.specs.Check.{said, found_at}
 use Rattle.cap_machine.specs.Laws.{later}
-use Rattle.cap_machine.specs.Table.{start_state}
+use Rattle.cap_machine.specs.State.{start_state}
 use Rattle.cap_machine.proofs.OneMore.{told_line}
 use Rattle.cap_machine.proofs.checking.check.Goals as goal
 

@@ -1,7 +1,7 @@
 use Rattle.std.proofs.Common.{arith, refl, rules}
 use Rattle.cap_machine.specs.Denials.{denied, denied_at}
 use Rattle.cap_machine.specs.DenialLaws.{denied_later}
-use Rattle.cap_machine.specs.Table.{start_state}
+use Rattle.cap_machine.specs.State.{start_state}
 use Rattle.cap_machine.proofs.OneMore.{told_line}
 use Rattle.cap_machine.proofs.denying.denials.Goals as goal
 

@@ -1,6 +1,6 @@
 use Rattle.std.proofs.Common.{take}
 use Rattle.cap_machine.specs.Denials.{denied, denied_at}
-use Rattle.cap_machine.specs.Table.{start_state}
+use Rattle.cap_machine.specs.State.{start_state}
 use Rattle.cap_machine.proofs.OneMore.{IsTold}
 use Rattle.cap_machine.proofs.denying.denials.Given as goal
 

@@ -2,10 +2,11 @@ use Rattle.std.proofs.Common.{◌≡◌, List, map, sym, subst}
 use Rattle.std.specs.List.{All}
 use Rattle.std.proofs.lemmas.Grind.{common_steps}
 use Rattle.std.proofs.Common.{arith}
-use Rattle.cap_machine.specs.LimitLaws.{Row, IsLimit}
-use Rattle.cap_machine.specs.Table.{start_state}
-use Rattle.cap_machine.specs.Wanted.{wanted}
-use Rattle.cap_machine.specs.Limits.{row_of, held_rows}
+use Rattle.cap_machine.specs.Limits.{Row, IsLimit}
+use Rattle.cap_machine.specs.State.{start_state}
+use Rattle.cap_machine.specs.Code.Wanted.{wanted}
+use Rattle.cap_machine.specs.Limits.{row_of}
+use Rattle.cap_machine.specs.Code.Rows.{held_rows}
 use Rattle.cap_machine.proofs.RowOrder.{in_order}
 use Rattle.cap_machine.proofs.LeastRows.{rows_are, rows_in_order}
 use Rattle.cap_machine.proofs.limit.limits_among.Goals as goal

@@ -1,9 +1,10 @@
 use Rattle.std.proofs.Common.{◌≡◌, ◌<◌, ◌^◌, ◌++◌, map, length}
 use Rattle.std.specs.List.{All}
 use Rattle.cap_machine.specs.declared.limit.Limit.{Limit}
-use Rattle.cap_machine.specs.Table.{start_state}
-use Rattle.cap_machine.specs.Wanted.{wanted}
-use Rattle.cap_machine.specs.Limits.{row_of, held_rows}
+use Rattle.cap_machine.specs.State.{start_state}
+use Rattle.cap_machine.specs.Code.Wanted.{wanted}
+use Rattle.cap_machine.specs.Limits.{row_of}
+use Rattle.cap_machine.specs.Code.Rows.{held_rows}
 use Rattle.cap_machine.proofs.limit.limits_among.Given as goal
 
 abbrev pub invariant-loop-fd : goal.invariant-loop-fd

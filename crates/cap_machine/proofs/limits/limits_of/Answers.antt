@@ -5,13 +5,13 @@ use Rattle.cap_machine.specs.declared.step.Step.{Step}
 use Rattle.cap_machine.specs.State.{State}
 use Rattle.cap_machine.specs.Steps.{steps}
 use Rattle.cap_machine.specs.History.{ended}
-use Rattle.cap_machine.specs.Table.{start_state}
-use Rattle.cap_machine.specs.LimitLaws.{Row, IsLimit}
+use Rattle.cap_machine.specs.State.{start_state}
+use Rattle.cap_machine.specs.Limits.{Row, IsLimit}
 use Rattle.cap_machine.specs.Limits.{row_of, IsEntering}
 use Rattle.cap_machine.specs.LimitsBefore.{rows_name, IsUnknownLimit}
 use Rattle.cap_machine.specs.Standing.{IsHeld}
-use Rattle.cap_machine.specs.Wanted.{rights_of, wanted}
-use Rattle.cap_machine.specs.Unknown.{unknown_rows, AreUnknownRows}
+use Rattle.cap_machine.specs.Code.Wanted.{rights_of, wanted}
+use Rattle.cap_machine.specs.Code.Unknown.{unknown_rows, AreUnknownRows}
 use Rattle.cap_machine.proofs.RowOrder.{in_order}
 use Rattle.cap_machine.proofs.UnknownRows.{rows_are, rows_in_order, unknown_are}
 use Rattle.std.specs.List.{All}

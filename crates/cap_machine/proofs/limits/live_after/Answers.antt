@@ -4,7 +4,7 @@ use Rattle.std.proofs.lemmas.List.{append-nil}
 use Rattle.cap_trace.specs.Entry.{Entry}
 use Rattle.cap_machine.specs.declared.step.Step.{Step}
 use Rattle.cap_machine.specs.Steps.{step, steps}
-use Rattle.cap_machine.specs.LiveRights.{AreBlocked}
+use Rattle.cap_machine.specs.Code.LiveRights.{AreBlocked}
 use Rattle.cap_machine.proofs.OneMore.{steps-more}
 use Rattle.cap_machine.proofs.limits.live_after.Goals as goal
 

@@ -1,7 +1,7 @@
 use Rattle.std.proofs.Common.{◌≡◌, List, ◌+◌, ◌++◌, ◌≤◌, length}
 use Rattle.cap_machine.specs.declared.step.Step.{Step}
 use Rattle.cap_machine.specs.Steps.{steps}
-use Rattle.cap_machine.specs.LiveRights.{AreLive, AreBlocked}
+use Rattle.cap_machine.specs.Code.LiveRights.{AreLive, AreBlocked}
 use Rattle.cap_machine.proofs.limits.live_after.Given as goal
 
 abbrev pub invariant-loop-line : goal.invariant-loop-line

@@ -4,7 +4,7 @@ use Rattle.cap_machine.specs.declared.step.Step.{Step}
 use Rattle.cap_machine.specs.Steps.{step, steps}
 use Rattle.cap_machine.specs.State.{State}
 use Rattle.cap_machine.specs.History.{ended}
-use Rattle.cap_machine.specs.Table.{start_state}
+use Rattle.cap_machine.specs.State.{start_state}
 use Rattle.cap_machine.proofs.Turns.{ends_more}
 use Rattle.cap_machine.proofs.OneMore.{steps_taken}
 use Rattle.cap_machine.proofs.limits.machine_after.Goals as goal

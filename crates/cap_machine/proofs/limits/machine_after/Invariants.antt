@@ -1,7 +1,7 @@
 use Rattle.std.proofs.Common.{◌≡◌, take}
 use Rattle.cap_machine.specs.Steps.{steps}
 use Rattle.cap_machine.specs.History.{ended}
-use Rattle.cap_machine.specs.Table.{start_state}
+use Rattle.cap_machine.specs.State.{start_state}
 use Rattle.cap_machine.proofs.limits.machine_after.Given as goal
 
 abbrev pub invariant-loop-line : goal.invariant-loop-line

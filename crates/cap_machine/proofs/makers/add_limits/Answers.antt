@@ -5,7 +5,7 @@ use Rattle.cap_machine.specs.declared.cell.Cell.{Cell}
 use Rattle.cap_machine.specs.declared.makers.Made.{Made}
 use Rattle.cap_machine.specs.declared.makers.MakerLimit.{MakerLimit}
 use Rattle.cap_machine.specs.Makers.{listed_made, cells_made, maker_row, maker_rows}
-use Rattle.cap_machine.specs.Wanted.{wanted}
+use Rattle.cap_machine.specs.Code.Wanted.{wanted}
 use Rattle.cap_machine.proofs.MakerLimits.{both_rows}
 use Rattle.cap_machine.proofs.makers.add_limits.Goals as goal
 

@@ -6,8 +6,8 @@ use Rattle.cap_machine.specs.declared.makers.MakerLimit.{MakerLimit}
 use Rattle.cap_machine.specs.Steps.{step, steps}
 use Rattle.cap_machine.specs.State.{State}
 use Rattle.cap_machine.specs.History.{ended}
-use Rattle.cap_machine.specs.Table.{start_state}
-use Rattle.cap_machine.specs.Wanted.{wanted}
+use Rattle.cap_machine.specs.State.{start_state}
+use Rattle.cap_machine.specs.Code.Wanted.{wanted}
 use Rattle.cap_machine.specs.Makers.{cells_along, AreMakerLimits}
 use Rattle.cap_machine.proofs.OneMore.{steps-more}
 use Rattle.cap_machine.proofs.MakerLimits.{cells_more, maker_step}

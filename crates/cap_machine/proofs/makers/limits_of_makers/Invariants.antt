@@ -2,8 +2,8 @@ use Rattle.std.proofs.Common.{◌≡◌, List, ◌+◌, ◌++◌, length}
 use Rattle.cap_machine.specs.declared.step.Step.{Step}
 use Rattle.cap_machine.specs.Steps.{steps}
 use Rattle.cap_machine.specs.History.{ended}
-use Rattle.cap_machine.specs.Table.{start_state}
-use Rattle.cap_machine.specs.LiveRights.{AreLive}
+use Rattle.cap_machine.specs.State.{start_state}
+use Rattle.cap_machine.specs.Code.LiveRights.{AreLive}
 use Rattle.cap_machine.specs.Makers.{cells_along, AreMakerLimits}
 use Rattle.cap_machine.proofs.makers.limits_of_makers.Given as goal
 

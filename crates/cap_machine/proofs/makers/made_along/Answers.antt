@@ -5,7 +5,7 @@ use Rattle.cap_machine.specs.declared.cell.Cell.{Cell}
 use Rattle.cap_machine.specs.Steps.{step, steps}
 use Rattle.cap_machine.specs.State.{State}
 use Rattle.cap_machine.specs.History.{ended}
-use Rattle.cap_machine.specs.Table.{start_state}
+use Rattle.cap_machine.specs.State.{start_state}
 use Rattle.cap_machine.specs.Makers.{cells_along, cells_made, made_fds}
 use Rattle.cap_machine.proofs.Turns.{ends_more}
 use Rattle.cap_machine.proofs.OneMore.{steps_taken}

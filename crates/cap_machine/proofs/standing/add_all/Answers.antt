@@ -2,7 +2,7 @@ use Rattle.std.proofs.Common.{◌==◌, ◌||◌, Bool, ap, ◌∙◌, arith, ge
 use Rattle.std.proofs.lemmas.Grind.{common_steps}
 use Rattle.std.proofs.lemmas.List.Folds.{list_any_more}
 use Rattle.std.specs.List.{list_any}
-use Rattle.cap_machine.specs.Standing.{has_fd}
+use Rattle.cap_machine.specs.Code.Singles.{has_fd}
 use Rattle.cap_machine.proofs.StandingBack.{one_added}
 use Rattle.cap_machine.proofs.standing.add_all.Goals as goal
 

@@ -1,6 +1,6 @@
 use Rattle.std.proofs.Common.{◌≡◌, ℕ, ◌==◌, ◌||◌, take}
 use Rattle.std.specs.List.{list_any}
-use Rattle.cap_machine.specs.Standing.{has_fd}
+use Rattle.cap_machine.specs.Code.Singles.{has_fd}
 use Rattle.cap_machine.proofs.standing.add_all.Given as goal
 
 abbrev pub invariant-loop-fd : goal.invariant-loop-fd

@@ -6,10 +6,10 @@ use Rattle.cap_machine.specs.declared.step.Step.{Step}
 use Rattle.cap_machine.specs.declared.rule.Effect.{Effect}
 use Rattle.cap_machine.specs.State.{State}
 use Rattle.cap_machine.specs.Steps.{step, steps}
-use Rattle.cap_machine.specs.Table.{start_state}
+use Rattle.cap_machine.specs.State.{start_state}
 use Rattle.cap_machine.specs.Touch.{touch}
 use Rattle.cap_machine.specs.Effect.{effect_touch}
-use Rattle.cap_machine.specs.Standing.{has_fd}
+use Rattle.cap_machine.specs.Code.Singles.{has_fd}
 use Rattle.cap_machine.proofs.OneMore.{steps-more}
 use Rattle.cap_machine.proofs.StandingBack.{SoFar, over_line}
 use Rattle.cap_machine.proofs.standing.standing_fds.Goals as goal

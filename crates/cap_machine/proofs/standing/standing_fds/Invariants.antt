@@ -1,7 +1,7 @@
 use Rattle.std.proofs.Common.{ℕ, reverse, length}
 use Rattle.cap_machine.specs.Steps.{steps}
-use Rattle.cap_machine.specs.Table.{start_state}
-use Rattle.cap_machine.specs.Standing.{has_fd}
+use Rattle.cap_machine.specs.State.{start_state}
+use Rattle.cap_machine.specs.Code.Singles.{has_fd}
 use Rattle.cap_machine.proofs.StandingBack.{SoFar}
 use Rattle.cap_machine.proofs.standing.standing_fds.Given as goal
 

@@ -1,7 +1,7 @@
 use Rattle.std.proofs.Common.{◌≡◌, ℕ, ◌==◌, ◌||◌, take}
 use Rattle.std.specs.List.{list_any}
 use Rattle.cap_machine.specs.declared.cell.Cell.{Cell}
-use Rattle.cap_machine.specs.Standing.{has_fd}
+use Rattle.cap_machine.specs.Code.Singles.{has_fd}
 use Rattle.cap_machine.proofs.start.add_listed.Given as goal
 
 abbrev pub invariant-loop-entry : goal.invariant-loop-entry

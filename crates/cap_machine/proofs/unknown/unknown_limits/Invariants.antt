@@ -2,9 +2,9 @@ use Rattle.std.proofs.Common.{◌≡◌, ◌<◌, ◌^◌, ◌++◌, map}
 use Rattle.std.specs.List.{All}
 use Rattle.std.specs.BTreeMap.{btree_map_len}
 use Rattle.cap_machine.specs.declared.limit.Limit.{Limit}
-use Rattle.cap_machine.specs.Table.{start_state}
+use Rattle.cap_machine.specs.State.{start_state}
 use Rattle.cap_machine.specs.Limits.{row_of}
-use Rattle.cap_machine.specs.Unknown.{unknown_rows}
+use Rattle.cap_machine.specs.Code.Unknown.{unknown_rows}
 use Rattle.cap_machine.proofs.unknown.unknown_limits.Given as goal
 
 abbrev pub invariant-loop-entry : goal.invariant-loop-entry

@@ -3,7 +3,7 @@ use Rattle.std.proofs.lemmas.List.{reverse-append}
 use Rattle.cap_machine.specs.declared.cell.Cell.{Cell}
 use Rattle.cap_machine.specs.declared.provenance.CellLink.{CellLink}
 use Rattle.cap_machine.specs.declared.walks.Passage.{Passage}
-use Rattle.cap_machine.specs.Passages.{cell_along, links_along}
+use Rattle.cap_machine.specs.Code.Passages.{cell_along, links_along}
 use Rattle.cap_machine.proofs.Passages.{cell_along-oldest, one_more_named}
 use Rattle.cap_machine.proofs.walks.named_links.Goals as goal
 use Rattle.cap_machine.proofs.walks.named_links.Goals.{then-not-is_idle+in_ok-push, else-not-is_idle}

@@ -1,5 +1,5 @@
 use Rattle.std.proofs.Common.{◌≡◌, ◌++◌, length, reverse}
-use Rattle.cap_machine.specs.Passages.{cell_along, links_along}
+use Rattle.cap_machine.specs.Code.Passages.{cell_along, links_along}
 use Rattle.cap_machine.proofs.walks.named_links.Given as goal
 
 abbrev pub invariant-loop-passage : goal.invariant-loop-passage

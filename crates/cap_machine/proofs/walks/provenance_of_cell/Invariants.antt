@@ -1,8 +1,8 @@
 use Rattle.std.proofs.Common.{◌≡◌, length}
 use Rattle.cap_machine.specs.History.{cell_after}
-use Rattle.cap_machine.specs.Table.{start_state}
+use Rattle.cap_machine.specs.State.{start_state}
 use Rattle.cap_machine.specs.Provenance.{cell_chain}
-use Rattle.cap_machine.specs.Walks.{cell_known, cell_found}
+use Rattle.cap_machine.specs.Code.Walks.{cell_known, cell_found}
 use Rattle.cap_machine.proofs.Provenances.{back}
 use Rattle.cap_machine.proofs.walks.provenance_of_cell.Given as goal
 

@@ -1,8 +1,8 @@
 use Rattle.std.proofs.Common.{◌≡◌, length}
 use Rattle.cap_machine.specs.History.{mode_after}
-use Rattle.cap_machine.specs.Table.{start_state}
+use Rattle.cap_machine.specs.State.{start_state}
 use Rattle.cap_machine.specs.Provenance.{mode_chain}
-use Rattle.cap_machine.specs.Walks.{mode_known, mode_found}
+use Rattle.cap_machine.specs.Code.Walks.{mode_known, mode_found}
 use Rattle.cap_machine.proofs.Provenances.{back}
 use Rattle.cap_machine.proofs.walks.provenance_of_mode.Given as goal
 

@@ -3,7 +3,7 @@ use Rattle.cap_machine.specs.declared.cell.Profile.{Profile}
 use Rattle.cap_machine.specs.declared.question.Question.TheVariants.{Findings}
 use Rattle.cap_machine.specs.State.{usual}
 use Rattle.cap_session.specs.AnswerStreams.{of_trace}
-use Rattle.cap_session.specs.Traced.{Setting}
+use Rattle.cap_session.specs.Code.Traced.{Setting}
 use Rattle.cap_session.proofs.AnswersTrace.{nothing_read, not_loaded, first_rejected}
 use Rattle.cap_session.proofs.Rejecting.{script_taken}
 use Rattle.cap_session.proofs.editing.edit_stream_as.Goals as goal

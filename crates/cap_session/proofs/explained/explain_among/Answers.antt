@@ -2,7 +2,7 @@ use Rattle.std.proofs.Common.{rules, ◌≡◌, List, ap, refl, sym, ◌∙◌, 
 use Rattle.cap_trace.specs.Entry.{Entry}
 use Rattle.cap_machine.specs.Explain.{explanation}
 use Rattle.cap_machine.specs.Steps.{steps}
-use Rattle.cap_machine.specs.Table.{start_state}
+use Rattle.cap_machine.specs.State.{start_state}
 use Rattle.cap_session.specs.Edits.{is_position}
 use Rattle.cap_session.proofs.Explains.{fits_line, has_line, has_no_line, is_clean}
 use Rattle.cap_session.proofs.explained.explain_among.Goals as goal

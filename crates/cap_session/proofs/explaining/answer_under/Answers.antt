@@ -1,10 +1,10 @@
 use Rattle.std.proofs.Common.{List, subst}
 use Rattle.cap_trace.specs.Entry.{Entry}
-use Rattle.cap_machine.specs.Table.{start_state}
+use Rattle.cap_machine.specs.State.{start_state}
 use Rattle.cap_machine.specs.declared.question.Question.TheVariants.{Findings}
 use Rattle.cap_session.specs.AnswerStreams.{of_trace}
-use Rattle.cap_session.specs.Queries.{query_says}
-use Rattle.cap_session.specs.Works.{WritesAnswer}
+use Rattle.cap_session.specs.Code.Queries.{query_says}
+use Rattle.cap_session.specs.Code.Works.{WritesAnswer}
 use Rattle.cap_session.proofs.AnswersTrace.{answered, answer_stopped}
 use Rattle.cap_session.proofs.explaining.answer_under.Goals as goal
 

@@ -1,6 +1,6 @@
 use Rattle.std.proofs.Common.{rules, List, ℕ, sym, subst}
 use Rattle.cap_session.specs.Outcome.{found}
-use Rattle.cap_session.specs.Queries.{query_says}
+use Rattle.cap_session.specs.Code.Queries.{query_says}
 use Rattle.cap_session.specs.declared.outcome.ExplainOutcome.TheVariants.{Ended}
 use Rattle.cap_session.proofs.AnswersTrace.{answer_written, none_written}
 use Rattle.cap_session.proofs.explaining.write_answer.Goals as goal

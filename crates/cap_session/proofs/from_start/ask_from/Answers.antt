@@ -1,4 +1,4 @@
-use Rattle.cap_machine.specs.Table.{start_state}
+use Rattle.cap_machine.specs.State.{start_state}
 use Rattle.cap_session.specs.Streams.{asked_says}
 use Rattle.cap_session.proofs.AnswersTrace.{nothing_read}
 use Rattle.cap_session.proofs.from_start.ask_from.Goals as goal

@@ -1,5 +1,5 @@
 use Rattle.std.proofs.Common.{[], subst, sym}
-use Rattle.cap_machine.specs.Checked.{IsAsked}
+use Rattle.cap_machine.specs.Code.Checked.{IsAsked}
 use Rattle.cap_machine.specs.declared.question.Question.{Question}
 use Rattle.cap_session.proofs.from_start.asked.Goals as goal
 

@@ -4,7 +4,7 @@ use Rattle.cap_trace.specs.Entry.{Entry}
 use Rattle.cap_machine.specs.declared.makers.MakerLimit.{MakerLimit}
 use Rattle.cap_machine.specs.Makers.{AreMakerLimits}
 use Rattle.cap_machine.specs.Steps.{step, steps}
-use Rattle.cap_machine.specs.Table.{start_state}
+use Rattle.cap_machine.specs.State.{start_state}
 use Rattle.cap_session.specs.LimitScripts.{maker_lines}
 use Rattle.cap_session.proofs.MakerPlaces.{places_below, makers_text_is}
 use Rattle.cap_session.proofs.limits_text.makers_text.Goals as goal

@@ -1,7 +1,7 @@
 use Rattle.std.proofs.Common.{eqb, take, sym, subst, arith, w8}
 use Rattle.std.proofs.lemmas.Simd.{bitmask_splat}
 use Rattle.std.proofs.lemmas.List.{length-take-le}
-use Rattle.cap_session.specs.LineEnds.{AreMarks}
+use Rattle.cap_session.specs.Code.LineEnds.{AreMarks}
 use Rattle.cap_session.proofs.LineMarks.{marked}
 use Rattle.cap_session.proofs.line_ends.marks_of.Goals as goal
 

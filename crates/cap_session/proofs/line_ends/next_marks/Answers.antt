@@ -1,6 +1,6 @@
 use Rattle.std.proofs.Common.{drop, subst, arith}
 use Rattle.std.proofs.lemmas.List.{take_rest}
-use Rattle.cap_session.specs.LineEnds.{AreMarks}
+use Rattle.cap_session.specs.Code.LineEnds.{AreMarks}
 use Rattle.cap_session.proofs.LineMarks.{none_in_block}
 use Rattle.cap_session.proofs.line_ends.next_marks.Goals as goal
 

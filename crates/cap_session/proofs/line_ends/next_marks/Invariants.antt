@@ -1,5 +1,5 @@
 use Rattle.std.proofs.Common.{◌≤◌, ◌-◌, length}
-use Rattle.cap_session.specs.LineEnds.{IsWithin}
+use Rattle.cap_session.specs.Code.LineEnds.{IsWithin}
 use Rattle.cap_session.proofs.line_ends.next_marks.Given as goal
 
 abbrev pub invariant-loop-from : goal.invariant-loop-from

@@ -2,10 +2,10 @@ use Rattle.std.proofs.Common.{◌≡◌, List, [], ◌∷◌, ◌++◌, ap, appe
 use Rattle.std.specs.Prelude.{IfOk}
 use Rattle.std.proofs.lemmas.List.{append-nil, map-append}
 use Rattle.cap_trace.specs.Entry.{Entry}
-use Rattle.cap_machine.specs.Checked.{HasDenied}
+use Rattle.cap_machine.specs.Code.Checked.{HasDenied}
 use Rattle.cap_machine.specs.DenialReport.{denial_report}
 use Rattle.cap_machine.specs.Steps.{steps}
-use Rattle.cap_machine.specs.Table.{start_state}
+use Rattle.cap_machine.specs.State.{start_state}
 use Rattle.cap_machine.specs.declared.question.Question.TheVariants.{Denials}
 use Rattle.cap_machine.specs.declared.step.Step.{Step}
 use Rattle.cap_session.specs.Session.{lines_of}

@@ -1,6 +1,6 @@
 use Rattle.std.proofs.Common.{◌≡◌, ◌++◌, List}
-use Rattle.cap_machine.specs.Checked.{HasDenied}
-use Rattle.cap_machine.specs.Table.{start_state}
+use Rattle.cap_machine.specs.Code.Checked.{HasDenied}
+use Rattle.cap_machine.specs.State.{start_state}
 use Rattle.cap_machine.specs.declared.step.Step.{Step}
 use Rattle.cap_session.specs.Session.{lines_of}
 use Rattle.cap_session.proofs.report.denials_of.Given as goal

@@ -2,7 +2,7 @@ use Rattle.std.proofs.Common.{sym, ap, ◌∙◌}
 use Rattle.std.proofs.lemmas.Result.{err_from_is_err_and}
 use Rattle.std.specs.Prelude.{List, ℕ}
 use Rattle.cap_session.specs.StartTexts.{cells_from}
-use Rattle.cap_session.specs.StartLines.{completed}
+use Rattle.cap_session.specs.Code.StartLines.{completed}
 use Rattle.cap_session.specs.StartWords.{words}
 use Rattle.cap_session.specs.declared.start_fields.Head.{Head}
 use Rattle.cap_session.proofs.Spelled.{taken, pid_is, mode_is, rest_is, others_are, bad_pid, bad_mode, bad_rest}

@@ -1,6 +1,6 @@
 use Rattle.std.proofs.lemmas.Result.{err_from_is_err_and}
 use Rattle.cap_session.specs.StartTexts.{Listed, none_listed, next_process, start_soon}
-use Rattle.cap_session.specs.StartLines.{Holds}
+use Rattle.cap_session.specs.Code.StartLines.{Holds}
 use Rattle.cap_session.specs.Texts.{whole_text}
 use Rattle.cap_session.specs.declared.start_text.StartParser.{StartParser}
 use Rattle.cap_session.proofs.StartReads.{stopped_as, start_kept}

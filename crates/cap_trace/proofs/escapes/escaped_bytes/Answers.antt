@@ -1,6 +1,6 @@
 use Rattle.std.proofs.Common.{◌++◌, ◌∙◌, ap, get_or, ℕ, List, sym}
 use Rattle.std.proofs.lemmas.List.{get_or_default, drop_all}
-use Rattle.cap_trace.specs.Escaping.{escaped}
+use Rattle.cap_trace.specs.Code.Escaping.{escaped}
 use Rattle.cap_trace.proofs.EscapedBytes.{escaped_more, escaped_end}
 use Rattle.cap_trace.proofs.escapes.escaped_bytes.Goals as goal
 

@@ -1,5 +1,5 @@
 use Rattle.std.proofs.Common.{not, ◌∙◌}
-use Rattle.cap_trace.specs.FlagSteps.{flag_step}
+use Rattle.cap_trace.specs.Code.FlagSteps.{flag_step}
 use Rattle.cap_trace.proofs.Bars.{are_words}
 use Rattle.cap_trace.proofs.Steps.{takes_stop, takes_more, takes_end}
 use Rattle.cap_trace.proofs.fields.names.Goals as goal

@@ -1,5 +1,5 @@
 use Rattle.std.proofs.Common.{◌≡◌, drop}
-use Rattle.cap_trace.specs.Making.{all_rise}
+use Rattle.cap_trace.specs.Code.Making.{all_rise}
 use Rattle.cap_trace.proofs.making.rise.Given as goal
 
 abbrev pub invariant-loop-fd : goal.invariant-loop-fd

@@ -5,7 +5,7 @@ use Rattle.std.specs.Str.{bytes_eq}
 use Rattle.cap_trace.specs.declared.calls.Form.{Form}
 use Rattle.cap_trace.specs.declared.names.Row as code
 use Rattle.cap_trace.specs.Names.{Row, row_of}
-use Rattle.cap_trace.specs.Rows.{table_row, in_table}
+use Rattle.cap_trace.specs.Code.Rows.{table_row, in_table}
 use Rattle.cap_trace.proofs.Heads.{some_is}
 use Rattle.cap_trace.proofs.InSlots.{named_is, this_named, odd_size_none}
 use Rattle.cap_trace.proofs.names.form_of.Goals as goal

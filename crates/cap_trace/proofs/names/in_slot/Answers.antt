@@ -2,8 +2,8 @@ use Rattle.std.proofs.Common.{◌∙◌, ap, ℕ}
 use Rattle.std.specs.List.{slice_get}
 use Rattle.std.specs.Option.{option_map}
 use Rattle.cap_trace.specs.Names.{all_forms}
-use Rattle.cap_trace.specs.Rows.{in_table}
-use Rattle.cap_trace.specs.Slots.{slots}
+use Rattle.cap_trace.specs.Code.Rows.{in_table}
+use Rattle.cap_trace.specs.Code.Slots.{slots}
 use Rattle.cap_trace.proofs.names.in_slot.Goals as goal
 
 pub returns : goal.returns

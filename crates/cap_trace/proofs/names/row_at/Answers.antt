@@ -4,7 +4,7 @@ use Rattle.std.specs.List.{slice_get}
 use Rattle.std.specs.Option.{option_map}
 use Rattle.std.specs.Slice.{IsItemAt}
 use Rattle.cap_trace.specs.declared.names.Row.{Row}
-use Rattle.cap_trace.specs.Rows.{table_row}
+use Rattle.cap_trace.specs.Code.Rows.{table_row}
 use Rattle.cap_trace.proofs.names.row_at.Goals as goal
 
 get_is : (xs : List Row) (i : ℕ) (r : Option (Bor Row)) → IsItemAt xs i r

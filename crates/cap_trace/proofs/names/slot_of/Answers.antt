@@ -1,6 +1,6 @@
 use Rattle.std.proofs.Common.{ℕ, ap, ◌∙◌, arith, ◌^◌}
 use Rattle.std.proofs.lemmas.Nat.{shr_below, mod_below}
-use Rattle.cap_trace.specs.Slots.{slot_by, first_word}
+use Rattle.cap_trace.specs.Code.Slots.{slot_by, first_word}
 use Rattle.cap_trace.proofs.names.slot_of.Goals as goal
 
 pub returns-clause-some : goal.returns-clause-some

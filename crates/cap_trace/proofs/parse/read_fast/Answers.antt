@@ -3,8 +3,8 @@ use Rattle.cap_trace.specs.declared.names.Head.{Head}
 use Rattle.cap_trace.specs.declared.calls.Form.{Form}
 use Rattle.cap_trace.specs.declared.calls.Form.TheVariants as forms
 use Rattle.cap_trace.specs.Names.{listed}
-use Rattle.cap_trace.specs.Rows.{head_view}
-use Rattle.cap_trace.specs.FastPath.{Starts}
+use Rattle.cap_trace.specs.Code.Rows.{head_view}
+use Rattle.cap_trace.specs.Code.FastPath.{Starts}
 use Rattle.cap_trace.proofs.FastPathLines.{read_so}
 use Rattle.cap_trace.proofs.parse.read_fast.Goals as goal
 

@@ -1,6 +1,6 @@
 use Rattle.std.proofs.Common.{◌++◌, ◌∙◌, ap, map, List}
 use Rattle.cap_trace.specs.declared.args.ArgRef.{ArgRef}
-use Rattle.cap_trace.specs.Writing.{shown_text, with_commas}
+use Rattle.cap_trace.specs.Code.Writing.{shown_text, with_commas}
 use Rattle.cap_trace.proofs.Written.{put_first, on_ok, rest_is}
 use Rattle.cap_trace.proofs.write.put_arguments.Goals as goal
 

@@ -2,7 +2,7 @@ use Rattle.std.proofs.Common.{◌++◌, ◌∙◌, ap, get_or, map, ℕ, List}
 use Rattle.std.specs.Fmt.{decimal}
 use Rattle.std.specs.List.{join_with_byte}
 use Rattle.std.proofs.lemmas.List.{get_or_default}
-use Rattle.cap_trace.specs.Writing.{with_commas}
+use Rattle.cap_trace.specs.Code.Writing.{with_commas}
 use Rattle.cap_trace.proofs.Written.{put_first, on_ok, rest_is, err_kept, fds_text}
 use Rattle.cap_trace.proofs.write.put_fds.Goals as goal
 

@@ -1,4 +1,4 @@
-use Rattle.cap_trace.specs.Writing.{shown_text, with_commas}
+use Rattle.cap_trace.specs.Code.Writing.{shown_text, with_commas}
 use Rattle.cap_trace.proofs.Written.{on_err, front_kept, put_more, put_none}
 use Rattle.std.proofs.Common.{◌++◌, ◌∙◌, ap, List, ℕ, append_assoc, ◌∷◌, [], map, take}
 use Rattle.cap_trace.proofs.write.put_others.Goals as goal

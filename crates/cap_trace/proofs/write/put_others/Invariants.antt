@@ -1,5 +1,5 @@
 use Rattle.std.proofs.Common.{◌≡◌, ◌++◌, map, take}
-use Rattle.cap_trace.specs.Writing.{shown_text, with_commas}
+use Rattle.cap_trace.specs.Code.Writing.{shown_text, with_commas}
 use Rattle.cap_trace.proofs.write.put_others.Given as goal
 
 abbrev pub invariant-loop-other : goal.invariant-loop-other

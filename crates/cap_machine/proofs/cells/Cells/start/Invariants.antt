@@ -1,6 +1,6 @@
 use Rattle.std.proofs.Common.{◌≡◌, ℕ, ◌<◌, ◌≤◌, take}
 use Rattle.cap_machine.specs.Touch.{started}
-use Rattle.cap_machine.specs.Cells.{cell_in_cells}
+use Rattle.cap_machine.specs.Code.Cells.{cell_in_cells}
 use Rattle.cap_machine.proofs.cells.Cells.start.Given as goal
 
 abbrev pub invariant-loop-fd : goal.invariant-loop-fd

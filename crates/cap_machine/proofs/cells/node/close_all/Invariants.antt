@@ -1,6 +1,6 @@
 use Rattle.std.proofs.Common.{◌≡◌, ℕ, ◌<◌, ◌&&◌, nat_le, nat_lt, length, if◌then◌else◌}
 use Rattle.std.specs.List.{slice_index_or}
-use Rattle.cap_machine.specs.Cells.Deferred.{with_deferred}
+use Rattle.cap_machine.specs.Code.Cells.Deferred.{with_deferred}
 use Rattle.cap_machine.specs.declared.cell.Cell.{Cell}
 use Rattle.cap_machine.specs.declared.cell.Cell.TheVariants.{Closed}
 use Rattle.cap_machine.specs.declared.cells.deferred.Deferred.TheVariants.{Nothing}

@@ -1,6 +1,7 @@
 use Rattle.std.proofs.Common.{ap, ◌∙◌}
 use Rattle.cap_machine.specs.State.{State}
-use Rattle.cap_machine.specs.Table.{start_state, state_of}
+use Rattle.cap_machine.specs.Code.Table.{state_of}
+use Rattle.cap_machine.specs.State.{start_state}
 use Rattle.cap_machine.proofs.OneMore.{state_kept, kept_state}
 use Rattle.cap_machine.proofs.checker.Checker.from_start.Goals as goal
 

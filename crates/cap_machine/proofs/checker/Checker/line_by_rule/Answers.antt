@@ -1,5 +1,5 @@
 use Rattle.std.proofs.Common.{◌+◌, refl, ap, sym, subst}
-use Rattle.cap_machine.specs.Checked.{CheckerState, IsAsked}
+use Rattle.cap_machine.specs.Code.Checked.{CheckerState, IsAsked}
 use Rattle.cap_machine.proofs.OneMore.{asked_more}
 use Rattle.cap_machine.proofs.checker.Checker.line_by_rule.Goals as goal
 

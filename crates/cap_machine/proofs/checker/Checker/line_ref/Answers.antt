@@ -1,8 +1,8 @@
 use Rattle.std.proofs.Common.{◌≡◌, ◌+◌, ◌++◌, arith, refl, sym, ap, subst, ◌∙◌}
 use Rattle.std.proofs.lemmas.List.{append-nil}
-use Rattle.cap_machine.specs.Checked.{CheckerState, IsAsked}
+use Rattle.cap_machine.specs.Code.Checked.{CheckerState, IsAsked}
 use Rattle.cap_machine.specs.Questions.{line_count, LineHasNoEntry}
-use Rattle.cap_machine.specs.Table.{state_of}
+use Rattle.cap_machine.specs.Code.Table.{state_of}
 use Rattle.cap_machine.proofs.OneMore.{asked_more, silent_count, silent_text}
 use Rattle.cap_machine.proofs.checker.Checker.line_ref.Goals as goal
 

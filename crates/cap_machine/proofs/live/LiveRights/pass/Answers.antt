@@ -2,7 +2,7 @@ use Rattle.std.proofs.Common.{◌∷◌, subst}
 use Rattle.std.proofs.lemmas.Result.{on_ok_weaker}
 use Rattle.cap_trace.specs.Entry.{Entry}
 use Rattle.cap_machine.specs.Steps.{step}
-use Rattle.cap_machine.specs.LiveRights.{AreLive, AreBlocked}
+use Rattle.cap_machine.specs.Code.LiveRights.{AreLive, AreBlocked}
 use Rattle.cap_machine.proofs.live.LiveRights.pass.Goals as goal
 
 pub returns-clause-rights : goal.returns-clause-rights

@@ -1,4 +1,4 @@
-use Rattle.cap_machine.specs.LiveRights.{IsRule}
+use Rattle.cap_machine.specs.Code.LiveRights.{IsRule}
 use Rattle.cap_machine.specs.Steps.{step}
 use Rattle.cap_machine.proofs.LineRules.{rule_of_line}
 use Rattle.cap_machine.proofs.live.LiveRights.pass_by_rule.Goals as goal

@@ -1,7 +1,7 @@
 use Rattle.std.proofs.Common.{ap, sym, ◌∙◌, refl}
 use Rattle.cap_trace.specs.declared.calls.FdCall.{FdCall}
 use Rattle.cap_machine.specs.declared.rule.Effect.TheVariants.{Keep}
-use Rattle.cap_machine.specs.LiveRights.{IsRule}
+use Rattle.cap_machine.specs.Code.LiveRights.{IsRule}
 use Rattle.cap_machine.specs.Steps.{step}
 use Rattle.cap_machine.specs.Touch.{fd_touch}
 use Rattle.cap_machine.proofs.LineRules.{rule_on_fd}

@@ -5,7 +5,7 @@ use Rattle.std.proofs.lemmas.Result.{on_ok_weaker}
 use Rattle.std.proofs.Math.Path.{fun_ext}
 use Rattle.cap_machine.specs.declared.cell.OnExec.{OnExec}
 use Rattle.cap_machine.specs.declared.live.process.LiveProcess.{LiveProcess}
-use Rattle.cap_machine.specs.Wanted.{wanted_of, wanted, undone, with_requirement}
+use Rattle.cap_machine.specs.Code.Wanted.{wanted_of, wanted, undone, with_requirement}
 use Rattle.cap_machine.proofs.LiveBack.{written_at}
 use Rattle.cap_machine.proofs.StandingRows.{at_is}
 use Rattle.cap_machine.proofs.live.LiveRights.pass_own.Goals as goal

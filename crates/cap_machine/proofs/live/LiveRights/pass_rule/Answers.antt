@@ -1,6 +1,6 @@
 use Rattle.std.proofs.Common.{ℕ, Option, None, if◌then◌else◌}
 use Rattle.std.proofs.lemmas.Result.{on_ok_weaker}
-use Rattle.cap_machine.specs.Wanted.{wanted, blocked, gathered_blocked, is_child, unblocked, blocked_with}
+use Rattle.cap_machine.specs.Code.Wanted.{wanted, blocked, gathered_blocked, is_child, unblocked, blocked_with}
 use Rattle.cap_machine.proofs.LiveBack.{before_rule, by_own, live_before}
 use Rattle.cap_machine.proofs.BlockedBack.{blocked_line}
 use Rattle.cap_machine.proofs.live.LiveRights.pass_rule.Goals as goal

@@ -1,7 +1,8 @@
 use Rattle.std.proofs.Common.{◌≡◌, ap, sym, ◌∙◌}
 use Rattle.std.proofs.lemmas.Result.{on_ok_weaker}
 use Rattle.cap_machine.specs.Steps.{step}
-use Rattle.cap_machine.specs.Table.{start_state, state_of, step_after}
+use Rattle.cap_machine.specs.Code.Table.{state_of, step_after}
+use Rattle.cap_machine.specs.State.{start_state}
 use Rattle.cap_machine.proofs.KnownTables.{state_known}
 use Rattle.cap_machine.proofs.OneMore.{state_kept}
 use Rattle.cap_machine.proofs.machine.Machine.apply_view.Goals as goal

@@ -1,5 +1,6 @@
 use Rattle.std.proofs.Common.{ap, ◌∙◌}
-use Rattle.cap_machine.specs.Table.{start_state, state_of}
+use Rattle.cap_machine.specs.Code.Table.{state_of}
+use Rattle.cap_machine.specs.State.{start_state}
 use Rattle.cap_machine.proofs.KnownTables.{state_known}
 use Rattle.cap_machine.proofs.OneMore.{state_kept}
 use Rattle.cap_machine.proofs.machine.Machine.from_start.Goals as goal

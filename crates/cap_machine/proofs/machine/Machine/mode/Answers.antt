@@ -1,6 +1,7 @@
 use Rattle.std.proofs.Common.{◌≡◌, ap, sym, ◌∙◌}
 use Rattle.cap_machine.specs.State.{State}
-use Rattle.cap_machine.specs.Table.{start_state, state_of}
+use Rattle.cap_machine.specs.Code.Table.{state_of}
+use Rattle.cap_machine.specs.State.{start_state}
 use Rattle.cap_machine.proofs.KnownTables.{state_known}
 use Rattle.cap_machine.proofs.machine.Machine.mode.Goals as goal
 

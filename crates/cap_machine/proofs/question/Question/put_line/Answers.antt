@@ -9,7 +9,7 @@ use Rattle.cap_machine.specs.Report.{finding_line}
 use Rattle.cap_machine.specs.Denials.{denied_at}
 use Rattle.cap_machine.specs.DenialReport.{denial_line}
 use Rattle.cap_machine.specs.Questions.{line_text}
-use Rattle.cap_machine.specs.Table.{state_of}
+use Rattle.cap_machine.specs.Code.Table.{state_of}
 use Rattle.cap_machine.proofs.question.Question.put_line.Goals as goal
 
 pub returns-in-Findings-clause-text : goal.returns-in-Findings-clause-text

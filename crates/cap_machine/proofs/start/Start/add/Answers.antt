@@ -2,8 +2,9 @@ use Rattle.std.proofs.Common.{◌≡◌, ℕ, List, map, ap, sym, ◌∙◌, sub
 use Rattle.cap_machine.specs.declared.cell.Cell.{Cell}
 use Rattle.cap_machine.specs.declared.start.Entry.{Entry}
 use Rattle.cap_machine.specs.State.{State, Added, with_listed}
-use Rattle.cap_machine.specs.Table.{start_state, state_of, Keeps}
-use Rattle.cap_machine.specs.Starts.{added_by}
+use Rattle.cap_machine.specs.Code.Table.{state_of, Keeps}
+use Rattle.cap_machine.specs.State.{start_state}
+use Rattle.cap_machine.specs.Code.Starts.{added_by}
 use Rattle.cap_machine.proofs.OneMore.{state_kept, kept_state}
 use Rattle.cap_machine.proofs.Starts.{state_added}
 use Rattle.cap_machine.proofs.start.Start.add.Goals as goal

@@ -2,7 +2,7 @@ use Rattle.std.proofs.Common.{◌≡◌, ℕ, ◌+◌, ◌<◌, ◌==◌, if◌t
 use Rattle.std.proofs.Common.{◌∙◌}
 use Rattle.std.proofs.lemmas.List.{take_more, take_all}
 use Rattle.cap_machine.specs.declared.cell.Cell.{Cell}
-use Rattle.cap_machine.specs.Cells.{cell_in_cells}
+use Rattle.cap_machine.specs.Code.Cells.{cell_in_cells}
 use Rattle.cap_machine.specs.State.{listed_cell}
 use Rattle.cap_machine.proofs.Tables.{listed-more}
 use Rattle.cap_machine.proofs.table.Process.listed.Goals as goal

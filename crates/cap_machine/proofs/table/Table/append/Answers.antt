@@ -1,6 +1,6 @@
 use Rattle.std.proofs.Common.{rules, ◌≡◌, ℕ, List, ap, ◌∙◌, refl, length, ◌==◌, if◌then◌else◌}
 use Rattle.cap_machine.specs.declared.table.Process.{Process}
-use Rattle.cap_machine.specs.Table.{own_at, place_in}
+use Rattle.cap_machine.specs.Code.Table.{own_at, place_in}
 use Rattle.cap_machine.proofs.Owners.{append_own, places_own}
 use Rattle.cap_machine.proofs.table.Table.append.Goals as goal
 

@@ -5,7 +5,7 @@ use Rattle.cap_machine.specs.declared.cell.Cell.TheVariants.{Unknown}
 use Rattle.cap_machine.specs.declared.cell.Mode.{Mode}
 use Rattle.cap_machine.specs.declared.cell.Mode.TheVariants.{Unsure}
 use Rattle.cap_machine.specs.declared.table.Process.{Process}
-use Rattle.cap_machine.specs.Table.{cell_in, cell_of, mode_of, place_in, Keeps, StandsAt, state_of}
+use Rattle.cap_machine.specs.Code.Table.{cell_in, cell_of, mode_of, place_in, Keeps, StandsAt, state_of}
 use Rattle.cap_machine.proofs.Owners.{changed, own_there, own_touch, own_turn}
 use Rattle.cap_machine.proofs.table.Table.change.Goals as goal
 

@@ -3,7 +3,7 @@ use Rattle.std.specs.Option.{option_map_or}
 use Rattle.cap_machine.specs.declared.cell.Cell.TheVariants.{Unknown}
 use Rattle.cap_machine.specs.declared.cell.Mode.TheVariants.{Unsure}
 use Rattle.cap_machine.specs.declared.table.Process.{Process}
-use Rattle.cap_machine.specs.Table.{cell_in, own_at, place_in}
+use Rattle.cap_machine.specs.Code.Table.{cell_in, own_at, place_in}
 use Rattle.cap_machine.proofs.Owners.{asked_of_copies}
 use Rattle.cap_machine.proofs.table.Table.copy.Goals as goal
 

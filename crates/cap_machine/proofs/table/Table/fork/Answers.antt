@@ -1,7 +1,7 @@
 use Rattle.std.proofs.Common.{◌==◌, if◌then◌else◌, ap, ◌∙◌}
 use Rattle.cap_machine.specs.declared.cell.Cell.{Cell}
 use Rattle.cap_machine.specs.declared.cell.Mode.{Mode}
-use Rattle.cap_machine.specs.Table.{Keeps, state_of, cell_of, mode_of}
+use Rattle.cap_machine.specs.Code.Table.{Keeps, state_of, cell_of, mode_of}
 use Rattle.cap_machine.proofs.table.Table.fork.Goals as goal
 
 pub returns : goal.returns

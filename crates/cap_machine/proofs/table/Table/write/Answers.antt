@@ -1,6 +1,6 @@
 use Rattle.std.proofs.Common.{◌==◌, ◌&&◌, if◌then◌else◌, ap, ◌∙◌}
 use Rattle.cap_machine.specs.declared.cell.Cell.{Cell}
-use Rattle.cap_machine.specs.Table.{Keeps, state_of}
+use Rattle.cap_machine.specs.Code.Table.{Keeps, state_of}
 use Rattle.cap_machine.proofs.table.Table.write.Goals as goal
 
 pub returns : goal.returns

@@ -4,7 +4,7 @@ use Rattle.cap_machine.specs.declared.cell.Cell.TheVariants.{Unknown}
 use Rattle.cap_machine.specs.declared.cell.Mode.{Mode}
 use Rattle.cap_machine.specs.declared.cell.Mode.TheVariants.{Unsure}
 use Rattle.cap_machine.specs.declared.table.Process.{Process}
-use Rattle.cap_machine.specs.Table.{cell_in, cell_of, mode_of, place_in, StandsAt}
+use Rattle.cap_machine.specs.Code.Table.{cell_in, cell_of, mode_of, place_in, StandsAt}
 use Rattle.cap_machine.proofs.Owners.{changed, both_tests, either_way}
 use Rattle.cap_machine.proofs.table.Table.write_at.Goals as goal
 

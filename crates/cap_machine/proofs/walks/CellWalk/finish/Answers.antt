@@ -1,5 +1,5 @@
 use Rattle.std.proofs.Common.{◌∙◌}
-use Rattle.cap_machine.specs.Table.{start_state}
+use Rattle.cap_machine.specs.State.{start_state}
 use Rattle.cap_machine.proofs.Walking.{chain_finished, cell_finished}
 use Rattle.cap_machine.proofs.walks.CellWalk.finish.Goals as goal
 

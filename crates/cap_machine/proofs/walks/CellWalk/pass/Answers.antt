@@ -2,7 +2,7 @@ use Rattle.std.proofs.Common.{ℕ, ◌∷◌, ap, ◌∙◌}
 use Rattle.std.proofs.lemmas.Result.{on_ok_weaker}
 use Rattle.std.specs.Option.{is_some}
 use Rattle.cap_machine.specs.Steps.{step}
-use Rattle.cap_machine.specs.Touched.{touch_view}
+use Rattle.cap_machine.specs.Code.Touched.{touch_view}
 use Rattle.cap_machine.proofs.Walking.{cell_is_found, found_next, known_next}
 use Rattle.cap_machine.proofs.walks.CellWalk.pass.Goals as goal
 

@@ -1,4 +1,4 @@
-use Rattle.cap_machine.specs.Table.{start_state}
+use Rattle.cap_machine.specs.State.{start_state}
 use Rattle.cap_machine.proofs.Walking.{modes_given, mode_given, modes_of_start, mode_of_start}
 use Rattle.cap_machine.proofs.walks.ModeWalk.finish.Goals as goal
 

@@ -2,7 +2,7 @@ use Rattle.std.proofs.Common.{ℕ, ◌∷◌, ap, ◌∙◌}
 use Rattle.std.proofs.lemmas.Result.{on_ok_weaker}
 use Rattle.std.specs.Option.{is_some}
 use Rattle.cap_machine.specs.Steps.{step}
-use Rattle.cap_machine.specs.Touched.{turn_view}
+use Rattle.cap_machine.specs.Code.Touched.{turn_view}
 use Rattle.cap_machine.proofs.Walking.{mode_is_found, mode_found_next, mode_known_next}
 use Rattle.cap_machine.proofs.walks.ModeWalk.pass.Goals as goal
 

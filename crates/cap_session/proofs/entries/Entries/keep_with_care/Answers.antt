@@ -1,6 +1,6 @@
 use Rattle.std.proofs.Common.{◌<◌, length, arith, Err, ap}
 use Rattle.cap_session.proofs.NextEntry.{reads, is_faulty}
-use Rattle.cap_session.specs.Traced.{one_more}
+use Rattle.cap_session.specs.Code.Traced.{one_more}
 use Rattle.cap_session.proofs.entries.Entries.keep_with_care.Goals as goal
 
 pub returns-in-Ok : goal.returns-in-Ok

@@ -1,6 +1,6 @@
 use Rattle.std.proofs.Common.{◌<◌, ◌≤◌, length, arith, sym, ◌∙◌}
 use Rattle.cap_session.proofs.NextEntry.{skips, is_full, reads}
-use Rattle.cap_session.specs.Traced.{one_more}
+use Rattle.cap_session.specs.Code.Traced.{one_more}
 use Rattle.cap_session.proofs.entries.EntriesLines.line.Goals as goal
 
 pub returns-then-is_skipped : goal.returns-then-is_skipped

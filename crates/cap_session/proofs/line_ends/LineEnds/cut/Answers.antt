@@ -1,7 +1,7 @@
 use Rattle.std.proofs.Common.{rules, ◌+◌, ◌-◌, ◌/◌, ◌^◌, length, drop, take, sym, subst, arith, w64}
 use Rattle.std.specs.Int.{trailing_zeros}
 use Rattle.std.proofs.lemmas.List.{take_rest, length-take-le}
-use Rattle.cap_session.specs.LineEnds.{AreMarks, IsCut}
+use Rattle.cap_session.specs.Code.LineEnds.{AreMarks, IsCut}
 use Rattle.cap_session.proofs.LineMarks.{first_in, cut_at, left_marks}
 use Rattle.cap_session.proofs.line_ends.LineEnds.cut.Goals as goal
 

@@ -2,7 +2,7 @@ use Rattle.std.proofs.Common.{◌+◌, ◌-◌, ◌≤◌, length, drop, take, r
 use Rattle.std.specs.Prelude.{None, Some}
 use Rattle.std.proofs.lemmas.List.{take_rest}
 use Rattle.memchr.specs.Find.{IsFirstByte, is_byte}
-use Rattle.cap_session.specs.LineEnds.{IsCut, IsWithin}
+use Rattle.cap_session.specs.Code.LineEnds.{IsCut, IsWithin}
 use Rattle.cap_session.proofs.LineMarks.{found_beyond, none_beyond}
 use Rattle.cap_session.proofs.line_ends.LineEnds.cut_last.Goals as goal
 

@@ -3,10 +3,10 @@ use Rattle.cap_trace.specs.Entry.{Entry}
 use Rattle.cap_machine.specs.declared.step.Step.{Step}
 use Rattle.cap_machine.specs.Explain.{explained_by, explanation}
 use Rattle.cap_machine.specs.Steps.{steps}
-use Rattle.cap_machine.specs.Table.{start_state}
+use Rattle.cap_machine.specs.State.{start_state}
 use Rattle.cap_summary.specs.Stands.{summed_up}
 use Rattle.cap_session.specs.Edits.{is_position}
-use Rattle.cap_session.specs.Explained.{FitsLine}
+use Rattle.cap_session.specs.Code.Explained.{FitsLine}
 use Rattle.cap_session.specs.Session.{SessionState, lines_of}
 use Rattle.cap_session.proofs.Explains.{fits_line, has_line, has_no_line, is_clean}
 use Rattle.cap_session.proofs.session.Session.explain.Goals as goal

@@ -1,6 +1,6 @@
 use Rattle.std.proofs.Common.{◌≡◌, ◌∙◌}
 use Rattle.std.proofs.lemmas.Result.{err_from_is_err_and}
-use Rattle.cap_session.specs.StartLines.{Follows}
+use Rattle.cap_session.specs.Code.StartLines.{Follows}
 use Rattle.cap_session.proofs.Started.{through_first, through_line, through_bad, last_good, last_bad}
 use Rattle.cap_session.proofs.start_text.StartParser.text.Goals as goal
 

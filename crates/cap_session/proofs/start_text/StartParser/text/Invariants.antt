@@ -1,5 +1,5 @@
 use Rattle.std.proofs.Common.{length}
-use Rattle.cap_session.specs.StartLines.{Follows}
+use Rattle.cap_session.specs.Code.StartLines.{Follows}
 use Rattle.cap_session.proofs.Started.{Through}
 use Rattle.cap_session.proofs.start_text.StartParser.text.Given as goal
 

@@ -1,6 +1,6 @@
 use Rattle.std.proofs.Common.{◌≡◌, true, ap, ◌∙◌, arith}
 use Rattle.cap_trace.specs.Fields.{are_items}
-use Rattle.cap_trace.specs.Escaping.{lacks_zero}
+use Rattle.cap_trace.specs.Code.Escaping.{lacks_zero}
 use Rattle.cap_trace.proofs.PathBytes.{escaped_items}
 use Rattle.cap_trace.proofs.escapes.Path.escape.Goals as goal
 

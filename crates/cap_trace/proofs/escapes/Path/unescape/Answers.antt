@@ -1,7 +1,7 @@
 use Rattle.std.proofs.Common.{◌≡◌, [], true, ap, sym, subst, ◌∙◌, List, ℕ, ◌++◌}
 use Rattle.std.proofs.lemmas.List.{append-nil}
 use Rattle.cap_trace.specs.Fields.{are_items}
-use Rattle.cap_trace.specs.Escaping.{escaped}
+use Rattle.cap_trace.specs.Code.Escaping.{escaped}
 use Rattle.cap_trace.proofs.PathBytes.{Unescaped, unescaped_none, unescaped_more, first_none}
 use Rattle.cap_trace.proofs.escapes.Path.unescape.Goals as goal
 

@@ -1,5 +1,5 @@
 use Rattle.std.proofs.Common.{None, sym, ap, ◌∙◌}
-use Rattle.cap_trace.specs.Kept.{entry_of}
+use Rattle.cap_trace.specs.Code.Kept.{entry_of}
 use Rattle.cap_trace.proofs.Kept.{pid_first, pid_read}
 use Rattle.cap_trace.proofs.Spelled.{ok_is}
 use Rattle.cap_trace.proofs.line.Line.pid.Goals as goal

@@ -2,7 +2,7 @@ use Rattle.std.proofs.Common.{◌≡◌, ◌++◌, ◌∙◌, ap, true, List, �
 use Rattle.std.specs.List.{join_with_byte}
 use Rattle.cap_trace.specs.Views.{fds_spelled}
 use Rattle.cap_trace.specs.Entry.{fds}
-use Rattle.cap_trace.specs.Making.{all_rise}
+use Rattle.cap_trace.specs.Code.Making.{all_rise}
 use Rattle.cap_trace.specs.Spelling.{arg_text}
 use Rattle.cap_trace.proofs.GoodLines.{fds_written}
 use Rattle.cap_trace.proofs.making.Fds.new.Goals as goal

@@ -1,5 +1,5 @@
 use Rattle.std.proofs.Common.{length, ◌-◌, ◌≤◌}
-use Rattle.cap_trace.specs.Runs.{Runs}
+use Rattle.cap_trace.specs.Code.Runs.{Runs}
 use Rattle.cap_trace.proofs.runs.Run.end.Given as goal
 
 abbrev pub invariant-loop-at : goal.invariant-loop-at

@@ -1,5 +1,5 @@
 use Rattle.std.proofs.Common.{rules}
-use Rattle.cap_machine.specs.Cells.Parts.{in_leaf}
+use Rattle.cap_machine.specs.Code.Cells.Parts.{in_leaf}
 use Rattle.cap_machine.proofs.Leaves.{put_in}
 use Rattle.cap_machine.proofs.cells.leaf.Leaf.put.Goals as goal
 

@@ -1,6 +1,6 @@
 use Rattle.std.proofs.Common.{ap, ◌∙◌}
-use Rattle.cap_machine.specs.Cells.Parts.{in_leaf}
-use Rattle.cap_machine.specs.Cells.Deferred.{with_deferred}
+use Rattle.cap_machine.specs.Code.Cells.Parts.{in_leaf}
+use Rattle.cap_machine.specs.Code.Cells.Deferred.{with_deferred}
 use Rattle.cap_machine.proofs.Leaves.{done_more}
 use Rattle.cap_machine.proofs.cells.leaf.LeafSubtree.apply_deferred.Goals as goal
 

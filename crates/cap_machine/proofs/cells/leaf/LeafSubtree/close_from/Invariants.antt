@@ -1,5 +1,5 @@
 use Rattle.std.proofs.Common.{◌≡◌, ℕ, ◌<◌, ◌&&◌, nat_le, nat_lt, if◌then◌else◌}
-use Rattle.cap_machine.specs.Cells.Parts.{in_leaf}
+use Rattle.cap_machine.specs.Code.Cells.Parts.{in_leaf}
 use Rattle.cap_machine.specs.declared.cell.Cell.TheVariants.{Closed}
 use Rattle.cap_machine.proofs.cells.leaf.LeafSubtree.close_from.Given as goal
 

@@ -1,7 +1,7 @@
 use Rattle.std.proofs.Common.{◌≡◌, ap, ◌/◌, ◌%◌}
 use Rattle.std.specs.List.{slice_index_or}
-use Rattle.cap_machine.specs.Cells.Parts.{in_node}
-use Rattle.cap_machine.specs.Cells.Deferred.{with_deferred}
+use Rattle.cap_machine.specs.Code.Cells.Parts.{in_node}
+use Rattle.cap_machine.specs.Code.Cells.Deferred.{with_deferred}
 use Rattle.cap_machine.specs.declared.cells.deferred.Deferred.TheVariants.{Nothing}
 use Rattle.cap_machine.proofs.PartsOf.{asked_alike}
 use Rattle.cap_machine.proofs.cells.node.NodeClone.clone.Goals as goal

@@ -1,8 +1,8 @@
 use Rattle.std.proofs.Common.{◌/◌, ◌%◌, ap, ◌∙◌, slice_get}
 use Rattle.std.specs.Option.{option_map_or}
 use Rattle.std.proofs.lemmas.List.{get_or-replicate}
-use Rattle.cap_machine.specs.Cells.Parts.{in_node}
-use Rattle.cap_machine.specs.Cells.Deferred.{with_deferred}
+use Rattle.cap_machine.specs.Code.Cells.Parts.{in_node}
+use Rattle.cap_machine.specs.Code.Cells.Deferred.{with_deferred}
 use Rattle.cap_machine.specs.declared.cells.deferred.Deferred.{Deferred}
 use Rattle.cap_machine.specs.declared.cells.deferred.Deferred.TheVariants.{Nothing}
 use Rattle.cap_machine.specs.declared.cell.Cell.TheVariants.{Unknown}

@@ -1,6 +1,6 @@
 use Rattle.std.proofs.Common.{rules, ◌/◌, ◌%◌, ◌<◌, length, ap, sym, ◌∙◌}
-use Rattle.cap_machine.specs.Cells.Parts.{in_node}
-use Rattle.cap_machine.specs.Cells.Deferred.{with_deferred}
+use Rattle.cap_machine.specs.Code.Cells.Parts.{in_node}
+use Rattle.cap_machine.specs.Code.Cells.Deferred.{with_deferred}
 use Rattle.cap_machine.proofs.PartsOf.{view}
 use Rattle.cap_machine.proofs.cells.node.NodeSubtree.cell.Goals as goal
 

@@ -1,5 +1,5 @@
 use Rattle.std.proofs.Common.{rules, ◌%◌}
-use Rattle.cap_machine.specs.Cells.Parts.{in_node}
+use Rattle.cap_machine.specs.Code.Cells.Parts.{in_node}
 use Rattle.cap_machine.proofs.PartsOf.{part_written}
 use Rattle.cap_machine.proofs.cells.node.NodeSubtree.write.Goals as goal
 

@@ -1,8 +1,8 @@
 use Rattle.std.proofs.Common.{rules, ◌∙◌, ap, List, take_all}
 use Rattle.cap_machine.specs.declared.cells.deferred.Deferred.TheVariants.{Exec}
-use Rattle.cap_machine.specs.Cells.Deferred.{with_deferred}
+use Rattle.cap_machine.specs.Code.Cells.Deferred.{with_deferred}
 use Rattle.cap_machine.specs.declared.cells.written_cells.WrittenCell.{WrittenCell}
-use Rattle.cap_machine.specs.Cells.WrittenCells.{in_written_cells, after_writes}
+use Rattle.cap_machine.specs.Code.Cells.WrittenCells.{in_written_cells, after_writes}
 use Rattle.cap_machine.proofs.WrittenCells.{done_next}
 use Rattle.cap_machine.proofs.cells.written_cells.WrittenCells.executed.Goals as goal
 

@@ -1,5 +1,5 @@
 use Rattle.std.proofs.Common.{◌≡◌, take}
-use Rattle.cap_machine.specs.Cells.WrittenCells.{after_writes}
+use Rattle.cap_machine.specs.Code.Cells.WrittenCells.{after_writes}
 use Rattle.cap_machine.proofs.cells.written_cells.WrittenCells.over.Given as goal
 
 abbrev pub invariant-loop-one : goal.invariant-loop-one

@@ -4,7 +4,7 @@ use Rattle.cap_rights.specs.Rights.{join}
 use Rattle.std.proofs.lemmas.Grind.{common_steps}
 use Rattle.std.specs.BTreeMap.{is_at}
 use Rattle.cap_machine.specs.declared.live.fd_rights.ByFlag.{ByFlag}
-use Rattle.cap_machine.specs.Wanted.{flag_rights, rights_of}
+use Rattle.cap_machine.specs.Code.Wanted.{flag_rights, rights_of}
 use Rattle.cap_machine.proofs.JoinedRights.{moved_over, join_none, none_in_empty, is_empty_from}
 use Rattle.cap_machine.proofs.live.fd_rights.FdRights.add_all.Goals as goal
 

@@ -2,7 +2,7 @@ use Rattle.std.proofs.Common.{◌≡◌, ℕ}
 use Rattle.std.specs.BTreeMap.{btree_map_len}
 use Rattle.cap_rights.specs.Rights.{join}
 use Rattle.cap_machine.specs.declared.cell.OnExec.{OnExec}
-use Rattle.cap_machine.specs.Wanted.{rights_of}
+use Rattle.cap_machine.specs.Code.Wanted.{rights_of}
 use Rattle.cap_machine.proofs.live.fd_rights.FdRights.add_all.Given as goal
 
 abbrev pub invariant-loop-entry : goal.invariant-loop-entry

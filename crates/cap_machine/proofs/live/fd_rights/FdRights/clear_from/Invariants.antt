@@ -1,7 +1,7 @@
 use Rattle.std.proofs.Common.{◌≡◌, ℕ, ◌<◌}
 use Rattle.std.specs.BTreeMap.{btree_map_len}
 use Rattle.cap_machine.specs.declared.cell.OnExec.{OnExec}
-use Rattle.cap_machine.specs.Wanted.{rights_of}
+use Rattle.cap_machine.specs.Code.Wanted.{rights_of}
 use Rattle.cap_machine.proofs.live.fd_rights.FdRights.clear_from.Given as goal
 
 abbrev pub invariant-loop-self : goal.invariant-loop-self

@@ -1,7 +1,7 @@
 use Rattle.std.proofs.Common.{ap, ◌∙◌}
 use Rattle.cap_rights.specs.Rights.{join}
 use Rattle.cap_machine.specs.declared.live.fd_rights.FdRights.{FdRights}
-use Rattle.cap_machine.specs.Wanted.{rights_of}
+use Rattle.cap_machine.specs.Code.Wanted.{rights_of}
 use Rattle.cap_machine.proofs.JoinedRights.{join_comm}
 use Rattle.cap_machine.proofs.live.fd_rights.FdRights.joined.Goals as goal
 use Rattle.cap_machine.proofs.live.fd_rights.FdRights.joined.Goals.{then-len, else-len}

@@ -1,5 +1,5 @@
 use Rattle.std.proofs.lemmas.Result.{on_ok_weaker}
-use Rattle.cap_machine.specs.Wanted.{rights_of, flag_rights}
+use Rattle.cap_machine.specs.Code.Wanted.{rights_of, flag_rights}
 use Rattle.cap_machine.proofs.AroundExec.{added}
 use Rattle.cap_machine.proofs.live.process.LiveProcess.add.Goals as goal
 

@@ -1,4 +1,4 @@
-use Rattle.cap_machine.specs.Wanted.{rights_of}
+use Rattle.cap_machine.specs.Code.Wanted.{rights_of}
 use Rattle.cap_machine.proofs.AroundExec.{joined}
 use Rattle.cap_machine.proofs.live.process.LiveProcess.joined.Goals as goal
 

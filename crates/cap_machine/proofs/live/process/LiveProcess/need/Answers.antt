@@ -1,6 +1,6 @@
 use Rattle.std.proofs.Common.{◌==◌, ◌∙◌, sym}
 use Rattle.std.proofs.lemmas.Bool.{eqb-true}
-use Rattle.cap_machine.specs.Wanted.{wanted_of}
+use Rattle.cap_machine.specs.Code.Wanted.{wanted_of}
 use Rattle.cap_machine.proofs.JoinedRights.{with_none}
 use Rattle.cap_machine.proofs.live.process.LiveProcess.need.Goals as goal
 

@@ -2,7 +2,7 @@ use Rattle.std.proofs.Common.{ℕ, ap, ◌∙◌}
 use Rattle.std.proofs.lemmas.Result.{on_ok_weaker}
 use Rattle.std.proofs.Math.Path.{fun_ext}
 use Rattle.cap_machine.specs.declared.cell.OnExec.{OnExec}
-use Rattle.cap_machine.specs.Wanted.{with_requirement}
+use Rattle.cap_machine.specs.Code.Wanted.{with_requirement}
 use Rattle.cap_machine.proofs.live.process.LiveProcess.pass.Goals as goal
 
 pub returns-clause-rights : goal.returns-clause-rights

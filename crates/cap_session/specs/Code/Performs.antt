@@ -3,22 +3,15 @@
 use Rattle.std.specs.Prelude.{◌≡◌, List, ℕ, Result, Ok, Err, IsOk, IsTrue, ◌⊎◌}
 use Rattle.cap_trace.specs.Entry.{Entry}
 use Rattle.cap_machine.specs.declared.cell.Profile.{Profile}
-use Rattle.cap_session.specs.Commands.{Asked, insert_line, replace_line, delete_line, show_line, count_lines}
-use Rattle.cap_session.specs.Commands.{report_all, report_lines, unknown}
+use Rattle.cap_session.specs.Commands.{Asked, show_line, count_lines}
+use Rattle.cap_session.specs.Commands.{report_all, report_lines, unknown, edit_asked}
 use Rattle.cap_session.specs.Replies.{commanded, may_run_out}
-use Rattle.cap_session.specs.declared.edit.Edit.{Edit}
-use Rattle.cap_session.specs.declared.edit.Edit.TheVariants.{Insert, Delete, Replace}
 use Rattle.cap_session.specs.declared.refused.Refused.TheVariants.{Memory}
 use Rattle.cap_session.specs.declared.script.CommandError.{CommandError}
 use Rattle.cap_session.specs.declared.script.Reply.{Reply}
 use Rattle.cap_session.specs.declared.script.Reply.TheVariants.{Short, Long}
 use Rattle.cap_session.specs.declared.command.Command.{Command}
 use Rattle.cap_session.specs.declared.command.Command.TheVariants as commands
-
-abbrev pub edit_asked : Edit → Asked
-edit_asked (Insert position line) = insert_line position line.now
-edit_asked (Delete position) = delete_line position
-edit_asked (Replace position line) = replace_line position line.now
 
 -- what a command command_asked for
 abbrev pub command_asked : Command → Asked

@@ -5,7 +5,7 @@ use Rattle.cap_rights.specs.Rights.{all}
 use Rattle.cap_machine.specs.declared.cell.Cell.{Cell}
 use Rattle.cap_machine.specs.declared.cell.Cell.TheVariants.{Unknown, Closed, Held}
 use Rattle.cap_machine.specs.declared.live.fd_rights.ByFlag.{ByFlag}
-use Rattle.cap_machine.specs.LimitLaws.{Row}
+use Rattle.cap_machine.specs.Limits.{Row}
 use Rattle.cap_machine.specs.Limits.{least_of}
 use Rattle.cap_machine.specs.LimitsBefore.{rows_name}
 

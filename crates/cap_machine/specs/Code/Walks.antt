@@ -15,7 +15,7 @@ use Rattle.cap_machine.specs.State.{State}
 use Rattle.cap_machine.specs.Touch.{kept, stays, touch, turn}
 use Rattle.cap_machine.specs.History.{cell_after, mode_after}
 use Rattle.cap_machine.specs.Provenance.{CellChain, ModeChain, cell_chain, mode_chain}
-use Rattle.cap_machine.specs.Passages.{cell_along, chain_along}
+use Rattle.cap_machine.specs.Code.Passages.{cell_along, chain_along}
 
 -- ---- cells
 

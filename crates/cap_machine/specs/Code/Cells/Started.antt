@@ -6,7 +6,7 @@ use Rattle.cap_machine.specs.declared.cell.OnExec.TheVariants.{Unsure}
 use Rattle.cap_machine.specs.declared.cell.Cell.{Cell}
 use Rattle.cap_machine.specs.declared.cell.Cell.TheVariants.{Held}
 use Rattle.cap_machine.specs.declared.cells.started.Started.{Started}
-use Rattle.cap_machine.specs.Cells.Deferred.{with_deferred}
+use Rattle.cap_machine.specs.Code.Cells.Deferred.{with_deferred}
 
 abbrev pub is_listed : Started → ℕ → Bool
 is_listed started f = list_any (λ g. f == g) started.small.items || list_any (λ g. f == g) started.large.items

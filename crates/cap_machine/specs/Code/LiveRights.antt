@@ -1,5 +1,5 @@
 -- What is known of the rights that are live, and of the lines that are in the way of capability mode.
-use Rattle.std.specs.Prelude.{◌≡◌, ◌↔◌, ℕ, ◌+◌, ◌<◌, true, List, Option, Some, None}
+use Rattle.std.specs.Prelude.{◌≡◌, ◌↔◌, ℕ, ◌<◌, true, List}
 use Rattle.cap_rights.specs.Rights.{holds}
 use Rattle.cap_machine.specs.declared.cell.OnExec.{OnExec}
 use Rattle.cap_machine.specs.declared.step.Step.{Step}
@@ -9,20 +9,13 @@ use Rattle.cap_machine.specs.declared.rule.Effect.{Effect}
 use Rattle.cap_machine.specs.Rule.{requirement}
 use Rattle.cap_machine.specs.Touch.{touch, turn}
 use Rattle.cap_machine.specs.Effect.{effect_touch, effect_turn}
-use Rattle.cap_machine.specs.Live.{Live, Blocks}
-use Rattle.cap_machine.specs.Wanted.{wanted, blocked}
+use Rattle.cap_machine.specs.Live.{Live, IsFirstBlock}
+use Rattle.cap_machine.specs.Code.Wanted.{wanted, blocked}
 
 -- these are just the rights, of those by name, that are live in each cell before these steps
 abbrev pub AreLive : LiveRights → List Step → Type 0
 AreLive live later = (p f : ℕ) (x : OnExec) (k : ℕ) → k < 63
     → (holds (wanted live p f x) k ≡ true) ↔ Live later p f x k
-
--- The first of these steps, which begin at a position, that is in the way of capability mode: none, or the one at
--- another position.
-abbrev pub IsFirstBlock : List Step → ℕ → ℕ → Option ℕ → Type 0
-IsFirstBlock later at p None = (n : ℕ) → Blocks later p n → ⊥
-IsFirstBlock later at p (Some position) = (n : ℕ) × (position ≡ at + n) × Blocks later p n
-    × ((m : ℕ) → m < n → Blocks later p m → ⊥)
 
 abbrev pub AreBlocked : LiveRights → ℕ → List Step → Type 0
 AreBlocked live at later = (p : ℕ) → IsFirstBlock later at p (blocked live p)

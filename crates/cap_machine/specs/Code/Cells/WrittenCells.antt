@@ -3,7 +3,7 @@ use Rattle.std.specs.Prelude.{ℕ, ◌==◌, if◌then◌else◌, List, [], ◌�
 use Rattle.cap_machine.specs.declared.cell.Cell.{Cell}
 use Rattle.cap_machine.specs.declared.cells.written_cells.WrittenCell.{WrittenCell}
 use Rattle.cap_machine.specs.declared.cells.written_cells.WrittenCells.{WrittenCells}
-use Rattle.cap_machine.specs.Cells.Kind.{cell_of_kind}
+use Rattle.cap_machine.specs.Code.Cells.Kind.{cell_of_kind}
 
 abbrev pub written : WrittenCell → Cell → ℕ → Cell
 written one before f = if f == one.fd then cell_of_kind one.kind one.rights else before

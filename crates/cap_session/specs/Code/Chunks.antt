@@ -1,7 +1,7 @@
 -- What a text and a script take of what they are given, piece by piece.
 use Rattle.std.specs.Prelude.{◌≡◌, ℕ, List, [], ◌++◌, take, Result, Err, OnOk, IfErr, None}
 use Rattle.cap_session.specs.Devices.{SinkState}
-use Rattle.cap_session.specs.Feeds.{Reached, Feeds, Ends}
+use Rattle.cap_session.specs.Code.Feeds.{Reached, Feeds, Ends}
 use Rattle.cap_session.specs.Limits.{most_held}
 use Rattle.cap_session.specs.Lines.{last_piece, lines}
 use Rattle.cap_session.specs.Scripts.{Scripting, Replied, Broken, script_lines}

@@ -3,7 +3,8 @@ use Rattle.std.specs.Prelude.{List, map}
 use Rattle.cap_machine.specs.declared.start.Entry.{Entry}
 use Rattle.cap_machine.specs.declared.start.Start.TheInside.{Inside}
 use Rattle.cap_machine.specs.State.{Added}
-use Rattle.cap_machine.specs.Table.{Keeps, start_state}
+use Rattle.cap_machine.specs.Code.Table.{Keeps}
+use Rattle.cap_machine.specs.State.{start_state}
 
 abbrev pub added_by : Entry → Added
 added_by entry = record { pid = entry.pid; mode = entry.mode; rest = entry.rest; cells = entry.cells.items }

@@ -10,8 +10,8 @@ use Rattle.cap_machine.specs.declared.cells.leaf.Leaf.{Leaf}
 use Rattle.cap_machine.specs.declared.cells.node.Node.{Node}
 use Rattle.cap_machine.specs.declared.cells.shared.Shared.{Shared}
 use Rattle.cap_rights.specs.Rights.{none}
-use Rattle.cap_machine.specs.Cells.Deferred.{with_deferred}
-use Rattle.cap_machine.specs.Cells.Kind.{cell_of_kind}
+use Rattle.cap_machine.specs.Code.Cells.Deferred.{with_deferred}
+use Rattle.cap_machine.specs.Code.Cells.Kind.{cell_of_kind}
 
 -- the parts are of w descriptors each: descriptor f stands in part f / w, where it is f % w
 abbrev pub look : {X : Type 0} → (X → ℕ → Cell) → ℕ → List Deferred → List X → ℕ → Cell

@@ -12,10 +12,10 @@ use Rattle.std.specs.Prelude.{ℕ, nat_le, nat_lt, if◌then◌else◌}
 use Rattle.cap_trace.specs.Limits.{largest_fd}
 use Rattle.cap_machine.specs.declared.cell.Cell.{Cell}
 use Rattle.cap_machine.specs.declared.cells.Cells.{Cells}
-use Rattle.cap_machine.specs.Cells.Parts.{in_leaf, in_shared}
-use Rattle.cap_machine.specs.Cells.Cells1M.{in_cells_1m}
-use Rattle.cap_machine.specs.Cells.WrittenCells.{in_written_cells}
-use Rattle.cap_machine.specs.Cells.Started.{in_started}
+use Rattle.cap_machine.specs.Code.Cells.Parts.{in_leaf, in_shared}
+use Rattle.cap_machine.specs.Code.Cells.Cells1M.{in_cells_1m}
+use Rattle.cap_machine.specs.Code.Cells.WrittenCells.{in_written_cells}
+use Rattle.cap_machine.specs.Code.Cells.Started.{in_started}
 
 -- those of the first 64 descriptors; of the others a few that were written, over those that are still as `@start` listed
 -- them, over all others; and those above the largest descriptor

@@ -6,7 +6,7 @@ use Rattle.cap_machine.specs.declared.walks.CellWalk.{CellWalk}
 use Rattle.cap_machine.specs.declared.walks.ModeWalk.{ModeWalk}
 use Rattle.cap_machine.specs.Touch.{Touch, kept, given, taken, Turn, stays, turns, follows}
 use Rattle.cap_machine.specs.Provenance.{cell_link, mode_link}
-use Rattle.cap_machine.specs.Passages.{constant}
+use Rattle.cap_machine.specs.Code.Passages.{constant}
 
 abbrev pub passage : ℕ → ℕ → ℕ → Op → Bool → Passage
 passage at p f op from_itself = record { link = cell_link at p f; op = op; from_itself = from_itself }

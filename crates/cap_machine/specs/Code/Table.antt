@@ -10,10 +10,10 @@ use Rattle.cap_machine.specs.declared.cell.Mode.{Mode}
 use Rattle.cap_machine.specs.declared.cell.Mode.TheVariants.{Outside, Unsure}
 use Rattle.cap_machine.specs.declared.table.Process.{Process}
 use Rattle.cap_machine.specs.declared.table.Table.{Table}
-use Rattle.cap_machine.specs.State.{State, usual, Added, with_all}
+use Rattle.cap_machine.specs.State.{State}
 use Rattle.cap_machine.specs.declared.cell.Op.{Op}
 use Rattle.cap_machine.specs.Op.{applied}
-use Rattle.cap_machine.specs.Cells.{cell_in_cells}
+use Rattle.cap_machine.specs.Code.Cells.{cell_in_cells}
 use Rattle.cap_machine.specs.declared.rule.Effect.{Effect}
 use Rattle.cap_machine.specs.Touch.{Touch, touch, turn, started}
 use Rattle.cap_machine.specs.Effect.{effect_touch, effect_turn}
@@ -58,10 +58,6 @@ state_of table = record { cell = cell_of table; mode = mode_of table }
 -- two processes that have the same cells, the same mode and the same pid
 abbrev pub IsSame : Process → Process → Type 0
 IsSame a b = ((f : ℕ) → cell_in b f ≡ cell_in a f) × (b.mode ≡ a.mode) × (b.pid ≡ a.pid)
-
--- the state that a start stands for: from the usual one, what was added in turn
-unfoldable pub start_state : List Added → State
-start_state added = with_all usual added
 
 -- the table keeps this state
 pub record Keeps (table : Table) (s : State) : Type 0 where

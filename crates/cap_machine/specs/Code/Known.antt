@@ -4,9 +4,9 @@ use Rattle.cap_trace.specs.Limits.{largest_fd}
 use Rattle.cap_machine.specs.declared.cell.Cell.{Cell}
 use Rattle.cap_machine.specs.declared.table.Process.{Process}
 use Rattle.cap_machine.specs.declared.table.Table.{Table}
-use Rattle.cap_machine.specs.Cells.{cell_in_cells}
+use Rattle.cap_machine.specs.Code.Cells.{cell_in_cells}
 use Rattle.cap_machine.specs.State.{Added}
-use Rattle.cap_machine.specs.Table.{place_in}
+use Rattle.cap_machine.specs.Code.Table.{place_in}
 
 -- above the largest descriptor all cells of a process are the same
 unfoldable pub top : ℕ

@@ -9,7 +9,7 @@ use Rattle.cap_machine.specs.Steps.{steps}
 use Rattle.cap_machine.specs.State.{State, Added}
 use Rattle.cap_machine.specs.History.{ended}
 use Rattle.cap_machine.specs.Questions.{answer_count, answer_lines}
-use Rattle.cap_machine.specs.Table.{start_state}
+use Rattle.cap_machine.specs.State.{start_state}
 
 -- What a checker is seen as. What is known after its lines is a list, as of a start: what one would add to the usual
 -- start for the same.

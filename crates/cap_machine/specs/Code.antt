@@ -1,0 +1,18 @@
+-- What only ties the code to the definitions beside this folder, which rest on nothing here.
+pub mod PlaceView
+pub mod Wanted
+pub mod LiveRights
+pub mod Unknown
+pub mod Composed
+pub mod Cells
+pub mod Table
+pub mod Starts
+pub mod Known
+pub mod Checked
+pub mod Touched
+pub mod Passages
+pub mod Walks
+pub mod Following
+pub mod MayHave
+pub mod Rows
+pub mod Singles

@@ -1,0 +1,12 @@
+-- What only ties the code to the definitions beside this folder, which rest on nothing here.
+pub mod Explained
+pub mod Feeds
+pub mod Gives
+pub mod LineEnds
+pub mod Performs
+pub mod Queries
+pub mod StartLines
+pub mod StartParsed
+pub mod Chunks
+pub mod Traced
+pub mod Works
