@@ -51,8 +51,8 @@ fn place_of<V>(entries: &[(u32, V)], key: u32) -> Result<usize, usize>
     entries.binary_search_by_key(&key, |entry| entry.0)
 }
 
-/// The same, where the entry is likely to be at this place or a little above it. Where those below it have smaller keys, it
-/// goes up from there.
+/// The index of the entry that has the key, or else where it would go. Goes up from a place where all entries below it
+/// have smaller keys, else does what [`place_of`] does.
 #[inline(always)]
 fn place_near<V>(entries: &[(u32, V)], near: usize, key: u32) -> Result<usize, usize>
     requires { Rises entries.now }
@@ -94,7 +94,8 @@ impl<V> Map<V> {
         }
     }
 
-    /// The same, looked for near this place, which becomes that of the key: one look-up of several keys that rise.
+    /// The value at a key, if there is one, looked for from this place up, which becomes that of the key. So keys that rise
+    /// are looked up in one pass.
     #[inline(always)]
     pub(crate) fn get_near(&self, near: &mut usize, key: u32) -> Option<&V>
         ensures { option_copied result ≡ found self.now key }
