@@ -186,7 +186,8 @@ impl LiveRights {
 
     /// Passes a line with a call on one descriptor, which mostly changes nothing.
     // The fast path: the effect of close(2) and of a call that changes nothing is known without the rule. For any other
-    // call it gives up. Both paths have the contract of `pass`, so they agree.
+    // call it gives up. Both paths have the contract of `pass`, so they agree. Without it `limits K` takes 14 to 32 % more
+    // instructions.
     #[inline(always)]
     fn pass_on_fd(
         &mut self,

@@ -1,8 +1,8 @@
 //! What a line of a trace does to a table, and whether nothing is said of it. A common call is judged and followed by
 //! itself; any other by its rule.
 //!
-//! Only here is a call gone by beside its rule (`requirements`, `effects`). Each function has the contract that follows
-//! from the rule, so both are the same. Of some 630 instructions a line, that spares 110 where it judges and 60 where
+//! Only here is a call judged beside its rule (`requirements`, `effects`). Each function has the contract that follows
+//! from the rule, so both are the same. Of some 600 instructions a line, that spares 110 where it judges and 60 where
 //! it follows: a `Requirement` and an `Effect` are large, and are cleared and copied in memory.
 
 ghost use Rattle.std.specs.Prelude.{◌≡◌, ℕ, [], OnOk, IsTrue, Option};
