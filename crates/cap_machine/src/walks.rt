@@ -1,7 +1,7 @@
 //! Walks back from a cell and from a mode, to the lines that they come from.
 //!
-//! A walk is handed the lines one by one, newest first. Lines that leave the cell, or the mode, that it is at as it was
-//! may be left out ([`walks_may_leave_out`]).
+//! A walk is handed the lines one by one, newest first. Lines that don't touch the cell, or the mode, that it is at may
+//! be left out ([`walks_may_leave_out`]).
 
 ghost use Rattle.std.specs.Prelude.{◌≡◌, ◌+◌, IfOk, OnOk, OnErr, List, [], ◌∷◌, length, true, false};
 ghost use Rattle.cap_machine.specs.Code.Touched.{touch_view, turn_view};
@@ -164,8 +164,8 @@ impl CellWalk {
         self.given.is_some()
     }
 
-    /// Passes the line before those that it has passed. Lines between them that leave the cell that it is at as it was
-    /// may be left out. `at` is the position of the line, from 1.
+    /// Passes the line before those that it has passed. Lines between them that don't touch the cell that it is at may
+    /// be left out. `at` is the position of the line, from 1.
     ///
     /// `NoMemory` when out of memory; the walk is then as before.
     pub fn pass(&mut self, at: usize, profile: Profile, line: &Line) -> Result<(), NoMemory>
@@ -275,8 +275,8 @@ impl ModeWalk {
         self.turned.is_some()
     }
 
-    /// Passes the line before those that it has passed. Lines between them that leave the mode that it is at as it was
-    /// may be left out. `at` is the position of the line, from 1.
+    /// Passes the line before those that it has passed. Lines between them that don't touch the mode that it is at may
+    /// be left out. `at` is the position of the line, from 1.
     ///
     /// `NoMemory` when out of memory; the walk is then as before.
     pub fn pass(&mut self, at: usize, profile: Profile, line: &Line) -> Result<(), NoMemory>
@@ -404,7 +404,7 @@ pub fn provenance_of_mode(
     Ok(walk.finish(start))
 }
 
-/// A walk finds the same without lines that leave the cell, or the mode, that it is at as it was.
+/// A walk finds the same without lines that don't touch the cell, or the mode, that it is at.
 pub fn walks_may_leave_out()
     ensures cells { CellsMayBeLeftOut }
     ensures modes { ModesMayBeLeftOut }

@@ -86,8 +86,7 @@ fn ask_stream_from<S: Source, R: Source, W: Sink>(
 /// looked at.
 ///
 /// - `StartRefused`: the code and the number of the first refused line of the start, as `parse_start` has them, written
-///   as
-///   `refused E4 start line 2` and LF. The trace isn't read.
+///   as `refused E4 start line 2` and LF. The trace isn't read.
 /// - `Memory`, `ReadFault`, `TooLong` and `WriteFault` of the start: as for a trace, and the trace isn't read.
 /// - Else the outcome is that of the trace, as [`check_stream`](crate::check_stream) has it, from this start.
 ///

@@ -1,4 +1,4 @@
--- What only ties the code to the definitions beside this folder, which rest on nothing here.
+-- What values of the code mean, and what parts of a call do. The definitions beside this folder rest on nothing here.
 pub mod Rows
 pub mod Slots
 pub mod FlagSteps

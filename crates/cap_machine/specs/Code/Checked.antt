@@ -1,5 +1,5 @@
--- What a checker keeps of a trace that it was given line by line: the state after it, how many lines there were, how
--- many lines it answers, and their text. It keeps no line of the trace.
+-- What a checker keeps of a trace that it was given line by line: the state after it, which only contracts see, how many
+-- lines there were, how many lines it answers, and their text. It keeps no line of the trace.
 use Rattle.std.specs.Prelude.{◌≡◌, ℕ, List, length}
 use Rattle.cap_trace.specs.Entry.{Entry}
 use Rattle.cap_machine.specs.declared.cell.Profile.{Profile}

@@ -58,7 +58,7 @@ pub record CellIsFound (walk : CellWalk) : Type 0 where
 abbrev pub LeavesCell : List Step → ℕ → ℕ → Type 0
 LeavesCell trace p f = All (λ step. touch step p f ≡ kept) trace
 
--- a trace that leaves the cell as it was may be left out; its steps are in their order
+-- a trace that doesn't touch the cell may be left out; its steps are in their order
 abbrev pub CellsMayBeLeftOut : Type 0
 CellsMayBeLeftOut = (walk : CellWalk) (s : State) (history trace : List Step)
     → LeavesCell trace (cell_pid walk) (cell_fd walk)
