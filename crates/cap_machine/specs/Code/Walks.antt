@@ -1,6 +1,5 @@
 -- Walks back from a cell and from a mode, which are handed the steps one by one, newest first: what a walk finds where
--- a history comes before the steps that it has passed. Steps that leave the cell that it is at as it was may be left
--- out.
+-- a history comes before the steps that it has passed. Steps that don't touch the cell that it is at may be left out.
 use Rattle.std.specs.Prelude.{◌≡◌, ℕ, List, [], ◌++◌, reverse, Option, Some, None, unwrap_or}
 use Rattle.std.specs.List.{All}
 use Rattle.cap_machine.specs.declared.step.Step.{Step}
