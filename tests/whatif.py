@@ -71,6 +71,7 @@ class Terminal:
         self.name, self.seen, self.status = name, "", None
         self.pid, self.fd = pty.fork()
         if self.pid == 0:
+            signal.signal(signal.SIGINT, signal.SIG_DFL)  # a shell has it ignored in what it runs in the background
             os.chdir(folder)
             fcntl.ioctl(0, termios.TIOCSWINSZ, struct.pack("HHHH", 50, 400, 0, 0))
             os.execve(WHATIF, ["whatif.py", *words], {**ENVIRONMENT, **environment})
