@@ -98,6 +98,13 @@ impl Listed {
         }
     }
 
+    /// The value of a descriptor, if it is listed. Allocates nothing.
+    pub fn get(&self, fd: u32) -> Option<&Value>
+        ensures { option_copied result ≡ found self.now fd }
+    {
+        self.get_near(&mut 0, fd)
+    }
+
     /// The value of a descriptor, if it is listed, looked for near this place as in [`Map::get_near`].
     #[inline(always)]
     pub(crate) fn get_near(&self, near: &mut usize, fd: u32) -> Option<&Value>
