@@ -2,7 +2,7 @@
 """Worked traces and scripts, with what the program has to print: tests/rows.py PROGRAM [short]
 
 A trace is checked from standard input and from a file, and reported by a script: each prints the same, in both profiles where
-no other report is given for the second. A session has commands behind "> ", their replies below, and the status at its end. All
+no other report is given for the second. A session has commands after "> ", their replies below, and the status at its end. All
 rows that differ are printed, and the status is then 1. With `short` the rows of a million lines are left out.
 """
 
@@ -169,7 +169,7 @@ def denials(name, trace, text, start=None, second=None):
 
 
 def limits(name, trace, text, at=None, start=None, second=None):
-    """The script of limits of a trace, before a line or behind those that made descriptors, from a start where one is given; and in profile 2
+    """The script of limits of a trace, before a line or after those that made descriptors, from a start where one is given; and in profile 2
     where it differs. `edit` takes each line of it."""
     global count
     count += 1
@@ -1361,7 +1361,7 @@ LIMITED = """4 4 201 cap_rights_limit(4,CAP_READ|CAP_WRITE) RET 0
 4 3 200 fork() RET 201
 4 2 200 accept(3) RET 4
 """
-explain("a limit in a child, behind a fork", SERVER, 9, "9 201 shutdown(4) RET 0\nmissing 4 CAP_SHUTDOWN\n" + LIMITED, 1)
+explain("a limit in a child, after a fork", SERVER, 9, "9 201 shutdown(4) RET 0\nmissing 4 CAP_SHUTDOWN\n" + LIMITED, 1)
 explain("a line without findings", SERVER, 7, "7 201 write(4) RET 200\n" + LIMITED)
 explain("the parent's descriptor", SERVER, 8, "8 200 shutdown(4) RET 0\n4 2 200 accept(3) RET 4\n")
 explain("a line that checks nothing", SERVER, 3, "3 200 fork() RET 201\n")
@@ -1762,7 +1762,7 @@ insert 10 2102 cap_rights_limit(4,CAP_WRITE|CAP_FSYNC) RET 0
 insert 11 2102 cap_rights_limit(5,CAP_READ) RET 0
 insert 12 2102 cap_enter() RET 0
 """, 6)
-limits("what a child needs isn't what the parent needs behind the fork", TALLY, """
+limits("what a child needs isn't what the parent needs after the fork", TALLY, """
 # process 2101 before line 14
 insert 14 2101 cap_rights_limit(0,NONE) RET 0
 insert 15 2101 cap_rights_limit(1,NONE) RET 0
@@ -1835,7 +1835,7 @@ limits("a later limit asks for its rights, and takes the others away", LIMITED_L
 insert 2 1 cap_rights_limit(3,CAP_READ|CAP_WRITE|CAP_FSTAT) RET 0
 insert 3 1 cap_enter() RET 0
 """, 2)
-limits("behind that limit", LIMITED_LATER, """
+limits("after that limit", LIMITED_LATER, """
 # process 1 before line 4
 insert 4 1 cap_rights_limit(3,CAP_WRITE) RET 0
 insert 5 1 cap_enter() RET 0
@@ -1894,7 +1894,7 @@ limits("descriptors of which nothing is known", """
 # descriptor 5 isn't known; later calls need CAP_READ
 insert 1 1 cap_enter() RET 0
 """, 1)
-limits("a descriptor that is handed over, before and behind", """
+limits("a descriptor that is handed over, before and after", """
 1 @start(3)
 1 @foreign(3)
 1 read(3) RET 1
@@ -1986,7 +1986,7 @@ EXEC = """1 @start(0)
 1 read(3) RET 1
 1 write(4) RET 1
 """
-limits("behind an exec", EXEC, """
+limits("after an exec", EXEC, """
 # process 1 before line 4
 insert 4 1 cap_rights_limit(0,NONE) RET 0
 insert 5 1 cap_rights_limit(3,NONE) RET 0
@@ -1999,7 +1999,7 @@ insert 5 1 cap_rights_limit(3,NONE) RET 0
 insert 6 1 cap_rights_limit(4,CAP_WRITE) RET 0
 # no cap_enter: line 4, execve of process 1
 """)
-limits("each descriptor behind an exec", EXEC, """
+limits("each descriptor after an exec", EXEC, """
 insert 4 1 cap_rights_limit(4,NONE) RET 0
 insert 3 1 cap_rights_limit(3,NONE) RET 0
 """, second="""
@@ -2528,7 +2528,7 @@ for name, trace, code, line, words in (
     ("a list of ALL and more", GOOD + "100 cap_rights_limit(0,ALL|CAP_READ) RET 0", 5, 2, "ALL|CAP_READ is not a list of rights"),
     ("lines that are skipped", "# a\n\n" + GOOD + "\n100 read(x) RET 1\n", 4, 5, "x is not a descriptor"),
     ("a path without quotes", '100 openat(AT_FDCWD,a,0) RET 3\n', 4, 1, "a is not a path in double quotes"),
-    ("flags behind a comma in quotes", '100 openat(3,"a,\\"b",x) RET 3\n', 4, 1, "x" + SHORT),
+    ("flags after a comma in quotes", '100 openat(3,"a,\\"b",x) RET 3\n', 4, 1, "x" + SHORT),
     ("a directory", '100 unlinkat(at,"a",0) RET 0\n', 4, 1, "at is not a directory, a descriptor or AT_FDCWD"),
     ("too many arguments", "100 read(3,4) RET 1\n", 4, 1, "read takes a descriptor, but here it has (3,4)"),
     ("no argument", "100 close() RET 0\n", 4, 1, "close takes a descriptor, but here it has ()"),
