@@ -1,7 +1,7 @@
 -- A field that is read is spelled so, and what spells it is read.
 use Rattle.std.proofs.Common.{◌≡◌, ℕ, zero, suc, ◌^◌, ◌<◌, ◌≤◌, ◌≢◌, ◌&&◌, ◌||◌, Bool, true, false, cond, not, eqb, ltb}
 use Rattle.std.proofs.Common.{leb, List, length, get_or, Option, Some, None, Result, Ok, Err, refl, sym, ap, ◌∙◌, arith}
-use Rattle.std.proofs.Common.{tests, ◌+◌, ◌-◌, ◌∷◌, ◌++◌, take, drop, ◌⊎◌, inl, inr}
+use Rattle.std.proofs.Common.{tests, ◌+◌, ◌-◌, ◌∷◌, ◌++◌, take, drop}
 use Rattle.std.proofs.lemmas.List.{length-take-le, get_or-take, take_all}
 use Rattle.std.specs.Str.{all_ascii_digits}
 use Rattle.std.specs.Str.Parse.{digits_value}
@@ -129,28 +129,27 @@ pub record Digits (t : List ℕ) (i n : ℕ) : Type 0 where
   pub digits : all_ascii_digits (take i t) ≡ true
   pub value : n ≡ digits_value 10 (take i t)
 
-one_digit : (a i : ℕ) → (a ≡ 48 × i ≡ 1) ⊎ (a ≢ 48) → a ≡ 48 → i ≡ 1
-one_digit a i (inl p) e = p.1
-one_digit a i (inr f) e = absurd (f e)
+-- a 0 that leads stands alone
+abbrev pub LoneZero : List ℕ → ℕ → Type 0
+LoneZero t i = get_or t 0 0 ≡ 48 → i ≤ 1
 
-digits_are : {t : List ℕ} {i n : ℕ} → Digits t i n → i ≤ length t → i ≢ 0
-    → (get_or t 0 0 ≡ 48 × i ≡ 1) ⊎ (get_or t 0 0 ≢ 48) → n < 2 ^ 64 → decimal n ≡ take i t
+digits_are : {t : List ℕ} {i n : ℕ} → Digits t i n → i ≤ length t → i ≢ 0 → LoneZero t i → n < 2 ^ 64
+    → decimal n ≡ take i t
 digits_are {t = t} {i = i} {n = n} d le some nought small =
     let size : length (take i t) ≡ i = length-take-le i t le in
     let first : get_or (take i t) 0 0 ≡ get_or t 0 0 = get_or-take i t 0 0 (omega (arith, some)) in
     ap decimal d.value ∙ decimal-digits_value own (take i t) d.digits (omega (arith, size, some))
-    (λ z. size ∙ one_digit (get_or t 0 0) i nought (sym first ∙ z)) (omega (arith, d.value, small))
+    (λ z. let le = nought (sym first ∙ z) in omega (arith, size, le, some)) (omega (arith, d.value, small))
 
 -- with the byte that ends them, and the rest
 pub number_ends : {t : List ℕ} {i n stop : ℕ} → Digits t i n → i < length t → get_or t i 0 ≡ stop → i ≢ 0
-    → (get_or t 0 0 ≡ 48 × i ≡ 1) ⊎ (get_or t 0 0 ≢ 48) → n < 2 ^ 64
-    → t ≡ decimal n ++ (stop ∷ take (length t - (i + 1)) (drop (i + 1) t))
+    → LoneZero t i → n < 2 ^ 64 → t ≡ decimal n ++ (stop ∷ take (length t - (i + 1)) (drop (i + 1) t))
 number_ends {t = t} {i = i} {n = n} {stop = stop} d lt at some nought small =
     parted t i stop lt at ∙ ap (λ (s : List ℕ). s ++ (stop ∷ take (length t - (i + 1)) (drop (i + 1) t)))
     (sym (digits_are d (omega (arith, lt)) some nought small))
 
 -- with nothing after them
 pub number_whole : {t : List ℕ} {i n : ℕ} → Digits t i n → length t ≤ i → i ≤ length t → i ≢ 0
-    → (get_or t 0 0 ≡ 48 × i ≡ 1) ⊎ (get_or t 0 0 ≢ 48) → n < 2 ^ 64 → t ≡ decimal n
+    → LoneZero t i → n < 2 ^ 64 → t ≡ decimal n
 number_whole {t = t} {i = i} d le within some nought small =
     sym (digits_are d within some nought small ∙ take_all i t le)

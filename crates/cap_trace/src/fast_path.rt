@@ -54,11 +54,14 @@ fn number_before(stop: u8, text: &[u8]) -> Option<(u32, &[u8])>
     for i in 0..MOST_BYTES {
         let byte = text[i];
         let Some(digit) = digit_of(byte) else {
-            if byte != stop || i == 0 || (text[0] == b'0' && i != 1) {
+            if byte != stop || i == 0 {
                 return None;
             }
             return Some((number, &text[i + 1..]));
         };
+        if i == 1 && text[0] == b'0' {
+            return None;
+        }
         number = number * 10 + digit;
     }
     None
@@ -159,10 +162,10 @@ fn short_number_of(text: &[u8]) -> Option<u32>
     let mut number: u32 = 0;
     for i in 0..MOST_BYTES {
         if i >= text.len() {
-            if i == 0 || (text[0] == b'0' && i != 1) {
-                return None;
-            }
-            return Some(number);
+            return if i == 0 { None } else { Some(number) };
+        }
+        if i == 1 && text[0] == b'0' {
+            return None;
         }
         number = number * 10 + digit_of(text[i])?;
     }
@@ -188,13 +191,12 @@ fn number_after(tail: &[u8]) -> Option<u32>
 fn short_answer(kind: ResultKind, tail: &[u8]) -> Option<Answer>
     ensures { IfSome result (λ a. answer_at kind tail.now ≡ Ok a) }
 {
-    let Some(number) = number_after(tail) else {
-        return answered(kind, tail);
-    };
-    match kind {
-        ResultKind::Count => Some(Answer::Made(u64::from(number))),
-        ResultKind::Zero if number == 0 => Some(Answer::Made(0)),
-        ResultKind::Fd if number <= LARGEST_FD => Some(Answer::Made(u64::from(number))),
+    match (kind, number_after(tail)) {
+        (ResultKind::Count, Some(number)) => Some(Answer::Made(u64::from(number))),
+        (ResultKind::Zero, Some(number)) if number == 0 => Some(Answer::Made(0)),
+        (ResultKind::Fd, Some(number)) if number <= LARGEST_FD => {
+            Some(Answer::Made(u64::from(number)))
+        }
         _ => answered(kind, tail),
     }
 }

@@ -2,7 +2,7 @@
 //!
 //! What a function here wrote before memory ran out stays in the vector; `write_line` takes it off again.
 
-ghost use Rattle.std.specs.Prelude.{◌≡◌, ◌++◌, ◌∷◌, [], length, map, take, OnOk, OnErr, if◌then◌else◌, is_ok};
+ghost use Rattle.std.specs.Prelude.{◌≡◌, ◌++◌, ◌∷◌, [], length, map, take, OnOk, OnErr};
 ghost use Rattle.std.specs.Fmt.{decimal};
 ghost use Rattle.std.specs.List.{join_with_byte};
 ghost use Rattle.cap_trace.specs.Names.{name_of};
@@ -20,8 +20,14 @@ use cap_rights::{NoMemory, write_rights};
 use itoa::Buffer;
 use std::alloc::AllocError;
 
-fn put_number(number: u64, out: &mut Vec<u8>) -> Result<(), AllocError>
-    ensures { out.new.items ≡ (if is_ok result then out.old.items ++ decimal number else out.old.items) }
+/// Appends a number in decimal.
+///
+/// # Errors
+///
+/// [`AllocError`] where memory ran out. The vector is then as before.
+pub fn put_number(out: &mut Vec<u8>, number: u64) -> Result<(), AllocError>
+    ensures ok { OnOk result (out.new.items ≡ out.old.items ++ decimal number) }
+    ensures err { OnErr result (out.new.items ≡ out.old.items) }
 {
     let mut buffer = Buffer::new();
     out.extend_from_slice(buffer.format(number).as_bytes())
@@ -41,7 +47,7 @@ fn put_argument(argument: &ArgRef<'_>, out: &mut Vec<u8>) -> Result<(), AllocErr
     ensures err { OnErr result (take (length out.old.items) out.new.items ≡ out.old.items) }
 {
     match argument {
-        ArgRef::Fd(fd) | ArgRef::Dir(Dir::Fd(fd)) => put_number(u64::from(*fd), out),
+        ArgRef::Fd(fd) | ArgRef::Dir(Dir::Fd(fd)) => put_number(out, u64::from(*fd)),
         ArgRef::Dir(Dir::Cwd) => out.extend_from_slice(b"AT_FDCWD"),
         ArgRef::Flags(text) | ArgRef::Command(text) | ArgRef::Free(text) => {
             out.extend_from_slice(text)
@@ -103,7 +109,7 @@ fn put_other_fds(others: &[Fd], out: &mut Vec<u8>) -> Result<(), AllocError>
 {
     for other in others {
         out.extend_from_slice(b",")?;
-        put_number(u64::from(*other), out)?;
+        put_number(out, u64::from(*other))?;
     }
     Ok(())
 }
@@ -116,7 +122,7 @@ pub(crate) fn put_fds(fds: &[Fd], out: &mut Vec<u8>) -> Result<(), AllocError>
     match fds {
         [] => Ok(()),
         [first, others @ ..] => {
-            put_number(u64::from(*first), out)?;
+            put_number(out, u64::from(*first))?;
             put_other_fds(others, out)
         }
     }
@@ -143,7 +149,7 @@ fn put_between(item: &Item<'_>, out: &mut Vec<u8>) -> Result<(), AllocError>
         Item::Call { call, .. } => put_call(call, out),
         Item::Start(fds) => put_start(fds, out),
         Item::Exit => Ok(()),
-        Item::Foreign(fd) => put_number(u64::from(*fd), out),
+        Item::Foreign(fd) => put_number(out, u64::from(*fd)),
     }
 }
 
@@ -152,15 +158,15 @@ fn put_answer(answer: &Answer, out: &mut Vec<u8>) -> Result<(), AllocError>
     ensures err { OnErr result (take (length out.old.items) out.new.items ≡ out.old.items) }
 {
     match answer {
-        Answer::Made(number) => put_number(*number, out),
+        Answer::Made(number) => put_number(out, *number),
         Answer::Pair(first, second) => {
-            put_number(*first, out)?;
+            put_number(out, *first)?;
             out.extend_from_slice(b",")?;
-            put_number(*second, out)
+            put_number(out, *second)
         }
         Answer::Fault(errno) => {
             out.extend_from_slice(b"-1 errno ")?;
-            put_number(u64::from(*errno), out)
+            put_number(out, u64::from(*errno))
         }
     }
 }
@@ -185,7 +191,7 @@ fn put_head(pid: Pid, item: &Item<'_>, out: &mut Vec<u8>) -> Result<(), AllocErr
         (out.new.items ≡ out.old.items ++ (decimal pid ++ (32 ∷ (name_of (head_of (item_view item.now)) ++ 40 ∷ [])))) }
     ensures err { OnErr result (take (length out.old.items) out.new.items ≡ out.old.items) }
 {
-    put_number(u64::from(pid), out)?;
+    put_number(out, u64::from(pid))?;
     out.extend_from_slice(b" ")?;
     out.extend_from_slice(item.head().name())?;
     out.extend_from_slice(b"(")

@@ -2,18 +2,23 @@ use Rattle.std.proofs.Common.{arith}
 use Rattle.cap_trace.proofs.Numbers.{digits_none, digits_more, few_digits}
 use Rattle.cap_trace.proofs.Numerals.{number_whole}
 use Rattle.cap_trace.proofs.fast_path.short_number_of.Goals as goal
+use Rattle.cap_trace.proofs.fast_path.short_number_of.Goals.{else-i-eq1-via-then-i-eq1+else-text-eq48, else-i-eq1-via-else-i-eq1}
 
 pub loop-i-init : goal.loop-i-init
-loop-i-init c = (digits_none c.args.text.now, omega arith)
+loop-i-init c = (digits_none c.args.text.now, omega arith, λ z. omega arith)
 
-pub returns-then-i-text : goal.returns-then-i-text
-returns-then-i-text c = number_whole c.loop-i.invariant.0 c.if-i-text.true c.loop-i.invariant.1 c.if-i-eq0.false
-    c.if-i-ne1.either (omega (arith, c.loop-i.auto.number-fits))
+pub returns-else-i-eq0 : goal.returns-else-i-eq0
+returns-else-i-eq0 c = number_whole c.loop-i.invariant.0 c.if-i-text.true c.loop-i.invariant.1 c.if-i-eq0.false
+    c.loop-i.invariant.2 (omega (arith, c.loop-i.auto.number-fits))
 
 pub loop-i-preserved : goal.loop-i-preserved
 loop-i-preserved c = (
   digits_more c.loop-i.invariant.0 c.if-i-text.false c.in_ok-number.ensures.0 (omega (arith, c.in_ok-number.ensures.1)),
   omega (arith, c.if-i-text.false),
+  elim c.else-i-eq1.branch [
+    | else-i-eq1-via-then-i-eq1+else-text-eq48 w ↦ λ z. absurd (w.if-text-eq48.false z)
+    | else-i-eq1-via-else-i-eq1 w ↦ λ z. omega (arith, c.loop-i.invariant.2 z, w.if-i-eq1.false)
+  ],
 )
 
 pub overflow_mul-number : goal.overflow_mul-number

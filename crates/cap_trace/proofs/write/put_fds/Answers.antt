@@ -13,7 +13,7 @@ returns-in_ok-put_number-in-len1-up-clause-ok c =
     (λ h. put_first decimal c.args.fds.now x c.args.out.now.items c.put_number.new.out.items
     c.put_other_fds.new.out.items c.in-len1-up.len_at_least
     (get_or_default c.args.fds.now 0 0 x c.in-len1-up.len_at_least)
-    (c.in_ok-put_number-in-len1-up.ensures ∙ ap (λ (n : ℕ). c.args.out.now.items ++ decimal n) c.from.ensures)
+    (c.in_ok-put_number-in-len1-up.ensures.ok ∙ ap (λ (n : ℕ). c.args.out.now.items ++ decimal n) c.from.ensures)
     (h ∙ ap (λ (rest : List ℕ). c.put_number.new.out.items ++ with_commas (map decimal rest)) (rest_is c.args.fds.now))
     ∙ ap (λ (ts : List (List ℕ)). c.args.out.now.items ++ join_with_byte 44 ts) (fds_text c.args.fds.now))
     c.put_other_fds.ensures.ok
@@ -21,4 +21,4 @@ returns-in_ok-put_number-in-len1-up-clause-ok c =
 pub returns-in_ok-put_number-in-len1-up-clause-err : goal.returns-in_ok-put_number-in-len1-up-clause-err
 returns-in_ok-put_number-in-len1-up-clause-err c =
     err_kept c.put_other_fds.result c.args.out.now.items c.put_number.new.out.items
-    c.put_other_fds.new.out.items _ c.in_ok-put_number-in-len1-up.ensures c.put_other_fds.ensures.err
+    c.put_other_fds.new.out.items _ c.in_ok-put_number-in-len1-up.ensures.ok c.put_other_fds.ensures.err

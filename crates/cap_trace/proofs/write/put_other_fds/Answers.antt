@@ -14,4 +14,4 @@ loop-other-preserved c =
     c.extend_from_slice.new.self.items c.put_number.new.out.items
     c.loop-other-test.true (get_or_default c.args.others.now c.loop-other.other-index 0 x c.loop-other-test.true)
     c.loop-other.invariant c.in_ok-extend_from_slice.ensures.items
-    (c.in_ok-put_number.ensures ∙ ap (λ (n : ℕ). c.extend_from_slice.new.self.items ++ decimal n) c.from.ensures)
+    (c.in_ok-put_number.ensures.ok ∙ ap (λ (n : ℕ). c.extend_from_slice.new.self.items ++ decimal n) c.from.ensures)
