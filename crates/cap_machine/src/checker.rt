@@ -93,22 +93,9 @@ impl Checker {
         requires { lines_of self ≡ 0 }
         ensures { (profile : Profile) (s : State) → HasChecked self profile s [] → HasDenied result profile s [] }
     {
-        let Checker {
-            question: _,
-            profile,
-            table,
-            lines,
-            said,
-            text,
-        } = self;
-        Checker {
-            question: Question::Denials,
-            profile,
-            table,
-            lines,
-            said,
-            text,
-        }
+        let mut checker = self;
+        checker.question = Question::Denials;
+        checker
     }
 
     /// How many lines it was given.

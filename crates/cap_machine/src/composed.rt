@@ -43,6 +43,7 @@ fn held_by(first: &HeldOp, later: &Op) -> HeldOp
 
 impl Op {
     /// The op that does to each cell what this op does and then what the later one does.
+    #[tactic(auto, using(crate::proofs::Ops::ops_in_turn))]
     pub fn then(&self, later: &Op) -> Op
         ensures is { result ≡ in_turn self.now later.now }
         ensures does { (cell : Cell) → applied result cell ≡ applied later.now (applied self.now cell) }

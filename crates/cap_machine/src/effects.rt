@@ -372,6 +372,8 @@ fn flags_effect(call: FlagsCall, flags: &[u8], answer: &Answer) -> Effect<'stati
 }
 
 /// What a call does.
+// Inlined, as the next: a large value that is returned is copied by each function that it goes through.
+#[inline(always)]
 fn effect_of(profile: Profile, call: &Call<'_>, answer: &Answer) -> Effect<'static>
     requires answer { IsAnswer (kind_of (call_view call.now)) answer.now }
     requires within { FdsWithin (args_of_call (call_view call.now)) }
@@ -402,7 +404,6 @@ fn effect_of(profile: Profile, call: &Call<'_>, answer: &Answer) -> Effect<'stat
 }
 
 /// What a line does in a profile.
-// Inlined: a large value that is returned is copied by each function that it goes through.
 #[inline(always)]
 pub(crate) fn effect_of_line<'a>(profile: Profile, line: &LineRef<'a>) -> Effect<'a>
     ensures cells { (p f : ℕ) → effect_touch result line.now.pid p f ≡ touch (step profile line.now) p f }

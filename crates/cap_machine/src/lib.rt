@@ -90,7 +90,9 @@ pub use provenance_laws::{
     chains_are_enough, chains_skip_no_line, mode_matters_where_it_decides, named_lines_matter,
 };
 pub use question::Question;
-pub use report::{put_count, put_denial, put_denial_count, put_denial_words, put_finding};
+pub use report::{
+    put_count, put_denial, put_denial_count, put_denial_words, put_finding, put_finding_words,
+};
 pub use rule::{Check, Checks, Class, Effect, LimitWord, Reply, Requirement, Rule};
 pub use rules::rule_of;
 pub use standing::standing_fds;

@@ -13,18 +13,7 @@ ghost use Rattle.cap_machine.specs.DenialReport.{front_of, denial_words, denial_
 use crate::denial::{Denial, LineDenials};
 use crate::verdict::{Finding, Verdict};
 use cap_rights::{NoMemory, RightSet, write_rights};
-use cap_trace::{Fd, LineRef};
-use itoa::Buffer;
-
-/// Appends a number.
-fn put_number(out: &mut Vec<u8>, number: u64) -> Result<(), NoMemory>
-    ensures ok { OnOk result (out.new.items ≡ out.old.items ++ decimal number) }
-    ensures err { OnErr result (take (length out.old.items) out.new.items ≡ out.old.items) }
-{
-    let mut buffer = Buffer::new();
-    out.extend_from_slice(buffer.format(number).as_bytes())?;
-    Ok(())
-}
+use cap_trace::{Fd, LineRef, put_number};
 
 /// Appends a descriptor and rights, with one space between.
 fn put_rights(out: &mut Vec<u8>, fd: Fd, rights: &RightSet) -> Result<(), NoMemory>
@@ -36,8 +25,10 @@ fn put_rights(out: &mut Vec<u8>, fd: Fd, rights: &RightSet) -> Result<(), NoMemo
     write_rights(rights, out)
 }
 
-/// Appends the word of a finding and what belongs to it.
-fn put_words(out: &mut Vec<u8>, finding: &Finding) -> Result<(), NoMemory>
+/// Appends the word of a finding and what belongs to it, with one space between.
+///
+/// `NoMemory` when out of memory; the vector then still begins with what it had, and a part may follow.
+pub fn put_finding_words(out: &mut Vec<u8>, finding: &Finding) -> Result<(), NoMemory>
     ensures ok { OnOk result (out.new.items ≡ out.old.items ++ join_with_byte 32 (finding_words finding.now)) }
     ensures err { OnErr result (take (length out.old.items) out.new.items ≡ out.old.items) }
 {
@@ -79,6 +70,16 @@ pub fn put_denial_words(out: &mut Vec<u8>, denial: &Denial) -> Result<(), NoMemo
     Ok(())
 }
 
+/// Appends a number and a space. On an `Err` a part of it may have been appended.
+fn put_number_and_space(out: &mut Vec<u8>, number: u64) -> Result<(), NoMemory>
+    ensures ok { OnOk result (out.new.items ≡ out.old.items ++ (decimal number ++ 32 ∷ [])) }
+    ensures err { OnErr result (take (length out.old.items) out.new.items ≡ out.old.items) }
+{
+    put_number(out, number)?;
+    out.extend_from_slice(b" ")?;
+    Ok(())
+}
+
 /// Appends the position, the process and the name of the call, with one space after each. On an `Err` a part of it may
 /// have been appended.
 fn put_front(out: &mut Vec<u8>, at: usize, line: &LineRef<'_>) -> Result<(), NoMemory>
@@ -86,10 +87,8 @@ fn put_front(out: &mut Vec<u8>, at: usize, line: &LineRef<'_>) -> Result<(), NoM
         ++ front_of (decimal at) (decimal line.now.pid) (name_of (head_of line.now.item))) }
     ensures err { OnErr result (take (length out.old.items) out.new.items ≡ out.old.items) }
 {
-    put_number(out, at as u64)?;
-    out.extend_from_slice(b" ")?;
-    put_number(out, u64::from(line.pid))?;
-    out.extend_from_slice(b" ")?;
+    put_number_and_space(out, at as u64)?;
+    put_number_and_space(out, u64::from(line.pid))?;
     out.extend_from_slice(line.name())?;
     out.extend_from_slice(b" ")?;
     Ok(())
@@ -107,7 +106,7 @@ fn put_all(
     ensures err { OnErr result (take (length out.old.items) out.new.items ≡ out.old.items) }
 {
     put_front(out, at, line)?;
-    put_words(out, finding)?;
+    put_finding_words(out, finding)?;
     out.extend_from_slice(b"\n")?;
     Ok(())
 }
