@@ -12,9 +12,9 @@ use Rattle.std.proofs.lemmas.List.{get_or-set_other, length-set}
 use Rattle.std.proofs.Math.Logic.{⊎_elim}
 use Rattle.cap_trace.specs.Views.{fds_spelled}
 use Rattle.cap_machine.specs.declared.cell.Cell.{Cell}
-use Rattle.cap_machine.specs.declared.cell.Cell.TheVariants.{Unknown, Closed}
+use Rattle.cap_machine.specs.declared.cell.Cell.TheVariants.{Closed}
 use Rattle.cap_machine.specs.declared.cell.Mode.{Mode}
-use Rattle.cap_machine.specs.declared.cell.Mode.TheVariants.{Inside, Outside, Unsure}
+use Rattle.cap_machine.specs.declared.cell.Mode.TheVariants.{Inside, Outside}
 use Rattle.cap_machine.specs.declared.rule.Effect.{Effect}
 use Rattle.cap_machine.specs.declared.rule.Effect.TheVariants.{Keep, Start, Exit, Forget, Exec, CloseFrom, Enter, Give}
 use Rattle.cap_machine.specs.declared.rule.Effect.TheVariants.{GiveTwo, Change, Fork, ForkAs}
@@ -232,8 +232,8 @@ module _ (me p f : ℕ) (cell : ℕ → ℕ → Cell) (mine : ℕ → Cell) (is 
   own_touch Keep one = none (p == me) itself
   own_touch Enter one = none (p == me) itself
   own_touch (Start fds) one = at_all (p == me) (given (started (fds_spelled fds.now) f)) _ refl
-  own_touch Exit one = at_all (p == me) (given Unknown) Unknown refl
-  own_touch Forget one = at_all (p == me) (given Unknown) Unknown refl
+  own_touch Exit one = absurd one
+  own_touch Forget one = absurd one
   own_touch Exec one = at_all (p == me) (taken exec me f) _ (ap (applied exec) (is f))
   own_touch (CloseFrom n) one = at_one (p == me) (nat_le n f) (given Closed) Closed itself refl
   own_touch (Give g c) one = at_one (p == me) (f == g) (given c) c itself refl
@@ -253,10 +253,10 @@ own_turn effect me p mode m one is = by effect one
     by : (effect : Effect) → IsOwn effect
         → (if p == me then own_mode effect m else mode p) ≡ turned (effect_turn effect me p) mode p
     by (Start fds) one = choice (λ (t : Turn). turned t mode p) (p == me) (turns Outside) stays
-    by Exit one = choice (λ (t : Turn). turned t mode p) (p == me) (turns Unsure) stays
+    by Exit one = absurd one
     by Enter one = choice (λ (t : Turn). turned t mode p) (p == me) (turns Inside) stays
     by Keep one = same (p == me) (eqb-true p me)
-    by Forget one = same (p == me) (eqb-true p me)
+    by Forget one = absurd one
     by Exec one = same (p == me) (eqb-true p me)
     by (CloseFrom n) one = same (p == me) (eqb-true p me)
     by (Give g c) one = same (p == me) (eqb-true p me)

@@ -43,11 +43,17 @@ effect_turn (Give g c) me p = stays
 effect_turn (GiveTwo g h c) me p = stays
 effect_turn (Change g op h) me p = stays
 
--- what an effect of its own line makes of the cells of a process, and of its mode
+-- it makes no child, and leaves something of its process known
+abbrev pub IsOwn : Effect → Type 0
+IsOwn Exit = ⊥
+IsOwn Forget = ⊥
+IsOwn (Fork child) = ⊥
+IsOwn (ForkAs child g) = ⊥
+IsOwn _ = Unit {0}
+
+-- what such an effect of its own line makes of the cells of a process, and of its mode
 abbrev pub own_cell : Effect → (ℕ → Cell) → ℕ → Cell
 own_cell (Start fds) cell f = started (fds_spelled fds.now) f
-own_cell Exit cell f = Unknown
-own_cell Forget cell f = Unknown
 own_cell Exec cell f = applied exec (cell f)
 own_cell (CloseFrom n) cell f = if nat_le n f then Closed else cell f
 own_cell (Give g c) cell f = if f == g then c else cell f
@@ -57,15 +63,8 @@ own_cell _ cell f = cell f
 
 abbrev pub own_mode : Effect → Mode → Mode
 own_mode (Start fds) m = Outside
-own_mode Exit m = Unsure
 own_mode Enter m = Inside
 own_mode _ m = m
-
--- it makes no child
-abbrev pub IsOwn : Effect → Type 0
-IsOwn (Fork child) = ⊥
-IsOwn (ForkAs child g) = ⊥
-IsOwn _ = Unit {0}
 
 -- the descriptors that it writes, or closes from, are within the limit
 abbrev pub IsWithin : Effect → Type 0

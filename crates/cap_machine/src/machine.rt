@@ -4,7 +4,7 @@ ghost use Rattle.std.specs.Prelude.{◌≡◌, [], ◌∷◌, IfOk, OnOk};
 ghost use Rattle.cap_machine.specs.Steps.{step};
 ghost use Rattle.cap_machine.specs.History.{ended};
 ghost use Rattle.cap_machine.specs.Check.{said};
-ghost use Rattle.cap_machine.specs.State.{start_state};
+ghost use Rattle.cap_machine.specs.State.{start_state, with_listed};
 
 use crate::cell::{Cell, Mode, Profile};
 use crate::checking::take_line;
@@ -79,6 +79,16 @@ impl Machine {
             (start_state self.new ≡ ended (start_state self.old) (step profile line.now ∷ [])) }
     {
         self.table.apply_line(profile, line)
+    }
+
+    /// Forgets a process: nothing is known of it from now on. What is known of all others stays.
+    ///
+    /// `NoMemory` when out of memory. What the machine then knows isn't promised: drop it.
+    pub fn forget(&mut self, pid: Pid) -> Result<(), NoMemory>
+        ensures { OnOk result (start_state self.new
+            ≡ with_listed (start_state self.old) pid Mode.Unsure Cell.Unknown []) }
+    {
+        self.table.forget(pid, Mode::Unsure)
     }
 
     /// What is known of a descriptor of a process.

@@ -1,6 +1,6 @@
 //! The processes of which something is known, going forward: the meaning of a table is what its look-ups answer.
 
-ghost use Rattle.std.specs.Prelude.{◌≡◌, ℕ, None, IfOk, IfSome, OnOk, OnErr, ◌==◌, if◌then◌else◌};
+ghost use Rattle.std.specs.Prelude.{◌≡◌, ℕ, [], None, IfOk, IfSome, OnOk, OnErr, ◌==◌, if◌then◌else◌};
 ghost use Rattle.std.specs.List.{All};
 ghost use Rattle.std.specs.Option.{option_copied, option_map_or};
 ghost use Rattle.std.specs.Vec.{vec_len};
@@ -30,19 +30,15 @@ pub(crate) struct Process {
 }
 
 impl Process {
-    /// A process of which nothing is known, with any cells to begin from.
-    fn unknown(pid: Pid, cells: Cells) -> Result<Process, NoMemory>
+    /// A process with this mode and no known cell, with any cells to begin from.
+    fn unknown(pid: Pid, mode: Mode, cells: Cells) -> Result<Process, NoMemory>
         ensures cells { IfOk result (λ new. (f : ℕ) → cell_in new f ≡ Cell.Unknown) }
-        ensures mode { IfOk result (λ new. new.mode ≡ Mode.Unsure) }
+        ensures mode { IfOk result (λ new. new.mode ≡ mode) }
         ensures pid { IfOk result (λ new. new.pid ≡ pid) }
     {
         let mut cells = cells;
         cells.apply_deferred(Deferred::Forget)?;
-        Ok(Process {
-            pid,
-            mode: Mode::Unsure,
-            cells,
-        })
+        Ok(Process { pid, mode, cells })
     }
 
     /// A process with this mode and these cells.
@@ -73,7 +69,8 @@ impl Process {
         ensures pid { OnOk result (self.new.pid ≡ self.old.pid) }
     {
         match effect {
-            Effect::Keep | Effect::Fork(_) | Effect::ForkAs(_, _) => Ok(()),
+            Effect::Keep | Effect::Exit | Effect::Forget | Effect::Fork(_) | Effect::ForkAs(_, _) =>
+                Ok(()),
             Effect::Enter => {
                 self.mode = Mode::Inside;
                 Ok(())
@@ -82,11 +79,6 @@ impl Process {
                 self.mode = Mode::Outside;
                 self.cells.start(alloc, &fds_of(alloc, fds)?)
             }
-            Effect::Exit => {
-                self.mode = Mode::Unsure;
-                self.cells.apply_deferred(Deferred::Forget)
-            }
-            Effect::Forget => self.cells.apply_deferred(Deferred::Forget),
             Effect::Exec => self.cells.apply_deferred(Deferred::Exec),
             Effect::CloseFrom(fd) => self.cells.close_from(*fd),
             Effect::Give(fd, cell) => self.cells.write(*fd, *cell),
@@ -153,10 +145,10 @@ fn set_place(places: &mut Vec<usize>, pid: Pid, place: usize) -> Result<(), NoMe
 /// Each process of which something is known, and by pid where it stands among them; of a pid that has no process it
 /// doesn't matter where.
 ///
-/// A new process begins from a clone of the cells in `blank`, whatever they are, with all of them pending to be
-/// forgotten: so it shares them, and takes memory only for what is written.
+/// A process that is new or forgotten begins from a clone of the cells in `blank`, whatever they are, with all of them
+/// pending to be forgotten: so it shares them, and takes memory only for what is written.
 ///
-/// What is left of a process that a fork replaced is in `deferred_free`, and is freed by the lines that follow.
+/// What is left of a process that was replaced is in `deferred_free`, and is freed by the lines that follow.
 #[derive(Drop)]
 pub(crate) struct Table {
     alloc: Global,
@@ -303,7 +295,7 @@ impl Table {
         ensures place { IfOk result (λ place. StandsAt self.new pid place) }
     {
         let cells = self.begin()?;
-        let process = Process::unknown(pid, cells)?;
+        let process = Process::unknown(pid, Mode::Unsure, cells)?;
         let place = self.processes.len();
         self.append(process)?;
         Ok(place)
@@ -360,7 +352,7 @@ impl Table {
         Ok(())
     }
 
-    /// What an effect that makes no child does to a process.
+    /// What an effect that makes no child and leaves something known does to a process.
     fn change(&mut self, pid: Pid, effect: &Effect<'_>) -> Result<(), NoMemory>
         requires within { IsWithin effect.now }
         requires own { IsOwn effect.now }
@@ -389,7 +381,7 @@ impl Table {
             }
             None => {
                 let cells = self.begin()?;
-                Process::unknown(pid, cells)
+                Process::unknown(pid, Mode::Unsure, cells)
             }
         }
     }
@@ -403,6 +395,16 @@ impl Table {
             Some(place) => self.processes[place].cells.hand_on(&mut self.deferred_free),
             None => Ok(()),
         }
+    }
+
+    /// Forgets the cells of a process, which has this mode then.
+    pub(crate) fn forget(&mut self, pid: Pid, mode: Mode) -> Result<(), NoMemory>
+        ensures { OnOk result (Keeps self.new (with_listed (state_of self.old) pid mode Cell.Unknown [])) }
+    {
+        self.hand_on(pid)?;
+        let cells = self.begin()?;
+        let process = Process::unknown(pid, mode, cells)?;
+        self.put(process)
     }
 
     /// Writes in the tree of a process what it listed, for a child to share.
@@ -461,6 +463,8 @@ impl Table {
         self.deferred_free.free_some();
         match effect {
             Effect::Keep => Ok(()),
+            Effect::Exit => self.forget(pid, Mode::Unsure),
+            Effect::Forget => self.forget(pid, self.mode(pid)),
             Effect::Fork(child) => self.fork(pid, *child),
             Effect::ForkAs(child, fd) => {
                 self.fork(pid, *child)?;
