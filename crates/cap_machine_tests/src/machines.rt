@@ -69,3 +69,39 @@ fn judges(alloc: Global) -> bool {
 fn a_machine_judges_each_step_and_moves_on(rt: HostRuntime) {
     assert!(rt; judges(rt.alloc()));
 }
+
+/// Whether a machine that forgets process 100 knows nothing of it, and of process 101 what it knew before.
+fn forgets(machine: &mut Machine) -> bool {
+    machine.forget(100).is_ok()
+        && machine.cell(100, 5) == Cell::Unknown
+        && machine.mode(100) == Mode::Unsure
+        && machine.cell(101, 5) == Cell::Closed
+        && machine.mode(101) == Mode::Inside
+}
+
+/// Whether a machine forgets process 100 of a start, and nothing else.
+fn forgets_one(alloc: Global, start: &Start) -> bool {
+    match Machine::from_start(alloc, start) {
+        Ok(mut machine) => {
+            let holds = forgets(&mut machine);
+            drop(machine);
+            holds
+        }
+        Err(_) => false,
+    }
+}
+
+/// Whether process 100 of two is forgotten.
+fn forgets_the_first(alloc: Global) -> bool {
+    let mut start = Start::unknown(alloc);
+    let holds = add(alloc, &mut start, 100, Mode::Outside, Cell::Closed, &[])
+        && add(alloc, &mut start, 101, Mode::Inside, Cell::Closed, &[])
+        && forgets_one(alloc, &start);
+    drop(start);
+    holds
+}
+
+#[test]
+fn a_machine_forgets_one_process(rt: HostRuntime) {
+    assert!(rt; forgets_the_first(rt.alloc()));
+}

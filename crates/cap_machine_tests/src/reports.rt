@@ -2,7 +2,7 @@
 
 use crate::lines::{Way, reports};
 use crate::traces::{BY_PROFILE, REPORTS};
-use cap_machine::{Checker, Finding, Profile, put_count, put_finding};
+use cap_machine::{Checker, Finding, Profile, put_count, put_finding, put_finding_words};
 use cap_trace::{LineRef, parse_line};
 use std::alloc::Global;
 use std::test::Fail;
@@ -57,9 +57,16 @@ fn writes_an_open(alloc: Global, text: &[u8]) -> bool {
     }
 }
 
+/// Whether a finding has these words.
+fn has_words(alloc: Global, finding: Finding, words: &[u8]) -> bool {
+    let mut out = Vec::new(alloc);
+    put_finding_words(&mut out, &finding).is_ok() && out.as_slice() == words
+}
+
 #[test]
 fn findings_are_written(rt: HostRuntime) {
     assert!(rt; writes_an_open(rt.alloc(), b"7 100 open forbidden\nfindings 1\n"));
+    assert!(rt; has_words(rt.alloc(), Finding::Closed(9), b"closed 9"));
 }
 
 /// The example at the crate's head.

@@ -3,7 +3,7 @@
 use crate::marks::{Mark, lacked, right};
 use cap_machine::{Finding, put_count, put_finding};
 use cap_rights::{NoMemory, RightSet, parse_rights, write_rights};
-use cap_trace::{Line, LineFault, parse_line, write_line};
+use cap_trace::{Line, LineFault, parse_line, put_number, write_line};
 use std::alloc::Global;
 use std::test::Fail;
 
@@ -40,6 +40,7 @@ enum Part<'a> {
     Forbidden(&'a Line),
     /// The last line of a report with so many findings.
     Count(usize),
+    Number(u64),
 }
 
 /// Writes it.
@@ -49,6 +50,7 @@ fn put(part: &Part<'_>, out: &mut Vec<u8>) -> Result<(), NoMemory> {
         Part::Line(line) => write_line(line, out),
         Part::Forbidden(line) => put_finding(out, 7, &line.view(), &Finding::Forbidden),
         Part::Count(count) => put_count(out, *count),
+        Part::Number(number) => Ok(put_number(out, *number)?),
     }
 }
 
@@ -143,4 +145,14 @@ fn put_finding_refused(rt: HostRuntime) -> Result<(), Fail> {
 #[test]
 fn put_count_refused(rt: HostRuntime) -> Result<(), Fail> {
     write(rt.alloc(), &Part::Count(1), " ", "findings 1\n")
+}
+
+#[test]
+fn put_number_refused(rt: HostRuntime) -> Result<(), Fail> {
+    write(
+        rt.alloc(),
+        &Part::Number(u64::MAX),
+        " ",
+        "18446744073709551615",
+    )
 }

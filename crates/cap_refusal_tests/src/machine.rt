@@ -252,12 +252,13 @@ fn checker_refused(rt: HostRuntime) -> Result<(), Fail> {
     try_all(rt.alloc(), CELLS, &TRACE, &[OnTrace::Report])
 }
 
-/// How many findings a machine has of these lines.
+/// How many findings a machine has of these lines, after which it forgets process 100.
 fn found_by(machine: &mut Machine, lines: &[Line]) -> Result<usize, NoMemory> {
     let mut count: usize = 0;
     for line in lines {
         count = count.saturating_add(machine.step(Profile::Two, line)?.len());
     }
+    machine.forget(100)?;
     Ok(count)
 }
 

@@ -6,7 +6,7 @@ use cap_trace::{
     Answer, Call, Dir, FdCall, Fds, Item, LONGEST_LINE, Line, LineFault, LineRef, Path, PathCall,
     faults_are_of_their_fields, fds_of, has_fd, is_valid_arguments, is_valid_command,
     is_valid_flags, is_valid_name, number_of, one_line, one_path, only_rights_are_rewritten,
-    parse_line, read_fast, read_slow, reading_is_spelling, write_line, written_is_read,
+    parse_line, put_number, read_fast, read_slow, reading_is_spelling, write_line, written_is_read,
 };
 use std::alloc::Global;
 
@@ -659,6 +659,18 @@ fn numbers_are_read(rt: HostRuntime) {
     for (text, number) in &NUMBERS {
         assert!(rt; number_of(65_535, text) == *number);
     }
+}
+
+/// Whether a number is written so.
+fn is_number(alloc: Global, number: u64, text: &[u8]) -> bool {
+    let mut out = Vec::new(alloc);
+    put_number(&mut out, number).is_ok() && out.as_slice() == text
+}
+
+#[test]
+fn numbers_are_written(rt: HostRuntime) {
+    assert!(rt; is_number(rt.alloc(), 0, b"0"));
+    assert!(rt; is_number(rt.alloc(), u64::MAX, b"18446744073709551615"));
 }
 
 /// Whether a fault is printed so.
