@@ -3,7 +3,7 @@ use Rattle.std.proofs.{lemmas.Bool.and_cases, lemmas.List.Sums.AllPass-from_list
 use Rattle.std.specs.Prelude.{◌≡◌, ◌<◌, ◌&&◌, ◌||◌, ◌∷◌, if◌then◌else◌, ℕ, true, false, refl, get_or, Bool, List, []}
 use Rattle.std.specs.Prelude.{not, All}
 use Rattle.cap_summary.specs.{list_all, none, has_all, OnExec, Set, Clear, Unsure, Cell, Unknown, Closed, Held, Mode}
-use Rattle.cap_summary.specs.{Inside, Outside, State, Preconditions.any_certain, declared.ask.Ask.Ask}
+use Rattle.cap_summary.specs.{Inside, Outside, State, declared.ask.Ask.Ask}
 use Rattle.cap_summary.specs.{declared.key.Key.Key, declared.kinds.Kinds.Kinds}
 use Rattle.cap_summary.specs.Asks.{any_holds, standing, is_sure, certain_at, possible_at, CanBe, IsOpen}
 use Rattle.cap_summary.specs.Keys.{Cells, mode_cell, cell_mode, cells_of}
@@ -176,17 +176,3 @@ alike_sure a (Key.Fd f) r flag = refl
 pub certain_holds : (p : ℕ) (k : Key) (a : Ask) → certain_at k a ≡ true → (s : State) → passes a (cells_of s p k) ≡ true
 certain_holds p k a is s =
     sure_passes a s p k (each_passes (is_sure a k) (alike_sure a k) is (cells_of s p k))
-
--- where one ask is certain one holds, and else each fails in some state
-pub certain_any : (asks : List Ask) → any_certain asks ≡ true → (s : State) → any_holds (cells_of s) asks ≡ true
-certain_any [] is s = is
-certain_any (a ∷ asks) is s = elim (or_cases (certain_at a.key a) (any_certain asks) is) [
-  | inl h ↦ rw (certain_holds a.pid a.key a h s) refl
-  | inr h ↦ rw (certain_any asks h s) (or-true (passes a (cells_of s a.pid a.key)))
-]
-
-pub certain_none : (asks : List Ask) → any_certain asks ≡ false → All (CanBe false) asks
-certain_none [] is = All-nil (CanBe false)
-certain_none (a ∷ asks) is = All-cons (CanBe false) a asks
-    (fails_somewhere a.pid a.key a (or_left (certain_at a.key a) (any_certain asks) is))
-    (certain_none asks (or_right (certain_at a.key a) (any_certain asks) is))

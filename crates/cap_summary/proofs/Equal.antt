@@ -4,8 +4,7 @@ use Rattle.std.proofs.{Math.Bool.beq}
 use Rattle.std.specs.Prelude.{◌≡◌, ◌&&◌, ◌∷◌, Bool, true, false, refl, Option, Some, None, ℕ, List, [], eqb}
 use Rattle.cap_summary.specs.{pointwise, Cell, Held, HeldOp, Op, declared.ask.Ask.Ask, declared.base.Base.Base}
 use Rattle.cap_summary.specs.{declared.effect.Row.Row, declared.key.Key.Key, declared.kinds.Kinds.Kinds}
-use Rattle.cap_summary.specs.{declared.line_asks.UpToThree.UpToThree, declared.precondition.Refusal.Refusal}
-use Rattle.cap_summary.specs.{declared.value.Value.Value}
+use Rattle.cap_summary.specs.{declared.up_to_three.UpToThree.UpToThree, declared.value.Value.Value}
 use Rattle.cap_summary.proofs.{ap, rules, arith, eqb-true, common_steps, Bools.and_left, Bools.and_right}
 use Rattle.cap_machine.specs.contracts.cell.CellPartialEq.TheImpl as cells
 use Rattle.cap_machine.specs.contracts.cell.HeldOpPartialEq.TheImpl as helds
@@ -17,8 +16,7 @@ use Rattle.cap_summary.specs.contracts.effect.RowPartialEq.TheImpl as rows
 use Rattle.cap_summary.specs.contracts.key.KeyPartialEq.TheImpl as keys
 use Rattle.cap_summary.specs.contracts.kinds.KindsPartialEq.TheImpl as kinds
 use Rattle.cap_summary.specs.contracts.ask.AskPartialEq.TheImpl as asks
-use Rattle.cap_summary.specs.contracts.line_asks.UpToThreePartialEq.TheImpl as threes
-use Rattle.cap_summary.specs.contracts.precondition.RefusalPartialEq.TheImpl as refusals
+use Rattle.cap_summary.specs.contracts.up_to_three.UpToThreePartialEq.TheImpl as threes
 
 -- ---- lists and options
 module _ {X : Type 0} (E : X → X → Bool) (same : (a b : X) → E a b ≡ true → a ≡ b) where
@@ -51,24 +49,18 @@ same_ask a b is =
     let lacking : a.lacking ≡ b.lacking = same_kinds a.lacking b.lacking (grind (arith, common_steps)) in
     grind (arith, common_steps)
 
-same_three : (a b : UpToThree) → threes.eq-value.it a b ≡ true → a ≡ b
-same_three a b is =
-    let mode_is = option_eq asks.eq-value.it a.mode b.mode in
-    let first_is = option_eq asks.eq-value.it a.first b.first in
-    let more = and_right mode_is (first_is && option_eq asks.eq-value.it a.second b.second) is in
-    let mode : a.mode ≡ b.mode = same_option asks.eq-value.it same_ask _ _ (and_left mode_is _ is) in
-    let first : a.first ≡ b.first = same_option asks.eq-value.it same_ask _ _ (and_left first_is _ more) in
-    let second : a.second ≡ b.second = same_option asks.eq-value.it same_ask _ _ (and_right first_is _ more) in
-    grind (arith, common_steps)
-
-same_refusal : (a b : Refusal) → refusals.eq-value.it a b ≡ true → a ≡ b
-same_refusal a b is = let unless : a.unless ≡ b.unless = same_three a.unless b.unless is in grind (arith, common_steps)
-
 pub same_asks : (xs ys : List Ask) → pointwise asks.eq-value.it xs ys ≡ true → xs ≡ ys
 same_asks = same_list asks.eq-value.it same_ask
 
-pub same_refusals : (xs ys : List Refusal) → pointwise refusals.eq-value.it xs ys ≡ true → xs ≡ ys
-same_refusals = same_list refusals.eq-value.it same_refusal
+same_three : (a b : UpToThree) → threes.eq-value.it a b ≡ true → a ≡ b
+same_three a b is =
+    let all : a.asks ≡ b.asks = same_asks a.asks b.asks (and_left (pointwise asks.eq-value.it a.asks b.asks) _ is) in
+    let count : a.count ≡ b.count =
+    eqb-true a.count b.count (and_right (pointwise asks.eq-value.it a.asks b.asks) _ is) in
+    grind (arith, common_steps)
+
+pub same_refusals : (xs ys : List UpToThree) → pointwise threes.eq-value.it xs ys ≡ true → xs ≡ ys
+same_refusals = same_list threes.eq-value.it same_three
 
 pub beq_true : (a b : Bool) → beq a b ≡ true → a ≡ b
 beq_true true true is = refl

@@ -5,15 +5,15 @@ use Rattle.std.specs.Prelude.{◌≡◌, ◌∷◌, ◌++◌, ◌+◌, ◌<◌, 
 use Rattle.std.specs.Prelude.{get_or, take}
 use Rattle.cap_summary.specs.{Rc, values, Step, LineEffect, State, requirement, Turn, kept, stays, turns, follows}
 use Rattle.cap_summary.specs.{touch, turn, effect_touch, effect_turn, touched, ended, check, said, found_at, later}
-use Rattle.cap_summary.specs.{Composing.IsJoined, Effects.changed, LineAsks.is_refusal, LineAsks.refused, Keys.Cells}
+use Rattle.cap_summary.specs.{Asks.AreWithin, Composing.IsJoined, Effects.changed, LineAsks.is_refusal, LineAsks.refused, Keys.Cells}
 use Rattle.cap_summary.specs.{Keys.mode_cell, Keys.cells_of, Effects.LineLeaves, Effects.LeavesThenLine}
 use Rattle.cap_summary.specs.{declared.effect.Effect.Effect, declared.key.Key.Key, declared.known.Known.Known}
 use Rattle.cap_summary.specs.{declared.line_asks.LineAsks.LineAsks, declared.precondition.Precondition.Precondition}
 use Rattle.cap_summary.specs.Knows.{Says, Knows, StepsLeave}
-use Rattle.cap_summary.specs.LineAsks.{asked_holds, refusals_in, has_any}
+use Rattle.cap_summary.specs.LineAsks.{asked_holds, asks_in, refusals_in, has_any}
 use Rattle.cap_summary.specs.Lines.{turned_cell, line_after, IsThenLine}
-use Rattle.cap_summary.specs.Names.{Names, names_in, AreAmong, EffectWithin, LineWithin, LineAsksWithin, PreWithin}
-use Rattle.cap_summary.specs.Preconditions.{is_met, IsMetOr, IsPossible, asks_size}
+use Rattle.cap_summary.specs.Names.{Names, names_in, has_cell, AreAmong, EffectWithin, LineWithin, PreWithin}
+use Rattle.cap_summary.specs.Preconditions.{is_met, IsWithMore, IsPossible, asks_size}
 use Rattle.cap_summary.proofs.{sym, ap, ◌∙◌, arith, length-append, map-append, take_more, All-nil, All-cons, All-append}
 use Rattle.cap_summary.proofs.{fun_ext, ends_in_turn, checks_in_turn, checks_more, LineAsking.has_any-append}
 use Rattle.cap_summary.proofs.Naming.{effect_among, asks_among, first_among, second_among}
@@ -153,31 +153,27 @@ module _ (step : Step) (line : LineEffect) (me : ℕ) (cells : (p f : ℕ) → e
 
   pub says_more : (effect new : Effect) (pre more : Precondition) (asks : LineAsks) (t : List Step)
       → Says effect pre t → IsThenLine effect line me new → LeavesThenLine effect line me new
-      → IsMetOr pre more (λ cells. asked_holds (changed effect cells) asks)
-      → (IsPossible pre → IsPossible more)
-      → ((s : State) → asked_holds (cells_of s) asks ≡ has_any (said step s))
+      → IsWithMore effect (λ cells. asked_holds cells asks) (λ names. AreWithin (has_cell names) (asks_in asks)) 3
+      (refusals_in asks) pre more → ((s : State) → asked_holds (cells_of s) asks ≡ has_any (said step s))
       → ((names : Names) → LineWithin names me line → EffectWithin names effect → EffectWithin names new)
-      → ((names : Names) → EffectWithin names effect → LineAsksWithin names asks → PreWithin names pre
-      → PreWithin names more) → LineWithin (names_in (t ++ step ∷ [])) me line
-      → LineAsksWithin (names_in (t ++ step ∷ [])) asks → asks_size more ≤ asks_size pre + 3
-      → length more.refusals.items ≤ length pre.refusals.items + refusals_in asks
+      → LineWithin (names_in (t ++ step ∷ [])) me line
+      → AreWithin (has_cell (names_in (t ++ step ∷ []))) (asks_in asks)
       → refusals_in asks ≤ (if is_refusal (requirement step.line).reply then 1 else 0) → Says new more (t ++ step ∷ [])
-  says_more effect new pre more asks t so_far does leaves met possible says effects pres line_named asks_named few
-      refusals one = record {
-        after = λ s. after_more effect new t s (so_far.after s) does;
-        finds = λ s. met s
-            ∙ ap (λ (cells : Cells). is_met (cells_of s) pre || asked_holds cells asks) (between s)
-            ∙ ap (λ r. r || asked_holds (cells_of (ended s t)) asks) (so_far.finds s)
-            ∙ ap (λ r. has_any (check s t) || r) (says (ended s t))
-            ∙ sym (found s);
-        possible = possible so_far.possible;
-        left = λ p k is. both_leave t (step ∷ []) p k (so_far.left p k (leaves p k is).0) (step_leaves p k (leaves p k is).1);
-        effect_named = effects (names_in (t ++ step ∷ [])) line_named named;
-        asks_named = pres (names_in (t ++ step ∷ [])) named asks_named (asks_among (names_in t) (names_in (t ++ step ∷
-            [])) front pre so_far.asks_named);
-        few = omega (arith, few, so_far.few, length-append t (step ∷ []));
-        refusals = omega (arith, refusals, one, so_far.refusals, refused_parts t (step ∷ []));
-      }
+  says_more effect new pre more asks t so_far does leaves with says effects line_named asks_named one = record {
+    after = λ s. after_more effect new t s (so_far.after s) does;
+    finds = λ s. with.met s
+        ∙ ap (λ (cells : Cells). is_met (cells_of s) pre || asked_holds cells asks) (between s)
+        ∙ ap (λ r. r || asked_holds (cells_of (ended s t)) asks) (so_far.finds s)
+        ∙ ap (λ r. has_any (check s t) || r) (says (ended s t))
+        ∙ sym (found s);
+    possible = with.possible so_far.possible;
+    left = λ p k is. both_leave t (step ∷ []) p k (so_far.left p k (leaves p k is).0) (step_leaves p k (leaves p k is).1);
+    effect_named = effects (names_in (t ++ step ∷ [])) line_named named;
+    asks_named = with.names (names_in (t ++ step ∷ [])) named asks_named (asks_among (names_in t) (names_in (t ++ step ∷
+        [])) front pre so_far.asks_named);
+    few = omega (arith, with.few, so_far.few, length-append t (step ∷ []));
+    refusals = omega (arith, with.refusals, one, so_far.refusals, refused_parts t (step ∷ []));
+  }
     where
       front : AreAmong (names_in t) (names_in (t ++ step ∷ []))
       front = first_among t (step ∷ [])

@@ -1,93 +1,163 @@
 -- Where something is found.
-use Rattle.std.specs.Prelude.{◌≡◌, ◌∷◌, ◌++◌, ◌||◌, ◌<◌, List, [], Bool, true, false, refl, Option, Some, None, ℕ}
-use Rattle.std.specs.Prelude.{length, get_or, not, IfSome, is_some, All}
-use Rattle.cap_summary.specs.{list_any, State, Asks.any_holds, Asks.CanBe, Asks.IsOpen, Keys.Cells, Keys.cells_of}
-use Rattle.cap_summary.specs.{LineAsks.part_holds, LineAsks.one_holds, declared.ask.Ask.Ask}
-use Rattle.cap_summary.specs.{declared.line_asks.UpToThree.UpToThree, declared.precondition.Precondition.Precondition}
-use Rattle.cap_summary.specs.{declared.precondition.Refusal.Refusal}
-use Rattle.cap_summary.specs.Preconditions.{is_wrongful, is_met, has_part, PartsAreOpen, RefusalIsOpen, IsPossible}
-use Rattle.cap_summary.specs.Preconditions.{IsMetOr}
-use Rattle.cap_summary.proofs.{ap, ◌∙◌, sym, inl, inr, subst, All-push, or-false, or-true, or_assoc, or_cases}
-use Rattle.cap_summary.proofs.{list_any-append}
+use Rattle.std.specs.{declared.vec.Vec.Vec}
+use Rattle.std.specs.Prelude.{◌≡◌, ◌∷◌, ◌++◌, ◌||◌, ◌==◌, ◌+◌, ◌<◌, ◌≤◌, List, [], Bool, true, false, refl, ℕ}
+use Rattle.std.specs.Prelude.{length, get_or, not, All, take}
+use Rattle.cap_summary.specs.{list_any, State, Global, Effects.changed, Keys.Cells, Keys.cells_of}
+use Rattle.cap_summary.specs.{declared.ask.Ask.Ask, declared.effect.Effect.Effect}
+use Rattle.cap_summary.specs.{declared.precondition.Precondition.Precondition}
+use Rattle.cap_summary.specs.{declared.up_to_three.UpToThree.UpToThree}
+use Rattle.cap_summary.specs.Asks.{holds, any_holds, asks_of, IsOpen, AskWithin, AreWithin}
+use Rattle.cap_summary.specs.Names.{Names, has_cell, EffectWithin}
+use Rattle.cap_summary.specs.Preconditions.{asks_size, is_wrongful, is_met, RefusalIsOpen, IsPulledBack, IsWithMore}
+use Rattle.cap_summary.proofs.{ap, ◌∙◌, sym, arith, subst, eqb-true, length-append, All-head, All-push, or-false}
+use Rattle.cap_summary.proofs.{or-true, or_assoc, list_any-append, list_any_more, Bools.or_last}
 
+-- with one more ask or refusal the asks, or the refusals, hold
 grouped : (certain asks refusals more : Bool) → (certain || (asks || (refusals || more)))
     ≡ ((certain || (asks || refusals)) || more)
 grouped true asks refusals more = refl
 grouped false true refusals more = refl
 grouped false false refusals more = refl
 
--- one more refusal
-pub refused_more : (cells : Cells) (pre : Precondition) (refusals : List Refusal) (r : Refusal)
-    → refusals ≡ pre.refusals.items ++ r ∷ []
-    → (pre.certain || (any_holds cells pre.asks.items || list_any (is_wrongful cells) refusals))
-    ≡ (is_met cells pre || is_wrongful cells r)
-refused_more cells pre refusals r is =
-    rw (is, list_any-append (is_wrongful cells) pre.refusals.items (r ∷ []), or-false (is_wrongful cells r))
-    (grouped pre.certain (any_holds cells pre.asks.items) (list_any (is_wrongful cells) pre.refusals.items)
-    (is_wrongful cells r))
+grouped_asks : (certain asks more refusals : Bool) → (certain || ((asks || more) || refusals))
+    ≡ ((certain || (asks || refusals)) || more)
+grouped_asks certain asks more refusals =
+    rw (or_last asks more refusals) (sym (or_assoc certain (asks || refusals) more))
 
--- three more reasons, in turn
-pub met_three : (a b c d : Precondition) (x y z : Cells → Bool) → IsMetOr a b x → IsMetOr b c y → IsMetOr c d z
-    → IsMetOr a d (λ cells. x cells || (y cells || z cells))
-met_three a b c d x y z first second third s =
-    let cells = cells_of s in
-    third s ∙ ap (λ r. r || z cells) (second s ∙ ap (λ r. r || y cells) (first s))
-    ∙ or_assoc (is_met cells a || x cells) (y cells) (z cells)
-    ∙ or_assoc (is_met cells a) (x cells) (y cells || z cells)
+-- one of some asks holds in some state, where there are any and it depends on the state
+one_somewhere : (asks : List Ask) → All IsOpen asks → (length asks == 0) ≡ false
+    → (s : State) × (any_holds (cells_of s) asks ≡ true)
+one_somewhere [] can some = absurd cc
+one_somewhere (ask ∷ asks) can some = let at = (All-head IsOpen ask asks can).holds in (at.0, rw at.1 refl)
 
--- an ask that holds is found
-pub met_by_ask : (cells : Cells) (pre : Precondition) (ordered : List Ask) → any_holds cells ordered ≡ true
-    → any_holds cells ordered ≡ (any_holds cells pre.asks.items || false) → true ≡ is_met cells pre
-met_by_ask cells pre ordered held same =
-    let own : any_holds cells pre.asks.items ≡ true =
-    sym (or-false (any_holds cells pre.asks.items)) ∙ sym same ∙ held in
-    rw own (sym (or-true pre.certain))
+-- ---- with more reasons after a first segment
+module _ (first : Effect) (more : Cells → Bool) (within : Names → Type 0) (size refusals : ℕ) (pre : Precondition) where
+  pub nothing_more : ((s : State) → more (changed first (cells_of s)) ≡ false)
+      → IsWithMore first more within size refusals pre pre
+  nothing_more never = record {
+    met = λ s. rw (never s) (sym (or-false (is_met (cells_of s) pre)));
+    possible = λ is. is;
+    names = λ names effect named is. is;
+    few = omega arith;
+    refusals = omega arith;
+  }
 
--- ---- what holds in some state
--- an ask that is there, of which it depends on the state, holds in some
-part_somewhere : (ask : Option Ask) → IfSome ask IsOpen → is_some ask ≡ true
-    → (s : State) × (part_holds (cells_of s) ask ≡ true)
-part_somewhere None open_ is = absurd cc
-part_somewhere (Some ask) open_ is = open_.holds
+  pub now_certain : ((s : State) → more (changed first (cells_of s)) ≡ true)
+      → IsWithMore first more within size refusals pre (record pre { certain = true })
+  now_certain always = record {
+    met = λ s. rw (always s) (sym (or-true (is_met (cells_of s) pre)));
+    possible = λ is. record { asks = is.asks; refusals = is.refusals };
+    names = λ names effect named is. record { asks = is.asks; refusals = is.refusals };
+    few = omega arith;
+    refusals = omega arith;
+  }
 
--- so does one of up to three, where there is one
-one_somewhere : (asks : UpToThree) → PartsAreOpen asks → has_part asks ≡ true
-    → (s : State) × (one_holds (cells_of s) asks ≡ true)
-one_somewhere asks open_ is = elim (or_cases (is_some asks.mode) _ is) [
-  | inl h ↦ let at = part_somewhere asks.mode open_.mode h in (at.0, rw at.1 refl)
-  | inr more ↦ elim (or_cases (is_some asks.first) (is_some asks.second) more) [
-    | inl h ↦
-        let at = part_somewhere asks.first open_.first h in
-        (at.0, rw at.1 (or-true (part_holds (cells_of at.0) asks.mode)))
-    | inr h ↦
-        let at = part_somewhere asks.second open_.second h in (
-          at.0,
-          rw (at.1, or-true (part_holds (cells_of at.0) asks.first))
-              (or-true (part_holds (cells_of at.0) asks.mode)),
-        )
-  ]
-]
-
-pub refusal_open : (asks : UpToThree) (refusal : Refusal) → refusal.unless ≡ asks → PartsAreOpen asks
-    → has_part asks ≡ true → (s : State) × (one_holds (cells_of s) asks ≡ false) → RefusalIsOpen refusal
-refusal_open asks refusal is open_ some none =
-    let at = one_somewhere asks open_ some in
-    record { parts = rw is open_; right = (at.0, rw is (ap not at.1)); wrongful = (none.0, rw is (ap not none.1)) }
-
--- with one more ask, one more refusal
-pub possible_asked : (old new : Precondition) (ask : Ask) → new.asks.items ≡ old.asks.items ++ ask ∷ []
-    → new.refusals.items ≡ old.refusals.items → CanBe true ask → IsPossible old → IsPossible new
-possible_asked old new ask asks refusals can possible = record {
-  asks = rw asks (All-push (CanBe true) old.asks.items ask possible.asks can);
-  refusals = rw refusals possible.refusals;
+-- with room for more of them
+pub with_room : (first : Effect) (more : Cells → Bool) (within : Names → Type 0) (size room refusals most : ℕ)
+    (old new : Precondition) → size ≤ room → refusals ≤ most → IsWithMore first more within size refusals old new
+    → IsWithMore first more within room most old new
+with_room first more within size room refusals most old new fits few with = record {
+  met = with.met;
+  possible = with.possible;
+  names = with.names;
+  few = omega (arith, with.few);
+  refusals = omega (arith, with.refusals);
 }
 
-pub possible_refused : (old new : Precondition) (r : Refusal) → new.refusals.items ≡ old.refusals.items ++ r ∷ []
-    → new.asks.items ≡ old.asks.items → RefusalIsOpen r → IsPossible old → IsPossible new
-possible_refused old new r refusals asks can possible = record {
-  asks = rw asks possible.asks;
-  refusals = rw refusals (All-push RefusalIsOpen old.refusals.items r possible.refusals can);
+-- one more ask
+pub more_asks : (first : Effect) (pre : Precondition) (later ask : Ask) (asks : Vec Ask Global)
+    → asks.items ≡ pre.asks.items ++ ask ∷ [] → IsOpen ask
+    → ((s : State) → holds (cells_of s) ask ≡ holds (changed first (cells_of s)) later)
+    → ((names : Names) → EffectWithin names first → AskWithin (has_cell names) later → AskWithin (has_cell names) ask)
+    → IsWithMore first (λ cells. holds cells later) (λ names. AskWithin (has_cell names) later) 1 0 pre
+    (record pre { asks = asks })
+more_asks first pre later ask asks is can same named = record {
+  met = λ s. rw (
+    ← same s,
+    is,
+    list_any-append (holds (cells_of s)) pre.asks.items (ask ∷ []),
+    or-false (holds (cells_of s)
+        ask),
+  ) (grouped_asks pre.certain (any_holds (cells_of s) pre.asks.items) (holds (cells_of s) ask)
+      (list_any (is_wrongful (cells_of s)) pre.refusals.items));
+  possible = λ old. record { asks = rw is (All-push IsOpen pre.asks.items ask old.asks can); refusals = old.refusals };
+  names = λ names effect within old. record {
+    asks = rw is (All-push (AskWithin (has_cell names)) pre.asks.items ask old.asks (named names effect within));
+    refusals = old.refusals;
+  };
+  few = omega (arith, ap (λ (asks : List Ask). length asks) is, length-append pre.asks.items (ask ∷ []));
+  refusals = omega arith;
 }
+
+-- the reasons of some of a list, and then those of the next
+pub next_more : {X : Type 0} (first : Effect) (p : Cells → X → Bool) (xs : List X) (i : ℕ) (x : X)
+    (all one : Names → Type 0) (size refusals more most : ℕ) (a b c : Precondition) → i < length xs → x ≡ get_or xs i x
+    → ((names : Names) → all names → one names)
+    → IsWithMore first (λ cells. list_any (p cells) (take i xs)) all size refusals a b
+    → IsWithMore first (λ cells. p cells x) one more most b c
+    → IsWithMore first (λ cells. list_any (p cells) (take (i + 1) xs)) all (size + more) (refusals + most) a c
+next_more first p xs i x all one size refusals more most a b c within is narrow some next = record {
+  met = λ s.
+      let test = p (changed first (cells_of s)) in
+      next.met s ∙ ap (λ r. r || test x) (some.met s)
+      ∙ or_assoc (is_met (cells_of s) a) (list_any test (take i xs)) (test x)
+      ∙ ap (λ r. is_met (cells_of s) a || r) (ap (λ y. list_any test (take i xs) || test y) is
+      ∙ sym (list_any_more test xs i x within));
+  possible = λ old. next.possible (some.possible old);
+  names = λ names effect named old. next.names names effect (narrow names named) (some.names names effect named old);
+  few = omega (arith, some.few, next.few);
+  refusals = omega (arith, some.refusals, next.refusals);
+}
+
+-- the asks of a refusal, and what they become
+module _ (first : Effect) (pre : Precondition) (later kept : UpToThree)
+    (back : IsPulledBack first (asks_of later) (asks_of kept) []) (can : All IsOpen (asks_of kept)) where
+  same : (s : State) → any_holds (changed first (cells_of s)) (asks_of later) ≡ any_holds (cells_of s) (asks_of kept)
+  same s = sym (back.holds s) ∙ or-false (any_holds (cells_of s) (asks_of kept))
+
+  pub one_refusal : (refusals : Vec UpToThree Global) → refusals.items ≡ pre.refusals.items ++ kept ∷ []
+      → (length (asks_of kept) == 0) ≡ false → (s : State) × (any_holds (cells_of s) (asks_of kept) ≡ false)
+      → IsWithMore first (λ cells. is_wrongful cells later) (λ names. AreWithin (has_cell names) (asks_of later)) 1 1 pre
+      (record pre { refusals = refusals })
+  one_refusal refusals is some none = record {
+    met = λ s. rw (
+      same s,
+      is,
+      list_any-append (is_wrongful (cells_of s)) pre.refusals.items (kept ∷ []),
+      or-false (is_wrongful (cells_of s) kept),
+    ) (grouped pre.certain (any_holds (cells_of s) pre.asks.items)
+        (list_any (is_wrongful (cells_of s)) pre.refusals.items) (is_wrongful (cells_of s) kept));
+    possible = λ old. record {
+      asks = old.asks;
+      refusals = rw is (All-push RefusalIsOpen pre.refusals.items kept old.refusals refusal_open);
+    };
+    names = λ names effect named old. record {
+      asks = old.asks;
+      refusals = rw is (All-push (λ (r : UpToThree). AreWithin (has_cell names) (asks_of r)) pre.refusals.items kept old.refusals
+          (back.names names effect named).0);
+    };
+    few = omega (arith, counted);
+    refusals = omega (arith, counted);
+  }
+    where
+      refusal_open : RefusalIsOpen kept
+      refusal_open = let at = one_somewhere (asks_of kept) can some in
+          record { asks = can; right = (at.0, ap not at.1); wrongful = (none.0, ap not none.1) }
+
+      counted : length refusals.items ≡ length pre.refusals.items + 1
+      counted = ap (λ (rs : List UpToThree). length rs) is ∙ length-append pre.refusals.items (kept ∷ [])
+
+  pub never_wrongful : ((s : State) → any_holds (cells_of s) (asks_of kept) ≡ true) → (s : State)
+      → is_wrongful (changed first (cells_of s)) later ≡ false
+  never_wrongful always s = ap not (same s ∙ always s)
+
+  pub always_wrongful : (length (asks_of kept) == 0) ≡ true → (s : State)
+      → is_wrongful (changed first (cells_of s)) later ≡ true
+  always_wrongful none s = ap not (same s ∙ nothing (asks_of kept) none)
+    where
+      nothing : (asks : List Ask) → (length asks == 0) ≡ true → any_holds (cells_of s) asks ≡ false
+      nothing [] is = refl
+      nothing (ask ∷ asks) is = let none : length (ask ∷ asks) ≡ 0 = eqb-true _ _ is in absurd (omega arith)
 
 -- what holds of each holds of one of them
 pub read_all : {X : Type 0} (P : X → Type 0) (xs : List X) (i : ℕ) (x : X) → i < length xs → x ≡ get_or xs i x

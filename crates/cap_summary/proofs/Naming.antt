@@ -5,13 +5,13 @@ use Rattle.std.specs.Prelude.{◌≡◌, ◌==◌, ◌||◌, ◌&&◌, ◌∷◌
 use Rattle.std.specs.Prelude.{refl, cond, IfSome}
 use Rattle.cap_summary.specs.{list_any, Step, LineEffect, Unknown, same, Touch, kept, given, taken, touch, effect_touch}
 use Rattle.cap_summary.specs.{names_pid, args_name, requirement, Sorted.found, Values.reads_within}
-use Rattle.cap_summary.specs.{declared.ask.Ask.Ask, declared.base.DefaultCells.DefaultCells}
+use Rattle.cap_summary.specs.{declared.base.DefaultCells.DefaultCells}
 use Rattle.cap_summary.specs.{declared.effect.Effect.Effect, declared.effect.Row.Row, declared.key.Key.Key}
-use Rattle.cap_summary.specs.{declared.line_asks.UpToThree.UpToThree, declared.precondition.Precondition.Precondition}
+use Rattle.cap_summary.specs.{declared.precondition.Precondition.Precondition}
 use Rattle.cap_summary.specs.{declared.value.Value.Value}
 use Rattle.cap_summary.specs.Names.{line_names_fd, item_answers_fd, Names, names_in, AreAmong, has_key, has_cell}
 use Rattle.cap_summary.specs.Names.{IsListedWithin, others_within, mode_within, RowWithin, IsRowWithin, EffectWithin}
-use Rattle.cap_summary.specs.Names.{ChildWithin, LineWithin, part_within, PartsWithin, PreWithin, DemandWithin}
+use Rattle.cap_summary.specs.Names.{ChildWithin, LineWithin, PreWithin, DemandWithin}
 use Rattle.cap_summary.proofs.{◌∙◌, and_from, eq-eqb, or_left as or_first, or_right as or_second, list_any-append}
 use Rattle.cap_summary.proofs.{Bools.and_left, Bools.and_right, LineNamed.named_one_by_one}
 
@@ -57,21 +57,10 @@ module _ (a b : Names) (among : AreAmong a b) where
   pub effect_among : (effect : Effect) → EffectWithin a effect → EffectWithin b effect
   effect_among effect is p = row_at_among p (found effect.rows p) (is p)
 
-  part_among : (ask : Option Ask) → part_within a ask ≡ true → part_within b ask ≡ true
-  part_among None is = refl
-  part_among (Some ask) is = cell_among ask.pid ask.key is
-
-  parts_among : (asks : UpToThree) → PartsWithin a asks → PartsWithin b asks
-  parts_among asks is = record {
-    mode = part_among asks.mode is.mode;
-    first = part_among asks.first is.first;
-    second = part_among asks.second is.second;
-  }
-
   pub asks_among : (pre : Precondition) → PreWithin a pre → PreWithin b pre
   asks_among pre is = record {
     asks = λ k d lt. cell_among _ _ (is.asks k d lt);
-    refusals = λ k d lt. parts_among _ (is.refusals k d lt);
+    refusals = λ k d lt j e more. cell_among _ _ (is.refusals k d lt j e more);
   }
 
 -- ---- the lines of two parts

@@ -6,13 +6,13 @@ use Rattle.cap_summary.specs.{list_any, State, option_map_or, Cell, Closed, Glob
 use Rattle.cap_summary.specs.{Effects.is_own, Effects.base_leaves, Effects.row_leaves, Sorted.found, Values.read}
 use Rattle.cap_summary.specs.{declared.ask.Ask.Ask, declared.base.DefaultCells.DefaultCells}
 use Rattle.cap_summary.specs.{declared.effect.Effect.Effect, declared.effect.Row.Row, declared.key.Key.Key}
-use Rattle.cap_summary.specs.{declared.precondition.Precondition.Precondition, declared.precondition.Refusal.Refusal}
-use Rattle.cap_summary.specs.{declared.value.Value.Value}
-use Rattle.cap_summary.specs.Asks.{place, holds, any_holds, CanBe, IsOpen, AskWithin, Rises, IsUnionOf, Within, Can}
+use Rattle.cap_summary.specs.{declared.precondition.Precondition.Precondition, declared.value.Value.Value}
+use Rattle.cap_summary.specs.{declared.up_to_three.UpToThree.UpToThree}
+use Rattle.cap_summary.specs.Asks.{place, holds, any_holds, IsOpen, AskWithin, Rises, IsUnionOf, IsUnion, Within, Open}
 use Rattle.cap_summary.specs.Effects.{is_from, others_cell, base_cell, row_cell, changed}
 use Rattle.cap_summary.specs.Names.{Names, has_cell, EffectWithin, RefusalsWithin, PreWithin}
-use Rattle.cap_summary.specs.Preconditions.{is_met, is_wrongful, IsPulledBack, AreAskedByBoth, IsAskedByBoth}
-use Rattle.cap_summary.specs.Preconditions.{IsPossible, IsSettled, IsMetOr, asks_size}
+use Rattle.cap_summary.specs.Preconditions.{is_met, is_wrongful, IsPulledBack, AreAskedByBoth, IsAskedByOne, IsAskedByBoth}
+use Rattle.cap_summary.specs.Preconditions.{IsPossible, IsSettled, IsWithMore, asks_size}
 use Rattle.cap_summary.proofs.{sym, ap, ◌∙◌, subst, arith, length-append, take_more, list_any-append, All-push}
 use Rattle.cap_summary.proofs.{All-head, or-false, or-true, or_assoc, or_comm}
 use Rattle.cap_summary.proofs.Bools.{and_left, and_right, or_last, or_crossed}
@@ -57,14 +57,10 @@ module _ (asks kept : List Ask) (i : ℕ) (ask : Ask) (within : i < length asks)
   kept_more before same = rises_put 0 kept (drop (i + 1) asks) ask before same whole
 
 -- ---- the row that a process has
-pub open_can : (ask : Ask) → IsOpen ask → (answer : Bool) → CanBe answer ask
-open_can ask can true = can.holds
-open_can ask can false = can.fails
-
 pub pulled_none : (first : Effect) (kept moved : List Ask) → kept ≡ [] → moved ≡ [] → IsPulledBack first [] kept moved
 pulled_none first kept moved near far = record {
   holds = λ s. rw (near, far) refl;
-  can = λ answer all. (rw near all, rw far all);
+  can = λ all. (rw near all, rw far all);
   names = λ names effect all. (rw near all, rw far all);
   few = rw (near, far) (omega arith);
 }
@@ -95,13 +91,13 @@ module _ (first : Effect) (asks : List Ask) (i : ℕ) (ask : Ask) (kept moved : 
         ∙ sym (or-false (any_holds (changed first (cells_of s)) (take i asks)))
         ∙ ap (λ r. any_holds (changed first (cells_of s)) (take i asks) || r) (sym (never s))
         ∙ sym (met_more (changed first (cells_of s)));
-    can = λ answer all. so_far.can answer (parts (CanBe answer) all).0;
+    can = λ all. so_far.can (parts IsOpen all).0;
     names = λ names effect all. so_far.names names effect (parts (AskWithin (has_cell names)) all).0;
     few = omega (arith, counted, so_far.few);
   }
 
   -- one more, which becomes this one
-  module _ (before : Ask) (can : (answer : Bool) → CanBe answer ask → CanBe answer before)
+  module _ (before : Ask) (can : IsOpen ask → IsOpen before)
       (same : (s : State) → holds (cells_of s) before ≡ holds (changed first (cells_of s)) ask)
       (named : (names : Names) → EffectWithin names first → AskWithin (has_cell names) ask
       → AskWithin (has_cell names) before) where
@@ -119,10 +115,10 @@ module _ (first : Effect) (asks : List Ask) (i : ℕ) (ask : Ask) (kept moved : 
           ap (λ r. r || any_holds (cells_of s) moved) (list_any-append (holds (cells_of s)) kept (before ∷ []))
           ∙ or_last (any_holds (cells_of s) kept) (holds (cells_of s) before || false) (any_holds (cells_of s) moved)
           ∙ met_before s;
-      can = λ answer all.
-          let two = parts (CanBe answer) all in
-          let old = so_far.can answer two.0 in
-          (All-push (CanBe answer) kept before old.0 (can answer two.1), old.1);
+      can = λ all.
+          let two = parts IsOpen all in
+          let old = so_far.can two.0 in
+          (All-push IsOpen kept before old.0 (can two.1), old.1);
       names = λ names effect all.
           let two = parts (AskWithin (has_cell names)) all in
           let old = so_far.names names effect two.0 in
@@ -135,7 +131,7 @@ pub swapped : (first : Effect) (later kept moved : List Ask) → IsPulledBack fi
     → IsPulledBack first later moved kept
 swapped first later kept moved back = record {
   holds = λ s. or_comm (any_holds (cells_of s) moved) (any_holds (cells_of s) kept) ∙ back.holds s;
-  can = λ answer all. let two = back.can answer all in (two.1, two.0);
+  can = λ all. let two = back.can all in (two.1, two.0);
   names = λ names effect all. let two = back.names names effect all in (two.1, two.0);
   few = omega (arith, back.few);
 }
@@ -148,14 +144,22 @@ asked_by_both first own later kept moved united both back near union = record {
   rises = union.rises;
   holds = λ s. union.holds (cells_of s)
       ∙ ap (λ r. any_holds (cells_of s) own || r) (near.holds (cells_of s) ∙ back.holds s);
-  can = λ answer a b.
-      let two = back.can answer b in
-      union.each (Can answer) a (near.each (Can answer) two.0 two.1);
+  can = λ a b.
+      let two = back.can b in
+      union.each Open a (near.each Open two.0 two.1);
   names = λ names effect a b.
       let two = back.names names effect b in
       union.each (Within (has_cell names)) a (near.each (Within (has_cell names)) two.0 two.1);
   few = omega (arith, union.few, near.few, back.few);
 }
+
+pub asked_by_one : (first : Effect) (own later kept moved united : List Ask) (both : Option (Vec Ask Global))
+    → IsPulledBack first later kept moved → IsUnionOf kept moved united → IsUnion own united both
+    → IsAskedByOne first own later both
+asked_by_one first own later kept moved united None back near always = λ s.
+    ap (λ r. any_holds (cells_of s) own || r) (sym (near.holds (cells_of s) ∙ back.holds s)) ∙ always s
+asked_by_one first own later kept moved united (Some both) back near union =
+    asked_by_both first own later kept moved united both.items back near union
 
 -- ---- both segments
 -- something is found in every state
@@ -177,45 +181,40 @@ met_apart : (x y r q : Bool) → (((x || y) || r) || q) ≡ ((x || r) || (y || q
 met_apart x y r q = or_assoc (x || y) r q ∙ or_crossed x y r q
 
 -- the first segment's refusals beside the asks of both, and then the refusals of the later one
-module _ (first : Effect) (own later before new : Precondition) (refusals : List Refusal)
+module _ (first : Effect) (own later before new : Precondition) (refusals : List UpToThree)
     (own_open : own.certain ≡ false) (later_open : later.certain ≡ false) (before_open : before.certain ≡ false)
     (asked : AreAskedByBoth first own.asks.items later.asks.items before.asks.items)
     (same : before.refusals.items ≡ own.refusals.items) (theirs : refusals ≡ later.refusals.items)
-    (met : IsMetOr before new (λ cells. list_any (is_wrongful (changed first cells)) refusals)) where
+    (with : IsWithMore first (λ cells. list_any (is_wrongful cells) refusals) (λ names. RefusalsWithin names refusals)
+    (length refusals) (length refusals) before new) where
   pub met_joined : (s : State) → is_met (cells_of s) new
       ≡ (is_met (cells_of s) own || is_met (changed first (cells_of s)) later)
-  met_joined s = met s
+  met_joined s = with.met s
       ∙ rw (asked.holds s, own_open, later_open, before_open, same, theirs) (met_apart
       (any_holds (cells_of s) own.asks.items) (any_holds (changed first (cells_of s)) later.asks.items)
       (list_any (is_wrongful (cells_of s)) own.refusals.items)
       (list_any (is_wrongful (changed first (cells_of s))) later.refusals.items))
 
-  pub asked_joined : IsSettled own → IsSettled later → new.certain ≡ false → new.asks ≡ before.asks → (IsPossible before → IsPossible new)
-      → ((names : Names) → EffectWithin names first → RefusalsWithin names refusals → PreWithin names before
-      → PreWithin names new) → length new.refusals.items ≤ length before.refusals.items + length refusals
-      → IsAskedByBoth first own later new
-  asked_joined settled more_settled new_open asks possible names few = record {
+  pub asked_joined : new.certain ≡ false → new.asks ≡ before.asks → IsAskedByBoth first own later new
+  asked_joined new_open asks = record {
     met = met_joined;
     possible = λ old more.
-        possible (record { asks = asked.can true old.asks more.asks; refusals = rw same old.refusals });
-    names = λ within effect a b. names within effect (rw theirs b.refusals)
+        with.possible (record { asks = asked.can old.asks more.asks; refusals = rw same old.refusals });
+    names = λ within effect a b. with.names within effect (rw theirs b.refusals)
         (record { asks = asked.names within effect a.asks b.asks; refusals = rw same a.refusals });
     settled = record {
       rises = rw asks asked.rises;
-      fails = rw asks (asked.can false settled.fails more_settled.fails);
       alone = λ (is : new.certain ≡ true). absurd (let wrong : false ≡ true = sym new_open ∙ is in cc);
     };
-    few = omega (arith, refused, asked.few, ap (λ (asks : Vec Ask Global). length asks.items) asks);
-    refusals = refused;
+    few = omega (arith, with.few, asked.few, firsts, laters);
+    refusals = omega (arith, with.refusals, firsts, laters);
   }
     where
-      refused : length new.refusals.items ≤ length own.refusals.items + length later.refusals.items
-      refused = omega (
-        arith,
-        few,
-        ap (λ (rs : List Refusal). length rs) same,
-        ap (λ (rs : List Refusal). length rs) theirs,
-      )
+      firsts : length before.refusals.items ≡ length own.refusals.items
+      firsts = ap (λ (rs : List UpToThree). length rs) same
+
+      laters : length refusals ≡ length later.refusals.items
+      laters = ap (λ (rs : List UpToThree). length rs) theirs
 
 -- one of the asks holds in every state
 pub met_by_asks : (first : Effect) (own later : Precondition) (s : State)

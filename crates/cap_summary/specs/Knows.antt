@@ -13,8 +13,8 @@ StepsLeave steps p Key.Mode = LeavesMode steps p
 StepsLeave steps p (Key.Fd f) = LeavesCell steps p f
 
 -- In every state before the steps: each cell and each mode after them, and whether something is found in them. Nothing
--- is asked that holds in no state, and nothing is listed, read or asked that no line names. What is said to be left no step
--- touches. A step asks at most three things, and adds a refusal only if it was refused for lack of a right.
+-- is asked that holds in every state or in none, and nothing is listed, read or asked that no line names. What is said to
+-- be left no step touches. A step asks at most three things, and adds a refusal only if it was refused for lack of a right.
 pub record Says (effect : Effect) (precondition : Precondition) (steps : List Step) : Type 0 where
   pub after : (s : State) (p : ℕ) (k : Key) → changed effect (cells_of s) p k ≡ cells_of (ended s steps) p k
   pub finds : (s : State) → is_met (cells_of s) precondition ≡ has_any (check s steps)

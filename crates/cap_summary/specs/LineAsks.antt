@@ -1,40 +1,32 @@
 -- What one line asks of the cells before it.
-use Rattle.std.specs.Prelude.{◌≡◌, ◌+◌, ◌||◌, ◌∷◌, if◌then◌else◌, ℕ, not, Bool, true, false, List, [], map, Option}
-use Rattle.std.specs.Prelude.{Some, None}
-use Rattle.cap_machine.specs.{declared.rule.Reply.Reply}
-use Rattle.cap_summary.specs.{option_map_or, Step, State, Cell, NotCapable, requirement, Check, Checks, Requirement}
-use Rattle.cap_summary.specs.{listed, findings_of, Asks.holds}
+use Rattle.std.specs.Prelude.{◌≡◌, ◌+◌, ◌∷◌, if◌then◌else◌, ℕ, not, Bool, true, false, List, []}
+use Rattle.cap_machine.specs.{declared.rule.Reply.Reply, Judge.is_excused}
+use Rattle.cap_summary.specs.{Step, State, Cell, NotCapable, requirement, Check, LimitWord, Requirement}
+use Rattle.cap_summary.specs.{fault, findings_of, Asks.any_holds, Asks.asks_of}
 use Rattle.cap_summary.specs.{Keys.Cells, Keys.cells_of, declared.ask.Ask.Ask, declared.line_asks.LineAsks.LineAsks}
-use Rattle.cap_summary.specs.{declared.line_asks.UpToThree.UpToThree}
 use Rattle.cap_summary.specs.declared.line_asks.LineAsks.TheVariants.{Always, Where, Unless}
-
--- an ask that may be left out holds
-abbrev pub part_holds : Cells → Option Ask → Bool
-part_holds cells ask = option_map_or (holds cells) ask false
-
--- one of these holds
-abbrev pub one_holds : Cells → UpToThree → Bool
-one_holds cells asks = part_holds cells asks.mode || (part_holds cells asks.first || part_holds cells asks.second)
 
 -- what is asked holds
 abbrev pub asked_holds : Cells → LineAsks → Bool
 asked_holds cells Always = true
-asked_holds cells (Where asks) = one_holds cells asks
-asked_holds cells (Unless asks) = not (one_holds cells asks)
+asked_holds cells (Where asks) = any_holds cells (asks_of asks)
+asked_holds cells (Unless asks) = not (any_holds cells (asks_of asks))
+
+-- the asks
+abbrev pub asks_in : LineAsks → List Ask
+asks_in Always = []
+asks_in (Where asks) = asks_of asks
+asks_in (Unless asks) = asks_of asks
 
 -- there is something
 abbrev pub has_any : {X : Type 0} → List X → Bool
 has_any [] = false
 has_any (x ∷ xs) = true
 
--- what a refusal asks of its checks, if it is judged: a right may be lacked
-abbrev pub excuses_hold : Cells → Option (Ask × Option Ask) → Bool
-excuses_hold cells None = false
-excuses_hold cells (Some (first, second)) = not (holds cells first || part_holds cells second)
-
--- the cells of the checks of a process's line
-abbrev pub checked_cells : ℕ → Checks → State → List Cell
-checked_cells me checks s = map (λ (check : Check). s.cell me check.fd) (listed checks)
+-- a call that succeeded lacks the rights that a check needs; one that was refused lacks those with which that is wrongful
+abbrev pub is_lacked : Bool → LimitWord → Check → Cell → Bool
+is_lacked false word check cell = has_any (fault word check cell)
+is_lacked true word check cell = not (is_excused check.excuse cell)
 
 -- how many refusals there are
 abbrev pub refusals_in : LineAsks → ℕ

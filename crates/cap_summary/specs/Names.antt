@@ -2,12 +2,11 @@
 use Rattle.std.specs.Prelude.{◌≡◌, ◌==◌, ◌&&◌, ◌||◌, ℕ, Bool, true, false, List, Option, IfSome, All}
 use Rattle.cap_summary.specs.{option_map_or, list_any, Item, Answer, ResultKind, Fd, Same, FdPair, ChildAndFd, Entry}
 use Rattle.cap_summary.specs.{kind_of, Step, Check, Checks, Requirement, LineEffect, listed, args_name, names_pid}
-use Rattle.cap_summary.specs.{fds_of, Asks.AreWithin, Sorted.found, Values.reads_within, declared.ask.Ask.Ask}
+use Rattle.cap_summary.specs.{fds_of, Asks.AreWithin, Asks.asks_of, Sorted.found, Values.reads_within, declared.ask.Ask.Ask}
 use Rattle.cap_summary.specs.{declared.base.DefaultCells.DefaultCells, declared.effect.Effect.Effect}
-use Rattle.cap_summary.specs.{declared.effect.Row.Row, declared.key.Key.Key, declared.line_asks.LineAsks.LineAsks}
-use Rattle.cap_summary.specs.{declared.line_asks.UpToThree.UpToThree, declared.precondition.Precondition.Precondition}
-use Rattle.cap_summary.specs.{declared.precondition.Refusal.Refusal, declared.value.Value.Value}
-use Rattle.cap_summary.specs.declared.line_asks.LineAsks.TheVariants.{Always, Where, Unless}
+use Rattle.cap_summary.specs.{declared.effect.Row.Row, declared.key.Key.Key}
+use Rattle.cap_summary.specs.{declared.precondition.Precondition.Precondition, declared.value.Value.Value}
+use Rattle.cap_summary.specs.{declared.up_to_three.UpToThree.UpToThree}
 
 -- ---- what the lines of a trace name
 
@@ -111,22 +110,8 @@ pub record LineWithin (names : Names) (me : ℕ) (effect : LineEffect) : Type 0 
 
 -- ---- preconditions
 
--- an ask that may be left out
-abbrev pub part_within : Names → Option Ask → Bool
-part_within names part = option_map_or (λ (ask : Ask). has_cell names ask.pid ask.key) part true
-
-pub record PartsWithin (names : Names) (asks : UpToThree) : Type 0 where
-  pub mode : part_within names asks.mode ≡ true
-  pub first : part_within names asks.first ≡ true
-  pub second : part_within names asks.second ≡ true
-
-abbrev pub LineAsksWithin : Names → LineAsks → Type 0
-LineAsksWithin names Always = Unit {0}
-LineAsksWithin names (Where asks) = PartsWithin names asks
-LineAsksWithin names (Unless asks) = PartsWithin names asks
-
-abbrev pub RefusalsWithin : Names → List Refusal → Type 0
-RefusalsWithin names refusals = All (λ (refusal : Refusal). PartsWithin names refusal.unless) refusals
+abbrev pub RefusalsWithin : Names → List UpToThree → Type 0
+RefusalsWithin names refusals = All (λ (refusal : UpToThree). AreWithin (has_cell names) (asks_of refusal)) refusals
 
 pub record PreWithin (names : Names) (pre : Precondition) : Type 0 where
   pub asks : AreWithin (has_cell names) pre.asks.items

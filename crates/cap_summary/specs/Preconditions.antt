@@ -1,12 +1,11 @@
 -- Under which cells before a segment something is found in it.
-use Rattle.std.specs.Prelude.{◌≡◌, ◌&&◌, ◌||◌, ◌+◌, ◌≤◌, ◌==◌, ℕ, not, Bool, true, false, List, [], length, Option}
-use Rattle.std.specs.Prelude.{IfSome, is_some, All}
-use Rattle.cap_summary.specs.{list_any, list_all, option_map_or, Cell, State, Effects.changed, Keys.Cells}
-use Rattle.cap_summary.specs.{Keys.cells_of, LineAsks.one_holds, RowSizes.rows_size, Tests.each_kind}
-use Rattle.cap_summary.specs.{declared.ask.Ask.Ask, declared.effect.Effect.Effect, declared.key.Key.Key}
-use Rattle.cap_summary.specs.{declared.known.Known.Known, declared.line_asks.UpToThree.UpToThree}
-use Rattle.cap_summary.specs.{declared.precondition.Precondition.Precondition, declared.precondition.Refusal.Refusal}
-use Rattle.cap_summary.specs.Asks.{any_holds, is_sure, key_number, certain_at, CanBe, IsOpen, Rises, AreWithin}
+use Rattle.std.specs.{declared.vec.Vec.Vec}
+use Rattle.std.specs.Prelude.{◌≡◌, ◌||◌, ◌+◌, ◌≤◌, ℕ, not, Bool, true, false, List, [], length, Option, Some, None}
+use Rattle.cap_summary.specs.{All, list_any, State, Global, Effects.changed, Keys.Cells, Keys.cells_of, RowSizes.rows_size}
+use Rattle.cap_summary.specs.{declared.ask.Ask.Ask, declared.effect.Effect.Effect}
+use Rattle.cap_summary.specs.{declared.known.Known.Known, declared.precondition.Precondition.Precondition}
+use Rattle.cap_summary.specs.{declared.up_to_three.UpToThree.UpToThree}
+use Rattle.cap_summary.specs.Asks.{any_holds, asks_of, IsOpen, Rises, AreWithin}
 use Rattle.cap_summary.specs.Names.{Names, has_cell, EffectWithin, PreWithin}
 
 -- how many asks and refusals there are
@@ -17,8 +16,8 @@ abbrev pub size : Known → ℕ
 size known = rows_size known.effect.value.rows + asks_size known.precondition.value
 
 -- a refusal is wrongful: none of its asks holds
-abbrev pub is_wrongful : Cells → Refusal → Bool
-is_wrongful cells refusal = not (one_holds cells refusal.unless)
+abbrev pub is_wrongful : Cells → UpToThree → Bool
+is_wrongful cells refusal = not (any_holds cells (asks_of refusal))
 
 -- something is found
 abbrev pub is_met : Cells → Precondition → Bool
@@ -29,61 +28,39 @@ is_met cells pre =
 abbrev pub IsMetOr : Precondition → Precondition → (Cells → Bool) → Type 0
 IsMetOr old new more = (s : State) → is_met (cells_of s) new ≡ (is_met (cells_of s) old || more (cells_of s))
 
--- there is one of up to three asks
-abbrev pub has_part : UpToThree → Bool
-has_part asks = is_some asks.mode || (is_some asks.first || is_some asks.second)
-
--- an ask is about a cell
-abbrev pub is_about : Ask → ℕ → Key → Bool
-is_about ask p k = (ask.pid == p) && (key_number ask.key == key_number k)
-
--- an ask that may be left out is about a cell, and passes it, also where it lacks none of the rights
-abbrev pub part_sure : Option Ask → ℕ → Key → Cell → Bool
-part_sure part p k cell = option_map_or (λ ask. is_about ask p k && is_sure ask ask.key cell) part false
-
--- one of up to three asks does
-abbrev pub one_sure : UpToThree → ℕ → Key → Cell → Bool
-one_sure asks p k cell = part_sure asks.mode p k cell
-    || (part_sure asks.first p k cell || part_sure asks.second p k cell)
-
--- whatever the cell of an ask is, one of up to three passes it
-abbrev pub are_sure_at : UpToThree → Option Ask → Bool
-are_sure_at asks part = option_map_or (λ ask. list_all (one_sure asks ask.pid ask.key) each_kind) part false
-
--- whether each of up to three asks holds depends on the state
-pub record PartsAreOpen (asks : UpToThree) : Type 0 where
-  pub mode : IfSome asks.mode IsOpen
-  pub first : IfSome asks.first IsOpen
-  pub second : IfSome asks.second IsOpen
-
 -- whether a refusal is wrongful depends on the state, and so does whether each of its asks holds
-pub record RefusalIsOpen (refusal : Refusal) : Type 0 where
-  pub parts : PartsAreOpen refusal.unless
+pub record RefusalIsOpen (refusal : UpToThree) : Type 0 where
+  pub asks : All IsOpen (asks_of refusal)
   pub right : (s : State) × (is_wrongful (cells_of s) refusal ≡ false)
   pub wrongful : (s : State) × (is_wrongful (cells_of s) refusal ≡ true)
 
--- each ask holds in some state, and each refusal is right in some state and wrongful in some
+-- whether each ask holds depends on the state, and so does whether each refusal is wrongful
 pub record IsPossible (pre : Precondition) : Type 0 where
-  pub asks : All (CanBe true) pre.asks.items
+  pub asks : All IsOpen pre.asks.items
   pub refusals : All RefusalIsOpen pre.refusals.items
 
--- one of the asks holds in every state
-abbrev pub any_certain : List Ask → Bool
-any_certain asks = list_any (λ (ask : Ask). certain_at ask.key ask) asks
-
--- the asks stand in order, none of them holds in every state, and where something is certain nothing else is asked
+-- the asks stand in order, and where something is certain nothing else is asked
 pub record IsSettled (pre : Precondition) : Type 0 where
   pub rises : Rises pre.asks.items
-  pub fails : All (CanBe false) pre.asks.items
   pub alone : pre.certain ≡ true → (pre.asks.items ≡ []) × (pre.refusals.items ≡ [])
 
 -- ---- a first segment, and a later one whose asks are pulled back through the effect of the first
+
+-- with more reasons by the cells after the first segment, which are about cells of some names: at most so many asks and
+-- refusals more, and so many refusals
+pub record IsWithMore (first : Effect) (more : Cells → Bool) (within : Names → Type 0) (size most : ℕ)
+    (old new : Precondition) : Type 0 where
+  pub met : IsMetOr old new (λ cells. more (changed first cells))
+  pub possible : IsPossible old → IsPossible new
+  pub names : (names : Names) → EffectWithin names first → within names → PreWithin names old → PreWithin names new
+  pub few : asks_size new ≤ asks_size old + size
+  pub refusals : length new.refusals.items ≤ length old.refusals.items + most
 
 -- one of these two lists holds before the first segment where the asks of the later one do after it
 pub record IsPulledBack (first : Effect) (later kept moved : List Ask) : Type 0 where
   pub holds : (s : State) → (any_holds (cells_of s) kept || any_holds (cells_of s) moved)
       ≡ any_holds (changed first (cells_of s)) later
-  pub can : (answer : Bool) → All (CanBe answer) later → All (CanBe answer) kept × All (CanBe answer) moved
+  pub can : All IsOpen later → All IsOpen kept × All IsOpen moved
   pub names : (names : Names) → EffectWithin names first → AreWithin (has_cell names) later
       → AreWithin (has_cell names) kept × AreWithin (has_cell names) moved
   pub few : length kept + length moved ≤ length later
@@ -93,10 +70,16 @@ pub record AreAskedByBoth (first : Effect) (own later both : List Ask) : Type 0 
   pub rises : Rises both
   pub holds : (s : State) → any_holds (cells_of s) both
       ≡ (any_holds (cells_of s) own || any_holds (changed first (cells_of s)) later)
-  pub can : (answer : Bool) → All (CanBe answer) own → All (CanBe answer) later → All (CanBe answer) both
+  pub can : All IsOpen own → All IsOpen later → All IsOpen both
   pub names : (names : Names) → EffectWithin names first → AreWithin (has_cell names) own
       → AreWithin (has_cell names) later → AreWithin (has_cell names) both
   pub few : length both ≤ length own + length later
+
+-- the asks of both, if it depends on the state whether one holds
+abbrev pub IsAskedByOne : Effect → List Ask → List Ask → Option (Vec Ask Global) → Type 0
+IsAskedByOne first own later None =
+    (s : State) → (any_holds (cells_of s) own || any_holds (changed first (cells_of s)) later) ≡ true
+IsAskedByOne first own later (Some both) = AreAskedByBoth first own later both.items
 
 -- something is found where it is in the first segment, or in the later one
 pub record IsAskedByBoth (first : Effect) (own later both : Precondition) : Type 0 where

@@ -1,11 +1,11 @@
 //! What is asked of the cells before a segment.
 
-ghost use Rattle.std.specs.Prelude.{◌≡◌, ◌^◌, ◌<◌, ◌||◌, ℕ, Bool, true, IfSome, IfNone, Some, option_copied};
+ghost use Rattle.std.specs.Prelude.{◌≡◌, ◌<◌, ◌||◌, ℕ, Bool, true, IfSome, IfNone, Some, option_copied};
 ghost use Rattle.cap_summary.specs.{nat_cmp, State, Cell, applied, Keys.Cells, Keys.cells_of, declared.key.Key.Key};
-ghost use Rattle.cap_summary.specs.Asks.{holds, is_sure, certain_at, possible_at, pulled_holds, pulled_within};
+ghost use Rattle.cap_summary.specs.Asks.{holds, is_sure, certain_at, possible_at, pulled_holds, AskWithin};
 ghost use Rattle.cap_summary.specs.Asks.{IfAsked, IsOpen, place, IsAtPlace};
 ghost use Rattle.cap_summary.specs.Effects.{row_cell, cell_in, changed, listed_value};
-ghost use Rattle.cap_summary.specs.Names.{Names, has_cell, RowWithin, IsRowWithin, EffectWithin};
+ghost use Rattle.cap_summary.specs.Names.{Names, has_cell, RowWithin, EffectWithin};
 ghost use Rattle.cap_summary.specs.Tests.{has_kind, lacks, passes, holding};
 
 use crate::view::Seen;
@@ -158,7 +158,7 @@ impl Ask {
     pub fn settled(self) -> Pulled
         ensures holds { (s : State) → pulled_holds (cells_of s) result ≡ holds (cells_of s) self }
         ensures open { IfAsked IsOpen result }
-        ensures names { (names : ℕ → Key → Bool) → names self.pid self.key ≡ true → pulled_within names result ≡ true }
+        ensures names { (names : ℕ → Key → Bool) → names self.pid self.key ≡ true → IfAsked (AskWithin names) result }
     {
         if self.is_certain() {
             return Pulled::Always;
@@ -177,10 +177,16 @@ impl Ask {
             ≡ passes self.now (row_cell (cells_of s) self.now.pid row.now self.now.key) }
         ensures open { IfAsked IsOpen result }
         ensures names { (names : Names) → RowWithin names row.now → has_cell names self.now.pid self.now.key ≡ true
-            → pulled_within (has_cell names) result ≡ true }
+            → IfAsked (AskWithin (has_cell names)) result }
     {
         let (pid, key, ask) = match row.view(self.pid, self.key, listed) {
-            Seen::Is(cell) => return Pulled::of(self.passes(cell)),
+            Seen::Is(cell) => {
+                return if self.passes(cell) {
+                    Pulled::Always
+                } else {
+                    Pulled::Never
+                };
+            }
             Seen::Same(pid, key) => (pid, key, *self),
             Seen::Executed(pid, key) => (pid, key, self.before_op(&Op::exec())),
             Seen::Made(op, pid, key) => (pid, key, self.before_op(op.get())),
@@ -193,7 +199,7 @@ impl Ask {
         ensures holds { (s : State) → pulled_holds (cells_of s) result ≡ holds (changed first.now (cells_of s)) self.now }
         ensures open { IfAsked IsOpen result }
         ensures names { (names : Names) → EffectWithin names first.now → has_cell names self.now.pid self.now.key ≡ true
-            → pulled_within (has_cell names) result ≡ true }
+            → IfAsked (AskWithin (has_cell names)) result }
     {
         match first.row(self.pid) {
             Some(row) => self.through(row, row.listed(self.key, &mut 0)),
@@ -223,15 +229,5 @@ impl Ask {
             return None;
         }
         Some((row, listed))
-    }
-}
-
-impl Pulled {
-    fn of(holds: bool) -> Pulled
-        ensures holds { (s : State) → pulled_holds (cells_of s) result ≡ holds }
-        ensures open { IfAsked IsOpen result }
-        ensures names { (names : ℕ → Key → Bool) → pulled_within names result ≡ true }
-    {
-        if holds { Pulled::Always } else { Pulled::Never }
     }
 }

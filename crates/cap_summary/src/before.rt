@@ -2,11 +2,10 @@
 
 ghost use Rattle.std.specs.Prelude.{◌≡◌};
 ghost use Rattle.cap_summary.specs.{list_any, findings_of, Asks.holds, Asks.any_holds, Effects.state_before};
-ghost use Rattle.cap_summary.specs.{Keys.cells_of, LineAsks.part_holds, LineAsks.one_holds, Preconditions.is_wrongful};
-ghost use Rattle.cap_summary.specs.{Preconditions.is_met};
+ghost use Rattle.cap_summary.specs.{Keys.cells_of, Preconditions.is_wrongful, Preconditions.is_met};
 
 use crate::view::Seen;
-use crate::{Ask, Effect, Key, Precondition, Refusal, UpToThree, cell_of_mode, mode_of_cell};
+use crate::{Ask, Effect, Key, Precondition, UpToThree, cell_of_mode, mode_of_cell};
 use cap_machine::{Cell, Checks, Mode, Op, Requirement, Start, Verdict};
 use cap_trace::{Fd, Pid};
 
@@ -64,33 +63,16 @@ impl<'a> Before<'a> {
         ask.passes(self.read(ask.pid, ask.key))
     }
 
-    fn part_holds(&self, ask: &Option<Ask>) -> bool
-        ensures { result ≡ part_holds (cells_of (state_before self.now)) ask.now }
-    {
-        match ask {
-            None => false,
-            Some(ask) => self.holds(ask),
-        }
-    }
-
-    fn one_holds(&self, asks: &UpToThree) -> bool
-        ensures { result ≡ one_holds (cells_of (state_before self.now)) asks.now }
-    {
-        self.part_holds(&asks.mode) || self.part_holds(&asks.first) || self.part_holds(&asks.second)
-    }
-
     fn any_holds(&self, asks: &[Ask]) -> bool
         ensures { result ≡ any_holds (cells_of (state_before self.now)) asks.now }
     {
         asks.iter().any(|ask| self.holds(ask))
     }
 
-    fn any_is_wrongful(&self, refusals: &[Refusal]) -> bool
+    fn any_is_wrongful(&self, refusals: &[UpToThree]) -> bool
         ensures { result ≡ list_any (is_wrongful (cells_of (state_before self.now))) refusals.now }
     {
-        refusals
-            .iter()
-            .any(|refusal| !self.one_holds(&refusal.unless))
+        refusals.iter().any(|asks| !self.any_holds(asks.as_slice()))
     }
 
     /// Whether something is found in a segment that begins here.

@@ -44,19 +44,6 @@ impl PlaceInNode<'_> {
         walk.finish(alloc, self.start).map_err(|_| NoMemory)
     }
 
-    /// Where the mode of a process comes from.
-    fn mode_provenance(&self, alloc: Global, pid: Pid) -> Result<ModeProvenance, NoMemory>
-        requires { IsPlace self.now }
-        ensures mode { IfOk result (λ provenance.
-            provenance.mode ≡ mode_after (state_at_start self.now) (history self.now) pid) }
-        ensures chain { IfOk result (λ provenance.
-            mode_chain_of provenance ≡ mode_chain (state_at_start self.now) (history self.now) pid) }
-    {
-        let mut walk = ModeWalk::from(alloc, pid);
-        self.node.walk(&mut walk, 0, self.count)?;
-        Ok(walk.finish(self.start))
-    }
-
     /// Where the cell of each descriptor that is checked comes from, in order.
     fn provenances(
         &self,
@@ -101,11 +88,12 @@ impl PlaceInNode<'_> {
             ≡ (if mode_matters requirement.now then Some (mode_chain (state_at_start self.now) (history self.now) pid)
             else None)) }
     {
-        if requirement.mode_matters() {
-            Ok(Some(self.mode_provenance(alloc, pid)?))
-        } else {
-            Ok(None)
+        if !requirement.mode_matters() {
+            return Ok(None);
         }
+        let mut walk = ModeWalk::from(alloc, pid);
+        self.node.walk(&mut walk, 0, self.count)?;
+        Ok(Some(walk.finish(self.start)))
     }
 
     /// What a step that stands here rests on.

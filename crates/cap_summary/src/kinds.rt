@@ -35,12 +35,12 @@ impl Kinds {
     pub const HELD: Kinds = Kinds { bits: 7 };
     /// Held cells that an exec leaves open.
     pub const CLEAR: Kinds = Kinds { bits: 2 };
-    /// Unknown cells.
-    pub const UNKNOWN: Kinds = Kinds { bits: 8 };
     /// Closed cells.
     pub const CLOSED: Kinds = Kinds { bits: 16 };
     /// Unknown and closed cells.
     pub const UNHELD: Kinds = Kinds { bits: 24 };
+    /// All kinds.
+    pub const ALL: Kinds = Kinds { bits: 31 };
 
     /// The set of these kinds: held with each flag, unknown, and closed.
     pub(crate) fn of(set: bool, clear: bool, unsure: bool, unknown: bool, closed: bool) -> Kinds

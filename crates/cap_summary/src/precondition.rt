@@ -1,15 +1,13 @@
 //! Under which states before a segment something is found in it.
 
-ghost use Rattle.std.specs.Prelude.{◌≡◌, ◌+◌, ◌≤◌, ◌||◌, not, false, true, [], length, IfOk, IfSome, IfNone, OnOk};
+ghost use Rattle.std.specs.Prelude.{◌≡◌, ◌+◌, ◌≤◌, ◌||◌, false, true, [], length, IfOk, IfSome, IfNone, OnOk};
 ghost use Rattle.std.specs.Prelude.{option_copied};
-ghost use Rattle.cap_summary.specs.{list_any, option_map_or, State, Effects.changed, Keys.Cells, Keys.cells_of};
-ghost use Rattle.cap_summary.specs.{Sorted.found};
-ghost use Rattle.cap_summary.specs.Asks.{any_holds, pulled_holds, pulled_within, IfAsked, IsOpen, Rises};
-ghost use Rattle.cap_summary.specs.LineAsks.{part_holds, one_holds, asked_holds, refusals_in};
-ghost use Rattle.cap_summary.specs.Names.{Names, has_cell, part_within, PartsWithin, LineAsksWithin, RefusalsWithin};
-ghost use Rattle.cap_summary.specs.Names.{EffectWithin, PreWithin};
-ghost use Rattle.cap_summary.specs.Preconditions.{is_met, is_wrongful, any_certain, IsMetOr, IsSettled, PartsAreOpen};
-ghost use Rattle.cap_summary.specs.Preconditions.{IsPossible, IsPulledBack, AreAskedByBoth, IsAskedByBoth};
+ghost use Rattle.cap_summary.specs.{list_any, State, Effects.changed, Keys.Cells, Keys.cells_of, Sorted.found};
+ghost use Rattle.cap_summary.specs.Asks.{any_holds, asks_of, AreWithin, Rises};
+ghost use Rattle.cap_summary.specs.LineAsks.{asked_holds, asks_in, refusals_in};
+ghost use Rattle.cap_summary.specs.Names.{Names, has_cell, RefusalsWithin, PreWithin};
+ghost use Rattle.cap_summary.specs.Preconditions.{is_met, is_wrongful, IsWithMore, IsSettled};
+ghost use Rattle.cap_summary.specs.Preconditions.{IsPossible, IsPulledBack, IsAskedByOne, IsAskedByBoth};
 ghost use Rattle.cap_summary.specs.Preconditions.{IsSamePrecondition, asks_size};
 
 use crate::asks::{in_order, unite};
@@ -19,12 +17,6 @@ use cap_tree::NoMemory;
 use std::alloc::Global;
 use std::cmp::Ordering;
 
-/// A refusal for lack of rights (errno 93). It is wrongful unless one of these asks holds.
-#[derive(Clone, Copy, Debug, PartialEq, Eq)]
-pub struct Refusal {
-    pub unless: UpToThree,
-}
-
 /// Under which states before a segment something is found in it: in every one, or where an ask holds or a refusal is
 /// wrongful.
 #[derive(Drop)]
@@ -33,41 +25,8 @@ pub struct Precondition {
     pub certain: bool,
     /// What is asked.
     pub asks: Vec<Ask>,
-    /// The refusals.
-    pub refusals: Vec<Refusal>,
-}
-
-/// What an ask that may be left out asks before an earlier segment: `None` where it holds in every state.
-fn pulled_part(first: &Effect, ask: &Option<Ask>) -> Option<Option<Ask>>
-    ensures holds { (s : State) → option_map_or (part_holds (cells_of s)) result true
-        ≡ part_holds (changed first.now (cells_of s)) ask.now }
-    ensures open { IfSome result (λ part. IfSome part IsOpen) }
-    ensures names { (names : Names) → EffectWithin names first.now → part_within names ask.now ≡ true
-        → IfSome result (λ part. part_within names part ≡ true) }
-{
-    let Some(ask) = ask else {
-        return Some(None);
-    };
-    match ask.before(first) {
-        Pulled::Always => None,
-        Pulled::Never => Some(None),
-        Pulled::Where(before) => Some(Some(before)),
-    }
-}
-
-/// What up to three asks ask before an earlier segment: `None` where one of them holds in every state.
-fn pulled_three(first: &Effect, asks: &UpToThree) -> Option<UpToThree>
-    ensures hold { (s : State)
-        → option_map_or (one_holds (cells_of s)) result true ≡ one_holds (changed first.now (cells_of s)) asks.now }
-    ensures open { IfSome result PartsAreOpen }
-    ensures names { (names : Names) → EffectWithin names first.now
-        → PartsWithin names asks.now → IfSome result (PartsWithin names) }
-{
-    Some(UpToThree {
-        mode: pulled_part(first, &asks.mode)?,
-        first: pulled_part(first, &asks.first)?,
-        second: pulled_part(first, &asks.second)?,
-    })
+    /// The asks of each refusal for lack of rights (errno 93). It is wrongful unless one of them holds.
+    pub refusals: Vec<UpToThree>,
 }
 
 /// What the asks of a later segment ask before a first one.
@@ -131,9 +90,7 @@ fn asks_of_both(
 ) -> Result<Option<Vec<Ask>>, NoMemory>
     requires own { Rises own.now }
     requires later { Rises later.now }
-    ensures always { IfOk result (λ both. IfNone both ((s : State)
-        → (any_holds (cells_of s) own.now || any_holds (changed first.now (cells_of s)) later.now) ≡ true)) }
-    ensures asks { IfOk result (λ both. IfSome both (λ both. AreAskedByBoth first.now own.now later.now both.items)) }
+    ensures { IfOk result (IsAskedByOne first.now own.now later.now) }
 {
     let Some(pulled) = pulled_asks(alloc, first, later)? else {
         return Ok(None);
@@ -148,13 +105,6 @@ fn asks_of_both(
         Some(later) => unite(alloc, own, &later),
         None => Ok(None),
     }
-}
-
-/// Whether one of these asks holds in every state.
-fn any_is_certain(asks: &[Ask]) -> bool
-    ensures { result ≡ any_certain asks.now }
-{
-    asks.iter().any(|ask| ask.is_certain())
 }
 
 impl Precondition {
@@ -201,102 +151,64 @@ impl Precondition {
         self.certain == other.certain && self.asks == other.asks && self.refusals == other.refusals
     }
 
-    /// Something is also found where an ask that was pulled back holds.
-    fn put(&mut self, pulled: Pulled) -> Result<(), NoMemory>
-        ensures met { OnOk result (IsMetOr self.old self.new (λ cells. pulled_holds cells pulled)) }
-        ensures possible { OnOk result (IfAsked IsOpen pulled → IsPossible self.old → IsPossible self.new) }
-        ensures names { OnOk result ((names : Names) → pulled_within (has_cell names) pulled ≡ true
-            → PreWithin names self.old → PreWithin names self.new) }
-        ensures few { OnOk result (asks_size self.new ≤ asks_size self.old + 1) }
-        ensures refusals { self.new.refusals ≡ self.old.refusals }
+    /// Something is also found where one of these holds after an earlier segment.
+    fn put_after(&mut self, first: &Effect, asks: &[Ask]) -> Result<(), NoMemory>
+        ensures { OnOk result (IsWithMore first.now (λ cells. any_holds cells asks.now)
+            (λ names. AreWithin (has_cell names) asks.now) (length asks.now) 0 self.old self.new) }
     {
-        match pulled {
-            Pulled::Always => self.certain = true,
-            Pulled::Never => {}
-            Pulled::Where(ask) => self.asks.push(ask)?,
+        for ask in asks {
+            match ask.before(first) {
+                Pulled::Always => self.certain = true,
+                Pulled::Never => {}
+                Pulled::Where(ask) => self.asks.push(ask)?,
+            }
         }
         Ok(())
     }
 
-    /// Something is also found where an ask holds after an earlier segment.
-    fn put_after(&mut self, first: &Effect, ask: &Option<Ask>) -> Result<(), NoMemory>
-        ensures met { OnOk result (IsMetOr self.old self.new
-            (λ cells. part_holds (changed first.now cells) ask.now)) }
-        ensures possible { OnOk result (IsPossible self.old → IsPossible self.new) }
-        ensures names { OnOk result ((names : Names) → EffectWithin names first.now
-            → part_within names ask.now ≡ true → PreWithin names self.old → PreWithin names self.new) }
-        ensures few { OnOk result (asks_size self.new ≤ asks_size self.old + 1) }
-        ensures refusals { self.new.refusals ≡ self.old.refusals }
-    {
-        match ask {
-            None => Ok(()),
-            Some(ask) => self.put(ask.before(first)),
-        }
-    }
-
-    /// Something is also found where a refusal is wrongful after an earlier segment.
+    /// Something is also found where a refusal is wrongful after an earlier segment, which it is unless one of these holds.
     fn refuse_after(&mut self, first: &Effect, unless: &UpToThree) -> Result<(), NoMemory>
-        ensures met { OnOk result (IsMetOr self.old self.new
-            (λ cells. not (one_holds (changed first.now cells) unless.now))) }
-        ensures possible { OnOk result (IsPossible self.old → IsPossible self.new) }
-        ensures names { OnOk result ((names : Names) → EffectWithin names first.now
-            → PartsWithin names unless.now → PreWithin names self.old → PreWithin names self.new) }
+        ensures more { OnOk result (IsWithMore first.now (λ cells. is_wrongful cells unless.now)
+            (λ names. AreWithin (has_cell names) (asks_of unless.now)) 1 1 self.old self.new) }
         ensures asks { self.new.asks ≡ self.old.asks }
-        ensures few { OnOk result (length self.new.refusals.items ≤ length self.old.refusals.items + 1) }
     {
-        let Some(unless) = pulled_three(first, unless) else {
+        let Some(unless) = unless.before(first) else {
             return Ok(());
         };
         if unless.is_certain() {
             return Ok(());
         }
-        if unless.is_nothing() {
+        if unless.as_slice().is_empty() {
             self.certain = true;
         } else {
-            self.refusals.push(Refusal { unless })?;
+            self.refusals.push(unless)?;
         }
         Ok(())
     }
 
     /// Something is also found where it is in a line after an earlier segment.
     pub fn put_line(&mut self, first: &Effect, asks: &LineAsks) -> Result<(), NoMemory>
-        ensures met { OnOk result (IsMetOr self.old self.new
-            (λ cells. asked_holds (changed first.now cells) asks.now)) }
-        ensures possible { OnOk result (IsPossible self.old → IsPossible self.new) }
-        ensures names { OnOk result ((names : Names) → EffectWithin names first.now
-            → LineAsksWithin names asks.now → PreWithin names self.old → PreWithin names self.new) }
-        ensures few { OnOk result (asks_size self.new ≤ asks_size self.old + 3) }
-        ensures refusals { OnOk result (length self.new.refusals.items
-            ≤ length self.old.refusals.items + refusals_in asks.now) }
+        ensures { OnOk result (IsWithMore first.now (λ cells. asked_holds cells asks.now)
+            (λ names. AreWithin (has_cell names) (asks_in asks.now)) 3 (refusals_in asks.now) self.old self.new) }
     {
         match asks {
             LineAsks::Always => {
                 self.certain = true;
                 Ok(())
             }
-            LineAsks::Where(asks) => {
-                self.put_after(first, &asks.mode)?;
-                self.put_after(first, &asks.first)?;
-                self.put_after(first, &asks.second)?;
-                Ok(())
-            }
+            LineAsks::Where(asks) => self.put_after(first, asks.as_slice()),
             LineAsks::Unless(asks) => self.refuse_after(first, asks),
         }
     }
 
     /// Something is also found where one of these refusals is wrongful after an earlier segment.
-    fn refuse_all_after(&mut self, first: &Effect, refusals: &[Refusal]) -> Result<(), NoMemory>
-        ensures met { OnOk result (IsMetOr self.old self.new
-            (λ cells. list_any (is_wrongful (changed first.now cells)) refusals.now)) }
-        ensures possible { OnOk result (IsPossible self.old → IsPossible self.new) }
-        ensures names { OnOk result ((names : Names) → EffectWithin names first.now
-            → RefusalsWithin names refusals.now → PreWithin names self.old → PreWithin names self.new) }
+    fn refuse_all_after(&mut self, first: &Effect, refusals: &[UpToThree]) -> Result<(), NoMemory>
+        ensures more { OnOk result (IsWithMore first.now (λ cells. list_any (is_wrongful cells) refusals.now)
+            (λ names. RefusalsWithin names refusals.now) (length refusals.now) (length refusals.now) self.old self.new) }
         ensures asks { self.new.asks ≡ self.old.asks }
-        ensures few { OnOk result (length self.new.refusals.items
-            ≤ length self.old.refusals.items + length refusals.now) }
     {
         for refusal in refusals {
-            self.refuse_after(first, &refusal.unless)?;
+            self.refuse_after(first, refusal)?;
         }
         Ok(())
     }
@@ -348,9 +260,6 @@ impl Precondition {
         let Some(asks) = in_order(alloc, self.asks)? else {
             return Ok(Precondition::always(alloc));
         };
-        if any_is_certain(&asks) {
-            return Ok(Precondition::always(alloc));
-        }
         let mut refusals = self.refusals;
         refusals.shrink_to_fit();
         Ok(Precondition {

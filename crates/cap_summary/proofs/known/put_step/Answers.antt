@@ -13,9 +13,9 @@ returns c = λ steps so_far.
     (λ p f. rw pid (rw view at (rule.cells p f)))
     (λ p. rw pid (rw view at (rule.modes p))) c.args.effect.now c.push.new.self c.args.precondition.now
     c.put_line.new.self c.of_line-asks.result steps so_far
-    c.in_ok-push.ensures.cells c.in_ok-push.ensures.leaves c.in_ok-put_line.ensures.met c.in_ok-put_line.ensures.possible
+    c.in_ok-push.ensures.cells c.in_ok-push.ensures.leaves c.in_ok-put_line.ensures
     (λ s. rw (pid, requirement) at (c.of_line-asks.ensures.holds s)) c.in_ok-push.ensures.names
-    c.in_ok-put_line.ensures.names (rw pid (line_in c.args.step.now steps c.rule_of-rule.result.effect
+    (rw pid (line_in c.args.step.now steps c.rule_of-rule.result.effect
     (λ p f. rw view at (rule.cells p f)))) (c.of_line-asks.ensures.names (names_in (steps ++ c.args.step.now ∷ []))
     (rw (pid, requirement) (requirement_in c.args.step.now steps)))
-    c.in_ok-put_line.ensures.few c.in_ok-put_line.ensures.refusals (rw requirement at c.of_line-asks.ensures.refusals)
+    (rw requirement at c.of_line-asks.ensures.refusals)

@@ -2,10 +2,10 @@ use Rattle.std.proofs.{lemmas.List.Folds.list_any_at}
 use Rattle.std.specs.Prelude.{◌≡◌, true, refl, Some, IfSome}
 use Rattle.cap_summary.specs.{Equal, State, Effects.cell_in, Effects.changed, Keys.cells_of, Tests.passes}
 use Rattle.cap_summary.specs.{Sorted.found, declared.ask.Ask.Ask}
-use Rattle.cap_summary.specs.Asks.{holds, pulled_holds, pulled_within, AskWithin, IsOpen}
+use Rattle.cap_summary.specs.Asks.{holds, pulled_holds, IfAsked, AskWithin, IsOpen}
 use Rattle.cap_summary.specs.Names.{Names, has_cell, IsRowWithin, EffectWithin}
 use Rattle.cap_summary.proofs.{drop_all, append-nil, arith, sym, ap, ◌∙◌, subst, ranked}
-use Rattle.cap_summary.proofs.Pulling.{pulled_none, pulled_never, pulled_kept, swapped, kept_same, kept_more, open_can}
+use Rattle.cap_summary.proofs.Pulling.{pulled_none, pulled_never, pulled_kept, swapped, kept_same, kept_more}
 use Rattle.cap_summary.proofs.precondition.pulled_asks.Goals as goal
 
 pub loop-ask-init : goal.loop-ask-init
@@ -32,7 +32,7 @@ loop-ask-preserved-in_default c =
     let so_far = c.loop-ask.invariant in record {
       back = rw c.in_ok-push.ensures.items (pulled_kept first c.args.asks.now c.loop-ask.ask-index ask
           c.loop-ask.kept.items c.loop-ask.moved.items c.loop-ask-test.true c.ask-item.is so_far.back ask
-          (λ answer can. can) (λ s. ap (passes ask) (sym (rw c.in_default.is at c.changed_by.ensures.left (cells_of s))
+          (λ can. can) (λ s. ap (passes ask) (sym (rw c.in_default.is at c.changed_by.ensures.left (cells_of s))
           ∙ ap (λ r. cell_in (cells_of s) r ask.pid ask.key) c.row_of-row.ensures))
           (λ names effect within. within));
       kept = rw c.in_ok-push.ensures.items
@@ -57,7 +57,7 @@ loop-ask-preserved c =
     let met : (s : State) → pulled_holds (cells_of s) pulled ≡ holds (changed first (cells_of s)) ask = λ s.
     c.through.ensures.holds s ∙ ap (λ r. passes ask (cell_in (cells_of s) r ask.pid ask.key)) (sym by) in
     let named : (names : Names) → EffectWithin names first → AskWithin (has_cell names) ask
-    → pulled_within (has_cell names) pulled ≡ true = λ names effect.
+    → IfAsked (AskWithin (has_cell names)) pulled = λ names effect.
     let own : IsRowWithin names ask.pid c.in-Some.by.now =
     subst (λ r. IfSome r (IsRowWithin names ask.pid)) by (effect ask.pid) in
     c.through.ensures.names names own.row in
@@ -71,7 +71,7 @@ loop-ask-preserved c =
       | goal.in-Where+in-Equal+in_ok-push-in-Equal w ↦
           let may : IsOpen w.in-Where.before = rw w.in-Where.is at c.through.ensures.open in record {
             back = rw (w.kept-is, w.moved-is, w.in_ok-push-in-Equal.ensures.items) (pulled_kept first asks i ask kept moved
-                within is so_far.back w.in-Where.before (λ answer can. open_can w.in-Where.before may answer)
+                within is so_far.back w.in-Where.before (λ can. may)
                 (rw w.in-Where.is at met) (rw w.in-Where.is at named));
             kept = rw (w.kept-is, w.in_ok-push-in-Equal.ensures.items)
                 (kept_more asks kept i ask within is so_far.kept w.in-Where.before
@@ -82,7 +82,7 @@ loop-ask-preserved c =
           let may : IsOpen w.in-Where.before = rw w.in-Where.is at c.through.ensures.open in record {
             back = rw (w.kept-is, w.moved-is, w.in_ok-push-in_default-order.ensures.items) (swapped first _ _ kept (pulled_kept
                 first asks i ask moved kept within is (swapped first _ kept moved so_far.back) w.in-Where.before
-                (λ answer can. open_can w.in-Where.before may answer)
+                (λ can. may)
                 (rw w.in-Where.is at met) (rw w.in-Where.is at named)));
             kept = rw w.kept-is (kept_same asks kept i ask within is so_far.kept);
             row = row;

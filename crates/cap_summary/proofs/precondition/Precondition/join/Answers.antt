@@ -18,7 +18,7 @@ returns-then-self c =
 pub returns-in_default : goal.returns-in_default
 returns-in_default c =
     let all = c.always-in_default.ensures in
-    let one = rw (c.in_default.is, c.deref.ensures.value, c.deref-2.ensures.value) at c.in_ok-asks.ensures.always in
+    let one = rw (c.in_default.is, c.deref.ensures.value, c.deref-2.ensures.value) at c.in_ok-asks.ensures in
     always_asked c.args.first.now c.args.self.now c.args.later.now c.always-in_default.result all.met all.settled
     all.possible all.names all.nothing (λ s. met_by_asks c.args.first.now c.args.self.now c.args.later.now s (one s))
 
@@ -32,14 +32,14 @@ returns-then-both c =
     let before : Precondition =
     record { certain = false; asks = c.in-Some.asks; refusals = c.extend_from_slice.new.self } in
     let asked : AreAskedByBoth first own.asks.items later.asks.items c.in-Some.asks.items =
-    rw (c.in-Some.is, c.deref.ensures.value, c.deref-2.ensures.value) at c.in_ok-asks.ensures.asks in
+    rw (c.in-Some.is, c.deref.ensures.value, c.deref-2.ensures.value) at c.in_ok-asks.ensures in
     let same : before.refusals.items ≡ own.refusals.items = rw (
       c.in_ok-refusals.ensures.items,
       c.deref-3.ensures.value,
     ) at c.in_ok-extend_from_slice.ensures.items in
     always_asked first own later c.always-then-both.result all.met all.settled all.possible all.names all.nothing (λ s. sym
     (met_joined first own later before new c.deref-4.result.now c.if-self.false c.if-later.false refl asked same
-    c.deref-4.ensures.value c.in_ok-refuse_all_after.ensures.met s) ∙ rw c.if-both.true refl)
+    c.deref-4.ensures.value c.in_ok-refuse_all_after.ensures.more s) ∙ rw c.if-both.true refl)
 
 pub returns : goal.returns
 returns c =
@@ -50,11 +50,10 @@ returns c =
     let before : Precondition =
     record { certain = false; asks = c.in-Some.asks; refusals = c.extend_from_slice.new.self } in
     let asked : AreAskedByBoth first own.asks.items later.asks.items c.in-Some.asks.items =
-    rw (c.in-Some.is, c.deref.ensures.value, c.deref-2.ensures.value) at c.in_ok-asks.ensures.asks in
+    rw (c.in-Some.is, c.deref.ensures.value, c.deref-2.ensures.value) at c.in_ok-asks.ensures in
     let same : before.refusals.items ≡ own.refusals.items = rw (
       c.in_ok-refusals.ensures.items,
       c.deref-3.ensures.value,
     ) at c.in_ok-extend_from_slice.ensures.items in
     asked_joined first own later before c.refuse_all_after.new.self c.deref-4.result.now c.if-self.false c.if-later.false
-    refl asked same c.deref-4.ensures.value refused.met c.requires.own c.requires.later c.if-both.false refused.asks
-    refused.possible refused.names refused.few
+    refl asked same c.deref-4.ensures.value refused.more c.if-both.false refused.asks

@@ -1,13 +1,17 @@
-use Rattle.cap_summary.specs.{Effects.changed, LineAsks.part_holds}
-use Rattle.cap_summary.proofs.{Meeting.met_three}
+use Rattle.std.specs.Prelude.{List, length}
+use Rattle.cap_summary.specs.{Asks.any_holds, Asks.asks_of, Asks.AreWithin, Names.has_cell, Preconditions.is_wrongful}
+use Rattle.cap_summary.specs.{declared.ask.Ask.Ask}
+use Rattle.cap_summary.proofs.{arith, on_ok_weaker, Meeting.with_room}
 use Rattle.cap_summary.proofs.precondition.Precondition.put_line.Goals as goal
 
-pub returns-in_ok-put_after-in-Where-3-clause-met : goal.returns-in_ok-put_after-in-Where-3-clause-met
-returns-in_ok-put_after-in-Where-3-clause-met c = λ s.
-    let first = c.args.first.now in
-    let asks = c.in-Where.asks in
-    rw c.in-Where.is (met_three c.args.self.now c.put_after.new.self c.put_after-in-Where.new.self
-    c.put_after-in-Where-2.new.self (λ cells. part_holds (changed first cells) asks.mode)
-    (λ cells. part_holds (changed first cells) asks.first) (λ cells. part_holds (changed first cells) asks.second)
-    c.in_ok-put_after-in-Where.ensures.met c.in_ok-put_after-in-Where-2.ensures.met
-    c.in_ok-put_after-in-Where-3.ensures.met s)
+pub returns-in-Where : goal.returns-in-Where
+returns-in-Where c =
+    let asks : List Ask = asks_of c.in-Where.asks in
+    rw c.in-Where.is (on_ok_weaker c.put_after.result (with_room c.args.first.now (λ cells. any_holds cells asks)
+    (λ names. AreWithin (has_cell names) asks) (length asks) 3 0 0 c.args.self.now c.put_after.new.self
+    (rw c.as_slice.ensures.asks at c.as_slice.ensures.few) (omega arith)) (rw c.as_slice.ensures.asks at c.put_after.ensures))
+
+pub returns-in-Unless : goal.returns-in-Unless
+returns-in-Unless c = rw c.in-Unless.is (on_ok_weaker c.refuse_after.result (with_room c.args.first.now
+    (λ cells. is_wrongful cells c.in-Unless.asks) (λ names. AreWithin (has_cell names) (asks_of c.in-Unless.asks))
+    1 3 1 1 c.args.self.now c.refuse_after.new.self (omega arith) (omega arith)) c.refuse_after.ensures.more)

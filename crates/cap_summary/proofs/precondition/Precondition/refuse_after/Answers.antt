@@ -1,33 +1,36 @@
-use Rattle.cap_summary.specs.{refl, Keys.cells_of, Names.PartsWithin, Preconditions.is_met, Preconditions.PartsAreOpen}
-use Rattle.cap_summary.specs.{declared.precondition.Precondition.Precondition, declared.precondition.Refusal.Refusal}
-use Rattle.cap_summary.proofs.{sym, or-false, All-push}
-use Rattle.cap_summary.proofs.Meeting.{refused_more, refusal_open, possible_refused}
+use Rattle.std.specs.Prelude.{◌≡◌, not, [], All}
+use Rattle.cap_summary.specs.{Asks.asks_of, Asks.IsOpen, Preconditions.IsPulledBack}
+use Rattle.cap_summary.proofs.{sym, ap, ◌∙◌}
+use Rattle.cap_summary.proofs.Meeting.{nothing_more, now_certain, one_refusal, never_wrongful, always_wrongful}
+use Rattle.cap_summary.proofs.{Together.one_certain, Together.none_holds}
 use Rattle.cap_summary.proofs.precondition.Precondition.refuse_after.Goals as goal
 
-pub returns-then-is_certain-clause-met : goal.returns-then-is_certain-clause-met
-returns-then-is_certain-clause-met c = λ s.
-    let pulled = rw c.in-Some.is at (c.pulled_three.ensures.hold s) in
-    rw (← pulled, c.is_certain.ensures.always c.if-is_certain.true s) (sym (or-false (is_met (cells_of s) c.args.self.now)))
+pub returns-in_default-clause-more : goal.returns-in_default-clause-more
+returns-in_default-clause-more c = nothing_more _ _ _ _ _ c.args.self.now
+    (λ s. ap not ((rw c.in_default.is at c.before-2.ensures.always) s))
 
-pub returns-in_ok-push-clause-met : goal.returns-in_ok-push-clause-met
-returns-in_ok-push-clause-met c = λ s.
-    let pulled = rw c.in-Some.is at (c.pulled_three.ensures.hold s) in
-    let refusal : Refusal = record { unless = c.in-Some.unless } in
-    rw (← pulled) (refused_more (cells_of s) c.args.self.now c.push.new.self.items refusal c.in_ok-push.ensures.items)
+pub returns-then-is_certain-clause-more : goal.returns-then-is_certain-clause-more
+returns-then-is_certain-clause-more c =
+    let back : IsPulledBack c.args.first.now (asks_of c.args.unless.now) (asks_of c.in-Some.unless) [] =
+    rw c.in-Some.is at c.before-2.ensures.asks in
+    let can : All IsOpen (asks_of c.in-Some.unless) = rw c.in-Some.is at c.before-2.ensures.open in
+    nothing_more _ _ _ _ _ c.args.self.now (never_wrongful c.args.first.now c.args.self.now c.args.unless.now
+    c.in-Some.unless back can (one_certain (asks_of c.in-Some.unless)
+    (asks_of c.in-Some.unless) (sym c.is_certain.ensures ∙ c.if-is_certain.true)))
 
-pub returns-in_ok-push-clause-possible : goal.returns-in_ok-push-clause-possible
-returns-in_ok-push-clause-possible c = λ old.
-    let new : Precondition = record c.args.self.now { refusals = c.push.new.self } in
-    let refusal : Refusal = record { unless = c.in-Some.unless } in
-    let parts : PartsAreOpen c.in-Some.unless = rw c.in-Some.is at c.pulled_three.ensures.«open» in
-    possible_refused c.args.self.now new refusal c.in_ok-push.ensures.items refl
-    (refusal_open c.in-Some.unless refusal refl parts (c.is_nothing.ensures.some c.if-is_nothing.false)
-    (c.is_certain.ensures.other c.if-is_certain.false)) old
+pub returns-then-is_empty-clause-more : goal.returns-then-is_empty-clause-more
+returns-then-is_empty-clause-more c =
+    let back : IsPulledBack c.args.first.now (asks_of c.args.unless.now) (asks_of c.in-Some.unless) [] =
+    rw c.in-Some.is at c.before-2.ensures.asks in
+    let can : All IsOpen (asks_of c.in-Some.unless) = rw c.in-Some.is at c.before-2.ensures.open in
+    now_certain _ _ _ _ _ c.args.self.now (always_wrongful c.args.first.now c.args.self.now c.args.unless.now
+    c.in-Some.unless back can (rw c.as_slice.ensures.asks at (sym c.is_empty.ensures ∙ c.if-is_empty.true)))
 
-pub returns-in_ok-push-clause-names : goal.returns-in_ok-push-clause-names
-returns-in_ok-push-clause-names c = λ names effect asks old.
-    let refusal : Refusal = record { unless = c.in-Some.unless } in record {
-      asks = old.asks;
-      refusals = rw c.in_ok-push.ensures.items (All-push (λ (r : Refusal). PartsWithin names r.unless)
-          c.args.self.now.refusals.items refusal old.refusals (c.in-Some.ensures.names names effect asks));
-    }
+pub returns-in_ok-push-clause-more : goal.returns-in_ok-push-clause-more
+returns-in_ok-push-clause-more c =
+    let back : IsPulledBack c.args.first.now (asks_of c.args.unless.now) (asks_of c.in-Some.unless) [] =
+    rw c.in-Some.is at c.before-2.ensures.asks in
+    let can : All IsOpen (asks_of c.in-Some.unless) = rw c.in-Some.is at c.before-2.ensures.open in
+    one_refusal c.args.first.now c.args.self.now c.args.unless.now c.in-Some.unless back can c.push.new.self
+    c.in_ok-push.ensures.items (rw c.as_slice.ensures.asks at (sym c.is_empty.ensures ∙ c.if-is_empty.false))
+    (none_holds (asks_of c.in-Some.unless) (sym c.is_certain.ensures ∙ c.if-is_certain.false))

@@ -1,0 +1,8 @@
+use Rattle.std.specs.Prelude.{◌≡◌, take}
+use Rattle.cap_summary.specs.{Cell, Asks.asks_of, Asks.are_sure_at, Tests.has_kind}
+use Rattle.cap_summary.proofs.up_to_three.UpToThree.are_sure_at.Given as goal
+
+abbrev pub invariant-loop-ask : goal.invariant-loop-ask
+invariant-loop-ask l = record {
+  sure : (c : Cell) → has_kind l.kinds c ≡ are_sure_at (take l.ask-index (asks_of l.self)) l.at.pid l.at.key c;
+}

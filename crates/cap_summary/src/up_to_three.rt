@@ -1,0 +1,91 @@
+//! Lists of at most three asks.
+
+ghost use Rattle.std.specs.Prelude.{◌≡◌, ◌<◌, ◌≤◌, ◌++◌, ◌∷◌, [], length, true, All, IfSome, IfNone};
+ghost use Rattle.cap_summary.specs.{list_all, State, Effects.changed, Keys.cells_of, Tests.each_kind};
+ghost use Rattle.cap_summary.specs.Asks.{any_holds, asks_of, IsOpen, are_sure_at, one_is_certain};
+ghost use Rattle.cap_summary.specs.Preconditions.{IsPulledBack};
+
+use crate::{Ask, Effect, Key, Kinds, Pulled};
+use cap_rights::RightSet;
+
+/// At most three asks.
+#[derive(Clone, Copy, Debug, PartialEq, Eq)]
+pub struct UpToThree {
+    asks: [Ask; 3],
+    count: usize,
+}
+
+impl UpToThree {
+    #[inline(always)]
+    pub(crate) fn none() -> UpToThree
+        ensures { asks_of result ≡ [] }
+    {
+        let blank = Ask {
+            pid: 0,
+            key: Key::Mode,
+            kinds: Kinds::NONE,
+            lacking: Kinds::NONE,
+            rights: RightSet::none(),
+        };
+        UpToThree {
+            asks: [blank; 3],
+            count: 0,
+        }
+    }
+
+    /// The asks.
+    pub fn as_slice(&self) -> &[Ask]
+        ensures asks { result.now ≡ asks_of self.now }
+        ensures few { length result.now ≤ 3 }
+    {
+        &self.asks[..self.count.min(3)]
+    }
+
+    /// Adds one at the end.
+    #[inline(always)]
+    pub(crate) fn push(&mut self, ask: Ask)
+        requires { length (asks_of self.old) < 3 }
+        ensures { asks_of self.new ≡ asks_of self.old ++ ask ∷ [] }
+    {
+        self.asks[self.count] = ask;
+        self.count += 1;
+    }
+
+    /// What these ask before an earlier segment: `None` where one of them holds in every state.
+    #[inline(always)]
+    pub(crate) fn before(&self, first: &Effect) -> Option<UpToThree>
+        ensures always { IfNone result ((s : State) → any_holds (changed first.now (cells_of s)) (asks_of self.now) ≡ true) }
+        ensures asks { IfSome result (λ before. IsPulledBack first.now (asks_of self.now) (asks_of before) []) }
+        ensures open { IfSome result (λ before. All IsOpen (asks_of before)) }
+    {
+        let mut before = UpToThree::none();
+        for ask in self.as_slice() {
+            match ask.before(first) {
+                Pulled::Always => return None,
+                Pulled::Never => {}
+                Pulled::Where(ask) => before.push(ask),
+            }
+        }
+        Some(before)
+    }
+
+    /// Whether each cell passes one of these that is about the cell of an ask.
+    fn are_sure_at(&self, at: &Ask) -> bool
+        ensures { result ≡ list_all (are_sure_at (asks_of self.now) at.now.pid at.now.key) each_kind }
+    {
+        let mut kinds = Kinds::NONE;
+        for ask in self.as_slice() {
+            if ask.pid == at.pid && ask.key.number() == at.key.number() {
+                kinds = kinds.join(&ask.sure_kinds());
+            }
+        }
+        kinds.is_full()
+    }
+
+    /// Whether one of these holds in every state.
+    pub(crate) fn is_certain(&self) -> bool
+        ensures { result ≡ one_is_certain (asks_of self.now) }
+    {
+        self.as_slice().iter().any(|ask| self.are_sure_at(ask))
+    }
+}
