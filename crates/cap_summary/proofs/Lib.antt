@@ -28,4 +28,5 @@ pub mod Explained
 pub mod FewKeys
 pub mod FewAsks
 pub mod Judged
+pub mod Agreeing
 pub use Common.*

@@ -17,5 +17,6 @@ pub mod Content
 pub mod Falls
 pub mod Stands
 pub mod Positions
+pub mod LastSteps
 pub mod PlaceInNode
 pub use Prelude.*

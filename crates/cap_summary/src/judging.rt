@@ -2,8 +2,10 @@
 
 ghost use Rattle.std.specs.Prelude.{◌≡◌, ◌&&◌, ◌+◌, ◌^◌, ◌<◌, ◌≤◌, ◌++◌, ◌∷◌, nat_le, [], length, IfOk, OnOk, map};
 ghost use Rattle.cap_summary.specs.{check, ended, said, start_state, findings_of, found_at, later, values};
-ghost use Rattle.cap_summary.specs.{Effects.state_before, Positions.within};
+ghost use Rattle.cap_summary.specs.{Effects.state_before, Positions.within, State};
+ghost use Rattle.cap_summary.specs.{LastSteps.AreNoted, LastSteps.AgreeAfter};
 
+use crate::last_steps::LastSteps;
 use crate::{Before, Effect};
 use cap_machine::{Found, Machine, Requirement, Step, Verdict, rule_of};
 use cap_trace::Pid;
@@ -142,24 +144,47 @@ fn judged(machine: &mut Machine, step: &Step) -> Result<Verdict, NoMemory>
     machine.step(step.profile, &step.line).map_err(|_| NoMemory)
 }
 
+/// Forgets the process of a step where it makes none after so many.
+#[tactic(auto, using(crate::proofs::Agreeing::agree_forgotten))]
+fn forget_done(
+    machine: &mut Machine,
+    at: usize,
+    last: &LastSteps,
+    step: &Step,
+) -> Result<(), NoMemory>
+    ensures { (s : State) → AgreeAfter last.now at s (start_state machine.old)
+        → OnOk result (AgreeAfter last.now at s (start_state machine.new)) }
+{
+    let pid = step.line.view().pid;
+    if last.of(pid) > at {
+        return Ok(());
+    }
+    machine.forget(pid).map_err(|_| NoMemory)
+}
+
 /// Notes what is found in a run of steps after so many others, at the positions that are asked for, and moves the
-/// machine on to what is known after them.
+/// machine on to what is known after them of the processes that make later ones.
 pub(crate) fn judge_in_order(
     run: &[Rc<Step>],
     machine: &mut Machine,
     at: usize,
+    last: &LastSteps,
     asked: &Asked,
     found: &mut Vec<Found>,
 ) -> Result<(), NoMemory>
     requires short { at + length run.now ≤ 2 ^ 31 }
-    ensures found { OnOk result (found.new.items ≡ found.old.items
-        ++ within asked.now.from asked.now.to (map (later at) (check (start_state machine.old) (values run.now)))) }
-    ensures moves { OnOk result (start_state machine.new ≡ ended (start_state machine.old) (values run.now)) }
+    requires noted { AreNoted last.now at (values run.now) }
+    ensures found { (s : State) → AgreeAfter last.now at s (start_state machine.old)
+        → OnOk result (found.new.items ≡ found.old.items
+        ++ within asked.now.from asked.now.to (map (later at) (check s (values run.now)))) }
+    ensures moves { (s : State) → AgreeAfter last.now at s (start_state machine.old)
+        → OnOk result (AgreeAfter last.now (at + length run.now) (ended s (values run.now)) (start_state machine.new)) }
 {
     if run.len() == 0 {
         return Ok(());
     }
     let verdict = judged(machine, &run[0])?;
     note_asked(&verdict, at + 1, asked, found)?;
-    judge_in_order(&run[1..], machine, at + 1, asked, found)
+    forget_done(machine, at + 1, last, &run[0])?;
+    judge_in_order(&run[1..], machine, at + 1, last, asked, found)
 }

@@ -12,6 +12,7 @@ mod judging;
 mod key;
 mod kinds;
 mod known;
+mod last_steps;
 mod line;
 mod line_asks;
 mod listed;

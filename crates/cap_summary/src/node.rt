@@ -7,9 +7,11 @@ ghost use Rattle.cap_summary.specs.{Kept.NameOrRefuseMany, Kept.IsKept, Kept.IsW
 ghost use Rattle.cap_summary.specs.{Knows.Knows, Preconditions.IsSettled};
 ghost use Rattle.cap_summary.specs.Content.{content_steps, HasParts, AreKept, KeepsParts};
 ghost use Rattle.cap_summary.specs.Positions.{within, AllOrMany, WereJudged};
+ghost use Rattle.cap_summary.specs.{State, LastSteps.IsNoLess, LastSteps.AreNoted, LastSteps.AgreeAfter};
 ghost use Rattle.cap_summary.specs.{Composing.NodeView, Composing.NodesCompose, Composing.NodesAlike};
 
 use crate::judging::{Asked, judge_in_order, judge_run};
+use crate::last_steps::LastSteps;
 use crate::{Before, Known, Report};
 use cap_machine::{Machine, Step};
 use cap_tree::{Meter, NoMemory, Side, Similarity};
@@ -352,22 +354,42 @@ impl Node {
         }
     }
 
+    /// Notes of each process where it makes its last step, after so many others.
+    pub(crate) fn note_last(&self, at: usize, last: &mut LastSteps) -> Result<(), NoMemory>
+        requires { at + length self.now.steps ≤ 2 ^ 31 }
+        ensures kept { OnOk result (IsNoLess last.old last.new) }
+        ensures noted { OnOk result (AreNoted last.new at self.now.steps) }
+    {
+        match &self.content {
+            Content::Run(run) => last.note_run(run, at),
+            Content::Both(a, b) => {
+                a.note_last(at, last)?;
+                b.note_last(at + a.len(), last)?;
+                Ok(())
+            }
+        }
+    }
+
     /// Notes what is found in the steps after so many others, at the positions that are asked for, and moves the
-    /// machine on to what is known after them; where no position after them is asked for, it may stop before.
+    /// machine on to what is known after them of the processes that make later ones; where no position after them is
+    /// asked for, it may stop before.
     pub(crate) fn judge(
         &self,
         machine: &mut Machine,
         at: usize,
+        last: &LastSteps,
         asked: &Asked,
         report: &mut Report,
     ) -> Result<(), NoMemory>
         requires short { at + length self.now.steps ≤ 2 ^ 31 }
         requires room { report.old.judged + length self.now.steps < 2 ^ 64 }
-        ensures found { OnOk result (report.new.found.items ≡ report.old.found.items
-            ++ within asked.now.from asked.now.to
-            (map (later at) (check (start_state machine.old) self.now.steps))) }
-        ensures moves { OnOk result (at + length self.now.steps ≤ asked.now.to
-            → start_state machine.new ≡ ended (start_state machine.old) self.now.steps) }
+        requires noted { AreNoted last.now at self.now.steps }
+        ensures found { (s : State) → AgreeAfter last.now at s (start_state machine.old)
+            → OnOk result (report.new.found.items ≡ report.old.found.items
+            ++ within asked.now.from asked.now.to (map (later at) (check s self.now.steps))) }
+        ensures moves { (s : State) → AgreeAfter last.now at s (start_state machine.old)
+            → OnOk result (at + length self.now.steps ≤ asked.now.to
+            → AgreeAfter last.now (at + length self.now.steps) (ended s self.now.steps) (start_state machine.new)) }
         ensures all { OnOk result (report.new.judged ≤ report.old.judged + length self.now.steps) }
         ensures each { OnOk result (WereJudged report.old report.new) }
     {
@@ -377,11 +399,11 @@ impl Node {
                     return Ok(());
                 }
                 report.judged += run.len();
-                judge_in_order(run, machine, at, asked, &mut report.found)
+                judge_in_order(run, machine, at, last, asked, &mut report.found)
             }
             Content::Both(a, b) => {
-                a.judge(machine, at, asked, report)?;
-                b.judge(machine, at + a.len(), asked, report)
+                a.judge(machine, at, last, asked, report)?;
+                b.judge(machine, at + a.len(), last, asked, report)
             }
         }
     }

@@ -9,6 +9,7 @@ ghost use Rattle.cap_summary.specs.{Composing.NodesCompose, Composing.IfKept, Pr
 
 use crate::explaining::judge_alone;
 use crate::judging::Asked;
+use crate::last_steps::LastSteps;
 use crate::node::Node;
 use crate::{Before, Known, Report};
 use cap_machine::{Found, Machine, Start, Step};
@@ -116,7 +117,6 @@ pub fn report_range(
 
 /// Judges all steps in order, up to the last position that is asked for, and notes what is found instead of what was
 /// found so far.
-#[tactic(auto, using(crate::proofs::Resolving::found_in_order))]
 fn judge_in_order(
     alloc: Global,
     summary: &Summary,
@@ -132,10 +132,12 @@ fn judge_in_order(
     ensures each { OnOk result (positions report.new.found.items ≤ report.new.judged) }
 {
     report.found.clear();
+    let mut last = LastSteps::nothing(alloc);
+    summary.node.note_last(0, &mut last)?;
     let Ok(mut machine) = Machine::from_start(alloc, start) else {
         return Err(NoMemory);
     };
-    let judged = summary.node.judge(&mut machine, 0, asked, report);
+    let judged = summary.node.judge(&mut machine, 0, &last, asked, report);
     drop(machine);
     judged
 }

@@ -1,0 +1,21 @@
+-- Where each process makes its last step, and states that agree on those that make a later one.
+use Rattle.std.specs.Prelude.{◌≡◌, ◌+◌, ◌<◌, ◌≤◌, ℕ, List, [], ◌∷◌, slice_index_or}
+use Rattle.cap_summary.specs.{Step, State, declared.last_steps.LastSteps.LastSteps}
+
+-- the position of the last step of a process, and 0 where none is noted
+abbrev pub last_of : LastSteps → ℕ → ℕ
+last_of last p = slice_index_or last.positions.items p 0
+
+-- of no process it stands earlier than before
+abbrev pub IsNoLess : LastSteps → LastSteps → Type 0
+IsNoLess old new = (p : ℕ) → last_of old p ≤ last_of new p
+
+-- of steps after so many others none stands beyond the last one of its process
+abbrev pub AreNoted : LastSteps → ℕ → List Step → Type 0
+AreNoted last at [] = Unit {0}
+AreNoted last at (step ∷ t) = (at < last_of last step.line.pid) × AreNoted last (at + 1) t
+
+-- two states have the same cells and the same mode of each process that makes a step after so many
+pub record AgreeAfter (last : LastSteps) (at : ℕ) (s r : State) : Type 0 where
+  pub cells : (p f : ℕ) → at < last_of last p → s.cell p f ≡ r.cell p f
+  pub modes : (p : ℕ) → at < last_of last p → s.mode p ≡ r.mode p

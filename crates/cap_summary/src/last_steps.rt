@@ -1,0 +1,62 @@
+//! Where each process makes its last step.
+
+ghost use Rattle.std.specs.Prelude.{◌≡◌, ◌≤◌, ◌+◌, ◌^◌, ℕ, length, OnOk};
+ghost use Rattle.cap_summary.specs.{values, LastSteps.last_of, LastSteps.IsNoLess, LastSteps.AreNoted};
+
+use cap_machine::Step;
+use cap_trace::Pid;
+use cap_tree::NoMemory;
+use std::alloc::Global;
+use std::rc::Rc;
+
+/// By pid the position of the last step that is noted of a process.
+#[derive(Drop)]
+pub(crate) struct LastSteps {
+    positions: Vec<usize>,
+}
+
+impl LastSteps {
+    /// No step is noted.
+    pub(crate) fn nothing(alloc: Global) -> LastSteps {
+        LastSteps {
+            positions: Vec::new(alloc),
+        }
+    }
+
+    /// The position of the last step of a process; 0 where none is noted.
+    pub(crate) fn of(&self, pid: Pid) -> usize
+        ensures { result ≡ last_of self.now pid }
+    {
+        match self.positions.get(pid as usize) {
+            Some(position) => *position,
+            None => 0,
+        }
+    }
+
+    /// Notes a step of a process at a position.
+    fn note(&mut self, pid: Pid, position: usize) -> Result<(), NoMemory>
+        ensures kept { OnOk result (IsNoLess self.old self.new) }
+        ensures noted { OnOk result (position ≤ last_of self.new pid) }
+    {
+        let at = pid as usize;
+        if self.positions.len() <= at {
+            self.positions.resize(at + 1, 0)?;
+        }
+        self.positions[at] = self.positions[at].max(position);
+        Ok(())
+    }
+
+    /// Notes the steps of a run after so many others.
+    pub(crate) fn note_run(&mut self, run: &[Rc<Step>], at: usize) -> Result<(), NoMemory>
+        requires { at + length run.now ≤ 2 ^ 31 }
+        ensures kept { OnOk result (IsNoLess self.old self.new) }
+        ensures noted { OnOk result (AreNoted self.new at (values run.now)) }
+    {
+        if run.len() == 0 {
+            return Ok(());
+        }
+        self.note(run[0].line.view().pid, at + 1)?;
+        self.note_run(&run[1..], at + 1)?;
+        Ok(())
+    }
+}
