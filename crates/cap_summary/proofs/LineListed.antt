@@ -5,7 +5,8 @@ use Rattle.cap_summary.specs.{option_map_or, list_any, all, Unsure, Closed, Line
 use Rattle.cap_summary.specs.{declared.value.Value.Value, Op, declared.key.Key.Key, Cell, declared.effect.Effect.Effect}
 use Rattle.cap_summary.specs.{declared.effect.Row.Row, Keys.Cells, Sorted.found, Values.read, Values.reads_within}
 use Rattle.cap_summary.specs.Lines.{IsStarted, IsListOf, is_cell, with_cell}
-use Rattle.cap_summary.specs.Names.{Names, has_cell, IsListedWithin, LineWithin, RowWithin, IsRowWithin, EffectWithin}
+use Rattle.cap_summary.specs.Names.{Names, has_cell, IsListedWithin, LineWithin, RowWithin, RowsWithin, IsRowWithin}
+use Rattle.cap_summary.specs.{Names.EffectWithin}
 use Rattle.cap_summary.specs.Effects.{own_row, base_cell, row_cell, cell_in, changed}
 use Rattle.cap_summary.proofs.{Bor, take_all, list_any_more, or-false, or-true, eq-eqb, sym, subst, eqb-true, and_from}
 use Rattle.cap_summary.proofs.{All-head, All-tail, ap, ◌∙◌}
@@ -75,15 +76,12 @@ own_within : (names : Names) (p : ℕ) (row : Option Row) → IfSome row (IsRowW
 own_within names p (Some row) is = is.row
 own_within names p None is = record { cells = λ f. tt; others = refl; mode = refl }
 
-module _ (first new : Effect) (q fd : ℕ) (value : Value) (mid : List (ℕ × Row)) (row : Row) (listed : List (ℕ × Value))
+module _ (first : Effect) (q fd : ℕ) (value : Value) (mid new : List (ℕ × Row)) (row now : Row)
     (taken_is : row ≡ unwrap_or (found first.rows q) own_row)
     (others : (p : ℕ) → (p == q) ≡ false → found mid p ≡ found first.rows p)
-    (with : (g : ℕ) → found listed g ≡ cond (g == fd) (Some value) (found row.cells g))
-    (put : (p : ℕ) → found new.rows p
-    ≡ cond (p == q) (Some (record { base = row.base; mode = row.mode; cells = listed })) (found mid p)) where
-  abbrev now : Row
-  now = record { base = row.base; mode = row.mode; cells = listed }
-
+    (base : now.base ≡ row.base) (mode : now.mode ≡ row.mode)
+    (with : (g : ℕ) → found now.cells g ≡ cond (g == fd) (Some value) (found row.cells g))
+    (put : (p : ℕ) → found new p ≡ cond (p == q) (Some now) (found mid p)) where
   with_if : (cells : Cells) (b : Bool) (was : Option Value) (d : Cell)
       → option_map_or (read cells) (cond b (Some value) was) d
       ≡ cond b (read cells value) (option_map_or (read cells) was d)
@@ -93,8 +91,8 @@ module _ (first new : Effect) (q fd : ℕ) (value : Value) (mid : List (ℕ × R
   -- the row has that cell, and the others as before
   row_with : (cells : Cells) (k : Key) → row_cell cells q now k
       ≡ cond (is_cell q fd q k) (read cells value) (row_cell cells q row k)
-  row_with cells Key.Mode = refl
-  row_with cells (Key.Fd f) = ap (λ o. option_map_or (read cells) o (base_cell cells q row.base f)) (with f)
+  row_with cells Key.Mode = rw mode refl
+  row_with cells (Key.Fd f) = rw (base, with f) refl
       ∙ with_if cells (f == fd) (found row.cells f) (base_cell cells q row.base f)
       ∙ ap (λ b. cond (b && f == fd) (read cells value) (row_cell cells q row (Key.Fd f))) (sym (eq-eqb q q refl))
 
@@ -103,7 +101,7 @@ module _ (first new : Effect) (q fd : ℕ) (value : Value) (mid : List (ℕ × R
   other_cell p (Key.Fd f) is = rw is refl
 
   pub set_cells : (cells : Cells) (p : ℕ) (k : Key)
-      → changed new cells p k ≡ with_cell q fd (read cells value) (changed first cells) p k
+      → cell_in cells (found new p) p k ≡ with_cell q fd (read cells value) (changed first cells) p k
   set_cells cells p k = ap (λ row. cell_in cells row p k) (put p) ∙ by (p == q) refl
     where
       by : (b : Bool) → (p == q) ≡ b → cell_in cells (cond b (Some now) (found mid p)) p k
@@ -115,7 +113,7 @@ module _ (first new : Effect) (q fd : ℕ) (value : Value) (mid : List (ℕ × R
           ∙ ap (λ b. cond b (read cells value) (changed first cells p k)) (sym (other_cell p k is))
 
   pub set_names : (names : Names) → names.pids q ≡ true → IsListedWithin names fd value → EffectWithin names first
-      → EffectWithin names new
+      → RowsWithin names new
   set_names names pid here within p = rw (put p) (by (p == q) refl)
     where
       old : RowWithin names row
@@ -125,9 +123,9 @@ module _ (first new : Effect) (q fd : ℕ) (value : Value) (mid : List (ℕ × R
       by true is = rw (eqb-true p q is) (record {
         pid = pid;
         row = record {
-          cells = each_put (IsListedWithin names) fd value here row.cells listed with old.cells;
-          others = old.others;
-          mode = old.mode;
+          cells = each_put (IsListedWithin names) fd value here row.cells now.cells with old.cells;
+          others = rw base old.others;
+          mode = rw mode old.mode;
         };
       })
       by false is = rw (others p is) (within p)

@@ -56,7 +56,7 @@ pub record IsMergedTo {L R O : Type 0} (gives : ℕ → Option L → Option R �
   pub given : (k : ℕ) → k < bound → gives k (found left k) (found right k) (found merged k)
 
 -- keys that rise from a bound rise from a lower one too
-RisesFrom-lower : {V : Type 0} (a b : ℕ) (l : List (ℕ × V)) → a ≤ b → RisesFrom b l → RisesFrom a l
+pub RisesFrom-lower : {V : Type 0} (a b : ℕ) (l : List (ℕ × V)) → a ≤ b → RisesFrom b l → RisesFrom a l
 RisesFrom-lower a b [] le rises = tt
 RisesFrom-lower a b ((k, v) ∷ rest) le rises = (omega (arith, rises.0), rises.1)
 

@@ -1,8 +1,9 @@
 -- A value that is put at a key of a list whose keys rise.
-use Rattle.std.specs.Prelude.{set, insert}
+use Rattle.std.specs.Prelude.{set, insert, remove, false}
 use Rattle.std.specs.Prelude.{◌≡◌, ◌+◌, ◌<◌, ◌≤◌, ◌∷◌, if◌then◌else◌, ℕ, zero, suc, eqb, List, [], Some}
 use Rattle.cap_summary.specs.Sorted.{IsAt, IsGap, found, RisesFrom}
 use Rattle.cap_summary.proofs.{arith, nat_tests, SortedFound.rises_at, SortedFound.is_at_tail}
+use Rattle.cap_summary.proofs.{SortedMerging.RisesFrom-lower}
 
 gap_tail : {V : Type 0} (x : ℕ × V) (l : List (ℕ × V)) (key at : ℕ) → IsGap (x ∷ l) key (suc at) → IsGap l key at
 gap_tail x l key at gap = record {
@@ -55,6 +56,25 @@ found-set b ((j, u) ∷ rest) key (suc at) v rises is_at q =
     let same = is_at.has_key (key, v) in
     let later = found-set (j + 1) rest key at v rises.1 (is_at_tail (j, u) rest key at is_at) q in
     grind (arith, nat_tests, above, same, later)
+
+-- an entry that is taken out leaves the order
+pub RisesFrom-remove : {V : Type 0} (b : ℕ) (l : List (ℕ × V)) (at : ℕ) → RisesFrom b l → RisesFrom b (remove l at)
+RisesFrom-remove b [] zero rises = tt
+RisesFrom-remove b [] (suc at) rises = tt
+RisesFrom-remove b ((j, u) ∷ rest) zero rises = RisesFrom-lower b (j + 1) rest (omega (arith, rises.0)) rises.1
+RisesFrom-remove b ((j, u) ∷ rest) (suc at) rises = (rises.0, RisesFrom-remove (j + 1) rest at rises.1)
+
+-- the others are found as before
+pub found-remove : {V : Type 0} (l : List (ℕ × V)) (key at : ℕ) → IsAt l key at → (q : ℕ) → eqb q key ≡ false
+    → found (remove l at) q ≡ found l q
+found-remove [] key at is_at q other = absurd (omega (arith, is_at.in_range))
+found-remove ((j, u) ∷ rest) key zero is_at q other = grind (arith, nat_tests, is_at.has_key (j, u))
+found-remove ((j, u) ∷ rest) key (suc at) is_at q other =
+    let later = found-remove rest key at (is_at_tail (j, u) rest key at is_at) q other in
+    grind (arith, nat_tests, later)
+
+-- what taking out the value at a key leaves
+pub ruleset takes = (found-remove)
 
 -- what a value that is put at a key changes
 pub ruleset puts = (found-insert, found-set)

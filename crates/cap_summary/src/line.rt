@@ -108,13 +108,15 @@ impl Row {
     }
 }
 
-/// The row of a process, in whose place another one stands from then on; one that leaves it as it is, where it has none.
-fn take_row(alloc: Global, rows: &mut Map<SharedRow>, pid: Pid) -> Result<Row, NoMemory>
+/// Takes out the row of a process; one that leaves it as it is, where it has none.
+fn take_row(alloc: Global, rows: &mut Map<SharedRow>, pid: Pid) -> Result<SharedRow, NoMemory>
     ensures row { IfOk result (λ row. row ≡ unwrap_or (found rows.old pid) own_row) }
     ensures others { OnOk result ((p : ℕ) → (p == pid) ≡ false → found rows.new p ≡ found rows.old p) }
 {
-    let own = SharedRow::new(alloc, Row::own())?;
-    Ok(rows.take_or(pid, own).owned()?)
+    match rows.remove(pid) {
+        Some(row) => Ok(row),
+        None => Ok(SharedRow::new(alloc, Row::own())?),
+    }
 }
 
 /// Gives a process this row.
@@ -165,7 +167,7 @@ impl Effect {
     }
 
     /// Sets the cell of a descriptor of a process, in place.
-    #[tactic(auto, using(crate::proofs::LineListed::set_cells, crate::proofs::LineListed::set_names))]
+    #[tactic(auto, using(crate::proofs::LineListed::set_cells))]
     fn set(&mut self, alloc: Global, pid: Pid, fd: Fd, value: Value) -> Result<(), NoMemory>
         ensures cells { OnOk result ((cells : Cells) (p : ℕ) (k : Key) → changed self.new cells p k
             ≡ with_cell pid fd (read cells value) (changed self.old cells) p k) }
@@ -175,9 +177,9 @@ impl Effect {
             → EffectWithin names self.old → EffectWithin names self.new) }
     {
         self.size = None;
-        let mut row = take_row(alloc, &mut self.rows, pid)?;
-        row.cells.set(alloc, fd, value)?;
-        put_row(alloc, &mut self.rows, pid, row)
+        let row = take_row(alloc, &mut self.rows, pid)?;
+        let new = row.set(alloc, fd, value)?;
+        self.rows.set(pid, new)
     }
 
     /// The effect of this segment and then a line of process `me`, which sets no cell to a value of its own. The rows of

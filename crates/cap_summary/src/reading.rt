@@ -127,7 +127,8 @@ impl Effect {
     pub fn is_same(&self, other: &Effect) -> bool
         ensures { result ≡ true → self.now.rows ≡ other.now.rows }
     {
-        self.rows.entries() == other.rows.entries()
+        let sized = self.size() == other.size();
+        sized && self.rows.entries() == other.rows.entries()
     }
 
     /// How many rows there are, and cells that they list, as far as they can be counted.

@@ -1,9 +1,12 @@
 //! Ops that values share, and rows that effects share.
 
-ghost use Rattle.std.specs.Prelude.{◌≡◌, IfOk};
+ghost use Rattle.std.specs.Prelude.{◌≡◌, ◌==◌, if◌then◌else◌, ℕ, Some, IfOk};
+ghost use Rattle.cap_summary.specs.{Sorted.found};
 
-use crate::Row;
+use crate::{Row, Value};
 use cap_machine::Op;
+use cap_trace::Fd;
+use cap_tree::NoMemory;
 use std::alloc::{AllocError, Global};
 use std::marker::Model;
 use std::rc::Rc;
@@ -119,10 +122,15 @@ impl SharedRow {
         &self.row
     }
 
-    /// The row, or a clone of it where it has other owners.
-    pub(crate) fn owned(self) -> Result<Row, AllocError>
-        ensures { IfOk result (λ row. row ≡ self) }
+    /// This row with a value at a descriptor. It is changed in place where it has no other owners.
+    pub(crate) fn set(self, alloc: Global, fd: Fd, value: Value) -> Result<SharedRow, NoMemory>
+        ensures base { IfOk result (λ row. row.base ≡ self.base) }
+        ensures mode { IfOk result (λ row. row.mode ≡ self.mode) }
+        ensures cells { IfOk result (λ row. (g : ℕ) → found row.cells g
+            ≡ (if g == fd then Some value else found self.cells g)) }
     {
-        Rc::unwrap_or_clone(self.row)
+        let mut row = self.row;
+        Rc::make_mut(&mut row)?.cells.set(alloc, fd, value)?;
+        Ok(SharedRow { row })
     }
 }

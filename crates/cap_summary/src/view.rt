@@ -96,6 +96,7 @@ impl Row {
 
 impl Effect {
     /// What becomes of a cell.
+    #[inline(always)]
     pub(crate) fn view(&self, pid: Pid, key: Key) -> Seen<'_>
         ensures cells { (cells : Cells) → seen_cell cells result ≡ changed self.now cells pid key }
         ensures names { (names : Names) → IfSome (found self.now.rows pid) (IsRowWithin names pid)

@@ -1,13 +1,12 @@
 //! Maps that are changed in place.
 ghost use Rattle.std.specs.Prelude.{OnErr};
-ghost use Rattle.std.specs.Prelude.{◌≡◌, ◌==◌, if◌then◌else◌, ℕ, false, unwrap_or, [], Some, None, OnOk, slice_get};
+ghost use Rattle.std.specs.Prelude.{◌≡◌, ◌==◌, if◌then◌else◌, ℕ, false, [], Some, None, OnOk, slice_get};
 ghost use Rattle.std.specs.Prelude.{option_map, IfOk, IfErr, option_copied};
 ghost use Rattle.cap_summary.specs.Sorted.{IsAt, IsGap, found, Rises};
 
 use cap_tree::NoMemory;
 use std::alloc::{AllocError, Global};
 use std::marker::Model;
-use std::mem::replace;
 
 /// Values by key, which are put in place. A contract sees the list of its entries, each a key and a value, whose keys
 /// strictly rise.
@@ -161,15 +160,15 @@ impl<V: Drop> Map<V> {
         }
     }
 
-    /// The value at a key, in whose place the other one stands; that one, where the key has none. Allocates nothing.
-    #[tactic(auto, using(crate::proofs::SortedSetting::puts))]
-    pub fn take_or(&mut self, key: u32, other: V) -> V
-        ensures value { result ≡ unwrap_or (found self.old key) other }
+    /// Takes out the value at a key, if there is one. Those above it move, and the room stays. Allocates nothing.
+    #[tactic(auto, using(crate::proofs::SortedSetting::takes))]
+    pub fn remove(&mut self, key: u32) -> Option<V>
+        ensures value { result ≡ found self.old key }
         ensures others { (k : ℕ) → (k == key) ≡ false → found self.new k ≡ found self.old k }
     {
         match place_of(&self.entries, key) {
-            Ok(at) => replace(&mut self.entries[at], (key, other)).1,
-            Err(_) => other,
+            Ok(at) => Some(self.entries.remove(at).1),
+            Err(_) => None,
         }
     }
 }
