@@ -1,10 +1,9 @@
 -- What one call of a device adds to the calls before it.
 use Rattle.std.proofs.Common.{◌≡◌, ℕ, ◌+◌, List, [], ◌++◌, take, drop, refl, sym, ◌∙◌, ap, append_assoc, arith}
-use Rattle.std.specs.Prelude.{Option, None, Some}
+use Rattle.std.specs.Prelude.{Option, None, Some, Ok, zero, suc}
 use Rattle.std.specs.Io.KnownBytes.{Consumes, Keeps, Appends}
 use Rattle.std.proofs.lemmas.List.{append-nil, take-append-drop}
 use Rattle.cap_session.specs.Devices.{SinkState, ended}
-use Rattle.std.specs.Prelude.{Ok, zero, suc}
 
 pub consumes_more : (a b c : Option (List ℕ)) (g p : List ℕ) → Consumes a b g → Consumes b c p → Consumes a c (g ++ p)
 consumes_more None b c g p first second = tt

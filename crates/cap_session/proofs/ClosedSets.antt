@@ -1,8 +1,7 @@
 -- Sets of rights that are closed: with each right they hold what the name of that right stands for. These are the sets
 -- that some text names.
-use Rattle.std.proofs.Common.{◌≡◌, ℕ, zero, suc, ◌+◌, ◌<◌, ◌||◌, Bool, true, false, cond, eqb, if◌then◌else◌}
-use Rattle.std.proofs.Common.{List, [], ◌∷◌, length, take, Some, refl, sym, ap, ◌∙◌, inl, inr, ◌⊎◌}
-use Rattle.std.proofs.Common.{arith, slice_index_or}
+use Rattle.std.proofs.Common.{◌≡◌, ℕ, zero, suc, ◌+◌, ◌<◌, ◌||◌, Bool, true, false, cond, eqb, if◌then◌else◌, List, []}
+use Rattle.std.proofs.Common.{◌∷◌, length, take, Some, refl, sym, ap, ◌∙◌, inl, inr, ◌⊎◌, arith, slice_index_or}
 use Rattle.std.specs.Prelude.{find}
 use Rattle.std.specs.Option.{option_map_or}
 use Rattle.std.specs.List.{list_all}

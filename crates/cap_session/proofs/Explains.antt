@@ -35,11 +35,10 @@ use Rattle.cap_machine.specs.Steps.{step, steps}
 use Rattle.cap_machine.specs.Touch.{Touch, kept, given, taken, touch, Turn, stays, turns, follows, turn}
 use Rattle.cap_session.specs.Code.Explained.{AnyModeStands, CellStands, FitsLine, IsAt, ModeStands}
 use Rattle.cap_session.specs.Edits.{is_position}
-use Rattle.cap_session.specs.Explaining.{explained_line, IsClean, text_or_refusal}
+use Rattle.cap_session.specs.Explaining.{explained_line, IsClean, text_or_refusal, checks_at, checks_of}
 use Rattle.cap_session.specs.Laws.{ExplainsWhatIsReported}
 use Rattle.cap_session.specs.Replies.{lies_in}
 use Rattle.cap_session.specs.declared.refused.Refused.TheVariants.{Position}
-use Rattle.cap_session.specs.Explaining.{checks_at, checks_of}
 
 -- ---- links stand at positions of the history
 

@@ -4,8 +4,7 @@ use Rattle.std.proofs.Common.{◌≡◌, ℕ, ◌==◌, true, List, [], ◌∷�
 use Rattle.std.specs.List.{list_any}
 use Rattle.std.proofs.lemmas.Bool.{eqb-true, or_cases}
 use Rattle.cap_trace.specs.declared.line.Dir.TheVariants as dirs
-use Rattle.cap_trace.specs.Entry.{Entry, Arg, an_fd, a_dir, some_rights}
-use Rattle.cap_trace.specs.Entry.{args_of, IsFd, IsPid, IsWhole}
+use Rattle.cap_trace.specs.Entry.{Entry, Arg, an_fd, a_dir, some_rights, args_of, IsFd, IsPid, IsWhole}
 use Rattle.cap_trace.specs.Spelling.{SpellsArg, SpellsArgs, IsProper}
 use Rattle.cap_machine.specs.Named.{arg_names}
 use Rattle.cap_session.proofs.ClosedSets.{IsClosed, named_closed}

@@ -41,8 +41,7 @@ use Rattle.cap_machine.specs.declared.cell.HeldOp.{HeldOp}
 use Rattle.cap_machine.specs.declared.cell.HeldOp.TheVariants.{Becomes, Keeps}
 use Rattle.cap_machine.specs.declared.cell.Op.{Op}
 use Rattle.cap_machine.specs.declared.step.Step.{Step}
-use Rattle.cap_machine.specs.Op.{same, derive, copy_to_itself, limit, narrow, set_flag, exec}
-use Rattle.cap_machine.specs.Op.{narrow_and_set_flag}
+use Rattle.cap_machine.specs.Op.{same, derive, copy_to_itself, limit, narrow, set_flag, exec, narrow_and_set_flag}
 use Rattle.cap_machine.specs.Flags.{all_known}
 use Rattle.cap_machine.specs.Named.{dir_names, arg_names}
 use Rattle.cap_machine.specs.Places.{below, is_empty, is_absolute, dir_fd}

@@ -8,8 +8,7 @@ use Rattle.std.proofs.lemmas.List.Elements.{All-head, All-tail}
 use Rattle.cap_trace.specs.Entry.{Entry, IsPid}
 use Rattle.cap_trace.specs.Reading.{line_of}
 use Rattle.cap_trace.specs.Spelling.{canon}
-use Rattle.cap_machine.specs.Limits.{Row}
-use Rattle.cap_machine.specs.Limits.{row_of}
+use Rattle.cap_machine.specs.Limits.{Row, row_of}
 use Rattle.cap_machine.specs.declared.limits.Limits.{Limits}
 use Rattle.cap_machine.specs.declared.limits.Entering.{Entering}
 use Rattle.cap_machine.specs.declared.limits.Entering.TheVariants.{Inside, Blocked, May}

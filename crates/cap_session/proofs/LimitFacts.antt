@@ -17,15 +17,13 @@ use Rattle.cap_machine.specs.declared.limits.Limits.{Limits}
 use Rattle.cap_machine.specs.declared.step.Step.{Step}
 use Rattle.cap_machine.specs.History.{ended}
 use Rattle.cap_machine.specs.Judge.{is_forbidden}
-use Rattle.cap_machine.specs.Limits.{Row, IsLimit}
-use Rattle.cap_machine.specs.Limits.{row_of, IsEntering}
+use Rattle.cap_machine.specs.Limits.{Row, IsLimit, row_of, IsEntering}
 use Rattle.cap_machine.specs.LimitsBefore.{AreLimitsBefore, IsUnknownLimit, rows_name}
 use Rattle.cap_machine.specs.Live.{Blocks, is_success}
 use Rattle.cap_machine.specs.Rule.{requirement}
 use Rattle.cap_machine.specs.Standing.{IsHeld}
-use Rattle.cap_machine.specs.State.{State, Added}
+use Rattle.cap_machine.specs.State.{State, Added, start_state}
 use Rattle.cap_machine.specs.Steps.{steps}
-use Rattle.cap_machine.specs.State.{start_state}
 use Rattle.cap_machine.proofs.LimitBits.{same_named}
 use Rattle.cap_session.specs.LimitScriptLaws.{IsNamed}
 use Rattle.cap_session.specs.LimitTextLaws.{IsTrace, IsSpelledStart}

@@ -4,8 +4,7 @@ use Rattle.std.specs.List.{All, slice_get}
 use Rattle.cap_rights.specs.Rights.{IsRightSet}
 use Rattle.cap_trace.specs.Entry.{Entry, IsPid, IsFd}
 use Rattle.cap_machine.specs.Judge.{is_forbidden}
-use Rattle.cap_machine.specs.Limits.{Row}
-use Rattle.cap_machine.specs.Limits.{row_of}
+use Rattle.cap_machine.specs.Limits.{Row, row_of}
 use Rattle.cap_machine.specs.Rule.{requirement}
 use Rattle.cap_machine.specs.declared.limits.Entering.{Entering}
 use Rattle.cap_machine.specs.declared.limits.Entering.TheVariants.{Inside, Blocked, May}

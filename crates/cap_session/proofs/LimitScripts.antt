@@ -21,8 +21,7 @@ use Rattle.cap_trace.specs.declared.calls.Form.{Form}
 use Rattle.cap_trace.specs.Reading.{line_of}
 use Rattle.cap_trace.specs.Spelling.{canon}
 use Rattle.cap_trace.proofs.Heads.{find_takes, form_again}
-use Rattle.cap_machine.specs.Limits.{Row}
-use Rattle.cap_machine.specs.Limits.{row_of as line_row}
+use Rattle.cap_machine.specs.Limits.{Row, row_of as line_row}
 use Rattle.cap_machine.specs.declared.limits.Limits.{Limits}
 use Rattle.cap_machine.specs.Judge.{is_forbidden}
 use Rattle.cap_machine.specs.Rule.{requirement, call_requirement, item_requirement}
@@ -50,8 +49,7 @@ use Rattle.cap_session.proofs.LimitPremises.{IsRow, StandsInTheWay, IsMakerLimit
 use Rattle.cap_session.proofs.LimitLines.{limit_short, limit_read, limit_no_lf, enter_short, enter_read, enter_no_lf}
 use Rattle.cap_session.proofs.LimitLines.{asks_insert}
 use Rattle.cap_session.proofs.LinesOfText.{has_no_lf, no_lf_both, no_lf_joined, no_lf_decimal, no_lf_rights, room}
-use Rattle.cap_session.proofs.LinesOfText.{joined_room}
-use Rattle.cap_session.proofs.LinesOfText.{decimal_short, AllHaveNoLf, script_lines}
+use Rattle.cap_session.proofs.LinesOfText.{joined_room, decimal_short, AllHaveNoLf, script_lines}
 use Rattle.cap_session.proofs.Scripted.{EditReplied, edit_replied}
 
 -- ---- lines that fit a script

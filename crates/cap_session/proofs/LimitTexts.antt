@@ -9,8 +9,7 @@ use Rattle.cap_rights.specs.Text.{text}
 use Rattle.cap_machine.specs.Report.{line_of_words}
 use Rattle.cap_machine.specs.declared.makers.MakerLimit.{MakerLimit}
 use Rattle.cap_trace.specs.Entry.{Entry}
-use Rattle.cap_machine.specs.Limits.{Row}
-use Rattle.cap_machine.specs.Limits.{row_of}
+use Rattle.cap_machine.specs.Limits.{Row, row_of}
 use Rattle.cap_machine.specs.declared.limit.Limit.{Limit}
 use Rattle.cap_session.specs.LimitScripts.{ScriptLine, insertion, comment, insertions, limit_line, maker_line, maker_lines}
 use Rattle.cap_session.specs.LimitScripts.{enter_line, words_of, script_text, place_words, unknown_lines, unknown_words}

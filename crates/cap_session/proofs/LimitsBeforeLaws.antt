@@ -1,7 +1,6 @@
 -- What the lines of the script of a process do to a check of the trace.
-use Rattle.std.proofs.Common.{◌≡◌, ℕ, suc, ◌+◌, ◌-◌, ◌<◌, Bool, true, false, List, [], ◌∷◌, ◌++◌}
-use Rattle.std.proofs.Common.{length, map, refl, sym, ap, ◌∙◌}
-use Rattle.std.proofs.Common.{subst, inl, inr, arith, length-append, if◌then◌else◌}
+use Rattle.std.proofs.Common.{◌≡◌, ℕ, suc, ◌+◌, ◌-◌, ◌<◌, Bool, true, false, List, [], ◌∷◌, ◌++◌, length, map, refl}
+use Rattle.std.proofs.Common.{sym, ap, ◌∙◌, subst, inl, inr, arith, length-append, if◌then◌else◌}
 use Rattle.std.specs.Prelude.{Some, insert}
 use Rattle.std.specs.List.{All, IsAmong}
 use Rattle.std.proofs.lemmas.List.{length-map, map-append}
@@ -17,12 +16,10 @@ use Rattle.cap_machine.specs.declared.verdict.Finding.TheVariants.{Forbidden}
 use Rattle.cap_machine.specs.Check.{check, found_at}
 use Rattle.cap_machine.specs.History.{ended}
 use Rattle.cap_machine.specs.LimitLaws.{script, limit_step, enter_step, MayEnter, HoldsSets, NewlyLacks}
-use Rattle.cap_machine.specs.Limits.{Row, IsLimit}
-use Rattle.cap_machine.specs.Limits.{row_of, IsEntering}
+use Rattle.cap_machine.specs.Limits.{Row, IsLimit, row_of, IsEntering}
 use Rattle.cap_machine.specs.LimitsBefore.{AreLimitsBefore}
-use Rattle.cap_machine.specs.State.{State, Added}
+use Rattle.cap_machine.specs.State.{State, Added, start_state}
 use Rattle.cap_machine.specs.Steps.{step, steps}
-use Rattle.cap_machine.specs.State.{start_state}
 use Rattle.cap_machine.proofs.LimitEnough.{limits_are_enough}
 use Rattle.cap_machine.proofs.LimitFindings.{In, in_among, among_in}
 use Rattle.cap_machine.proofs.LimitScripts.{scripts_are_least, entering_is_forbidden}
@@ -33,8 +30,7 @@ use Rattle.cap_session.specs.LimitTextLaws.{IsSpelledStart, moved, checked, line
 use Rattle.cap_session.specs.LimitTextLaws.{LimitsBeforeAreEnough, LimitsBeforeAreLeast, EnteringBeforeIsForbidden}
 use Rattle.cap_session.proofs.LimitCells.{start_holds_sets, holds_sets_along}
 use Rattle.cap_session.proofs.LimitStands.{enters, script_stands, script_length}
-use Rattle.cap_session.proofs.MovedFindings.{found_within, found_where}
-use Rattle.cap_session.proofs.MovedFindings.{found_far, put_is_enough, put_newly_lacks}
+use Rattle.cap_session.proofs.MovedFindings.{found_within, found_where, found_far, put_is_enough, put_newly_lacks}
 
 abbrev rows : Limits → List Row
 rows limits = map row_of limits.held.items

@@ -20,9 +20,8 @@ use Rattle.cap_machine.specs.History.{ended}
 use Rattle.cap_machine.specs.Limits.{IsLimit}
 use Rattle.cap_machine.specs.Makers.{AreMakerLimits, Place, place_of, held_place, held_places, made_fds, made_of}
 use Rattle.cap_machine.specs.Makers.{one_fd, two_fds}
-use Rattle.cap_machine.specs.State.{State, Added}
+use Rattle.cap_machine.specs.State.{State, Added, start_state}
 use Rattle.cap_machine.specs.Steps.{step, steps}
-use Rattle.cap_machine.specs.State.{start_state}
 use Rattle.cap_session.specs.LimitScriptLaws.{IsNamed}
 use Rattle.cap_session.specs.LimitTextLaws.{IsTrace, IsSpelledStart}
 use Rattle.cap_session.proofs.FineTouches.{ClosedCell}

@@ -13,9 +13,8 @@ use Rattle.cap_machine.specs.Check.{check}
 use Rattle.cap_machine.specs.LimitLaws.{Limited, HoldsSets, AreLimits, NewlyLacks, with_limits}
 use Rattle.cap_machine.specs.Limits.{Row}
 use Rattle.cap_machine.specs.Makers.{Place, place_of}
-use Rattle.cap_machine.specs.State.{Added}
+use Rattle.cap_machine.specs.State.{Added, start_state}
 use Rattle.cap_machine.specs.Steps.{step}
-use Rattle.cap_machine.specs.State.{start_state}
 use Rattle.cap_machine.proofs.LimitPlaces.{all_limits_are_enough, all_limits_are_least}
 use Rattle.cap_session.specs.LimitScripts.{makers_script}
 use Rattle.cap_session.specs.LimitScriptLaws.{with_script}

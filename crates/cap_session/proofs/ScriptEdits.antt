@@ -9,8 +9,7 @@ use Rattle.cap_session.specs.declared.edit.Edit.TheVariants.{Insert, Delete, Rep
 use Rattle.cap_session.specs.declared.refused.Refused.{Refused}
 use Rattle.cap_session.specs.Edits.{edited, trace_after, after}
 use Rattle.cap_session.specs.Commands.{Asked, asked, insert_line, replace_line, delete_line, show_line, count_lines}
-use Rattle.cap_session.specs.Commands.{report_all, report_lines, unknown}
-use Rattle.cap_session.specs.Commands.{edit_asked}
+use Rattle.cap_session.specs.Commands.{report_all, report_lines, unknown, edit_asked}
 use Rattle.cap_session.specs.Trace.{is_skipped}
 use Rattle.cap_session.specs.Replies.{shown_done, shown, ranged, line_feed}
 use Rattle.cap_session.specs.Limits.{most_lines}

@@ -8,12 +8,10 @@ use Rattle.cap_machine.specs.declared.cell.Profile.{Profile}
 use Rattle.cap_session.specs.declared.edit.Edit.{Edit}
 use Rattle.cap_session.specs.declared.refused.Refused.{Refused}
 use Rattle.cap_session.specs.Edits.{edited, trace_after, answer, after, answers}
-use Rattle.cap_session.specs.Commands.{Asked, first_word, after_word}
-use Rattle.cap_session.specs.Commands.{edit_asked}
+use Rattle.cap_session.specs.Commands.{Asked, first_word, after_word, edit_asked}
 use Rattle.cap_session.specs.Replies.{Done, edit_done, refused_text}
 use Rattle.cap_session.specs.Limits.{most_lines}
 use Rattle.cap_session.specs.Scripts.{RepliesTo, Commands, Answers}
-use Rattle.cap_session.specs.declared.script.CommandError.{CommandError}
 use Rattle.cap_session.proofs.Performed.{edit_commanded}
 use Rattle.cap_session.specs.ScriptLaws.{Asks, answer_text, ReportOrOutOfMemory, ScriptReportsWhatEditsGive}
 
@@ -41,9 +39,9 @@ out_of_memory t u text (Err e) ok is stays = absurd (cc)
 pub edit_replied : (profile : Profile) (t u : List Entry) (text : List ℕ) (e : Edit)
     → Commands profile t (edit_asked e) text u → EditReplied t (edited most_lines t e) text u
 edit_replied profile t u text e (inl is) = seen t u text (edited most_lines t e)
-    (subst (λ (r : Result Done CommandError). RepliesTo t r text u) (edit_commanded profile t e) is)
+    (subst (λ (r : Result Done ℕ). RepliesTo t r text u) (edit_commanded profile t e) is)
 edit_replied profile t u text e (inr is) = out_of_memory t u text (edited most_lines t e)
-    (subst (λ (r : Result Done CommandError). IsOk r) (edit_commanded profile t e) is.1) is.2 is.3
+    (subst (λ (r : Result Done ℕ). IsOk r) (edit_commanded profile t e) is.1) is.2 is.3
 
 answered : (profile : Profile) (t u : List Entry) (line text : List ℕ) (e : Edit) → Asks line e
     → Answers profile t line text u → EditReplied t (edited most_lines t e) text u

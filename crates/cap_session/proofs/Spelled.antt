@@ -1,16 +1,12 @@
 -- What the fields of a line of a start text spell.
-use Rattle.std.proofs.Common.{inl, inr, ◌≡◌, ℕ, suc, ◌+◌, ◌≤◌, List, [], ◌∷◌, length, take, drop, refl, sym, ◌∙◌}
-use Rattle.std.proofs.Common.{ap, arith, Bool, true, false, cond, not, ltb}
-use Rattle.std.specs.Prelude.{◌==◌, nat_le, Result, Ok, Err, Option, Some, None, MatchOption, option_copied}
-use Rattle.std.specs.Prelude.{option_and_then, position}
-use Rattle.std.specs.List.{slice_get, position_or_len, onto_first}
-use Rattle.std.proofs.lemmas.List.Splits.{slice_split_first}
-use Rattle.std.proofs.lemmas.Bool.{cases_lt}
-use borrow.Author.Tests.{ltb-true}
+use Rattle.std.proofs.Common.{◌≡◌, ℕ, ◌≤◌, List, [], ◌∷◌, drop, refl, sym, ◌∙◌, ap, arith, Bool, true, false, cond}
+use Rattle.std.specs.Prelude.{◌==◌, if◌then◌else◌, nat_le, Result, Ok, Err, Option, Some, None, MatchOption, option_copied}
+use Rattle.std.specs.Prelude.{option_and_then}
+use Rattle.std.specs.List.{slice_get, onto_first}
 use denote.Ref.{Bor}
 use Rattle.cap_trace.specs.Number.{num_at, digits_at, is_odd}
-use Rattle.cap_session.specs.Commands.{position as position_spelled}
-use Rattle.cap_session.specs.StartWords.{words}
+use Rattle.cap_session.specs.Commands.{position as position_spelled, first_word, after_word}
+use Rattle.cap_session.specs.StartWords.{words, left}
 use Rattle.cap_session.specs.StartTexts.{number_spelled, at_least, need, rest_at, mode_spelled, cells_from, described}
 use Rattle.cap_session.specs.StartTexts.{◌>>=◌}
 use Rattle.cap_machine.specs.State.{Added}
@@ -23,42 +19,28 @@ use Rattle.cap_session.specs.declared.start_fields.Head.{Head}
 
 -- ---- words
 
-abbrev is_space : ℕ → Bool
-is_space c = c == 32
+abbrev words_after : Option (List ℕ) → List (List ℕ)
+words_after None = []
+words_after (Some rest) = words rest
 
-no_space : (t : List ℕ) → length t ≤ position_or_len is_space t → words t ≡ t ∷ []
-no_space [] le = refl
-no_space (x ∷ t) le = go (x == 32) refl le (λ h. no_space t h)
+split : (t : List ℕ) → words t ≡ first_word t ∷ words_after (after_word t)
+unfolding first_word after_word
+split [] = refl
+split (x ∷ t) = go (x == 32) (split t)
   where
-    go : (b : Bool) → (x == 32) ≡ b → suc (length t) ≤ cond (not b) (1 + position_or_len is_space t) 0
-        → (length t ≤ position_or_len is_space t → words t ≡ t ∷ []) →
-        cond b ([] ∷ words t) (onto_first x (words t)) ≡ (x ∷ t) ∷ []
-    go true e le more = absurd (omega arith)
-    go false e le more = ap (onto_first x) (more (omega arith))
+    go : (b : Bool) → words t ≡ first_word t ∷ words_after (after_word t)
+        → cond b ([] ∷ words t) (onto_first x (words t))
+        ≡ (if b then [] else x ∷ first_word t) ∷ words_after (if b then Some t else after_word t)
+    go true more = refl
+    go false more = ap (onto_first x) more
 
-none_found : (b : Bool) (k : ℕ) → ◌≡◌ {A = Option ℕ} None (cond b (Some k) None) → b ≡ false
-none_found true k e = absurd cc
-none_found false k e = refl
-
-some_found : (b : Bool) (k i : ℕ) → ◌≡◌ {A = Option ℕ} (Some i) (cond b (Some k) None) → (b ≡ true) × (k ≡ i)
-some_found true k i e = (refl, cc)
-some_found false k i e = absurd cc
-
--- the last word
-pub last_word : (t : List ℕ) → None ≡ position is_space t → words t ≡ t ∷ []
-last_word t e =
-    let no : ltb (position_or_len is_space t) (length t) ≡ false = none_found _ _ e in
-    elim (cases_lt (position_or_len is_space t) (length t)) [
-      | inl less ↦ absurd (grind arith)
-      | inr past ↦ no_space t past
-    ]
-
--- a word before others
-pub first_word : (t : List ℕ) (i : ℕ) → Some i ≡ position is_space t → words t ≡ take i t ∷ words (drop (i + 1) t)
-first_word t i e =
-    let found = some_found _ _ _ e in
-    let split = slice_split_first is_space t 0 (ltb-true _ _ found.0) in
-    rw found.1 at split
+-- the words of a line are its first, and those after the space
+pub next_word : (t word : List ℕ) (rest : Option (Bor (List ℕ))) → word ≡ first_word t
+    → MatchOption rest (after_word t ≡ None) (λ r. after_word t ≡ Some r.now) → words t ≡ word ∷ left rest
+next_word t word None is none =
+    split t ∙ ap (λ a. first_word t ∷ words_after a) none ∙ ap (λ w. w ∷ []) (sym is)
+next_word t word (Some r) is some =
+    split t ∙ ap (λ a. first_word t ∷ words_after a) some ∙ ap (λ w. w ∷ words r.now) (sym is)
 
 -- the next word is the first of those that are left
 pub taken : (word : Option (Bor (List ℕ))) (old new : List (List ℕ))
@@ -131,6 +113,10 @@ numbered_some : (most n : ℕ) (odd : Bool) (digits : Option ℕ) → Some n ≡
 numbered_some most n true digits e = absurd cc
 numbered_some most n false None e = absurd cc
 numbered_some most n false (Some k) e = (refl, ap (λ (i : ℕ). Some i) (some_kept (nat_le k most) k n e))
+
+none_found : (b : Bool) (k : ℕ) → ◌≡◌ {A = Option ℕ} None (cond b (Some k) None) → b ≡ false
+none_found true k e = absurd cc
+none_found false k e = refl
 
 -- what is larger than the larger limit is larger than the other
 numbered_none : (most high : ℕ) (odd : Bool) (digits : Option ℕ) → high ≤ most → None ≡ numbered most odd digits

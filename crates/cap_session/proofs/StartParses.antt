@@ -2,8 +2,7 @@
 use Rattle.std.proofs.Common.{rules, ◌≡◌, ℕ, List, refl, sym, ◌∙◌, ap}
 use Rattle.std.specs.Prelude.{Result, Ok, Err, IsOk, IfOk, Option, Some, None, ◌↔◌, ◌==◌, if◌then◌else◌}
 use Rattle.std.specs.Option.{ok_or}
-use Rattle.cap_machine.specs.State.{Added}
-use Rattle.cap_machine.specs.State.{start_state}
+use Rattle.cap_machine.specs.State.{Added, start_state}
 use Rattle.cap_machine.specs.declared.start.Start.{Start}
 use Rattle.cap_session.specs.Texts.{whole_text}
 use Rattle.cap_session.specs.StartTexts.{Listed, none_listed, next_process, good_as, described_by}

@@ -1,6 +1,6 @@
 -- What reading a text gives of the trace that it spells.
 use Rattle.std.proofs.Common.{◌≡◌, ℕ, ◌+◌, List, [], ◌∷◌, refl, sym, ◌∙◌, ap, inl, inr, subst}
-use Rattle.std.specs.Prelude.{Result, Ok, Err, IsOk, Option, Some, None}
+use Rattle.std.specs.Prelude.{Result, Ok, Err, IsOk, Option, Some, None, nat_lt, length, true, false, cond}
 use Rattle.cap_trace.specs.Entry.{Entry}
 use Rattle.cap_session.specs.Devices.{SourceState}
 use Rattle.cap_session.specs.Lines.{lines, lines_so_far}
@@ -13,7 +13,6 @@ use Rattle.cap_session.specs.declared.refused.Refused.{Refused}
 use Rattle.cap_session.specs.declared.refused.Refused.TheVariants.{LongLine}
 use Rattle.cap_session.specs.declared.lines.StopReason.{StopReason}
 use Rattle.cap_session.specs.declared.lines.StopReason.TheVariants as stops
-use Rattle.std.specs.Prelude.{nat_lt, length, true, false, cond}
 use Rattle.std.specs.Option.{ok_or}
 use Rattle.cap_session.proofs.Lined.{line_good, line_bad, no_line}
 use Rattle.cap_session.proofs.ReadsAs.{reads_as}

@@ -2,8 +2,7 @@
 -- what was written, and the outcome.
 use Rattle.std.specs.Prelude.{◌≡◌, ℕ, List, Ok, Err}
 use Rattle.cap_machine.specs.declared.cell.Profile.{Profile}
-use Rattle.cap_machine.specs.State.{State, Added}
-use Rattle.cap_machine.specs.State.{start_state}
+use Rattle.cap_machine.specs.State.{State, Added, start_state}
 use Rattle.cap_session.specs.AnswerStreams.{Says}
 use Rattle.cap_session.specs.Explaining.{explained_line, IsClean}
 use Rattle.cap_session.specs.Replies.{refused_text}

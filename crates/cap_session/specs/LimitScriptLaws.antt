@@ -1,6 +1,5 @@
 -- What `edit` answers to the script of `limits`, and the trace that it leaves.
-use Rattle.std.specs.Prelude.{◌≡◌, ℕ, ◌+◌, ◌-◌, ◌≤◌, ◌⊎◌, List, [], ◌∷◌, ◌++◌, length, codes, decimal}
-use Rattle.std.specs.Prelude.{insert, Ok, Some}
+use Rattle.std.specs.Prelude.{◌≡◌, ℕ, ◌+◌, ◌-◌, ◌≤◌, ◌⊎◌, List, [], ◌∷◌, ◌++◌, length, codes, decimal, insert, Ok, Some}
 use Rattle.cap_rights.specs.Text.{names}
 use Rattle.cap_trace.specs.Entry.{Entry}
 use Rattle.cap_trace.specs.Reading.{line_of}

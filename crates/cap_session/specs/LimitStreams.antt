@@ -7,9 +7,8 @@ use Rattle.cap_machine.specs.declared.makers.MakerLimit.{MakerLimit}
 use Rattle.cap_machine.specs.Limits.{row_of}
 use Rattle.cap_machine.specs.LimitsBefore.{AreLimitsBefore}
 use Rattle.cap_machine.specs.Makers.{AreMakerLimits}
-use Rattle.cap_machine.specs.State.{Added}
+use Rattle.cap_machine.specs.State.{Added, start_state}
 use Rattle.cap_machine.specs.Steps.{steps}
-use Rattle.cap_machine.specs.State.{start_state}
 use Rattle.cap_session.specs.AnswerStreams.{Says}
 use Rattle.cap_session.specs.LimitScripts.{ScriptLine, script_text, makers_script, process_script}
 use Rattle.cap_session.specs.Replies.{refused_text}

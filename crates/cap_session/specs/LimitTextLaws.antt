@@ -16,13 +16,11 @@ use Rattle.cap_machine.specs.declared.verdict.Finding.TheVariants.{Forbidden}
 use Rattle.cap_machine.specs.declared.verdict.Found.{Found}
 use Rattle.cap_machine.specs.Check.{check, found_at}
 use Rattle.cap_machine.specs.LimitLaws.{NewlyLacks}
-use Rattle.cap_machine.specs.Limits.{Row}
-use Rattle.cap_machine.specs.Limits.{row_of}
+use Rattle.cap_machine.specs.Limits.{Row, row_of}
 use Rattle.cap_machine.specs.LimitsBefore.{AreLimitsBefore}
 use Rattle.cap_machine.specs.Makers.{AreMakerLimits, place_of}
-use Rattle.cap_machine.specs.State.{Added}
+use Rattle.cap_machine.specs.State.{Added, start_state}
 use Rattle.cap_machine.specs.Steps.{steps}
-use Rattle.cap_machine.specs.State.{start_state}
 use Rattle.cap_session.specs.Limits.{most_lines}
 use Rattle.cap_session.specs.Lines.{lines}
 use Rattle.cap_session.specs.LimitScriptLaws.{Accepts, IsNamed, all_ok, with_script}

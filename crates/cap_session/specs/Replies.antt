@@ -17,7 +17,6 @@ use Rattle.cap_session.specs.Refused.{code_of}
 use Rattle.cap_session.specs.Commands.{Asked, insert_line, replace_line, delete_line, show_line, count_lines}
 use Rattle.cap_session.specs.Commands.{report_all, report_lines, unknown}
 use Rattle.cap_session.specs.declared.refused.Refused.{Refused}
-use Rattle.cap_session.specs.declared.script.CommandError.{CommandError}
 use Rattle.cap_session.specs.declared.refused.Refused.TheVariants.{Position}
 
 -- ---- what is asked without a change
@@ -54,11 +53,6 @@ ranged profile trace first last = if is_range (length trace) first last
 
 -- ---- commands
 
--- the number that stands in the reply to a command that isn't done
-abbrev pub command_error_code : CommandError → ℕ
-command_error_code (CommandError.Refused refused) = code_of refused
-command_error_code CommandError.Unknown = 10
-
 -- a reply, and the trace that the command leaves
 pub record Done : Type 0 where
   pub text : List ℕ
@@ -68,17 +62,18 @@ abbrev pub line_feed : List ℕ
 line_feed = codes "\n"
 
 -- an edit is replied to with the new count
-abbrev pub edit_done : Result (List Entry) Refused → Result Done CommandError
+abbrev pub edit_done : Result (List Entry) Refused → Result Done ℕ
 edit_done (Ok next) = Ok (record { text = codes "ok " ++ decimal (length next) ++ line_feed; trace = next })
-edit_done (Err e) = Err (CommandError.Refused e)
+edit_done (Err e) = Err (code_of e)
 
 -- what was asked for is replied, and the trace stays
-abbrev pub shown_done : List Entry → List ℕ → Result (List ℕ) Refused → Result Done CommandError
+abbrev pub shown_done : List Entry → List ℕ → Result (List ℕ) Refused → Result Done ℕ
 shown_done trace end (Ok text) = Ok (record { text = text ++ end; trace = trace })
-shown_done trace end (Err e) = Err (CommandError.Refused e)
+shown_done trace end (Err e) = Err (code_of e)
 
--- what a command does, or why it isn't done; a script's session holds as many lines as a trace may have
-abbrev pub commanded : Profile → List Entry → Asked → Result Done CommandError
+-- what a command does, or the number in the reply where it isn't done; a script's session holds as many lines as a trace
+-- may have
+abbrev pub commanded : Profile → List Entry → Asked → Result Done ℕ
 commanded profile trace (insert_line k line) = edit_done (inserted most_lines trace k line)
 commanded profile trace (replace_line k line) = edit_done (replaced trace k line)
 commanded profile trace (delete_line k) = edit_done (deleted trace k)
@@ -86,7 +81,7 @@ commanded profile trace (show_line k) = shown_done trace line_feed (shown trace 
 commanded profile trace count_lines = Ok (record { text = decimal (length trace) ++ line_feed; trace = trace })
 commanded profile trace report_all = Ok (record { text = report usual (steps profile trace); trace = trace })
 commanded profile trace (report_lines a b) = shown_done trace [] (ranged profile trace a b)
-commanded profile trace unknown = Err CommandError.Unknown
+commanded profile trace unknown = Err 10
 
 -- Memory may run out for every command that isn't refused, but for `count`.
 abbrev pub may_run_out : Asked → Bool

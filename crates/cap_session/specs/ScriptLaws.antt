@@ -12,8 +12,7 @@ use Rattle.cap_session.specs.Limits.{longest_script_line, most_lines}
 use Rattle.cap_session.specs.Trace.{is_skipped}
 use Rattle.cap_session.specs.Refused.{code_of}
 use Rattle.cap_session.specs.Edits.{after, answers}
-use Rattle.cap_session.specs.Commands.{asked}
-use Rattle.cap_session.specs.Commands.{edit_asked}
+use Rattle.cap_session.specs.Commands.{asked, edit_asked}
 use Rattle.cap_session.specs.Replies.{refused_text, line_feed}
 use Rattle.cap_session.specs.Scripts.{Run}
 

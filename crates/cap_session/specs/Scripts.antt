@@ -9,13 +9,12 @@ use Rattle.cap_session.specs.Lines.{whole_lines, last_piece, line_if_any}
 use Rattle.cap_session.specs.Trace.{is_skipped}
 use Rattle.cap_session.specs.Writes.{Wrote, WrotePrefix}
 use Rattle.cap_session.specs.Commands.{Asked, asked}
-use Rattle.cap_session.specs.Replies.{Done, commanded, may_run_out, command_error_code, refused_text}
-use Rattle.cap_session.specs.declared.script.CommandError.{CommandError}
+use Rattle.cap_session.specs.Replies.{Done, commanded, may_run_out, refused_text}
 
 -- The command was done, and its reply is this; or it was refused, and left the trace.
-abbrev pub RepliesTo : List Entry → Result Done CommandError → List ℕ → List Entry → Type 0
+abbrev pub RepliesTo : List Entry → Result Done ℕ → List ℕ → List Entry → Type 0
 RepliesTo t (Ok done) text u = (text ≡ done.text) × (u ≡ done.trace)
-RepliesTo t (Err why) text u = (text ≡ refused_text (command_error_code why)) × (u ≡ t)
+RepliesTo t (Err code) text u = (text ≡ refused_text code) × (u ≡ t)
 
 -- Memory ran out for a command that isn't refused, and the trace was left.
 abbrev pub RunsOut : Profile → List Entry → Asked → List ℕ → List Entry → Type 0

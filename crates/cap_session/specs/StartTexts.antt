@@ -10,8 +10,7 @@ use Rattle.std.specs.List.{slice_get}
 use Rattle.cap_rights.specs.Text.{names}
 use Rattle.cap_trace.specs.Number.{num_at}
 use Rattle.cap_trace.specs.Quotes.{cut_at_byte}
-use Rattle.cap_machine.specs.State.{State, Added}
-use Rattle.cap_machine.specs.State.{start_state}
+use Rattle.cap_machine.specs.State.{State, Added, start_state}
 use Rattle.cap_machine.specs.declared.cell.Cell.{Cell}
 use Rattle.cap_machine.specs.declared.cell.Cell.TheVariants.{Unknown, Closed, Held}
 use Rattle.cap_machine.specs.declared.cell.Mode.{Mode}

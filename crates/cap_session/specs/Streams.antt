@@ -6,8 +6,7 @@ use Rattle.cap_machine.specs.declared.question.Question.{Question}
 use Rattle.cap_machine.specs.declared.question.Question.TheVariants as questions
 use Rattle.cap_machine.specs.Questions.{answer, IsNothing}
 use Rattle.cap_machine.specs.Steps.{steps}
-use Rattle.cap_machine.specs.State.{State, Added}
-use Rattle.cap_machine.specs.State.{start_state}
+use Rattle.cap_machine.specs.State.{State, Added, start_state}
 use Rattle.cap_session.specs.AnswerStreams.{Says, of_trace, AnswerStreams, AnswerStartStreams}
 use Rattle.cap_session.specs.Devices.{SourceState, SinkState}
 use Rattle.cap_session.specs.declared.outcome.Outcome.{Outcome}

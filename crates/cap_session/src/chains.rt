@@ -23,18 +23,13 @@ pub fn put_numbered<T: Trace>(out: &mut Vec<u8>, trace: &T, position: usize) -> 
 }
 
 /// Appends the subject of a chain, a position, and the line there.
-fn put_link<T: Trace>(
-    out: &mut Vec<u8>,
-    of: &[u8],
-    trace: &T,
-    position: usize,
-) -> Result<(), NoMemory>
-    requires { IsAt (length (T.lines trace.now)) position }
-    ensures { OnOk result (out.new.items ≡ out.old.items ++ link_line of.now (T.lines trace.now) position) }
+fn put_link<T: Trace>(out: &mut Vec<u8>, of: &[u8], trace: &T, at: usize) -> Result<(), NoMemory>
+    requires { IsAt (length (T.lines trace.now)) at }
+    ensures { OnOk result (out.new.items ≡ out.old.items ++ link_line of.now (T.lines trace.now) at) }
 {
     out.extend_from_slice(of)?;
     out.extend_from_slice(b" ")?;
-    put_numbered(out, trace, position)
+    put_numbered(out, trace, at)
 }
 
 /// Appends the subject of a chain of cells, and the cell at the start.

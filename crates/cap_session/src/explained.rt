@@ -163,5 +163,7 @@ pub fn explain_among(
     let Some(explanation) = explain(alloc, profile, start, all, position)? else {
         return Err(Refused::Position);
     };
-    Ok(line_explained(alloc, lines, position, &explanation)?)
+    let line = line_explained(alloc, lines, position, &explanation);
+    drop(explanation);
+    Ok(line?)
 }

@@ -1,8 +1,7 @@
 //! A trace is asked for its findings or for its denials as it comes, from a start text that is read first.
 ghost use Rattle.std.specs.Prelude.{◌≡◌, ◌^◌, ◌≤◌, []};
 ghost use Rattle.cap_machine.specs.Code.Checked.{IsAsked, HasChecked, lines_of};
-ghost use Rattle.cap_machine.specs.State.{State};
-ghost use Rattle.cap_machine.specs.State.{start_state};
+ghost use Rattle.cap_machine.specs.State.{State, start_state};
 ghost use Rattle.cap_machine.specs.declared.cell.Profile.{Profile};
 ghost use Rattle.cap_machine.specs.declared.cell.Profile.TheVariants.{One};
 ghost use Rattle.cap_machine.specs.declared.question.Question.TheVariants.{Denials};
@@ -107,15 +106,8 @@ pub fn check_stream_from_as<S: Source, R: Source, W: Sink>(
     ensures { StartStreams profile turns (S.state start.old) (S.state start.new) (R.state reader.old)
         (R.state reader.new) (W.state writer.old) (W.state writer.new) result }
 {
-    ask_stream_from(
-        alloc,
-        Question::Findings,
-        profile,
-        turns,
-        start,
-        reader,
-        writer,
-    )
+    let question = Question::Findings;
+    ask_stream_from(alloc, question, profile, turns, start, reader, writer)
 }
 
 /// Does what [`check_stream_from_as`] does, in profile 1.
@@ -156,13 +148,6 @@ pub fn denials_stream<S: Source, R: Source, W: Sink>(
     ensures { AskedStartStreams Denials profile turns (S.state start.old) (S.state start.new) (R.state reader.old)
         (R.state reader.new) (W.state writer.old) (W.state writer.new) result }
 {
-    ask_stream_from(
-        alloc,
-        Question::Denials,
-        profile,
-        turns,
-        start,
-        reader,
-        writer,
-    )
+    let question = Question::Denials;
+    ask_stream_from(alloc, question, profile, turns, start, reader, writer)
 }

@@ -5,11 +5,9 @@ ghost use Rattle.cap_session.specs.Laws.{BeginningDecides, GoodIsReported, BadIs
 ghost use Rattle.cap_session.specs.Laws.{ExplainsWhatIsReported};
 ghost use Rattle.cap_session.specs.ScriptLaws.{ScriptReportsWhatEditsGive, ScriptLeavesWhatEditsGive};
 ghost use Rattle.cap_session.specs.ScriptLaws.{EachReportIsOfItsTrace};
-ghost use Rattle.cap_session.specs.LimitTextLaws.{TracesAreSpelled, StartsAreSpelled};
-ghost use Rattle.cap_session.specs.LimitTextLaws.{LimitsBeforeAreAccepted, MakerLimitsAreAccepted};
-ghost use Rattle.cap_session.specs.LimitTextLaws.{LimitsBeforeAreEnough, MakerLimitsAreEnough};
-ghost use Rattle.cap_session.specs.LimitTextLaws.{LimitsBeforeAreLeast, MakerLimitsAreLeast};
-ghost use Rattle.cap_session.specs.LimitTextLaws.{EnteringBeforeIsForbidden};
+ghost use Rattle.cap_session.specs.LimitTextLaws.{TracesAreSpelled, StartsAreSpelled, LimitsBeforeAreAccepted};
+ghost use Rattle.cap_session.specs.LimitTextLaws.{MakerLimitsAreAccepted, LimitsBeforeAreEnough, MakerLimitsAreEnough};
+ghost use Rattle.cap_session.specs.LimitTextLaws.{LimitsBeforeAreLeast, MakerLimitsAreLeast, EnteringBeforeIsForbidden};
 
 /// The first refused line of a beginning is that of the text, whatever follows.
 pub fn beginning_decides()

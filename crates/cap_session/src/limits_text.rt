@@ -200,18 +200,14 @@ fn limits_text(
     requires { at + length limits.now.held.items < 2 ^ 64 }
     ensures { IfOk result (λ text. text.items ≡ script_text (limits_script lines.now at limits.now)) }
 {
+    let pid = limits.pid;
     let held = limits.held.as_slice();
+    let next = at + held.len();
     let mut text = Vec::new(alloc);
-    put_place(&mut text, limits.pid, at)?;
-    put_limits(&mut text, at, limits.pid, held)?;
+    put_place(&mut text, pid, at)?;
+    put_limits(&mut text, at, pid, held)?;
     put_unknown(&mut text, limits.unknown.as_slice())?;
-    put_entering(
-        &mut text,
-        lines,
-        limits.pid,
-        at + held.len(),
-        limits.entering,
-    )?;
+    put_entering(&mut text, lines, pid, next, limits.entering)?;
     Ok(text)
 }
 

@@ -1,5 +1,5 @@
 //! Loading: the lines of a trace are kept for a session, through the same code that reads a trace for a check.
-ghost use Rattle.std.specs.Prelude.{◌≡◌, ◌<◌, ◌++◌, ◌∷◌, [], length, IfOk, OnOk};
+ghost use Rattle.std.specs.Prelude.{◌≡◌, [], length, IfOk};
 ghost use Rattle.cap_session.specs.Limits.{most_lines};
 ghost use Rattle.cap_session.specs.Session.{LoadingState, IsKept, lines_of};
 ghost use Rattle.cap_tree.specs.Run.{values};
@@ -10,7 +10,7 @@ use crate::refused::Refused;
 use crate::session::Session;
 use crate::steps::step_of;
 use cap_machine::{NoMemory, Profile, Step};
-use cap_trace::{Line, LineRef};
+use cap_trace::LineRef;
 use std::alloc::Global;
 use std::marker::Model;
 use std::rc::Rc;
@@ -43,16 +43,6 @@ impl Loading {
         }
     }
 
-    fn push(&mut self, line: Line) -> Result<(), cap_tree::NoMemory>
-        requires { length self.old.trace < most_lines }
-        ensures ok { OnOk result (self.new.trace ≡ self.old.trace ++ line ∷ []) }
-        ensures profile { self.new.profile ≡ self.old.profile }
-    {
-        let step = step_of(self.alloc, self.profile, line)?;
-        self.steps.push(step)?;
-        Ok(())
-    }
-
     /// A session of the lines, which holds as many as a trace may have.
     pub fn session(self) -> Result<Session, Refused>
         ensures profile { IfOk result (λ session. session.profile ≡ self.profile) }
@@ -76,9 +66,8 @@ impl TraceSink for Loading {
 
     fn keep(&mut self, alloc: Global, text: &[u8], line: &LineRef<'_>) -> Result<(), NoMemory> {
         let line = line.to_line(alloc, text)?;
-        match self.push(line) {
-            Ok(()) => Ok(()),
-            Err(_) => Err(NoMemory),
-        }
+        let step = step_of(alloc, self.profile, line)?;
+        self.steps.push(step)?;
+        Ok(())
     }
 }

@@ -3,9 +3,7 @@ ghost use Rattle.std.specs.Prelude.{◌≡◌, ◌<◌, ◌≤◌, [], ◌∷◌
 ghost use Rattle.cap_session.specs.Limits.{longest_piece, most_held, most_lines};
 ghost use Rattle.cap_session.specs.Lines.{last_piece};
 ghost use Rattle.cap_session.specs.Code.Performs.{command_asked, Performs, text_of};
-ghost use Rattle.cap_session.specs.Replies.{command_error_code};
-ghost use Rattle.cap_session.specs.declared.script.CommandError.TheVariants as errors;
-ghost use Rattle.cap_session.specs.Scripts.{Scripting, Replied, Broken, due, due_line, due_piece, due_end};
+ghost use Rattle.cap_session.specs.Scripts.{Answers, Scripting, Replied, Broken, due, due_line, due_piece, due_end};
 
 use crate::command::{Command, command_of};
 use crate::devices::{Failed, Sink};
@@ -20,34 +18,8 @@ use crate::short_text::ShortText;
 use crate::write::write_text;
 use std::marker::Model;
 
-/// Why a command isn't done.
-#[derive(Clone, Copy)]
-pub enum CommandError {
-    /// The session refuses it.
-    Refused(Refused),
-    /// There is no such command.
-    Unknown,
-}
-
-impl CommandError {
-    /// The number that stands in the reply.
-    pub fn code(self) -> u8
-        ensures { result ≡ command_error_code self }
-    {
-        match self {
-            CommandError::Refused(refused) => refused.code(),
-            CommandError::Unknown => 10,
-        }
-    }
-}
-
-impl From<Refused> for CommandError {
-    ghost from_gives = { λ refused error. error ≡ errors.Refused refused };
-
-    fn from(refused: Refused) -> CommandError {
-        CommandError::Refused(refused)
-    }
-}
+/// The number in the reply to a line that is no command.
+const NO_COMMAND: u8 = 10;
 
 /// The text of a reply. A short one takes no memory.
 #[derive(Drop)]
@@ -68,7 +40,7 @@ impl Reply {
 }
 
 /// Makes an edit, and replies with the new count.
-fn perform_edit(session: &mut Session, edit: &Edit<'_>) -> Result<Reply, CommandError>
+fn perform_edit(session: &mut Session, edit: &Edit<'_>) -> Result<Reply, Refused>
     requires { session.old.limit ≡ most_lines }
     ensures performs { Performs session.old.profile session.old.trace
         (command_asked (Command.Edit edit.now)) result session.new.trace }
@@ -76,25 +48,23 @@ fn perform_edit(session: &mut Session, edit: &Edit<'_>) -> Result<Reply, Command
     ensures profile { session.new.profile ≡ session.old.profile }
 {
     match session.edit(edit) {
-        Ok(count) => Ok(Reply::Short(ShortText::accepted(count))),
-        Err(refused) => Err(CommandError::Refused(refused)),
+        Ok(count) => Ok(Reply::Short(ShortText::numbered(b"ok ", count as u64))),
+        Err(refused) => Err(refused),
     }
 }
 
 /// Replies with the text of a line.
-fn perform_show(session: &Session, position: usize) -> Result<Reply, CommandError>
+fn perform_show(session: &Session, position: usize) -> Result<Reply, Refused>
     ensures { Performs session.now.profile session.now.trace
         (command_asked (Command.Show position)) result session.now.trace }
 {
     let mut text = session.show(position)?;
-    match text.push(b'\n') {
-        Ok(()) => Ok(Reply::Long(text)),
-        Err(_) => Err(CommandError::Refused(Refused::Memory)),
-    }
+    text.push(b'\n')?;
+    Ok(Reply::Long(text))
 }
 
 /// Does a command, and gives its reply.
-fn perform(session: &mut Session, command: &Command<'_>) -> Result<Reply, CommandError>
+fn perform(session: &mut Session, command: &Command<'_>) -> Result<Reply, Refused>
     requires { session.old.limit ≡ most_lines }
     ensures performs { Performs session.old.profile session.old.trace
         (command_asked command.now) result session.new.trace }
@@ -104,10 +74,34 @@ fn perform(session: &mut Session, command: &Command<'_>) -> Result<Reply, Comman
     match *command {
         Command::Edit(edit) => perform_edit(session, &edit),
         Command::Show(position) => perform_show(session, position),
-        Command::Count => Ok(Reply::Short(ShortText::number(session.count()))),
+        Command::Count => {
+            let count = session.count() as u64;
+            Ok(Reply::Short(ShortText::numbered(b"", count)))
+        }
         Command::Report => Ok(Reply::Long(session.report()?)),
         Command::ReportRange(first, last) => Ok(Reply::Long(session.report_range(first, last)?)),
-        Command::Unknown => Err(CommandError::Unknown),
+    }
+}
+
+/// The reply to a line; an empty text where the line is skipped.
+fn reply_to(session: &mut Session, line: &[u8]) -> Reply
+    requires { session.old.limit ≡ most_lines }
+    ensures answers { Answers session.old.profile session.old.trace line.now (text_of result) session.new.trace }
+    ensures limit { session.new.limit ≡ session.old.limit }
+    ensures profile { session.new.profile ≡ session.old.profile }
+{
+    if line.len() > LONGEST_SCRIPT_LINE {
+        return Reply::Short(ShortText::refused(Refused::LongLine.code()));
+    }
+    if is_skipped(line) {
+        return Reply::Short(ShortText::new());
+    }
+    let Some(command) = command_of(line) else {
+        return Reply::Short(ShortText::refused(NO_COMMAND));
+    };
+    match perform(session, &command) {
+        Ok(reply) => reply,
+        Err(refused) => Reply::Short(ShortText::refused(refused.code())),
     }
 }
 
@@ -122,19 +116,8 @@ fn answer<W: Sink>(session: &mut Session, line: &[u8], writer: &mut W) -> Result
     ensures limit { session.new.limit ≡ session.old.limit }
     ensures profile { session.new.profile ≡ session.old.profile }
 {
-    if line.len() > LONGEST_SCRIPT_LINE {
-        return write_text(
-            writer,
-            ShortText::refused(Refused::LongLine.code()).as_slice(),
-        );
-    }
-    if is_skipped(line) {
-        return Ok(());
-    }
-    match perform(session, &command_of(line)) {
-        Ok(reply) => write_text(writer, reply.as_slice()),
-        Err(why) => write_text(writer, ShortText::refused(why.code()).as_slice()),
-    }
+    let reply = reply_to(session, line);
+    write_text(writer, reply.as_slice())
 }
 
 /// What is known while a script comes. Of the line that is begun no more than [`MOST_HELD`] bytes are kept:

@@ -7,15 +7,14 @@ ghost use Rattle.std.specs.Prelude.{OnOk, OnErr, IsOkUnless, IsTrue, ◌*◌, ve
 ghost use Rattle.cap_machine.specs.Report.{report};
 ghost use Rattle.cap_machine.specs.Check.{check};
 ghost use Rattle.cap_machine.specs.DenialReport.{denial_report};
-ghost use Rattle.cap_machine.specs.State.{usual};
+ghost use Rattle.cap_machine.specs.State.{usual, start_state};
 ghost use Rattle.cap_machine.specs.Steps.{steps};
-ghost use Rattle.cap_machine.specs.State.{start_state};
 ghost use Rattle.cap_machine.specs.declared.cell.Profile.TheVariants.{One};
 ghost use Rattle.cap_session.specs.Edits.{inserted, deleted, replaced, loaded, edited, after, answers};
 ghost use Rattle.cap_session.specs.Explaining.{explained_line, IsClean};
 ghost use Rattle.cap_session.specs.LimitStreams.{IsLimitsText, IsOutside};
 ghost use Rattle.cap_session.specs.Limits.{most_lines};
-ghost use Rattle.cap_session.specs.Replies.{shown, is_range, ranged, range_report};
+ghost use Rattle.cap_session.specs.Replies.{shown, is_range, ranged};
 ghost use Rattle.cap_session.specs.Session.{SessionState, RefusesExactly, ran_out, lines_of, lines_at, IsIn, IsKept};
 ghost use Rattle.cap_summary.specs.Stands.{Stands, summed_up};
 ghost use Rattle.cap_summary.specs.declared.summary.Summary.{Summary};
@@ -430,7 +429,9 @@ impl Session {
         let Some(explanation) = explain(self.alloc, self.tree.summary(), start, position)? else {
             return Err(Refused::Position);
         };
-        Ok(line_explained(self.alloc, &self.tree, position, &explanation)?)
+        let line = line_explained(self.alloc, &self.tree, position, &explanation);
+        drop(explanation);
+        Ok(line?)
     }
 
     /// Makes one edit, as `insert`, `delete` and `replace` do.

@@ -1,5 +1,5 @@
 //! Short texts: that of a refused line, and replies.
-ghost use Rattle.std.specs.Prelude.{◌≡◌, ◌+◌, ◌≤◌, List, ℕ, [], ◌++◌, length, take, codes, decimal};
+ghost use Rattle.std.specs.Prelude.{◌≡◌, ◌+◌, ◌≤◌, List, ℕ, [], ◌++◌, length, take, decimal};
 ghost use Rattle.cap_session.specs.Refusal.{refusal_text, input_words};
 ghost use Rattle.cap_session.specs.Replies.{refused_text, line_feed};
 
@@ -37,7 +37,8 @@ impl Model for ShortText {
 }
 
 impl ShortText {
-    fn new() -> ShortText
+    /// The empty text.
+    pub fn new() -> ShortText
         ensures { result ≡ [] }
     {
         ShortText {
@@ -71,39 +72,24 @@ impl ShortText {
         text
     }
 
+    /// Words, a number and LF.
+    pub fn numbered(words: &[u8], number: u64) -> ShortText
+        requires { length words.now ≤ 20 }
+        ensures { result ≡ words.now ++ decimal number ++ line_feed }
+    {
+        let mut text = ShortText::new();
+        let mut digits = Buffer::new();
+        text.add(words);
+        text.add(digits.format(number).as_bytes());
+        text.add(b"\n");
+        text
+    }
+
     /// `refused E7` and LF.
     pub fn refused(code: u8) -> ShortText
         ensures { result ≡ refused_text code }
     {
-        let mut text = ShortText::new();
-        let mut digits = Buffer::new();
-        text.add(b"refused E");
-        text.add(digits.format(code).as_bytes());
-        text.add(b"\n");
-        text
-    }
-
-    /// `ok 5` and LF.
-    pub fn accepted(count: usize) -> ShortText
-        ensures { result ≡ codes "ok " ++ decimal count ++ line_feed }
-    {
-        let mut text = ShortText::new();
-        let mut digits = Buffer::new();
-        text.add(b"ok ");
-        text.add(digits.format(count).as_bytes());
-        text.add(b"\n");
-        text
-    }
-
-    /// A number and LF.
-    pub fn number(number: usize) -> ShortText
-        ensures { result ≡ decimal number ++ line_feed }
-    {
-        let mut text = ShortText::new();
-        let mut digits = Buffer::new();
-        text.add(digits.format(number).as_bytes());
-        text.add(b"\n");
-        text
+        ShortText::numbered(b"refused E", u64::from(code))
     }
 
     pub fn as_slice(&self) -> &[u8]

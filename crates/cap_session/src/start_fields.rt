@@ -7,7 +7,7 @@ ghost use Rattle.cap_session.specs.StartTexts.{cell_spelled, mode_spelled, numbe
 ghost use Rattle.cap_session.specs.StartTexts.{rest_at as rest_said, listed_at, cells_from, described};
 ghost use Rattle.cap_session.specs.Code.StartLines.{completed};
 
-use crate::command::number_of;
+use crate::command::{number_of, split_word};
 use crate::refused::Refused;
 use cap_machine::{Cell, Mode, OnExec};
 use cap_rights::parse_rights;
@@ -55,21 +55,13 @@ impl<'a> Words<'a> {
     }
 
     /// The next word.
-    #[tactic(auto, using(std::proofs::lemmas::List::take_rest, crate::proofs::Spelled::first_word, crate::proofs::Spelled::last_word))]
     fn next(&mut self) -> Option<&'a [u8]>
         ensures { MatchOption result ((self.old ≡ []) × (self.new ≡ [])) (λ word. self.old ≡ word.now ∷ self.new) }
     {
         let text = self.rest?;
-        match first_place(b' ', text) {
-            None => {
-                self.rest = None;
-                Some(text)
-            }
-            Some(space) => {
-                self.rest = Some(&text[space + 1..]);
-                Some(&text[..space])
-            }
-        }
+        let (word, rest) = split_word(text);
+        self.rest = rest;
+        Some(word)
     }
 }
 

@@ -5,10 +5,10 @@ ghost use Rattle.cap_machine.specs.Steps.{step, steps};
 ghost use Rattle.cap_session.specs.Session.{lines_of};
 ghost use Rattle.cap_tree.specs.Run.{values};
 
-use cap_machine::{Profile, Step};
+use cap_machine::{NoMemory, Profile, Step};
 use cap_summary::Summary;
 use cap_trace::{Line, write_line};
-use cap_tree::{NoMemory, Tree};
+use cap_tree::Tree;
 use std::alloc::Global;
 use std::rc::Rc;
 
@@ -35,7 +35,7 @@ pub fn steps_of(
 }
 
 /// A copy of a line.
-fn copy_of(alloc: Global, line: &Line) -> Result<Line, cap_machine::NoMemory>
+fn copy_of(alloc: Global, line: &Line) -> Result<Line, NoMemory>
     ensures { IfOk result (λ copy. copy ≡ line.now) }
 {
     let mut text = Vec::new(alloc);
@@ -44,7 +44,7 @@ fn copy_of(alloc: Global, line: &Line) -> Result<Line, cap_machine::NoMemory>
 }
 
 /// Copies of the lines of a tree.
-pub fn copies_of(alloc: Global, tree: &Tree<Summary>) -> Result<Vec<Line>, cap_machine::NoMemory>
+pub fn copies_of(alloc: Global, tree: &Tree<Summary>) -> Result<Vec<Line>, NoMemory>
     ensures { IfOk result (λ lines. lines.items ≡ lines_of tree.now) }
 {
     let mut lines = Vec::new(alloc);

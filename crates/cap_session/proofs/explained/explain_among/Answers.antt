@@ -7,8 +7,8 @@ use Rattle.cap_session.specs.Edits.{is_position}
 use Rattle.cap_session.proofs.Explains.{fits_line, has_line, has_no_line, is_clean}
 use Rattle.cap_session.proofs.explained.explain_among.Goals as goal
 
-pub line_explained-requires : goal.line_explained-requires
-line_explained-requires c =
+pub line_explained-line-requires : goal.line_explained-line-requires
+line_explained-line-requires c =
     let s = start_state c.args.start.now in
     fits_line s c.args.profile c.args.lines.now.items c.args.position c.in_ok-explanation.field-0
     c.in-Some.explanation (c.in_ok-explanation.ensures
@@ -19,9 +19,9 @@ pub returns-clause-clean : goal.returns-clause-clean
 returns-clause-clean c =
     let s = start_state c.args.start.now in
     is_clean s c.args.profile c.args.lines.now.items c.args.position c.in_ok-explanation.field-0
-    c.in-Some.explanation c.in_ok-line_explained.field-0.is_clean (c.in_ok-explanation.ensures
+    c.in-Some.explanation c.in_ok-line.field-0.is_clean (c.in_ok-explanation.ensures
     ∙ ap (λ (t : List Entry). explanation s (steps c.args.profile t) c.args.position) c.as_slice-all.ensures.value)
-    c.in-Some.is c.in_ok-line_explained.ensures.clean
+    c.in-Some.is c.in_ok-line.ensures.clean
 
 pub returns-then-not-is_position-clause-position :
     goal.returns-then-not-is_position-clause-position

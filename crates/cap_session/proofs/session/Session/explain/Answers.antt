@@ -11,8 +11,8 @@ use Rattle.cap_session.specs.Session.{SessionState, lines_of}
 use Rattle.cap_session.proofs.Explains.{fits_line, has_line, has_no_line, is_clean}
 use Rattle.cap_session.proofs.session.Session.explain.Goals as goal
 
-pub line_explained-requires : goal.line_explained-requires
-line_explained-requires c =
+pub line_explained-line-requires : goal.line_explained-line-requires
+line_explained-line-requires c =
     let s = start_state c.args.start.now in
     let k = c.args.position in
     let e = c.in-Some.explanation in
@@ -33,9 +33,9 @@ returns-clause-clean c =
     c.summary.ensures.steps ∙ subst (λ (s : SessionState). c.self.inside.tree ≡ steps s.profile s.trace) c.self.view_is
     c.self.invariant.in_profile in
     is_clean s c.args.self.now.profile c.args.self.now.trace k c.in_ok-explanation.field-0 c.in-Some.explanation
-    c.in_ok-line_explained.field-0.is_clean
+    c.in_ok-line.field-0.is_clean
     (c.in_ok-explanation.ensures ∙ ap (λ (t : List Step). explanation s t k) what) c.in-Some.is
-    c.in_ok-line_explained.ensures.clean
+    c.in_ok-line.ensures.clean
 
 pub returns-then-not-is_position-clause-position : goal.returns-then-not-is_position-clause-position
 returns-then-not-is_position-clause-position c =
