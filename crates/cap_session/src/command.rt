@@ -59,9 +59,10 @@ fn insert_of<'a>(rest: &'a [u8]) -> Option<Command<'a>>
     ensures { asked_by result ≡ with_line (position (first_word rest.now)) (after_word rest.now) insert_line }
 {
     let (word, line) = split_word(rest);
-    let position = number_of(word)?;
-    let line = line?;
-    Some(Command::Edit(Edit::Insert { position, line }))
+    match (number_of(word), line) {
+        (Some(position), Some(line)) => Some(Command::Edit(Edit::Insert { position, line })),
+        _ => None,
+    }
 }
 
 /// `replace` with a position and a line.
@@ -69,9 +70,10 @@ fn replace_of<'a>(rest: &'a [u8]) -> Option<Command<'a>>
     ensures { asked_by result ≡ with_line (position (first_word rest.now)) (after_word rest.now) replace_line }
 {
     let (word, line) = split_word(rest);
-    let position = number_of(word)?;
-    let line = line?;
-    Some(Command::Edit(Edit::Replace { position, line }))
+    match (number_of(word), line) {
+        (Some(position), Some(line)) => Some(Command::Edit(Edit::Replace { position, line })),
+        _ => None,
+    }
 }
 
 /// `report` with two positions.
@@ -79,8 +81,13 @@ fn range_of(rest: &[u8]) -> Option<Command<'static>>
     ensures { asked_by result ≡ with_range (position (first_word rest.now)) (after_word rest.now) }
 {
     let (word, rest) = split_word(rest);
-    let last = number_of(rest?);
-    Some(Command::ReportRange(number_of(word)?, last?))
+    let Some(rest) = rest else {
+        return None;
+    };
+    match (number_of(word), number_of(rest)) {
+        (Some(first), Some(last)) => Some(Command::ReportRange(first, last)),
+        _ => None,
+    }
 }
 
 /// A word, and what follows the space after it.
@@ -92,10 +99,15 @@ fn with_rest<'a>(word: &[u8], rest: &'a [u8]) -> Option<Command<'a>>
     } else if word == b"replace".as_slice() {
         replace_of(rest)
     } else if word == b"delete".as_slice() {
-        let position = number_of(rest)?;
-        Some(Command::Edit(Edit::Delete { position }))
+        match number_of(rest) {
+            Some(position) => Some(Command::Edit(Edit::Delete { position })),
+            None => None,
+        }
     } else if word == b"show".as_slice() {
-        Some(Command::Show(number_of(rest)?))
+        match number_of(rest) {
+            Some(position) => Some(Command::Show(position)),
+            None => None,
+        }
     } else if word == b"report".as_slice() {
         range_of(rest)
     } else {

@@ -1,5 +1,5 @@
 //! Numbers, findings, denials, cells and modes in words.
-ghost use Rattle.std.specs.Prelude.{◌≡◌, ◌++◌, ◌∷◌, [], codes, decimal, OnOk};
+ghost use Rattle.std.specs.Prelude.{◌≡◌, ◌++◌, ◌∷◌, [], decimal, OnOk};
 ghost use Rattle.cap_rights.specs.Text.{text};
 ghost use Rattle.cap_machine.specs.DenialReport.{denial_words};
 ghost use Rattle.cap_machine.specs.Report.{finding_words, line_of_words};
