@@ -13,12 +13,12 @@ ghost use Rattle.cap_session.specs.LimitStreams.{limits_script, IsMakersText, Is
 
 use crate::refused::Refused;
 use crate::trace::is_position;
-use crate::wording::{put_between, put_number};
+use crate::wording::put_between;
 use cap_machine::{
     Entering, Limit, Limits, MakerLimit, NoMemory, Profile, Start, limits_before, limits_of_makers,
 };
 use cap_rights::{RightSet, write_rights};
-use cap_trace::{Fd, Line, Pid};
+use cap_trace::{Fd, Line, Pid, put_number};
 use std::alloc::Global;
 
 /// Appends how a line of a script begins that puts in at a position a line of a process.
