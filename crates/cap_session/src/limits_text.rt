@@ -27,7 +27,8 @@ fn put_insert(out: &mut Vec<u8>, at: usize, pid: Pid) -> Result<(), NoMemory>
         ≡ out.old.items ++ (codes "insert " ++ (decimal at ++ (codes " " ++ decimal pid)))) }
 {
     put_between(out, b"insert ", at as u64, b" ")?;
-    put_number(out, u64::from(pid))
+    put_number(out, u64::from(pid))?;
+    Ok(())
 }
 
 /// Appends the line of a script that puts in at a position the line by which a process limits a descriptor.
