@@ -155,7 +155,7 @@ fn forget_done(
     ensures { (s : State) → AgreeAfter last.now at s (start_state machine.old)
         → OnOk result (AgreeAfter last.now at s (start_state machine.new)) }
 {
-    let pid = step.line.view().pid;
+    let pid = step.line.pid();
     if last.of(pid) > at {
         return Ok(());
     }

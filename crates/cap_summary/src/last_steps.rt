@@ -55,7 +55,7 @@ impl LastSteps {
         if run.len() == 0 {
             return Ok(());
         }
-        self.note(run[0].line.view().pid, at + 1)?;
+        self.note(run[0].line.pid(), at + 1)?;
         self.note_run(&run[1..], at + 1)?;
         Ok(())
     }
