@@ -4,7 +4,7 @@
     bench/explain_times.py PROGRAM [LINES [TRACE..]]
 
 The traces are those of TRACES in traces.py, `quiet` and `forms` where none is named, with a limit and a fork before their first
-line, and a call on the limited descriptor in the child as their last: what that rests on stands at the other end of the trace.
+line, and a call on the limited descriptor in the child as their last: what that rests on is at the other end of the trace.
 
 `run` is the whole run of `PROGRAM explain TRACE LAST`, in turn with `PROGRAM check TRACE`, by medians: it reads the trace, keeps
 its lines, and walks back over them once. For the rest a program over crates/cap_session is written to a temporary folder and

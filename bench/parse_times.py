@@ -4,7 +4,7 @@
     bench/parse_times.py [LINES [TRACE..]]
 
 A program over crates/cap_trace is written to a temporary folder and built there by `rt run`, which proves it and what
-it stands on first: so `rt`, the command of the Rattle kit, is needed. It reads the whole trace from standard input, and then
+it uses first: so `rt`, the command of the Rattle kit, is needed. It reads the whole trace from standard input, and then
 times `parse_line` over its lines, once.
 """
 

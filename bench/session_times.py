@@ -3,7 +3,7 @@
 
     bench/session_times.py PROGRAM [LINES [TRACE..]]
 
-The traces are those of TRACES in traces.py, most of which are made to be hard, at 1,000,000 lines: all of them, or those that are
+The traces are those of TRACES in traces.py at 1,000,000 lines, most of them made to be hard: all of them, or those that are
 named. `execs` and `turns` run in profile 2. The session loads the trace and is asked for the findings of its last line; when its
 script ends it has to know whether the trace has any. Of both runs the user seconds and the peak memory, by `/usr/bin/time`,
 which it needs.

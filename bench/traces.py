@@ -323,7 +323,7 @@ def lineage(lines):
 
 
 def strangers(lines):
-    """As many processes as there can be, of which nothing is known before; each makes twenty descriptors far from one another,
+    """As many processes as there can be, all unknown before; each makes twenty descriptors far from one another,
     by ten calls."""
     each = lines // LAST_PID
     out = []

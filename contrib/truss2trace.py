@@ -1,7 +1,7 @@
 #!/usr/bin/env python3
 """Makes a trace for capcheck out of a recording that FreeBSD's truss(1) wrote: truss -f -o RECORDING COMMAND
 
-Each call that capcheck has a form for is written by that form, each other call as it stands where its arguments can be
+Each call that capcheck has a form for is written by that form, each other call unchanged where its arguments can be
 spelled. What the trace can't show becomes @foreign, a process's end @exit, and --start gives the first process its
 descriptors. The line of a fork is moved before the first line of its child. docs/RECORDING.md has the rules.
 

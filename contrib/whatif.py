@@ -373,7 +373,7 @@ def span(session, typed):
     session.check(first)
     session.check(last)
     if last < first:
-        raise Mistake(f"line {last} stands before line {first}")
+        raise Mistake(f"line {last} comes before line {first}")
     return first, last
 
 
@@ -592,7 +592,7 @@ def work(session, typed):
 
 
 def candidates(before, session):
-    """What the last word of a line can become, as it is typed so far."""
+    """What the last word of a line can become, by what is typed so far."""
     words = before.split(" ")
     if len(words) == 1:
         return [name + (" " if " " in usage else "") for name, (usage, _, _) in COMMANDS.items()]
@@ -728,7 +728,7 @@ def beside(name):
 
 
 def refused_line(trace, refused):
-    """Says at which line a trace was refused, why, and what stands there."""
+    """Says at which line a trace was refused, why, and what is there."""
     words = REASONS.get(refused.code, "it was refused")
     if refused.code in ("E2", "E3"):
         words += " (a recording of truss? capcheck-truss makes a trace of one)"

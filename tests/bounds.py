@@ -31,7 +31,7 @@ def lines(count):
 
 
 def edits(count):
-    """Each in the middle, by two lines in turn, of which one changes what is known."""
+    """Each in the middle, by two lines in turn. One of them changes what is known."""
     for at in range(count):
         yield f"replace {EDITED // 2} 105 " + ("cap_rights_limit(2,CAP_READ|CAP_WRITE) RET 0" if at % 2 else "getpid() RET 105")
 

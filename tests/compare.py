@@ -338,7 +338,7 @@ class Maker:
         return self.choice(("", "# note", "#", self.choice("#x") * self.choice(LENGTHS)))
 
     def spoiled(self, command):
-        """Mostly the command as it is."""
+        """Mostly the command unchanged."""
         kind = self.random.random()
         if kind < 0.04:
             return command + self.choice((" ", "\r", " 1", "\t", "\x00"))
@@ -557,7 +557,7 @@ def compare(program, seed, count):
 
 
 class Counting(reference.Processes):
-    """Processes that count which rules of profile 2 their lines met, and of which generation the children of a trace were."""
+    """Processes that count which rules of profile 2 their lines met, and the generations of the children in a trace."""
 
     met = Counter()
 

@@ -1,7 +1,7 @@
 #!/usr/bin/env bash
 # Checks that each example trace gives the report that is kept beside it, that each script gives the replies that are kept
 # beside it, that the session of docs/SCRIPTS.md is that of the scripts, and that the commands of README.md, docs/EXPLAIN.md and
-# docs/SANDBOXING.md print what stands there: tests/examples.sh PROGRAM
+# docs/SANDBOXING.md print what is written there: tests/examples.sh PROGRAM
 set -u
 if [ $# -ne 1 ]; then
   echo 'usage: tests/examples.sh PROGRAM' >&2
@@ -41,7 +41,7 @@ for script in *.script; do
   same "script $name on standard input" "$("$program" edit "$name.trace" <"$script"; echo "status $?")" "$kept"
 done
 
-# In docs/SCRIPTS.md a command stands after "> ", and its replies below it. Comments of a script are not in it.
+# In docs/SCRIPTS.md a command comes after "> ", and its replies below it. Comments of a script are not in it.
 sessions=0
 for script in *.script; do
   name=${script%.script}
@@ -56,7 +56,7 @@ if [ "$sessions" -eq 0 ]; then
   echo "docs/SCRIPTS.md shows no session"
 fi
 
-# In the other documents a command stands after "$ ", and what it prints below it. The commands run in a folder of their own,
+# In the other documents a command comes after "$ ", and what it prints below it. The commands run in a folder of their own,
 # with copies of the examples in examples/.
 folder=$(mktemp -d)
 trap 'rm -rf "$folder"' EXIT

@@ -4,7 +4,7 @@
 Runs `rt ci`, and beside it, as soon as that has built the program, each script with the program as its argument: so the program
 is proved and built once. `tests/refusals.py` is handed the tests of cap_refusal_tests in its place. What the scripts print comes
 before the last line of `rt ci`, which stays the last; scripts that failed count as failed there. The status is 0 where `rt ci`
-and all scripts passed. Above it stands what `rt ci` took by the clock, and in seconds of processors.
+and all scripts passed. Above it is what `rt ci` took by the clock, and in seconds of processors.
 
 `rt ci` takes as many steps side by side as it believes that memory holds, by an estimate of twice what they take here. So
 where three processors or more each have the memory that a step takes at most, it is handed their number as RT_JOBS, unless

@@ -1,7 +1,7 @@
 #!/usr/bin/env python3
 """What `make install` puts where, whether it runs from there, and what `make uninstall` leaves: tests/install.py PROGRAM
 
-All of it happens in a folder of its own. On PATH stands a program capcheck that must not be run: each tool finds the one beside
+All of it happens in a folder of its own. On PATH is a program capcheck that must not be run: each tool finds the one beside
 itself. Completions are asked by the shells; where zsh isn't there, that is said.
 """
 

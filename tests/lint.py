@@ -42,7 +42,7 @@ def names_imported_for_nothing(scope):
 
 
 def names_not_defined(tables):
-    """What is used in these scopes of a file, of which the first has all others, and defined in none where that is looked for."""
+    """What is used in these scopes of a file and defined in none where that is looked for. The first scope has all others."""
     names = [(name, name.is_global() or scope is tables[0]) for scope in tables for name in scope.get_symbols()]
     defined = {name.get_name() for name, is_global in names if is_global and (name.is_assigned() or name.is_imported())}
     return sorted({name.get_name() for name, is_global in names if is_global and name.is_referenced()} - defined - KNOWN)

@@ -224,7 +224,7 @@ def answer(name, given, text):
 
 
 def outside_quotes(text):
-    """Each byte that stands outside quotes, with its place."""
+    """Each byte outside quotes, with its place."""
     quoted = skipped = False
     for place, byte in enumerate(text):
         if skipped:
@@ -934,7 +934,7 @@ def limits_before(processes, lines, first):
 
 
 def made_by(line):
-    """The descriptors that a call made, without that of pdfork, of which nothing is ever known."""
+    """The descriptors that a call made, without that of pdfork, which stays unknown."""
     _, name, given, answer = line
     makes = name in MAKES_ONE + MAKES_TWO + ["dup2"] or (name == "fcntl" and given[1] in COPIES + COPIES_TO)
     return set(answer) if makes and is_success(line) else set()

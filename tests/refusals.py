@@ -4,7 +4,7 @@
     tests/refusals.py BINARY
 
 BINARY is what `rt test` leaves: crates/cap_refusal_tests/out/cap_refusal_tests_tests. Each test must pass, with at least one
-allocation refused and answered so; how that is done stands in tests/refuse_each.c. It needs a C compiler (tests/compiler.py).
+allocation refused and answered so; tests/refuse_each.c does it. It needs a C compiler (tests/compiler.py).
 """
 
 import os
@@ -16,7 +16,7 @@ import compiler
 
 
 def tests_of(binary):
-    """The names of the tests, of which there is one at least."""
+    """The names of the tests, at least one."""
     listed = subprocess.run([binary, "--list"], capture_output=True, text=True, check=True).stdout.splitlines()
     tests = [line.removesuffix(": test") for line in listed if line.endswith(": test")]
     if not tests:

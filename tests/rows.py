@@ -226,7 +226,7 @@ findings 1
 status 1
 """,
 )
-row("a descriptor of which nothing is known isn't closed", "100 write(7) RET 5\n", "findings 0\n")
+row("an unknown descriptor isn't closed", "100 write(7) RET 5\n", "findings 0\n")
 row(
     "a limit that gives rights back is found, and gives none",
     """
@@ -436,7 +436,7 @@ status 0
     second="4 100 read closed 5\nfindings 1\n",
 )
 row(
-    "a limit of which nothing was known is known afterwards",
+    "a limit of an unknown descriptor is known afterwards",
     """
 100 cap_rights_limit(6,CAP_READ|CAP_SEEK) RET 0
 100 cap_rights_limit(6,CAP_READ) RET 0
@@ -511,7 +511,7 @@ row(
     "findings 0\n",
 )
 row(
-    "ECAPMODE of a call of which nothing is known",
+    "ECAPMODE of an unknown call",
     """
 100 @start(0,3)
 100 foo() RET -1 errno 94
@@ -546,7 +546,7 @@ findings 1
 """,
 )
 row(
-    "ENOTCAPABLE of fcntl and of a call of which nothing is known isn't judged",
+    "ENOTCAPABLE of fcntl and of an unknown call isn't judged",
     """
 100 @start(0,3)
 100 foo() RET -1 errno 93
@@ -965,7 +965,7 @@ line("closefrom of two descriptors", "100 closefrom(3,4) RET 0", 4)
 line("closefrom answers another number than 0", "100 closefrom(3) RET 1", 6)
 line("closefrom that failed", "100 closefrom(3) RET -1 errno 9")
 
-# Two hundred descriptors, of which an exec closes the even ones, and a closefrom then those from 100 on. A child keeps them all.
+# Two hundred descriptors: an exec closes the even ones, and a closefrom then those from 100 on. A child keeps them all.
 lines = ["100 @start()"] + [f'100 open("a",{"O_RDONLY" if fd % 2 else "O_CLOEXEC"}) RET {fd}' for fd in range(200)]
 found = []
 for begin, closes in (
@@ -1123,7 +1123,7 @@ line("too many arguments", '100 rename("a","b","c") RET 0', 4)
 line("a bracket within brackets", "100 foo(a(b) RET 0", 2)
 line("a second closing bracket", "100 foo(a)b) RET 0", 2)
 line("a bracket that closes on the next line", "100 foo(\n) RET 0", 2)
-line("two numbers from a call of which nothing is known", "100 foo() RET 4,5")
+line("two numbers from an unknown call", "100 foo() RET 4,5")
 line("two descriptors from pipe", "100 pipe() RET 4,5")
 line("a child and a descriptor from pdfork", "100 pdfork() RET 101,7")
 line("one descriptor from pipe", "100 pipe() RET 4", 6)
@@ -1132,7 +1132,7 @@ line("the largest answer", "100 read(4) RET 18446744073709551615")
 line("an answer that is too large", "100 read(4) RET 18446744073709551616", 6)
 line("errno 0", "100 read(4) RET -1 errno 0", 6)
 line("an errno that is too large", "100 read(4) RET -1 errno 65536", 6)
-line("an fcntl command of which nothing is known", "100 fcntl(3,F_FOO) RET 0")
+line("an unknown fcntl command", "100 fcntl(3,F_FOO) RET 0")
 line("F_SETFD without its flags", "100 fcntl(3,F_SETFD) RET 0", 4)
 line("a start without descriptors", "100 @start()")
 line("a space at the end", "100 @start() ", 2)
@@ -1368,8 +1368,8 @@ explain("a line that checks nothing", SERVER, 3, "3 200 fork() RET 201\n")
 explain("a marker", SERVER, 1, "1 200 @start(0,1,2,3)\n")
 explain("a line that the start gave", SERVER, 2, "2 200 accept(3) RET 4\n3 1 200 @start(0,1,2,3)\n")
 for position in (0, 10, 11, 9999999999999999999):
-    explain(f"no line stands at {position}", SERVER, position, "refused E7\n", 2)
-explain("no line stands in an empty trace", "", 1, "refused E7\n", 2)
+    explain(f"no line is at {position}", SERVER, position, "refused E7\n", 2)
+explain("no line is in an empty trace", "", 1, "refused E7\n", 2)
 explain("a line that can't be read, before the one", "x\n" + SERVER, 2, "refused E3 line 1\n", 2)
 explain("a line that can't be read, after the one", SERVER + "100 read(x) RET 1", 2, "refused E4 line 13\n", 2)
 explain("a line that can't be read, and a position without a line", SERVER + "100 read(x) RET 1", 99, "refused E4 line 13\n", 2)
@@ -1713,7 +1713,7 @@ moderefusal
 unexplained
 3 start unknown
 """, 1)
-explain("a refusal of which nothing is known", "1 foo() RET -1 errno 93\n", 1, "1 1 foo() RET -1 errno 93\nunexplained\n")
+explain("a refusal of an unknown call", "1 foo() RET -1 errno 93\n", 1, "1 1 foo() RET -1 errno 93\nunexplained\n")
 explain("a call that failed with another errno", "1 write(3) RET -1 errno 9\n", 1, "1 1 write(3) RET -1 errno 9\n3 start NONE\n", start="1 in closed 3=NONE\n")
 
 # ---- limits to the rights that later lines need
@@ -1797,9 +1797,9 @@ insert 8 201 cap_enter() RET 0
 """, 4)
 limits("nothing is known of a descriptor that was made", SERVER, "")
 for position in (0, 10, 11, 9999999999999999999):
-    limits(f"no line stands at {position}, so there are no limits", SERVER, "refused E7\n", position)
+    limits(f"no line is at {position}, so there are no limits", SERVER, "refused E7\n", position)
 limits("an empty trace", "", "")
-limits("no line stands in an empty trace, so there are no limits", "", "refused E7\n", 1)
+limits("no line is in an empty trace, so there are no limits", "", "refused E7\n", 1)
 limits("a trace of comments", "# 1 open(\"a\",0) RET 3\n\n", "")
 limits("limits of a line that can't be read, before the one", "x\n" + SERVER, "refused E3 line 1\n", 2)
 limits("limits of a line that can't be read, after the one", SERVER + "100 read(x) RET 1", "refused E4 line 13\n", 2)
@@ -1882,7 +1882,7 @@ limits("no right beyond those that are held", "1 read(3) RET 1\n1 write(3) RET 1
 insert 1 1 cap_rights_limit(3,CAP_READ) RET 0
 insert 2 1 cap_enter() RET 0
 """, 1, start="1 out closed 3=CAP_READ|CAP_SEEK\n")
-limits("descriptors of which nothing is known", """
+limits("unknown descriptors", """
 1 read(5) RET 1
 1 write(6) RET -1 errno 9
 1 close(7) RET 0

@@ -216,7 +216,7 @@ def refusals():
         ("show 13", "there is no such line: positions go from 1 to 12 (E7)"),
         ("insert 14 100 @exit()", "there is no such line: positions go from 1 to 13 (E7)"),
         ("delete 0", "there is no such line: positions go from 1 to 12 (E7)"),
-        ("report 9 8", "line 8 stands before line 9"),
+        ("report 9 8", "line 8 comes before line 9"),
         ("delete", "it is written delete K"),
         ("delete 3 4", "it is written delete K"),
         ("insert 3", "it is written insert K LINE"),

@@ -63,14 +63,14 @@ def bodies_of(crate):
 
 def named(steps):
     """The steps, each with the name of its wrong body. A kit that has no number for one tries them in turn: the first is where the
-    crate is proved to begin with, and what comes after the last is the crate as it is."""
+    crate is proved to begin with, and what comes after the last is the crate unchanged."""
     turns, found = collections.Counter(), []
     for (_, began), ((crate, kind, body), seconds) in sorted(steps.items(), key=lambda it: int(it[0][1])):
         if kind == "wrong body":
             names, at = bodies_of(crate), turns[crate] if body is NEXT else int(body)
             turns[crate] += 1
             kind = "begin" if body is NEXT and at == 0 else kind
-            body = names[at] if at < len(names) else "from nothing or as it is"
+            body = names[at] if at < len(names) else "from nothing or unchanged"
         found.append(((crate, kind, body), seconds))
     return found
 

@@ -140,7 +140,7 @@ def said_twice(files):
 
 
 def stands_in(name, body):
-    """Whether a name stands in a text; of an operator, its signs."""
+    """Whether a name is in a text; of an operator, its signs."""
     parts = [it for it in name.split("◌") if it] if "◌" in name else [name]
     parts = ["then"] if name == "if◌then◌else◌" else parts
     return all(re.search(rf"(?<![\w\-]){re.escape(it)}(?![\w\-])" if it[0].isalnum() else re.escape(it), body) for it in parts)

@@ -139,7 +139,7 @@ limit_under asked word check _ _ needs quiet u = absurd u
 -- ---- what a line does
 
 module _ (one two : ℕ → ℕ → Cell) (under : (p f : ℕ) → Under (one p f) (two p f)) where
-  -- a touch of each profile leaves cells of which this is so
+  -- a touch of each profile leaves such cells
   abbrev Fit : Touch → Touch → Type 0
   Fit t u = (p f : ℕ) → Under (touched t one p f) (touched u two p f)
 

@@ -1,4 +1,4 @@
--- A flag that stands last, after a bar.
+-- A flag that is last, after a bar.
 use Rattle.std.proofs.Common.{◌≡◌, ℕ, ◌-◌, ◌==◌, Bool, true, false, List, [], ◌∷◌, ◌++◌, cond, length, take, drop}
 use Rattle.std.proofs.Common.{sym, ap, ◌∙◌, eqb}
 use Rattle.std.specs.List.{onto_first, list_any, ends_with}
@@ -15,7 +15,7 @@ beyond_first (word ∷ words) = words
 abbrev stands_in : List ℕ → List (List ℕ) → Bool
 stands_in name words = list_any (λ word. bytes_eq word name) words
 
--- one byte before words of which the name is one, and not the first
+-- one byte before words; the name is one of them, but not the first
 one_before : (name : List ℕ) (is_bar : Bool) (byte : ℕ) (words : List (List ℕ))
     → stands_in name (beyond_first words) ≡ true
     → stands_in name (beyond_first (cond is_bar ([] ∷ words) (onto_first byte words))) ≡ true

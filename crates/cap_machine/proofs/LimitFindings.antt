@@ -88,7 +88,7 @@ found_later s step later x is = subst (λ (r : List Found). In r (moved 1 x)) (s
     (in_right (map (found_at 1) (said step s)) (map (moved 1) (check (step_after step s) later)) (moved 1 x)
     (in_map (moved 1) (check (step_after step s) later) x is))
 
--- a finding is of the first step, or of a later one
+-- a finding belongs to the first step, or to a later one
 pub found_when : (s : State) (step : Step) (later : List Step) (x : Found) → In (check s (step ∷ later)) x
     → ((y : Finding) × In (said step s) y × (x ≡ found_at 1 y))
     ⊎ ((y : Found) × In (check (step_after step s) later) y × (x ≡ moved 1 y))

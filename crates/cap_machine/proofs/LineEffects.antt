@@ -290,7 +290,7 @@ module _ (args makes : ℕ → Bool) (whole : Bool) (me : ℕ) where
   call_done profile (calls.Bare call) answer is child big = bare_done call answer child big
   call_done profile _ answer is child big = keeps answer
 
--- The effect of `@start` has the text of its descriptors, and stands apart.
+-- The effect of `@start` has the text of its descriptors, so it is apart.
 abbrev pub IsNoStart : Item → Type 0
 IsNoStart (items.Start fs) = ⊥
 IsNoStart _ = Unit {0}

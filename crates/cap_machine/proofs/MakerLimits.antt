@@ -71,7 +71,7 @@ both_rows s at p f g w rows =
     ∙ ap (λ (r : List MakerLimit). rows ++ (maker_row at p f (s.cell p f) (w f) ++ r))
     (sym (append-nil (maker_row at p g (s.cell p g) (w g))))
 
--- what stands in the list, and that each is a limit
+-- what is in the list, and that each is a limit
 record AreOwn (next : State) (later : List Step) (at p : ℕ) (fds : List ℕ) (rows : List MakerLimit) : Type 0 where
   places : map place_of rows ≡ held_places next at p fds
   limits : All (λ (limit : MakerLimit). IsLimit next later limit.pid (limit.fd, limit.rights)) rows

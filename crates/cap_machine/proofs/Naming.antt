@@ -91,7 +91,7 @@ own_modes step p none =
 
 -- ---- descriptors
 
--- two descriptors of which one is named
+-- two descriptors, and one is named
 pub apart : (named : ℕ → Bool) (f g : ℕ) → named f ≡ false → named g ≡ true → (f == g) ≡ false
 apart named f g none is =
     neither (f == g) (named f) (λ same. ap named (eqb-true f g same) ∙ is) none

@@ -121,7 +121,7 @@ asked_more a b was now line q profile s trace knew knows asks same lines said te
           ∙ ap (answer_lines q s) (sym more);
     }
 
--- a line of which nothing is said
+-- a line that nothing is said of
 pub silent_count : (q : Question) (line : Entry) (s : State) → LineHasNoEntry q line s → line_count q line s ≡ 0
 silent_count Findings line s is = ap length is
 silent_count Denials line s is = ap length is

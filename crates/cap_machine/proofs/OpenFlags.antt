@@ -10,7 +10,7 @@ use Rattle.cap_rights.specs.Rights.{join}
 use Rattle.cap_machine.specs.Flags.{flag_words, has_flag, is_one_of, all_known}
 use Rattle.cap_machine.specs.Needs.{named, access_needs, opening_needs, openat_needs}
 
--- a name that is none of the known ones stands in no list of them
+-- a name that is none of the known ones is in no list of them
 absent_in : (known : List (List ℕ)) (name : List ℕ) (words : List (List ℕ)) → is_one_of known name ≡ false
     → list_all (is_one_of known) words ≡ true → list_any (λ word. bytes_eq word name) words ≡ false
 absent_in known name [] unknown all = refl

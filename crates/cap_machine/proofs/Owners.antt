@@ -1,4 +1,4 @@
--- Which process stands at the place of a pid.
+-- Which process is at the place of a pid.
 use Rattle.std.proofs.Common.{◌≡◌, ℕ, ◌+◌, ◌<◌, ◌≤◌, ◌==◌, ◌&&◌, ◌||◌, nat_le, if◌then◌else◌, Bool, true, false, List, [], ◌∷◌, ◌++◌}
 use Rattle.std.proofs.Common.{length, get_or, set, Some, None, refl, ap, sym, ◌∙◌, arith, length-append, eq-eqb}
 use Rattle.std.proofs.Common.{zero, suc}
@@ -44,7 +44,7 @@ get_other xs i j y ne =
     slice_get_past (set xs i y) j past ∙ sym (slice_get_past xs j ge))
     (cases_lt j (length xs))
 
--- the process of pid p, which stands at its place, is another one now
+-- the process of pid p, which is at its place, is another one now
 pub put_own : (place : ℕ → ℕ) (ps : List Process) (p : ℕ) (d q : Process) (r : ℕ) → place p < length ps
     → (slice_index_or ps (place p) d).pid ≡ p
     → q.pid ≡ p → own_at (slice_set ps (place p) q) (place r) r ≡ (if r == p then Some q else own_at ps (place r) r)
@@ -265,7 +265,7 @@ own_turn effect me p mode m one is = by effect one
     by (Fork child) one = absurd one
     by (ForkAs child g) one = absurd one
 
--- two processes of which the same is asked, if they are anywhere
+-- the same is asked of two processes, if they are anywhere
 asked_if : {R : Type 0} (ask : Process → R) (default : R) (p q : Process) (b : Bool) → ask q ≡ ask p
     → option_map_or ask (if b then Some q else None) default ≡ option_map_or ask (if b then Some p else None) default
 asked_if ask default p q true e = e

@@ -33,7 +33,7 @@ get-next t step n is =
     let place : n - 1 ≡ length t = omega arith in
     ap (slice_get (t ++ step ∷ [])) place ∙ get-end t step
 
--- it stands at one of the first n steps
+-- it is at one of the first n steps
 abbrev IsWithin : {X : Type 0} → (X → ℕ) → ℕ → X → Type 0
 IsWithin place n x = (1 ≤ place x) × (place x ≤ n)
 

@@ -47,7 +47,7 @@ none_lacking (check ∷ checks) (cell ∷ cells) within are =
     ap (λ r. r ++ lacks checks cells) (excused_lacks check cell check.excuse within.0 parts.0)
     ∙ none_lacking checks cells within.1 parts.1
 
--- ---- what stands in the lists
+-- ---- what is in the lists
 
 -- a finding that a refusal was wrong
 abbrev is_wrong : Finding → Bool
@@ -149,7 +149,7 @@ right_mode : (m : Mode) (allowed : Bool) → (is_inside m && not allowed) ≡ tr
 right_mode modes.Inside false is = refl
 right_mode _ _ is = absurd (cc)
 
--- a finding that stands in one of these lists is there for a reason
+-- a finding that is in one of these lists is there for a reason
 chosen : {X : Type 0} (b : Bool) (x y : X) → Contains (if b then x ∷ [] else []) y → b ≡ true
 chosen true x y has = refl
 chosen false x y has = absurd (nothing y has)

@@ -1,4 +1,4 @@
--- The rows of descriptors of which nothing is known.
+-- The rows of unknown descriptors.
 use Rattle.std.proofs.Common.{◌≡◌, ◌<◌, ◌↔◌, ℕ, ◌==◌, ◌||◌, nat_cmp, Bool, true, false, List, [], ◌∷◌, map}
 use Rattle.std.proofs.Common.{Option, Some, inl, inr, get_or, if◌then◌else◌, refl, sym, ap, ◌∙◌, subst, arith}
 use Rattle.std.specs.List.{All}

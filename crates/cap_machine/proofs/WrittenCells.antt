@@ -97,7 +97,7 @@ only_below cells left fd f below e =
     ∙ ap (λ (b : Bool). if b then below else after_writes below cells f) (sym yes))
     (cases_lt f fd)
 
--- what was done to one more is done to it where it stands over the others
+-- what was done to one more is done to it where it is over the others
 chosen : (act : Cell → Cell) (b : Bool) (cell below : Cell)
     → (if b then act cell else act below) ≡ act (if b then cell else below)
 chosen act true cell below = refl

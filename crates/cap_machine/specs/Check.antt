@@ -1,4 +1,4 @@
--- What is found in a trace: of each step, with the state that stands before it.
+-- What is found in a trace: of each step, with the state before it.
 use Rattle.std.specs.Prelude.{ℕ, List, map, reverse}
 use Rattle.cap_machine.specs.declared.step.Step.{Step}
 use Rattle.cap_machine.specs.declared.rule.Check.{Check}

@@ -56,7 +56,7 @@ abbrev pub LackingIsEnough : Type 0
 LackingIsEnough = (line : Entry) → All (λ (check : Check). (rights : ℕ) (flag : OnExec) → IsRightSet rights
     → lack check (Held (join rights (minus check.needs rights)) flag) ≡ []) (listed (requirement line).checks)
 
--- each denial stands at a position of the trace, from 1
+-- each denial is at a position of the trace, from 1
 abbrev pub DenialsWithin : Type 0
 DenialsWithin = (s : State) (trace : List Step)
     → All (λ (denied : Denied). (1 ≤ denied.at) × (denied.at ≤ length trace)) (denials s trace)

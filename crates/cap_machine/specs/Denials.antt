@@ -1,5 +1,5 @@
 -- What was lacking for a call that errno 93 or 94 refused (errno(2), rights(4), capsicum(4)): of each step of a trace,
--- with the state that stands before it.
+-- with the state before it.
 use Rattle.std.specs.Prelude.{ℕ, ◌&&◌, not, if◌then◌else◌, List, [], ◌∷◌, ◌++◌, map, reverse}
 use Rattle.cap_rights.specs.Rights.{has_all, minus}
 use Rattle.cap_machine.specs.declared.cell.Cell.{Cell}

@@ -6,7 +6,7 @@ use Rattle.std.specs.Str.{bytes_eq}
 abbrev pub flag_words : List ℕ → List (List ℕ)
 flag_words flags = slice_split (λ c. c == 124) flags
 
--- whether a name stands in the flags
+-- whether a name is in the flags
 abbrev pub has_flag : List ℕ → List ℕ → Bool
 has_flag flags name = list_any (λ word. bytes_eq word name) (flag_words flags)
 

@@ -35,7 +35,7 @@ after s history = record { cell = cell_after s history; mode = mode_after s hist
 abbrev pub ended : State → List Step → State
 ended s trace = after s (reverse trace)
 
--- what is told of each step of a history, with the state that stands before it and with its position; steps are numbered
+-- what is told of each step of a history, with the state before it and with its position; steps are numbered
 -- from 1
 abbrev pub told : {A X : Type 0} → (ℕ → A → X) → (Step → State → List A) → State → List Step → List X
 told at says s [] = []

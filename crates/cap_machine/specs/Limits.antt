@@ -39,7 +39,7 @@ least_of held needed = without_full (meet held needed)
 
 -- ---- capability mode
 
--- whether process p may enter before these steps, the first of which stands at a position
+-- whether process p may enter before these steps, which begin at a position
 abbrev pub IsEntering : State → ℕ → List Step → ℕ → Entering → Type 0
 IsEntering s at later p Inside = s.mode p ≡ modes.Inside
 IsEntering s at later p (Blocked position) = (s.mode p ≡ modes.Inside → ⊥) × IsFirstBlock later at p (Some position)

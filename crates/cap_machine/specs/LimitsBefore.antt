@@ -17,16 +17,16 @@ use Rattle.cap_machine.specs.Live.{Live}
 use Rattle.cap_machine.specs.Limits.{row_of, AreInOrder, IsEntering}
 use Rattle.cap_machine.specs.Standing.{Stands, IsHeld}
 
--- one of these rows is of this descriptor
+-- one of these rows has this descriptor
 abbrev pub rows_name : List Row → ℕ → Bool
 rows_name rows f = list_any (λ (row : Row). f == row.0) rows
 
--- nothing is known of the descriptor, and the row has the rights that are live in it, of which there are some
+-- the descriptor is unknown, and the row has the rights that are live in it, at least one
 abbrev pub IsUnknownLimit : State → List Step → ℕ → Row → Type 0
 IsUnknownLimit s later p row =
     (s.cell p row.0 ≡ Unknown) × IsLeast later p row.0 all Unsure row.1 × (row.1 ≡ 0 → ⊥)
 
--- of process p between the steps before and those later, the first of which stands at a position
+-- of process p between the steps before and those later, which begin at a position
 pub record AreLimitsOf (start : List Added) (before later : List Step) (at p : ℕ) (limits : Limits) : Type 0 where
   pub pid : limits.pid ≡ p
   -- each row limits a held descriptor to its live rights
@@ -37,7 +37,7 @@ pub record AreLimitsOf (start : List Added) (before later : List Step) (at p : �
       → (rows_name (map row_of limits.held.items) f ≡ true) ↔ Stands start (reverse before) p f
   pub unknown : All (IsUnknownLimit (ended (start_state start) before) later p) (map row_of limits.unknown.items)
   pub unknown_in_order : AreInOrder (map row_of limits.unknown.items)
-  -- each descriptor of which nothing is known and some right is live has a row
+  -- each unknown descriptor in which some right is live has a row
   pub unknown_live : (f k : ℕ) → k < 63 → (ended (start_state start) before).cell p f ≡ Unknown
       → Live later p f Unsure k → rows_name (map row_of limits.unknown.items) f ≡ true
   pub entering : IsEntering (ended (start_state start) before) at later p limits.entering

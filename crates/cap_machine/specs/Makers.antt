@@ -60,7 +60,7 @@ abbrev pub held_places : State → ℕ → ℕ → List ℕ → List Place
 held_places s at p [] = []
 held_places s at p (f ∷ fds) = held_place (s.cell p f) at p f ++ held_places s at p fds
 
--- Of each step that makes descriptors, the first of which stands at a position: the limit of each that is then held, to
+-- Of each step that makes descriptors, where the steps begin at a position: the limit of each that is then held, to
 -- the rights that are live there. The last step comes first, so that each line can be put in right after its step
 -- without a shift of the others.
 abbrev pub AreMakerLimits : State → ℕ → List Step → List MakerLimit → Type 0
@@ -79,7 +79,7 @@ listed_made Nothing = []
 listed_made (One f) = f ∷ []
 listed_made (Two f g) = f ∷ g ∷ []
 
--- the limit of a descriptor with this cell, of which these rights are wanted by its flag
+-- the limit of a descriptor with this cell, when these rights are wanted of it by its flag
 abbrev pub maker_row : ℕ → ℕ → ℕ → Cell → (OnExec → ℕ) → List MakerLimit
 maker_row at p f (Held rights flag) wanted =
     record { at = at; pid = p; fd = f; rights = least_of rights (wanted flag) } ∷ []

@@ -27,7 +27,7 @@ use Rattle.cap_machine.specs.Rule.{requirement}
 use Rattle.cap_machine.specs.Judge.{listed}
 use Rattle.cap_machine.specs.Check.{check}
 
--- a descriptor stands in an argument, in the answer, in the line
+-- a descriptor is in an argument, in the answer, in the line
 abbrev pub dir_names : ℕ → Dir → Bool
 dir_names f (dirs.Fd g) = f == g
 dir_names f dirs.Cwd = false
@@ -122,7 +122,7 @@ abbrev pub NamedChecks : Type 0
 NamedChecks = (line : Entry) → All (λ (check : Check). args_name check.fd line ≡ true)
     (listed (requirement line).checks)
 
--- each finding stands at a position of the trace, from 1
+-- each finding is at a position of the trace, from 1
 abbrev pub PositionsWithin : Type 0
 PositionsWithin = (s : State) (trace : List Step)
     → All (λ (found : Found). (1 ≤ found.at) × (found.at ≤ length trace)) (check s trace)

@@ -63,7 +63,7 @@ derive flag = marking Unknown Unknown None flag
 abbrev pub copy_to_itself : Op
 copy_to_itself = keeping Unknown Unknown None
 
--- cap_rights_limit(2): rights are only ever taken away. Of a descriptor of which nothing was known the asked rights are
+-- cap_rights_limit(2): rights are only ever taken away. Of an unknown descriptor the asked rights are
 -- known now; that it was never limited is false now, so FULL is not among them
 abbrev pub limit : ℕ → Op
 limit asked = keeping (Held (without_full asked) Unsure) (Held (without_full asked) Unsure) (Some asked)

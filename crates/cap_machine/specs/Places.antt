@@ -31,7 +31,7 @@ abbrev pub is_cwd : Dir → Bool
 is_cwd (dirs.Fd f) = false
 is_cwd dirs.Cwd = true
 
--- capability mode denies global name spaces: a path that begins with `/`, or where the process stands
+-- capability mode denies global name spaces: a path that begins with `/`, or where the process is
 abbrev pub is_global : Dir → List ℕ → Bool
 is_global dir path = not (is_empty path) && (is_cwd dir || is_absolute path)
 

@@ -30,7 +30,7 @@ made kept c = c
 made (given d) c = d
 made (taken op q g) c = applied op c
 
--- the touches of these links in turn, that of the oldest, which stands last, first
+-- the touches of these links in turn, that of the oldest, which is last, first
 abbrev pub replayed : List Step → List CellLink → Cell → Cell
 replayed history [] c = c
 replayed history (link ∷ links) c = made (touch_at history link.at link.pid link.fd) (replayed history links c)

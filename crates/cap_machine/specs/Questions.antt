@@ -33,7 +33,7 @@ abbrev pub IsNothing : Question → State → List Step → Type 0
 IsNothing Findings s trace = check s trace ≡ []
 IsNothing Denials s trace = denials s trace ≡ []
 
--- ---- of one line, with the state that stands before it. Only the code's contracts use these.
+-- ---- of one line, with the state before it. Only the code's contracts use these.
 
 abbrev pub line_count : Question → Entry → State → ℕ
 line_count Findings line s = length (findings_of (requirement line) line.pid s)

@@ -170,8 +170,8 @@ abbrev pub path_touch : Profile → PathCall → Answer → ℕ → ℕ → ℕ 
 path_touch profile Execve answer me p f = exec_touch profile answer me p f
 path_touch profile _ answer me p f = kept
 
--- openat(2): a file below a directory has the rights of the directory's descriptor; one that is looked up from where
--- the process stands has all; of a file that an absolute path or an empty one names nothing is known
+-- openat(2): a file below a directory has the rights of the directory's descriptor; one below the current directory has
+-- all; a file that an absolute path or an empty one names is unknown
 abbrev pub opened_below : Option ℕ → Dir → List ℕ → OnExec → ℕ → Touch
 opened_below (Some g) dir path flag me = copied flag g me
 opened_below None dir path flag me = if is_cwd dir && not (is_empty path) then whole flag else unknown

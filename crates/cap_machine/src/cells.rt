@@ -118,7 +118,7 @@ impl Cells {
         })
     }
 
-    /// The cell of a descriptor as it is below the few that were written.
+    /// The cell of a descriptor below the few that were written.
     fn unlisted(&self, fd: Fd) -> Cell
         requires { IsFd fd }
         ensures { result ≡ in_started self.now.started (in_shared in_cells_1m self.now.high fd) fd }

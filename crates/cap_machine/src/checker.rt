@@ -119,7 +119,7 @@ impl Checker {
 
     /// Checks the next line, whose texts lie elsewhere, as [`line`](Checker::line) does.
     ///
-    /// A line of which nothing is said only moves the table on. Where that isn't seen at once, it goes by its rule.
+    /// A line without findings only moves the table on. Where that isn't seen at once, it goes by its rule.
     ///
     /// `NoMemory` when out of memory. What the checker then answers isn't promised: drop it.
     #[inline(always)]

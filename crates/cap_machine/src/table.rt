@@ -1,4 +1,4 @@
-//! The processes of which something is known, going forward: the meaning of a table is what its look-ups answer.
+//! The known processes, going forward: the meaning of a table is what its look-ups answer.
 
 ghost use Rattle.std.specs.Prelude.{◌≡◌, ℕ, [], None, IfOk, IfSome, OnOk, OnErr, ◌==◌, if◌then◌else◌};
 ghost use Rattle.std.specs.List.{All};
@@ -142,8 +142,7 @@ fn set_place(places: &mut Vec<usize>, pid: Pid, place: usize) -> Result<(), NoMe
     Ok(())
 }
 
-/// Each process of which something is known, and by pid where it stands among them; of a pid that has no process it
-/// doesn't matter where.
+/// The known processes, and where the one with a pid is among them; that place means nothing for a pid that has none.
 ///
 /// A process that is new or forgotten begins from a clone of the cells in `blank`, whatever they are, with all of them
 /// pending to be forgotten: so it shares them, and takes memory only for what is written.
@@ -209,7 +208,7 @@ impl Table {
         }
     }
 
-    /// Where a process stands, if something is known of it.
+    /// The place of a process, if it is known.
     #[inline(always)]
     fn place_of(&self, pid: Pid) -> Option<usize>
         ensures some { IfSome result (λ place. StandsAt self.now pid place) }
@@ -249,7 +248,7 @@ impl Table {
         }
     }
 
-    /// Adds a process of which nothing was known.
+    /// Adds a process that is not known yet.
     fn append(&mut self, process: Process) -> Result<(), NoMemory>
         requires { found self.old process.pid ≡ None }
         ensures ok { OnOk result
@@ -287,7 +286,7 @@ impl Table {
         Ok(())
     }
 
-    /// Adds a process of which nothing was known, and nothing is; where it stands. Not inlined: once for a process.
+    /// Adds an unknown process, and answers its place. Not inlined: once for a process.
     #[inline(never)]
     fn enter_new(&mut self, pid: Pid) -> Result<usize, NoMemory>
         requires { found self.old pid ≡ None }
@@ -301,7 +300,7 @@ impl Table {
         Ok(place)
     }
 
-    /// Where a process stands; one of which nothing was known is added, by `enter_new`.
+    /// The place of a process. An unknown one is added, by `enter_new`.
     #[inline(always)]
     fn enter(&mut self, pid: Pid) -> Result<usize, NoMemory>
         ensures kept { OnOk result (Keeps self.new (state_of self.old)) }

@@ -86,7 +86,7 @@ const MODES: &[u8] =
 const EXEC: &[u8] =
     b"100 @start(3)\n100 open(\"a\",O_RDONLY) RET 4\n100 open(\"b\",O_RDONLY|O_CLOEXEC) RET 5\n100 cap_rights_limit(4,CAP_READ) RET 0\n100 execve(\"/bin/x\") RET 0\n100 write(4) RET 1\n100 read(5) RET 1";
 
-/// Limits of which only the first takes rights away, and one that failed.
+/// Limits, and only the first takes rights away, and one that failed.
 const LIMITS: &[u8] =
     b"100 @start(3)\n100 cap_rights_limit(3,CAP_READ) RET 0\n100 cap_rights_limit(3,CAP_READ) RET 0\n100 cap_rights_limit(3,CAP_READ|CAP_WRITE) RET 0\n100 cap_rights_limit(3,CAP_WRITE) RET -1 errno 93\n100 write(3) RET 1";
 

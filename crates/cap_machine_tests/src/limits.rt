@@ -59,7 +59,7 @@ static LIVE: [LiveRow; 19] = [
         OnExec::Clear,
         b"NONE",
     ),
-    // Nor does what stands after a close.
+    // Nor does what comes after a close.
     (
         b"100 close(3) RET 0\n100 open(\"a\",O_RDONLY) RET 3\n100 read(3) RET 1",
         1,
@@ -86,7 +86,7 @@ static LIVE: [LiveRow; 19] = [
         OnExec::Clear,
         b"CAP_LOOKUP|CAP_READ|CAP_FSTAT",
     ),
-    // After an exec stands only what stays open.
+    // Only what stays open is left after an exec.
     (
         b"100 execve(\"x\") RET 0\n100 read(3) RET 1",
         1,
@@ -213,7 +213,7 @@ type BeforeRow = (
 );
 
 static BEFORE: [BeforeRow; 6] = [
-    // Of what isn't known each is named of which something is needed.
+    // Each unknown descriptor with a need is named.
     (
         b"100 read(9) RET 1\n100 dup2(7,8) RET 8\n100 close(3) RET 0\n100 write(8) RET 1\n100 @exit()",
         2,
@@ -236,7 +236,7 @@ static BEFORE: [BeforeRow; 6] = [
         &[],
         Entering::Blocked(5),
     ),
-    // What a child got at the fork stands as it stood with its parent.
+    // A child's descriptor is known by itself where its parent's was at the fork.
     (
         TALLY,
         6,
@@ -252,7 +252,7 @@ static BEFORE: [BeforeRow; 6] = [
         &[],
         Entering::May,
     ),
-    // Nothing is held of which nothing is known.
+    // No unknown descriptor is held.
     (
         b"100 @start(3)\n100 execve(\"x\") RET 0\n100 read(3) RET 1",
         3,

@@ -11,7 +11,7 @@ use cap_trace::{Fd, Line};
 use std::alloc::Global;
 use std::test::Fail;
 
-/// A descriptor of which nothing is known, a pipe that a child reads, and a file that the child opens.
+/// An unknown descriptor, a pipe that a child reads, and a file that the child opens.
 static TRACE: [&str; 9] = [
     "100 @start(0)",
     "100 @foreign(7)",
@@ -115,7 +115,7 @@ fn limits_held(alloc: Global, start: &Start, lines: &[Line]) -> Result<bool, NoM
     Ok(are_held(&limits))
 }
 
-/// Whether these are needed of one descriptor of which nothing is known.
+/// Whether these are needed of one unknown descriptor.
 fn are_unknown(limits: &[Limit]) -> bool {
     match limits {
         [one] => is_limit(one, 7, b"CAP_FSYNC"),

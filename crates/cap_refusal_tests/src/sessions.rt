@@ -185,7 +185,7 @@ enum Came {
     Wrong,
 }
 
-/// What came of the two edits, of which the first is refused for its position.
+/// What came of the two edits. The first is refused for its position.
 fn came_of(answers: Result<Vec<Result<usize, Refused>>, Refused>) -> Came {
     match answers {
         Ok(answers) => match answers.as_slice() {

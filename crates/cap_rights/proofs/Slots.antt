@@ -21,7 +21,7 @@ slot w =
     + slice_index_or w (length w - 2) 0
     + slice_index_or w (length w - 3) 0 * 63) % 256
 
--- these rows, from row k on, are at least 8 bytes long, and each stands in its slot
+-- these rows, from row k on, are at least 8 bytes long, and each is in its slot
 abbrev stand_from : ℕ → List Row → Bool
 stand_from k [] = true
 stand_from k (row ∷ rows) =

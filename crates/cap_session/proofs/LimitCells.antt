@@ -1,4 +1,4 @@
--- What the cells hold: in each state of a trace from a start, both of which can be spelled, sets of rights that are
+-- What the cells hold: in each state of a trace from a start, which can both be spelled, sets of rights that are
 -- closed.
 use Rattle.std.proofs.Common.{◌≡◌, ℕ, ◌≤◌, ◌==◌, Bool, true, false, if◌then◌else◌, List, [], ◌∷◌, ◌++◌, sym, subst}
 use Rattle.std.proofs.Common.{arith, reverse, Option, Some, None}

@@ -52,7 +52,7 @@ module _ (s : State) (later : List Step) (p : ℕ) (closed : ClosedState s) (fin
   row_named row is =
       least_named later p row.0 is.0 is.1 row.1 fine (subst ClosedCell is.2 (closed p row.0)) is.3
 
--- ---- the rows of descriptors of which nothing is known
+-- ---- the rows of unknown descriptors
 
 look_for : (r n : ℕ) → ((k : ℕ) × (k < n) × (holds r k ≡ true)) ⊎ ((k : ℕ) → k < n → holds r k ≡ false)
 look_for r zero = inr (λ k lt. absurd (omega arith))

@@ -45,7 +45,7 @@ marked bytes long = record {
       (cases_lt k 64);
 }
 
--- where the first bit of the marks stands
+-- where the first bit of the marks is
 pub record IsBit (text : List ℕ) (from seen marks bit : ℕ) : Type 0 where
   pub low : bit < seen
   pub high : from + bit < length text
@@ -113,7 +113,7 @@ left_marks text from seen marks bit are lt =
           (omega (arith, was.0), ap is_end (sym (there k)) ∙ was.1);
     }
 
--- what is found after a place before which no LF stands
+-- what is found after a place that has no LF before it
 pub found_beyond : (text : List ℕ) (from at : ℕ) → IsWithin text from
     → IsFirstByte (is_byte 10) (drop from text) (Some at) → from ≤ length text
     → IsCut text (take (from + at) text) (drop (from + at + 1) text)

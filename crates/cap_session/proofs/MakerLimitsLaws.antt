@@ -71,7 +71,7 @@ limits_among (spot ∷ before) line own after =
     ap (λ (l : List MakerLimit). l ++ spot.1) (limits_among before line own after)
     ∙ append_assoc (limits_of after ++ own) (limits_of before) spot.1
 
--- where a limit stands among those of all lines
+-- where a limit is among those of all lines
 record Cut (spots : List Spot) (some more : List MakerLimit) (limit : MakerLimit) : Type 0 where
   before : List Spot
   line : Entry
@@ -122,7 +122,7 @@ aligned_again [] at line own other after same are = (subst (AreAt at line.pid) s
 aligned_again (spot ∷ before) at line own other after same are =
     (are.0, aligned_again before (at + 1) line own other after same are.1)
 
--- the lines with their limits, of which one may be another
+-- the lines with their limits, and one may be another
 module _ (profile : Profile) (before : List Spot) (line : Entry) (own_before own_after : List MakerLimit)
     (after : List Spot) where
   abbrev own : MakerLimit → List MakerLimit

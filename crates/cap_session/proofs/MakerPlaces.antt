@@ -11,7 +11,7 @@ use Rattle.cap_machine.specs.Makers.{Place, place_of, held_place, held_places, m
 use Rattle.cap_machine.specs.State.{State}
 use Rattle.cap_session.specs.LimitScripts.{script_text, makers_script, maker_lines, maker_line, bytes_of}
 
--- each is of this position and process
+-- each has this position and process
 abbrev pub AreAt : ℕ → ℕ → List Place → Type 0
 AreAt at p [] = Unit {0}
 AreAt at p (place ∷ places) = ((place.0 ≡ at) × (place.1 ≡ p)) × AreAt at p places
@@ -63,7 +63,7 @@ all_below m n [] h le k d lt = absurd (omega (arith, lt))
 all_below m n (limit ∷ limits) h le zero d lt = let one = h.0 in omega (arith, one, le)
 all_below m n (limit ∷ limits) h le (suc k) d lt = all_below m n limits h.1 le k d (omega (arith, lt))
 
--- each limit stands after one of the lines, so its own position is no larger than their number and one
+-- each limit is after one of the lines, so its own position is no larger than their number and one
 pub places_below : (s : State) (trace : List Step) (limits : List MakerLimit) (n : ℕ) → AreMakerLimits s 1 trace limits
     → length trace < n → All (λ (limit : MakerLimit). limit.at < n) limits
 places_below s trace limits n are few =

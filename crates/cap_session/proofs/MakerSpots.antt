@@ -33,12 +33,12 @@ abbrev pub limits_of : List Spot → List MakerLimit
 limits_of [] = []
 limits_of (spot ∷ more) = limits_of more ++ spot.1
 
--- each limit is of the line that it is with, the first of which stands at a position
+-- each limit belongs to the line that it is with; the lines begin at a position
 abbrev pub AreAligned : ℕ → List Spot → Type 0
 AreAligned at [] = Unit {0}
 AreAligned at (spot ∷ more) = AreAt at spot.0.pid (map place_of spot.1) × AreAligned (at + 1) more
 
--- ---- their rows: what is put in later stands before what was put in
+-- ---- their rows: what is put in later is before what was put in
 
 abbrev pub maker_row : MakerLimit → Row
 maker_row limit = (limit.fd, limit.rights)
@@ -107,7 +107,7 @@ spots_in before (spot ∷ more) others are =
     ∙ own_in (length before + 1) spot.0.pid next (laid more) spot.1 others are.0 long
     ∙ ap (λ (t : List Entry). with_script t others) (append_assoc before (spot.0 ∷ []) (rows ++ laid more))
 
--- each limit stands right after its line
+-- each limit is right after its line
 pub makers_stand : (spots : List Spot) → AreAligned 1 spots
     → with_script (lines_of spots) (makers_script (limits_of spots)) ≡ laid spots
 makers_stand spots are =

@@ -26,7 +26,7 @@ all_in new old all = record {
       (in_among old (slice_index_or new among.0 x) (all among.0 x among.1.0)));
 }
 
--- no finding stands after the last step
+-- no finding is after the last step
 pub found_within : (s : State) (trace : List Step) (x : Found) → In (check s trace) x → x.at ≤ length trace
 found_within s trace x is =
     let among = among_in (check s trace) x is in
@@ -57,7 +57,7 @@ found_where s first more x is =
       | inr there ↦ inr (from_map (later (length first)) (check (ended s first) more) x there)
     ]
 
--- ---- where a finding stands when lines were put in before line k
+-- ---- where a finding is when lines were put in before line k
 
 pub moved_before : (k n : ℕ) (x : Found) → x.at < k → moved k n x ≡ x
 moved_before k n x lt = rw (lt-ltb x.at k lt) refl

@@ -1,5 +1,5 @@
--- Laws of edits: an inserted line stands and its deletion brings the old trace back; the accepted edits alone give the
--- same trace; no edit is refused by its definition for lack of memory.
+-- Laws of edits: an inserted line is at its position, and its deletion brings the old trace back; the accepted edits
+-- alone give the same trace; no edit is refused by its definition for lack of memory.
 use Rattle.std.specs.Prelude.{◌≡◌, ◌≢◌, ℕ, ◌-◌, Bool, List, [], ◌∷◌, Result, Ok, Err, Some}
 use Rattle.std.specs.List.{slice_get}
 use Rattle.cap_trace.specs.Entry.{Entry}
@@ -30,7 +30,7 @@ AcceptedEditsGive = (limit : ℕ) (trace : List Entry) (edits : List Edit) (ran_
 abbrev pub NoEditAsksForMemory : Type 0
 NoEditAsksForMemory = (limit : ℕ) (trace : List Entry) (edit : Edit) → edited limit trace edit ≢ Err Memory
 
--- An inserted line stands at its position, and the trace comes back where it is deleted there.
+-- An inserted line is at its position, and the trace comes back where it is deleted there.
 abbrev pub InsertedStands : Type 0
 InsertedStands = (limit : ℕ) (trace next : List Entry) (position : ℕ) (bytes : List ℕ)
     → inserted limit trace position bytes ≡ Ok next →

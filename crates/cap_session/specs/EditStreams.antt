@@ -19,7 +19,7 @@ use Rattle.cap_session.specs.declared.outcome.Outcome.TheVariants.{Clean, Findin
 use Rattle.cap_session.specs.declared.outcome.Outcome.TheVariants.{ReadFault, WriteFault, TooLong}
 use Rattle.cap_session.specs.declared.outcome.ExplainOutcome.TheVariants.{Ended}
 
--- The writer failed in the replies to the lines of a script of which these bytes were given, before its end or at it.
+-- The writer failed in the replies to the lines of a script, at its end or before, when these bytes of it were given.
 abbrev pub IsBroken : Profile → SourceState → SourceState → SinkState → SinkState → List ℕ → List Entry → Type 0
 IsBroken profile s0 s1 w0 w1 given t = (NotAtEnd s0 s1 × Broken profile t w0 w1 (script_lines [] given))
     ⊎ (IsEnded s0 s1 × Broken profile t w0 w1 (lines given))

@@ -22,7 +22,7 @@ abbrev pub with_read : Result Entry FirstFault → (Entry → List Entry) → Re
 with_read (Ok line) trace = Ok (trace line)
 with_read (Err fault) trace = Err (refused_line (line_fault fault))
 
--- The line stands at the position afterwards. The position is looked at first, then the limit, then the line.
+-- The line is at the position afterwards. The position is looked at first, then the limit, then the line.
 abbrev pub inserted : ℕ → List Entry → ℕ → List ℕ → Result (List Entry) Refused
 inserted limit trace position bytes =
     if is_position position (length trace + 1) then
@@ -33,7 +33,7 @@ inserted limit trace position bytes =
 abbrev pub deleted : List Entry → ℕ → Result (List Entry) Refused
 deleted trace position = if is_position position (length trace) then Ok (remove trace (position - 1)) else Err Position
 
--- Another line stands at the position. The position is looked at first, then the line.
+-- Another line is at the position. The position is looked at first, then the line.
 abbrev pub replaced : List Entry → ℕ → List ℕ → Result (List Entry) Refused
 replaced trace position bytes =
     if is_position position (length trace) then with_read (line_of bytes) (slice_set trace (position - 1))

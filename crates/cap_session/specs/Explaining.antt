@@ -73,11 +73,11 @@ mode_word Unsure = codes "unsure"
 abbrev pub numbered : List Entry → ℕ → List ℕ
 numbered trace at = line_of_words (decimal at ∷ text_at trace at ∷ [])
 
--- `4 3 200 fork() RET 201`: what the chain is of, a position, and the line there
+-- `4 3 200 fork() RET 201`: what the chain explains, a position, and the line there
 abbrev pub link_line : List ℕ → List Entry → ℕ → List ℕ
 link_line of trace at = line_of_words (of ∷ decimal at ∷ text_at trace at ∷ [])
 
--- `4 start unknown`: what the chain is of, and what was known at the start
+-- `4 start unknown`: what the chain explains, and what was known at the start
 abbrev pub start_line : List ℕ → List ℕ → List ℕ
 start_line of known = line_of_words (of ∷ codes "start" ∷ known ∷ [])
 

@@ -86,7 +86,7 @@ abbrev pub lines_put : List ScriptLine → ℕ
 lines_put [] = 0
 lines_put (line ∷ more) = is_insertion line + lines_put more
 
--- where a finding stands after so many lines were put in before line k
+-- where a finding is after so many lines were put in before line k
 abbrev pub moved : ℕ → ℕ → Found → Found
 moved k n found = record { at = if nat_lt found.at k then found.at else found.at + n; finding = found.finding }
 
@@ -128,7 +128,7 @@ EnteringBeforeIsForbidden = (profile : Profile) (start : List Added) (t : List E
 
 -- ---- after each line that made a descriptor
 
--- where a finding stands after the limits were put in, each after its line
+-- where a finding is after the limits were put in, each after its line
 abbrev pub lines_above : List MakerLimit → ℕ → ℕ
 lines_above [] at = 0
 lines_above (limit ∷ more) at = (if nat_lt limit.at at then 1 else 0) + lines_above more at

@@ -5,7 +5,7 @@ use Rattle.cap_session.specs.declared.refused.Input.{Input}
 use Rattle.cap_session.specs.declared.refused.Input.TheVariants.{Start, Trace}
 use Rattle.cap_session.specs.declared.refused.Refusal.{Refusal}
 
--- which text the line is of
+-- the text that has the line
 abbrev pub input_words : Input → List ℕ
 input_words Start = codes " start line "
 input_words Trace = codes " line "

@@ -1,4 +1,4 @@
--- Laws of scripts, in every profile: the trace that a script leaves, and which trace each report is of.
+-- Laws of scripts, in every profile: the trace that a script leaves, and the trace that each report tells of.
 use Rattle.std.specs.Prelude.{◌≡◌, ◌⊎◌, ℕ, nat_lt, Bool, false, List, [], ◌∷◌, ◌++◌, length, flat_map, codes, decimal}
 use Rattle.std.specs.Prelude.{Result, Ok, Err, ⊤}
 use Rattle.cap_trace.specs.Entry.{Entry}
@@ -38,7 +38,7 @@ abbrev pub ReportOrOutOfMemory : Profile → List Entry → List ℕ → Type 0
 ReportOrOutOfMemory profile trace text = (text ≡ report usual (steps profile trace)) ⊎ (text ≡ refused_text 9)
 
 -- After the lines of any edits, `report` is replied to with the report of the trace that the edits leave, one after the
--- other, and before it stands what each edit answers. For which of them memory ran out is left open.
+-- other. Before it come the answers of the edits. For which of them memory ran out is left open.
 abbrev pub ScriptReportsWhatEditsGive : Type 0
 ScriptReportsWhatEditsGive =
     (profile : Profile) (trace left : List Entry) (lines : List (List ℕ)) (edits : List Edit) (text : List ℕ) →
@@ -88,7 +88,7 @@ pub record ReportsThen (profile : Profile) (trace left : List Entry) (before oth
   pub more : Run profile now others rest left
 
 -- Each `report` in a script is replied to with the report of the trace that the edits before it leave, whatever else
--- stands before it and after it.
+-- comes before it and after it.
 abbrev pub EachReportIsOfItsTrace : Type 0
 EachReportIsOfItsTrace = (profile : Profile) (trace left : List Entry) (before others : List (List ℕ)) (text : List ℕ) →
     Run profile trace (before ++ codes "report" ∷ others) text left → ReportsThen profile trace left before others text

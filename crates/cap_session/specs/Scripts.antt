@@ -42,7 +42,7 @@ abbrev pub long_piece : List ℕ → List (List ℕ)
 long_piece held = if nat_lt longest_script_line (length held) then held ∷ [] else []
 
 -- The lines of a script that is not at its end which are replied to: those with LF, and a last piece that is too long.
--- (`script_lines []` is of a whole script; `held` begins its first line.)
+-- (`script_lines []` takes a whole script; `held` begins its first line.)
 abbrev pub script_lines : List ℕ → List ℕ → List (List ℕ)
 script_lines held bytes = whole_lines held bytes ++ long_piece (last_piece held bytes)
 
@@ -65,7 +65,7 @@ pub record Broken (profile : Profile) (t : List Entry) (w0 w1 : SinkState) (line
 
 -- ---- while a script comes
 
--- What is known: the profile, the trace, and the beginning of the next line, of which no more than `most_held` bytes
+-- What is known: the profile, the trace, and the beginning of the next line, no more of it than `most_held` bytes
 -- are kept.
 pub record Scripting : Type 0 where
   pub profile : Profile

@@ -42,7 +42,7 @@ pub record IsKept (profile : Profile) (limit : ℕ) (shared : List Step) : Type 
   pub few : length shared ≤ limit
   pub most : limit ≤ most_lines
 
--- Each finding stands at one of the positions 1 to n.
+-- Each finding is at one of the positions 1 to n.
 abbrev pub StandWithin : ℕ → List Found → Type 0
 StandWithin n found = All (λ (one : Found). (1 ≤ one.at) × (one.at ≤ n)) found
 

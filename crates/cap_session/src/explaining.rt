@@ -78,7 +78,7 @@ fn answer_among(
     }
 }
 
-/// Writes that no line stands at the position.
+/// Writes that no line is at the position.
 fn write_out_of_range<W: Sink>(writer: &mut W) -> ExplainOutcome
     requires { 1 ≤ (W.state writer.old).room }
     ensures { Writes (refused_text 7) OutOfRange (Ended WriteFault) (W.state writer.old) (W.state writer.new) result }
@@ -171,7 +171,7 @@ fn answer_stream<S: Source, R: Source, W: Sink>(
 ///
 /// - `Ended(Clean)` and `Ended(Findings)`: no line of either text is refused, and the line was explained. It has no
 ///   finding, or some.
-/// - `OutOfRange`: no line of either text is refused, and none stands at the position; `refused E7` and LF was written.
+/// - `OutOfRange`: no line of either text is refused, and none is at the position; `refused E7` and LF was written.
 /// - `Ended(Memory)`: no line of what was read is refused, and nothing was written.
 /// - `Ended(WriteFault)`: a prefix of the explanation or of a refusal was written.
 /// - Else as there.

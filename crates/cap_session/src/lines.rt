@@ -39,7 +39,7 @@ pub trait Lines: Drop {
     /// What becomes of it with the next line, or why that line is refused.
     ghost next: { Known → List ℕ → Result Known Refused };
 
-    /// The value takes the lines that come after those of which this is known.
+    /// The value takes the lines that come after those that are known so.
     ghost follows: { Self → Known → Type 0 };
 
     /// The value stands for what is known.

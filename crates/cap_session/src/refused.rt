@@ -40,7 +40,7 @@ pub enum Refused {
     Memory,
 }
 
-/// Which text a line is of.
+/// The text that has the line.
 #[derive(Clone, Copy)]
 pub enum Input {
     Start,

@@ -11,7 +11,7 @@ use cap_summary::Summary;
 use cap_tree::Tree;
 use std::alloc::Global;
 
-/// A line for each finding, with that step of the tree that stands at its position, and how many they are.
+/// A line for each finding, with that step of the tree that is at its position, and how many they are.
 pub fn text_of(alloc: Global, tree: &Tree<Summary>, found: &[Found]) -> Result<Vec<u8>, NoMemory>
     requires { StandWithin (length tree.now) found.now }
     ensures { IfOk result (λ text. text.items

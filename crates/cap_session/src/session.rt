@@ -340,7 +340,7 @@ impl Session {
     /// before the line at a position, from 1, of the descriptors of its process. `limits_stream` says more. It copies the
     /// lines.
     ///
-    /// `Position` where no line stands at the position, and `Memory` where memory runs out.
+    /// `Position` where no line is at the position, and `Memory` where memory runs out.
     pub fn limits(&self, at: Option<usize>, start: &Start) -> Result<Vec<u8>, Refused>
         ensures text { IfOk result (λ text. IsLimitsText self.now.profile at start.now self.now.trace text.items) }
         ensures position { (result ≡ Err Refused.Position) ↔ IsOutside at self.now.trace }
@@ -413,7 +413,7 @@ impl Session {
 
     /// The line at a position, what is said of it, and the lines that this rests on, from a start.
     ///
-    /// `Position` where no line stands there, and `Memory` where memory runs out.
+    /// `Position` where no line is there, and `Memory` where memory runs out.
     pub fn explain(&self, position: usize, start: &Start) -> Result<ExplainedLine, Refused>
         ensures text { IfOk result (λ line.
             explained_line (start_state start.now) self.now.profile self.now.trace position ≡ Ok line.text.items) }

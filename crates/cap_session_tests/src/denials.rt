@@ -121,7 +121,7 @@ static ROWS: [Row; 11] = [
         STARTED,
         "1 100 write lacks 3 CAP_WRITE\n2 100 open inside\n3 100 read unexplained\ndenials 3\n",
     ),
-    // The start is of another process.
+    // The start names another process.
     (
         b"# x\n99 in closed 3=CAP_READ\n",
         Two,
@@ -151,7 +151,7 @@ fn denials_are_written_in_pieces_of_any_size(rt: HostRuntime) -> Result<(), Fail
     Ok(())
 }
 
-/// A profile, a trace and a start of which a line is refused, the outcome, and what is written.
+/// A profile, a trace and a start with a refused line, the outcome, and what is written.
 type Refusal = (Profile, &'static [u8], &'static [u8], Outcome, &'static str);
 
 static REFUSALS: [Refusal; 3] = [

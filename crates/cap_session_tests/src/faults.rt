@@ -8,7 +8,7 @@ use cap_session::Outcome;
 use std::alloc::Global;
 use std::test::Fail;
 
-/// A run of which each read of one text is not answered in turn, and each byte that is written.
+/// A run in which each read of one text in turn is not answered, and each byte that is written.
 struct Sweep {
     run: Run<'static>,
     /// Whether they are the reads of the trace, or else of the start or the script. That text comes byte by byte.
@@ -43,7 +43,7 @@ impl Sweep {
         replies
     }
 
-    /// The run as it ends after so many reads of the text, the last of which fails or brings a byte.
+    /// The run as it ends after so many reads of the text. The last fails or brings a byte.
     fn after(&self, reads: u64, is_failing: bool) -> Run<'static> {
         let mut run = self.run;
         let fails_at = if is_failing {

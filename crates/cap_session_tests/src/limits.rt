@@ -263,7 +263,7 @@ insert 3 100 cap_rights_limit(7,NONE) RET 0\n\
 # process 100 is in capability mode already\n",
         ),
     ),
-    // The start is of another process.
+    // The start names another process.
     (
         b"99 in ALL 7=CAP_WRITE",
         One,
@@ -337,7 +337,7 @@ fn limits_are_written_in_pieces_of_any_size(rt: HostRuntime) -> Result<(), Fail>
     are_written(rt.alloc(), &BEFORE)
 }
 
-/// A profile, a trace and a start of which a line is refused, a position, the outcome, and what is written.
+/// A profile, a trace and a start with a refused line, a position, the outcome, and what is written.
 type Refusal = (
     Profile,
     &'static [u8],

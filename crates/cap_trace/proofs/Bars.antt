@@ -15,7 +15,7 @@ is_one false = refl
 abbrev cut_at_bars : List ℕ → List (List ℕ)
 cut_at_bars t = slice_split (λ c. eqb c 124) t
 
--- the parts, of which the first goes on with a name or begins one
+-- the parts; the first goes on with a name or begins one
 going_on : List (List ℕ) → Bool
 going_on [] = true
 going_on (w ∷ ws) = list_all is_flag_byte w && list_all is_word ws

@@ -89,7 +89,7 @@ cut_again c a b h =
 
 -- ---- outside quotes
 
--- no such byte stands outside quotes, and the quotes are closed at the end
+-- no such byte is outside quotes, and the quotes are closed at the end
 abbrev pub closes : Quoting → ℕ → List ℕ → Bool
 closes q stop [] = elim q as (λ _. Bool) [ Outside ↦ true | Inside ↦ false | Skipping ↦ false ]
 closes q stop (c ∷ cs) = not (stops q stop c) && closes (after q c) stop cs

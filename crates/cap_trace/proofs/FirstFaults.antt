@@ -221,7 +221,7 @@ pid_fails : (t : List ℕ) (r : Result ℕ FirstFault) → pid_at t ≡ r → Sp
 pid_fails t (Ok p) e none = let k = pid_takes t p e in absurd (none p k.1 k.0)
 pid_fails t (Err d) e none = ap Err (pid_err t d e)
 
--- what stands before the first space
+-- what is before the first space
 abbrev Before : List ℕ → List ℕ → Type 0
 Before bytes t = before_first (λ c. eqb c 32) bytes ≡ t
 

@@ -16,7 +16,7 @@ has_name : List ℕ → Option Form → Bool
 has_name name None = false
 has_name name (Some f) = bytes_eq (row_of f).name name
 
--- each name of the table stands in its slot
+-- each name of the table is in its slot
 all_in_slots : list_all (λ f. has_name (row_of f).name (form_at (row_of f).name)) all_forms ≡ true
 unfolding all_forms slots has_name
 all_in_slots = refl

@@ -22,7 +22,7 @@ kept_is bytes e h =
 pub spells_a_line : (bytes : List ℕ) (e : Entry) → line_of bytes ≡ Ok e → SpellsALine bytes
 spells_a_line bytes e h = h ∙ ap Ok (sym (kept_is bytes e h))
 
--- the process stands before the first space
+-- the process is before the first space
 entry_pid : (bytes : List ℕ) (o : Option (List ℕ × List ℕ)) (e : Entry) → entry_at bytes o ≡ Ok e
     → (x : List ℕ × List ℕ) × (o ≡ Some x) × (pid_at x.0 ≡ Ok e.pid)
 unfolding entry_at

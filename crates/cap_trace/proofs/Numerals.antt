@@ -129,7 +129,7 @@ pub record Digits (t : List ℕ) (i n : ℕ) : Type 0 where
   pub digits : all_ascii_digits (take i t) ≡ true
   pub value : n ≡ digits_value 10 (take i t)
 
--- a 0 that leads stands alone
+-- a leading 0 is the only digit
 abbrev pub LoneZero : List ℕ → ℕ → Type 0
 LoneZero t i = get_or t 0 0 ≡ 48 → i ≤ 1
 

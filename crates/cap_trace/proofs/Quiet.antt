@@ -124,7 +124,7 @@ word_part (c ∷ cs) h =
 
 -- ---- paths
 
--- how a place in a path stands to quotes
+-- where a place in a path is, by its quotes
 quoting_of : Place → Quoting
 quoting_of Between = Inside
 quoting_of Slash = Skipping

@@ -111,7 +111,7 @@ arg_spoiled : (t : List ℕ) (a : Arg) (r : Result Arg FirstFault) → arg_at (s
 arg_spoiled t a (Ok b) e c s = absurd (s.none b (alike_ok a b t c e) (arg_takes (slot_of a) t b e))
 arg_spoiled t a (Err d) e c s = ap Err (arg_err (slot_of a) t d e ∙ same_kind a c)
 
--- ---- texts of which one is spoiled
+-- ---- texts, and one is spoiled
 
 abbrev Step : List ℕ → List (List ℕ) → Arg → List Arg → FirstFault → Type 0
 Step t ts a others f =
@@ -180,7 +180,7 @@ no_command t u v w s =
       word_no u w (dup_to dup_commands.FDup2fdCloexec) (bytes_eq u (codes "F_DUP2FD_CLOEXEC")) s refl,
     ) refl
 
--- the word of a command stands there, or is spoiled
+-- the word of a command is there, or is spoiled
 word_or : (t u : List ℕ) (ts : List (List ℕ)) (a b : Arg) (w : Word) (others : List Arg) (f : FirstFault)
     → SpoilsOne (t ∷ u ∷ ts) (a ∷ a_word w ∷ others) f
     → (u ≡ word_text w) ⊎ (Spoils u (a_word w) × (f ≡ faults.Argument))

@@ -99,7 +99,7 @@ joined_closes (t ∷ []) h = h.0.bracket
 joined_closes (t ∷ u ∷ us) h =
     closes-append Outside 41 t (44 ∷ join_with_byte 44 (u ∷ us)) h.0.bracket (joined_closes (u ∷ us) h.1)
 
--- what the arguments of a line are made of stands between its brackets
+-- what the arguments of a line are made of is between its brackets
 unfoldable pub Cuts : Item → Type 0
 Cuts i = (ts : List (List ℕ)) → SpellsArgs ts (args_of i) → (tail : List ℕ)
     → args_and_tail (head_of i) (join_with_byte 44 ts ++ (41 ∷ tail)) ≡ Some (ts, tail)

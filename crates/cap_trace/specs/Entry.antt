@@ -60,7 +60,7 @@ head_of (items.Foreign f) = listed forms.Foreign
 
 -- ---- the arguments, from the left
 
--- a word that is written as it is
+-- a word that is written unchanged
 pub data Word : Type 0 where
   dest : Word
   set_fd : Word

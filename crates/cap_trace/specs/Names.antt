@@ -173,7 +173,7 @@ abbrev pub dup_command_name : DupCommand → List ℕ
 dup_command_name dup_commands.FDup2fd = codes "F_DUP2FD"
 dup_command_name dup_commands.FDup2fdCloexec = codes "F_DUP2FD_CLOEXEC"
 
--- what stands before the arguments: a name of the table, or any other
+-- what is before the arguments: a name of the table, or any other
 pub data Head : Type 0 where
   listed : Form → Head
   unlisted : List ℕ → Head

@@ -46,7 +46,7 @@ abbrev pub positive : FirstFault → Option ℕ → Result ℕ FirstFault
 positive e None = Err e
 positive e (Some n) = if n == 0 then Err e else Ok n
 
--- a text that passes a test is kept as it is
+-- a text that passes a test is kept unchanged
 abbrev pub kept : (List ℕ → Bool) → FirstFault → List ℕ → Result (List ℕ) FirstFault
 kept test e t = if test t then Ok t else Err e
 
@@ -54,7 +54,7 @@ kept test e t = if test t then Ok t else Err e
 abbrev pub after_prefix : List ℕ → List ℕ → Option (List ℕ)
 after_prefix p t = if starts_with nat_eq t p then Some (drop (length p) t) else None
 
--- what stands before a suffix
+-- what is before a suffix
 abbrev pub before_suffix : List ℕ → List ℕ → Option (List ℕ)
 before_suffix p t = if ends_with nat_eq t p then Some (take (length t - length p) t) else None
 
@@ -156,7 +156,7 @@ made_at Child t = number_at (num_at largest_pid t)
 made_at ChildAndFd t = pair_at largest_pid largest_fd (cut_at_byte 44 t)
 made_at Any t = any_at t (cut_at_byte 44 t)
 
--- by the errno that stands there, if one does
+-- by the errno that is there, if one is
 abbrev pub result_at : ResultKind → List ℕ → Option (List ℕ) → Result Answer FirstFault
 result_at k t None = made_at k t
 result_at k t (Some n) = positive faults.Answer (num_at largest_errno n) >>= λ e. Ok (answers.Fault e)

@@ -70,7 +70,7 @@ call_view (view.OnFlags c x) = calls.OnFlags c x.now
 call_view (view.Bare c) = calls.Bare c
 call_view (view.Other n a) = calls.Other n.now a.now
 
--- whether a form is of a call, and not of a marker
+-- whether a form is that of a call, and not of a marker
 abbrev pub is_call_form : Form → Bool
 is_call_form forms.Start = false
 is_call_form forms.Exit = false

@@ -35,7 +35,7 @@ pub(crate) enum ArgRef<'a> {
     SetFd,
     /// `F_DUP2FD`, `F_DUP2FD_CLOEXEC`.
     DupTo(DupCommand),
-    /// What stands between the brackets of a call without a form of its own.
+    /// What is between the brackets of a call without a form of its own.
     Free(&'a [u8]),
 }
 

@@ -141,7 +141,7 @@ impl Path {
         }
     }
 
-    /// The bytes of the path: those whose text, as [`Path::escape`] writes it, stands between the quotes.
+    /// The bytes of the path: those whose text, as [`Path::escape`] writes it, is between the quotes.
     ///
     /// # Errors
     ///

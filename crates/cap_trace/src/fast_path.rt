@@ -371,7 +371,7 @@ pub(crate) struct Start<'a> {
     pub(crate) text: &'a [u8],
 }
 
-/// What stands before a bracket, and what follows it. A name that is shorter than any in the table isn't found.
+/// What is before a bracket, and what follows it. A name that is shorter than any in the table isn't found.
 #[inline(always)]
 fn name_before_bracket(text: &[u8]) -> Option<(&[u8], &[u8])>
     ensures { IfSome result (λ p. text.now ≡ p.0.now ++ (40 ∷ p.1.now)) }

@@ -86,7 +86,7 @@ pub fn is_valid_command(text: &[u8]) -> bool
             || text == b"F_DUP2FD_CLOEXEC".as_slice())
 }
 
-/// Where a byte stands in a path.
+/// Where a byte is in a path.
 #[derive(Clone, Copy)]
 enum Place {
     /// Between two items.
@@ -147,7 +147,7 @@ impl Place {
         }
     }
 
-    /// Where the next byte stands, where this one may stand here.
+    /// Where the next byte is, where this one may be here.
     fn after(self, byte: u8) -> Option<Place>
         ensures { result ≡ item_step self byte }
     {

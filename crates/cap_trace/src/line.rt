@@ -13,7 +13,7 @@ use crate::names::Head;
 use cap_rights::RightSet;
 use std::marker::Model;
 
-/// Where a path begins: at a directory's descriptor, or (`AT_FDCWD`) where the process stands.
+/// Where a path begins: at a directory's descriptor, or (`AT_FDCWD`) where the process is.
 #[derive(Clone, Copy, Debug, PartialEq, Eq)]
 pub enum Dir {
     Fd(Fd),
@@ -84,7 +84,7 @@ impl<'a> Call<'a> {
     ghost use Rattle.cap_trace.specs.Code.Rows.{head_view};
     ghost use Rattle.cap_trace.specs.Views.{call_view};
 
-    /// What stands before the arguments.
+    /// What is before the arguments.
     pub(crate) fn head(&self) -> Head<'a>
         ensures { head_view result ≡ head_of_call (call_view self.now) }
     {
@@ -183,7 +183,7 @@ impl<'a> Item<'a> {
     ghost use Rattle.cap_trace.specs.Code.Rows.{head_view};
     ghost use Rattle.cap_trace.specs.Views.{item_view};
 
-    /// What stands before the arguments.
+    /// What is before the arguments.
     pub(crate) fn head(&self) -> Head<'a>
         ensures { head_view result ≡ head_of (item_view self.now) }
     {

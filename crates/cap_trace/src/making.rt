@@ -214,7 +214,7 @@ impl Model for Fds {
 }
 
 impl Fds {
-    /// These descriptors, each of which is at most 1,048,575 and above the one before it.
+    /// These descriptors, each at most 1,048,575 and above the one before it.
     ///
     /// # Errors
     ///

@@ -308,7 +308,7 @@ fn in_slot(slot: usize) -> Option<&'static Row>
     listed_at(usize::from(SLOTS[slot]))
 }
 
-/// The form of a name of the table. Only the row in the slot of the name is compared with it: each row stands in the
+/// The form of a name of the table. Only the row in the slot of the name is compared with it: each row is in the
 /// slot of its name, so a search through all rows finds the same.
 #[inline(always)]
 pub(crate) fn form_of(name: &[u8]) -> Option<Form>
@@ -343,7 +343,7 @@ pub(crate) fn is_call_name(text: &[u8]) -> bool
     }
 }
 
-/// What stands before the arguments: a name of the table, or any other.
+/// What is before the arguments: a name of the table, or any other.
 #[derive(Clone, Copy)]
 pub(crate) enum Head<'a> {
     Listed(Form),

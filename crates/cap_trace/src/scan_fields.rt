@@ -68,7 +68,7 @@ pub(crate) fn command_of(text: &[u8]) -> Result<&[u8], FirstFault>
         .ok_or(FirstFault::Argument)
 }
 
-/// What stands between the quotes.
+/// What is between the quotes.
 #[tactic(auto, unfolding(crate::specs::Reading::path_at))]
 pub(crate) fn path_of(text: &[u8]) -> Result<&[u8], FirstFault>
     ensures { Gives (λ p. p.now) result (path_at text.now) }

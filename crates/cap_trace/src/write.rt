@@ -139,7 +139,7 @@ fn put_start(spelled: &[u8], out: &mut Vec<u8>) -> Result<(), AllocError>
     }
 }
 
-/// What stands between the brackets.
+/// What is between the brackets.
 fn put_between(item: &Item<'_>, out: &mut Vec<u8>) -> Result<(), AllocError>
     ensures ok { OnOk result (out.new.items ≡ out.old.items
         ++ join_with_byte 44 (map arg_text (args_of (item_view item.now)))) }
@@ -185,7 +185,7 @@ fn put_tail(item: &Item<'_>, out: &mut Vec<u8>) -> Result<(), AllocError>
     }
 }
 
-/// What stands before the arguments.
+/// What is before the arguments.
 fn put_head(pid: Pid, item: &Item<'_>, out: &mut Vec<u8>) -> Result<(), AllocError>
     ensures ok { OnOk result
         (out.new.items ≡ out.old.items ++ (decimal pid ++ (32 ∷ (name_of (head_of (item_view item.now)) ++ 40 ∷ [])))) }

@@ -220,7 +220,7 @@ fn is_rewritten(alloc: Global, bytes: &[u8], text: &[u8]) -> bool {
     }
 }
 
-/// The name in a line: what stands between the blank and the bracket.
+/// The name in a line: what is between the blank and the bracket.
 fn name_in(bytes: &[u8]) -> &[u8] {
     let mut words = bytes.split(|byte| *byte == b' ' || *byte == b'(');
     let _pid = words.next();

@@ -24,7 +24,7 @@ values-append_clones old new more (added, is, same) =
     ap values is
     ∙ (map-append (λ item. item.value) old added ∙ ap (λ zs. values old ++ zs) (values_from_clones more added same))
 
--- what stands before a place, and from one on
+-- what is before a place, and from one on
 before : {X Z : Type 0} (run : List (Rc X Z)) (at : ℕ) → values (take at run) ≡ take at (values run)
 before run at = sym (take-map (λ item. item.value) at run)
 

@@ -83,7 +83,7 @@ pub trait Segment: Drop {
         Ok(sum)
     }
 
-    /// As [`Segment::join`] of both parts, where the one on the side stands in place of an old one: `old` is a join of `was`
+    /// As [`Segment::join`] of both parts, where the one on the side replaces an old one: `old` is a join of `was`
     /// and the other part, and `similarity` says what of `was` and the new part is known to be the same. The new
     /// summary may share with the old one what is the same. The answer says too what of these two is known to be the
     /// same.

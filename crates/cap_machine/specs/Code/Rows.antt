@@ -12,7 +12,7 @@ abbrev pub option_rows : Option Limit → List Row
 option_rows None = []
 option_rows (Some limit) = row_of limit ∷ []
 
--- the row of a descriptor with this cell, of which these rights are wanted by its flag
+-- the row of a descriptor with this cell, when these rights are wanted of it by its flag
 abbrev pub cell_row : Cell → ℕ → (OnExec → ℕ) → List Row
 cell_row Unknown f wanted = []
 cell_row Closed f wanted = []

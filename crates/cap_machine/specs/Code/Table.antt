@@ -46,7 +46,7 @@ cell_of table p f = option_map_or (λ process. cell_in process f) (found table p
 abbrev pub mode_of : Table → ℕ → Mode
 mode_of table p = option_map_or (λ (process : Process). process.mode) (found table p) Unsure
 
--- the process with this pid stands at this place
+-- the process with this pid is at this place
 pub record StandsAt (table : Table) (p i : ℕ) : Type 0 where
   pub place : i ≡ place_in table.places.items p
   pub within : i < vec_len table.processes

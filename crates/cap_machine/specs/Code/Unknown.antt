@@ -1,4 +1,4 @@
--- What later steps need of the descriptors of a process of which nothing is known.
+-- What later steps need of the descriptors of an unknown process.
 use Rattle.std.specs.Prelude.{◌≡◌, ℕ, ◌==◌, if◌then◌else◌, true, List, [], ◌∷◌}
 use Rattle.std.specs.List.{All, flat_map}
 use Rattle.cap_rights.specs.Rights.{all}
@@ -9,7 +9,7 @@ use Rattle.cap_machine.specs.Limits.{Row}
 use Rattle.cap_machine.specs.Limits.{least_of}
 use Rattle.cap_machine.specs.LimitsBefore.{rows_name}
 
--- the row of a descriptor with this cell, of which these rights are wanted where its flag isn't known
+-- the row of a descriptor with this cell, when these rights are wanted of it where its flag isn't known
 abbrev pub unknown_row : Cell → ℕ → ℕ → List Row
 unknown_row Unknown f wanted = if least_of all wanted == 0 then [] else (f, least_of all wanted) ∷ []
 unknown_row Closed f wanted = []
@@ -24,7 +24,7 @@ abbrev pub IsUnknownRow : (ℕ → Cell) → (ℕ → ℕ) → Row → Type 0
 IsUnknownRow cells wanted row =
     (cells row.0 ≡ Unknown) × (row.1 ≡ least_of all (wanted row.0)) × (row.1 ≡ 0 → ⊥)
 
--- just those of which nothing is known and something is wanted have a row
+-- just those that are unknown and wanted have a row
 abbrev pub AreUnknownRows : (ℕ → Cell) → (ℕ → ℕ) → List Row → Type 0
 AreUnknownRows cells wanted rows = All (IsUnknownRow cells wanted) rows
     × ((f : ℕ) → cells f ≡ Unknown → (least_of all (wanted f) ≡ 0 → ⊥) → rows_name rows f ≡ true)

@@ -56,7 +56,7 @@ abbrev pub back_through : HeldOp → (OnExec → ℕ) → ℕ
 back_through (Becomes c) after = 0
 back_through (Keeps mask flag) after = masked mask (after flag)
 
--- the same but for one descriptor, of which nothing is wanted
+-- the same, but nothing is wanted of one descriptor
 abbrev pub wanted_without : ℕ → (ℕ → OnExec → ℕ) → ℕ → OnExec → ℕ
 wanted_without g wanted f x = if f == g then 0 else wanted f x
 
@@ -64,8 +64,7 @@ wanted_without g wanted f x = if f == g then 0 else wanted f x
 abbrev pub wanted_with : ℕ → (OnExec → ℕ) → (ℕ → OnExec → ℕ) → ℕ → OnExec → ℕ
 wanted_with g rights wanted f x = if f == g then join (wanted f x) (rights x) else wanted f x
 
--- what is wanted of a process before an effect of its own, from what is wanted after it; what is wanted of a child
--- stands with it
+-- what is wanted of a process before an effect of its own, from what is wanted after it, also of a child
 abbrev pub undone : Effect → (ℕ → OnExec → ℕ) → ℕ → OnExec → ℕ
 undone Keep wanted f x = wanted f x
 undone Enter wanted f x = wanted f x

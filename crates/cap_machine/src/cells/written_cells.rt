@@ -1,5 +1,4 @@
-//! The cells that a process wrote since it last forked, while there are few of them, in a list that stands over its
-//! tree.
+//! The cells that a process wrote since it last forked, while there are few of them, in a list above its tree.
 
 ghost use Rattle.std.specs.Prelude.{◌≡◌, ℕ, OnOk, IfOk, IsFalse, ◌==◌, nat_le, if◌then◌else◌};
 ghost use Rattle.cap_machine.specs.Code.Cells.Deferred.{with_deferred};

@@ -3,11 +3,11 @@ use Rattle.std.specs.Prelude.{◌≡◌, ℕ, ◌+◌, ◌<◌, ◌≤◌, List,
 use Rattle.std.specs.Int.{bit_at}
 use Rattle.memchr.specs.Find.{IsFirstByte, Nowhere, Passes, is_byte}
 
--- LF stands at this place
+-- LF is at this place
 abbrev pub ends_at : List ℕ → ℕ → Type 0
 ends_at text k = Passes (is_byte 10) text k
 
--- no LF stands before this place
+-- no LF is before this place
 abbrev pub IsWithin : List ℕ → ℕ → Type 0
 IsWithin text n = Nowhere (ends_at text) 0 n
 

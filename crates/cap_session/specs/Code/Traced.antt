@@ -1,4 +1,4 @@
--- What is known of a trace while it comes, of which something is asked in a profile and from a start. Only the code's
+-- What is known of a trace while it comes, when something is asked of it in a profile and from a start. Only the code's
 -- contracts use this.
 use Rattle.std.specs.Prelude.{◌≡◌, ℕ, List, [], ◌∷◌, ◌++◌, length, Result, Ok, Err, Option, MatchOption}
 use Rattle.cap_trace.specs.Entry.{Entry}

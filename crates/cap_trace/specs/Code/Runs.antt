@@ -14,7 +14,7 @@ has (Until stop) c = not (c == stop)
 abbrev pub Runs : Run → List ℕ → ℕ → ℕ → Type 0
 Runs run text from to = (k : ℕ) → from ≤ k → k < to → has run (slice_index text k) ≡ true
 
--- the bytes from a place up to a later one, where the first stands that isn't among them
+-- the bytes from a place up to the first one that isn't among them
 abbrev pub RunsTo : Run → List ℕ → ℕ → ℕ → Type 0
 RunsTo run text from at =
     (from ≤ at) × (at < length text) × Runs run text from at × (has run (slice_index text at) ≡ false)

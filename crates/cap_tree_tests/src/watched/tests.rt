@@ -342,8 +342,8 @@ fn compares(alloc: Global, place: u32, number: u32, compared: u64, shared: bool)
 static LEAF_PLACES: [u32; 8] = [0, 47, 48, 95, 96, 143, 144, 191];
 
 /// A summary that is like the one before is compared once, and the nodes above are told so, which share the list of the
-/// old one: the four leaves of the first tree stand below two nodes and the root. A number that is put where it stands is
-/// compared once, and another one twice.
+/// old one: the four leaves of the first tree are below two nodes and the root. A number that replaces
+/// itself is compared once, and another one twice.
 #[test]
 fn similarity_is_handed_on(rt: HostRuntime) {
     let alloc = rt.alloc();

@@ -13,7 +13,7 @@ use Rattle.cap_rights.specs.Rights.{none}
 use Rattle.cap_machine.specs.Code.Cells.Deferred.{with_deferred}
 use Rattle.cap_machine.specs.Code.Cells.Kind.{cell_of_kind}
 
--- the parts are of w descriptors each: descriptor f stands in part f / w, where it is f % w
+-- the parts are of w descriptors each: descriptor f is in part f / w, where it is f % w
 abbrev pub look : {X : Type 0} → (X → ℕ → Cell) → ℕ → List Deferred → List X → ℕ → Cell
 look ask w deferred parts f = with_deferred (slice_index_or deferred (f / w) Nothing)
     (option_map_or (λ part. ask part (f % w)) (slice_get parts (f / w)) Unknown)

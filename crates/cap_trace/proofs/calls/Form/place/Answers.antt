@@ -27,7 +27,7 @@ use Rattle.cap_trace.specs.contracts.calls.BareCall as bare_calls_type
 abbrev begins : Form → ℕ
 begins f = unwrap_or (position (λ g. bytes_eq (row_of g).name (row_of f).name) all_forms) 0
 
--- the form stands as far behind the first of its kind as its call behind the first call
+-- the form is as far after the first of its kind as its call after the first call
 Stands : Form → Type 0
 Stands (forms.Send c) =
     slice_get all_forms (tag_of sends_calls_type.the_type c + begins (forms.Send sends_calls.Sendto))
