@@ -1,4 +1,4 @@
-use Rattle.std.proofs.Common.{◌≡◌, max, length, arith, length-append}
+use Rattle.std.proofs.Common.{◌≡◌, ◌/◌, ◌^◌, ◌<◌, ◌≤◌, max, length, arith, length-append, rules}
 use Rattle.cap_tree.proofs.Wide.{pow-above}
 use Rattle.cap_tree.proofs.node.Node.over.Goals as goal
 
@@ -7,16 +7,18 @@ invariant_of-node g c =
     let left = c.args.left.value in
     let right = c.args.right.value in
     let long = length-append left.0 right.0 in
-    let a = rw c.deref.ensures at c.height.ensures in
-    let b = rw c.deref-2.ensures at c.height-2.ensures in
-    let height : c.max-height.result ≡ max left.1 right.1 = omega (arith, c.max-height.ensures, a.value, b.value) in
-    let wide = pow-above left.1 right.1 (length left.0) (length right.0) c.requires.balanced a.wide b.wide in
+    let height : c.max-height.result ≡ max left.1 right.1 = search rules in
+    let left_lower : left.1 < length left.0 = search rules in
+    let right_lower : right.1 < length right.0 = search rules in
+    let left_wide : 2 ^ (left.1 / 2) ≤ length left.0 = search rules in
+    let right_wide : 2 ^ (right.1 / 2) ≤ length right.0 = search rules in
+    let wide = pow-above left.1 right.1 (length left.0) (length right.0) c.requires.balanced left_wide right_wide in
     record {
       sums_up = c.requires.stands;
       composed = c.requires.composed;
       balanced = omega arith;
       fits = tt;
-      lower = omega (arith, a.lower, b.lower);
+      lower = omega arith;
       wide = rw (height, long) wide;
       few = omega arith;
     }

@@ -1,5 +1,5 @@
 use Rattle.std.proofs.Common.{◌≡◌, ℕ, ◌+◌, ◌<◌, ◌≤◌, ◌∷◌, [], ◌++◌, List, take, get_or, length, ap, sym, subst}
-use Rattle.std.proofs.Common.{◌∙◌, arith}
+use Rattle.std.proofs.Common.{◌∙◌, arith, rules}
 use Rattle.std.proofs.lemmas.List.{map_more, take_all, length-map, length-take-le}
 use Rattle.std.specs.declared.rc.Rc.{Rc}
 use Rattle.cap_tree.specs.Run.{values}
@@ -11,6 +11,10 @@ more : {X Z : Type 0} (xs : List (Rc X Z)) (i : ℕ) (x : Rc X Z) → i < length
 more {X} {Z} xs i x within at = map_more (λ (item : Rc X Z). item.value) xs i x within
     ∙ ap (λ (y : Rc X Z). values (take i xs) ++ y.value ∷ []) (sym at)
 
+one_stands : {X Z : Type 0} (P : List X → Type 0) (xs : List (Rc X Z)) (x : Rc X Z) → x ≡ get_or xs 0 x
+    → P (x.value ∷ []) → 0 < length xs → P (values (take 1 xs))
+one_stands P xs x at stands within = subst P (sym (more xs 0 x within at)) stands
+
 so_many : {X Z : Type 0} (xs : List (Rc X Z)) (i : ℕ) → i ≤ length xs → length (values (take i xs)) ≡ i
 so_many {X} {Z} xs i within = length-map (take i xs) (λ (item : Rc X Z). item.value) ∙ length-take-le i xs within
 
@@ -18,8 +22,7 @@ pub loop-at-init : goal.loop-at-init
 loop-at-init g c =
     let within : 0 < length c.args.items.now = omega arith in
     record {
-      stands = subst (g.Self.Segment.stands c.in_ok-sum.sum)
-          (sym (more c.args.items.now 0 c.index-items-0.result within c.index-items-0.is)) c.in_ok-sum.ensures;
+      stands = search (rules, one_stands (g.Self.Segment.stands c.in_ok-sum.sum) c.args.items.now);
       counted = omega arith;
     }
 
@@ -34,13 +37,8 @@ join-requires-clause-few g c =
 pub loop-at-preserved : goal.loop-at-preserved
 loop-at-preserved g c =
     let within : c.loop-at.at < length c.args.items.now = omega arith in
-    record {
-      stands = subst (g.Self.Segment.stands c.in_ok-sum-2.sum)
-          (sym (more c.args.items.now c.loop-at.at c.index-items-at.result within c.index-items-at.is))
-          (c.in_ok-sum-2.ensures.joined (values (take c.loop-at.at c.args.items.now)) (c.index-items-at.result.value ∷ [])
-          c.loop-at.invariant.stands c.in_ok-next.ensures);
-      counted = omega (arith, c.in_ok-sum-2.ensures.counted);
-    }
+    let longer = more c.args.items.now c.loop-at.at c.index-items-at.result within c.index-items-at.is in
+    record { stands = rw longer (search rules); counted = search rules }
 
 pub returns-clause-stands : goal.returns-clause-stands
 returns-clause-stands g c =
