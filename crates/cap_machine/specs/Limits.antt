@@ -1,5 +1,5 @@
 -- The least rights of the descriptors of a process before a line.
-use Rattle.std.specs.Prelude.{◌≡◌, ◌↔◌, ◌<◌, ◌≤◌, ◌^◌, ℕ, true, List, map, length, Option, Some, None}
+use Rattle.std.specs.Prelude.{◌≡◌, ◌↔◌, ◌<◌, ◌≤◌, ◌^◌, ℕ, true, List, map, length, Some, None}
 use Rattle.std.specs.List.Sorted.{IsStrictlyIncreasing}
 use Rattle.cap_rights.specs.Rights.{meet, without_full, holds}
 use Rattle.cap_machine.specs.declared.cell.OnExec.{OnExec}

@@ -1,21 +1,19 @@
 -- The state that a table of processes keeps, by look-up.
-use Rattle.std.specs.Prelude.{◌≡◌, ℕ, ◌<◌, ◌==◌, ◌&&◌, nat_le, if◌then◌else◌, List, Option, Some, None, slice_get}
+use Rattle.std.specs.Prelude.{◌≡◌, ℕ, ◌<◌, ◌==◌, ◌&&◌, if◌then◌else◌, List, Option, Some, None, slice_get}
 use Rattle.std.specs.Prelude.{slice_index_or}
 use Rattle.std.specs.Option.{option_map_or}
 use Rattle.std.specs.Vec.{vec_len}
 use Rattle.cap_machine.specs.declared.step.Step.{Step}
 use Rattle.cap_machine.specs.declared.cell.Cell.{Cell}
-use Rattle.cap_machine.specs.declared.cell.Cell.TheVariants.{Unknown, Closed}
+use Rattle.cap_machine.specs.declared.cell.Cell.TheVariants.{Unknown}
 use Rattle.cap_machine.specs.declared.cell.Mode.{Mode}
-use Rattle.cap_machine.specs.declared.cell.Mode.TheVariants.{Outside, Unsure}
+use Rattle.cap_machine.specs.declared.cell.Mode.TheVariants.{Unsure}
 use Rattle.cap_machine.specs.declared.table.Process.{Process}
 use Rattle.cap_machine.specs.declared.table.Table.{Table}
 use Rattle.cap_machine.specs.State.{State}
-use Rattle.cap_machine.specs.declared.cell.Op.{Op}
-use Rattle.cap_machine.specs.Op.{applied}
 use Rattle.cap_machine.specs.Code.Cells.{cell_in_cells}
 use Rattle.cap_machine.specs.declared.rule.Effect.{Effect}
-use Rattle.cap_machine.specs.Touch.{Touch, touch, turn, started}
+use Rattle.cap_machine.specs.Touch.{Touch, touch, turn}
 use Rattle.cap_machine.specs.Effect.{effect_touch, effect_turn}
 use Rattle.cap_machine.specs.History.{touched, turned}
 
