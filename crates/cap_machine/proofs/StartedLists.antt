@@ -1,7 +1,9 @@
 -- What is left of a list when descriptors are struck off it.
 use Rattle.std.proofs.Common.{◌≡◌, ℕ, ◌==◌, nat_le, nat_lt, ◌||◌, not, if◌then◌else◌, Bool, true, false, List, [], ◌∷◌}
 use Rattle.std.proofs.Common.{◌+◌, ◌<◌, ◌≤◌, length, take, get_or, refl, ap, sym, ◌∙◌, arith}
-use Rattle.std.specs.List.{All, list_any, filter}
+use Rattle.std.specs.List.{All, list_any, filter, items_where_true}
+use Rattle.std.specs.List.Retain.{ReturnsInTurn}
+use Rattle.std.proofs.lemmas.Fn.{filter_same}
 use Rattle.std.proofs.lemmas.Bool.{cases_eq, cases_lt, ne_eqb}
 use Rattle.std.proofs.lemmas.Bool.Decides.{nat_tests}
 use Rattle.std.proofs.lemmas.Map.Views.{any-filter_same}
@@ -14,6 +16,12 @@ use Rattle.cap_trace.specs.Limits.{largest_fd}
 use Rattle.cap_machine.specs.declared.cell.OnExec.TheVariants.{Unsure}
 use Rattle.cap_machine.specs.declared.cell.Cell.TheVariants.{Held, Closed}
 use Rattle.cap_machine.specs.Touch.{started}
+
+-- what a test kept, part by part, so that a search can give each
+pub kept : (test : ℕ → Bool) (fds few : List ℕ) {F : Type 0} (R : F → ℕ → Bool → F → Type 0) (f g : F) (bs : List Bool)
+    → ReturnsInTurn R f bs fds g → length bs ≡ length fds → few ≡ items_where_true bs fds
+    → ((n : ℕ) (b : Bool) (h : F) → R f n b h → (b ≡ test n) × (h ≡ f)) → few ≡ filter test fds
+kept test fds few R f g bs turns long is says = filter_same R test f says fds few (bs, g, long, turns, is)
 
 -- without one descriptor
 pub any_without : (fds : List ℕ) (fd f : ℕ)

@@ -31,7 +31,7 @@ use Rattle.cap_machine.proofs.Passages.{chain, same_chain, cell_along-oldest, co
 use Rattle.cap_machine.proofs.ModeChains.{named_follows}
 
 -- whatever the error
-pub on_err : {T E P : Type 0} (r : Result T E) → P → OnErr r P
+on_err : {T E P : Type 0} (r : Result T E) → P → OnErr r P
 on_err (Ok x) p = tt
 on_err (Err e) p = p
 
@@ -184,7 +184,7 @@ cells_may_be_left_out walk s history trace leaves =
 
 -- ---- cells: a walk that stays, and one that is finished
 
-pub same_cell_walk : (old : CellWalk) (passages : Vec Passage Global) → passages.items ≡ old.passages.items
+same_cell_walk : (old : CellWalk) (passages : Vec Passage Global) → passages.items ≡ old.passages.items
     → SameCellWalk old (record old { passages = passages })
 unfolding cell_found cell_known
 same_cell_walk old passages e = record {
@@ -194,6 +194,11 @@ same_cell_walk old passages e = record {
   pid = refl;
   fd = refl;
 }
+
+-- where there was no memory for a passage more
+pub no_passage_more : {T E : Type 0} (r : Result T E) (old : CellWalk) (passages : Vec Passage Global)
+    → passages.items ≡ old.passages.items → OnErr r (SameCellWalk old (record old { passages = passages }))
+no_passage_more r old passages e = on_err r (same_cell_walk old passages e)
 
 end_cell : (gift : Option Cell) (p f : ℕ) (c : Cell)
     → cell_at_end (chain_unless gift (record { links = []; end = cells.Start p f c })).end ≡ unwrap_or gift c
@@ -341,7 +346,7 @@ modes_may_be_left_out walk s history trace leaves = (
 
 -- ---- modes: a walk that stays, and one that is finished
 
-pub same_mode_walk : (old : ModeWalk) (links : Vec ModeLink Global) → links.items ≡ old.links.items
+same_mode_walk : (old : ModeWalk) (links : Vec ModeLink Global) → links.items ≡ old.links.items
     → SameModeWalk old (record old { links = links })
 unfolding mode_found mode_known
 same_mode_walk old links e = record {
@@ -349,6 +354,11 @@ same_mode_walk old links e = record {
   mode = λ s history. refl;
   pid = refl;
 }
+
+-- where there was no memory for a link more
+pub no_link_more : {T E : Type 0} (r : Result T E) (old : ModeWalk) (links : Vec ModeLink Global)
+    → links.items ≡ old.links.items → OnErr r (SameModeWalk old (record old { links = links }))
+no_link_more r old links e = on_err r (same_mode_walk old links e)
 
 module _ (walk : ModeWalk) (s : State) where
   pub modes_given : (m : Mode) → walk.turned ≡ Some m

@@ -185,6 +185,7 @@ impl CellWalk {
     }
 
     /// Goes on where a line of process `owner` did this to the cell.
+    #[tactic(auto, using(crate::proofs::Walking::no_passage_more))]
     fn follow(&mut self, at: usize, owner: Pid, touched: &Touched) -> Result<(), NoMemory>
         requires { self.old.given ≡ None }
         ensures follows { OnOk result (Follows self.old self.new at (touch_view owner touched.now)) }
@@ -202,11 +203,10 @@ impl CellWalk {
                 self.given = Some(*cell);
             }
             Touched::Taken(op, from) => {
-                let op = *op;
                 let from_itself = owner == self.pid && *from == self.fd;
                 self.passages.push(Passage {
                     link,
-                    op,
+                    op: *op,
                     from_itself,
                 })?;
                 self.pid = owner;
@@ -296,6 +296,7 @@ impl ModeWalk {
     }
 
     /// Goes on where a line of process `me` did this to the mode.
+    #[tactic(auto, using(crate::proofs::Walking::no_link_more))]
     fn follow(&mut self, at: usize, me: Pid, turn: Turned) -> Result<(), NoMemory>
         requires { self.old.turned ≡ None }
         ensures follows { OnOk result
@@ -304,16 +305,15 @@ impl ModeWalk {
     {
         let link = ModeLink { at, pid: self.pid };
         match turn {
-            Turned::Stays => {}
             Turned::Turns(mode) => {
                 self.links.push(link)?;
                 self.turned = Some(mode);
             }
-            Turned::Follows if me == self.pid => {}
-            Turned::Follows => {
+            Turned::Follows if me != self.pid => {
                 self.links.push(link)?;
                 self.pid = me;
             }
+            Turned::Stays | Turned::Follows => {}
         }
         Ok(())
     }

@@ -1,33 +1,40 @@
-use Rattle.std.proofs.Common.{ℕ, List, [], ◌∷◌, ◌++◌, ap, sym, ◌∙◌, append_assoc}
+use Rattle.std.proofs.Common.{rules, ◌≡◌, ℕ, List, [], ◌∷◌, ◌++◌, Result, ap, sym, ◌∙◌, append_assoc}
+use Rattle.std.specs.Result.{OnOk}
 use Rattle.std.proofs.lemmas.Result.{on_ok_weaker}
 use Rattle.cap_machine.specs.declared.cell.OnExec.{OnExec}
 use Rattle.cap_machine.specs.declared.cell.Cell.{Cell}
 use Rattle.cap_machine.specs.declared.makers.Made.{Made}
+use Rattle.cap_machine.specs.declared.makers.Made.TheVariants.{Two}
 use Rattle.cap_machine.specs.declared.makers.MakerLimit.{MakerLimit}
+use Rattle.cap_machine.specs.State.{State}
 use Rattle.cap_machine.specs.Makers.{listed_made, cells_made, maker_row, maker_rows}
 use Rattle.cap_machine.specs.Code.Wanted.{wanted}
 use Rattle.cap_machine.proofs.MakerLimits.{both_rows}
 use Rattle.cap_machine.proofs.makers.add_limits.Goals as goal
 
-pub returns-in_ok-add_last-in-Two : goal.returns-in_ok-add_last-in-Two
-returns-in_ok-add_last-in-Two c = λ s before are.
-    let first : Cell = s.cell c.args.pid c.in-Two.first in
-    let second : Cell = s.cell c.args.pid c.in-Two.second in
-    let made = c.in-Two.is in
-    let w : ℕ → OnExec → ℕ = wanted c.args.live.now c.args.pid in
-    let front = c.in_ok-add_last-in-Two.ensures (before ++ second ∷ []) first
-    (are ∙ ap (λ (m : Made). before ++ cells_made s c.args.pid (listed_made m)) made
-    ∙ sym (append_assoc before (second ∷ []) (first ∷ []))) in
-    on_ok_weaker c.add_last-in-Two-2.result
+-- the last two cells are taken, one after the other
+both_added : {T E : Type 0} (s : State) (at p f g : ℕ) (w : ℕ → OnExec → ℕ) (made : Made) (before old mid new : List Cell)
+    (limits more all : List MakerLimit) (r : Result T E) → made ≡ Two f g
+    → old ≡ before ++ cells_made s p (listed_made made)
+    → ((front : List Cell) (last : Cell) → old ≡ front ++ last ∷ []
+    → (mid ≡ front) × (more ≡ limits ++ maker_row at p f last (w f)))
+    → ((front : List Cell) (last : Cell) → mid ≡ front ++ last ∷ []
+    → OnOk r ((new ≡ front) × (all ≡ more ++ maker_row at p g last (w g))))
+    → OnOk r ((new ≡ before) × (all ≡ limits ++ maker_rows s at p (listed_made made) w))
+both_added s at p f g w made before old mid new limits more all r is are first second =
+    let one = first (before ++ s.cell p g ∷ []) (s.cell p f)
+    (are ∙ ap (λ (m : Made). before ++ cells_made s p (listed_made m)) is
+    ∙ sym (append_assoc before (s.cell p g ∷ []) (s.cell p f ∷ []))) in
+    on_ok_weaker r
     (λ back. (
       back.0,
-      back.1
-          ∙ ap (λ (rows : List MakerLimit).
-          rows ++ maker_row c.args.at c.args.pid c.in-Two.second second (w c.in-Two.second))
-          front.1
-          ∙ both_rows s c.args.at c.args.pid c.in-Two.first c.in-Two.second w
-          c.args.limits.now.items
-          ∙ ap (λ (m : Made). c.args.limits.now.items
-          ++ maker_rows s c.args.at c.args.pid (listed_made m) w) (sym made),
+      back.1 ∙ ap (λ (rows : List MakerLimit). rows ++ maker_row at p g (s.cell p g) (w g)) one.1
+          ∙ both_rows s at p f g w limits
+          ∙ ap (λ (m : Made). limits ++ maker_rows s at p (listed_made m) w) (sym is),
     ))
-    (c.add_last-in-Two-2.ensures before second front.0)
+    (second before (s.cell p g) one.0)
+
+pub returns-in_ok-add_last-in-Two : goal.returns-in_ok-add_last-in-Two
+returns-in_ok-add_last-in-Two c = λ s before are.
+    both_added s c.args.at c.args.pid c.in-Two.first c.in-Two.second (wanted c.args.live.now c.args.pid) _ before _ _ _ _
+    _ _ _ c.in-Two.is are c.in_ok-add_last-in-Two.ensures (search rules)

@@ -13,5 +13,5 @@ returns g c = record {
       ap (with_deferred (slice_index_or c.args.self.now.deferred (f / g.row.WIDTH) Nothing))
       (asked_alike (λ x y. y.value ≡ x.value) (λ part. g.T.Subtree.cell_at part.value (f % g.row.WIDTH))
       (λ x y e. ap (λ tree. g.T.Subtree.cell_at tree (f % g.row.WIDTH)) e)
-      c.args.self.now.parts c.in_ok-clone.field-0 (f / g.row.WIDTH) c.in_ok-clone.ensures.cases.whole);
+      c.args.self.now.parts _ (f / g.row.WIDTH) c.in_ok-clone.ensures.cases.whole);
 }

@@ -1,14 +1,10 @@
-use Rattle.std.proofs.Common.{rules, ◌≡◌, ◌==◌, not}
-use Rattle.std.specs.List.{filter}
-use Rattle.std.proofs.lemmas.Fn.{filter_same}
-use Rattle.cap_machine.proofs.StartedLists.{without}
+use Rattle.std.proofs.Common.{rules, ◌==◌, not}
+use Rattle.cap_machine.proofs.StartedLists.{kept, without}
 use Rattle.cap_machine.proofs.cells.started.Started.strike.Goals as goal
 
 pub returns : goal.returns
-returns c =
-    let few : c.retain.new.self.items ≡ filter (λ g. not (g == c.args.fd)) c.args.self.now.small.items =
-    filter_same _ _ _ (λ x b f' k. search rules) _ _ c.retain.ensures.filtered in
-    let more : c.retain-2.new.self.items ≡ filter (λ g. not (g == c.args.fd)) c.args.self.now.large.items =
-    filter_same _ _ _ (λ x b f' k. search rules) _ _ c.retain-2.ensures.filtered in
-    λ cell f. without c.args.self.now.small.items c.args.self.now.large.items c.retain.new.self.items
-    c.retain-2.new.self.items c.args.fd f _ cell few more
+returns c = λ cell f.
+    let small = c.args.self.now.small.items in
+    let large = c.args.self.now.large.items in
+    without small large _ _ c.args.fd f _ cell (search (rules, kept (λ g. not (g == c.args.fd)) small))
+    (search (rules, kept (λ g. not (g == c.args.fd)) large))
