@@ -6,8 +6,8 @@ use Rattle.cap_session.proofs.entries.read_trace.Goals as goal
 pub returns-in_err-entries : goal.returns-in_err-entries
 returns-in_err-entries g c = λ s begins.
     let p = err_from_is_err_and c.from_residual.result c.from_residual.ensures.1 in
-    rw (p.1, p.2) (read_stopped _ (λ k entries. g.K.TraceSink.keeps k s entries) s c.args.turns _ _
-    c.in_err-entries.field-0.0 (c.in_err-entries.ensures (record { setting = s; entries = [] }) begins))
+    rw (p.1, p.2) (read_stopped _ (λ k entries. g.K.TraceSink.keeps k s entries) s c.args.turns _ _ _
+    (c.in_err-entries.ensures (record { setting = s; entries = [] }) begins))
 
 pub returns : goal.returns
 returns g c = λ s begins.

@@ -10,16 +10,16 @@ use Rattle.cap_session.proofs.explained.explain_among.Goals as goal
 pub line_explained-line-requires : goal.line_explained-line-requires
 line_explained-line-requires c =
     let s = start_state c.args.start.now in
-    fits_line s c.args.profile c.args.lines.now.items c.args.position c.in_ok-explanation.field-0
-    c.in-Some.explanation (c.in_ok-explanation.ensures
+    fits_line s c.args.profile c.args.lines.now.items c.args.position _ c.in-Some.explanation
+    (c.in_ok-explanation.ensures
     ∙ ap (λ (t : List Entry). explanation s (steps c.args.profile t) c.args.position) c.as_slice-all.ensures.value)
     c.in-Some.is
 
 pub returns-clause-clean : goal.returns-clause-clean
 returns-clause-clean c =
     let s = start_state c.args.start.now in
-    is_clean s c.args.profile c.args.lines.now.items c.args.position c.in_ok-explanation.field-0
-    c.in-Some.explanation c.in_ok-line.field-0.is_clean (c.in_ok-explanation.ensures
+    is_clean s c.args.profile c.args.lines.now.items c.args.position _ c.in-Some.explanation _
+    (c.in_ok-explanation.ensures
     ∙ ap (λ (t : List Entry). explanation s (steps c.args.profile t) c.args.position) c.as_slice-all.ensures.value)
     c.in-Some.is c.in_ok-line.ensures.clean
 

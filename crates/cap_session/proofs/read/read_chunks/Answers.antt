@@ -38,7 +38,7 @@ returns-in_err-take_piece-in-Ok g c =
     let gave = c.in-Ok.ensures in
     let short : length (take c.in-Ok.n c.read.new.buffer) ≤ 65536 = simp length-take (omega arith) in
     rw (p.1, p.2)
-    (goes_stopped _ _ _ _ _ _ _ _ c.args.turns _ (take c.in-Ok.n c.read.new.buffer) c.in_err-take_piece-in-Ok.field-0.0
+    (goes_stopped _ _ _ _ _ _ _ _ c.args.turns _ (take c.in-Ok.n c.read.new.buffer) _
     c.loop-turn.invariant c.loop-turn-test.true gave.bytes.0 short gave.called gave.failed
     (rw (ended_more _ c.in-Ok.n c.in-Ok.n-test.1) at gave.ended)
     (λ given. c.in_err-take_piece-in-Ok.ensures.stopped c.args.taker.now c.args.output.now given))

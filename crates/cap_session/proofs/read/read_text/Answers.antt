@@ -18,7 +18,7 @@ returns-in_err-read_chunks g c =
     rw (p.1, p.2)
     (text_stopped g.L.Lines.next (g.L.Lines.follows c.args.lines) (g.L.Lines.follows c.read_chunks.new.taker.lines)
     g.L.Lines.holds c.args.turns _ _ c.read_chunks.new.taker.number c.read_chunks.new.taker.held
-    (g.L.Lines.holds c.read_chunks.new.taker.lines) c.in_err-read_chunks.field-0.0
+    (g.L.Lines.holds c.read_chunks.new.taker.lines) _
     (rw c.in-Ok-new.ensures.lines at c.in_err-read_chunks.ensures))
 
 pub returns : goal.returns

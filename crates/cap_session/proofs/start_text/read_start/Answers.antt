@@ -10,7 +10,7 @@ pub returns-in_err-starting : goal.returns-in_err-starting
 returns-in_err-starting g c =
     let p = err_from_is_err_and c.from_residual.result c.from_residual.ensures.1 in
     rw (p.1, p.2) (stopped_as (λ (listed : Listed). listed.added) (whole_text next_process none_listed) start_soon _ _
-    c.args.turns _ _ c.in_err-starting.field-0.0 (c.in_err-starting.ensures none_listed c.new.ensures))
+    c.args.turns _ _ _ (c.in_err-starting.ensures none_listed c.new.ensures))
 
 pub returns : goal.returns
 returns g c =

@@ -1,10 +1,12 @@
-use Rattle.std.proofs.Common.{◌≡◌, ℕ, ◌+◌, ◌<◌, ◌≤◌, List, ◌++◌, length, ap, subst, ◌∙◌}
+use Rattle.std.proofs.Common.{◌≡◌, ℕ, ◌+◌, ◌<◌, ◌≤◌, List, ◌++◌, Result, Err, length, ap, subst, ◌∙◌}
 use Rattle.std.proofs.lemmas.Result.{err_from_is_err_and}
 use Rattle.cap_session.proofs.Fed.{fed_cut, cut_stopped, fed_piece, fed_long}
 use Rattle.cap_session.proofs.Reach.{reached_good}
-use Rattle.cap_session.specs.declared.lines.StopReason.TheVariants as stops
-use Rattle.cap_session.specs.declared.refused.Refused.TheVariants.{LongLine}
+use Rattle.cap_session.specs.declared.lines.StopReason.{StopReason}
 use Rattle.cap_session.proofs.lines.LineReader.feed.Goals as goal
+
+same_stop : (x y : StopReason) → ◌≡◌ {A = Result (Unit {0}) StopReason} (Err x) (Err y) → x ≡ y
+same_stop x y is = cc
 
 pub returns-in_err-complete-clause-feeds : goal.returns-in_err-complete-clause-feeds
 returns-in_err-complete-clause-feeds g c =
@@ -29,9 +31,7 @@ returns-in_err-hold-clause-feeds g c =
     let here = c.loop-line in
     let rest : c.rest.result.now ≡ here.ends = c.rest.ensures ∙ c.in_default.ensures.1 in
     let why = c.in_err-hold.ensures in
-    let stop : c.in_err-hold.field-0.0 ≡ stops.Refused (record { reason = LongLine; line = here.self.number + 1 }) =
-    let is = why.stops in cc in
-    rw (p.1, p.2, stop)
+    rw (p.1, p.2, same_stop _ _ why.stops)
     (fed_long g.L.Lines.next _ (g.L.Lines.follows here.self.lines) _ _ _ _ _ here.ends here.invariant
     c.in_default.ensures.0 (subst (λ (l : List ℕ). 1024 < length here.self.held + length l) rest why.long))
 

@@ -22,7 +22,7 @@ line_explained-line-requires c =
     let lines : lines_of c.self.inside.tree ≡ c.args.self.now.trace =
     ap (λ (s : SessionState). s.trace) c.self.view_is in
     subst (λ (t : List Entry). FitsLine t k (explained_by e)) (sym lines)
-    (fits_line s c.args.self.now.profile c.args.self.now.trace k c.in_ok-explanation.field-0 e
+    (fits_line s c.args.self.now.profile c.args.self.now.trace k _ e
     (c.in_ok-explanation.ensures ∙ ap (λ (t : List Step). explanation s t k) what) c.in-Some.is)
 
 pub returns-clause-clean : goal.returns-clause-clean
@@ -32,8 +32,7 @@ returns-clause-clean c =
     let what : summed_up c.summary.result.now ≡ steps c.args.self.now.profile c.args.self.now.trace =
     c.summary.ensures.steps ∙ subst (λ (s : SessionState). c.self.inside.tree ≡ steps s.profile s.trace) c.self.view_is
     c.self.invariant.in_profile in
-    is_clean s c.args.self.now.profile c.args.self.now.trace k c.in_ok-explanation.field-0 c.in-Some.explanation
-    c.in_ok-line.field-0.is_clean
+    is_clean s c.args.self.now.profile c.args.self.now.trace k _ c.in-Some.explanation _
     (c.in_ok-explanation.ensures ∙ ap (λ (t : List Step). explanation s t k) what) c.in-Some.is
     c.in_ok-line.ensures.clean
 
