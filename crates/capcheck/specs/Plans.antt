@@ -4,34 +4,29 @@ use Rattle.std.specs.Prelude.{◌≡◌, ◌⊎◌, ℕ, List, [], Option, Some,
 use Rattle.std.specs.Prelude.{option_and_then, if◌then◌else◌, Bool, true, false, not, ◌&&◌, is_some}
 use Rattle.std.specs.Str.{bytes_eq}
 use Rattle.std.specs.Borrow.{Bor}
-use Rattle.clap.specs.Words.{IsAmong, Kinds, Row, Text, fault_of, first_of, subcommand_of}
+use Rattle.clap.specs.Words.{HasKind, IsAmong, Kinds, Row, Text, fault_of, first_of, kind_of, subcommand_of}
+use Rattle.clap.specs.declared.error.Error.{Error}
 use Rattle.clap.specs.declared.error.kind.ErrorKind.{ErrorKind}
 use Rattle.clap.specs.declared.error.kind.ErrorKind.TheVariants as kind
 use Rattle.capcheck.specs.CommandLine.{capcheck}
 use Rattle.capcheck.specs.declared.plan.Plan.{Plan}
-use Rattle.capcheck.specs.declared.plan.Subject.{Subject}
+use Rattle.capcheck.specs.declared.plan.Plan.TheVariants as plans
+use Rattle.capcheck.specs.declared.plan.Run.{Run}
+use Rattle.capcheck.specs.declared.plan.Task.{Task}
+use Rattle.capcheck.specs.declared.plan.Task.TheVariants.{Ask, Edit, Explain, Limits}
 use Rattle.cap_machine.specs.declared.cell.Profile.{Profile}
 use Rattle.cap_machine.specs.declared.cell.Profile.TheVariants.{One, Two}
-use Rattle.cap_machine.specs.declared.question.Question.{Question}
 use Rattle.cap_machine.specs.declared.question.Question.TheVariants.{Findings, Denials}
 use Rattle.cap_session.specs.Commands.{position}
-use Rattle.capcheck.specs.declared.plan.Plan.TheVariants.{Ask, Edit, Explain, Limits, Help, Usage, Memory}
 
--- What a run reads and how: the trace of this name, or standard input; what is known before the trace, nothing or what
--- the text of this name says, or standard input; the profile; and whether words on standard error are asked for.
-pub record Given : Type 0 where
+-- A run of the program: the trace of this name, or standard input; what is read beside it, nothing or the text of this
+-- name, or standard input; the profile; whether words on standard error are asked for; and what is done.
+pub record NamedRun : Type 0 where
   pub trace : Option Text
-  pub start : Option (Option Text)
+  pub beside : Option (Option Text)
   pub profile : Profile
   pub verbose : Bool
-
--- a run of the program: a question that is asked of the trace; an edit, by the script of this name, or standard input;
--- an explanation, of the line at a position; limits, before the line at a position or without one
-pub data Run : Type 0 where
-  asks : Question → Given → Run
-  edits : Given → Option Text → Run
-  explains : Given → ℕ → Run
-  limits : Given → Option ℕ → Run
+  pub task : Task
 
 -- what a name stands for: `-` is standard input
 abbrev pub text_named : Text → Option Text
@@ -41,20 +36,19 @@ text_named name = if bytes_eq name (codes "-") then None else Some name
 abbrev pub text_among : Text → List Row → Option Text
 text_among id rows = option_and_then text_named (first_of id rows)
 
-abbrev pub start_among : List Row → Option (Option Text)
-start_among rows = option_map text_named (first_of (codes "start") rows)
+-- what is read beside the trace: the script of an edit, else the start, where one is named
+abbrev pub beside_among : Task → List Row → Option (Option Text)
+beside_among Edit rows = Some (text_among (codes "script") rows)
+beside_among _ rows = option_map text_named (first_of (codes "start") rows)
 
 -- the profile of the value of `--profile`, and 1 where it isn't given
-abbrev pub profile_named : Text → Option Profile
-profile_named name = if bytes_eq name (codes "1") then Some One
+abbrev pub profile_named : Option Text → Option Profile
+profile_named None = Some One
+profile_named (Some name) = if bytes_eq name (codes "1") then Some One
     else (if bytes_eq name (codes "2") then Some Two else None)
 
-abbrev pub profile_of : Option Text → Option Profile
-profile_of None = Some One
-profile_of (Some name) = profile_named name
-
 abbrev pub profile_among : List Row → Option Profile
-profile_among rows = profile_of (first_of (codes "profile") rows)
+profile_among rows = profile_named (first_of (codes "profile") rows)
 
 -- whether `--verbose` is given
 abbrev pub is_true : Option Text → Bool
@@ -64,36 +58,6 @@ is_true (Some value) = bytes_eq value (codes "true")
 abbrev pub verbose_among : List Row → Bool
 verbose_among rows = is_true (first_of (codes "verbose") rows)
 
--- what is read beside the trace, and whether both are standard input, which can be read once
-abbrev pub is_input_twice : Option (Option Text) → Option Text → Bool
-is_input_twice None trace = false
-is_input_twice (Some name) trace = not (is_some name) && not (is_some trace)
-
-abbrev pub unless : {T : Type 0} → Bool → T → Option T
-unless true x = None
-unless false x = Some x
-
--- with what was read beside the trace
-abbrev pub given_by : Option Text → Option (Option Text) → List Row → Option Given
-given_by trace start rows = option_map (λ profile.
-    record { trace = trace; start = start; profile = profile; verbose = verbose_among rows }) (profile_among rows)
-
--- nothing, where the start and the trace are standard input both
-abbrev pub given_among : List Row → Option Given
-given_among rows = option_and_then
-    (unless (is_input_twice (start_among rows) (text_among (codes "trace") rows)))
-    (given_by (text_among (codes "trace") rows) (start_among rows) rows)
-
-abbrev pub ask_among : Question → List Row → Option Run
-ask_among question rows = option_map (asks question) (given_among rows)
-
--- nothing, where the trace and the script are standard input both
-abbrev pub edit_among : List Row → Option Run
-edit_among rows = option_and_then (λ given.
-    unless (is_input_twice (Some (text_among (codes "script") rows)) given.trace)
-    (edits given (text_among (codes "script") rows)))
-    (given_by (text_among (codes "trace") rows) None rows)
-
 -- the position of a line, spelled as those of a script, or that none is named
 abbrev pub place_named : Option Text → Option (Option ℕ)
 place_named None = Some None
@@ -102,30 +66,43 @@ place_named (Some word) = option_map Some (position word)
 abbrev pub place_among : List Row → Option (Option ℕ)
 place_among rows = place_named (first_of (codes "position") rows)
 
--- the line that is to be explained
-abbrev pub position_among : List Row → Option ℕ
-position_among rows = option_and_then (λ place. place) (place_among rows)
+-- what a command is to do, by the values of its arguments; nothing, where the position is none
+abbrev pub task_in : Text → List Row → Option Task
+task_in name rows = if bytes_eq name (codes "check") then Some (Ask Findings)
+    else (if bytes_eq name (codes "denials") then Some (Ask Denials)
+    else (if bytes_eq name (codes "edit") then Some Edit
+    else (if bytes_eq name (codes "explain") then option_map Explain (option_and_then (λ k. k) (place_among rows))
+    else (if bytes_eq name (codes "limits") then option_map Limits (place_among rows) else None))))
 
-abbrev pub explain_among : List Row → Option Run
-explain_among rows = option_and_then (λ given. option_map (explains given) (position_among rows)) (given_among rows)
+-- what is read beside the trace, and whether both are standard input, which can be read once
+abbrev pub is_input_twice : Option (Option Text) → Option Text → Bool
+is_input_twice None trace = false
+is_input_twice (Some name) trace = not (is_some name) && not (is_some trace)
 
-abbrev pub limits_among : List Row → Option Run
-limits_among rows = option_and_then (λ given. option_map (limits given) (place_among rows)) (given_among rows)
+-- the run, unless it would read standard input twice
+abbrev pub once : NamedRun → Option NamedRun
+once run = if is_input_twice run.beside run.trace then None else Some run
+
+-- the run that a task and the values of the arguments name
+abbrev pub run_for : List Row → Task → Option NamedRun
+run_for rows task = option_and_then (λ profile. once (record {
+  trace = text_among (codes "trace") rows;
+  beside = beside_among task rows;
+  profile = profile;
+  verbose = verbose_among rows;
+  task = task;
+})) (profile_among rows)
 
 -- the run that a command and the values of its arguments name
-abbrev pub run_in : Text × List Row → Option Run
-run_in found = if bytes_eq found.0 (codes "check") then ask_among Findings found.1
-    else (if bytes_eq found.0 (codes "denials") then ask_among Denials found.1
-    else (if bytes_eq found.0 (codes "edit") then edit_among found.1
-    else (if bytes_eq found.0 (codes "explain") then explain_among found.1
-    else (if bytes_eq found.0 (codes "limits") then limits_among found.1 else None))))
+abbrev pub run_in : Text × List Row → Option NamedRun
+run_in found = option_and_then (run_for found.1) (task_in found.0 found.1)
 
 -- the run that the words name by `clap`'s matches
-abbrev pub run_asked : List Text → Option Run
+abbrev pub run_asked : List Text → Option NamedRun
 run_asked words = option_and_then run_in (subcommand_of capcheck words)
 
 -- `clap` finds no fault in the words, and they name this run
-abbrev pub NamesRun : List Text → Run → Type 0
+abbrev pub NamesRun : List Text → NamedRun → Type 0
 NamesRun words run = (fault_of capcheck words ≡ []) × (run_asked words ≡ Some run)
 
 -- the words are to be answered by a text and are no mistake: they ask for help, or for the version
@@ -148,52 +125,32 @@ IsMistake words = Mistakes (fault_of capcheck words)
 abbrev pub seen : Option (Bor Text) → Option Text
 seen = option_map (λ text. text.now)
 
-abbrev pub given_of : Subject → Given
-given_of s = record {
-  trace = seen s.trace;
-  start = option_map seen s.start;
-  profile = s.profile;
-  verbose = s.verbose;
+abbrev pub run_of : Run → NamedRun
+run_of r = record {
+  trace = seen r.trace;
+  beside = option_map seen r.beside;
+  profile = r.profile;
+  verbose = r.verbose;
+  task = r.task;
 }
 
 -- the plan is what the words ask for; of running out of memory nothing is said
 abbrev pub Fits : List Text → Plan → Type 0
-Fits words (Ask question subject) = NamesRun words (asks question (given_of subject))
-Fits words (Edit subject script) = NamesRun words (edits (given_of subject) (seen script))
-Fits words (Explain subject position) = NamesRun words (explains (given_of subject) position)
-Fits words (Limits subject at) = NamesRun words (limits (given_of subject) at)
-Fits words (Help text) = Requests (fault_of capcheck words)
-Fits words (Usage text) = IsMistake words
-Fits words Memory = Unit {0}
+Fits words (plans.Run run) = NamesRun words (run_of run)
+Fits words (plans.Help text) = Requests (fault_of capcheck words)
+Fits words (plans.Usage text) = IsMistake words
+Fits words plans.Memory = Unit {0}
 
 -- below: what the steps of planning say
 
--- the run of a plan
-abbrev pub run_of : Plan → Option Run
-run_of (Ask question subject) = Some (asks question (given_of subject))
-run_of (Edit subject script) = Some (edits (given_of subject) (seen script))
-run_of (Explain subject position) = Some (explains (given_of subject) position)
-run_of (Limits subject at) = Some (limits (given_of subject) at)
-run_of (Help text) = None
-run_of (Usage text) = None
-run_of Memory = None
+-- why the words name no run: `clap` finds a fault, or a value is wrong, or memory ran out
+abbrev pub NamesNone : List Text → Error → Type 0
+NamesNone words e = HasKind (fault_of capcheck words) e
+    ⊎ ((fault_of capcheck words ≡ []) × (run_asked words ≡ None) × (kind_of e ≡ kind.InvalidValue))
 
--- the answer to words that give no matches, by the kind of the error
+-- the answer to such words, by the kind of the error
 abbrev pub TellsKind : ErrorKind → Plan → Type 0
-TellsKind k (Ask question subject) = ⊥
-TellsKind k (Edit subject script) = ⊥
-TellsKind k (Explain subject position) = ⊥
-TellsKind k (Limits subject at) = ⊥
-TellsKind k (Help text) = IsRequest k
-TellsKind k (Usage text) = (k ≡ kind.OutOfMemory → ⊥) × (IsRequest k → ⊥)
-TellsKind k Memory = Unit {0}
-
--- the answer to words that name no run
-abbrev pub TellsMistake : Plan → Type 0
-TellsMistake (Ask question subject) = ⊥
-TellsMistake (Edit subject script) = ⊥
-TellsMistake (Explain subject position) = ⊥
-TellsMistake (Limits subject at) = ⊥
-TellsMistake (Help text) = ⊥
-TellsMistake (Usage text) = Unit {0}
-TellsMistake Memory = Unit {0}
+TellsKind k (plans.Run run) = ⊥
+TellsKind k (plans.Help text) = IsRequest k
+TellsKind k (plans.Usage text) = (k ≡ kind.OutOfMemory → ⊥) × (IsRequest k → ⊥)
+TellsKind k plans.Memory = Unit {0}

@@ -2,8 +2,9 @@
 //! wrong. No contract reads them, and whether they can be written doesn't matter.
 
 use crate::notes::Notes;
-use crate::plan::Subject;
-use crate::wrong::{Shown, Wrong, general, wrong_in, wrong_in_command, wrong_in_start};
+use crate::plan::{Run, Task};
+use crate::wrong::{Kind, Shown, wrong_in};
+use cap_session::ExplainOutcome::{self, Ended, OutOfRange};
 use cap_session::{Outcome, number_of};
 use std::alloc::Global;
 use std::io::Write;
@@ -12,24 +13,11 @@ use std::{fmt, io};
 /// So many characters of a name are shown.
 const LONGEST_NAME: usize = 4096;
 
-/// A text, as the words name it.
-#[derive(Clone, Copy)]
-struct Name<'a>(Option<&'a str>);
-
-impl<'a> Name<'a> {
-    fn as_str(self) -> &'a str {
-        match self.0 {
-            Some(name) => name,
-            None => "standard input",
-        }
-    }
-}
-
-impl fmt::Display for Name<'_> {
-    fn fmt<W: fmt::Write>(&self, f: &mut fmt::Formatter<W>) -> fmt::Result {
-        let text = self.as_str();
-        let most = LONGEST_NAME;
-        fmt::Display::fmt(&Shown { text, most }, f)
+/// What people call the text of this name.
+fn shown_name(name: Option<&str>) -> Shown<'_> {
+    Shown {
+        text: name.unwrap_or("standard input"),
+        most: LONGEST_NAME,
     }
 }
 
@@ -51,136 +39,110 @@ impl fmt::Display for Reason {
     }
 }
 
-/// What the words of a run are made of.
-#[derive(Clone, Copy)]
-pub struct Messages<'n, 'a> {
-    notes: &'n Notes,
-    /// Whether they were asked for.
-    are_asked: bool,
-    /// The texts, in the order in which they are opened.
-    names: [Name<'a>; 2],
-}
-
-impl<'n, 'a> Messages<'n, 'a> {
-    /// The words of a run of this subject, which may have a start.
-    pub fn of(notes: &'n Notes, subject: &Subject<'a>) -> Messages<'n, 'a> {
-        if subject.verbose {
-            notes.want();
-        }
-        let trace = Name(subject.trace);
-        Messages {
-            notes,
-            are_asked: subject.verbose,
-            names: match subject.start {
-                Some(start) => [Name(start), trace],
-                None => [trace, trace],
-            },
-        }
+/// Notes what the words of a run are made of, before it begins.
+pub fn begin(alloc: Global, notes: &Notes, run: &Run<'_>) {
+    if run.verbose {
+        notes.are_wanted.set(true);
     }
-
-    /// The words of a run that replies to the script of this name, or standard input.
-    pub fn of_script(
-        alloc: Global,
-        notes: &'n Notes,
-        subject: &Subject<'a>,
-        script: Option<&'a str>,
-    ) -> Messages<'n, 'a> {
-        let mut messages = Messages::of(notes, subject);
-        let script = Name(script);
-        messages.names[1] = script;
-        notes.begin_script(alloc, script.as_str());
-        messages
-    }
-
-    /// The words of a run that reads nothing.
-    pub fn without_texts(notes: &'n Notes) -> Messages<'n, 'a> {
-        Messages {
-            notes,
-            are_asked: false,
-            names: [Name(None), Name(None)],
-        }
-    }
-
-    /// The text that was opened or read last.
-    fn name(&self) -> Name<'a> {
-        match self.names.get(self.notes.at()) {
-            Some(name) => *name,
-            None => Name(None),
-        }
-    }
-
-    /// Says why there is no report. A closed pipe is no news to one who closed it.
-    pub fn tell<R: Eprint + AllocGlobal>(&self, rt: &R, outcome: Outcome) {
-        let name = self.name();
-        let _ = match outcome {
-            _ if !self.notes.are_wanted() => Ok(()),
-            Outcome::Clean | Outcome::Findings => Ok(()),
-            Outcome::Refused { code, line } => self.tell_line(rt, code, line, false),
-            Outcome::StartRefused { code, line } => self.tell_line(rt, code, line, true),
-            Outcome::Memory => eprintln!(rt; "capcheck: memory ran out"),
-            Outcome::TooLong => eprintln!(rt; "capcheck: {name}: it has no end"),
-            Outcome::ReadFault => {
-                let reason = Reason(self.notes.error());
-                eprintln!(rt; "capcheck: {name}: {reason}")
-            }
-            Outcome::WriteFault => self.tell_output(rt),
-        };
-    }
-
-    /// Says why the output can't be written.
-    fn tell_output<R: Eprint>(&self, rt: &R) -> io::Result<()> {
-        let error = self.notes.error();
-        let is_closed = error.is_some_and(|error| error.kind() == io::ErrorKind::BrokenPipe);
-        if is_closed && !self.are_asked {
-            return Ok(());
-        }
-        let reason = Reason(error);
-        eprintln!(rt; "capcheck: standard output: {reason}")
-    }
-
-    /// Says what is wrong with a refused line.
-    fn tell_line<R: Eprint + AllocGlobal>(
-        &self,
-        rt: &R,
-        code: u8,
-        line: usize,
-        is_start: bool,
-    ) -> io::Result<()> {
-        let name = self.name();
-        let Ok(recent) = self.notes.recent().try_borrow() else {
-            return Ok(());
-        };
-        let wrong = wrong_in_text(rt.alloc(), recent.line(line), code, is_start);
-        eprintln!(rt; "capcheck: {name}:{line}: E{code}: {wrong}")
-    }
-
-    /// Says that the trace has no line at a position.
-    pub fn tell_no_line<R: Eprint>(&self, rt: &R, position: usize) {
-        if !self.notes.are_wanted() {
-            return;
-        }
-        let name = self.name();
-        let lines = match self.notes.recent().try_borrow() {
-            Ok(recent) => recent.positions(),
-            Err(_) => None,
-        };
-        let _ = match lines {
-            Some(lines) => {
-                eprintln!(rt;
-                    "capcheck: {name}: E7: there is no line {position}, of {lines} that are not skipped"
-                )
-            }
-            None => eprintln!(rt; "capcheck: {name}: E7: there is no line {position}"),
-        };
+    if let (Task::Edit, Some(script), true) = (&run.task, run.beside, notes.are_wanted.get())
+        && let Ok(name) = shown_name(script).text.to_string(alloc)
+    {
+        let _ = notes.script.try_replace(Some(name));
     }
 }
 
-/// What is wrong with a line of a trace or of a start, where it is known.
-fn wrong_in_text<'a>(alloc: Global, line: Option<&'a [u8]>, code: u8, is_start: bool) -> Wrong<'a> {
-    match line {
-        Some(line) if is_start => wrong_in_start(line, code),
-        Some(line) => wrong_in(alloc, line, code),
-        None => general(code),
+/// The text of a run that was opened or read last.
+fn name_in<'a>(notes: &Notes, run: &Run<'a>) -> Shown<'a> {
+    let is_first = notes.at.get() == 0;
+    let is_trace = is_first == matches!(run.task, Task::Edit);
+    shown_name(match run.beside {
+        Some(name) if !is_trace => name,
+        _ => run.trace,
+    })
+}
+
+/// Says why there is no report. Without a run no text was read.
+pub fn tell<R: Eprint + AllocGlobal>(
+    rt: &R,
+    notes: &Notes,
+    run: Option<&Run<'_>>,
+    outcome: ExplainOutcome,
+) {
+    if !notes.are_wanted.get() {
+        return;
+    }
+    let name = match run {
+        Some(run) => name_in(notes, run),
+        None => shown_name(None),
+    };
+    let _ = match outcome {
+        OutOfRange => tell_no_line(rt, notes, name, run),
+        Ended(Outcome::Clean | Outcome::Findings) => Ok(()),
+        Ended(Outcome::Refused { code, line }) => {
+            tell_line(rt, notes, name, Kind::Trace, line, code)
+        }
+        Ended(Outcome::StartRefused { code, line }) => {
+            tell_line(rt, notes, name, Kind::Start, line, code)
+        }
+        Ended(Outcome::Memory) => eprintln!(rt; "capcheck: memory ran out"),
+        Ended(Outcome::TooLong) => eprintln!(rt; "capcheck: {name}: it has no end"),
+        Ended(Outcome::ReadFault) => {
+            let reason = Reason(notes.error.get());
+            eprintln!(rt; "capcheck: {name}: {reason}")
+        }
+        Ended(Outcome::WriteFault) => tell_output(rt, notes, run),
+    };
+}
+
+/// Says why the output can't be written. A closed pipe is no news to one who closed it.
+fn tell_output<R: Eprint>(rt: &R, notes: &Notes, run: Option<&Run<'_>>) -> io::Result<()> {
+    let error = notes.error.get();
+    let is_closed = error.is_some_and(|error| error.kind() == io::ErrorKind::BrokenPipe);
+    if is_closed && !run.is_some_and(|run| run.verbose) {
+        return Ok(());
+    }
+    let reason = Reason(error);
+    eprintln!(rt; "capcheck: standard output: {reason}")
+}
+
+/// Says what is wrong with a refused line of a text of this kind.
+fn tell_line<R: Eprint + AllocGlobal>(
+    rt: &R,
+    notes: &Notes,
+    name: Shown<'_>,
+    kind: Kind,
+    line: usize,
+    code: u8,
+) -> io::Result<()> {
+    let Ok(recent) = notes.recent.try_borrow() else {
+        return Ok(());
+    };
+    let wrong = wrong_in(rt.alloc(), kind, recent.line(line), code);
+    eprintln!(rt; "capcheck: {name}:{line}: E{code}: {wrong}")
+}
+
+/// Says that the trace has no line at the position of a run.
+fn tell_no_line<R: Eprint>(
+    rt: &R,
+    notes: &Notes,
+    name: Shown<'_>,
+    run: Option<&Run<'_>>,
+) -> io::Result<()> {
+    let position = match run.map(|run| &run.task) {
+        Some(Task::Explain(position) | Task::Limits(Some(position))) => *position,
+        _ => return Ok(()),
+    };
+    let lines = match notes.recent.try_borrow() {
+        Ok(recent) => recent.positions(),
+        Err(_) => None,
+    };
+    match lines {
+        Some(lines) => {
+            eprintln!(rt;
+                "capcheck: {name}: E7: there is no line {position}, of {lines} that are not skipped"
+            )
+        }
+        None => eprintln!(rt; "capcheck: {name}: E7: there is no line {position}"),
     }
 }
 
@@ -207,7 +169,7 @@ impl<R: Print + Eprint + AllocGlobal> Write for Output<'_, R> {
                 Ok(n)
             }
             Err(error) => {
-                self.notes.fail(error);
+                self.notes.error.set(Some(error));
                 Err(error)
             }
         }
@@ -220,36 +182,26 @@ impl<R: Print + Eprint + AllocGlobal> Write for Output<'_, R> {
 
 /// Says why a command is refused, where a script is replied to and this is the reply, or its end.
 fn tell_reply<R: Eprint + AllocGlobal>(rt: &R, notes: &Notes, reply: &[u8]) {
-    let Ok(script) = notes.script().try_borrow() else {
+    let Ok(script) = notes.script.try_borrow() else {
         return;
     };
-    match &*script {
-        // The trace is the first text, and the script the second.
-        Some(name) if notes.at() == 1 => {
-            let position = notes.reply();
-            if let Some(code) = code_in(reply) {
-                tell_command(rt, notes, Name(Some(name.as_str())), position, code);
-            }
-        }
-        _ => {}
+    // The trace is the first text, and the script the second.
+    let (Some(script), 1) = (&*script, notes.at.get()) else {
+        return;
+    };
+    let position = notes.replies.get().saturating_add(1);
+    notes.replies.set(position);
+    if let Some(code) = code_in(reply)
+        && let Some(line) = line_of(notes, position)
+    {
+        let name = shown_name(Some(script.as_str()));
+        let _ = tell_line(rt, notes, name, Kind::Script, line, code);
     }
 }
 
-/// Says what is wrong with a refused command.
-fn tell_command<R: Eprint + AllocGlobal>(
-    rt: &R,
-    notes: &Notes,
-    name: Name<'_>,
-    position: usize,
-    code: u8,
-) {
-    let Ok(recent) = notes.recent().try_borrow() else {
-        return;
-    };
-    if let Some((line, command)) = recent.line_at(position) {
-        let wrong = wrong_in_command(rt.alloc(), command, code);
-        let _ = eprintln!(rt; "capcheck: {name}:{line}: E{code}: {wrong}");
-    }
+/// The line of a script that has this position.
+fn line_of(notes: &Notes, position: usize) -> Option<usize> {
+    notes.recent.try_borrow().ok()?.line_of(position)
 }
 
 /// The code of a reply that refuses a command.

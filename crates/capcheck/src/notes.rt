@@ -16,49 +16,37 @@ const LONGEST_BEGINNING: usize = 2048;
 /// The notes of a run. Of what is read something is kept only where words are wanted.
 #[derive(Drop)]
 pub struct Notes {
-    wanted: Cell<bool>,
+    pub are_wanted: Cell<bool>,
     /// How many texts were opened, or couldn't be.
     opened: Cell<usize>,
-    /// Which of them was opened or read last.
-    at: Cell<usize>,
-    error: Cell<Option<io::Error>>,
-    recent: RefCell<Recent>,
+    /// Which of them was opened or read last. They count from 0, in the order in which they are opened.
+    pub at: Cell<usize>,
+    /// The last error of a device.
+    pub error: Cell<Option<io::Error>>,
+    /// What was read last, of the text that was read last.
+    pub recent: RefCell<Recent>,
     /// The name of the script that is replied to, where words are wanted.
-    script: RefCell<Option<String>>,
+    pub script: RefCell<Option<String>>,
     /// How many of its lines were replied to.
-    replies: Cell<usize>,
+    pub replies: Cell<usize>,
 }
 
 impl Notes {
     /// No notes yet, of a run that is to say why there is no report.
-    pub fn new(alloc: Global, wanted: bool) -> Notes {
+    pub fn new(alloc: Global, are_wanted: bool) -> Notes {
         Notes {
-            wanted: Cell::new(wanted),
+            are_wanted: Cell::new(are_wanted),
             opened: Cell::new(0),
             at: Cell::new(0),
             error: Cell::new(None),
-            recent: RefCell::new(Recent::new(alloc)),
+            recent: RefCell::new(Recent {
+                bytes: Vec::new(alloc),
+                before: Tally::NONE,
+                is_lost: false,
+            }),
             script: RefCell::new(None),
             replies: Cell::new(0),
         }
-    }
-
-    pub fn want(&self) {
-        self.wanted.set(true);
-    }
-
-    pub fn are_wanted(&self) -> bool {
-        self.wanted.get()
-    }
-
-    /// Which text was opened or read last: texts count from 0, in the order in which they are opened.
-    pub fn at(&self) -> usize {
-        self.at.get()
-    }
-
-    /// The last error of a device.
-    pub fn error(&self) -> Option<io::Error> {
-        self.error.get()
     }
 
     /// A text is about to be opened: its number.
@@ -69,57 +57,15 @@ impl Notes {
         number
     }
 
-    /// A device failed.
-    pub fn fail(&self, error: io::Error) {
-        self.error.set(Some(error));
-    }
-
     /// These bytes were read of this text.
     fn read(&self, number: usize, piece: &[u8]) {
         let before = self.at.replace(number);
-        if !self.wanted.get() {
+        if !self.are_wanted.get() {
             return;
         }
-        let Ok(mut recent) = self.recent.try_borrow_mut() else {
-            return;
-        };
-        if number != before {
-            recent.clear();
+        if let Ok(mut recent) = self.recent.try_borrow_mut() {
+            recent.take(number == before, piece);
         }
-        recent.take(piece);
-    }
-
-    /// Reading this text failed.
-    fn fail_at(&self, number: usize, error: io::Error) {
-        self.at.set(number);
-        self.fail(error);
-    }
-
-    /// A script of this name is going to be replied to.
-    pub fn begin_script(&self, alloc: Global, name: &str) {
-        if !self.wanted.get() {
-            return;
-        }
-        if let Ok(name) = name.to_string(alloc) {
-            let _ = self.script.try_replace(Some(name));
-        }
-    }
-
-    /// The name of the script that is replied to.
-    pub fn script(&self) -> &RefCell<Option<String>> {
-        &self.script
-    }
-
-    /// A line of the script was replied to: how many were by now.
-    pub fn reply(&self) -> usize {
-        let replies = self.replies.get().saturating_add(1);
-        self.replies.set(replies);
-        replies
-    }
-
-    /// What was read last, of the text that was read last.
-    pub fn recent(&self) -> &RefCell<Recent> {
-        &self.recent
     }
 }
 
@@ -130,7 +76,7 @@ pub struct Recent {
     /// How many lines ended before these bytes, and how many of those have a position.
     before: Tally,
     /// Whether memory ran out for some bytes.
-    lost: bool,
+    is_lost: bool,
 }
 
 /// How many lines there are, and how many of them are neither empty nor a comment.
@@ -152,70 +98,56 @@ impl Tally {
         let is_skipped = line.is_empty() || is_comment;
         Tally {
             lines: self.lines.saturating_add(1),
-            positions: self
-                .positions
-                .saturating_add(if is_skipped { 0 } else { 1 }),
+            positions: self.positions.saturating_add(!is_skipped as usize),
         }
+    }
+
+    /// With the lines of this text.
+    fn and_all(self, text: &[u8]) -> Tally {
+        text.split(|byte| *byte == b'\n')
+            .fold(self, |all, line| all.and(line))
     }
 }
 
 impl Recent {
-    fn new(alloc: Global) -> Recent {
-        Recent {
-            bytes: Vec::new(alloc),
-            before: Tally::NONE,
-            lost: false,
+    /// The next piece of the text, or the first of another. Lines that ended before it are counted and dropped.
+    fn take(&mut self, is_same: bool, piece: &[u8]) {
+        if !is_same {
+            self.bytes.clear();
+            self.before = Tally::NONE;
+            self.is_lost = false;
+        } else if let Some(last) = self.bytes.iter().rposition(|byte| *byte == b'\n') {
+            self.before = self.before.and_all(&self.bytes[..last]);
+            self.bytes.drain(..last + 1);
         }
-    }
-
-    fn clear(&mut self) {
-        self.bytes.clear();
-        self.before = Tally::NONE;
-        self.lost = false;
-    }
-
-    /// The next piece of the text. Lines that ended before it are dropped.
-    fn take(&mut self, piece: &[u8]) {
-        self.drop_lines();
         self.bytes.truncate(LONGEST_BEGINNING);
         if self.bytes.extend_from_slice(piece).is_err() {
-            self.lost = true;
+            self.is_lost = true;
         }
     }
 
-    /// Drops the lines that ended, and counts them.
-    fn drop_lines(&mut self) {
-        let Some(last) = self.bytes.iter().rposition(|byte| *byte == b'\n') else {
-            return;
-        };
-        let mut before = self.before;
-        for line in self.bytes[..last].split(|byte| *byte == b'\n') {
-            before = before.and(line);
+    fn bytes(&self) -> Option<&[u8]> {
+        if self.is_lost {
+            None
+        } else {
+            Some(self.bytes.as_slice())
         }
-        self.before = before;
-        self.bytes.drain(..last + 1);
     }
 
     /// The line of this number, counted from 1, as far as it was read.
     pub fn line(&self, number: usize) -> Option<&[u8]> {
-        if self.lost {
-            return None;
-        }
         let further = number.checked_sub(self.before.lines)?.checked_sub(1)?;
-        self.bytes.split(|byte| *byte == b'\n').nth(further)
+        self.bytes()?.split(|byte| *byte == b'\n').nth(further)
     }
 
-    /// The number of the line that has this position, and the line as far as it was read.
-    pub fn line_at(&self, position: usize) -> Option<(usize, &[u8])> {
-        if self.lost {
-            return None;
-        }
+    /// The number of the line that has this position.
+    pub fn line_of(&self, position: usize) -> Option<usize> {
         let mut all = self.before;
-        for line in self.bytes.split(|byte| *byte == b'\n') {
-            let before = all;
+        for line in self.bytes()?.split(|byte| *byte == b'\n') {
+            let before = all.positions;
             all = all.and(line);
-            if before.positions < position && position <= all.positions {
-                return Some((all.lines, line));
+            if before < position && position <= all.positions {
+                return Some(all.lines);
             }
         }
         None
@@ -223,14 +155,7 @@ impl Recent {
 
     /// How many lines of the text have a position, once it was read to its end.
     pub fn positions(&self) -> Option<usize> {
-        if self.lost {
-            return None;
-        }
-        let mut all = self.before;
-        for line in self.bytes.split(|byte| *byte == b'\n') {
-            all = all.and(line);
-        }
-        Some(all.positions)
+        Some(self.before.and_all(self.bytes()?).positions)
     }
 }
 
@@ -265,7 +190,8 @@ impl<D: Read> Read for Noted<'_, D> {
                 Ok(n)
             }
             Err(error) => {
-                self.notes.fail_at(self.number, error);
+                self.notes.at.set(self.number);
+                self.notes.error.set(Some(error));
                 Err(error)
             }
         }

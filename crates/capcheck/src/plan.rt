@@ -1,22 +1,21 @@
-//! What the words of the command line ask for: a check or its denials, an edit, an explanation, limits, help, or
-//! nothing, where they are a mistake.
+//! What the words of the command line ask for: a run, help, or nothing, where they are a mistake.
 //!
 //! `clap` reads the words. [`plan_of`] makes a [`Plan`] of its matches or of its error.
-ghost use Rattle.std.specs.Prelude.{◌≡◌, IfOk, IsTrue, Some, ◌↔◌, codes, map, option_and_then, option_map};
+ghost use Rattle.std.specs.Prelude.{◌≡◌, IfErr, IfOk, IsTrue, ◌↔◌, codes, map, option_and_then, option_map};
+ghost use Rattle.std.specs.Result.{result_ok};
 ghost use Rattle.clap.specs.Words.{FailsBy, fault_of, first_of, found_of, kind_of, rows_of, subcommand_of};
 ghost use Rattle.clap.specs.Words.{subcommand_rows_of};
 ghost use Rattle.capcheck.specs.CommandLine.{capcheck};
-ghost use Rattle.capcheck.specs.Plans.{Fits, IsRequest, TellsKind, TellsMistake, ask_among, edit_among};
-ghost use Rattle.capcheck.specs.Plans.{explain_among, given_among, given_by, given_of, is_input_twice};
-ghost use Rattle.capcheck.specs.Plans.{limits_among, place_among, profile_among, profile_named, run_in, run_of};
-ghost use Rattle.capcheck.specs.Plans.{seen, start_among, text_among, text_named, verbose_among};
+ghost use Rattle.capcheck.specs.Plans.{Fits, IsRequest, NamesNone, NamesRun, TellsKind, beside_among};
+ghost use Rattle.capcheck.specs.Plans.{is_input_twice, place_among, profile_among, run_in, run_of};
+ghost use Rattle.capcheck.specs.Plans.{seen, task_in, text_among, text_named, verbose_among};
 
 use crate::words::command;
 use cap_machine::{Profile, Question};
 use cap_session::number_of;
 use clap::error::ErrorKind;
 use clap::{ArgMatches, Error};
-use std::alloc::{AllocError, Global};
+use std::alloc::Global;
 
 /// What standard error says of a profile that is neither 1 nor 2.
 const NO_PROFILE: &str = "the profile is 1 or 2";
@@ -28,42 +27,41 @@ const NO_POSITION: &str = "the position is a number of 1 to 19 digits, without a
 const INPUT_TWICE: &str =
     "standard input can be read only once, and two of the files are standard input";
 
-/// What a run reads, and how.
+/// What standard error would say of a command that `clap` took and this program doesn't have.
+const NO_COMMAND: &str = "there is no such command";
+
+/// What is done with a trace.
 #[derive(Drop)]
-pub struct Subject<'a> {
+pub enum Task {
+    /// Ask this of it: a check asks for its findings.
+    Ask(Question),
+    /// Work through a script.
+    Edit,
+    /// Explain the line at this position.
+    Explain(usize),
+    /// Write the limits that later lines need, before the line at this position, or where there is none after each line
+    /// that made a descriptor.
+    Limits(Option<usize>),
+}
+
+/// What a run reads, how, and what for.
+#[derive(Drop)]
+pub struct Run<'a> {
     /// The trace of this name, or standard input.
     pub trace: Option<&'a str>,
-    /// What is known before the trace: nothing, or what the text of this name says, or standard input.
-    pub start: Option<Option<&'a str>>,
+    /// What is read beside it: the script of an edit, else the start, where one is named. It has this name, or is
+    /// standard input.
+    pub beside: Option<Option<&'a str>>,
     pub profile: Profile,
     /// Whether words on standard error were asked for.
     pub verbose: bool,
+    pub task: Task,
 }
 
 /// What the program is to do.
 #[derive(Drop)]
 pub enum Plan<'a> {
-    /// Ask this of the trace: a check asks for its findings.
-    Ask {
-        question: Question,
-        subject: Subject<'a>,
-    },
-    /// Load the trace, and work through the script of this name, or standard input. There is no start.
-    Edit {
-        subject: Subject<'a>,
-        script: Option<&'a str>,
-    },
-    /// Explain the line at this position of the trace.
-    Explain {
-        subject: Subject<'a>,
-        position: usize,
-    },
-    /// Write the limits that later lines need, before the line at this position of the trace, or where there is none
-    /// after each line that made a descriptor.
-    Limits {
-        subject: Subject<'a>,
-        at: Option<usize>,
-    },
+    Run(Run<'a>),
     /// Print this text, help or the version, which was asked for.
     Help(String),
     /// Print this text: the words are a mistake.
@@ -74,21 +72,30 @@ pub enum Plan<'a> {
 
 /// What the words after the program's name ask for.
 ///
-/// - `Ask`, `Edit`, `Explain` and `Limits`: only where `clap` finds no fault in the words, and with just the names, the
-///   options, the position and the profile that its matches give. The name `-` is standard input, as is a trace or a
-///   script that isn't named. The profile is 1 where the words name none.
+/// - `Run`: only where `clap` finds no fault in the words, and with just the names, the options, the position and the
+///   profile that its matches give. The name `-` is standard input, as is a trace or a script that isn't named. The
+///   profile is 1 where the words name none.
 /// - `Help`: only where they ask for help or for the version.
 /// - `Usage`: only where they are a mistake. `clap` finds it, or the profile is neither 1 nor 2, or the position is no
 ///   number as a script spells it, or two texts are standard input.
 pub fn plan_of<'a>(alloc: Global, words: &'a [&'a str]) -> Plan<'a>
     ensures { Fits (map (λ w. w.now) words.entry.now) result }
 {
-    match matches_of(alloc, words) {
-        Ok(matches) => match plan_in(&matches) {
-            Some(plan) => plan,
-            None => no_run(alloc, &matches),
-        },
+    match run_named(alloc, words) {
+        Ok(run) => Plan::Run(run),
         Err(error) => plan_for_error(alloc, &error),
+    }
+}
+
+/// The run that the words name, or an error in the form of those of `clap`.
+fn run_named<'a>(alloc: Global, words: &'a [&'a str]) -> Result<Run<'a>, Error>
+    ensures run { IfOk result (λ r. NamesRun (map (λ w. w.now) words.entry.now) (run_of r)) }
+    ensures none { IfErr result (NamesNone (map (λ w. w.now) words.entry.now)) }
+{
+    let matches = matches_of(alloc, words)?;
+    match run_found(&matches) {
+        Ok(run) => Ok(run),
+        Err(mistake) => Err(command(alloc)?.error(ErrorKind::InvalidValue, mistake)?),
     }
 }
 
@@ -101,99 +108,56 @@ fn matches_of<'a>(alloc: Global, words: &'a [&'a str]) -> Result<ArgMatches<'a>,
     command(alloc)?.try_get_matches_from(words)
 }
 
-/// The plan of matches.
-fn plan_in<'a>(matches: &ArgMatches<'a>) -> Option<Plan<'a>>
-    ensures { option_map run_of result ≡ option_map Some (option_and_then run_in (subcommand_rows_of matches.now)) }
+/// The run that the matches name, or what is wrong with them.
+fn run_found<'a>(matches: &ArgMatches<'a>) -> Result<Run<'a>, &'static str>
+    ensures { option_map run_of (result_ok result) ≡ option_and_then run_in (subcommand_rows_of matches.now) }
 {
-    let (name, found) = matches.subcommand()?;
-    plan_named(name, found)
+    let (name, found) = matches.subcommand().ok_or(NO_COMMAND)?;
+    let task = task_in(name, found)?;
+    let run = Run {
+        trace: text_in(found, "trace"),
+        beside: beside_in(&task, found),
+        profile: profile_in(found)?,
+        verbose: is_verbose(found),
+        task,
+    };
+    if is_input_twice(&run) {
+        return Err(INPUT_TWICE);
+    }
+    Ok(run)
 }
 
-/// The plan of a command and the matches of its arguments.
-fn plan_named<'a>(name: &str, found: &ArgMatches<'a>) -> Option<Plan<'a>>
-    ensures { option_map run_of result ≡ option_map Some (run_in (name.now, rows_of (found_of found.now))) }
+/// What a command is to do, by its arguments.
+fn task_in(name: &str, found: &ArgMatches<'_>) -> Result<Task, &'static str>
+    ensures { result_ok result ≡ task_in name.now (rows_of (found_of found.now)) }
 {
     match name {
-        "check" => ask_in(found, Question::Findings),
-        "denials" => ask_in(found, Question::Denials),
-        "edit" => edit_in(found),
-        "explain" => explain_in(found),
-        "limits" => limits_in(found),
-        _ => None,
+        "check" => Ok(Task::Ask(Question::Findings)),
+        "denials" => Ok(Task::Ask(Question::Denials)),
+        "edit" => Ok(Task::Edit),
+        "explain" => Ok(Task::Explain(place_in(found)?.ok_or(NO_POSITION)?)),
+        "limits" => Ok(Task::Limits(place_in(found)?)),
+        _ => Err(NO_COMMAND),
     }
-}
-
-/// The plan of the arguments of `check` or of `denials`.
-fn ask_in<'a>(found: &ArgMatches<'a>, question: Question) -> Option<Plan<'a>>
-    ensures { option_map run_of result ≡ option_map Some (ask_among question (rows_of (found_of found.now))) }
-{
-    let subject = subject_in(found)?;
-    Some(Plan::Ask { question, subject })
-}
-
-/// The plan of the arguments of `edit`.
-fn edit_in<'a>(found: &ArgMatches<'a>) -> Option<Plan<'a>>
-    ensures { option_map run_of result ≡ option_map Some (edit_among (rows_of (found_of found.now))) }
-{
-    let subject = subject_from(found, None)?;
-    let script = text_in(found, "script");
-    if is_input_twice(Some(script), subject.trace) {
-        return None;
-    }
-    Some(Plan::Edit { subject, script })
-}
-
-/// The plan of the arguments of `explain`.
-fn explain_in<'a>(found: &ArgMatches<'a>) -> Option<Plan<'a>>
-    ensures { option_map run_of result ≡ option_map Some (explain_among (rows_of (found_of found.now))) }
-{
-    let subject = subject_in(found)?;
-    let position = place_in(found)??;
-    Some(Plan::Explain { subject, position })
-}
-
-/// The plan of the arguments of `limits`.
-fn limits_in<'a>(found: &ArgMatches<'a>) -> Option<Plan<'a>>
-    ensures { option_map run_of result ≡ option_map Some (limits_among (rows_of (found_of found.now))) }
-{
-    let subject = subject_in(found)?;
-    let at = place_in(found)?;
-    Some(Plan::Limits { subject, at })
-}
-
-/// The trace and the start that the arguments name, and the options.
-fn subject_in<'a>(found: &ArgMatches<'a>) -> Option<Subject<'a>>
-    ensures { option_map given_of result ≡ given_among (rows_of (found_of found.now)) }
-{
-    let start = start_in(found);
-    let subject = subject_from(found, start)?;
-    if is_input_twice(start, subject.trace) {
-        return None;
-    }
-    Some(subject)
-}
-
-/// The trace that the arguments name, with a start, and the options.
-fn subject_from<'a>(found: &ArgMatches<'a>, start: Option<Option<&'a str>>) -> Option<Subject<'a>>
-    ensures { option_map given_of result ≡ given_by (text_among (codes "trace") (rows_of (found_of found.now)))
-        (option_map seen start.entry) (rows_of (found_of found.now)) }
-{
-    let profile = profile_in(found)?;
-    Some(Subject {
-        trace: text_in(found, "trace"),
-        start,
-        profile,
-        verbose: is_verbose(found),
-    })
 }
 
 /// Whether what is read beside the trace is standard input, and the trace too.
-fn is_input_twice(beside: Option<Option<&str>>, trace: Option<&str>) -> bool
-    ensures { result ≡ is_input_twice (option_map seen beside.entry) (seen trace.entry) }
+fn is_input_twice(run: &Run<'_>) -> bool
+    ensures { result ≡ is_input_twice (option_map seen run.now.beside) (seen run.now.trace) }
 {
-    match beside {
-        Some(name) => name.is_none() && trace.is_none(),
+    match run.beside {
+        Some(name) => name.is_none() && run.trace.is_none(),
         None => false,
+    }
+}
+
+/// What the arguments name beside the trace.
+fn beside_in<'a>(task: &Task, found: &ArgMatches<'a>) -> Option<Option<&'a str>>
+    ensures { option_map seen result ≡ beside_among task.now (rows_of (found_of found.now)) }
+{
+    match task {
+        Task::Edit => Some(text_in(found, "script")),
+        _ => Some(text_named(value(found, "start")?)),
     }
 }
 
@@ -202,14 +166,6 @@ fn text_in<'a>(found: &ArgMatches<'a>, id: &str) -> Option<&'a str>
     ensures { seen result ≡ text_among id.now (rows_of (found_of found.now)) }
 {
     text_named(value(found, id)?)
-}
-
-/// The start that the arguments name.
-fn start_in<'a>(found: &ArgMatches<'a>) -> Option<Option<&'a str>>
-    ensures { option_map seen result ≡ start_among (rows_of (found_of found.now)) }
-{
-    let name = value(found, "start")?;
-    Some(text_named(name))
 }
 
 /// What a name stands for: `-` is standard input.
@@ -233,33 +189,23 @@ fn is_verbose(found: &ArgMatches<'_>) -> bool
 }
 
 /// The position that the arguments name, where they name one.
-fn place_in(found: &ArgMatches<'_>) -> Option<Option<usize>>
-    ensures { result ≡ place_among (rows_of (found_of found.now)) }
+fn place_in(found: &ArgMatches<'_>) -> Result<Option<usize>, &'static str>
+    ensures { result_ok result ≡ place_among (rows_of (found_of found.now)) }
 {
     match value(found, "position") {
-        Some(word) => Some(Some(number_of(word.as_bytes())?)),
-        None => Some(None),
+        Some(word) => Ok(Some(number_of(word.as_bytes()).ok_or(NO_POSITION)?)),
+        None => Ok(None),
     }
 }
 
 /// The profile that the arguments name.
-fn profile_in(found: &ArgMatches<'_>) -> Option<Profile>
-    ensures { result ≡ profile_among (rows_of (found_of found.now)) }
+fn profile_in(found: &ArgMatches<'_>) -> Result<Profile, &'static str>
+    ensures { result_ok result ≡ profile_among (rows_of (found_of found.now)) }
 {
     match value(found, "profile") {
-        Some(name) => profile_named(name),
-        None => Some(Profile::One),
-    }
-}
-
-/// The profile of this name.
-fn profile_named(name: &str) -> Option<Profile>
-    ensures { result ≡ profile_named name.now }
-{
-    match name {
-        "1" => Some(Profile::One),
-        "2" => Some(Profile::Two),
-        _ => None,
+        None | Some("1") => Ok(Profile::One),
+        Some("2") => Ok(Profile::Two),
+        Some(_) => Err(NO_PROFILE),
     }
 }
 
@@ -270,7 +216,7 @@ fn value<'a>(found: &ArgMatches<'a>, id: &str) -> Option<&'a str>
     found.get_str(id)
 }
 
-/// The answer to words that give no matches.
+/// The answer to words that name no run.
 fn plan_for_error<'a>(alloc: Global, error: &Error) -> Plan<'a>
     ensures { TellsKind (kind_of error.now) result }
 {
@@ -283,31 +229,6 @@ fn plan_for_error<'a>(alloc: Global, error: &Error) -> Plan<'a>
         Ok(text) => Plan::Usage(text),
         Err(_) => Plan::Memory,
     }
-}
-
-/// The answer to words in which `clap` finds no fault, and that name no run.
-fn no_run<'a>(alloc: Global, matches: &ArgMatches<'_>) -> Plan<'a>
-    ensures { TellsMistake result }
-{
-    match usage_text(alloc, mistake_in(matches)) {
-        Ok(text) => Plan::Usage(text),
-        Err(_) => Plan::Memory,
-    }
-}
-
-/// What is wrong with such words.
-fn mistake_in(matches: &ArgMatches<'_>) -> &'static str {
-    match matches.subcommand() {
-        Some((_, found)) if place_in(found).is_none() => NO_POSITION,
-        Some((_, found)) if profile_in(found).is_none() => NO_PROFILE,
-        _ => INPUT_TWICE,
-    }
-}
-
-/// A mistake, in the form of those that `clap` finds.
-fn usage_text(alloc: Global, mistake: &str) -> Result<String, AllocError> {
-    let error = command(alloc)?.error(ErrorKind::InvalidValue, mistake)?;
-    error.to_string(alloc)
 }
 
 /// Whether an error is no mistake, but an answer that was asked for.

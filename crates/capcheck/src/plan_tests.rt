@@ -1,12 +1,12 @@
 //! What `plan_of` answers to words of the command line.
 
-use crate::plan::{Plan, Subject, plan_of};
+use crate::plan::{Plan, Run, Task, plan_of};
 use Wanted::{Ask, Edit, Explain, Help, Limits, Usage};
 use cap_machine::Profile::{self, One, Two};
 use cap_machine::Question::{self, Denials, Findings};
 use std::test::Fail;
 
-/// The trace and the start of a run, its profile, and whether words are asked for.
+/// The trace and the start of a run, its profile, and whether words are asked for. An edit has no start.
 type Read = (
     Option<&'static str>,
     Option<Option<&'static str>>,
@@ -113,30 +113,30 @@ static ROWS: [(&str, Wanted); 59] = [
     ("", MISTAKE),
 ];
 
-/// Whether a run reads this.
-fn reads(subject: &Subject<'_>, read: &Read) -> bool {
-    let (trace, start, profile, verbose) = read;
-    subject.trace == *trace
-        && subject.start == *start
-        && subject.profile == *profile
-        && subject.verbose == *verbose
+/// Whether a run reads this, and this beside the trace.
+fn reads(run: &Run<'_>, beside: &Option<Option<&'static str>>, read: &Read) -> bool {
+    let (trace, _, profile, verbose) = read;
+    run.trace == *trace
+        && run.beside == *beside
+        && run.profile == *profile
+        && run.verbose == *verbose
+}
+
+/// Whether a run is the one that is wanted.
+fn is_wanted_run(run: &Run<'_>, wanted: &Wanted) -> bool {
+    match (&run.task, wanted) {
+        (Task::Ask(question), Ask(asked, read)) => question == asked && reads(run, &read.1, read),
+        (Task::Edit, Edit(read, script)) => reads(run, &Some(*script), read),
+        (Task::Explain(position), Explain(read, at)) => position == at && reads(run, &read.1, read),
+        (Task::Limits(at), Limits(read, before)) => at == before && reads(run, &read.1, read),
+        _ => false,
+    }
 }
 
 /// Whether a plan is the one that is wanted.
 fn is_wanted(plan: &Plan<'_>, wanted: &Wanted) -> bool {
     match (plan, wanted) {
-        (Plan::Ask { question, subject }, Ask(asked, read)) => {
-            question == asked && reads(subject, read)
-        }
-        (Plan::Edit { subject, script }, Edit(read, name)) => {
-            script == name && reads(subject, read)
-        }
-        (Plan::Explain { subject, position }, Explain(read, at)) => {
-            position == at && reads(subject, read)
-        }
-        (Plan::Limits { subject, at }, Limits(read, before)) => {
-            at == before && reads(subject, read)
-        }
+        (Plan::Run(run), _) => is_wanted_run(run, wanted),
         (Plan::Help(text), Help(part)) | (Plan::Usage(text), Usage(part)) => text.contains(*part),
         _ => false,
     }

@@ -60,7 +60,7 @@ impl<'a, R: Files + Input> Texts for SystemTexts<'a, R> {
         match open(self.rt, name) {
             Ok(opened) => Ok(Counted::new(Noted::new(opened, number, self.notes))),
             Err(error) => {
-                self.notes.fail(error);
+                self.notes.error.set(Some(error));
                 Err(Failed)
             }
         }

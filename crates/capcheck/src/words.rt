@@ -4,10 +4,9 @@
 ghost use Rattle.std.specs.Prelude.{◌≡◌, IfOk, false};
 ghost use Rattle.clap.specs.Words.{app_of, rule_of, shape_of};
 ghost use Rattle.clap.specs.declared.builder.command.Command.TheViews.{out-Command};
-ghost use Rattle.capcheck.specs.CommandLine.{asking_words, bare_words, capcheck, check_words, denials_words};
-ghost use Rattle.capcheck.specs.CommandLine.{edit_words, editing_words, explain_words, limits_words, needed_position_rule};
-ghost use Rattle.capcheck.specs.CommandLine.{needed_trace_rule, position_rule, profile_rule, script_rule, start_rule};
-ghost use Rattle.capcheck.specs.CommandLine.{trace_rule, verbose_rule, with_options, with_start};
+ghost use Rattle.capcheck.specs.CommandLine.{asking_words, bare_words, capcheck, edit_words, editing_words};
+ghost use Rattle.capcheck.specs.CommandLine.{explain_words, file_words, limits_words, reading_words, with_options};
+ghost use Rattle.capcheck.specs.CommandLine.{with_start, word_rule};
 
 use crate::help;
 use clap::{Arg, ArgAction, Command};
@@ -33,9 +32,11 @@ fn editing_command<'a>(alloc: Global) -> Result<Command<'a>, AllocError>
 fn asking_command<'a>(alloc: Global) -> Result<Command<'a>, AllocError>
     ensures { IfOk result (λ c. app_of c ≡ asking_words) }
 {
+    let findings = "Checks a trace, and prints its findings";
+    let denials = "Shows what was lacking for calls that were refused";
     bare_command(alloc)?
-        .subcommand(check_command(alloc)?)?
-        .subcommand(denials_command(alloc)?)
+        .subcommand(reading_command(alloc, "check", findings, help::CHECK)?)?
+        .subcommand(reading_command(alloc, "denials", denials, help::DENIALS)?)
 }
 
 /// The program's own settings, with no command yet.
@@ -51,27 +52,78 @@ fn bare_command<'a>(alloc: Global) -> Result<Command<'a>, AllocError>
         .bin_name("capcheck")
 }
 
-/// `check [FILE]`, with `--start` and the options.
-fn check_command<'a>(alloc: Global) -> Result<Command<'a>, AllocError>
-    ensures shape { IfOk result (λ c. shape_of c ≡ check_words.top) }
+/// `NAME [FILE]`, with `--start` and the options.
+fn reading_command<'a>(
+    alloc: Global,
+    name: &'a str,
+    about: &'a str,
+    after_help: &'a str,
+) -> Result<Command<'a>, AllocError>
+    ensures shape { IfOk result (λ c. shape_of c ≡ (reading_words name.entry.now).top) }
     ensures local { IfOk result (λ c. (out-Command c).has_globals ≡ false) }
 {
-    let command = Command::new(alloc, "check")
-        .about("Checks a trace, and prints its findings")
-        .after_help(help::CHECK)
-        .arg(trace_arg(alloc))?;
+    let help = "The trace; standard input where it is - or absent";
+    let command = Command::new(alloc, name)
+        .about(about)
+        .after_help(after_help)
+        .arg(word_arg(alloc, "trace", "FILE", help))?;
     with_start(alloc, command)
 }
 
-/// `denials [FILE]`, with `--start` and the options.
-fn denials_command<'a>(alloc: Global) -> Result<Command<'a>, AllocError>
-    ensures shape { IfOk result (λ c. shape_of c ≡ denials_words.top) }
+/// `NAME FILE`, with nothing else yet.
+fn file_command<'a>(
+    alloc: Global,
+    name: &'a str,
+    about: &'a str,
+    after_help: &'a str,
+) -> Result<Command<'a>, AllocError>
+    ensures app { IfOk result (λ c. app_of c ≡ file_words name.entry.now) }
     ensures local { IfOk result (λ c. (out-Command c).has_globals ≡ false) }
 {
-    let command = Command::new(alloc, "denials")
-        .about("Shows what was lacking for calls that were refused")
-        .after_help(help::DENIALS)
-        .arg(trace_arg(alloc))?;
+    let help = "The trace; the file itself is not changed";
+    Command::new(alloc, name)
+        .about(about)
+        .after_help(after_help)
+        .arg(word_arg(alloc, "trace", "FILE", help).required(true))
+}
+
+/// `edit FILE [SCRIPT]`, with the options.
+fn edit_command<'a>(alloc: Global) -> Result<Command<'a>, AllocError>
+    ensures shape { IfOk result (λ c. shape_of c ≡ edit_words.top) }
+    ensures local { IfOk result (λ c. (out-Command c).has_globals ≡ false) }
+{
+    let about = "Replies to a script of commands on a trace";
+    let help = "The script; standard input where it is - or absent";
+    let command = file_command(alloc, "edit", about, help::EDIT)?.arg(word_arg(
+        alloc, "script", "SCRIPT", help,
+    ))?;
+    with_options(alloc, command)
+}
+
+/// `explain FILE K`, with `--start` and the options.
+fn explain_command<'a>(alloc: Global) -> Result<Command<'a>, AllocError>
+    ensures shape { IfOk result (λ c. shape_of c ≡ explain_words.top) }
+    ensures local { IfOk result (λ c. (out-Command c).has_globals ≡ false) }
+{
+    let about = "Shows a line of a trace with its findings, and the lines that they rest on";
+    let help = "The line, counted from 1 without empty lines and comments";
+    let command = file_command(alloc, "explain", about, help::EXPLAIN)?.arg(word_arg(
+        alloc, "position", "K", help,
+    ).required(true))?;
+    with_start(alloc, command)
+}
+
+/// `limits FILE [K]`, with `--start` and the options.
+fn limits_command<'a>(alloc: Global) -> Result<Command<'a>, AllocError>
+    ensures shape { IfOk result (λ c. shape_of c ≡ limits_words.top) }
+    ensures local { IfOk result (λ c. (out-Command c).has_globals ≡ false) }
+{
+    let about = "Writes a script that limits descriptors to the rights that later lines need";
+    let help =
+        "The line before which limits are put, counted as for explain; else after each line that made a descriptor";
+    let command = file_command(alloc, "limits", about, help::LIMITS)?.arg(word_arg(
+        alloc, "position", "K", help,
+    ))?;
     with_start(alloc, command)
 }
 
@@ -81,7 +133,11 @@ fn with_start<'a>(alloc: Global, command: Command<'a>) -> Result<Command<'a>, Al
     ensures shape { IfOk result (λ c. shape_of c ≡ (with_start (app_of command.entry)).top) }
     ensures local { IfOk result (λ c. (out-Command c).has_globals ≡ false) }
 {
-    with_options(alloc, command.arg(start_arg(alloc))?)
+    let help = "What is known of processes before the trace; by default nothing";
+    let start = word_arg(alloc, "start", "FILE", help)
+        .short('s')
+        .long("start");
+    with_options(alloc, command.arg(start)?)
 }
 
 /// A command, with `--profile` and `--verbose`.
@@ -90,134 +146,24 @@ fn with_options<'a>(alloc: Global, command: Command<'a>) -> Result<Command<'a>, 
     ensures shape { IfOk result (λ c. shape_of c ≡ (with_options (app_of command.entry)).top) }
     ensures local { IfOk result (λ c. (out-Command c).has_globals ≡ false) }
 {
-    command.arg(profile_arg(alloc))?.arg(verbose_arg(alloc))
-}
-
-/// The trace of `check` and of `denials`.
-fn trace_arg<'a>(alloc: Global) -> Arg<'a>
-    ensures rule { rule_of result ≡ trace_rule }
-    ensures local { result.global ≡ false }
-{
-    Arg::new(alloc, "trace")
-        .value_name("FILE")
-        .help("The trace; standard input where it is - or absent")
-}
-
-/// `-s FILE`, `--start FILE`.
-fn start_arg<'a>(alloc: Global) -> Arg<'a>
-    ensures rule { rule_of result ≡ start_rule }
-    ensures local { result.global ≡ false }
-{
-    Arg::new(alloc, "start")
-        .short('s')
-        .long("start")
-        .value_name("FILE")
-        .help("What is known of processes before the trace; by default nothing")
-}
-
-/// `-p NUMBER`, `--profile NUMBER`.
-fn profile_arg<'a>(alloc: Global) -> Arg<'a>
-    ensures rule { rule_of result ≡ profile_rule }
-    ensures local { result.global ≡ false }
-{
-    Arg::new(alloc, "profile")
+    let help = "1, or 2 to follow close-on-exec flags and closefrom(2); by default 1";
+    let profile = word_arg(alloc, "profile", "NUMBER", help)
         .short('p')
-        .long("profile")
-        .value_name("NUMBER")
-        .help("1, or 2 to follow close-on-exec flags and closefrom(2); by default 1")
-}
-
-/// `-v`, `--verbose`.
-fn verbose_arg<'a>(alloc: Global) -> Arg<'a>
-    ensures rule { rule_of result ≡ verbose_rule }
-    ensures local { result.global ≡ false }
-{
-    Arg::new(alloc, "verbose")
+        .long("profile");
+    let verbose = Arg::new(alloc, "verbose")
         .short('v')
         .long("verbose")
         .action(ArgAction::SetTrue)
         .help(
             "Says on standard error, in words, why there is no report; a terminal gets them in any case",
-        )
+        );
+    command.arg(profile)?.arg(verbose)
 }
 
-/// `edit FILE [SCRIPT]`, with the options.
-fn edit_command<'a>(alloc: Global) -> Result<Command<'a>, AllocError>
-    ensures shape { IfOk result (λ c. shape_of c ≡ edit_words.top) }
-    ensures local { IfOk result (λ c. (out-Command c).has_globals ≡ false) }
-{
-    let command = Command::new(alloc, "edit")
-        .about("Replies to a script of commands on a trace")
-        .after_help(help::EDIT)
-        .arg(needed_trace_arg(alloc))?
-        .arg(script_arg(alloc))?;
-    with_options(alloc, command)
-}
-
-/// The trace where it must be named.
-fn needed_trace_arg<'a>(alloc: Global) -> Arg<'a>
-    ensures rule { rule_of result ≡ needed_trace_rule }
+/// An argument with a value, without its option, and with what help calls that value and says of it.
+fn word_arg<'a>(alloc: Global, id: &'a str, value: &'a str, help: &'a str) -> Arg<'a>
+    ensures rule { rule_of result ≡ word_rule id.entry.now }
     ensures local { result.global ≡ false }
 {
-    Arg::new(alloc, "trace")
-        .value_name("FILE")
-        .required(true)
-        .help("The trace; the file itself is not changed")
-}
-
-/// The script of `edit`.
-fn script_arg<'a>(alloc: Global) -> Arg<'a>
-    ensures rule { rule_of result ≡ script_rule }
-    ensures local { result.global ≡ false }
-{
-    Arg::new(alloc, "script")
-        .value_name("SCRIPT")
-        .help("The script; standard input where it is - or absent")
-}
-
-/// `explain FILE K`, with `--start` and the options.
-fn explain_command<'a>(alloc: Global) -> Result<Command<'a>, AllocError>
-    ensures shape { IfOk result (λ c. shape_of c ≡ explain_words.top) }
-    ensures local { IfOk result (λ c. (out-Command c).has_globals ≡ false) }
-{
-    let command = Command::new(alloc, "explain")
-        .about("Shows a line of a trace with its findings, and the lines that they rest on")
-        .after_help(help::EXPLAIN)
-        .arg(needed_trace_arg(alloc))?
-        .arg(needed_position_arg(alloc))?;
-    with_start(alloc, command)
-}
-
-/// The position of `explain`.
-fn needed_position_arg<'a>(alloc: Global) -> Arg<'a>
-    ensures rule { rule_of result ≡ needed_position_rule }
-    ensures local { result.global ≡ false }
-{
-    Arg::new(alloc, "position")
-        .value_name("K")
-        .required(true)
-        .help("The line, counted from 1 without empty lines and comments")
-}
-
-/// `limits FILE [K]`, with `--start` and the options.
-fn limits_command<'a>(alloc: Global) -> Result<Command<'a>, AllocError>
-    ensures shape { IfOk result (λ c. shape_of c ≡ limits_words.top) }
-    ensures local { IfOk result (λ c. (out-Command c).has_globals ≡ false) }
-{
-    let command = Command::new(alloc, "limits")
-        .about("Writes a script that limits descriptors to the rights that later lines need")
-        .after_help(help::LIMITS)
-        .arg(needed_trace_arg(alloc))?
-        .arg(position_arg(alloc))?;
-    with_start(alloc, command)
-}
-
-/// The position of `limits`.
-fn position_arg<'a>(alloc: Global) -> Arg<'a>
-    ensures rule { rule_of result ≡ position_rule }
-    ensures local { result.global ≡ false }
-{
-    Arg::new(alloc, "position").value_name("K").help(
-        "The line before which limits are put, counted as for explain; else after each line that made a descriptor",
-    )
+    Arg::new(alloc, id).value_name(value).help(help)
 }

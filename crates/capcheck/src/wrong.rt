@@ -1,5 +1,5 @@
-//! What is wrong with a refused line, in words: [`wrong_in`] for a line of a trace, and [`wrong_in_start`] for one of a
-//! start. No contract reads it: the code is what the contracts are about, and these words only say more of it.
+//! What is wrong with a refused line, in words: [`wrong_in`]. No contract reads it: the code is what the contracts are
+//! about, and these words only say more of it.
 //!
 //! Which argument is wrong is asked of the reader of lines itself: it reads the call with other arguments in the place
 //! of those that are given.
@@ -8,7 +8,7 @@ use cap_rights::parse_rights;
 use cap_session::number_of;
 use cap_trace::{LineFault, parse_line};
 use std::alloc::{AllocError, Global};
-use std::fmt;
+use std::{fmt, mem};
 
 /// So many characters of a line are shown.
 const MOST_SHOWN: usize = 60;
@@ -35,19 +35,14 @@ impl fmt::Display for Wrong<'_> {
     fn fmt<W: fmt::Write>(&self, f: &mut fmt::Formatter<W>) -> fmt::Result {
         match *self {
             Wrong::Said(said) => f.write_str(said),
-            Wrong::Is(text, said) => {
-                let text = Shown::of(text);
-                write!(f, "{text} {said}")
-            }
-            Wrong::Has(said, text) => {
-                let text = Shown::of(text);
-                write!(f, "{said}, but {text}")
-            }
-            Wrong::Takes(name, takes, given) => {
-                let name = Shown::of(name);
-                let given = Shown::of(given);
-                write!(f, "{name} takes {takes}, but here it has ({given})")
-            }
+            Wrong::Is(text, said) => write!(f, "{} {said}", excerpt(text)),
+            Wrong::Has(said, text) => write!(f, "{said}, but {}", excerpt(text)),
+            Wrong::Takes(name, takes, given) => write!(
+                f,
+                "{} takes {takes}, but here it has ({})",
+                excerpt(name),
+                excerpt(given)
+            ),
         }
     }
 }
@@ -59,13 +54,11 @@ pub struct Shown<'a> {
     pub most: usize,
 }
 
-impl<'a> Shown<'a> {
-    /// A part of a line.
-    fn of(text: &'a str) -> Shown<'a> {
-        Shown {
-            text,
-            most: MOST_SHOWN,
-        }
+/// A part of a line.
+fn excerpt(text: &str) -> Shown<'_> {
+    Shown {
+        text,
+        most: MOST_SHOWN,
     }
 }
 
@@ -86,44 +79,65 @@ impl fmt::Display for Shown<'_> {
     }
 }
 
-/// What is wrong with a line of a trace that is refused with this code.
-pub fn wrong_in<'a>(alloc: Global, line: &'a [u8], code: u8) -> Wrong<'a> {
-    if let Some(wrong) = wrong_bytes(line) {
-        return wrong;
-    }
-    let Ok(line) = std::str::from_utf8(line) else {
-        return general(code);
-    };
-    match code {
-        2 => wrong_shape(line),
-        3 => wrong_pid(line),
-        4 => wrong_argument(alloc, line).unwrap_or(general(code)),
-        5 => wrong_right(line),
-        6 => wrong_result(line),
-        _ => general(code),
+/// Which text a refused line is of.
+#[derive(Clone, Copy)]
+pub enum Kind {
+    Trace,
+    Start,
+    Script,
+}
+
+/// What is wrong with a line that is refused with this code, where it is known.
+pub fn wrong_in<'a>(alloc: Global, kind: Kind, line: Option<&'a [u8]>, code: u8) -> Wrong<'a> {
+    match line {
+        Some(line) => wrong_line(alloc, kind, line, code).unwrap_or(general(code)),
+        None => general(code),
     }
 }
 
-/// What is wrong with a command of a script that is refused with this code: mostly the line in it, after two words.
-pub fn wrong_in_command<'a>(alloc: Global, command: &'a [u8], code: u8) -> Wrong<'a> {
-    if let Some(wrong) = wrong_bytes(command) {
-        return wrong;
+/// What is wrong with the line, where that can be found out.
+fn wrong_line<'a>(alloc: Global, kind: Kind, line: &'a [u8], code: u8) -> Option<Wrong<'a>> {
+    if let Some(wrong) = wrong_bytes(line) {
+        return Some(wrong);
     }
-    let Ok(command) = std::str::from_utf8(command) else {
-        return general(code);
-    };
-    match (code, command.splitn(3, ' ').nth(2)) {
-        (1, _) if command.len() > LONGEST_COMMAND => {
-            Wrong::Said("the command has more than 1,056 bytes")
-        }
-        (10, _) => Wrong::Is(command, "is not a command"),
-        (_, Some(line)) => wrong_in(alloc, line.as_bytes(), code),
-        (_, None) => general(code),
+    let line = std::str::from_utf8(line).ok()?;
+    match kind {
+        Kind::Trace => wrong_entry(alloc, line, code),
+        Kind::Start if code != 1 => check_start(line, code).err(),
+        Kind::Start => None,
+        Kind::Script => wrong_command(alloc, line, code),
+    }
+}
+
+/// What is wrong with a line of a trace.
+fn wrong_entry<'a>(alloc: Global, line: &'a str, code: u8) -> Option<Wrong<'a>> {
+    match code {
+        2 => Some(wrong_shape(line)),
+        3 => Some(wrong_pid(line)),
+        4 => wrong_argument(alloc, line),
+        5 => wrong_right(line),
+        6 => wrong_result(line),
+        _ => None,
+    }
+}
+
+/// What is wrong with a command of a script: mostly the line in it, after two words.
+fn wrong_command<'a>(alloc: Global, command: &'a str, code: u8) -> Option<Wrong<'a>> {
+    if code == 1 && command.len() > LONGEST_COMMAND {
+        return Some(Wrong::Said("the command has more than 1,056 bytes"));
+    }
+    if code == 10 {
+        return Some(Wrong::Is(command, "is not a command"));
+    }
+    let line = command.splitn(3, ' ').nth(2)?;
+    match wrong_bytes(line.as_bytes()) {
+        Some(wrong) => Some(wrong),
+        None => wrong_entry(alloc, line, code),
     }
 }
 
 /// What a code means.
-pub fn general<'a>(code: u8) -> Wrong<'a> {
+fn general<'a>(code: u8) -> Wrong<'a> {
     Wrong::Said(match code {
         1 => "the line has more than 1,024 bytes",
         2 => "the line is neither PID NAME(ARGUMENTS) RET RESULT nor PID @NAME(ARGUMENTS)",
@@ -186,10 +200,7 @@ fn is_name(name: &str) -> bool {
 
 /// What is wrong with the pid of a line.
 fn wrong_pid(line: &str) -> Wrong<'_> {
-    let word = match line.split_once(' ') {
-        Some((word, _)) => word,
-        None => line,
-    };
+    let word = line.split(' ').next().unwrap_or(line);
     if !word.is_empty() && word.bytes().all(|byte| byte.is_ascii_digit()) {
         return Wrong::Is(word, NO_PID);
     }
@@ -202,12 +213,10 @@ fn wrong_pid(line: &str) -> Wrong<'_> {
 }
 
 /// What is wrong with the rights of a line: they are the last argument.
-fn wrong_right(line: &str) -> Wrong<'_> {
+fn wrong_right(line: &str) -> Option<Wrong<'_>> {
     let (_, args) = call_of(line);
-    let Some((_, rights)) = args.rsplit_once(',') else {
-        return general(5);
-    };
-    wrong_among(rights)
+    let (_, rights) = args.rsplit_once(',')?;
+    Some(wrong_among(rights))
 }
 
 /// The first of these rights that is none.
@@ -221,19 +230,14 @@ fn wrong_among(rights: &str) -> Wrong<'_> {
 }
 
 /// What is wrong with the result of a line.
-fn wrong_result(line: &str) -> Wrong<'_> {
-    match line.rsplit_once(") RET ") {
-        Some((_, result)) => Wrong::Is(result, "is not a result that the call can have"),
-        None => general(6),
-    }
+fn wrong_result(line: &str) -> Option<Wrong<'_>> {
+    let (_, result) = line.rsplit_once(") RET ")?;
+    Some(Wrong::Is(result, "is not a result that the call can have"))
 }
 
 /// The name of the call or the marker in a line, and its arguments.
 fn call_of(line: &str) -> (&str, &str) {
-    let call = match line.split_once(' ') {
-        Some((_, call)) => call,
-        None => line,
-    };
+    let call = line.split_once(' ').map_or(line, |(_, call)| call);
     let Some((name, rest)) = call.split_once('(') else {
         return (call, "");
     };
@@ -306,19 +310,24 @@ fn fits(alloc: Global, name: &str, args: &str) -> Option<bool> {
 }
 
 /// The first argument that the call doesn't take in the place of the fitting one. Nothing where there are not as many.
-fn first_wrong<'a>(alloc: Global, name: &str, fitting: &str, args: &'a str) -> Option<Wrong<'a>> {
+fn first_wrong<'a>(
+    alloc: Global,
+    name: &str,
+    fitting: &'a str,
+    args: &'a str,
+) -> Option<Wrong<'a>> {
     if args.is_empty() || fitting.is_empty() {
         return None;
     }
-    let fitting = parts(alloc, fitting).ok()?;
     let given = parts(alloc, args).ok()?;
-    if given.len() != fitting.len() {
+    if given.len() != parts(alloc, fitting).ok()?.len() {
         return None;
     }
     for (place, part) in given.iter().enumerate() {
-        let tried = with_part(alloc, fitting.as_slice(), place, part).ok()?;
-        if !fits(alloc, name, tried.as_str())? {
-            return Some(Wrong::Is(part, kind_of(fitting.get(place)?)));
+        let mut tried = parts(alloc, fitting).ok()?;
+        let replaced = mem::replace(tried.get_mut(place)?, *part);
+        if !fits(alloc, name, tried.join(alloc, ",").ok()?.as_str())? {
+            return Some(Wrong::Is(part, kind_of(replaced)));
         }
     }
     None
@@ -337,18 +346,6 @@ fn parts(alloc: Global, args: &str) -> Result<Vec<&str>, AllocError> {
     .collect(alloc)
 }
 
-/// Arguments, with this one at a place.
-fn with_part(alloc: Global, args: &[&str], place: usize, part: &str) -> Result<String, AllocError> {
-    let mut all = String::new(alloc);
-    for (at, one) in args.iter().enumerate() {
-        if at > 0 {
-            all.push(',')?;
-        }
-        all.push_str(if at == place { part } else { one })?;
-    }
-    Ok(all)
-}
-
 /// What a wrong argument isn't, by one that fits.
 fn kind_of(fitting: &str) -> &'static str {
     match fitting {
@@ -361,79 +358,58 @@ fn kind_of(fitting: &str) -> &'static str {
     }
 }
 
-/// What is wrong with a line of a start that is refused with this code.
-pub fn wrong_in_start<'a>(line: &'a [u8], code: u8) -> Wrong<'a> {
-    if let Some(wrong) = wrong_bytes(line) {
-        return wrong;
-    }
-    match std::str::from_utf8(line) {
-        Ok(line) if code != 1 => wrong_field(line, code).unwrap_or(general(code)),
-        _ => general(code),
-    }
-}
-
-/// The first field of a line of a start that is wrong.
-fn wrong_field<'a>(line: &'a str, code: u8) -> Option<Wrong<'a>> {
+/// Looks for the first field of a line of a start that is wrong, which is the error.
+fn check_start<'a>(line: &'a str, code: u8) -> Result<(), Wrong<'a>> {
     let mut words = line.split(' ');
-    let pid = words.next()?;
+    let pid = words.next().unwrap_or(line);
     if matches!(number_to(99_999, pid), None | Some(0)) {
-        return Some(Wrong::Is(pid, NO_PID));
+        return Err(Wrong::Is(pid, NO_PID));
     }
     if code == 3 {
-        return Some(Wrong::Is(pid, "is not above the pid before it"));
+        return Err(Wrong::Is(pid, "is not above the pid before it"));
     }
-    let Some(mode) = words.next() else {
-        return Some(Wrong::Said("the line ends before the mode"));
-    };
+    let mode = words
+        .next()
+        .ok_or(Wrong::Said("the line ends before the mode"))?;
     if !matches!(mode, "in" | "out" | "unsure") {
-        return Some(Wrong::Is(mode, "is not in, out or unsure"));
+        return Err(Wrong::Is(mode, "is not in, out or unsure"));
     }
-    let Some(others) = words.next() else {
-        return Some(Wrong::Said("the line ends before what all other descriptors are"));
-    };
-    if let Some(wrong) = wrong_state(others) {
-        return Some(wrong);
-    }
+    let others = words.next().ok_or(Wrong::Said(
+        "the line ends before what all other descriptors are",
+    ))?;
+    check_state(others)?;
     let mut last = None;
     for word in words {
-        match listed(word, last) {
-            Ok(fd) => last = Some(fd),
-            Err(wrong) => return Some(wrong),
-        }
+        last = Some(listed(word, last)?);
     }
-    None
+    Ok(())
 }
 
 /// The number that a word spells, up to this one.
 fn number_to(most: usize, word: &str) -> Option<usize> {
-    let number = number_of(word.as_bytes())?;
-    if number <= most { Some(number) } else { None }
+    number_of(word.as_bytes()).filter(|number| *number <= most)
 }
 
-/// What is wrong with what a descriptor is said to be.
-fn wrong_state<'a>(state: &'a str) -> Option<Wrong<'a>> {
+/// Looks for what is wrong with what a descriptor is said to be.
+fn check_state<'a>(state: &'a str) -> Result<(), Wrong<'a>> {
     if matches!(state, "unknown" | "closed") || parse_rights(state.as_bytes()).is_ok() {
-        None
+        Ok(())
     } else if state.contains("CAP_") {
-        Some(wrong_among(state))
+        Err(wrong_among(state))
     } else {
-        Some(Wrong::Is(state, "is not unknown, closed or rights"))
+        Err(Wrong::Is(state, "is not unknown, closed or rights"))
     }
 }
 
 /// The descriptor of a word that lists one, or what is wrong with it.
 fn listed<'a>(word: &'a str, last: Option<usize>) -> Result<usize, Wrong<'a>> {
-    let Some((fd, state)) = word.split_once('=') else {
-        return Err(Wrong::Is(word, "is not a descriptor, = and what it is"));
-    };
-    let Some(number) = number_to(1_048_575, fd) else {
-        return Err(Wrong::Is(fd, "is not a descriptor"));
-    };
+    let (fd, state) = word
+        .split_once('=')
+        .ok_or(Wrong::Is(word, "is not a descriptor, = and what it is"))?;
+    let number = number_to(1_048_575, fd).ok_or(Wrong::Is(fd, "is not a descriptor"))?;
     if last.is_some_and(|last| number <= last) {
         return Err(Wrong::Is(fd, "is not above the descriptor before it"));
     }
-    match wrong_state(state) {
-        Some(wrong) => Err(wrong),
-        None => Ok(number),
-    }
+    check_state(state)?;
+    Ok(number)
 }
