@@ -1,10 +1,10 @@
 -- What one line lists, that the line names it, and a cell that is set in place.
 use Rattle.std.specs.Prelude.{◌≡◌, ◌+◌, ◌<◌, ◌≤◌, ◌||◌, ℕ, eqb, List, Bool, true, false, cond, Option, Some, length}
 use Rattle.std.specs.Prelude.{get_or, take, refl, ◌==◌, ◌∷◌, [], IfSome, All, ◌&&◌, None, unwrap_or}
-use Rattle.cap_summary.specs.{option_map_or, list_any, all, Unsure, Closed, LineEffect, fds_spelled}
+use Rattle.cap_summary.specs.{option_map_or, list_any, all, Unsure, Closed, Outside, LineEffect, Keys.mode_cell, declared.base.Base.Base, fds_spelled}
 use Rattle.cap_summary.specs.{declared.value.Value.Value, Op, declared.key.Key.Key, Cell, declared.effect.Effect.Effect}
 use Rattle.cap_summary.specs.{declared.effect.Row.Row, Keys.Cells, Sorted.found, Values.read, Values.reads_within}
-use Rattle.cap_summary.specs.Lines.{IsStarted, IsListOf, is_cell, with_cell}
+use Rattle.cap_summary.specs.Lines.{IsStarted, IsRowOf, is_cell, with_cell}
 use Rattle.cap_summary.specs.Names.{Names, has_cell, IsListedWithin, LineWithin, RowWithin, RowsWithin, IsRowWithin}
 use Rattle.cap_summary.specs.{Names.EffectWithin}
 use Rattle.cap_summary.specs.Effects.{own_row, base_cell, row_cell, cell_in, changed}
@@ -31,11 +31,15 @@ pub started_all : (fds : List ℕ) (i : ℕ) (listed : List (ℕ × Value)) → 
     → IsStarted fds listed
 started_all fds i listed whole started = rw (take_all i fds whole) at started
 
--- a start lists just these
-pub started_list : (line : LineEffect) (fds : Bor (List ℕ)) (me : ℕ) (listed : List (ℕ × Value)) → line ≡
-    LineEffect.Start fds
-    → IsStarted (fds_spelled fds.now) listed → IsListOf line me listed
-started_list line fds me listed is started cells f = rw (is, eq-eqb me me refl) (started cells f)
+-- the row of a process that starts with just these
+pub started_row : (line : LineEffect) (fds : Bor (List ℕ)) (me : ℕ) (base : Base) (mode : Value) (listed : List (ℕ × Value))
+    → line ≡ LineEffect.Start fds → ((cells : Cells) (f : ℕ) → base_cell cells me base f ≡ Closed)
+    → ((cells : Cells) → read cells mode ≡ mode_cell Outside) → IsStarted (fds_spelled fds.now) listed
+    → IsRowOf line me (record { base = base; mode = Some mode; cells = listed })
+started_row line fds me base mode listed is closed outside started cells Key.Mode =
+    rw (is, eq-eqb me me refl) (outside cells)
+started_row line fds me base mode listed is closed outside started cells (Key.Fd f) =
+    rw (is, eq-eqb me me refl, closed cells f) (started cells f)
 
 -- one more entry, where this holds of it and of the others
 module _ {V : Type 0} (P : ℕ → V → Type 0) (k : ℕ) (v : V) (holds : P k v) where

@@ -15,7 +15,7 @@ use Rattle.std.specs.Prelude.{slice_index_or, All}
 use Rattle.cap_summary.specs.{list_any, fds_spelled, Item, Answer, ResultKind, Count, Fd, Same, FdPair, kind_of, Cell}
 use Rattle.cap_summary.specs.{Unknown, Op, Step, LineEffect, same, Touch, kept, given, taken, touch, started}
 use Rattle.cap_summary.specs.{effect_touch, fds_of, Names.answers_fd, Names.line_names_fd}
-use Rattle.cap_summary.proofs.{sym, ap, ◌∙◌, arith, ne_eqb, eq-eqb, or_left, or_right, All-nil, All-cons}
+use Rattle.cap_summary.proofs.{sym, ap, ◌∙◌, arith, ne_eqb, eq-eqb, or_left, or_right, or-false, All-nil, All-cons}
 
 by_cases : {X : Type 0} (b : Bool) → (b ≡ true → X) → (b ≡ false → X) → X
 by_cases true one other = one refl
@@ -118,14 +118,6 @@ Does line step = (p f : ℕ) → effect_touch line step.line.pid p f ≡ touch s
 abbrev Named : Step → ℕ → Type 0
 Named step f = line_names_fd f step.line ≡ true
 
-right_of : (a b : Bool) → (a || b) ≡ true → a ≡ false → b ≡ true
-right_of true b is none = absurd cc
-right_of false b is none = is
-
-left_of : (a b : Bool) → (a || b) ≡ true → b ≡ false → a ≡ true
-left_of true b is none = refl
-left_of false b is none = absurd cc
-
 abbrev step_of : Profile → ℕ → Item → Step
 step_of profile me item = record { profile = profile; line = record { pid = me; item = item } }
 
@@ -140,10 +132,10 @@ module _ (profile : Profile) (me : ℕ) (call : Call) (answer : Answer) (line : 
       by_cases (is_told (kind_of call) answer)
       (λ told. by_cases args (λ is. or_left args (answers_fd g (kind_of call) answer) is)
       (λ none. or_right args (answers_fd g (kind_of call) answer) (told_named g (kind_of call) answer told
-      (right_of args (answer_names g answer) (named_effects (of_answer answer) line does k d lt) none))))
+      (rw none at (named_effects (of_answer answer) line does k d lt)))))
       (λ untold. or_left args (answers_fd g (kind_of call) answer)
-      (left_of args (answer_names g (other (suc g) answer)) (named_effects (of_answer (other (suc g) answer)) line
-      (λ p f. does p f ∙ sym (call_alike (suc g) me p f profile call answer apart untold)) k d lt) (unnamed g answer)))
+      (sym (or-false args) ∙ rw (unnamed g answer) at (named_effects (of_answer (other (suc g) answer)) line
+      (λ p f. does p f ∙ sym (call_alike (suc g) me p f profile call answer apart untold)) k d lt)))
 
 -- ---- a fork has no descriptor one by one but the one that pdfork(2) answers
 

@@ -1,12 +1,12 @@
 -- The cells after a line, by the rows of the processes that it touches.
-use Rattle.std.specs.Prelude.{◌≡◌, ◌==◌, ◌||◌, ℕ, Bool, true, false, cond, refl, List, Some, None}
-use Rattle.cap_summary.specs.{option_map_or, Set, Clear, Unsure, Cell, Unknown, Closed, Held, LineEffect, applied, same}
+use Rattle.std.specs.Prelude.{◌≡◌, ◌==◌, ◌||◌, ℕ, Bool, true, false, cond, refl}
+use Rattle.cap_summary.specs.{Set, Clear, Unsure, Cell, Unknown, Closed, Held, LineEffect, applied, same}
 use Rattle.cap_summary.specs.{kept, given, taken, stays, follows, touched, Effects.row_cell, Effects.changed}
-use Rattle.cap_summary.specs.{Effects.IsRowAfter, Keys.Cells, Sorted.found, Values.read, declared.effect.Effect.Effect}
-use Rattle.cap_summary.specs.{declared.effect.Row.Row, declared.key.Key.Key, declared.value.Value.Value}
+use Rattle.cap_summary.specs.{Effects.IsRowAfter, Keys.Cells, declared.effect.Effect.Effect}
+use Rattle.cap_summary.specs.{declared.effect.Row.Row, declared.key.Key.Key}
 use Rattle.cap_summary.specs.{Effects.row_leaves, Effects.leaves, Effects.LineLeaves, Effects.LeavesThenLine}
 use Rattle.cap_summary.specs.Lines.{turned_cell, line_after, IsThenLine, is_touched, IsPut, LeavesPut, IsRowOf}
-use Rattle.cap_summary.specs.Lines.{LeavesOwn, IsListOf}
+use Rattle.cap_summary.specs.Lines.{LeavesOwn}
 use Rattle.cap_summary.proofs.{sym, ap, ◌∙◌, inl, inr, subst, eqb-true, eq-eqb, or-false, Bools.or_right}
 
 -- ---- a process that isn't touched keeps its cells
@@ -77,19 +77,6 @@ touched_so (LineEffect.ForkAs child g) me p cells (Key.Fd f) is =
     rw (is, own_too me cells child) (as_cell me cells child p f (f == g) (p == child) is
     ∙ sym (as_cell me cells child me f (f == g) (me == child) (own_too me cells child)))
 touched_so line me p cells k is = ap (λ q. line_after line me cells q k) (eqb-true p me is)
-
--- a line that lists a descriptor of the child that it makes
-pub fork_list : (line : LineEffect) (child g me : ℕ) (listed : List (ℕ × Value)) → line ≡ LineEffect.ForkAs child g
-    → ((f : ℕ) → found listed f ≡ cond (f == g) (Some Value.Unknown) None) → IsListOf line me listed
-fork_list line child g me listed is with cells f =
-    rw is (ap (λ o. option_map_or (read cells) o (cells me (Key.Fd f))) (with f)
-    ∙ either (f == g) ∙ rw (own_too me cells child)
-    (sym (as_cell me cells child me f (f == g) (me == child) (own_too me cells child))))
-  where
-    either : (b : Bool) → option_map_or (read cells) (cond b (Some Value.Unknown) None) (cells me (Key.Fd f))
-        ≡ cond b Unknown (cells me (Key.Fd f))
-    either true = refl
-    either false = refl
 
 module _ (first new : Effect) (line : LineEffect) (me : ℕ) (own row : Row) where
   pub then_line : IsRowOf line me own → IsRowAfter first me own row → IsPut line me row first.rows new.rows

@@ -1,51 +1,26 @@
 -- A row that reads its own process alone, after a segment that leaves that process.
-use Rattle.std.specs.Prelude.{◌≡◌, ◌==◌, ◌∷◌, ℕ, Bool, true, false, List, [], cond, Option, Some, None, refl, IfSome}
-use Rattle.std.specs.Prelude.{All}
-use Rattle.cap_summary.specs.{option_map_or, Cell, Closed, applied, Composing.IsComposedSo, Keys.Cells, Sorted.found}
+use Rattle.std.specs.Prelude.{◌≡◌, ◌==◌, ◌∷◌, ℕ, Bool, true, false, List, [], cond, Option, Some, None, refl, IfSome, option_copied}
+use Rattle.cap_summary.specs.{list_all, option_map_or, Cell, Closed, applied, Composing.IsComposedSo, Keys.Cells, Sorted.found}
 use Rattle.cap_summary.specs.{declared.base.DefaultCells.DefaultCells, declared.effect.Effect.Effect}
 use Rattle.cap_summary.specs.{declared.effect.Row.Row, declared.key.Key.Key, declared.value.Value.Value}
 use Rattle.cap_summary.specs.Effects.{passed, is_from, others_cell, base_cell, row_cell, cell_in, changed}
 use Rattle.cap_summary.specs.Names.{only, has_cell, has_key, others_within, mode_within, IsListedWithin, ListWithin}
 use Rattle.cap_summary.specs.Names.{RowWithin}
-use Rattle.cap_summary.specs.Values.{read, source, reads_within}
-use Rattle.cap_summary.proofs.{ap, ◌∙◌, eqb-true, eq-eqb, All-head, All-tail, Bools.and_left}
+use Rattle.cap_summary.specs.Values.{read, reads_within}
+use Rattle.cap_summary.proofs.{Bor, ap, sym, ◌∙◌, eqb-true, eq-eqb, Bools.and_left, Bools.and_right}
 
--- what holds of each entry holds of what is found
-pub found_each : {V : Type 0} (P : V → Type 0) (entries : List (ℕ × V)) → All (λ (e : ℕ × V). P e.1) entries
-    → (f : ℕ) → IfSome (found entries f) P
-found_each P [] all f = tt
-found_each {V} P ((k, v) ∷ rest) all f =
-    either (k == f) (found rest f) (All-head (λ (e : ℕ × V). P e.1) (k, v) rest all)
-    (found_each P rest (All-tail (λ (e : ℕ × V). P e.1) (k, v) rest all) f)
+-- values that each read one process alone, listed for some descriptors
+pub list_only : (p : ℕ) (entries : List (ℕ × Value))
+    → list_all (λ (entry : ℕ × Value). reads_within (has_cell (only p)) entry.1) entries ≡ true → ListWithin (only p) entries
+list_only p [] all f = tt
+list_only p ((k, v) ∷ rest) all f =
+    either (k == f) (found rest f) (and_left (reads_within (has_cell (only p)) v) _ all)
+    (list_only p rest (and_right (reads_within (has_cell (only p)) v) _ all) f)
   where
-    either : (b : Bool) (o : Option V) → P v → IfSome o P → IfSome (cond b (Some v) o) P
-    either true o here later = here
+    either : (b : Bool) (o : Option Value) → reads_within (has_cell (only p)) v ≡ true
+        → IfSome o (IsListedWithin (only p) f) → IfSome (cond b (Some v) o) (IsListedWithin (only p) f)
+    either true o here later = record { key = refl; source = here }
     either false o here later = later
-
--- a value that reads one process alone
-pub reads_none : (p : ℕ) (v : Value) → source v ≡ None → reads_within (has_cell (only p)) v ≡ true
-reads_none p v none = rw none refl
-
-pub reads_one : (p q : ℕ) (k : Key) (v : Value) → source v ≡ Some (q, k) → (q == p) ≡ true
-    → reads_within (has_cell (only p)) v ≡ true
-reads_one p q k v from same = rw (from, same) (keys k)
-  where
-    keys : (k : Key) → has_key (only p) k ≡ true
-    keys Key.Mode = refl
-    keys (Key.Fd f) = refl
-
--- each value of a list does
-abbrev pub ReadsOnly : ℕ → ℕ × Value → Type 0
-ReadsOnly p e = reads_within (has_cell (only p)) e.1 ≡ true
-
-pub list_only : (p : ℕ) (entries : List (ℕ × Value)) → All (ReadsOnly p) entries → ListWithin (only p) entries
-list_only p entries all f =
-    listed (found entries f) (found_each (λ v. reads_within (has_cell (only p)) v ≡ true) entries all f)
-  where
-    listed : (o : Option Value) → IfSome o (λ v. reads_within (has_cell (only p)) v ≡ true)
-        → IfSome o (IsListedWithin (only p) f)
-    listed None is = is
-    listed (Some v) is = record { key = refl; source = is }
 
 module _ (before after : Cells) (p : ℕ) (same : (k : Key) → before p k ≡ after p k) where
   same_cell : (q : ℕ) (k : Key) → (q == p) ≡ true → before q k ≡ after q k
@@ -99,3 +74,8 @@ pub second_replaced : (was first : Effect) (p : ℕ) (left later new : Option Ro
     → found was.rows p ≡ later → IsComposedSo first p (found first.rows p) (found was.rows p) new
     → IsComposedSo first p left later new
 second_replaced was first p left later new is had old = rw (is, ← had) old
+
+-- what is looked up of a process
+pub copied : (o : Option (Bor Row)) (x : Option Row) → option_copied o ≡ x → IfSome o (λ row. x ≡ Some row.now)
+copied None x is = tt
+copied (Some row) x is = sym is

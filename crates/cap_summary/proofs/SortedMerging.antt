@@ -101,35 +101,19 @@ module _ {L R O : Type 0} {gives : ℕ → Option L → Option R → Option O
         rw (none_left, none_right, found_past bound merged k so_far.merged_below past) (neither k)
   ]
 
-  -- the bound moves up to the least key of the rest
-  pub raised : ((k : ℕ) → gives k None None None) → (key : ℕ) → bound ≤ key → RisesFrom key lefts → RisesFrom key rights
-      → IsMergedTo gives left lefts right rights merged key
-  raised neither key le left_rises right_rises = record {
-    left_rises = left_rises;
-    right_rises = right_rises;
-    left_rest = λ k above. so_far.left_rest k (omega arith);
-    right_rest = λ k above. so_far.right_rest k (omega arith);
-    merged_rises = so_far.merged_rises;
-    merged_below = AllBelow-more bound key merged le so_far.merged_below;
-    given = λ k below. elim (cases_lt k bound) [
-      | inl lower ↦ so_far.given k lower
-      | inr past ↦
-          let none_left : found left k ≡ None = sym (so_far.left_rest k past)
-          ∙ found_below key lefts k left_rises below in
-          let none_right : found right k ≡ None = sym (so_far.right_rest k past)
-          ∙ found_below key rights k right_rises below in
-          rw (none_left, none_right, found_past bound merged k so_far.merged_below past) (neither k)
-    ];
-  }
+  below_key : (key : ℕ) → bound ≤ key → AllBelow key merged
+  below_key key le = AllBelow-more bound key merged le so_far.merged_below
 
-  module _ {above_left : List (ℕ × L)} {above_right : List (ℕ × R)} (left_rises : RisesFrom (bound + 1) above_left)
-      (right_rises : RisesFrom (bound + 1) above_right) (left_above : (k : ℕ) → bound < k → found above_left k
-      ≡ found lefts k) (right_above : (k : ℕ) → bound < k → found above_right k ≡ found rights k) where
-    -- the key at the bound is merged
-    merged_more : (more : List (ℕ × O)) → Rises more → AllBelow (bound + 1) more
-        → ((k : ℕ) → k < bound → found more k ≡ found merged k)
-        → gives bound (found lefts bound) (found rights bound) (found more bound)
-        → IsMergedTo gives left above_left right above_right more (bound + 1)
+  -- the least key of the rest is merged
+  module _ (neither : (k : ℕ) → gives k None None None) (key : ℕ) (le : bound ≤ key) (lefts_rise : RisesFrom key lefts)
+      (rights_rise : RisesFrom key rights) {above_left : List (ℕ × L)} {above_right : List (ℕ × R)}
+      (left_rises : RisesFrom (key + 1) above_left) (right_rises : RisesFrom (key + 1) above_right)
+      (left_above : (k : ℕ) → key < k → found above_left k ≡ found lefts k)
+      (right_above : (k : ℕ) → key < k → found above_right k ≡ found rights k) where
+    merged_more : (more : List (ℕ × O)) → Rises more → AllBelow (key + 1) more
+        → ((k : ℕ) → k < key → found more k ≡ found merged k)
+        → gives key (found lefts key) (found rights key) (found more key)
+        → IsMergedTo gives left above_left right above_right more (key + 1)
     merged_more more rises below same here = record {
       left_rises = left_rises;
       right_rises = right_rises;
@@ -137,35 +121,33 @@ module _ {L R O : Type 0} {gives : ℕ → Option L → Option R → Option O
       right_rest = λ k above. right_above k (omega arith) ∙ so_far.right_rest k (omega arith);
       merged_rises = rises;
       merged_below = below;
-      given = λ k le. elim (cases_lt k bound) [
-        | inl lower ↦ rw (same k lower) (so_far.given k lower)
+      given = λ k at_most. elim (cases_lt k key) [
+        | inl lower ↦ rw (same k lower) (elim (cases_lt k bound) [
+          | inl before ↦ so_far.given k before
+          | inr past ↦ rw (
+            ← so_far.left_rest k past,
+            ← so_far.right_rest k past,
+            found_below key lefts k lefts_rise lower,
+            found_below key rights k rights_rise lower,
+            found_past bound merged k so_far.merged_below past,
+          ) (neither k)
+        ])
         | inr past ↦
-            let is : k ≡ bound = omega arith in
-            rw (is, ← so_far.left_rest bound (omega arith), ← so_far.right_rest bound (omega arith)) here
+            let is : k ≡ key = omega arith in
+            rw (is, ← so_far.left_rest key (omega arith), ← so_far.right_rest key (omega arith)) here
       ];
     }
 
     -- it stays out
-    pub left_out : gives bound (found lefts bound) (found rights bound) None
-        → IsMergedTo gives left above_left right above_right merged (bound + 1)
-    left_out here = merged_more merged so_far.merged_rises
-        (AllBelow-more bound (bound + 1) merged (omega arith) so_far.merged_below)
-        (λ k lower. refl) (rw (found_past bound merged bound so_far.merged_below (omega arith)) here)
+    pub left_out : gives key (found lefts key) (found rights key) None
+        → IsMergedTo gives left above_left right above_right merged (key + 1)
+    left_out here = merged_more merged so_far.merged_rises (AllBelow-more key (key + 1) merged (omega arith) (below_key key le))
+        (λ k lower. refl) (rw (found_past key merged key (below_key key le) (omega arith)) here)
 
     -- or it is put last
-    pub put_last : (v : O) → gives bound (found lefts bound) (found rights bound) (Some v)
-        → IsMergedTo gives left above_left right above_right (merged ++ (bound, v) ∷ []) (bound + 1)
-    put_last v here = merged_more (merged ++ (bound, v) ∷ [])
-        (RisesFrom-append 0 merged bound v so_far.merged_rises so_far.merged_below (omega arith))
-        (AllBelow-append (bound + 1) merged bound v
-        (AllBelow-more bound (bound + 1) merged (omega arith) so_far.merged_below) (omega arith))
-        (λ k lower. found-append_below merged bound v k lower)
-        (rw (found-append_last merged bound v so_far.merged_below) here)
-
--- a key that one of the rest has leaves fewer
-pub one_fewer : (a b : Bool) (n n' m m' : ℕ) → (a || b) ≡ true → n' + (if a then 1 else 0) ≡ n
-    → m' + (if b then 1 else 0) ≡ m → n' + m' + 1 ≤ n + m
-one_fewer true true n n' m m' one left right = omega arith
-one_fewer true false n n' m m' one left right = omega arith
-one_fewer false true n n' m m' one left right = omega arith
-one_fewer false false n n' m m' one left right = absurd (false≢true one)
+    pub put_last : (v : O) → gives key (found lefts key) (found rights key) (Some v)
+        → IsMergedTo gives left above_left right above_right (merged ++ (key, v) ∷ []) (key + 1)
+    put_last v here = merged_more (merged ++ (key, v) ∷ [])
+        (RisesFrom-append 0 merged key v so_far.merged_rises (below_key key le) (omega arith))
+        (AllBelow-append (key + 1) merged key v (AllBelow-more key (key + 1) merged (omega arith) (below_key key le)) (omega arith))
+        (λ k lower. found-append_below merged key v k lower) (rw (found-append_last merged key v (below_key key le)) here)

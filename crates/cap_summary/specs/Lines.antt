@@ -58,34 +58,6 @@ LeavesPut line me row old new = (p : ℕ) (k : Key) → leaves_in (found new p) 
     → ((is_touched line me p ≡ false) × (leaves_in (found old p) k ≡ true))
     ⊎ ((p ≡ me) × (is_child line me ≡ false) × (row_leaves row k ≡ true))
 
--- the cell of a descriptor of the process that the line doesn't list by itself
-abbrev pub unlisted : LineEffect → ℕ → Cells → ℕ → Cell
-unlisted (LineEffect.Start fds) me cells f = Closed
-unlisted LineEffect.Exit me cells f = Unknown
-unlisted LineEffect.Forget me cells f = Unknown
-unlisted LineEffect.Exec me cells f = applied exec (cells me (Key.Fd f))
-unlisted (LineEffect.CloseFrom n) me cells f = if nat_le n f then Closed else cells me (Key.Fd f)
-unlisted _ me cells f = cells me (Key.Fd f)
-
--- these cells, over those that the line doesn't list, are those of its process after it
-abbrev pub IsListOf : LineEffect → ℕ → List (ℕ × Value) → Type 0
-IsListOf line me listed = (cells : Cells) (f : ℕ)
-    → option_map_or (read cells) (found listed f) (unlisted line me cells f) ≡ line_after line me cells me (Key.Fd f)
-
--- the line touches no cell of its process that it doesn't list by itself
-abbrev pub leaves_unlisted : LineEffect → ℕ → Bool
-leaves_unlisted (LineEffect.Start fds) f = false
-leaves_unlisted LineEffect.Exit f = false
-leaves_unlisted LineEffect.Forget f = false
-leaves_unlisted LineEffect.Exec f = false
-leaves_unlisted (LineEffect.CloseFrom n) f = not (nat_le n f)
-leaves_unlisted _ f = true
-
--- a descriptor that a line lists, beside those that a process starts with
-abbrev pub lists : LineEffect → ℕ → Bool
-lists (LineEffect.ForkAs child g) f = f == g
-lists _ f = false
-
 -- a row of a process that has the cells of the line's process after it
 abbrev pub IsRowOf : LineEffect → ℕ → Row → Type 0
 IsRowOf line me row = (cells : Cells) (k : Key) → row_cell cells me row k ≡ line_after line me cells me k

@@ -68,19 +68,6 @@ impl Passing {
 }
 
 impl DefaultCells {
-    /// Those of a process, as another one has them.
-    pub(crate) fn of(&self, pid: Pid) -> DefaultCells
-        ensures cells { (cells : Cells) (p f : ℕ) → others_cell cells p result f ≡ others_cell cells pid self.now f }
-        ensures others { is_own result ≡ false }
-        ensures names { (names : Names) → names.pids pid ≡ true → others_within names self.now ≡ true
-            → others_within names result ≡ true }
-    {
-        match self {
-            DefaultCells::Own => DefaultCells::Of(pid, Passing::Same),
-            others => *others,
-        }
-    }
-
     /// Those of a process where they are handed on to one.
     pub(crate) fn pass(&self, pid: Pid, passing: Passing) -> DefaultCells
         ensures cells { (cells : Cells) (p f : ℕ)
@@ -89,9 +76,10 @@ impl DefaultCells {
         ensures names { (names : Names) → names.pids pid ≡ true → others_within names self.now ≡ true
             → others_within names result ≡ true }
     {
-        match self.of(pid) {
-            DefaultCells::Of(source, first) => DefaultCells::Of(source, first.then(passing)),
-            others => others,
+        match self {
+            DefaultCells::Own => DefaultCells::Of(pid, passing),
+            DefaultCells::Of(source, first) => DefaultCells::Of(*source, first.then(passing)),
+            others => *others,
         }
     }
 }

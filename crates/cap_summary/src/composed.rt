@@ -11,7 +11,7 @@ ghost use Rattle.cap_summary.specs.Names.{EffectWithin, ReadWithin};
 use crate::base::lower_of;
 use crate::sorted::{Combine, merge};
 use crate::{Base, DefaultCells, Effect, Listed, Passing, Row, SharedRow, Value};
-use cap_trace::{Fd, Pid};
+use cap_trace::Pid;
 use cap_tree::{NoMemory, Side};
 use std::alloc::Global;
 
@@ -22,31 +22,6 @@ struct Handed {
     base: Base,
     passing: Passing,
     cells: Listed,
-}
-
-impl Row {
-    /// The cells of this row where they are handed on.
-    fn handed(
-        &self,
-        others: DefaultCells,
-        passing: Passing,
-        closed_from: Option<Fd>,
-    ) -> Result<Handed, NoMemory>
-        ensures base { IfOk result (λ handed. handed.base.others ≡ others) }
-        ensures closed { IfOk result (λ handed. (f : ℕ) → is_from handed.base.closed_from f
-            ≡ (is_from self.now.base.closed_from f || is_from closed_from f)) }
-        ensures passing { IfOk result (λ handed. handed.passing ≡ passing) }
-        ensures cells { IfOk result (λ handed. handed.cells ≡ self.now.cells) }
-    {
-        Ok(Handed {
-            base: Base {
-                others,
-                closed_from: lower_of(self.base.closed_from, closed_from),
-            },
-            passing,
-            cells: self.cells.clone()?,
-        })
-    }
 }
 
 impl Effect {
@@ -71,18 +46,27 @@ impl Effect {
             DefaultCells::Of(source, _) => self.row(*source),
             _ => None,
         };
-        match (first, &base.others) {
-            (Some(first), DefaultCells::Of(source, passing)) => {
-                let others = first.base.others.pass(*source, *passing);
-                first.handed(others, *passing, base.closed_from)
-            }
-            (Some(first), _) => { first.handed(first.base.others, Passing::Same, base.closed_from) }
-            (None, _) => Ok(Handed {
+        let Some(first) = first else {
+            return Ok(Handed {
                 base: *base,
                 passing: Passing::Same,
                 cells: Listed::empty(),
-            }),
-        }
+            });
+        };
+        let (others, passing) = match &base.others {
+            DefaultCells::Of(source, passing) => {
+                (first.base.others.pass(*source, *passing), *passing)
+            }
+            _ => (first.base.others, Passing::Same),
+        };
+        Ok(Handed {
+            base: Base {
+                others,
+                closed_from: lower_of(first.base.closed_from, base.closed_from),
+            },
+            passing,
+            cells: first.cells.clone()?,
+        })
     }
 }
 
@@ -106,25 +90,23 @@ impl Combine for Handing<'_> {
 
     ghost gives = { λ s f left right out. IsHandedSo s.first.now s.passing s.base.closed_from f left right out };
 
-    fn left(&self, alloc: Global, _fd: u32, left: &Value) -> Result<Option<Value>, NoMemory> {
-        Ok(Some(self.first.value_after(alloc, left)?))
-    }
-
-    fn right(&self, alloc: Global, fd: u32, right: &Value) -> Result<Option<Value>, NoMemory> {
-        if self.base.closes(fd) {
-            return Ok(None);
-        }
-        Ok(Some(self.passing.pass(alloc, right)?))
-    }
-
-    fn both(
+    fn combine(
         &self,
         alloc: Global,
         fd: u32,
-        left: &Value,
-        _right: &Value,
+        listed: Option<&Value>,
+        handed: Option<&Value>,
     ) -> Result<Option<Value>, NoMemory> {
-        self.left(alloc, fd, left)
+        match (listed, handed) {
+            (Some(listed), _) => Ok(Some(self.first.value_after(alloc, listed)?)),
+            (None, Some(handed)) => {
+                if self.base.closes(fd) {
+                    return Ok(None);
+                }
+                Ok(Some(self.passing.pass(alloc, handed)?))
+            }
+            (None, None) => Ok(None),
+        }
     }
 
     ghost neither = { λ s f. record {
@@ -144,32 +126,23 @@ pub(crate) struct Replaced<'a> {
 }
 
 impl Replaced<'_> {
-    /// Whether the part that was replaced gave a process this row.
-    fn gave(&self, pid: Pid, row: Option<&Row>) -> bool
-        ensures { result ≡ true → found self.now.was.now.rows pid ≡ option_copied row.entry }
-    {
-        match (self.was.row(pid), row) {
-            (Some(was), Some(row)) => was == row,
-            (None, None) => true,
-            _ => false,
-        }
-    }
-
     /// The row that the whole gave a process, where it stands: the new part gives the row that the old one gave, and if
     /// that part is the first, then the second reads no other row of it.
-    fn row(&self, pid: Pid, left: Option<&Row>, right: &Row) -> Option<&SharedRow>
+    fn row(&self, pid: Pid, left: Option<&SharedRow>, right: &SharedRow) -> Option<&SharedRow>
         ensures { IfSome result (λ row. (first : Effect) → option_copied left.entry ≡ found first.rows pid
             → IsOldAt self.now first pid (Some right.now) → IsComposedSo first pid (option_copied left.entry)
             (Some right.now) (Some row.now)) }
     {
+        let was = self.was.rows.get(pid);
         let stands = match self.side {
-            Side::Left => self.gave(pid, left) && right.reads_only(pid),
-            Side::Right => self.gave(pid, Some(right)),
+            Side::Left => was == left && right.get().reads_only(pid),
+            Side::Right => was == Some(right),
         };
-        if !stands {
-            return None;
+        if stands {
+            self.whole.rows.get(pid)
+        } else {
+            None
         }
-        self.whole.rows.get(pid)
     }
 }
 
@@ -178,29 +151,6 @@ impl Replaced<'_> {
 struct Composing<'a> {
     first: &'a Effect,
     old: Option<Replaced<'a>>,
-}
-
-impl Composing<'_> {
-    /// The row of a process to which the second segment gives this one.
-    fn row(
-        &self,
-        alloc: Global,
-        pid: Pid,
-        left: Option<&Row>,
-        right: &Row,
-    ) -> Result<SharedRow, NoMemory>
-        ensures { IfOk result (λ row. option_copied left.entry ≡ found self.now.first.now.rows pid
-            → IfSome self.now.old (λ old. IsOldAt old self.now.first.now pid (Some right.now))
-            → IsComposedSo self.now.first.now pid (option_copied left.entry) (Some right.now) (Some row)) }
-    {
-        if let Some(old) = &self.old {
-            if let Some(row) = old.row(pid, left, right) {
-                return Ok(row.clone()?);
-            }
-        }
-        let row = self.first.row_after(alloc, pid, right)?;
-        Ok(SharedRow::new(alloc, row)?)
-    }
 }
 
 impl Combine for Composing<'_> {
@@ -217,35 +167,29 @@ impl Combine for Composing<'_> {
     ghost gives = { λ s p left right out. left ≡ found s.first.now.rows p
         → IfSome s.old (λ old. IsOldAt old s.first.now p right) → IsComposedSo s.first.now p left right out };
 
-    fn left(
-        &self,
-        _alloc: Global,
-        _pid: u32,
-        left: &SharedRow,
-    ) -> Result<Option<SharedRow>, NoMemory> {
-        Ok(Some(left.clone()?))
-    }
-
-    fn right(
+    fn combine(
         &self,
         alloc: Global,
         pid: u32,
-        right: &SharedRow,
+        left: Option<&SharedRow>,
+        right: Option<&SharedRow>,
     ) -> Result<Option<SharedRow>, NoMemory> {
-        if right.get().reads_only(pid) {
+        let Some(right) = right else {
+            return match left {
+                Some(left) => Ok(Some(left.clone()?)),
+                None => Ok(None),
+            };
+        };
+        if left.is_none() && right.get().reads_only(pid) {
             return Ok(Some(right.clone()?));
         }
-        Ok(Some(self.row(alloc, pid, None, right.get())?))
-    }
-
-    fn both(
-        &self,
-        alloc: Global,
-        pid: u32,
-        left: &SharedRow,
-        right: &SharedRow,
-    ) -> Result<Option<SharedRow>, NoMemory> {
-        Ok(Some(self.row(alloc, pid, Some(left.get()), right.get())?))
+        if let Some(old) = &self.old {
+            if let Some(row) = old.row(pid, left, right) {
+                return Ok(Some(row.clone()?));
+            }
+        }
+        let row = self.first.row_after(alloc, pid, right.get())?;
+        Ok(Some(SharedRow::new(alloc, row)?))
     }
 
     ghost neither = { λ s p is old. record {

@@ -1,15 +1,13 @@
 //! The effect of one line.
 
-ghost use Rattle.std.specs.Prelude.{◌≡◌, ◌==◌, if◌then◌else◌, ℕ, true, false, is_none, Some, unwrap_or, IfOk, OnOk};
+ghost use Rattle.std.specs.Prelude.{◌≡◌, ◌==◌, if◌then◌else◌, ℕ, true, false, Some, None, unwrap_or, IfOk, OnOk};
 ghost use Rattle.std.specs.Prelude.{All};
-ghost use Rattle.cap_summary.specs.{option_map_or, fds_spelled, stays, effect_turn, is_child, Keys.Cells, Sorted.found};
-ghost use Rattle.cap_summary.specs.{Values.read, declared.key.Key.Key};
-ghost use Rattle.cap_summary.specs.Effects.{own_row, base_cell, changed};
-ghost use Rattle.cap_summary.specs.{Effects.base_leaves, Effects.leaves, Effects.LeavesThenLine};
-ghost use Rattle.cap_summary.specs.Lines.{turned_cell, unlisted, leaves_unlisted, IsThenLine, IsPut, LeavesPut};
-ghost use Rattle.cap_summary.specs.Lines.{IsRowOf, LeavesOwn, IsListOf, IsStarted, sets_cells, lists, is_cell};
+ghost use Rattle.cap_summary.specs.{fds_spelled, Keys.Cells, Keys.mode_cell, Sorted.found};
+ghost use Rattle.cap_summary.specs.{Values.read, Values.source, declared.key.Key.Key};
+ghost use Rattle.cap_summary.specs.Effects.{own_row, changed, leaves, LeavesThenLine};
+ghost use Rattle.cap_summary.specs.Lines.{IsThenLine, IsPut, LeavesPut, IsRowOf, LeavesOwn, IsStarted, sets_cells, is_cell};
 ghost use Rattle.cap_summary.specs.Lines.{with_cell};
-ghost use Rattle.cap_summary.specs.Names.{Names, others_within, mode_within, IsListedWithin, ListWithin, RowWithin};
+ghost use Rattle.cap_summary.specs.Names.{Names, IsListedWithin, ListWithin, RowWithin};
 ghost use Rattle.cap_summary.specs.Names.{RowsWithin, EffectWithin, LineWithin};
 
 use crate::{
@@ -38,58 +36,12 @@ fn started_cells(alloc: Global, spelled: &[u8]) -> Result<Listed, NoMemory>
     Listed::of(alloc, listed)
 }
 
-/// The cells that a line of process `me` doesn't list one by one.
-fn base_of(me: Pid, line: &LineEffect<'_>) -> Base
-    ensures cells { (cells : Cells) (f : ℕ) → base_cell cells me result f ≡ unlisted line.now me cells f }
-    ensures leaves { (f : ℕ) → base_leaves result f ≡ leaves_unlisted line.now f }
-    ensures names { (names : Names) → names.pids me ≡ true → others_within names result.others ≡ true }
+/// The cell of a mode that a line turns to.
+fn turned(mode: Mode) -> Value
+    ensures reads { (cells : Cells) → read cells result ≡ mode_cell mode }
+    ensures source { source result ≡ None }
 {
-    match line {
-        LineEffect::Start(_) => Base::of(DefaultCells::Closed),
-        LineEffect::Exit | LineEffect::Forget => Base::of(DefaultCells::Unknown),
-        LineEffect::Exec => Base::of(DefaultCells::Of(me, Passing::Exec)),
-        LineEffect::CloseFrom(fd) => Base {
-            others: DefaultCells::Own,
-            closed_from: Some(*fd),
-        },
-        _ => Base::of(DefaultCells::Own),
-    }
-}
-
-/// The mode that a line turns that of its process `me` to.
-fn mode_of(line: &LineEffect<'_>) -> Option<Value>
-    ensures reads { (cells : Cells) (me : ℕ) → option_map_or (read cells) result (cells me Key.Mode)
-        ≡ turned_cell (effect_turn line.now me me) cells me }
-    ensures leaves { (me : ℕ) → is_child line.now me ≡ false → is_none result ≡ true
-        → effect_turn line.now me me ≡ stays }
-    ensures names { (names : Names) → mode_within names result ≡ true }
-{
-    let mode = match line {
-        LineEffect::Start(_) => Mode::Outside,
-        LineEffect::Exit => Mode::Unsure,
-        LineEffect::Enter => Mode::Inside,
-        _ => return None,
-    };
-    Some(Value::of(cell_of_mode(mode)))
-}
-
-/// The cells that a line of process `me`, which sets none to a value of its own, lists one by one.
-#[tactic(auto, using(crate::proofs::LineRows::fork_list, crate::proofs::LineListed::started_list))]
-fn listed_by(alloc: Global, me: Pid, line: &LineEffect<'_>) -> Result<Listed, NoMemory>
-    requires { sets_cells line.now ≡ false }
-    ensures cells { IfOk result (λ listed. IsListOf line.now me listed) }
-    ensures leaves { IfOk result (λ listed. (f : ℕ) → is_none (found listed f) ≡ true → lists line.now f ≡ false) }
-    ensures names { IfOk result (λ listed. (names : Names) → LineWithin names me line.now → ListWithin names listed) }
-{
-    match line {
-        LineEffect::Start(fds) => started_cells(alloc, fds),
-        LineEffect::ForkAs(_, fd) => {
-            let mut listed = Listed::empty();
-            listed.set(alloc, *fd, Value::Unknown)?;
-            Ok(listed)
-        }
-        _ => Ok(Listed::empty()),
-    }
+    Value::of(cell_of_mode(mode))
 }
 
 impl Row {
@@ -100,11 +52,43 @@ impl Row {
         ensures leaves { IfOk result (λ row. LeavesOwn line.now me row) }
         ensures names { IfOk result (λ row. (names : Names) → LineWithin names me line.now → RowWithin names row) }
     {
-        Ok(Row {
-            base: base_of(me, line),
-            mode: mode_of(line),
-            cells: listed_by(alloc, me, line)?,
-        })
+        match line {
+            LineEffect::Start(fds) => Ok(Row {
+                base: Base::of(DefaultCells::Closed),
+                mode: Some(turned(Mode::Outside)),
+                cells: started_cells(alloc, fds)?,
+            }),
+            LineEffect::Exit => Ok(Row {
+                base: Base::of(DefaultCells::Unknown),
+                mode: Some(turned(Mode::Unsure)),
+                ..Row::own()
+            }),
+            LineEffect::Forget => Ok(Row {
+                base: Base::of(DefaultCells::Unknown),
+                ..Row::own()
+            }),
+            LineEffect::Exec => Ok(Row {
+                base: Base::of(DefaultCells::Of(me, Passing::Exec)),
+                ..Row::own()
+            }),
+            LineEffect::CloseFrom(fd) => Ok(Row {
+                base: Base {
+                    others: DefaultCells::Own,
+                    closed_from: Some(*fd),
+                },
+                ..Row::own()
+            }),
+            LineEffect::Enter => Ok(Row {
+                mode: Some(turned(Mode::Inside)),
+                ..Row::own()
+            }),
+            LineEffect::ForkAs(_, fd) => {
+                let mut row = Row::own();
+                row.cells.set(alloc, *fd, Value::Unknown)?;
+                Ok(row)
+            }
+            _ => Ok(Row::own()),
+        }
     }
 }
 
@@ -117,14 +101,6 @@ fn take_row(alloc: Global, rows: &mut Map<SharedRow>, pid: Pid) -> Result<Shared
         Some(row) => Ok(row),
         None => Ok(SharedRow::new(alloc, Row::own())?),
     }
-}
-
-/// Gives a process this row.
-fn put_row(alloc: Global, rows: &mut Map<SharedRow>, pid: Pid, row: Row) -> Result<(), NoMemory>
-    ensures { OnOk result ((p : ℕ) → found rows.new p ≡ (if p == pid then Some row else found rows.old p)) }
-{
-    let shared = SharedRow::new(alloc, row)?;
-    rows.set(pid, shared)
 }
 
 /// Puts the row that a line of process `me` makes of it, and of a child that the line makes what a fork makes of that
@@ -143,13 +119,13 @@ fn put_rows(
 {
     match line {
         LineEffect::Keep => Ok(()),
-        LineEffect::Fork(child) => put_row(alloc, rows, *child, row.forked(me)?),
+        LineEffect::Fork(child) => rows.set(*child, SharedRow::new(alloc, row.forked(me)?)?),
         LineEffect::ForkAs(child, _) => {
             let forked = row.forked(me)?;
-            put_row(alloc, rows, me, row)?;
-            put_row(alloc, rows, *child, forked)
+            rows.set(me, SharedRow::new(alloc, row)?)?;
+            rows.set(*child, SharedRow::new(alloc, forked)?)
         }
-        _ => put_row(alloc, rows, me, row),
+        _ => rows.set(me, SharedRow::new(alloc, row)?),
     }
 }
 
@@ -178,7 +154,7 @@ impl Effect {
     {
         self.size = None;
         let row = take_row(alloc, &mut self.rows, pid)?;
-        let new = row.set(alloc, fd, value)?;
+        let new = row.with(alloc, fd, value)?;
         self.rows.set(pid, new)
     }
 

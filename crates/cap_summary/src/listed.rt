@@ -57,16 +57,6 @@ impl PartialEq for Listed {
     }
 }
 
-/// The entries with a value at a descriptor. They are copied where they are shared.
-fn put(cells: Rc<Map<Value>>, fd: u32, value: Value) -> Result<Rc<Map<Value>>, NoMemory>
-    ensures { IfOk result (λ new. (g : ℕ) → found new.value g
-        ≡ (if g == fd then Some value else found cells.value g)) }
-{
-    let mut cells = cells;
-    Rc::make_mut(&mut cells)?.set(fd, value)?;
-    Ok(cells)
-}
-
 impl Listed {
     /// No cells. Allocates nothing.
     pub fn empty() -> Listed
@@ -98,13 +88,6 @@ impl Listed {
         }
     }
 
-    /// The value of a descriptor, if it is listed. Allocates nothing.
-    pub fn get(&self, fd: u32) -> Option<&Value>
-        ensures { option_copied result ≡ found self.now fd }
-    {
-        self.get_near(&mut 0, fd)
-    }
-
     /// The value of a descriptor, if it is listed, looked for near this place as in [`Map::get_near`].
     #[inline(always)]
     pub(crate) fn get_near(&self, near: &mut usize, fd: u32) -> Option<&Value>
@@ -120,11 +103,12 @@ impl Listed {
     pub fn set(&mut self, alloc: Global, fd: u32, value: Value) -> Result<(), NoMemory>
         ensures { OnOk result ((g : ℕ) → found self.new g ≡ (if g == fd then Some value else found self.old g)) }
     {
-        let cells = match self.cells.take() {
+        let mut cells = match self.cells.take() {
             Some(cells) => cells,
             None => Rc::new(alloc, Map::new(alloc))?,
         };
-        self.cells = Some(put(cells, fd, value)?);
+        Rc::make_mut(&mut cells)?.set(fd, value)?;
+        self.cells = Some(cells);
         Ok(())
     }
 }

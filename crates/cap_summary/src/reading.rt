@@ -6,7 +6,7 @@ ghost use Rattle.cap_summary.specs.{Effects.leaves, Keys.Cells};
 ghost use Rattle.cap_summary.specs.{Names.Names, Names.RowWithin, RowSizes.IsSizeOf, Sorted.found, Sorted.Rises};
 ghost use Rattle.cap_summary.specs.{declared.key.Key.Key};
 
-use crate::{Base, DefaultCells, Effect, Key, Listed, Map, Row, SharedRow, Value};
+use crate::{Base, DefaultCells, Effect, Key, Listed, Map, Passing, Row, SharedRow, Value};
 use cap_trace::Pid;
 use cap_tree::NoMemory;
 use std::alloc::AllocError;
@@ -66,7 +66,7 @@ impl Row {
         };
         Ok(Row {
             base: Base {
-                others: self.base.others.of(pid),
+                others: self.base.others.pass(pid, Passing::Same),
                 closed_from: self.base.closed_from,
             },
             mode: Some(mode),

@@ -2,16 +2,15 @@
 
 ghost use Rattle.std.specs.Prelude.{◌≡◌, true};
 ghost use Rattle.cap_summary.specs.{Values.reads_within};
-ghost use Rattle.cap_summary.specs.Names.{only, has_cell, others_within, ListWithin, RowWithin};
+ghost use Rattle.cap_summary.specs.Names.{only, has_cell, others_within, RowWithin};
 
 use crate::{DefaultCells, Row, Value};
 use cap_trace::Pid;
 
 impl Value {
     /// Whether it reads no other process than this one.
-    #[tactic(auto, using(crate::proofs::OwnCells::reads_none, crate::proofs::OwnCells::reads_one))]
     fn reads_only(&self, pid: Pid) -> bool
-        ensures { result ≡ true → reads_within (has_cell (only pid)) self.now ≡ true }
+        ensures { result ≡ reads_within (has_cell (only pid)) self.now }
     {
         match self.source() {
             None => true,
@@ -23,25 +22,13 @@ impl Value {
 impl DefaultCells {
     /// Whether they are of no other process than this one.
     fn reads_only(&self, pid: Pid) -> bool
-        ensures { result ≡ true → others_within (only pid) self.now ≡ true }
+        ensures { result ≡ others_within (only pid) self.now }
     {
         match self {
             DefaultCells::Of(source, _) => *source == pid,
             _ => true,
         }
     }
-}
-
-/// Whether each of these values reads no other process than this one.
-fn all_read_only(cells: &[(u32, Value)], pid: Pid) -> bool
-    ensures { result ≡ true → ListWithin (only pid) cells.now }
-{
-    for cell in cells {
-        if !cell.1.reads_only(pid) {
-            return false;
-        }
-    }
-    true
 }
 
 impl Row {
@@ -55,6 +42,10 @@ impl Row {
         };
         mode_reads_only
             && self.base.others.reads_only(pid)
-            && all_read_only(self.cells.entries(), pid)
+            && self
+                .cells
+                .entries()
+                .iter()
+                .all(|cell| cell.1.reads_only(pid))
     }
 }

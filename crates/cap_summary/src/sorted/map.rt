@@ -32,9 +32,8 @@ impl<V: Clone> Clone for Map<V> {
     ghost is_clone = { λ map copy. AllZip (λ x y. (y.0 ≡ x.0) × V.is_clone x.1 y.1) map copy };
 
     fn clone(&self) -> Result<Map<V>, AllocError> {
-        Ok(Map {
-            entries: self.entries.clone()?,
-        })
+        let entries = self.entries.clone()?;
+        Ok(Map { entries })
     }
 }
 

@@ -18,66 +18,18 @@ pub trait Combine {
     /// What may stand at a key of the merged map, by what the two tables have there.
     ghost gives: { Self → ℕ → Option Self.Left → Option Self.Right → Option Self.Out → Type 0 };
 
-    /// What stands at a key that only the left table has.
-    fn left(
+    /// What stands at a key that one of the tables has, or both.
+    fn combine(
         &self,
         alloc: Global,
         key: u32,
-        left: &Self::Left,
+        left: Option<&Self::Left>,
+        right: Option<&Self::Right>,
     ) -> Result<Option<Self::Out>, NoMemory>
-        ensures { IfOk result (λ out. gives self.now key (Some left.now) None out) };
-
-    /// What stands at a key that only the right table has.
-    fn right(
-        &self,
-        alloc: Global,
-        key: u32,
-        right: &Self::Right,
-    ) -> Result<Option<Self::Out>, NoMemory>
-        ensures { IfOk result (λ out. gives self.now key None (Some right.now) out) };
-
-    /// What stands at a key that both tables have.
-    fn both(
-        &self,
-        alloc: Global,
-        key: u32,
-        left: &Self::Left,
-        right: &Self::Right,
-    ) -> Result<Option<Self::Out>, NoMemory>
-        ensures { IfOk result (λ out. gives self.now key (Some left.now) (Some right.now) out) };
+        ensures { IfOk result (λ out. gives self.now key (option_copied left.entry) (option_copied right.entry) out) };
 
     /// A key that neither table has may be left out.
     ghost neither: { (s : Self) (k : ℕ) → gives s k None None None };
-}
-
-/// Puts at each key what `step` makes of the values that two lists of entries have there. It goes once over both.
-fn put_each<M: Combine>(
-    alloc: Global,
-    step: &M,
-    left: &[(u32, M::Left)],
-    right: &[(u32, M::Right)],
-    merged: &mut Vec<(u32, M::Out)>,
-) -> Result<(), NoMemory>
-    requires left { Rises left.now }
-    requires right { Rises right.now }
-    requires empty { merged.old.items ≡ [] }
-    ensures rising { OnOk result (Rises merged.new.items) }
-    ensures each { OnOk result
-        ((k : ℕ) → M.gives step.now k (found left.now k) (found right.now k) (found merged.new.items k)) }
-    ensures few { OnOk result (length merged.new.items ≤ length left.now + length right.now) }
-{
-    let mut lefts = left;
-    let mut rights = right;
-    while let Some(key) = first_key(lefts, rights) {
-        let (a, after_a) = split_key(lefts, key);
-        let (b, after_b) = split_key(rights, key);
-        if let Some(value) = combined(alloc, step, key, a, b)? {
-            merged.push((key, value))?;
-        }
-        lefts = after_a;
-        rights = after_b;
-    }
-    Ok(())
 }
 
 /// The map that has at each key what `step` makes of the values that two lists of entries have there, whose keys must
@@ -90,12 +42,22 @@ pub fn merge<M: Combine>(
 ) -> Result<Map<M::Out>, NoMemory>
     requires left { Rises left.now }
     requires right { Rises right.now }
-    ensures each { IfOk result
+    ensures { IfOk result
         (λ merged. (k : ℕ) → M.gives step.now k (found left.now k) (found right.now k) (found merged k)) }
-    ensures few { IfOk result (λ merged. length merged ≤ length left.now + length right.now) }
 {
     let mut merged = Vec::with_capacity(alloc, left.len().saturating_add(right.len()))?;
-    put_each(alloc, step, left, right, &mut merged)?;
+    let mut lefts = left;
+    let mut rights = right;
+    while let Some(key) = first_key(lefts, rights) {
+        let (a, after_a) = split_key(lefts, key);
+        let (b, after_b) = split_key(rights, key);
+        let made = step.combine(alloc, key, a, b)?;
+        if let Some(value) = made {
+            merged.push((key, value))?;
+        }
+        lefts = after_a;
+        rights = after_b;
+    }
     Ok(Map::from_sorted(merged))
 }
 
@@ -127,23 +89,5 @@ fn split_key<V>(entries: &[(u32, V)], key: u32) -> (Option<&V>, &[(u32, V)])
     match entries.split_first() {
         Some((first, above)) if first.0 == key => (Some(&first.1), above),
         _ => (None, entries),
-    }
-}
-
-/// What `step` makes of one key.
-fn combined<M: Combine>(
-    alloc: Global,
-    step: &M,
-    key: u32,
-    left: Option<&M::Left>,
-    right: Option<&M::Right>,
-) -> Result<Option<M::Out>, NoMemory>
-    ensures { IfOk result (λ out. M.gives step.now key (option_copied left.entry) (option_copied right.entry) out) }
-{
-    match (left, right) {
-        (Some(left), Some(right)) => step.both(alloc, key, left, right),
-        (Some(left), None) => step.left(alloc, key, left),
-        (None, Some(right)) => step.right(alloc, key, right),
-        (None, None) => Ok(None),
     }
 }
