@@ -4,7 +4,7 @@ use Rattle.std.specs.Prelude.{get_or, take, refl, ◌==◌, ◌∷◌, [], IfSom
 use Rattle.cap_summary.specs.{option_map_or, list_any, all, Unsure, Closed, Outside, LineEffect, Keys.mode_cell, declared.base.Base.Base, fds_spelled}
 use Rattle.cap_summary.specs.{declared.value.Value.Value, Op, declared.key.Key.Key, Cell, declared.effect.Effect.Effect}
 use Rattle.cap_summary.specs.{declared.effect.Row.Row, Keys.Cells, Sorted.found, Values.read, Values.reads_within}
-use Rattle.cap_summary.specs.Lines.{IsStarted, IsRowOf, is_cell, with_cell}
+use Rattle.cap_summary.specs.Lines.{IsStarted, IsRowOf, is_cell}
 use Rattle.cap_summary.specs.Names.{Names, has_cell, IsListedWithin, LineWithin, RowWithin, RowsWithin, IsRowWithin}
 use Rattle.cap_summary.specs.{Names.EffectWithin}
 use Rattle.cap_summary.specs.Effects.{own_row, base_cell, row_cell, cell_in, changed}
@@ -51,22 +51,12 @@ module _ {V : Type 0} (P : ℕ → V → Type 0) (k : ℕ) (v : V) (holds : P k 
       → ((f : ℕ) → IfSome (found old f) (P f)) → (f : ℕ) → IfSome (found new f) (P f)
   each_put old new put others f = rw (put f) (each_one (found old f) f (f == k) refl (others f))
 
--- a descriptor that takes its cell from another
-pub change_within : (names : Names) (me : ℕ) (line : LineEffect) (f : ℕ) (op : Op) (g : ℕ) (v : Value)
-    → line ≡ LineEffect.Change f op g
-    → (has_cell names me (Key.Fd g) ≡ true → reads_within (has_cell names) v ≡ true) → LineWithin names me line
-    → IsListedWithin names f v
-change_within names me line f op g v is reads within = record {
-  key = All-head P f (g ∷ []) both;
-  source = reads (and_from (names.pids me) (names.fds g) within.own
-      (All-head P g [] (All-tail P f (g ∷ []) both)));
-}
-  where
-    P : ℕ → Type 0
-    P n = names.fds n ≡ true
-
-    both : All P (f ∷ g ∷ [])
-    both = rw is at within.fds
+-- the descriptors of a line that has two
+pub two_named : (names : Names) (f g : ℕ) → All (λ n. names.fds n ≡ true) (f ∷ g ∷ [])
+    → (names.fds f ≡ true) × (names.fds g ≡ true)
+two_named names f g both =
+    let P : ℕ → Type 0 = λ n. names.fds n ≡ true in
+    (All-head P f (g ∷ []) both, All-head P g [] (All-tail P f (g ∷ []) both))
 
 -- a process without a row has one that leaves it
 own_cell : (cells : Cells) (p : ℕ) (row : Option Row) (k : Key)
@@ -105,11 +95,11 @@ module _ (first : Effect) (q fd : ℕ) (value : Value) (mid new : List (ℕ × R
   other_cell p (Key.Fd f) is = rw is refl
 
   pub set_cells : (cells : Cells) (p : ℕ) (k : Key)
-      → cell_in cells (found new p) p k ≡ with_cell q fd (read cells value) (changed first cells) p k
+      → cell_in cells (found new p) p k ≡ cond (is_cell q fd p k) (read cells value) (changed first cells p k)
   set_cells cells p k = ap (λ row. cell_in cells row p k) (put p) ∙ by (p == q) refl
     where
       by : (b : Bool) → (p == q) ≡ b → cell_in cells (cond b (Some now) (found mid p)) p k
-          ≡ with_cell q fd (read cells value) (changed first cells) p k
+          ≡ cond (is_cell q fd p k) (read cells value) (changed first cells p k)
       by true is = rw (eqb-true p q is) (row_with cells k
           ∙ ap (cond (is_cell q fd q k) (read cells value))
           (ap (λ row. row_cell cells q row k) taken_is ∙ own_cell cells q (found first.rows q) k))

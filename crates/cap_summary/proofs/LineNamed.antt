@@ -1,21 +1,20 @@
 -- The descriptors that the effect of a line has one by one stand in the line.
-use Rattle.std.specs.Prelude.{codes, bytes_eq}
-use Rattle.cap_trace.specs.{Call.Call, Entry.args_of_call, declared.calls.AtFlagsCall.TheVariants.Openat}
-use Rattle.cap_trace.specs.{declared.calls.BareCall.BareCall, declared.calls.FdCall.FdCall}
-use Rattle.cap_trace.specs.{declared.calls.PathCall.PathCall, declared.calls.PathCall.TheVariants.Execve}
+use Rattle.cap_summary.specs.{fds_spelled, ResultKind, LineEffect, effect_touch, Names.answers_fd, Names.line_names_fd}
+use Rattle.cap_summary.specs.{list_any, Answer, Count, FdPair, kind_of, Unknown, Touch, given, taken, started, fds_of}
+use Rattle.cap_summary.specs.{Item, Fd, Same, Cell, Op, Step, same, kept, touch}
+use Rattle.cap_summary.proofs.{sym, ap, ◌∙◌, arith, ne_eqb, eq-eqb, or_left, or_right, or-false, All-nil, All-cons}
+use Rattle.cap_machine.specs.{Named.arg_names, Named.answer_names, Named.is_fork, declared.cell.Profile.Profile}
+use Rattle.cap_machine.specs.Touch.{fd_touch, path_touch, bare_touch, call_touch, pdfork_touch}
+use Rattle.cap_machine.specs.declared.cell.Profile.TheVariants.{One, Two}
+use Rattle.cap_machine.proofs.{NamedFds.named_effects}
+use Rattle.cap_trace.specs.{declared.calls.AtFlagsCall.TheVariants.Openat, declared.calls.PathCall.TheVariants.Execve}
+use Rattle.cap_trace.specs.{Entry.args_of_call, declared.calls.BareCall.BareCall, declared.calls.PathCall.PathCall}
+use Rattle.cap_trace.specs.{Call.Call, declared.calls.FdCall.FdCall}
 use Rattle.cap_trace.specs.declared.calls.BareCall.TheVariants.{Pipe, Fork, Vfork, Pdfork, CapEnter}
 use Rattle.cap_trace.specs.declared.calls.FdCall.TheVariants.{Accept, Closefrom, Dup}
 use Rattle.cap_trace.specs.declared.calls.FlagsCall.TheVariants.{Socket, Socketpair, Pipe2}
-use Rattle.cap_machine.specs.{Named.arg_names, Named.answer_names, Named.is_fork, declared.cell.Profile.Profile}
-use Rattle.cap_machine.specs.{declared.cell.Profile.TheVariants.One, declared.cell.Profile.TheVariants.Two}
-use Rattle.cap_machine.specs.Touch.{fd_touch, path_touch, bare_touch, call_touch, pdfork_touch}
-use Rattle.cap_machine.proofs.{NamedFds.named_effects}
-use Rattle.std.specs.Prelude.{◌≡◌, ◌+◌, ◌==◌, ◌&&◌, ◌||◌, ◌∷◌, ℕ, suc, Bool, true, false, not, cond, [], refl}
-use Rattle.std.specs.Prelude.{slice_index_or, All}
-use Rattle.cap_summary.specs.{list_any, fds_spelled, Item, Answer, ResultKind, Count, Fd, Same, FdPair, kind_of, Cell}
-use Rattle.cap_summary.specs.{Unknown, Op, Step, LineEffect, same, Touch, kept, given, taken, touch, started}
-use Rattle.cap_summary.specs.{effect_touch, fds_of, Names.answers_fd, Names.line_names_fd}
-use Rattle.cap_summary.proofs.{sym, ap, ◌∙◌, arith, ne_eqb, eq-eqb, or_left, or_right, or-false, All-nil, All-cons}
+use Rattle.std.specs.Prelude.{codes, bytes_eq, ◌==◌, ◌&&◌, ◌||◌, Bool, true, false, cond, [], refl, slice_index_or, All}
+use Rattle.std.specs.Prelude.{◌≡◌, ◌+◌, ◌∷◌, ℕ, suc, not}
 
 by_cases : {X : Type 0} (b : Bool) → (b ≡ true → X) → (b ≡ false → X) → X
 by_cases true one other = one refl

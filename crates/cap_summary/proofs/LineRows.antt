@@ -1,13 +1,11 @@
 -- The cells after a line, by the rows of the processes that it touches.
-use Rattle.std.specs.Prelude.{◌≡◌, ◌==◌, ◌||◌, ℕ, Bool, true, false, cond, refl}
-use Rattle.cap_summary.specs.{Set, Clear, Unsure, Cell, Unknown, Closed, Held, LineEffect, applied, same}
-use Rattle.cap_summary.specs.{kept, given, taken, stays, follows, touched, Effects.row_cell, Effects.changed}
-use Rattle.cap_summary.specs.{Effects.IsRowAfter, Keys.Cells, declared.effect.Effect.Effect}
-use Rattle.cap_summary.specs.{declared.effect.Row.Row, declared.key.Key.Key}
-use Rattle.cap_summary.specs.{Effects.row_leaves, Effects.leaves, Effects.LineLeaves, Effects.LeavesThenLine}
-use Rattle.cap_summary.specs.Lines.{turned_cell, line_after, IsThenLine, is_touched, IsPut, LeavesPut, IsRowOf}
-use Rattle.cap_summary.specs.Lines.{LeavesOwn}
+use Rattle.cap_summary.specs.{declared.effect.Effect.Effect, declared.effect.Row.Row, declared.key.Key.Key, Lines.IsPut}
+use Rattle.cap_summary.specs.{Lines.turned_cell, Lines.line_after, Lines.IsThenLine, Lines.is_touched, Lines.LeavesOwn}
+use Rattle.cap_summary.specs.{Unknown, Closed, LineEffect, applied, follows, Keys.Cells, Lines.LeavesPut, Lines.IsRowOf}
+use Rattle.cap_summary.specs.{Set, Clear, Unsure, Cell, Held, same, kept, given, taken, stays, touched}
+use Rattle.cap_summary.specs.Effects.{row_cell, changed, IsRowAfter, row_leaves, leaves, LineLeaves, LeavesThenLine}
 use Rattle.cap_summary.proofs.{sym, ap, ◌∙◌, inl, inr, subst, eqb-true, eq-eqb, or-false, Bools.or_right}
+use Rattle.std.specs.Prelude.{◌≡◌, ◌==◌, ◌||◌, ℕ, Bool, true, false, cond, refl}
 
 -- ---- a process that isn't touched keeps its cells
 untouched_left : (line : LineEffect) (me p : ℕ) → is_touched line me p ≡ false → (k : Key) → LineLeaves line me p k

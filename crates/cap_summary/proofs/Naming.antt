@@ -1,19 +1,17 @@
 -- What is named by some lines is named by more.
-use Rattle.std.proofs.{lemmas.Bool.true_from_ne_false}
+use Rattle.cap_summary.specs.{declared.base.DefaultCells.DefaultCells, declared.precondition.Precondition.Precondition}
+use Rattle.cap_summary.specs.{Touch, declared.effect.Effect.Effect, declared.effect.Row.Row, declared.value.Value.Value}
+use Rattle.cap_summary.specs.{given, effect_touch, requirement, Sorted.found, Values.reads_within, declared.key.Key.Key}
+use Rattle.cap_summary.specs.{list_any, Step, LineEffect, Unknown, same, kept, taken, touch, names_pid, args_name}
+use Rattle.cap_summary.specs.Names.{line_names_fd, item_answers_fd, Names, IsListedWithin, others_within, DemandWithin}
+use Rattle.cap_summary.specs.Names.{has_key, mode_within, IsRowWithin, EffectWithin, ChildWithin, LineWithin, PreWithin}
+use Rattle.cap_summary.specs.Names.{names_in, AreAmong, has_cell, RowWithin}
+use Rattle.cap_summary.proofs.{or_left as or_first, or_right as or_second, Bools.and_right, LineNamed.named_one_by_one}
+use Rattle.cap_summary.proofs.{◌∙◌, and_from, eq-eqb, list_any-append, Bools.and_left}
 use Rattle.cap_machine.proofs.{NamedFds.named_checks, Naming.own_processes}
-use Rattle.std.specs.Prelude.{◌≡◌, ◌==◌, ◌||◌, ◌&&◌, ◌∷◌, ◌++◌, ℕ, Bool, true, false, List, [], Option, Some, None}
-use Rattle.std.specs.Prelude.{refl, cond, IfSome}
-use Rattle.cap_summary.specs.{list_any, Step, LineEffect, Unknown, same, Touch, kept, given, taken, touch, effect_touch}
-use Rattle.cap_summary.specs.{names_pid, args_name, requirement, Sorted.found, Values.reads_within}
-use Rattle.cap_summary.specs.{declared.base.DefaultCells.DefaultCells}
-use Rattle.cap_summary.specs.{declared.effect.Effect.Effect, declared.effect.Row.Row, declared.key.Key.Key}
-use Rattle.cap_summary.specs.{declared.precondition.Precondition.Precondition}
-use Rattle.cap_summary.specs.{declared.value.Value.Value}
-use Rattle.cap_summary.specs.Names.{line_names_fd, item_answers_fd, Names, names_in, AreAmong, has_key, has_cell}
-use Rattle.cap_summary.specs.Names.{IsListedWithin, others_within, mode_within, RowWithin, IsRowWithin, EffectWithin}
-use Rattle.cap_summary.specs.Names.{ChildWithin, LineWithin, PreWithin, DemandWithin}
-use Rattle.cap_summary.proofs.{◌∙◌, and_from, eq-eqb, or_left as or_first, or_right as or_second, list_any-append}
-use Rattle.cap_summary.proofs.{Bools.and_left, Bools.and_right, LineNamed.named_one_by_one}
+use Rattle.std.specs.Prelude.{◌==◌, ◌||◌, ◌&&◌, ◌++◌, Bool, true, false, List, Option, Some, None, refl, cond, IfSome}
+use Rattle.std.specs.Prelude.{◌≡◌, ◌∷◌, ℕ, []}
+use Rattle.std.proofs.{lemmas.Bool.true_from_ne_false}
 
 module _ (a b : Names) (among : AreAmong a b) where
   key_among : (k : Key) → has_key a k ≡ true → has_key b k ≡ true

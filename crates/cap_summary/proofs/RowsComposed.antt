@@ -1,13 +1,12 @@
 -- The cells of a process after two segments.
-use Rattle.std.specs.Prelude.{◌≡◌, ◌&&◌, ◌||◌, ℕ, not, Bool, true, false, Option, Some, None, option_map, refl, List}
-use Rattle.std.specs.Prelude.{unwrap_or, option_and_then, is_none}
-use Rattle.cap_summary.specs.{option_map_or, option_or, Cell, Closed, Composing.IsHandedSo, Keys.Cells, Sorted.found}
-use Rattle.cap_summary.specs.{Values.read, declared.base.Base.Base, declared.base.Passing.Passing}
-use Rattle.cap_summary.specs.{declared.effect.Effect.Effect, declared.effect.Row.Row, declared.key.Key.Key}
-use Rattle.cap_summary.specs.{declared.value.Value.Value}
-use Rattle.cap_summary.specs.Effects.{passed, is_from, base_cell, handed_on, row_cell, changed, IsRowAfter}
-use Rattle.cap_summary.specs.{Effects.is_own, Effects.base_leaves, Effects.row_leaves, Effects.leaves}
+use Rattle.cap_summary.specs.{declared.base.Passing.Passing, declared.effect.Effect.Effect, declared.value.Value.Value}
+use Rattle.cap_summary.specs.{option_map_or, Composing.IsHandedSo, declared.base.Base.Base, declared.effect.Row.Row}
+use Rattle.cap_summary.specs.{option_or, Cell, Closed, Keys.Cells, Sorted.found, Values.read, declared.key.Key.Key}
+use Rattle.cap_summary.specs.Effects.{base_cell, handed_on, row_cell, changed, IsRowAfter, base_leaves, row_leaves}
+use Rattle.cap_summary.specs.Effects.{passed, is_from, is_own, leaves}
 use Rattle.cap_summary.proofs.{◌∙◌, and_from, not-true, Bools.and_left, Bools.and_right}
+use Rattle.std.specs.Prelude.{ℕ, Bool, false, Option, Some, None, option_map, List, unwrap_or, option_and_then, is_none}
+use Rattle.std.specs.Prelude.{◌≡◌, ◌&&◌, ◌||◌, not, true, refl}
 
 pub map_or_is : {X : Type 0} (g : X → Cell) (o : Option X) (d : Cell) → option_map_or g o d ≡ unwrap_or (option_map g o) d
 map_or_is g None d = refl

@@ -1,12 +1,11 @@
 -- What a look-up finds in a list whose keys rise.
-use Rattle.std.specs.List.Sorted.{IsSearchInRange, IsBinarySearchResult}
-use Rattle.std.specs.Ordering.{ordering_index}
-use Rattle.std.proofs.{lemmas.List.get_or_default, lemmas.Option.slice_get-get_or}
-use Rattle.std.specs.Prelude.{◌≢◌, Result, Ok, Err, ◌≡◌, ◌+◌, ◌-◌, ◌<◌, ◌≤◌, ◌∷◌, ℕ, zero, suc, List, [], length, get_or}
-use Rattle.std.specs.Prelude.{None, Some, IfOk, IfErr, option_map, slice_get, refl}
 use Rattle.cap_summary.specs.{IsNonDecreasingBy, nat_cmp, AllZip}
 use Rattle.cap_summary.specs.Sorted.{IsAt, IsGap, found, RisesFrom, Rises, KeysRise}
 use Rattle.cap_summary.proofs.{sym, ap, ◌∙◌, arith, ranked, nat_tests}
+use Rattle.std.specs.{List.Sorted.IsSearchInRange, List.Sorted.IsBinarySearchResult, Ordering.ordering_index}
+use Rattle.std.specs.Prelude.{Result, zero, List, length, get_or, None, Some, IfOk, IfErr, option_map, slice_get, refl}
+use Rattle.std.specs.Prelude.{◌≢◌, Ok, Err, ◌≡◌, ◌+◌, ◌-◌, ◌<◌, ◌≤◌, ◌∷◌, ℕ, suc, []}
+use Rattle.std.proofs.{lemmas.List.get_or_default, lemmas.Option.slice_get-get_or}
 
 -- no key is below the bound
 pub rises_at : {V : Type 0} (b : ℕ) (l : List (ℕ × V)) → RisesFrom b l → (i : ℕ) (d : ℕ × V) → i < length l

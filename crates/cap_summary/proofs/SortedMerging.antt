@@ -1,10 +1,9 @@
 -- A table that is made of two, key by key.
-use mathlib.Core.Bool.{false≢true}
-use Rattle.std.specs.Prelude.{◌≡◌, ◌+◌, ◌<◌, ◌≤◌, ◌||◌, ◌∷◌, ◌++◌, if◌then◌else◌, ℕ, eqb, Bool, true, false, List, []}
-use Rattle.std.specs.Prelude.{Option, Some, None, refl, is_some}
-use Rattle.cap_summary.specs.{option_or}
-use Rattle.cap_summary.specs.Sorted.{found, RisesFrom, Rises}
+use Rattle.cap_summary.specs.{option_or, Sorted.found, Sorted.RisesFrom, Sorted.Rises}
 use Rattle.cap_summary.proofs.{inl, inr, sym, ap, ◌∙◌, arith, cases_lt, ne_eqb, nat_tests, SortedFound.found_below}
+use Rattle.std.specs.Prelude.{◌||◌, ◌++◌, if◌then◌else◌, Bool, true, false, List, [], Option, Some, None, refl, is_some}
+use Rattle.std.specs.Prelude.{◌≡◌, ◌+◌, ◌<◌, ◌≤◌, ◌∷◌, ℕ, eqb}
+use mathlib.Core.Bool.{false≢true}
 
 -- each key is below the bound
 abbrev pub AllBelow : {V : Type 0} → ℕ → List (ℕ × V) → Type 0

@@ -1,13 +1,12 @@
 -- What is known of two segments together. What their effect names is named by the second segment, or by the rows of the
 -- first that the second one reads.
-use Rattle.std.specs.Prelude.{◌≡◌, ◌<◌, ◌||◌, ◌&&◌, ℕ, true, List, length, Option, IfSome, is_none, option_map}
-use Rattle.cap_summary.specs.{option_and_then, part_at, option_or, Step, Similarity, Side, Left, Right, Keys.Cells}
-use Rattle.cap_summary.specs.{Preconditions.IsAskedByBoth, Preconditions.IsSamePrecondition, Sorted.found, Values.read}
-use Rattle.cap_summary.specs.{declared.base.Passing.Passing, declared.composed.Replaced.Replaced}
-use Rattle.cap_summary.specs.{declared.effect.Effect.Effect, declared.effect.Row.Row, declared.key.Key.Key}
-use Rattle.cap_summary.specs.{declared.known.Known.Known, declared.value.Value.Value}
+use Rattle.cap_summary.specs.{Preconditions.IsSamePrecondition, declared.composed.Replaced.Replaced, Names.IsRowWithin}
+use Rattle.cap_summary.specs.{Preconditions.IsAskedByBoth, declared.base.Passing.Passing, declared.effect.Effect.Effect}
+use Rattle.cap_summary.specs.{part_at, declared.effect.Row.Row, declared.known.Known.Known, declared.value.Value.Value}
+use Rattle.cap_summary.specs.{option_and_then, Keys.Cells, declared.key.Key.Key, Names.IsListedWithin, Names.ReadWithin}
+use Rattle.cap_summary.specs.{option_or, Step, Similarity, Side, Left, Right, Sorted.found, Values.read, Names.Names}
 use Rattle.cap_summary.specs.Effects.{is_from, handed_on, cell_in, changed, leaves_in}
-use Rattle.cap_summary.specs.Names.{Names, IsListedWithin, IsRowWithin, ReadWithin}
+use Rattle.std.specs.Prelude.{◌≡◌, ◌<◌, ◌||◌, ◌&&◌, ℕ, true, List, length, Option, IfSome, is_none, option_map}
 
 -- what is listed for a descriptor: what the second segment lists, by the cells before the first, or else what the first
 -- one lists, handed on; and what that names

@@ -1,14 +1,12 @@
 -- What becomes of each cell over a segment, whatever the cells before it: the transfer function of the segment.
-use Rattle.std.specs.Prelude.{◌≡◌, ◌&&◌, if◌then◌else◌, ℕ, not, Bool, true, false, Option, Some, None, is_none, nat_le}
-use Rattle.std.specs.Prelude.{[]}
-use Rattle.cap_summary.specs.{option_map_or, Cell, Unknown, Closed, State, LineEffect, applied, exec, kept, stays}
-use Rattle.cap_summary.specs.{effect_touch, effect_turn, start_state, Sorted.found, Values.read}
-use Rattle.cap_summary.specs.{declared.base.Base.Base}
-use Rattle.cap_summary.specs.{declared.base.DefaultCells.DefaultCells, declared.base.Passing.Passing}
-use Rattle.cap_summary.specs.{declared.before.Before.Before, declared.effect.Effect.Effect, declared.effect.Row.Row}
-use Rattle.cap_summary.specs.{declared.key.Key.Key, declared.value.Value.Value}
-use Rattle.cap_summary.specs.Keys.{Cells, cells_of, state_of}
+use Rattle.cap_summary.specs.{declared.base.DefaultCells.DefaultCells, declared.base.Passing.Passing, Keys.cells_of}
+use Rattle.cap_summary.specs.{declared.before.Before.Before, declared.effect.Effect.Effect, declared.value.Value.Value}
+use Rattle.cap_summary.specs.{declared.base.Base.Base, declared.effect.Row.Row, declared.key.Key.Key, Keys.state_of}
+use Rattle.cap_summary.specs.{option_map_or, Unknown, effect_touch, effect_turn, start_state, Sorted.found, Values.read}
+use Rattle.cap_summary.specs.{Cell, Closed, State, LineEffect, applied, exec, kept, stays, Keys.Cells}
 use Rattle.cap_summary.specs.declared.before.Before.TheVariants.{At, After'}
+use Rattle.std.specs.Prelude.{◌≡◌, ◌&&◌, if◌then◌else◌, not, Bool, true, false, Option, Some, None, is_none, nat_le, []}
+use Rattle.std.specs.Prelude.{ℕ}
 
 -- how a whole table of cells is handed on: as it is (fork(2)), or by an exec (execve(2))
 abbrev pub passed : Passing → Cell → Cell
@@ -60,11 +58,6 @@ handed_on passing closed_from f c = if is_from closed_from f then None else Some
 abbrev pub IsRowAfter : Effect → ℕ → Row → Row → Type 0
 IsRowAfter first p row new = (cells : Cells) (k : Key) → row_cell cells p new k ≡ row_cell (changed first cells) p row k
 
--- the cells after two segments
-abbrev pub IsComposed : Effect → Effect → Effect → Type 0
-IsComposed first later both = (cells : Cells) (p : ℕ) (k : Key)
-    → changed both cells p k ≡ changed later (changed first cells) p k
-
 -- the state after a start and effects
 abbrev pub state_before : Before → State
 state_before (At start) = start_state start.now
@@ -100,8 +93,3 @@ LineLeaves line me p (Key.Fd f) = effect_touch line me p f ≡ kept
 abbrev pub LeavesThenLine : Effect → LineEffect → ℕ → Effect → Type 0
 LeavesThenLine first line me new = (p : ℕ) (k : Key) → leaves new p k ≡ true
     → (leaves first p k ≡ true) × LineLeaves line me p k
-
--- what two segments leave, each of them leaves
-abbrev pub LeavesBoth : Effect → Effect → Effect → Type 0
-LeavesBoth first later both = (p : ℕ) (k : Key) → leaves both p k ≡ true
-    → (leaves first p k ≡ true) × (leaves later p k ≡ true)

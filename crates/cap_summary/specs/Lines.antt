@@ -1,11 +1,10 @@
 -- What one line does to each cell and to each mode, by key; me is the process of the line.
+use Rattle.cap_summary.specs.{stays, declared.effect.Effect.Effect, declared.effect.Row.Row, declared.value.Value.Value}
+use Rattle.cap_summary.specs.{option_map_or, effect_touch, is_child, Keys.mode_cell, Sorted.found, declared.key.Key.Key}
+use Rattle.cap_summary.specs.{Unknown, LineEffect, applied, follows, started, effect_turn, Keys.Cells, Values.read}
+use Rattle.cap_summary.specs.{Cell, Closed, exec, Turn, turns, touched}
+use Rattle.cap_summary.specs.Effects.{row_cell, cell_in, changed, row_leaves, leaves_in, LineLeaves}
 use Rattle.std.specs.Prelude.{◌≡◌, ◌==◌, ◌&&◌, ◌||◌, ◌⊎◌, if◌then◌else◌, ℕ, not, Bool, true, false, List, nat_le}
-use Rattle.cap_summary.specs.{option_map_or, Cell, Unknown, Closed, LineEffect, applied, exec, Turn, stays, turns}
-use Rattle.cap_summary.specs.{follows, started, effect_touch, effect_turn, touched, is_child, Keys.Cells}
-use Rattle.cap_summary.specs.{Keys.mode_cell, Sorted.found, Values.read, declared.effect.Effect.Effect}
-use Rattle.cap_summary.specs.{declared.effect.Row.Row, declared.key.Key.Key, declared.value.Value.Value}
-use Rattle.cap_summary.specs.Effects.{row_cell, cell_in, changed}
-use Rattle.cap_summary.specs.{Effects.row_leaves, Effects.leaves_in, Effects.LineLeaves}
 
 -- the cell of a mode after a turn, of what the cells were before
 abbrev pub turned_cell : Turn → Cells → ℕ → Cell
@@ -41,10 +40,6 @@ sets_cells _ = false
 abbrev pub is_cell : ℕ → ℕ → ℕ → Key → Bool
 is_cell q f p Key.Mode = false
 is_cell q f p (Key.Fd g) = p == q && g == f
-
--- the cells where that one is c
-abbrev pub with_cell : ℕ → ℕ → Cell → Cells → Cells
-with_cell q f c cells p k = if is_cell q f p k then c else cells p k
 
 -- each process that a line of process me touches has the cells that this row gives me, and each other one those that it
 -- had

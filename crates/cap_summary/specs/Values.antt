@@ -1,7 +1,6 @@
 -- What a cell is after a segment, read under the cells before it.
-use Rattle.cap_summary.specs.{ℕ, Bool, true, Option, Some, None, option_map_or, Cell, Unknown, Closed, Held, applied}
-use Rattle.cap_summary.specs.{exec, Keys.Cells, declared.key.Key.Key, declared.view.Seen.Seen}
-use Rattle.cap_summary.specs.{declared.value.Value.Value}
+use Rattle.cap_summary.specs.{option_map_or, declared.key.Key.Key, declared.view.Seen.Seen, declared.value.Value.Value}
+use Rattle.cap_summary.specs.{ℕ, Bool, true, Option, Some, None, Cell, Unknown, Closed, Held, applied, exec, Keys.Cells}
 use Rattle.cap_summary.specs.declared.view.Seen.TheVariants.{Is, Same, Executed, Made}
 
 -- the cell that a value stands for: a constant, a cell before the segment, or what an op makes of one

@@ -1,12 +1,12 @@
 //! The effect of two segments, one after the other.
 
-ghost use Rattle.std.specs.Prelude.{◌≡◌, ◌||◌, ℕ, false, true, is_none, Some, IfSome, IfOk, option_copied};
+ghost use Rattle.std.specs.Prelude.{◌≡◌, ℕ, false, true, is_none, Some, IfSome, IfOk, option_copied};
 ghost use Rattle.cap_summary.specs.{option_map_or, Closed, Keys.Cells, Sorted.found, Values.read, declared.key.Key.Key};
 ghost use Rattle.cap_summary.specs.Composing.{IsHandedSo, IsComposedSo, IsJoinedEffect, IsOldAt, IsReplaced};
-ghost use Rattle.cap_summary.specs.Effects.{passed, is_from, base_cell, changed, IsRowAfter, IsComposed};
-ghost use Rattle.cap_summary.specs.{Effects.base_leaves, Effects.row_leaves, Effects.leaves, Effects.LeavesBoth};
+ghost use Rattle.cap_summary.specs.Effects.{passed, is_from, base_cell, changed, IsRowAfter};
+ghost use Rattle.cap_summary.specs.{Effects.base_leaves, Effects.row_leaves, Effects.leaves};
 ghost use Rattle.cap_summary.specs.Names.{Names, others_within, mode_within, ListWithin, RowWithin, IsRowWithin};
-ghost use Rattle.cap_summary.specs.Names.{EffectWithin, ReadWithin};
+ghost use Rattle.cap_summary.specs.Names.{ReadWithin};
 
 use crate::base::lower_of;
 use crate::sorted::{Combine, merge};
@@ -253,16 +253,6 @@ impl Effect {
         let base = handed.base;
         let cells = self.listed_after(alloc, row, handed)?;
         Ok(Row { base, mode, cells })
-    }
-
-    /// The effect of this segment and then a later one.
-    pub fn then(&self, alloc: Global, later: &Effect) -> Result<Effect, NoMemory>
-        ensures cells { IfOk result (λ both. IsComposed self.now later.now both) }
-        ensures leaves { IfOk result (λ both. LeavesBoth self.now later.now both) }
-        ensures names { IfOk result (λ both. (names : Names) → EffectWithin names self.now
-            → EffectWithin names later.now → EffectWithin names both) }
-    {
-        self.joined(alloc, later, None)
     }
 
     /// This effect and then another. It shares rows with the effect of an old whole in which one of the two parts was

@@ -6,7 +6,6 @@ ghost use Rattle.cap_summary.specs.{fds_spelled, Keys.Cells, Keys.mode_cell, Sor
 ghost use Rattle.cap_summary.specs.{Values.read, Values.source, declared.key.Key.Key};
 ghost use Rattle.cap_summary.specs.Effects.{own_row, changed, leaves, LeavesThenLine};
 ghost use Rattle.cap_summary.specs.Lines.{IsThenLine, IsPut, LeavesPut, IsRowOf, LeavesOwn, IsStarted, sets_cells, is_cell};
-ghost use Rattle.cap_summary.specs.Lines.{with_cell};
 ghost use Rattle.cap_summary.specs.Names.{Names, IsListedWithin, ListWithin, RowWithin};
 ghost use Rattle.cap_summary.specs.Names.{RowsWithin, EffectWithin, LineWithin};
 
@@ -146,7 +145,7 @@ impl Effect {
     #[tactic(auto, using(crate::proofs::LineListed::set_cells))]
     fn set(&mut self, alloc: Global, pid: Pid, fd: Fd, value: Value) -> Result<(), NoMemory>
         ensures cells { OnOk result ((cells : Cells) (p : ℕ) (k : Key) → changed self.new cells p k
-            ≡ with_cell pid fd (read cells value) (changed self.old cells) p k) }
+            ≡ (if is_cell pid fd p k then read cells value else changed self.old cells p k)) }
         ensures leaves { OnOk result ((p : ℕ) (k : Key) → leaves self.new p k ≡ true
             → (leaves self.old p k ≡ true) × (is_cell pid fd p k ≡ false)) }
         ensures names { OnOk result ((names : Names) → names.pids pid ≡ true → IsListedWithin names fd value
